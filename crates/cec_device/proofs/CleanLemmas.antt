@@ -1,0 +1,174 @@
+-- Why no queued frame goes to the device's own address.
+use Rattle.std.proofs.Common.{◌≡◌, ℕ, ◌==◌, ◌<◌, ◌+◌, ◌*◌, ◌%◌, ◌/◌, Bool, true, false, not, ◌&&◌, ◌||◌, nat_lt, if◌then◌else◌, List, [], ◌∷◌, ◌++◌, length, slice_index, Option, Some, None, refl, sym, ap, ◌∙◌, arith, lit<}
+use Rattle.std.specs.List.{list_all}
+use Rattle.std.proofs.lemmas.List.Folds.{list_all-append}
+use Rattle.cec_device.specs.declared.record.Kind.{Kind}
+use Rattle.cec_device.specs.declared.record.Phys.{Phys}
+use Rattle.cec_device.specs.declared.record.Place.{Place}
+use Rattle.cec_device.specs.declared.record.Place.TheVariants.{Off, Polls, Settled}
+use Rattle.cec_device.specs.declared.record.Fate.{Fate}
+use Rattle.cec_device.specs.declared.record.Fate.TheVariants.{Delivered, Unacked, Lost, Broken}
+use Rattle.cec_device.specs.declared.device.Queued.{Queued}
+use Rattle.cec_device.specs.State.{State, holds, queued, speaks, may_speak, source, frame_to, one_more, type_of}
+use Rattle.cec_device.specs.Place.{sent, sent_by, polled_at, frame_sent, ended, failed, waited, reported, joined, left, fresh, start_place, polled, front_is_poll, class_of_poll}
+use Rattle.cec_device.specs.Once.{goes_elsewhere}
+use Rattle.std.proofs.lemmas.Bool.Decides.{nat_tests}
+use Rattle.cec_device.specs.declared.device.SubmitError.TheVariants.{QueueFull, OwnAddress, NoAddress, OffWire}
+use Rattle.cec_device.specs.declared.record.Heard.{Heard}
+use Rattle.cec_device.specs.Say.{Say, Reply, Cast, Tell, Refuse, say, say_all}
+use Rattle.cec_device.specs.Place.{submitted_by, settled_at, is_off}
+use Rattle.cec_device.proofs.OnceLemmas.{queued-place}
+use Rattle.cec_device.specs.Clean.{is_none_queued, clean_at, is_clean, fits_say, KeepsClean}
+
+clean-empty : (p : Place) → clean_at p [] ≡ true
+clean-empty Off = refl
+clean-empty (Polls a) = refl
+clean-empty (Settled a) = refl
+
+none-clean : (p : Place) (queue : List Queued) → is_none_queued queue ≡ true → clean_at p queue ≡ true
+none-clean p [] h = clean-empty p
+none-clean p (q ∷ queue) h = cc
+
+and_right : (a b : Bool) → (a && b) ≡ true → b ≡ true
+and_right true b h = h
+and_right false b h = cc
+
+both : (a b : Bool) → a ≡ true → b ≡ true → (a && b) ≡ true
+both true true h k = refl
+both true false h k = k
+both false b h k = h
+
+or_right : (a b : Bool) → (a || b) ≡ false → b ≡ false
+or_right true b h = cc
+or_right false b h = h
+
+clean-tail : (p : Place) (q : Queued) (queue : List Queued) → clean_at p (q ∷ queue) ≡ true → clean_at p queue ≡ true
+clean-tail Off q queue h = cc
+clean-tail (Polls a) q queue h = cc
+clean-tail (Settled a) q queue h = and_right _ _ h
+
+header : (a to : ℕ) → to < 16 → (a * 16 + to) % 16 ≡ to
+header a to h = omega arith
+
+elsewhere : (a to : ℕ) → to < 16 → holds (Settled a) to ≡ false → not (holds (Settled a) ((a * 16 + to) % 16)) ≡ true
+elsewhere a to h k = rw (header a to h) (ap not k)
+
+clean-one_more : (p : Place) (kind : Kind) (phys : Phys) (to at : ℕ) (bytes : List ℕ) (queue : List Queued) → to < 16
+    → (not (may_speak kind phys p) || holds p to) ≡ false → clean_at p queue ≡ true
+    → clean_at p (queue ++ record { frame = (source p * 16 + to) ∷ bytes; ready = at } ∷ []) ≡ true
+clean-one_more Off kind phys to at bytes queue s h k = cc
+clean-one_more (Polls a) kind phys to at bytes queue s h k = cc
+clean-one_more (Settled a) kind phys to at bytes queue s h k =
+    let mine : List Queued = record { frame = (a * 16 + to) ∷ bytes; ready = at } ∷ [] in
+    list_all-append (λ (q : Queued). goes_elsewhere (Settled a) q.frame) queue mine
+    ∙ both _ _ k (both _ true (elsewhere a to s (or_right _ _ h)) refl)
+
+three : (b c : Bool) (d x y : State) → is_clean d ≡ true → (b ≡ false → is_clean x ≡ true) → is_clean y ≡ true
+    → is_clean (if b then d else (if c then x else y)) ≡ true
+three true c d x y k f h = k
+three false true d x y k f h = f refl
+three false false d x y k f h = h
+
+clean-queued : (limit at to : ℕ) (bytes : List ℕ) (d : State) → to < 16 → is_clean d ≡ true → is_clean (queued limit at to bytes d) ≡ true
+clean-queued limit at to bytes d s k =
+    three (not (speaks d) || holds d.place to) (nat_lt (length d.queue) limit) d
+        (record d { queue = d.queue ++ record { frame = frame_to d to bytes; ready = at } ∷ [] }) (record d { dropped = one_more d.dropped })
+        k (λ h. clean-one_more d.place d.kind d.phys to at bytes d.queue s h k) k
+
+clean-reported : (limit at : ℕ) (d : State) → is_clean d ≡ true → is_clean (reported limit at d) ≡ true
+clean-reported limit at d k = clean-queued limit at 15 (0x84 ∷ d.phys.high ∷ d.phys.low ∷ type_of d.kind ∷ []) d (lit< tt) k
+
+clean-ended : (d : State) (queue : List Queued) → clean_at d.place queue ≡ true → is_clean (ended (record d { queue = queue })) ≡ true
+clean-ended d [] k = k
+clean-ended d (q ∷ queue) k = clean-tail d.place q queue k
+
+two : (b : Bool) (x y : State) → is_clean x ≡ true → is_clean y ≡ true → is_clean (if b then x else y) ≡ true
+two true x y h k = h
+two false x y h k = k
+
+clean-failed : (d : State) → is_clean d ≡ true → is_clean (failed d) ≡ true
+clean-failed d k = two (nat_lt d.attempts 5) (record d { attempts = d.attempts + 1; class = 3 }) (ended d) k (clean-ended d d.queue k)
+
+clean-frame_sent : (fate : Fate) (d : State) → is_clean d ≡ true → is_clean (frame_sent d fate) ≡ true
+clean-frame_sent Lost d k = k
+clean-frame_sent Delivered d k = clean-ended d d.queue k
+clean-frame_sent Unacked d k = two (front_is_poll d.queue) (ended d) (failed d) (clean-ended d d.queue k) (clean-failed d k)
+clean-frame_sent Broken d k = two (front_is_poll d.queue) (record d { class = 3 }) (failed d) k (clean-failed d k)
+
+clean-sent : (limit at : ℕ) (fate : Fate) (d : State) (place : Place) → d.place ≡ place → clean_at place d.queue ≡ true
+    → is_clean (sent_by limit d fate at (polled_at place)) ≡ true
+clean-sent limit at fate d Off e k = clean-frame_sent fate d (rw e k)
+clean-sent limit at fate d (Settled a) e k = clean-frame_sent fate d (rw e k)
+clean-sent limit at fate d (Polls a) e k =
+    clean-reported limit at (record d { place = polled d.kind a fate; poll_ready = at; class = class_of_poll fate }) (none-clean (polled d.kind a fate) d.queue k)
+
+-- a test that sends one way or the other
+kept_if : (b : Bool) (d x : State) → is_clean d ≡ true → is_clean x ≡ true → is_clean (if b then d else x) ≡ true
+kept_if true d x h k = h
+kept_if false d x h k = k
+
+clean-say : (limit : ℕ) (h : Heard) (s : Say) (d : State) → h.from < 16 → fits_say s ≡ true → is_clean d ≡ true → is_clean (say limit h s d) ≡ true
+clean-say limit h (Reply bytes) d f g k = kept_if (h.from == 15) d (queued limit h.at h.from bytes d) k (clean-queued limit h.at h.from bytes d f k)
+clean-say limit h (Cast bytes) d f g k = clean-queued limit h.at 15 bytes d (lit< tt) k
+clean-say limit h (Tell to bytes) d f g k = kept_if (to == 15) d (queued limit h.at to bytes d) k (clean-queued limit h.at to bytes d (grind (arith, nat_tests)) k)
+clean-say limit h (Refuse reason) d f g k =
+    kept_if ((h.to == 15) || ((h.from == 15) || (h.opcode == 0))) d (queued limit h.at h.from (0x00 ∷ h.opcode ∷ reason ∷ []) d) k
+        (clean-queued limit h.at h.from (0x00 ∷ h.opcode ∷ reason ∷ []) d f k)
+
+and_left : (a b : Bool) → (a && b) ≡ true → a ≡ true
+and_left true b h = refl
+and_left false b h = cc
+
+clean-say_all : (limit : ℕ) (h : Heard) (says : List Say) (d : State) → h.from < 16 → list_all fits_say says ≡ true
+    → is_clean d ≡ true → is_clean (say_all limit h says d) ≡ true
+clean-say_all limit h [] d f g k = k
+clean-say_all limit h (s ∷ says) d f g k =
+    clean-say_all limit h says (say limit h s d) f (and_right _ _ g) (clean-say limit h s d f (and_left _ _ g) k)
+
+place_if : (b : Bool) (d x : State) → x.place ≡ d.place → (if b then d else x).place ≡ d.place
+place_if true d x h = refl
+place_if false d x h = h
+
+say-place : (limit : ℕ) (h : Heard) (s : Say) (d : State) → (say limit h s d).place ≡ d.place
+say-place limit h (Reply bytes) d = place_if (h.from == 15) d (queued limit h.at h.from bytes d) (queued-place limit h.at h.from bytes d)
+say-place limit h (Cast bytes) d = queued-place limit h.at 15 bytes d
+say-place limit h (Tell to bytes) d = place_if (to == 15) d (queued limit h.at to bytes d) (queued-place limit h.at to bytes d)
+say-place limit h (Refuse reason) d =
+    place_if ((h.to == 15) || ((h.from == 15) || (h.opcode == 0))) d (queued limit h.at h.from (0x00 ∷ h.opcode ∷ reason ∷ []) d)
+        (queued-place limit h.at h.from (0x00 ∷ h.opcode ∷ reason ∷ []) d)
+
+say_all-place : (limit : ℕ) (h : Heard) (says : List Say) (d : State) → (say_all limit h says d).place ≡ d.place
+say_all-place limit h [] d = refl
+say_all-place limit h (s ∷ says) d = say_all-place limit h says (say limit h s d) ∙ say-place limit h s d
+
+-- what a submitted frame passed
+clean-appended : (p : Place) (frame : List ℕ) (at : ℕ) (queue : List Queued) → settled_at p (slice_index frame 0 / 16) ≡ true
+    → holds p (slice_index frame 0 % 16) ≡ false → clean_at p queue ≡ true → clean_at p (queue ++ record { frame = frame; ready = at } ∷ []) ≡ true
+clean-appended Off frame at queue s h k = cc
+clean-appended (Polls a) frame at queue s h k = cc
+clean-appended (Settled a) frame at queue s h k =
+    let mine : List Queued = record { frame = frame; ready = at } ∷ [] in
+    list_all-append (λ (q : Queued). goes_elsewhere (Settled a) q.frame) queue mine ∙ both _ _ k (both _ true (ap not h) refl)
+
+clean-by_tests : (off at_address own room : Bool) (d : State) (frame : List ℕ) (at : ℕ)
+    → settled_at d.place (slice_index frame 0 / 16) ≡ at_address → holds d.place (slice_index frame 0 % 16) ≡ own → is_clean d ≡ true
+    → is_clean (submitted_by d frame at (if off then Some OffWire else (if not at_address then Some NoAddress else (
+        if own then Some OwnAddress else (if room then None else Some QueueFull))))) ≡ true
+clean-by_tests true n o r d frame at s h k = k
+clean-by_tests false false o r d frame at s h k = k
+clean-by_tests false true true r d frame at s h k = k
+clean-by_tests false true false false d frame at s h k = k
+clean-by_tests false true false true d frame at s h k = clean-appended d.place frame at d.queue s h k
+
+pub keeps_clean : KeepsClean
+keeps_clean = record {
+    queueing = clean-queued;
+    leaving = λ d. refl;
+    joining = λ limit number at phys d. clean-reported limit at (record (fresh d.kind d.name d.ports) {
+        number = number; phys = phys; place = start_place d.kind phys; poll_ready = at }) (clean-empty (start_place d.kind phys));
+    submitting = λ limit at frame d k. clean-by_tests (is_off d.place) (settled_at d.place (slice_index frame 0 / 16))
+        (holds d.place (slice_index frame 0 % 16)) (nat_lt (length d.queue) limit) d frame at refl refl k;
+    saying = clean-say_all;
+    staying = say_all-place;
+    telling = λ limit at fate d k. clean-sent limit at fate d d.place refl k;
+  }

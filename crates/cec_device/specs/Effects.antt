@@ -1,0 +1,226 @@
+-- The opcode table: what each message does to a device that follows it.
+use Rattle.std.specs.Prelude.{ℕ, ◌==◌, ◌+◌, ◌-◌, ◌*◌, ◌%◌, ◌/◌, Bool, true, false, not, ◌&&◌, ◌||◌, nat_lt, nat_le, List, [], ◌∷◌, ◌++◌, length, slice_index, drop, if◌then◌else◌, Option, Some, None}
+use Rattle.cec_opcode.specs.declared.message.Address.{Address}
+use Rattle.cec_opcode.specs.declared.message.Message.{Message}
+use Rattle.cec_opcode.specs.declared.message.Message.TheVariants.{FeatureAbort, ImageViewOn, TextViewOn, GiveDeckStatus, DeckStatus, Standby, Play, DeckControl, UserControlPressed, UserControlReleased, GiveOsdName, SystemAudioModeRequest, GiveAudioStatus, RoutingChange, ActiveSource, GivePhysicalAddress, ReportPhysicalAddress, SetStreamPath, MenuRequest, InactiveSource, RequestArcInitiation, SetMenuLanguage, SetOsdName, SetOsdString, SetSystemAudioMode, ReportAudioStatus, GiveSystemAudioModeStatus, SystemAudioModeStatus, RoutingInformation, RequestActiveSource, DeviceVendorId, GiveDeviceVendorId, MenuStatus, GiveDevicePowerStatus, ReportPowerStatus, GetMenuLanguage, CecVersion, GetCecVersion, InitiateArc, ReportArcInitiated, ReportArcTerminated, RequestArcTermination, TerminateArc}
+use Rattle.cec_opcode.specs.declared.message.Decoded.{Decoded}
+use Rattle.cec_opcode.specs.declared.message.Decoded.TheVariants.{Poll, Known, Short, Unknown as NoName}
+use Rattle.cec_opcode.specs.declared.row.Rule.{Rule}
+use Rattle.cec_opcode.specs.Table.{decoded_of, rule_of, may_go}
+use Rattle.cec_device.specs.declared.record.Kind.{Kind}
+use Rattle.cec_device.specs.declared.record.Phys.{Phys}
+use Rattle.cec_device.specs.declared.record.Record.{Record}
+use Rattle.cec_device.specs.declared.record.Heard.{Heard}
+use Rattle.cec_device.specs.State.{State, is_tv, is_amp, is_deck, is_switch, type_of, same_phys, is_nowhere, holds}
+use Rattle.cec_device.specs.Volume.{louder}
+use Rattle.cec_device.specs.Ways.{port_towards, below}
+use Rattle.cec_device.specs.Say.{Say, Reply, Cast, Tell, Refuse, Effect, does, effected}
+
+-- ---- words of the table
+
+abbrev pub refuses : Record → ℕ → Effect
+refuses r reason = does r (Refuse reason ∷ [])
+
+-- a kind that the line does not name refuses with 0
+abbrev pub only : Bool → Record → Effect → Effect
+only named r e = if named then e else refuses r 0
+
+-- the first of the cases that the byte is, and else the last word
+abbrev pub which : ℕ → List (ℕ × Effect) → Effect → Effect
+which x [] otherwise = otherwise
+which x (c ∷ cases) otherwise = if x == c.0 then c.1 else which x cases otherwise
+
+abbrev pub hears : Heard → Record → Effect
+hears h r = does (record r { heard = Some (record { from = h.from; opcode = h.opcode; first = h.first }) }) []
+
+abbrev pub to_sub : Option ℕ → ℕ → List Say
+to_sub None deck = []
+to_sub (Some sub) deck = Tell sub (0x1b ∷ deck ∷ []) ∷ []
+
+-- deck-status to sub where the deck changed
+abbrev pub notice : Record → ℕ → List Say
+notice r deck = if r.deck == deck then [] else to_sub r.sub deck
+
+abbrev pub turned : Record → ℕ → Effect
+turned r deck = does (record r { deck = deck }) (notice r deck)
+
+abbrev pub standby : Record → Record
+standby r = record r { power = false; menu = false; held = None; sub = None; deck = if r.deck == 0x19 then 0x19 else 0x1a }
+
+abbrev pub phys_of : Address → Phys
+phys_of a = record { high = a.high; low = a.low }
+
+abbrev pub volume_status : Record → ℕ
+volume_status r = if r.mute then r.volume + 128 else r.volume
+
+-- the state of the deck that a play mode asks for
+abbrev pub mode_deck : ℕ → Option ℕ
+mode_deck mode = mode_in ((0x24, 0x11) ∷ (0x25, 0x14) ∷ (0x05, 0x17) ∷ (0x06, 0x17) ∷ (0x07, 0x17) ∷ (0x09, 0x18) ∷ (0x0a, 0x18) ∷ (0x0b, 0x18) ∷ [])
+  where
+    mode_in : List (ℕ × ℕ) → Option ℕ
+    mode_in [] = None
+    mode_in (c ∷ cases) = if mode == c.0 then Some c.1 else mode_in cases
+
+abbrev pub plays : Record → Option ℕ → Effect
+plays r None = refuses r 3
+plays r (Some deck) = if r.deck == 0x19 then refuses r 1 else does (record r { power = true; deck = deck }) (notice r deck)
+
+-- ---- ways through switches
+
+abbrev pub with_port : Bool → ℕ → Record → Option ℕ → Record
+with_port is_one ports r None = r
+with_port is_one ports r (Some n) = if is_one && (nat_lt 0 n && nat_le n ports) then record r { selected = Some n } else r
+
+abbrev pub selecting : Kind → Phys → ℕ → Phys → Record → Record
+selecting kind own ports to r = with_port (is_switch kind) ports r (port_towards own to)
+
+-- where a switch leads to
+abbrev pub leads : Phys → Option ℕ → List Say
+leads own None = []
+leads own (Some n) = if is_nowhere (below own n) then [] else Cast (0x81 ∷ (below own n).high ∷ (below own n).low ∷ []) ∷ []
+
+abbrev pub routed : Kind → Phys → Phys → Record → Effect
+routed kind own to r = does (record r { path = Some to; active = None }) (if is_switch kind && same_phys to own then leads own r.selected else [])
+
+abbrev pub streamed : Kind → Phys → ℕ → Phys → Record → Effect
+streamed kind own ports to r =
+    if (is_deck kind || is_amp kind) && same_phys to own
+    then does (record r { path = Some to; power = true; active = Some to }) (Cast (0x82 ∷ to.high ∷ to.low ∷ []) ∷ [])
+    else does (selecting kind own ports to (record r { path = Some to })) []
+
+abbrev pub is_active : Option Phys → Phys → Bool
+is_active None p = false
+is_active (Some q) p = same_phys q p
+
+-- ---- codes of 44
+
+-- a deck with a medium: its state, told
+abbrev pub decks : Kind → Record → ℕ → Effect
+decks kind r deck = if is_deck kind && not (r.deck == 0x19) then turned r deck else does r []
+
+-- an amplifier with audio on tells its volume
+abbrev pub told : Kind → Record → Effect
+told kind r = does r (if is_amp kind && r.audio then Reply (0x7a ∷ volume_status r ∷ []) ∷ [] else [])
+
+-- a television or amplifier: its volume, told
+abbrev pub sounds : Kind → Record → Record → Effect
+sounds kind r after = if is_deck kind then does r [] else told kind after
+
+-- a deck: its menu, told where it changed
+abbrev pub menus : Kind → Record → Bool → ℕ → Effect
+menus kind r is_change byte = if is_deck kind && is_change then does (record r { menu = not r.menu }) (Tell 0 (0x8e ∷ byte ∷ []) ∷ []) else does r []
+
+abbrev pub pressed_on : Kind → ℕ → Record → Effect
+pressed_on kind code r = which code (
+    (0x40, does (standby r) []) ∷
+    (0x6c, does (standby r) []) ∷
+    (0x41, sounds kind r (record r { volume = louder r.volume })) ∷
+    (0x42, sounds kind r (record r { volume = r.volume - 1 })) ∷
+    (0x43, sounds kind r (record r { mute = not r.mute })) ∷
+    (0x44, decks kind r 0x11) ∷
+    (0x45, decks kind r 0x1a) ∷
+    (0x46, decks kind r 0x14) ∷
+    (0x09, menus kind r (not r.menu) 0) ∷
+    (0x0d, menus kind r r.menu 1) ∷ [])
+    (does r [])
+
+-- in standby only two codes act
+abbrev pub pressed : Kind → Heard → Record → Effect
+pressed kind h r =
+    if r.power then pressed_on kind h.first (record r { held = Some h.first }) else
+    (if (h.first == 0x40) || (h.first == 0x6d) then does (record r { power = true; held = Some h.first }) [] else does r [])
+
+-- ---- the table, a line each
+
+abbrev pub effect_of : Kind → Phys → List ℕ → ℕ → Heard → Record → Message → Effect
+effect_of kind own name ports h r (FeatureAbort opcode reason) = does r []
+effect_of kind own name ports h r ImageViewOn = only (is_tv kind) r (does (record r { power = true }) [])
+effect_of kind own name ports h r TextViewOn = only (is_tv kind) r (does (record r { power = true; osd = record { items = [] } }) [])
+effect_of kind own name ports h r (GiveDeckStatus request) = only (is_deck kind) r (which request (
+    (1, does (record r { sub = Some h.from }) (Reply (0x1b ∷ r.deck ∷ []) ∷ [])) ∷
+    (2, does (record r { sub = None }) []) ∷
+    (3, does r (Reply (0x1b ∷ r.deck ∷ []) ∷ [])) ∷ [])
+    (refuses r 3))
+effect_of kind own name ports h r (DeckStatus deck) = hears h r
+effect_of kind own name ports h r Standby = does (standby r) []
+effect_of kind own name ports h r (Play mode) = only (is_deck kind) r (plays r (mode_deck mode))
+effect_of kind own name ports h r (DeckControl control) = only (is_deck kind) r (
+    if not (nat_le 1 control && nat_le control 4) then refuses r 3 else (
+    if not r.power then refuses r 1 else (
+    if control == 4 then does (record r { deck = 0x19 }) (notice r 0x19) else (
+    if r.deck == 0x19 then refuses r 1 else which control (
+        (1, does (record r { deck = 0x1b }) (notice r 0x1b)) ∷
+        (2, does (record r { deck = 0x1c }) (notice r 0x1c)) ∷ [])
+        (does (record r { deck = 0x1a }) (notice r 0x1a))))))
+effect_of kind own name ports h r (UserControlPressed code) = only (is_tv kind || (is_deck kind || is_amp kind)) r (pressed kind h r)
+effect_of kind own name ports h r UserControlReleased = only (is_tv kind || (is_deck kind || is_amp kind)) r (does (record r { held = None }) [])
+effect_of kind own name ports h r GiveOsdName = does r (Reply (0x47 ∷ name) ∷ [])
+effect_of kind own name ports h r (SystemAudioModeRequest None) = only (is_amp kind) r (does (record r { audio = false }) (Cast (0x72 ∷ 0 ∷ []) ∷ []))
+effect_of kind own name ports h r (SystemAudioModeRequest (Some address)) = only (is_amp kind) r (does (record r { power = true; audio = true }) (Cast (0x72 ∷ 1 ∷ []) ∷ []))
+effect_of kind own name ports h r GiveAudioStatus = only (is_amp kind) r (does r (Reply (0x7a ∷ volume_status r ∷ []) ∷ []))
+effect_of kind own name ports h r (RoutingChange from to) = routed kind own (phys_of to) r
+effect_of kind own name ports h r (ActiveSource address) = does (selecting kind own ports (phys_of address) (record r { active = Some (phys_of address); path = Some (phys_of address) })) []
+effect_of kind own name ports h r (InactiveSource address) = only (is_tv kind) r (if is_active r.active (phys_of address) then does (record r { active = None }) [] else does r [])
+effect_of kind own name ports h r GivePhysicalAddress = does r (Cast (0x84 ∷ own.high ∷ own.low ∷ type_of kind ∷ []) ∷ [])
+effect_of kind own name ports h r (ReportPhysicalAddress address type) = hears h r
+effect_of kind own name ports h r (SetStreamPath address) = streamed kind own ports (phys_of address) r
+effect_of kind own name ports h r (MenuRequest request) = only (is_deck kind) r (
+    if not (nat_lt request 3) then refuses r 3 else (
+    if not r.power then refuses r 1 else which request (
+        (0, does (record r { menu = true }) (Reply (0x8e ∷ 0 ∷ []) ∷ [])) ∷
+        (1, does (record r { menu = false }) (Reply (0x8e ∷ 1 ∷ []) ∷ [])) ∷ [])
+        (does r (Reply (0x8e ∷ (if r.menu then 0 else 1) ∷ []) ∷ []))))
+effect_of kind own name ports h r (RequestArcInitiation) = only (is_amp kind) r (
+    if h.from == 0 then does r (Reply (0xc0 ∷ []) ∷ []) else refuses r 4)
+effect_of kind own name ports h r (SetMenuLanguage language) = only (is_deck kind || is_amp kind) r (if h.from == 0 then does (record r { language = language }) [] else does r [])
+effect_of kind own name ports h r (SetOsdName text) = hears h r
+effect_of kind own name ports h r (SetOsdString display text) = only (is_tv kind) r (
+    if not ((display == 0x00) || ((display == 0x40) || (display == 0x80))) then refuses r 3 else (
+    if not r.power then refuses r 1 else (
+    if display == 0x80 then does (record r { osd = record { items = [] } }) [] else (
+    if length text.items == 0 then refuses r 3 else does (record r { osd = text }) []))))
+effect_of kind own name ports h r (SetSystemAudioMode audio) = only (is_tv kind) r (which audio ((0, does (record r { audio = false }) []) ∷ (1, does (record r { audio = true }) []) ∷ []) (refuses r 3))
+effect_of kind own name ports h r (ReportAudioStatus status) = hears h r
+effect_of kind own name ports h r GiveSystemAudioModeStatus = only (is_amp kind) r (does r (Reply (0x7e ∷ (if r.audio then 1 else 0) ∷ []) ∷ []))
+effect_of kind own name ports h r (SystemAudioModeStatus audio) = hears h r
+effect_of kind own name ports h r (RoutingInformation address) = routed kind own (phys_of address) r
+effect_of kind own name ports h r RequestActiveSource = does r (if r.power && is_active r.active own then Cast (0x82 ∷ own.high ∷ own.low ∷ []) ∷ [] else [])
+effect_of kind own name ports h r (DeviceVendorId vendor) = hears h r
+effect_of kind own name ports h r GiveDeviceVendorId = does r (Cast (0x87 ∷ 0x02 ∷ 0x00 ∷ 0x00 ∷ []) ∷ [])
+effect_of kind own name ports h r (MenuStatus menu) = hears h r
+effect_of kind own name ports h r GiveDevicePowerStatus = does r (Reply (0x90 ∷ (if r.power then 0 else 1) ∷ []) ∷ [])
+effect_of kind own name ports h r (ReportPowerStatus power) = hears h r
+effect_of kind own name ports h r GetMenuLanguage = only (is_tv kind) r (does r (Cast (0x32 ∷ r.language.first ∷ r.language.second ∷ r.language.third ∷ []) ∷ []))
+effect_of kind own name ports h r (CecVersion version) = hears h r
+effect_of kind own name ports h r GetCecVersion = does r (Reply (0x9e ∷ 0x05 ∷ []) ∷ [])
+effect_of kind own name ports h r InitiateArc = only (is_tv kind) r (if r.power then does (record r { arc = true }) (Reply (0xc1 ∷ []) ∷ []) else refuses r 1)
+effect_of kind own name ports h r ReportArcInitiated = only (is_amp kind) r (does (record r { arc = true }) [])
+effect_of kind own name ports h r ReportArcTerminated = only (is_amp kind) r (does (record r { arc = false }) [])
+effect_of kind own name ports h r RequestArcTermination = only (is_amp kind) r (if h.from == 0 then does r (Reply (0xc5 ∷ []) ∷ []) else refuses r 4)
+effect_of kind own name ports h r TerminateArc = only (is_tv kind) r (does (record r { arc = false }) (Reply (0xc2 ∷ []) ∷ []))
+effect_of kind own name ports h r _ = refuses r 0
+
+-- ---- a frame that was followed
+
+abbrev pub by_decoded : ℕ → Heard → State → Decoded → State
+by_decoded limit h d (Known message) = effected limit h (effect_of d.kind d.phys d.name d.ports h d.record_of message) d
+by_decoded limit h d (NoName opcode) = effected limit h (refuses d.record_of 0) d
+by_decoded limit h d _ = d
+
+-- a direct frame is followed by who holds its destination, and only as the opcode may go
+abbrev pub is_for : State → ℕ → ℕ → Bool
+is_for d to opcode = may_go (rule_of opcode) to && ((to == 15) || holds d.place to)
+
+abbrev pub first_of : List ℕ → ℕ
+first_of [] = 0
+first_of (x ∷ xs) = x
+
+abbrev pub heard_of : ℕ → ℕ → List ℕ → ℕ → Heard
+heard_of header opcode operands at = record { from = header / 16; to = header % 16; opcode = opcode; first = first_of operands; at = at }
+
+abbrev pub followed : ℕ → State → List ℕ → ℕ → State
+followed limit d (header ∷ opcode ∷ operands) at =
+    if is_for d (header % 16) opcode
+    then by_decoded limit (heard_of header opcode operands at) d (decoded_of (header ∷ opcode ∷ operands))
+    else d
+followed limit d _ at = d

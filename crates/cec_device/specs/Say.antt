@@ -1,0 +1,36 @@
+-- What a line of the opcode table says, and how that is queued.
+use Rattle.std.specs.Prelude.{ℕ, ◌==◌, ◌||◌, Bool, true, false, List, [], ◌∷◌, if◌then◌else◌, Option, Some, None}
+use Rattle.cec_device.specs.declared.record.Record.{Record}
+use Rattle.cec_device.specs.declared.record.Heard.{Heard}
+use Rattle.cec_device.specs.State.{State, queued}
+
+-- to the initiator; to all; to an address; a refusal with its reason
+pub data Say : Type 0 where
+  Reply : List ℕ → Say
+  Cast : List ℕ → Say
+  Tell : ℕ → List ℕ → Say
+  Refuse : ℕ → Say
+
+-- the record that a frame leaves, and what is said, in order
+pub record Effect : Type 0 where
+  pub after : Record
+  pub says : List Say
+
+abbrev pub does : Record → List Say → Effect
+does after says = record { after = after; says = says }
+
+-- how one is queued: a reply or notice to 15 is not, and a refusal answers direct frames alone
+abbrev pub say : ℕ → Heard → Say → State → State
+say limit h (Reply bytes) d = if h.from == 15 then d else queued limit h.at h.from bytes d
+say limit h (Cast bytes) d = queued limit h.at 15 bytes d
+say limit h (Tell to bytes) d = if to == 15 then d else queued limit h.at to bytes d
+say limit h (Refuse reason) d =
+    if (h.to == 15) || ((h.from == 15) || (h.opcode == 0)) then d
+    else queued limit h.at h.from (0x00 ∷ h.opcode ∷ reason ∷ []) d
+
+abbrev pub say_all : ℕ → Heard → List Say → State → State
+say_all limit h [] d = d
+say_all limit h (s ∷ says) d = say_all limit h says (say limit h s d)
+
+abbrev pub effected : ℕ → Heard → Effect → State → State
+effected limit h e d = say_all limit h e.says (record d { record_of = e.after })

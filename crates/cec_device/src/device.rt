@@ -1,0 +1,169 @@
+//! A device: who it is, and what it has to send.
+ghost use Rattle.std.specs.Prelude.{◌≡◌, ◌≢◌, ◌<◌, ◌≤◌, ◌+◌, ◌*◌, ◌==◌, ◌∷◌, [], length, true, false};
+ghost use Rattle.cec_device.specs.State.{queued, speaks, holds, frame_to, source, one_more};
+ghost use Rattle.cec_device.specs.Say.{say, Reply, Cast, Tell, Refuse};
+
+use crate::record::{Addr, Heard, Kind, Phys, Place, Record};
+use arrayvec::ArrayVec;
+use cec_frame::Frame;
+use std::marker::Model;
+
+/// A frame that waits, and when it was ready.
+#[derive(Drop)]
+pub struct Queued {
+    pub frame: Frame,
+    pub ready: u64,
+}
+
+impl Default for Queued {
+    fn default() -> Self {
+        Queued {
+            frame: framed(Addr::new(0), Addr::new(0), &[]),
+            ready: 0,
+        }
+    }
+}
+
+/// Why a frame of a script is not queued.
+#[derive(Clone, Copy, PartialEq, Eq)]
+pub enum SubmitError {
+    QueueFull,
+    OwnAddress,
+    NoAddress,
+    OffWire,
+}
+
+#[derive(Drop)]
+pub struct Device<const Q: usize> {
+    pub(crate) kind: Kind,
+    pub(crate) name: ArrayVec<u8, 14>,
+    pub(crate) ports: u8,
+    pub(crate) number: u8,
+    pub(crate) phys: Phys,
+    pub(crate) place: Place,
+    pub(crate) record: Record,
+    pub(crate) queue: ArrayVec<Queued, Q>,
+    pub(crate) attempts: u8,
+    pub(crate) class: u8,
+    pub(crate) poll_ready: u64,
+    pub(crate) dropped: u64,
+}
+
+impl<const Q: usize> Model for Device<Q> {
+    ghost use Rattle.cec_device.specs.State.{State};
+
+    ghost Value = { State };
+
+    ghost view = { λ d. record {
+        kind = d.kind;
+        name = d.name.items;
+        ports = d.ports;
+        number = d.number;
+        phys = d.phys;
+        place = d.place;
+        record_of = d.«record»;
+        queue = d.queue.items;
+        attempts = d.attempts;
+        class = d.class;
+        poll_ready = d.poll_ready;
+        dropped = d.dropped;
+    } };
+}
+
+/// A frame of a header and up to fifteen bytes more.
+fn framed(from: Addr, to: Addr, rest: &[u8]) -> Frame
+    requires { length rest.now ≤ 15 }
+    ensures { result ≡ (from * 16 + to) ∷ rest.now }
+{
+    let mut bytes: ArrayVec<u8, 16> = ArrayVec::new();
+    bytes.push(from.value() * 16 + to.value());
+    let _ = bytes.try_extend_from_slice(rest);
+    match Frame::new(&bytes) {
+        Ok(frame) => frame,
+        Err(_) => unreachable!(),
+    }
+}
+
+impl<const Q: usize> Device<Q> {
+    fn source(&self) -> Addr
+        ensures { result ≡ source self.now.place }
+    {
+        match self.place {
+            Place::Settled(address) => address,
+            _ => Addr::new(15),
+        }
+    }
+
+    pub(crate) fn holds(&self, to: Addr) -> bool
+        ensures { result ≡ holds self.now.place to }
+    {
+        match self.place {
+            Place::Settled(address) => address == to && to.value() < 15,
+            _ => false,
+        }
+    }
+
+    fn speaks(&self) -> bool
+        ensures { result ≡ speaks self.now }
+    {
+        match self.place {
+            Place::Settled(address) => {
+                address.value() < 15 || (self.kind == Kind::Switch && !self.phys.is_nowhere())
+            }
+            _ => false,
+        }
+    }
+
+    /// Queues a frame of a reply, report or key.
+    pub(crate) fn put(&mut self, at: u64, to: Addr, rest: &[u8])
+        requires { length rest.now ≤ 15 }
+        ensures { self.new ≡ queued Q at to rest.now self.old }
+    {
+        if !self.speaks() || self.holds(to) {
+            return;
+        }
+        if self.queue.len() < Q {
+            let frame = framed(self.source(), to, rest);
+            self.queue.push(Queued { frame, ready: at });
+        } else {
+            self.dropped = self.dropped.saturating_add(1);
+        }
+    }
+
+    pub(crate) fn reply(&mut self, heard: Heard, rest: &[u8])
+        requires { length rest.now ≤ 15 }
+        ensures { self.new ≡ say Q heard (Reply rest.now) self.old }
+    {
+        if heard.from.value() == 15 {
+            return;
+        }
+        self.put(heard.at, heard.from, rest);
+    }
+
+    pub(crate) fn cast(&mut self, heard: Heard, rest: &[u8])
+        requires { length rest.now ≤ 15 }
+        ensures { self.new ≡ say Q heard (Cast rest.now) self.old }
+    {
+        self.put(heard.at, Addr::new(15), rest);
+    }
+
+    pub(crate) fn tell(&mut self, heard: Heard, to: Addr, rest: &[u8])
+        requires { length rest.now ≤ 15 }
+        ensures { self.new ≡ say Q heard (Tell to rest.now) self.old }
+    {
+        if to.value() == 15 {
+            return;
+        }
+        self.put(heard.at, to, rest);
+    }
+
+    /// Answers with a refusal, where the frame can be answered so.
+    pub(crate) fn refuse(&mut self, heard: Heard, reason: u8)
+        ensures { self.new ≡ say Q heard (Refuse reason) self.old }
+    {
+        if heard.to.value() == 15 || heard.from.value() == 15 || heard.opcode == 0 {
+            return;
+        }
+        self.put(heard.at, heard.from, &[0x00, heard.opcode, reason]);
+    }
+}

@@ -1,0 +1,243 @@
+//! Joining and leaving the wire, and the fates of frames.
+ghost use Rattle.std.specs.Prelude.{◌≡◌, ◌<◌, Some, None, length, MatchResult, IsTrue};
+ghost use Rattle.cec_device.specs.Place.{tries_after, addresses, polled_at, start_place, fresh_record, fresh, reported, joined, left, ended, failed, frame_sent, front_is_poll, sent, sent_by, waited, submit_fault, submitted, has_front};
+
+use crate::device::{Device, Queued, SubmitError};
+use crate::record::{Addr, Fate, Kind, Phys, Place, Record, Volume};
+use arrayvec::ArrayVec;
+use cec_frame::Frame;
+use cec_opcode::Triple;
+
+/// What is polled after an address that was found taken.
+fn place_behind(kind: Kind, taken: Addr) -> Place
+    ensures { result ≡ tries_after taken (addresses kind) }
+{
+    let next = match (kind, taken.value()) {
+        (Kind::Tv, 0) => 14,
+        (Kind::Recorder, 1) => 2,
+        (Kind::Recorder, 2) => 9,
+        (Kind::Player, 4) => 8,
+        (Kind::Player, 8) => 11,
+        _ => return Place::Settled(Addr::new(15)),
+    };
+    Place::Polls(Addr::new(next))
+}
+
+fn first_place(kind: Kind, phys: Phys) -> Place
+    ensures { result ≡ start_place kind phys }
+{
+    if phys.is_nowhere() {
+        return Place::Settled(Addr::new(15));
+    }
+    match kind {
+        Kind::Tv => Place::Polls(Addr::new(0)),
+        Kind::Recorder => Place::Polls(Addr::new(1)),
+        Kind::Player => Place::Polls(Addr::new(4)),
+        Kind::Amp => Place::Polls(Addr::new(5)),
+        Kind::Switch => Place::Settled(Addr::new(15)),
+    }
+}
+
+fn new_record(kind: Kind, ports: u8) -> Record
+    ensures { result ≡ fresh_record kind ports }
+{
+    Record {
+        power: true,
+        active: None,
+        path: None,
+        deck: 0x1a,
+        menu: false,
+        audio: false,
+        volume: Volume::new(),
+        mute: false,
+        arc: false,
+        selected: if kind == Kind::Switch && ports > 0 {
+            Some(Addr::new(1))
+        } else {
+            None
+        },
+        language: Triple {
+            first: b'e',
+            second: b'n',
+            third: b'g',
+        },
+        osd: ArrayVec::new(),
+        held: None,
+        heard: None,
+        sub: None,
+    }
+}
+
+impl<const Q: usize> Device<Q> {
+    pub fn new(kind: Kind, name: ArrayVec<u8, 14>, ports: u8) -> Self
+        ensures { result ≡ fresh kind name.items ports }
+    {
+        Device {
+            kind,
+            name,
+            ports,
+            number: 0,
+            phys: Phys { high: 255, low: 255 },
+            place: Place::Off,
+            record: new_record(kind, ports),
+            queue: ArrayVec::new(),
+            attempts: 0,
+            class: 5,
+            poll_ready: 0,
+            dropped: 0,
+        }
+    }
+
+    /// Leaves the wire: a new device again.
+    pub fn leave(&mut self)
+        ensures { self.new ≡ left self.old }
+    {
+        self.number = 0;
+        self.phys = Phys { high: 255, low: 255 };
+        self.place = Place::Off;
+        self.record = new_record(self.kind, self.ports);
+        self.queue = ArrayVec::new();
+        self.attempts = 0;
+        self.class = 5;
+        self.poll_ready = 0;
+        self.dropped = 0;
+    }
+
+    fn report(&mut self, at: u64)
+        ensures { self.new ≡ reported Q at self.old }
+    {
+        let bytes = [0x84, self.phys.high, self.phys.low, self.type_byte()];
+        self.put(at, Addr::new(15), &bytes);
+    }
+
+    pub fn join(&mut self, number: u8, phys: Phys, at: u64)
+        ensures { self.new ≡ joined Q self.old number phys at }
+    {
+        self.leave();
+        self.number = number;
+        self.phys = phys;
+        self.place = first_place(self.kind, phys);
+        self.poll_ready = at;
+        self.report(at);
+    }
+
+    fn end_front(&mut self)
+        requires { 0 < length self.old.queue }
+        ensures { self.new ≡ ended self.old }
+    {
+        self.queue.remove(0);
+        self.attempts = 0;
+        self.class = 7;
+    }
+
+    fn fail(&mut self)
+        requires { 0 < length self.old.queue }
+        ensures { self.new ≡ failed self.old }
+    {
+        if self.attempts < 5 {
+            self.attempts += 1;
+            self.class = 3;
+        } else {
+            self.end_front();
+        }
+    }
+
+    // The address that it polls.
+    fn polled(&self) -> Option<Addr>
+        ensures { result ≡ polled_at self.now.place }
+    {
+        match self.place {
+            Place::Polls(address) => Some(address),
+            _ => None,
+        }
+    }
+
+    fn poll_sent(&mut self, address: Addr, fate: Fate, at: u64)
+        ensures { self.new ≡ sent_by Q self.old fate at (Some address) }
+    {
+        self.poll_ready = at;
+        match fate {
+            Fate::Unacked => {
+                self.place = Place::Settled(address);
+                self.class = 7;
+            }
+            Fate::Delivered => {
+                self.place = place_behind(self.kind, address);
+                self.class = 7;
+            }
+            Fate::Lost => {
+                self.place = Place::Polls(address);
+                self.class = 5;
+            }
+            Fate::Broken => {
+                self.place = Place::Polls(address);
+                self.class = 3;
+            }
+        }
+        self.report(at);
+    }
+
+    fn front_is_poll(&self) -> bool
+        requires { 0 < length self.now.queue }
+        ensures { result ≡ front_is_poll self.now.queue }
+    {
+        self.queue[0].frame.bytes().len() == 1
+    }
+
+    fn frame_sent(&mut self, fate: Fate)
+        requires { 0 < length self.old.queue }
+        ensures { self.new ≡ frame_sent self.old fate }
+    {
+        match fate {
+            Fate::Lost => self.class = 5,
+            Fate::Delivered => self.end_front(),
+            Fate::Unacked if self.front_is_poll() => self.end_front(),
+            Fate::Unacked => self.fail(),
+            Fate::Broken if self.front_is_poll() => self.class = 3,
+            Fate::Broken => self.fail(),
+        }
+    }
+
+    /// The fate of the front frame.
+    pub fn sent(&mut self, fate: Fate, at: u64)
+        requires { IsTrue (has_front self.old) }
+        ensures { self.new ≡ sent Q self.old fate at }
+    {
+        match self.polled() {
+            Some(address) => self.poll_sent(address, fate, at),
+            None => self.frame_sent(fate),
+        }
+    }
+
+    /// It was no contender in a round with contenders.
+    pub fn waited(&mut self)
+        ensures { self.new ≡ waited self.old }
+    {
+        if self.class == 7 {
+            self.class = 5;
+        }
+    }
+
+    /// Queues a frame of a script.
+    pub fn submit(&mut self, frame: Frame, at: u64) -> Result<(), SubmitError>
+        ensures answer { MatchResult result (λ _. submit_fault Q self.old frame ≡ None) (λ fault. submit_fault Q self.old frame ≡ Some fault) }
+        ensures queue { self.new ≡ submitted Q self.old frame at }
+    {
+        let header = frame.bytes()[0];
+        let (from, to) = (Addr::new(header / 16), Addr::new(header % 16));
+        if self.place == Place::Off {
+            return Err(SubmitError::OffWire);
+        }
+        if self.place != Place::Settled(from) {
+            return Err(SubmitError::NoAddress);
+        }
+        if self.holds(to) {
+            return Err(SubmitError::OwnAddress);
+        }
+        if self.queue.len() >= Q {
+            return Err(SubmitError::QueueFull);
+        }
+        self.queue.push(Queued { frame, ready: at });
+        Ok(())
+    }
+}

@@ -1,0 +1,132 @@
+-- A message is read back from its spelling.
+use Rattle.std.proofs.Common.{◌≡◌, ℕ, ◌<◌, ◌+◌, ◌≤◌, ◌%◌, Bool, true, false, IsTrue, cond, nat_le, refl, sym, ap, subst, arith, List, [], ◌∷◌, ◌++◌, Option, Some, None, find, is_some, ◌==◌, ◌∙◌}
+use Rattle.std.proofs.Common.{rules}
+use borrow.Author.Tests.{tests}
+use Rattle.std.specs.Coded.{le_prop}
+use Rattle.std.specs.List.{list_all}
+use Rattle.std.proofs.lemmas.List.Folds.{find-append}
+use Rattle.cec_opcode.proofs.WordLemmas.{reason_at-other, power_at-other}
+use Rattle.cec_opcode.specs.Words.{reason_at, reason_byte, power_at, power_byte, status_at, status_byte}
+use Rattle.cec_opcode.specs.declared.words.Reason.{Reason}
+use Rattle.cec_opcode.specs.declared.words.Reason.TheVariants.{Unrecognized, WrongMode, NoSource, InvalidOperand, Refused, Other}
+use Rattle.cec_opcode.specs.declared.words.Power.{Power}
+use Rattle.cec_opcode.specs.declared.words.Power.TheVariants.{On, Standby, Other as OtherOfPower}
+use Rattle.cec_opcode.specs.declared.words.AudioStatus.{AudioStatus}
+use Rattle.std.proofs.Common.{is_none}
+use Rattle.std.proofs.lemmas.Bool.{eqb-true}
+use Rattle.cec_opcode.specs.Table.{Row, decoded, decoded_of, enough, is_own_message, is_raw_opcode, meaning, named_rows, raw_rows, read_as, row_of, spelling}
+use Rattle.cec_opcode.specs.declared.message.Message.{Message}
+use Rattle.cec_opcode.specs.declared.message.Message.TheVariants.{FeatureAbort, ImageViewOn, TextViewOn, GiveDeckStatus, DeckStatus, SetMenuLanguage, Standby as StandbyMessage, Play, DeckControl, UserControlPressed, UserControlReleased, GiveOsdName, SetOsdName, SetOsdString, SystemAudioModeRequest, GiveAudioStatus, SetSystemAudioMode, ReportAudioStatus, GiveSystemAudioModeStatus, SystemAudioModeStatus, RoutingChange, RoutingInformation, ActiveSource, GivePhysicalAddress, ReportPhysicalAddress, RequestActiveSource, SetStreamPath, DeviceVendorId, GiveDeviceVendorId, MenuRequest, MenuStatus, GiveDevicePowerStatus, ReportPowerStatus, GetMenuLanguage, InactiveSource, CecVersion, GetCecVersion, InitiateArc, ReportArcInitiated, ReportArcTerminated, RequestArcInitiation, RequestArcTermination, TerminateArc, Abort, Raw, Unknown}
+use Rattle.cec_opcode.specs.declared.message.Decoded.TheVariants.{Poll, Known, Short, Unknown as NoName}
+
+pub reason_at-reason_byte : (r : Reason) → reason_at (reason_byte r) ≡ r
+reason_at-reason_byte Unrecognized = refl
+reason_at-reason_byte WrongMode = refl
+reason_at-reason_byte NoSource = refl
+reason_at-reason_byte InvalidOperand = refl
+reason_at-reason_byte Refused = refl
+reason_at-reason_byte (Other o) = sym (reason_at-other o.byte o.unlisted)
+
+pub power_at-power_byte : (p : Power) → power_at (power_byte p) ≡ p
+power_at-power_byte On = refl
+power_at-power_byte Standby = refl
+power_at-power_byte (OtherOfPower o) = sym (power_at-other o.byte o.unlisted)
+
+abbrev made : (m : Bool) (v : ℕ) → v < 128 → AudioStatus
+made m v h = record { muted = m; volume = v; in_range = h }
+
+same_status : (m n : Bool) (v w : ℕ) (h : v < 128) (k : w < 128) → m ≡ n → v ≡ w → made m v h ≡ made n w k
+same_status m n v w h k e f =
+    let at_w : (w : ℕ) → v ≡ w → (k : w < 128) → made m v h ≡ made m w k =
+    λ w f. subst (λ (w : ℕ). (k : w < 128) → made m v h ≡ made m w k) f (λ k. ap (λ h. made m v h) (le_prop h k)) in
+    subst (λ (n : Bool). made m v h ≡ made n w k) e (at_w w f k)
+
+status_at-of : (m : Bool) (v : ℕ) (h : v < 128) → status_at (status_byte (made m v h)) ≡ made m v h
+status_at-of true v h = same_status _ _ _ _ _ h (grind (arith, tests)) (omega arith)
+status_at-of false v h = same_status _ _ _ _ _ h (grind (arith, tests)) (omega arith)
+
+pub status_at-status_byte : (s : AudioStatus) → status_at (status_byte s) ≡ s
+status_at-status_byte s = status_at-of s.muted s.volume s.in_range
+
+named : (text : List ℕ) → is_own_message (SetOsdName (record { items = text })) ≡ true
+    → read_as 0x47 (enough 1 text (SetOsdName (record { items = text }))) ≡ Known (SetOsdName (record { items = text }))
+named text own = grind (arith, tests)
+
+shown : (display : ℕ) (text : List ℕ)
+    → read_as 0x64 (enough 1 (display ∷ text) (SetOsdString display (record { items = text }))) ≡ Known (SetOsdString display (record { items = text }))
+shown display text = grind (arith, tests)
+
+no_name : (op : ℕ) (xs : List ℕ) (r : Option Row) → is_none r ≡ true → decoded op xs r ≡ NoName op
+no_name op xs None e = refl
+no_name op xs (Some r) e = cc
+
+abbrev EachCode : List Row → (ℕ → Type 0) → Type 0
+EachCode [] P = Unit {0}
+EachCode (r ∷ rs) P = P r.code × EachCode rs P
+
+split : (op : ℕ) (P : ℕ → Type 0) (r : Row) (rest : Option Row) (b : Bool) → (r.code == op) ≡ b → P r.code
+    → (is_some rest ≡ true → P op) → is_some (cond b (Some r) rest) ≡ true → P op
+split op P r rest true e here there own = subst P (eqb-true _ _ e) here
+split op P r rest false e here there own = there own
+
+-- what holds of each code in the rows holds of a code that is found there
+found : (op : ℕ) (P : ℕ → Type 0) (rs : List Row) → EachCode rs P → is_some (find (λ r. r.code == op) rs) ≡ true → P op
+found op P [] each own = absurd (cc)
+found op P (r ∷ rs) each own =
+    split op P r (find (λ r. r.code == op) rs) (r.code == op) refl each.0 (found op P rs each.1) own
+
+abbrev IsKept : ℕ → Type 0
+IsKept op = (xs : List ℕ) → decoded op xs (row_of op) ≡ Known (Raw op (record { items = xs }))
+
+raw_again : (op : ℕ) (xs : List ℕ) → is_raw_opcode op ≡ true → decoded op xs (row_of op) ≡ Known (Raw op (record { items = xs }))
+raw_again op xs own =
+    found op IsKept raw_rows ((λ _. refl, (λ _. refl, (λ _. refl, (λ _. refl, (λ _. refl, (λ _. refl, (λ _. refl, (λ _. refl, (λ _. refl, (λ _. refl, (λ _. refl, (λ _. refl, (λ _. refl, (λ _. refl, (λ _. refl, (λ _. refl, (λ _. refl, (λ _. refl, (λ _. refl, (λ _. refl, (λ _. refl, (λ _. refl, (λ _. refl, (λ _. refl, tt))))))))))))))))))))))))) own xs
+
+pub again : (h : ℕ) (m : Message) → is_own_message m ≡ true → decoded_of (h ∷ spelling m) ≡ meaning m
+again h (FeatureAbort opcode reason) own = ap (λ r. Known (FeatureAbort opcode r)) (reason_at-reason_byte reason)
+again h ImageViewOn own = refl
+again h TextViewOn own = refl
+again h (GiveDeckStatus request) own = refl
+again h (DeckStatus deck) own = refl
+again h (SetMenuLanguage language) own = refl
+again h StandbyMessage own = refl
+again h (Play mode) own = refl
+again h (DeckControl control) own = refl
+again h (UserControlPressed code) own = refl
+again h UserControlReleased own = refl
+again h GiveOsdName own = refl
+again h (SetOsdName text) own = named text.items own
+again h (SetOsdString display text) own = shown display text.items
+again h (SystemAudioModeRequest None) own = refl
+again h (SystemAudioModeRequest (Some address)) own = refl
+again h GiveAudioStatus own = refl
+again h (SetSystemAudioMode audio) own = refl
+again h (ReportAudioStatus status) own = ap (λ s. Known (ReportAudioStatus s)) (status_at-status_byte status)
+again h GiveSystemAudioModeStatus own = refl
+again h (SystemAudioModeStatus audio) own = refl
+again h (RoutingChange x y) own = refl
+again h (RoutingInformation address) own = refl
+again h (ActiveSource address) own = refl
+again h GivePhysicalAddress own = refl
+again h (ReportPhysicalAddress address kind) own = refl
+again h RequestActiveSource own = refl
+again h (SetStreamPath address) own = refl
+again h (DeviceVendorId vendor) own = refl
+again h GiveDeviceVendorId own = refl
+again h (MenuRequest request) own = refl
+again h (MenuStatus menu) own = refl
+again h GiveDevicePowerStatus own = refl
+again h (ReportPowerStatus power) own = ap (λ p. Known (ReportPowerStatus p)) (power_at-power_byte power)
+again h GetMenuLanguage own = refl
+again h (InactiveSource address) own = refl
+again h (CecVersion version) own = refl
+again h GetCecVersion own = refl
+again h InitiateArc own = refl
+again h ReportArcInitiated own = refl
+again h ReportArcTerminated own = refl
+again h RequestArcInitiation own = refl
+again h RequestArcTermination own = refl
+again h TerminateArc own = refl
+again h Abort own = refl
+again h (Raw opcode operands) own = raw_again opcode operands.items own
+again h (Unknown opcode operands) own = no_name opcode operands.items (row_of opcode) own

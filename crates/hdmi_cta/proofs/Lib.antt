@@ -1,0 +1,6 @@
+pub mod Growing
+pub mod OneBlock
+pub mod OneExt
+pub mod OneTimings
+pub mod WholeLemmas
+pub mod SinkLemmas

@@ -1,0 +1,5 @@
+pub mod Block
+pub mod Cta
+pub mod Whole
+pub mod Ext
+pub mod Sink

@@ -1,0 +1,82 @@
+//! A data block: its kind, and up to 31 bytes.
+ghost use Rattle.std.specs.Prelude.{◌≡◌, ◌<◌, ◌/◌, length};
+
+use crate::parts::append;
+use arrayvec::ArrayVec;
+
+#[derive(Clone, Copy, Debug, PartialEq, Eq)]
+pub enum BlockKind {
+    Tag0,
+    Audio,
+    Video,
+    Vendor,
+    Speakers,
+    Tag5,
+    Tag6,
+    Extended,
+}
+
+impl BlockKind {
+    ghost use Rattle.hdmi_cta.specs.Block.{kind_number};
+
+    pub fn of_byte(byte: u8) -> BlockKind
+        ensures { kind_number result ≡ byte / 32 }
+    {
+        match byte / 32 {
+            0 => BlockKind::Tag0,
+            1 => BlockKind::Audio,
+            2 => BlockKind::Video,
+            3 => BlockKind::Vendor,
+            4 => BlockKind::Speakers,
+            5 => BlockKind::Tag5,
+            6 => BlockKind::Tag6,
+            _ => BlockKind::Extended,
+        }
+    }
+
+    pub fn number(self) -> u8
+        ensures number { result ≡ kind_number self }
+        ensures small { result < 8 }
+    {
+        match self {
+            BlockKind::Tag0 => 0,
+            BlockKind::Audio => 1,
+            BlockKind::Video => 2,
+            BlockKind::Vendor => 3,
+            BlockKind::Speakers => 4,
+            BlockKind::Tag5 => 5,
+            BlockKind::Tag6 => 6,
+            BlockKind::Extended => 7,
+        }
+    }
+}
+
+#[derive(Drop)]
+pub struct Block {
+    pub kind: BlockKind,
+    pub payload: ArrayVec<u8, 31>,
+    ghost short: { length payload.items < 32 },
+}
+
+impl Default for Block {
+    fn default() -> Self {
+        Block {
+            kind: BlockKind::Tag0,
+            payload: ArrayVec::new(),
+        }
+    }
+}
+
+impl Block {
+    ghost use Rattle.hdmi_cta.specs.Block.{block_bytes};
+
+    /// Its bytes.
+    pub fn write(&self) -> ArrayVec<u8, 32>
+        ensures { result.items ≡ block_bytes self.now }
+    {
+        let mut bytes = ArrayVec::new();
+        bytes.push(self.kind.number() * 32 + self.payload.len() as u8);
+        append(&mut bytes, self.payload.as_slice());
+        bytes
+    }
+}

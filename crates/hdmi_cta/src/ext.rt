@@ -1,0 +1,133 @@
+//! Reading and writing a whole extension block.
+ghost use Rattle.std.specs.Prelude.{◌≡◌, ◌≢◌, ◌%◌, ◌+◌, ◌≤◌, ◌++◌, IfOk, OnErr, IfSome, IfNone, sum, length, flat_map};
+ghost use Rattle.arrayvec.specs.ArrayVec.{array_vec_len};
+ghost use Rattle.hdmi_edid.specs.Timing.{timing_bytes};
+ghost use Rattle.hdmi_cta.specs.Block.{block_bytes};
+ghost use Rattle.hdmi_cta.specs.Whole.{cta_bytes, bare_bytes};
+ghost use Rattle.hdmi_cta.specs.Ext.{ext_bytes};
+ghost use Rattle.hdmi_cta.specs.Cta.{summed};
+ghost use Rattle.hdmi_cta.specs.declared.cta.Cta.{Cta as CtaValue};
+ghost use Rattle.hdmi_cta.specs.declared.cta.Bare.{Bare as BareValue};
+ghost use Rattle.hdmi_cta.specs.declared.raw.Ext.{Ext as ExtValue};
+
+use crate::block::Block;
+use crate::cta::{Bare, Cta};
+use crate::parts::{append, part};
+use crate::raw::{Ext, RawExt};
+use crate::reading::{read_blocks, read_timings};
+use arrayvec::ArrayVec;
+use hdmi_edid::{Timing, checksum_of, is_summed};
+
+/// Why 128 bytes are no extension: their sum is wrong.
+#[derive(Clone, Copy, Debug, PartialEq, Eq)]
+pub enum ExtError {
+    Checksum,
+}
+
+fn read_cta(bytes: &[u8; 128]) -> Option<Cta>
+    requires { sum bytes.now % 256 ≡ 0 }
+    ensures found { IfSome result (λ c. cta_bytes c ≡ bytes.now) }
+    ensures none { IfNone result ((c : CtaValue) → cta_bytes c ≡ bytes.now → ⊥) }
+{
+    if bytes[0] != 2 || bytes[1] != 3 {
+        return None;
+    }
+    let end = bytes[2] as usize;
+    if end < 4 || end > 127 {
+        return None;
+    }
+    let blocks = read_blocks(&bytes[4..end])?;
+    let (timings, rest) = read_timings(&bytes[end..127]);
+    let mut tail = ArrayVec::new();
+    append(&mut tail, rest);
+    Some(Cta {
+        flags: bytes[3],
+        blocks,
+        timings,
+        tail,
+    })
+}
+
+fn read_bare(bytes: &[u8; 128]) -> Option<Bare>
+    requires { sum bytes.now % 256 ≡ 0 }
+    ensures found { IfSome result (λ b. bare_bytes b ≡ bytes.now) }
+    ensures none { IfNone result ((b : BareValue) → bare_bytes b ≡ bytes.now → ⊥) }
+{
+    if bytes[0] != 2 || bytes[1] != 3 || bytes[2] != 0 {
+        return None;
+    }
+    Some(Bare {
+        flags: bytes[3],
+        tail: part(bytes, 4),
+    })
+}
+
+/// The extension that 128 bytes spell.
+pub fn read_ext(bytes: &[u8; 128]) -> Result<Ext, ExtError>
+    ensures found { IfOk result (λ e. ext_bytes e ≡ bytes.now) }
+    ensures only { (e : ExtValue) → bytes.now ≡ ext_bytes e → result ≡ Ok e }
+    ensures refused { OnErr result (sum bytes.now % 256 ≢ 0) }
+{
+    if !is_summed(bytes) {
+        return Err(ExtError::Checksum);
+    }
+    if let Some(cta) = read_cta(bytes) {
+        return Ok(Ext::Cta(cta));
+    }
+    if let Some(bare) = read_bare(bytes) {
+        return Ok(Ext::Bare(bare));
+    }
+    Ok(Ext::Raw(RawExt { bytes: *bytes }))
+}
+
+fn append_blocks(out: &mut ArrayVec<u8, 123>, blocks: &[Block])
+    requires { array_vec_len out.old + length (flat_map block_bytes blocks.now) ≤ 123 }
+    ensures { out.new.items ≡ out.old.items ++ flat_map block_bytes blocks.now }
+{
+    for block in blocks {
+        append(out, block.write().as_slice());
+    }
+}
+
+fn append_timings(out: &mut ArrayVec<u8, 123>, timings: &[Timing])
+    requires { array_vec_len out.old + length (flat_map timing_bytes timings.now) ≤ 123 }
+    ensures { out.new.items ≡ out.old.items ++ flat_map timing_bytes timings.now }
+{
+    for timing in timings {
+        append(out, &timing.write());
+    }
+}
+
+fn spelled(head: &[u8; 4], body: &[u8]) -> [u8; 128]
+    requires { length body.now ≡ 123 }
+    ensures { result ≡ summed (head.now ++ body.now) }
+{
+    let mut block: ArrayVec<u8, 128> = ArrayVec::new();
+    append(&mut block, head);
+    append(&mut block, body);
+    let check = checksum_of(block.as_slice());
+    block.push(check);
+    <[u8; 128]>::try_from(block.as_slice()).unwrap()
+}
+
+/// The 128 bytes that spell an extension.
+pub fn write_ext(ext: &Ext) -> [u8; 128]
+    ensures { result ≡ ext_bytes ext.now }
+{
+    match ext {
+        Ext::Cta(cta) => write_cta(cta),
+        Ext::Bare(bare) => spelled(&[2, 3, 0, bare.flags], &bare.tail),
+        Ext::Raw(raw) => raw.bytes,
+    }
+}
+
+fn write_cta(cta: &Cta) -> [u8; 128]
+    ensures { result ≡ cta_bytes cta.now }
+{
+    let mut body = ArrayVec::new();
+    append_blocks(&mut body, cta.blocks.as_slice());
+    let end = body.len() as u8 + 4;
+    append_timings(&mut body, cta.timings.as_slice());
+    append(&mut body, cta.tail.as_slice());
+    spelled(&[2, 3, end, cta.flags], body.as_slice())
+}

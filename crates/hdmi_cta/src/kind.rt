@@ -1,0 +1,11 @@
+//! The kinds of device that stand on the wire.
+
+/// What a device is. Its kind decides the logical addresses it may take and what it does with a frame.
+#[derive(Clone, Copy, Debug, PartialEq, Eq)]
+pub enum Kind {
+    Tv,
+    Amp,
+    Player,
+    Recorder,
+    Switch,
+}

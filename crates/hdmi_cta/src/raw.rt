@@ -1,0 +1,24 @@
+//! An extension.
+ghost use Rattle.std.specs.Prelude.{◌≡◌, ◌%◌, length, sum};
+ghost use Rattle.hdmi_cta.specs.Whole.{cta_bytes, bare_bytes};
+ghost use Rattle.hdmi_cta.specs.declared.cta.Cta.{Cta as CtaValue};
+ghost use Rattle.hdmi_cta.specs.declared.cta.Bare.{Bare as BareValue};
+
+use crate::cta::{Bare, Cta};
+
+/// A block whose sum is right, and that is of no form.
+#[derive(Drop)]
+pub struct RawExt {
+    pub bytes: [u8; 128],
+    ghost whole: { length bytes ≡ 128 },
+    ghost checked: { sum bytes % 256 ≡ 0 },
+    ghost no_cta: { (c : CtaValue) → cta_bytes c ≡ bytes → ⊥ },
+    ghost no_bare: { (b : BareValue) → bare_bytes b ≡ bytes → ⊥ },
+}
+
+#[derive(Drop)]
+pub enum Ext {
+    Cta(Cta),
+    Bare(Bare),
+    Raw(RawExt),
+}

@@ -1,0 +1,30 @@
+-- The 128 bytes of a base block.
+use Rattle.std.specs.Prelude.{ℕ, ◌+◌, ◌-◌, ◌%◌, List, [], ◌∷◌, ◌++◌, sum, flat_map}
+use Rattle.std.specs.Int.{w16, w32, to_le_bytes}
+use Rattle.hdmi_edid.specs.Check.{check_of}
+use Rattle.hdmi_edid.specs.Chroma.{chroma_bytes}
+use Rattle.hdmi_edid.specs.Descriptor.{descriptor_bytes}
+use Rattle.hdmi_edid.specs.Maker.{maker_bytes}
+use Rattle.hdmi_edid.specs.Revisions.{revision_bytes}
+use Rattle.hdmi_edid.specs.Standard.{standard_bytes}
+use Rattle.hdmi_edid.specs.declared.base.Base.{Base}
+
+abbrev pub header : List ℕ
+header = 0 ∷ 0xff ∷ 0xff ∷ 0xff ∷ 0xff ∷ 0xff ∷ 0xff ∷ 0 ∷ []
+
+-- bytes 8 to 24
+abbrev pub product_bytes : Base → List ℕ
+product_bytes b =
+    maker_bytes b.maker ++ (to_le_bytes w16 b.product ++ (to_le_bytes w32 b.serial ++ (b.week ∷ (b.year - 1990) ∷ (revision_bytes b.revision ++ (
+    b.input ∷ b.width ∷ b.height ∷ b.gamma ∷ b.features ∷ [])))))
+
+-- bytes 25 to 126
+abbrev pub display_bytes : Base → List ℕ
+display_bytes b =
+    chroma_bytes b.chroma ++ (b.established ++ (flat_map standard_bytes b.standard ++ (flat_map descriptor_bytes b.descriptors ++ (b.extensions ∷ []))))
+
+abbrev pub front_bytes : Base → List ℕ
+front_bytes b = header ++ (product_bytes b ++ display_bytes b)
+
+abbrev pub base_bytes : Base → List ℕ
+base_bytes b = front_bytes b ++ (check_of (front_bytes b) ∷ [])

@@ -1,0 +1,23 @@
+-- The forms of a descriptor's 18 bytes.
+use Rattle.std.specs.Prelude.{ℕ, ◌+◌, ◌==◌, Bool, ◌&&◌, ◌||◌, not, nat_lt, List, slice_index, drop}
+use Rattle.std.specs.List.{list_all}
+use Rattle.hdmi_edid.specs.Chars.{is_text_form}
+
+abbrev pub is_timing : List ℕ → Bool
+is_timing bytes = nat_lt 0 (slice_index bytes 0 + slice_index bytes 1)
+
+abbrev pub has_text : List ℕ → Bool
+has_text bytes = (slice_index bytes 4 == 0) && is_text_form (drop 5 bytes)
+
+abbrev pub is_text_tag : ℕ → Bool
+is_text_tag tag = (tag == 0xff) || (tag == 0xfe) || (tag == 0xfc)
+
+-- a text, range limits, or a dummy
+abbrev pub is_labelled : List ℕ → Bool
+is_labelled bytes =
+    let tag = slice_index bytes 3 in
+    (slice_index bytes 2 == 0) && (
+    (is_text_tag tag && has_text bytes) || (tag == 0xfd) || ((tag == 0x10) && list_all (λ b. b == 0) (drop 4 bytes)))
+
+abbrev pub fits_no_form : List ℕ → Bool
+fits_no_form bytes = not (is_timing bytes) && not (is_labelled bytes)

@@ -1,0 +1,235 @@
+//! The base block.
+ghost use Rattle.std.specs.Prelude.{◌≡◌, ◌∷◌, [], slice_index, IfOk, IfErr, OnOk, ◌<◌, ◌≤◌, ◌+◌, ◌^◌, ◌++◌, take, drop, length, MatchResult, Some, None, flat_map, Option};
+ghost use Rattle.arrayvec.specs.ArrayVec.{array_vec_len};
+ghost use Rattle.hdmi_edid.specs.Descriptor.{descriptor_bytes};
+ghost use Rattle.hdmi_edid.specs.Standard.{standard_bytes};
+ghost use Rattle.hdmi_edid.specs.Maker.{maker_bytes};
+ghost use Rattle.hdmi_edid.specs.Revisions.{revision_bytes};
+ghost use Rattle.hdmi_edid.specs.Refusals.{refusal, has_header};
+
+use crate::checksum::{checksum_of, is_summed};
+use crate::chroma::Chroma;
+use crate::descriptor::Descriptor;
+use crate::maker::Maker;
+use crate::standard::Standard;
+use arrayvec::ArrayVec;
+
+/// Why 128 bytes are no base block.
+#[derive(Clone, Copy, Debug, PartialEq, Eq)]
+pub enum BaseError {
+    Header,
+    Checksum,
+    Revision,
+    Maker,
+}
+
+#[derive(Clone, Copy, Debug, PartialEq, Eq)]
+pub enum Revision {
+    Three,
+    Four,
+}
+
+/// What a base block says.
+#[derive(Drop)]
+pub struct Base {
+    pub maker: Maker,
+    pub product: u16,
+    pub serial: u32,
+    pub week: u8,
+    pub year: u16,
+    pub revision: Revision,
+    pub input: u8,
+    pub width: u8,
+    pub height: u8,
+    pub gamma: u8,
+    pub features: u8,
+    pub chroma: Chroma,
+    pub established: [u8; 3],
+    pub standard: [Option<Standard>; 8],
+    pub descriptors: [Descriptor; 4],
+    pub extensions: u8,
+    ghost product_fits: { product < 2 ^ 16 },
+    ghost serial_fits: { serial < 2 ^ 32 },
+    ghost first_year: { 1990 ≤ year },
+    ghost last_year: { year < 2246 },
+    ghost three: { length established ≡ 3 },
+    ghost eight: { length standard ≡ 8 },
+    ghost four: { length descriptors ≡ 4 },
+}
+
+/// The N bytes from a place on.
+fn part<const N: usize>(bytes: &[u8], at: usize) -> [u8; N]
+    requires { at + N ≤ length bytes.now }
+    ensures { result ≡ take N (drop at bytes.now) }
+{
+    <[u8; N]>::try_from(&bytes[at..at + N]).unwrap()
+}
+
+/// Whether the header stands in front.
+fn has_header(bytes: &[u8; 128]) -> bool
+    ensures { result ≡ has_header bytes.now }
+{
+    bytes[0] == 0
+        && bytes[1] == 0xff
+        && bytes[2] == 0xff
+        && bytes[3] == 0xff
+        && bytes[4] == 0xff
+        && bytes[5] == 0xff
+        && bytes[6] == 0xff
+        && bytes[7] == 0
+}
+
+fn read_descriptors(bytes: &[u8; 72]) -> [Descriptor; 4]
+    ensures { flat_map descriptor_bytes result ≡ bytes.now }
+{
+    [
+        Descriptor::read(&part(bytes, 0)),
+        Descriptor::read(&part(bytes, 18)),
+        Descriptor::read(&part(bytes, 36)),
+        Descriptor::read(&part(bytes, 54)),
+    ]
+}
+
+/// Appends bytes for which there is room.
+fn append(block: &mut ArrayVec<u8, 128>, bytes: &[u8])
+    requires { array_vec_len block.old + length bytes.now ≤ 128 }
+    ensures items { block.new.items ≡ block.old.items ++ bytes.now }
+    ensures len { array_vec_len block.new ≡ array_vec_len block.old + length bytes.now }
+{
+    let _ = block.try_extend_from_slice(bytes);
+}
+
+/// Refuses bytes that are no base block.
+fn check(bytes: &[u8; 128]) -> Result<(Revision, Maker), BaseError>
+    ensures { MatchResult result (λ r. (refusal bytes.now ≡ None) × (maker_bytes r.1 ≡ slice_index bytes.now 8 ∷ slice_index bytes.now 9 ∷ []) × (revision_bytes r.0 ≡ slice_index bytes.now 18 ∷ slice_index bytes.now 19 ∷ [])) (λ e. refusal bytes.now ≡ Some e) }
+{
+    if !has_header(bytes) {
+        return Err(BaseError::Header);
+    }
+    if !is_summed(bytes) {
+        return Err(BaseError::Checksum);
+    }
+    let revision = match (bytes[18], bytes[19]) {
+        (1, 3) => Revision::Three,
+        (1, 4) => Revision::Four,
+        _ => return Err(BaseError::Revision),
+    };
+    let maker = Maker::read(bytes[8], bytes[9]).ok_or(BaseError::Maker)?;
+    Ok((revision, maker))
+}
+
+impl Base {
+    ghost use Rattle.hdmi_edid.specs.Base.{base_bytes, header, product_bytes, display_bytes};
+
+    /// The base block that 128 bytes spell.
+    pub fn read(bytes: &[u8; 128]) -> Result<Base, BaseError>
+        ensures read { IfOk result (λ b. base_bytes b ≡ bytes.now) }
+        ensures accepted { OnOk result (refusal bytes.now ≡ None) }
+        ensures refused { IfErr result (λ e. refusal bytes.now ≡ Some e) }
+    {
+        let (revision, maker) = check(bytes)?;
+        Ok(Base {
+            maker,
+            product: u16::from_le_bytes([bytes[10], bytes[11]]),
+            serial: u32::from_le_bytes([bytes[12], bytes[13], bytes[14], bytes[15]]),
+            week: bytes[16],
+            year: u16::from(bytes[17]) + 1990,
+            revision,
+            input: bytes[20],
+            width: bytes[21],
+            height: bytes[22],
+            gamma: bytes[23],
+            features: bytes[24],
+            chroma: Chroma::read(&part(bytes, 25)),
+            established: part(bytes, 35),
+            standard: Standard::read_all(&part(bytes, 38)),
+            descriptors: read_descriptors(&part(bytes, 54)),
+            extensions: bytes[126],
+        })
+    }
+
+    /// The header, and bytes 8 to 24.
+    fn front(&self) -> ArrayVec<u8, 128>
+        ensures items { result.items ≡ header ++ product_bytes self.now }
+        ensures len { array_vec_len result ≡ 25 }
+    {
+        let mut block = ArrayVec::new();
+        append(
+            &mut block,
+            &[0x00, 0xff, 0xff, 0xff, 0xff, 0xff, 0xff, 0x00],
+        );
+        append(&mut block, &self.maker.write());
+        append(&mut block, &self.product.to_le_bytes());
+        append(&mut block, &self.serial.to_le_bytes());
+        append(&mut block, &[self.week, (self.year - 1990) as u8]);
+        append(&mut block, &self.revision.write());
+        append(
+            &mut block,
+            &[
+                self.input,
+                self.width,
+                self.height,
+                self.gamma,
+                self.features,
+            ],
+        );
+        block
+    }
+
+    /// Appends bytes 25 to 126.
+    fn append_display(&self, block: &mut ArrayVec<u8, 128>)
+        requires { array_vec_len block.old ≡ 25 }
+        ensures items { block.new.items ≡ block.old.items ++ display_bytes self.now }
+        ensures len { array_vec_len block.new ≡ 127 }
+    {
+        append(block, &self.chroma.write());
+        append(block, &self.established);
+        append_standards(block, &self.standard);
+        append_descriptors(block, &self.descriptors);
+        append(block, &[self.extensions]);
+    }
+
+    /// The 128 bytes of the block.
+    pub fn write(&self) -> [u8; 128]
+        ensures value { result ≡ base_bytes self.now }
+        ensures accepted { refusal result ≡ None }
+    {
+        let mut block = self.front();
+        self.append_display(&mut block);
+        let check = checksum_of(block.as_slice());
+        block.push(check);
+        <[u8; 128]>::try_from(block.as_slice()).unwrap()
+    }
+}
+
+impl Revision {
+    /// The version and the revision.
+    pub fn write(self) -> [u8; 2]
+        ensures { result ≡ revision_bytes self }
+    {
+        match self {
+            Revision::Three => [1, 3],
+            Revision::Four => [1, 4],
+        }
+    }
+}
+
+fn append_standards(block: &mut ArrayVec<u8, 128>, standards: &[Option<Standard>; 8])
+    requires { array_vec_len block.old ≡ 38 }
+    ensures items { block.new.items ≡ block.old.items ++ flat_map standard_bytes standards.now }
+    ensures len { array_vec_len block.new ≡ 54 }
+{
+    for standard in standards {
+        append(block, &Standard::write(*standard));
+    }
+}
+
+fn append_descriptors(block: &mut ArrayVec<u8, 128>, descriptors: &[Descriptor; 4])
+    requires { array_vec_len block.old ≡ 54 }
+    ensures items { block.new.items ≡ block.old.items ++ flat_map descriptor_bytes descriptors.now }
+    ensures len { array_vec_len block.new ≡ 126 }
+{
+    for descriptor in descriptors {
+        append(block, &descriptor.write());
+    }
+}

@@ -1,0 +1,43 @@
+//! A maker's three letters, of five bits each.
+ghost use Rattle.std.specs.Prelude.{◌≡◌, ◌∷◌, [], ◌&&◌, IsTrue, false, true, MatchOption};
+ghost use Rattle.hdmi_edid.specs.Letters.{is_letter, has_letters};
+
+/// The letters of a maker, `A` to `Z`.
+#[derive(Clone, Copy, Debug, PartialEq, Eq)]
+pub struct Maker {
+    pub first: u8,
+    pub second: u8,
+    pub third: u8,
+    ghost letters: { IsTrue (is_letter first && is_letter second && is_letter third) },
+}
+
+impl Maker {
+    ghost use Rattle.hdmi_edid.specs.Maker.{maker_bytes};
+
+    /// The maker that two bytes spell.
+    pub fn read(high: u8, low: u8) -> Option<Maker>
+        ensures { MatchOption result (has_letters high low ≡ false) (λ m. (has_letters high low ≡ true) × (maker_bytes m ≡ high ∷ low ∷ [])) }
+    {
+        let number = u16::from_be_bytes([high, low]);
+        let (first, second, third) = (number / 1024, number / 32 % 32, number % 32);
+        if 1 <= first && first <= 26 && 1 <= second && second <= 26 && 1 <= third && third <= 26 {
+            Some(Maker {
+                first: first as u8 + b'@',
+                second: second as u8 + b'@',
+                third: third as u8 + b'@',
+            })
+        } else {
+            None
+        }
+    }
+
+    /// Its two bytes.
+    pub fn write(self) -> [u8; 2]
+        ensures { result ≡ maker_bytes self }
+    {
+        let number = u16::from(self.first - b'@') * 1024
+            + u16::from(self.second - b'@') * 32
+            + u16::from(self.third - b'@');
+        number.to_be_bytes()
+    }
+}

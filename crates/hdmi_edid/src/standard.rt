@@ -1,0 +1,64 @@
+//! Standard timings, of two bytes each.
+ghost use Rattle.std.specs.Prelude.{◌≡◌, ◌∷◌, [], ◌≤◌, ◌<◌, ◌%◌, ◌==◌, ◌&&◌, IsTrue, not, flat_map};
+
+/// A standard timing.
+#[derive(Clone, Copy, Debug, PartialEq, Eq)]
+pub struct Standard {
+    pub width: u16,
+    pub aspect: u8,
+    pub rate: u8,
+    ghost least_width: { 248 ≤ width },
+    ghost most_width: { width ≤ 2288 },
+    ghost by_eight: { width % 8 ≡ 0 },
+    ghost aspect_fits: { aspect < 4 },
+    ghost least_rate: { 60 ≤ rate },
+    ghost most_rate: { rate < 124 },
+    ghost used: { IsTrue (not (width == 256 && aspect == 0 && rate == 61)) },
+}
+
+impl Standard {
+    ghost use Rattle.hdmi_edid.specs.Standard.{standard_bytes};
+
+    /// The timing that two bytes spell: 01 01 is none.
+    pub fn read(first: u8, second: u8) -> Option<Standard>
+        ensures { standard_bytes result ≡ first ∷ second ∷ [] }
+    {
+        if first == 1 && second == 1 {
+            return None;
+        }
+        Some(Standard {
+            width: (u16::from(first) + 31) * 8,
+            aspect: second / 64,
+            rate: second % 64 + 60,
+        })
+    }
+
+    /// The two bytes of a timing or of none.
+    pub fn write(standard: Option<Standard>) -> [u8; 2]
+        ensures { result ≡ standard_bytes standard }
+    {
+        match standard {
+            None => [1, 1],
+            Some(timing) => [
+                (timing.width / 8 - 31) as u8,
+                timing.aspect * 64 + (timing.rate - 60),
+            ],
+        }
+    }
+
+    /// The eight timings that 16 bytes spell.
+    pub fn read_all(bytes: &[u8; 16]) -> [Option<Standard>; 8]
+        ensures { flat_map standard_bytes result ≡ bytes.now }
+    {
+        [
+            Standard::read(bytes[0], bytes[1]),
+            Standard::read(bytes[2], bytes[3]),
+            Standard::read(bytes[4], bytes[5]),
+            Standard::read(bytes[6], bytes[7]),
+            Standard::read(bytes[8], bytes[9]),
+            Standard::read(bytes[10], bytes[11]),
+            Standard::read(bytes[12], bytes[13]),
+            Standard::read(bytes[14], bytes[15]),
+        ]
+    }
+}

@@ -1,0 +1,4 @@
+use Rattle.hdmi_edtext.proofs.parse.read_line.Goals as goal
+
+pub returns : goal.returns
+returns c = ?
