@@ -1,10 +1,7 @@
 -- A message is read back from its spelling.
-use Rattle.std.proofs.Common.{◌≡◌, ℕ, ◌<◌, ◌+◌, ◌≤◌, ◌%◌, Bool, true, false, IsTrue, cond, nat_le, refl, sym, ap, subst, arith, List, [], ◌∷◌, ◌++◌, Option, Some, None, find, is_some, ◌==◌, ◌∙◌}
-use Rattle.std.proofs.Common.{rules}
+use Rattle.std.proofs.Common.{◌≡◌, ℕ, ◌<◌, Bool, true, false, cond, refl, sym, ap, subst, arith, List, [], ◌∷◌, Option, Some, None, find, is_some, ◌==◌}
 use borrow.Author.Tests.{tests}
 use Rattle.std.specs.Coded.{le_prop}
-use Rattle.std.specs.List.{list_all}
-use Rattle.std.proofs.lemmas.List.Folds.{find-append}
 use Rattle.cec_opcode.proofs.WordLemmas.{reason_at-other, power_at-other}
 use Rattle.cec_opcode.specs.Words.{reason_at, reason_byte, power_at, power_byte, status_at, status_byte}
 use Rattle.cec_opcode.specs.declared.words.Reason.{Reason}
@@ -14,10 +11,10 @@ use Rattle.cec_opcode.specs.declared.words.Power.TheVariants.{On, Standby, Other
 use Rattle.cec_opcode.specs.declared.words.AudioStatus.{AudioStatus}
 use Rattle.std.proofs.Common.{is_none}
 use Rattle.std.proofs.lemmas.Bool.{eqb-true}
-use Rattle.cec_opcode.specs.Table.{Row, decoded, decoded_of, enough, is_own_message, is_raw_opcode, meaning, named_rows, raw_rows, read_as, row_of, spelling}
+use Rattle.cec_opcode.specs.Table.{Row, decoded, decoded_of, enough, is_own_message, is_raw_opcode, meaning, raw_rows, read_as, row_of, spelling}
 use Rattle.cec_opcode.specs.declared.message.Message.{Message}
 use Rattle.cec_opcode.specs.declared.message.Message.TheVariants.{FeatureAbort, ImageViewOn, TextViewOn, GiveDeckStatus, DeckStatus, SetMenuLanguage, Standby as StandbyMessage, Play, DeckControl, UserControlPressed, UserControlReleased, GiveOsdName, SetOsdName, SetOsdString, SystemAudioModeRequest, GiveAudioStatus, SetSystemAudioMode, ReportAudioStatus, GiveSystemAudioModeStatus, SystemAudioModeStatus, RoutingChange, RoutingInformation, ActiveSource, GivePhysicalAddress, ReportPhysicalAddress, RequestActiveSource, SetStreamPath, DeviceVendorId, GiveDeviceVendorId, MenuRequest, MenuStatus, GiveDevicePowerStatus, ReportPowerStatus, GetMenuLanguage, InactiveSource, CecVersion, GetCecVersion, InitiateArc, ReportArcInitiated, ReportArcTerminated, RequestArcInitiation, RequestArcTermination, TerminateArc, Abort, Raw, Unknown}
-use Rattle.cec_opcode.specs.declared.message.Decoded.TheVariants.{Poll, Known, Short, Unknown as NoName}
+use Rattle.cec_opcode.specs.declared.message.Decoded.TheVariants.{Known, Unknown as NoName}
 
 pub reason_at-reason_byte : (r : Reason) → reason_at (reason_byte r) ≡ r
 reason_at-reason_byte Unrecognized = refl

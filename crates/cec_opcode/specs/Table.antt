@@ -1,6 +1,5 @@
 -- The opcodes, one row each, and what a frame says.
 use Rattle.std.specs.Prelude.{ℕ, ◌==◌, ◌+◌, Bool, true, false, nat_le, if◌then◌else◌, Option, Some, None, List, [], ◌∷◌, ◌++◌, length, slice_index, drop, codes, find, option_map, is_some, is_none, nat_lt, ◌&&◌, not}
-use Rattle.arrayvec.specs.ArrayVec.{ArrayVec}
 use Rattle.cec_opcode.specs.Words.{reason_at, reason_byte, power_at, power_byte, status_at, status_byte}
 use Rattle.cec_opcode.specs.declared.row.Rule.{Rule}
 use Rattle.cec_opcode.specs.declared.message.Address.{Address}

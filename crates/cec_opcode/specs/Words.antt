@@ -1,5 +1,5 @@
 -- What each operand byte means, and the byte of each word.
-use Rattle.std.specs.Prelude.{◌≡◌, ℕ, ◌==◌, Bool, true, false, IsTrue, if◌then◌else◌, ◌+◌, ◌%◌, ◌<◌, nat_le, List, refl}
+use Rattle.std.specs.Prelude.{ℕ, ◌==◌, true, false, IsTrue, if◌then◌else◌, ◌+◌, ◌%◌, nat_le, List, refl}
 use Rattle.cec_opcode.specs.Codes.{is_unlisted, reason_codes, power_codes}
 use Rattle.cec_opcode.specs.declared.words.Reason.{Reason}
 use Rattle.cec_opcode.specs.declared.words.Reason.TheVariants.{Unrecognized, WrongMode, NoSource, InvalidOperand, Refused, Other}

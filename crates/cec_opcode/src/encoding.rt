@@ -120,8 +120,8 @@ fn is_own(message: &Message) -> bool
 
 /// The frame of a message.
 pub fn encode(message: &Message, from: Addr, to: Addr) -> Result<Frame, EncodeError>
-    ensures sent { IfOk result (λ f. f ≡ (from.number * 16 + to.number) ∷ spelling message.now) }
-    ensures refused { MatchResult result (λ _. refusal message.now to.number ≡ None) (λ e. refusal message.now to.number ≡ Some e) }
+    ensures sent { IfOk result (λ f. f ≡ (from * 16 + to) ∷ spelling message.now) }
+    ensures refused { MatchResult result (λ _. refusal message.now to ≡ None) (λ e. refusal message.now to ≡ Some e) }
     ensures again { IfOk result (λ f. decoded_of f ≡ meaning message.now) }
 {
     if !is_own(message) {
@@ -129,7 +129,7 @@ pub fn encode(message: &Message, from: Addr, to: Addr) -> Result<Frame, EncodeEr
     }
     let spelled = spell(message);
     let rule = rule(spelled[0]);
-    let allowed = if to.number == 15 {
+    let allowed = if to.value() == Addr::BROADCAST {
         rule.broadcast
     } else {
         rule.direct
@@ -137,7 +137,7 @@ pub fn encode(message: &Message, from: Addr, to: Addr) -> Result<Frame, EncodeEr
     if !allowed {
         return Err(EncodeError::Addressing);
     }
-    let blocks = joined(&[from.number * 16 + to.number], spelled.as_slice());
+    let blocks = joined(&[from.value() * 16 + to.value()], spelled.as_slice());
     match Frame::new(blocks.as_slice()) {
         Ok(frame) => Ok(frame),
         Err(_) => Err(EncodeError::TooLong),
