@@ -4,3 +4,5 @@ pub mod OneExt
 pub mod OneTimings
 pub mod WholeLemmas
 pub mod SinkLemmas
+pub mod CutShort
+pub mod Digits

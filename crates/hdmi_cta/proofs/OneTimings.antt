@@ -1,10 +1,9 @@
 -- Timings, and a tail behind them.
-use Rattle.std.proofs.Common.{◌≡◌, ℕ, ◌+◌, ◌-◌, ◌*◌, ◌<◌, ◌≤◌, Bool, true, false, ◌||◌, not, nat_lt, IsTrue, List, [], ◌∷◌, ◌++◌, length, take, drop, flat_map, ap, arith, refl, sym, ◌∙◌, append_assoc, length-append, length-drop, take-append-drop}
-use Rattle.std.proofs.lemmas.Grind.{common_steps, flat_map-append}
+use Rattle.std.proofs.Common.{◌≡◌, ℕ, ◌+◌, ◌-◌, ◌*◌, ◌<◌, ◌≤◌, true, false, nat_lt, IsTrue, List, [], ◌∷◌, ◌++◌, length, take, drop, flat_map, ap, arith, refl, sym, ◌∙◌, append_assoc, length-append, length-drop, take-append-drop}
+use Rattle.std.proofs.lemmas.Grind.{flat_map-append}
 use Rattle.std.proofs.lemmas.List.{take_all}
 use borrow.Author.Tests.{tests}
 use Rattle.hdmi_edid.proofs.OneTiming.{one_timing}
-use Rattle.hdmi_edid.specs.Forms.{is_timing}
 use Rattle.hdmi_edid.specs.Timing.{timing_bytes, low, high}
 use Rattle.hdmi_edid.specs.declared.timing.Timing.{Timing}
 use Rattle.hdmi_cta.specs.Cta.{is_tail}

@@ -1,5 +1,5 @@
 -- The parts of a block, one behind another.
-use Rattle.std.proofs.Common.{◌≡◌, ℕ, suc, ◌<◌, ◌≤◌, ◌+◌, ◌-◌, ◌%◌, List, [], ◌∷◌, ◌++◌, length, get_or, drop, take, sum, arith, refl, sym, ◌∙◌, ap, drop-cons, drop-drop, length-drop}
+use Rattle.std.proofs.Common.{◌≡◌, ℕ, ◌<◌, ◌≤◌, ◌+◌, ◌-◌, ◌%◌, List, [], ◌∷◌, ◌++◌, length, get_or, drop, take, sum, arith, sym, ◌∙◌, ap, drop-cons, drop-drop, length-drop}
 use Rattle.std.proofs.Math.Seq.{take-add}
 use Rattle.std.proofs.lemmas.List.{take_all, length-take-le}
 use Rattle.hdmi_edid.proofs.PartLemmas.{piece, checked}

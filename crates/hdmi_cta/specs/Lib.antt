@@ -3,3 +3,5 @@ pub mod Cta
 pub mod Whole
 pub mod Ext
 pub mod Sink
+pub mod Piece
+pub mod Written

@@ -4,9 +4,9 @@ ghost use Rattle.hdmi_edid.specs.Timing.{timing_bytes};
 ghost use Rattle.hdmi_cta.specs.Block.{block_bytes};
 ghost use Rattle.hdmi_cta.specs.Cta.{is_tail};
 
+use crate::block::Block;
 use arrayvec::ArrayVec;
 use hdmi_edid::Timing;
-use crate::block::Block;
 
 /// Data blocks, timings and a tail.
 #[derive(Drop)]

@@ -1,4 +1,4 @@
-use Rattle.std.proofs.Common.{◌≡◌, ◌≤◌, ◌+◌, ◌++◌, length, ◌∙◌, ap, arith, refl}
+use Rattle.std.proofs.Common.{◌≤◌, ◌+◌, ◌++◌, length, ◌∙◌, ap, arith, refl}
 use Rattle.hdmi_edid.specs.Timing.{timing_bytes}
 use Rattle.hdmi_cta.proofs.Growing.{room_for, grown}
 use Rattle.hdmi_cta.proofs.ext.append_timings.Goals as goal

@@ -1,4 +1,4 @@
-use Rattle.std.proofs.Common.{◌≡◌, ◌≤◌, ◌+◌, ◌-◌, ◌++◌, length, get_or, take, drop, refl, sym, ap, ◌∙◌, arith, flat_map, length-drop}
+use Rattle.std.proofs.Common.{◌≡◌, ◌+◌, ◌++◌, length, get_or, refl, sym, ap, ◌∙◌, flat_map}
 use Rattle.hdmi_edid.specs.Timing.{timing_bytes}
 use Rattle.hdmi_cta.specs.Block.{block_bytes}
 use Rattle.hdmi_cta.proofs.WholeLemmas.{whole_is, body_is, length_between}

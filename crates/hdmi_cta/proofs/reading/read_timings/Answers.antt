@@ -1,4 +1,4 @@
-use Rattle.std.proofs.Common.{◌≡◌, ◌+◌, length, refl, ◌∙◌}
+use Rattle.std.proofs.Common.{refl, ◌∙◌}
 use Rattle.hdmi_cta.proofs.OneTimings.{one_more, room_more}
 use Rattle.hdmi_cta.proofs.reading.read_timings.Goals as goal
 
