@@ -1,0 +1,52 @@
+-- Where a round's line falls, and how often at most: so many stretches its wave has.
+use Rattle.std.specs.Prelude.{◌≡◌, ℕ, ◌+◌, ◌*◌, ◌<◌, ◌≤◌, Bool, true, List, [], ◌∷◌, length, All, ◌⊎◌}
+use Rattle.std.specs.List.{Any}
+use Rattle.cec_wave.specs.declared.Stretch.{Stretch}
+use Rattle.cec_wave.specs.Line.{Line, line_of, is_fall, IsWave}
+use Rattle.cec_wave.specs.Pulses.{AreSparse}
+use Rattle.cec_bits.specs.Reading.{reading_of}
+use Rattle.cec_wire.specs.declared.Seat.{Seat}
+use Rattle.cec_wire.specs.Round.{frames_of, IsRoundLine}
+use Rattle.cec_wire.specs.Contend.{AreFrames, IsContendersLine, IsPulledBelow}
+
+-- a frame has at most 16 blocks (CEC 6, frame description)
+abbrev pub AreShortFrames : List Seat → Type 0
+AreShortFrames seats = All (λ f. length f ≤ 16) (frames_of seats)
+
+-- one of a sender's at most 160 slots begins at t (CEC 5.2, bit timing)
+abbrev pub IsSlotBegin : ℕ → ℕ → Type 0
+IsSlotBegin begin t = (k : ℕ) × (k < 160) × (t ≡ begin + 4500 + 2400 * k)
+
+-- one of these pulses begins at t, while the reading goes on (own)
+abbrev pub IsPulseBegin : ℕ → ℕ → List Stretch → ℕ → Type 0
+IsPulseBegin begin until pulses t = Any (λ p. p.from ≡ t) pulses × (begin ≤ t) × (t ≤ until)
+
+-- a sender's start, a sender's slot or a pulse begins at t
+abbrev pub IsPullBegin : ℕ → ℕ → List Stretch → ℕ → Type 0
+IsPullBegin begin until pulses t = (t ≡ begin) ⊎ (IsSlotBegin begin t ⊎ IsPulseBegin begin until pulses t)
+
+-- Acknowledgers and those who pull after a fall too early make no fall: a line that keeps the round's
+-- rule below t falls below t only where a sender's stretch or a pulse begins.
+abbrev pub EachFallBegins : Type 0
+EachFallBegins = (seats : List Seat) (begin : ℕ) (pulses : List Stretch) (t : ℕ) (low : ℕ → Bool) → AreShortFrames seats → IsPulledBelow seats begin pulses t low
+    → (u : ℕ) → u < t → is_fall low u ≡ true → IsPullBegin begin (reading_of low begin).until pulses u
+
+-- each of these is more than the one before; the first is `from` or more
+abbrev pub AreRisingFrom : ℕ → List ℕ → Type 0
+AreRisingFrom from [] = Unit {0}
+AreRisingFrom from (t ∷ ts) = (from ≤ t) × AreRisingFrom (t + 1) ts
+
+-- So it falls at most 179 times: 161 stretches of the senders, and 18 pulses.
+abbrev pub FewFalls : Type 0
+FewFalls = (seats : List Seat) (begin : ℕ) (pulses : List Stretch) (t : ℕ) (low : ℕ → Bool) → AreShortFrames seats → AreSparse pulses → IsPulledBelow seats begin pulses t low
+    → (falls : List ℕ) → AreRisingFrom 0 falls → All (λ u. (u < t) × (is_fall low u ≡ true)) falls → length falls ≤ 179
+
+-- A wave that keeps the rule below t, where all its stretches begin, has at most 179 stretches.
+abbrev pub WaveFits : Type 0
+WaveFits = (seats : List Seat) (begin : ℕ) (pulses : List Stretch) (t : ℕ) (ss : List Stretch) → AreShortFrames seats → AreSparse pulses
+    → IsPulledBelow seats begin pulses t (line_of ss) → IsWave ss → All (λ s. s.from < t) ss → length ss ≤ 179
+
+-- And so has the wave of a round, whoever is taken to pull: the winners, or all who send.
+abbrev pub RoundFits : Type 0
+RoundFits = (seats : List Seat) (begin : ℕ) (pulses ss : List Stretch) → AreFrames seats → AreShortFrames seats → AreSparse pulses
+    → IsRoundLine seats begin pulses (line_of ss) ⊎ IsContendersLine seats begin pulses (line_of ss) → IsWave ss → length ss ≤ 179
