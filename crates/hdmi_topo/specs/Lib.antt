@@ -1,0 +1,4 @@
+pub mod Name
+pub mod Node
+pub mod Tree
+pub mod Path

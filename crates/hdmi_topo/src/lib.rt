@@ -1,0 +1,13 @@
+//! The tree of devices that stand below a television: their names, kinds and ports, what is plugged into
+//! what, and the physical addresses that follow from it.
+#![tactic(auto)]
+
+mod address;
+mod device;
+mod name;
+mod plug;
+mod tree;
+
+pub use name::is_name;
+pub use plug::{AddError, Plug, PlugError, UnplugError};
+pub use tree::Tree;
