@@ -1,4 +1,0 @@
-use Rattle.hdmi_edtext.proofs.parse.read_line.Goals as goal
-
-pub returns : goal.returns
-returns c = ?

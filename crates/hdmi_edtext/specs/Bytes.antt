@@ -1,0 +1,26 @@
+-- The bytes of a whole EDID (E-EDID Release A, section 2.2.1): the base block, and each extension behind it.
+use Rattle.std.specs.Prelude.{◌≡◌, ◌≢◌, ℕ, ◌+◌, ◌*◌, ◌%◌, ◌⊎◌, List, ◌++◌, length, take, drop, slice_index, sum, flat_map, option_to_list, Some, None}
+use Rattle.hdmi_edid.specs.Base.{base_bytes}
+use Rattle.hdmi_edid.specs.Refusals.{refusal}
+use Rattle.hdmi_cta.specs.Ext.{ext_bytes}
+use Rattle.hdmi_edtext.specs.declared.bytes.EdidError.{EdidError}
+use Rattle.hdmi_edtext.specs.declared.bytes.EdidError.TheVariants.{Length, Count, Base, Ext}
+use Rattle.hdmi_edtext.specs.declared.edid.Edid.{Edid}
+
+abbrev pub edid_bytes : Edid → List ℕ
+edid_bytes e = base_bytes e.base ++ flat_map ext_bytes (option_to_list e.ext)
+
+-- one block or two (own: the standard has up to 256)
+abbrev pub HasLength : List ℕ → Type 0
+HasLength bytes = (length bytes ≡ 128) ⊎ (length bytes ≡ 256)
+
+-- byte 126 tells how many blocks follow the first
+abbrev pub HasCount : List ℕ → Type 0
+HasCount bytes = slice_index bytes 126 * 128 + 128 ≡ length bytes
+
+-- the reason why bytes are no EDID, where all that comes before it is in order
+abbrev pub IsRefused : List ℕ → EdidError → Type 0
+IsRefused bytes Length = ¬ HasLength bytes
+IsRefused bytes Count = HasLength bytes × ¬ HasCount bytes
+IsRefused bytes (Base cause) = HasLength bytes × HasCount bytes × (refusal (take 128 bytes) ≡ Some cause)
+IsRefused bytes (Ext i cause) = HasLength bytes × HasCount bytes × (refusal (take 128 bytes) ≡ None) × (i ≡ 1) × (sum (drop 128 bytes) % 256 ≢ 0)
