@@ -1,7 +1,9 @@
 -- Bytes spell one list of data blocks at most, and a list begins as its bytes do.
-use Rattle.std.proofs.Common.{◌≡◌, ℕ, ◌+◌, ◌*◌, ◌<◌, ◌==◌, cond, List, [], ◌∷◌, ◌++◌, length, drop, get_or, flat_map, ap, arith, refl, sym, ◌∙◌, append_assoc}
+use Rattle.std.proofs.Common.{◌≡◌, ℕ, suc, zero, ◌+◌, ◌*◌, ◌<◌, ◌≤◌, ◌==◌, cond, true, IsTrue, List, [], ◌∷◌, ◌++◌, length, drop, get_or, flat_map, ap, arith, refl, sym, ◌∙◌, append_assoc, length-append}
+use Rattle.std.proofs.Math.Bool.{Bool-set}
 use Rattle.std.specs.Coded.{le_prop}
 use Rattle.arrayvec.specs.ArrayVec.{ArrayVec}
+use Rattle.hdmi_edid.specs.Bytes.{are_bytes}
 use Rattle.hdmi_edid.proofs.Same.{same}
 use Rattle.hdmi_cta.specs.Block.{kind_number, block_bytes}
 use Rattle.hdmi_cta.specs.declared.block.Block.{Block}
@@ -36,10 +38,10 @@ pub one_kind : (a b : BlockKind) → kind_number a ≡ kind_number b → a ≡ b
 one_kind a b e = sym (kind_again a) ∙ ap kind_at e ∙ kind_again b
 
 abbrev made : BlockKind × ArrayVec ℕ → Type 0
-made p = length p.1.items < 32
+made p = (length p.1.items < 32) × IsTrue (are_bytes p.1.items)
 
 abbrev built : (p : BlockKind × ArrayVec ℕ) → made p → Block
-built p h = record { kind = p.0; payload = p.1; short = h }
+built p h = record { kind = p.0; payload = p.1; short = h.0; bytes_fit = h.1 }
 
 pub one_front : (a b : Block) (xs ys : List ℕ) → block_bytes a ++ xs ≡ block_bytes b ++ ys → (a ≡ b) × (xs ≡ ys)
 one_front a b xs ys e =
@@ -50,8 +52,8 @@ one_front a b xs ys e =
     let kind = one_kind a.kind b.kind number in
     let payload : a.payload ≡ b.payload = ap (λ t. record { items = t }) parts.0 in
     let pair : (a.kind, a.payload) ≡ (b.kind, b.payload) = cc in
-    let prop : (p : BlockKind × ArrayVec ℕ) → IsProp (made p) = λ p. hlevel (le_prop) in
-    (same built prop (a.kind, a.payload) (b.kind, b.payload) a.short b.short pair, parts.1)
+    let prop : (p : BlockKind × ArrayVec ℕ) → IsProp (made p) = λ p. hlevel (le_prop, Bool-set) in
+    (same built prop (a.kind, a.payload) (b.kind, b.payload) (a.short, a.bytes_fit) (b.short, b.bytes_fit) pair, parts.1)
 
 pub one_blocks : (xs ys : List Block) → flat_map block_bytes xs ≡ flat_map block_bytes ys → xs ≡ ys
 one_blocks [] [] e = refl
@@ -75,5 +77,5 @@ pub same_block : (a b : Block) → a.kind ≡ b.kind → a.payload.items ≡ b.p
 same_block a b kind items =
     let payload : a.payload ≡ b.payload = ap (λ t. record { items = t }) items in
     let pair : (a.kind, a.payload) ≡ (b.kind, b.payload) = cc in
-    let prop : (p : BlockKind × ArrayVec ℕ) → IsProp (made p) = λ p. hlevel (le_prop) in
-    same built prop (a.kind, a.payload) (b.kind, b.payload) a.short b.short pair
+    let prop : (p : BlockKind × ArrayVec ℕ) → IsProp (made p) = λ p. hlevel (le_prop, Bool-set) in
+    same built prop (a.kind, a.payload) (b.kind, b.payload) (a.short, a.bytes_fit) (b.short, b.bytes_fit) pair

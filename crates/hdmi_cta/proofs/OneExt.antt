@@ -2,8 +2,8 @@
 use Rattle.std.proofs.Common.{◌≡◌, ℕ, ◌+◌, ◌%◌, true, IsTrue, List, ◌++◌, length, get_or, drop, sum, flat_map, ap, arith, sym, ◌∙◌, length-append}
 use Rattle.std.proofs.Math.Bool.{Bool-set}
 use Rattle.std.proofs.Math.Nat.{ℕ_set}
-use Rattle.std.specs.Coded.{×_prop}
 use Rattle.arrayvec.specs.ArrayVec.{ArrayVec}
+use Rattle.hdmi_edid.specs.Bytes.{are_bytes}
 use Rattle.hdmi_edid.proofs.Same.{same}
 use Rattle.hdmi_edid.specs.Timing.{timing_bytes}
 use Rattle.hdmi_edid.specs.declared.timing.Timing.{Timing}
@@ -27,10 +27,10 @@ record Plain : Type 0 where
   tail : ArrayVec ℕ
 
 abbrev fits : Plain → Type 0
-fits p = (length (flat_map block_bytes p.blocks.items) + length (flat_map timing_bytes p.timings.items) + length p.tail.items ≡ 123) × IsTrue (is_tail p.tail.items)
+fits p = (length (flat_map block_bytes p.blocks.items) + length (flat_map timing_bytes p.timings.items) + length p.tail.items ≡ 123) × IsTrue (is_tail p.tail.items) × IsTrue (are_bytes (p.flags ∷ p.tail.items))
 
 abbrev built : (p : Plain) → fits p → Cta
-built p h = record { flags = p.flags; blocks = p.blocks; timings = p.timings; tail = p.tail; whole = h.0; ended = h.1 }
+built p h = record { flags = p.flags; blocks = p.blocks; timings = p.timings; tail = p.tail; whole = h.0; ended = h.1; bytes_fit = h.2 }
 
 abbrev plain : Cta → Plain
 plain c = record { flags = c.flags; blocks = c.blocks; timings = c.timings; tail = c.tail }
@@ -55,10 +55,10 @@ one_cta a b e =
     let timings : a.timings ≡ b.timings = ap (λ xs. record { items = xs }) three.0 in
     let tail : a.tail ≡ b.tail = ap (λ xs. record { items = xs }) three.1 in
     let all : plain a ≡ plain b = cc in
-    same built (λ p. ×_prop (ℕ_set _ _) (Bool-set _ true)) (plain a) (plain b) (a.whole, a.ended) (b.whole, b.ended) all
+    same built (λ p. hlevel (ℕ_set, Bool-set)) (plain a) (plain b) (a.whole, a.ended, a.bytes_fit) (b.whole, b.ended, b.bytes_fit) all
 
-abbrev built_bare : (p : ℕ × List ℕ) → length p.1 ≡ 123 → Bare
-built_bare p h = record { flags = p.0; tail = p.1; whole = h }
+abbrev built_bare : (p : ℕ × List ℕ) → (length p.1 ≡ 123) × IsTrue (are_bytes (p.0 ∷ p.1)) → Bare
+built_bare p h = record { flags = p.0; tail = p.1; whole = h.0; bytes_fit = h.1 }
 
 pub one_bare : (a b : Bare) → bare_bytes a ≡ bare_bytes b → a ≡ b
 one_bare a b e =
@@ -66,19 +66,19 @@ one_bare a b e =
     let body = append_same a.tail b.tail _ _ (a.whole ∙ sym b.whole) (ap (λ xs. drop 4 xs) e) in
     let tail = body.0 in
     let all : (a.flags, a.tail) ≡ (b.flags, b.tail) = cc in
-    same built_bare (λ p. ℕ_set _ _) (a.flags, a.tail) (b.flags, b.tail) a.whole b.whole all
+    same built_bare (λ p. hlevel (ℕ_set, Bool-set)) (a.flags, a.tail) (b.flags, b.tail) (a.whole, a.bytes_fit) (b.whole, b.bytes_fit) all
 
 abbrev facts : List ℕ → Type 0
-facts xs = (length xs ≡ 128) × (sum xs % 256 ≡ 0) × ((c : Cta) → cta_bytes c ≡ xs → ⊥) × ((b : Bare) → bare_bytes b ≡ xs → ⊥)
+facts xs = (length xs ≡ 128) × IsTrue (are_bytes xs) × (sum xs % 256 ≡ 0) × ((c : Cta) → cta_bytes c ≡ xs → ⊥) × ((b : Bare) → bare_bytes b ≡ xs → ⊥)
 
 abbrev built_raw : (xs : List ℕ) → facts xs → RawExt
-built_raw xs h = record { bytes = xs; whole = h.0; checked = h.1; no_cta = h.2; no_bare = h.3 }
+built_raw xs h = record { bytes = xs; whole = h.0; bytes_fit = h.1; checked = h.2; no_cta = h.3; no_bare = h.4 }
 
 facts_prop : (xs : List ℕ) → IsProp (facts xs)
-facts_prop xs = hlevel (ℕ_set)
+facts_prop xs = hlevel (ℕ_set, Bool-set)
 
 one_raw : (a b : RawExt) → a.bytes ≡ b.bytes → a ≡ b
-one_raw a b e = same built_raw facts_prop a.bytes b.bytes (a.whole, a.checked, a.no_cta, a.no_bare) (b.whole, b.checked, b.no_cta, b.no_bare) e
+one_raw a b e = same built_raw facts_prop a.bytes b.bytes (a.whole, a.bytes_fit, a.checked, a.no_cta, a.no_bare) (b.whole, b.bytes_fit, b.checked, b.no_cta, b.no_bare) e
 
 pub one_ext : (a b : Ext) → ext_bytes a ≡ ext_bytes b → a ≡ b
 one_ext (OfCta a) (OfCta b) e = ap OfCta (one_cta a b e)

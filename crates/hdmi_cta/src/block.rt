@@ -1,5 +1,6 @@
 //! A data block: its kind, and up to 31 bytes.
-ghost use Rattle.std.specs.Prelude.{◌≡◌, ◌<◌, ◌/◌, length};
+ghost use Rattle.std.specs.Prelude.{◌≡◌, ◌<◌, ◌/◌, length, IsTrue};
+ghost use Rattle.hdmi_edid.specs.Bytes.{are_bytes};
 
 use crate::parts::append;
 use arrayvec::ArrayVec;
@@ -56,6 +57,7 @@ pub struct Block {
     pub kind: BlockKind,
     pub payload: ArrayVec<u8, 31>,
     ghost short: { length payload.items < 32 },
+    ghost bytes_fit: { IsTrue (are_bytes payload.items) },
 }
 
 impl Default for Block {

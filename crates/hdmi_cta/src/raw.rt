@@ -1,5 +1,6 @@
 //! An extension.
-ghost use Rattle.std.specs.Prelude.{◌≡◌, ◌%◌, length, sum};
+ghost use Rattle.std.specs.Prelude.{◌≡◌, ◌%◌, IsTrue, length, sum};
+ghost use Rattle.hdmi_edid.specs.Bytes.{are_bytes};
 ghost use Rattle.hdmi_cta.specs.Whole.{cta_bytes, bare_bytes};
 ghost use Rattle.hdmi_cta.specs.declared.cta.Cta.{Cta as CtaValue};
 ghost use Rattle.hdmi_cta.specs.declared.cta.Bare.{Bare as BareValue};
@@ -11,6 +12,7 @@ use crate::cta::{Bare, Cta};
 pub struct RawExt {
     pub bytes: [u8; 128],
     ghost whole: { length bytes ≡ 128 },
+    ghost bytes_fit: { IsTrue (are_bytes bytes) },
     ghost checked: { sum bytes % 256 ≡ 0 },
     ghost no_cta: { (c : CtaValue) → cta_bytes c ≡ bytes → ⊥ },
     ghost no_bare: { (b : BareValue) → bare_bytes b ≡ bytes → ⊥ },

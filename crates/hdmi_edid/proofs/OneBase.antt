@@ -16,6 +16,9 @@ use Rattle.hdmi_edid.specs.Chars.{padding, text_bytes}
 use Rattle.hdmi_edid.specs.declared.text.Text.{Text}
 use Rattle.hdmi_edid.specs.declared.descriptor.Descriptor.TheVariants.{Timing as OfTiming, Name, Text as OfText, SerialText, Range, Dummy, Raw}
 use Rattle.hdmi_edid.specs.Base.{base_bytes, front_bytes, header}
+use Rattle.std.proofs.Common.{IsTrue, true}
+use Rattle.std.proofs.Math.Bool.{Bool-set}
+use Rattle.hdmi_edid.specs.Bytes.{are_bytes}
 use Rattle.hdmi_edid.specs.Check.{check_of}
 use Rattle.hdmi_edid.specs.Chroma.{chroma_bytes}
 use Rattle.hdmi_edid.specs.Descriptor.{descriptor_bytes}
@@ -51,6 +54,7 @@ record Plain : Type 0 where
 record IsFit (p : Plain) : Type 0 where
   product_fits : p.product < 2 ^ 16
   serial_fits : p.serial < 2 ^ 32
+  bytes_fit : IsTrue (are_bytes (p.week ∷ p.input ∷ p.width ∷ p.height ∷ p.gamma ∷ p.features ∷ p.extensions ∷ p.established))
   first_year : 1990 ≤ p.year
   last_year : p.year < 2246
   three : length p.established ≡ 3
@@ -58,16 +62,16 @@ record IsFit (p : Plain) : Type 0 where
   four : length p.descriptors ≡ 4
 
 IsFit_prop : (p : Plain) → IsProp (IsFit p)
-IsFit_prop p = hlevel (le_prop, ℕ_set)
+IsFit_prop p = hlevel (le_prop, ℕ_set, Bool-set)
 
 abbrev made : (p : Plain) → IsFit p → Base
-made p h = record { maker = p.maker; product = p.product; serial = p.serial; week = p.week; year = p.year; revision = p.revision; input = p.input; width = p.width; height = p.height; gamma = p.gamma; features = p.features; chroma = p.chroma; established = p.established; standard = p.standard; descriptors = p.descriptors; extensions = p.extensions; product_fits = h.product_fits; serial_fits = h.serial_fits; first_year = h.first_year; last_year = h.last_year; three = h.three; eight = h.eight; four = h.four }
+made p h = record { maker = p.maker; product = p.product; serial = p.serial; week = p.week; year = p.year; revision = p.revision; input = p.input; width = p.width; height = p.height; gamma = p.gamma; features = p.features; chroma = p.chroma; established = p.established; standard = p.standard; descriptors = p.descriptors; extensions = p.extensions; product_fits = h.product_fits; serial_fits = h.serial_fits; bytes_fit = h.bytes_fit; first_year = h.first_year; last_year = h.last_year; three = h.three; eight = h.eight; four = h.four }
 
 abbrev plain : Base → Plain
 plain b = record { maker = b.maker; product = b.product; serial = b.serial; week = b.week; year = b.year; revision = b.revision; input = b.input; width = b.width; height = b.height; gamma = b.gamma; features = b.features; chroma = b.chroma; established = b.established; standard = b.standard; descriptors = b.descriptors; extensions = b.extensions }
 
 abbrev fit : (b : Base) → IsFit (plain b)
-fit b = record { product_fits = b.product_fits; serial_fits = b.serial_fits; first_year = b.first_year; last_year = b.last_year; three = b.three; eight = b.eight; four = b.four }
+fit b = record { product_fits = b.product_fits; serial_fits = b.serial_fits; bytes_fit = b.bytes_fit; first_year = b.first_year; last_year = b.last_year; three = b.three; eight = b.eight; four = b.four }
 
 -- two lists with fronts of one length
 append_same : (xs zs ys ws : List ℕ) → length xs ≡ length zs → xs ++ ys ≡ zs ++ ws → (xs ≡ zs) × (ys ≡ ws)

@@ -9,13 +9,13 @@ use Rattle.hdmi_edid.proofs.Same.{same}
 use Rattle.hdmi_edid.proofs.PartLemmas.{both}
 use Rattle.hdmi_edid.proofs.OneText.{one_text}
 use Rattle.hdmi_edid.proofs.OneTiming.{one_timing}
+use Rattle.hdmi_edid.specs.Bytes.{are_bytes}
 use Rattle.hdmi_edid.specs.Chars.{is_char, is_text, is_padding, is_text_form, padding, text_bytes}
 use Rattle.hdmi_edid.specs.Forms.{is_timing, is_labelled, fits_no_form}
 use Rattle.hdmi_edid.specs.Timing.{timing_bytes, low, high}
 use Rattle.hdmi_edid.specs.Descriptor.{descriptor_bytes, tagged}
 use Rattle.hdmi_edid.specs.declared.text.Text.{Text}
 use Rattle.hdmi_edid.specs.declared.timing.Timing.{Timing}
-use Rattle.std.specs.Coded.{×_prop}
 use Rattle.hdmi_edid.specs.declared.descriptor.RawDescriptor.{RawDescriptor}
 use Rattle.hdmi_edid.specs.declared.descriptor.RangeLimits.{RangeLimits}
 use Rattle.hdmi_edid.specs.declared.descriptor.Descriptor.{Descriptor}
@@ -83,17 +83,17 @@ same_text t u e =
     let items = one_text t.chars.items u.chars.items (chars_of t) (chars_of u) e in
     same made (λ v. Bool-set _ true) t.chars u.chars t.printable u.printable (ap (λ xs. record { items = xs }) items)
 
-abbrev made_raw : (bytes : List ℕ) → (length bytes ≡ 18) × IsTrue (fits_no_form bytes) → RawDescriptor
-made_raw bytes h = record { bytes = bytes; whole = h.0; of_no_form = h.1 }
+abbrev made_raw : (bytes : List ℕ) → (length bytes ≡ 18) × IsTrue (are_bytes bytes) × IsTrue (fits_no_form bytes) → RawDescriptor
+made_raw bytes h = record { bytes = bytes; whole = h.0; bytes_fit = h.1; of_no_form = h.2 }
 
 same_raw : (r s : RawDescriptor) → r.bytes ≡ s.bytes → r ≡ s
-same_raw r s e = same made_raw (λ bytes. ×_prop (ℕ_set _ _) (Bool-set _ true)) r.bytes s.bytes (r.whole, r.of_no_form) (s.whole, s.of_no_form) e
+same_raw r s e = same made_raw (λ bytes. hlevel (ℕ_set, Bool-set)) r.bytes s.bytes (r.whole, r.bytes_fit, r.of_no_form) (s.whole, s.bytes_fit, s.of_no_form) e
 
-abbrev made_limits : (bytes : List ℕ) → length bytes ≡ 14 → RangeLimits
-made_limits bytes h = record { bytes = bytes; whole = h }
+abbrev made_limits : (bytes : List ℕ) → (length bytes ≡ 14) × IsTrue (are_bytes bytes) → RangeLimits
+made_limits bytes h = record { bytes = bytes; whole = h.0; bytes_fit = h.1 }
 
 same_limits : (r s : RangeLimits) → r.bytes ≡ s.bytes → r ≡ s
-same_limits r s e = same made_limits (λ bytes. ℕ_set _ _) r.bytes s.bytes r.whole s.whole e
+same_limits r s e = same made_limits (λ bytes. hlevel (ℕ_set, Bool-set)) r.bytes s.bytes (r.whole, r.bytes_fit) (s.whole, s.bytes_fit) e
 
 by_kind : (d e : Descriptor) → kind d ≡ kind e → descriptor_bytes d ≡ descriptor_bytes e → d ≡ e
 by_kind (OfTiming t) (OfTiming u) k e = ap OfTiming (one_timing t u e)

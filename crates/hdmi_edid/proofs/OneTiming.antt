@@ -1,5 +1,5 @@
 -- 18 bytes spell one timing at most.
-use Rattle.std.proofs.Common.{◌≡◌, ℕ, ◌+◌, ◌*◌, ◌/◌, ◌%◌, ◌<◌, ◌≤◌, List, [], ◌∷◌, arith, refl, ap, get_or}
+use Rattle.std.proofs.Common.{◌≡◌, ℕ, ◌+◌, ◌*◌, ◌/◌, ◌%◌, ◌^◌, ◌<◌, ◌≤◌, List, [], ◌∷◌, arith, refl, ap, get_or}
 use Rattle.std.specs.Coded.{×_prop, le_prop}
 use Rattle.hdmi_edid.proofs.Same.{same}
 use Rattle.hdmi_edid.specs.Timing.{timing_bytes, low, high, nibbles}
@@ -23,6 +23,7 @@ pub record Plain : Type 0 where
 
 pub record IsFit (p : Plain) : Type 0 where
   pub runs : 0 < p.clock
+  pub clock_fits : p.clock < 2 ^ 16
   pub horizontal_active_fits : p.horizontal_active < 4096
   pub horizontal_blanking_fits : p.horizontal_blanking < 4096
   pub vertical_active_fits : p.vertical_active < 4096
@@ -33,6 +34,9 @@ pub record IsFit (p : Plain) : Type 0 where
   pub vertical_sync_width_fits : p.vertical_sync_width < 64
   pub width_fits : p.width < 4096
   pub height_fits : p.height < 4096
+  pub horizontal_border_fits : p.horizontal_border < 256
+  pub vertical_border_fits : p.vertical_border < 256
+  pub flags_fit : p.flags < 256
 
 IsFit_prop : (p : Plain) → IsProp (IsFit p)
 IsFit_prop p = hlevel (le_prop)
@@ -54,6 +58,7 @@ made p h = record {
   vertical_border = p.vertical_border;
   flags = p.flags;
   runs = h.runs;
+  clock_fits = h.clock_fits;
   horizontal_active_fits = h.horizontal_active_fits;
   horizontal_blanking_fits = h.horizontal_blanking_fits;
   vertical_active_fits = h.vertical_active_fits;
@@ -64,6 +69,9 @@ made p h = record {
   vertical_sync_width_fits = h.vertical_sync_width_fits;
   width_fits = h.width_fits;
   height_fits = h.height_fits;
+  horizontal_border_fits = h.horizontal_border_fits;
+  vertical_border_fits = h.vertical_border_fits;
+  flags_fit = h.flags_fit;
 }
 
 abbrev plain : Timing → Plain
@@ -87,6 +95,7 @@ plain t = record {
 abbrev fit : (t : Timing) → IsFit (plain t)
 fit t = record {
   runs = t.runs;
+  clock_fits = t.clock_fits;
   horizontal_active_fits = t.horizontal_active_fits;
   horizontal_blanking_fits = t.horizontal_blanking_fits;
   vertical_active_fits = t.vertical_active_fits;
@@ -97,6 +106,9 @@ fit t = record {
   vertical_sync_width_fits = t.vertical_sync_width_fits;
   width_fits = t.width_fits;
   height_fits = t.height_fits;
+  horizontal_border_fits = t.horizontal_border_fits;
+  vertical_border_fits = t.vertical_border_fits;
+  flags_fit = t.flags_fit;
 }
 
 -- a number by its low byte and its high part

@@ -1,9 +1,10 @@
 //! The base block.
-ghost use Rattle.std.specs.Prelude.{◌≡◌, ◌∷◌, [], slice_index, IfOk, IfErr, OnOk, ◌<◌, ◌≤◌, ◌+◌, ◌^◌, ◌++◌, take, drop, length, MatchResult, Some, None, flat_map, Option};
+ghost use Rattle.std.specs.Prelude.{◌≡◌, ◌∷◌, [], slice_index, IsTrue, IfOk, IfErr, OnOk, ◌<◌, ◌≤◌, ◌+◌, ◌^◌, ◌++◌, take, drop, length, MatchResult, Some, None, flat_map, Option};
 ghost use Rattle.arrayvec.specs.ArrayVec.{array_vec_len};
 ghost use Rattle.hdmi_edid.specs.Descriptor.{descriptor_bytes};
 ghost use Rattle.hdmi_edid.specs.Standard.{standard_bytes};
 ghost use Rattle.hdmi_edid.specs.Maker.{maker_bytes};
+ghost use Rattle.hdmi_edid.specs.Bytes.{are_bytes};
 ghost use Rattle.hdmi_edid.specs.Revisions.{revision_bytes};
 ghost use Rattle.hdmi_edid.specs.Refusals.{refusal, has_header};
 
@@ -50,6 +51,7 @@ pub struct Base {
     pub extensions: u8,
     ghost product_fits: { product < 2 ^ 16 },
     ghost serial_fits: { serial < 2 ^ 32 },
+    ghost bytes_fit: { IsTrue (are_bytes (week ∷ input ∷ width ∷ height ∷ gamma ∷ features ∷ extensions ∷ established)) },
     ghost first_year: { 1990 ≤ year },
     ghost last_year: { year < 2246 },
     ghost three: { length established ≡ 3 },

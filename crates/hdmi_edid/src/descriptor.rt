@@ -1,6 +1,7 @@
 //! A descriptor, of 18 bytes.
 ghost use Rattle.std.specs.Prelude.{◌≡◌, ◌∷◌, ◌+◌, IsTrue, false, true, length, MatchOption, slice_index, drop, ◌==◌, replicate};
 ghost use Rattle.std.specs.List.{list_all};
+ghost use Rattle.hdmi_edid.specs.Bytes.{are_bytes};
 ghost use Rattle.hdmi_edid.specs.Chars.{text_bytes};
 ghost use Rattle.hdmi_edid.specs.Forms.{fits_no_form, has_text, is_labelled};
 
@@ -12,6 +13,7 @@ use crate::timing::Timing;
 pub struct RangeLimits {
     pub bytes: [u8; 14],
     ghost whole: { length bytes ≡ 14 },
+    ghost bytes_fit: { IsTrue (are_bytes bytes) },
 }
 
 /// A descriptor of no known form.
@@ -19,6 +21,7 @@ pub struct RangeLimits {
 pub struct RawDescriptor {
     pub bytes: [u8; 18],
     ghost whole: { length bytes ≡ 18 },
+    ghost bytes_fit: { IsTrue (are_bytes bytes) },
     ghost of_no_form: { IsTrue (fits_no_form bytes) },
 }
 

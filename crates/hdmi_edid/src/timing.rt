@@ -1,5 +1,5 @@
 //! A detailed timing, of 18 bytes.
-ghost use Rattle.std.specs.Prelude.{◌≡◌, ◌<◌, ◌+◌, MatchOption, slice_index};
+ghost use Rattle.std.specs.Prelude.{◌≡◌, ◌<◌, ◌+◌, ◌^◌, MatchOption, slice_index};
 
 #[derive(Clone, Copy, Debug, PartialEq, Eq)]
 pub struct Timing {
@@ -19,6 +19,7 @@ pub struct Timing {
     pub vertical_border: u8,
     pub flags: u8,
     ghost runs: { 0 < clock },
+    ghost clock_fits: { clock < 2 ^ 16 },
     ghost horizontal_active_fits: { horizontal_active < 4096 },
     ghost horizontal_blanking_fits: { horizontal_blanking < 4096 },
     ghost vertical_active_fits: { vertical_active < 4096 },
@@ -29,6 +30,9 @@ pub struct Timing {
     ghost vertical_sync_width_fits: { vertical_sync_width < 64 },
     ghost width_fits: { width < 4096 },
     ghost height_fits: { height < 4096 },
+    ghost horizontal_border_fits: { horizontal_border < 256 },
+    ghost vertical_border_fits: { vertical_border < 256 },
+    ghost flags_fit: { flags < 256 },
 }
 
 impl Timing {

@@ -1,5 +1,7 @@
 use Rattle.std.proofs.Common.{◌≡◌, ◌+◌, ◌++◌, length, get_or, refl, sym, ap, ◌∙◌, flat_map}
 use Rattle.hdmi_edid.specs.Timing.{timing_bytes}
+use Rattle.hdmi_edid.proofs.Bytes.{are_bytes-cells, are_bytes-cell, are_bytes-drop, are_bytes-take, are_bytes-behind}
+use Rattle.hdmi_edid.specs.Bytes.{are_bytes}
 use Rattle.hdmi_cta.specs.Block.{block_bytes}
 use Rattle.hdmi_cta.proofs.WholeLemmas.{whole_is, body_is, length_between}
 use Rattle.hdmi_cta.proofs.ext.read_cta.Goals as goal
@@ -18,3 +20,14 @@ returns-clause-found c =
     length_between bytes (get_or bytes 2 0) front c.told-bytes least most spelled in
     whole_is bytes 2 3 (length front + 4) _ (front ++ (timings ++ c.append.new.block.items)) c.told-bytes (sym c.if-bytes-ne2.false) (sym c.if-bytes-ne3.false) len refl
     (body_is bytes (get_or bytes 2 0) front (timings ++ c.append.new.block.items) least most spelled (ap (λ xs. timings ++ xs) tail ∙ rest)) (c.fits-bytes 127) c.requires
+
+pub invariant_of-result-clause-bytes_fit : goal.invariant_of-result-clause-bytes_fit
+invariant_of-result-clause-bytes_fit c =
+    let bytes = c.args.bytes.now in
+    let end = get_or bytes 2 0 in
+    let timings = flat_map timing_bytes c.read_timings-timings.result.0.items in
+    let rest = c.read_timings-timings.result.1.now in
+    let whole = are_bytes-take (127 - end) (drop end bytes) (are_bytes-drop end bytes (are_bytes-cells bytes c.fits-bytes)) in
+    let behind = are_bytes-behind timings rest (ap are_bytes c.read_timings-timings.ensures.found ∙ whole) in
+    let tail = c.append.ensures.items ∙ ap (λ xs. xs ++ rest) c.new-tail.ensures in
+    are_bytes-cell bytes c.append.new.block.items 3 c.fits-bytes (ap are_bytes tail ∙ behind)

@@ -1,5 +1,6 @@
 use Rattle.std.proofs.Common.{Ok, ap, ◌∙◌}
 use Rattle.hdmi_cta.specs.declared.raw.Ext.TheVariants.{Cta, Bare, Raw}
+use Rattle.hdmi_edid.proofs.Bytes.{are_bytes-cells}
 use Rattle.hdmi_cta.proofs.OneExt.{one_ext}
 use Rattle.hdmi_cta.proofs.ext.read_ext.Goals as goal
 
@@ -10,4 +11,7 @@ pub returns-in-Some-read_bare-clause-only : goal.returns-in-Some-read_bare-claus
 returns-in-Some-read_bare-clause-only c = λ e h. ap Ok (one_ext (Bare c.in-Some-read_bare.bare) e (c.in-Some-read_bare.ensures.found ∙ h))
 
 pub returns-clause-only : goal.returns-clause-only
-returns-clause-only c = λ e h. ap Ok (one_ext (Raw (record { bytes = c.args.bytes.now; whole = _; checked = _; no_cta = _; no_bare = _ })) e h)
+returns-clause-only c = λ e h. ap Ok (one_ext (Raw (record { bytes = c.args.bytes.now; whole = _; bytes_fit = _; checked = _; no_cta = _; no_bare = _ })) e h)
+
+pub invariant_of-result-clause-bytes_fit : goal.invariant_of-result-clause-bytes_fit
+invariant_of-result-clause-bytes_fit c = are_bytes-cells c.args.bytes.now c.fits-bytes

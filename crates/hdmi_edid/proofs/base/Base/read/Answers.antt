@@ -1,6 +1,8 @@
-use Rattle.std.proofs.Common.{◌≡◌, ◌+◌, ◌-◌, get_or, ◌∙◌, arith, refl, flat_map}
+use Rattle.std.proofs.Common.{◌≡◌, ℕ, ◌∷◌, ◌+◌, ◌-◌, get_or, drop, ap, ◌∙◌, arith, refl, flat_map}
 use Rattle.std.specs.Int.{w16, w32, to_le_bytes}
 use Rattle.hdmi_edid.proofs.PartLemmas.{block_is, header_is, accepted_header, accepted_sum, two_bytes, four_bytes}
+use Rattle.hdmi_edid.proofs.Bytes.{are_bytes-cells, are_bytes-cell, are_bytes-take, are_bytes-drop}
+use Rattle.hdmi_edid.specs.Bytes.{are_bytes}
 use Rattle.hdmi_edid.specs.Base.{base_bytes, front_bytes}
 use Rattle.hdmi_edid.specs.Chroma.{chroma_bytes}
 use Rattle.hdmi_edid.specs.Descriptor.{descriptor_bytes}
@@ -23,3 +25,18 @@ returns-clause-read c =
     (flat_map descriptor_bytes c.read_descriptors.result) _ _ _ _ _ _ _ _ c.told-bytes (header_is bytes (accepted_header bytes ok.0))
     ok.1 product serial refl year ok.2 refl refl refl refl refl
     (c.read.ensures ∙ c.part.ensures) c.part-2.ensures (c.read_all.ensures ∙ c.part-3.ensures) (c.read_descriptors.ensures ∙ c.part-4.ensures) refl (fits 127) (accepted_sum bytes ok.0)
+
+pub invariant_of-result-clause-bytes_fit : goal.invariant_of-result-clause-bytes_fit
+invariant_of-result-clause-bytes_fit c =
+    let bytes = c.args.bytes.now in
+    let fits = c.fits-bytes in
+    let established = ap are_bytes c.part-2.ensures ∙ are_bytes-take 3 (drop 35 bytes) (are_bytes-drop 35 bytes (are_bytes-cells bytes fits)) in
+    let e = c.part-2.result in
+    let at = λ (k : ℕ). get_or bytes k 0 in
+    let a = are_bytes-cell bytes e 126 fits established in
+    let b = are_bytes-cell bytes (at 126 ∷ e) 24 fits a in
+    let d = are_bytes-cell bytes (at 24 ∷ at 126 ∷ e) 23 fits b in
+    let f = are_bytes-cell bytes (at 23 ∷ at 24 ∷ at 126 ∷ e) 22 fits d in
+    let g = are_bytes-cell bytes (at 22 ∷ at 23 ∷ at 24 ∷ at 126 ∷ e) 21 fits f in
+    let h = are_bytes-cell bytes (at 21 ∷ at 22 ∷ at 23 ∷ at 24 ∷ at 126 ∷ e) 20 fits g in
+    are_bytes-cell bytes (at 20 ∷ at 21 ∷ at 22 ∷ at 23 ∷ at 24 ∷ at 126 ∷ e) 16 fits h

@@ -1,0 +1,16 @@
+use Rattle.std.proofs.Common.{◌≡◌, ◌%◌, [], ◌∷◌, take, true, arith, ap, sym, ◌∙◌}
+use Rattle.std.proofs.Math.Facts.{Fits-lt-pow}
+use Rattle.std.proofs.lemmas.Grind.{common_steps}
+use Rattle.hdmi_edid.proofs.Bytes.{are_bytes-cells, are_bytes-take, are_bytes-behind}
+use Rattle.hdmi_edid.specs.Bytes.{are_bytes}
+use Rattle.hdmi_cta.proofs.reading.first_block.Goals as goal
+
+pub invariant_of-result-clause-bytes_fit : goal.invariant_of-result-clause-bytes_fit
+invariant_of-result-clause-bytes_fit c =
+    let bytes = c.args.bytes.now in
+    let head = c.in_ok-head.head.now in
+    let rest = c.in_ok-head.rest.now in
+    let whole : bytes ≡ head ∷ rest = grind (arith, common_steps) in
+    let items : c.try_extend_from_slice.new.self.items ≡ take (head % 32) rest = grind (arith, common_steps) in
+    let behind = are_bytes-behind (head ∷ []) rest (sym (ap are_bytes whole) ∙ are_bytes-cells bytes (λ i. Fits-lt-pow (c.type_inv.bytes i))) in
+    ap are_bytes items ∙ are_bytes-take (head % 32) rest behind
