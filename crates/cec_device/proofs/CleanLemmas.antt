@@ -1,16 +1,17 @@
 -- Why no queued frame goes to the device's own address.
-use Rattle.std.proofs.Common.{◌≡◌, ℕ, ◌==◌, ◌<◌, ◌+◌, ◌*◌, ◌%◌, ◌/◌, Bool, true, false, not, ◌&&◌, ◌||◌, nat_lt, if◌then◌else◌, List, [], ◌∷◌, ◌++◌, length, slice_index, Option, Some, None, refl, sym, ap, ◌∙◌, arith, lit<}
+use Rattle.std.proofs.Common.{◌≡◌, ℕ, ◌==◌, ◌<◌, ◌+◌, ◌*◌, ◌%◌, ◌/◌, Bool, true, false, not, ◌&&◌, ◌||◌, nat_lt, if◌then◌else◌, List, [], ◌∷◌, ◌++◌, length, slice_index, Some, None, refl, ap, ◌∙◌, arith, lit<}
 use Rattle.std.specs.List.{list_all}
 use Rattle.std.proofs.lemmas.List.Folds.{list_all-append}
-use Rattle.cec_device.specs.declared.record.Kind.{Kind}
-use Rattle.cec_device.specs.declared.record.Phys.{Phys}
+use Rattle.hdmi_cta.specs.declared.kind.Kind.{Kind}
+use Rattle.hdmi_cta.specs.declared.phys.Phys.{Phys}
 use Rattle.cec_device.specs.declared.record.Place.{Place}
 use Rattle.cec_device.specs.declared.record.Place.TheVariants.{Off, Polls, Settled}
-use Rattle.cec_device.specs.declared.record.Fate.{Fate}
-use Rattle.cec_device.specs.declared.record.Fate.TheVariants.{Delivered, Unacked, Lost, Broken}
+use Rattle.cec_device.specs.declared.sending.Fate.{Fate}
+use Rattle.cec_device.specs.declared.sending.Fate.TheVariants.{Delivered, Unacked, Lost, Broken}
+use Rattle.cec_device.specs.declared.sending.FreeTime.TheVariants.{Retry}
 use Rattle.cec_device.specs.declared.device.Queued.{Queued}
 use Rattle.cec_device.specs.State.{State, holds, queued, speaks, may_speak, source, frame_to, one_more, type_of}
-use Rattle.cec_device.specs.Place.{sent, sent_by, polled_at, frame_sent, ended, failed, waited, reported, joined, left, fresh, start_place, polled, front_is_poll, class_of_poll}
+use Rattle.cec_device.specs.Place.{sent_by, polled_at, frame_sent, ended, failed, reported, fresh, start_place, polled, front_is_poll, class_of_poll}
 use Rattle.cec_device.specs.Once.{goes_elsewhere}
 use Rattle.std.proofs.lemmas.Bool.Decides.{nat_tests}
 use Rattle.cec_device.specs.declared.device.SubmitError.TheVariants.{QueueFull, OwnAddress, NoAddress, OffWire}
@@ -72,8 +73,8 @@ three false false d x y k f h = h
 clean-queued : (limit at to : ℕ) (bytes : List ℕ) (d : State) → to < 16 → is_clean d ≡ true → is_clean (queued limit at to bytes d) ≡ true
 clean-queued limit at to bytes d s k =
     three (not (speaks d) || holds d.place to) (nat_lt (length d.queue) limit) d
-        (record d { queue = d.queue ++ record { frame = frame_to d to bytes; ready = at } ∷ [] }) (record d { dropped = one_more d.dropped })
-        k (λ h. clean-one_more d.place d.kind d.phys to at bytes d.queue s h k) k
+    (record d { queue = d.queue ++ record { frame = frame_to d to bytes; ready = at } ∷ [] }) (record d { dropped = one_more d.dropped })
+    k (λ h. clean-one_more d.place d.kind d.phys to at bytes d.queue s h k) k
 
 clean-reported : (limit at : ℕ) (d : State) → is_clean d ≡ true → is_clean (reported limit at d) ≡ true
 clean-reported limit at d k = clean-queued limit at 15 (0x84 ∷ d.phys.high ∷ d.phys.low ∷ type_of d.kind ∷ []) d (lit< tt) k
@@ -87,13 +88,13 @@ two true x y h k = h
 two false x y h k = k
 
 clean-failed : (d : State) → is_clean d ≡ true → is_clean (failed d) ≡ true
-clean-failed d k = two (nat_lt d.attempts 5) (record d { attempts = d.attempts + 1; class = 3 }) (ended d) k (clean-ended d d.queue k)
+clean-failed d k = two (nat_lt d.attempts 5) (record d { attempts = d.attempts + 1; class = Retry }) (ended d) k (clean-ended d d.queue k)
 
 clean-frame_sent : (fate : Fate) (d : State) → is_clean d ≡ true → is_clean (frame_sent d fate) ≡ true
 clean-frame_sent Lost d k = k
 clean-frame_sent Delivered d k = clean-ended d d.queue k
 clean-frame_sent Unacked d k = two (front_is_poll d.queue) (ended d) (failed d) (clean-ended d d.queue k) (clean-failed d k)
-clean-frame_sent Broken d k = two (front_is_poll d.queue) (record d { class = 3 }) (failed d) k (clean-failed d k)
+clean-frame_sent Broken d k = two (front_is_poll d.queue) (record d { class = Retry }) (failed d) k (clean-failed d k)
 
 clean-sent : (limit at : ℕ) (fate : Fate) (d : State) (place : Place) → d.place ≡ place → clean_at place d.queue ≡ true
     → is_clean (sent_by limit d fate at (polled_at place)) ≡ true
@@ -113,7 +114,7 @@ clean-say limit h (Cast bytes) d f g k = clean-queued limit h.at 15 bytes d (lit
 clean-say limit h (Tell to bytes) d f g k = kept_if (to == 15) d (queued limit h.at to bytes d) k (clean-queued limit h.at to bytes d (grind (arith, nat_tests)) k)
 clean-say limit h (Refuse reason) d f g k =
     kept_if ((h.to == 15) || ((h.from == 15) || (h.opcode == 0))) d (queued limit h.at h.from (0x00 ∷ h.opcode ∷ reason ∷ []) d) k
-        (clean-queued limit h.at h.from (0x00 ∷ h.opcode ∷ reason ∷ []) d f k)
+    (clean-queued limit h.at h.from (0x00 ∷ h.opcode ∷ reason ∷ []) d f k)
 
 and_left : (a b : Bool) → (a && b) ≡ true → a ≡ true
 and_left true b h = refl
@@ -135,7 +136,7 @@ say-place limit h (Cast bytes) d = queued-place limit h.at 15 bytes d
 say-place limit h (Tell to bytes) d = place_if (to == 15) d (queued limit h.at to bytes d) (queued-place limit h.at to bytes d)
 say-place limit h (Refuse reason) d =
     place_if ((h.to == 15) || ((h.from == 15) || (h.opcode == 0))) d (queued limit h.at h.from (0x00 ∷ h.opcode ∷ reason ∷ []) d)
-        (queued-place limit h.at h.from (0x00 ∷ h.opcode ∷ reason ∷ []) d)
+    (queued-place limit h.at h.from (0x00 ∷ h.opcode ∷ reason ∷ []) d)
 
 say_all-place : (limit : ℕ) (h : Heard) (says : List Say) (d : State) → (say_all limit h says d).place ≡ d.place
 say_all-place limit h [] d = refl
@@ -153,7 +154,7 @@ clean-appended (Settled a) frame at queue s h k =
 clean-by_tests : (off at_address own room : Bool) (d : State) (frame : List ℕ) (at : ℕ)
     → settled_at d.place (slice_index frame 0 / 16) ≡ at_address → holds d.place (slice_index frame 0 % 16) ≡ own → is_clean d ≡ true
     → is_clean (submitted_by d frame at (if off then Some OffWire else (if not at_address then Some NoAddress else (
-        if own then Some OwnAddress else (if room then None else Some QueueFull))))) ≡ true
+    if own then Some OwnAddress else (if room then None else Some QueueFull))))) ≡ true
 clean-by_tests true n o r d frame at s h k = k
 clean-by_tests false false o r d frame at s h k = k
 clean-by_tests false true true r d frame at s h k = k
@@ -162,13 +163,17 @@ clean-by_tests false true false true d frame at s h k = clean-appended d.place f
 
 pub keeps_clean : KeepsClean
 keeps_clean = record {
-    queueing = clean-queued;
-    leaving = λ d. refl;
-    joining = λ limit number at phys d. clean-reported limit at (record (fresh d.kind d.name d.ports) {
-        number = number; phys = phys; place = start_place d.kind phys; poll_ready = at }) (clean-empty (start_place d.kind phys));
-    submitting = λ limit at frame d k. clean-by_tests (is_off d.place) (settled_at d.place (slice_index frame 0 / 16))
-        (holds d.place (slice_index frame 0 % 16)) (nat_lt (length d.queue) limit) d frame at refl refl k;
-    saying = clean-say_all;
-    staying = say_all-place;
-    telling = λ limit at fate d k. clean-sent limit at fate d d.place refl k;
-  }
+  queueing = clean-queued;
+  leaving = λ d. refl;
+  joining = λ limit number at phys d. clean-reported limit at (record (fresh d.kind d.name d.ports) {
+    number = number;
+    phys = phys;
+    place = start_place d.kind phys;
+    poll_ready = at;
+  }) (clean-empty (start_place d.kind phys));
+  submitting = λ limit at frame d k. clean-by_tests (is_off d.place) (settled_at d.place (slice_index frame 0 / 16))
+      (holds d.place (slice_index frame 0 % 16)) (nat_lt (length d.queue) limit) d frame at refl refl k;
+  saying = clean-say_all;
+  staying = say_all-place;
+  telling = λ limit at fate d k. clean-sent limit at fate d d.place refl k;
+}

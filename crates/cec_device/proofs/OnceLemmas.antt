@@ -1,15 +1,15 @@
 -- Why no address is held twice.
-use Rattle.std.proofs.Common.{◌≡◌, ℕ, ◌==◌, ◌<◌, ◌%◌, Bool, true, false, not, ◌&&◌, nat_lt, is_some, if◌then◌else◌, List, [], ◌∷◌, ◌++◌, ◌+◌, ◌||◌, length, slice_index, Option, Some, None, ◌⊎◌, inl, inr, refl, sym, ap, ◌∙◌, subst, arith}
+use Rattle.std.proofs.Common.{◌≡◌, ℕ, ◌%◌, Bool, true, false, not, nat_lt, is_some, if◌then◌else◌, List, [], ◌∷◌, ◌++◌, ◌+◌, ◌||◌, length, slice_index, Option, Some, None, ◌⊎◌, inl, inr, refl, sym, ap, ◌∙◌, subst, arith}
 use Rattle.std.proofs.lemmas.Bool.Decides.{nat_tests}
-use Rattle.cec_device.specs.declared.record.Kind.{Kind}
+use Rattle.hdmi_cta.specs.declared.kind.Kind.{Kind}
 use Rattle.cec_device.specs.declared.record.Place.{Place}
 use Rattle.cec_device.specs.declared.record.Place.TheVariants.{Off, Polls, Settled}
-use Rattle.cec_device.specs.declared.record.Fate.{Fate}
-use Rattle.cec_device.specs.declared.record.Fate.TheVariants.{Delivered, Unacked, Lost, Broken}
-use Rattle.cec_device.specs.declared.device.Queued.{Queued}
+use Rattle.cec_device.specs.declared.sending.Fate.{Fate}
+use Rattle.cec_device.specs.declared.sending.Fate.TheVariants.{Delivered, Unacked, Lost, Broken}
+use Rattle.cec_device.specs.declared.sending.FreeTime.TheVariants.{Retry}
 use Rattle.cec_device.specs.State.{State, holds, queued, speaks, frame_to, one_more, type_of}
-use Rattle.cec_device.specs.Place.{sent, sent_by, polled_at, frame_sent, ended, failed, waited, reported, tries, tries_after, addresses, polled, front_is_poll, class_of_poll}
-use Rattle.cec_device.specs.Once.{Devices, IsOnce, IsFair, told, goes_elsewhere, FatesKeepOnce}
+use Rattle.cec_device.specs.Place.{sent, sent_by, polled_at, frame_sent, ended, failed, tries, tries_after, addresses, polled, front_is_poll, class_of_poll}
+use Rattle.cec_device.specs.Once.{Devices, IsFair, told, FatesKeepOnce}
 
 -- one of three states, all at the same place
 three : (b c : Bool) (d x y : State) → x.place ≡ d.place → y.place ≡ d.place → (if b then d else (if c then x else y)).place ≡ d.place
@@ -25,16 +25,16 @@ two false d x y p q = q
 pub queued-place : (limit at to : ℕ) (bytes : List ℕ) (d : State) → (queued limit at to bytes d).place ≡ d.place
 queued-place limit at to bytes d =
     three (not (speaks d) || holds d.place to) (nat_lt (length d.queue) limit) d
-        (record d { queue = d.queue ++ record { frame = frame_to d to bytes; ready = at } ∷ [] }) (record d { dropped = one_more d.dropped }) refl refl
+    (record d { queue = d.queue ++ record { frame = frame_to d to bytes; ready = at } ∷ [] }) (record d { dropped = one_more d.dropped }) refl refl
 
 failed-place : (d : State) → (failed d).place ≡ d.place
-failed-place d = two (nat_lt d.attempts 5) d (record d { attempts = d.attempts + 1; class = 3 }) (ended d) refl refl
+failed-place d = two (nat_lt d.attempts 5) d (record d { attempts = d.attempts + 1; class = Retry }) (ended d) refl refl
 
 frame_sent-place : (d : State) (fate : Fate) → (frame_sent d fate).place ≡ d.place
 frame_sent-place d Lost = refl
 frame_sent-place d Delivered = refl
 frame_sent-place d Unacked = two (front_is_poll d.queue) d (ended d) (failed d) refl (failed-place d)
-frame_sent-place d Broken = two (front_is_poll d.queue) d (record d { class = 3 }) (failed d) refl (failed-place d)
+frame_sent-place d Broken = two (front_is_poll d.queue) d (record d { class = Retry }) (failed d) refl (failed-place d)
 
 fifteen : (b : ℕ) → holds (Settled 15) b ≡ false
 fifteen b = grind (arith, nat_tests)
@@ -67,12 +67,12 @@ sent-holds limit d fate at b Off e h = inl (subst (λ (p : Place). holds p b ≡
 sent-holds limit d fate at b (Settled a) e h = inl (subst (λ (p : Place). holds p b ≡ true) (frame_sent-place d fate) h)
 sent-holds limit d fate at b (Polls a) e h =
     let k = polled-holds d.kind a b fate (subst (λ (p : Place). holds p b ≡ true) (queued-place limit at 15 (0x84 ∷ d.phys.high ∷ d.phys.low ∷ type_of d.kind ∷ [])
-            (record d { place = polled d.kind a fate; poll_ready = at; class = class_of_poll fate })) h) in
+    (record d { place = polled d.kind a fate; poll_ready = at; class = class_of_poll fate })) h) in
     inr (e ∙ ap Polls k.0, k.1)
 
 told-holds : (limit at : ℕ) (d : State) (fate : Fate) (sends : Option (List ℕ)) (b : ℕ)
     → holds (told limit at d fate sends).place b ≡ true → (holds d.place b ≡ true) ⊎ ((is_some sends ≡ true) × (d.place ≡ Polls b) × (fate ≡ Unacked))
-told-holds limit at d fate None b h = inl (subst (λ (p : Place). holds p b ≡ true) (two (d.class == 7) d (record d { class = 5 }) d refl refl) h)
+told-holds limit at d fate None b h = inl h
 told-holds limit at d fate (Some frame) b h =
     elim (sent-holds limit d fate at b d.place refl h) [ inl was ↦ inl was | inr now ↦ inr (refl, now.0, now.1) ]
 
@@ -88,9 +88,12 @@ nobody begin sends fate d fair i j a sent polls un held =
 pub fates_keep_once : FatesKeepOnce
 fates_keep_once limit begin at sends fate d fair once i j a hi hj =
     elim (told-holds limit at (d i) (fate i) (sends i) a hi) [
-        inl oldi ↦ elim (told-holds limit at (d j) (fate j) (sends j) a hj) [
-            inl oldj ↦ once i j a oldi oldj
-          | inr newj ↦ absurd (nobody begin sends fate d fair j i a newj.0 newj.1 newj.2 oldi) ]
+      | inl oldi ↦ elim (told-holds limit at (d j) (fate j) (sends j) a hj) [
+        | inl oldj ↦ once i j a oldi oldj
+        | inr newj ↦ absurd (nobody begin sends fate d fair j i a newj.0 newj.1 newj.2 oldi)
+      ]
       | inr newi ↦ elim (told-holds limit at (d j) (fate j) (sends j) a hj) [
-            inl oldj ↦ absurd (nobody begin sends fate d fair i j a newi.0 newi.1 newi.2 oldj)
-          | inr newj ↦ sym (fair.aligned i a newi.0 newi.1) ∙ fair.aligned j a newj.0 newj.1 ] ]
+        | inl oldj ↦ absurd (nobody begin sends fate d fair i j a newi.0 newi.1 newi.2 oldj)
+        | inr newj ↦ sym (fair.aligned i a newi.0 newi.1) ∙ fair.aligned j a newj.0 newj.1
+      ]
+    ]

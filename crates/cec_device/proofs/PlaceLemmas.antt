@@ -1,12 +1,11 @@
 -- Step by step, and by all fates at once.
 use Rattle.std.proofs.Common.{◌≡◌, ℕ, List, [], ◌∷◌, refl}
-use Rattle.cec_device.specs.declared.record.Kind.{Kind}
-use Rattle.cec_device.specs.declared.record.Kind.TheVariants.{Tv, Amp, Player, Recorder, Switch}
-use Rattle.cec_device.specs.declared.record.Place.{Place}
-use Rattle.cec_device.specs.declared.record.Place.TheVariants.{Off, Polls, Settled}
-use Rattle.cec_device.specs.declared.record.Fate.{Fate}
-use Rattle.cec_device.specs.declared.record.Fate.TheVariants.{Delivered, Unacked, Lost, Broken}
-use Rattle.cec_device.specs.Place.{stepped, tries, addresses, place_after}
+use Rattle.hdmi_cta.specs.declared.kind.Kind.{Kind}
+use Rattle.hdmi_cta.specs.declared.kind.Kind.TheVariants.{Tv, Amp, Player, Recorder, Switch}
+use Rattle.cec_device.specs.declared.record.Place.TheVariants.{Polls, Settled}
+use Rattle.cec_device.specs.declared.sending.Fate.{Fate}
+use Rattle.cec_device.specs.declared.sending.Fate.TheVariants.{Delivered, Unacked, Lost, Broken}
+use Rattle.cec_device.specs.Place.{stepped, place_after}
 use Rattle.cec_device.specs.PlaceLaw.{place_told, PlaceGoesByFates}
 
 -- who has settled stays

@@ -1,10 +1,10 @@
 -- Worked rows of single devices, computed from the definitions.
-use Rattle.std.proofs.Common.{◌≡◌, ℕ, true, false, List, [], ◌∷◌, map, Option, Some, None, refl}
+use Rattle.std.proofs.Common.{◌≡◌, ℕ, true, List, [], ◌∷◌, map, refl}
 use Rattle.std.specs.Prelude.{fold}
-use Rattle.cec_device.specs.declared.record.Kind.{Kind}
-use Rattle.cec_device.specs.declared.record.Kind.TheVariants.{Tv, Amp, Player, Recorder, Switch}
+use Rattle.hdmi_cta.specs.declared.kind.Kind.{Kind}
+use Rattle.hdmi_cta.specs.declared.kind.Kind.TheVariants.{Tv, Amp, Player}
 use Rattle.cec_device.specs.declared.record.Place.TheVariants.{Settled}
-use Rattle.cec_device.specs.declared.record.Key.TheVariants.{Play}
+use Rattle.cec_device.specs.declared.keys.Key.TheVariants.{Play}
 use Rattle.cec_device.specs.declared.device.Queued.{Queued}
 use Rattle.cec_device.specs.State.{State}
 use Rattle.cec_device.specs.Place.{fresh}
@@ -45,7 +45,7 @@ player-stream : queue (after (device Player 4) ((0x0f ∷ 0x86 ∷ 0x10 ∷ 0x00
 player-stream = refl
 
 row-12 : queue (after (device Player 4) ((0x04 ∷ 0x33 ∷ []) ∷ (0x0f ∷ 0x33 ∷ []) ∷ (0xf4 ∷ 0x33 ∷ []) ∷ (0xf4 ∷ 0x46 ∷ []) ∷ (0x04 ∷ 0xff ∷ [])
-        ∷ (0x04 ∷ 0x41 ∷ []) ∷ (0x04 ∷ 0x41 ∷ 0x99 ∷ []) ∷ (0x04 ∷ 0x00 ∷ 0x41 ∷ 0x00 ∷ []) ∷ []))
+    ∷ (0x04 ∷ 0x41 ∷ []) ∷ (0x04 ∷ 0x41 ∷ 0x99 ∷ []) ∷ (0x04 ∷ 0x00 ∷ 0x41 ∷ 0x00 ∷ []) ∷ []))
     ≡ (0x40 ∷ 0x00 ∷ 0x33 ∷ 0x00 ∷ []) ∷ (0x40 ∷ 0x00 ∷ 0xff ∷ 0x00 ∷ []) ∷ (0x40 ∷ 0x00 ∷ 0x41 ∷ 0x03 ∷ []) ∷ []
 row-12 = refl
 

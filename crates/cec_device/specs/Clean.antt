@@ -1,15 +1,15 @@
 -- What a device has queued goes to others, and until it has settled it has queued nothing.
-use Rattle.std.specs.Prelude.{◌≡◌, ℕ, ◌<◌, ◌%◌, Bool, true, false, not, nat_lt, List, [], ◌∷◌, slice_index}
+use Rattle.std.specs.Prelude.{◌≡◌, ℕ, ◌<◌, Bool, true, false, nat_lt, List, [], ◌∷◌}
 use Rattle.std.specs.List.{list_all}
 use Rattle.cec_device.specs.declared.record.Place.{Place}
 use Rattle.cec_device.specs.declared.record.Place.TheVariants.{Off, Polls, Settled}
-use Rattle.cec_device.specs.declared.record.Phys.{Phys}
-use Rattle.cec_device.specs.declared.record.Fate.{Fate}
+use Rattle.hdmi_cta.specs.declared.phys.Phys.{Phys}
+use Rattle.cec_device.specs.declared.sending.Fate.{Fate}
 use Rattle.cec_device.specs.declared.device.Queued.{Queued}
-use Rattle.cec_device.specs.State.{State, holds, queued}
-use Rattle.cec_device.specs.Place.{sent, waited, joined, left, submitted}
+use Rattle.cec_device.specs.State.{State, queued}
+use Rattle.cec_device.specs.Place.{sent, joined, left, submitted}
 use Rattle.cec_device.specs.declared.record.Heard.{Heard}
-use Rattle.cec_device.specs.Say.{Say, Reply, Cast, Tell, Refuse, say, say_all}
+use Rattle.cec_device.specs.Say.{Say, Tell, say_all}
 use Rattle.cec_device.specs.Once.{goes_elsewhere}
 
 abbrev pub is_none_queued : List Queued → Bool

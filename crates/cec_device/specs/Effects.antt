@@ -1,14 +1,13 @@
 -- The opcode table: what each message does to a device that follows it.
-use Rattle.std.specs.Prelude.{ℕ, ◌==◌, ◌+◌, ◌-◌, ◌*◌, ◌%◌, ◌/◌, Bool, true, false, not, ◌&&◌, ◌||◌, nat_lt, nat_le, List, [], ◌∷◌, ◌++◌, length, slice_index, drop, if◌then◌else◌, Option, Some, None}
+use Rattle.std.specs.Prelude.{ℕ, ◌==◌, ◌+◌, ◌-◌, ◌%◌, ◌/◌, Bool, true, false, not, ◌&&◌, ◌||◌, nat_lt, nat_le, List, [], ◌∷◌, length, if◌then◌else◌, Option, Some, None}
 use Rattle.cec_opcode.specs.declared.message.Address.{Address}
 use Rattle.cec_opcode.specs.declared.message.Message.{Message}
 use Rattle.cec_opcode.specs.declared.message.Message.TheVariants.{FeatureAbort, ImageViewOn, TextViewOn, GiveDeckStatus, DeckStatus, Standby, Play, DeckControl, UserControlPressed, UserControlReleased, GiveOsdName, SystemAudioModeRequest, GiveAudioStatus, RoutingChange, ActiveSource, GivePhysicalAddress, ReportPhysicalAddress, SetStreamPath, MenuRequest, InactiveSource, RequestArcInitiation, SetMenuLanguage, SetOsdName, SetOsdString, SetSystemAudioMode, ReportAudioStatus, GiveSystemAudioModeStatus, SystemAudioModeStatus, RoutingInformation, RequestActiveSource, DeviceVendorId, GiveDeviceVendorId, MenuStatus, GiveDevicePowerStatus, ReportPowerStatus, GetMenuLanguage, CecVersion, GetCecVersion, InitiateArc, ReportArcInitiated, ReportArcTerminated, RequestArcTermination, TerminateArc}
 use Rattle.cec_opcode.specs.declared.message.Decoded.{Decoded}
-use Rattle.cec_opcode.specs.declared.message.Decoded.TheVariants.{Poll, Known, Short, Unknown as NoName}
-use Rattle.cec_opcode.specs.declared.row.Rule.{Rule}
+use Rattle.cec_opcode.specs.declared.message.Decoded.TheVariants.{Known, Unknown as NoName}
 use Rattle.cec_opcode.specs.Table.{decoded_of, rule_of, may_go}
-use Rattle.cec_device.specs.declared.record.Kind.{Kind}
-use Rattle.cec_device.specs.declared.record.Phys.{Phys}
+use Rattle.hdmi_cta.specs.declared.kind.Kind.{Kind}
+use Rattle.hdmi_cta.specs.declared.phys.Phys.{Phys}
 use Rattle.cec_device.specs.declared.record.Record.{Record}
 use Rattle.cec_device.specs.declared.record.Heard.{Heard}
 use Rattle.cec_device.specs.State.{State, is_tv, is_amp, is_deck, is_switch, type_of, same_phys, is_nowhere, holds}
@@ -149,9 +148,9 @@ effect_of kind own name ports h r (DeckControl control) = only (is_deck kind) r 
     if not r.power then refuses r 1 else (
     if control == 4 then does (record r { deck = 0x19 }) (notice r 0x19) else (
     if r.deck == 0x19 then refuses r 1 else which control (
-        (1, does (record r { deck = 0x1b }) (notice r 0x1b)) ∷
-        (2, does (record r { deck = 0x1c }) (notice r 0x1c)) ∷ [])
-        (does (record r { deck = 0x1a }) (notice r 0x1a))))))
+    (1, does (record r { deck = 0x1b }) (notice r 0x1b)) ∷
+    (2, does (record r { deck = 0x1c }) (notice r 0x1c)) ∷ [])
+    (does (record r { deck = 0x1a }) (notice r 0x1a))))))
 effect_of kind own name ports h r (UserControlPressed code) = only (is_tv kind || (is_deck kind || is_amp kind)) r (pressed kind h r)
 effect_of kind own name ports h r UserControlReleased = only (is_tv kind || (is_deck kind || is_amp kind)) r (does (record r { held = None }) [])
 effect_of kind own name ports h r GiveOsdName = does r (Reply (0x47 ∷ name) ∷ [])
@@ -167,9 +166,9 @@ effect_of kind own name ports h r (SetStreamPath address) = streamed kind own po
 effect_of kind own name ports h r (MenuRequest request) = only (is_deck kind) r (
     if not (nat_lt request 3) then refuses r 3 else (
     if not r.power then refuses r 1 else which request (
-        (0, does (record r { menu = true }) (Reply (0x8e ∷ 0 ∷ []) ∷ [])) ∷
-        (1, does (record r { menu = false }) (Reply (0x8e ∷ 1 ∷ []) ∷ [])) ∷ [])
-        (does r (Reply (0x8e ∷ (if r.menu then 0 else 1) ∷ []) ∷ []))))
+    (0, does (record r { menu = true }) (Reply (0x8e ∷ 0 ∷ []) ∷ [])) ∷
+    (1, does (record r { menu = false }) (Reply (0x8e ∷ 1 ∷ []) ∷ [])) ∷ [])
+    (does r (Reply (0x8e ∷ (if r.menu then 0 else 1) ∷ []) ∷ []))))
 effect_of kind own name ports h r (RequestArcInitiation) = only (is_amp kind) r (
     if h.from == 0 then does r (Reply (0xc0 ∷ []) ∷ []) else refuses r 4)
 effect_of kind own name ports h r (SetMenuLanguage language) = only (is_deck kind || is_amp kind) r (if h.from == 0 then does (record r { language = language }) [] else does r [])

@@ -1,16 +1,16 @@
 -- The key table: what a press and a release do, by kind.
-use Rattle.std.specs.Prelude.{ℕ, ◌==◌, ◌+◌, Bool, true, false, not, ◌&&◌, ◌||◌, nat_lt, List, [], ◌∷◌, ◌++◌, if◌then◌else◌, Option, Some, None}
-use Rattle.cec_device.specs.declared.record.Kind.{Kind}
-use Rattle.cec_device.specs.declared.record.Phys.{Phys}
+use Rattle.std.specs.Prelude.{ℕ, ◌==◌, Bool, true, not, ◌&&◌, [], ◌∷◌, if◌then◌else◌, Option, Some, None}
+use Rattle.hdmi_cta.specs.declared.kind.Kind.{Kind}
+use Rattle.hdmi_cta.specs.declared.phys.Phys.{Phys}
 use Rattle.cec_device.specs.declared.record.Record.{Record}
 use Rattle.cec_device.specs.declared.record.Heard.{Heard}
-use Rattle.cec_device.specs.declared.record.Key.{Key}
-use Rattle.cec_device.specs.declared.record.Key.TheVariants.{Play, Stop, Menu, Power, Remote}
+use Rattle.cec_device.specs.declared.keys.Key.{Key}
+use Rattle.cec_device.specs.declared.keys.Key.TheVariants.{Play, Stop, Menu, Power, Remote}
 use Rattle.cec_device.specs.declared.keys.KeyError.{KeyError}
 use Rattle.cec_device.specs.declared.keys.KeyError.TheVariants.{NotForKind, OffWire}
 use Rattle.cec_device.specs.State.{State, is_tv, is_deck}
 use Rattle.cec_device.specs.Place.{is_off}
-use Rattle.cec_device.specs.Say.{Say, Tell, Cast, Effect, does, effected}
+use Rattle.cec_device.specs.Say.{Tell, Cast, Effect, does, effected}
 use Rattle.cec_device.specs.Effects.{notice, standby, turned, is_active}
 
 -- a device's own doing, in answer to no frame

@@ -1,11 +1,9 @@
 -- No address below 15 is held twice: what the rule of starts, the queues and the rounds do for it.
-use Rattle.std.specs.Prelude.{◌≡◌, ℕ, ◌<◌, ◌%◌, Bool, true, false, not, is_some, if◌then◌else◌, List, slice_index, Option, Some, None}
-use Rattle.std.specs.List.{list_all}
+use Rattle.std.specs.Prelude.{◌≡◌, ℕ, ◌%◌, Bool, true, not, is_some, List, slice_index, Option, Some, None}
 use Rattle.cec_device.specs.declared.record.Place.{Place}
-use Rattle.cec_device.specs.declared.record.Place.TheVariants.{Off, Polls, Settled}
-use Rattle.cec_device.specs.declared.record.Fate.{Fate}
-use Rattle.cec_device.specs.declared.record.Fate.TheVariants.{Delivered, Unacked, Lost, Broken}
-use Rattle.cec_device.specs.declared.device.Queued.{Queued}
+use Rattle.cec_device.specs.declared.record.Place.TheVariants.{Polls}
+use Rattle.cec_device.specs.declared.sending.Fate.{Fate}
+use Rattle.cec_device.specs.declared.sending.Fate.TheVariants.{Unacked}
 use Rattle.cec_device.specs.State.{State, holds}
 use Rattle.cec_device.specs.Place.{sent, waited}
 

@@ -1,12 +1,14 @@
 -- Joining, leaving, and the fates of frames that were sent.
-use Rattle.std.specs.Prelude.{◌≡◌, ℕ, ◌==◌, ◌+◌, ◌/◌, ◌%◌, Bool, true, false, ◌&&◌, ◌||◌, not, nat_lt, nat_le, List, [], ◌∷◌, ◌++◌, length, slice_index, if◌then◌else◌, Option, Some, None, is_some}
-use Rattle.cec_device.specs.declared.record.Kind.{Kind}
-use Rattle.cec_device.specs.declared.record.Kind.TheVariants.{Tv, Amp, Player, Recorder, Switch}
-use Rattle.cec_device.specs.declared.record.Phys.{Phys}
+use Rattle.std.specs.Prelude.{ℕ, ◌==◌, ◌+◌, ◌*◌, ◌/◌, ◌%◌, Bool, true, false, ◌&&◌, not, nat_lt, List, [], ◌∷◌, ◌++◌, length, slice_index, if◌then◌else◌, Option, Some, None, is_some}
+use Rattle.hdmi_cta.specs.declared.kind.Kind.{Kind}
+use Rattle.hdmi_cta.specs.declared.kind.Kind.TheVariants.{Tv, Amp, Player, Recorder, Switch}
+use Rattle.hdmi_cta.specs.declared.phys.Phys.{Phys}
 use Rattle.cec_device.specs.declared.record.Place.{Place}
 use Rattle.cec_device.specs.declared.record.Place.TheVariants.{Off, Polls, Settled}
-use Rattle.cec_device.specs.declared.record.Fate.{Fate}
-use Rattle.cec_device.specs.declared.record.Fate.TheVariants.{Delivered, Unacked, Lost, Broken}
+use Rattle.cec_device.specs.declared.sending.Fate.{Fate}
+use Rattle.cec_device.specs.declared.sending.Fate.TheVariants.{Delivered, Unacked, Lost, Broken}
+use Rattle.cec_device.specs.declared.sending.FreeTime.{FreeTime}
+use Rattle.cec_device.specs.declared.sending.FreeTime.TheVariants.{Retry, NewInitiator, PresentInitiator}
 use Rattle.cec_device.specs.declared.record.Record.{Record}
 use Rattle.cec_device.specs.declared.device.Queued.{Queued}
 use Rattle.cec_device.specs.declared.device.SubmitError.{SubmitError}
@@ -56,14 +58,38 @@ start_place kind phys = if is_nowhere phys then Settled 15 else tries (addresses
 -- a new device's record
 abbrev pub fresh_record : Kind → ℕ → Record
 fresh_record kind ports = record {
-    power = true; active = None; path = None; deck = 0x1a; menu = false; audio = false; volume = 20; mute = false; arc = false;
-    selected = if is_switch kind && nat_lt 0 ports then Some 1 else None;
-    language = record { first = 0x65; second = 0x6e; third = 0x67 }; osd = record { items = [] }; held = None; heard = None; sub = None }
+  power = true;
+  active = None;
+  path = None;
+  deck = 0x1a;
+  menu = false;
+  audio = false;
+  volume = 20;
+  mute = false;
+  arc = false;
+  selected = if is_switch kind && nat_lt 0 ports then Some 1 else None;
+  language = record { first = 0x65; second = 0x6e; third = 0x67 };
+  osd = record { items = [] };
+  held = None;
+  heard = None;
+  sub = None;
+}
 
 abbrev pub fresh : Kind → List ℕ → ℕ → State
 fresh kind name ports = record {
-    kind = kind; name = name; ports = ports; number = 0; phys = record { high = 255; low = 255 }; place = Off;
-    record_of = fresh_record kind ports; queue = []; attempts = 0; class = 5; poll_ready = 0; dropped = 0 }
+  kind = kind;
+  name = name;
+  ports = ports;
+  number = 0;
+  phys = record { high = 255; low = 255 };
+  place = Off;
+  record_of = fresh_record kind ports;
+  queue = [];
+  attempts = 0;
+  class = NewInitiator;
+  poll_ready = 0;
+  dropped = 0;
+}
 
 -- its physical address, to all; one that does not speak queues nothing
 abbrev pub reported : ℕ → ℕ → State → State
@@ -71,21 +97,25 @@ reported limit at d = queued limit at 15 (0x84 ∷ d.phys.high ∷ d.phys.low �
 
 abbrev pub joined : ℕ → State → ℕ → Phys → ℕ → State
 joined limit d number phys at = reported limit at (record (fresh d.kind d.name d.ports) {
-    number = number; phys = phys; place = start_place d.kind phys; poll_ready = at })
+  number = number;
+  phys = phys;
+  place = start_place d.kind phys;
+  poll_ready = at;
+})
 
 abbrev pub left : State → State
 left d = fresh d.kind d.name d.ports
 
 -- ---- fates
 
-abbrev pub class_of_poll : Fate → ℕ
-class_of_poll Lost = 5
-class_of_poll Broken = 3
-class_of_poll _ = 7
+abbrev pub class_of_poll : Fate → FreeTime
+class_of_poll Lost = NewInitiator
+class_of_poll Broken = Retry
+class_of_poll _ = PresentInitiator
 
 -- the front frame has ended
 abbrev pub ended : State → State
-ended d = record d { queue = rest_of d.queue; attempts = 0; class = 7 }
+ended d = record d { queue = rest_of d.queue; attempts = 0; class = PresentInitiator }
   where
     rest_of : List Queued → List Queued
     rest_of [] = []
@@ -93,17 +123,17 @@ ended d = record d { queue = rest_of d.queue; attempts = 0; class = 7 }
 
 -- a failed attempt, the sixth of which is the last
 abbrev pub failed : State → State
-failed d = if nat_lt d.attempts 5 then record d { attempts = d.attempts + 1; class = 3 } else ended d
+failed d = if nat_lt d.attempts 5 then record d { attempts = d.attempts + 1; class = Retry } else ended d
 
 abbrev pub front_is_poll : List Queued → Bool
 front_is_poll [] = false
 front_is_poll (q ∷ qs) = length q.frame == 1
 
 abbrev pub frame_sent : State → Fate → State
-frame_sent d Lost = record d { class = 5 }
+frame_sent d Lost = record d { class = NewInitiator }
 frame_sent d Delivered = ended d
 frame_sent d Unacked = if front_is_poll d.queue then ended d else failed d
-frame_sent d Broken = if front_is_poll d.queue then record d { class = 3 } else failed d
+frame_sent d Broken = if front_is_poll d.queue then record d { class = Retry } else failed d
 
 -- the address that it polls
 abbrev pub polled_at : Place → Option ℕ
@@ -117,8 +147,13 @@ sent_by limit d fate at None = frame_sent d fate
 abbrev pub sent : ℕ → State → Fate → ℕ → State
 sent limit d fate at = sent_by limit d fate at (polled_at d.place)
 
+-- a device that sent last, once another one has sent
+abbrev pub class_after_waiting : FreeTime → FreeTime
+class_after_waiting PresentInitiator = NewInitiator
+class_after_waiting class = class
+
 abbrev pub waited : State → State
-waited d = if d.class == 7 then record d { class = 5 } else d
+waited d = record d { class = class_after_waiting d.class }
 
 -- ---- submit
 
@@ -145,6 +180,29 @@ submitted_by d bytes at (Some fault) = d
 abbrev pub submitted : ℕ → State → List ℕ → ℕ → State
 submitted limit d bytes at = submitted_by d bytes at (submit_fault limit d bytes)
 
--- there is a frame whose fate can be told
-abbrev pub has_front : State → Bool
-has_front d = is_some (polled_at d.place) || nat_lt 0 (length d.queue)
+-- ---- what it has to send
+
+abbrev pub front_by : Option ℕ → List Queued → Option (List ℕ)
+front_by (Some a) queue = Some ((a * 16 + a) ∷ [])
+front_by None [] = None
+front_by None (q ∷ queue) = Some q.frame
+
+-- While it allocates, the poll of an address, which stands in no queue; else the front of its queue.
+abbrev pub front_of : State → Option (List ℕ)
+front_of d = front_by (polled_at d.place) d.queue
+
+abbrev pub ready_by : Option ℕ → ℕ → List Queued → Option ℕ
+ready_by (Some a) poll_ready queue = Some poll_ready
+ready_by None poll_ready [] = None
+ready_by None poll_ready (q ∷ queue) = Some q.ready
+
+-- since when that is ready
+abbrev pub ready_of : State → Option ℕ
+ready_of d = ready_by (polled_at d.place) d.poll_ready d.queue
+
+-- it still looks for an address
+abbrev pub is_allocating : State → Bool
+is_allocating d = is_some (polled_at d.place)
+
+abbrev pub is_on_wire : State → Bool
+is_on_wire d = not (is_off d.place)

@@ -1,8 +1,8 @@
 -- Allocation by all fates so far.
-use Rattle.std.specs.Prelude.{◌≡◌, ℕ, List, [], ◌∷◌}
-use Rattle.cec_device.specs.declared.record.Kind.{Kind}
+use Rattle.std.specs.Prelude.{◌≡◌, List, [], ◌∷◌}
+use Rattle.hdmi_cta.specs.declared.kind.Kind.{Kind}
 use Rattle.cec_device.specs.declared.record.Place.{Place}
-use Rattle.cec_device.specs.declared.record.Fate.{Fate}
+use Rattle.cec_device.specs.declared.sending.Fate.{Fate}
 use Rattle.cec_device.specs.Place.{stepped, tries, addresses, place_after}
 
 abbrev pub place_told : Kind → Place → List Fate → Place

@@ -1,5 +1,5 @@
 -- What a line of the opcode table says, and how that is queued.
-use Rattle.std.specs.Prelude.{ℕ, ◌==◌, ◌||◌, Bool, true, false, List, [], ◌∷◌, if◌then◌else◌, Option, Some, None}
+use Rattle.std.specs.Prelude.{ℕ, ◌==◌, ◌||◌, List, [], ◌∷◌, if◌then◌else◌}
 use Rattle.cec_device.specs.declared.record.Record.{Record}
 use Rattle.cec_device.specs.declared.record.Heard.{Heard}
 use Rattle.cec_device.specs.State.{State, queued}

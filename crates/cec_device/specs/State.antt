@@ -1,9 +1,9 @@
 -- What a device is to its callers, and who it is on the wire.
-use Rattle.std.specs.Prelude.{ℕ, ◌==◌, ◌*◌, ◌+◌, Bool, true, false, ◌&&◌, ◌||◌, not, nat_lt, List, [], ◌∷◌, ◌++◌, length, if◌then◌else◌, min, Option, Some, None}
-use Rattle.arrayvec.specs.ArrayVec.{ArrayVec}
-use Rattle.cec_device.specs.declared.record.Kind.{Kind}
-use Rattle.cec_device.specs.declared.record.Kind.TheVariants.{Tv, Amp, Player, Recorder, Switch}
-use Rattle.cec_device.specs.declared.record.Phys.{Phys}
+use Rattle.std.specs.Prelude.{ℕ, ◌==◌, ◌*◌, ◌+◌, Bool, true, false, ◌&&◌, ◌||◌, not, nat_lt, List, [], ◌∷◌, ◌++◌, length, if◌then◌else◌, min}
+use Rattle.hdmi_cta.specs.declared.kind.Kind.{Kind}
+use Rattle.hdmi_cta.specs.declared.kind.Kind.TheVariants.{Tv, Amp, Player, Recorder, Switch}
+use Rattle.hdmi_cta.specs.declared.phys.Phys.{Phys}
+use Rattle.cec_device.specs.declared.sending.FreeTime.{FreeTime}
 use Rattle.cec_device.specs.declared.record.Place.{Place}
 use Rattle.cec_device.specs.declared.record.Place.TheVariants.{Off, Polls, Settled}
 use Rattle.cec_device.specs.declared.record.Record.{Record}
@@ -19,7 +19,7 @@ pub record State : Type 0 where
   pub record_of : Record
   pub queue : List Queued
   pub attempts : ℕ
-  pub class : ℕ
+  pub class : FreeTime
   pub poll_ready : ℕ
   pub dropped : ℕ
 

@@ -1,6 +1,6 @@
 -- Ways through switches.
 use Rattle.std.specs.Prelude.{ℕ, ◌==◌, ◌+◌, ◌*◌, ◌%◌, ◌/◌, List, [], ◌∷◌, if◌then◌else◌, Option, Some, None}
-use Rattle.cec_device.specs.declared.record.Phys.{Phys}
+use Rattle.hdmi_cta.specs.declared.phys.Phys.{Phys}
 
 abbrev pub nibbles : Phys → List ℕ
 nibbles p = (p.high / 16) ∷ (p.high % 16) ∷ (p.low / 16) ∷ (p.low % 16) ∷ []
@@ -22,4 +22,3 @@ below p n =
     if p.high % 16 == 0 then record { high = p.high + n; low = 0 } else (
     if p.low / 16 == 0 then record p { low = n * 16 } else (
     if p.low % 16 == 0 then record p { low = p.low + n } else record { high = 255; low = 255 })))
-

@@ -3,9 +3,12 @@ ghost use Rattle.std.specs.Prelude.{◌≡◌, ◌≢◌, ◌<◌, ◌≤◌, �
 ghost use Rattle.cec_device.specs.State.{queued, speaks, holds, frame_to, source, one_more};
 ghost use Rattle.cec_device.specs.Say.{say, Reply, Cast, Tell, Refuse};
 
-use crate::record::{Addr, Heard, Kind, Phys, Place, Record};
+use crate::record::{Heard, Place, Port, Record};
+use crate::sending::FreeTime;
+use crate::ways::is_nowhere;
 use arrayvec::ArrayVec;
-use cec_frame::Frame;
+use cec_frame::{Addr, Frame, FrameError};
+use hdmi_cta::{Kind, Phys};
 use std::marker::Model;
 
 /// A frame that waits, and when it was ready.
@@ -37,14 +40,14 @@ pub enum SubmitError {
 pub struct Device<const Q: usize> {
     pub(crate) kind: Kind,
     pub(crate) name: ArrayVec<u8, 14>,
-    pub(crate) ports: u8,
+    pub(crate) ports: Port,
     pub(crate) number: u8,
     pub(crate) phys: Phys,
     pub(crate) place: Place,
     pub(crate) record: Record,
     pub(crate) queue: ArrayVec<Queued, Q>,
     pub(crate) attempts: u8,
-    pub(crate) class: u8,
+    pub(crate) class: FreeTime,
     pub(crate) poll_ready: u64,
     pub(crate) dropped: u64,
 }
@@ -55,23 +58,23 @@ impl<const Q: usize> Model for Device<Q> {
     ghost Value = { State };
 
     ghost view = { λ d. record {
-        kind = d.kind;
-        name = d.name.items;
-        ports = d.ports;
-        number = d.number;
-        phys = d.phys;
-        place = d.place;
-        record_of = d.«record»;
-        queue = d.queue.items;
-        attempts = d.attempts;
-        class = d.class;
-        poll_ready = d.poll_ready;
-        dropped = d.dropped;
+      kind = d.kind;
+      name = d.name.items;
+      ports = d.ports;
+      number = d.number;
+      phys = d.phys;
+      place = d.place;
+      record_of = d.«record»;
+      queue = d.queue.items;
+      attempts = d.attempts;
+      class = d.class;
+      poll_ready = d.poll_ready;
+      dropped = d.dropped;
     } };
 }
 
 /// A frame of a header and up to fifteen bytes more.
-fn framed(from: Addr, to: Addr, rest: &[u8]) -> Frame
+pub(crate) fn framed(from: Addr, to: Addr, rest: &[u8]) -> Frame
     requires { length rest.now ≤ 15 }
     ensures { result ≡ (from * 16 + to) ∷ rest.now }
 {
@@ -80,7 +83,8 @@ fn framed(from: Addr, to: Addr, rest: &[u8]) -> Frame
     let _ = bytes.try_extend_from_slice(rest);
     match Frame::new(&bytes) {
         Ok(frame) => frame,
-        Err(_) => unreachable!(),
+        Err(FrameError::Empty) => unreachable!(),
+        Err(FrameError::TooLong) => unreachable!(),
     }
 }
 
@@ -94,7 +98,8 @@ impl<const Q: usize> Device<Q> {
         }
     }
 
-    pub(crate) fn holds(&self, to: Addr) -> bool
+    /// Whether it holds this address, which is then below 15.
+    pub fn holds(&self, to: Addr) -> bool
         ensures { result ≡ holds self.now.place to }
     {
         match self.place {
@@ -108,7 +113,7 @@ impl<const Q: usize> Device<Q> {
     {
         match self.place {
             Place::Settled(address) => {
-                address.value() < 15 || (self.kind == Kind::Switch && !self.phys.is_nowhere())
+                address.value() < 15 || (self.kind == Kind::Switch && !is_nowhere(self.phys))
             }
             _ => false,
         }

@@ -5,10 +5,12 @@ ghost use Rattle.cec_device.specs.Effects.{effect_of, is_for, followed, by_decod
 ghost use Rattle.cec_opcode.specs.Table.{decoded_of};
 
 use crate::device::Device;
-use crate::record::{Addr, Heard, Kind, Note, Phys};
+use crate::record::{Heard, Note};
+use crate::ways::{below, is_nowhere, port_towards};
 use arrayvec::ArrayVec;
-use cec_frame::Frame;
+use cec_frame::{Addr, Frame};
 use cec_opcode::{Address, Decoded, Message, decode, rule};
+use hdmi_cta::{Kind, Phys};
 
 /// The table: for each message the kinds that it is for, and what it does. Another kind refuses.
 macro_rules! rows {
@@ -324,8 +326,8 @@ impl<const Q: usize> Device<Q> {
     fn select(&mut self, to: Phys)
         ensures { self.new ≡ record self.old { record_of = selecting self.old.kind self.old.phys self.old.ports to self.old.record_of } }
     {
-        if let Some(port) = self.phys.port_towards(to) {
-            if self.kind == Kind::Switch && port.value() > 0 && port.value() <= self.ports {
+        if let Some(port) = port_towards(self.phys, to) {
+            if self.kind == Kind::Switch && port.value() > 0 && port.value() <= self.ports.value() {
                 self.record.selected = Some(port);
             }
         }
@@ -338,8 +340,8 @@ impl<const Q: usize> Device<Q> {
         self.record.active = None;
         if self.kind == Kind::Switch && to == self.phys {
             if let Some(port) = self.record.selected {
-                let address = self.phys.below(port);
-                if !address.is_nowhere() {
+                let address = below(self.phys, port);
+                if !is_nowhere(address) {
                     self.cast(heard, &[0x81, address.high, address.low]);
                 }
             }

@@ -4,7 +4,19 @@ ghost use Rattle.cec_device.specs.Say.{effected, say, Tell, Cast};
 ghost use Rattle.cec_device.specs.Keys.{own_doing, has_key, pressing, releasing, key_fault, keyed};
 
 use crate::device::Device;
-use crate::record::{Addr, Heard, Key, Kind, Place};
+use crate::record::{Heard, Place};
+use cec_frame::Addr;
+use hdmi_cta::Kind;
+
+/// A key of a device, or of its remote control.
+#[derive(Clone, Copy, PartialEq, Eq)]
+pub enum Key {
+    Play,
+    Stop,
+    Menu,
+    Power,
+    Remote { to: Addr, code: u8 },
+}
 
 /// Why a key is refused.
 #[derive(Clone, Copy, PartialEq, Eq)]
@@ -105,7 +117,11 @@ impl<const Q: usize> Device<Q> {
             }
             Key::Menu => {
                 self.record.menu = !self.record.menu;
-                self.own_tell(at, Addr::new(0), &[0x8e, if self.record.menu { 0 } else { 1 }]);
+                self.own_tell(
+                    at,
+                    Addr::new(0),
+                    &[0x8e, if self.record.menu { 0 } else { 1 }],
+                );
             }
             Key::Power => self.press_power(at),
             Key::Remote { to, code } => self.own_tell(at, to, &[0x44, code]),

@@ -1,12 +1,15 @@
 //! Joining and leaving the wire, and the fates of frames.
-ghost use Rattle.std.specs.Prelude.{◌≡◌, ◌<◌, Some, None, length, MatchResult, IsTrue};
-ghost use Rattle.cec_device.specs.Place.{tries_after, addresses, polled_at, start_place, fresh_record, fresh, reported, joined, left, ended, failed, frame_sent, front_is_poll, sent, sent_by, waited, submit_fault, submitted, has_front};
+ghost use Rattle.std.specs.Prelude.{◌≡◌, ◌<◌, Some, None, length, MatchResult, IsSome, ◌≤◌};
+ghost use Rattle.cec_device.specs.Place.{tries_after, addresses, polled_at, start_place, fresh_record, fresh, reported, joined, left, ended, failed, frame_sent, front_is_poll, sent, sent_by, waited, submit_fault, submitted, front_of, ready_of, is_allocating, is_on_wire};
 
 use crate::device::{Device, Queued, SubmitError};
-use crate::record::{Addr, Fate, Kind, Phys, Place, Record, Volume};
+use crate::record::{Place, Port, Record, Volume};
+use crate::sending::{Fate, FreeTime};
+use crate::ways::{NOWHERE, is_nowhere};
 use arrayvec::ArrayVec;
-use cec_frame::Frame;
+use cec_frame::{Addr, Frame};
 use cec_opcode::Triple;
+use hdmi_cta::{Kind, Phys};
 
 /// What is polled after an address that was found taken.
 fn place_behind(kind: Kind, taken: Addr) -> Place
@@ -26,7 +29,7 @@ fn place_behind(kind: Kind, taken: Addr) -> Place
 fn first_place(kind: Kind, phys: Phys) -> Place
     ensures { result ≡ start_place kind phys }
 {
-    if phys.is_nowhere() {
+    if is_nowhere(phys) {
         return Place::Settled(Addr::new(15));
     }
     match kind {
@@ -38,7 +41,16 @@ fn first_place(kind: Kind, phys: Phys) -> Place
     }
 }
 
-fn new_record(kind: Kind, ports: u8) -> Record
+fn short(name: &[u8]) -> ArrayVec<u8, 14>
+    requires { length name.now ≤ 14 }
+    ensures { result.items ≡ name.now }
+{
+    let mut copy = ArrayVec::new();
+    let _ = copy.try_extend_from_slice(name);
+    copy
+}
+
+fn new_record(kind: Kind, ports: Port) -> Record
     ensures { result ≡ fresh_record kind ports }
 {
     Record {
@@ -51,8 +63,8 @@ fn new_record(kind: Kind, ports: u8) -> Record
         volume: Volume::new(),
         mute: false,
         arc: false,
-        selected: if kind == Kind::Switch && ports > 0 {
-            Some(Addr::new(1))
+        selected: if kind == Kind::Switch && ports.value() > 0 {
+            Some(Port::new(1))
         } else {
             None
         },
@@ -69,20 +81,23 @@ fn new_record(kind: Kind, ports: u8) -> Record
 }
 
 impl<const Q: usize> Device<Q> {
-    pub fn new(kind: Kind, name: ArrayVec<u8, 14>, ports: u8) -> Self
-        ensures { result ≡ fresh kind name.items ports }
+    pub fn new(kind: Kind, name: &[u8], ports: u8) -> Self
+        requires name { length name.now ≤ 14 }
+        requires ports { ports ≤ 15 }
+        ensures { result ≡ fresh kind name.now ports }
     {
+        let ports = Port::new(ports);
         Device {
             kind,
-            name,
+            name: short(name),
             ports,
             number: 0,
-            phys: Phys { high: 255, low: 255 },
+            phys: NOWHERE,
             place: Place::Off,
             record: new_record(kind, ports),
             queue: ArrayVec::new(),
             attempts: 0,
-            class: 5,
+            class: FreeTime::NewInitiator,
             poll_ready: 0,
             dropped: 0,
         }
@@ -93,12 +108,12 @@ impl<const Q: usize> Device<Q> {
         ensures { self.new ≡ left self.old }
     {
         self.number = 0;
-        self.phys = Phys { high: 255, low: 255 };
+        self.phys = NOWHERE;
         self.place = Place::Off;
         self.record = new_record(self.kind, self.ports);
         self.queue = ArrayVec::new();
         self.attempts = 0;
-        self.class = 5;
+        self.class = FreeTime::NewInitiator;
         self.poll_ready = 0;
         self.dropped = 0;
     }
@@ -127,7 +142,7 @@ impl<const Q: usize> Device<Q> {
     {
         self.queue.remove(0);
         self.attempts = 0;
-        self.class = 7;
+        self.class = FreeTime::PresentInitiator;
     }
 
     fn fail(&mut self)
@@ -136,14 +151,14 @@ impl<const Q: usize> Device<Q> {
     {
         if self.attempts < 5 {
             self.attempts += 1;
-            self.class = 3;
+            self.class = FreeTime::Retry;
         } else {
             self.end_front();
         }
     }
 
     // The address that it polls.
-    fn polled(&self) -> Option<Addr>
+    pub(crate) fn polled(&self) -> Option<Addr>
         ensures { result ≡ polled_at self.now.place }
     {
         match self.place {
@@ -159,19 +174,19 @@ impl<const Q: usize> Device<Q> {
         match fate {
             Fate::Unacked => {
                 self.place = Place::Settled(address);
-                self.class = 7;
+                self.class = FreeTime::PresentInitiator;
             }
             Fate::Delivered => {
                 self.place = place_behind(self.kind, address);
-                self.class = 7;
+                self.class = FreeTime::PresentInitiator;
             }
             Fate::Lost => {
                 self.place = Place::Polls(address);
-                self.class = 5;
+                self.class = FreeTime::NewInitiator;
             }
             Fate::Broken => {
                 self.place = Place::Polls(address);
-                self.class = 3;
+                self.class = FreeTime::Retry;
             }
         }
         self.report(at);
@@ -181,7 +196,7 @@ impl<const Q: usize> Device<Q> {
         requires { 0 < length self.now.queue }
         ensures { result ≡ front_is_poll self.now.queue }
     {
-        self.queue[0].frame.bytes().len() == 1
+        self.queue[0].frame.is_poll()
     }
 
     fn frame_sent(&mut self, fate: Fate)
@@ -189,18 +204,18 @@ impl<const Q: usize> Device<Q> {
         ensures { self.new ≡ frame_sent self.old fate }
     {
         match fate {
-            Fate::Lost => self.class = 5,
+            Fate::Lost => self.class = FreeTime::NewInitiator,
             Fate::Delivered => self.end_front(),
             Fate::Unacked if self.front_is_poll() => self.end_front(),
             Fate::Unacked => self.fail(),
-            Fate::Broken if self.front_is_poll() => self.class = 3,
+            Fate::Broken if self.front_is_poll() => self.class = FreeTime::Retry,
             Fate::Broken => self.fail(),
         }
     }
 
     /// The fate of the front frame.
     pub fn sent(&mut self, fate: Fate, at: u64)
-        requires { IsTrue (has_front self.old) }
+        requires { IsSome (front_of self.old) }
         ensures { self.new ≡ sent Q self.old fate at }
     {
         match self.polled() {
@@ -213,9 +228,10 @@ impl<const Q: usize> Device<Q> {
     pub fn waited(&mut self)
         ensures { self.new ≡ waited self.old }
     {
-        if self.class == 7 {
-            self.class = 5;
-        }
+        self.class = match self.class {
+            FreeTime::PresentInitiator => FreeTime::NewInitiator,
+            class => class,
+        };
     }
 
     /// Queues a frame of a script.
@@ -223,15 +239,13 @@ impl<const Q: usize> Device<Q> {
         ensures answer { MatchResult result (λ _. submit_fault Q self.old frame ≡ None) (λ fault. submit_fault Q self.old frame ≡ Some fault) }
         ensures queue { self.new ≡ submitted Q self.old frame at }
     {
-        let header = frame.bytes()[0];
-        let (from, to) = (Addr::new(header / 16), Addr::new(header % 16));
         if self.place == Place::Off {
             return Err(SubmitError::OffWire);
         }
-        if self.place != Place::Settled(from) {
+        if self.place != Place::Settled(frame.initiator()) {
             return Err(SubmitError::NoAddress);
         }
-        if self.holds(to) {
+        if self.holds(frame.destination()) {
             return Err(SubmitError::OwnAddress);
         }
         if self.queue.len() >= Q {

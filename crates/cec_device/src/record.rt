@@ -1,37 +1,40 @@
 //! What a device remembers.
-ghost use Rattle.std.specs.Prelude.{◌≡◌, ◌<◌};
-ghost use Rattle.cec_device.specs.Ways.{next_nibble};
-
 use arrayvec::ArrayVec;
+use cec_frame::Addr;
 use cec_opcode::Triple;
+use hdmi_cta::Phys;
 use std::marker::Model;
 
-/// A logical address, 0 to 15.
-#[derive(Clone, Copy, PartialEq, Eq)]
-pub struct Addr {
+/// The number of a port, or how many ports there are: 0 to 15.
+#[derive(Clone, Copy, Debug, PartialEq, Eq)]
+pub struct Port {
     value: u8,
 }
 
-impl Model for Addr {
+impl Model for Port {
     ghost use Rattle.std.specs.Prelude.{ℕ, ◌<◌};
 
     ghost Value = { ℕ };
 
-    ghost view = { λ a. a.value };
+    ghost view = { λ p. p.value };
 
-    ghost invariant = { λ a. a.value < 16 };
+    ghost invariant = { λ p. p.value < 16 };
 
     ghost inverse = { λ n. record { value = n } };
 }
 
-impl Addr {
+impl Port {
+    ghost use Rattle.std.specs.Prelude.{◌≡◌, ◌<◌};
+
+    /// The port of this number, which is below 16.
     pub fn new(value: u8) -> Self
         requires { value < 16 }
         ensures { result ≡ value }
     {
-        Addr { value }
+        Port { value }
     }
 
+    /// Its number.
     pub fn value(self) -> u8
         ensures value { result ≡ self }
         ensures in_range { result < 16 }
@@ -41,7 +44,7 @@ impl Addr {
 }
 
 /// How loud it is, 0 to 100.
-#[derive(Clone, Copy, PartialEq, Eq)]
+#[derive(Clone, Copy, Debug, PartialEq, Eq)]
 pub struct Volume {
     value: u8,
 }
@@ -59,9 +62,17 @@ impl Model for Volume {
 }
 
 impl Volume {
-    ghost use Rattle.std.specs.Prelude.{◌-◌, ◌≤◌};
+    ghost use Rattle.std.specs.Prelude.{◌≡◌, ◌-◌, ◌≤◌};
     ghost use Rattle.cec_device.specs.Volume.{louder};
 
+    /// The volume of a new device.
+    pub fn new() -> Self
+        ensures { result ≡ 20 }
+    {
+        Volume { value: 20 }
+    }
+
+    /// Its number.
     pub fn value(self) -> u8
         ensures value { result ≡ self }
         ensures in_range { result ≤ 100 }
@@ -69,97 +80,78 @@ impl Volume {
         self.value
     }
 
-    pub fn new() -> Self
-        ensures { result ≡ 20 }
-    {
-        Volume { value: 20 }
-    }
-
+    /// One step up, at most to 100.
     pub fn louder(self) -> Self
         ensures { result ≡ louder self }
     {
         Volume {
-            value: if self.value < 100 { self.value + 1 } else { 100 },
+            value: if self.value < 100 {
+                self.value + 1
+            } else {
+                100
+            },
         }
     }
 
+    /// One step down, at least to 0.
     pub fn softer(self) -> Self
         ensures { result ≡ self - 1 }
     {
-        Volume { value: self.value.saturating_sub(1) }
+        Volume {
+            value: self.value.saturating_sub(1),
+        }
     }
 }
 
-#[derive(Clone, Copy, PartialEq, Eq)]
-pub enum Kind {
-    Tv,
-    Amp,
-    Player,
-    Recorder,
-    Switch,
-}
-
-/// A physical address.
-#[derive(Clone, Copy, PartialEq, Eq)]
-pub struct Phys {
-    pub high: u8,
-    pub low: u8,
-}
-
-/// Where a device stands on the wire: off it, polling an address, or settled.
-#[derive(Clone, Copy, PartialEq, Eq)]
+/// Where a device stands on the wire: off it, polling an address, or settled at one. It is settled
+/// at 15 where it found no address, or takes none.
+#[derive(Clone, Copy, Debug, PartialEq, Eq)]
 pub enum Place {
     Off,
     Polls(Addr),
     Settled(Addr),
 }
 
-/// What became of a frame that was sent.
-#[derive(Clone, Copy, PartialEq, Eq)]
-pub enum Fate {
-    Delivered,
-    Unacked,
-    Lost,
-    Broken,
-}
-
-#[derive(Clone, Copy, PartialEq, Eq)]
-pub enum Key {
-    Play,
-    Stop,
-    Menu,
-    Power,
-    Remote { to: Addr, code: u8 },
-}
-
-/// The last report that was heard.
-#[derive(Clone, Copy, PartialEq, Eq)]
+/// The last report that was heard: who sent it, its opcode, and its first operand.
+#[derive(Clone, Copy, Debug, PartialEq, Eq)]
 pub struct Note {
     pub from: Addr,
     pub opcode: u8,
     pub first: u8,
 }
 
+/// What a device remembers: all that frames and keys change.
 #[derive(Drop)]
 pub struct Record {
+    /// Whether it is on; else it is in standby.
     pub power: bool,
+    /// The active source.
     pub active: Option<Phys>,
+    /// The path that was routed last.
     pub path: Option<Phys>,
+    /// The state of the deck, as Deck Status carries it.
     pub deck: u8,
+    /// Whether its menu is shown.
     pub menu: bool,
+    /// Whether system audio mode is on.
     pub audio: bool,
     pub volume: Volume,
     pub mute: bool,
+    /// Whether the audio return channel is on.
     pub arc: bool,
-    pub selected: Option<Addr>,
+    /// The port that a switch has selected.
+    pub selected: Option<Port>,
     pub language: Triple,
+    /// The text on the screen.
     pub osd: ArrayVec<u8, 16>,
+    /// The user control code that is held down.
     pub held: Option<u8>,
     pub heard: Option<Note>,
+    /// Who wants to be told of changes of the deck.
     pub sub: Option<Addr>,
 }
 
-/// A frame that came, but for its operands.
+/// A frame that came, but for its operands after the first, and when.
 #[derive(Clone, Copy)]
 pub struct Heard {
     pub from: Addr,
@@ -167,78 +159,4 @@ pub struct Heard {
     pub opcode: u8,
     pub first: u8,
     pub at: u64,
-}
-
-impl Phys {
-    ghost use Rattle.cec_device.specs.State.{is_nowhere};
-    ghost use Rattle.cec_device.specs.Ways.{port_towards, below, nibbles};
-
-    /// F.F.F.F
-    pub fn is_nowhere(self) -> bool
-        ensures { result ≡ is_nowhere self }
-    {
-        self.high == 255 && self.low == 255
-    }
-
-    fn nibbles(self) -> [Addr; 4]
-        ensures { result ≡ nibbles self }
-    {
-        [
-            Addr::new(self.high / 16),
-            Addr::new(self.high % 16),
-            Addr::new(self.low / 16),
-            Addr::new(self.low % 16),
-        ]
-    }
-
-    /// The port that leads to an address, if it lies below this one.
-    pub fn port_towards(self, to: Phys) -> Option<Addr>
-        ensures { result ≡ port_towards self to }
-    {
-        if self.high / 16 == 0 {
-            return None;
-        }
-        let own = self.nibbles();
-        let to = to.nibbles();
-        next_nibble(&own, &to)
-    }
-
-    /// The address of a port.
-    pub fn below(self, port: Addr) -> Phys
-        ensures { result ≡ below self port }
-    {
-        let port = port.value();
-        if self.high / 16 == 0 {
-            Phys { high: port * 16, low: 0 }
-        } else if self.high % 16 == 0 {
-            Phys { high: self.high + port, low: 0 }
-        } else if self.low / 16 == 0 {
-            Phys { high: self.high, low: port * 16 }
-        } else if self.low % 16 == 0 {
-            Phys { high: self.high, low: self.low + port }
-        } else {
-            Phys { high: 255, low: 255 }
-        }
-    }
-}
-
-// What follows in the second address where the first one ends.
-fn next_nibble(own: &[Addr], to: &[Addr]) -> Option<Addr>
-    ensures { result ≡ next_nibble own.now to.now }
-{
-    match own.split_first() {
-        None => None,
-        Some((first, own)) => match to.split_first() {
-            None => None,
-            Some((next, to)) => {
-                if first.value() == 0 {
-                    Some(*next)
-                } else if first == next {
-                    next_nibble(own, to)
-                } else {
-                    None
-                }
-            }
-        },
-    }
 }
