@@ -2,12 +2,12 @@
 use Rattle.std.specs.Prelude.{◌≡◌, ℕ, ◌+◌, ◌*◌, ◌<◌, ◌≤◌, Bool, true, List, [], ◌∷◌, length, All, ◌⊎◌}
 use Rattle.std.specs.List.{Any}
 use Rattle.cec_wave.specs.declared.Stretch.{Stretch}
-use Rattle.cec_wave.specs.Line.{Line, line_of, is_fall, IsWave}
+use Rattle.cec_wave.specs.Line.{line_of, is_fall, IsWave}
 use Rattle.cec_wave.specs.Pulses.{AreSparse}
 use Rattle.cec_bits.specs.Reading.{reading_of}
 use Rattle.cec_wire.specs.declared.Seat.{Seat}
 use Rattle.cec_wire.specs.Round.{frames_of, IsRoundLine}
-use Rattle.cec_wire.specs.Contend.{AreFrames, IsContendersLine, IsPulledBelow}
+use Rattle.cec_wire.specs.Contend.{IsContendersLine, IsPulledBelow}
 
 -- a frame has at most 16 blocks (CEC 6, frame description)
 abbrev pub AreShortFrames : List Seat → Type 0
@@ -48,5 +48,5 @@ WaveFits = (seats : List Seat) (begin : ℕ) (pulses : List Stretch) (t : ℕ) (
 
 -- And so has the wave of a round, whoever is taken to pull: the winners, or all who send.
 abbrev pub RoundFits : Type 0
-RoundFits = (seats : List Seat) (begin : ℕ) (pulses ss : List Stretch) → AreFrames seats → AreShortFrames seats → AreSparse pulses
+RoundFits = (seats : List Seat) (begin : ℕ) (pulses ss : List Stretch) → AreShortFrames seats → AreSparse pulses
     → IsRoundLine seats begin pulses (line_of ss) ⊎ IsContendersLine seats begin pulses (line_of ss) → IsWave ss → length ss ≤ 179
