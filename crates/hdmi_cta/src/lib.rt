@@ -17,6 +17,6 @@ pub use cta::{Bare, Cta};
 pub use ext::{ExtError, read_ext, write_ext};
 pub use kind::Kind;
 pub use phys::Phys;
-pub use piece::{Piece, write_line, write_pieces};
+pub use piece::{Piece, hex_digit, write_line, write_pieces};
 pub use raw::{Ext, RawExt};
 pub use sink::{Sink, WriteFault, Writes, put_all};

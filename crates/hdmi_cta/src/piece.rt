@@ -55,7 +55,8 @@ fn add_decimal(out: &mut ArrayVec<u8, 24>, number: u64)
     out.push(b'0' + (number % 10) as u8);
 }
 
-fn nibble_digit(nibble: u8) -> u8
+/// The hex digit, lower case, of a number below 16.
+pub fn hex_digit(nibble: u8) -> u8
     requires { nibble < 16 }
     ensures { result ∷ [] ≡ nibble_text nibble }
 {
@@ -70,13 +71,13 @@ fn phys_bytes(phys: Phys) -> [u8; 7]
     ensures { result ≡ phys_text phys }
 {
     [
-        nibble_digit(phys.high / 16),
+        hex_digit(phys.high / 16),
         b'.',
-        nibble_digit(phys.high % 16),
+        hex_digit(phys.high % 16),
         b'.',
-        nibble_digit(phys.low / 16),
+        hex_digit(phys.low / 16),
         b'.',
-        nibble_digit(phys.low % 16),
+        hex_digit(phys.low % 16),
     ]
 }
 
@@ -105,7 +106,7 @@ fn put_decimal<S: Sink>(out: &mut S, number: u64) -> Result<u64, WriteFault>
 fn put_hex_byte<S: Sink>(out: &mut S, byte: u8) -> Result<u64, WriteFault>
     ensures { Written (S.contents out.old) (S.contents out.new) (S.is_stuck out.old) (S.is_stuck out.new) (hex_text byte) result }
 {
-    put_bytes(out, &[nibble_digit(byte / 16), nibble_digit(byte % 16)])
+    put_bytes(out, &[hex_digit(byte / 16), hex_digit(byte % 16)])
 }
 
 // Puts bytes in hex, and answers how long that is.
@@ -134,7 +135,7 @@ fn put_piece<S: Sink>(out: &mut S, piece: &Piece) -> Result<u64, WriteFault>
         Piece::Text(text) => put_bytes(out, text.as_bytes()),
         Piece::Bytes(bytes) => put_bytes(out, bytes),
         Piece::Decimal(number) => put_decimal(out, number),
-        Piece::Nibble(nibble) => put_bytes(out, &[nibble_digit(nibble % 16)]),
+        Piece::Nibble(nibble) => put_bytes(out, &[hex_digit(nibble % 16)]),
         Piece::HexByte(byte) => put_hex_byte(out, byte),
         Piece::Hex(bytes) => put_hex(out, bytes),
         Piece::HexOrDash([]) => put_bytes(out, b"-"),
@@ -143,7 +144,7 @@ fn put_piece<S: Sink>(out: &mut S, piece: &Piece) -> Result<u64, WriteFault>
         Piece::Switch(is_on) => put_bytes(out, switch_word(is_on).as_bytes()),
         Piece::PhysOrDash(Some(phys)) => put_bytes(out, &phys_bytes(phys)),
         Piece::DecimalOrDash(Some(number)) => put_decimal(out, number),
-        Piece::NibbleOrDash(Some(nibble)) => put_bytes(out, &[nibble_digit(nibble % 16)]),
+        Piece::NibbleOrDash(Some(nibble)) => put_bytes(out, &[hex_digit(nibble % 16)]),
         Piece::HexByteOrDash(Some(byte)) => put_hex_byte(out, byte),
         Piece::PhysOrDash(None) => put_bytes(out, b"-"),
         Piece::DecimalOrDash(None) => put_bytes(out, b"-"),
