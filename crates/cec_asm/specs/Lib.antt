@@ -1,1 +1,4 @@
 pub mod Causes
+pub mod OperandWords
+pub mod OperandForms
+pub mod FrameText

@@ -2,5 +2,11 @@
 #![tactic(auto)]
 
 mod assembler;
+mod form;
+mod form_rows;
+mod operand_words;
+mod spelling;
 
 pub use assembler::AssembleError;
+pub use operand_words::WordSet;
+pub use spelling::{frame_text, write_frame};

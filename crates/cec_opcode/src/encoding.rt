@@ -1,5 +1,5 @@
 //! From messages to frames.
-ghost use Rattle.std.specs.Prelude.{◌≡◌, ◌≤◌, ◌+◌, ◌*◌, ◌∷◌, ◌++◌, Option, IsTrue, ◌↔◌, length, IfOk, MatchResult, option_copied, None, Some};
+ghost use Rattle.std.specs.Prelude.{◌≡◌, ◌≤◌, ◌+◌, ◌*◌, ◌∷◌, ◌++◌, Option, IsTrue, ◌↔◌, length, IfOk, IfSome, MatchResult, option_copied, None, Some};
 ghost use Rattle.arrayvec.specs.ArrayVec.{array_vec_len};
 ghost use Rattle.cec_opcode.specs.Table.{decoded_of, is_raw_opcode, name_of, rule_of, spelling, refusal, meaning, is_own_message};
 
@@ -48,7 +48,8 @@ macro_rules! spell_match {
 
 /// The name of an opcode, if it has one.
 pub fn name(code: u8) -> Option<&'static str>
-    ensures { option_copied result ≡ name_of code }
+    ensures value { option_copied result ≡ name_of code }
+    ensures short { IfSome result (λ name. length name.now ≤ 29) }
 {
     rows!(name_match, code, code)
 }
