@@ -1,29 +1,68 @@
 -- The key table: what a press and a release do, by kind.
-use Rattle.std.specs.Prelude.{ℕ, ◌==◌, Bool, true, not, ◌&&◌, [], ◌∷◌, if◌then◌else◌, Option, Some, None}
+use Rattle.std.specs.Prelude.{ℕ, ◌==◌, ◌-◌, Bool, true, not, ◌&&◌, ◌||◌, nat_le, List, [], ◌∷◌, if◌then◌else◌, Option, Some, None}
 use Rattle.hdmi_cta.specs.declared.kind.Kind.{Kind}
 use Rattle.hdmi_cta.specs.declared.phys.Phys.{Phys}
 use Rattle.cec_device.specs.declared.record.Record.{Record}
 use Rattle.cec_device.specs.declared.record.Heard.{Heard}
 use Rattle.cec_device.specs.declared.keys.Key.{Key}
-use Rattle.cec_device.specs.declared.keys.Key.TheVariants.{Play, Stop, Menu, Power, Remote}
+use Rattle.cec_device.specs.declared.keys.Key.TheVariants.{Play, Stop, Eject, Load, Menu, Power, Watch, Port, Audio, Arc, Volume, Language, Remote}
+use Rattle.cec_device.specs.declared.keys.VolumeKey.{VolumeKey}
+use Rattle.cec_device.specs.declared.keys.VolumeKey.TheVariants.{Up, Down, Mute}
 use Rattle.cec_device.specs.declared.keys.KeyError.{KeyError}
 use Rattle.cec_device.specs.declared.keys.KeyError.TheVariants.{NotForKind, OffWire}
-use Rattle.cec_device.specs.State.{State, is_tv, is_deck}
+use Rattle.cec_device.specs.State.{State, is_tv, is_amp, is_deck, is_switch}
 use Rattle.cec_device.specs.Place.{is_off}
 use Rattle.cec_device.specs.Say.{Tell, Cast, Effect, does, effected}
-use Rattle.cec_device.specs.Effects.{notice, standby, turned, is_active}
+use Rattle.cec_device.specs.Effects.{notice, standby, turned, is_active, volume_status}
+use Rattle.cec_device.specs.Volume.{louder}
+use Rattle.cec_device.specs.Ways.{below}
 
 -- a device's own doing, in answer to no frame
 abbrev pub own_doing : ℕ → Heard
 own_doing at = record { from = 15; to = 15; opcode = 0; first = 0; at = at }
 
--- the kinds of a key
-abbrev pub has_key : Kind → Key → Bool
-has_key kind Play = is_deck kind
-has_key kind Stop = is_deck kind
-has_key kind Menu = is_deck kind
-has_key kind Power = true
-has_key kind (Remote to code) = is_tv kind
+-- The kinds that have a key. A switch has those of its ports.
+abbrev pub has_key : Kind → ℕ → Key → Bool
+has_key kind ports Play = is_deck kind
+has_key kind ports Stop = is_deck kind
+has_key kind ports Eject = is_deck kind
+has_key kind ports Load = is_deck kind
+has_key kind ports Menu = is_deck kind
+has_key kind ports Power = true
+has_key kind ports (Watch to) = is_tv kind
+has_key kind ports (Port port) = is_switch kind && (nat_le 1 port && nat_le port ports)
+has_key kind ports (Audio on) = is_tv kind
+has_key kind ports (Arc on) = is_tv kind || is_amp kind
+has_key kind ports (Volume key) = is_tv kind || is_amp kind
+has_key kind ports (Language language) = is_tv kind
+has_key kind ports (Remote to code) = is_tv kind
+
+-- the user control code of a key of the sound
+abbrev pub code_of : VolumeKey → ℕ
+code_of Up = 0x41
+code_of Down = 0x42
+code_of Mute = 0x43
+
+-- the record with its sound as the key sets it
+abbrev pub voiced : VolumeKey → Record → Record
+voiced Up r = record r { volume = louder r.volume }
+voiced Down r = record r { volume = r.volume - 1 }
+voiced Mute r = record r { mute = not r.mute }
+
+-- an amplifier with audio on tells the television its volume
+abbrev pub volume_told : Kind → Record → Effect
+volume_told kind r = does r (if is_amp kind && r.audio then Tell 0 (0x7a ∷ volume_status r ∷ []) ∷ [] else [])
+
+-- The address of a port, 0.0.0.0 where there is no path.
+abbrev pub path_bytes : Option Phys → List ℕ
+path_bytes None = 0 ∷ 0 ∷ []
+path_bytes (Some path) = path.high ∷ path.low ∷ []
+
+-- another port is selected, and that is told with both addresses
+abbrev pub ported : Phys → ℕ → Record → Option ℕ → Effect
+ported own port r None = does (record r { selected = Some port }) []
+ported own port r (Some old) = does (record r { selected = Some port }) (if old == port then [] else
+    Cast (0x80 ∷ (below own old).high ∷ (below own old).low ∷ (below own port).high ∷ (below own port).low ∷ []) ∷ [])
 
 abbrev pub goes_off : Kind → Phys → Record → Effect
 goes_off kind own r =
@@ -36,20 +75,33 @@ pressing kind own r Play = does
     (record r { power = true; active = Some own; path = Some own; deck = if r.deck == 0x19 then 0x19 else 0x11 })
     (Tell 0 (0x04 ∷ []) ∷ Cast (0x82 ∷ own.high ∷ own.low ∷ []) ∷ (if r.deck == 0x19 then [] else notice r 0x11))
 pressing kind own r Stop = if r.deck == 0x19 then does r [] else turned r 0x1a
+pressing kind own r Eject = turned r 0x19
+pressing kind own r Load = if r.deck == 0x19 then turned r 0x1a else does r []
 pressing kind own r Menu = does (record r { menu = not r.menu }) (Tell 0 (0x8e ∷ (if r.menu then 1 else 0) ∷ []) ∷ [])
 pressing kind own r Power = if r.power then goes_off kind own r else does (record r { power = true }) []
+pressing kind own r (Watch to) = does (record r { path = Some to }) (Cast (0x86 ∷ to.high ∷ to.low ∷ []) ∷ [])
+pressing kind own r (Port port) = ported own port r r.selected
+pressing kind own r (Audio on) = does r (Tell 5 (0x70 ∷ (if on then path_bytes r.path else [])) ∷ [])
+pressing kind own r (Arc on) =
+    does r ((if is_tv kind then Tell 5 ((if on then 0xc3 else 0xc4) ∷ []) else Tell 0 ((if on then 0xc0 else 0xc5) ∷ [])) ∷ [])
+pressing kind own r (Volume key) =
+    if is_tv kind && r.audio then does r (Tell 5 (0x44 ∷ code_of key ∷ []) ∷ []) else volume_told kind (voiced key r)
+pressing kind own r (Language language) =
+    does (record r { language = language }) (Cast (0x32 ∷ language.first ∷ language.second ∷ language.third ∷ []) ∷ [])
 pressing kind own r (Remote to code) = does r (Tell to (0x44 ∷ code ∷ []) ∷ [])
 
-abbrev pub releasing : Record → Key → Effect
-releasing r (Remote to code) = does r (Tell to (0x45 ∷ []) ∷ [])
-releasing r _ = does r []
+abbrev pub releasing : Kind → Record → Key → Effect
+releasing kind r (Volume key) = if is_tv kind && r.audio then does r (Tell 5 (0x45 ∷ []) ∷ []) else does r []
+releasing kind r (Remote to code) = does r (Tell to (0x45 ∷ []) ∷ [])
+releasing kind r _ = does r []
 
+-- why a key is refused, the first reason
 abbrev pub key_fault : State → Key → Option KeyError
-key_fault d key = if is_off d.place then Some OffWire else (if has_key d.kind key then None else Some NotForKind)
+key_fault d key = if is_off d.place then Some OffWire else (if has_key d.kind d.ports key then None else Some NotForKind)
 
 abbrev pub keyed : ℕ → State → Key → Bool → ℕ → State
 keyed limit d key press at = by_fault (key_fault d key)
   where
     by_fault : Option KeyError → State
-    by_fault None = effected limit (own_doing at) (if press then pressing d.kind d.phys d.record_of key else releasing d.record_of key) d
+    by_fault None = effected limit (own_doing at) (if press then pressing d.kind d.phys d.record_of key else releasing d.kind d.record_of key) d
     by_fault (Some fault) = d

@@ -301,7 +301,7 @@ impl<const Q: usize> Device<Q> {
         }
     }
 
-    fn audio_status(&self) -> u8
+    pub(crate) fn audio_status(&self) -> u8
         ensures { result ≡ volume_status self.now.record_of }
     {
         if self.record.mute {

@@ -1,21 +1,69 @@
 //! The keys of a device.
-ghost use Rattle.std.specs.Prelude.{◌≡◌, ◌≤◌, Some, None, MatchResult, length};
+ghost use Rattle.std.specs.Prelude.{◌≡◌, ◌≤◌, Some, None, IsTrue, MatchResult, length};
 ghost use Rattle.cec_device.specs.Say.{effected, say, Tell, Cast};
-ghost use Rattle.cec_device.specs.Keys.{own_doing, has_key, pressing, releasing, key_fault, keyed};
+ghost use Rattle.cec_device.specs.Keys.{own_doing, has_key, code_of, voiced, ported, pressing, releasing, key_fault, keyed};
 
 use crate::device::Device;
-use crate::record::{Heard, Place};
+use crate::record::{Heard, Place, Port};
+use crate::ways::below;
 use cec_frame::Addr;
-use hdmi_cta::Kind;
+use cec_opcode::Triple;
+use hdmi_cta::{Kind, Phys};
+
+/// The logical addresses of a television and of an audio system (CEC 10.2).
+const TELEVISION: u8 = 0;
+
+const AMPLIFIER: u8 = 5;
+
+/// The states of a deck that its keys lead to (CEC 13.7, Deck Info).
+const PLAYING: u8 = 0x11;
+
+const NO_MEDIA: u8 = 0x19;
+
+const STOPPED: u8 = 0x1a;
 
 /// A key of a device, or of its remote control.
-#[derive(Clone, Copy, PartialEq, Eq)]
+#[derive(Clone, Copy)]
 pub enum Key {
     Play,
     Stop,
+    Eject,
+    Load,
     Menu,
     Power,
+    /// To watch the source at a physical address.
+    Watch(Phys),
+    /// A switch's port, by its number.
+    Port(u8),
+    /// System audio mode.
+    Audio { on: bool },
+    /// The audio return channel.
+    Arc { on: bool },
+    Volume(VolumeKey),
+    Language(Triple),
+    /// A user control code, sent to another device.
     Remote { to: Addr, code: u8 },
+}
+
+/// The keys of the sound.
+#[derive(Clone, Copy, PartialEq, Eq)]
+pub enum VolumeKey {
+    Up,
+    Down,
+    Mute,
+}
+
+impl VolumeKey {
+    /// Its user control code (CEC table 27).
+    pub fn code(self) -> u8
+        ensures { result ≡ code_of self }
+    {
+        match self {
+            VolumeKey::Up => 0x41,
+            VolumeKey::Down => 0x42,
+            VolumeKey::Mute => 0x43,
+        }
+    }
 }
 
 /// Why a key is refused.
@@ -37,13 +85,22 @@ fn own_doing(at: u64) -> Heard
     }
 }
 
-fn has_key(kind: Kind, key: &Key) -> bool
-    ensures { result ≡ has_key kind key.now }
+// Whether a device of this kind, with so many ports, has the key.
+fn has_key(kind: Kind, ports: Port, key: &Key) -> bool
+    ensures found { result ≡ has_key kind ports key.now }
+    ensures in_range { ports ≤ 15 }
 {
+    let count = ports.value();
     match key {
-        Key::Play | Key::Stop | Key::Menu => matches!(kind, Kind::Player | Kind::Recorder),
+        Key::Play | Key::Stop | Key::Eject | Key::Load | Key::Menu => {
+            matches!(kind, Kind::Player | Kind::Recorder)
+        }
         Key::Power => true,
-        Key::Remote { .. } => kind == Kind::Tv,
+        Key::Port(port) => kind == Kind::Switch && *port >= 1 && *port <= count,
+        Key::Arc { .. } | Key::Volume(_) => matches!(kind, Kind::Tv | Kind::Amp),
+        Key::Watch(_) | Key::Audio { .. } | Key::Language(_) | Key::Remote { .. } => {
+            kind == Kind::Tv
+        }
     }
 }
 
@@ -67,18 +124,18 @@ impl<const Q: usize> Device<Q> {
     {
         let own = self.phys;
         let sub = self.record.sub;
-        let turns = self.record.deck != 0x19 && self.record.deck != 0x11;
-        if self.record.deck != 0x19 {
-            self.record.deck = 0x11;
+        let turns = self.record.deck != NO_MEDIA && self.record.deck != PLAYING;
+        if self.record.deck != NO_MEDIA {
+            self.record.deck = PLAYING;
         }
         self.record.power = true;
         self.record.active = Some(own);
         self.record.path = Some(own);
-        self.own_tell(at, Addr::new(0), &[0x04]);
+        self.own_tell(at, Addr::new(TELEVISION), &[0x04]);
         self.own_cast(at, &[0x82, own.high, own.low]);
         if turns {
             if let Some(sub) = sub {
-                self.own_tell(at, sub, &[0x1b, 0x11]);
+                self.own_tell(at, sub, &[0x1b, PLAYING]);
             }
         }
     }
@@ -99,44 +156,126 @@ impl<const Q: usize> Device<Q> {
             Kind::Player | Kind::Recorder if self.record.active == Some(own) => {
                 self.record.active = None;
                 self.fall_asleep();
-                self.own_tell(at, Addr::new(0), &[0x9d, own.high, own.low]);
+                self.own_tell(at, Addr::new(TELEVISION), &[0x9d, own.high, own.low]);
             }
             _ => self.fall_asleep(),
         }
     }
 
-    pub(crate) fn press_key(&mut self, key: Key, at: u64)
+    fn press_port(&mut self, port: Port, at: u64)
+        ensures { self.new ≡ effected Q (own_doing at) (ported self.old.phys port self.old.record_of self.old.record_of.selected) self.old }
+    {
+        let old = self.record.selected;
+        self.record.selected = Some(port);
+        let Some(old) = old else {
+            return;
+        };
+        if old != port {
+            let from = below(self.phys, old);
+            let to = below(self.phys, port);
+            self.own_cast(at, &[0x80, from.high, from.low, to.high, to.low]);
+        }
+    }
+
+    fn turn_volume(&mut self, key: VolumeKey)
+        ensures { self.new ≡ record self.old { record_of = voiced key self.old.record_of } }
+    {
+        match key {
+            VolumeKey::Up => self.record.volume = self.record.volume.louder(),
+            VolumeKey::Down => self.record.volume = self.record.volume.softer(),
+            VolumeKey::Mute => self.record.mute = !self.record.mute,
+        }
+    }
+
+    // A television leaves the sound to the amplifier where system audio mode is on.
+    fn press_volume(&mut self, key: VolumeKey, at: u64)
+        ensures { self.new ≡ effected Q (own_doing at) (pressing self.old.kind self.old.phys self.old.record_of (Key.Volume key)) self.old }
+    {
+        if self.kind == Kind::Tv && self.record.audio {
+            self.own_tell(at, Addr::new(AMPLIFIER), &[0x44, key.code()]);
+            return;
+        }
+        self.turn_volume(key);
+        if self.kind == Kind::Amp && self.record.audio {
+            self.own_tell(at, Addr::new(TELEVISION), &[0x7a, self.audio_status()]);
+        }
+    }
+
+    fn press_arc(&mut self, on: bool, at: u64)
+        ensures { self.new ≡ effected Q (own_doing at) (pressing self.old.kind self.old.phys self.old.record_of (Key.Arc on)) self.old }
+    {
+        if self.kind == Kind::Tv {
+            self.own_tell(at, Addr::new(AMPLIFIER), &[if on { 0xc3 } else { 0xc4 }]);
+        } else {
+            self.own_tell(at, Addr::new(TELEVISION), &[if on { 0xc0 } else { 0xc5 }]);
+        }
+    }
+
+    fn press_audio(&mut self, on: bool, at: u64)
+        ensures { self.new ≡ effected Q (own_doing at) (pressing self.old.kind self.old.phys self.old.record_of (Key.Audio on)) self.old }
+    {
+        if on {
+            let path = self.record.path.unwrap_or(Phys { high: 0, low: 0 });
+            self.own_tell(at, Addr::new(AMPLIFIER), &[0x70, path.high, path.low]);
+        } else {
+            self.own_tell(at, Addr::new(AMPLIFIER), &[0x70]);
+        }
+    }
+
+    fn press_key(&mut self, key: Key, at: u64)
+        requires found { IsTrue (has_key self.old.kind self.old.ports key) }
+        requires in_range { self.old.ports ≤ 15 }
         ensures { self.new ≡ effected Q (own_doing at) (pressing self.old.kind self.old.phys self.old.record_of key) self.old }
     {
         match key {
             Key::Play => self.press_play(at),
             Key::Stop => {
-                if self.record.deck != 0x19 {
-                    self.turn(own_doing(at), 0x1a);
+                if self.record.deck != NO_MEDIA {
+                    self.turn(own_doing(at), STOPPED);
+                }
+            }
+            Key::Eject => self.turn(own_doing(at), NO_MEDIA),
+            Key::Load => {
+                if self.record.deck == NO_MEDIA {
+                    self.turn(own_doing(at), STOPPED);
                 }
             }
             Key::Menu => {
                 self.record.menu = !self.record.menu;
                 self.own_tell(
                     at,
-                    Addr::new(0),
+                    Addr::new(TELEVISION),
                     &[0x8e, if self.record.menu { 0 } else { 1 }],
                 );
             }
             Key::Power => self.press_power(at),
+            Key::Watch(to) => {
+                self.record.path = Some(to);
+                self.own_cast(at, &[0x86, to.high, to.low]);
+            }
+            Key::Port(port) => self.press_port(Port::new(port), at),
+            Key::Audio { on } => self.press_audio(on, at),
+            Key::Arc { on } => self.press_arc(on, at),
+            Key::Volume(key) => self.press_volume(key, at),
+            Key::Language(language) => {
+                self.record.language = language;
+                self.own_cast(at, &[0x32, language.first, language.second, language.third]);
+            }
             Key::Remote { to, code } => self.own_tell(at, to, &[0x44, code]),
         }
     }
 
-    fn release_key(&mut self, key: Key, at: u64)
-        ensures { self.new ≡ effected Q (own_doing at) (releasing self.old.record_of key) self.old }
+    fn release_key(&mut self, key: &Key, at: u64)
+        ensures { self.new ≡ effected Q (own_doing at) (releasing self.old.kind self.old.record_of key.now) self.old }
     {
         match key {
-            Key::Play => {}
-            Key::Stop => {}
-            Key::Menu => {}
-            Key::Power => {}
-            Key::Remote { to, .. } => self.own_tell(at, to, &[0x45]),
+            Key::Remote { to, .. } => self.own_tell(at, *to, &[0x45]),
+            Key::Volume(_) => {
+                if self.kind == Kind::Tv && self.record.audio {
+                    self.own_tell(at, Addr::new(AMPLIFIER), &[0x45]);
+                }
+            }
+            _ => {}
         }
     }
 
@@ -148,13 +287,13 @@ impl<const Q: usize> Device<Q> {
         if self.place == Place::Off {
             return Err(KeyError::OffWire);
         }
-        if !has_key(self.kind, &key) {
+        if !has_key(self.kind, self.ports, &key) {
             return Err(KeyError::NotForKind);
         }
         if press {
             self.press_key(key, at);
         } else {
-            self.release_key(key, at);
+            self.release_key(&key, at);
         }
         Ok(())
     }

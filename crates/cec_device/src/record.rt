@@ -6,7 +6,7 @@ use hdmi_cta::Phys;
 use std::marker::Model;
 
 /// The number of a port, or how many ports there are: 0 to 15.
-#[derive(Clone, Copy, Debug, PartialEq, Eq)]
+#[derive(Clone, Copy, PartialEq, Eq)]
 pub struct Port {
     value: u8,
 }
@@ -44,7 +44,7 @@ impl Port {
 }
 
 /// How loud it is, 0 to 100.
-#[derive(Clone, Copy, Debug, PartialEq, Eq)]
+#[derive(Clone, Copy, PartialEq, Eq)]
 pub struct Volume {
     value: u8,
 }
@@ -105,7 +105,7 @@ impl Volume {
 
 /// Where a device stands on the wire: off it, polling an address, or settled at one. It is settled
 /// at 15 where it found no address, or takes none.
-#[derive(Clone, Copy, Debug, PartialEq, Eq)]
+#[derive(Clone, Copy, PartialEq, Eq)]
 pub enum Place {
     Off,
     Polls(Addr),
@@ -113,7 +113,7 @@ pub enum Place {
 }
 
 /// The last report that was heard: who sent it, its opcode, and its first operand.
-#[derive(Clone, Copy, Debug, PartialEq, Eq)]
+#[derive(Clone, Copy, PartialEq, Eq)]
 pub struct Note {
     pub from: Addr,
     pub opcode: u8,

@@ -3,7 +3,7 @@ ghost use Rattle.std.specs.Prelude.{◌≡◌};
 ghost use Rattle.cec_device.specs.FreeTime.{free_time_of};
 
 /// What became of a frame that was sent.
-#[derive(Clone, Copy, Debug, PartialEq, Eq)]
+#[derive(Clone, Copy, PartialEq, Eq)]
 pub enum Fate {
     /// It was sent whole, and was acknowledged, or refused by nobody where it went to all.
     Delivered,
@@ -16,7 +16,7 @@ pub enum Fate {
 }
 
 /// How long the line has to have been free before a device starts (CEC 9.1).
-#[derive(Clone, Copy, Debug, PartialEq, Eq)]
+#[derive(Clone, Copy, PartialEq, Eq)]
 pub enum FreeTime {
     /// Three bit periods: it sends a frame again.
     Retry,
