@@ -1,1 +1,3 @@
+pub mod ClimbLemmas
+pub mod PathLaws
 pub mod PlugLemmas

@@ -4,10 +4,15 @@
 
 mod address;
 mod device;
+mod laws;
 mod name;
 mod plug;
 mod tree;
 
+pub use laws::{loops_are_found, paths_are_found};
 pub use name::is_name;
 pub use plug::{AddError, Plug, PlugError, UnplugError};
 pub use tree::Tree;
+
+#[cfg(test)]
+mod tests;
