@@ -41,6 +41,12 @@ pub enum Piece<'a> {
     HexByteOrDash(Option<u8>),
 }
 
+impl Default for Piece<'_> {
+    fn default() -> Self {
+        Piece::Text("")
+    }
+}
+
 /// Adds the digits of a number.
 #[tactic(auto, using(std::proofs::lemmas::Fmt::decimal_digit, std::proofs::lemmas::Fmt::decimal_step))]
 fn add_decimal(out: &mut ArrayVec<u8, 24>, number: u64)
