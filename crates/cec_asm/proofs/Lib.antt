@@ -1,1 +1,2 @@
 pub mod VolumeLemmas
+pub mod LineLemmas

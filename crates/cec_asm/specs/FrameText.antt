@@ -1,5 +1,5 @@
 -- The one text of a frame (own): its addresses, its opcode's name, and its operands.
-use Rattle.std.specs.Prelude.{ℕ, ◌+◌, ◌/◌, ◌%◌, ◌==◌, nat_le, Bool, true, false, not, ◌&&◌, if◌then◌else◌, Option, None, Some, List, [], ◌∷◌, ◌++◌, length, codes, option_map, unwrap_or, decimal}
+use Rattle.std.specs.Prelude.{ℕ, ◌/◌, ◌%◌, ◌==◌, nat_le, Bool, not, ◌&&◌, if◌then◌else◌, Option, None, Some, List, [], ◌∷◌, ◌++◌, length, codes, option_map, unwrap_or, decimal}
 use Rattle.std.specs.List.{flat_map, list_all}
 use Rattle.hdmi_cta.specs.Piece.{nibble_text, hex_text, phys_text}
 use Rattle.cec_opcode.specs.Table.{name_of}

@@ -4,9 +4,13 @@
 mod assembler;
 mod form;
 mod form_rows;
+mod lines;
+mod number;
 mod operand_words;
 mod spelling;
+mod topology;
 
 pub use assembler::AssembleError;
 pub use operand_words::WordSet;
 pub use spelling::{frame_text, write_frame};
+pub use topology::{Topology, TopologyCause, TopologyError, parse_topology};

@@ -1,0 +1,159 @@
+-- Texts of topologies (own): lines `device NAME KIND PORTS`, `plug CHILD PARENT PORT` and at most one
+-- `edid HEX`. Of the causes that apply to a line it has the first in the order of `TopologyCause`.
+use Rattle.std.specs.Prelude.{◌≡◌, ℕ, ◌+◌, ◌==◌, ◌||◌, not, codes, length, min, List, [], ◌∷◌, nat_lt, if◌then◌else◌, Option, Some, None, is_some, option_map, Result, Ok, Err}
+use Rattle.std.specs.Str.{bytes_eq}
+use Rattle.std.specs.Result.{result_ok}
+use Rattle.hex.specs.Hex.{decode_of}
+use Rattle.hdmi_cta.specs.declared.kind.Kind.{Kind}
+use Rattle.hdmi_cta.specs.declared.kind.Kind.TheVariants.{Tv, Amp, Player, Recorder, Switch}
+use Rattle.hdmi_topo.specs.Name.{is_name}
+use Rattle.hdmi_topo.specs.Node.{Node}
+use Rattle.hdmi_topo.specs.Tree.{device_named, has_root, add_fault, added, plug_fault, plugged}
+use Rattle.hdmi_topo.specs.declared.plug.AddError.{AddError}
+use Rattle.hdmi_topo.specs.declared.plug.AddError.TheVariants as adding
+use Rattle.hdmi_topo.specs.declared.plug.PlugError.{PlugError}
+use Rattle.hdmi_topo.specs.declared.plug.PlugError.TheVariants as plugging
+use Rattle.cec_asm.specs.Lines.{lines_of, words_of, is_skipped, one_of, three_of}
+use Rattle.cec_asm.specs.Number.{number_of}
+use Rattle.cec_asm.specs.declared.topology.Topology.{Topology}
+use Rattle.cec_asm.specs.declared.topology.TopologyCause.{TopologyCause}
+use Rattle.cec_asm.specs.declared.topology.TopologyCause.TheVariants.{Word, Number, Name, Full, SecondRoot, NoRoot, PortRange, PortTaken, NotLoose, Loop, Hex}
+use Rattle.cec_asm.specs.declared.topology.TopologyError.{TopologyError}
+use Rattle.cec_asm.specs.declared.topology.TopologyError.TheVariants as errors
+use Rattle.cec_asm.specs.declared.topology.LineError.{LineError}
+use Rattle.cec_asm.specs.declared.topology.LineError.TheVariants.{Cause, Memory}
+
+-- a topology without where it lies in memory
+pub record Plan : Type 0 where
+  pub tree : List Node
+  pub edid : Option (List ℕ)
+
+abbrev pub plan_of : Topology → Plan
+plan_of t = record { tree = t.tree; edid = option_map (λ bytes. bytes.items) t.edid }
+
+-- the words by which a refused line is told
+abbrev pub topology_cause : TopologyCause → List ℕ
+topology_cause Word = codes "word"
+topology_cause Number = codes "number"
+topology_cause Name = codes "name"
+topology_cause Full = codes "full"
+topology_cause SecondRoot = codes "second-root"
+topology_cause NoRoot = codes "no-root"
+topology_cause PortRange = codes "port-range"
+topology_cause PortTaken = codes "port-taken"
+topology_cause NotLoose = codes "not-loose"
+topology_cause Loop = codes "loop"
+topology_cause Hex = codes "hex"
+
+abbrev pub kind_named : List ℕ → Option Kind
+kind_named word =
+    if bytes_eq word (codes "tv") then Some Tv
+    else if bytes_eq word (codes "amp") then Some Amp
+    else if bytes_eq word (codes "player") then Some Player
+    else if bytes_eq word (codes "recorder") then Some Recorder
+    else if bytes_eq word (codes "switch") then Some Switch
+    else None
+
+-- the causes that a tree's refusals give
+abbrev pub add_cause : AddError → TopologyCause
+add_cause adding.Full = Full
+add_cause adding.Name = Name
+add_cause adding.SecondRoot = SecondRoot
+
+abbrev pub plug_cause : PlugError → TopologyCause
+plug_cause plugging.PortRange = PortRange
+plug_cause plugging.PortTaken = PortTaken
+plug_cause plugging.NotLoose = NotLoose
+plug_cause plugging.Loop = Loop
+
+abbrev pub unless_add : Option AddError → Plan → Result Plan TopologyCause
+unless_add None plan = Ok plan
+unless_add (Some error) plan = Err (add_cause error)
+
+abbrev pub unless_plug : Option PlugError → Plan → Result Plan TopologyCause
+unless_plug None plan = Ok plan
+unless_plug (Some error) plan = Err (plug_cause error)
+
+-- `device NAME KIND PORTS`, with what its words say
+abbrev pub device_read : Plan → List ℕ → Option Kind → Option ℕ → Result Plan TopologyCause
+device_read plan name None ports = Err Word
+device_read plan name (Some kind) None = Err Number
+device_read plan name (Some kind) (Some ports) =
+    if nat_lt 15 ports then Err Number
+    else if not (is_name name) || is_some (device_named plan.tree name) then Err Name
+    else unless_add (add_fault 15 plan.tree name kind) (record plan { tree = added plan.tree name kind ports })
+
+abbrev pub device_line : Plan → Option (List ℕ × List ℕ × List ℕ) → Result Plan TopologyCause
+device_line plan None = Err Word
+device_line plan (Some words) = device_read plan words.0 (kind_named words.1) (number_of words.2)
+
+-- `plug CHILD PARENT PORT`, with what its words say; a port above 255 counts as 255
+abbrev pub plug_read : Plan → Option ℕ → Option ℕ → Option ℕ → Result Plan TopologyCause
+plug_read plan None child parent = Err Number
+plug_read plan (Some port) None parent = Err Name
+plug_read plan (Some port) (Some child) None = Err Name
+plug_read plan (Some port) (Some child) (Some parent) =
+    unless_plug (plug_fault plan.tree child parent (min port 255)) (record plan { tree = plugged plan.tree child parent (min port 255) })
+
+abbrev pub plug_line : Plan → Option (List ℕ × List ℕ × List ℕ) → Result Plan TopologyCause
+plug_line plan None = Err Word
+plug_line plan (Some words) = plug_read plan (number_of words.2) (device_named plan.tree words.0) (device_named plan.tree words.1)
+
+-- the bytes that pairs of hex digits of either case spell, at least one
+abbrev pub bytes_of : List ℕ → Option (List ℕ)
+bytes_of word = if length word == 0 then None else result_ok (decode_of word)
+
+abbrev pub edid_read : Plan → Option (List ℕ) → Result Plan TopologyCause
+edid_read plan None = Err Hex
+edid_read plan (Some bytes) = Ok (record plan { edid = Some bytes })
+
+-- `edid HEX`, at most once
+abbrev pub edid_line : Plan → Option (List ℕ) → Result Plan TopologyCause
+edid_line plan None = Err Word
+edid_line plan (Some word) = if is_some plan.edid then Err Word else edid_read plan (bytes_of word)
+
+-- a line by its words
+abbrev pub worded : Plan → List (List ℕ) → Result Plan TopologyCause
+worded plan [] = Err Word
+worded plan (verb ∷ words) =
+    if bytes_eq verb (codes "device") then device_line plan (three_of words)
+    else if bytes_eq verb (codes "plug") then plug_line plan (three_of words)
+    else if bytes_eq verb (codes "edid") then edid_line plan (one_of words)
+    else Err Word
+
+abbrev pub line_read : Plan → List ℕ → Result Plan TopologyCause
+line_read plan line = if is_skipped line then Ok plan else worded plan (words_of line)
+
+-- the first line at fault
+pub record TopologyFault : Type 0 where
+  pub line : ℕ
+  pub cause : TopologyCause
+
+abbrev pub at_line : ℕ → Result Plan TopologyCause → (Plan → Result Plan TopologyFault) → Result Plan TopologyFault
+at_line line (Ok plan) onward = onward plan
+at_line line (Err cause) onward = Err (record { line = line; cause = cause })
+
+-- lines from this number on; behind the last one a television is there
+abbrev pub lines_read : List (List ℕ) → ℕ → Plan → Result Plan TopologyFault
+lines_read [] number plan = if has_root plan.tree then Ok plan else Err (record { line = number; cause = NoRoot })
+lines_read (line ∷ lines) number plan = at_line number (line_read plan line) (λ next. lines_read lines (number + 1) next)
+
+-- the topology of a text, or its first fault
+abbrev pub topology_of : List ℕ → Result Plan TopologyFault
+topology_of text = lines_read (lines_of text) 1 (record { tree = []; edid = None })
+
+-- what is answered is what the text says, unless memory ran out
+abbrev pub GivesTopology : Result Topology TopologyError → Result Plan TopologyFault → Type 0
+GivesTopology (Ok topology) read = read ≡ Ok (plan_of topology)
+GivesTopology (Err errors.Memory) read = Unit {0}
+GivesTopology (Err (errors.At line cause)) read = read ≡ Err (record { line = line; cause = cause })
+
+-- what a line made of the topology is what the line says, unless memory ran out
+abbrev pub GivesLine : Plan → Result Unit LineError → Result Plan TopologyCause → Type 0
+GivesLine plan (Ok done) read = read ≡ Ok plan
+GivesLine plan (Err Memory) read = Unit {0}
+GivesLine plan (Err (Cause cause)) read = read ≡ Err cause
+
+abbrev pub error_at : ℕ → LineError → TopologyError
+error_at line Memory = errors.Memory
+error_at line (Cause cause) = errors.At line cause

@@ -1,0 +1,265 @@
+//! Topologies and their texts.
+ghost use Rattle.std.specs.Prelude.{◌≡◌, ℕ, ◌+◌, ◌<◌, List, [], ◌∷◌, ◌++◌, Result, Ok, Err, Some};
+ghost use Rattle.std.specs.Option.{option_copied};
+ghost use Rattle.cec_asm.specs.Lines.{words_behind, one_of, three_of};
+ghost use Rattle.cec_asm.specs.Topology.{Plan, plan_of, kind_named, device_line, plug_line, edid_line, line_read, topology_of, error_at, GivesLine, GivesTopology};
+
+use crate::lines::{first_line, first_word, is_skipped, one_word, three_words};
+use crate::number::number_in;
+use hdmi_cta::Kind;
+use hdmi_topo::{AddError, PlugError, Tree, is_name};
+use hex::FromHexError;
+use std::alloc::Global;
+use std::fmt::{self, Write};
+use thiserror::Error;
+
+/// Why a line of a topology is refused: the first of these that applies.
+#[derive(Clone, Copy, Debug, Drop, PartialEq, Eq)]
+pub enum TopologyCause {
+    /// No such line, or a second `edid` line.
+    Word,
+    /// An ill-formed number, or more than 15 ports.
+    Number,
+    /// An ill-formed name, one that is taken, or one that is not declared above.
+    Name,
+    /// A 16th device.
+    Full,
+    /// A second television.
+    SecondRoot,
+    /// No television, told of the line behind the last.
+    NoRoot,
+    /// The parent has no such port.
+    PortRange,
+    /// A device is plugged in there.
+    PortTaken,
+    /// The child is plugged in already or is the television.
+    NotLoose,
+    /// The parent is the child or hangs below it.
+    Loop,
+    /// No pairs of hex digits.
+    Hex,
+}
+
+impl fmt::Display for TopologyCause {
+    ghost use Rattle.std.specs.Prelude.{Some};
+    ghost use Rattle.cec_asm.specs.Topology.{topology_cause};
+
+    ghost output = { λ cause. Some (topology_cause cause) };
+
+    fn fmt<W: Write>(&self, f: &mut fmt::Formatter<W>) -> fmt::Result {
+        f.write_str(match self {
+            TopologyCause::Word => "word",
+            TopologyCause::Number => "number",
+            TopologyCause::Name => "name",
+            TopologyCause::Full => "full",
+            TopologyCause::SecondRoot => "second-root",
+            TopologyCause::NoRoot => "no-root",
+            TopologyCause::PortRange => "port-range",
+            TopologyCause::PortTaken => "port-taken",
+            TopologyCause::NotLoose => "not-loose",
+            TopologyCause::Loop => "loop",
+            TopologyCause::Hex => "hex",
+        })
+    }
+}
+
+/// Why a topology's text is refused.
+#[derive(Debug, Drop, Error)]
+pub enum TopologyError {
+    /// The first line at fault, counted from 1, and its cause.
+    #[error("line {line}: {cause}")]
+    At { line: u64, cause: TopologyCause },
+    #[error("no memory")]
+    Memory,
+}
+
+/// Why a line is not taken.
+#[derive(Debug, Drop)]
+enum LineError {
+    Cause(TopologyCause),
+    Memory,
+}
+
+impl From<AddError> for LineError {
+    ghost use Rattle.std.specs.Prelude.{◌≡◌};
+    ghost use Rattle.cec_asm.specs.Topology.{add_cause};
+    ghost use Rattle.cec_asm.specs.declared.topology.LineError.TheVariants.{Cause};
+
+    ghost from_gives = { λ error given. given ≡ Cause (add_cause error) };
+
+    fn from(error: AddError) -> LineError {
+        LineError::Cause(match error {
+            AddError::Full => TopologyCause::Full,
+            AddError::Name => TopologyCause::Name,
+            AddError::SecondRoot => TopologyCause::SecondRoot,
+        })
+    }
+}
+
+impl From<PlugError> for LineError {
+    ghost use Rattle.std.specs.Prelude.{◌≡◌};
+    ghost use Rattle.cec_asm.specs.Topology.{plug_cause};
+    ghost use Rattle.cec_asm.specs.declared.topology.LineError.TheVariants.{Cause};
+
+    ghost from_gives = { λ error given. given ≡ Cause (plug_cause error) };
+
+    fn from(error: PlugError) -> LineError {
+        LineError::Cause(match error {
+            PlugError::PortRange => TopologyCause::PortRange,
+            PlugError::PortTaken => TopologyCause::PortTaken,
+            PlugError::NotLoose => TopologyCause::NotLoose,
+            PlugError::Loop => TopologyCause::Loop,
+        })
+    }
+}
+
+/// A network: its devices, and the bytes of the television's EDID, if they are given.
+#[derive(Debug, Drop)]
+pub struct Topology {
+    pub tree: Tree<15>,
+    pub edid: Option<Vec<u8>>,
+}
+
+fn kind_named(word: &[u8]) -> Option<Kind>
+    ensures { result ≡ kind_named word.now }
+{
+    if word == b"tv".as_slice() {
+        Some(Kind::Tv)
+    } else if word == b"amp".as_slice() {
+        Some(Kind::Amp)
+    } else if word == b"player".as_slice() {
+        Some(Kind::Player)
+    } else if word == b"recorder".as_slice() {
+        Some(Kind::Recorder)
+    } else if word == b"switch".as_slice() {
+        Some(Kind::Switch)
+    } else {
+        None
+    }
+}
+
+/// Takes the words behind `device`.
+fn add_device(topology: &mut Topology, rest: Option<&[u8]>) -> Result<(), LineError>
+    ensures { GivesLine (plan_of topology.new) result (device_line (plan_of topology.old) (three_of (words_behind (option_copied rest.entry)))) }
+{
+    let Some((name, kind, ports)) = three_words(rest) else {
+        return Err(LineError::Cause(TopologyCause::Word));
+    };
+    let Some(kind) = kind_named(kind) else {
+        return Err(LineError::Cause(TopologyCause::Word));
+    };
+    let Some(ports) = number_in(ports) else {
+        return Err(LineError::Cause(TopologyCause::Number));
+    };
+    if ports > 15 {
+        return Err(LineError::Cause(TopologyCause::Number));
+    }
+    if !is_name(name) || topology.tree.device_named(name).is_some() {
+        return Err(LineError::Cause(TopologyCause::Name));
+    }
+    topology.tree.add(name, kind, ports as u8)?;
+    Ok(())
+}
+
+/// Takes the words behind `plug`.
+fn add_plug(topology: &mut Topology, rest: Option<&[u8]>) -> Result<(), LineError>
+    ensures { GivesLine (plan_of topology.new) result (plug_line (plan_of topology.old) (three_of (words_behind (option_copied rest.entry)))) }
+{
+    let Some((child, parent, port)) = three_words(rest) else {
+        return Err(LineError::Cause(TopologyCause::Word));
+    };
+    let Some(port) = number_in(port) else {
+        return Err(LineError::Cause(TopologyCause::Number));
+    };
+    let Some(child) = topology.tree.device_named(child) else {
+        return Err(LineError::Cause(TopologyCause::Name));
+    };
+    let Some(parent) = topology.tree.device_named(parent) else {
+        return Err(LineError::Cause(TopologyCause::Name));
+    };
+    topology.tree.plug(child, parent, port.min(255) as u8)?;
+    Ok(())
+}
+
+/// Takes the word behind `edid`.
+fn add_edid(alloc: Global, topology: &mut Topology, rest: Option<&[u8]>) -> Result<(), LineError>
+    ensures { GivesLine (plan_of topology.new) result (edid_line (plan_of topology.old) (one_of (words_behind (option_copied rest.entry)))) }
+{
+    let Some(word) = one_word(rest) else {
+        return Err(LineError::Cause(TopologyCause::Word));
+    };
+    if topology.edid.is_some() {
+        return Err(LineError::Cause(TopologyCause::Word));
+    }
+    if word.is_empty() {
+        return Err(LineError::Cause(TopologyCause::Hex));
+    }
+    match hex::decode(alloc, word) {
+        Ok(bytes) => {
+            topology.edid = Some(bytes);
+            Ok(())
+        }
+        Err(FromHexError::OutOfMemory) => Err(LineError::Memory),
+        Err(_) => Err(LineError::Cause(TopologyCause::Hex)),
+    }
+}
+
+/// Takes a line.
+fn take_line(alloc: Global, topology: &mut Topology, line: &[u8]) -> Result<(), LineError>
+    ensures { GivesLine (plan_of topology.new) result (line_read (plan_of topology.old) line.now) }
+{
+    if is_skipped(line) {
+        return Ok(());
+    }
+    let (verb, rest) = first_word(line);
+    if verb == b"device".as_slice() {
+        add_device(topology, rest)
+    } else if verb == b"plug".as_slice() {
+        add_plug(topology, rest)
+    } else if verb == b"edid".as_slice() {
+        add_edid(alloc, topology, rest)
+    } else {
+        Err(LineError::Cause(TopologyCause::Word))
+    }
+}
+
+fn error_at(line: u64, error: LineError) -> TopologyError
+    ensures { result ≡ error_at line error }
+{
+    match error {
+        LineError::Cause(cause) => TopologyError::At { line, cause },
+        LineError::Memory => TopologyError::Memory,
+    }
+}
+
+/// Reads a topology: lines `device NAME KIND PORTS`, `plug CHILD PARENT PORT` and at most one `edid HEX`;
+/// empty lines and lines that begin with `#` are skipped.
+///
+/// # Errors
+///
+/// `At` with the first line at fault, counted from 1, and the first cause that applies to it; `Memory` where
+/// there is none.
+pub fn parse_topology(alloc: Global, text: &[u8]) -> Result<Topology, TopologyError>
+    ensures { GivesTopology result (topology_of text.now) }
+{
+    let mut topology = Topology {
+        tree: Tree::new(),
+        edid: None,
+    };
+    let mut rest = text;
+    let mut number = 1;
+    while let Some((line, after)) = first_line(rest) {
+        if let Err(error) = take_line(alloc, &mut topology, line) {
+            return Err(error_at(number, error));
+        }
+        rest = after;
+        number += 1;
+    }
+    if !topology.tree.has_root() {
+        return Err(TopologyError::At {
+            line: number,
+            cause: TopologyCause::NoRoot,
+        });
+    }
+    Ok(topology)
+}
