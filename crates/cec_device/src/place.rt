@@ -80,6 +80,13 @@ fn new_record(kind: Kind, ports: Port) -> Record
     }
 }
 
+/// A switch without ports or a name, to fill the room of those that are yet to come.
+impl<const Q: usize> Default for Device<Q> {
+    fn default() -> Self {
+        Device::new(Kind::Switch, &[], 0)
+    }
+}
+
 impl<const Q: usize> Device<Q> {
     pub fn new(kind: Kind, name: &[u8], ports: u8) -> Self
         requires name { length name.now ≤ 14 }

@@ -1,0 +1,5 @@
+pub mod Start
+pub mod State
+pub mod Sound
+pub mod Apply
+pub mod Step

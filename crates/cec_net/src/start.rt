@@ -1,0 +1,68 @@
+//! When devices start to send.
+ghost use Rattle.std.specs.Prelude.{◌≡◌, ◌+◌, ◌≤◌, ◌<◌, All};
+ghost use Rattle.cec_device.specs.Place.{ready_of};
+ghost use Rattle.cec_net.specs.Start.{next_turn, start_of, sooner, least_start, first_onset};
+ghost use Rattle.cec_net.specs.Sound.{IsReadyBy};
+
+use cec_device::Device;
+use cec_wave::Stretch;
+
+/// The turns of allocation: a device starts a poll of its own in one of sixteen microseconds.
+const TURNS: u64 = 16;
+
+// The first instant from `at` on whose remainder by 16 is the number.
+fn next_turn(number: u8, at: u64) -> u64
+    requires { at ≤ 3000000000000 }
+    ensures { result ≡ next_turn number at }
+{
+    at + (u64::from(number) + TURNS - at % TURNS) % TURNS
+}
+
+/// The instant at which a device starts, where the line is high since `rest`. A device that is off the wire,
+/// or has nothing to send, has none.
+pub(crate) fn start_of(device: &Device<16>, rest: u64) -> Option<u64>
+    requires ready { IsReadyBy 2500000000000 device.now }
+    requires rest { rest ≤ 2500000000000 }
+    ensures { result ≡ start_of rest device.now }
+{
+    if !device.is_on_wire() {
+        return None;
+    }
+    let ready = device.ready_at()?;
+    let earliest = ready.max(rest + device.class().micros());
+    if device.is_allocating() {
+        Some(next_turn(device.number(), earliest))
+    } else {
+        Some(earliest)
+    }
+}
+
+/// The lesser of two instants, where there are two.
+pub(crate) fn sooner(one: Option<u64>, other: Option<u64>) -> Option<u64>
+    ensures { result ≡ sooner one other }
+{
+    match (one, other) {
+        (None, other) => other,
+        (Some(one), None) => Some(one),
+        (Some(one), Some(other)) => Some(one.min(other)),
+    }
+}
+
+/// The least start instant of these devices.
+pub(crate) fn least_start(devices: &[Device<16>], rest: u64) -> Option<u64>
+    requires ready { All (IsReadyBy 2500000000000) devices.now }
+    requires rest { rest ≤ 2500000000000 }
+    ensures { result ≡ least_start rest devices.now }
+{
+    match devices.split_first() {
+        None => None,
+        Some((device, devices)) => sooner(start_of(device, rest), least_start(devices, rest)),
+    }
+}
+
+/// The onset of the next pulse.
+pub(crate) fn first_onset(pulses: &[Stretch]) -> Option<u64>
+    ensures { result ≡ first_onset pulses.now }
+{
+    pulses.first().map(|pulse| pulse.from)
+}
