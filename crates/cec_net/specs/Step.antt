@@ -99,10 +99,11 @@ is_contended s begin = list_any (contends s.rest begin) s.devices
 -- those that overlap or touch that stretch.
 abbrev pub after_round : NetState → ℕ → Outcome → NetState
 after_round s begin o = record s {
-    devices = each_from 0 (device_after s.rest begin (is_contended s begin) o) s.devices;
-    pulses = filter (λ p. nat_lt o.rest p.from) s.pulses;
-    close = close_in o;
-    rest = o.rest }
+  devices = each_from 0 (device_after s.rest begin (is_contended s begin) o) s.devices;
+  pulses = filter (λ p. nat_lt o.rest p.from) s.pulses;
+  close = close_in o;
+  rest = o.rest;
+}
 
 -- The next round: it begins at `begin`, gives this outcome, and leaves that state.
 pub record IsNextRound (before : NetState) (begin : ℕ) (o : Outcome) (after : NetState) : Type 0 where

@@ -7,13 +7,26 @@ use hdmi_topo::{PlugError, UnplugError};
 #[derive(Drop)]
 pub enum Event {
     /// A device is plugged into a port of another one.
-    Plug { child: usize, parent: usize, port: u8 },
+    Plug {
+        child: usize,
+        parent: usize,
+        port: u8,
+    },
     /// A device is unplugged.
-    Unplug { child: usize },
+    Unplug {
+        child: usize,
+    },
     /// A key is pressed or released.
-    Key { device: usize, key: Key, press: bool },
+    Key {
+        device: usize,
+        key: Key,
+        press: bool,
+    },
     /// A device is given a frame to send.
-    Send { device: usize, frame: Frame },
+    Send {
+        device: usize,
+        frame: Frame,
+    },
 }
 
 /// Why an event is refused.

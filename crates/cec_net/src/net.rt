@@ -1,14 +1,13 @@
 //! The network between its events and rounds.
 ghost use Rattle.std.specs.Prelude.{◌≡◌, ◌≤◌, ◌<◌, length, slice_get, Some, None, All, MatchResult};
 
+use crate::start::{first_onset, least_start, sooner};
+use crate::wiring::{DEVICES, loose, rewire};
 use arrayvec::ArrayVec;
 use cec_device::Device;
 use cec_wave::pulses::Pulses;
 use hdmi_topo::Tree;
 use std::marker::Model;
-
-use crate::start::{first_onset, least_start, sooner};
-use crate::wiring::{DEVICES, loose, rewire};
 
 /// A tree of devices on one CEC line, and where their run stands. Devices go by their numbers in the tree,
 /// times are in microseconds.
@@ -61,7 +60,10 @@ impl<W> Net<W> {
     pub fn next_start(&self) -> Option<u64>
         ensures { result ≡ next_start self.now }
     {
-        sooner(least_start(&self.devices, self.rest), first_onset(self.pulses.as_slice()))
+        sooner(
+            least_start(&self.devices, self.rest),
+            first_onset(self.pulses.as_slice()),
+        )
     }
 
     /// When the last round closed: its reading had ended, and the line was high. 0 before the first round.

@@ -1,0 +1,73 @@
+-- What a device has to send was ready by the latest time that its calls were handed.
+use Rattle.std.proofs.Common.{◌≡◌, ℕ, suc, ◌+◌, ◌*◌, ◌<◌, ◌≤◌, ◌==◌, Bool, true, false, not, ◌&&◌, ◌||◌, nat_lt, if◌then◌else◌, List, [], ◌∷◌, ◌++◌, length, Option, Some, None, refl, sym, ap, ◌∙◌, subst, arith, max, slice_index_or}
+use Rattle.std.specs.List.{All}
+use Rattle.std.proofs.lemmas.List.Elements.{All-nil, All-cons, All-append}
+use Rattle.hdmi_cta.specs.declared.phys.Phys.{Phys}
+use Rattle.hdmi_cta.specs.declared.kind.Kind.{Kind}
+use Rattle.cec_device.specs.declared.record.Place.{Place}
+use Rattle.cec_device.specs.declared.record.Place.TheVariants.{Off, Polls, Settled}
+use Rattle.cec_device.specs.declared.record.Heard.{Heard}
+use Rattle.cec_device.specs.declared.sending.Fate.{Fate}
+use Rattle.cec_device.specs.declared.sending.Fate.TheVariants.{Delivered, Unacked, Lost, Broken}
+use Rattle.cec_device.specs.declared.device.Queued.{Queued}
+use Rattle.cec_device.specs.State.{State, queued, speaks, holds, frame_to, one_more, type_of}
+use Rattle.cec_device.specs.Place.{is_on_wire, is_off, fresh, start_place, reported, joined, left}
+use Rattle.hdmi_topo.specs.Node.{Node}
+use Rattle.hdmi_topo.specs.Path.{address_of}
+use Rattle.cec_net.specs.State.{each_from, moved, moved_by, loose}
+use Rattle.cec_net.specs.Sound.{IsReadyBy}
+
+either_ready : (b : ℕ) (p q : Bool) (x y z : State) → IsReadyBy b x → IsReadyBy b y → IsReadyBy b z → IsReadyBy b (if p then x else (if q then y else z))
+either_ready b true q x y z h i j = h
+either_ready b false true x y z h i j = i
+either_ready b false false x y z h i j = j
+
+pub ready-later : (b c : ℕ) (d : State) → b ≤ c → IsReadyBy b d → IsReadyBy c d
+ready-later b c d le h = record { poll = omega (arith, h.poll); queue = λ k q l. (let m = h.queue k q l in omega arith) }
+
+pub ready-queued : (b limit at to : ℕ) (bytes : List ℕ) (d : State) → at ≤ b → IsReadyBy b d → IsReadyBy b (queued limit at to bytes d)
+ready-queued b limit at to bytes d le h =
+    let last : List Queued = record { frame = frame_to d to bytes; ready = at } ∷ [] in
+    let Early : Queued → Type 0 = λ q. q.ready ≤ b in
+    either_ready b (not (speaks d) || holds d.place to) (nat_lt (length d.queue) limit) d
+    (record d { queue = d.queue ++ last }) (record d { dropped = one_more d.dropped }) h
+    (record { poll = h.poll; queue = All-append Early d.queue last h.queue (All-cons Early (record { frame = frame_to d to bytes; ready = at }) [] le (All-nil Early)) })
+    (record { poll = h.poll; queue = h.queue })
+
+pub ready-left : (b : ℕ) (d : State) → IsReadyBy b (left d)
+ready-left b d = record { poll = omega arith; queue = All-nil (λ (q : Queued). q.ready ≤ b) }
+
+pub ready-fresh : (b : ℕ) (kind : Kind) (name : List ℕ) (ports : ℕ) → IsReadyBy b (fresh kind name ports)
+ready-fresh b kind name ports = record { poll = omega arith; queue = All-nil (λ (q : Queued). q.ready ≤ b) }
+
+pub ready-joined : (b limit number at : ℕ) (phys : Phys) (d : State) → at ≤ b → IsReadyBy b (joined limit d number phys at)
+ready-joined b limit number at phys d le =
+    let new : State = record (fresh d.kind d.name d.ports) {
+      number = number;
+      phys = phys;
+      place = start_place d.kind phys;
+      poll_ready = at;
+    } in
+    ready-queued b limit at 15 (0x84 ∷ phys.high ∷ phys.low ∷ type_of d.kind ∷ []) new le
+    (record { poll = le; queue = All-nil (λ (q : Queued). q.ready ≤ b) })
+
+pub ready-moved : (b at number : ℕ) (plugged : Bool) (address : Option Phys) (d : State) → at ≤ b → IsReadyBy b d → IsReadyBy b (moved at number plugged address d)
+ready-moved b at number false (Some address) d le h = ready-joined b 16 number at address d le
+ready-moved b at number false None d le h = h
+ready-moved b at number true (Some address) d le h = h
+ready-moved b at number true None d le h = ready-left b d
+
+pub ready-each_from : (b c n : ℕ) (f : ℕ → State → State) (xs : List State) → ((m : ℕ) (d : State) → IsReadyBy b d → IsReadyBy c (f m d))
+    → All (IsReadyBy b) xs → All (IsReadyBy c) (each_from n f xs)
+ready-each_from b c n f [] step h = All-nil (IsReadyBy c)
+ready-each_from b c n f (x ∷ xs) step h =
+    All-cons (IsReadyBy c) (f n x) (each_from (n + 1) f xs) (step n x (h 0 x (omega arith)))
+    (ready-each_from b c (n + 1) f xs step (λ k d l. h (suc k) d (omega arith)))
+
+pub ready-rewired : (b at : ℕ) (tree : List Node) (xs : List State) → at ≤ b → All (IsReadyBy b) xs → All (IsReadyBy b) (each_from 0 (moved_by at tree) xs)
+ready-rewired b at tree xs le h =
+    ready-each_from b b 0 (moved_by at tree) xs (λ m d r. ready-moved b at m (is_on_wire d) (address_of tree m) d le r) h
+
+pub ready-loose : (b : ℕ) (tree : List Node) → All (IsReadyBy b) (loose tree)
+ready-loose b [] = All-nil (IsReadyBy b)
+ready-loose b (node ∷ tree) = All-cons (IsReadyBy b) (fresh node.kind node.name node.ports) (loose tree) (ready-fresh b node.kind node.name node.ports) (ready-loose b tree)
