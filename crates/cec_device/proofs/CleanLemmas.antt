@@ -1,6 +1,5 @@
 -- Why no queued frame goes to the device's own address.
-use Rattle.std.proofs.Common.{◌≡◌, ℕ, ◌==◌, ◌<◌, ◌+◌, ◌*◌, ◌%◌, ◌/◌, Bool, true, false, not, ◌&&◌, ◌||◌, nat_lt, if◌then◌else◌, List, [], ◌∷◌, ◌++◌, length, slice_index, Some, None, refl, ap, ◌∙◌, arith, lit<}
-use Rattle.std.specs.List.{list_all}
+use Rattle.std.proofs.Common.{◌≡◌, ℕ, ◌==◌, ◌<◌, ◌+◌, ◌*◌, ◌%◌, ◌/◌, Bool, true, false, not, ◌&&◌, ◌||◌, nat_lt, if◌then◌else◌, List, [], ◌∷◌, ◌++◌, length, slice_index, Option, Some, None, refl, ap, subst, ◌∙◌, arith, lit<}
 use Rattle.std.proofs.lemmas.List.Folds.{list_all-append}
 use Rattle.hdmi_cta.specs.declared.kind.Kind.{Kind}
 use Rattle.hdmi_cta.specs.declared.phys.Phys.{Phys}
@@ -16,10 +15,18 @@ use Rattle.cec_device.specs.Once.{goes_elsewhere}
 use Rattle.std.proofs.lemmas.Bool.Decides.{nat_tests}
 use Rattle.cec_device.specs.declared.device.SubmitError.TheVariants.{QueueFull, OwnAddress, NoAddress, OffWire}
 use Rattle.cec_device.specs.declared.record.Heard.{Heard}
-use Rattle.cec_device.specs.Say.{Say, Reply, Cast, Tell, Refuse, say, say_all}
-use Rattle.cec_device.specs.Place.{submitted_by, settled_at, is_off}
+use Rattle.cec_opcode.specs.declared.message.Decoded.{Decoded}
+use Rattle.cec_opcode.specs.declared.message.Decoded.TheVariants.{Poll, Known, Short, Unknown as NoName}
+use Rattle.cec_opcode.specs.Table.{decoded_of}
+use Rattle.cec_device.specs.declared.keys.Key.{Key}
+use Rattle.cec_device.specs.declared.keys.KeyError.{KeyError}
+use Rattle.cec_device.specs.declared.device.SubmitError.{SubmitError}
+use Rattle.cec_device.specs.Say.{Say, Reply, Cast, Tell, Refuse, Effect, say, say_all, effected}
+use Rattle.cec_device.specs.Effects.{effect_of, refuses, by_decoded, followed, is_for, heard_of}
+use Rattle.cec_device.specs.Keys.{own_doing, pressing, releasing, keyed_by, key_fault}
+use Rattle.cec_device.specs.Place.{submitted_by, submit_fault, settled_at, is_off, front_by}
 use Rattle.cec_device.proofs.OnceLemmas.{queued-place}
-use Rattle.cec_device.specs.Clean.{is_none_queued, clean_at, is_clean, fits_say, KeepsClean}
+use Rattle.cec_device.specs.Clean.{is_none_queued, clean_at, is_clean, KeepsClean, KeepsPlace}
 
 clean-empty : (p : Place) → clean_at p [] ≡ true
 clean-empty Off = refl
@@ -103,44 +110,64 @@ clean-sent limit at fate d (Settled a) e k = clean-frame_sent fate d (rw e k)
 clean-sent limit at fate d (Polls a) e k =
     clean-reported limit at (record d { place = polled d.kind a fate; poll_ready = at; class = class_of_poll fate }) (none-clean (polled d.kind a fate) d.queue k)
 
--- a test that sends one way or the other
-kept_if : (b : Bool) (d x : State) → is_clean d ≡ true → is_clean x ≡ true → is_clean (if b then d else x) ≡ true
-kept_if true d x h k = h
-kept_if false d x h k = k
-
-clean-say : (limit : ℕ) (h : Heard) (s : Say) (d : State) → h.from < 16 → fits_say s ≡ true → is_clean d ≡ true → is_clean (say limit h s d) ≡ true
-clean-say limit h (Reply bytes) d f g k = kept_if (h.from == 15) d (queued limit h.at h.from bytes d) k (clean-queued limit h.at h.from bytes d f k)
-clean-say limit h (Cast bytes) d f g k = clean-queued limit h.at 15 bytes d (lit< tt) k
-clean-say limit h (Tell to bytes) d f g k = kept_if (to == 15) d (queued limit h.at to bytes d) k (clean-queued limit h.at to bytes d (grind (arith, nat_tests)) k)
-clean-say limit h (Refuse reason) d f g k =
-    kept_if ((h.to == 15) || ((h.from == 15) || (h.opcode == 0))) d (queued limit h.at h.from (0x00 ∷ h.opcode ∷ reason ∷ []) d) k
-    (clean-queued limit h.at h.from (0x00 ∷ h.opcode ∷ reason ∷ []) d f k)
+-- a test before something is queued
+kept_then : (b : Bool) (x d : State) → is_clean d ≡ true → (b ≡ true → is_clean x ≡ true) → is_clean (if b then x else d) ≡ true
+kept_then true x d k f = f refl
+kept_then false x d k f = k
 
 and_left : (a b : Bool) → (a && b) ≡ true → a ≡ true
 and_left true b h = refl
 and_left false b h = cc
 
-clean-say_all : (limit : ℕ) (h : Heard) (says : List Say) (d : State) → h.from < 16 → list_all fits_say says ≡ true
-    → is_clean d ≡ true → is_clean (say_all limit h says d) ≡ true
-clean-say_all limit h [] d f g k = k
-clean-say_all limit h (s ∷ says) d f g k =
-    clean-say_all limit h says (say limit h s d) f (and_right _ _ g) (clean-say limit h s d f (and_left _ _ g) k)
+below_15 : (n : ℕ) → nat_lt n 15 ≡ true → n < 16
+below_15 n h = grind (arith, nat_tests)
 
-place_if : (b : Bool) (d x : State) → x.place ≡ d.place → (if b then d else x).place ≡ d.place
-place_if true d x h = refl
-place_if false d x h = h
+clean-say : (limit : ℕ) (h : Heard) (s : Say) (d : State) → is_clean d ≡ true → is_clean (say limit h s d) ≡ true
+clean-say limit h (Reply bytes) d k =
+    kept_then (nat_lt h.from 15) (queued limit h.at h.from bytes d) d k (λ e. clean-queued limit h.at h.from bytes d (below_15 h.from e) k)
+clean-say limit h (Cast bytes) d k = clean-queued limit h.at 15 bytes d (lit< tt) k
+clean-say limit h (Tell to bytes) d k =
+    kept_then (nat_lt to 15) (queued limit h.at to bytes d) d k (λ e. clean-queued limit h.at to bytes d (below_15 to e) k)
+clean-say limit h (Refuse reason) d k =
+    kept_then (nat_lt h.to 15 && (nat_lt h.from 15 && not (h.opcode == 0))) (queued limit h.at h.from (0x00 ∷ h.opcode ∷ reason ∷ []) d) d k
+    (λ e. clean-queued limit h.at h.from (0x00 ∷ h.opcode ∷ reason ∷ []) d
+    (below_15 h.from (and_left (nat_lt h.from 15) (not (h.opcode == 0)) (and_right (nat_lt h.to 15) (nat_lt h.from 15 && not (h.opcode == 0)) e))) k)
 
-say-place : (limit : ℕ) (h : Heard) (s : Say) (d : State) → (say limit h s d).place ≡ d.place
-say-place limit h (Reply bytes) d = place_if (h.from == 15) d (queued limit h.at h.from bytes d) (queued-place limit h.at h.from bytes d)
-say-place limit h (Cast bytes) d = queued-place limit h.at 15 bytes d
-say-place limit h (Tell to bytes) d = place_if (to == 15) d (queued limit h.at to bytes d) (queued-place limit h.at to bytes d)
-say-place limit h (Refuse reason) d =
-    place_if ((h.to == 15) || ((h.from == 15) || (h.opcode == 0))) d (queued limit h.at h.from (0x00 ∷ h.opcode ∷ reason ∷ []) d)
-    (queued-place limit h.at h.from (0x00 ∷ h.opcode ∷ reason ∷ []) d)
+clean-say_all : (limit : ℕ) (h : Heard) (says : List Say) (d : State) → is_clean d ≡ true → is_clean (say_all limit h says d) ≡ true
+clean-say_all limit h [] d k = k
+clean-say_all limit h (s ∷ says) d k = clean-say_all limit h says (say limit h s d) (clean-say limit h s d k)
 
-say_all-place : (limit : ℕ) (h : Heard) (says : List Say) (d : State) → (say_all limit h says d).place ≡ d.place
-say_all-place limit h [] d = refl
-say_all-place limit h (s ∷ says) d = say_all-place limit h says (say limit h s d) ∙ say-place limit h s d
+clean-effected : (limit : ℕ) (h : Heard) (e : Effect) (d : State) → is_clean d ≡ true → is_clean (effected limit h e d) ≡ true
+clean-effected limit h e d k = clean-say_all limit h e.says (record d { record_of = e.after }) k
+
+clean-decoded : (limit : ℕ) (h : Heard) (d : State) (said : Decoded) → is_clean d ≡ true → is_clean (by_decoded limit h d said) ≡ true
+clean-decoded limit h d (Known message) k = clean-effected limit h (effect_of d.kind d.phys d.name d.ports h d.record_of message) d k
+clean-decoded limit h d (NoName opcode) k = clean-effected limit h (refuses d.record_of 0) d k
+clean-decoded limit h d (Short opcode) k = k
+clean-decoded limit h d Poll k = k
+
+clean-followed : (limit at : ℕ) (frame : List ℕ) (d : State) → is_clean d ≡ true → is_clean (followed limit d frame at) ≡ true
+clean-followed limit at [] d k = k
+clean-followed limit at (header ∷ []) d k = k
+clean-followed limit at (header ∷ opcode ∷ operands) d k =
+    kept_then (is_for d (header % 16) opcode) (by_decoded limit (heard_of header opcode operands at) d (decoded_of (header ∷ opcode ∷ operands))) d k
+    (λ _. clean-decoded limit (heard_of header opcode operands at) d (decoded_of (header ∷ opcode ∷ operands)) k)
+
+clean-keyed : (limit at : ℕ) (key : Key) (press : Bool) (d : State) (fault : Option KeyError) → is_clean d ≡ true
+    → is_clean (keyed_by limit d key press at fault) ≡ true
+clean-keyed limit at key press d None k =
+    clean-effected limit (own_doing at) (if press then pressing d.kind d.phys d.record_of key else releasing d.kind d.record_of key) d k
+clean-keyed limit at key press d (Some fault) k = k
+
+-- what the line is given is the front of the queue, or a poll
+clean-front : (p : Place) (queue : List Queued) (frame : List ℕ) → clean_at p queue ≡ true → front_by (polled_at p) queue ≡ Some frame
+    → goes_elsewhere p frame ≡ true
+clean-front Off queue frame k e = refl
+clean-front (Polls a) queue frame k e = refl
+clean-front (Settled a) [] frame k e = cc
+clean-front (Settled a) (q ∷ queue) frame k e =
+    let same : q.frame ≡ frame = cc in
+    subst (λ (f : List ℕ). goes_elsewhere (Settled a) f ≡ true) same (and_left _ _ k)
 
 -- what a submitted frame passed
 clean-appended : (p : Place) (frame : List ℕ) (at : ℕ) (queue : List Queued) → settled_at p (slice_index frame 0 / 16) ≡ true
@@ -163,7 +190,6 @@ clean-by_tests false true false true d frame at s h k = clean-appended d.place f
 
 pub keeps_clean : KeepsClean
 keeps_clean = record {
-  queueing = clean-queued;
   leaving = λ d. refl;
   joining = λ limit number at phys d. clean-reported limit at (record (fresh d.kind d.name d.ports) {
     number = number;
@@ -173,7 +199,60 @@ keeps_clean = record {
   }) (clean-empty (start_place d.kind phys));
   submitting = λ limit at frame d k. clean-by_tests (is_off d.place) (settled_at d.place (slice_index frame 0 / 16))
       (holds d.place (slice_index frame 0 % 16)) (nat_lt (length d.queue) limit) d frame at refl refl k;
-  saying = clean-say_all;
-  staying = say_all-place;
+  waiting = λ d k. k;
+  following = clean-followed;
+  keying = λ limit at key press d k. clean-keyed limit at key press d (key_fault d key) k;
+  sending = λ d frame k e. clean-front d.place d.queue frame k e;
   telling = λ limit at fate d k. clean-sent limit at fate d d.place refl k;
+}
+
+-- ---- who moves
+
+place_then : (b : Bool) (x d : State) → x.place ≡ d.place → (if b then x else d).place ≡ d.place
+place_then true x d h = h
+place_then false x d h = refl
+
+say-place : (limit : ℕ) (h : Heard) (s : Say) (d : State) → (say limit h s d).place ≡ d.place
+say-place limit h (Reply bytes) d = place_then (nat_lt h.from 15) (queued limit h.at h.from bytes d) d (queued-place limit h.at h.from bytes d)
+say-place limit h (Cast bytes) d = queued-place limit h.at 15 bytes d
+say-place limit h (Tell to bytes) d = place_then (nat_lt to 15) (queued limit h.at to bytes d) d (queued-place limit h.at to bytes d)
+say-place limit h (Refuse reason) d =
+    place_then (nat_lt h.to 15 && (nat_lt h.from 15 && not (h.opcode == 0))) (queued limit h.at h.from (0x00 ∷ h.opcode ∷ reason ∷ []) d) d
+    (queued-place limit h.at h.from (0x00 ∷ h.opcode ∷ reason ∷ []) d)
+
+say_all-place : (limit : ℕ) (h : Heard) (says : List Say) (d : State) → (say_all limit h says d).place ≡ d.place
+say_all-place limit h [] d = refl
+say_all-place limit h (s ∷ says) d = say_all-place limit h says (say limit h s d) ∙ say-place limit h s d
+
+effected-place : (limit : ℕ) (h : Heard) (e : Effect) (d : State) → (effected limit h e d).place ≡ d.place
+effected-place limit h e d = say_all-place limit h e.says (record d { record_of = e.after })
+
+decoded-place : (limit : ℕ) (h : Heard) (d : State) (said : Decoded) → (by_decoded limit h d said).place ≡ d.place
+decoded-place limit h d (Known message) = effected-place limit h (effect_of d.kind d.phys d.name d.ports h d.record_of message) d
+decoded-place limit h d (NoName opcode) = effected-place limit h (refuses d.record_of 0) d
+decoded-place limit h d (Short opcode) = refl
+decoded-place limit h d Poll = refl
+
+followed-place : (limit at : ℕ) (frame : List ℕ) (d : State) → (followed limit d frame at).place ≡ d.place
+followed-place limit at [] d = refl
+followed-place limit at (header ∷ []) d = refl
+followed-place limit at (header ∷ opcode ∷ operands) d =
+    place_then (is_for d (header % 16) opcode) (by_decoded limit (heard_of header opcode operands at) d (decoded_of (header ∷ opcode ∷ operands))) d
+    (decoded-place limit (heard_of header opcode operands at) d (decoded_of (header ∷ opcode ∷ operands)))
+
+keyed-place : (limit at : ℕ) (key : Key) (press : Bool) (d : State) (fault : Option KeyError) → (keyed_by limit d key press at fault).place ≡ d.place
+keyed-place limit at key press d None =
+    effected-place limit (own_doing at) (if press then pressing d.kind d.phys d.record_of key else releasing d.kind d.record_of key) d
+keyed-place limit at key press d (Some fault) = refl
+
+submitted-place : (d : State) (frame : List ℕ) (at : ℕ) (fault : Option SubmitError) → (submitted_by d frame at fault).place ≡ d.place
+submitted-place d frame at None = refl
+submitted-place d frame at (Some fault) = refl
+
+pub keeps_place : KeepsPlace
+keeps_place = record {
+  following = followed-place;
+  keying = λ limit at key press d. keyed-place limit at key press d (key_fault d key);
+  submitting = λ limit at frame d. submitted-place d frame at (submit_fault limit d frame);
+  waiting = λ d. refl;
 }

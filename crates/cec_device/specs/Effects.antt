@@ -37,8 +37,11 @@ to_sub None deck = []
 to_sub (Some sub) deck = Tell sub (0x1b ∷ deck ∷ []) ∷ []
 
 -- deck-status to sub where the deck changed
+abbrev pub notice_of : ℕ → Option ℕ → ℕ → List Say
+notice_of was sub deck = if was == deck then [] else to_sub sub deck
+
 abbrev pub notice : Record → ℕ → List Say
-notice r deck = if r.deck == deck then [] else to_sub r.sub deck
+notice r deck = notice_of r.deck r.sub deck
 
 abbrev pub turned : Record → ℕ → Effect
 turned r deck = does (record r { deck = deck }) (notice r deck)

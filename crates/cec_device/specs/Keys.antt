@@ -70,6 +70,11 @@ goes_off kind own r =
     if is_deck kind && is_active r.active own then does (standby (record r { active = None })) (Tell 0 (0x9d ∷ own.high ∷ own.low ∷ []) ∷ [])
     else does (standby r) [])
 
+-- the active source, as it tells the television and all
+abbrev pub taking_over : Phys → Record → Effect
+taking_over own r = does
+    (record r { power = true; active = Some own; path = Some own }) (Tell 0 (0x04 ∷ []) ∷ Cast (0x82 ∷ own.high ∷ own.low ∷ []) ∷ [])
+
 abbrev pub pressing : Kind → Phys → Record → Key → Effect
 pressing kind own r Play = does
     (record r { power = true; active = Some own; path = Some own; deck = if r.deck == 0x19 then 0x19 else 0x11 })
@@ -99,9 +104,11 @@ releasing kind r _ = does r []
 abbrev pub key_fault : State → Key → Option KeyError
 key_fault d key = if is_off d.place then Some OffWire else (if has_key d.kind d.ports key then None else Some NotForKind)
 
+abbrev pub keyed_by : ℕ → State → Key → Bool → ℕ → Option KeyError → State
+keyed_by limit d key press at None =
+    effected limit (own_doing at) (if press then pressing d.kind d.phys d.record_of key else releasing d.kind d.record_of key) d
+keyed_by limit d key press at (Some fault) = d
+
+-- A key is pressed or released. Where it is refused nothing changes.
 abbrev pub keyed : ℕ → State → Key → Bool → ℕ → State
-keyed limit d key press at = by_fault (key_fault d key)
-  where
-    by_fault : Option KeyError → State
-    by_fault None = effected limit (own_doing at) (if press then pressing d.kind d.phys d.record_of key else releasing d.kind d.record_of key) d
-    by_fault (Some fault) = d
+keyed limit d key press at = keyed_by limit d key press at (key_fault d key)

@@ -1,5 +1,5 @@
 -- What a line of the opcode table says, and how that is queued.
-use Rattle.std.specs.Prelude.{ℕ, ◌==◌, ◌||◌, List, [], ◌∷◌, if◌then◌else◌}
+use Rattle.std.specs.Prelude.{ℕ, ◌==◌, ◌&&◌, not, nat_lt, List, [], ◌∷◌, if◌then◌else◌}
 use Rattle.cec_device.specs.declared.record.Record.{Record}
 use Rattle.cec_device.specs.declared.record.Heard.{Heard}
 use Rattle.cec_device.specs.State.{State, queued}
@@ -19,14 +19,16 @@ pub record Effect : Type 0 where
 abbrev pub does : Record → List Say → Effect
 does after says = record { after = after; says = says }
 
--- how one is queued: a reply or notice to 15 is not, and a refusal answers direct frames alone
+-- How one is queued. A reply or a notice goes to an address below 15 alone, and a refusal answers a frame
+-- that was addressed to the device itself, unless it is a refusal (CEC 12.3).
 abbrev pub say : ℕ → Heard → Say → State → State
-say limit h (Reply bytes) d = if h.from == 15 then d else queued limit h.at h.from bytes d
+say limit h (Reply bytes) d = if nat_lt h.from 15 then queued limit h.at h.from bytes d else d
 say limit h (Cast bytes) d = queued limit h.at 15 bytes d
-say limit h (Tell to bytes) d = if to == 15 then d else queued limit h.at to bytes d
+say limit h (Tell to bytes) d = if nat_lt to 15 then queued limit h.at to bytes d else d
 say limit h (Refuse reason) d =
-    if (h.to == 15) || ((h.from == 15) || (h.opcode == 0)) then d
-    else queued limit h.at h.from (0x00 ∷ h.opcode ∷ reason ∷ []) d
+    if nat_lt h.to 15 && (nat_lt h.from 15 && not (h.opcode == 0))
+    then queued limit h.at h.from (0x00 ∷ h.opcode ∷ reason ∷ []) d
+    else d
 
 abbrev pub say_all : ℕ → Heard → List Say → State → State
 say_all limit h [] d = d

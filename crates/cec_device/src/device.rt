@@ -135,16 +135,17 @@ impl<const Q: usize> Device<Q> {
         }
     }
 
+    /// Queues an answer to whom the frame came from.
     pub(crate) fn reply(&mut self, heard: Heard, rest: &[u8])
         requires { length rest.now ≤ 15 }
         ensures { self.new ≡ say Q heard (Reply rest.now) self.old }
     {
-        if heard.from.value() == 15 {
-            return;
+        if heard.from.value() < Addr::BROADCAST {
+            self.put(heard.at, heard.from, rest);
         }
-        self.put(heard.at, heard.from, rest);
     }
 
+    /// Queues a frame to all.
     pub(crate) fn cast(&mut self, heard: Heard, rest: &[u8])
         requires { length rest.now ≤ 15 }
         ensures { self.new ≡ say Q heard (Cast rest.now) self.old }
@@ -152,23 +153,25 @@ impl<const Q: usize> Device<Q> {
         self.put(heard.at, Addr::new(15), rest);
     }
 
+    /// Queues a notice.
     pub(crate) fn tell(&mut self, heard: Heard, to: Addr, rest: &[u8])
         requires { length rest.now ≤ 15 }
         ensures { self.new ≡ say Q heard (Tell to rest.now) self.old }
     {
-        if to.value() == 15 {
-            return;
+        if to.value() < Addr::BROADCAST {
+            self.put(heard.at, to, rest);
         }
-        self.put(heard.at, to, rest);
     }
 
     /// Answers with a refusal, where the frame can be answered so.
     pub(crate) fn refuse(&mut self, heard: Heard, reason: u8)
         ensures { self.new ≡ say Q heard (Refuse reason) self.old }
     {
-        if heard.to.value() == 15 || heard.from.value() == 15 || heard.opcode == 0 {
-            return;
+        if heard.to.value() < Addr::BROADCAST
+            && heard.from.value() < Addr::BROADCAST
+            && heard.opcode != 0
+        {
+            self.put(heard.at, heard.from, &[0x00, heard.opcode, reason]);
         }
-        self.put(heard.at, heard.from, &[0x00, heard.opcode, reason]);
     }
 }

@@ -1,11 +1,11 @@
 //! What each message does to a device that follows it.
 ghost use Rattle.std.specs.Prelude.{◌≡◌, ◌≤◌, ◌<◌, ◌∷◌, length};
-ghost use Rattle.cec_device.specs.Say.{effected, say, Reply};
+ghost use Rattle.cec_device.specs.Say.{effected, say, say_all, Reply};
 ghost use Rattle.cec_device.specs.Effects.{effect_of, is_for, followed, by_decoded, heard_of};
 ghost use Rattle.cec_opcode.specs.Table.{decoded_of};
 
 use crate::device::Device;
-use crate::record::{Heard, Note};
+use crate::record::{Heard, Note, copy_of};
 use crate::ways::{below, is_nowhere, port_towards};
 use arrayvec::ArrayVec;
 use cec_frame::{Addr, Frame};
@@ -216,15 +216,6 @@ macro_rules! obey_match {
     };
 }
 
-/// A copy of a text.
-fn copy_of(text: &ArrayVec<u8, 16>) -> ArrayVec<u8, 16>
-    ensures { result ≡ text.now }
-{
-    let mut copy = ArrayVec::new();
-    let _ = copy.try_extend_from_slice(text.as_slice());
-    copy
-}
-
 fn phys(address: &Address) -> Phys
     ensures { result ≡ record { high = address.now.high; low = address.now.low } }
 {
@@ -235,7 +226,7 @@ fn phys(address: &Address) -> Phys
 }
 
 ghost use Rattle.cec_device.specs.State.{type_of};
-ghost use Rattle.cec_device.specs.Effects.{mode_deck, turned, volume_status, standby, routed, streamed, selecting, hears, pressed, told};
+ghost use Rattle.cec_device.specs.Effects.{mode_deck, notice_of, turned, volume_status, standby, routed, streamed, selecting, hears, pressed, told};
 
 fn heard_of(header: u8, opcode: u8, operands: &[u8], at: u64) -> Heard
     ensures { result ≡ heard_of header opcode operands.now at }
@@ -288,17 +279,25 @@ impl<const Q: usize> Device<Q> {
         }
     }
 
-    /// The deck's new state, told to who asked for it where it changed.
-    pub(crate) fn turn(&mut self, heard: Heard, deck: u8)
-        ensures { self.new ≡ effected Q heard (turned self.old.record_of deck) self.old }
+    /// Tells the deck's state to who wants to be told of it, where it changed.
+    pub(crate) fn notify(&mut self, heard: Heard, sub: Option<Addr>, was: u8, deck: u8)
+        ensures { self.new ≡ say_all Q heard (notice_of was sub deck) self.old }
     {
-        let changed = self.record.deck != deck;
-        self.record.deck = deck;
-        if changed {
-            if let Some(sub) = self.record.sub {
+        if was != deck {
+            if let Some(sub) = sub {
                 self.tell(heard, sub, &[0x1b, deck]);
             }
         }
+    }
+
+    /// Turns the deck to a state.
+    pub(crate) fn turn(&mut self, heard: Heard, deck: u8)
+        ensures { self.new ≡ effected Q heard (turned self.old.record_of deck) self.old }
+    {
+        let was = self.record.deck;
+        let sub = self.record.sub;
+        self.record.deck = deck;
+        self.notify(heard, sub, was, deck);
     }
 
     pub(crate) fn audio_status(&self) -> u8

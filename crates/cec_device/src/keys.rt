@@ -1,7 +1,7 @@
 //! The keys of a device.
 ghost use Rattle.std.specs.Prelude.{◌≡◌, ◌≤◌, Some, None, IsTrue, MatchResult, length};
 ghost use Rattle.cec_device.specs.Say.{effected, say, Tell, Cast};
-ghost use Rattle.cec_device.specs.Keys.{own_doing, has_key, code_of, voiced, ported, pressing, releasing, key_fault, keyed};
+ghost use Rattle.cec_device.specs.Keys.{own_doing, has_key, code_of, voiced, ported, taking_over, pressing, releasing, key_fault, keyed};
 
 use crate::device::Device;
 use crate::record::{Heard, Place, Port};
@@ -119,25 +119,30 @@ impl<const Q: usize> Device<Q> {
         self.cast(own_doing(at), rest);
     }
 
-    fn press_play(&mut self, at: u64)
-        ensures { self.new ≡ effected Q (own_doing at) (pressing self.old.kind self.old.phys self.old.record_of Key.Play) self.old }
+    // It is the active source, and tells that to the television and to all.
+    fn take_over(&mut self, at: u64)
+        ensures { self.new ≡ effected Q (own_doing at) (taking_over self.old.phys self.old.record_of) self.old }
     {
         let own = self.phys;
-        let sub = self.record.sub;
-        let turns = self.record.deck != NO_MEDIA && self.record.deck != PLAYING;
-        if self.record.deck != NO_MEDIA {
-            self.record.deck = PLAYING;
-        }
         self.record.power = true;
         self.record.active = Some(own);
         self.record.path = Some(own);
         self.own_tell(at, Addr::new(TELEVISION), &[0x04]);
         self.own_cast(at, &[0x82, own.high, own.low]);
-        if turns {
-            if let Some(sub) = sub {
-                self.own_tell(at, sub, &[0x1b, PLAYING]);
-            }
+    }
+
+    fn press_play(&mut self, at: u64)
+        ensures { self.new ≡ effected Q (own_doing at) (pressing self.old.kind self.old.phys self.old.record_of Key.Play) self.old }
+    {
+        let was = self.record.deck;
+        let sub = self.record.sub;
+        if was == NO_MEDIA {
+            self.take_over(at);
+            return;
         }
+        self.record.deck = PLAYING;
+        self.take_over(at);
+        self.notify(own_doing(at), sub, was, PLAYING);
     }
 
     fn press_power(&mut self, at: u64)

@@ -1,6 +1,6 @@
 //! Why no address is held twice.
 ghost use Rattle.cec_device.specs.Once.{FatesKeepOnce};
-ghost use Rattle.cec_device.specs.Clean.{KeepsClean};
+ghost use Rattle.cec_device.specs.Clean.{KeepsClean, KeepsPlace};
 ghost use Rattle.cec_device.specs.PlaceLaw.{PlaceGoesByFates};
 
 /// The fates of a round keep each address below 15 with one holder.
@@ -16,4 +16,9 @@ pub fn queues_go_elsewhere()
 /// A device stands where all the fates of its polls so far put it.
 pub fn place_goes_by_fates()
     ensures { PlaceGoesByFates }
+{}
+
+/// Only joining, leaving and the fates of polls move a device.
+pub fn only_polls_move()
+    ensures { KeepsPlace }
 {}

@@ -41,7 +41,8 @@ fn first_place(kind: Kind, phys: Phys) -> Place
     }
 }
 
-fn short(name: &[u8]) -> ArrayVec<u8, 14>
+/// A copy of a name.
+pub(crate) fn short(name: &[u8]) -> ArrayVec<u8, 14>
     requires { length name.now ≤ 14 }
     ensures { result.items ≡ name.now }
 {

@@ -1,4 +1,6 @@
 //! What a device remembers.
+ghost use Rattle.std.specs.Prelude.{◌≡◌};
+
 use arrayvec::ArrayVec;
 use cec_frame::Addr;
 use cec_opcode::Triple;
@@ -149,6 +151,40 @@ pub struct Record {
     pub heard: Option<Note>,
     /// Who wants to be told of changes of the deck.
     pub sub: Option<Addr>,
+}
+
+/// A copy of a text.
+pub(crate) fn copy_of(text: &ArrayVec<u8, 16>) -> ArrayVec<u8, 16>
+    ensures { result ≡ text.now }
+{
+    let mut copy = ArrayVec::new();
+    let _ = copy.try_extend_from_slice(text.as_slice());
+    copy
+}
+
+impl Record {
+    /// The same record again.
+    pub fn copy(&self) -> Self
+        ensures { result ≡ self.now }
+    {
+        Record {
+            power: self.power,
+            active: self.active,
+            path: self.path,
+            deck: self.deck,
+            menu: self.menu,
+            audio: self.audio,
+            volume: self.volume,
+            mute: self.mute,
+            arc: self.arc,
+            selected: self.selected,
+            language: self.language,
+            osd: copy_of(&self.osd),
+            held: self.held,
+            heard: self.heard,
+            sub: self.sub,
+        }
+    }
 }
 
 /// A frame that came, but for its operands after the first, and when.

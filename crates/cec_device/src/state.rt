@@ -2,9 +2,11 @@
 ghost use Rattle.std.specs.Prelude.{◌≡◌, ◌≤◌, length};
 ghost use Rattle.cec_device.specs.Place.{front_of, ready_of, is_allocating, is_on_wire};
 
-use crate::device::{Device, framed};
+use crate::device::{Device, Queued, framed};
+use crate::place::short;
 use crate::record::{Place, Record};
 use crate::sending::FreeTime;
+use arrayvec::ArrayVec;
 use cec_frame::Frame;
 use hdmi_cta::{Kind, Phys};
 
@@ -120,5 +122,38 @@ impl<const Q: usize> Device<Q> {
         ensures { result ≡ self.now.dropped }
     {
         self.dropped
+    }
+
+    fn copied_queue(&self) -> ArrayVec<Queued, Q>
+        ensures { result.items ≡ self.now.queue }
+    {
+        let mut copy = ArrayVec::new();
+        for queued in self.queue.as_slice() {
+            copy.push(Queued {
+                frame: queued.frame.copy(),
+                ready: queued.ready,
+            });
+        }
+        copy
+    }
+
+    /// The same device again.
+    pub fn copy(&self) -> Self
+        ensures { result ≡ self.now }
+    {
+        Device {
+            kind: self.kind,
+            name: short(self.name.as_slice()),
+            ports: self.ports,
+            number: self.number,
+            phys: self.phys,
+            place: self.place,
+            record: self.record.copy(),
+            queue: self.copied_queue(),
+            attempts: self.attempts,
+            class: self.class,
+            poll_ready: self.poll_ready,
+            dropped: self.dropped,
+        }
     }
 }
