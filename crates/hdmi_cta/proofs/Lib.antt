@@ -6,3 +6,5 @@ pub mod WholeLemmas
 pub mod SinkLemmas
 pub mod CutShort
 pub mod Digits
+pub mod FirstHdmi
+pub mod Readdressing

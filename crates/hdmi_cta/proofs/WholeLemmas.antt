@@ -3,7 +3,7 @@ use Rattle.std.proofs.Common.{◌≡◌, ℕ, ◌<◌, ◌≤◌, ◌+◌, ◌-�
 use Rattle.std.proofs.Math.Seq.{take-add}
 use Rattle.std.proofs.lemmas.List.{take_all, length-take-le}
 use Rattle.hdmi_edid.proofs.PartLemmas.{piece, checked}
-use Rattle.hdmi_cta.specs.Cta.{summed}
+use Rattle.hdmi_edid.specs.Check.{summed}
 
 pub whole_is : (xs : List ℕ) (a b c d : ℕ) (body : List ℕ) → length xs ≡ 128 → a ≡ get_or xs 0 0 → b ≡ get_or xs 1 0 → c ≡ get_or xs 2 0 → d ≡ get_or xs 3 0
     → body ≡ take 123 (drop 4 xs) → get_or xs 127 0 < 256 → sum xs % 256 ≡ 0 → summed (a ∷ b ∷ c ∷ d ∷ body) ≡ xs

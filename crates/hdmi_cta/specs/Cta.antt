@@ -1,6 +1,5 @@
 -- The bytes of a CTA block.
 use Rattle.std.specs.Prelude.{ℕ, ◌+◌, Bool, ◌||◌, not, nat_lt, List, [], ◌∷◌, ◌++◌, length, flat_map}
-use Rattle.hdmi_edid.specs.Check.{check_of}
 use Rattle.hdmi_edid.specs.Forms.{is_timing}
 use Rattle.hdmi_edid.specs.Timing.{timing_bytes}
 use Rattle.hdmi_edid.specs.declared.timing.Timing.{Timing}
@@ -10,9 +9,6 @@ use Rattle.hdmi_cta.specs.declared.block.Block.{Block}
 -- no timing stands in front
 abbrev pub is_tail : List ℕ → Bool
 is_tail bytes = nat_lt (length bytes) 18 || not (is_timing bytes)
-
-abbrev pub summed : List ℕ → List ℕ
-summed front = front ++ (check_of front ∷ [])
 
 -- flags, data blocks up to the place that the third byte tells, timings, and what is left
 abbrev pub cta_front : ℕ → List Block → List Timing → List ℕ → List ℕ

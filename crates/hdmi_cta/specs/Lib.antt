@@ -5,3 +5,4 @@ pub mod Ext
 pub mod Sink
 pub mod Piece
 pub mod Written
+pub mod Hdmi

@@ -1,6 +1,7 @@
 -- The 128 bytes of a block of the CTA form.
 use Rattle.std.specs.Prelude.{ℕ, List}
-use Rattle.hdmi_cta.specs.Cta.{summed, cta_front, bare_front}
+use Rattle.hdmi_edid.specs.Check.{summed}
+use Rattle.hdmi_cta.specs.Cta.{cta_front, bare_front}
 use Rattle.hdmi_cta.specs.declared.cta.Cta.{Cta}
 use Rattle.hdmi_cta.specs.declared.cta.Bare.{Bare}
 

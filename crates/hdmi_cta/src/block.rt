@@ -71,6 +71,16 @@ impl Default for Block {
 
 impl Block {
     ghost use Rattle.hdmi_cta.specs.Block.{block_bytes};
+    ghost use Rattle.hdmi_cta.specs.Hdmi.{is_hdmi};
+
+    /// Whether it is an HDMI block: a vendor block of five bytes and more that begins 03 0C 00
+    /// (HDMI 1.4, section 8.3.2).
+    pub fn is_hdmi(&self) -> bool
+        ensures { result ≡ is_hdmi self.now }
+    {
+        self.kind == BlockKind::Vendor
+            && matches!(self.payload.as_slice(), [0x03, 0x0c, 0x00, _, _, ..])
+    }
 
     /// Its bytes.
     pub fn write(&self) -> ArrayVec<u8, 32>

@@ -5,7 +5,7 @@ ghost use Rattle.hdmi_edid.specs.Timing.{timing_bytes};
 ghost use Rattle.hdmi_cta.specs.Block.{block_bytes};
 ghost use Rattle.hdmi_cta.specs.Whole.{cta_bytes, bare_bytes};
 ghost use Rattle.hdmi_cta.specs.Ext.{ext_bytes};
-ghost use Rattle.hdmi_cta.specs.Cta.{summed};
+ghost use Rattle.hdmi_edid.specs.Check.{summed};
 ghost use Rattle.hdmi_cta.specs.declared.cta.Cta.{Cta as CtaValue};
 ghost use Rattle.hdmi_cta.specs.declared.cta.Bare.{Bare as BareValue};
 ghost use Rattle.hdmi_cta.specs.declared.raw.Ext.{Ext as ExtValue};
@@ -16,7 +16,7 @@ use crate::parts::{append, part};
 use crate::raw::{Ext, RawExt};
 use crate::reading::{read_blocks, read_timings};
 use arrayvec::ArrayVec;
-use hdmi_edid::{Timing, checksum_of, is_summed};
+use hdmi_edid::{Timing, is_summed};
 
 /// Why 128 bytes are no extension: their sum is wrong.
 #[derive(Clone, Copy, Debug, PartialEq, Eq)]
@@ -102,12 +102,10 @@ fn spelled(head: &[u8; 4], body: &[u8]) -> [u8; 128]
     requires { length body.now ≡ 123 }
     ensures { result ≡ summed (head.now ++ body.now) }
 {
-    let mut block: ArrayVec<u8, 128> = ArrayVec::new();
-    append(&mut block, head);
-    append(&mut block, body);
-    let check = checksum_of(block.as_slice());
-    block.push(check);
-    <[u8; 128]>::try_from(block.as_slice()).unwrap()
+    let mut front: ArrayVec<u8, 127> = ArrayVec::new();
+    append(&mut front, head);
+    append(&mut front, body);
+    hdmi_edid::Block::ending(front.as_slice()).bytes
 }
 
 /// The 128 bytes that spell an extension.

@@ -4,6 +4,7 @@
 mod block;
 mod cta;
 mod ext;
+mod hdmi;
 mod kind;
 mod parts;
 mod phys;
@@ -15,6 +16,7 @@ mod sink;
 pub use block::{Block, BlockKind};
 pub use cta::{Bare, Cta};
 pub use ext::{ExtError, read_ext, write_ext};
+pub use hdmi::{NoHdmiBlock, hdmi_address, with_address};
 pub use kind::Kind;
 pub use phys::Phys;
 pub use piece::{Piece, hex_digit, write_line, write_pieces};

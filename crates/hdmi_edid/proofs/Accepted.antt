@@ -15,8 +15,8 @@ all_accepted : {E : Type 0} (h s r l : Bool) (e f g i : E) → h ≡ true → s 
     → cond (not h) (Some e) (cond (not s) (Some f) (cond (not r) (Some g) (cond (not l) (Some i) None))) ≡ None
 all_accepted h s r l e f g i a b c d = rw (a, b, c, d)
 
-summed : (front : List ℕ) → sum (front ++ (check_of front ∷ [])) % 256 ≡ 0
-summed front = let e = sum_with front (check_of front) in omega (arith, e)
+pub summed_is : (front : List ℕ) → sum (front ++ (check_of front ∷ [])) % 256 ≡ 0
+summed_is front = let e = sum_with front (check_of front) in omega (arith, e)
 
 revised : (b : Base) → has_revision (base_bytes b) ≡ true
 revised b = elim b.revision as (λ v. has_revision (base_bytes (record b { revision = v })) ≡ true) [ Three ↦ refl | Four ↦ refl ]
@@ -52,4 +52,4 @@ made_of_letters b =
     lettered (m.first - 64) (m.second - 64) (m.third - 64) (omega arith) (omega arith) (omega arith) (omega arith) (omega arith) (omega arith)
 
 pub accepted : (b : Base) → refusal (base_bytes b) ≡ None
-accepted b = all_accepted (has_header (base_bytes b)) _ _ _ Header Checksum Revision Maker refl (eq-eqb _ _ (summed (front_bytes b))) (revised b) (made_of_letters b)
+accepted b = all_accepted (has_header (base_bytes b)) _ _ _ Header Checksum Revision Maker refl (eq-eqb _ _ (summed_is (front_bytes b))) (revised b) (made_of_letters b)

@@ -1,7 +1,7 @@
 -- The 128 bytes of a base block.
 use Rattle.std.specs.Prelude.{ℕ, ◌+◌, ◌-◌, ◌%◌, List, [], ◌∷◌, ◌++◌, sum, flat_map}
 use Rattle.std.specs.Int.{w16, w32, to_le_bytes}
-use Rattle.hdmi_edid.specs.Check.{check_of}
+use Rattle.hdmi_edid.specs.Check.{summed}
 use Rattle.hdmi_edid.specs.Chroma.{chroma_bytes}
 use Rattle.hdmi_edid.specs.Descriptor.{descriptor_bytes}
 use Rattle.hdmi_edid.specs.Maker.{maker_bytes}
@@ -27,4 +27,4 @@ abbrev pub front_bytes : Base → List ℕ
 front_bytes b = header ++ (product_bytes b ++ display_bytes b)
 
 abbrev pub base_bytes : Base → List ℕ
-base_bytes b = front_bytes b ++ (check_of (front_bytes b) ∷ [])
+base_bytes b = summed (front_bytes b)

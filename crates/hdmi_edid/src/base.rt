@@ -8,7 +8,8 @@ ghost use Rattle.hdmi_edid.specs.Bytes.{are_bytes};
 ghost use Rattle.hdmi_edid.specs.Revisions.{revision_bytes};
 ghost use Rattle.hdmi_edid.specs.Refusals.{refusal, has_header};
 
-use crate::checksum::{checksum_of, is_summed};
+use crate::block::Block;
+use crate::checksum::is_summed;
 use crate::chroma::Chroma;
 use crate::descriptor::Descriptor;
 use crate::maker::Maker;
@@ -193,14 +194,11 @@ impl Base {
 
     /// The 128 bytes of the block.
     pub fn write(&self) -> [u8; 128]
-        ensures value { result ≡ base_bytes self.now }
-        ensures accepted { refusal result ≡ None }
+        ensures { result ≡ base_bytes self.now }
     {
         let mut block = self.front();
         self.append_display(&mut block);
-        let check = checksum_of(block.as_slice());
-        block.push(check);
-        <[u8; 128]>::try_from(block.as_slice()).unwrap()
+        Block::ending(block.as_slice()).bytes
     }
 }
 

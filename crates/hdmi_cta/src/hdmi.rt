@@ -1,0 +1,114 @@
+//! The physical address in an extension: its first HDMI block tells it.
+ghost use Rattle.std.specs.Prelude.{◌≡◌, ◌↔◌, ◌≤◌, ◌<◌, ◌+◌, ◌-◌, None, Some, IfOk, IsErr, IsTrue, IsSome, OnSome, IfSome, MatchOption, length, flat_map, position, slice_set, take};
+ghost use Rattle.hdmi_cta.specs.Block.{block_bytes};
+ghost use Rattle.hdmi_edid.specs.Check.{summed};
+ghost use Rattle.hdmi_cta.specs.Ext.{ext_bytes};
+ghost use Rattle.hdmi_cta.specs.Hdmi.{is_hdmi, phys_at, blocks_of, address_of, address_place, readdressed};
+
+use crate::block::Block;
+use crate::ext::{read_ext, write_ext};
+use crate::phys::Phys;
+use crate::raw::Ext;
+use byteorder::{BigEndian, ByteOrder};
+use thiserror::Error;
+
+/// An extension has no HDMI block, so no physical address stands in it.
+#[derive(Clone, Copy, Debug, PartialEq, Eq, Error)]
+#[error("no HDMI block")]
+pub struct NoHdmiBlock;
+
+/// The data blocks of an extension.
+fn blocks_of(ext: &Ext) -> &[Block]
+    ensures { result.now ≡ blocks_of ext.now }
+{
+    match ext {
+        Ext::Cta(cta) => cta.blocks.as_slice(),
+        Ext::Bare(_) | Ext::Raw(_) => &[],
+    }
+}
+
+/// The physical address in an HDMI block.
+fn address_in(block: &Block) -> Phys
+    requires { IsTrue (is_hdmi block.now) }
+    ensures { result ≡ phys_at block.now.payload.items }
+{
+    let number = BigEndian::read_u16(&block.payload.as_slice()[3..5]);
+    let [high, low] = number.to_be_bytes();
+    Phys { high, low }
+}
+
+/// How many bytes some data blocks take.
+fn spelled_len(blocks: &[Block]) -> usize
+    requires { length (flat_map block_bytes blocks.now) ≤ 123 }
+    ensures { result ≡ length (flat_map block_bytes blocks.now) }
+{
+    let mut len = 0;
+    for block in blocks {
+        len += 1 + block.payload.len();
+    }
+    len
+}
+
+/// The first HDMI block.
+fn first_hdmi(blocks: &[Block]) -> Option<usize>
+    ensures { result ≡ position is_hdmi blocks.now }
+{
+    blocks.iter().position(|block| block.is_hdmi())
+}
+
+/// Where the address of the first HDMI block stands in the block's bytes.
+fn address_place(ext: &Ext) -> Option<usize>
+    ensures { MatchOption result (address_of ext.now ≡ None)
+        (λ place. (place ≡ address_place (blocks_of ext.now)) × (place < 126) × IsSome (address_of ext.now)) }
+{
+    let blocks = blocks_of(ext);
+    let index = first_hdmi(blocks)?;
+    Some(8 + spelled_len(&blocks[..index]))
+}
+
+/// Writes an address at a place.
+fn put_address(bytes: &mut [u8], place: usize, address: Phys)
+    requires { place + 1 < length bytes.old }
+    ensures { bytes.new ≡ slice_set (slice_set bytes.old place address.high) (place + 1) address.low }
+{
+    let number = u16::from_be_bytes([address.high, address.low]);
+    BigEndian::write_u16(&mut bytes[place..place + 2], number);
+}
+
+/// A block with its checksum mended.
+fn sealed(block: &[u8]) -> [u8; 128]
+    requires { length block.now ≡ 128 }
+    ensures { result ≡ summed (take 127 block.now) }
+{
+    let (front, _) = block.split_at(127);
+    hdmi_edid::Block::ending(front).bytes
+}
+
+/// A block's bytes with another address at a place, and the checksum mended.
+fn readdressed(bytes: &[u8; 128], place: usize, address: Phys) -> [u8; 128]
+    requires { place < 126 }
+    ensures { result ≡ readdressed bytes.now place address }
+{
+    let mut bytes = *bytes;
+    put_address(&mut bytes, place, address);
+    sealed(&bytes)
+}
+
+/// The physical address that the first HDMI block tells, where there is one.
+pub fn hdmi_address(ext: &Ext) -> Option<Phys>
+    ensures { result ≡ address_of ext.now }
+{
+    let block = blocks_of(ext).iter().find(|block| block.is_hdmi())?;
+    Some(address_in(block))
+}
+
+/// The extension with another physical address: the two bytes of the address in the first HDMI
+/// block change, and the checksum; all other bytes stay. Without an HDMI block it is refused.
+pub fn with_address(ext: &Ext, address: Phys) -> Result<Ext, NoHdmiBlock>
+    ensures bytes { IfOk result (λ e. ext_bytes e ≡ readdressed (ext_bytes ext.now) (address_place (blocks_of ext.now)) address) }
+    ensures addressed { IfOk result (λ e. address_of e ≡ Some address) }
+    ensures refused { IsErr result ↔ (address_of ext.now ≡ None) }
+{
+    let place = address_place(ext).ok_or(NoHdmiBlock)?;
+    Ok(read_ext(&readdressed(&write_ext(ext), place, address)).unwrap())
+}
