@@ -15,7 +15,8 @@ use Rattle.hdmi_cta.proofs.OneExt.{one_ext}
 use Rattle.hdmi_cta.specs.Block.{block_bytes}
 use Rattle.hdmi_edid.specs.Timing.{timing_bytes}
 use Rattle.hdmi_cta.specs.Ext.{ext_bytes}
-use Rattle.hdmi_cta.specs.Cta.{summed, cta_front, bare_front}
+use Rattle.hdmi_edid.specs.Check.{summed}
+use Rattle.hdmi_cta.specs.Cta.{cta_front, bare_front}
 use Rattle.hdmi_cta.specs.declared.raw.Ext.{Ext as AnyExt}
 use Rattle.hdmi_cta.specs.declared.raw.Ext.TheVariants.{Cta, Bare, Raw}
 use Rattle.hdmi_edtext.proofs.BaseLemmas.{base_len, base_count}
