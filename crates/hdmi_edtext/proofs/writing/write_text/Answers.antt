@@ -1,0 +1,41 @@
+use Rattle.std.proofs.Common.{◌≡◌, ◌+◌, ◌*◌, ◌<◌, ◌≤◌, length, take, flat_map, Some, None, slice_get, subst, sym, ◌∙◌, ap, arith, rules, length-append}
+use Rattle.std.specs.Io.KnownBytes.{Appends}
+use Rattle.std.proofs.lemmas.Option.{slice_get_within}
+use Rattle.hdmi_edtext.specs.Lines.{edid_lines, edid_text}
+use Rattle.hdmi_edtext.specs.Text.{line_text}
+use Rattle.hdmi_edtext.proofs.Gets.{few_lines}
+use Rattle.hdmi_edtext.proofs.Writes.{wrote_more, wrote_all, cut_line, text_more}
+use Rattle.hdmi_edtext.proofs.writing.write_text.Goals as goal
+
+pub returns-in-Err : goal.returns-in-Err
+returns-in-Err g c =
+    let i = c.loop-line.invariant in
+    let same : c.as_slice.result.now ≡ line_text c.in-Some.line = c.as_slice.ensures.value ∙ c.write-text.ensures in
+    let fault = c.in-Err.ensures.err in
+    let cut = cut_line (edid_lines c.args.edid.now) c.loop-line.number c.in-Err.fault.count c.loop-line.written c.in-Some.line c.as_slice.result.now _ _ _ same c.in-Some.ensures i.count
+    fault.0 i.so_far fault.1 in
+    (cut.0, cut.1, c.in-Err.ensures.stuck)
+
+pub loop-line-preserved : goal.loop-line-preserved
+loop-line-preserved g c =
+    let i = c.loop-line.invariant in
+    let same : c.as_slice.result.now ≡ line_text c.in-Some.line = c.as_slice.ensures.value ∙ c.write-text.ensures in
+    let more = text_more (edid_lines c.args.edid.now) c.loop-line.number c.in-Some.line c.in-Some.ensures in
+    let len = ap length more ∙ length-append (flat_map line_text (take c.loop-line.number (edid_lines c.args.edid.now))) (line_text c.in-Some.line) in
+    let there = slice_get_within (edid_lines c.args.edid.now) c.loop-line.number c.in-Some.line c.in-Some.ensures in
+    let few = few_lines c.args.edid.now in
+    let count = i.count in
+    let bound = i.bound in
+    let size = ap length c.write-text.ensures in
+    record {
+      so_far = wrote_more (edid_lines c.args.edid.now) c.loop-line.number c.in-Some.line c.as_slice.result.now _ _ _ same c.in-Some.ensures i.so_far c.in_default-put_all.ensures.ok;
+      flag = c.in_default-put_all.ensures.same ∙ i.flag;
+      count = omega (arith, len, count, size, c.len.ensures.value);
+      bound = omega (arith, bound, c.len.ensures.fits);
+      few = omega (arith, there, few);
+    }
+
+pub returns : goal.returns
+returns g c =
+    let i = c.loop-line.invariant in
+    (wrote_all (edid_lines c.args.edid.now) c.loop-line.number _ _ c.in_default.ensures i.so_far, i.flag)

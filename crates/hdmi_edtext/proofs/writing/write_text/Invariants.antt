@@ -1,0 +1,17 @@
+use Rattle.std.proofs.Common.{◌≡◌, ◌≤◌, ◌*◌, ◌-◌, length, take, flat_map}
+use Rattle.std.specs.Io.KnownBytes.{Appends}
+use Rattle.hdmi_edtext.specs.Text.{line_text}
+use Rattle.hdmi_edtext.specs.Lines.{edid_lines}
+use Rattle.hdmi_edtext.proofs.writing.write_text.Given as goal
+
+abbrev pub invariant-loop-line : goal.invariant-loop-line
+invariant-loop-line g l = record {
+  so_far : Appends (g.S.Sink.contents l.fn.out) (g.S.Sink.contents l.out) (flat_map line_text (take l.number (edid_lines l.edid)));
+  flag : g.S.Sink.is_stuck l.out ≡ g.S.Sink.is_stuck l.fn.out;
+  count : l.written ≡ length (flat_map line_text (take l.number (edid_lines l.edid)));
+  bound : l.written ≤ 300 * l.number;
+  few : l.number ≤ 148;
+}
+
+abbrev pub decreases-loop-line : goal.decreases-loop-line
+decreases-loop-line g l = 149 - l.number

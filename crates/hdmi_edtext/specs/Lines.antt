@@ -1,0 +1,134 @@
+-- The lines of an EDID's text (own: this text is the project's).
+use Rattle.std.specs.Prelude.{ℕ, ◌+◌, ◌==◌, Bool, ◌&&◌, nat_le, List, [], ◌∷◌, ◌++◌, length, map, drop, slice_index, Option, Some, None, option_to_list, codes, flat_map, if◌then◌else◌}
+use Rattle.hdmi_edid.specs.declared.base.Base.{Base}
+use Rattle.hdmi_edid.specs.declared.base.Revision.{Revision}
+use Rattle.hdmi_edid.specs.declared.base.Revision.TheVariants.{Three, Four}
+use Rattle.hdmi_edid.specs.declared.descriptor.Descriptor.{Descriptor}
+use Rattle.hdmi_edid.specs.declared.descriptor.Descriptor.TheVariants.{Timing as OfTiming, Name as OfName, Text as OfText, SerialText as OfSerialText, Range as OfRange, Dummy as OfDummy, Raw as OfRaw}
+use Rattle.hdmi_edid.specs.declared.standard.Standard.{Standard as StandardTiming}
+use Rattle.hdmi_edid.specs.declared.timing.Timing.{Timing as DetailedTiming}
+use Rattle.hdmi_cta.specs.declared.block.Block.{Block}
+use Rattle.hdmi_cta.specs.declared.block.BlockKind.{BlockKind}
+use Rattle.hdmi_cta.specs.declared.block.BlockKind.TheVariants.{Tag0 as OfTag0, Audio as OfAudio, Video as OfVideo, Vendor as OfVendor, Speakers as OfSpeakers, Tag5 as OfTag5, Tag6 as OfTag6, Extended as OfExtended}
+use Rattle.hdmi_cta.specs.declared.cta.Cta.{Cta as CtaBlock}
+use Rattle.hdmi_cta.specs.declared.cta.Bare.{Bare as BareBlock}
+use Rattle.hdmi_cta.specs.declared.raw.Ext.{Ext as Extension}
+use Rattle.hdmi_cta.specs.declared.raw.Ext.TheVariants.{Cta as OfCta, Bare as OfBare, Raw as OfRawExt}
+use Rattle.hdmi_edtext.specs.Text.{line_text}
+use Rattle.hdmi_edtext.specs.declared.edid.Edid.{Edid as WholeEdid}
+use Rattle.hdmi_edtext.specs.declared.line.Word.{Word}
+use Rattle.hdmi_edtext.specs.declared.line.Word.TheVariants.{Edid, Maker, Product, Serial, Made, Input, Size, Gamma, Features, Chroma, Established, Standard, Timing, Name, Text, SerialText, Range, Dummy, Raw, Cta, CtaNone, Tag0, Audio, Video, Vendor, Speakers, Tag5, Tag6, Extended, Hdmi, Tail, Ext}
+use Rattle.hdmi_edtext.specs.declared.line.Fields.TheVariants.{Nothing, Letters, Numbers, Timed, Bytes, Address, Quoted}
+use Rattle.hdmi_edtext.specs.declared.line.Line.{Line}
+
+abbrev pub letters_line : Word → List ℕ → Line
+letters_line word letters = record { word = word; fields = Letters (record { items = letters }) }
+
+abbrev pub numbers_line : Word → List ℕ → Line
+numbers_line word numbers = record { word = word; fields = Numbers (record { items = numbers }) }
+
+abbrev pub bytes_line : Word → List ℕ → Line
+bytes_line word bytes = record { word = word; fields = Bytes (record { items = bytes }) }
+
+abbrev pub quoted_line : Word → List ℕ → Line
+quoted_line word chars = record { word = word; fields = Quoted (record { items = chars }) }
+
+abbrev pub revision_letters : Revision → List ℕ
+revision_letters Three = codes "1.3"
+revision_letters Four = codes "1.4"
+
+-- width, aspect bits, rate
+abbrev pub standard_line : Option StandardTiming → Line
+standard_line None = letters_line Standard (codes "unused")
+standard_line (Some s) = numbers_line Standard (s.width ∷ s.aspect ∷ s.rate ∷ [])
+
+-- clock; active and blanking, horizontally and vertically; sync offset and width, in the same way; millimetres; borders
+abbrev pub timing_numbers : DetailedTiming → List ℕ
+timing_numbers t =
+    t.clock ∷ t.horizontal_active ∷ t.horizontal_blanking ∷ t.vertical_active ∷ t.vertical_blanking ∷
+    t.horizontal_sync_offset ∷ t.horizontal_sync_width ∷ t.vertical_sync_offset ∷ t.vertical_sync_width ∷
+    t.width ∷ t.height ∷ t.horizontal_border ∷ t.vertical_border ∷ []
+
+-- the flags stand last, in hex
+abbrev pub timing_line : DetailedTiming → Line
+timing_line t = record { word = Timing; fields = Timed (record { items = timing_numbers t }) t.flags }
+
+abbrev pub descriptor_line : Descriptor → Line
+descriptor_line (OfTiming t) = timing_line t
+descriptor_line (OfName t) = quoted_line Name t.chars.items
+descriptor_line (OfText t) = quoted_line Text t.chars.items
+descriptor_line (OfSerialText t) = quoted_line SerialText t.chars.items
+descriptor_line (OfRange limits) = bytes_line Range limits.bytes
+descriptor_line OfDummy = record { word = Dummy; fields = Nothing }
+descriptor_line (OfRaw raw) = bytes_line Raw raw.bytes
+
+-- what stands once in each base block
+abbrev pub head_lines : Base → List Line
+head_lines b =
+    letters_line Edid (revision_letters b.revision) ∷
+    letters_line Maker (b.maker.first ∷ b.maker.second ∷ b.maker.third ∷ []) ∷
+    numbers_line Product (b.product ∷ []) ∷
+    numbers_line Serial (b.serial ∷ []) ∷
+    numbers_line Made (b.week ∷ b.year ∷ []) ∷
+    bytes_line Input (b.input ∷ []) ∷
+    numbers_line Size (b.width ∷ b.height ∷ []) ∷
+    numbers_line Gamma (b.gamma ∷ []) ∷
+    bytes_line Features (b.features ∷ []) ∷
+    numbers_line Chroma (b.chroma.red.x ∷ b.chroma.red.y ∷ b.chroma.green.x ∷ b.chroma.green.y ∷ b.chroma.blue.x ∷ b.chroma.blue.y ∷ b.chroma.white.x ∷ b.chroma.white.y ∷ []) ∷
+    bytes_line Established b.established ∷ []
+
+abbrev pub base_lines : Base → List Line
+base_lines b = head_lines b ++ (map standard_line b.standard ++ map descriptor_line b.descriptors)
+
+abbrev pub kind_word : BlockKind → Word
+kind_word OfTag0 = Tag0
+kind_word OfAudio = Audio
+kind_word OfVideo = Video
+kind_word OfVendor = Vendor
+kind_word OfSpeakers = Speakers
+kind_word OfTag5 = Tag5
+kind_word OfTag6 = Tag6
+kind_word OfExtended = Extended
+
+-- the payload of a vendor block that is HDMI's: the identifier 000C03, low byte first, and two address bytes (HDMI 1.4, 8.3.2)
+abbrev pub is_hdmi : List ℕ → Bool
+is_hdmi p = nat_le 5 (length p) && (slice_index p 0 == 3) && (slice_index p 1 == 12) && (slice_index p 2 == 0)
+
+abbrev pub address_line : List ℕ → Line
+address_line p = record { word = Hdmi; fields = Address (record { high = slice_index p 3; low = slice_index p 4 }) (record { items = drop 5 p }) }
+
+abbrev pub vendor_line : List ℕ → Line
+vendor_line p = if is_hdmi p then address_line p else bytes_line Vendor p
+
+abbrev pub payload_line : BlockKind → List ℕ → Line
+payload_line OfVendor p = vendor_line p
+payload_line kind p = bytes_line (kind_word kind) p
+
+abbrev pub block_line : Block → Line
+block_line b = payload_line b.kind b.payload.items
+
+-- bytes without their trailing zeros
+abbrev pub trimmed : List ℕ → List ℕ
+trimmed [] = []
+trimmed (b ∷ bs) = if (b == 0) && (length (trimmed bs) == 0) then [] else b ∷ trimmed bs
+
+abbrev pub tail_line : List ℕ → Line
+tail_line bytes = bytes_line Tail (trimmed bytes)
+
+abbrev pub cta_lines : CtaBlock → List Line
+cta_lines c = bytes_line Cta (c.flags ∷ []) ∷ (map block_line c.blocks.items ++ (map timing_line c.timings.items ++ (tail_line c.tail.items ∷ [])))
+
+abbrev pub bare_lines : BareBlock → List Line
+bare_lines b = bytes_line CtaNone (b.flags ∷ []) ∷ tail_line b.tail ∷ []
+
+abbrev pub ext_lines : Extension → List Line
+ext_lines (OfCta c) = cta_lines c
+ext_lines (OfBare b) = bare_lines b
+ext_lines (OfRawExt r) = bytes_line Ext r.bytes ∷ []
+
+abbrev pub edid_lines : WholeEdid → List Line
+edid_lines e = base_lines e.base ++ flat_map ext_lines (option_to_list e.ext)
+
+-- the whole text
+abbrev pub edid_text : WholeEdid → List ℕ
+edid_text e = flat_map line_text (edid_lines e)

@@ -1,0 +1,56 @@
+use crate::{EdidError, edid_from_bytes, edid_to_bytes, write_text};
+use hdmi_cta::{ExtError, Writes};
+use std::test::Fail;
+
+/// A base block with one extension to follow.
+const BLOCK: &str =
+    "00ffffffffffff004c2d0201010000000a15010380341d780aee91a3544c99260f505400000001010101010101010101010101010101023a801871382d40582c450008222100001e000000fc004c4f554e4745205456203030310000001000000000000000000000000000000000001000000000000000000000000000000151";
+
+/// The front of an extension with four data blocks, up to its zeros.
+const EXTENSION: &str = "020316f143900403230907078301000065030c000000";
+
+const TEXT: &str =
+    "edid 1.3\nmaker SAM\nproduct 258\nserial 1\nmade 10 2011\ninput 80\nsize 52 29\ngamma 120\nfeatures 0a\nchroma 655 338 307 614 154 61 320 337\nestablished 000000\nstandard unused\nstandard unused\nstandard unused\nstandard unused\nstandard unused\nstandard unused\nstandard unused\nstandard unused\ntiming 14850 1920 280 1080 45 88 44 4 5 520 290 0 0 1e\nname \"LOUNGE TV 001\"\ndummy\ndummy\ncta f1\nvideo 900403\naudio 090707\nspeakers 010000\nhdmi 0.0.0.0 -\ntail -\n";
+
+/// The bytes of the base block and the extension.
+fn both_blocks(rt: &HostRuntime) -> Result<Vec<u8>, Fail> {
+    let mut bytes = hex::decode(rt.alloc(), BLOCK)?;
+    let front = hex::decode(rt.alloc(), EXTENSION)?;
+    bytes.extend_from_slice(&front)?;
+    for _ in front.len()..127 {
+        bytes.push(0)?;
+    }
+    bytes.push(0xe8)?;
+    Ok(bytes)
+}
+
+#[test]
+fn writes_the_text_of_two_blocks(rt: HostRuntime) -> Result<(), Fail> {
+    let bytes = both_blocks(&rt)?;
+    let edid = edid_from_bytes(&bytes)?;
+    let mut text = Vec::new(rt.alloc());
+    let mut out = Writes::new(&mut text);
+    assert_eq!(rt; write_text(&edid, &mut out), Ok(()));
+    assert_eq!(rt; text.as_slice(), TEXT.as_bytes());
+    assert_eq!(rt; edid_to_bytes(&edid).as_slice(), bytes.as_slice());
+    Ok(())
+}
+
+#[test]
+fn refuses_wrong_lengths_counts_and_sums(rt: HostRuntime) -> Result<(), Fail> {
+    let mut bytes = both_blocks(&rt)?;
+    let all = bytes.as_slice();
+    let short = all.get(..127).ok_or("no bytes")?;
+    assert!(rt; matches!(edid_from_bytes(short), Err(EdidError::Length)));
+    let first = all.get(..128).ok_or("no block")?;
+    assert!(rt; matches!(edid_from_bytes(first), Err(EdidError::Count)));
+    let _ = bytes.pop();
+    bytes.push(0xe9)?;
+    assert!(rt;
+        matches!(
+            edid_from_bytes(&bytes),
+            Err(EdidError::Ext(1, ExtError::Checksum))
+        )
+    );
+    Ok(())
+}
