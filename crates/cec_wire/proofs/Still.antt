@@ -1,0 +1,140 @@
+-- Before a round begins, and once it is over, the line is high.
+use Rattle.std.proofs.Common.{◌≡◌, ℕ, zero, suc, ◌+◌, ◌-◌, ◌*◌, ◌%◌, ◌==◌, ◌<◌, ◌≤◌, Bool, true, false, not, ◌&&◌, ◌||◌, nat_lt, nat_le, if◌then◌else◌, List, [], ◌∷◌, ◌++◌, length, ◌⊎◌, inl, inr, Option, Some, None, is_none, refl, arith, ap, ◌∙◌, sym, subst}
+use Rattle.std.specs.List.{list_any, All}
+use Rattle.std.proofs.lemmas.Bool.{cases_lt}
+use Rattle.std.proofs.lemmas.Bool.Decides.{nat_tests}
+use Rattle.cec_wave.specs.declared.Stretch.{Stretch}
+use Rattle.cec_wave.specs.Line.{Line, line_of, covers, was_low, is_rise}
+use Rattle.cec_wave.specs.Pulses.{AreSparse, IsNarrow}
+use Rattle.cec_wave.specs.Sender.{sender_stretches}
+use Rattle.cec_frame.specs.Bits.{frame_bits}
+use Rattle.cec_bits.specs.Reading.{Read, Slot, End, Known, known, reading_of}
+use Rattle.cec_bits.proofs.Causes.{known_start_low, nothing}
+use Rattle.cec_wire.specs.declared.Seat.{Seat}
+use Rattle.cec_wire.specs.declared.hearing.Ended.{Ended}
+use Rattle.cec_wire.specs.Round.{goes_on, out_slot, sender_pulls, winning_frames, pulse_pulls, is_acknowledged, is_broken, pulled, IsRoundLine}
+use Rattle.cec_wire.proofs.Differ.{In, in_any}
+use Rattle.cec_wire.proofs.Lows.{far_apart}
+use Rattle.cec_wire.proofs.Lays.{before_start}
+use Rattle.cec_wire.proofs.Early.{and_left, and_right, or_cases}
+use Rattle.cec_wire.proofs.Law.{all_in}
+use Rattle.cec_wire.proofs.Stands.{end_of, AtEnd}
+
+-- ---- before the round
+
+pub high_before : (seats : List Seat) (begin : ℕ) (pulses : List Stretch) (low : Line) → IsRoundLine seats begin pulses low → (u : ℕ) → u < begin → low u ≡ false
+unfolding nothing
+high_before seats begin pulses low line u l = by_low (low u) refl
+  where
+    k : known u (reading_of low begin) ≡ nothing
+    k = known_start_low low begin u (omega arith) (λ v a b. absurd (omega arith))
+    none_of : pulled seats begin pulses (was_low low u) nothing u ≡ true → ⊥
+    none_of h =
+        elim (or_cases (list_any (pulse_pulls begin None (was_low low u) u) pulses) _ h) [
+          inl a ↦ (let r = in_any (pulse_pulls begin None (was_low low u) u) pulses a in
+            let c : nat_le r.0.from u ≡ true = and_left (nat_le r.0.from u) (nat_lt u r.0.to) (and_left (nat_le r.0.from u && nat_lt u r.0.to) _ r.2) in
+            let d : nat_le begin r.0.from ≡ true = and_left (nat_le begin r.0.from) true (and_right (nat_le r.0.from u && nat_lt u r.0.to) _ r.2) in
+            early r.0.from c d)
+        | inr b ↦ elim (or_cases (list_any (sender_pulls begin nothing u) (winning_frames seats)) _ b) [
+            inl a ↦ (let r = in_any (sender_pulls begin nothing u) (winning_frames seats) a in
+              let e : true ≡ false = sym (and_left (line_of (sender_stretches begin (frame_bits r.0)) u) _ r.2) ∙ before_start (frame_bits r.0) begin u l in cc)
+          | inr a ↦ cc ] ]
+      where
+        early : (from : ℕ) → nat_le from u ≡ true → nat_le begin from ≡ true → ⊥
+        early from c d = let a : from ≤ u = grind (arith, nat_tests) in let b : begin ≤ from = grind (arith, nat_tests) in omega arith
+    by_low : (b : Bool) → low u ≡ b → low u ≡ false
+    by_low false e = e
+    by_low true e = absurd (none_of (sym (ap (λ (n : Known). pulled seats begin pulses (was_low low u) n u) k) ∙ sym (line u) ∙ e))
+
+-- so the line does not rise as the round begins
+pub no_rise : (seats : List Seat) (begin : ℕ) (pulses : List Stretch) (low : Line) → IsRoundLine seats begin pulses low → (t : ℕ) → t ≡ begin → is_rise low t ≡ false
+no_rise seats begin pulses low line zero e = and_no (not (low zero))
+  where
+    and_no : (b : Bool) → (b && false) ≡ false
+    and_no true = refl
+    and_no false = refl
+no_rise seats begin pulses low line (suc t) e =
+    let h : low (suc t - 1) ≡ false = high_before seats begin pulses low line (suc t - 1) (omega arith) in
+    let p : nat_lt 0 (suc t) ≡ true = grind (arith, nat_tests) in
+    ap (λ b. not (low (suc t)) && (b && low (suc t - 1))) p ∙ ap (λ b. not (low (suc t)) && (true && b)) h ∙ and_no (not (low (suc t)))
+  where
+    and_no : (b : Bool) → (b && false) ≡ false
+    and_no true = refl
+    and_no false = refl
+
+-- ---- after it
+
+abbrev pub PulseOver : List Stretch → ℕ → (ℕ → Type 0) → Type 0
+PulseOver pulses u P = (p : Stretch) × In p pulses × (covers p u ≡ true) × P p.from
+
+-- 3,600 after the ending only a pulse pulls: one that the round took, or one that touches a low line
+pulse_only : (seats : List Seat) (begin : ℕ) (pulses : List Stretch) (low : Line) (t : ℕ) (bits : List Bool) (e : Ended) (held : ℕ) → IsRoundLine seats begin pulses low → AtEnd seats low begin t bits e held
+    → (u : ℕ) → e.at + 3600 ≤ u → low u ≡ true → PulseOver pulses u (λ from. (from ≤ e.until) ⊎ (was_low low u ≡ true))
+pulse_only seats begin pulses low t bits e held line s u l h =
+    elim (or_cases (list_any (pulse_pulls begin (Some (end_of e)) (was_low low u) u) pulses) _ made) [
+      inl a ↦ (let r = in_any (pulse_pulls begin (Some (end_of e)) (was_low low u) u) pulses a in
+        (r.0, r.1, and_left (covers r.0 u) _ r.2, taken r.0 (or_cases (nat_le r.0.from e.until) (was_low low u) (and_right (nat_le begin r.0.from) _ (and_right (covers r.0 u) _ r.2)))))
+    | inr b ↦ elim (or_cases (list_any (sender_pulls begin k u) (winning_frames seats)) _ b) [
+        inl a ↦ (let r = in_any (sender_pulls begin k u) (winning_frames seats) a in
+          absurd (stopped (sym (ap (λ (n : Option End). goes_on n u) (ap (λ (n : Known). n.ended) knows)) ∙ and_right (is_none (out_slot k (frame_bits r.0))) (goes_on k.ended u) (and_right (line_of (sender_stretches begin (frame_bits r.0)) u) _ r.2))))
+      | inr a ↦ absurd (let_go (sym (s.holds u past) ∙ a)) ] ]
+  where
+    k : Known
+    k = known u (reading_of low begin)
+    past : e.until < u
+    past = omega (arith, s.later)
+    knows : known u (reading_of low begin) ≡ record { slots = s.zs; ended = Some (end_of e) }
+    knows = s.knows u past
+    made : (list_any (pulse_pulls begin (Some (end_of e)) (was_low low u) u) pulses || (list_any (sender_pulls begin k u) (winning_frames seats) || (is_acknowledged seats k u || is_broken seats k u k.ended))) ≡ true
+    made = sym (ap (λ (n : Option End). list_any (pulse_pulls begin n (was_low low u) u) pulses || (list_any (sender_pulls begin k u) (winning_frames seats) || (is_acknowledged seats k u || is_broken seats k u k.ended))) (ap (λ (n : Known). n.ended) knows))
+        ∙ sym (line u) ∙ h
+    taken : (p : Stretch) → (nat_le p.from e.until ≡ true) ⊎ (was_low low u ≡ true) → (p.from ≤ e.until) ⊎ (was_low low u ≡ true)
+    taken p (inl a) = inl (let x : p.from ≤ e.until = grind (arith, nat_tests) in x)
+    taken p (inr a) = inr a
+    stopped : nat_le u e.at ≡ true → ⊥
+    stopped g = let x : u ≤ e.at = grind (arith, nat_tests) in omega arith
+    let_go : nat_lt u held ≡ true → ⊥
+    let_go g = let x : u < held = grind (arith, nat_tests) in omega (arith, s.brief)
+
+was_before : (low : Line) (u : ℕ) → was_low low u ≡ true → low (u - 1) ≡ true
+was_before low u h = and_right (nat_lt 0 u) (low (u - 1)) h
+
+bounds : (p : Stretch) (u : ℕ) → covers p u ≡ true → (p.from ≤ u) × (u < p.to)
+bounds p u h =
+    let a : nat_le p.from u ≡ true = and_left (nat_le p.from u) (nat_lt u p.to) h in
+    let b : nat_lt u p.to ≡ true = and_right (nat_le p.from u) (nat_lt u p.to) h in
+    (let x : p.from ≤ u = grind (arith, nat_tests) in x, let y : u < p.to = grind (arith, nat_tests) in y)
+
+-- two pulses never meet
+meet : (pulses : List Stretch) → AreSparse pulses → (p q : Stretch) → In p pulses → In q pulses → (u : ℕ) → covers p u ≡ true → covers q (u - 1) ≡ true → q.from < p.from → ⊥
+meet pulses sparse p q i j u c d l =
+    let n : IsNarrow q = all_in IsNarrow pulses sparse.narrow q j in
+    omega (arith, far_apart pulses sparse.far sparse.narrow q p j i l, n.1, bounds p u c, bounds q (u - 1) d)
+
+-- such a pulse began by then
+pulse_held : (seats : List Seat) (begin : ℕ) (pulses : List Stretch) (low : Line) (t : ℕ) (bits : List Bool) (e : Ended) (held : ℕ) → IsRoundLine seats begin pulses low → AreSparse pulses → AtEnd seats low begin t bits e held
+    → (n : ℕ) → low (e.at + 3600 + n) ≡ true → PulseOver pulses (e.at + 3600 + n) (λ from. from ≤ e.at + 3600)
+pulse_held seats begin pulses low t bits e held line sparse s zero h =
+    let p = pulse_only seats begin pulses low t bits e held line s (e.at + 3600 + zero) (omega arith) h in
+    (p.0, p.1, p.2, omega (arith, bounds p.0 (e.at + 3600 + zero) p.2))
+pulse_held seats begin pulses low t bits e held line sparse s (suc n) h =
+    let u : ℕ = e.at + 3600 + suc n in
+    let p = pulse_only seats begin pulses low t bits e held line s (e.at + 3600 + suc n) (omega arith) h in
+    elim (cases_lt (e.at + 3600) p.0.from) [
+      inr le ↦ (p.0, p.1, p.2, le)
+    | inl late ↦ elim p.3 [
+        inl a ↦ absurd (omega (arith, a, s.later))
+      | inr w ↦ (let before : low (e.at + 3600 + n) ≡ true = ap low (let x : e.at + 3600 + n ≡ e.at + 3600 + suc n - 1 = omega arith in x) ∙ was_before low (e.at + 3600 + suc n) w in
+          let q = pulse_held seats begin pulses low t bits e held line sparse s n before in
+          absurd (meet pulses sparse p.0 q.0 p.1 q.1 (e.at + 3600 + suc n) p.2 (ap (covers q.0) (let x : e.at + 3600 + suc n - 1 ≡ e.at + 3600 + n = omega arith in x) ∙ q.2) (omega (arith, q.3, late)))) ] ]
+
+pub high_after : (seats : List Seat) (begin : ℕ) (pulses : List Stretch) (low : Line) (t : ℕ) (bits : List Bool) (e : Ended) (held : ℕ) → IsRoundLine seats begin pulses low → AreSparse pulses → AtEnd seats low begin t bits e held
+    → (u : ℕ) → e.at + 6600 ≤ u → low u ≡ false
+high_after seats begin pulses low t bits e held line sparse s u l = by_low (low u) refl
+  where
+    by_low : (b : Bool) → low u ≡ b → low u ≡ false
+    by_low false h = h
+    by_low true h =
+        let p = pulse_held seats begin pulses low t bits e held line sparse s (u - (e.at + 3600)) (ap low (let x : e.at + 3600 + (u - (e.at + 3600)) ≡ u = omega arith in x) ∙ h) in
+        let n : IsNarrow p.0 = all_in IsNarrow pulses sparse.narrow p.0 p.1 in
+        absurd (omega (arith, n.1, p.3, bounds p.0 (e.at + 3600 + (u - (e.at + 3600))) p.2))

@@ -1,0 +1,218 @@
+-- The parts of a wire that goes from microsecond to microsecond: where the reading has come, who goes on
+-- sending, and how long those who follow hold the line low. (own)
+use Rattle.std.specs.Prelude.{◌≡◌, ℕ, ◌+◌, ◌-◌, ◌%◌, ◌==◌, ◌<◌, ◌≤◌, Bool, true, false, not, nat_lt, nat_le, ◌&&◌, ◌||◌, if◌then◌else◌, List, [], ◌∷◌, ◌++◌, length, slice_index_or, Option, Some, None, is_none, All}
+use Rattle.std.specs.List.{list_any, find, range_with_len}
+use mathlib.Core.Bool.{beq}
+use Rattle.cec_wave.specs.declared.Stretch.{Stretch}
+use Rattle.cec_wave.specs.Line.{covers, line_of, IsWave}
+use Rattle.cec_wave.specs.Sender.{sender_stretches}
+use Rattle.cec_frame.specs.Bits.{frame_bits, comes_before}
+use Rattle.cec_frame.specs.declared.Ending.{Ending}
+use Rattle.cec_frame.specs.declared.Ending.TheVariants.{Complete, Short, Silent, BadStart, Long, Open}
+use Rattle.cec_bits.specs.Reading.{last_ending}
+use Rattle.cec_wire.specs.declared.Seat.{Seat}
+use Rattle.cec_wire.specs.declared.hearing.Ended.{Ended}
+use Rattle.cec_wire.specs.declared.hearing.Place.{Place}
+use Rattle.cec_wire.specs.declared.hearing.Place.TheVariants.{StartLow, StartHigh, InSlot, Over}
+use Rattle.cec_wire.specs.Round.{bit_read, destination, holds_address, is_not_before, lost_at}
+use Rattle.cec_wire.specs.declared.Loser.{Loser}
+use Rattle.cec_wire.specs.declared.frame_wire.Hearing.{Hearing}
+
+-- ---- where the reading comes with microsecond t
+
+abbrev pub over : Ending → ℕ → ℕ → Place
+over ending at until = Over (record { ending = ending; at = at; until = until })
+
+-- in the start bit, before its rise
+abbrev pub after_start_low : ℕ → ℕ → Bool → Place
+after_start_low begin t rises =
+    if nat_lt (begin + 3900) t then over BadStart (begin + 3901) (begin + 3901)
+    else if rises then (if nat_lt t (begin + 3500) then over BadStart t t else StartHigh) else StartLow
+
+-- after the start bit's rise
+abbrev pub after_start_high : ℕ → ℕ → Bool → Place
+after_start_high begin t falls =
+    if falls then (if nat_lt t (begin + 4300) then over BadStart t t else InSlot t None)
+    else if t == begin + 4700 then over BadStart (begin + 4701) (begin + 4700) else StartHigh
+
+-- in a slot that ends the reading where nothing breaks it
+abbrev pub after_last_slot : ℕ → Ending → ℕ → Bool → Place
+after_last_slot fall ending t falls =
+    if falls then over Short t t else if t == fall + 1050 then over ending t t else InSlot fall (Some ending)
+
+-- in another slot
+abbrev pub after_other_slot : List Bool → ℕ → ℕ → Bool → Place
+after_other_slot bits fall t falls =
+    if falls then (if nat_lt t (fall + 2050) then over Short t t else InSlot t (last_ending bits))
+    else if t == fall + 2750 then over Silent (t + 1) t else InSlot fall None
+
+abbrev pub next_place : ℕ → List Bool → Place → ℕ → Bool → Bool → Place
+next_place begin bits StartLow t falls rises = after_start_low begin t rises
+next_place begin bits StartHigh t falls rises = after_start_high begin t falls
+next_place begin bits (InSlot fall None) t falls rises = after_other_slot bits fall t falls
+next_place begin bits (InSlot fall (Some ending)) t falls rises = after_last_slot fall ending t falls
+next_place begin bits (Over ended) t falls rises = Over ended
+
+-- whether microsecond t is the sample of the slot that falls there
+abbrev pub samples : Place → ℕ → Bool → Bool
+samples (InSlot fall last) t falls = not falls && (t == fall + 1050)
+samples _ t falls = false
+
+-- the bit that microsecond t tells
+abbrev pub bit_told : Place → ℕ → Bool → Bool → List Bool
+bit_told place t falls is_low = if samples place t falls then not is_low ∷ [] else []
+
+-- ---- who goes on, by the bits that were read
+
+-- the first slot that tells a sender of these bits to stop; `whole` where the last one ends the reading
+abbrev pub is_out_by : List Bool → Bool → List Bool → ℕ → Bool
+is_out_by bits whole sent n =
+    if n % 10 == 0
+    then not (whole && (n == length bits)) && not (beq (bit_read bits n) (destination bits == 15))
+    else not (beq (bit_read bits n) (slice_index_or sent (n - 1) false))
+
+abbrev pub out_by : List Bool → Bool → List Bool → Option ℕ
+out_by bits whole sent = find (is_out_by bits whole sent) (range_with_len 1 (length bits))
+
+-- a seat is still sending after these bits, which did not end the reading
+abbrev pub sends_after : List Bool → Option (List ℕ) → Bool
+sends_after bits None = false
+sends_after bits (Some f) = is_none (out_by bits false (frame_bits f))
+
+-- a seat acknowledges in the slot after these bits
+abbrev pub acks_after : List Bool → Seat → Bool
+acks_after bits seat = seat.plugged && (holds_address seat.holds (destination bits) && not (sends_after bits seat.sends))
+
+-- a seat pulls after a fall too early, which came after these bits
+abbrev pub breaks_after : List Bool → Seat → Bool
+breaks_after bits seat = seat.plugged && not (sends_after bits seat.sends)
+
+-- ---- how long the followers hold the line
+
+abbrev pub is_short : Ending → Bool
+is_short Short = true
+is_short _ = false
+
+-- from the fall of a slot, where these bits were read before it
+abbrev pub acks_until : List Seat → List Bool → ℕ → ℕ
+acks_until seats bits fall = if ((length bits + 1) % 10 == 0) && list_any (acks_after bits) seats then fall + 1500 else 0
+
+-- after microsecond t, which brought the reading to this place; they held it until `held` before
+abbrev pub held_after : List Seat → List Bool → Place → ℕ → ℕ → ℕ
+held_after seats bits (InSlot fall last) t held = if fall == t then acks_until seats bits fall else held
+held_after seats bits (Over ended) t held =
+    if (ended.at == t) && (is_short ended.ending && list_any (breaks_after bits) seats) then t + 3600 else held
+held_after seats bits _ t held = held
+
+-- ---- who pulls in microsecond t
+
+-- the last microsecond in which a pulse may begin that the round takes
+abbrev pub taken_until : Place → ℕ → ℕ
+taken_until (Over ended) t = ended.until
+taken_until _ t = t
+
+-- the last microsecond in which a sender may pull
+abbrev pub sends_until : Place → ℕ → ℕ
+sends_until (Over ended) t = ended.at
+sends_until _ t = t
+
+abbrev pub taken : ℕ → ℕ → Bool → ℕ → Stretch → Bool
+taken begin until was t p = covers p t && (nat_le begin p.from && (nat_le p.from until || was))
+
+-- an instant of a run, in microseconds
+abbrev pub IsEarly : Place → Type 0
+IsEarly (InSlot fall last) = fall ≤ 3000000000000
+IsEarly _ = Unit {0}
+
+-- ---- the frame that wins
+
+-- what is sent comes before the frame
+abbrev pub beats : List ℕ → Option (List ℕ) → Bool
+beats f None = false
+beats f (Some g) = comes_before (frame_bits g) (frame_bits f)
+
+abbrev pub won : List Seat → Option (List ℕ) → Option (List ℕ)
+won seats None = None
+won seats (Some f) = if not (list_any (λ s. beats f s.sends) seats) then Some f else None
+
+abbrev pub first_of : Option (List ℕ) → Option (List ℕ) → Option (List ℕ)
+first_of None later = later
+first_of (Some f) later = Some f
+
+-- the first of these seats' frames that wins among all
+abbrev pub first_won : List Seat → List Seat → Option (List ℕ)
+first_won seats [] = None
+first_won seats (s ∷ ss) = first_of (won seats s.sends) (first_won seats ss)
+
+-- 1 to 16 blocks
+abbrev pub IsSentWell : Option (List ℕ) → Type 0
+IsSentWell None = Unit {0}
+IsSentWell (Some f) = (0 < length f) × (length f ≤ 16)
+
+abbrev pub AreSentWell : List Seat → Type 0
+AreSentWell seats = All (λ s. IsSentWell s.sends) seats
+
+-- ---- the line in microsecond t
+
+-- somebody pulls: a pulse, the winner, or those who follow
+abbrev pub sent_low : ℕ → Option (List ℕ) → ℕ → Bool
+sent_low begin None t = false
+sent_low begin (Some f) t = line_of (sender_stretches begin (frame_bits f)) t
+
+abbrev pub is_pulled : ℕ → List Stretch → Option (List ℕ) → Hearing → Bool → ℕ → Bool
+is_pulled begin pulses winner h was t =
+    list_any (taken begin (taken_until h.place t) was t) pulses
+    || ((sent_low begin winner t && (h.sends && nat_le t (sends_until h.place t))) || nat_lt t h.held)
+
+-- ---- the wave so far: whole stretches, and the one that is low still
+
+abbrev pub recorded : List Stretch → Option ℕ → ℕ → Bool → List Stretch
+recorded wave since t true = wave
+recorded wave None t false = wave
+recorded wave (Some from) t false = wave ++ record { from = from; to = t } ∷ []
+
+abbrev pub low_since : Option ℕ → ℕ → Bool → Option ℕ
+low_since since t false = None
+low_since None t true = Some t
+low_since (Some from) t true = Some from
+
+-- the stretch that is low still comes after the others
+abbrev pub IsReady : List Stretch → Option ℕ → ℕ → Type 0
+IsReady wave None t = Unit {0}
+IsReady wave (Some from) t = IsWave (wave ++ record { from = from; to = t } ∷ [])
+
+-- ---- the end
+
+-- nothing pulls any more: a follower pulls for 3,600 after the ending, and a pulse that touches that for 3,000
+abbrev pub is_done : Place → ℕ → Bool
+is_done (Over ended) t = nat_lt (ended.at + 6600) t
+is_done _ t = false
+
+abbrev pub is_all : Ending → Bool
+is_all Complete = true
+is_all Long = true
+is_all _ = false
+
+abbrev pub survives : List Bool → Bool → Option (List ℕ) → Bool
+survives bits whole None = false
+survives bits whole (Some f) = is_not_before (length bits + 1) (out_by bits whole (frame_bits f))
+
+abbrev pub survivors_by : List Bool → Bool → ℕ → List Seat → List ℕ
+survivors_by bits whole n [] = []
+survivors_by bits whole n (s ∷ ss) = if survives bits whole s.sends then n ∷ survivors_by bits whole (n + 1) ss else survivors_by bits whole (n + 1) ss
+
+abbrev pub out_after : List Bool → Bool → Option (List ℕ) → Option ℕ
+out_after bits whole None = None
+out_after bits whole (Some f) = out_by bits whole (frame_bits f)
+
+abbrev pub losers_by : List Bool → Bool → ℕ → List Seat → List Loser
+losers_by bits whole n [] = []
+losers_by bits whole n (s ∷ ss) = lost_at n (out_after bits whole s.sends) ++ losers_by bits whole (n + 1) ss
+
+-- the winner is sending after these bits
+abbrev pub sends_by : List Bool → Option (List ℕ) → Bool
+sends_by bits winner = sends_after bits winner
+
+abbrev pub IsOver : Place → Type 0
+IsOver (Over ended) = Unit {0}
+IsOver _ = ⊥

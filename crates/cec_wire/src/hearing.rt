@@ -1,0 +1,120 @@
+//! What a round's line has told, heard microsecond by microsecond.
+ghost use Rattle.std.specs.Prelude.{◌≡◌, ◌+◌, ◌<◌, ◌≤◌, ◌++◌, ◌&&◌, not, true, length};
+ghost use Rattle.cec_bits.specs.Reading.{last_ending};
+
+use arrayvec::ArrayVec;
+use cec_bits::reading::ending_of;
+use cec_frame::Ending;
+
+/// How a reading ended: `until` is the last microsecond that belongs to it.
+#[derive(Clone, Copy, Debug, PartialEq, Eq)]
+pub struct Ended {
+    pub ending: Ending,
+    pub at: u64,
+    pub until: u64,
+}
+
+/// Where a reading has come.
+#[derive(Clone, Copy, Debug, PartialEq, Eq)]
+pub enum Place {
+    /// In the start bit, before its rise.
+    StartLow,
+    /// After the start bit's rise.
+    StartHigh,
+    /// In the slot that falls at an instant, which may be a last one and then ends the reading so.
+    InSlot(u64, Option<Ending>),
+    /// After the ending.
+    Over(Ended),
+}
+
+ghost use Rattle.cec_wire.specs.Machine.{after_start_low, after_start_high, after_last_slot, after_other_slot, next_place, samples, bit_told};
+
+fn over(ending: Ending, at: u64, until: u64) -> Place
+    ensures { result ≡ Place.Over (record { ending = ending; at = at; until = until }) }
+{
+    Place::Over(Ended { ending, at, until })
+}
+
+fn start_low_at(begin: u64, t: u64, rises: bool) -> Place
+    requires { begin ≤ 2000000000000 }
+    ensures { result ≡ after_start_low begin t rises }
+{
+    if t > begin + 3900 {
+        over(Ending::BadStart, begin + 3901, begin + 3901)
+    } else if !rises {
+        Place::StartLow
+    } else if t < begin + 3500 {
+        over(Ending::BadStart, t, t)
+    } else {
+        Place::StartHigh
+    }
+}
+
+fn start_high_at(begin: u64, t: u64, falls: bool) -> Place
+    requires { begin ≤ 2000000000000 }
+    ensures { result ≡ after_start_high begin t falls }
+{
+    if falls {
+        if t < begin + 4300 { over(Ending::BadStart, t, t) } else { Place::InSlot(t, None) }
+    } else if t == begin + 4700 {
+        over(Ending::BadStart, begin + 4701, begin + 4700)
+    } else {
+        Place::StartHigh
+    }
+}
+
+fn last_slot_at(fall: u64, ending: Ending, t: u64, falls: bool) -> Place
+    requires { fall ≤ 3000000000000 }
+    ensures { result ≡ after_last_slot fall ending t falls }
+{
+    if falls {
+        over(Ending::Short, t, t)
+    } else if t == fall + 1050 {
+        over(ending, t, t)
+    } else {
+        Place::InSlot(fall, Some(ending))
+    }
+}
+
+fn other_slot_at(bits: &[bool], fall: u64, t: u64, falls: bool) -> Place
+    requires { fall ≤ 3000000000000 }
+    ensures { result ≡ after_other_slot bits.now fall t falls }
+{
+    if falls {
+        if t < fall + 2050 { over(Ending::Short, t, t) } else { Place::InSlot(t, ending_of(bits)) }
+    } else if t == fall + 2750 {
+        over(Ending::Silent, t + 1, t)
+    } else {
+        Place::InSlot(fall, None)
+    }
+}
+
+impl Place {
+    ghost use Rattle.cec_wire.specs.Machine.{IsEarly};
+
+    /// Where the reading from `begin` comes with microsecond `t`, in which the line falls or rises.
+    pub fn after(self, begin: u64, bits: &[bool], t: u64, falls: bool, rises: bool) -> Place
+        requires begin { begin ≤ 2000000000000 }
+        requires early { IsEarly self }
+        ensures { result ≡ next_place begin bits.now self t falls rises }
+    {
+        match self {
+            Place::StartLow => start_low_at(begin, t, rises),
+            Place::StartHigh => start_high_at(begin, t, falls),
+            Place::InSlot(fall, None) => other_slot_at(bits, fall, t, falls),
+            Place::InSlot(fall, Some(ending)) => last_slot_at(fall, ending, t, falls),
+            Place::Over(ended) => Place::Over(ended),
+        }
+    }
+
+    /// Whether microsecond `t` is the sample of the slot in which the reading is.
+    pub fn samples(self, t: u64, falls: bool) -> bool
+        requires early { IsEarly self }
+        ensures { result ≡ samples self t falls }
+    {
+        match self {
+            Place::InSlot(fall, _) => !falls && t == fall + 1050,
+            _ => false,
+        }
+    }
+}

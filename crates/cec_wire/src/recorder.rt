@@ -1,0 +1,48 @@
+//! The wave of a line, recorded microsecond by microsecond.
+ghost use Rattle.std.specs.Prelude.{◌≡◌, ◌<◌, ◌≤◌, length, None, is_some, []};
+
+use cec_wave::Stretch;
+use cec_wave::wave::Wave;
+
+/// The stretches that are over, and since when the line is low now.
+#[derive(Debug, Drop)]
+pub struct Recorder {
+    pub wave: Wave<192>,
+    pub low_since: Option<u64>,
+}
+
+impl Recorder {
+    ghost use Rattle.cec_wire.specs.Machine.{recorded, low_since, IsReady};
+
+    /// Nothing was low so far.
+    pub fn new() -> Self
+        ensures wave { result.wave ≡ [] }
+        ensures high { result.low_since ≡ None }
+    {
+        Recorder { wave: Wave::new(), low_since: None }
+    }
+
+    /// Whether the line was low last.
+    pub fn was_low(&self) -> bool
+        ensures { result ≡ is_some self.now.low_since }
+    {
+        self.low_since.is_some()
+    }
+
+    /// The line is low, or high, in microsecond `t`, the next one.
+    pub fn hear(&mut self, t: u64, is_low: bool)
+        requires room { length self.old.wave < 192 }
+        requires ready { IsReady self.old.wave self.old.low_since t }
+        ensures wave { self.new.wave ≡ recorded self.old.wave self.old.low_since t is_low }
+        ensures since { self.new.low_since ≡ low_since self.old.low_since t is_low }
+    {
+        match (self.low_since, is_low) {
+            (None, true) => self.low_since = Some(t),
+            (Some(from), false) => {
+                self.wave.push(Stretch { from, to: t });
+                self.low_since = None;
+            }
+            _ => {}
+        }
+    }
+}
