@@ -58,11 +58,13 @@ acks_now seats low begin left xs before e u r c l s ended h f =
   where
     test : ℕ × Slot → Bool
     test slot = (slot.0 % 10 == 0) && (nat_lt u (slot.1.fall + 1500) && list_any (acknowledges (known u (reading_of low begin)) slot.0) seats)
+
     in_time : ((length before + 1) % 10 == 0) ≡ true → (b : Bool) → nat_lt u (e + 1500) ≡ b
         → (b && list_any (acknowledges (known u (reading_of low begin)) (length before + 1)) seats) ≡ (b && list_any (acks_after before) seats)
     in_time ten true t = any_agree (acknowledges (known u (reading_of low begin)) (length before + 1)) (acks_after before) seats
         (λ seat. acks_known low begin left xs before e (length before + 1) u seat r refl ten l (let x : u < e + 1500 = grind (arith, nat_tests) in x))
     in_time ten false t = refl
+
     within : (b : Bool) → ((length before + 1) % 10 == 0) ≡ b
         → (b && (nat_lt u (e + 1500) && list_any (acknowledges (known u (reading_of low begin)) (length before + 1)) seats)) ≡ nat_lt u (if b && list_any (acks_after before) seats then e + 1500 else 0)
     within true ten = in_time ten (nat_lt u (e + 1500)) refl ∙ by_test true (list_any (acks_after before) seats) u (e + 1500)
@@ -76,6 +78,7 @@ broken_so true u t held h = let e : (t == t) ≡ true = grind (arith, nat_tests)
     and_true : (b : Bool) → (b && true) ≡ b
     and_true true = refl
     and_true false = refl
+
     longer : (b : Bool) → nat_lt u held ≡ b → (b || nat_lt u (t + 3600)) ≡ nat_lt u (t + 3600)
     longer true g = grind (arith, nat_tests)
     longer false g = refl
@@ -84,6 +87,7 @@ broken_so false u t held h = ap (λ b. nat_lt u held || b) (and_false (nat_lt u 
     and_false : (b : Bool) → (b && false) ≡ false
     and_false true = refl
     and_false false = refl
+
     same : (b : Bool) → held ≡ (if b && false then t + 3600 else held)
     same true = refl
     same false = refl
@@ -99,7 +103,7 @@ breaks_now seats k bits u t at until held Short h b s l =
     ap (λ (e : Option End). nat_lt u held || is_broken seats k u e) h
     ∙ ap (λ n. nat_lt u held || (nat_lt u (n + 3600) && list_any (λ seat. seat.plugged && not (sends_in k seat.sends (length (known_bits k) + 1))) seats)) (s refl)
     ∙ ap (λ c. nat_lt u held || (nat_lt u (t + 3600) && c)) (any_agree (λ seat. seat.plugged && not (sends_in k seat.sends (length (known_bits k) + 1))) (breaks_after bits) seats
-        (λ seat. ap (λ c. seat.plugged && not c) (sends_known k bits seat.sends b (ap is_whole h))))
+    (λ seat. ap (λ c. seat.plugged && not c) (sends_known k bits seat.sends b (ap is_whole h))))
     ∙ broken_so (list_any (breaks_after bits) seats) u t held l
     ∙ ap (λ n. nat_lt u (if (n == t) && list_any (breaks_after bits) seats then t + 3600 else held)) (sym (s refl))
 breaks_now seats k bits u t at until held Complete h b s l = ap (λ (e : Option End). nat_lt u held || is_broken seats k u e) h ∙ or_false (nat_lt u held) ∙ ap (λ n. nat_lt u n) (unbroken (at == t) (list_any (breaks_after bits) seats) (t + 3600) held)

@@ -137,23 +137,30 @@ recorded_line seats begin pulses low t bits e held wave since line sparse s l r 
   where
     high : (u : ℕ) → e.at + 6600 ≤ u → low u ≡ false
     high u m = high_after seats begin pulses low t bits e held line sparse s u m
+
     none_since : (o : Option ℕ) → is_some o ≡ false → o ≡ None
     none_since None h = refl
     none_since (Some x) h = cc
+
     and_no : (b : Bool) → (b && false) ≡ false
     and_no true = refl
     and_no false = refl
+
     none : since ≡ None
     none = none_since since (sym r.was ∙ ap (λ c. nat_lt 0 t && c) (high (t - 1) (omega arith)) ∙ and_no (nat_lt 0 t))
+
     or_false : (b : Bool) → (b || false) ≡ b
     or_false true = refl
     or_false false = refl
+
     closed : Records low t wave None
     closed = subst (λ o. Records low t wave o) none r
+
     at : (u : ℕ) → low u ≡ line_of wave u
     at u = elim (cases_lt u t) [
-        inl lt ↦ closed.same u lt ∙ or_false (line_of wave u)
-      | inr ge ↦ high u (omega arith) ∙ sym (no_line t u wave closed.ends ge) ]
+      | inl lt ↦ closed.same u lt ∙ or_false (line_of wave u)
+      | inr ge ↦ high u (omega arith) ∙ sym (no_line t u wave closed.ends ge)
+    ]
 
 -- what an outcome says of a line that ended so
 pub record Tells (seats : List Seat) (begin : ℕ) (bits : List Bool) (e : Ended) (o : Outcome) : Type 0 where
@@ -168,25 +175,31 @@ pub record Tells (seats : List Seat) (begin : ℕ) (bits : List Bool) (e : Ended
 round_by : (seats : List Seat) (begin : ℕ) (pulses : List Stretch) (low : Line) (t : ℕ) (bits : List Bool) (e : Ended) (held : ℕ) (o : Outcome) → IsRoundLine seats begin pulses low → low ≡ line_of o.wave
     → AtEnd seats low begin t bits e held → Tells seats begin bits e o → IsRound seats begin pulses o
 round_by seats begin pulses low t bits e held o line same s w = record {
-    line = subst (λ l. IsRoundLine seats begin pulses l) same line;
-    starts = w.begin_is;
-    ends = w.at_is ∙ ap (λ (r : Read). r.at) whole;
-    ending = w.ending_is ∙ ap (λ (r : Read). r.ending) whole;
-    bits = w.bits_is ∙ sym s.told ∙ ap bits_of whole;
-    survivors = w.survivors_is ∙ survivors_same (reading_of low begin) bits (is_all e.ending) 0 seats all_bits all_ended told ∙ ap (λ r. survivors_from r 0 seats) read;
-    losers = w.losers_is ∙ losers_same (reading_of low begin) bits (is_all e.ending) 0 seats all_bits all_ended ∙ ap (λ r. losers_from r 0 seats) read;
-    rest = w.rest_is ∙ ap (λ (r : Read). rest_of r.until o.wave) whole }
+  line = subst (λ l. IsRoundLine seats begin pulses l) same line;
+  starts = w.begin_is;
+  ends = w.at_is ∙ ap (λ (r : Read). r.at) whole;
+  ending = w.ending_is ∙ ap (λ (r : Read). r.ending) whole;
+  bits = w.bits_is ∙ sym s.told ∙ ap bits_of whole;
+  survivors = w.survivors_is ∙ survivors_same (reading_of low begin) bits (is_all e.ending) 0 seats all_bits all_ended told ∙ ap (λ r. survivors_from r 0 seats) read;
+  losers = w.losers_is ∙ losers_same (reading_of low begin) bits (is_all e.ending) 0 seats all_bits all_ended ∙ ap (λ r. losers_from r 0 seats) read;
+  rest = w.rest_is ∙ ap (λ (r : Read). rest_of r.until o.wave) whole;
+}
   where
     read : reading_of low begin ≡ reading_of (line_of o.wave) begin
     read = ap (λ l. reading_of l begin) same
+
     whole : record { slots = s.zs; ending = e.ending; at = e.at; until = e.until } ≡ reading_of (line_of o.wave) begin
     whole = sym s.reads ∙ read
+
     told : bits_of (reading_of low begin) ≡ bits
     told = ap bits_of s.reads ∙ s.told
+
     knows : all_known (reading_of low begin) ≡ record { slots = s.zs; ended = Some (end_of e) }
     knows = ap (λ (r : Read). known (r.until + 1) (reading_of low begin)) s.reads ∙ s.knows (e.until + 1) (omega arith)
+
     all_bits : known_bits (all_known (reading_of low begin)) ≡ bits
     all_bits = ap known_bits knows ∙ s.told
+
     all_ended : is_whole (all_known (reading_of low begin)).ended ≡ is_all e.ending
     all_ended = ap (λ (k : Known). is_whole k.ended) knows ∙ whole_is e.ending e.at e.until
 
@@ -198,7 +211,7 @@ round_found seats begin pulses low t bits held place e since wave o line sparse 
     let at_end : AtEnd seats low begin t bits e held = subst (λ p. StandsAt seats low begin t bits held p) over s in
     let past : nat_lt (e.at + 6600) t ≡ true = ap (λ p. is_done p t) (sym over) ∙ done in
     round_by seats begin pulses low t bits e held o line
-      (recorded_line seats begin pulses low t bits e held wave since line sparse at_end (let x : e.at + 6600 < t = grind (arith, nat_tests) in x) r ∙ ap line_of (sym w)) at_end tells
+    (recorded_line seats begin pulses low t bits e held wave since line sparse at_end (let x : e.at + 6600 < t = grind (arith, nat_tests) in x) r ∙ ap line_of (sym w)) at_end tells
 
 -- ---- a turn of the loop
 
@@ -219,22 +232,24 @@ pub stands_next : (seats : List Seat) (low : Line) (begin t : ℕ) (bits : List 
     → StandsAt seats low begin (t + 1) bits2 held2 place2
 stands_next seats low begin t bits held place was is_low bits2 held2 place2 s first w l p b h =
     subst (λ x. StandsAt seats low begin (t + 1) bits2 held2 x) (sym place_is)
-      (subst (λ x. StandsAt seats low begin (t + 1) bits2 x (next_place begin bits place t (is_fall low t) (is_rise low t))) (sym held_is)
-        (subst (λ x. StandsAt seats low begin (t + 1) x (held_after seats (bits ++ bit_told place t (is_fall low t) (low t)) (next_place begin bits place t (is_fall low t) (is_rise low t)) t held) (next_place begin bits place t (is_fall low t) (is_rise low t))) (sym bits_is)
-          (step seats low begin t bits held place s first)))
+    (subst (λ x. StandsAt seats low begin (t + 1) bits2 x (next_place begin bits place t (is_fall low t) (is_rise low t))) (sym held_is)
+    (subst (λ x. StandsAt seats low begin (t + 1) x (held_after seats (bits ++ bit_told place t (is_fall low t) (low t)) (next_place begin bits place t (is_fall low t) (is_rise low t)) t held) (next_place begin bits place t (is_fall low t) (is_rise low t))) (sym bits_is)
+    (step seats low begin t bits held place s first)))
   where
     bits_is : bits2 ≡ bits ++ bit_told place t (is_fall low t) (low t)
     bits_is = b ∙ ap (λ x. bits ++ bit_told place t (x && not was) x) l ∙ ap (λ x. bits ++ bit_told place t (low t && not x) (low t)) w
+
     place_is : place2 ≡ next_place begin bits place t (is_fall low t) (is_rise low t)
     place_is = p ∙ ap (λ x. next_place begin bits place t (x && not was) (not x && was)) l ∙ ap (λ x. next_place begin bits place t (low t && not x) (not (low t) && x)) w
+
     held_is : held2 ≡ held_after seats (bits ++ bit_told place t (is_fall low t) (low t)) (next_place begin bits place t (is_fall low t) (is_rise low t)) t held
     held_is = h ∙ ap (λ (x : List Bool). held_after seats x place2 t held) bits_is ∙ ap (λ x. held_after seats (bits ++ bit_told place t (is_fall low t) (low t)) x t held) place_is
 
 pub stands_begin : (seats : List Seat) (low : Line) (begin : ℕ) (bits : List Bool) (held : ℕ) (place : Place) → bits ≡ [] → held ≡ 0 → place ≡ StartLow → StandsAt seats low begin begin bits held place
 stands_begin seats low begin bits held place b h p =
     subst (λ x. StandsAt seats low begin begin bits held x) (sym p)
-      (subst (λ x. StandsAt seats low begin begin bits x StartLow) (sym h)
-        (subst (λ (x : List Bool). StandsAt seats low begin begin x 0 StartLow) (sym b) (stands_first seats low begin)))
+    (subst (λ x. StandsAt seats low begin begin bits x StartLow) (sym h)
+    (subst (λ (x : List Bool). StandsAt seats low begin begin x 0 StartLow) (sym b) (stands_first seats low begin)))
 
 pub records_begin : (seats : List Seat) (begin : ℕ) (pulses : List Stretch) (low : Line) (wave : List Stretch) (since : Option ℕ) → IsRoundLine seats begin pulses low → wave ≡ [] → since ≡ None → Records low begin wave since
 records_begin seats begin pulses low wave since line w s =

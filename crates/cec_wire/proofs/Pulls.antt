@@ -76,6 +76,7 @@ any_found p l (f ∷ fs) h = step (l f) refl (any_found p l fs (λ a b i j. h a 
         let i = in_filter l fs r.0 r.1 in
         let q : p f ≡ true = h r.0 f (inr i.0) (inl refl) i.1 k r.2 in
         ap (λ b. b || true) q ∙ sym q
+
     step : (b : Bool) → l f ≡ b → list_any p (filter l fs) ≡ by_winner p (find l fs) → list_any p (if b then f ∷ filter l fs else filter l fs) ≡ by_winner p (if b then Some f else find l fs)
     step true e r = onward (list_any p (filter l fs)) refl e
     step false e r = r
@@ -93,7 +94,7 @@ least_same fs frames f g i j l m =
 winner_pulls : (seats : List Seat) (begin : ℕ) (k : Known) (t : ℕ) → AreFrames seats → list_any (sender_pulls begin k t) (winning_frames seats) ≡ by_winner (sender_pulls begin k t) (first_won seats seats)
 winner_pulls seats begin k t frames =
     any_found (sender_pulls begin k t) (least_among (frames_of seats)) (frames_of seats)
-      (λ f g i j l m h. sym (ap (λ (xs : List Bool). line_of (sender_stretches begin xs) t && (is_none (out_slot k xs) && goes_on k.ended t)) (least_same (frames_of seats) frames f g i j l m)) ∙ h)
+    (λ f g i j l m h. sym (ap (λ (xs : List Bool). line_of (sender_stretches begin xs) t && (is_none (out_slot k xs) && goes_on k.ended t)) (least_same (frames_of seats) frames f g i j l m)) ∙ h)
     ∙ ap (by_winner (sender_pulls begin k t)) (sym (won_found seats seats))
 
 sender_so : (seats : List Seat) (begin : ℕ) (k : Known) (t : ℕ) (bits : List Bool) (until : ℕ) → AreFrames seats → known_bits k ≡ bits → (goes_on k.ended t ≡ true → is_whole k.ended ≡ false) → goes_on k.ended t ≡ nat_le t until
@@ -107,6 +108,7 @@ sender_so seats begin k t bits until frames b w g = winner_pulls seats begin k t
         and_no : (b : Bool) → (b && false) ≡ false
         and_no true = refl
         and_no false = refl
+
     by_frame : (o : Option (List ℕ)) → by_winner (sender_pulls begin k t) o ≡ (sent_low begin o t && (sends_by bits o && nat_le t until))
     by_frame None = refl
     by_frame (Some f) =
@@ -129,10 +131,10 @@ pulled_open : (seats : List Seat) (begin : ℕ) (pulses : List Stretch) (was : B
     → (list_any (taken begin t was t) pulses || ((sent_low begin (first_won seats seats) t && (sends_by bits (first_won seats seats) && nat_le t t)) || nat_lt t held)) ≡ pulled seats begin pulses was k t
 pulled_open seats begin pulses was k t bits held ended frames none b acks =
     sym (ap (λ (e : Option End). list_any (pulse_pulls begin e was t) pulses || (list_any (sender_pulls begin k t) (winning_frames seats) || (is_acknowledged seats k t || is_broken seats k t e))) none
-      ∙ ap (λ c. c || (list_any (sender_pulls begin k t) (winning_frames seats) || (is_acknowledged seats k t || false))) (pulses_open begin was t pulses)
-      ∙ ap (λ c. list_any (taken begin t was t) pulses || (c || (is_acknowledged seats k t || false)))
-          (sender_so seats begin k t bits t frames b (λ g. ap is_whole none) (ap (λ (e : Option End). goes_on e t) none ∙ (let x : true ≡ nat_le t t = grind (arith, nat_tests) in x)))
-      ∙ ap (λ c. list_any (taken begin t was t) pulses || ((sent_low begin (first_won seats seats) t && (sends_by bits (first_won seats seats) && nat_le t t)) || c)) (or_no (is_acknowledged seats k t) ∙ acks))
+    ∙ ap (λ c. c || (list_any (sender_pulls begin k t) (winning_frames seats) || (is_acknowledged seats k t || false))) (pulses_open begin was t pulses)
+    ∙ ap (λ c. list_any (taken begin t was t) pulses || (c || (is_acknowledged seats k t || false)))
+    (sender_so seats begin k t bits t frames b (λ g. ap is_whole none) (ap (λ (e : Option End). goes_on e t) none ∙ (let x : true ≡ nat_le t t = grind (arith, nat_tests) in x)))
+    ∙ ap (λ c. list_any (taken begin t was t) pulses || ((sent_low begin (first_won seats seats) t && (sends_by bits (first_won seats seats) && nat_le t t)) || c)) (or_no (is_acknowledged seats k t) ∙ acks))
   where
     or_no : (b : Bool) → (b || false) ≡ b
     or_no true = refl
@@ -140,40 +142,44 @@ pulled_open seats begin pulses was k t bits held ended frames none b acks =
 
 pub pulls_at : (seats : List Seat) (begin : ℕ) (pulses : List Stretch) (low : Line) (was : Bool) (t : ℕ) (bits : List Bool) (held : ℕ) (place : Place) → AreFrames seats → StandsAt seats low begin t bits held place
     → (list_any (taken begin (taken_until place t) was t) pulses || ((sent_low begin (first_won seats seats) t && (sends_by bits (first_won seats seats) && nat_le t (sends_until place t))) || nat_lt t held))
-      ≡ pulled seats begin pulses was (known t (reading_of low begin)) t
+    ≡ pulled seats begin pulses was (known t (reading_of low begin)) t
 unfolding StandsAt nothing
 pulls_at seats begin pulses low was t bits held StartLow frames s =
     pulled_open seats begin pulses was (known t (reading_of low begin)) t bits held None frames (ap (λ (k : Known). k.ended) k) (ap known_bits k ∙ sym s.none)
-      (ap (λ (n : Known). is_acknowledged seats n t) k ∙ (let h = s.free in let x : false ≡ nat_lt t held = grind (arith, nat_tests) in x))
+    (ap (λ (n : Known). is_acknowledged seats n t) k ∙ (let h = s.free in let x : false ≡ nat_lt t held = grind (arith, nat_tests) in x))
   where
     k : known t (reading_of low begin) ≡ nothing
     k = known_start_low low begin t s.early s.quiet
 pulls_at seats begin pulses low was t bits held StartHigh frames s =
     pulled_open seats begin pulses was (known t (reading_of low begin)) t bits held None frames (ap (λ (k : Known). k.ended) k) (ap known_bits k ∙ sym s.none)
-      (ap (λ (n : Known). is_acknowledged seats n t) k ∙ (let h = s.free in let x : false ≡ nat_lt t held = grind (arith, nat_tests) in x))
+    (ap (λ (n : Known). is_acknowledged seats n t) k ∙ (let h = s.free in let x : false ≡ nat_lt t held = grind (arith, nat_tests) in x))
   where
     k : known t (reading_of low begin) ≡ nothing
     k = known_start_high low begin s.rise t s.found s.late s.early s.quiet
 pulls_at seats begin pulses low was t bits held (InSlot fall last) frames s =
     pulled_open seats begin pulses was (known t (reading_of low begin)) t bits held None frames (ap (λ (k : Known). k.ended) k) (ap known_bits k ∙ told_more s.xs s.before one s.reached.told ∙ by_sampled (nat_lt (fall + 1050) t) ∙ sym s.told)
-      (acks_now seats low begin s.left s.xs s.before fall t s.reached s.count s.after one None k refl ∙ ap (λ n. nat_lt t n) (sym s.free))
+    (acks_now seats low begin s.left s.xs s.before fall t s.reached s.count s.after one None k refl ∙ ap (λ n. nat_lt t n) (sym s.free))
   where
     one : Slot
     one = known_slot t (record { fall = fall; bit = sampled low fall })
+
     by_sampled : (b : Bool) → s.before ++ option_to_list (if b then sampled low fall else None) ≡ s.before ++ (if b then option_to_list (sampled low fall) else [])
     by_sampled true = refl
     by_sampled false = refl
+
     k : known t (reading_of low begin) ≡ record { slots = s.xs ++ known_slot t (record { fall = fall; bit = sampled low fall }) ∷ []; ended = None }
     k = known_in_slot low begin t fall s.left s.xs s.before s.reached.goes (over_sampled fall t s.xs (omega (arith, s.after)) s.reached.over) s.after s.quiet s.early (λ w. s.waits (subst (λ (o : Option Ending). IsSome o) (sym s.ends) w))
 pulls_at seats begin pulses low was t bits held (Over e) frames s =
     sym (ap (λ (n : Option End). list_any (pulse_pulls begin n was t) pulses || (list_any (sender_pulls begin k t) (winning_frames seats) || (is_acknowledged seats k t || is_broken seats k t k.ended))) ended
-      ∙ ap (λ c. list_any (taken begin e.until was t) pulses || (c || (is_acknowledged seats k t || is_broken seats k t k.ended)))
-          (sender_so seats begin k t bits e.at frames (ap known_bits knows ∙ s.told) (not_whole t (reading_of low begin) (heard_start low begin (start_of low begin))) (ap (λ (n : Option End). goes_on n t) ended))
-      ∙ ap (λ c. list_any (taken begin e.until was t) pulses || ((sent_low begin (first_won seats seats) t && (sends_by bits (first_won seats seats) && nat_le t e.at)) || c)) (s.holds t s.past))
+    ∙ ap (λ c. list_any (taken begin e.until was t) pulses || (c || (is_acknowledged seats k t || is_broken seats k t k.ended)))
+    (sender_so seats begin k t bits e.at frames (ap known_bits knows ∙ s.told) (not_whole t (reading_of low begin) (heard_start low begin (start_of low begin))) (ap (λ (n : Option End). goes_on n t) ended))
+    ∙ ap (λ c. list_any (taken begin e.until was t) pulses || ((sent_low begin (first_won seats seats) t && (sends_by bits (first_won seats seats) && nat_le t e.at)) || c)) (s.holds t s.past))
   where
     k : Known
     k = known t (reading_of low begin)
+
     knows : known t (reading_of low begin) ≡ record { slots = s.zs; ended = Some (end_of e) }
     knows = s.knows t s.past
+
     ended : (known t (reading_of low begin)).ended ≡ Some (end_of e)
     ended = ap (λ (k : Known). k.ended) knows

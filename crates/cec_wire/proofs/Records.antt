@@ -88,40 +88,55 @@ was_next low t b h = ap (λ c. c && low (t + 1 - 1)) (let x : nat_lt 0 (t + 1) �
 
 pub record_step : (low : Line) (t : ℕ) (wave : List Stretch) (since : Option ℕ) (b : Bool) → Records low t wave since → low t ≡ b → Records low (t + 1) (recorded wave since t b) (low_since since t b)
 record_step low t wave None true r h = record {
-    same = λ u l. elim (cases_lt u t) [
-        inl lt ↦ r.same u lt ∙ ap (λ c. line_of wave u || c) (let x : false ≡ nat_le t u = grind (arith, nat_tests) in x)
-      | inr ge ↦ (let e : u ≡ t = omega arith in ap low e ∙ h ∙ sym (ap (λ c. line_of wave u || c) (let x : nat_le t u ≡ true = grind (arith, nat_tests) in x) ∙ or_true (line_of wave u))) ];
-    order = r.order; ends = r.ends; falls = later_falls low t (t + 1) wave (omega arith) r.falls;
-    begins = (omega arith, ap (λ c. low t && not c) r.was ∙ ap (λ c. c && true) h);
-    was = was_next low t true h }
+  same = λ u l. elim (cases_lt u t) [
+    | inl lt ↦ r.same u lt ∙ ap (λ c. line_of wave u || c) (let x : false ≡ nat_le t u = grind (arith, nat_tests) in x)
+    | inr ge ↦ (let e : u ≡ t = omega arith in ap low e ∙ h ∙ sym (ap (λ c. line_of wave u || c) (let x : nat_le t u ≡ true = grind (arith, nat_tests) in x) ∙ or_true (line_of wave u)))
+  ];
+  order = r.order;
+  ends = r.ends;
+  falls = later_falls low t (t + 1) wave (omega arith) r.falls;
+  begins = (omega arith, ap (λ c. low t && not c) r.was ∙ ap (λ c. c && true) h);
+  was = was_next low t true h;
+}
 record_step low t wave None false r h = record {
-    same = λ u l. elim (cases_lt u t) [
-        inl lt ↦ r.same u lt
-      | inr ge ↦ (let e : u ≡ t = omega arith in ap low e ∙ h ∙ sym (or_false (line_of wave u) ∙ no_line t u wave r.ends (omega arith))) ];
-    order = r.order; ends = later_ends t (t + 1) wave (omega arith) r.ends; falls = later_falls low t (t + 1) wave (omega arith) r.falls;
-    begins = tt;
-    was = was_next low t false h }
+  same = λ u l. elim (cases_lt u t) [
+    | inl lt ↦ r.same u lt
+    | inr ge ↦ (let e : u ≡ t = omega arith in ap low e ∙ h ∙ sym (or_false (line_of wave u) ∙ no_line t u wave r.ends (omega arith)))
+  ];
+  order = r.order;
+  ends = later_ends t (t + 1) wave (omega arith) r.ends;
+  falls = later_falls low t (t + 1) wave (omega arith) r.falls;
+  begins = tt;
+  was = was_next low t false h;
+}
 record_step low t wave (Some s) true r h = record {
-    same = λ u l. elim (cases_lt u t) [
-        inl lt ↦ r.same u lt
-      | inr ge ↦ (let e : u ≡ t = omega arith in let f : s < t = r.begins.0 in ap low e ∙ h ∙ sym (ap (λ c. line_of wave u || c) (let x : nat_le s u ≡ true = grind (arith, nat_tests) in x) ∙ or_true (line_of wave u))) ];
-    order = r.order; ends = r.ends; falls = later_falls low t (t + 1) wave (omega arith) r.falls;
-    begins = (omega (arith, r.begins.0), r.begins.1);
-    was = was_next low t true h }
+  same = λ u l. elim (cases_lt u t) [
+    | inl lt ↦ r.same u lt
+    | inr ge ↦ (let e : u ≡ t = omega arith in let f : s < t = r.begins.0 in ap low e ∙ h ∙ sym (ap (λ c. line_of wave u || c) (let x : nat_le s u ≡ true = grind (arith, nat_tests) in x) ∙ or_true (line_of wave u)))
+  ];
+  order = r.order;
+  ends = r.ends;
+  falls = later_falls low t (t + 1) wave (omega arith) r.falls;
+  begins = (omega (arith, r.begins.0), r.begins.1);
+  was = was_next low t true h;
+}
 record_step low t wave (Some s) false r h = record {
-    same = λ u l. elim (cases_lt u t) [
-        inl lt ↦ r.same u lt ∙ ap (λ c. line_of wave u || c) (let x : nat_le s u ≡ (nat_le s u && nat_lt u t) = within u lt (nat_le s u) in x ∙ sym (or_false (covers (record { from = s; to = t }) u))) ∙ pushed u ∙ sym (or_false _)
-      | inr ge ↦ (let e : u ≡ t = omega arith in let f : s < t = r.begins.0 in ap low e ∙ h
-          ∙ sym (or_false _ ∙ sym (pushed u) ∙ ap (λ c. c || (covers (record { from = s; to = t }) u || false)) (no_line s u wave r.ends (omega arith))
-              ∙ or_false (covers (record { from = s; to = t }) u) ∙ (let x : (nat_le s u && nat_lt u t) ≡ false = grind (arith, nat_tests) in x))) ];
-    order = wave_push wave 0 s t r.order r.ends (omega arith) r.begins.0;
-    ends = ends_push wave s t (t + 1) r.ends (omega (arith, r.begins.0)) (omega arith);
-    falls = falls_push low wave s t (t + 1) (later_falls low t (t + 1) wave (omega arith) r.falls) (omega (arith, r.begins.0)) r.begins.1;
-    begins = tt;
-    was = was_next low t false h }
+  same = λ u l. elim (cases_lt u t) [
+    | inl lt ↦ r.same u lt ∙ ap (λ c. line_of wave u || c) (let x : nat_le s u ≡ (nat_le s u && nat_lt u t) = within u lt (nat_le s u) in x ∙ sym (or_false (covers (record { from = s; to = t }) u))) ∙ pushed u ∙ sym (or_false _)
+    | inr ge ↦ (let e : u ≡ t = omega arith in let f : s < t = r.begins.0 in ap low e ∙ h
+        ∙ sym (or_false _ ∙ sym (pushed u) ∙ ap (λ c. c || (covers (record { from = s; to = t }) u || false)) (no_line s u wave r.ends (omega arith))
+        ∙ or_false (covers (record { from = s; to = t }) u) ∙ (let x : (nat_le s u && nat_lt u t) ≡ false = grind (arith, nat_tests) in x)))
+  ];
+  order = wave_push wave 0 s t r.order r.ends (omega arith) r.begins.0;
+  ends = ends_push wave s t (t + 1) r.ends (omega (arith, r.begins.0)) (omega arith);
+  falls = falls_push low wave s t (t + 1) (later_falls low t (t + 1) wave (omega arith) r.falls) (omega (arith, r.begins.0)) r.begins.1;
+  begins = tt;
+  was = was_next low t false h;
+}
   where
     pushed : (u : ℕ) → (line_of wave u || (covers (record { from = s; to = t }) u || false)) ≡ line_of (wave ++ record { from = s; to = t } ∷ []) u
     pushed u = sym (list_any-append (λ x. covers x u) wave (record { from = s; to = t } ∷ []))
+
     within : (u : ℕ) → u < t → (b : Bool) → b ≡ (b && nat_lt u t)
     within u l true = let x : true ≡ nat_lt u t = grind (arith, nat_tests) in x
     within u l false = refl
@@ -133,6 +148,7 @@ record_first low t q = record { same = q; order = tt; ends = tt; falls = tt; beg
     and_no : (b : Bool) → (b && false) ≡ false
     and_no true = refl
     and_no false = refl
+
     by_time : (n : ℕ) → ((u : ℕ) → u < n → low u ≡ false) → was_low low n ≡ false
     by_time zero q2 = let x : nat_lt 0 zero ≡ false = grind (arith, nat_tests) in rw x refl
     by_time (suc n) q2 = ap (λ c. nat_lt 0 (suc n) && c) (q2 (suc n - 1) (omega arith)) ∙ and_no (nat_lt 0 (suc n))

@@ -107,20 +107,22 @@ no_break false n held = refl
 bad_start : (seats : List Seat) (low : Line) (begin t at until : ℕ) (bits : List Bool) (held : ℕ) → bits ≡ [] → held ≡ 0 → start_of low begin ≡ Err at → min at (begin + 4700) ≡ until
     → until < t → at ≤ begin + 4701 → AtEnd seats low begin t bits (record { ending = BadStart; at = at; until = until }) held
 bad_start seats low begin t at until bits held none free h m past near = record {
-    zs = [];
-    reads = reads;
-    told = sym none;
-    knows = knows;
-    holds = λ u l. ap (λ (k : Known). is_acknowledged seats k u || is_broken seats k u k.ended) (knows u l) ∙ below_none u held free;
-    past = past;
-    heard = λ w. cc;
-    soon = omega (arith, m);
-    later = omega (arith, m);
-    near = omega arith;
-    brief = omega arith }
+  zs = [];
+  reads = reads;
+  told = sym none;
+  knows = knows;
+  holds = λ u l. ap (λ (k : Known). is_acknowledged seats k u || is_broken seats k u k.ended) (knows u l) ∙ below_none u held free;
+  past = past;
+  heard = λ w. cc;
+  soon = omega (arith, m);
+  later = omega (arith, m);
+  near = omega arith;
+  brief = omega arith;
+}
   where
     reads : reading_of low begin ≡ record { slots = []; ending = BadStart; at = at; until = until }
     reads = ap (read_start low begin) h ∙ ap (λ n. let r : Read = record { slots = []; ending = BadStart; at = at; until = n } in r) m
+
     knows : (u : ℕ) → until < u → known u (reading_of low begin) ≡ record { slots = []; ended = Some (record { ending = BadStart; at = at; until = until }) }
     knows u l = let e : nat_lt until u ≡ true = grind (arith, nat_tests) in ap (known u) reads ∙ ap (λ b. let k : Known = record { slots = []; ended = if b then Some (record { ending = BadStart; at = at; until = until }) else None } in k) e
 
@@ -137,38 +139,53 @@ low_step seats low begin t bits held s first = by_late (nat_lt (begin + 3900) t)
   where
     none : bits ++ [] ≡ []
     none = append-nil bits ∙ s.none
+
     quiet_to : is_rise low t ≡ false → (u : ℕ) → begin < u → u < t + 1 → is_rise low u ≡ false
     quiet_to e u l m = elim (cases_lt u t) [ inl lt ↦ s.quiet u l lt | inr ge ↦ let same : u ≡ t = omega arith in rw same e ]
+
     stay : is_rise low t ≡ false → t ≤ begin + 3900 → AtStartLow low begin (t + 1) (bits ++ []) held
     stay e l = record { none = none; free = s.free; quiet = quiet_to e; from = omega (arith, s.from); early = omega arith }
+
     past : is_rise low t ≡ true → begin < t
     past e = elim (cases_lt begin t) [ inl lt ↦ lt | inr ge ↦ let same : t ≡ begin = omega (arith, s.from) in let no : true ≡ false = sym e ∙ first same in cc ]
+
     by_soon : t ≤ begin + 3900 → is_rise low t ≡ true → (b : Bool) → nat_lt t (begin + 3500) ≡ b
         → StandsAt seats low begin (t + 1) (bits ++ []) (held_after seats (bits ++ []) (if b then over BadStart t t else StartHigh) t held) (if b then over BadStart t t else StartHigh)
     by_soon l e true h =
         let p : begin < t = past e in
         let at : t < begin + 3500 = grind (arith, nat_tests) in
         bad_start seats low begin (t + 1) t t (bits ++ []) (if (t == t) && false then t + 3600 else held) none (no_break (t == t) (t + 3600) held ∙ s.free)
-          (ap (start_rise low begin) (start_early low begin t s.quiet p l e) ∙ ap (λ b. if b then Err t else start_fall begin (next_fall low t (begin + 4700 - t))) h)
-          (omega arith) (omega arith) (omega arith)
+        (ap (start_rise low begin) (start_early low begin t s.quiet p l e) ∙ ap (λ b. if b then Err t else start_fall begin (next_fall low t (begin + 4700 - t))) h)
+        (omega arith) (omega arith) (omega arith)
     by_soon l e false h =
         let p : begin < t = past e in
         let at : begin + 3500 ≤ t = grind (arith, nat_tests) in
-        record { none = none; free = s.free; rise = t; found = start_early low begin t s.quiet p l e; late = at; near = l; after = omega arith;
-          quiet = λ u a b. absurd (omega arith); early = omega arith }
+        record {
+          none = none;
+          free = s.free;
+          rise = t;
+          found = start_early low begin t s.quiet p l e;
+          late = at;
+          near = l;
+          after = omega arith;
+          quiet = λ u a b. absurd (omega arith);
+          early = omega arith;
+        }
+
     by_rise : t ≤ begin + 3900 → (r : Bool) → is_rise low t ≡ r
         → StandsAt seats low begin (t + 1) (bits ++ []) (held_after seats (bits ++ []) (if r then (if nat_lt t (begin + 3500) then over BadStart t t else StartHigh) else StartLow) t held)
-            (if r then (if nat_lt t (begin + 3500) then over BadStart t t else StartHigh) else StartLow)
+        (if r then (if nat_lt t (begin + 3500) then over BadStart t t else StartHigh) else StartLow)
     by_rise l true e = by_soon l e (nat_lt t (begin + 3500)) refl
     by_rise l false e = stay e l
+
     by_late : (b : Bool) → nat_lt (begin + 3900) t ≡ b
         → StandsAt seats low begin (t + 1) (bits ++ []) (held_after seats (bits ++ []) (if b then over BadStart (begin + 3901) (begin + 3901) else if is_rise low t then (if nat_lt t (begin + 3500) then over BadStart t t else StartHigh) else StartLow) t held)
-            (if b then over BadStart (begin + 3901) (begin + 3901) else if is_rise low t then (if nat_lt t (begin + 3500) then over BadStart t t else StartHigh) else StartLow)
+        (if b then over BadStart (begin + 3901) (begin + 3901) else if is_rise low t then (if nat_lt t (begin + 3500) then over BadStart t t else StartHigh) else StartLow)
     by_late true h =
         let l : begin + 3900 < t = grind (arith, nat_tests) in
         bad_start seats low begin (t + 1) (begin + 3901) (begin + 3901) (bits ++ []) (if (begin + 3901 == t) && false then t + 3600 else held) none (no_break (begin + 3901 == t) (t + 3600) held ∙ s.free)
-          (ap (start_rise low begin) (first_in_none (is_rise low) (begin + 1) 3900 (λ u a b. s.quiet u (omega arith) (omega arith))))
-          (omega arith) (omega arith) (omega arith)
+        (ap (start_rise low begin) (first_in_none (is_rise low) (begin + 1) 3900 (λ u a b. s.quiet u (omega arith) (omega arith))))
+        (omega arith) (omega arith) (omega arith)
     by_late false h = by_rise (let l : t ≤ begin + 3900 = grind (arith, nat_tests) in l) (is_rise low t) refl
 
 pub high_step : (seats : List Seat) (low : Line) (begin t : ℕ) (bits : List Bool) (held : ℕ) → AtStartHigh low begin t bits held
@@ -178,39 +195,55 @@ high_step seats low begin t bits held s = by_fall (is_fall low t) refl
   where
     none : bits ++ [] ≡ []
     none = append-nil bits ∙ s.none
+
     found : is_fall low t ≡ true → next_fall low s.rise (begin + 4700 - s.rise) ≡ Some t
     found e = first_in_some (is_fall low) (s.rise + 1) (begin + 4700 - s.rise) t (omega (arith, s.after)) (omega (arith, s.early, s.near)) e (λ u a b. s.quiet u (omega arith) b)
+
     start : is_fall low t ≡ true → start_of low begin ≡ (if nat_lt t (begin + 4300) then Err t else Ok t)
     start e = start_risen low begin s.rise s.found s.late ∙ ap (start_fall begin) (found e)
+
     here : t == t ≡ true
     here = grind (arith, nat_tests)
+
     by_soon : is_fall low t ≡ true → (b : Bool) → nat_lt t (begin + 4300) ≡ b
         → StandsAt seats low begin (t + 1) (bits ++ []) (held_after seats (bits ++ []) (if b then over BadStart t t else InSlot t None) t held) (if b then over BadStart t t else InSlot t None)
     by_soon e true h =
         bad_start seats low begin (t + 1) t t (bits ++ []) (if (t == t) && false then t + 3600 else held) none (no_break (t == t) (t + 3600) held ∙ s.free)
-          (start e ∙ ap (λ b. let r : Result ℕ ℕ = if b then Err t else Ok t in r) h) (omega (arith, s.early)) (omega arith) (omega (arith, s.early))
+        (start e ∙ ap (λ b. let r : Result ℕ ℕ = if b then Err t else Ok t in r) h) (omega (arith, s.early)) (omega arith) (omega (arith, s.early))
     by_soon e false h = record {
-        before = []; xs = []; left = 159;
-        reached = reached_start low begin t (start e ∙ ap (λ b. let r : Result ℕ ℕ = if b then Err t else Ok t in r) h);
-        room = refl; count = refl; ends = refl;
-        told = none ∙ sym (ap (λ b. if b then option_to_list (sampled low t) else []) (let x : nat_lt (t + 1050) (t + 1) ≡ false = grind (arith, nat_tests) in x));
-        quiet = λ u a b. absurd (omega arith); after = omega arith; early = omega arith; waits = λ w. cc; near = omega (arith, s.early);
-        free = ap (λ b. if b then acks_until seats (bits ++ []) t else held) here ∙ ap (λ (bs : List Bool). acks_until seats bs t) none }
+      before = [];
+      xs = [];
+      left = 159;
+      reached = reached_start low begin t (start e ∙ ap (λ b. let r : Result ℕ ℕ = if b then Err t else Ok t in r) h);
+      room = refl;
+      count = refl;
+      ends = refl;
+      told = none ∙ sym (ap (λ b. if b then option_to_list (sampled low t) else []) (let x : nat_lt (t + 1050) (t + 1) ≡ false = grind (arith, nat_tests) in x));
+      quiet = λ u a b. absurd (omega arith);
+      after = omega arith;
+      early = omega arith;
+      waits = λ w. cc;
+      near = omega (arith, s.early);
+      free = ap (λ b. if b then acks_until seats (bits ++ []) t else held) here ∙ ap (λ (bs : List Bool). acks_until seats bs t) none;
+    }
+
     quiet_to : is_fall low t ≡ false → (u : ℕ) → s.rise < u → u < t + 1 → is_fall low u ≡ false
     quiet_to e u l m = elim (cases_lt u t) [ inl lt ↦ s.quiet u l lt | inr ge ↦ let same : u ≡ t = omega arith in rw same e ]
+
     by_last : is_fall low t ≡ false → (b : Bool) → (t == begin + 4700) ≡ b
         → StandsAt seats low begin (t + 1) (bits ++ []) (held_after seats (bits ++ []) (if b then over BadStart (begin + 4701) (begin + 4700) else StartHigh) t held) (if b then over BadStart (begin + 4701) (begin + 4700) else StartHigh)
     by_last e true h =
         let at : t ≡ begin + 4700 = grind (arith, nat_tests) in
         bad_start seats low begin (t + 1) (begin + 4701) (begin + 4700) (bits ++ []) (if (begin + 4701 == t) && false then t + 3600 else held) none (no_break (begin + 4701 == t) (t + 3600) held ∙ s.free)
-          (start_risen low begin s.rise s.found s.late ∙ ap (start_fall begin) (first_in_none (is_fall low) (s.rise + 1) (begin + 4700 - s.rise) (λ u a b. quiet_to e u (omega arith) (omega (arith, s.near)))))
-          (omega arith) (omega arith) (omega arith)
+        (start_risen low begin s.rise s.found s.late ∙ ap (start_fall begin) (first_in_none (is_fall low) (s.rise + 1) (begin + 4700 - s.rise) (λ u a b. quiet_to e u (omega arith) (omega (arith, s.near)))))
+        (omega arith) (omega arith) (omega arith)
     by_last e false h =
         let at : t < begin + 4700 = (let ne : (t == begin + 4700) ≡ false = h in grind (arith, nat_tests, s.early)) in
         record { none = none; free = s.free; rise = s.rise; found = s.found; late = s.late; near = s.near; after = omega (arith, s.after); quiet = quiet_to e; early = omega arith }
+
     by_fall : (b : Bool) → is_fall low t ≡ b
         → StandsAt seats low begin (t + 1) (bits ++ []) (held_after seats (bits ++ []) (if b then (if nat_lt t (begin + 4300) then over BadStart t t else InSlot t None) else if t == begin + 4700 then over BadStart (begin + 4701) (begin + 4700) else StartHigh) t held)
-            (if b then (if nat_lt t (begin + 4300) then over BadStart t t else InSlot t None) else if t == begin + 4700 then over BadStart (begin + 4701) (begin + 4700) else StartHigh)
+        (if b then (if nat_lt t (begin + 4300) then over BadStart t t else InSlot t None) else if t == begin + 4700 then over BadStart (begin + 4701) (begin + 4700) else StartHigh)
     by_fall true e = by_soon e (nat_lt t (begin + 4300)) refl
     by_fall false e = by_last e (t == begin + 4700) refl
 
@@ -228,26 +261,32 @@ told_step : (low : Line) (fall t : ℕ) (before bits : List Bool) → bits ≡ b
     → bits_next bits fall t (is_fall low t) (low t) ≡ before ++ told_by low fall (t + 1)
 told_step low fall t before bits told quiet after =
     elim (cases_lt t (fall + 1050)) [
-      inl lt ↦ other (let x : (t == fall + 1050) ≡ false = grind (arith, nat_tests) in x)
-        (let x : nat_lt (fall + 1050) t ≡ false = grind (arith, nat_tests) in let y : nat_lt (fall + 1050) (t + 1) ≡ false = grind (arith, nat_tests) in x ∙ sym y)
-    | inr ge ↦ elim (cases_lt (fall + 1050) t) [
-        inl gt ↦ other (let x : (t == fall + 1050) ≡ false = grind (arith, nat_tests) in x)
-          (let x : nat_lt (fall + 1050) t ≡ true = grind (arith, nat_tests) in let y : nat_lt (fall + 1050) (t + 1) ≡ true = grind (arith, nat_tests) in x ∙ sym y)
-      | inr le ↦ here (let x : t ≡ fall + 1050 = omega arith in x) (is_fall low t) refl ] ]
+      | inl lt ↦ other (let x : (t == fall + 1050) ≡ false = grind (arith, nat_tests) in x)
+          (let x : nat_lt (fall + 1050) t ≡ false = grind (arith, nat_tests) in let y : nat_lt (fall + 1050) (t + 1) ≡ false = grind (arith, nat_tests) in x ∙ sym y)
+      | inr ge ↦ elim (cases_lt (fall + 1050) t) [
+        | inl gt ↦ other (let x : (t == fall + 1050) ≡ false = grind (arith, nat_tests) in x)
+            (let x : nat_lt (fall + 1050) t ≡ true = grind (arith, nat_tests) in let y : nat_lt (fall + 1050) (t + 1) ≡ true = grind (arith, nat_tests) in x ∙ sym y)
+        | inr le ↦ here (let x : t ≡ fall + 1050 = omega arith in x) (is_fall low t) refl
+      ]
+    ]
   where
     other : (t == fall + 1050) ≡ false → nat_lt (fall + 1050) t ≡ nat_lt (fall + 1050) (t + 1) → bits_next bits fall t (is_fall low t) (low t) ≡ before ++ told_by low fall (t + 1)
     other e f =
         ap (λ b. bits ++ (if b then not (low t) ∷ [] else [])) (ap (λ b. not (is_fall low t) && b) e ∙ and_false (not (is_fall low t))) ∙ append-nil bits ∙ told
         ∙ ap (λ b. before ++ (if b then option_to_list (sampled low fall) else [])) f
+
     here : t ≡ fall + 1050 → (f : Bool) → is_fall low t ≡ f → bits_next bits fall t f (low t) ≡ before ++ told_by low fall (t + 1)
     here e f g = ap (λ bs. bits_next bs fall t f (low t)) so_far ∙ by_fall f g ∙ ap (λ b. before ++ (if b then option_to_list (sampled low fall) else [])) (sym past)
       where
         now : (t == fall + 1050) ≡ true
         now = grind (arith, nat_tests)
+
         past : nat_lt (fall + 1050) (t + 1) ≡ true
         past = grind (arith, nat_tests)
+
         so_far : bits ≡ before
         so_far = told ∙ ap (λ b. before ++ (if b then option_to_list (sampled low fall) else [])) (let x : nat_lt (fall + 1050) t ≡ false = grind (arith, nat_tests) in x) ∙ append-nil before
+
         by_fall : (b : Bool) → is_fall low t ≡ b → bits_next before fall t b (low t) ≡ before ++ option_to_list (sampled low fall)
         by_fall true k = ap (λ (o : Option Bool). before ++ option_to_list o) (sym (ap (sample low fall) (first_in_some (is_fall low) (fall + 1) 1050 t (omega arith) (omega arith) k (λ u l m. quiet u (omega arith) m))))
         by_fall false k =
@@ -270,31 +309,36 @@ slot_end : (seats : List Seat) (low : Line) (begin t : ℕ) (bits : List Bool) (
     → (fall + 1050 < t + 1) ⊎ (sampled low fall ≡ None) → (is_short ending ≡ true → at ≡ t) → t ≤ at → at ≤ t + 1
     → AtEnd seats low begin (t + 1) bits2 (record { ending = ending; at = at; until = t }) (if (at == t) && (is_short ending && list_any (breaks_after bits2) seats) then t + 3600 else held)
 slot_end seats low begin t bits fall last held s ending at bits2 a heard told2 settled short ge le = record {
-    zs = s.xs ++ slot ∷ [];
-    reads = ends_so low begin s.left s.xs s.before fall ending at s.reached a ∙ ap (λ n. let r : Read = record { slots = s.xs ++ slot ∷ []; ending = ending; at = at; until = n } in r) heard;
-    told = told_more s.xs s.before slot s.reached.told ∙ sym told2;
-    knows = knows;
-    holds = λ u l. ap (λ b. b || is_broken seats (known u (reading_of low begin)) u (known u (reading_of low begin)).ended)
-        (acks_now seats low begin s.left s.xs s.before fall u s.reached s.count (omega (arith, s.after)) slot (Some (record { ending = ending; at = at; until = t })) (knows u l) refl ∙ ap (λ n. nat_lt u n) (sym s.free))
-        ∙ breaks_now seats (known u (reading_of low begin)) bits2 u t at t held ending (ap (λ (k : Known). k.ended) (knows u l))
-            (ap known_bits (knows u l) ∙ told_more s.xs s.before slot s.reached.told ∙ sym told2) short brief;
-    past = omega arith;
-    heard = λ w. omega (arith, short w);
-    soon = omega arith;
-    later = ge;
-    near = omega (arith, s.near, s.early, s.room);
-    brief = short_held ((at == t) && (is_short ending && list_any (breaks_after bits2) seats)) }
+  zs = s.xs ++ slot ∷ [];
+  reads = ends_so low begin s.left s.xs s.before fall ending at s.reached a ∙ ap (λ n. let r : Read = record { slots = s.xs ++ slot ∷ []; ending = ending; at = at; until = n } in r) heard;
+  told = told_more s.xs s.before slot s.reached.told ∙ sym told2;
+  knows = knows;
+  holds = λ u l. ap (λ b. b || is_broken seats (known u (reading_of low begin)) u (known u (reading_of low begin)).ended)
+      (acks_now seats low begin s.left s.xs s.before fall u s.reached s.count (omega (arith, s.after)) slot (Some (record { ending = ending; at = at; until = t })) (knows u l) refl ∙ ap (λ n. nat_lt u n) (sym s.free))
+      ∙ breaks_now seats (known u (reading_of low begin)) bits2 u t at t held ending (ap (λ (k : Known). k.ended) (knows u l))
+      (ap known_bits (knows u l) ∙ told_more s.xs s.before slot s.reached.told ∙ sym told2) short brief;
+  past = omega arith;
+  heard = λ w. omega (arith, short w);
+  soon = omega arith;
+  later = ge;
+  near = omega (arith, s.near, s.early, s.room);
+  brief = short_held ((at == t) && (is_short ending && list_any (breaks_after bits2) seats));
+}
   where
     slot : Slot
     slot = record { fall = fall; bit = sampled low fall }
+
     acks_least : (b : Bool) → (if b then fall + 1500 else 0) ≤ fall + 1500
     acks_least true = omega arith
     acks_least false = omega arith
+
     brief : held ≤ t + 3600
     brief = omega (arith, s.free, s.after, acks_least (((length s.before + 1) % 10 == 0) && list_any (acks_after s.before) seats))
+
     short_held : (b : Bool) → (if b then t + 3600 else held) ≤ at + 3600
     short_held true = omega arith
     short_held false = omega (arith, brief)
+
     known_one : (u : ℕ) → t < u → known_slot u slot ≡ slot
     known_one u l = by_settled settled
       where
@@ -305,6 +349,7 @@ slot_end seats low begin t bits fall last held s ending at bits2 a heard told2 s
             none_either : (b : Bool) → (let x : Slot = record { fall = fall; bit = if b then sampled low fall else None } in x) ≡ slot
             none_either true = refl
             none_either false = ap (λ (o : Option Bool). let x : Slot = record { fall = fall; bit = o } in x) (sym h)
+
     knows : (u : ℕ) → t < u → known u (reading_of low begin) ≡ record { slots = s.xs ++ slot ∷ []; ended = Some (record { ending = ending; at = at; until = t }) }
     knows u l =
         let e : nat_lt t u ≡ true = grind (arith, nat_tests) in
@@ -318,10 +363,13 @@ told_fall : (seats : List Seat) (low : Line) (begin t : ℕ) (bits : List Bool) 
     → (bits_next bits fall t (is_fall low t) (low t) ≡ s.before ++ option_to_list (sampled low fall)) × ((fall + 1050 < t + 1) ⊎ (sampled low fall ≡ None))
 told_fall seats low begin t bits fall last held s f =
     elim (cases_lt (fall + 1050) (t + 1)) [
-      inl l ↦ (told_step low fall t s.before bits s.told s.quiet s.after ∙ ap (λ b. s.before ++ (if b then option_to_list (sampled low fall) else [])) (let x : nat_lt (fall + 1050) (t + 1) ≡ true = grind (arith, nat_tests) in x), inl l)
-    | inr g ↦ (let none : sampled low fall ≡ None = ap (sample low fall) (first_in_some (is_fall low) (fall + 1) 1050 t (omega (arith, s.after)) (omega arith) f (λ u a b. s.quiet u (omega arith) b)) in
-        (told_step low fall t s.before bits s.told s.quiet s.after ∙ ap (λ b. s.before ++ (if b then option_to_list (sampled low fall) else [])) (let x : nat_lt (fall + 1050) (t + 1) ≡ false = grind (arith, nat_tests) in x)
-          ∙ ap (λ (o : Option Bool). s.before ++ option_to_list o) (sym none), inr none)) ]
+      | inl l ↦ (told_step low fall t s.before bits s.told s.quiet s.after ∙ ap (λ b. s.before ++ (if b then option_to_list (sampled low fall) else [])) (let x : nat_lt (fall + 1050) (t + 1) ≡ true = grind (arith, nat_tests) in x), inl l)
+      | inr g ↦ (let none : sampled low fall ≡ None = ap (sample low fall) (first_in_some (is_fall low) (fall + 1) 1050 t (omega (arith, s.after)) (omega arith) f (λ u a b. s.quiet u (omega arith) b)) in (
+        told_step low fall t s.before bits s.told s.quiet s.after ∙ ap (λ b. s.before ++ (if b then option_to_list (sampled low fall) else [])) (let x : nat_lt (fall + 1050) (t + 1) ≡ false = grind (arith, nat_tests) in x)
+            ∙ ap (λ (o : Option Bool). s.before ++ option_to_list o) (sym none),
+        inr none,
+      ))
+    ]
 
 told_past : (seats : List Seat) (low : Line) (begin t : ℕ) (bits : List Bool) (fall : ℕ) (last : Option Ending) (held : ℕ) → (s : AtSlot seats low begin t bits fall last held) → fall + 1050 < t + 1
     → bits_next bits fall t (is_fall low t) (low t) ≡ s.before ++ option_to_list (sampled low fall)
@@ -337,6 +385,7 @@ last_full bits n h = by_bit (slice_index_or bits (length bits - 1) false) (sym (
   where
     ending : ℕ → Bool → Option Ending
     ending m b = if m % 10 == 9 then (if b then Some Complete else if m == 159 then Some Long else None) else None
+
     by_bit : (b : Bool) → (if b then Some Complete else Some Long) ≡ None → ⊥
     by_bit true e = cc
     by_bit false e = cc
@@ -381,72 +430,92 @@ slot_next seats low begin t bits fall held s f far = by_left s.left s.room refl 
   where
     before2 : List Bool
     before2 = s.before ++ option_to_list (sampled low fall)
+
     slot : Slot
     slot = record { fall = fall; bit = sampled low fall }
+
     bits2 : bits_next bits fall t (is_fall low t) (low t) ≡ s.before ++ option_to_list (sampled low fall)
     bits2 = told_past seats low begin t bits fall None held s (omega arith)
+
     same : bits ≡ s.before ++ option_to_list (sampled low fall)
     same = s.told ∙ ap (λ b. s.before ++ (if b then option_to_list (sampled low fall) else [])) (let x : nat_lt (fall + 1050) t ≡ true = grind (arith, nat_tests) in x)
+
     after : after_slot low fall (last_ending s.before) ≡ Next t
     after = ap (after_slot low fall) (sym s.ends) ∙ ap (after_fall fall) (next_here low fall t 2750 s.quiet s.after s.early f)
         ∙ ap (λ b. let a : After = if b then Ends Short t else Next t in a) (let x : nat_lt t (fall + 2050) ≡ false = grind (arith, nat_tests) in x)
+
     more : length (s.before ++ option_to_list (sampled low fall)) ≡ length s.before + 1
     more = length-append s.before (option_to_list (sampled low fall)) ∙ ap (λ n. length s.before + n)
         (one_bit (sampled low fall) (not (low (fall + 1050))) (quiet_sample low fall (λ u a b. s.quiet u a (omega arith))))
+
     by_left : (left : ℕ) → length s.before + left ≡ 159 → s.left ≡ left → Reached low begin (suc s.left) s.xs s.before fall
         → AtSlot seats low begin (t + 1) (bits_next bits fall t (is_fall low t) (low t)) t (last_ending bits) (if t == t then acks_until seats (bits_next bits fall t (is_fall low t) (low t)) t else held)
     by_left zero n e r = absurd (last_full s.before (omega arith) (sym s.ends))
     by_left (suc left) n e r = record {
-        before = s.before ++ option_to_list (sampled low fall);
-        xs = s.xs ++ slot ∷ [];
-        left = left;
-        reached = reach_next low begin (suc left) s.xs s.before fall t (subst (λ k. Reached low begin (suc k) s.xs s.before fall) e r) after far;
-        room = omega (arith, more, n);
-        count = length-append s.xs (slot ∷ []) ∙ (let x : length s.xs + 1 ≡ length (s.before ++ option_to_list (sampled low fall)) = omega (arith, more, s.count) in x);
-        ends = ap last_ending same;
-        told = bits2 ∙ sym (append-nil (s.before ++ option_to_list (sampled low fall)))
+      before = s.before ++ option_to_list (sampled low fall);
+      xs = s.xs ++ slot ∷ [];
+      left = left;
+      reached = reach_next low begin (suc left) s.xs s.before fall t (subst (λ k. Reached low begin (suc k) s.xs s.before fall) e r) after far;
+      room = omega (arith, more, n);
+      count = length-append s.xs (slot ∷ []) ∙ (let x : length s.xs + 1 ≡ length (s.before ++ option_to_list (sampled low fall)) = omega (arith, more, s.count) in x);
+      ends = ap last_ending same;
+      told = bits2 ∙ sym (append-nil (s.before ++ option_to_list (sampled low fall)))
           ∙ sym (ap (λ b. (s.before ++ option_to_list (sampled low fall)) ++ (if b then option_to_list (sampled low t) else [])) (let x : nat_lt (t + 1050) (t + 1) ≡ false = grind (arith, nat_tests) in x));
-        quiet = λ u a b. absurd (omega arith);
-        after = omega arith;
-        early = omega arith;
-        waits = λ w. omega arith;
-        near = omega (arith, more, s.near, s.early);
-        free = held_begins seats (bits_next bits fall t (is_fall low t) (low t)) t held ∙ ap (λ (bs : List Bool). acks_until seats bs t) bits2 }
+      quiet = λ u a b. absurd (omega arith);
+      after = omega arith;
+      early = omega arith;
+      waits = λ w. omega arith;
+      near = omega (arith, more, s.near, s.early);
+      free = held_begins seats (bits_next bits fall t (is_fall low t) (low t)) t held ∙ ap (λ (bs : List Bool). acks_until seats bs t) bits2;
+    }
 
 slot_stays : (seats : List Seat) (low : Line) (begin t : ℕ) (bits : List Bool) (fall : ℕ) (last : Option Ending) (held : ℕ) → (s : AtSlot seats low begin t bits fall last held) → is_fall low t ≡ false
     → t + 1 ≤ fall + 2750 → (IsSome last → t + 1 ≤ fall + 1050)
     → AtSlot seats low begin (t + 1) (bits_next bits fall t (is_fall low t) (low t)) fall last (if fall == t then acks_until seats (bits_next bits fall t (is_fall low t) (low t)) fall else held)
 slot_stays seats low begin t bits fall last held s f early waits = record {
-    before = s.before; xs = s.xs; left = s.left; reached = s.reached; room = s.room; count = s.count; ends = s.ends;
-    told = told_step low fall t s.before bits s.told s.quiet s.after;
-    quiet = quiet_next low fall t s.quiet f;
-    after = omega (arith, s.after); early = early; waits = waits; near = s.near;
-    free = held_stays seats (bits_next bits fall t (is_fall low t) (low t)) fall t held s.after ∙ s.free }
+  before = s.before;
+  xs = s.xs;
+  left = s.left;
+  reached = s.reached;
+  room = s.room;
+  count = s.count;
+  ends = s.ends;
+  told = told_step low fall t s.before bits s.told s.quiet s.after;
+  quiet = quiet_next low fall t s.quiet f;
+  after = omega (arith, s.after);
+  early = early;
+  waits = waits;
+  near = s.near;
+  free = held_stays seats (bits_next bits fall t (is_fall low t) (low t)) fall t held s.after ∙ s.free;
+}
 
 pub other_step : (seats : List Seat) (low : Line) (begin t : ℕ) (bits : List Bool) (fall held : ℕ) → AtSlot seats low begin t bits fall None held
     → StandsAt seats low begin (t + 1) (bits_next bits fall t (is_fall low t) (low t))
-        (held_after seats (bits_next bits fall t (is_fall low t) (low t)) (after_other_slot bits fall t (is_fall low t)) t held) (after_other_slot bits fall t (is_fall low t))
+    (held_after seats (bits_next bits fall t (is_fall low t) (low t)) (after_other_slot bits fall t (is_fall low t)) t held) (after_other_slot bits fall t (is_fall low t))
 unfolding StandsAt
 other_step seats low begin t bits fall held s = by_fall (is_fall low t) refl
   where
     bits2 : List Bool
     bits2 = bits_next bits fall t (is_fall low t) (low t)
+
     soon : is_fall low t ≡ true → (b : Bool) → nat_lt t (fall + 2050) ≡ b
         → StandsAt seats low begin (t + 1) (bits_next bits fall t (is_fall low t) (low t)) (held_after seats (bits_next bits fall t (is_fall low t) (low t)) (if b then over Short t t else InSlot t (last_ending bits)) t held) (if b then over Short t t else InSlot t (last_ending bits))
     soon f true h =
         let d = told_fall seats low begin t bits fall None held s f in
         slot_end seats low begin t bits fall None held s Short t (bits_next bits fall t (is_fall low t) (low t))
-          (ap (after_slot low fall) (sym s.ends) ∙ ap (after_fall fall) (next_here low fall t 2750 s.quiet s.after s.early f) ∙ ap (λ b. let a : After = if b then Ends Short t else Next t in a) h)
-          refl d.0 d.1 (λ w. refl) (omega arith) (omega arith)
+        (ap (after_slot low fall) (sym s.ends) ∙ ap (after_fall fall) (next_here low fall t 2750 s.quiet s.after s.early f) ∙ ap (λ b. let a : After = if b then Ends Short t else Next t in a) h)
+        refl d.0 d.1 (λ w. refl) (omega arith) (omega arith)
     soon f false h = slot_next seats low begin t bits fall held s f (let x : fall + 2050 ≤ t = grind (arith, nat_tests) in x)
+
     wait : is_fall low t ≡ false → (b : Bool) → (t == fall + 2750) ≡ b
         → StandsAt seats low begin (t + 1) (bits_next bits fall t (is_fall low t) (low t)) (held_after seats (bits_next bits fall t (is_fall low t) (low t)) (if b then over Silent (t + 1) t else InSlot fall None) t held) (if b then over Silent (t + 1) t else InSlot fall None)
     wait f true h =
         let x : t ≡ fall + 2750 = grind (arith, nat_tests) in
         slot_end seats low begin t bits fall None held s Silent (t + 1) (bits_next bits fall t (is_fall low t) (low t))
-          (ap (after_slot low fall) (sym s.ends) ∙ ap (after_fall fall) (next_none low fall (t + 1) 2750 (quiet_next low fall t s.quiet f) (omega arith)) ∙ ap (λ n. let a : After = Ends Silent n in a) (let y : fall + 2751 ≡ t + 1 = omega arith in y))
-          (omega arith) (told_past seats low begin t bits fall None held s (omega arith)) (inl (omega arith)) (λ w. cc) (omega arith) (omega arith)
+        (ap (after_slot low fall) (sym s.ends) ∙ ap (after_fall fall) (next_none low fall (t + 1) 2750 (quiet_next low fall t s.quiet f) (omega arith)) ∙ ap (λ n. let a : After = Ends Silent n in a) (let y : fall + 2751 ≡ t + 1 = omega arith in y))
+        (omega arith) (told_past seats low begin t bits fall None held s (omega arith)) (inl (omega arith)) (λ w. cc) (omega arith) (omega arith)
     wait f false h = slot_stays seats low begin t bits fall None held s f (let l = s.early in let ne : (t == fall + 2750) ≡ false = h in grind (arith, nat_tests)) (λ w. cc)
+
     by_fall : (b : Bool) → is_fall low t ≡ b
         → StandsAt seats low begin (t + 1) (bits_next bits fall t (is_fall low t) (low t)) (held_after seats (bits_next bits fall t (is_fall low t) (low t)) (after_other_slot bits fall t b) t held) (after_other_slot bits fall t b)
     by_fall true f = soon f (nat_lt t (fall + 2050)) refl
@@ -454,29 +523,31 @@ other_step seats low begin t bits fall held s = by_fall (is_fall low t) refl
 
 pub last_step : (seats : List Seat) (low : Line) (begin t : ℕ) (bits : List Bool) (fall : ℕ) (ending : Ending) (held : ℕ) → AtSlot seats low begin t bits fall (Some ending) held
     → StandsAt seats low begin (t + 1) (bits_next bits fall t (is_fall low t) (low t))
-        (held_after seats (bits_next bits fall t (is_fall low t) (low t)) (after_last_slot fall ending t (is_fall low t)) t held) (after_last_slot fall ending t (is_fall low t))
+    (held_after seats (bits_next bits fall t (is_fall low t) (low t)) (after_last_slot fall ending t (is_fall low t)) t held) (after_last_slot fall ending t (is_fall low t))
 unfolding StandsAt
 last_step seats low begin t bits fall ending held s = by_fall (is_fall low t) refl
   where
     kind : (ending ≡ Complete) ⊎ (ending ≡ Long)
     kind = last_kind s.before ending s.ends
+
     wait : is_fall low t ≡ false → (b : Bool) → (t == fall + 1050) ≡ b
         → StandsAt seats low begin (t + 1) (bits_next bits fall t (is_fall low t) (low t)) (held_after seats (bits_next bits fall t (is_fall low t) (low t)) (if b then over ending t t else InSlot fall (Some ending)) t held) (if b then over ending t t else InSlot fall (Some ending))
     wait f true h =
         let x : t ≡ fall + 1050 = grind (arith, nat_tests) in
         slot_end seats low begin t bits fall (Some ending) held s ending t (bits_next bits fall t (is_fall low t) (low t))
-          (ap (after_slot low fall) (sym s.ends) ∙ ap (after_last fall ending) (next_none low fall (t + 1) 1050 (quiet_next low fall t s.quiet f) (omega arith)) ∙ ap (λ n. let a : After = Ends ending n in a) (sym x))
-          (last_plain ending t kind) (told_past seats low begin t bits fall (Some ending) held s (omega arith)) (inl (omega arith)) (λ w. absurd (last_long ending kind w)) (omega arith) (omega arith)
+        (ap (after_slot low fall) (sym s.ends) ∙ ap (after_last fall ending) (next_none low fall (t + 1) 1050 (quiet_next low fall t s.quiet f) (omega arith)) ∙ ap (λ n. let a : After = Ends ending n in a) (sym x))
+        (last_plain ending t kind) (told_past seats low begin t bits fall (Some ending) held s (omega arith)) (inl (omega arith)) (λ w. absurd (last_long ending kind w)) (omega arith) (omega arith)
     wait f false h =
         let l : t + 1 ≤ fall + 1050 = (let l2 : t ≤ fall + 1050 = s.waits refl in let ne : (t == fall + 1050) ≡ false = h in grind (arith, nat_tests)) in
         slot_stays seats low begin t bits fall (Some ending) held s f (omega arith) (λ w. l)
+
     by_fall : (b : Bool) → is_fall low t ≡ b
         → StandsAt seats low begin (t + 1) (bits_next bits fall t (is_fall low t) (low t)) (held_after seats (bits_next bits fall t (is_fall low t) (low t)) (after_last_slot fall ending t b) t held) (after_last_slot fall ending t b)
     by_fall true f =
         let d = told_fall seats low begin t bits fall (Some ending) held s f in
         slot_end seats low begin t bits fall (Some ending) held s Short t (bits_next bits fall t (is_fall low t) (low t))
-          (ap (after_slot low fall) (sym s.ends) ∙ ap (after_last fall ending) (next_here low fall t 1050 s.quiet s.after (s.waits refl) f))
-          refl d.0 d.1 (λ w. refl) (omega arith) (omega arith)
+        (ap (after_slot low fall) (sym s.ends) ∙ ap (after_last fall ending) (next_here low fall t 1050 s.quiet s.after (s.waits refl) f))
+        refl d.0 d.1 (λ w. refl) (omega arith) (omega arith)
     by_fall false f = wait f (t == fall + 1050) refl
 
 -- ---- a step after the ending, and any step
@@ -485,8 +556,19 @@ end_step : (seats : List Seat) (low : Line) (begin t : ℕ) (bits : List Bool) (
     → AtEnd seats low begin (t + 1) (bits ++ []) e (if (e.at == t) && (is_short e.ending && list_any (breaks_after (bits ++ [])) seats) then t + 3600 else held)
 end_step seats low begin t bits e held s =
     subst (λ n. AtEnd seats low begin (t + 1) (bits ++ []) e n) (sym (stays (is_short e.ending) refl))
-      (record { zs = s.zs; reads = s.reads; told = s.told ∙ sym (append-nil bits); knows = s.knows; holds = s.holds; past = omega (arith, s.past); heard = λ w. omega (arith, s.heard w);
-        soon = s.soon; later = s.later; near = s.near; brief = s.brief })
+    (record {
+      zs = s.zs;
+      reads = s.reads;
+      told = s.told ∙ sym (append-nil bits);
+      knows = s.knows;
+      holds = s.holds;
+      past = omega (arith, s.past);
+      heard = λ w. omega (arith, s.heard w);
+      soon = s.soon;
+      later = s.later;
+      near = s.near;
+      brief = s.brief;
+    })
   where
     stays : (b : Bool) → is_short e.ending ≡ b → (if (e.at == t) && (b && list_any (breaks_after (bits ++ [])) seats) then t + 3600 else held) ≡ held
     stays true h = let l : e.at < t = s.heard h in let ne : (e.at == t) ≡ false = grind (arith, nat_tests) in ap (λ c. if c && list_any (breaks_after (bits ++ [])) seats then t + 3600 else held) ne
@@ -494,7 +576,7 @@ end_step seats low begin t bits e held s =
 
 pub step : (seats : List Seat) (low : Line) (begin t : ℕ) (bits : List Bool) (held : ℕ) (place : Place) → StandsAt seats low begin t bits held place → (t ≡ begin → is_rise low t ≡ false)
     → StandsAt seats low begin (t + 1) (bits ++ bit_told place t (is_fall low t) (low t))
-        (held_after seats (bits ++ bit_told place t (is_fall low t) (low t)) (next_place begin bits place t (is_fall low t) (is_rise low t)) t held) (next_place begin bits place t (is_fall low t) (is_rise low t))
+    (held_after seats (bits ++ bit_told place t (is_fall low t) (low t)) (next_place begin bits place t (is_fall low t) (is_rise low t)) t held) (next_place begin bits place t (is_fall low t) (is_rise low t))
 unfolding StandsAt
 step seats low begin t bits held StartLow s first = low_step seats low begin t bits held s first
 step seats low begin t bits held StartHigh s first = high_step seats low begin t bits held s

@@ -28,20 +28,24 @@ high_before seats begin pulses low line u l = by_low (low u) refl
   where
     k : known u (reading_of low begin) ≡ nothing
     k = known_start_low low begin u (omega arith) (λ v a b. absurd (omega arith))
+
     none_of : pulled seats begin pulses (was_low low u) nothing u ≡ true → ⊥
     none_of h =
         elim (or_cases (list_any (pulse_pulls begin None (was_low low u) u) pulses) _ h) [
-          inl a ↦ (let r = in_any (pulse_pulls begin None (was_low low u) u) pulses a in
-            let c : nat_le r.0.from u ≡ true = and_left (nat_le r.0.from u) (nat_lt u r.0.to) (and_left (nat_le r.0.from u && nat_lt u r.0.to) _ r.2) in
-            let d : nat_le begin r.0.from ≡ true = and_left (nat_le begin r.0.from) true (and_right (nat_le r.0.from u && nat_lt u r.0.to) _ r.2) in
-            early r.0.from c d)
-        | inr b ↦ elim (or_cases (list_any (sender_pulls begin nothing u) (winning_frames seats)) _ b) [
-            inl a ↦ (let r = in_any (sender_pulls begin nothing u) (winning_frames seats) a in
-              let e : true ≡ false = sym (and_left (line_of (sender_stretches begin (frame_bits r.0)) u) _ r.2) ∙ before_start (frame_bits r.0) begin u l in cc)
-          | inr a ↦ cc ] ]
+          | inl a ↦ (let r = in_any (pulse_pulls begin None (was_low low u) u) pulses a in
+              let c : nat_le r.0.from u ≡ true = and_left (nat_le r.0.from u) (nat_lt u r.0.to) (and_left (nat_le r.0.from u && nat_lt u r.0.to) _ r.2) in
+              let d : nat_le begin r.0.from ≡ true = and_left (nat_le begin r.0.from) true (and_right (nat_le r.0.from u && nat_lt u r.0.to) _ r.2) in
+              early r.0.from c d)
+          | inr b ↦ elim (or_cases (list_any (sender_pulls begin nothing u) (winning_frames seats)) _ b) [
+            | inl a ↦ (let r = in_any (sender_pulls begin nothing u) (winning_frames seats) a in
+                let e : true ≡ false = sym (and_left (line_of (sender_stretches begin (frame_bits r.0)) u) _ r.2) ∙ before_start (frame_bits r.0) begin u l in cc)
+            | inr a ↦ cc
+          ]
+        ]
       where
         early : (from : ℕ) → nat_le from u ≡ true → nat_le begin from ≡ true → ⊥
         early from c d = let a : from ≤ u = grind (arith, nat_tests) in let b : begin ≤ from = grind (arith, nat_tests) in omega arith
+
     by_low : (b : Bool) → low u ≡ b → low u ≡ false
     by_low false e = e
     by_low true e = absurd (none_of (sym (ap (λ (n : Known). pulled seats begin pulses (was_low low u) n u) k) ∙ sym (line u) ∙ e))
@@ -72,27 +76,35 @@ pulse_only : (seats : List Seat) (begin : ℕ) (pulses : List Stretch) (low : Li
     → (u : ℕ) → e.at + 3600 ≤ u → low u ≡ true → PulseOver pulses u (λ from. (from ≤ e.until) ⊎ (was_low low u ≡ true))
 pulse_only seats begin pulses low t bits e held line s u l h =
     elim (or_cases (list_any (pulse_pulls begin (Some (end_of e)) (was_low low u) u) pulses) _ made) [
-      inl a ↦ (let r = in_any (pulse_pulls begin (Some (end_of e)) (was_low low u) u) pulses a in
-        (r.0, r.1, and_left (covers r.0 u) _ r.2, taken r.0 (or_cases (nat_le r.0.from e.until) (was_low low u) (and_right (nat_le begin r.0.from) _ (and_right (covers r.0 u) _ r.2)))))
-    | inr b ↦ elim (or_cases (list_any (sender_pulls begin k u) (winning_frames seats)) _ b) [
-        inl a ↦ (let r = in_any (sender_pulls begin k u) (winning_frames seats) a in
-          absurd (stopped (sym (ap (λ (n : Option End). goes_on n u) (ap (λ (n : Known). n.ended) knows)) ∙ and_right (is_none (out_slot k (frame_bits r.0))) (goes_on k.ended u) (and_right (line_of (sender_stretches begin (frame_bits r.0)) u) _ r.2))))
-      | inr a ↦ absurd (let_go (sym (s.holds u past) ∙ a)) ] ]
+      | inl a ↦ (let r = in_any (pulse_pulls begin (Some (end_of e)) (was_low low u) u) pulses a in
+          (r.0, r.1, and_left (covers r.0 u) _ r.2, taken r.0 (or_cases (nat_le r.0.from e.until) (was_low low u) (and_right (nat_le begin r.0.from) _ (and_right (covers r.0 u) _ r.2)))))
+      | inr b ↦ elim (or_cases (list_any (sender_pulls begin k u) (winning_frames seats)) _ b) [
+        | inl a ↦ (let r = in_any (sender_pulls begin k u) (winning_frames seats) a in
+            absurd (stopped (sym (ap (λ (n : Option End). goes_on n u) (ap (λ (n : Known). n.ended) knows)) ∙ and_right (is_none (out_slot k (frame_bits r.0))) (goes_on k.ended u) (and_right (line_of (sender_stretches begin (frame_bits r.0)) u) _ r.2))))
+        | inr a ↦ absurd (let_go (sym (s.holds u past) ∙ a))
+      ]
+    ]
   where
     k : Known
     k = known u (reading_of low begin)
+
     past : e.until < u
     past = omega (arith, s.later)
+
     knows : known u (reading_of low begin) ≡ record { slots = s.zs; ended = Some (end_of e) }
     knows = s.knows u past
+
     made : (list_any (pulse_pulls begin (Some (end_of e)) (was_low low u) u) pulses || (list_any (sender_pulls begin k u) (winning_frames seats) || (is_acknowledged seats k u || is_broken seats k u k.ended))) ≡ true
     made = sym (ap (λ (n : Option End). list_any (pulse_pulls begin n (was_low low u) u) pulses || (list_any (sender_pulls begin k u) (winning_frames seats) || (is_acknowledged seats k u || is_broken seats k u k.ended))) (ap (λ (n : Known). n.ended) knows))
         ∙ sym (line u) ∙ h
+
     taken : (p : Stretch) → (nat_le p.from e.until ≡ true) ⊎ (was_low low u ≡ true) → (p.from ≤ e.until) ⊎ (was_low low u ≡ true)
     taken p (inl a) = inl (let x : p.from ≤ e.until = grind (arith, nat_tests) in x)
     taken p (inr a) = inr a
+
     stopped : nat_le u e.at ≡ true → ⊥
     stopped g = let x : u ≤ e.at = grind (arith, nat_tests) in omega arith
+
     let_go : nat_lt u held ≡ true → ⊥
     let_go g = let x : u < held = grind (arith, nat_tests) in omega (arith, s.brief)
 
@@ -121,12 +133,14 @@ pulse_held seats begin pulses low t bits e held line sparse s (suc n) h =
     let u : ℕ = e.at + 3600 + suc n in
     let p = pulse_only seats begin pulses low t bits e held line s (e.at + 3600 + suc n) (omega arith) h in
     elim (cases_lt (e.at + 3600) p.0.from) [
-      inr le ↦ (p.0, p.1, p.2, le)
-    | inl late ↦ elim p.3 [
-        inl a ↦ absurd (omega (arith, a, s.later))
-      | inr w ↦ (let before : low (e.at + 3600 + n) ≡ true = ap low (let x : e.at + 3600 + n ≡ e.at + 3600 + suc n - 1 = omega arith in x) ∙ was_before low (e.at + 3600 + suc n) w in
-          let q = pulse_held seats begin pulses low t bits e held line sparse s n before in
-          absurd (meet pulses sparse p.0 q.0 p.1 q.1 (e.at + 3600 + suc n) p.2 (ap (covers q.0) (let x : e.at + 3600 + suc n - 1 ≡ e.at + 3600 + n = omega arith in x) ∙ q.2) (omega (arith, q.3, late)))) ] ]
+      | inr le ↦ (p.0, p.1, p.2, le)
+      | inl late ↦ elim p.3 [
+        | inl a ↦ absurd (omega (arith, a, s.later))
+        | inr w ↦ (let before : low (e.at + 3600 + n) ≡ true = ap low (let x : e.at + 3600 + n ≡ e.at + 3600 + suc n - 1 = omega arith in x) ∙ was_before low (e.at + 3600 + suc n) w in
+            let q = pulse_held seats begin pulses low t bits e held line sparse s n before in
+            absurd (meet pulses sparse p.0 q.0 p.1 q.1 (e.at + 3600 + suc n) p.2 (ap (covers q.0) (let x : e.at + 3600 + suc n - 1 ≡ e.at + 3600 + n = omega arith in x) ∙ q.2) (omega (arith, q.3, late))))
+      ]
+    ]
 
 pub high_after : (seats : List Seat) (begin : ℕ) (pulses : List Stretch) (low : Line) (t : ℕ) (bits : List Bool) (e : Ended) (held : ℕ) → IsRoundLine seats begin pulses low → AreSparse pulses → AtEnd seats low begin t bits e held
     → (u : ℕ) → e.at + 6600 ≤ u → low u ≡ false

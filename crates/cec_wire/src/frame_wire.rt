@@ -1,21 +1,19 @@
 //! A line that finds a round microsecond by microsecond.
 ghost use Rattle.std.specs.Prelude.{◌≡◌, ◌+◌, ◌<◌, ◌≤◌, ◌++◌, ◌&&◌, not, true, length, [], if◌then◌else◌};
 ghost use Rattle.std.specs.List.{list_any};
-
-use arrayvec::ArrayVec;
-use cec_frame::{Ending, Frame, Reading};
-use cec_wave::Stretch;
-use cec_wave::pulses::Pulses;
-use cec_wave::wave::Wave;
+ghost use Rattle.cec_wave.specs.Line.{line_of};
+ghost use Rattle.cec_wave.specs.Sender.{sender_stretches};
+ghost use Rattle.cec_frame.specs.Bits.{frame_bits};
 
 use crate::hearing::{Ended, Place};
 use crate::recorder::Recorder;
 use crate::senders::{held_until, longest, out_slot, winner};
 use crate::{Loser, Outcome, Seat, Wire};
-
-ghost use Rattle.cec_wave.specs.Line.{line_of};
-ghost use Rattle.cec_wave.specs.Sender.{sender_stretches};
-ghost use Rattle.cec_frame.specs.Bits.{frame_bits};
+use arrayvec::ArrayVec;
+use cec_frame::{Ending, Frame, Reading};
+use cec_wave::Stretch;
+use cec_wave::pulses::Pulses;
+use cec_wave::wave::Wave;
 
 /// What the round told so far: the bits that were read, where the reading has come, until when those
 /// who follow hold the line, and whether the winner is sending still.
@@ -31,9 +29,13 @@ ghost use Rattle.cec_wire.specs.Machine.{taken, taken_until, sends_until, sent_l
 ghost use Rattle.cec_wire.specs.Round.{rest_of};
 
 const START_LOW: u64 = 3700;
+
 const FIRST_SLOT: u64 = 4500;
+
 const SLOT: u64 = 2400;
+
 const LOW_OF_1: u64 = 600;
+
 const LOW_OF_0: u64 = 1500;
 
 // How long after the ending a follower or a pulse that touches its pull can hold the line.
@@ -70,9 +72,9 @@ fn is_sent_low(frame: &Frame, start: u64, t: u64) -> bool
 fn is_pulsed(pulses: &[Stretch], start: u64, until: u64, was_low: bool, t: u64) -> bool
     ensures { result ≡ list_any (taken start until was_low t) pulses.now }
 {
-    pulses
-        .iter()
-        .any(|pulse| pulse.from <= t && t < pulse.to && (start <= pulse.from && (pulse.from <= until || was_low)))
+    pulses.iter().any(|pulse| pulse.from <= t
+        && t < pulse.to
+        && (start <= pulse.from && (pulse.from <= until || was_low)))
 }
 
 fn pulses_until(place: Place, t: u64) -> u64
@@ -127,7 +129,14 @@ impl Hearing {
     }
 
     // Whether the line is low in microsecond `t`.
-    fn is_pulled(&self, pulses: &[Stretch], winner: &Option<Frame>, start: u64, was_low: bool, t: u64) -> bool
+    fn is_pulled(
+        &self,
+        pulses: &[Stretch],
+        winner: &Option<Frame>,
+        start: u64,
+        was_low: bool,
+        t: u64,
+    ) -> bool
         ensures { result ≡ is_pulled start pulses.now winner.now self.now was_low t }
     {
         is_pulsed(pulses, start, pulses_until(self.place, t), was_low, t)
@@ -136,7 +145,15 @@ impl Hearing {
     }
 
     // Hears that the line is low, or high, in microsecond `t`.
-    fn hear(&mut self, seats: &[Seat], winner: &Option<Frame>, start: u64, t: u64, was_low: bool, is_low: bool)
+    fn hear(
+        &mut self,
+        seats: &[Seat],
+        winner: &Option<Frame>,
+        start: u64,
+        t: u64,
+        was_low: bool,
+        is_low: bool,
+    )
         requires begin { start ≤ 2000000000000 }
         requires early { IsEarly self.old.place }
         requires time { t ≤ 3000000000000 }
@@ -149,7 +166,9 @@ impl Hearing {
     {
         let falls = is_low && !was_low;
         let rises = !is_low && was_low;
-        let place = self.place.after(start, self.bits.as_slice(), t, falls, rises);
+        let place = self
+            .place
+            .after(start, self.bits.as_slice(), t, falls, rises);
         if self.place.samples(t, falls) {
             self.bits.push(!is_low);
             self.sends = is_sending(self.bits.as_slice(), winner);
@@ -232,7 +251,11 @@ fn rest(wave: &[Stretch], until: u64) -> u64
 {
     let mut rest = 0;
     for stretch in wave {
-        rest = if stretch.from <= until { stretch.to } else { rest };
+        rest = if stretch.from <= until {
+            stretch.to
+        } else {
+            rest
+        };
     }
     rest
 }
@@ -248,7 +271,13 @@ fn ending(place: Place) -> Ended
 }
 
 // What a round gave that ended so, with these bits read and this wave carried.
-fn outcome(seats: &[Seat], begin: u64, bits: ArrayVec<bool, 160>, ended: Ended, wave: Wave<192>) -> Outcome
+fn outcome(
+    seats: &[Seat],
+    begin: u64,
+    bits: ArrayVec<bool, 160>,
+    ended: Ended,
+    wave: Wave<192>,
+) -> Outcome
     requires { length seats.now ≤ 15 }
     ensures begin { result.reading.begin ≡ begin }
     ensures at { result.reading.at ≡ ended.at }

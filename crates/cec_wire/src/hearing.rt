@@ -55,7 +55,11 @@ fn start_high_at(begin: u64, t: u64, falls: bool) -> Place
     ensures { result ≡ after_start_high begin t falls }
 {
     if falls {
-        if t < begin + 4300 { over(Ending::BadStart, t, t) } else { Place::InSlot(t, None) }
+        if t < begin + 4300 {
+            over(Ending::BadStart, t, t)
+        } else {
+            Place::InSlot(t, None)
+        }
     } else if t == begin + 4700 {
         over(Ending::BadStart, begin + 4701, begin + 4700)
     } else {
@@ -81,7 +85,11 @@ fn other_slot_at(bits: &[bool], fall: u64, t: u64, falls: bool) -> Place
     ensures { result ≡ after_other_slot bits.now fall t falls }
 {
     if falls {
-        if t < fall + 2050 { over(Ending::Short, t, t) } else { Place::InSlot(t, ending_of(bits)) }
+        if t < fall + 2050 {
+            over(Ending::Short, t, t)
+        } else {
+            Place::InSlot(t, ending_of(bits))
+        }
     } else if t == fall + 2750 {
         over(Ending::Silent, t + 1, t)
     } else {

@@ -19,7 +19,10 @@ impl Recorder {
         ensures wave { result.wave ≡ [] }
         ensures high { result.low_since ≡ None }
     {
-        Recorder { wave: Wave::new(), low_since: None }
+        Recorder {
+            wave: Wave::new(),
+            low_since: None,
+        }
     }
 
     /// Whether the line was low last.

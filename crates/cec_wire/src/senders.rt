@@ -2,21 +2,21 @@
 ghost use Rattle.std.specs.Prelude.{◌≡◌, ◌+◌, ◌-◌, ◌*◌, ◌%◌, ◌==◌, ◌<◌, ◌≤◌, ◌++◌, ◌&&◌, ◌||◌, not, false, length, All, Option, None, slice_index_or, if◌then◌else◌, IfSome};
 ghost use Rattle.std.specs.List.{find, list_any};
 ghost use Rattle.cec_frame.specs.Bits.{frame_bits, comes_before, least_among};
-
-use arrayvec::ArrayVec;
-use cec_frame::{Addr, Ending, Frame};
-
-use crate::hearing::Place;
-use crate::{Loser, Seat};
-
 ghost use mathlib.Core.Bool.{beq};
 ghost use Rattle.cec_wire.specs.Round.{bit_read, destination, frames_of, holds_address};
 ghost use Rattle.cec_wire.specs.Machine.{is_out_by, out_by, sends_after, acks_after, breaks_after, acks_until, held_after, is_short, beats, won, first_won, AreSentWell};
 ghost use Rattle.cec_wire.specs.Contend.{AreFrames};
 ghost use Rattle.cec_wire.specs.Falls.{AreShortFrames};
 
+use crate::hearing::Place;
+use crate::{Loser, Seat};
+use arrayvec::ArrayVec;
+use cec_frame::{Addr, Ending, Frame};
+
 const HEADER_BITS: usize = 8;
+
 const ACK_PULL: u64 = 1500;
+
 const SHORT_PULL: u64 = 3600;
 
 // The destination, in slots 5 to 8.
@@ -39,7 +39,11 @@ fn sent_bit(frame: &Frame, slot: usize) -> bool
     requires { 1 ≤ slot }
     ensures { result ≡ slice_index_or (frame_bits frame.now) (slot - 1) false }
 {
-    if slot <= frame.slots() { frame.bit(slot) } else { false }
+    if slot <= frame.slots() {
+        frame.bit(slot)
+    } else {
+        false
+    }
 }
 
 // Whether a slot tells a frame's sender to stop, where `whole` says that the last one ends the reading.
@@ -125,7 +129,11 @@ fn acknowledged_until(seats: &[Seat], bits: &[bool], fall: u64) -> u64
     requires { fall ≤ 3000000000000 }
     ensures { result ≡ acks_until seats.now bits.now fall }
 {
-    if (bits.len() + 1) % 10 == 0 && is_acknowledged(bits, seats) { fall + ACK_PULL } else { 0 }
+    if (bits.len() + 1) % 10 == 0 && is_acknowledged(bits, seats) {
+        fall + ACK_PULL
+    } else {
+        0
+    }
 }
 
 /// How long those who follow hold the line, once microsecond `t` brought the reading to this place.
@@ -135,7 +143,8 @@ pub fn held_until(seats: &[Seat], bits: &[bool], place: Place, t: u64, held: u64
 {
     match place {
         Place::InSlot(fall, _) if fall == t => acknowledged_until(seats, bits, fall),
-        Place::Over(ended) if ended.at == t && is_short(ended.ending) && is_broken(bits, seats) => t + SHORT_PULL,
+        Place::Over(ended) if ended.at == t && is_short(ended.ending) && is_broken(bits, seats) => t
+            + SHORT_PULL,
         _ => held,
     }
 }
@@ -178,7 +187,11 @@ fn won(seats: &[Seat], seat: &Seat) -> Option<Frame>
     match &seat.sends {
         None => None,
         Some(frame) => {
-            if is_beaten(seats, frame) { None } else { Some(frame.copy()) }
+            if is_beaten(seats, frame) {
+                None
+            } else {
+                Some(frame.copy())
+            }
         }
     }
 }

@@ -17,12 +17,12 @@ pub returns-then-is_out_at : goal.returns-then-is_out_at
 returns-then-is_out_at c =
     let p = is_out_by c.args.bits.now c.args.whole (frame_bits c.args.frame.now) in
     found p (c.loop-place.place + 1) (length c.args.bits.now - c.loop-place.place) (length c.args.bits.now - (c.loop-place.place + 1)) (omega arith)
-      (sym c.is_out_at.ensures ∙ c.if-is_out_at.true)
+    (sym c.is_out_at.ensures ∙ c.if-is_out_at.true)
     ∙ c.loop-place.invariant
 
 pub loop-place-preserved : goal.loop-place-preserved
 loop-place-preserved c =
     let p = is_out_by c.args.bits.now c.args.whole (frame_bits c.args.frame.now) in
     passed p (c.loop-place.place + 1) (c.loop-place.place + 1 + 1) (length c.args.bits.now - c.loop-place.place) (length c.args.bits.now - (c.loop-place.place + 1)) (omega arith) (omega arith)
-      (sym c.is_out_at.ensures ∙ c.if-is_out_at.false)
+    (sym c.is_out_at.ensures ∙ c.if-is_out_at.false)
     ∙ c.loop-place.invariant
