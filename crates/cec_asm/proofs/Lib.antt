@@ -1,2 +1,8 @@
 pub mod VolumeLemmas
 pub mod LineLemmas
+pub mod Finding
+pub mod WordLemmas
+pub mod NameLemmas
+pub mod Spelled
+pub mod Shapes
+pub mod Whole

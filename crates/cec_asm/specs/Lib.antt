@@ -5,3 +5,5 @@ pub mod FrameText
 pub mod Lines
 pub mod Number
 pub mod Topology
+pub mod FrameReading
+pub mod Refusals

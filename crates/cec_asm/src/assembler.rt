@@ -1,5 +1,13 @@
 //! From frame texts to frames.
+ghost use Rattle.std.specs.Prelude.{◌≡◌, ℕ, List, IfOk, IfErr, IsTrue};
+ghost use Rattle.cec_asm.specs.FrameReading.{is_frame};
+ghost use Rattle.cec_asm.specs.FrameText.{frame_text};
+ghost use Rattle.cec_asm.specs.Refusals.{IsRefused};
 
+use crate::reading::{candidate, is_same};
+use crate::refusal::cause;
+use crate::spelling::frame_text;
+use cec_frame::Frame;
 use std::fmt::{self, Write};
 
 /// Why a text is no frame's.
@@ -31,5 +39,21 @@ impl fmt::Display for AssembleError {
             AssembleError::Address => "address",
             AssembleError::TooLong => "too-long",
         })
+    }
+}
+
+/// The frame of a text: the one whose text it is.
+///
+/// # Errors
+///
+/// The first that applies of `Address`, `Name`, `TooLong`, `Count` and `Operand`, where the text is no frame's.
+pub fn assemble(text: &[u8]) -> Result<Frame, AssembleError>
+    ensures ok { IfOk result (λ frame. frame_text frame ≡ text.now) }
+    ensures only { (frame : List ℕ) → IsTrue (is_frame frame) → text.now ≡ frame_text frame → result ≡ Ok frame }
+    ensures refused { IfErr result (λ e. IsRefused text.now e) }
+{
+    match candidate(text) {
+        Some(frame) if is_same(&frame_text(&frame), text) => Ok(frame),
+        _ => Err(cause(text)),
     }
 }
