@@ -1,0 +1,23 @@
+-- A round has one outcome (own).
+use Rattle.std.specs.Prelude.{◌≡◌, ℕ, List}
+use Rattle.cec_wave.specs.declared.Stretch.{Stretch}
+use Rattle.cec_wave.specs.Line.{IsWave}
+use Rattle.cec_wire.specs.declared.Seat.{Seat}
+use Rattle.cec_wire.specs.declared.Outcome.{Outcome}
+use Rattle.cec_wire.specs.Round.{IsRound}
+
+-- two outcomes tell the same: the reading, who was still sending, who was out, the rest and the wave
+pub record SameOutcome (o p : Outcome) : Type 0 where
+  pub begin : o.reading.begin ≡ p.reading.begin
+  pub at : o.reading.at ≡ p.reading.at
+  pub ending : o.reading.ending ≡ p.reading.ending
+  pub bits : o.reading.bits.items ≡ p.reading.bits.items
+  pub survivors : o.survivors.items ≡ p.survivors.items
+  pub losers : o.losers.items ≡ p.losers.items
+  pub rest : o.rest ≡ p.rest
+  pub wave : o.wave ≡ p.wave
+
+-- whichever way the outcome of a round is found, it is the same
+abbrev pub OneOutcome : Type 0
+OneOutcome = (seats : List Seat) (begin : ℕ) (pulses : List Stretch) (o p : Outcome) → IsWave o.wave → IsWave p.wave
+    → IsRound seats begin pulses o → IsRound seats begin pulses p → SameOutcome o p
