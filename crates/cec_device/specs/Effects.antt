@@ -1,4 +1,6 @@
--- The opcode table: what each message does to a device that follows it.
+-- The opcode table: what each message does to a device that follows it. The messages are those of CEC 13 and
+-- CEC 17, and a kind that a line does not name refuses the message (CEC 12.3). Which kinds a line names, and what
+-- it does where the standard leaves that open, are this profile's own.
 use Rattle.std.specs.Prelude.{ℕ, ◌==◌, ◌+◌, ◌-◌, ◌%◌, ◌/◌, Bool, true, false, not, ◌&&◌, ◌||◌, nat_lt, nat_le, List, [], ◌∷◌, length, if◌then◌else◌, Option, Some, None}
 use Rattle.cec_opcode.specs.declared.message.Address.{Address}
 use Rattle.cec_opcode.specs.declared.message.Message.{Message}
@@ -29,14 +31,16 @@ abbrev pub which : ℕ → List (ℕ × Effect) → Effect → Effect
 which x [] otherwise = otherwise
 which x (c ∷ cases) otherwise = if x == c.0 then c.1 else which x cases otherwise
 
+-- a report is kept, with its first operand
 abbrev pub hears : Heard → Record → Effect
 hears h r = does (record r { heard = Some (record { from = h.from; opcode = h.opcode; first = h.first }) }) []
 
+-- Deck Status, to who asked to be told
 abbrev pub to_sub : Option ℕ → ℕ → List Say
 to_sub None deck = []
 to_sub (Some sub) deck = Tell sub (0x1b ∷ deck ∷ []) ∷ []
 
--- deck-status to sub where the deck changed
+-- the same where the deck changed
 abbrev pub notice_of : ℕ → Option ℕ → ℕ → List Say
 notice_of was sub deck = if was == deck then [] else to_sub sub deck
 
@@ -46,12 +50,15 @@ notice r deck = notice_of r.deck r.sub deck
 abbrev pub turned : Record → ℕ → Effect
 turned r deck = does (record r { deck = deck }) (notice r deck)
 
+-- Standby: what is held down and who is told of the deck are forgotten, and a deck with a medium stops
 abbrev pub standby : Record → Record
 standby r = record r { power = false; menu = false; held = None; sub = None; deck = if r.deck == 0x19 then 0x19 else 0x1a }
 
+-- a physical address as a message carries it
 abbrev pub phys_of : Address → Phys
 phys_of a = record { high = a.high; low = a.low }
 
+-- Audio Status: bit 7 is set while it is mute
 abbrev pub volume_status : Record → ℕ
 volume_status r = if r.mute then r.volume + 128 else r.volume
 
@@ -63,33 +70,39 @@ mode_deck mode = mode_in ((0x24, 0x11) ∷ (0x25, 0x14) ∷ (0x05, 0x17) ∷ (0x
     mode_in [] = None
     mode_in (c ∷ cases) = if mode == c.0 then Some c.1 else mode_in cases
 
+-- Play with a listed mode, or none
 abbrev pub plays : Record → Option ℕ → Effect
 plays r None = refuses r 3
 plays r (Some deck) = if r.deck == 0x19 then refuses r 1 else does (record r { power = true; deck = deck }) (notice r deck)
 
 -- ---- ways through switches
 
+-- a switch with this port selects it
 abbrev pub with_port : Bool → ℕ → Record → Option ℕ → Record
 with_port is_one ports r None = r
 with_port is_one ports r (Some n) = if is_one && (nat_lt 0 n && nat_le n ports) then record r { selected = Some n } else r
 
+-- a switch selects the port that leads to an address
 abbrev pub selecting : Kind → Phys → ℕ → Phys → Record → Record
 selecting kind own ports to r = with_port (is_switch kind) ports r (port_towards own to)
 
--- where a switch leads to
+-- Routing Information with the address of the selected port, if that has one
 abbrev pub leads : Phys → Option ℕ → List Say
 leads own None = []
 leads own (Some n) = if is_nowhere (below own n) then [] else Cast (0x81 ∷ (below own n).high ∷ (below own n).low ∷ []) ∷ []
 
+-- Routing Change and Routing Information: the way leads to an address
 abbrev pub routed : Kind → Phys → Phys → Record → Effect
 routed kind own to r = does (record r { path = Some to; active = None }) (if is_switch kind && same_phys to own then leads own r.selected else [])
 
+-- Set Stream Path: a deck or amplifier at the address becomes the active source
 abbrev pub streamed : Kind → Phys → ℕ → Phys → Record → Effect
 streamed kind own ports to r =
     if (is_deck kind || is_amp kind) && same_phys to own
     then does (record r { path = Some to; power = true; active = Some to }) (Cast (0x82 ∷ to.high ∷ to.low ∷ []) ∷ [])
     else does (selecting kind own ports to (record r { path = Some to })) []
 
+-- the active source is at this address
 abbrev pub is_active : Option Phys → Phys → Bool
 is_active None p = false
 is_active (Some q) p = same_phys q p
@@ -112,6 +125,7 @@ sounds kind r after = if is_deck kind then does r [] else told kind after
 abbrev pub menus : Kind → Record → Bool → ℕ → Effect
 menus kind r is_change byte = if is_deck kind && is_change then does (record r { menu = not r.menu }) (Tell 0 (0x8e ∷ byte ∷ []) ∷ []) else does r []
 
+-- a user control code at a device that is on
 abbrev pub pressed_on : Kind → ℕ → Record → Effect
 pressed_on kind code r = which code (
     (0x40, does (standby r) []) ∷
@@ -126,7 +140,7 @@ pressed_on kind code r = which code (
     (0x0d, menus kind r r.menu 1) ∷ [])
     (does r [])
 
--- in standby only two codes act
+-- in standby only Power and Power On act
 abbrev pub pressed : Kind → Heard → Record → Effect
 pressed kind h r =
     if r.power then pressed_on kind h.first (record r { held = Some h.first }) else
@@ -204,6 +218,7 @@ effect_of kind own name ports h r _ = refuses r 0
 
 -- ---- a frame that was followed
 
+-- what a frame says: too few operands, and a poll, do nothing
 abbrev pub by_decoded : ℕ → Heard → State → Decoded → State
 by_decoded limit h d (Known message) = effected limit h (effect_of d.kind d.phys d.name d.ports h d.record_of message) d
 by_decoded limit h d (NoName opcode) = effected limit h (refuses d.record_of 0) d
@@ -213,13 +228,16 @@ by_decoded limit h d _ = d
 abbrev pub is_for : State → ℕ → ℕ → Bool
 is_for d to opcode = may_go (rule_of opcode) to && ((to == 15) || holds d.place to)
 
+-- the first operand, if there is one
 abbrev pub first_of : List ℕ → ℕ
 first_of [] = 0
 first_of (x ∷ xs) = x
 
+-- a frame with its addresses
 abbrev pub heard_of : ℕ → ℕ → List ℕ → ℕ → Heard
 heard_of header opcode operands at = record { from = header / 16; to = header % 16; opcode = opcode; first = first_of operands; at = at }
 
+-- a device after a frame that came whole
 abbrev pub followed : ℕ → State → List ℕ → ℕ → State
 followed limit d (header ∷ opcode ∷ operands) at =
     if is_for d (header % 16) opcode

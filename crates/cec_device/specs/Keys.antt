@@ -1,4 +1,5 @@
--- The key table: what a press and a release do, by kind.
+-- The key table, which is this profile's own: what a press and a release do, by kind. What a key sends are the
+-- messages of CEC 13.
 use Rattle.std.specs.Prelude.{ℕ, ◌==◌, ◌-◌, Bool, true, not, ◌&&◌, ◌||◌, nat_le, List, [], ◌∷◌, if◌then◌else◌, Option, Some, None}
 use Rattle.hdmi_cta.specs.declared.kind.Kind.{Kind}
 use Rattle.hdmi_cta.specs.declared.phys.Phys.{Phys}
@@ -64,6 +65,7 @@ ported own port r None = does (record r { selected = Some port }) []
 ported own port r (Some old) = does (record r { selected = Some port }) (if old == port then [] else
     Cast (0x80 ∷ (below own old).high ∷ (below own old).low ∷ (below own port).high ∷ (below own port).low ∷ []) ∷ [])
 
+-- to standby: a television sends all others there, and the active source tells the television
 abbrev pub goes_off : Kind → Phys → Record → Effect
 goes_off kind own r =
     if is_tv kind then does (standby r) (Cast (0x36 ∷ []) ∷ []) else (
@@ -75,6 +77,7 @@ abbrev pub taking_over : Phys → Record → Effect
 taking_over own r = does
     (record r { power = true; active = Some own; path = Some own }) (Tell 0 (0x04 ∷ []) ∷ Cast (0x82 ∷ own.high ∷ own.low ∷ []) ∷ [])
 
+-- what a press does
 abbrev pub pressing : Kind → Phys → Record → Key → Effect
 pressing kind own r Play = does
     (record r { power = true; active = Some own; path = Some own; deck = if r.deck == 0x19 then 0x19 else 0x11 })
@@ -95,6 +98,7 @@ pressing kind own r (Language language) =
     does (record r { language = language }) (Cast (0x32 ∷ language.first ∷ language.second ∷ language.third ∷ []) ∷ [])
 pressing kind own r (Remote to code) = does r (Tell to (0x44 ∷ code ∷ []) ∷ [])
 
+-- what a release does
 abbrev pub releasing : Kind → Record → Key → Effect
 releasing kind r (Volume key) = if is_tv kind && r.audio then does r (Tell 5 (0x45 ∷ []) ∷ []) else does r []
 releasing kind r (Remote to code) = does r (Tell to (0x45 ∷ []) ∷ [])

@@ -1,4 +1,5 @@
--- Joining, leaving, and the fates of frames that were sent.
+-- Joining, leaving, the allocation of a logical address (CEC 10.2.1), and the fates of frames that were sent
+-- (CEC 7.1 and 9.1; that a poll is tried again without limit, and how attempts are counted, are this profile's own).
 use Rattle.std.specs.Prelude.{ℕ, ◌==◌, ◌+◌, ◌*◌, ◌/◌, ◌%◌, Bool, true, false, ◌&&◌, not, nat_lt, List, [], ◌∷◌, ◌++◌, length, slice_index, if◌then◌else◌, Option, Some, None, is_some}
 use Rattle.hdmi_cta.specs.declared.kind.Kind.{Kind}
 use Rattle.hdmi_cta.specs.declared.kind.Kind.TheVariants.{Tv, Amp, Player, Recorder, Switch}
@@ -15,7 +16,7 @@ use Rattle.cec_device.specs.declared.device.SubmitError.{SubmitError}
 use Rattle.cec_device.specs.declared.device.SubmitError.TheVariants.{QueueFull, OwnAddress, NoAddress, OffWire}
 use Rattle.cec_device.specs.State.{State, is_switch, is_nowhere, type_of, holds, queued}
 
--- the addresses that a kind may take, in order
+-- the addresses that a kind may take, in order (CEC 10.2; 14 for a television, and none for a switch, are own)
 abbrev pub addresses : Kind → List ℕ
 addresses Tv = 0 ∷ 14 ∷ []
 addresses Recorder = 1 ∷ 2 ∷ 9 ∷ []
@@ -48,10 +49,12 @@ place_after (a ∷ rest) (Delivered ∷ fates) = place_after rest fates
 place_after (a ∷ rest) (Lost ∷ fates) = place_after (a ∷ rest) fates
 place_after (a ∷ rest) (Broken ∷ fates) = place_after (a ∷ rest) fates
 
+-- one step of it
 abbrev pub stepped : Kind → Place → Fate → Place
 stepped kind (Polls a) fate = polled kind a fate
 stepped kind place fate = place
 
+-- where a device stands when it joins
 abbrev pub start_place : Kind → Phys → Place
 start_place kind phys = if is_nowhere phys then Settled 15 else tries (addresses kind)
 
@@ -75,6 +78,7 @@ fresh_record kind ports = record {
   sub = None;
 }
 
+-- a new device
 abbrev pub fresh : Kind → List ℕ → ℕ → State
 fresh kind name ports = record {
   kind = kind;
@@ -95,6 +99,7 @@ fresh kind name ports = record {
 abbrev pub reported : ℕ → ℕ → State → State
 reported limit at d = queued limit at 15 (0x84 ∷ d.phys.high ∷ d.phys.low ∷ type_of d.kind ∷ []) d
 
+-- a device that has joined
 abbrev pub joined : ℕ → State → ℕ → Phys → ℕ → State
 joined limit d number phys at = reported limit at (record (fresh d.kind d.name d.ports) {
   number = number;
@@ -103,11 +108,13 @@ joined limit d number phys at = reported limit at (record (fresh d.kind d.name d
   poll_ready = at;
 })
 
+-- a device that leaves is a new one again
 abbrev pub left : State → State
 left d = fresh d.kind d.name d.ports
 
 -- ---- fates
 
+-- the free time after a poll
 abbrev pub class_of_poll : Fate → FreeTime
 class_of_poll Lost = NewInitiator
 class_of_poll Broken = Retry
@@ -125,10 +132,12 @@ ended d = record d { queue = rest_of d.queue; attempts = 0; class = PresentIniti
 abbrev pub failed : State → State
 failed d = if nat_lt d.attempts 5 then record d { attempts = d.attempts + 1; class = Retry } else ended d
 
+-- a frame without an opcode is a poll
 abbrev pub front_is_poll : List Queued → Bool
 front_is_poll [] = false
 front_is_poll (q ∷ qs) = length q.frame == 1
 
+-- the fate of a queued frame
 abbrev pub frame_sent : State → Fate → State
 frame_sent d Lost = record d { class = NewInitiator }
 frame_sent d Delivered = ended d
@@ -140,6 +149,7 @@ abbrev pub polled_at : Place → Option ℕ
 polled_at (Polls a) = Some a
 polled_at _ = None
 
+-- the fate of a poll of an address, or of a queued frame
 abbrev pub sent_by : ℕ → State → Fate → ℕ → Option ℕ → State
 sent_by limit d fate at (Some a) = reported limit at (record d { place = polled d.kind a fate; poll_ready = at; class = class_of_poll fate })
 sent_by limit d fate at None = frame_sent d fate
@@ -152,6 +162,7 @@ abbrev pub class_after_waiting : FreeTime → FreeTime
 class_after_waiting PresentInitiator = NewInitiator
 class_after_waiting class = class
 
+-- a device that was no contender where others were
 abbrev pub waited : State → State
 waited d = record d { class = class_after_waiting d.class }
 
@@ -177,6 +188,7 @@ abbrev pub submitted_by : State → List ℕ → ℕ → Option SubmitError → 
 submitted_by d bytes at None = record d { queue = d.queue ++ record { frame = bytes; ready = at } ∷ [] }
 submitted_by d bytes at (Some fault) = d
 
+-- a frame that is handed in stands last, unless it is refused
 abbrev pub submitted : ℕ → State → List ℕ → ℕ → State
 submitted limit d bytes at = submitted_by d bytes at (submit_fault limit d bytes)
 

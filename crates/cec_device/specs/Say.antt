@@ -16,6 +16,7 @@ pub record Effect : Type 0 where
   pub after : Record
   pub says : List Say
 
+-- a line of the table
 abbrev pub does : Record → List Say → Effect
 does after says = record { after = after; says = says }
 
@@ -30,9 +31,11 @@ say limit h (Refuse reason) d =
     then queued limit h.at h.from (0x00 ∷ h.opcode ∷ reason ∷ []) d
     else d
 
+-- all of it, in order
 abbrev pub say_all : ℕ → Heard → List Say → State → State
 say_all limit h [] d = d
 say_all limit h (s ∷ says) d = say_all limit h says (say limit h s d)
 
+-- a device after a line of the table
 abbrev pub effected : ℕ → Heard → Effect → State → State
 effected limit h e d = say_all limit h e.says (record d { record_of = e.after })

@@ -10,6 +10,7 @@ use arrayvec::ArrayVec;
 use cec_frame::{Addr, Frame, FrameError};
 use hdmi_cta::{Kind, Phys};
 use std::marker::Model;
+use thiserror::Error;
 
 /// A frame that waits, and when it was ready.
 #[derive(Drop)]
@@ -27,15 +28,21 @@ impl Default for Queued {
     }
 }
 
-/// Why a frame of a script is not queued.
-#[derive(Clone, Copy, PartialEq, Eq)]
+/// Why a frame that is handed in is not queued.
+#[derive(Clone, Copy, Debug, Drop, PartialEq, Eq, Error)]
 pub enum SubmitError {
+    #[error("the queue is full")]
     QueueFull,
+    #[error("the frame goes to the device itself")]
     OwnAddress,
+    #[error("the frame's initiator is not the device's address")]
     NoAddress,
+    #[error("the device is off the wire")]
     OffWire,
 }
 
+/// A device of a living room: what it is, where it stands on the wire, what it remembers, and up to `Q`
+/// frames that it has to send.
 #[derive(Drop)]
 pub struct Device<const Q: usize> {
     pub(crate) kind: Kind,
@@ -119,7 +126,8 @@ impl<const Q: usize> Device<Q> {
         }
     }
 
-    /// Queues a frame of a reply, report or key.
+    /// Queues a frame of a reply, report or key, where the device speaks and the frame is not to itself.
+    /// One that finds the queue full is dropped and counted.
     pub(crate) fn put(&mut self, at: u64, to: Addr, rest: &[u8])
         requires { length rest.now ≤ 15 }
         ensures { self.new ≡ queued Q at to rest.now self.old }

@@ -257,6 +257,7 @@ fn deck_of_mode(mode: u8) -> Option<u8>
 }
 
 impl<const Q: usize> Device<Q> {
+    // Keeps a report.
     fn note(&mut self, heard: Heard)
         ensures { self.new ≡ effected Q heard (hears heard self.old.record_of) self.old }
     {
@@ -267,6 +268,7 @@ impl<const Q: usize> Device<Q> {
         });
     }
 
+    /// Goes into standby (CEC 13.3).
     pub(crate) fn fall_asleep(&mut self)
         ensures { self.new ≡ record self.old { record_of = standby self.old.record_of } }
     {
@@ -300,6 +302,7 @@ impl<const Q: usize> Device<Q> {
         self.notify(heard, sub, was, deck);
     }
 
+    /// Its audio status: bit 7 says that it is mute, the others how loud it is (CEC 13.15).
     pub(crate) fn audio_status(&self) -> u8
         ensures { result ≡ volume_status self.now.record_of }
     {
@@ -310,6 +313,7 @@ impl<const Q: usize> Device<Q> {
         }
     }
 
+    /// Its device type (CEC 17, Device Type).
     pub(crate) fn type_byte(&self) -> u8
         ensures { result ≡ type_of self.now.kind }
     {
@@ -322,6 +326,7 @@ impl<const Q: usize> Device<Q> {
         }
     }
 
+    // A switch selects the port that leads to an address below its own.
     fn select(&mut self, to: Phys)
         ensures { self.new ≡ record self.old { record_of = selecting self.old.kind self.old.phys self.old.ports to self.old.record_of } }
     {
@@ -332,6 +337,7 @@ impl<const Q: usize> Device<Q> {
         }
     }
 
+    // The way was changed; a switch that it leads to tells where it leads on (CEC 13.2).
     fn route(&mut self, heard: Heard, to: Phys)
         ensures { self.new ≡ effected Q heard (routed self.old.kind self.old.phys to self.old.record_of) self.old }
     {
@@ -347,6 +353,7 @@ impl<const Q: usize> Device<Q> {
         }
     }
 
+    // The device at the address that a television wants to see becomes the active source (CEC 13.2).
     fn stream(&mut self, heard: Heard, to: Phys)
         ensures { self.new ≡ effected Q heard (streamed self.old.kind self.old.phys self.old.ports to self.old.record_of) self.old }
     {
@@ -404,6 +411,7 @@ impl<const Q: usize> Device<Q> {
         }
     }
 
+    // Answers with its name.
     fn tell_name(&mut self, heard: Heard)
         ensures { self.new ≡ say Q heard (Reply (0x47 ∷ self.old.name)) self.old }
     {
@@ -422,6 +430,7 @@ impl<const Q: usize> Device<Q> {
         }
     }
 
+    // One line of the table.
     fn obey(&mut self, heard: Heard, message: &Message)
         ensures { self.new ≡ effected Q heard (effect_of self.old.kind self.old.phys self.old.name self.old.ports heard self.old.record_of message.now) self.old }
     {
@@ -440,6 +449,7 @@ impl<const Q: usize> Device<Q> {
         }
     }
 
+    // Too few operands are ignored, and an opcode with no name is refused.
     fn answer(&mut self, heard: Heard, frame: &Frame)
         ensures { self.new ≡ by_decoded Q heard self.old (decoded_of frame.now) }
     {
@@ -450,7 +460,8 @@ impl<const Q: usize> Device<Q> {
         }
     }
 
-    /// Follows a frame that came whole.
+    /// Follows a frame that came whole, by the opcode table, at `at` microseconds: a direct one where it holds
+    /// the destination, and a broadcast. What it answers is ready at that time.
     pub fn follow(&mut self, frame: &Frame, at: u64)
         ensures { self.new ≡ followed Q self.old frame.now at }
     {

@@ -1,4 +1,4 @@
-//! The keys of a device.
+//! The keys of a device, which are this profile's own.
 ghost use Rattle.std.specs.Prelude.{◌≡◌, ◌≤◌, Some, None, IsTrue, MatchResult, length};
 ghost use Rattle.cec_device.specs.Say.{effected, say, Tell, Cast};
 ghost use Rattle.cec_device.specs.Keys.{own_doing, has_key, code_of, voiced, ported, taking_over, pressing, releasing, key_fault, keyed};
@@ -9,6 +9,7 @@ use crate::ways::below;
 use cec_frame::Addr;
 use cec_opcode::Triple;
 use hdmi_cta::{Kind, Phys};
+use thiserror::Error;
 
 /// The logical addresses of a television and of an audio system (CEC 10.2).
 const TELEVISION: u8 = 0;
@@ -46,7 +47,7 @@ pub enum Key {
 }
 
 /// The keys of the sound.
-#[derive(Clone, Copy, PartialEq, Eq)]
+#[derive(Clone, Copy)]
 pub enum VolumeKey {
     Up,
     Down,
@@ -67,12 +68,15 @@ impl VolumeKey {
 }
 
 /// Why a key is refused.
-#[derive(Clone, Copy, PartialEq, Eq)]
+#[derive(Clone, Copy, Debug, Drop, PartialEq, Eq, Error)]
 pub enum KeyError {
+    #[error("the device has no such key")]
     NotForKind,
+    #[error("the device is off the wire")]
     OffWire,
 }
 
+// What it does by itself answers no frame.
 fn own_doing(at: u64) -> Heard
     ensures { result ≡ own_doing at }
 {
@@ -145,6 +149,7 @@ impl<const Q: usize> Device<Q> {
         self.notify(own_doing(at), sub, was, PLAYING);
     }
 
+    // Standby tells the others: all of them from a television, and the television from the active source.
     fn press_power(&mut self, at: u64)
         ensures { self.new ≡ effected Q (own_doing at) (pressing self.old.kind self.old.phys self.old.record_of Key.Power) self.old }
     {
@@ -167,6 +172,7 @@ impl<const Q: usize> Device<Q> {
         }
     }
 
+    // A switch tells all which way it now leads (CEC 13.2).
     fn press_port(&mut self, port: Port, at: u64)
         ensures { self.new ≡ effected Q (own_doing at) (ported self.old.phys port self.old.record_of self.old.record_of.selected) self.old }
     {
@@ -206,6 +212,7 @@ impl<const Q: usize> Device<Q> {
         }
     }
 
+    // A television asks the amplifier for the audio return channel, and that one begins or ends it (CEC 13.17).
     fn press_arc(&mut self, on: bool, at: u64)
         ensures { self.new ≡ effected Q (own_doing at) (pressing self.old.kind self.old.phys self.old.record_of (Key.Arc on)) self.old }
     {
@@ -216,6 +223,7 @@ impl<const Q: usize> Device<Q> {
         }
     }
 
+    // A television asks the amplifier for system audio mode (CEC 13.15).
     fn press_audio(&mut self, on: bool, at: u64)
         ensures { self.new ≡ effected Q (own_doing at) (pressing self.old.kind self.old.phys self.old.record_of (Key.Audio on)) self.old }
     {
@@ -284,7 +292,8 @@ impl<const Q: usize> Device<Q> {
         }
     }
 
-    /// A key is pressed or released.
+    /// A key is pressed or released, at `at` microseconds. It is refused with `OffWire`, and then with
+    /// `NotForKind` where the device has no such key. A refusal changes nothing.
     pub fn key(&mut self, key: Key, press: bool, at: u64) -> Result<(), KeyError>
         ensures answer { MatchResult result (λ _. key_fault self.old key ≡ None) (λ fault. key_fault self.old key ≡ Some fault) }
         ensures state { self.new ≡ keyed Q self.old key press at }

@@ -1,4 +1,5 @@
-//! Joining and leaving the wire, and the fates of frames.
+//! Joining and leaving the wire, the allocation of a logical address (CEC 10.2.1), and the fates of frames
+//! (CEC 7.1).
 ghost use Rattle.std.specs.Prelude.{◌≡◌, ◌<◌, Some, None, length, MatchResult, IsSome, ◌≤◌};
 ghost use Rattle.cec_device.specs.Place.{tries_after, addresses, polled_at, start_place, fresh_record, fresh, reported, joined, left, ended, failed, frame_sent, front_is_poll, sent, sent_by, waited, submit_fault, submitted, front_of, ready_of, is_allocating, is_on_wire};
 
@@ -89,6 +90,7 @@ impl<const Q: usize> Default for Device<Q> {
 }
 
 impl<const Q: usize> Device<Q> {
+    /// A new device, off the wire. Its name has at most 14 bytes, and it has at most 15 input ports.
     pub fn new(kind: Kind, name: &[u8], ports: u8) -> Self
         requires name { length name.now ≤ 14 }
         requires ports { ports ≤ 15 }
@@ -111,7 +113,7 @@ impl<const Q: usize> Device<Q> {
         }
     }
 
-    /// Leaves the wire: a new device again.
+    /// Leaves the wire: it is a new device again.
     pub fn leave(&mut self)
         ensures { self.new ≡ left self.old }
     {
@@ -126,6 +128,7 @@ impl<const Q: usize> Device<Q> {
         self.dropped = 0;
     }
 
+    // Queues its physical address to all.
     fn report(&mut self, at: u64)
         ensures { self.new ≡ reported Q at self.old }
     {
@@ -133,6 +136,8 @@ impl<const Q: usize> Device<Q> {
         self.put(at, Addr::new(15), &bytes);
     }
 
+    /// Joins the wire with its number and its physical address, at `at` microseconds. A switch, and a device
+    /// at F.F.F.F, settles at 15 at once. Any other begins to poll the addresses of its kind in order.
     pub fn join(&mut self, number: u8, phys: Phys, at: u64)
         ensures { self.new ≡ joined Q self.old number phys at }
     {
@@ -144,6 +149,7 @@ impl<const Q: usize> Device<Q> {
         self.report(at);
     }
 
+    // The front frame has ended: it was delivered or is given up.
     fn end_front(&mut self)
         requires { 0 < length self.old.queue }
         ensures { self.new ≡ ended self.old }
@@ -153,6 +159,7 @@ impl<const Q: usize> Device<Q> {
         self.class = FreeTime::PresentInitiator;
     }
 
+    // A failed attempt. A frame is sent again up to five times.
     fn fail(&mut self)
         requires { 0 < length self.old.queue }
         ensures { self.new ≡ failed self.old }
@@ -175,6 +182,7 @@ impl<const Q: usize> Device<Q> {
         }
     }
 
+    // An address whose poll nobody acknowledged is free: it takes that one.
     fn poll_sent(&mut self, address: Addr, fate: Fate, at: u64)
         ensures { self.new ≡ sent_by Q self.old fate at (Some address) }
     {
@@ -207,6 +215,7 @@ impl<const Q: usize> Device<Q> {
         self.queue[0].frame.is_poll()
     }
 
+    // A poll of a script ends where it was answered or not, and is sent again where it was broken off.
     fn frame_sent(&mut self, fate: Fate)
         requires { 0 < length self.old.queue }
         ensures { self.new ≡ frame_sent self.old fate }
@@ -221,7 +230,7 @@ impl<const Q: usize> Device<Q> {
         }
     }
 
-    /// The fate of the front frame.
+    /// It is told the fate of what `queue_front` gave, at the close of the round, `at` microseconds.
     pub fn sent(&mut self, fate: Fate, at: u64)
         requires { IsSome (front_of self.old) }
         ensures { self.new ≡ sent Q self.old fate at }
@@ -232,7 +241,7 @@ impl<const Q: usize> Device<Q> {
         }
     }
 
-    /// It was no contender in a round with contenders.
+    /// Others have sent, and it was no contender.
     pub fn waited(&mut self)
         ensures { self.new ≡ waited self.old }
     {
@@ -242,7 +251,9 @@ impl<const Q: usize> Device<Q> {
         };
     }
 
-    /// Queues a frame of a script.
+    /// Queues a frame that somebody hands in. It is refused with `OffWire`, `NoAddress` where the device has
+    /// not settled or the frame's initiator is not its address, `OwnAddress` where the frame goes to itself,
+    /// and `QueueFull`, in this order. A refusal changes nothing.
     pub fn submit(&mut self, frame: Frame, at: u64) -> Result<(), SubmitError>
         ensures answer { MatchResult result (λ _. submit_fault Q self.old frame ≡ None) (λ fault. submit_fault Q self.old frame ≡ Some fault) }
         ensures queue { self.new ≡ submitted Q self.old frame at }

@@ -46,9 +46,9 @@ impl Port {
 }
 
 /// How loud it is, 0 to 100.
-#[derive(Clone, Copy, PartialEq, Eq)]
+#[derive(Clone, Copy)]
 pub struct Volume {
-    value: u8,
+    level: u8,
 }
 
 impl Model for Volume {
@@ -56,11 +56,11 @@ impl Model for Volume {
 
     ghost Value = { ℕ };
 
-    ghost view = { λ v. v.value };
+    ghost view = { λ v. v.level };
 
-    ghost invariant = { λ v. v.value ≤ 100 };
+    ghost invariant = { λ v. v.level ≤ 100 };
 
-    ghost inverse = { λ n. record { value = n } };
+    ghost inverse = { λ n. record { level = n } };
 }
 
 impl Volume {
@@ -71,7 +71,7 @@ impl Volume {
     pub fn new() -> Self
         ensures { result ≡ 20 }
     {
-        Volume { value: 20 }
+        Volume { level: 20 }
     }
 
     /// Its number.
@@ -79,7 +79,7 @@ impl Volume {
         ensures value { result ≡ self }
         ensures in_range { result ≤ 100 }
     {
-        self.value
+        self.level
     }
 
     /// One step up, at most to 100.
@@ -87,11 +87,7 @@ impl Volume {
         ensures { result ≡ louder self }
     {
         Volume {
-            value: if self.value < 100 {
-                self.value + 1
-            } else {
-                100
-            },
+            level: self.level.min(99) + 1,
         }
     }
 
@@ -100,7 +96,7 @@ impl Volume {
         ensures { result ≡ self - 1 }
     {
         Volume {
-            value: self.value.saturating_sub(1),
+            level: self.level.saturating_sub(1),
         }
     }
 }
@@ -115,7 +111,7 @@ pub enum Place {
 }
 
 /// The last report that was heard: who sent it, its opcode, and its first operand.
-#[derive(Clone, Copy, PartialEq, Eq)]
+#[derive(Clone, Copy)]
 pub struct Note {
     pub from: Addr,
     pub opcode: u8,
