@@ -1,8 +1,1 @@
-pub mod VolumeLemmas
 pub mod LineLemmas
-pub mod Finding
-pub mod WordLemmas
-pub mod NameLemmas
-pub mod Spelled
-pub mod Shapes
-pub mod Whole

@@ -1,9 +1,0 @@
-use Rattle.std.proofs.Common.{◌≡◌, ◌+◌, ◌*◌, length, take}
-use Rattle.cec_asm.specs.FrameText.{raw_text}
-use Rattle.cec_asm.proofs.spelling.raw_text.Given as goal
-
-abbrev pub invariant-loop-byte : goal.invariant-loop-byte
-invariant-loop-byte l = record {
-  so_far : l.items.items ≡ raw_text (take l.byte-index l.operands);
-  count : length l.items.items ≡ 2 + 2 * l.byte-index;
-}

@@ -1,0 +1,6 @@
+pub mod Causes
+pub mod OperandWords
+pub mod OperandForms
+pub mod FrameText
+pub mod FrameReading
+pub mod Refusals

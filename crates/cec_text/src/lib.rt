@@ -1,0 +1,17 @@
+//! The one text of each CEC frame, written and read.
+#![tactic(auto)]
+
+mod assembler;
+mod form;
+mod form_rows;
+mod operand_words;
+mod reading;
+mod refusal;
+mod spelling;
+
+pub use assembler::{AssembleError, assemble};
+pub use operand_words::WordSet;
+pub use spelling::{frame_text, write_frame};
+
+#[cfg(test)]
+mod tests;
