@@ -1,3 +1,4 @@
 pub mod Lines
 pub mod Number
 pub mod Topology
+pub mod Script

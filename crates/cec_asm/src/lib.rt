@@ -3,7 +3,9 @@
 
 mod lines;
 mod number;
+mod script;
 mod topology;
 
 pub use cec_text::{AssembleError, WordSet, assemble, frame_text, write_frame};
+pub use script::{Script, ScriptCause, ScriptError, TimedEvent, parse_script};
 pub use topology::{Topology, TopologyCause, TopologyError, parse_topology};
