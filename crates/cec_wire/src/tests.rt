@@ -1,4 +1,6 @@
 //! Rounds whose outcome was worked out by hand.
+ghost use Rattle.std.specs.Prelude.{◌<◌, ◌+◌, ◌^◌};
+
 use cec_frame::{Addr, Ending, Frame};
 use cec_wave::Stretch;
 use cec_wave::pulses::Pulses;
