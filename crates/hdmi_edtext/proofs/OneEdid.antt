@@ -91,22 +91,22 @@ exts_len : (o : Option AnyExt) → length (flat_map ext_bytes (option_to_list o)
 exts_len None = refl
 exts_len (Some x) = ap length (append_nil (ext_bytes x)) ∙ ext_len x
 
-edid_len : (e : Edid) → length (edid_bytes e) ≡ 128 + 128 * length (option_to_list e.ext)
+pub edid_len : (e : Edid) → length (edid_bytes e) ≡ 128 + 128 * length (option_to_list e.ext)
 edid_len e = omega (arith, length-append (base_bytes e.base) (flat_map ext_bytes (option_to_list e.ext)), base_len e.base, exts_len e.ext)
 
-length_fits : (e : Edid) → HasLength (edid_bytes e)
+pub length_fits : (e : Edid) → HasLength (edid_bytes e)
 length_fits e = at e.ext (edid_len e)
   where
     at : (o : Option AnyExt) → length (edid_bytes e) ≡ 128 + 128 * length (option_to_list o) → HasLength (edid_bytes e)
     at None h = inl h
     at (Some x) h = inr h
 
-count_fits : (e : Edid) → HasCount (edid_bytes e)
+pub count_fits : (e : Edid) → HasCount (edid_bytes e)
 count_fits e =
     let at = get_or_append_left (base_bytes e.base) (flat_map ext_bytes (option_to_list e.ext)) 0 126 (omega (arith, base_len e.base)) in
     omega (arith, at, base_count e.base, edid_len e, e.counted)
 
-not_refused : (e : Edid) (cause : EdidError) → IsRefused (edid_bytes e) cause → ⊥
+pub not_refused : (e : Edid) (cause : EdidError) → IsRefused (edid_bytes e) cause → ⊥
 not_refused e Length h = h (length_fits e)
 not_refused e Count h = h.1 (count_fits e)
 not_refused e (OfBase cause) h = let none = ap refusal (take_base e) ∙ accepted e.base in let some = h.2 in cc

@@ -1,0 +1,73 @@
+-- What is learnt of an EDID is the address in it.
+use Rattle.std.proofs.Common.{◌≡◌, ℕ, ◌+◌, ◌*◌, ◌/◌, ◌<◌, ◌≤◌, Bool, true, false, Option, Some, None, Result, Ok, Err, IfOk, IfErr, List, ◌++◌, ◌⊎◌, inl, inr, length, get_or, take, replicate, subst, ap, arith, refl, sym, ◌∙◌}
+use Rattle.std.proofs.lemmas.List.{get_or_append_left, take_at}
+use Rattle.hdmi_cta.specs.declared.phys.Phys.{Phys}
+use Rattle.hdmi_edtext.specs.Address.{edid_address}
+use Rattle.hdmi_edtext.specs.Bytes.{edid_bytes, HasLength, HasCount, IsRefused}
+use Rattle.hdmi_edtext.specs.declared.edid.Edid.{Edid as EdidValue}
+use Rattle.hdmi_edtext.proofs.OneEdid.{one_edid, length_fits, count_fits, not_refused}
+use Rattle.hdmi_ddc.specs.Bus.{has_segment}
+use Rattle.hdmi_ddc.specs.Learn.{padded, asked, blocks_read, CanBeRead, IsUnread, IsUntold, IsLearnt}
+use Rattle.hdmi_ddc.specs.declared.error.DdcError.{DdcError}
+use Rattle.hdmi_ddc.specs.declared.error.DdcError.TheVariants.{NoAck, Edid, NoHdmiBlock, Length}
+use Rattle.hdmi_ddc.proofs.Lengths.{edid_length, first_segment}
+
+abbrev Tells : List ℕ → Phys → Type 0
+Tells blocks address = (e : EdidValue) × (edid_bytes e ≡ blocks) × (edid_address e ≡ Some address)
+
+pub learnt : (bytes blocks : List ℕ) → CanBeRead bytes → blocks ≡ blocks_read bytes → (r : Result Phys DdcError)
+    → IfOk r (Tells blocks) → IfErr r (IsUntold blocks) → IsLearnt bytes r
+learnt bytes blocks can e (Ok address) told refused = (can, (told.0, told.1 ∙ e, told.2))
+learnt bytes blocks can e (Err error) told refused = inr (can, subst (λ (b : List ℕ). IsUntold b error) e refused)
+
+-- the bytes of an EDID are read whole
+pub record IsWhole (bytes : List ℕ) : Type 0 where
+  pub few : asked bytes ≤ 1
+  pub all : blocks_read bytes ≡ bytes
+
+two_lengths : (bytes : List ℕ) → HasLength bytes → (128 ≤ length bytes) × (length bytes ≤ 256)
+two_lengths bytes (inl e) = (omega arith, omega arith)
+two_lengths bytes (inr e) = (omega arith, omega arith)
+
+pub whole : (e : EdidValue) → IsWhole (edid_bytes e)
+whole e =
+    let bytes = edid_bytes e in
+    let len = two_lengths bytes (length_fits e) in
+    let least = len.0 in
+    let most = len.1 in
+    let count : get_or bytes 126 0 * 128 + 128 ≡ length bytes = count_fits e in
+    let there : 126 < length bytes = omega arith in
+    let told : asked bytes ≡ get_or bytes 126 0 = get_or_append_left bytes (replicate 512 0xff) 0 126 there in
+    let size : length bytes ≡ 128 * (asked bytes + 1) = omega (arith, told, count) in
+    record { few = omega (arith, told, count, most); all = take_at bytes (replicate 512 0xff) (128 * (asked bytes + 1)) size }
+
+acknowledged : (e : EdidValue) → has_segment (edid_bytes e) (asked (edid_bytes e) / 2) ≡ true
+acknowledged e =
+    let few = (whole e).few in
+    let none : asked (edid_bytes e) / 2 ≡ 0 = omega arith in
+    ap (λ (k : ℕ). has_segment (edid_bytes e) k) none ∙ first_segment (edid_bytes e) (edid_length e)
+
+not_unread : (e : EdidValue) (x : DdcError) → IsUnread (edid_bytes e) x → ⊥
+not_unread e NoAck (inl h) = let t = first_segment (edid_bytes e) (edid_length e) in cc
+not_unread e NoAck (inr h) = let t = acknowledged e in let f = h.1 in cc
+not_unread e (Edid cause) h = let few = (whole e).few in let many = h.1 in omega arith
+not_unread e NoHdmiBlock h = h
+not_unread e Length h = h
+
+not_untold : (e : EdidValue) (address : Phys) (x : DdcError) → edid_address e ≡ Some address → IsUntold (edid_bytes e) x → ⊥
+not_untold e address NoAck a h = h
+not_untold e address (Edid cause) a h = not_refused e cause h
+not_untold e address NoHdmiBlock a h = let same = ap edid_address (one_edid h.0 e h.1) in let none = h.2 in cc
+not_untold e address Length a h = h
+
+pub told : (r : Result Phys DdcError) (e : EdidValue) (address : Phys) → IsLearnt (edid_bytes e) r → edid_address e ≡ Some address → r ≡ Ok address
+told (Ok found) e address h a =
+    let same = ap edid_address (one_edid h.1.0 e (h.1.1 ∙ (whole e).all)) in
+    let there = h.1.2 in
+    let equal : Some found ≡ Some address = sym there ∙ same ∙ a in
+    ap Ok (some_same found address equal)
+  where
+    some_same : (x y : Phys) → Some x ≡ Some y → x ≡ y
+    some_same x y e = cc
+told (Err x) e address (inl h) a = absurd (not_unread e x h)
+told (Err x) e address (inr h) a = absurd (not_untold e address x a (subst (λ (b : List ℕ). IsUntold b x) (whole e).all h.1))

@@ -1,0 +1,45 @@
+-- The physical address that a device learns over DDC (HDMI 1.4, section 8.7.2; how it reads is own).
+use Rattle.std.specs.Prelude.{◌≡◌, ℕ, ◌+◌, ◌*◌, ◌/◌, ◌<◌, ◌≤◌, ◌⊎◌, Bool, true, false, Option, Some, None, Result, Ok, Err, List, ◌++◌, slice_index, take, replicate}
+use Rattle.hdmi_cta.specs.declared.phys.Phys.{Phys}
+use Rattle.hdmi_edtext.specs.Address.{edid_address}
+use Rattle.hdmi_edtext.specs.Bytes.{edid_bytes, IsRefused}
+use Rattle.hdmi_edtext.specs.declared.bytes.EdidError.TheVariants.{Length as EdidLength}
+use Rattle.hdmi_edtext.specs.declared.edid.Edid.{Edid as EdidValue}
+use Rattle.hdmi_ddc.specs.Bus.{has_segment}
+use Rattle.hdmi_ddc.specs.declared.error.DdcError.{DdcError}
+use Rattle.hdmi_ddc.specs.declared.error.DdcError.TheVariants.{NoAck, Edid, NoHdmiBlock, Length}
+
+-- the bytes, and FF behind them
+abbrev pub padded : List ℕ → List ℕ
+padded bytes = bytes ++ replicate 512 0xff
+
+-- how many blocks byte 126 asks for, behind the first
+abbrev pub asked : List ℕ → ℕ
+asked bytes = slice_index (padded bytes) 126
+
+-- the first block and those that it asks for, FF where one is missing
+abbrev pub blocks_read : List ℕ → List ℕ
+blocks_read bytes = take (128 * (asked bytes + 1)) (padded bytes)
+
+-- at most three blocks are asked for, and their segments are acknowledged
+abbrev pub CanBeRead : List ℕ → Type 0
+CanBeRead bytes = (asked bytes ≤ 3) × (has_segment bytes (asked bytes / 2) ≡ true)
+
+-- a segment is not acknowledged; or else too many blocks are asked for
+abbrev pub IsUnread : List ℕ → DdcError → Type 0
+IsUnread bytes NoAck = (has_segment bytes 0 ≡ false) ⊎ ((asked bytes ≤ 3) × (has_segment bytes (asked bytes / 2) ≡ false))
+IsUnread bytes (Edid cause) = (has_segment bytes 0 ≡ true) × (3 < asked bytes) × (cause ≡ EdidLength)
+IsUnread bytes NoHdmiBlock = ⊥
+IsUnread bytes Length = ⊥
+
+-- blocks are no EDID, or one without an address
+abbrev pub IsUntold : List ℕ → DdcError → Type 0
+IsUntold blocks NoAck = ⊥
+IsUntold blocks (Edid cause) = IsRefused blocks cause
+IsUntold blocks NoHdmiBlock = (e : EdidValue) × (edid_bytes e ≡ blocks) × (edid_address e ≡ None)
+IsUntold blocks Length = ⊥
+
+-- the address in the EDID that is read, or the first reason why there is none
+abbrev pub IsLearnt : List ℕ → Result Phys DdcError → Type 0
+IsLearnt bytes (Ok address) = CanBeRead bytes × ((e : EdidValue) × (edid_bytes e ≡ blocks_read bytes) × (edid_address e ≡ Some address))
+IsLearnt bytes (Err error) = IsUnread bytes error ⊎ (CanBeRead bytes × IsUntold (blocks_read bytes) error)

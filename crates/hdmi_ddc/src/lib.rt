@@ -1,0 +1,10 @@
+//! Reading an EDID over DDC.
+#![tactic(auto)]
+
+mod ddc;
+mod error;
+mod learn;
+
+pub use ddc::Ddc;
+pub use error::DdcError;
+pub use learn::learn_address;
