@@ -53,10 +53,10 @@ rest_alike s ss ts w v same u =
     elim (cases_lt u (s.to + 1)) [
       | inl lt ↦ high_before (s.to + 1) ss w u lt ∙ sym (high_before (s.to + 1) ts v u lt)
       | inr ge ↦
-        let c : covers s u ≡ false = covers_not_after s u (omega arith) in
-        let left : line_of (s ∷ ss) u ≡ line_of ss u = rw c refl in
-        let right : line_of (s ∷ ts) u ≡ line_of ts u = rw c refl in
-        sym left ∙ same u ∙ right
+          let c : covers s u ≡ false = covers_not_after s u (omega arith) in
+          let left : line_of (s ∷ ss) u ≡ line_of ss u = rw c refl in
+          let right : line_of (s ∷ ts) u ≡ line_of ts u = rw c refl in
+          sym left ∙ same u ∙ right
     ]
 
 same_stretch : (s t : Stretch) → s.from ≡ t.from → s.to ≡ t.to → s ≡ t
@@ -76,19 +76,19 @@ one_wave from (s ∷ ss) [] w v same =
 one_wave from (s ∷ ss) (t ∷ ts) w v same =
     let back : (u : ℕ) → line_of (t ∷ ts) u ≡ line_of (s ∷ ss) u = λ u. sym (same u) in
     let e : s.from ≡ t.from = elim (cases_lt s.from t.from) [
-        | inl lt ↦ absurd (not_sooner s t ss ts w.1 v.2 v.1 same lt)
-        | inr ge ↦ elim (cases_lt t.from s.from) [
-            | inl gt ↦ absurd (not_sooner t s ts ss v.1 w.2 w.1 back gt)
-            | inr le ↦ omega arith
-          ]
-      ] in
+      | inl lt ↦ absurd (not_sooner s t ss ts w.1 v.2 v.1 same lt)
+      | inr ge ↦ elim (cases_lt t.from s.from) [
+        | inl gt ↦ absurd (not_sooner t s ts ss v.1 w.2 w.1 back gt)
+        | inr le ↦ omega arith
+      ]
+    ] in
     let f : s.to ≡ t.to = elim (cases_lt s.to t.to) [
-        | inl lt ↦ absurd (not_shorter s t ss ts e w.2 w.1 same lt)
-        | inr ge ↦ elim (cases_lt t.to s.to) [
-            | inl gt ↦ absurd (not_shorter t s ts ss (sym e) v.2 v.1 back gt)
-            | inr le ↦ omega arith
-          ]
-      ] in
+      | inl lt ↦ absurd (not_shorter s t ss ts e w.2 w.1 same lt)
+      | inr ge ↦ elim (cases_lt t.to s.to) [
+        | inl gt ↦ absurd (not_shorter t s ts ss (sym e) v.2 v.1 back gt)
+        | inr le ↦ omega arith
+      ]
+    ] in
     let one : s ≡ t = same_stretch s t e f in
     subst (λ x. (s ∷ ss) ≡ (x ∷ ts)) one (ap (λ xs. s ∷ xs) (one_wave (s.to + 1) ss ts w.2 (rw f v.2) (rest_alike s ss ts w.2 (rw f v.2) (subst (λ x. (u : ℕ) → line_of (s ∷ ss) u ≡ line_of (x ∷ ts) u) (sym one) same))))
 

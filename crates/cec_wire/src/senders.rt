@@ -27,11 +27,12 @@ fn destination(bits: &[bool]) -> u8
     8 * u8::from(bits[4]) + 4 * u8::from(bits[5]) + 2 * u8::from(bits[6]) + u8::from(bits[7])
 }
 
-fn is_broadcast(bits: &[bool]) -> bool
-    requires { 8 ≤ length bits.now }
+/// A destination was read, and it is 15.
+#[tactic(auto, using(crate::proofs::ToldFates::short_direct))]
+pub fn is_broadcast(bits: &[bool]) -> bool
     ensures { result ≡ (destination bits.now == 15) }
 {
-    destination(bits) == Addr::BROADCAST
+    bits.len() >= HEADER_BITS && destination(bits) == Addr::BROADCAST
 }
 
 // The bit that a frame sends in a slot, counted from 1.

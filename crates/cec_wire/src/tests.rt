@@ -1,16 +1,16 @@
 //! Rounds whose outcome was worked out by hand.
 ghost use Rattle.std.specs.Prelude.{◌<◌, ◌+◌, ◌^◌};
 
+use crate::frame_wire::FrameWire;
+use crate::{Loser, Outcome, Seat, Wire};
 use cec_frame::{Addr, Ending, Frame};
 use cec_wave::Stretch;
 use cec_wave::pulses::Pulses;
 use std::process::Abort;
 use std::test::Fail;
 
-use crate::frame_wire::FrameWire;
-use crate::{Loser, Outcome, Seat, Wire};
-
 const ONE: bool = true;
+
 const ZERO: bool = false;
 
 fn seat(holds: u8, sends: Option<Frame>) -> Seat
@@ -30,11 +30,20 @@ fn frame(rt: &impl Abort, bytes: &[u8]) -> Option<Frame> {
 fn pulse(rt: &impl Abort, from: u64, width: u64) -> Pulses
     requires { from + width < 2 ^ 64 }
 {
-    let stretches = [Stretch { from, to: from + width }];
+    let stretches = [Stretch {
+        from,
+        to: from + width,
+    }];
     Pulses::new(&stretches).expect(rt, "a narrow pulse")
 }
 
-fn ends(rt: &impl Abort, outcome: &Outcome, ending: Ending, at: u64, rest: u64) -> Result<(), Fail> {
+fn ends(
+    rt: &impl Abort,
+    outcome: &Outcome,
+    ending: Ending,
+    at: u64,
+    rest: u64,
+) -> Result<(), Fail> {
     assert_eq!(rt; outcome.reading.ending, ending);
     assert_eq!(rt; outcome.reading.at, at);
     assert_eq!(rt; outcome.rest, rest);
@@ -79,7 +88,10 @@ fn puts_a_sender_out(rt: HostRuntime) -> Result<(), Fail> {
     assert_eq!(rt; outcome.reading.at, 1_009_351);
     assert_eq!(rt; outcome.reading.bits.as_slice(), [ZERO, ZERO].as_slice());
     assert!(rt; outcome.survivors.is_empty());
-    assert_eq!(rt; outcome.losers.as_slice(), [Loser { seat: 1, slot: 2 }].as_slice());
+    assert_eq!(rt;
+        outcome.losers.as_slice(),
+        [Loser { seat: 1, slot: 2 }].as_slice()
+    );
     Ok(())
 }
 
@@ -92,14 +104,20 @@ fn stops_unacknowledged(rt: HostRuntime) -> Result<(), Fail> {
     ends(&rt, &outcome, Ending::Silent, 1_028_851, 1_026_700)?;
     assert_eq!(rt; outcome.reading.bits.as_slice(), header.as_slice());
     assert!(rt; outcome.survivors.is_empty());
-    assert_eq!(rt; outcome.losers.as_slice(), [Loser { seat: 1, slot: 10 }].as_slice());
+    assert_eq!(rt;
+        outcome.losers.as_slice(),
+        [Loser { seat: 1, slot: 10 }].as_slice()
+    );
     let alone = [seat(0, None), seat(4, None)];
     let outcome = FrameWire::new().round(&alone, 1_028_851, &pulse(&rt, 1_028_851, 1));
     ends(&rt, &outcome, Ending::BadStart, 1_028_852, 1_028_852)?;
     let outcome = FrameWire::new().round(&seats, 1_000_000, &pulse(&rt, 1_028_800, 100));
     ends(&rt, &outcome, Ending::Silent, 1_031_551, 1_028_900)?;
     assert_eq!(rt; outcome.reading.bits.len(), 11);
-    assert_eq!(rt; outcome.losers.as_slice(), [Loser { seat: 1, slot: 10 }].as_slice());
+    assert_eq!(rt;
+        outcome.losers.as_slice(),
+        [Loser { seat: 1, slot: 10 }].as_slice()
+    );
     Ok(())
 }
 
@@ -132,10 +150,17 @@ fn reads_bad_starts(rt: HostRuntime) -> Result<(), Fail> {
 // An amplifier at 5 and a player at 4 send to the television at once.
 #[test]
 fn lets_the_lower_initiator_win(rt: HostRuntime) -> Result<(), Fail> {
-    let seats = [seat(0, None), seat(5, frame(&rt, &[0x50, 0x8f])), seat(4, frame(&rt, &[0x40, 0x04]))];
+    let seats = [
+        seat(0, None),
+        seat(5, frame(&rt, &[0x50, 0x8f])),
+        seat(4, frame(&rt, &[0x40, 0x04])),
+    ];
     let outcome = FrameWire::new().round(&seats, 2_000_000, &pulse(&rt, 3_000_000, 1));
     ends(&rt, &outcome, Ending::Complete, 2_051_150, 2_051_600)?;
     assert_eq!(rt; outcome.survivors.as_slice(), [2].as_slice());
-    assert_eq!(rt; outcome.losers.as_slice(), [Loser { seat: 1, slot: 4 }].as_slice());
+    assert_eq!(rt;
+        outcome.losers.as_slice(),
+        [Loser { seat: 1, slot: 4 }].as_slice()
+    );
     Ok(())
 }
