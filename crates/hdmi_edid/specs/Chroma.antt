@@ -1,3 +1,4 @@
+-- The ten bytes of the chromaticities (E-EDID Release A, section 3.7).
 use Rattle.std.specs.Prelude.{ℕ, ◌/◌, List, [], ◌∷◌}
 use Rattle.hdmi_edid.specs.Pairs.{low_pairs}
 use Rattle.hdmi_edid.specs.declared.chroma.Chroma.{Chroma}

@@ -1,4 +1,4 @@
--- The forms of a descriptor's 18 bytes.
+-- The forms of a descriptor's 18 bytes (E-EDID Release A, sections 3.10.2 and 3.10.3): a detailed timing has a pixel clock that is not 0.
 use Rattle.std.specs.Prelude.{ℕ, ◌+◌, ◌==◌, Bool, ◌&&◌, ◌||◌, not, nat_lt, List, slice_index, drop}
 use Rattle.std.specs.List.{list_all}
 use Rattle.hdmi_edid.specs.Chars.{is_text_form}

@@ -1,3 +1,4 @@
+-- The two bytes of a maker (E-EDID Release A, section 3.4.1): three letters of five bits each, big endian, the top bit 0.
 use Rattle.std.specs.Prelude.{ℕ, ◌+◌, ◌-◌, ◌*◌, List}
 use Rattle.std.specs.Int.{w16, to_be_bytes}
 use Rattle.hdmi_edid.specs.declared.maker.Maker.{Maker}

@@ -1,4 +1,4 @@
--- When 128 bytes are no base block, and why: the first reason.
+-- When 128 bytes are no base block, and why: the first reason. The header, checksum, revision and maker are those of E-EDID Release A, sections 3.3, 3.11, 3.5 and 3.4.1; the order, and that no other revision is taken, are own.
 use Rattle.std.specs.Prelude.{ℕ, ◌%◌, ◌==◌, Bool, ◌&&◌, ◌||◌, not, Option, Some, None, List, slice_index, sum, if◌then◌else◌}
 use Rattle.hdmi_edid.specs.Letters.{has_letters}
 use Rattle.hdmi_edid.specs.declared.base.BaseError.{BaseError}

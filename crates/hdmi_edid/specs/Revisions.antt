@@ -1,3 +1,4 @@
+-- The version and the revision (E-EDID Release A, section 3.5).
 use Rattle.std.specs.Prelude.{ℕ, List, [], ◌∷◌}
 use Rattle.hdmi_edid.specs.declared.base.Revision.{Revision}
 use Rattle.hdmi_edid.specs.declared.base.Revision.TheVariants.{Three, Four}

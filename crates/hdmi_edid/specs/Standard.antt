@@ -1,3 +1,4 @@
+-- Two bytes of a standard timing (E-EDID Release A, section 3.9): an eighth of the width less 31, two bits of the aspect ratio, and the rate in Hz less 60. 01 01 is unused.
 use Rattle.std.specs.Prelude.{ℕ, ◌+◌, ◌-◌, ◌*◌, ◌/◌, Option, Some, None, List, [], ◌∷◌}
 use Rattle.hdmi_edid.specs.declared.standard.Standard.{Standard}
 

@@ -15,40 +15,66 @@ use crate::descriptor::Descriptor;
 use crate::maker::Maker;
 use crate::standard::Standard;
 use arrayvec::ArrayVec;
+use thiserror::Error;
 
-/// Why 128 bytes are no base block.
-#[derive(Clone, Copy, Debug, PartialEq, Eq)]
+/// Why 128 bytes are no base block: the first of these that applies.
+#[derive(Clone, Copy, Debug, PartialEq, Eq, Error)]
 pub enum BaseError {
+    /// The first eight bytes are not 00 FF FF FF FF FF FF 00.
+    #[error("no header")]
     Header,
+    /// The sum of the bytes is not 0 modulo 256.
+    #[error("a wrong checksum")]
     Checksum,
+    /// The version is not 1, or the revision neither 3 nor 4.
+    #[error("an unknown revision")]
     Revision,
+    /// The maker's two bytes are not three letters.
+    #[error("no maker")]
     Maker,
 }
 
+/// The structure's version and revision (section 3.5).
 #[derive(Clone, Copy, Debug, PartialEq, Eq)]
 pub enum Revision {
+    /// 1.3
     Three,
+    /// 1.4
     Four,
 }
 
 /// What a base block says.
 #[derive(Drop)]
 pub struct Base {
+    /// The letters of the manufacturer (section 3.4.1).
     pub maker: Maker,
+    /// The manufacturer's code of the product (section 3.4.2).
     pub product: u16,
     pub serial: u32,
+    /// The week of manufacture as it is sent: 0 is none, 255 marks a model year (section 3.4.4).
     pub week: u8,
+    /// The year of manufacture or of the model, 1990 to 2245 (section 3.4.4).
     pub year: u16,
     pub revision: Revision,
+    /// The video input definition as it is sent (section 3.6.1).
     pub input: u8,
+    /// The width in centimetres, or 0 (section 3.6.2).
     pub width: u8,
+    /// The height in centimetres, or 0.
     pub height: u8,
+    /// The gamma times 100, less 100 (section 3.6.3).
     pub gamma: u8,
+    /// The feature bits as they are sent (section 3.6.4).
     pub features: u8,
+    /// The chromaticities (section 3.7).
     pub chroma: Chroma,
+    /// The established timings as they are sent (section 3.8).
     pub established: [u8; 3],
+    /// The standard timings; an unused place is `None` (section 3.9).
     pub standard: [Option<Standard>; 8],
+    /// The detailed timings and display descriptors (section 3.10).
     pub descriptors: [Descriptor; 4],
+    /// How many blocks follow (section 3.11).
     pub extensions: u8,
     ghost product_fits: { product < 2 ^ 16 },
     ghost serial_fits: { serial < 2 ^ 32 },

@@ -11,6 +11,7 @@ pub struct Point {
     ghost y_fits: { y < 1024 },
 }
 
+/// The chromaticities of a display (E-EDID Release A, section 3.7).
 #[derive(Clone, Copy, Debug, PartialEq, Eq)]
 pub struct Chroma {
     pub red: Point,

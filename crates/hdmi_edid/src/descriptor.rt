@@ -25,14 +25,22 @@ pub struct RawDescriptor {
     ghost of_no_form: { IsTrue (fits_no_form bytes) },
 }
 
+/// A descriptor (E-EDID Release A, section 3.10).
 #[derive(Drop)]
 pub enum Descriptor {
+    /// A detailed timing.
     Timing(Timing),
+    /// The display's name, tag FC.
     Name(Text),
+    /// A text, tag FE.
     Text(Text),
+    /// The serial number as a text, tag FF.
     SerialText(Text),
+    /// The limits of the display's ranges, tag FD.
     Range(RangeLimits),
+    /// An unused descriptor, tag 10.
     Dummy,
+    /// Any other bytes.
     Raw(RawDescriptor),
 }
 

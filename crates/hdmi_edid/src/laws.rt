@@ -1,5 +1,12 @@
-//! What the spellings tell.
-ghost use Rattle.std.specs.Prelude.{◌≡◌};
+//! Laws of the spellings: no two values have the same bytes, and the bytes of a base block are accepted.
+ghost use Rattle.std.specs.Prelude.{◌≡◌, None, Option};
+ghost use Rattle.hdmi_edid.specs.Base.{base_bytes};
+ghost use Rattle.hdmi_edid.specs.Chroma.{chroma_bytes};
+ghost use Rattle.hdmi_edid.specs.Refusals.{refusal};
+ghost use Rattle.hdmi_edid.specs.Standard.{standard_bytes};
+ghost use Rattle.hdmi_edid.specs.declared.base.Base.{Base};
+ghost use Rattle.hdmi_edid.specs.declared.chroma.Chroma.{Chroma};
+ghost use Rattle.hdmi_edid.specs.declared.standard.Standard.{Standard};
 ghost use Rattle.hdmi_edid.specs.Maker.{maker_bytes};
 ghost use Rattle.hdmi_edid.specs.Timing.{timing_bytes};
 ghost use Rattle.hdmi_edid.specs.Descriptor.{descriptor_bytes};
@@ -20,4 +27,24 @@ pub fn one_spelling_of_makers()
 /// 18 bytes spell one descriptor at most.
 pub fn one_spelling_of_descriptors()
     ensures { (a b : Descriptor) → descriptor_bytes a ≡ descriptor_bytes b → a ≡ b }
+{}
+
+/// Two bytes spell one standard timing at most, or an unused place.
+pub fn one_spelling_of_standards()
+    ensures { (a b : Option Standard) → standard_bytes a ≡ standard_bytes b → a ≡ b }
+{}
+
+/// Ten bytes spell the chromaticities of one display at most.
+pub fn one_spelling_of_chromaticities()
+    ensures { (a b : Chroma) → chroma_bytes a ≡ chroma_bytes b → a ≡ b }
+{}
+
+/// 128 bytes spell one base block at most.
+pub fn one_spelling_of_bases()
+    ensures { (a b : Base) → base_bytes a ≡ base_bytes b → a ≡ b }
+{}
+
+/// The bytes of a base block are not refused.
+pub fn spelled_bases_are_accepted()
+    ensures { (b : Base) → refusal (base_bytes b) ≡ None }
 {}

@@ -1,4 +1,4 @@
-//! A maker's three letters, of five bits each.
+//! A maker's three letters, of five bits each (E-EDID Release A, section 3.4.1).
 ghost use Rattle.std.specs.Prelude.{◌≡◌, ◌∷◌, [], ◌&&◌, IsTrue, false, true, MatchOption};
 ghost use Rattle.hdmi_edid.specs.Letters.{is_letter, has_letters};
 

@@ -1,11 +1,14 @@
 //! Standard timings, of two bytes each.
 ghost use Rattle.std.specs.Prelude.{◌≡◌, ◌∷◌, [], ◌≤◌, ◌<◌, ◌%◌, ◌==◌, ◌&&◌, IsTrue, not, flat_map};
 
-/// A standard timing.
+/// A standard timing (E-EDID Release A, section 3.9).
 #[derive(Clone, Copy, Debug, PartialEq, Eq)]
 pub struct Standard {
+    /// The width in pixels: a multiple of 8 from 248 to 2288.
     pub width: u16,
+    /// The two bits of the aspect ratio.
     pub aspect: u8,
+    /// The rate in Hz, 60 to 123.
     pub rate: u8,
     ghost least_width: { 248 ≤ width },
     ghost most_width: { width ≤ 2288 },

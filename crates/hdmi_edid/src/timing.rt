@@ -1,9 +1,10 @@
-//! A detailed timing, of 18 bytes.
+//! A detailed timing, of 18 bytes (E-EDID Release A, section 3.10.2).
 ghost use Rattle.std.specs.Prelude.{◌≡◌, ◌<◌, ◌+◌, ◌^◌, MatchOption, slice_index};
 
+/// A detailed timing. Lengths are in pixels and lines, the image's size in millimetres.
 #[derive(Clone, Copy, Debug, PartialEq, Eq)]
 pub struct Timing {
-    /// In units of 10 kHz, and not 0.
+    /// The pixel clock in units of 10 kHz, and not 0.
     pub clock: u16,
     pub horizontal_active: u16,
     pub horizontal_blanking: u16,
