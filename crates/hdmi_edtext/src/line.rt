@@ -45,6 +45,22 @@ pub enum Word {
     Ext,
 }
 
+/// What stands behind a word: nothing, three letters, so many numbers, `unused` or three numbers, a
+/// detailed timing, bytes in hex, a physical address and bytes, characters in quotes.
+#[derive(Clone, Copy, Debug, PartialEq, Eq)]
+pub enum Form {
+    Empty,
+    Three,
+    One,
+    Two,
+    Eight,
+    Unused,
+    Timing,
+    Hex,
+    Address,
+    Quoted,
+}
+
 /// What stands behind the first word.
 #[derive(Drop)]
 pub enum Fields {
