@@ -52,7 +52,7 @@ found_at xs i h = grind (arith, common_steps)
 nowhere : (xs : List ℕ) → position (λ b. b == 32) xs ≡ None → length xs ≤ position_or_len (λ b. b == 32) xs
 nowhere xs h = grind (arith, common_steps)
 
-take_front : (xs ys : List ℕ) → take (length xs) (xs ++ ys) ≡ xs
+pub take_front : (xs ys : List ℕ) → take (length xs) (xs ++ ys) ≡ xs
 take_front [] ys = refl
 take_front (x ∷ xs) ys = ap (λ t. x ∷ t) (take_front xs ys)
 

@@ -3,6 +3,7 @@ ghost use Rattle.std.specs.Prelude.{◌≡◌, ◌≤◌, ◌<◌, ◌+◌, ◌*
 ghost use Rattle.arrayvec.specs.ArrayVec.{array_vec_len};
 ghost use Rattle.hex.specs.Hex.{encode_lower};
 ghost use Rattle.hdmi_cta.specs.Piece.{nibble_text, phys_text};
+ghost use Rattle.hdmi_edtext.specs.Formed.{form_of};
 ghost use Rattle.hdmi_edtext.specs.Text.{word_text, number_text, hex_word, fields_text, line_text};
 
 use arrayvec::ArrayVec;
@@ -87,7 +88,83 @@ pub struct Line {
     pub fields: Fields,
 }
 
+/// All words, in the order of their declaration.
+pub const WORDS: [Word; 32] = [
+    Word::Edid,
+    Word::Maker,
+    Word::Product,
+    Word::Serial,
+    Word::Made,
+    Word::Input,
+    Word::Size,
+    Word::Gamma,
+    Word::Features,
+    Word::Chroma,
+    Word::Established,
+    Word::Standard,
+    Word::Timing,
+    Word::Name,
+    Word::Text,
+    Word::SerialText,
+    Word::Range,
+    Word::Dummy,
+    Word::Raw,
+    Word::Cta,
+    Word::CtaNone,
+    Word::Tag0,
+    Word::Audio,
+    Word::Video,
+    Word::Vendor,
+    Word::Speakers,
+    Word::Tag5,
+    Word::Tag6,
+    Word::Extended,
+    Word::Hdmi,
+    Word::Tail,
+    Word::Ext,
+];
+
 impl Word {
+    /// What stands behind the word.
+    pub fn form(self) -> Form
+        ensures { result ≡ form_of self }
+    {
+        match self {
+            Word::Edid => Form::Three,
+            Word::Maker => Form::Three,
+            Word::Product => Form::One,
+            Word::Serial => Form::One,
+            Word::Made => Form::Two,
+            Word::Input => Form::Hex,
+            Word::Size => Form::Two,
+            Word::Gamma => Form::One,
+            Word::Features => Form::Hex,
+            Word::Chroma => Form::Eight,
+            Word::Established => Form::Hex,
+            Word::Standard => Form::Unused,
+            Word::Timing => Form::Timing,
+            Word::Name => Form::Quoted,
+            Word::Text => Form::Quoted,
+            Word::SerialText => Form::Quoted,
+            Word::Range => Form::Hex,
+            Word::Dummy => Form::Empty,
+            Word::Raw => Form::Hex,
+            Word::Cta => Form::Hex,
+            Word::CtaNone => Form::Hex,
+            Word::Tag0 => Form::Hex,
+            Word::Audio => Form::Hex,
+            Word::Video => Form::Hex,
+            Word::Vendor => Form::Hex,
+            Word::Speakers => Form::Hex,
+            Word::Tag5 => Form::Hex,
+            Word::Tag6 => Form::Hex,
+            Word::Extended => Form::Hex,
+            Word::Hdmi => Form::Address,
+            Word::Tail => Form::Hex,
+            Word::Ext => Form::Hex,
+        }
+    }
+
     /// The word as it stands in a text.
     pub fn text(self) -> &'static str
         ensures value { result.now ≡ word_text self }

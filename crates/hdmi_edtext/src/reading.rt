@@ -12,7 +12,7 @@ ghost use Rattle.hdmi_edtext.specs.declared.line.Fields.{Fields as FieldsValue};
 ghost use Rattle.hdmi_edtext.specs.declared.line.Line.{Line as LineValue};
 ghost use Rattle.hdmi_edtext.specs.declared.line.Word.{Word as WordValue};
 
-use crate::line::{Fields, Form, Line, Word};
+use crate::line::{Fields, Form, Line, WORDS, Word};
 use arrayvec::ArrayVec;
 use hdmi_cta::Phys;
 
@@ -215,5 +215,49 @@ fn read_fields(form: Form, text: &[u8]) -> Option<Fields>
         Form::Hex => bytes_field(text),
         Form::Address => address_field(text),
         Form::Quoted => quoted_field(text),
+    }
+}
+
+/// The word that a text is.
+fn word_of(text: &[u8]) -> Option<Word>
+    ensures { (w : WordValue) → word_text w ≡ text.now → result ≡ Some w }
+{
+    for word in WORDS {
+        if word.text().as_bytes() == text {
+            return Some(word);
+        }
+    }
+    None
+}
+
+/// The line that a text may spell.
+fn candidate(line: &[u8]) -> Option<Line>
+    ensures { (l : LineValue) → Formed l → line_text l ≡ line.now → result ≡ Some l }
+{
+    if line.is_empty() {
+        return None;
+    }
+    let (word, behind) = next_word(&line[..line.len() - 1]);
+    let Some(word) = word_of(word) else {
+        return None;
+    };
+    let Some(fields) = read_fields(word.form(), behind) else {
+        return None;
+    };
+    Some(Line { word, fields })
+}
+
+/// The line that a text spells.
+pub fn read_line(line: &[u8]) -> Option<Line>
+    ensures found { IfSome result (λ l. line_text l ≡ line.now) }
+    ensures only { (l : LineValue) → Formed l → line_text l ≡ line.now → result ≡ Some l }
+{
+    let Some(read) = candidate(line) else {
+        return None;
+    };
+    if read.write().as_slice() == line {
+        Some(read)
+    } else {
+        None
     }
 }
