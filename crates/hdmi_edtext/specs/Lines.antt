@@ -3,6 +3,7 @@ use Rattle.std.specs.Prelude.{ℕ, ◌+◌, ◌==◌, Bool, ◌&&◌, nat_le, Li
 use Rattle.hdmi_edid.specs.declared.base.Base.{Base}
 use Rattle.hdmi_edid.specs.declared.base.Revision.{Revision}
 use Rattle.hdmi_edid.specs.declared.base.Revision.TheVariants.{Three, Four}
+use Rattle.hdmi_edid.specs.declared.chroma.Chroma.{Chroma as Chromaticities}
 use Rattle.hdmi_edid.specs.declared.descriptor.Descriptor.{Descriptor}
 use Rattle.hdmi_edid.specs.declared.descriptor.Descriptor.TheVariants.{Timing as OfTiming, Name as OfName, Text as OfText, SerialText as OfSerialText, Range as OfRange, Dummy as OfDummy, Raw as OfRaw}
 use Rattle.hdmi_edid.specs.declared.standard.Standard.{Standard as StandardTiming}
@@ -62,6 +63,10 @@ descriptor_line (OfRange limits) = bytes_line Range limits.bytes
 descriptor_line OfDummy = record { word = Dummy; fields = Nothing }
 descriptor_line (OfRaw raw) = bytes_line Raw raw.bytes
 
+-- red, green, blue and white, each with x and y
+abbrev pub chroma_numbers : Chromaticities → List ℕ
+chroma_numbers c = c.red.x ∷ c.red.y ∷ c.green.x ∷ c.green.y ∷ c.blue.x ∷ c.blue.y ∷ c.white.x ∷ c.white.y ∷ []
+
 -- what stands once in each base block
 abbrev pub head_lines : Base → List Line
 head_lines b =
@@ -74,7 +79,7 @@ head_lines b =
     numbers_line Size (b.width ∷ b.height ∷ []) ∷
     numbers_line Gamma (b.gamma ∷ []) ∷
     bytes_line Features (b.features ∷ []) ∷
-    numbers_line Chroma (b.chroma.red.x ∷ b.chroma.red.y ∷ b.chroma.green.x ∷ b.chroma.green.y ∷ b.chroma.blue.x ∷ b.chroma.blue.y ∷ b.chroma.white.x ∷ b.chroma.white.y ∷ []) ∷
+    numbers_line Chroma (chroma_numbers b.chroma) ∷
     bytes_line Established b.established ∷ []
 
 abbrev pub base_lines : Base → List Line

@@ -1,0 +1,58 @@
+-- The parts of lines.
+use Rattle.std.proofs.Common.{◌≡◌, ℕ, Bool, true, false, List, [], ◌∷◌, Option, Some, None, MatchOption, ap, subst, refl, sym, ◌∙◌, codes}
+use Rattle.std.proofs.Math.ListN.{length}
+use Rattle.arrayvec.specs.ArrayVec.{ArrayVec}
+use Rattle.hdmi_edid.specs.declared.descriptor.Descriptor.{Descriptor}
+use Rattle.hdmi_edid.specs.declared.descriptor.Descriptor.TheVariants.{Timing as OfTiming, Name as OfName, Text as OfText, SerialText as OfSerialText, Range as OfRange, Dummy as OfDummy, Raw as OfRaw}
+use Rattle.hdmi_edid.specs.declared.descriptor.RangeLimits.{RangeLimits}
+use Rattle.hdmi_edid.specs.declared.descriptor.RawDescriptor.{RawDescriptor}
+use Rattle.hdmi_edid.specs.declared.standard.Standard.{Standard as StandardTiming}
+use Rattle.hdmi_edid.specs.declared.text.Text.{Text as AnyText}
+use Rattle.hdmi_edid.specs.declared.timing.Timing.{Timing as DetailedTiming}
+use Rattle.hdmi_edtext.specs.Lines.{letters_line, numbers_line, bytes_line, quoted_line, timing_line, timing_numbers, descriptor_line, standard_line}
+use Rattle.hdmi_edtext.specs.declared.line.Word.{Word}
+use Rattle.hdmi_edtext.specs.declared.line.Word.TheVariants.{Standard, Timing, Name, Text, SerialText, Range, Dummy, Raw}
+use Rattle.hdmi_edtext.specs.declared.line.Fields.{Fields}
+use Rattle.hdmi_edtext.specs.declared.line.Fields.TheVariants.{Timed, Bytes}
+use Rattle.hdmi_edtext.specs.declared.line.Line.{Line}
+
+abbrev bytes_in : Fields → List ℕ
+bytes_in (Bytes bytes) = bytes.items
+bytes_in fields = []
+
+pub same_bytes_line : (w : Word) (a b : List ℕ) → bytes_line w a ≡ bytes_line w b → a ≡ b
+same_bytes_line w a b e = ap (λ l. bytes_in l.fields) e
+
+same_parts : (l : Line) (w : Word) (f : Fields) → l.word ≡ w → l.fields ≡ f → record { word = w; fields = f } ≡ l
+same_parts l w f e g = ap (λ x. record { word = x; fields = f }) (sym e) ∙ ap (λ y. record { word = l.word; fields = y }) (sym g)
+
+pub timed_line : (l : Line) (numbers : ArrayVec ℕ) (flags : ℕ) (ns : List ℕ) (r : Option DetailedTiming) → ns ≡ numbers.items → l.word ≡ Timing → l.fields ≡ Timed numbers flags
+    → MatchOption r ((t : DetailedTiming) → timing_numbers t ≡ ns → t.flags ≡ flags → ⊥) (λ t. (timing_numbers t ≡ ns) × (t.flags ≡ flags))
+    → MatchOption r ((t : DetailedTiming) → timing_line t ≡ l → ⊥) (λ t. timing_line t ≡ l)
+timed_line l numbers flags ns None items word fields h = λ t e.
+    let parts : Timed (record { items = timing_numbers t }) t.flags ≡ Timed numbers flags = ap (λ x. x.fields) e ∙ fields in
+    h t (the_numbers _ _ _ _ parts ∙ sym items) (the_flags _ _ _ _ parts)
+  where
+    the_numbers : (a b : ArrayVec ℕ) (x y : ℕ) → Timed a x ≡ Timed b y → a.items ≡ b.items
+    the_numbers a b x y e = let same : a ≡ b = cc in ap (λ v. v.items) same
+    the_flags : (a b : ArrayVec ℕ) (x y : ℕ) → Timed a x ≡ Timed b y → x ≡ y
+    the_flags a b x y e = cc
+timed_line l numbers flags ns (Some t) items word fields h =
+    let same : Timed (record { items = timing_numbers t }) t.flags ≡ Timed numbers flags = ap (λ xs. Timed (record { items = xs }) t.flags) (h.0 ∙ items) ∙ ap (Timed numbers) h.1 in
+    ap (λ f. record { word = Timing; fields = f }) same ∙ same_parts l Timing (Timed numbers flags) word fields
+
+pub none_of_all : (l : Line) (d : Descriptor) → ((t : DetailedTiming) → timing_line t ≡ l → ⊥) → ((t : AnyText) → quoted_line Name t.chars.items ≡ l → ⊥)
+    → ((t : AnyText) → quoted_line Text t.chars.items ≡ l → ⊥) → ((t : AnyText) → quoted_line SerialText t.chars.items ≡ l → ⊥)
+    → ((r : RangeLimits) → bytes_line Range r.bytes ≡ l → ⊥) → (descriptor_line OfDummy ≡ l → ⊥) → ((r : RawDescriptor) → bytes_line Raw r.bytes ≡ l → ⊥)
+    → descriptor_line d ≡ l → ⊥
+none_of_all l (OfTiming t) a b c d e f g h = a t h
+none_of_all l (OfName t) a b c d e f g h = b t h
+none_of_all l (OfText t) a b c d e f g h = c t h
+none_of_all l (OfSerialText t) a b c d e f g h = d t h
+none_of_all l (OfRange r) a b c d e f g h = e r h
+none_of_all l OfDummy a b c d e f g h = f h
+none_of_all l (OfRaw r) a b c d e f g h = g r h
+
+pub no_standard : (l : Line) (s : Option StandardTiming) → ((xs : List ℕ) → letters_line Standard xs ≡ l → ⊥) → ((ns : List ℕ) → numbers_line Standard ns ≡ l → ⊥) → standard_line s ≡ l → ⊥
+no_standard l None h k e = h (codes "unused") e
+no_standard l (Some s) h k e = k _ e
