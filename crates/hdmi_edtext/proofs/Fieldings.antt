@@ -37,13 +37,17 @@ no_numbers (a ∷ ns) l f e = go ns (omega (arith, l))
   where
     small : a < 2 ^ 32
     small = ltb-true _ _ (both (nat_lt a (2 ^ 32)) (are_numbers ns) f).0
+
     begins : (ns : List ℕ) → BeginsSpaced (flat_map number_text ns)
     begins [] = tt
     begins (n ∷ ns) = refl
+
     cut : position_or_len (λ b. b == 32) (decimal a ++ flat_map number_text ns) ≡ length (decimal a)
     cut = cut_at (decimal a) (flat_map number_text ns) (without_decimal 32 a (omega arith) (omega (arith, small))) (begins ns)
+
     six : length (decimal a) ≡ 6
     six = sym cut ∙ ap (λ xs. position_or_len (λ b. b == 32) (drop 1 xs)) e
+
     go : (ms : List ℕ) → length ns ≡ 2 → ⊥
     go ms two = more ns two (ap length e)
       where

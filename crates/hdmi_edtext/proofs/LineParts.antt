@@ -35,6 +35,7 @@ timed_line l numbers flags ns None items word fields h = λ t e.
   where
     the_numbers : (a b : ArrayVec ℕ) (x y : ℕ) → Timed a x ≡ Timed b y → a.items ≡ b.items
     the_numbers a b x y e = let same : a ≡ b = cc in ap (λ v. v.items) same
+
     the_flags : (a b : ArrayVec ℕ) (x y : ℕ) → Timed a x ≡ Timed b y → x ≡ y
     the_flags a b x y e = cc
 timed_line l numbers flags ns (Some t) items word fields h =

@@ -79,9 +79,10 @@ pub next_some : (w t text : List ℕ) (i : ℕ) → is_spaceless w ≡ true → 
     → (take i text ≡ w) × (take (length text - i) (drop i text) ≡ t)
 next_some w t text i h b e p =
     let found = found_at text i p in
-    let at : i ≡ length w = sym found.0 ∙ ap (position_or_len (λ b. b == 32)) (sym e) ∙ cut_at w t h b in
-    (ap (λ n. take n text) at ∙ ap (take (length w)) (sym e) ∙ take_front w t,
-     rest_of text i ∙ ap (λ n. drop n text) at ∙ ap (drop (length w)) (sym e) ∙ drop_front w t)
+    let at : i ≡ length w = sym found.0 ∙ ap (position_or_len (λ b. b == 32)) (sym e) ∙ cut_at w t h b in (
+      ap (λ n. take n text) at ∙ ap (take (length w)) (sym e) ∙ take_front w t,
+      rest_of text i ∙ ap (λ n. drop n text) at ∙ ap (drop (length w)) (sym e) ∙ drop_front w t,
+    )
 
 -- what is left to be read of some numbers
 pub record Left (done ns t rest : List ℕ) : Type 0 where
@@ -117,8 +118,12 @@ next_of done ns t rest i count l len less all fit b = go l.ms l.split l.spelled
     go (m ∷ ms) e f =
         let small = ltb-true _ _ (both (nat_lt m (2 ^ 32)) (are_numbers ms) (numbers_behind done (m ∷ ms) (ap are_numbers (sym e) ∙ fit))).0 in
         record {
-          m = m; ms = ms; fits = small; solid = without_decimal 32 m (omega arith) (omega (arith, small));
-          begins = begins_so ms t b; split = e;
+          m = m;
+          ms = ms;
+          fits = small;
+          solid = without_decimal 32 m (omega arith) (omega (arith, small));
+          begins = begins_so ms t b;
+          split = e;
           spelled = sym (ap (λ x. 32 ∷ x) (append_assoc (decimal m) (flat_map number_text ms) t)) ∙ f;
         }
 

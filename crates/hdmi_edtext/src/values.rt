@@ -18,7 +18,9 @@ ghost use Rattle.hdmi_edtext.specs.Lines.{letters_line, numbers_line, bytes_line
 use crate::line::{Fields, Line, Word};
 use arrayvec::ArrayVec;
 use hdmi_cta::BlockKind;
-use hdmi_edid::{Chroma, Descriptor, Maker, Point, RangeLimits, RawDescriptor, Revision, Standard, Text, Timing};
+use hdmi_edid::{
+    Chroma, Descriptor, Maker, Point, RangeLimits, RawDescriptor, Revision, Standard, Text, Timing,
+};
 
 /// The letters behind a word.
 fn letters_of(line: &Line, word: Word) -> Option<&[u8]>
@@ -155,7 +157,13 @@ pub fn maker_of(line: &Line) -> Option<Maker>
         return None;
     }
     let (first, second, third) = (letters[0], letters[1], letters[2]);
-    if first < b'A' || b'Z' < first || second < b'A' || b'Z' < second || third < b'A' || b'Z' < third {
+    if first < b'A'
+        || b'Z' < first
+        || second < b'A'
+        || b'Z' < second
+        || third < b'A'
+        || b'Z' < third
+    {
         return None;
     }
     Some(Maker {
