@@ -4,12 +4,14 @@
 mod assembler;
 mod form;
 mod form_rows;
+mod laws;
 mod operand_words;
 mod reading;
 mod refusal;
 mod spelling;
 
 pub use assembler::{AssembleError, assemble};
+pub use laws::{frames_are_whole, one_frame_a_text};
 pub use operand_words::WordSet;
 pub use spelling::{frame_text, write_frame};
 
