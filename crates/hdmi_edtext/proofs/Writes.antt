@@ -1,5 +1,5 @@
 -- A text is written line by line.
-use Rattle.std.proofs.Common.{◌≡◌, ℕ, zero, suc, ◌+◌, ◌<◌, ◌≤◌, Bool, true, false, List, [], ◌∷◌, ◌++◌, length, take, get_or, Option, Some, None, slice_get, flat_map, ap, arith, refl, sym, ◌∙◌, append-nil, length-append}
+use Rattle.std.proofs.Common.{◌≡◌, ℕ, zero, suc, ◌+◌, ◌<◌, ◌≤◌, Bool, true, false, List, [], ◌∷◌, ◌++◌, length, take, get_or, Option, Some, None, slice_get, flat_map, ap, arith, refl, sym, ◌∙◌, append-nil, append_assoc, take-append-drop, drop, length-append}
 use Rattle.std.specs.Io.KnownBytes.{Appends}
 use Rattle.std.proofs.lemmas.Grind.{flat_map-append}
 use Rattle.std.proofs.lemmas.List.{take_more, take_all}
@@ -36,3 +36,17 @@ pub cut_line : (ls : List Line) (i k n : ℕ) (l : Line) (t : List ℕ) (a b c :
 cut_line ls i k n l t a b c f h e short first second =
     let same = f ∙ ap line_text (sym (get_or_from_slice_get ls i l l h)) in
     cut_short line_text ls i k n l a b c (slice_get_within ls i l h) e (subst (λ x. k < length x) same short) first (subst (λ x. Appends b c (take k x)) same second)
+
+-- a text goes on with a line
+pub text_on : (ls : List Line) (n : ℕ) (l : Line) (rest line text : List ℕ) → slice_get ls n ≡ Some l → line ≡ line_text l → take (length line) rest ≡ line
+    → flat_map line_text (take n ls) ++ rest ≡ text → flat_map line_text (take (n + 1) ls) ++ drop (length line) rest ≡ text
+text_on ls n l rest line text h e front so_far =
+    ap (λ x. x ++ drop (length line) rest) (text_more ls n l h) ∙ append_assoc (flat_map line_text (take n ls)) (line_text l) (drop (length line) rest)
+    ∙ ap (λ x. flat_map line_text (take n ls) ++ (x ++ drop (length line) rest)) (sym (front ∙ e))
+    ∙ ap (λ x. flat_map line_text (take n ls) ++ x) (take-append-drop (length line) rest) ∙ so_far
+
+-- a text ends with the last line
+pub text_end : (ls : List Line) (n : ℕ) (rest text : List ℕ) → slice_get ls n ≡ None → length rest ≡ 0 → flat_map line_text (take n ls) ++ rest ≡ text → flat_map line_text ls ≡ text
+text_end ls n [] text h e so_far =
+    ap (flat_map line_text) (sym (take_all n ls (past ls n h))) ∙ sym (append-nil (flat_map line_text (take n ls))) ∙ so_far
+text_end ls n (x ∷ xs) text h e so_far = absurd (omega arith)

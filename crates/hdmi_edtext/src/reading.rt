@@ -230,6 +230,12 @@ fn word_of(text: &[u8]) -> Option<Word>
     None
 }
 
+/// The first word of a line.
+pub fn read_word(front: &[u8]) -> Option<Word> {
+    let (word, _) = next_word(front);
+    word_of(word)
+}
+
 /// The line that a text may spell.
 fn candidate(line: &[u8]) -> Option<Line>
     ensures { (l : LineValue) → Formed l → line_text l ≡ line.now → result ≡ Some l }

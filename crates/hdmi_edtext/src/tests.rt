@@ -1,4 +1,4 @@
-use crate::{EdidError, edid_from_bytes, edid_to_bytes, write_text};
+use crate::{EdidError, TextError, edid_from_bytes, edid_to_bytes, parse_text, write_text};
 use hdmi_cta::{ExtError, Writes};
 use std::test::Fail;
 
@@ -51,6 +51,80 @@ fn refuses_wrong_lengths_counts_and_sums(rt: HostRuntime) -> Result<(), Fail> {
             edid_from_bytes(&bytes),
             Err(EdidError::Ext(1, ExtError::Checksum))
         )
+    );
+    Ok(())
+}
+
+/// The example's text with one part changed.
+fn changed(rt: &HostRuntime, from: &str, to: &str) -> Result<Vec<u8>, Fail> {
+    let (front, behind) = TEXT.split_once(from).ok_or("no such part")?;
+    let mut text = Vec::new(rt.alloc());
+    text.extend_from_slice(front.as_bytes())?;
+    text.extend_from_slice(to.as_bytes())?;
+    text.extend_from_slice(behind.as_bytes())?;
+    Ok(text)
+}
+
+/// Why such a text is refused.
+fn refusal_of(rt: &HostRuntime, from: &str, to: &str) -> Result<Option<TextError>, Fail> {
+    let text = changed(rt, from, to)?;
+    Ok(parse_text(rt.alloc(), &text).err())
+}
+
+#[test]
+fn reads_the_text_again(rt: HostRuntime) -> Result<(), Fail> {
+    let edid = parse_text(rt.alloc(), TEXT.as_bytes())?;
+    assert_eq!(rt;
+        edid_to_bytes(&edid).as_slice(),
+        both_blocks(&rt)?.as_slice()
+    );
+    Ok(())
+}
+
+#[test]
+fn names_the_line_at_fault(rt: HostRuntime) -> Result<(), Fail> {
+    let field = Some(TextError::Field(5));
+    let syntax = Some(TextError::Syntax(5));
+    assert_eq!(rt; refusal_of(&rt, "made 10 2011", "made 10 2300")?, field);
+    assert_eq!(rt; refusal_of(&rt, "made 10 2011", "made 10 2011 0")?, syntax);
+    assert_eq!(rt; refusal_of(&rt, "made 10 2011\n", "")?, syntax);
+    assert_eq!(rt;
+        refusal_of(&rt, "features 0a", "features 0A")?,
+        Some(TextError::Field(9))
+    );
+    assert_eq!(rt;
+        refusal_of(&rt, "standard unused", "standard 256 0 61")?,
+        Some(TextError::Field(12))
+    );
+    Ok(())
+}
+
+#[test]
+fn names_the_block_line_at_fault(rt: HostRuntime) -> Result<(), Fail> {
+    let raw = "raw 000000fc004c4f554e474520545620303031";
+    assert_eq!(rt;
+        refusal_of(&rt, "name \"LOUNGE TV 001\"", raw)?,
+        Some(TextError::Field(21))
+    );
+    assert_eq!(rt;
+        refusal_of(&rt, "hdmi 0.0.0.0 -", "vendor 030c000000")?,
+        Some(TextError::Field(28))
+    );
+    assert_eq!(rt;
+        refusal_of(&rt, "tail -", "tail 00")?,
+        Some(TextError::Field(29))
+    );
+    assert_eq!(rt;
+        refusal_of(&rt, "tail -\n", "tail -")?,
+        Some(TextError::Syntax(29))
+    );
+    assert_eq!(rt;
+        refusal_of(&rt, "tail -\n", "tail -\ncta f1\n")?,
+        Some(TextError::Syntax(30))
+    );
+    assert_eq!(rt;
+        refusal_of(&rt, "tail -\n", "")?,
+        Some(TextError::Syntax(29))
     );
     Ok(())
 }

@@ -411,7 +411,7 @@ pub fn descriptor_of(line: &Line) -> Option<Descriptor>
 }
 
 /// The kind of data block that a word names.
-fn kind_of(word: Word) -> Option<BlockKind>
+pub fn kind_of(word: Word) -> Option<BlockKind>
     ensures { MatchOption result ((k : KindValue) → kind_word k ≡ word → ⊥) (λ k. kind_word k ≡ word) }
 {
     match word {
