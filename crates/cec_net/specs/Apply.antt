@@ -1,6 +1,5 @@
 -- What an event does (own).
-use Rattle.std.specs.Prelude.{ℕ, suc, zero, List, [], ◌∷◌, ◌+◌, Bool, true, false, slice_get, Option, Some, None, option_and_then, option_map}
-use Rattle.hdmi_topo.specs.Node.{Node}
+use Rattle.std.specs.Prelude.{ℕ, suc, zero, ◌<◌, List, [], ◌∷◌, slice_get, Option, Some, None, option_and_then, option_map}
 use Rattle.hdmi_topo.specs.Tree.{plug_fault, plugged, unplug_fault, unplugged}
 use Rattle.cec_device.specs.State.{State}
 use Rattle.cec_device.specs.Place.{submit_fault, submitted}
@@ -11,12 +10,19 @@ use Rattle.cec_net.specs.declared.event.EventError.{EventError}
 use Rattle.cec_net.specs.declared.event.EventError.TheVariants as refused
 use Rattle.cec_net.specs.State.{NetState, rewired}
 
+-- the devices that an event names are among so many
+abbrev pub NamesDevices : ℕ → Event → Type 0
+NamesDevices count (Plug child parent port) = (child < count) × (parent < count)
+NamesDevices count (Unplug child) = child < count
+NamesDevices count (Key device key press) = device < count
+NamesDevices count (Send device frame) = device < count
+
 -- why an event is refused: as the tree or the device refuses it
 abbrev pub event_fault : NetState → Event → Option EventError
 event_fault s (Plug child parent port) = option_map refused.Plug (plug_fault s.tree child parent port)
 event_fault s (Unplug child) = option_map refused.Unplug (unplug_fault s.tree child)
-event_fault s (Key device key press) = option_and_then (λ d. option_map refused.Key (key_fault d key)) (slice_get s.devices device)
-event_fault s (Send device frame) = option_and_then (λ d. option_map refused.Send (submit_fault 16 d frame)) (slice_get s.devices device)
+event_fault s (Key device key press) = option_map refused.Key (option_and_then (λ d. key_fault d key) (slice_get s.devices device))
+event_fault s (Send device frame) = option_map refused.Send (option_and_then (λ d. submit_fault 16 d frame) (slice_get s.devices device))
 
 -- the device of this number changed
 abbrev pub changed_at : ℕ → (State → State) → List State → List State
@@ -24,6 +30,7 @@ changed_at number change [] = []
 changed_at zero change (d ∷ devices) = change d ∷ devices
 changed_at (suc number) change (d ∷ devices) = d ∷ changed_at number change devices
 
+-- the network after an event that is not refused
 abbrev pub accepted : ℕ → Event → NetState → NetState
 accepted at (Plug child parent port) s = rewired at (plugged s.tree child parent port) s
 accepted at (Unplug child) s = rewired at (unplugged s.tree child) s

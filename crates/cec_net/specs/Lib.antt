@@ -3,3 +3,4 @@ pub mod State
 pub mod Sound
 pub mod Apply
 pub mod Step
+pub mod Progress

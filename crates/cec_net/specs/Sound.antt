@@ -20,4 +20,4 @@ pub record IsSound (s : NetState) : Type 0 where
   pub rested : s.rest ≤ s.close
   pub closed : s.close ≤ 2400000000000
   pub ready : All (IsReadyBy (max latest s.close)) s.devices
-  pub early : All (λ p. p.to ≤ latest) s.pulses
+  pub early : All (λ p. p.from ≤ latest) s.pulses

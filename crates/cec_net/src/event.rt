@@ -37,3 +37,47 @@ pub enum EventError {
     Key(KeyError),
     Send(SubmitError),
 }
+
+impl From<PlugError> for EventError {
+    ghost use Rattle.std.specs.Prelude.{◌≡◌};
+    ghost use Rattle.cec_net.specs.declared.event.EventError.TheVariants.{Plug};
+
+    ghost from_gives = { λ error given. given ≡ Plug error };
+
+    fn from(error: PlugError) -> Self {
+        EventError::Plug(error)
+    }
+}
+
+impl From<UnplugError> for EventError {
+    ghost use Rattle.std.specs.Prelude.{◌≡◌};
+    ghost use Rattle.cec_net.specs.declared.event.EventError.TheVariants.{Unplug};
+
+    ghost from_gives = { λ error given. given ≡ Unplug error };
+
+    fn from(error: UnplugError) -> Self {
+        EventError::Unplug(error)
+    }
+}
+
+impl From<KeyError> for EventError {
+    ghost use Rattle.std.specs.Prelude.{◌≡◌};
+    ghost use Rattle.cec_net.specs.declared.event.EventError.TheVariants.{Key};
+
+    ghost from_gives = { λ error given. given ≡ Key error };
+
+    fn from(error: KeyError) -> Self {
+        EventError::Key(error)
+    }
+}
+
+impl From<SubmitError> for EventError {
+    ghost use Rattle.std.specs.Prelude.{◌≡◌};
+    ghost use Rattle.cec_net.specs.declared.event.EventError.TheVariants.{Send};
+
+    ghost from_gives = { λ error given. given ≡ Send error };
+
+    fn from(error: SubmitError) -> Self {
+        EventError::Send(error)
+    }
+}

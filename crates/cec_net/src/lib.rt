@@ -4,7 +4,10 @@
 mod event;
 mod net;
 mod start;
+mod step;
 mod wiring;
 
 pub use event::{Event, EventError};
 pub use net::Net;
+pub use start::start_is_least;
+pub use step::RoundReport;

@@ -1,12 +1,16 @@
 //! The network between its events and rounds.
-ghost use Rattle.std.specs.Prelude.{◌≡◌, ◌≤◌, ◌<◌, length, slice_get, Some, None, All, MatchResult};
+ghost use Rattle.std.specs.Prelude.{◌≡◌, ◌≤◌, ◌<◌, length, slice_get, Some, None, All, MatchResult, MatchOption, option_and_then, option_map};
 
+use crate::event::{Event, EventError};
 use crate::start::{first_onset, least_start, sooner};
-use crate::wiring::{DEVICES, loose, rewire};
+use crate::step::{RoundReport, end_round, seats_of};
+use crate::wiring::{DEVICES, loose, press_key, rewire, submit_frame};
 use arrayvec::ArrayVec;
-use cec_device::Device;
+use cec_device::{Device, Key, KeyError, SubmitError};
+use cec_frame::Frame;
 use cec_wave::pulses::Pulses;
-use hdmi_topo::Tree;
+use cec_wire::Wire;
+use hdmi_topo::{PlugError, Tree, UnplugError};
 use std::marker::Model;
 
 /// A tree of devices on one CEC line, and where their run stands. Devices go by their numbers in the tree,
@@ -37,10 +41,10 @@ impl<W> Net<W> {
     ghost use Rattle.cec_net.specs.State.{started, next_start};
 
     /// The network at time 0, when the devices that the tree joins to its root come on the wire. The tree has
-    /// at least one device, and no pulse ends after 2,000,000,000,000.
+    /// at least one device, and no pulse begins after 2,000,000,000,000.
     pub fn new(tree: Tree<15>, wire: W, pulses: Pulses) -> Self
         requires some { 0 < length tree }
-        requires early { All (λ p. p.to ≤ 2000000000000) pulses }
+        requires early { All (λ p. p.from ≤ 2000000000000) pulses }
         ensures { result ≡ started tree pulses }
     {
         let mut devices = loose(&tree);
@@ -86,5 +90,120 @@ impl<W> Net<W> {
         ensures { result.now ≡ self.now.tree }
     {
         &self.tree
+    }
+}
+
+impl<W> Net<W> {
+    ghost use Rattle.hdmi_topo.specs.Tree.{plug_fault, plugged, unplug_fault, unplugged};
+    ghost use Rattle.cec_device.specs.Keys.{key_fault, keyed};
+    ghost use Rattle.cec_device.specs.Place.{submit_fault, submitted};
+    ghost use Rattle.cec_net.specs.State.{rewired};
+    ghost use Rattle.cec_net.specs.Apply.{NamesDevices, event_fault, applied, changed_at, accepted};
+
+    fn plug(&mut self, at: u64, child: usize, parent: usize, port: u8) -> Result<(), PlugError>
+        requires early { at ≤ 2000000000000 }
+        requires known { (child < length self.old.tree) × (parent < length self.old.tree) }
+        ensures { MatchResult result
+            (λ _. (plug_fault self.old.tree child parent port ≡ None) × (self.new ≡ rewired at (plugged self.old.tree child parent port) self.old))
+            (λ error. (plug_fault self.old.tree child parent port ≡ Some error) × (self.new ≡ self.old)) }
+    {
+        match self.tree.plug(child, parent, port) {
+            Err(error) => Err(error),
+            Ok(()) => {
+                rewire(&mut self.devices, &self.tree, at);
+                Ok(())
+            }
+        }
+    }
+
+    fn unplug(&mut self, at: u64, child: usize) -> Result<(), UnplugError>
+        requires early { at ≤ 2000000000000 }
+        requires known { child < length self.old.tree }
+        ensures { MatchResult result
+            (λ _. (unplug_fault self.old.tree child ≡ None) × (self.new ≡ rewired at (unplugged self.old.tree child) self.old))
+            (λ error. (unplug_fault self.old.tree child ≡ Some error) × (self.new ≡ self.old)) }
+    {
+        match self.tree.unplug(child) {
+            Err(error) => Err(error),
+            Ok(()) => {
+                rewire(&mut self.devices, &self.tree, at);
+                Ok(())
+            }
+        }
+    }
+
+    fn key(&mut self, at: u64, device: usize, key: Key, press: bool) -> Result<(), KeyError>
+        requires early { at ≤ 2000000000000 }
+        requires known { device < length self.old.tree }
+        ensures { MatchResult result
+            (λ _. (option_and_then (λ d. key_fault d key) (slice_get self.old.devices device) ≡ None)
+            × (self.new ≡ record self.old { devices = changed_at device (λ d. keyed 16 d key press at) self.old.devices }))
+            (λ error. (option_and_then (λ d. key_fault d key) (slice_get self.old.devices device) ≡ Some error) × (self.new ≡ self.old)) }
+    {
+        press_key(&mut self.devices, device, key, press, at)
+    }
+
+    fn send(&mut self, at: u64, device: usize, frame: Frame) -> Result<(), SubmitError>
+        requires early { at ≤ 2000000000000 }
+        requires known { device < length self.old.tree }
+        ensures { MatchResult result
+            (λ _. (option_and_then (λ d. submit_fault 16 d frame) (slice_get self.old.devices device) ≡ None)
+            × (self.new ≡ record self.old { devices = changed_at device (λ d. submitted 16 d frame at) self.old.devices }))
+            (λ error. (option_and_then (λ d. submit_fault 16 d frame) (slice_get self.old.devices device) ≡ Some error) × (self.new ≡ self.old)) }
+    {
+        submit_frame(&mut self.devices, device, frame, at)
+    }
+
+    /// Applies an event at time `at`: not before the close of the last round or the event before, and not after
+    /// the next start. The devices that it names are among those of the tree.
+    ///
+    /// # Errors
+    ///
+    /// The event is refused as the tree refuses a plug, and as the device refuses a key or a frame. The network is
+    /// then as it was.
+    pub fn apply(&mut self, at: u64, event: Event) -> Result<(), EventError>
+        requires early { at ≤ 2000000000000 }
+        requires known { NamesDevices (length self.old.tree) event }
+        ensures answer { MatchResult result (λ _. event_fault self.old event ≡ None) (λ error. event_fault self.old event ≡ Some error) }
+        ensures state { self.new ≡ applied at event self.old }
+    {
+        match event {
+            Event::Plug {
+                child,
+                parent,
+                port,
+            } => self.plug(at, child, parent, port)?,
+            Event::Unplug { child } => self.unplug(at, child)?,
+            Event::Key { device, key, press } => self.key(at, device, key, press)?,
+            Event::Send { device, frame } => self.send(at, device, frame)?,
+        }
+        Ok(())
+    }
+}
+
+impl<W: Wire> Net<W> {
+    ghost use Rattle.cec_net.specs.State.{next_start};
+    ghost use Rattle.cec_net.specs.Step.{IsNextRound};
+
+    /// Runs the next round to its close, which is at most 2,000,000,000,000 for the round before. Each device then
+    /// follows the frame that was read, and learns what became of its own. None, and nothing changes, where there
+    /// is no next start.
+    pub fn round(&mut self) -> Option<RoundReport>
+        requires { self.old.close ≤ 2000000000000 }
+        ensures { MatchOption result
+            ((next_start self.old ≡ None) × (self.new ≡ self.old))
+            (λ report. (next_start self.old ≡ Some report.begin) × IsNextRound self.old report.begin report.outcome self.new) }
+    {
+        let begin = sooner(
+            least_start(&self.devices, self.rest),
+            first_onset(self.pulses.as_slice()),
+        )?;
+        let seats = seats_of(&self.devices, self.rest, begin);
+        let outcome = self.wire.round(&seats, begin, &self.pulses);
+        end_round(&mut self.devices, self.rest, begin, &outcome);
+        self.pulses.drop_until(outcome.rest);
+        self.close = outcome.close();
+        self.rest = outcome.rest;
+        Some(RoundReport { begin, outcome })
     }
 }

@@ -1,7 +1,7 @@
 //! When devices start to send.
 ghost use Rattle.std.specs.Prelude.{◌≡◌, ◌+◌, ◌≤◌, ◌<◌, All};
 ghost use Rattle.cec_device.specs.Place.{ready_of};
-ghost use Rattle.cec_net.specs.Start.{next_turn, start_of, sooner, least_start, first_onset};
+ghost use Rattle.cec_net.specs.Start.{next_turn, start_of, sooner, least_start, first_onset, StartIsLeast};
 ghost use Rattle.cec_net.specs.Sound.{IsReadyBy};
 
 use cec_device::Device;
@@ -66,3 +66,8 @@ pub(crate) fn first_onset(pulses: &[Stretch]) -> Option<u64>
 {
     pulses.first().map(|pulse| pulse.from)
 }
+
+/// A device starts as soon as it may, and one that has no start instant never may.
+pub fn start_is_least()
+    ensures { StartIsLeast }
+{}

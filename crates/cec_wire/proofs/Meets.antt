@@ -64,7 +64,7 @@ in_time seats low begin t bits held StartHigh s d = omega (arith, s.early)
 in_time seats low begin t bits held (InSlot fall last) s d = omega (arith, s.early, s.near, s.room)
 in_time seats low begin t bits held (Over e) s d = let x : t ≤ e.at + 6600 = grind (arith, nat_tests) in omega (arith, s.near)
 
-pub is_early : (seats : List Seat) (low : Line) (begin t : ℕ) (bits : List Bool) (held : ℕ) (place : Place) → StandsAt seats low begin t bits held place → begin ≤ 2000000000000 → IsEarly place
+pub is_early : (seats : List Seat) (low : Line) (begin t : ℕ) (bits : List Bool) (held : ℕ) (place : Place) → StandsAt seats low begin t bits held place → begin ≤ 2000000100000 → IsEarly place
 unfolding StandsAt
 is_early seats low begin t bits held StartLow s l = tt
 is_early seats low begin t bits held StartHigh s l = tt

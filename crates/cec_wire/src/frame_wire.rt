@@ -154,7 +154,7 @@ impl Hearing {
         was_low: bool,
         is_low: bool,
     )
-        requires begin { start ≤ 2000000000000 }
+        requires begin { start ≤ 2000000100000 }
         requires early { IsEarly self.old.place }
         requires time { t ≤ 3000000000000 }
         requires room { samples self.old.place t (is_low && not was_low) ≡ true → length self.old.bits.items < 160 }

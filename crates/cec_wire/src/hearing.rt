@@ -36,7 +36,7 @@ fn over(ending: Ending, at: u64, until: u64) -> Place
 }
 
 fn start_low_at(begin: u64, t: u64, rises: bool) -> Place
-    requires { begin ≤ 2000000000000 }
+    requires { begin ≤ 2000000100000 }
     ensures { result ≡ after_start_low begin t rises }
 {
     if t > begin + 3900 {
@@ -51,7 +51,7 @@ fn start_low_at(begin: u64, t: u64, rises: bool) -> Place
 }
 
 fn start_high_at(begin: u64, t: u64, falls: bool) -> Place
-    requires { begin ≤ 2000000000000 }
+    requires { begin ≤ 2000000100000 }
     ensures { result ≡ after_start_high begin t falls }
 {
     if falls {
@@ -102,7 +102,7 @@ impl Place {
 
     /// Where the reading from `begin` comes with microsecond `t`, in which the line falls or rises.
     pub fn after(self, begin: u64, bits: &[bool], t: u64, falls: bool, rises: bool) -> Place
-        requires begin { begin ≤ 2000000000000 }
+        requires begin { begin ≤ 2000000100000 }
         requires early { IsEarly self }
         ensures { result ≡ next_place begin bits.now self t falls rises }
     {

@@ -1,0 +1,29 @@
+use Rattle.std.proofs.Common.{◌≡◌, ◌≤◌, ◌∙◌, ap, sym, subst, arith, Some}
+use Rattle.cec_net.specs.Start.{sooner, least_start, first_onset}
+use Rattle.cec_net.specs.State.{NetState, next_start}
+use Rattle.cec_net.specs.Step.{devices_after}
+use Rattle.cec_net.proofs.Soundness.{next-soon, sound-after}
+use Rattle.cec_net.proofs.net.Net.round.Goals as goal
+
+pub round-outcome-requires-clause-early : goal.round-outcome-requires-clause-early
+round-outcome-requires-clause-early g c =
+    let s : NetState = (record { tree = c.self.inside.tree; devices = c.self.inside.devices.items; pulses = c.self.inside.pulses; close = c.self.inside.close; rest = c.self.inside.rest }) in
+    let Early : NetState → Type 0 = λ t. t.close ≤ 2000000000000 in
+    let start : c.least_start.result ≡ least_start c.self.inside.rest c.self.inside.devices.items = c.least_start.ensures ∙ ap (least_start c.self.inside.rest) c.deref.ensures.0 in
+    let onset : c.first_onset.result ≡ first_onset c.self.inside.pulses = c.first_onset.ensures ∙ ap first_onset c.as_slice.ensures.pulses in
+    let next : next_start s ≡ Some c.in_ok-begin.begin =
+    sym (c.sooner.ensures ∙ ap (λ o. sooner o c.first_onset.result) start ∙ ap (sooner (least_start c.self.inside.rest c.self.inside.devices.items)) onset) ∙ c.in_ok-begin.was in
+    let soon = next-soon s c.in_ok-begin.begin c.self.invariant (subst Early (sym c.self.view_is) c.requires) next in
+    omega arith
+
+pub invariant_of-self : goal.invariant_of-self
+invariant_of-self g c =
+    let s : NetState = (record { tree = c.self.inside.tree; devices = c.self.inside.devices.items; pulses = c.self.inside.pulses; close = c.self.inside.close; rest = c.self.inside.rest }) in
+    let Early : NetState → Type 0 = λ t. t.close ≤ 2000000000000 in
+    let start : c.least_start.result ≡ least_start c.self.inside.rest c.self.inside.devices.items = c.least_start.ensures ∙ ap (least_start c.self.inside.rest) c.deref.ensures.0 in
+    let onset : c.first_onset.result ≡ first_onset c.self.inside.pulses = c.first_onset.ensures ∙ ap first_onset c.as_slice.ensures.pulses in
+    let next : next_start s ≡ Some c.in_ok-begin.begin =
+    sym (c.sooner.ensures ∙ ap (λ o. sooner o c.first_onset.result) start ∙ ap (sooner (least_start c.self.inside.rest c.self.inside.devices.items)) onset) ∙ c.in_ok-begin.was in
+    sound-after s c.deref-3.result.now c.in_ok-begin.begin c.round-outcome.result c.end_round.new.devices c.drop_until.new.self c.as_slice.result.now c.close-self-inside.result
+    c.self.invariant (subst Early (sym c.self.view_is) c.requires) next c.as_slice.ensures.sparse c.as_slice.ensures.pulses c.round-outcome.ensures
+    (c.end_round.ensures ∙ ap (devices_after c.self.inside.rest c.in_ok-begin.begin c.round-outcome.result) c.deref_mut.ensures.value) c.drop_until.ensures c.close-self-inside.ensures

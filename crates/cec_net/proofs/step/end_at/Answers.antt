@@ -1,0 +1,11 @@
+use Rattle.std.proofs.Common.{sym, subst}
+use Rattle.std.specs.Prelude.{IsSome}
+use Rattle.cec_device.specs.State.{State}
+use Rattle.cec_device.specs.Place.{front_of}
+use Rattle.cec_net.proofs.Ahead.{front-followed_unless}
+use Rattle.cec_net.proofs.step.end_at.Goals as goal
+
+pub tell-requires : goal.tell-requires
+tell-requires c own =
+    let Has : State → Type 0 = λ d. IsSome (front_of d) in
+    subst Has (sym c.follow.ensures) (front-followed_unless c.is_among.result c.frame.result c.close-close.result c.args.device.now (c.requires own))
