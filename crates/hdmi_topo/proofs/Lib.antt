@@ -1,3 +1,4 @@
 pub mod ClimbLemmas
 pub mod PathLaws
 pub mod PlugLemmas
+pub mod PortLemmas

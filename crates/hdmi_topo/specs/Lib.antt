@@ -2,3 +2,4 @@ pub mod Name
 pub mod Node
 pub mod Tree
 pub mod Path
+pub mod Port

@@ -7,11 +7,13 @@ mod device;
 mod laws;
 mod name;
 mod plug;
+mod port;
 mod tree;
 
-pub use laws::{loops_are_found, paths_are_found};
+pub use laws::{loops_are_found, paths_are_found, ports_have_addresses};
 pub use name::is_name;
 pub use plug::{AddError, Plug, PlugError, UnplugError};
+pub use port::PortEdidError;
 pub use tree::Tree;
 
 #[cfg(test)]
