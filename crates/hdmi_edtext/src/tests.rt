@@ -12,16 +12,21 @@ const EXTENSION: &str = "020316f143900403230907078301000065030c000000";
 const TEXT: &str =
     "edid 1.3\nmaker SAM\nproduct 258\nserial 1\nmade 10 2011\ninput 80\nsize 52 29\ngamma 120\nfeatures 0a\nchroma 655 338 307 614 154 61 320 337\nestablished 000000\nstandard unused\nstandard unused\nstandard unused\nstandard unused\nstandard unused\nstandard unused\nstandard unused\nstandard unused\ntiming 14850 1920 280 1080 45 88 44 4 5 520 290 0 0 1e\nname \"LOUNGE TV 001\"\ndummy\ndummy\ncta f1\nvideo 900403\naudio 090707\nspeakers 010000\nhdmi 0.0.0.0 -\ntail -\n";
 
-/// The bytes of the base block and the extension.
-fn both_blocks(rt: &HostRuntime) -> Result<Vec<u8>, Fail> {
+/// The bytes of the base block and of an extension with this front and checksum.
+fn with_extension(rt: &HostRuntime, front: &str, check: u8) -> Result<Vec<u8>, Fail> {
     let mut bytes = hex::decode(rt.alloc(), BLOCK)?;
-    let front = hex::decode(rt.alloc(), EXTENSION)?;
+    let front = hex::decode(rt.alloc(), front)?;
     bytes.extend_from_slice(&front)?;
     for _ in front.len()..127 {
         bytes.push(0)?;
     }
-    bytes.push(0xe8)?;
+    bytes.push(check)?;
     Ok(bytes)
+}
+
+/// The bytes of the base block and the extension.
+fn both_blocks(rt: &HostRuntime) -> Result<Vec<u8>, Fail> {
+    with_extension(rt, EXTENSION, 0xe8)
 }
 
 #[test]
@@ -126,5 +131,37 @@ fn names_the_block_line_at_fault(rt: HostRuntime) -> Result<(), Fail> {
         refusal_of(&rt, "tail -\n", "")?,
         Some(TextError::Syntax(29))
     );
+    Ok(())
+}
+
+/// The text of an EDID, which is read to the same bytes again.
+fn text_and_back(rt: &HostRuntime, bytes: &[u8]) -> Result<Vec<u8>, Fail> {
+    let edid = edid_from_bytes(bytes)?;
+    let mut text = Vec::new(rt.alloc());
+    write_text(&edid, &mut Writes::new(&mut text))?;
+    let again = parse_text(rt.alloc(), &text)?;
+    let same = edid_to_bytes(&again).as_slice() == bytes;
+    same.then_some(()).ok_or("other bytes")?;
+    Ok(text)
+}
+
+#[test]
+fn returns_extensions_without_blocks(rt: HostRuntime) -> Result<(), Fail> {
+    let bare = text_and_back(&rt, &with_extension(&rt, "020300f1", 0x0a)?)?;
+    assert!(rt; bare.as_slice().ends_with(b"\ncta-none f1\ntail -\n"));
+    let empty = text_and_back(&rt, &with_extension(&rt, "020304f1", 0x06)?)?;
+    assert!(rt; empty.as_slice().ends_with(b"\ncta f1\ntail -\n"));
+    Ok(())
+}
+
+#[test]
+fn returns_a_block_that_runs_past_its_end(rt: HostRuntime) -> Result<(), Fail> {
+    let text = text_and_back(&rt, &with_extension(&rt, "020306f14390", 0x31)?)?;
+    let (_, behind) = str::from_utf8(&text)?
+        .split_once("\next ")
+        .ok_or("no raw line")?;
+    assert_eq!(rt; behind.len(), 257);
+    assert!(rt; behind.starts_with("020306f1439000"));
+    assert!(rt; behind.ends_with("0031\n"));
     Ok(())
 }
