@@ -5,3 +5,4 @@ pub mod Rounds
 pub mod Soundness
 pub mod Starts
 pub mod Progress
+pub mod OneStep

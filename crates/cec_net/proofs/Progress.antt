@@ -1,6 +1,6 @@
 -- A round goes on from the one before.
 use Rattle.std.proofs.Common.{◌≡◌, ℕ, zero, suc, ◌+◌, ◌-◌, ◌*◌, ◌==◌, ◌<◌, ◌≤◌, Bool, true, false, not, ◌&&◌, ◌||◌, nat_lt, nat_le, if◌then◌else◌, min, max, map, List, [], ◌∷◌, ◌++◌, length, fold, ◌⊎◌, inl, inr, Option, Some, None, IsSome, refl, sym, ap, ◌∙◌, subst, arith, is_none}
-use Rattle.std.specs.List.{All, list_any, filter, filter_map, cons_option}
+use Rattle.std.specs.List.{All, list_any, filter, filter_map, cons_option, refill}
 use Rattle.std.proofs.lemmas.Bool.{cases_lt}
 use Rattle.std.proofs.lemmas.Bool.Decides.{nat_tests}
 use Rattle.std.proofs.lemmas.List.Sums.{length-filter, count_by-le-length}
@@ -26,6 +26,10 @@ use Rattle.cec_net.specs.Step.{sent_in, seat_of, seats_of, after_round}
 use Rattle.cec_net.specs.Progress.{IsProgress}
 use Rattle.cec_net.proofs.Ahead.{front-ready}
 use Rattle.cec_net.proofs.Rounds.{short_round}
+use Rattle.cec_net.proofs.Each.{refill-all, length-each_from}
+use Rattle.cec_net.specs.Step.{devices_after, device_after, is_contended}
+use Rattle.cec_net.specs.Sound.{IsSound}
+use Rattle.cec_wire.specs.Round.{close_in}
 
 -- ---- the line is low at the begin
 
@@ -267,3 +271,19 @@ progress s begin o sparse later next wave round = by_cause (least_start s.rest s
           | inl lt ↦ by_pulse p ps b (omega arith)
           | inr ge ↦ by_device (a ∙ ap Some (let f : t ≡ begin = omega arith in f))
         ]
+
+-- the same of the values that the round was run with
+pub progress-after : (s t : NetState) (seats : List Seat) (begin : ℕ) (o : Outcome) (ys : List State) (ps sparse : List Stretch) (close : ℕ) → IsSound s → s ≡ t
+    → next_start s ≡ Some begin → AreSparse sparse → sparse ≡ s.pulses → IsWave o.wave → seats ≡ seats_of s begin → IsRound seats begin s.pulses o
+    → ys ≡ devices_after s.rest begin o s.devices → ps ≡ filter (λ p. nat_lt o.rest p.from) s.pulses → close ≡ close_in o
+    → IsProgress t begin (record { tree = s.tree; devices = refill (length s.devices) s.devices ys; pulses = ps; close = close; rest = o.rest })
+progress-after s t seats begin o ys ps sparse close h e next apart same wave sat round y p c =
+    let Sparse : List Stretch → Type 0 = AreSparse in
+    let Rounds : List Seat → Type 0 = λ x. IsRound x begin s.pulses o in
+    let after = λ (number : ℕ) (d : State). device_after (contends s.rest begin d) (is_contended s.rest begin s.devices) o number d in
+    let whole : refill (length s.devices) s.devices ys ≡ devices_after s.rest begin o s.devices = refill-all s.devices ys (ap length y ∙ length-each_from 0 after s.devices) ∙ y in
+    let new : NetState = record { tree = s.tree; devices = refill (length s.devices) s.devices ys; pulses = ps; close = close; rest = o.rest } in
+    let is_after : new ≡ after_round s begin o = (λ i. record { tree = s.tree; devices = whole i; pulses = p i; close = c i; rest = o.rest }) in
+    let From : NetState → Type 0 = λ x. IsProgress x begin new in
+    let To : NetState → Type 0 = λ x. IsProgress s begin x in
+    subst From e (subst To (sym is_after) (progress s begin o (subst Sparse same apart) h.later next wave (subst Rounds sat round)))

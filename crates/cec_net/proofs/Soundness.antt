@@ -2,7 +2,8 @@
 use Rattle.std.proofs.Common.{◌≡◌, ℕ, zero, suc, ◌+◌, ◌-◌, ◌%◌, ◌≤◌, ◌<◌, Bool, true, false, if◌then◌else◌, List, [], ◌∷◌, length, Option, Some, None, refl, sym, ap, ◌∙◌, subst, arith, max, min, nat_lt, Result, Ok, Err}
 use Rattle.std.specs.Prelude.{slice_get, option_and_then, MatchResult}
 use Rattle.std.specs.List.{All, refill, filter}
-use Rattle.std.proofs.lemmas.List.Elements.{All-nil, All-cons, All-filter}
+use Rattle.std.proofs.lemmas.Bool.Decides.{nat_tests}
+use Rattle.std.proofs.lemmas.List.Elements.{All-nil, All-cons, All-filter, filter_passes}
 use Rattle.cec_wave.specs.declared.Stretch.{Stretch}
 use Rattle.cec_device.specs.declared.device.Queued.{Queued}
 use Rattle.cec_device.specs.declared.sending.Fate.{Fate}
@@ -46,6 +47,7 @@ sound-new tree pulses xs ys few early x y =
       closed = omega arith;
       ready = subst Ready (sym same) (ready-rewired 2000000000000 0 tree (loose tree) (omega arith) (ready-loose 2000000000000 tree));
       early = early;
+      later = λ k p l. omega arith;
     })
 
 -- ---- events
@@ -63,6 +65,7 @@ sound-rewired s at tree le same h = record {
   closed = h.closed;
   ready = ready-rewired (max latest s.close) at tree s.devices (omega arith) h.ready;
   early = h.early;
+  later = h.later;
 }
 
 ready-changed_at : (b number : ℕ) (f : State → State) (xs : List State) → ((d : State) → IsReadyBy b d → IsReadyBy b (f d)) → All (IsReadyBy b) xs
@@ -81,6 +84,7 @@ sound-changed s number f step h = record {
   closed = h.closed;
   ready = ready-changed_at (max latest s.close) number f s.devices step h.ready;
   early = h.early;
+  later = h.later;
 }
 
 pub sound-rewritten : (s : NetState) (at : ℕ) (tree : List Node) (ys : List State) → at ≤ 2000000000000 → length tree ≡ length s.tree → IsSound s
@@ -231,6 +235,7 @@ sound-round s begin o h le soon short =
           (λ number d r. ready-device_after (max latest (close_in o)) (contends s.rest begin d) (is_contended s.rest begin s.devices) o number d (omega arith)
           (ready-later (max latest s.close) (max latest (close_in o)) d (omega arith) r)) h.ready;
       early = All-filter (λ p. nat_lt o.rest p.from) (λ p. p.from ≤ latest) s.pulses h.early;
+      later = λ k p l. (let e = filter_passes (λ (q : Stretch). nat_lt o.rest q.from) s.pulses k p l in grind (arith, nat_tests));
     }
 
 pub sound-after : (s : NetState) (seats : List Seat) (begin : ℕ) (o : Outcome) (ys : List State) (ps sparse : List Stretch) (close : ℕ) → IsSound s → s.close ≤ 2000000000000

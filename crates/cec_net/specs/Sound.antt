@@ -21,3 +21,4 @@ pub record IsSound (s : NetState) : Type 0 where
   pub closed : s.close ≤ 2400000000000
   pub ready : All (IsReadyBy (max latest s.close)) s.devices
   pub early : All (λ p. p.from ≤ latest) s.pulses
+  pub later : All (λ p. s.rest ≤ p.from) s.pulses

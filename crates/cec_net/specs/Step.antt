@@ -7,6 +7,8 @@ use Rattle.cec_wire.specs.declared.Fate as wire_fate
 use Rattle.cec_wire.specs.declared.Fate.TheVariants as in_round
 use Rattle.cec_wire.specs.declared.Outcome.{Outcome}
 use Rattle.cec_wire.specs.Round.{IsRound, fate_in, close_in}
+use Rattle.cec_wire.specs.OneOutcome.{SameOutcome}
+use Rattle.cec_wave.specs.Line.{IsWave}
 use Rattle.cec_device.specs.declared.record.Place.{Place}
 use Rattle.cec_device.specs.declared.record.Place.TheVariants.{Off, Polls, Settled}
 use Rattle.cec_device.specs.declared.sending.Fate.{Fate}
@@ -87,3 +89,8 @@ after_round s begin o = record s {
 pub record IsNextRound (before : NetState) (begin : ℕ) (o : Outcome) (after : NetState) : Type 0 where
   pub round : IsRound (seats_of before begin) begin before.pulses o
   pub after_is : after ≡ after_round before begin o
+
+-- Whichever way the next round is found, it tells the same, and leads to the same state.
+abbrev pub OneStep : Type 0
+OneStep = (before : NetState) (begin : ℕ) (o p : Outcome) (after other : NetState) → IsWave o.wave → IsWave p.wave
+    → IsNextRound before begin o after → IsNextRound before begin p other → SameOutcome o p × (after ≡ other)

@@ -5,9 +5,11 @@ mod event;
 mod net;
 mod start;
 mod step;
+#[cfg(test)]
+mod tests;
 mod wiring;
 
 pub use event::{Event, EventError};
 pub use net::Net;
 pub use start::start_is_least;
-pub use step::RoundReport;
+pub use step::{RoundReport, one_step};

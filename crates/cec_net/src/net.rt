@@ -1,5 +1,5 @@
 //! The network between its events and rounds.
-ghost use Rattle.std.specs.Prelude.{◌≡◌, ◌≤◌, ◌<◌, length, slice_get, Some, None, All, MatchResult, MatchOption, option_and_then, option_map};
+ghost use Rattle.std.specs.Prelude.{◌≡◌, ◌≤◌, ◌<◌, length, slice_get, Some, None, All, MatchResult, MatchOption, IfSome, option_and_then, option_map};
 
 use crate::event::{Event, EventError};
 use crate::start::{first_onset, least_start, sooner};
@@ -184,15 +184,17 @@ impl<W> Net<W> {
 impl<W: Wire> Net<W> {
     ghost use Rattle.cec_net.specs.State.{next_start};
     ghost use Rattle.cec_net.specs.Step.{IsNextRound};
+    ghost use Rattle.cec_net.specs.Progress.{IsProgress};
 
     /// Runs the next round to its close, which is at most 2,000,000,000,000 for the round before. Each device then
     /// follows the frame that was read, and learns what became of its own. None, and nothing changes, where there
     /// is no next start.
     pub fn round(&mut self) -> Option<RoundReport>
         requires { self.old.close ≤ 2000000000000 }
-        ensures { MatchOption result
+        ensures step { MatchOption result
             ((next_start self.old ≡ None) × (self.new ≡ self.old))
             (λ report. (next_start self.old ≡ Some report.begin) × IsNextRound self.old report.begin report.outcome self.new) }
+        ensures progress { IfSome result (λ report. IsProgress self.old report.begin self.new) }
     {
         let begin = sooner(
             least_start(&self.devices, self.rest),
@@ -200,6 +202,8 @@ impl<W: Wire> Net<W> {
         )?;
         let seats = seats_of(&self.devices, self.rest, begin);
         let outcome = self.wire.round(&seats, begin, &self.pulses);
+        // They come in order: the round rests with the last of them that its reading has.
+        let _stretches = outcome.wave.as_slice();
         end_round(&mut self.devices, self.rest, begin, &outcome);
         self.pulses.drop_until(outcome.rest);
         self.close = outcome.close();

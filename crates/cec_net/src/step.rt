@@ -4,7 +4,7 @@ ghost use Rattle.std.specs.List.{list_any};
 ghost use Rattle.cec_device.specs.Place.{front_of};
 ghost use Rattle.cec_net.specs.Start.{contends};
 ghost use Rattle.cec_net.specs.Sound.{IsReadyBy};
-ghost use Rattle.cec_net.specs.Step.{held_at, seat_of, fate_told, is_among, followed_unless, told, device_after, is_contended, devices_after};
+ghost use Rattle.cec_net.specs.Step.{held_at, seat_of, fate_told, is_among, followed_unless, told, device_after, is_contended, devices_after, OneStep};
 
 use crate::start::start_of;
 use crate::wiring::DEVICES;
@@ -158,3 +158,8 @@ pub(crate) fn end_round(devices: &mut [Device<16>], rest: u64, begin: u64, outco
         end_at(device, own, others, outcome, number);
     }
 }
+
+/// The next round tells the same, and leads to the same state, over whichever wire it is run.
+pub fn one_step()
+    ensures { OneStep }
+{}
