@@ -19,7 +19,7 @@ high_before from (s ∷ ss) w t h =
     let c : covers s t ≡ false = grind (arith, nat_tests) in
     rw c (high_before (s.to + 1) ss w.2 t (omega arith))
 
-covers_own : (s : Stretch) (t : ℕ) → s.from ≤ t → t < s.to → covers s t ≡ true
+pub covers_own : (s : Stretch) (t : ℕ) → s.from ≤ t → t < s.to → covers s t ≡ true
 covers_own s t h k = grind (arith, nat_tests)
 
 covers_not_before : (s : Stretch) (t : ℕ) → t < s.from → covers s t ≡ false

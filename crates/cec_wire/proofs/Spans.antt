@@ -120,7 +120,7 @@ spans_on low e left bits bits2 h (Next f) q d ih =
       short = r.short;
     }
 
-spans : (low : Line) (left : ℕ) (bits : List Bool) (e : ℕ) → is_fall low e ≡ true → Spans low e (read_slots low left bits e)
+pub spans : (low : Line) (left : ℕ) (bits : List Bool) (e : ℕ) → is_fall low e ≡ true → Spans low e (read_slots low left bits e)
 unfolding read_slots
 spans low zero bits e h = record { begun = omega arith; spaced = tt; told = tt; falls = tt; short = λ s. cc }
 spans low (suc left) bits e h =
