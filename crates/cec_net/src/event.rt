@@ -29,6 +29,37 @@ pub enum Event {
     },
 }
 
+impl Event {
+    ghost use Rattle.std.specs.Prelude.{◌≡◌};
+
+    /// The same event again.
+    pub fn copy(&self) -> Self
+        ensures { result ≡ self.now }
+    {
+        match self {
+            Event::Plug {
+                child,
+                parent,
+                port,
+            } => Event::Plug {
+                child: *child,
+                parent: *parent,
+                port: *port,
+            },
+            Event::Unplug { child } => Event::Unplug { child: *child },
+            Event::Key { device, key, press } => Event::Key {
+                device: *device,
+                key: *key,
+                press: *press,
+            },
+            Event::Send { device, frame } => Event::Send {
+                device: *device,
+                frame: frame.copy(),
+            },
+        }
+    }
+}
+
 /// Why an event is refused.
 #[derive(Clone, Copy, PartialEq, Eq)]
 pub enum EventError {

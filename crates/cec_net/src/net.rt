@@ -85,6 +85,13 @@ impl<W> Net<W> {
         &self.devices[number]
     }
 
+    /// The devices, by their numbers.
+    pub fn devices(&self) -> &[Device<16>]
+        ensures { result.now ≡ self.now.devices }
+    {
+        &self.devices
+    }
+
     /// The tree of the devices.
     pub fn tree(&self) -> &Tree<15>
         ensures { result.now ≡ self.now.tree }

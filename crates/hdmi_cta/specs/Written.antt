@@ -16,3 +16,8 @@ Written old new was is text (Err fault) = WrittenFront old new is text fault × 
 abbrev pub WrittenAll : Option (List ℕ) → Option (List ℕ) → Bool → Bool → List ℕ → Result (Unit {0}) WriteFault → Type 0
 WrittenAll old new was is text (Ok n) = Appends old new text × (is ≡ was)
 WrittenAll old new was is text (Err fault) = WrittenFront old new is text fault
+
+-- a line is written whole, and its length answered, or its front up to a fault
+abbrev pub WrittenLine : Option (List ℕ) → Option (List ℕ) → Bool → Bool → List ℕ → Result ℕ WriteFault → Type 0
+WrittenLine old new was is text (Ok n) = (n ≡ length text) × Appends old new text × (is ≡ was)
+WrittenLine old new was is text (Err fault) = WrittenFront old new is text fault

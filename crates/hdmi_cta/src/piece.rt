@@ -3,7 +3,7 @@ ghost use Rattle.std.specs.Prelude.{◌≡◌, ℕ, ◌+◌, ◌*◌, ◌^◌, �
 ghost use Rattle.std.specs.Fmt.{decimal};
 ghost use Rattle.std.specs.List.{flat_map};
 ghost use Rattle.hdmi_cta.specs.Piece.{dash_or, hex_text, nibble_text, phys_text, piece_text};
-ghost use Rattle.hdmi_cta.specs.Written.{Written, WrittenAll};
+ghost use Rattle.hdmi_cta.specs.Written.{Written, WrittenLine};
 ghost use Rattle.arrayvec.specs.ArrayVec.{array_vec_len};
 
 use crate::phys::Phys;
@@ -159,9 +159,9 @@ fn put_piece<S: Sink>(out: &mut S, piece: &Piece) -> Result<u64, WriteFault>
     }
 }
 
-/// Writes a line part by part.
-pub fn write_pieces<S: Sink>(out: &mut S, pieces: &[Piece]) -> Result<(), WriteFault>
-    ensures { WrittenAll (S.contents out.old) (S.contents out.new) (S.is_stuck out.old) (S.is_stuck out.new) (flat_map piece_text pieces.now) result }
+/// Writes a line part by part, and answers its length.
+pub fn write_pieces<S: Sink>(out: &mut S, pieces: &[Piece]) -> Result<u128, WriteFault>
+    ensures { WrittenLine (S.contents out.old) (S.contents out.new) (S.is_stuck out.old) (S.is_stuck out.new) (flat_map piece_text pieces.now) result }
 {
     let mut written = 0u128;
     for piece in pieces {
@@ -174,7 +174,7 @@ pub fn write_pieces<S: Sink>(out: &mut S, pieces: &[Piece]) -> Result<(), WriteF
             }
         }
     }
-    Ok(())
+    Ok(written)
 }
 
 // A line that is being made of its parts. It takes bytes as long as there is room.
@@ -201,16 +201,19 @@ impl Sink for LineBuffer {
 }
 
 /// Writes a line made of these parts, as one `put` where the sink takes it and it is no longer than 768
-/// bytes.
-pub fn write_line<S: Sink>(out: &mut S, pieces: &[Piece]) -> Result<(), WriteFault>
-    ensures { WrittenAll (S.contents out.old) (S.contents out.new) (S.is_stuck out.old) (S.is_stuck out.new) (flat_map piece_text pieces.now) result }
+/// bytes. Answers its length.
+pub fn write_line<S: Sink>(out: &mut S, pieces: &[Piece]) -> Result<u128, WriteFault>
+    ensures { WrittenLine (S.contents out.old) (S.contents out.new) (S.is_stuck out.old) (S.is_stuck out.new) (flat_map piece_text pieces.now) result }
 {
     let mut line = LineBuffer {
         bytes: ArrayVec::new(),
         stuck: false,
     };
     match write_pieces(&mut line, pieces) {
-        Ok(()) => put_all(out, &line.bytes),
+        Ok(length) => {
+            put_all(out, &line.bytes)?;
+            Ok(length)
+        }
         Err(_) => write_pieces(out, pieces),
     }
 }

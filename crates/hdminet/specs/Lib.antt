@@ -1,0 +1,4 @@
+pub mod StateText
+pub mod TraceText
+pub mod Cut
+pub mod Run

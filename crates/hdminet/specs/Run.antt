@@ -1,0 +1,123 @@
+-- A run, and its trace (own): the next event or the next round, again and again, until neither comes before
+-- the end.
+use Rattle.std.specs.Prelude.{◌≡◌, ℕ, zero, suc, Bool, true, false, ◌+◌, max, nat_lt, nat_le, if◌then◌else◌, List, [], ◌∷◌, ◌++◌, Option, Some, None, Result, ◌≤◌, All}
+use Rattle.std.specs.List.{flat_map}
+use Rattle.cec_wave.specs.declared.Stretch.{Stretch}
+use Rattle.cec_wave.specs.Line.{IsWave}
+use Rattle.cec_wire.specs.declared.Outcome.{Outcome}
+use Rattle.cec_net.specs.State.{NetState, next_start}
+use Rattle.cec_net.specs.Apply.{applied, event_fault}
+use Rattle.cec_net.specs.Step.{IsNextRound}
+use Rattle.cec_net.specs.declared.event.EventError.{EventError}
+use Rattle.hdmi_cta.specs.declared.sink.WriteFault.{WriteFault}
+use Rattle.hdmi_cta.specs.Written.{WrittenLine}
+use Rattle.cec_asm.specs.declared.script.TimedEvent.{TimedEvent}
+use Rattle.hdminet.specs.declared.run.Totals.{Totals}
+use Rattle.hdminet.specs.declared.run.Turn.{Turn}
+use Rattle.hdminet.specs.declared.run.Turn.TheVariants.{Stop, Apply, Round}
+use Rattle.hdminet.specs.StateText.{state_line}
+use Rattle.hdminet.specs.TraceText.{event_line, is_complete, round_line, end_line}
+
+-- where a run stands: the network, the events that are left, and what is counted so far
+pub record Config : Type 0 where
+  pub net : NetState
+  pub events : List TimedEvent
+  pub totals : Totals
+
+-- a run begins with all its events
+abbrev pub start : NetState → List TimedEvent → Config
+start net events = record { net = net; events = events; totals = record { rounds = 0; complete = 0; refused = 0 } }
+
+-- the pulses begin where the line is high again, or later
+abbrev pub ComeLater : ℕ → List Stretch → Type 0
+ComeLater rest pulses = All (λ p. rest ≤ p.from) pulses
+
+-- ---- what comes next
+
+-- there is no next round, or it does not begin before this
+abbrev pub is_by : ℕ → Option ℕ → Bool
+is_by at None = true
+is_by at (Some begin) = nat_le at begin
+
+abbrev pub round_turn : ℕ → Option ℕ → Turn
+round_turn end None = Stop
+round_turn end (Some begin) = if nat_lt begin end then Round begin else Stop
+
+abbrev pub event_turn : ℕ → ℕ → Turn
+event_turn end at = if nat_lt at end then Apply at else Stop
+
+-- An event comes at its time, but not before the last round has closed, and before a round that begins then.
+-- Nothing comes at the end or after it.
+abbrev pub turn_of : ℕ → NetState → Option ℕ → Turn
+turn_of end s None = round_turn end (next_start s)
+turn_of end s (Some time) = if is_by (max s.close time) (next_start s) then event_turn end (max s.close time) else round_turn end (next_start s)
+
+-- the time of the next event
+abbrev pub first_time : List TimedEvent → Option ℕ
+first_time [] = None
+first_time (e ∷ events) = Some e.at
+
+abbrev pub turn_at : ℕ → Config → Turn
+turn_at end c = turn_of end c.net (first_time c.events)
+
+-- ---- one turn, and its lines
+
+abbrev pub counted_event : Option EventError → Totals → Totals
+counted_event None t = t
+counted_event (Some error) t = record t { refused = t.refused + 1 }
+
+abbrev pub counted_round : Bool → Totals → Totals
+counted_round true t = record t { rounds = t.rounds + 1; complete = t.complete + 1 }
+counted_round false t = record t { rounds = t.rounds + 1 }
+
+abbrev pub IsEventTurn : ℕ → List TimedEvent → Config → List ℕ → Config → Type 0
+IsEventTurn at [] c line d = (line ≡ []) × (d ≡ c)
+IsEventTurn at (e ∷ events) c line d =
+    (line ≡ event_line at e.line (event_fault c.net e.event))
+    × (d ≡ record { net = applied at e.event c.net; events = events; totals = counted_event (event_fault c.net e.event) c.totals })
+
+-- the round begins then, gives some outcome, and its line tells that outcome
+pub record IsRoundTurn (begin : ℕ) (before : NetState) (t : Totals) (line : List ℕ) (after : NetState) (u : Totals) : Type 0 where
+  pub outcome : Outcome
+  pub wave : IsWave outcome.wave
+  pub next : IsNextRound before begin outcome after
+  pub told : line ≡ round_line after.devices outcome
+  pub totals : u ≡ counted_round (is_complete outcome.reading.ending) t
+
+abbrev pub IsTurnBy : Turn → Config → List ℕ → Config → Type 0
+IsTurnBy Stop c line d = ⊥
+IsTurnBy (Apply at) c line d = IsEventTurn at c.events c line d
+IsTurnBy (Round begin) c line d = IsRoundTurn begin c.net c.totals line d.net d.totals × (d.events ≡ c.events)
+
+abbrev pub IsTurn : ℕ → Config → List ℕ → Config → Type 0
+IsTurn end c line d = IsTurnBy (turn_at end c) c line d
+
+-- ---- the whole run
+
+-- one turn after another, and their lines one after another
+abbrev pub Leads : ℕ → ℕ → Config → List ℕ → Config → Type 0
+Leads end zero c text d = (text ≡ []) × (d ≡ c)
+Leads end (suc turns) c text d =
+    (mid : Config) × (line : List ℕ) × (rest : List ℕ) × IsTurn end c line mid × Leads end turns mid rest d × (text ≡ line ++ rest)
+
+-- the lines of the turns up to where the run stops, a state line for each device, and the last line
+pub record IsTrace (end : ℕ) (c : Config) (text : List ℕ) (totals : Totals) : Type 0 where
+  pub turns : ℕ
+  pub last : Config
+  pub body : List ℕ
+  pub leads : Leads end turns c body last
+  pub stops : turn_at end last ≡ Stop
+  pub whole : text ≡ body ++ (flat_map state_line last.net.devices ++ end_line end)
+  pub counts : totals ≡ last.totals
+
+-- a run has one trace
+abbrev pub OneTrace : Type 0
+OneTrace = (end : ℕ) (c : Config) (x y : List ℕ) (s t : Totals) → IsTrace end c x s → IsTrace end c y t → (x ≡ y) × (s ≡ t)
+
+-- a round was run from one state to the next, and its line written
+pub record RoundWritten (before after : NetState) (t u : Totals) (old new : Option (List ℕ)) (was is : Bool) (result : Result ℕ WriteFault) : Type 0 where
+  pub begin : ℕ
+  pub line : List ℕ
+  pub begins : next_start before ≡ Some begin
+  pub turn : IsRoundTurn begin before t line after u
+  pub written : WrittenLine old new was is line result
