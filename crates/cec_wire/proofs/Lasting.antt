@@ -163,8 +163,7 @@ low_at_begin seats begin pulses low sparse c tells h =
 pub rounds_last : RoundsLast
 rounds_last seats begin pulses o sparse wave round begun =
     let b = begun_by (line_of o.wave) begin (start_of (line_of o.wave) begin) refl in
-    let low : line_of o.wave begin ≡ true = low_at_begin seats begin pulses (line_of o.wave) sparse (contended seats begin pulses (line_of o.wave) round.line) b.tells begun in
-    (
+    let low : line_of o.wave begin ≡ true = low_at_begin seats begin pulses (line_of o.wave) sparse (contended seats begin pulses (line_of o.wave) round.line) b.tells begun in (
       subst (λ n. begin < n) (sym round.rest) (rest_past (reading_of (line_of o.wave) begin).until begin 0 0 o.wave wave b.goes low),
       subst (λ n. begin < n) (sym round.ends) b.ends,
     )

@@ -9,5 +9,5 @@ pub returns : goal.returns
 returns c = λ e.
     let text : c.deref.result.now ≡ frame_text c.args.first.now = c.deref.ensures.0 ∙ c.frame_text.ensures in
     one c.args.first.now c.args.second.now c.candidate-only.result
-      (c.candidate-only.ensures c.args.first.now c.frames_are_whole.ensures text)
-      (c.candidate-only.ensures c.args.second.now c.frames_are_whole-2.ensures (text ∙ e))
+    (c.candidate-only.ensures c.args.first.now c.frames_are_whole.ensures text)
+    (c.candidate-only.ensures c.args.second.now c.frames_are_whole-2.ensures (text ∙ e))
