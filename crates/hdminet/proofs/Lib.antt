@@ -1,2 +1,5 @@
 pub mod Turns
 pub mod Cutting
+pub mod Running
+pub mod Advance
+pub mod Accepted

@@ -1,13 +1,13 @@
 -- A run, and its trace (own): the next event or the next round, again and again, until neither comes before
 -- the end.
-use Rattle.std.specs.Prelude.{◌≡◌, ℕ, zero, suc, Bool, true, false, ◌+◌, max, nat_lt, nat_le, if◌then◌else◌, List, [], ◌∷◌, ◌++◌, Option, Some, None, Result, ◌≤◌, All}
+use Rattle.std.specs.Prelude.{◌≡◌, ℕ, zero, suc, Bool, true, false, ◌+◌, max, nat_lt, nat_le, if◌then◌else◌, List, [], ◌∷◌, ◌++◌, Option, Some, None, Result}
 use Rattle.std.specs.List.{flat_map}
-use Rattle.cec_wave.specs.declared.Stretch.{Stretch}
 use Rattle.cec_wave.specs.Line.{IsWave}
 use Rattle.cec_wire.specs.declared.Outcome.{Outcome}
 use Rattle.cec_net.specs.State.{NetState, next_start}
 use Rattle.cec_net.specs.Apply.{applied, event_fault}
 use Rattle.cec_net.specs.Step.{IsNextRound}
+use Rattle.cec_net.specs.Progress.{IsProgress}
 use Rattle.cec_net.specs.declared.event.EventError.{EventError}
 use Rattle.hdmi_cta.specs.declared.sink.WriteFault.{WriteFault}
 use Rattle.hdmi_cta.specs.Written.{WrittenLine}
@@ -27,10 +27,6 @@ pub record Config : Type 0 where
 -- a run begins with all its events
 abbrev pub start : NetState → List TimedEvent → Config
 start net events = record { net = net; events = events; totals = record { rounds = 0; complete = 0; refused = 0 } }
-
--- the pulses begin where the line is high again, or later
-abbrev pub ComeLater : ℕ → List Stretch → Type 0
-ComeLater rest pulses = All (λ p. rest ≤ p.from) pulses
 
 -- ---- what comes next
 
@@ -120,4 +116,5 @@ pub record RoundWritten (before after : NetState) (t u : Totals) (old new : Opti
   pub line : List ℕ
   pub begins : next_start before ≡ Some begin
   pub turn : IsRoundTurn begin before t line after u
+  pub progress : IsProgress before begin after
   pub written : WrittenLine old new was is line result

@@ -1,0 +1,58 @@
+-- What the texts of a topology and a script give.
+use Rattle.std.specs.Prelude.{◌≡◌, ℕ, ◌<◌, Bool, true, false, List, length, take, Option, Some, None, Result, Ok, Err}
+use Rattle.std.specs.Io.KnownBytes.{Appends}
+use Rattle.cec_asm.specs.Topology.{topology_of, Plan}
+use Rattle.cec_asm.specs.Script.{script_of, Course}
+use Rattle.cec_asm.specs.declared.topology.TopologyError.{TopologyError}
+use Rattle.cec_asm.specs.declared.topology.TopologyError.TheVariants as topologies
+use Rattle.cec_asm.specs.declared.script.ScriptError.{ScriptError}
+use Rattle.cec_asm.specs.declared.script.ScriptError.TheVariants as scripts
+use Rattle.cec_net.specs.State.{started}
+use Rattle.hdminet.specs.declared.emulate.EmulateError.{EmulateError}
+use Rattle.hdminet.specs.declared.emulate.EmulateError.TheVariants.{Topology, Script, Edid, Write, Memory}
+use Rattle.hdminet.specs.declared.run.Totals.{Totals}
+use Rattle.hdminet.specs.Cut.{told_count}
+use Rattle.hdminet.specs.Run.{start, IsTrace}
+
+-- the texts spell this topology and this script
+pub record IsAccepted (topology script : List ℕ) (plan : Plan) (course : Course) : Type 0 where
+  pub plan_is : topology_of topology ≡ Ok plan
+  pub course_is : script_of plan.tree script ≡ Ok course
+
+-- the trace of the run that the texts spell, where the topology gives no EDID
+pub record IsTraceOf (topology script text : List ℕ) (totals : Totals) : Type 0 where
+  pub plan : Plan
+  pub course : Course
+  pub accepted : IsAccepted topology script plan course
+  pub bare : plan.edid ≡ None
+  pub trace : IsTrace course.end (start (started plan.tree course.pulses) course.events) text totals
+
+abbrev pub topology_told : TopologyError → EmulateError
+topology_told (topologies.At line cause) = Topology line cause
+topology_told topologies.Memory = Memory
+
+abbrev pub script_told : ScriptError → EmulateError
+script_told (scripts.At line cause) = Script line cause
+script_told scripts.Memory = Memory
+
+-- when each refusal comes: the topology's, then the script's, then the EDID; of memory nothing is said
+abbrev pub IsTold : List ℕ → List ℕ → EmulateError → Type 0
+IsTold topology script (Topology line cause) = topology_of topology ≡ Err (record { line = line; cause = cause })
+IsTold topology script (Script line cause) = (plan : Plan) × (topology_of topology ≡ Ok plan) × (script_of plan.tree script ≡ Err (record { line = line; cause = cause }))
+IsTold topology script Edid = (plan : Plan) × (course : Course) × IsAccepted topology script plan course × (edid : List ℕ) × (plan.edid ≡ Some edid)
+IsTold topology script (Write count) = (plan : Plan) × (course : Course) × IsAccepted topology script plan course × (plan.edid ≡ None)
+IsTold topology script Memory = Unit {0}
+
+abbrev pub is_write : Result Totals EmulateError → Bool
+is_write (Ok totals) = false
+is_write (Err (Write count)) = true
+is_write (Err _) = false
+
+-- what a refusal has written: after a failed write the front of the trace, and else nothing
+abbrev pub IsCut : List ℕ → List ℕ → Option (List ℕ) → Option (List ℕ) → EmulateError → Type 0
+IsCut topology script old new (Write told) = (text : List ℕ) (totals : Totals) → IsTraceOf topology script text totals
+    → (count : ℕ) × (count < length text) × (told ≡ told_count count) × Appends old new (take count text)
+IsCut topology script old new (Topology line cause) = new ≡ old
+IsCut topology script old new (Script line cause) = new ≡ old
+IsCut topology script old new Edid = new ≡ old
+IsCut topology script old new Memory = new ≡ old

@@ -1,0 +1,26 @@
+//! Emulates a living-room HDMI network from texts, and writes its trace.
+#![tactic(auto)]
+
+mod choice;
+mod emulate;
+mod laws;
+mod program;
+mod round_text;
+mod run;
+mod state_text;
+#[cfg(test)]
+mod tests;
+mod trace_text;
+
+use hdmi_cta::Writes;
+use program::program;
+use std::process::ExitCode;
+use std::{env, io};
+
+fn main(rt: HostRuntime) -> io::Result<ExitCode> {
+    let words: Vec<String> = env::args(&rt)?.collect(rt.alloc())?;
+    let mut input = rt.stdin();
+    let mut out = Writes::new(rt.stdout());
+    let mut err = Writes::new(rt.stderr());
+    Ok(ExitCode::from(program(rt.alloc(), words, &mut input, &mut out, &mut err)))
+}

@@ -1,0 +1,152 @@
+//! The program over a reader and two sinks.
+ghost use Rattle.std.specs.Prelude.{◌<◌, length, IfSome};
+
+use crate::choice::{Choice, choose, is_memory};
+use crate::emulate::{EmulateError, emulate};
+use arrayvec::ArrayString;
+use clap::Error as CommandLineError;
+use hdmi_cta::{Sink, put_all};
+use std::alloc::{AllocError, Global};
+use std::fmt::Write;
+use std::io::Read;
+use thiserror::Error;
+
+/// The longest input, in bytes.
+const LIMIT: usize = 1_048_576;
+
+/// Why the program did not do what it was asked.
+#[derive(Debug, Drop, Error)]
+enum Fault {
+    #[error("input too long")]
+    TooLong,
+    #[error("read fault")]
+    Read,
+    #[error("no script line")]
+    NoScriptLine,
+    #[error(transparent)]
+    Emulate(#[from] EmulateError),
+    #[error("no memory")]
+    Memory(#[from(alloc)] AllocError),
+}
+
+impl Fault {
+    // The exit status.
+    fn status(&self) -> u8 {
+        match self {
+            Fault::NoScriptLine => 1,
+            Fault::TooLong | Fault::Read => 3,
+            Fault::Memory(_) => 4,
+            Fault::Emulate(EmulateError::Write(_)) => 3,
+            Fault::Emulate(EmulateError::Memory) => 4,
+            Fault::Emulate(_) => 1,
+        }
+    }
+}
+
+// Reads all there is, up to the limit.
+fn read_input<R: Read>(alloc: Global, input: &mut R) -> Result<Vec<u8>, Fault> {
+    let mut bytes = Vec::new(alloc);
+    let mut buffer = [0u8; 4096];
+    for _ in 0..=LIMIT {
+        match input.read(&mut buffer) {
+            Ok(0) => return Ok(bytes),
+            Ok(count) => bytes.extend_from_slice(&buffer[..count])?,
+            Err(_) => return Err(Fault::Read),
+        }
+        if bytes.len() > LIMIT {
+            return Err(Fault::TooLong);
+        }
+    }
+    Err(Fault::TooLong)
+}
+
+// The first line, and the text after it.
+fn first_line(text: &[u8]) -> Option<(&[u8], &[u8])>
+    ensures { IfSome result (λ parts. length parts.1.now < length text.now) }
+{
+    if text.is_empty() {
+        return None;
+    }
+    match text.iter().position(|byte| *byte == b'\n') {
+        None => Some((text, &[])),
+        Some(end) => Some((&text[..end], &text[end + 1..])),
+    }
+}
+
+// The text before the first line `script`, and the text after it.
+fn parts(text: &[u8]) -> Option<(&[u8], &[u8])> {
+    let mut rest = text;
+    while let Some((line, after)) = first_line(rest) {
+        if line == b"script".as_slice() {
+            return Some((&text[..text.len() - rest.len()], after));
+        }
+        rest = after;
+    }
+    None
+}
+
+fn perform<R: Read, W: Sink>(
+    alloc: Global,
+    choice: Choice,
+    input: &mut R,
+    out: &mut W,
+) -> Result<(), Fault> {
+    let input = read_input(alloc, input)?;
+    match choice {
+        Choice::Run => {
+            let (topology, script) = parts(&input).ok_or(Fault::NoScriptLine)?;
+            emulate(alloc, topology, script, out)?;
+            Ok(())
+        }
+    }
+}
+
+// Tells of a fault, and answers its exit status.
+fn tell<E: Sink>(fault: &Fault, err: &mut E) -> u8 {
+    let mut text = ArrayString::<256>::new();
+    let _ = writeln!(text, "hdminet: {fault}");
+    let _ = put_all(err, text.as_bytes());
+    fault.status()
+}
+
+// Shows why a command line is refused, or the help that it asks for. Answers the exit status.
+fn show_refused<W: Sink, E: Sink>(
+    alloc: Global,
+    refused: &CommandLineError,
+    out: &mut W,
+    err: &mut E,
+) -> u8 {
+    if is_memory(refused) {
+        return tell(&Fault::Memory(AllocError), err);
+    }
+    let Ok(text) = format!(in alloc; "{refused}") else {
+        return tell(&Fault::Memory(AllocError), err);
+    };
+    if refused.use_stderr() {
+        let _ = put_all(err, text.as_bytes());
+        return 2;
+    }
+    match put_all(out, text.as_bytes()) {
+        Ok(()) => 0,
+        Err(fault) => tell(&Fault::Emulate(EmulateError::Write(fault.count)), err),
+    }
+}
+
+/// The whole program. `words` has the program's name first. It answers the exit status: 0 done, 1 input
+/// refused, 2 command line refused, 3 a read or write fault or input past its limit, 4 no memory.
+pub fn program<R: Read, W: Sink, E: Sink>(
+    alloc: Global,
+    words: Vec<String>,
+    input: &mut R,
+    out: &mut W,
+    err: &mut E,
+) -> u8 {
+    let choice = match choose(alloc, &words) {
+        Ok(choice) => choice,
+        Err(refused) => return show_refused(alloc, &refused, out, err),
+    };
+    match perform(alloc, choice, input, out) {
+        Ok(()) => 0,
+        Err(fault) => tell(&fault, err),
+    }
+}
