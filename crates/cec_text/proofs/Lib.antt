@@ -5,3 +5,5 @@ pub mod NameLemmas
 pub mod Spelled
 pub mod Shapes
 pub mod Whole
+pub mod LineLemmas
+pub mod FrameLineLemmas

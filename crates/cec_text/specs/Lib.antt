@@ -4,3 +4,5 @@ pub mod OperandForms
 pub mod FrameText
 pub mod FrameReading
 pub mod Refusals
+pub mod Lines
+pub mod FrameLines
