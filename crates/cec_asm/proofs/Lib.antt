@@ -1,2 +1,2 @@
-pub mod LineLemmas
+pub mod WordLemmas
 pub mod ScriptLemmas

@@ -1,4 +1,4 @@
-pub mod Lines
+pub mod Words
 pub mod Number
 pub mod Topology
 pub mod Script

@@ -8,7 +8,8 @@ use Rattle.cec_device.specs.declared.keys.Key.{Key as KeyValue}
 use Rattle.cec_device.specs.declared.keys.Key.TheVariants as keys
 use Rattle.hdmi_topo.specs.Node.{Node}
 use Rattle.hdmi_topo.specs.Tree.{device_named}
-use Rattle.cec_asm.specs.Lines.{lines_of, words_of, is_skipped, one_of, two_of, three_of}
+use Rattle.cec_text.specs.Lines.{lines_of, is_skipped}
+use Rattle.cec_asm.specs.Words.{words_of, one_of, two_of, three_of}
 use Rattle.cec_asm.specs.Number.{number_of}
 use Rattle.cec_net.specs.declared.event.Event.{Event}
 use Rattle.cec_net.specs.declared.event.Event.TheVariants.{Plug, Unplug, Key, Send}

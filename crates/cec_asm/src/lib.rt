@@ -1,10 +1,10 @@
 //! The texts that a network is described by: frames, topologies and scripts.
 #![tactic(auto)]
 
-mod lines;
 mod number;
 mod script;
 mod topology;
+mod words;
 
 pub use cec_text::{AssembleError, WordSet, assemble, frame_text, write_frame};
 pub use script::{Script, ScriptCause, ScriptError, TimedEvent, parse_script};

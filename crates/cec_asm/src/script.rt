@@ -1,14 +1,15 @@
 //! Scripts and their texts.
 ghost use Rattle.std.specs.Prelude.{◌≡◌, ℕ, ◌+◌, ◌<◌, ◌≤◌, List, [], ◌∷◌, ◌++◌, length, Result, Ok, Err, Some, IfOk, IfSome, OnOk};
 ghost use Rattle.std.specs.Option.{option_copied};
-ghost use Rattle.cec_asm.specs.Lines.{words_behind, one_of, two_of, three_of};
+ghost use Rattle.cec_asm.specs.Words.{words_behind, one_of, two_of, three_of};
 ghost use Rattle.cec_asm.specs.Script.{Notes, notes_of, course_of, key_named, time_of, last_time, scheduled, plug_words, unplug_words, press_words, end_words, event_words, at_words, line_read, script_of, error_at, GivesNotes, GivesScript, IsScript};
 
-use crate::lines::{first_line, first_word, is_skipped, one_word, three_words, two_words};
 use crate::number::number_in;
 use crate::topology::Topology;
+use crate::words::{first_word, one_word, three_words, two_words};
 use cec_device::Key;
 use cec_net::Event;
+use cec_text::{first_line, is_skipped};
 use cec_wave::pulses::Pulses;
 use hdmi_topo::Tree;
 use std::alloc::{AllocFailed, Global};

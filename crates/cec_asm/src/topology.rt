@@ -1,11 +1,12 @@
 //! Topologies and their texts.
 ghost use Rattle.std.specs.Prelude.{◌≡◌, ℕ, ◌+◌, ◌<◌, List, [], ◌∷◌, ◌++◌, Result, Ok, Err, Some};
 ghost use Rattle.std.specs.Option.{option_copied};
-ghost use Rattle.cec_asm.specs.Lines.{words_behind, one_of, three_of};
+ghost use Rattle.cec_asm.specs.Words.{words_behind, one_of, three_of};
 ghost use Rattle.cec_asm.specs.Topology.{Plan, plan_of, kind_named, device_line, plug_line, edid_line, line_read, topology_of, error_at, GivesLine, GivesTopology};
 
-use crate::lines::{first_line, first_word, is_skipped, one_word, three_words};
 use crate::number::number_in;
+use crate::words::{first_word, one_word, three_words};
+use cec_text::{first_line, is_skipped};
 use hdmi_cta::Kind;
 use hdmi_topo::{AddError, PlugError, Tree, is_name};
 use hex::FromHexError;

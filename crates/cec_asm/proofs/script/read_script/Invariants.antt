@@ -1,5 +1,5 @@
 use Rattle.std.proofs.Common.{◌≡◌, ◌+◌, ◌≤◌, length}
-use Rattle.cec_asm.specs.Lines.{lines_of}
+use Rattle.cec_text.specs.Lines.{lines_of}
 use Rattle.cec_asm.specs.Script.{lines_read, script_of, notes_of}
 use Rattle.cec_asm.proofs.script.read_script.Given as goal
 

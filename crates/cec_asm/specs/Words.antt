@@ -1,16 +1,6 @@
--- Lines of a text and words of a line (own).
-use Rattle.std.specs.Prelude.{ℕ, ◌==◌, ◌||◌, Bool, if◌then◌else◌, List, [], ◌∷◌, length, slice_index, Option, Some, None}
+-- Words of a line (own).
+use Rattle.std.specs.Prelude.{ℕ, ◌==◌, List, [], ◌∷◌, Option, Some, None}
 use Rattle.std.specs.List.{slice_split}
-
--- the parts, but for an empty last one
-abbrev pub without_empty_end : List (List ℕ) → List (List ℕ)
-without_empty_end [] = []
-without_empty_end (part ∷ []) = if length part == 0 then [] else part ∷ []
-without_empty_end (part ∷ next ∷ parts) = part ∷ without_empty_end (next ∷ parts)
-
--- the lines of a text, each ended by 0A; the last may lack it
-abbrev pub lines_of : List ℕ → List (List ℕ)
-lines_of text = without_empty_end (slice_split (λ b. b == 10) text)
 
 -- the words of a line, one space apart
 abbrev pub words_of : List ℕ → List (List ℕ)
@@ -20,10 +10,6 @@ words_of line = slice_split (λ b. b == 32) line
 abbrev pub words_behind : Option (List ℕ) → List (List ℕ)
 words_behind None = []
 words_behind (Some rest) = words_of rest
-
--- a line without a meaning: empty, or begun by `#`
-abbrev pub is_skipped : List ℕ → Bool
-is_skipped line = (length line == 0) || (slice_index line 0 == 35)
 
 -- the words, where they are so many
 abbrev pub one_of : List (List ℕ) → Option (List ℕ)
