@@ -108,8 +108,8 @@ count_fits e =
 
 pub not_refused : (e : Edid) (cause : EdidError) → IsRefused (edid_bytes e) cause → ⊥
 not_refused e Length h = h (length_fits e)
-not_refused e Count h = h.1 (count_fits e)
-not_refused e (OfBase cause) h = let none = ap refusal (take_base e) ∙ accepted e.base in let some = h.2 in cc
+not_refused e Count h = h.2 (count_fits e)
+not_refused e (OfBase cause) h = let none = ap refusal (take_base e) ∙ accepted e.base in let some = h.1 in cc
 not_refused e (OfExt i cause) h = h.4 (ap (λ xs. sum xs % 256) (drop_base e) ∙ exts_sum e.ext)
 
 pub only : (bytes : List ℕ) (r : Result Edid EdidError) → IfOk r (λ e. edid_bytes e ≡ bytes) → IfErr r (λ c. IsRefused bytes c)

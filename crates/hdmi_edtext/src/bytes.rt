@@ -8,6 +8,7 @@ use crate::edid::Edid;
 use arrayvec::ArrayVec;
 use hdmi_cta::{ExtError, read_ext, write_ext};
 use hdmi_edid::{BaseError, read_base, write_base};
+use std::fmt::{self, Write};
 
 /// Why some bytes are no EDID.
 #[derive(Clone, Copy, Debug, PartialEq, Eq)]
@@ -22,6 +23,25 @@ pub enum EdidError {
     Ext(u8, ExtError),
 }
 
+impl fmt::Display for EdidError {
+    ghost use Rattle.std.specs.Prelude.{Some};
+    ghost use Rattle.hdmi_edtext.specs.Bytes.{edid_cause};
+
+    ghost output = { λ error. Some (edid_cause error) };
+
+    fn fmt<W: Write>(&self, f: &mut fmt::Formatter<W>) -> fmt::Result {
+        match self {
+            EdidError::Length => f.write_str("length"),
+            EdidError::Count => f.write_str("count"),
+            EdidError::Base(BaseError::Header) => f.write_str("base header"),
+            EdidError::Base(BaseError::Checksum) => f.write_str("base checksum"),
+            EdidError::Base(BaseError::Revision) => f.write_str("base revision"),
+            EdidError::Base(BaseError::Maker) => f.write_str("base maker"),
+            EdidError::Ext(number, ExtError::Checksum) => write!(f, "ext {number} checksum"),
+        }
+    }
+}
+
 /// The 128 bytes from a place on.
 fn block_at(bytes: &[u8], at: usize) -> [u8; 128]
     requires { at + 128 ≤ length bytes.now }
@@ -31,7 +51,7 @@ fn block_at(bytes: &[u8], at: usize) -> [u8; 128]
 }
 
 /// The EDID that 128 or 256 bytes spell, or the first reason why they spell none: their length,
-/// the number of extensions, the base block, the extension (E-EDID Release A, section 2.2.1).
+/// the base block, the number of extensions, the extension (E-EDID Release A, section 2.2.1).
 pub fn edid_from_bytes(bytes: &[u8]) -> Result<Edid, EdidError>
     ensures found { IfOk result (λ e. edid_bytes e ≡ bytes.now) }
     ensures only { (e : EdidValue) → bytes.now ≡ edid_bytes e → result ≡ Ok e }
@@ -48,13 +68,13 @@ fn read_blocks(bytes: &[u8]) -> Result<Edid, EdidError>
     if bytes.len() != 128 && bytes.len() != 256 {
         return Err(EdidError::Length);
     }
-    if usize::from(bytes[126]) * 128 + 128 != bytes.len() {
-        return Err(EdidError::Count);
-    }
     let base = match read_base(&block_at(bytes, 0)) {
         Err(cause) => return Err(EdidError::Base(cause)),
         Ok(base) => base,
     };
+    if usize::from(bytes[126]) * 128 + 128 != bytes.len() {
+        return Err(EdidError::Count);
+    }
     if bytes.len() == 128 {
         return Ok(Edid { base, ext: None });
     }

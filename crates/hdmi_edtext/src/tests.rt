@@ -1,5 +1,6 @@
 use crate::{EdidError, TextError, edid_from_bytes, edid_to_bytes, parse_text, write_text};
 use hdmi_cta::{ExtError, Writes};
+use hdmi_edid::BaseError;
 use std::test::Fail;
 
 /// A base block with one extension to follow.
@@ -49,6 +50,15 @@ fn refuses_wrong_lengths_counts_and_sums(rt: HostRuntime) -> Result<(), Fail> {
     assert!(rt; matches!(edid_from_bytes(short), Err(EdidError::Length)));
     let first = all.get(..128).ok_or("no block")?;
     assert!(rt; matches!(edid_from_bytes(first), Err(EdidError::Count)));
+    let mut wrong = Vec::new(rt.alloc());
+    wrong.extend_from_slice(all.get(..127).ok_or("no bytes")?)?;
+    wrong.push(0x52)?;
+    assert!(rt;
+        matches!(
+            edid_from_bytes(&wrong),
+            Err(EdidError::Base(BaseError::Checksum))
+        )
+    );
     let _ = bytes.pop();
     bytes.push(0xe9)?;
     assert!(rt;
@@ -57,6 +67,22 @@ fn refuses_wrong_lengths_counts_and_sums(rt: HostRuntime) -> Result<(), Fail> {
             Err(EdidError::Ext(1, ExtError::Checksum))
         )
     );
+    Ok(())
+}
+
+#[test]
+fn tells_refusals_in_words(rt: HostRuntime) -> Result<(), Fail> {
+    for (error, words) in [
+        (EdidError::Length, "length"),
+        (EdidError::Count, "count"),
+        (EdidError::Base(BaseError::Header), "base header"),
+        (EdidError::Base(BaseError::Checksum), "base checksum"),
+        (EdidError::Base(BaseError::Revision), "base revision"),
+        (EdidError::Base(BaseError::Maker), "base maker"),
+        (EdidError::Ext(1, ExtError::Checksum), "ext 1 checksum"),
+    ] {
+        assert_eq!(rt; format!(in rt.alloc(); "{error}")?.as_str(), words);
+    }
     Ok(())
 }
 

@@ -1,8 +1,9 @@
-use Rattle.std.proofs.Common.{◌≡◌, ◌+◌, ◌*◌, ◌%◌, ℕ, length, get_or, take, drop, sum, refl, inr, Some, None, arith, sym, ◌∙◌, ap}
+use Rattle.std.proofs.Common.{◌≡◌, ◌+◌, ◌*◌, ◌%◌, ℕ, length, get_or, take, drop, sum, refl, inl, inr, Some, None, arith, sym, ◌∙◌, ap}
 use Rattle.hdmi_edid.specs.Base.{base_bytes}
 use Rattle.hdmi_edid.specs.Refusals.{refusal}
 use Rattle.hdmi_edid.proofs.Accepted.{accepted}
 use Rattle.hdmi_cta.specs.Ext.{ext_bytes}
+use Rattle.hdmi_edtext.specs.Bytes.{HasLength, HasCount}
 use Rattle.hdmi_edtext.proofs.OneEdid.{count_read, one_block, two_blocks, second_sum}
 use Rattle.hdmi_edtext.proofs.bytes.read_blocks.Goals as goal
 use Rattle.hdmi_edtext.proofs.bytes.read_blocks.Goals.{else-bytes-ne128-via-then-bytes-ne128+else-bytes-ne256, else-bytes-ne128-via-else-bytes-ne128}
@@ -15,6 +16,14 @@ invariant_of-result c =
     let from = c.from.ensures in
     let len = c.if-bytes-eq128.true in
     record { counted = omega (arith, count, test, from, len) }
+
+pub returns-then-from-bytes-clause-refused : goal.returns-then-from-bytes-clause-refused
+returns-then-from-bytes-clause-refused c =
+    let len : HasLength c.args.bytes.now = elim c.else-bytes-ne128.branch [ else-bytes-ne128-via-then-bytes-ne128+else-bytes-ne256 w ↦ inr (omega arith) | else-bytes-ne128-via-else-bytes-ne128 w ↦ inl (omega arith) ] in
+    let front : base_bytes c.in-Ok.base ≡ take 128 (drop 0 c.args.bytes.now) = c.in-Ok.ensures.found ∙ c.block_at.ensures in
+    let test = c.if-from-bytes.true in
+    let from = c.from.ensures in
+    (len, sym (ap refusal front) ∙ accepted c.in-Ok.base, λ (h : HasCount c.args.bytes.now). omega (arith, test, from, h))
 
 pub returns-then-bytes-eq128-clause-found : goal.returns-then-bytes-eq128-clause-found
 returns-then-bytes-eq128-clause-found c = one_block c.in-Ok.base c.args.bytes.now c.if-bytes-eq128.true (c.in-Ok.ensures.found ∙ c.block_at.ensures)
@@ -35,8 +44,8 @@ returns-in-Err-read_ext-clause-refused c =
     let test = c.if-from-bytes.false in
     let from = c.from.ensures in (
       inr two,
-      omega (arith, test, from),
       sym (ap refusal front) ∙ accepted c.in-Ok.base,
+      omega (arith, test, from),
       refl,
       second_sum c.args.bytes.now two (λ e. c.in-Err-read_ext.ensures.refused (ap (λ xs. sum xs % 256) c.block_at-2.ensures ∙ e)),
     )
