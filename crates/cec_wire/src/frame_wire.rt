@@ -312,6 +312,7 @@ fn outcome(
 pub struct FrameWire {}
 
 impl FrameWire {
+    /// A wire. It keeps nothing from round to round.
     pub fn new() -> Self {
         FrameWire {}
     }

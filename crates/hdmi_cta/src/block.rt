@@ -5,6 +5,8 @@ ghost use Rattle.hdmi_edid.specs.Bytes.{are_bytes};
 use crate::parts::append;
 use arrayvec::ArrayVec;
 
+/// What a data block tells, by the tag in the top three bits of its first byte (CTA-861-D, 7.5, the data block
+/// collection). Tags 0, 5 and 6 are reserved.
 #[derive(Clone, Copy, Debug, PartialEq, Eq)]
 pub enum BlockKind {
     Tag0,
@@ -20,6 +22,7 @@ pub enum BlockKind {
 impl BlockKind {
     ghost use Rattle.hdmi_cta.specs.Block.{kind_number};
 
+    /// The kind that a block's first byte tells.
     pub fn of_byte(byte: u8) -> BlockKind
         ensures { kind_number result ≡ byte / 32 }
     {
@@ -35,6 +38,7 @@ impl BlockKind {
         }
     }
 
+    /// Its tag, 0 to 7.
     pub fn number(self) -> u8
         ensures number { result ≡ kind_number self }
         ensures small { result < 8 }
@@ -52,6 +56,7 @@ impl BlockKind {
     }
 }
 
+/// A data block: its kind and its payload, without the byte of tag and length.
 #[derive(Drop)]
 pub struct Block {
     pub kind: BlockKind,

@@ -18,9 +18,13 @@ pub struct RawExt {
     ghost no_bare: { (b : BareValue) → bare_bytes b ≡ bytes → ⊥ },
 }
 
+/// An extension block of an EDID, whatever its 128 bytes are, where their sum is right.
 #[derive(Drop)]
 pub enum Ext {
+    /// A CTA block of version 3 with data blocks, timings and a tail.
     Cta(Cta),
+    /// A CTA block of version 3 whose byte 2 is 0: it has neither data blocks nor timings.
     Bare(Bare),
+    /// Any other block.
     Raw(RawExt),
 }

@@ -29,6 +29,7 @@ pub struct Writes<W> {
 }
 
 impl<W: io::Write> Writes<W> {
+    /// A sink over this writer, which no `put` has found stuck yet.
     pub fn new(writer: W) -> Self
         ensures contents { ⟦<Writes<W> as Sink>⟧.contents result ≡ W.contents writer }
         ensures fresh { ⟦<Writes<W> as Sink>⟧.is_stuck result ≡ false }

@@ -2,6 +2,7 @@
 use hdmi_edtext::EdidError;
 use thiserror::Error;
 
+/// Why a read over DDC, or the bytes to read from, are refused.
 #[derive(Clone, Copy, Debug, PartialEq, Eq, Error)]
 pub enum DdcError {
     /// The segment has no block, so it is not acknowledged.
