@@ -94,12 +94,12 @@ impl Ddc {
         ensures bytes { EachIndex out.new (λ k. byte_at self.old.bytes self.old.segment ((self.old.offset + k) % 256) ≡ Some (slice_index out.new k)) }
         ensures after { self.new ≡ record self.old { offset = (self.old.offset + length out.old) % 256 } }
     {
-        let mut offset = self.offset;
+        let mut next = self.offset;
         for place in out.iter_mut() {
-            *place = self.byte(offset);
-            offset = offset.wrapping_add(1);
+            *place = self.byte(next);
+            next = next.wrapping_add(1);
         }
-        self.offset = offset;
+        self.offset = next;
     }
 
     /// Ends the access: the segment pointer goes back to 0, and the offset stays.

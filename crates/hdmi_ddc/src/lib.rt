@@ -4,6 +4,8 @@
 mod ddc;
 mod error;
 mod learn;
+#[cfg(test)]
+mod tests;
 
 pub use ddc::Ddc;
 pub use error::DdcError;

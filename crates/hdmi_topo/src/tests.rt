@@ -1,6 +1,34 @@
-use crate::{AddError, PlugError, Tree, UnplugError};
+use crate::{AddError, PlugError, PortEdidError, Tree, UnplugError};
 use hdmi_cta::{Kind, Phys};
+use hdmi_edtext::{Edid, edid_from_bytes, edid_to_bytes};
 use std::test::Fail;
+
+/// The base block of a television of Samsung, with one extension to follow.
+const LOUNGE: [u8; 128] = [
+    0x00, 0xff, 0xff, 0xff, 0xff, 0xff, 0xff, 0x00, 0x4c, 0x2d, 0x02, 0x01, 0x01, 0x00, 0x00, 0x00,
+    0x0a, 0x15, 0x01, 0x03, 0x80, 0x34, 0x1d, 0x78, 0x0a, 0xee, 0x91, 0xa3, 0x54, 0x4c, 0x99, 0x26,
+    0x0f, 0x50, 0x54, 0x00, 0x00, 0x00, 0x01, 0x01, 0x01, 0x01, 0x01, 0x01, 0x01, 0x01, 0x01, 0x01,
+    0x01, 0x01, 0x01, 0x01, 0x01, 0x01, 0x02, 0x3a, 0x80, 0x18, 0x71, 0x38, 0x2d, 0x40, 0x58, 0x2c,
+    0x45, 0x00, 0x08, 0x22, 0x21, 0x00, 0x00, 0x1e, 0x00, 0x00, 0x00, 0xfc, 0x00, 0x4c, 0x4f, 0x55,
+    0x4e, 0x47, 0x45, 0x20, 0x54, 0x56, 0x20, 0x30, 0x30, 0x31, 0x00, 0x00, 0x00, 0x10, 0x00, 0x00,
+    0x00, 0x00, 0x00, 0x00, 0x00, 0x00, 0x00, 0x00, 0x00, 0x00, 0x00, 0x00, 0x00, 0x00, 0x00, 0x10,
+    0x00, 0x00, 0x00, 0x00, 0x00, 0x00, 0x00, 0x00, 0x00, 0x00, 0x00, 0x00, 0x00, 0x00, 0x01, 0x51,
+];
+
+/// The front of an extension whose HDMI block has the address 0.0.0.0, up to its zeros.
+const EXTENSION: [u8; 22] = [
+    0x02, 0x03, 0x16, 0xf1, 0x43, 0x90, 0x04, 0x03, 0x23, 0x09, 0x07, 0x07, 0x83, 0x01, 0x00, 0x00,
+    0x65, 0x03, 0x0c, 0x00, 0x00, 0x00,
+];
+
+/// The base block and the extension.
+fn both_blocks() -> [u8; 256] {
+    let mut bytes = [0; 256];
+    bytes[..128].copy_from_slice(&LOUNGE);
+    bytes[128..150].copy_from_slice(&EXTENSION);
+    bytes[255] = 0xe8;
+    bytes
+}
 
 #[test]
 fn refuses_in_order(rt: HostRuntime) -> Result<(), Fail> {
@@ -66,5 +94,45 @@ fn a_chain_of_switches(rt: HostRuntime) -> Result<(), Fail> {
         })
     );
     assert_eq!(rt; tree.on_wire(5), true);
+    Ok(())
+}
+
+/// The two bytes of the address in the extension's HDMI block, and the extension's checksum.
+fn address_and_checksum(edid: &Edid) -> Option<[u8; 3]> {
+    let bytes = edid_to_bytes(edid);
+    let bytes = bytes.as_slice();
+    Some([*bytes.get(148)?, *bytes.get(149)?, *bytes.get(255)?])
+}
+
+#[test]
+fn ports_pass_on_their_addresses(rt: HostRuntime) -> Result<(), Fail> {
+    let root = edid_from_bytes(&both_blocks()).map_err(|_| "no EDID")?;
+    let mut tree: Tree<15> = Tree::new();
+    tree.add(b"tv", Kind::Tv, 4)?;
+    assert_eq!(rt; tree.count(), 1);
+    let first = tree.port_edid(&root, 0, 1)?;
+    assert_eq!(rt; address_and_checksum(&first), Some([0x10, 0x00, 0xd8]));
+    let second = tree.port_edid(&root, 0, 2)?;
+    assert_eq!(rt; address_and_checksum(&second), Some([0x20, 0x00, 0xc8]));
+    assert_eq!(rt;
+        tree.port_edid(&root, 0, 5).err(),
+        Some(PortEdidError::PortRange)
+    );
+    Ok(())
+}
+
+#[test]
+fn no_port_passes_on_an_edid_without_an_address(rt: HostRuntime) -> Result<(), Fail> {
+    let mut block = LOUNGE;
+    block[126] = 0x00;
+    block[127] = 0x52;
+    let root = edid_from_bytes(&block).map_err(|_| "no EDID")?;
+    let mut tree: Tree<15> = Tree::new();
+    tree.add(b"tv", Kind::Tv, 4)?;
+    assert_eq!(rt; tree.count(), 1);
+    assert_eq!(rt;
+        tree.port_edid(&root, 0, 1).err(),
+        Some(PortEdidError::NoHdmiBlock)
+    );
     Ok(())
 }
