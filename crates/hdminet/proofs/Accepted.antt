@@ -1,20 +1,20 @@
 -- What accepted texts have.
-use Rattle.std.proofs.Common.{◌≡◌, ℕ, suc, ◌+◌, ◌<◌, Bool, true, false, if◌then◌else◌, List, [], ◌∷◌, length, Option, Some, None, Result, Ok, Err, ap, ◌∙◌, sym, refl, subst, arith}
-use Rattle.std.specs.List.{list_any}
-use Rattle.cec_wave.specs.declared.Stretch.{Stretch}
+use Rattle.std.proofs.Common.{◌≡◌, ℕ, ◌+◌, ◌<◌, Bool, true, false, if◌then◌else◌, List, [], ◌∷◌, length, Option, Some, None, Result, Ok, Err, ap, ◌∙◌, sym, refl, subst, arith}
 use Rattle.hdmi_topo.specs.Node.{Node}
-use Rattle.hdmi_topo.specs.Tree.{has_root, is_tv}
+use Rattle.hdmi_topo.specs.Tree.{has_root}
 use Rattle.cec_text.specs.Lines.{lines_of}
 use Rattle.cec_asm.specs.Topology.{Plan, TopologyFault, topology_of, lines_read, at_line, line_read}
 use Rattle.cec_asm.specs.declared.topology.TopologyCause.{TopologyCause}
 use Rattle.cec_asm.specs.declared.topology.TopologyCause.TheVariants.{NoRoot}
 use Rattle.cec_asm.specs.Script.{Course, Notes, ScriptFault, script_of, ended, lines_read as script_lines, at_line as script_at, line_read as script_line}
 use Rattle.cec_asm.specs.declared.script.ScriptCause.{ScriptCause}
-use Rattle.cec_asm.specs.declared.script.TimedEvent.{TimedEvent}
-use Rattle.cec_net.specs.State.{NetState, started}
+use Rattle.cec_net.specs.State.{started}
 use Rattle.hdminet.specs.declared.run.Totals.{Totals}
+use Rattle.hdmi_edtext.specs.declared.edid.Edid.{Edid}
+use Rattle.hdmi_edtext.proofs.OneEdid.{one_edid}
+use Rattle.hdminet.specs.Root.{IsRoot}
 use Rattle.hdminet.specs.Run.{start, IsTrace}
-use Rattle.hdminet.specs.Emulate.{IsAccepted, IsTraceOf}
+use Rattle.hdminet.specs.Emulate.{IsTraceOf}
 
 -- a tree with a television has a device
 some_device : (tree : List Node) → has_root tree ≡ true → 0 < length tree
@@ -63,11 +63,20 @@ same_plan p q r a b = cc
 same_course : (c d : Course) (r : Result Course ScriptFault) → r ≡ Ok c → r ≡ Ok d → c ≡ d
 same_course c d r a b = cc
 
--- texts spell one topology and one script
-pub one_trace_of : (topology script text : List ℕ) (totals : Totals) (plan : Plan) (course : Course) → topology_of topology ≡ Ok plan → script_of plan.tree script ≡ Ok course
-    → IsTraceOf topology script text totals → IsTrace course.end (start (started plan.tree course.pulses) course.events) text totals
-one_trace_of topology script text totals plan course t s w =
+-- bytes spell one EDID
+one_root : (bytes : Option (List ℕ)) (a b : Option Edid) → IsRoot bytes a → IsRoot bytes b → a ≡ b
+one_root None a b r s = r ∙ sym s
+one_root (Some bytes) None b r s = absurd r
+one_root (Some bytes) (Some a) None r s = absurd s
+one_root (Some bytes) (Some a) (Some b) r s = ap Some (one_edid a b (r.0 ∙ sym s.0))
+
+-- texts spell one topology, one EDID and one script
+pub one_trace_of : (topology script text : List ℕ) (totals : Totals) (plan : Plan) (course : Course) (edid : Option Edid) → topology_of topology ≡ Ok plan → script_of plan.tree script ≡ Ok course
+    → IsRoot plan.edid edid → IsTraceOf topology script text totals → IsTrace edid course.end (start (started plan.tree course.pulses) course.events) text totals
+one_trace_of topology script text totals plan course edid t s e w =
     let p : w.plan ≡ plan = same_plan w.plan plan (topology_of topology) w.accepted.plan_is t in
     let k : w.course ≡ course = same_course w.course course (script_of w.plan.tree script) w.accepted.course_is (ap (λ q. script_of q.tree script) p ∙ s) in
-    subst (λ c. IsTrace c.end (start (started plan.tree c.pulses) c.events) text totals) k
-    (subst (λ q. IsTrace w.course.end (start (started q.tree w.course.pulses) w.course.events) text totals) p w.trace)
+    let r : w.edid ≡ edid = one_root plan.edid w.edid edid (subst (λ q. IsRoot q.edid w.edid) p w.root) e in
+    subst (λ x. IsTrace x course.end (start (started plan.tree course.pulses) course.events) text totals) r
+    (subst (λ c. IsTrace w.edid c.end (start (started plan.tree c.pulses) c.events) text totals) k
+    (subst (λ q. IsTrace w.edid w.course.end (start (started q.tree w.course.pulses) w.course.events) text totals) p w.trace))

@@ -1,5 +1,5 @@
 -- What a turn leaves as it was, and how far a round brings the run.
-use Rattle.std.proofs.Common.{◌≡◌, ℕ, suc, ◌+◌, ◌-◌, ◌<◌, ◌≤◌, Bool, true, false, nat_lt, nat_le, max, if◌then◌else◌, List, [], ◌∷◌, length, filter, Option, Some, None, ap, ◌∙◌, sym, refl, subst, arith}
+use Rattle.std.proofs.Common.{◌≡◌, ℕ, suc, ◌+◌, ◌-◌, ◌<◌, ◌≤◌, Bool, true, false, nat_lt, max, if◌then◌else◌, List, ◌∷◌, length, Option, Some, None, ap, sym, refl, subst, arith}
 use Rattle.std.proofs.lemmas.Bool.Decides.{nat_tests}
 use Rattle.cec_wire.specs.declared.Outcome.{Outcome}
 use Rattle.cec_wire.specs.Round.{close_in}
@@ -10,11 +10,9 @@ use Rattle.cec_net.specs.declared.event.Event.TheVariants.{Plug, Unplug, Key, Se
 use Rattle.cec_net.specs.declared.event.EventError.{EventError}
 use Rattle.cec_net.specs.State.{NetState, next_start}
 use Rattle.cec_net.specs.Apply.{applied, applied_unless, event_fault}
-use Rattle.cec_net.specs.Step.{IsNextRound, after_round}
 use Rattle.cec_net.specs.Progress.{IsProgress}
 use Rattle.cec_net.proofs.Soundness.{length-with_plug}
 use Rattle.hdminet.specs.declared.run.Totals.{Totals}
-use Rattle.hdminet.specs.declared.run.Turn.{Turn}
 use Rattle.hdminet.specs.declared.run.Turn.TheVariants.{Stop, Apply, Round}
 use Rattle.hdminet.specs.Run.{IsRoundTurn, counted_event, counted_round, turn_of, is_by, round_turn, event_turn}
 

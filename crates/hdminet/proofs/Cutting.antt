@@ -1,5 +1,5 @@
 -- Counts of what was written of a text, part by part.
-use Rattle.std.proofs.Common.{◌≡◌, ℕ, suc, drop, get_or, subst, drop-cons, ◌+◌, ◌<◌, ◌≤◌, List, [], ◌∷◌, ◌++◌, length, take, min, Bool, true, Option, None, Some, ap, ◌∙◌, sym, refl, arith, append_assoc, append-nil, length-append}
+use Rattle.std.proofs.Common.{◌≡◌, ℕ, suc, drop, get_or, subst, drop-cons, ◌+◌, ◌<◌, ◌≤◌, List, [], ◌∷◌, ◌++◌, length, take, Option, ap, ◌∙◌, sym, refl, arith, append_assoc, append-nil, length-append}
 use Rattle.std.specs.Io.KnownBytes.{Appends}
 use Rattle.std.specs.List.{flat_map}
 use Rattle.std.proofs.lemmas.Grind.{flat_map-append}
@@ -7,7 +7,6 @@ use Rattle.std.proofs.lemmas.List.{take-append-le, take-append-drop, take_more}
 use Rattle.std.proofs.Math.Seq.{take-append-add}
 use Rattle.hdmi_cta.proofs.CutShort.{Appends-trans}
 use Rattle.hdmi_cta.specs.declared.sink.WriteFault.{WriteFault}
-use Rattle.hdmi_cta.specs.Written.{WrittenFront}
 use Rattle.hdminet.specs.Cut.{CutOff, told_count}
 
 -- the counts of two parts
@@ -70,3 +69,46 @@ more_count f ps i x n m k h e count len told =
     let more : length (flat_map f (take (i + 1) ps)) ≡ length (flat_map f (take i ps)) + length (f x) =
     ap length (more_parts f ps i x h e) ∙ length-append (flat_map f (take i ps)) (f x) in
     omega arith
+
+-- the front part of a text was cut off
+pub cut_front : (a b : Option (List ℕ)) (xs ys : List ℕ) (fault : WriteFault) → CutOff a b xs fault → CutOff a b (xs ++ ys) fault
+cut_front a b xs ys fault cut =
+    let low : cut.0 ≤ length xs = omega (arith, cut.1) in
+    let same : take cut.0 (xs ++ ys) ≡ take cut.0 xs = rw take-append-le refl in (
+      cut.0,
+      omega (arith, cut.1, length-append xs ys),
+      cut.2,
+      rw same cut.3,
+    )
+
+-- the part behind what was written was cut off
+pub cut_behind : (a b c : Option (List ℕ)) (xs ys : List ℕ) (n : ℕ) (inner fault : WriteFault) → n ≡ told_count (length xs) → Appends a b xs
+    → CutOff b c ys inner → fault.count ≡ told_count (n + inner.count) → CutOff a c (xs ++ ys) fault
+cut_behind a b c xs ys n inner fault e before cut f =
+    subst (λ t. CutOff a c t fault) (append-nil (xs ++ ys)) (cut_again a b c xs ys [] n inner fault e before cut f)
+
+-- the same, behind a line whose length was answered
+pub cut_behind_line : (a b c : Option (List ℕ)) (xs ys : List ℕ) (n : ℕ) (inner fault : WriteFault) → n ≡ length xs → Appends a b xs
+    → CutOff b c ys inner → fault.count ≡ told_count (n + inner.count) → CutOff a c (xs ++ ys) fault
+cut_behind_line a b c xs ys n inner fault e before cut f = cut_behind a b c xs ys (told_count n) inner fault (ap told_count e) before cut (f ∙ same n inner.count)
+  where
+    same : (n m : ℕ) → told_count (n + m) ≡ told_count (told_count n + m)
+    same n m = omega arith
+
+-- a part among others, where the parts are texts of several lines
+pub more_told : {X : Type 0} (f : X → List ℕ) (ps : List X) (i : ℕ) (x : X) (n m k : ℕ) → i < length ps → get_or ps i x ≡ x
+    → n ≡ told_count (length (flat_map f (take i ps))) → m ≡ told_count (length (f x)) → k ≡ told_count (n + m) → k ≡ told_count (length (flat_map f (take (i + 1) ps)))
+more_told f ps i x n m k h e count len told =
+    let more : length (flat_map f (take (i + 1) ps)) ≡ length (flat_map f (take i ps)) + length (f x) =
+    ap length (more_parts f ps i x h e) ∙ length-append (flat_map f (take i ps)) (f x) in
+    omega arith
+
+pub cut_text_part : {X : Type 0} (f : X → List ℕ) (ps : List X) (i : ℕ) (d : X) (a b c : Option (List ℕ)) (n : ℕ) (inner fault : WriteFault) → i < length ps → get_or ps i d ≡ d
+    → n ≡ told_count (length (flat_map f (take i ps))) → Appends a b (flat_map f (take i ps)) → CutOff b c (f d) inner
+    → fault.count ≡ told_count (n + inner.count) → CutOff a c (flat_map f ps) fault
+cut_text_part f ps i d a b c n inner fault h item e before cut told =
+    let whole : flat_map f ps ≡ (flat_map f (take i ps) ++ f d) ++ flat_map f (drop (suc i) ps) =
+    parted f ps i d h ∙ ap (λ y. flat_map f (take i ps) ++ (f y ++ flat_map f (drop (suc i) ps))) item
+    ∙ sym (append_assoc (flat_map f (take i ps)) (f d) (flat_map f (drop (suc i) ps))) in
+    subst (λ t. CutOff a c t fault) (sym whole)
+    (cut_again a b c (flat_map f (take i ps)) (f d) (flat_map f (drop (suc i) ps)) n inner fault e before cut told)

@@ -3,3 +3,4 @@ pub mod Cutting
 pub mod Running
 pub mod Advance
 pub mod Accepted
+pub mod Ports

@@ -1,5 +1,5 @@
 -- What the texts of a topology and a script give.
-use Rattle.std.specs.Prelude.{◌≡◌, ℕ, ◌<◌, Bool, true, false, List, length, take, Option, Some, None, Result, Ok, Err}
+use Rattle.std.specs.Prelude.{◌≡◌, ℕ, ◌<◌, Bool, true, false, List, length, take, Option, Some, Result, Ok, Err}
 use Rattle.std.specs.Io.KnownBytes.{Appends}
 use Rattle.cec_asm.specs.Topology.{topology_of, Plan}
 use Rattle.cec_asm.specs.Script.{script_of, Course}
@@ -8,10 +8,12 @@ use Rattle.cec_asm.specs.declared.topology.TopologyError.TheVariants as topologi
 use Rattle.cec_asm.specs.declared.script.ScriptError.{ScriptError}
 use Rattle.cec_asm.specs.declared.script.ScriptError.TheVariants as scripts
 use Rattle.cec_net.specs.State.{started}
+use Rattle.hdmi_edtext.specs.declared.edid.Edid.{Edid as EdidValue}
 use Rattle.hdminet.specs.declared.emulate.EmulateError.{EmulateError}
 use Rattle.hdminet.specs.declared.emulate.EmulateError.TheVariants.{Topology, Script, Edid, Write, Memory}
 use Rattle.hdminet.specs.declared.run.Totals.{Totals}
 use Rattle.hdminet.specs.Cut.{told_count}
+use Rattle.hdminet.specs.Root.{IsRoot, IsNoRoot}
 use Rattle.hdminet.specs.Run.{start, IsTrace}
 
 -- the texts spell this topology and this script
@@ -19,13 +21,14 @@ pub record IsAccepted (topology script : List ℕ) (plan : Plan) (course : Cours
   pub plan_is : topology_of topology ≡ Ok plan
   pub course_is : script_of plan.tree script ≡ Ok course
 
--- the trace of the run that the texts spell, where the topology gives no EDID
+-- the trace of the run that the texts spell
 pub record IsTraceOf (topology script text : List ℕ) (totals : Totals) : Type 0 where
   pub plan : Plan
   pub course : Course
+  pub edid : Option EdidValue
   pub accepted : IsAccepted topology script plan course
-  pub bare : plan.edid ≡ None
-  pub trace : IsTrace course.end (start (started plan.tree course.pulses) course.events) text totals
+  pub root : IsRoot plan.edid edid
+  pub trace : IsTrace edid course.end (start (started plan.tree course.pulses) course.events) text totals
 
 abbrev pub topology_told : TopologyError → EmulateError
 topology_told (topologies.At line cause) = Topology line cause
@@ -39,8 +42,8 @@ script_told scripts.Memory = Memory
 abbrev pub IsTold : List ℕ → List ℕ → EmulateError → Type 0
 IsTold topology script (Topology line cause) = topology_of topology ≡ Err (record { line = line; cause = cause })
 IsTold topology script (Script line cause) = (plan : Plan) × (topology_of topology ≡ Ok plan) × (script_of plan.tree script ≡ Err (record { line = line; cause = cause }))
-IsTold topology script Edid = (plan : Plan) × (course : Course) × IsAccepted topology script plan course × (edid : List ℕ) × (plan.edid ≡ Some edid)
-IsTold topology script (Write count) = (plan : Plan) × (course : Course) × IsAccepted topology script plan course × (plan.edid ≡ None)
+IsTold topology script (Edid cause) = (plan : Plan) × (course : Course) × IsAccepted topology script plan course × (bytes : List ℕ) × (plan.edid ≡ Some bytes) × IsNoRoot bytes cause
+IsTold topology script (Write count) = (plan : Plan) × (course : Course) × IsAccepted topology script plan course × (edid : Option EdidValue) × IsRoot plan.edid edid
 IsTold topology script Memory = Unit {0}
 
 abbrev pub is_write : Result Totals EmulateError → Bool
@@ -54,5 +57,5 @@ IsCut topology script old new (Write told) = (text : List ℕ) (totals : Totals)
     → (count : ℕ) × (count < length text) × (told ≡ told_count count) × Appends old new (take count text)
 IsCut topology script old new (Topology line cause) = new ≡ old
 IsCut topology script old new (Script line cause) = new ≡ old
-IsCut topology script old new Edid = new ≡ old
+IsCut topology script old new (Edid cause) = new ≡ old
 IsCut topology script old new Memory = new ≡ old

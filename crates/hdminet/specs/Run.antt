@@ -15,7 +15,10 @@ use Rattle.cec_asm.specs.declared.script.TimedEvent.{TimedEvent}
 use Rattle.hdminet.specs.declared.run.Totals.{Totals}
 use Rattle.hdminet.specs.declared.run.Turn.{Turn}
 use Rattle.hdminet.specs.declared.run.Turn.TheVariants.{Stop, Apply, Round}
+use Rattle.hdmi_edtext.specs.declared.edid.Edid.{Edid}
+use Rattle.hdmi_topo.specs.Path.{is_on_wire}
 use Rattle.hdminet.specs.StateText.{state_line}
+use Rattle.hdminet.specs.PortText.{port_lines}
 use Rattle.hdminet.specs.TraceText.{event_line, is_complete, round_line, end_line}
 
 -- where a run stands: the network, the events that are left, and what is counted so far
@@ -66,10 +69,14 @@ abbrev pub counted_round : Bool → Totals → Totals
 counted_round true t = record t { rounds = t.rounds + 1; complete = t.complete + 1 }
 counted_round false t = record t { rounds = t.rounds + 1 }
 
-abbrev pub IsEventTurn : ℕ → List TimedEvent → Config → List ℕ → Config → Type 0
-IsEventTurn at [] c line d = (line ≡ []) × (d ≡ c)
-IsEventTurn at (e ∷ events) c line d =
-    (line ≡ event_line at e.line (event_fault c.net e.event))
+-- an event's line, and behind it the port lines of the devices that come onto the wire by it
+abbrev pub event_text : Option Edid → ℕ → TimedEvent → NetState → List ℕ
+event_text edid at e s = event_line at e.line (event_fault s e.event) ++ port_lines at edid (is_on_wire s.tree) (applied at e.event s).tree
+
+abbrev pub IsEventTurn : Option Edid → ℕ → List TimedEvent → Config → List ℕ → Config → Type 0
+IsEventTurn edid at [] c text d = (text ≡ []) × (d ≡ c)
+IsEventTurn edid at (e ∷ events) c text d =
+    (text ≡ event_text edid at e c.net)
     × (d ≡ record { net = applied at e.event c.net; events = events; totals = counted_event (event_fault c.net e.event) c.totals })
 
 -- the round begins then, gives some outcome, and its line tells that outcome
@@ -80,35 +87,41 @@ pub record IsRoundTurn (begin : ℕ) (before : NetState) (t : Totals) (line : Li
   pub told : line ≡ round_line after.devices outcome
   pub totals : u ≡ counted_round (is_complete outcome.reading.ending) t
 
-abbrev pub IsTurnBy : Turn → Config → List ℕ → Config → Type 0
-IsTurnBy Stop c line d = ⊥
-IsTurnBy (Apply at) c line d = IsEventTurn at c.events c line d
-IsTurnBy (Round begin) c line d = IsRoundTurn begin c.net c.totals line d.net d.totals × (d.events ≡ c.events)
+abbrev pub IsTurnBy : Option Edid → Turn → Config → List ℕ → Config → Type 0
+IsTurnBy edid Stop c text d = ⊥
+IsTurnBy edid (Apply at) c text d = IsEventTurn edid at c.events c text d
+IsTurnBy edid (Round begin) c text d = IsRoundTurn begin c.net c.totals text d.net d.totals × (d.events ≡ c.events)
 
-abbrev pub IsTurn : ℕ → Config → List ℕ → Config → Type 0
-IsTurn end c line d = IsTurnBy (turn_at end c) c line d
+abbrev pub IsTurn : Option Edid → ℕ → Config → List ℕ → Config → Type 0
+IsTurn edid end c text d = IsTurnBy edid (turn_at end c) c text d
 
 -- ---- the whole run
 
 -- one turn after another, and their lines one after another
-abbrev pub Leads : ℕ → ℕ → Config → List ℕ → Config → Type 0
-Leads end zero c text d = (text ≡ []) × (d ≡ c)
-Leads end (suc turns) c text d =
-    (mid : Config) × (line : List ℕ) × (rest : List ℕ) × IsTurn end c line mid × Leads end turns mid rest d × (text ≡ line ++ rest)
+abbrev pub Leads : Option Edid → ℕ → ℕ → Config → List ℕ → Config → Type 0
+Leads edid end zero c text d = (text ≡ []) × (d ≡ c)
+Leads edid end (suc turns) c text d =
+    (mid : Config) × (line : List ℕ) × (rest : List ℕ) × IsTurn edid end c line mid × Leads edid end turns mid rest d × (text ≡ line ++ rest)
 
 -- the lines of the turns up to where the run stops, a state line for each device, and the last line
-pub record IsTrace (end : ℕ) (c : Config) (text : List ℕ) (totals : Totals) : Type 0 where
+pub record IsTraceFrom (edid : Option Edid) (end : ℕ) (c : Config) (text : List ℕ) (totals : Totals) : Type 0 where
   pub turns : ℕ
   pub last : Config
   pub body : List ℕ
-  pub leads : Leads end turns c body last
+  pub leads : Leads edid end turns c body last
   pub stops : turn_at end last ≡ Stop
   pub whole : text ≡ body ++ (flat_map state_line last.net.devices ++ end_line end)
   pub counts : totals ≡ last.totals
 
+-- the port lines of the devices that are on the wire at the start, and then those lines
+pub record IsTrace (edid : Option Edid) (end : ℕ) (c : Config) (text : List ℕ) (totals : Totals) : Type 0 where
+  pub rest : List ℕ
+  pub run : IsTraceFrom edid end c rest totals
+  pub whole : text ≡ port_lines 0 edid (λ device. false) c.net.tree ++ rest
+
 -- a run has one trace
 abbrev pub OneTrace : Type 0
-OneTrace = (end : ℕ) (c : Config) (x y : List ℕ) (s t : Totals) → IsTrace end c x s → IsTrace end c y t → (x ≡ y) × (s ≡ t)
+OneTrace = (edid : Option Edid) (end : ℕ) (c : Config) (x y : List ℕ) (s t : Totals) → IsTrace edid end c x s → IsTrace edid end c y t → (x ≡ y) × (s ≡ t)
 
 -- a round was run from one state to the next, and its line written
 pub record RoundWritten (before after : NetState) (t u : Totals) (old new : Option (List ℕ)) (was is : Bool) (result : Result ℕ WriteFault) : Type 0 where

@@ -1,5 +1,5 @@
 -- The lines of a trace that tell rounds and events (the profile's own text).
-use Rattle.std.specs.Prelude.{ℕ, ◌==◌, ◌%◌, Bool, true, false, if◌then◌else◌, List, [], ◌∷◌, ◌++◌, map, length, slice_get, slice_index, slice_index_or, ◌-◌, Option, Some, None, codes}
+use Rattle.std.specs.Prelude.{ℕ, ◌==◌, ◌%◌, Bool, true, false, List, [], ◌∷◌, ◌++◌, map, length, slice_get, slice_index, slice_index_or, ◌-◌, Option, Some, None, codes}
 use Rattle.std.specs.Fmt.{decimal}
 use Rattle.std.specs.List.{concat, flat_map}
 use Rattle.cec_frame.specs.declared.Ending.{Ending}

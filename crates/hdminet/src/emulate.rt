@@ -3,6 +3,7 @@ ghost use Rattle.std.specs.Prelude.{◌≡◌, ℕ, List, ◌↔◌, true, false
 ghost use Rattle.std.specs.Io.KnownBytes.{Appends};
 ghost use Rattle.hdminet.specs.Emulate.{IsTraceOf, IsTold, IsCut, is_write};
 
+use crate::root::{EdidCause, root_of};
 use crate::run::{Totals, run};
 use cec_asm::{
     ScriptCause, ScriptError, TopologyCause, TopologyError, parse_script, parse_topology,
@@ -22,9 +23,9 @@ pub enum EmulateError {
     /// The first line of the script at fault, counted from 1, and its cause.
     #[error("script line {line}: {cause}")]
     Script { line: u64, cause: ScriptCause },
-    /// The topology gives an EDID, which a run does not tell yet.
-    #[error("edid: unsupported")]
-    Edid,
+    /// The topology's bytes of an EDID are refused.
+    #[error("edid: {0}")]
+    Edid(EdidCause),
     /// A `put` took none. So many bytes of the trace were written.
     #[error("write fault after {0} bytes")]
     Write(u128),
@@ -60,12 +61,23 @@ impl From<ScriptError> for EmulateError {
     }
 }
 
+impl From<EdidCause> for EmulateError {
+    ghost use Rattle.std.specs.Prelude.{◌≡◌};
+    ghost use Rattle.hdminet.specs.declared.emulate.EmulateError.TheVariants.{Edid};
+
+    ghost from_gives = { λ cause e. e ≡ Edid cause };
+
+    fn from(cause: EdidCause) -> EmulateError {
+        EmulateError::Edid(cause)
+    }
+}
+
 /// Runs a script on a topology, and writes the trace of the run: the bytes of that trace and nothing else.
 ///
 /// # Errors
 ///
-/// The first line of the topology, and then of the script, that is at fault, and its cause; an EDID; want of
-/// memory: then nothing was written. A failed write: then the front of the trace was written, as long as it
+/// The first line of the topology, and then of the script, that is at fault, and its cause; then the cause for
+/// which the topology's EDID is refused; want of memory: then nothing was written. A failed write: then the front of the trace was written, as long as it
 /// tells.
 pub fn emulate<S: Sink>(
     alloc: Global,
@@ -80,11 +92,9 @@ pub fn emulate<S: Sink>(
 {
     let topology = parse_topology(alloc, topology)?;
     let script = parse_script(alloc, &topology, script)?;
-    if topology.edid.is_some() {
-        return Err(EmulateError::Edid);
-    }
+    let edid = root_of(&topology.edid)?;
     let mut net = Net::new(topology.tree, FrameWire::new(), script.pulses);
-    match run(out, &mut net, &script.events, script.end) {
+    match run(out, &mut net, &edid, &script.events, script.end) {
         Ok(totals) => Ok(totals),
         Err(fault) => Err(EmulateError::Write(fault.count)),
     }

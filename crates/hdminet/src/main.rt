@@ -4,13 +4,16 @@
 mod choice;
 mod emulate;
 mod laws;
+mod port_text;
 mod program;
+mod root;
 mod round_text;
 mod run;
 mod state_text;
 #[cfg(test)]
 mod tests;
 mod trace_text;
+mod written;
 
 use hdmi_cta::Writes;
 use program::program;

@@ -10,17 +10,21 @@ ghost use Rattle.cec_net.specs.Apply.{NamesDevices, applied, event_fault};
 ghost use Rattle.hdminet.specs.Cut.{CutOff, WrittenText, told_count};
 ghost use Rattle.hdminet.specs.StateText.{state_line};
 ghost use Rattle.hdminet.specs.TraceText.{event_line, end_line, is_complete};
-ghost use Rattle.hdminet.specs.Run.{IsTrace, RoundWritten, counted_event, counted_round, event_turn, first_time, round_turn, start, turn_of};
+ghost use Rattle.hdminet.specs.Root.{HasAddress};
+ghost use Rattle.hdminet.specs.Run.{IsTrace, IsTraceFrom, RoundWritten, counted_event, counted_round, event_text, event_turn, first_time, round_turn, start, turn_of};
 
+use crate::port_text::{on_wire, write_ports};
 use crate::round_text::write_round;
 use crate::state_text::write_state;
 use crate::trace_text::{write_end, write_event};
+use crate::written::{counted, cut_at};
 use cec_asm::TimedEvent;
 use cec_device::Device;
 use cec_frame::Ending;
 use cec_net::Net;
 use cec_wire::Wire;
 use hdmi_cta::{Sink, WriteFault};
+use hdmi_edtext::Edid;
 
 /// What a run did.
 #[derive(Clone, Copy, Debug, Default, PartialEq, Eq)]
@@ -85,8 +89,8 @@ fn first_time(events: &[TimedEvent]) -> Option<u64>
     }
 }
 
-/// Applies an event, and writes its line.
-fn apply_event<S: Sink, W>(
+// Applies an event, and writes its line.
+fn apply_alone<S: Sink, W>(
     out: &mut S,
     net: &mut Net<W>,
     totals: &mut Totals,
@@ -107,6 +111,34 @@ fn apply_event<S: Sink, W>(
             totals.refused += 1;
             write_event(out, at, event.line, Some(error))
         }
+    }
+}
+
+/// Applies an event, and writes its line and those of the ports of the devices that come onto the wire by it.
+fn apply_event<S: Sink, W>(
+    out: &mut S,
+    net: &mut Net<W>,
+    edid: &Option<Edid>,
+    totals: &mut Totals,
+    at: u64,
+    event: &TimedEvent,
+) -> Result<u128, WriteFault>
+    requires addressed { HasAddress edid.now }
+    requires early { at ≤ 2000000000000 }
+    requires known { NamesDevices (length net.old.tree) event.now.event }
+    requires room { totals.old.refused < 18446744073709551615 }
+    ensures net { net.new ≡ applied at event.now.event net.old }
+    ensures totals { totals.new ≡ counted_event (event_fault net.old event.now.event) totals.old }
+    ensures text { WrittenText (S.contents out.old) (S.contents out.new) (S.is_stuck out.old) (S.is_stuck out.new)
+        (event_text edid.now at event.now net.old) result }
+{
+    let was = on_wire(net.tree());
+    match apply_alone(out, net, totals, at, event) {
+        Ok(count) => match write_ports(out, at, edid, net.tree(), &was) {
+            Ok(more) => Ok(counted(count, more)),
+            Err(fault) => Err(cut_at(count, fault)),
+        },
+        Err(fault) => Err(cut_at(0, fault)),
     }
 }
 
@@ -149,21 +181,6 @@ fn run_round<S: Sink, W: Wire>(
     write_round(out, net.devices(), &report.outcome)
 }
 
-// A fault in the next part of a text of which this much was written.
-fn cut_at(written: u128, fault: WriteFault) -> WriteFault
-    ensures { result.count ≡ told_count (written + fault.count) }
-{
-    WriteFault {
-        count: written.saturating_add(fault.count),
-    }
-}
-
-fn counted(written: u128, count: u128) -> u128
-    ensures { result ≡ told_count (written + count) }
-{
-    written.saturating_add(count)
-}
-
 /// Writes the state lines of the devices.
 fn write_states<S: Sink>(out: &mut S, devices: &[Device<16>]) -> Result<u128, WriteFault>
     ensures { WrittenText (S.contents out.old) (S.contents out.new) (S.is_stuck out.old) (S.is_stuck out.new) (flat_map state_line devices.now) result }
@@ -193,24 +210,21 @@ fn write_last_lines<S: Sink>(
     }
 }
 
-/// Runs a network to `end`, at most 1,000,000,000,000 microseconds, and writes its trace. The events stand in
-/// the order of their times, all before `end`, and name devices of the tree.
-///
-/// # Errors
-///
-/// A `put` took none. Its count, which stays at its greatest value, tells how much of the trace was written.
-pub fn run<S: Sink, W: Wire>(
+// Runs a network to `end`, and writes its trace but for the port lines at its start.
+fn run_turns<S: Sink, W: Wire>(
     out: &mut S,
     net: &mut Net<W>,
+    edid: &Option<Edid>,
     events: &[TimedEvent],
     end: u64,
 ) -> Result<Totals, WriteFault>
+    requires addressed { HasAddress edid.now }
     requires early { end ≤ 1000000000000 }
     requires fresh { (net.old.close ≤ 1000000000000) × (net.old.rest ≤ 1000000000000) }
     requires schedule { IsSchedule (length net.old.tree) end 0 events.now }
-    ensures ok { IfOk result (λ totals. (text : List ℕ) × IsTrace end (start net.old events.now) text totals × Appends (S.contents out.old) (S.contents out.new) text) }
+    ensures ok { IfOk result (λ totals. (text : List ℕ) × IsTraceFrom edid.now end (start net.old events.now) text totals × Appends (S.contents out.old) (S.contents out.new) text) }
     ensures same { OnOk result (S.is_stuck out.new ≡ S.is_stuck out.old) }
-    ensures cut { IfErr result (λ fault. (text : List ℕ) (totals : TotalsRecord) → IsTrace end (start net.old events.now) text totals
+    ensures cut { IfErr result (λ fault. (text : List ℕ) (totals : TotalsRecord) → IsTraceFrom edid.now end (start net.old events.now) text totals
         → CutOff (S.contents out.old) (S.contents out.new) text fault) }
     ensures stuck { OnErr result (S.is_stuck out.new ≡ true) }
 {
@@ -224,7 +238,7 @@ pub fn run<S: Sink, W: Wire>(
                 let Some((event, others)) = rest.split_first() else {
                     unreachable!();
                 };
-                match apply_event(out, net, &mut totals, at, event) {
+                match apply_event(out, net, edid, &mut totals, at, event) {
                     Ok(count) => written = counted(written, count),
                     Err(fault) => return Err(cut_at(written, fault)),
                 }
@@ -239,5 +253,38 @@ pub fn run<S: Sink, W: Wire>(
     match write_last_lines(out, net.devices(), end) {
         Ok(_) => Ok(totals),
         Err(fault) => Err(cut_at(written, fault)),
+    }
+}
+
+/// Runs a network to `end`, at most 1,000,000,000,000 microseconds, and writes its trace. The EDID of the
+/// television, where it is given, has an HDMI block. The events stand in the order of their times, all before
+/// `end`, and name devices of the tree.
+///
+/// # Errors
+///
+/// A `put` took none. Its count, which stays at its greatest value, tells how much of the trace was written.
+pub fn run<S: Sink, W: Wire>(
+    out: &mut S,
+    net: &mut Net<W>,
+    edid: &Option<Edid>,
+    events: &[TimedEvent],
+    end: u64,
+) -> Result<Totals, WriteFault>
+    requires addressed { HasAddress edid.now }
+    requires early { end ≤ 1000000000000 }
+    requires fresh { (net.old.close ≤ 1000000000000) × (net.old.rest ≤ 1000000000000) }
+    requires schedule { IsSchedule (length net.old.tree) end 0 events.now }
+    ensures ok { IfOk result (λ totals. (text : List ℕ) × IsTrace edid.now end (start net.old events.now) text totals × Appends (S.contents out.old) (S.contents out.new) text) }
+    ensures same { OnOk result (S.is_stuck out.new ≡ S.is_stuck out.old) }
+    ensures cut { IfErr result (λ fault. (text : List ℕ) (totals : TotalsRecord) → IsTrace edid.now end (start net.old events.now) text totals
+        → CutOff (S.contents out.old) (S.contents out.new) text fault) }
+    ensures stuck { OnErr result (S.is_stuck out.new ≡ true) }
+{
+    match write_ports(out, 0, edid, net.tree(), &[]) {
+        Ok(written) => match run_turns(out, net, edid, events, end) {
+            Ok(totals) => Ok(totals),
+            Err(fault) => Err(cut_at(written, fault)),
+        },
+        Err(fault) => Err(fault),
     }
 }

@@ -1,4 +1,4 @@
-use Rattle.std.proofs.Common.{rules, arith, ◌≡◌, ◌≤◌, [], Ok, sym, subst, ◌∙◌}
+use Rattle.std.proofs.Common.{rules, ◌≡◌, ◌≤◌, [], Ok, sym, subst}
 use Rattle.std.specs.List.{All}
 use Rattle.std.proofs.lemmas.List.Elements.{All-nil}
 use Rattle.cec_asm.specs.Topology.{topology_of, plan_of}
@@ -22,4 +22,4 @@ returns-clause-cut g c text totals trace =
     let plan : topology_of c.args.topology.now ≡ Ok (plan_of c.in_ok-topology.topology) = search rules in
     let course : script_of c.in_ok-topology.topology.tree c.args.script.now ≡ Ok (course_of c.in_ok-script.script) = search rules in
     c.in-Err.ensures.cut text totals (rw (c.new-net.ensures, c.deref.ensures.value)
-    (one_trace_of c.args.topology.now c.args.script.now text totals (plan_of c.in_ok-topology.topology) (course_of c.in_ok-script.script) plan course trace))
+    (one_trace_of c.args.topology.now c.args.script.now text totals (plan_of c.in_ok-topology.topology) (course_of c.in_ok-script.script) c.in_ok-edid.edid plan course c.in_ok-edid.ensures.read trace))

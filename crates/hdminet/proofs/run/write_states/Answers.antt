@@ -1,4 +1,4 @@
-use Rattle.std.proofs.Common.{rules, arith, ◌≡◌, get_or, ◌∙◌, ap}
+use Rattle.std.proofs.Common.{rules, ◌≡◌, get_or, ◌∙◌}
 use Rattle.hdmi_cta.proofs.CutShort.{Appends-trans}
 use Rattle.hdminet.proofs.Cutting.{cut_part, more_parts, more_count}
 use Rattle.hdminet.specs.StateText.{state_line}
