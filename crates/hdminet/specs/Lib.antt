@@ -5,3 +5,4 @@ pub mod Cut
 pub mod Root
 pub mod Run
 pub mod Emulate
+pub mod EdidText

@@ -1,8 +1,11 @@
-//! Emulates a living-room HDMI network from texts, and writes its trace.
+//! Emulates a living-room HDMI network from texts, and writes its trace; writes frames and EDIDs as texts and bytes.
 #![tactic(auto)]
 
 mod choice;
+mod edid_text;
 mod emulate;
+mod fault;
+mod help;
 mod laws;
 mod port_text;
 mod program;

@@ -2,46 +2,19 @@
 ghost use Rattle.std.specs.Prelude.{◌<◌, length, IfSome};
 
 use crate::choice::{Choice, choose, is_memory};
-use crate::emulate::{EmulateError, emulate};
+use crate::edid_text::{edid_to_text, text_to_hex};
+use crate::emulate::emulate;
+use crate::fault::Fault;
 use arrayvec::ArrayString;
+use cec_text::asm_lines;
 use clap::Error as CommandLineError;
 use hdmi_cta::{Sink, put_all};
 use std::alloc::{AllocError, Global};
 use std::fmt::Write;
 use std::io::Read;
-use thiserror::Error;
 
 /// The longest input, in bytes.
 const LIMIT: usize = 1_048_576;
-
-/// Why the program did not do what it was asked.
-#[derive(Debug, Drop, Error)]
-enum Fault {
-    #[error("input too long")]
-    TooLong,
-    #[error("read fault")]
-    Read,
-    #[error("no script line")]
-    NoScriptLine,
-    #[error(transparent)]
-    Emulate(#[from] EmulateError),
-    #[error("no memory")]
-    Memory(#[from(alloc)] AllocError),
-}
-
-impl Fault {
-    // The exit status.
-    fn status(&self) -> u8 {
-        match self {
-            Fault::NoScriptLine => 1,
-            Fault::TooLong | Fault::Read => 3,
-            Fault::Memory(_) => 4,
-            Fault::Emulate(EmulateError::Write(_)) => 3,
-            Fault::Emulate(EmulateError::Memory) => 4,
-            Fault::Emulate(_) => 1,
-        }
-    }
-}
 
 // Reads all there is, up to the limit.
 fn read_input<R: Read>(alloc: Global, input: &mut R) -> Result<Vec<u8>, Fault> {
@@ -96,9 +69,12 @@ fn perform<R: Read, W: Sink>(
         Choice::Run => {
             let (topology, script) = parts(&input).ok_or(Fault::NoScriptLine)?;
             emulate(alloc, topology, script, out)?;
-            Ok(())
         }
+        Choice::Asm => asm_lines(&input, out)?,
+        Choice::EdidToText => edid_to_text(&input, out)?,
+        Choice::TextToHex => text_to_hex(alloc, &input, out)?,
     }
+    Ok(())
 }
 
 // Tells of a fault, and answers its exit status.
@@ -128,7 +104,7 @@ fn show_refused<W: Sink, E: Sink>(
     }
     match put_all(out, text.as_bytes()) {
         Ok(()) => 0,
-        Err(fault) => tell(&Fault::Emulate(EmulateError::Write(fault.count)), err),
+        Err(fault) => tell(&Fault::Write(fault.count), err),
     }
 }
 

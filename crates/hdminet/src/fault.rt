@@ -1,0 +1,62 @@
+//! Why the program did not do what it was asked.
+use crate::edid_text::{EdidToTextError, TextToHexError};
+use crate::emulate::EmulateError;
+use cec_text::{AssembleError, FrameLinesError};
+use std::alloc::AllocError;
+use thiserror::Error;
+
+#[derive(Debug, Drop, Error)]
+pub enum Fault {
+    #[error("input too long")]
+    TooLong,
+    #[error("read fault")]
+    Read,
+    #[error("no script line")]
+    NoScriptLine,
+    #[error(transparent)]
+    Emulate(#[from] EmulateError),
+    #[error("line {line}: {cause}")]
+    Line { line: u64, cause: AssembleError },
+    #[error(transparent)]
+    EdidToText(#[from] EdidToTextError),
+    #[error(transparent)]
+    TextToHex(#[from] TextToHexError),
+    #[error("write fault after {0} bytes")]
+    Write(u128),
+    #[error("no memory")]
+    Memory(#[from(alloc)] AllocError),
+}
+
+impl From<FrameLinesError> for Fault {
+    fn from(error: FrameLinesError) -> Fault {
+        match error {
+            FrameLinesError::Line(fault) => Fault::Line {
+                line: fault.line,
+                cause: fault.cause,
+            },
+            FrameLinesError::Write(fault) => Fault::Write(fault.count),
+        }
+    }
+}
+
+impl Fault {
+    /// The exit status.
+    pub fn status(&self) -> u8 {
+        match self {
+            Fault::TooLong
+            | Fault::Read
+            | Fault::Write(_)
+            | Fault::Emulate(EmulateError::Write(_))
+            | Fault::EdidToText(EdidToTextError::Write(_))
+            | Fault::TextToHex(TextToHexError::Write(_)) => 3,
+            Fault::Memory(_)
+            | Fault::Emulate(EmulateError::Memory)
+            | Fault::TextToHex(TextToHexError::Memory) => 4,
+            Fault::NoScriptLine
+            | Fault::Emulate(_)
+            | Fault::Line { .. }
+            | Fault::EdidToText(_)
+            | Fault::TextToHex(_) => 1,
+        }
+    }
+}

@@ -1,0 +1,134 @@
+//! What `--help` tells.
+
+pub const ABOUT: &str =
+    "Emulates a living-room HDMI network: a television, and below it devices that share one CEC wire.";
+
+pub const OVERVIEW: &str = "\
+Each subcommand reads standard input and writes standard output. `hdminet SUBCOMMAND --help` explains
+its input. With no subcommand it is `run`.
+
+An example of each:
+  hdminet run                a network of a television and a player, whose play key is pressed
+    device tv tv 4
+    device p1 player 0
+    plug p1 tv 1
+    script
+    at 1000000 press p1 play
+    end 1500000
+  hdminet asm                gives 4f821000
+    4>f active-source 1.0.0.0
+  hdminet edid < tv.edid     gives the lines `edid 1.3`, `maker SAM` and so on
+  hdminet edid --text        takes such lines, and gives the EDID's bytes in hex
+
+Faults go to standard error, as `hdminet: script line 3: word`.
+
+Exit status: 0 done; 1 input refused; 2 command line refused; 3 a read or write fault, or input
+past 1048576 bytes; 4 no memory.";
+
+pub const RUN_ABOUT: &str = "Runs a topology and a script, and prints the trace (the default)";
+
+pub const RUN_HELP: &str = "\
+The input has two parts, parted by a line `script`. Lines that are empty or begin with `#` are
+skipped. Words stand one space apart. Times are microseconds.
+
+The topology declares the devices and how they are plugged together at the start:
+  device NAME KIND PORTS        KIND is tv, amp, player, recorder or switch; PORTS is 0 to 15
+  plug CHILD PARENT PORT        into a port of a device declared above, counted from 1
+
+The script says what happens, in the order of its times, and when the run ends:
+  at T press NAME play          a key of a player or recorder
+  at T plug CHILD PARENT PORT
+  at T unplug CHILD
+  end T                         the last line
+
+An example:
+  device tv tv 4
+  device p1 player 0
+  plug p1 tv 1
+  script
+  at 1000000 press p1 play
+  end 1500000
+
+The output is the trace: a line a round on the wire, a line an event, and at the end the state of
+each device. A round's line is
+  START END ENDING FRAME VERDICT by SENDERS out LIST
+
+Faults: `topology line N: CAUSE`, `script line N: CAUSE`, `no script line`. N counts from the first
+line of its part, and nothing is written to standard output then.
+
+Exit status: 0 done; 1 input refused; 2 command line refused; 3 a read or write fault, or input
+past 1048576 bytes; 4 no memory.";
+
+pub const ASM_ABOUT: &str = "Writes texts of CEC frames in hex";
+
+pub const ASM_HELP: &str = "\
+The input has the text of a frame a line. Lines that are empty or begin with `#` are skipped, but
+counted. The output has a line of hex for each frame: header, opcode and operands.
+
+The text of a frame is `I>D`, the logical addresses of initiator and destination as hex digits; a
+poll is that alone. Then come the opcode's name, or `op-XX` where it has none, and the operands, one
+space apart: as words where they fit the opcode exactly, and else as one word, `:` and all operands
+in lower-case hex. Each frame has one text.
+
+An example, and what it gives:
+  4>4                              44
+  4>f active-source 1.0.0.0        4f821000
+  4>0 play forward                 404124
+  4>0 play :99                     404199
+  5>0 set-osd-name \"AVR\"           5047415652
+  5>0 report-audio-status sound 20 507a14
+
+The fault is `line N: CAUSE` with the first line that tells no frame; nothing is written then. CAUSE
+is the first of these that applies:
+  address    the line does not begin with `I>D`
+  name       no opcode has that name
+  too-long   more than 14 operands in hex
+  count      not as many words as the opcode's operands have
+  operand    the words are no operands of the opcode, or not spelled as they should be
+
+Exit status: 0 done; 1 input refused; 2 command line refused; 3 a read or write fault, or input
+past 1048576 bytes; 4 no memory.";
+
+pub const EDID_ABOUT: &str = "Writes an EDID as text, or a text's EDID in hex";
+
+pub const TEXT_FLAG: &str = "Reads an EDID's text, and prints its bytes as one line of hex";
+
+pub const EDID_HELP: &str = "\
+The input is an EDID of 128 or 256 bytes: a base block of E-EDID 1.3 or 1.4, and perhaps one
+extension block. The output is its text, a line for each part. With --text it is the other way
+round. Each EDID has one text, and nothing of a block is lost: a part that fits no form is kept in
+hex, after `raw` or `ext`.
+
+An example of a text. There are always eight `standard` lines, and four lines for the descriptors:
+  edid 1.3
+  maker SAM
+  product 258
+  serial 1
+  made 10 2011                         week and year
+  input 80
+  size 52 29                           centimetres
+  gamma 120
+  features 0a
+  chroma 655 338 307 614 154 61 320 337
+  established 000000
+  standard 256 0 60                    width, aspect bits, rate; `standard unused` for none
+  timing 14850 1920 280 1080 45 88 44 4 5 520 290 0 0 1e
+  name \"LOUNGE TV 001\"
+  dummy
+  dummy
+  cta f1                               an extension: flags, data blocks, timings, tail
+  video 900403
+  hdmi 0.0.0.0 -                       the physical address, and what follows it
+  tail -
+The remarks to the right are no part of the text.
+
+To see an EDID, and to make the bytes again:
+  hdminet edid < tv.edid > tv.txt
+  hdminet edid --text < tv.txt | xxd -r -p > tv.edid
+
+Faults: `edid: CAUSE` with length, count (byte 126 does not tell the extensions), base header, base
+checksum, base revision, base maker or ext 1 checksum; with --text `text: syntax N` or
+`text: field N`, for the first line that no EDID's text has there. Nothing is written then.
+
+Exit status: 0 done; 1 input refused; 2 command line refused; 3 a read or write fault, or input
+past 1048576 bytes; 4 no memory.";
