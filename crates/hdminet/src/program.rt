@@ -77,8 +77,8 @@ fn perform<R: Read, W: Sink>(
     Ok(())
 }
 
-// Tells of a fault, and answers its exit status.
-fn tell<E: Sink>(fault: &Fault, err: &mut E) -> u8 {
+/// Tells of a fault, and answers its exit status.
+pub fn tell<E: Sink>(fault: &Fault, err: &mut E) -> u8 {
     let mut text = ArrayString::<256>::new();
     let _ = writeln!(text, "hdminet: {fault}");
     let _ = put_all(err, text.as_bytes());

@@ -1,12 +1,16 @@
+//! What the program does, over readers and writers that it is handed.
 use super::*;
 use std::alloc::Global;
 use std::io::{ErrorKind, Read, Write};
+use std::process::Abort;
 use std::test::Fail;
 
-const TELEVISION: &str = "device tv tv 1\nscript\nend 200000\n";
-
-const TELEVISION_TRACE: &str =
-    "12000 39150 complete 0>0 nack by tv out -\n55500 178650 complete 0>f report-physical-address 0.0.0.0 tv ok by tv out -\nstate tv tv 0 0.0.0.0 on active=- path=- deck=1a menu=off audio=off volume=20 mute=off arc=off sel=- lang=656e67 osd=- held=- heard=- sub=- queue=0 dropped=0\n200000 end\n";
+mod command_line;
+mod edids;
+mod frames;
+mod limits;
+mod refused_texts;
+mod runs;
 
 /// A writer that takes one byte at a time, and fails once it holds `room`.
 #[derive(Drop)]
@@ -34,30 +38,25 @@ impl Write for Stingy {
     }
 }
 
-/// A reader that fails.
+/// What a run of the program answers and writes.
 #[derive(Drop)]
-struct Broken;
-
-impl Read for Broken {
-    fn read(&mut self, _buf: &mut [u8]) -> io::Result<usize> {
-        Err(io::Error::from(ErrorKind::Interrupted))
-    }
+struct Answer {
+    status: u8,
+    out: Vec<u8>,
+    err: Vec<u8>,
 }
 
 fn words(alloc: Global, texts: &[&str]) -> Result<Vec<String>, Fail> {
     let mut words = Vec::new(alloc);
+    words.push(String::from_str(alloc, "hdminet")?)?;
     for text in texts {
         words.push(String::from_str(alloc, text)?)?;
     }
     Ok(words)
 }
 
-/// The exit status, and what was written to the two writers.
-fn outcome<R: Read>(
-    alloc: Global,
-    texts: &[&str],
-    input: &mut R,
-) -> Result<(u8, Vec<u8>, Vec<u8>), Fail> {
+/// Runs the program with these words after its name.
+fn answer_to<R: Read>(alloc: Global, texts: &[&str], input: &mut R) -> Result<Answer, Fail> {
     let mut out = Vec::new(alloc);
     let mut err = Vec::new(alloc);
     let status = program(
@@ -67,76 +66,80 @@ fn outcome<R: Read>(
         &mut Writes::new(&mut out),
         &mut Writes::new(&mut err),
     );
-    Ok((status, out, err))
+    Ok(Answer { status, out, err })
 }
 
-#[test]
-fn runs_a_television(rt: HostRuntime) -> Result<(), Fail> {
-    for texts in [["hdminet"].as_slice(), ["hdminet", "run"].as_slice()] {
-        let (status, out, err) = outcome(rt.alloc(), texts, &mut TELEVISION.as_bytes())?;
-        assert_eq!(rt; status, 0);
-        assert_eq!(rt; out.as_slice(), TELEVISION_TRACE.as_bytes());
-        assert_eq!(rt; err.len(), 0);
-    }
-    Ok(())
-}
-
-#[test]
-fn tells_faults(rt: HostRuntime) -> Result<(), Fail> {
-    for (input, fault) in [
-        ("device tv tv 1", "hdminet: no script line\n"),
-        (
-            "device tv tv 16\nscript\n",
-            "hdminet: topology line 1: number\n",
-        ),
-        ("script\nend 1\n", "hdminet: topology line 1: no-root\n"),
-        ("device tv tv 1\nscript\n", "hdminet: script line 1: end\n"),
-        (
-            "device tv tv 1\nscript\nat 5 press tv frob\n",
-            "hdminet: script line 1: word\n",
-        ),
-    ] {
-        let (status, out, err) = outcome(
-            rt.alloc(),
-            ["hdminet"].as_slice(),
-            &mut input.as_bytes(),
-        )?;
-        assert_eq!(rt; status, 1);
-        assert_eq!(rt; out.len(), 0);
-        assert_eq!(rt; err.as_slice(), fault.as_bytes());
-    }
-    let (status, _, _) = outcome(
-        rt.alloc(),
-        ["hdminet", "frob"].as_slice(),
-        &mut "".as_bytes(),
-    )?;
-    assert_eq!(rt; status, 2);
-    let (status, _, err) = outcome(rt.alloc(), ["hdminet"].as_slice(), &mut Broken)?;
-    assert_eq!(rt; status, 3);
-    assert_eq!(rt; err.as_slice(), b"hdminet: read fault\n".as_slice());
-    Ok(())
-}
-
-#[test]
-fn writes_what_fits(rt: HostRuntime) -> Result<(), Fail> {
-    let alloc = rt.alloc();
+/// Runs the program into a writer that takes one byte at a time, as long as there is room.
+fn stingy_answer(alloc: Global, texts: &[&str], input: &[u8], room: usize) -> Result<Answer, Fail> {
     let mut stingy = Stingy {
         held: Vec::new(alloc),
-        room: 12,
+        room,
     };
     let mut err = Vec::new(alloc);
+    let mut rest = input;
     let status = program(
         alloc,
-        words(alloc, ["hdminet"].as_slice())?,
-        &mut TELEVISION.as_bytes(),
+        words(alloc, texts)?,
+        &mut rest,
         &mut Writes::new(&mut stingy),
         &mut Writes::new(&mut err),
     );
-    assert_eq!(rt; status, 3);
-    assert_eq!(rt; stingy.held.as_slice(), b"12000 39150 ".as_slice());
-    assert_eq!(rt;
-        err.as_slice(),
-        b"hdminet: write fault after 12 bytes\n".as_slice()
-    );
+    Ok(Answer {
+        status,
+        out: stingy.held,
+        err,
+    })
+}
+
+/// The program writes this to standard output, and nothing else.
+fn gives(
+    rt: &impl Abort,
+    alloc: Global,
+    texts: &[&str],
+    input: &[u8],
+    out: &[u8],
+) -> Result<(), Fail> {
+    let mut rest = input;
+    let told = answer_to(alloc, texts, &mut rest)?;
+    assert_eq!(rt; told.err.as_slice(), b"".as_slice());
+    assert_eq!(rt; told.out.as_slice(), out);
+    assert_eq!(rt; told.status, 0);
+    Ok(())
+}
+
+/// The program refuses the input with this fault, and writes nothing to standard output.
+fn refuses(
+    rt: &impl Abort,
+    alloc: Global,
+    texts: &[&str],
+    input: &[u8],
+    fault: &str,
+) -> Result<(), Fail> {
+    let mut rest = input;
+    let told = answer_to(alloc, texts, &mut rest)?;
+    let want = format!(in alloc; "hdminet: {fault}\n")?;
+    assert_eq!(rt; told.err.as_slice(), want.as_bytes());
+    assert_eq!(rt; told.out.len(), 0);
+    assert_eq!(rt; told.status, 1);
+    Ok(())
+}
+
+/// The program writes a whole text byte by byte, and the front of it where a writer fails.
+fn cuts(
+    rt: &impl Abort,
+    alloc: Global,
+    texts: &[&str],
+    input: &[u8],
+    whole: &[u8],
+    room: usize,
+) -> Result<(), Fail> {
+    let full = stingy_answer(alloc, texts, input, whole.len())?;
+    assert_eq!(rt; full.out.as_slice(), whole);
+    assert_eq!(rt; full.status, 0);
+    let cut = stingy_answer(alloc, texts, input, room)?;
+    let fault = format!(in alloc; "hdminet: write fault after {room} bytes\n")?;
+    assert_eq!(rt; Some(cut.out.as_slice()), whole.get(..room));
+    assert_eq!(rt; cut.err.as_slice(), fault.as_bytes());
+    assert_eq!(rt; cut.status, 3);
     Ok(())
 }

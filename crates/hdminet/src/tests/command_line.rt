@@ -1,0 +1,82 @@
+use super::*;
+use crate::fault::Fault;
+use crate::program::tell;
+use std::alloc::AllocError;
+
+/// The program shows a text on standard output that has this part.
+fn shows(rt: &impl Abort, alloc: Global, texts: &[&str], part: &str) -> Result<(), Fail> {
+    let told = answer_to(alloc, texts, &mut "".as_bytes())?;
+    let shown = String::from_utf8(told.out)?;
+    assert!(rt; shown.contains(part));
+    assert_eq!(rt; told.err.len(), 0);
+    assert_eq!(rt; told.status, 0);
+    Ok(())
+}
+
+#[test]
+fn explains_itself(rt: HostRuntime) -> Result<(), Fail> {
+    let alloc = rt.alloc();
+    shows(&rt, alloc, ["--help"].as_slice(), "  device tv tv 4\n")?;
+    shows(
+        &rt,
+        alloc,
+        ["--help"].as_slice(),
+        "  4>f active-source 1.0.0.0\n",
+    )?;
+    shows(&rt, alloc, ["--help"].as_slice(), "hdminet edid --text")?;
+    shows(
+        &rt,
+        alloc,
+        ["run", "--help"].as_slice(),
+        "  at 1000000 press p1 play\n",
+    )?;
+    shows(&rt, alloc, ["asm", "--help"].as_slice(), "4f821000\n")?;
+    shows(&rt, alloc, ["edid", "--help"].as_slice(), "  made 10 2011 ")?;
+    shows(&rt, alloc, ["edid", "--help"].as_slice(), "--text")?;
+    shows(&rt, alloc, ["--version"].as_slice(), "hdminet 0.1.0\n")
+}
+
+#[test]
+fn refuses_other_command_lines(rt: HostRuntime) -> Result<(), Fail> {
+    let alloc = rt.alloc();
+    for texts in [
+        ["frob"].as_slice(),
+        ["--frob"].as_slice(),
+        ["run", "--edges"].as_slice(),
+        ["run", "tv.net"].as_slice(),
+        ["asm", "--text"].as_slice(),
+        ["edid", "--hex"].as_slice(),
+        ["edid", "--text", "--text"].as_slice(),
+        ["mon"].as_slice(),
+        ["step"].as_slice(),
+    ] {
+        let told = answer_to(alloc, texts, &mut "".as_bytes())?;
+        assert_eq!(rt; told.status, 2);
+        assert_eq!(rt; told.out.len(), 0);
+        assert!(rt; !told.err.is_empty());
+    }
+    Ok(())
+}
+
+#[test]
+fn tells_that_help_was_not_written(rt: HostRuntime) -> Result<(), Fail> {
+    let alloc = rt.alloc();
+    let told = stingy_answer(alloc, ["--help"].as_slice(), b"", 9)?;
+    assert_eq!(rt; told.out.as_slice(), b"Emulates ".as_slice());
+    assert_eq!(rt;
+        told.err.as_slice(),
+        b"hdminet: write fault after 9 bytes\n".as_slice()
+    );
+    assert_eq!(rt; told.status, 3);
+    Ok(())
+}
+
+#[test]
+fn tells_that_there_is_no_memory(rt: HostRuntime) -> Result<(), Fail> {
+    let alloc = rt.alloc();
+    let mut err = Vec::new(alloc);
+    let status = tell(&Fault::Memory(AllocError), &mut Writes::new(&mut err));
+    assert_eq!(rt; err.as_slice(), b"hdminet: no memory\n".as_slice());
+    assert_eq!(rt; status, 4);
+    Ok(())
+}

@@ -1,0 +1,271 @@
+use super::*;
+use crate::edid_text::{edid_to_text, text_to_hex};
+
+/// A base block with one extension to follow.
+const BASE: &str =
+    "00ffffffffffff004c2d0201010000000a15010380341d780aee91a3544c99260f505400000001010101010101010101010101010101023a801871382d40582c450008222100001e000000fc004c4f554e4745205456203030310000001000000000000000000000000000000000001000000000000000000000000000000151";
+
+/// The front of an extension with four data blocks, up to its zeros.
+const EXTENSION: &str = "020316f143900403230907078301000065030c000000";
+
+const BASE_TEXT: &str = "\
+edid 1.3
+maker SAM
+product 258
+serial 1
+made 10 2011
+input 80
+size 52 29
+gamma 120
+features 0a
+chroma 655 338 307 614 154 61 320 337
+established 000000
+standard unused
+standard unused
+standard unused
+standard unused
+standard unused
+standard unused
+standard unused
+standard unused
+timing 14850 1920 280 1080 45 88 44 4 5 520 290 0 0 1e
+name \"LOUNGE TV 001\"
+dummy
+dummy
+";
+
+const EXTENSION_TEXT: &str = "\
+cta f1
+video 900403
+audio 090707
+speakers 010000
+hdmi 0.0.0.0 -
+tail -
+";
+
+/// A detailed timing.
+const TIMING: &str = "023a801871382d40582c450008222100001e";
+
+const TIMING_LINE: &str = "timing 14850 1920 280 1080 45 88 44 4 5 520 290 0 0 1e\n";
+
+const EDID: [&str; 1] = ["edid"];
+
+const TEXT: [&str; 2] = ["edid", "--text"];
+
+/// Both blocks in hex, of an extension with this front and checksum.
+fn blocks(alloc: Global, front: &str, check: &str) -> Result<String, Fail> {
+    Ok(format!(in alloc; "{BASE}{front:0<254}{check}")?)
+}
+
+/// The two blocks of the example in hex.
+fn example(alloc: Global) -> Result<String, Fail> {
+    blocks(alloc, EXTENSION, "e8")
+}
+
+/// The two blocks of the example in hex, with a part of the base block and its checksum changed.
+fn changed(alloc: Global, from: &str, to: &str, check: &str) -> Result<String, Fail> {
+    let (front, rest) = BASE.split_once(from).ok_or("no such part")?;
+    let base = format!(in alloc; "{front}{to}{rest}")?;
+    let summed = base.as_str().get(..254).ok_or("no checksum")?;
+    Ok(format!(in alloc; "{summed}{check}{EXTENSION:0<254}e8")?)
+}
+
+/// The bytes of these digits have this text, and the text these digits.
+fn goes_both_ways(rt: &impl Abort, alloc: Global, digits: &str, text: &[u8]) -> Result<(), Fail> {
+    let bytes = hex::decode(alloc, digits)?;
+    gives(rt, alloc, EDID.as_slice(), &bytes, text)?;
+    let line = format!(in alloc; "{digits}\n")?;
+    gives(rt, alloc, TEXT.as_slice(), text, line.as_bytes())
+}
+
+/// The text of the base block, and another text behind it.
+fn behind_base(alloc: Global, extension: &str) -> Result<String, Fail> {
+    Ok(format!(in alloc; "{BASE_TEXT}{extension}")?)
+}
+
+/// The text of the example, with a part changed.
+fn changed_text(alloc: Global, from: &str, to: &str) -> Result<String, Fail> {
+    let text = behind_base(alloc, EXTENSION_TEXT)?;
+    let (front, rest) = text.as_str().split_once(from).ok_or("no such part")?;
+    Ok(format!(in alloc; "{front}{to}{rest}")?)
+}
+
+#[test]
+fn writes_an_edid_both_ways(rt: HostRuntime) -> Result<(), Fail> {
+    let alloc = rt.alloc();
+    let digits = example(alloc)?;
+    let text = behind_base(alloc, EXTENSION_TEXT)?;
+    goes_both_ways(&rt, alloc, digits.as_str(), text.as_bytes())
+}
+
+#[test]
+fn writes_extensions_both_ways(rt: HostRuntime) -> Result<(), Fail> {
+    let alloc = rt.alloc();
+    let timings = TIMING.repeat(alloc, 6)?;
+    let timing_lines = TIMING_LINE.repeat(alloc, 6)?;
+    let full = format!(in alloc; "020304f1{timings}0102030405060708090a0b0c0d0e0f")?;
+    let full_text = format!(in alloc;
+        "cta f1\n{timing_lines}tail 0102030405060708090a0b0c0d0e0f\n"
+    )?;
+    for (front, check, text) in [
+        // Neither data blocks nor timings.
+        ("020300f1", "0a", "cta-none f1\ntail -\n"),
+        // No data blocks, and a tail of zeros.
+        ("020304f1", "06", "cta f1\ntail -\n"),
+        // Timings up to a tail of 15 bytes.
+        (full.as_str(), "e6", full_text.as_str()),
+        // Two HDMI blocks.
+        (
+            "020310f165030c00100065030c002000",
+            "e2",
+            "cta f1\nhdmi 1.0.0.0 -\nhdmi 2.0.0.0 -\ntail -\n",
+        ),
+    ] {
+        let digits = blocks(alloc, front, check)?;
+        let text = behind_base(alloc, text)?;
+        goes_both_ways(&rt, alloc, digits.as_str(), text.as_bytes())?;
+    }
+    Ok(())
+}
+
+#[test]
+fn keeps_extensions_that_fit_no_form(rt: HostRuntime) -> Result<(), Fail> {
+    let alloc = rt.alloc();
+    // A data block that runs past the timings, and a place of the timings behind the block.
+    for (front, check) in [("020306f14390", "31"), ("020390f1", "7a")] {
+        let digits = blocks(alloc, front, check)?;
+        let block = digits.as_str().get(256..).ok_or("no extension")?;
+        let text = format!(in alloc; "{BASE_TEXT}ext {block}\n")?;
+        goes_both_ways(&rt, alloc, digits.as_str(), text.as_bytes())?;
+    }
+    Ok(())
+}
+
+#[test]
+fn writes_descriptors_both_ways(rt: HostRuntime) -> Result<(), Fail> {
+    let alloc = rt.alloc();
+    let name = "4c4f554e4745205456203030310";
+    for (from, to, check, line, changed_line) in [
+        // A clock whose low byte is 0.
+        ("023a80", "003a80", "53", "timing 14850 ", "timing 14848 "),
+        // Thirteen characters that end in spaces.
+        (
+            name,
+            "4c4f554e4745205456202020200",
+            "82",
+            "TV 001",
+            "TV    ",
+        ),
+        // Twelve characters.
+        (name, "4c4f554e47452054562030310a0", "77", "TV 001", "TV 01"),
+    ] {
+        let digits = changed(alloc, from, to, check)?;
+        let text = changed_text(alloc, line, changed_line)?;
+        goes_both_ways(&rt, alloc, digits.as_str(), text.as_bytes())?;
+    }
+    Ok(())
+}
+
+#[test]
+fn tells_why_bytes_are_no_edid(rt: HostRuntime) -> Result<(), Fail> {
+    let alloc = rt.alloc();
+    let whole = hex::decode(alloc, example(alloc)?.as_str())?;
+    for (count, fault) in [
+        (0, "length"),
+        (127, "length"),
+        (128, "count"),
+        (255, "length"),
+    ] {
+        let front = whole.as_slice().get(..count).ok_or("too short")?;
+        let told = format!(in alloc; "edid: {fault}")?;
+        refuses(&rt, alloc, EDID.as_slice(), front, told.as_str())?;
+    }
+    for (from, to, check, fault) in [
+        ("4c2d", "4c2d", "52", "base checksum"),
+        // Revision 2, and version 2, with right checksums.
+        ("0103803", "0102803", "52", "base revision"),
+        ("0103803", "0203803", "50", "base revision"),
+        ("4c2d", "6c2d", "31", "base maker"),
+        ("00ff", "01ff", "50", "base header"),
+    ] {
+        let digits = changed(alloc, from, to, check)?;
+        let bytes = hex::decode(alloc, digits.as_str())?;
+        let told = format!(in alloc; "edid: {fault}")?;
+        refuses(&rt, alloc, EDID.as_slice(), &bytes, told.as_str())?;
+    }
+    let digits = blocks(alloc, EXTENSION, "e9")?;
+    let bytes = hex::decode(alloc, digits.as_str())?;
+    refuses(&rt, alloc, EDID.as_slice(), &bytes, "edid: ext 1 checksum")
+}
+
+#[test]
+fn names_the_line_of_a_text(rt: HostRuntime) -> Result<(), Fail> {
+    let alloc = rt.alloc();
+    for (from, to, fault) in [
+        ("made 10 2011", "made 10 2300", "field 5"),
+        ("made 10 2011", "made 10 2011 0", "syntax 5"),
+        ("made 10 2011\n", "", "syntax 5"),
+        ("features 0a", "features 0A", "field 9"),
+        ("cta f1", "cta F1", "field 24"),
+        ("maker SAM", "maker sam", "field 2"),
+        ("tail -\n", "tail -", "syntax 29"),
+        ("tail -\n", "", "syntax 29"),
+        ("tail -\n", "tail -\n\n", "syntax 30"),
+        ("edid 1.3", "# an EDID\nedid 1.3", "syntax 1"),
+        (
+            "name \"LOUNGE TV 001\"",
+            "raw 000000fc004c4f554e474520545620303031",
+            "field 21",
+        ),
+    ] {
+        let text = changed_text(alloc, from, to)?;
+        let told = format!(in alloc; "text: {fault}")?;
+        refuses(&rt, alloc, TEXT.as_slice(), text.as_bytes(), told.as_str())?;
+    }
+    refuses(&rt, alloc, TEXT.as_slice(), b"", "text: syntax 1")
+}
+
+#[test]
+fn writes_the_front_of_an_edid(rt: HostRuntime) -> Result<(), Fail> {
+    let alloc = rt.alloc();
+    let digits = example(alloc)?;
+    let bytes = hex::decode(alloc, digits.as_str())?;
+    let text = behind_base(alloc, EXTENSION_TEXT)?;
+    let line = format!(in alloc; "{digits}\n")?;
+    for room in [0, 1, 10, 400] {
+        cuts(&rt, alloc, EDID.as_slice(), &bytes, text.as_bytes(), room)?;
+        cuts(
+            &rt,
+            alloc,
+            TEXT.as_slice(),
+            text.as_bytes(),
+            line.as_bytes(),
+            room,
+        )?;
+    }
+    cuts(
+        &rt,
+        alloc,
+        TEXT.as_slice(),
+        text.as_bytes(),
+        line.as_bytes(),
+        512,
+    )
+}
+
+#[test]
+fn answers_its_callers(rt: HostRuntime) -> Result<(), Fail> {
+    let alloc = rt.alloc();
+    let digits = example(alloc)?;
+    let bytes = hex::decode(alloc, digits.as_str())?;
+    let mut text = Vec::new(alloc);
+    assert_eq!(rt; edid_to_text(&bytes, &mut Writes::new(&mut text)), Ok(()));
+    let mut line = Vec::new(alloc);
+    assert_eq!(rt;
+        text_to_hex(alloc, &text, &mut Writes::new(&mut line)),
+        Ok(())
+    );
+    assert_eq!(rt; line.len(), 513);
+    assert_eq!(rt; line.as_slice().get(..512), Some(digits.as_bytes()));
+    Ok(())
+}
