@@ -7,18 +7,21 @@ pub const OVERVIEW: &str = "\
 Each subcommand reads standard input and writes standard output. `hdminet SUBCOMMAND --help` explains
 its input. With no subcommand it is `run`.
 
-An example of each:
-  hdminet run                a network of a television and a player, whose play key is pressed
-    device tv tv 4
-    device p1 player 0
-    plug p1 tv 1
-    script
-    at 1000000 press p1 play
-    end 1500000
-  hdminet asm                gives 4f821000
-    4>f active-source 1.0.0.0
-  hdminet edid < tv.edid     gives the lines `edid 1.3`, `maker SAM` and so on
-  hdminet edid --text        takes such lines, and gives the EDID's bytes in hex
+Examples, of which the folder examples/ has the inputs and outputs:
+  ./hdminet run < examples/first-path.net
+      a network of a television and a player, whose play key is pressed:
+      device tv tv 4
+      device p1 player 0
+      plug p1 tv 1
+      script
+      at 1000000 press p1 play
+      end 1500000
+  ./hdminet asm < examples/frames.txt
+      `4>f active-source 1.0.0.0` gives `4f821000`
+  ./hdminet edid < examples/living-room.edid
+      the bytes of an EDID give the lines `edid 1.3`, `maker SAM` and so on
+  ./hdminet edid --text < examples/living-room.edid.txt
+      and the lines give the bytes in hex
 
 Faults go to standard error, as `hdminet: script line 3: word`.
 
@@ -34,6 +37,7 @@ skipped. Words stand one space apart. Times are microseconds.
 The topology declares the devices and how they are plugged together at the start:
   device NAME KIND PORTS        KIND is tv, amp, player, recorder or switch; PORTS is 0 to 15
   plug CHILD PARENT PORT        into a port of a device declared above, counted from 1
+  edid HEX                      the television's EDID, once at most; its ports pass it on
 
 The script says what happens, in the order of its times, and when the run ends:
   at T press NAME play          a key of a player or recorder
@@ -49,12 +53,17 @@ An example:
   at 1000000 press p1 play
   end 1500000
 
-The output is the trace: a line a round on the wire, a line an event, and at the end the state of
-each device. A round's line is
+The output is the trace: a line a round on the wire, a line an event, with an EDID a line for each
+port of a device that comes on the wire, and at the end the state of each device. These are
   START END ENDING FRAME VERDICT by SENDERS out LIST
+  T event LINE ok
+  T event LINE refused WORD
+  T port NAME PORT HEX
+  state NAME KIND ..
+  T end
 
-Faults: `topology line N: CAUSE`, `script line N: CAUSE`, `no script line`. N counts from the first
-line of its part, and nothing is written to standard output then.
+Faults: `topology line N: CAUSE`, `script line N: CAUSE`, `edid: CAUSE`, `no script line`. N counts
+from the first line of its part, and nothing is written to standard output then.
 
 Exit status: 0 done; 1 input refused; 2 command line refused; 3 a read or write fault, or input
 past 1048576 bytes; 4 no memory.";
@@ -123,8 +132,8 @@ An example of a text. There are always eight `standard` lines, and four lines fo
 The remarks to the right are no part of the text.
 
 To see an EDID, and to make the bytes again:
-  hdminet edid < tv.edid > tv.txt
-  hdminet edid --text < tv.txt | xxd -r -p > tv.edid
+  ./hdminet edid < tv.edid > tv.txt
+  ./hdminet edid --text < tv.txt | xxd -r -p > tv.edid
 
 Faults: `edid: CAUSE` with length, count (byte 126 does not tell the extensions), base header, base
 checksum, base revision, base maker or ext 1 checksum; with --text `text: syntax N` or

@@ -16,14 +16,19 @@ fn shows(rt: &impl Abort, alloc: Global, texts: &[&str], part: &str) -> Result<(
 #[test]
 fn explains_itself(rt: HostRuntime) -> Result<(), Fail> {
     let alloc = rt.alloc();
-    shows(&rt, alloc, ["--help"].as_slice(), "  device tv tv 4\n")?;
+    shows(&rt, alloc, ["--help"].as_slice(), "      device tv tv 4\n")?;
     shows(
         &rt,
         alloc,
         ["--help"].as_slice(),
-        "  4>f active-source 1.0.0.0\n",
+        "`4>f active-source 1.0.0.0`",
     )?;
-    shows(&rt, alloc, ["--help"].as_slice(), "hdminet edid --text")?;
+    shows(
+        &rt,
+        alloc,
+        ["--help"].as_slice(),
+        "./hdminet edid --text < ",
+    )?;
     shows(
         &rt,
         alloc,

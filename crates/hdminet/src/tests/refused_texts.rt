@@ -205,3 +205,14 @@ fn wants_a_script_line(rt: HostRuntime) -> Result<(), Fail> {
     let input = b"device tv tv 1\nscript\nscript\nend 5\n";
     refuses(&rt, alloc, ["run"].as_slice(), input, "script line 1: word")
 }
+
+#[test]
+fn judges_an_edid_after_the_script(rt: HostRuntime) -> Result<(), Fail> {
+    let alloc = rt.alloc();
+    let run = ["run"].as_slice();
+    for (script, fault) in [("frob", "script line 1: word"), ("end 5", "edid: length")] {
+        let input = format!(in alloc; "device tv tv 1\nedid 00fF\nscript\n{script}\n")?;
+        refuses(&rt, alloc, run, input.as_bytes(), fault)?;
+    }
+    Ok(())
+}
