@@ -1,6 +1,7 @@
 -- Worked rows of single devices, computed from the definitions.
 use Rattle.std.proofs.Common.{◌≡◌, ℕ, Bool, true, false, List, [], ◌∷◌, length, map, Some, None, refl}
 use Rattle.std.specs.Prelude.{fold, replicate}
+use Rattle.cec_opcode.specs.declared.user_control.UserControl.TheVariants.{Play as PlayCode}
 use Rattle.hdmi_cta.specs.declared.kind.Kind.{Kind}
 use Rattle.hdmi_cta.specs.declared.kind.Kind.TheVariants.{Tv, Amp, Player, Switch}
 use Rattle.cec_device.specs.declared.record.Place.TheVariants.{Settled}
@@ -88,7 +89,7 @@ switch-port = refl
 switch-refuses : (key_fault switch (Port 4) ≡ Some NotForKind) × (key_fault switch Play ≡ Some NotForKind) × (key_fault (left switch) Play ≡ Some OffWire)
 switch-refuses = (refl, refl, refl)
 
-tv-keys : queue (keys (device Tv 0) ((Watch (record { high = 0x10; low = 0x00 }), true) ∷ (Audio true, true) ∷ (Remote 4 0x44, true) ∷ (Remote 4 0x44, false)
+tv-keys : queue (keys (device Tv 0) ((Watch (record { high = 0x10; low = 0x00 }), true) ∷ (Audio true, true) ∷ (Remote 4 PlayCode, true) ∷ (Remote 4 PlayCode, false)
     ∷ (Volume Mute, true) ∷ (Power, true) ∷ []))
     ≡ (0x0f ∷ 0x86 ∷ 0x10 ∷ 0x00 ∷ []) ∷ (0x05 ∷ 0x70 ∷ 0x10 ∷ 0x00 ∷ []) ∷ (0x04 ∷ 0x44 ∷ 0x44 ∷ []) ∷ (0x04 ∷ 0x45 ∷ []) ∷ (0x0f ∷ 0x36 ∷ []) ∷ []
 tv-keys = refl

@@ -8,6 +8,22 @@ use Rattle.cec_opcode.specs.declared.message.Message.TheVariants.{FeatureAbort, 
 use Rattle.cec_opcode.specs.declared.message.Decoded.{Decoded}
 use Rattle.cec_opcode.specs.declared.message.Decoded.TheVariants.{Known, Unknown as NoName}
 use Rattle.cec_opcode.specs.Table.{decoded_of, rule_of, may_go}
+use Rattle.cec_opcode.specs.ControlWords.{user_control_byte}
+use Rattle.cec_opcode.specs.declared.deck_words.StatusRequest.{StatusRequest}
+use Rattle.cec_opcode.specs.declared.deck_words.StatusRequest.TheVariants.{On, Off, Once, Other as OtherRequest}
+use Rattle.cec_opcode.specs.declared.deck_words.PlayMode.{PlayMode}
+use Rattle.cec_opcode.specs.declared.deck_words.PlayMode.TheVariants.{Forward, Still, FastForwardMin, FastForwardMid, FastForwardMax, FastReverseMin, FastReverseMid, FastReverseMax, Other as OtherMode}
+use Rattle.cec_opcode.specs.declared.deck_words.DeckControlMode.{DeckControlMode}
+use Rattle.cec_opcode.specs.declared.deck_words.DeckControlMode.TheVariants.{SkipForward, SkipReverse, Stop, Eject, Other as OtherControl}
+use Rattle.cec_opcode.specs.declared.screen_words.Display.{Display}
+use Rattle.cec_opcode.specs.declared.screen_words.Display.TheVariants.{Default, Hold, Clear, Other as OtherDisplay}
+use Rattle.cec_opcode.specs.declared.screen_words.MenuRequestType.{MenuRequestType}
+use Rattle.cec_opcode.specs.declared.screen_words.MenuRequestType.TheVariants.{Activate, Deactivate, Query, Other as OtherMenu}
+use Rattle.cec_opcode.specs.declared.words.SystemAudio.{SystemAudio}
+use Rattle.cec_opcode.specs.declared.words.SystemAudio.TheVariants.{Off as AudioOff, On as AudioOn, Other as OtherAudio}
+use Rattle.cec_opcode.specs.declared.user_control.UserControl.{UserControl}
+use Rattle.cec_opcode.specs.declared.user_control.UserControl.TheVariants.{RootMenu, Exit, Power, VolumeUp, VolumeDown, Mute, Play as PlayKey, Stop as StopKey, Pause, PowerOff, PowerOn}
+use Rattle.arrayvec.specs.declared.ArrayVec.{ArrayVec}
 use Rattle.hdmi_cta.specs.declared.kind.Kind.{Kind}
 use Rattle.hdmi_cta.specs.declared.phys.Phys.{Phys}
 use Rattle.cec_device.specs.declared.record.Record.{Record}
@@ -25,11 +41,6 @@ refuses r reason = does r (Refuse reason ∷ [])
 -- a kind that the line does not name refuses with 0
 abbrev pub only : Bool → Record → Effect → Effect
 only named r e = if named then e else refuses r 0
-
--- the first of the cases that the byte is, and else the last word
-abbrev pub which : ℕ → List (ℕ × Effect) → Effect → Effect
-which x [] otherwise = otherwise
-which x (c ∷ cases) otherwise = if x == c.0 then c.1 else which x cases otherwise
 
 -- a report is kept, with its first operand
 abbrev pub hears : Heard → Record → Effect
@@ -63,17 +74,72 @@ abbrev pub volume_status : Record → ℕ
 volume_status r = if r.mute then r.volume + 128 else r.volume
 
 -- the state of the deck that a play mode asks for
-abbrev pub mode_deck : ℕ → Option ℕ
-mode_deck mode = mode_in ((0x24, 0x11) ∷ (0x25, 0x14) ∷ (0x05, 0x17) ∷ (0x06, 0x17) ∷ (0x07, 0x17) ∷ (0x09, 0x18) ∷ (0x0a, 0x18) ∷ (0x0b, 0x18) ∷ [])
-  where
-    mode_in : List (ℕ × ℕ) → Option ℕ
-    mode_in [] = None
-    mode_in (c ∷ cases) = if mode == c.0 then Some c.1 else mode_in cases
+abbrev pub mode_deck : PlayMode → Option ℕ
+mode_deck Forward = Some 0x11
+mode_deck Still = Some 0x14
+mode_deck FastForwardMin = Some 0x17
+mode_deck FastForwardMid = Some 0x17
+mode_deck FastForwardMax = Some 0x17
+mode_deck FastReverseMin = Some 0x18
+mode_deck FastReverseMid = Some 0x18
+mode_deck FastReverseMax = Some 0x18
+mode_deck (OtherMode other) = None
 
 -- Play with a listed mode, or none
 abbrev pub plays : Record → Option ℕ → Effect
 plays r None = refuses r 3
 plays r (Some deck) = if r.deck == 0x19 then refuses r 1 else does (record r { power = true; deck = deck }) (notice r deck)
+
+-- Give Deck Status: the initiator is told from now on, no more, or once
+abbrev pub deck_asked : Heard → Record → StatusRequest → Effect
+deck_asked h r On = does (record r { sub = Some h.from }) (Reply (0x1b ∷ r.deck ∷ []) ∷ [])
+deck_asked h r Off = does (record r { sub = None }) []
+deck_asked h r Once = does r (Reply (0x1b ∷ r.deck ∷ []) ∷ [])
+deck_asked h r (OtherRequest other) = refuses r 3
+
+-- a deck that is on and has a medium
+abbrev pub wound : Record → ℕ → Effect
+wound r deck = if not r.power || (r.deck == 0x19) then refuses r 1 else turned r deck
+
+-- Deck Control
+abbrev pub controlled : Record → DeckControlMode → Effect
+controlled r SkipForward = wound r 0x1b
+controlled r SkipReverse = wound r 0x1c
+controlled r Stop = wound r 0x1a
+controlled r Eject = if r.power then turned r 0x19 else refuses r 1
+controlled r (OtherControl other) = refuses r 3
+
+-- Menu Status of a deck that is on
+abbrev pub menu_told : Record → Bool → Effect
+menu_told r menu = if r.power then does (record r { menu = menu }) (Reply (0x8e ∷ (if menu then 0 else 1) ∷ []) ∷ []) else refuses r 1
+
+-- Menu Request
+abbrev pub menu_asked : Record → MenuRequestType → Effect
+menu_asked r Activate = menu_told r true
+menu_asked r Deactivate = menu_told r false
+menu_asked r Query = menu_told r r.menu
+menu_asked r (OtherMenu other) = refuses r 3
+
+-- ---- a television's screen and sound
+
+-- a text on the screen of a television that is on
+abbrev pub written : Record → ArrayVec ℕ 16 (Unit {0}) → Effect
+written r text =
+    if not r.power then refuses r 1 else (
+    if length text.items == 0 then refuses r 3 else does (record r { osd = text }) [])
+
+-- Set OSD String
+abbrev pub shown : Record → Display → ArrayVec ℕ 16 (Unit {0}) → Effect
+shown r Default text = written r text
+shown r Hold text = written r text
+shown r Clear text = if r.power then does (record r { osd = record { items = [] } }) [] else refuses r 1
+shown r (OtherDisplay other) text = refuses r 3
+
+-- Set System Audio Mode
+abbrev pub audio_set : Record → SystemAudio → Effect
+audio_set r AudioOff = does (record r { audio = false }) []
+audio_set r AudioOn = does (record r { audio = true }) []
+audio_set r (OtherAudio other) = refuses r 3
 
 -- ---- ways through switches
 
@@ -126,25 +192,29 @@ abbrev pub menus : Kind → Record → Bool → ℕ → Effect
 menus kind r is_change byte = if is_deck kind && is_change then does (record r { menu = not r.menu }) (Tell 0 (0x8e ∷ byte ∷ []) ∷ []) else does r []
 
 -- a user control code at a device that is on
-abbrev pub pressed_on : Kind → ℕ → Record → Effect
-pressed_on kind code r = which code (
-    (0x40, does (standby r) []) ∷
-    (0x6c, does (standby r) []) ∷
-    (0x41, sounds kind r (record r { volume = louder r.volume })) ∷
-    (0x42, sounds kind r (record r { volume = r.volume - 1 })) ∷
-    (0x43, sounds kind r (record r { mute = not r.mute })) ∷
-    (0x44, decks kind r 0x11) ∷
-    (0x45, decks kind r 0x1a) ∷
-    (0x46, decks kind r 0x14) ∷
-    (0x09, menus kind r (not r.menu) 0) ∷
-    (0x0d, menus kind r r.menu 1) ∷ [])
-    (does r [])
+abbrev pub pressed_on : Kind → UserControl → Record → Effect
+pressed_on kind Power r = does (standby r) []
+pressed_on kind PowerOff r = does (standby r) []
+pressed_on kind VolumeUp r = sounds kind r (record r { volume = louder r.volume })
+pressed_on kind VolumeDown r = sounds kind r (record r { volume = r.volume - 1 })
+pressed_on kind Mute r = sounds kind r (record r { mute = not r.mute })
+pressed_on kind PlayKey r = decks kind r 0x11
+pressed_on kind StopKey r = decks kind r 0x1a
+pressed_on kind Pause r = decks kind r 0x14
+pressed_on kind RootMenu r = menus kind r (not r.menu) 0
+pressed_on kind Exit r = menus kind r r.menu 1
+pressed_on kind _ r = does r []
 
 -- in standby only Power and Power On act
-abbrev pub pressed : Kind → Heard → Record → Effect
-pressed kind h r =
-    if r.power then pressed_on kind h.first (record r { held = Some h.first }) else
-    (if (h.first == 0x40) || (h.first == 0x6d) then does (record r { power = true; held = Some h.first }) [] else does r [])
+abbrev pub wakes : UserControl → Bool
+wakes Power = true
+wakes PowerOn = true
+wakes _ = false
+
+abbrev pub pressed : Kind → UserControl → Record → Effect
+pressed kind code r =
+    if r.power then pressed_on kind code (record r { held = Some (user_control_byte code) }) else (
+    if wakes code then does (record r { power = true; held = Some (user_control_byte code) }) [] else does r [])
 
 -- ---- the table, a line each
 
@@ -152,23 +222,12 @@ abbrev pub effect_of : Kind → Phys → List ℕ → ℕ → Heard → Record �
 effect_of kind own name ports h r (FeatureAbort opcode reason) = does r []
 effect_of kind own name ports h r ImageViewOn = only (is_tv kind) r (does (record r { power = true }) [])
 effect_of kind own name ports h r TextViewOn = only (is_tv kind) r (does (record r { power = true; osd = record { items = [] } }) [])
-effect_of kind own name ports h r (GiveDeckStatus request) = only (is_deck kind) r (which request (
-    (1, does (record r { sub = Some h.from }) (Reply (0x1b ∷ r.deck ∷ []) ∷ [])) ∷
-    (2, does (record r { sub = None }) []) ∷
-    (3, does r (Reply (0x1b ∷ r.deck ∷ []) ∷ [])) ∷ [])
-    (refuses r 3))
+effect_of kind own name ports h r (GiveDeckStatus request) = only (is_deck kind) r (deck_asked h r request)
 effect_of kind own name ports h r (DeckStatus deck) = hears h r
 effect_of kind own name ports h r Standby = does (standby r) []
 effect_of kind own name ports h r (Play mode) = only (is_deck kind) r (plays r (mode_deck mode))
-effect_of kind own name ports h r (DeckControl control) = only (is_deck kind) r (
-    if not (nat_le 1 control && nat_le control 4) then refuses r 3 else (
-    if not r.power then refuses r 1 else (
-    if control == 4 then does (record r { deck = 0x19 }) (notice r 0x19) else (
-    if r.deck == 0x19 then refuses r 1 else which control (
-    (1, does (record r { deck = 0x1b }) (notice r 0x1b)) ∷
-    (2, does (record r { deck = 0x1c }) (notice r 0x1c)) ∷ [])
-    (does (record r { deck = 0x1a }) (notice r 0x1a))))))
-effect_of kind own name ports h r (UserControlPressed code) = only (is_tv kind || (is_deck kind || is_amp kind)) r (pressed kind h r)
+effect_of kind own name ports h r (DeckControl control) = only (is_deck kind) r (controlled r control)
+effect_of kind own name ports h r (UserControlPressed code) = only (is_tv kind || (is_deck kind || is_amp kind)) r (pressed kind code r)
 effect_of kind own name ports h r UserControlReleased = only (is_tv kind || (is_deck kind || is_amp kind)) r (does (record r { held = None }) [])
 effect_of kind own name ports h r GiveOsdName = does r (Reply (0x47 ∷ name) ∷ [])
 effect_of kind own name ports h r (SystemAudioModeRequest None) = only (is_amp kind) r (does (record r { audio = false }) (Cast (0x72 ∷ 0 ∷ []) ∷ []))
@@ -180,22 +239,13 @@ effect_of kind own name ports h r (InactiveSource address) = only (is_tv kind) r
 effect_of kind own name ports h r GivePhysicalAddress = does r (Cast (0x84 ∷ own.high ∷ own.low ∷ type_of kind ∷ []) ∷ [])
 effect_of kind own name ports h r (ReportPhysicalAddress address type) = hears h r
 effect_of kind own name ports h r (SetStreamPath address) = streamed kind own ports (phys_of address) r
-effect_of kind own name ports h r (MenuRequest request) = only (is_deck kind) r (
-    if not (nat_lt request 3) then refuses r 3 else (
-    if not r.power then refuses r 1 else which request (
-    (0, does (record r { menu = true }) (Reply (0x8e ∷ 0 ∷ []) ∷ [])) ∷
-    (1, does (record r { menu = false }) (Reply (0x8e ∷ 1 ∷ []) ∷ [])) ∷ [])
-    (does r (Reply (0x8e ∷ (if r.menu then 0 else 1) ∷ []) ∷ []))))
+effect_of kind own name ports h r (MenuRequest request) = only (is_deck kind) r (menu_asked r request)
 effect_of kind own name ports h r (RequestArcInitiation) = only (is_amp kind) r (
     if h.from == 0 then does r (Reply (0xc0 ∷ []) ∷ []) else refuses r 4)
 effect_of kind own name ports h r (SetMenuLanguage language) = only (is_deck kind || is_amp kind) r (if h.from == 0 then does (record r { language = language }) [] else does r [])
 effect_of kind own name ports h r (SetOsdName text) = hears h r
-effect_of kind own name ports h r (SetOsdString display text) = only (is_tv kind) r (
-    if not ((display == 0x00) || ((display == 0x40) || (display == 0x80))) then refuses r 3 else (
-    if not r.power then refuses r 1 else (
-    if display == 0x80 then does (record r { osd = record { items = [] } }) [] else (
-    if length text.items == 0 then refuses r 3 else does (record r { osd = text }) []))))
-effect_of kind own name ports h r (SetSystemAudioMode audio) = only (is_tv kind) r (which audio ((0, does (record r { audio = false }) []) ∷ (1, does (record r { audio = true }) []) ∷ []) (refuses r 3))
+effect_of kind own name ports h r (SetOsdString display text) = only (is_tv kind) r (shown r display text)
+effect_of kind own name ports h r (SetSystemAudioMode audio) = only (is_tv kind) r (audio_set r audio)
 effect_of kind own name ports h r (ReportAudioStatus status) = hears h r
 effect_of kind own name ports h r GiveSystemAudioModeStatus = only (is_amp kind) r (does r (Reply (0x7e ∷ (if r.audio then 1 else 0) ∷ []) ∷ []))
 effect_of kind own name ports h r (SystemAudioModeStatus audio) = hears h r

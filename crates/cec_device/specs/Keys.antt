@@ -1,6 +1,9 @@
 -- The key table, which is this profile's own: what a press and a release do, by kind. What a key sends are the
 -- messages of CEC 13.
 use Rattle.std.specs.Prelude.{ℕ, ◌==◌, ◌-◌, Bool, true, not, ◌&&◌, ◌||◌, nat_le, List, [], ◌∷◌, if◌then◌else◌, Option, Some, None}
+use Rattle.cec_opcode.specs.ControlWords.{user_control_byte}
+use Rattle.cec_opcode.specs.declared.user_control.UserControl.{UserControl}
+use Rattle.cec_opcode.specs.declared.user_control.UserControl.TheVariants.{VolumeUp, VolumeDown, Mute as MuteCode}
 use Rattle.hdmi_cta.specs.declared.kind.Kind.{Kind}
 use Rattle.hdmi_cta.specs.declared.phys.Phys.{Phys}
 use Rattle.cec_device.specs.declared.record.Record.{Record}
@@ -39,10 +42,10 @@ has_key kind ports (Language language) = is_tv kind
 has_key kind ports (Remote to code) = is_tv kind
 
 -- the user control code of a key of the sound
-abbrev pub code_of : VolumeKey → ℕ
-code_of Up = 0x41
-code_of Down = 0x42
-code_of Mute = 0x43
+abbrev pub code_of : VolumeKey → UserControl
+code_of Up = VolumeUp
+code_of Down = VolumeDown
+code_of Mute = MuteCode
 
 -- the record with its sound as the key sets it
 abbrev pub voiced : VolumeKey → Record → Record
@@ -93,10 +96,10 @@ pressing kind own r (Audio on) = does r (Tell 5 (0x70 ∷ (if on then path_bytes
 pressing kind own r (Arc on) =
     does r ((if is_tv kind then Tell 5 ((if on then 0xc3 else 0xc4) ∷ []) else Tell 0 ((if on then 0xc0 else 0xc5) ∷ [])) ∷ [])
 pressing kind own r (Volume key) =
-    if is_tv kind && r.audio then does r (Tell 5 (0x44 ∷ code_of key ∷ []) ∷ []) else volume_told kind (voiced key r)
+    if is_tv kind && r.audio then does r (Tell 5 (0x44 ∷ user_control_byte (code_of key) ∷ []) ∷ []) else volume_told kind (voiced key r)
 pressing kind own r (Language language) =
     does (record r { language = language }) (Cast (0x32 ∷ language.first ∷ language.second ∷ language.third ∷ []) ∷ [])
-pressing kind own r (Remote to code) = does r (Tell to (0x44 ∷ code ∷ []) ∷ [])
+pressing kind own r (Remote to code) = does r (Tell to (0x44 ∷ user_control_byte code ∷ []) ∷ [])
 
 -- what a release does
 abbrev pub releasing : Kind → Record → Key → Effect

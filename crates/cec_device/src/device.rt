@@ -1,6 +1,7 @@
 //! A device: who it is, and what it has to send.
 ghost use Rattle.std.specs.Prelude.{◌≡◌, ◌≢◌, ◌<◌, ◌≤◌, ◌+◌, ◌*◌, ◌==◌, ◌∷◌, [], length, true, false};
 ghost use Rattle.cec_device.specs.State.{queued, speaks, holds, frame_to, source, one_more};
+ghost use Rattle.cec_opcode.specs.Words.{reason_byte};
 ghost use Rattle.cec_device.specs.Say.{say, Reply, Cast, Tell, Refuse};
 
 use crate::record::{Heard, Place, Port, Record};
@@ -8,6 +9,7 @@ use crate::sending::FreeTime;
 use crate::ways::is_nowhere;
 use arrayvec::ArrayVec;
 use cec_frame::{Addr, Frame, FrameError};
+use cec_opcode::Reason;
 use hdmi_cta::{Kind, Phys};
 use std::marker::Model;
 use thiserror::Error;
@@ -172,14 +174,14 @@ impl<const Q: usize> Device<Q> {
     }
 
     /// Answers with a refusal, where the frame can be answered so.
-    pub(crate) fn refuse(&mut self, heard: Heard, reason: u8)
-        ensures { self.new ≡ say Q heard (Refuse reason) self.old }
+    pub(crate) fn refuse(&mut self, heard: Heard, reason: Reason)
+        ensures { self.new ≡ say Q heard (Refuse (reason_byte reason)) self.old }
     {
         if heard.to.value() < Addr::BROADCAST
             && heard.from.value() < Addr::BROADCAST
             && heard.opcode != 0
         {
-            self.put(heard.at, heard.from, &[0x00, heard.opcode, reason]);
+            self.put(heard.at, heard.from, &[0x00, heard.opcode, reason.byte()]);
         }
     }
 }

@@ -1,15 +1,18 @@
 //! What each message does to a device that follows it.
 ghost use Rattle.std.specs.Prelude.{◌≡◌, ◌≤◌, ◌<◌, ◌∷◌, length};
-ghost use Rattle.cec_device.specs.Say.{effected, say, say_all, Reply};
+ghost use Rattle.cec_device.specs.Say.{effected, say, Reply};
 ghost use Rattle.cec_device.specs.Effects.{effect_of, is_for, followed, by_decoded, heard_of};
 ghost use Rattle.cec_opcode.specs.Table.{decoded_of};
 
+use crate::deck::{NO_MEDIA, PLAYING, STILL, STOPPED};
 use crate::device::Device;
 use crate::record::{Heard, Note, copy_of};
 use crate::ways::{below, is_nowhere, port_towards};
 use arrayvec::ArrayVec;
 use cec_frame::{Addr, Frame};
-use cec_opcode::{Address, Decoded, Message, decode, rule};
+use cec_opcode::{
+    Address, Decoded, Display, Message, Reason, SystemAudio, UserControl, decode, rule,
+};
 use hdmi_cta::{Kind, Phys};
 
 /// The table: for each message the kinds that it is for, and what it does. Another kind refuses.
@@ -23,48 +26,12 @@ macro_rules! rows {
                 $device.record.power = true;
                 $device.record.osd = ArrayVec::new();
             };
-            [Player Recorder] (Message::GiveDeckStatus { request }) {
-                match *request {
-                    1 => {
-                        $device.record.sub = Some($heard.from);
-                        $device.reply($heard, &[0x1b, $device.record.deck]);
-                    }
-                    2 => $device.record.sub = None,
-                    3 => $device.reply($heard, &[0x1b, $device.record.deck]),
-                    _ => $device.refuse($heard, 3),
-                }
-            };
+            [Player Recorder] (Message::GiveDeckStatus { request }) { $device.answer_deck_status($heard, *request); };
             [] (Message::DeckStatus { .. }) { $device.note($heard); };
             [] (Message::Standby) { $device.fall_asleep(); };
-            [Player Recorder] (Message::Play { mode }) {
-                match deck_of_mode(*mode) {
-                    None => $device.refuse($heard, 3),
-                    Some(_) if $device.record.deck == 0x19 => $device.refuse($heard, 1),
-                    Some(deck) => {
-                        $device.record.power = true;
-                        $device.turn($heard, deck);
-                    }
-                }
-            };
-            [Player Recorder] (Message::DeckControl { control }) {
-                let control = *control;
-                if control < 1 || control > 4 {
-                    $device.refuse($heard, 3);
-                } else if !$device.record.power {
-                    $device.refuse($heard, 1);
-                } else if control == 4 {
-                    $device.turn($heard, 0x19);
-                } else if $device.record.deck == 0x19 {
-                    $device.refuse($heard, 1);
-                } else if control == 1 {
-                    $device.turn($heard, 0x1b);
-                } else if control == 2 {
-                    $device.turn($heard, 0x1c);
-                } else {
-                    $device.turn($heard, 0x1a);
-                }
-            };
-            [Tv Amp Player Recorder] (Message::UserControlPressed { .. }) { $device.press($heard); };
+            [Player Recorder] (Message::Play { mode }) { $device.play($heard, *mode); };
+            [Player Recorder] (Message::DeckControl { control }) { $device.control_deck($heard, *control); };
+            [Tv Amp Player Recorder] (Message::UserControlPressed { code }) { $device.press($heard, *code); };
             [Tv Amp Player Recorder] (Message::UserControlReleased) { $device.record.held = None; };
             [Amp] (Message::SystemAudioModeRequest { address }) {
                 if address.is_some() {
@@ -88,22 +55,7 @@ macro_rules! rows {
             };
             [] (Message::ReportPhysicalAddress { .. }) { $device.note($heard); };
             [] (Message::SetStreamPath { address }) { $device.stream($heard, phys(address)); };
-            [Player Recorder] (Message::MenuRequest { request }) {
-                let request = *request;
-                if request > 2 {
-                    $device.refuse($heard, 3);
-                } else if !$device.record.power {
-                    $device.refuse($heard, 1);
-                } else if request == 0 {
-                    $device.record.menu = true;
-                    $device.reply($heard, &[0x8e, 0]);
-                } else if request == 1 {
-                    $device.record.menu = false;
-                    $device.reply($heard, &[0x8e, 1]);
-                } else {
-                    $device.reply($heard, &[0x8e, if $device.record.menu { 0 } else { 1 }]);
-                }
-            };
+            [Player Recorder] (Message::MenuRequest { request }) { $device.answer_menu($heard, *request); };
             [Tv] (Message::InactiveSource { address }) {
                 if $device.record.active == Some(phys(address)) {
                     $device.record.active = None;
@@ -116,27 +68,8 @@ macro_rules! rows {
             };
             [] (Message::GiveOsdName) { $device.tell_name($heard); };
             [] (Message::SetOsdName { .. }) { $device.note($heard); };
-            [Tv] (Message::SetOsdString { display, text }) {
-                let display = *display;
-                if display != 0x00 && display != 0x40 && display != 0x80 {
-                    $device.refuse($heard, 3);
-                } else if !$device.record.power {
-                    $device.refuse($heard, 1);
-                } else if display == 0x80 {
-                    $device.record.osd = ArrayVec::new();
-                } else if text.is_empty() {
-                    $device.refuse($heard, 3);
-                } else {
-                    $device.record.osd = copy_of(text);
-                }
-            };
-            [Tv] (Message::SetSystemAudioMode { audio }) {
-                match *audio {
-                    0 => $device.record.audio = false,
-                    1 => $device.record.audio = true,
-                    _ => $device.refuse($heard, 3),
-                }
-            };
+            [Tv] (Message::SetOsdString { display, text }) { $device.show($heard, *display, text); };
+            [Tv] (Message::SetSystemAudioMode { audio }) { $device.set_audio($heard, *audio); };
             [] (Message::ReportAudioStatus { .. }) { $device.note($heard); };
             [Amp] (Message::GiveSystemAudioModeStatus) {
                 $device.reply($heard, &[0x7e, if $device.record.audio { 1 } else { 0 }]);
@@ -166,7 +99,7 @@ macro_rules! rows {
                     $device.record.arc = true;
                     $device.reply($heard, &[0xc1]);
                 } else {
-                    $device.refuse($heard, 1);
+                    $device.refuse($heard, Reason::WrongMode);
                 }
             };
             [Amp] (Message::ReportArcInitiated) { $device.record.arc = true; };
@@ -175,21 +108,21 @@ macro_rules! rows {
                 if $heard.from.value() == 0 {
                     $device.reply($heard, &[0xc5]);
                 } else {
-                    $device.refuse($heard, 4);
+                    $device.refuse($heard, Reason::Refused);
                 }
             };
             [Tv] (Message::TerminateArc) {
                 $device.record.arc = false;
                 $device.reply($heard, &[0xc2]);
             };
-            [] (Message::Abort) { $device.refuse($heard, 0); };
-            [] (Message::Raw { .. }) { $device.refuse($heard, 0); };
-            [] (Message::Unknown { .. }) { $device.refuse($heard, 0); };
+            [] (Message::Abort) { $device.refuse($heard, Reason::Unrecognized); };
+            [] (Message::Raw { .. }) { $device.refuse($heard, Reason::Unrecognized); };
+            [] (Message::Unknown { .. }) { $device.refuse($heard, Reason::Unrecognized); };
             [Amp] (Message::RequestArcInitiation) {
                 if $heard.from.value() == 0 {
                     $device.reply($heard, &[0xc0]);
                 } else {
-                    $device.refuse($heard, 4);
+                    $device.refuse($heard, Reason::Refused);
                 }
             };
         }
@@ -203,7 +136,7 @@ macro_rules! only {
     ([$($kind:ident)*] $device:ident $heard:ident $body:block) => {
         match $device.kind {
             $(Kind::$kind)|* => $body,
-            _ => $device.refuse($heard, 0),
+            _ => $device.refuse($heard, Reason::Unrecognized),
         }
     };
 }
@@ -226,7 +159,7 @@ fn phys(address: &Address) -> Phys
 }
 
 ghost use Rattle.cec_device.specs.State.{type_of};
-ghost use Rattle.cec_device.specs.Effects.{mode_deck, notice_of, turned, volume_status, standby, routed, streamed, selecting, hears, pressed, told};
+ghost use Rattle.cec_device.specs.Effects.{audio_set, hears, pressed, routed, selecting, shown, standby, streamed, told, volume_status};
 
 fn heard_of(header: u8, opcode: u8, operands: &[u8], at: u64) -> Heard
     ensures { result ≡ heard_of header opcode operands.now at }
@@ -240,19 +173,6 @@ fn heard_of(header: u8, opcode: u8, operands: &[u8], at: u64) -> Heard
             [] => 0,
         },
         at,
-    }
-}
-
-// The state of the deck that a play mode asks for.
-fn deck_of_mode(mode: u8) -> Option<u8>
-    ensures { result ≡ mode_deck mode }
-{
-    match mode {
-        0x24 => Some(0x11),
-        0x25 => Some(0x14),
-        0x05 | 0x06 | 0x07 => Some(0x17),
-        0x09 | 0x0a | 0x0b => Some(0x18),
-        _ => None,
     }
 }
 
@@ -276,30 +196,9 @@ impl<const Q: usize> Device<Q> {
         self.record.menu = false;
         self.record.held = None;
         self.record.sub = None;
-        if self.record.deck != 0x19 {
-            self.record.deck = 0x1a;
+        if self.record.deck != NO_MEDIA {
+            self.record.deck = STOPPED;
         }
-    }
-
-    /// Tells the deck's state to who wants to be told of it, where it changed.
-    pub(crate) fn notify(&mut self, heard: Heard, sub: Option<Addr>, was: u8, deck: u8)
-        ensures { self.new ≡ say_all Q heard (notice_of was sub deck) self.old }
-    {
-        if was != deck {
-            if let Some(sub) = sub {
-                self.tell(heard, sub, &[0x1b, deck]);
-            }
-        }
-    }
-
-    /// Turns the deck to a state.
-    pub(crate) fn turn(&mut self, heard: Heard, deck: u8)
-        ensures { self.new ≡ effected Q heard (turned self.old.record_of deck) self.old }
-    {
-        let was = self.record.deck;
-        let sub = self.record.sub;
-        self.record.deck = deck;
-        self.notify(heard, sub, was, deck);
     }
 
     /// Its audio status: bit 7 says that it is mute, the others how loud it is (CEC 13.15).
@@ -368,42 +267,76 @@ impl<const Q: usize> Device<Q> {
         }
     }
 
-    /// A key of another device's remote.
-    fn press(&mut self, heard: Heard)
-        ensures { self.new ≡ effected Q heard (pressed self.old.kind heard self.old.record_of) self.old }
+    // Shows a text on the screen, or none (CEC 13.11).
+    fn show(&mut self, heard: Heard, display: Display, text: &ArrayVec<u8, 16>)
+        ensures { self.new ≡ effected Q heard (shown self.old.record_of display text.now) self.old }
     {
-        let code = heard.first;
+        match display {
+            Display::Other(_) => self.refuse(heard, Reason::InvalidOperand),
+            _ if !self.record.power => self.refuse(heard, Reason::WrongMode),
+            Display::Clear => self.record.osd = ArrayVec::new(),
+            Display::Default | Display::Hold => {
+                if text.is_empty() {
+                    self.refuse(heard, Reason::InvalidOperand);
+                } else {
+                    self.record.osd = copy_of(text);
+                }
+            }
+        }
+    }
+
+    // A television leaves the sound to the amplifier, or takes it back (CEC 13.15).
+    fn set_audio(&mut self, heard: Heard, audio: SystemAudio)
+        ensures { self.new ≡ effected Q heard (audio_set self.old.record_of audio) self.old }
+    {
+        match audio {
+            SystemAudio::Off => self.record.audio = false,
+            SystemAudio::On => self.record.audio = true,
+            SystemAudio::Other(_) => self.refuse(heard, Reason::InvalidOperand),
+        }
+    }
+
+    /// A key of another device's remote.
+    fn press(&mut self, heard: Heard, code: UserControl)
+        ensures { self.new ≡ effected Q heard (pressed self.old.kind code self.old.record_of) self.old }
+    {
         if !self.record.power {
-            if code == 0x40 || code == 0x6d {
+            if matches!(code, UserControl::Power | UserControl::PowerOn) {
                 self.record.power = true;
-                self.record.held = Some(code);
+                self.record.held = Some(code.byte());
             }
             return;
         }
-        self.record.held = Some(code);
+        self.record.held = Some(code.byte());
         let is_deck = matches!(self.kind, Kind::Player | Kind::Recorder);
         match code {
-            0x40 | 0x6c => self.fall_asleep(),
-            0x41 if !is_deck => {
+            UserControl::Power | UserControl::PowerOff => self.fall_asleep(),
+            UserControl::VolumeUp if !is_deck => {
                 self.record.volume = self.record.volume.louder();
                 self.tell_volume(heard);
             }
-            0x42 if !is_deck => {
+            UserControl::VolumeDown if !is_deck => {
                 self.record.volume = self.record.volume.softer();
                 self.tell_volume(heard);
             }
-            0x43 if !is_deck => {
+            UserControl::Mute if !is_deck => {
                 self.record.mute = !self.record.mute;
                 self.tell_volume(heard);
             }
-            0x44 if is_deck && self.record.deck != 0x19 => self.turn(heard, 0x11),
-            0x45 if is_deck && self.record.deck != 0x19 => self.turn(heard, 0x1a),
-            0x46 if is_deck && self.record.deck != 0x19 => self.turn(heard, 0x14),
-            0x09 if is_deck && !self.record.menu => {
+            UserControl::Play if is_deck && self.record.deck != NO_MEDIA => {
+                self.turn(heard, PLAYING);
+            }
+            UserControl::Stop if is_deck && self.record.deck != NO_MEDIA => {
+                self.turn(heard, STOPPED);
+            }
+            UserControl::Pause if is_deck && self.record.deck != NO_MEDIA => {
+                self.turn(heard, STILL);
+            }
+            UserControl::RootMenu if is_deck && !self.record.menu => {
                 self.record.menu = true;
                 self.tell(heard, Addr::new(0), &[0x8e, 0]);
             }
-            0x0d if is_deck && self.record.menu => {
+            UserControl::Exit if is_deck && self.record.menu => {
                 self.record.menu = false;
                 self.tell(heard, Addr::new(0), &[0x8e, 1]);
             }
@@ -455,7 +388,7 @@ impl<const Q: usize> Device<Q> {
     {
         match decode(frame) {
             Decoded::Known(message) => self.obey(heard, &message),
-            Decoded::Unknown(_) => self.refuse(heard, 0),
+            Decoded::Unknown(_) => self.refuse(heard, Reason::Unrecognized),
             _ => {}
         }
     }

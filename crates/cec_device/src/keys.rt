@@ -3,11 +3,12 @@ ghost use Rattle.std.specs.Prelude.{◌≡◌, ◌≤◌, Some, None, IsTrue, Ma
 ghost use Rattle.cec_device.specs.Say.{effected, say, Tell, Cast};
 ghost use Rattle.cec_device.specs.Keys.{own_doing, has_key, code_of, voiced, ported, taking_over, pressing, releasing, key_fault, keyed};
 
+use crate::deck::{NO_MEDIA, PLAYING, STOPPED};
 use crate::device::Device;
 use crate::record::{Heard, Place, Port};
 use crate::ways::below;
 use cec_frame::Addr;
-use cec_opcode::Triple;
+use cec_opcode::{Triple, UserControl};
 use hdmi_cta::{Kind, Phys};
 use thiserror::Error;
 
@@ -15,13 +16,6 @@ use thiserror::Error;
 const TELEVISION: u8 = 0;
 
 const AMPLIFIER: u8 = 5;
-
-/// The states of a deck that its keys lead to (CEC 13.7, Deck Info).
-const PLAYING: u8 = 0x11;
-
-const NO_MEDIA: u8 = 0x19;
-
-const STOPPED: u8 = 0x1a;
 
 /// A key of a device, or of its remote control.
 #[derive(Clone, Copy)]
@@ -43,7 +37,7 @@ pub enum Key {
     Volume(VolumeKey),
     Language(Triple),
     /// A user control code, sent to another device.
-    Remote { to: Addr, code: u8 },
+    Remote { to: Addr, code: UserControl },
 }
 
 /// The keys of the sound.
@@ -56,13 +50,13 @@ pub enum VolumeKey {
 
 impl VolumeKey {
     /// Its user control code (CEC table 27).
-    pub fn code(self) -> u8
+    pub fn code(self) -> UserControl
         ensures { result ≡ code_of self }
     {
         match self {
-            VolumeKey::Up => 0x41,
-            VolumeKey::Down => 0x42,
-            VolumeKey::Mute => 0x43,
+            VolumeKey::Up => UserControl::VolumeUp,
+            VolumeKey::Down => UserControl::VolumeDown,
+            VolumeKey::Mute => UserControl::Mute,
         }
     }
 }
@@ -203,7 +197,7 @@ impl<const Q: usize> Device<Q> {
         ensures { self.new ≡ effected Q (own_doing at) (pressing self.old.kind self.old.phys self.old.record_of (Key.Volume key)) self.old }
     {
         if self.kind == Kind::Tv && self.record.audio {
-            self.own_tell(at, Addr::new(AMPLIFIER), &[0x44, key.code()]);
+            self.own_tell(at, Addr::new(AMPLIFIER), &[0x44, key.code().byte()]);
             return;
         }
         self.turn_volume(key);
@@ -274,7 +268,7 @@ impl<const Q: usize> Device<Q> {
                 self.record.language = language;
                 self.own_cast(at, &[0x32, language.first, language.second, language.third]);
             }
-            Key::Remote { to, code } => self.own_tell(at, to, &[0x44, code]),
+            Key::Remote { to, code } => self.own_tell(at, to, &[0x44, code.byte()]),
         }
     }
 

@@ -1,6 +1,7 @@
 //! Worked rows of single devices.
 use crate::{Device, Fate, FreeTime, Key, KeyError, Place, SubmitError, VolumeKey};
 use cec_frame::{Addr, Frame};
+use cec_opcode::UserControl;
 use hdmi_cta::{Kind, Phys};
 use std::process::Abort;
 use std::test::Fail;
@@ -34,7 +35,7 @@ fn follow(device: &mut Device<16>, bytes: &[u8]) -> Result<(), Fail> {
 fn play_of_a_player() -> Key {
     Key::Remote {
         to: Addr::new(4),
-        code: 0x44,
+        code: UserControl::Play,
     }
 }
 

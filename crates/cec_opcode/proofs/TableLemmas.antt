@@ -1,13 +1,11 @@
 -- A message is read back from its spelling.
-use Rattle.std.proofs.Common.{◌≡◌, ℕ, ◌<◌, Bool, true, false, cond, refl, sym, ap, subst, arith, List, [], ◌∷◌, Option, Some, None, find, is_some, ◌==◌}
+use Rattle.std.proofs.Common.{◌≡◌, ℕ, ◌<◌, Bool, true, false, cond, refl, sym, ap, ◌∙◌, subst, arith, List, [], ◌∷◌, Option, Some, None, find, is_some, ◌==◌}
 use borrow.Author.Tests.{tests}
 use Rattle.std.specs.Coded.{le_prop}
-use Rattle.cec_opcode.proofs.WordLemmas.{reason_at-other, power_at-other}
-use Rattle.cec_opcode.specs.Words.{reason_at, reason_byte, power_at, power_byte, status_at, status_byte}
-use Rattle.cec_opcode.specs.declared.words.Reason.{Reason}
-use Rattle.cec_opcode.specs.declared.words.Reason.TheVariants.{Unrecognized, WrongMode, NoSource, InvalidOperand, Refused, Other}
-use Rattle.cec_opcode.specs.declared.words.Power.{Power}
-use Rattle.cec_opcode.specs.declared.words.Power.TheVariants.{On, Standby, Other as OtherOfPower}
+use Rattle.cec_opcode.proofs.WordLemmas.{reason_again, power_again, system_audio_again, device_type_again, version_again, status_request_again, deck_info_again, play_mode_again, deck_control_again, display_again, menu_request_again, menu_state_again, user_control_again}
+use Rattle.cec_opcode.specs.ScreenWords.{display_byte}
+use Rattle.cec_opcode.specs.declared.screen_words.Display.{Display}
+use Rattle.cec_opcode.specs.Words.{status_at, status_byte}
 use Rattle.cec_opcode.specs.declared.words.AudioStatus.{AudioStatus}
 use Rattle.std.proofs.Common.{is_none}
 use Rattle.std.proofs.lemmas.Bool.{eqb-true}
@@ -15,19 +13,6 @@ use Rattle.cec_opcode.specs.Table.{Row, decoded, decoded_of, enough, is_own_mess
 use Rattle.cec_opcode.specs.declared.message.Message.{Message}
 use Rattle.cec_opcode.specs.declared.message.Message.TheVariants.{FeatureAbort, ImageViewOn, TextViewOn, GiveDeckStatus, DeckStatus, SetMenuLanguage, Standby as StandbyMessage, Play, DeckControl, UserControlPressed, UserControlReleased, GiveOsdName, SetOsdName, SetOsdString, SystemAudioModeRequest, GiveAudioStatus, SetSystemAudioMode, ReportAudioStatus, GiveSystemAudioModeStatus, SystemAudioModeStatus, RoutingChange, RoutingInformation, ActiveSource, GivePhysicalAddress, ReportPhysicalAddress, RequestActiveSource, SetStreamPath, DeviceVendorId, GiveDeviceVendorId, MenuRequest, MenuStatus, GiveDevicePowerStatus, ReportPowerStatus, GetMenuLanguage, InactiveSource, CecVersion, GetCecVersion, InitiateArc, ReportArcInitiated, ReportArcTerminated, RequestArcInitiation, RequestArcTermination, TerminateArc, Abort, Raw, Unknown}
 use Rattle.cec_opcode.specs.declared.message.Decoded.TheVariants.{Known, Unknown as NoName}
-
-pub reason_at-reason_byte : (r : Reason) → reason_at (reason_byte r) ≡ r
-reason_at-reason_byte Unrecognized = refl
-reason_at-reason_byte WrongMode = refl
-reason_at-reason_byte NoSource = refl
-reason_at-reason_byte InvalidOperand = refl
-reason_at-reason_byte Refused = refl
-reason_at-reason_byte (Other o) = sym (reason_at-other o.byte o.unlisted)
-
-pub power_at-power_byte : (p : Power) → power_at (power_byte p) ≡ p
-power_at-power_byte On = refl
-power_at-power_byte Standby = refl
-power_at-power_byte (OtherOfPower o) = sym (power_at-other o.byte o.unlisted)
 
 abbrev made : (m : Bool) (v : ℕ) → v < 128 → AudioStatus
 made m v h = record { muted = m; volume = v; in_range = h }
@@ -49,8 +34,8 @@ named : (text : List ℕ) → is_own_message (SetOsdName (record { items = text 
     → read_as 0x47 (enough 1 text (SetOsdName (record { items = text }))) ≡ Known (SetOsdName (record { items = text }))
 named text own = grind (arith, tests)
 
-shown : (display : ℕ) (text : List ℕ)
-    → read_as 0x64 (enough 1 (display ∷ text) (SetOsdString display (record { items = text }))) ≡ Known (SetOsdString display (record { items = text }))
+shown : (display : Display) (text : List ℕ)
+    → read_as 0x64 (enough 1 (display_byte display ∷ text) (SetOsdString display (record { items = text }))) ≡ Known (SetOsdString display (record { items = text }))
 shown display text = grind (arith, tests)
 
 no_name : (op : ℕ) (xs : List ℕ) (r : Option Row) → is_none r ≡ true → decoded op xs r ≡ NoName op
@@ -80,43 +65,43 @@ raw_again op xs own =
     found op IsKept raw_rows ((λ _. refl, (λ _. refl, (λ _. refl, (λ _. refl, (λ _. refl, (λ _. refl, (λ _. refl, (λ _. refl, (λ _. refl, (λ _. refl, (λ _. refl, (λ _. refl, (λ _. refl, (λ _. refl, (λ _. refl, (λ _. refl, (λ _. refl, (λ _. refl, (λ _. refl, (λ _. refl, (λ _. refl, (λ _. refl, (λ _. refl, (λ _. refl, tt))))))))))))))))))))))))) own xs
 
 pub again : (h : ℕ) (m : Message) → is_own_message m ≡ true → decoded_of (h ∷ spelling m) ≡ meaning m
-again h (FeatureAbort opcode reason) own = ap (λ r. Known (FeatureAbort opcode r)) (reason_at-reason_byte reason)
+again h (FeatureAbort opcode reason) own = ap (λ r. Known (FeatureAbort opcode r)) (reason_again reason)
 again h ImageViewOn own = refl
 again h TextViewOn own = refl
-again h (GiveDeckStatus request) own = refl
-again h (DeckStatus deck) own = refl
+again h (GiveDeckStatus request) own = ap (λ r. Known (GiveDeckStatus r)) (status_request_again request)
+again h (DeckStatus deck) own = ap (λ d. Known (DeckStatus d)) (deck_info_again deck)
 again h (SetMenuLanguage language) own = refl
 again h StandbyMessage own = refl
-again h (Play mode) own = refl
-again h (DeckControl control) own = refl
-again h (UserControlPressed code) own = refl
+again h (Play mode) own = ap (λ m. Known (Play m)) (play_mode_again mode)
+again h (DeckControl control) own = ap (λ d. Known (DeckControl d)) (deck_control_again control)
+again h (UserControlPressed code) own = ap (λ c. Known (UserControlPressed c)) (user_control_again code)
 again h UserControlReleased own = refl
 again h GiveOsdName own = refl
 again h (SetOsdName text) own = named text.items own
-again h (SetOsdString display text) own = shown display text.items
+again h (SetOsdString display text) own = ap (λ d. read_as 0x64 (enough 1 (display_byte display ∷ text.items) (SetOsdString d text))) (display_again display) ∙ shown display text.items
 again h (SystemAudioModeRequest None) own = refl
 again h (SystemAudioModeRequest (Some address)) own = refl
 again h GiveAudioStatus own = refl
-again h (SetSystemAudioMode audio) own = refl
+again h (SetSystemAudioMode audio) own = ap (λ a. Known (SetSystemAudioMode a)) (system_audio_again audio)
 again h (ReportAudioStatus status) own = ap (λ s. Known (ReportAudioStatus s)) (status_at-status_byte status)
 again h GiveSystemAudioModeStatus own = refl
-again h (SystemAudioModeStatus audio) own = refl
+again h (SystemAudioModeStatus audio) own = ap (λ a. Known (SystemAudioModeStatus a)) (system_audio_again audio)
 again h (RoutingChange x y) own = refl
 again h (RoutingInformation address) own = refl
 again h (ActiveSource address) own = refl
 again h GivePhysicalAddress own = refl
-again h (ReportPhysicalAddress address kind) own = refl
+again h (ReportPhysicalAddress address kind) own = ap (λ k. Known (ReportPhysicalAddress address k)) (device_type_again kind)
 again h RequestActiveSource own = refl
 again h (SetStreamPath address) own = refl
 again h (DeviceVendorId vendor) own = refl
 again h GiveDeviceVendorId own = refl
-again h (MenuRequest request) own = refl
-again h (MenuStatus menu) own = refl
+again h (MenuRequest request) own = ap (λ r. Known (MenuRequest r)) (menu_request_again request)
+again h (MenuStatus menu) own = ap (λ m. Known (MenuStatus m)) (menu_state_again menu)
 again h GiveDevicePowerStatus own = refl
-again h (ReportPowerStatus power) own = ap (λ p. Known (ReportPowerStatus p)) (power_at-power_byte power)
+again h (ReportPowerStatus power) own = ap (λ p. Known (ReportPowerStatus p)) (power_again power)
 again h GetMenuLanguage own = refl
 again h (InactiveSource address) own = refl
-again h (CecVersion version) own = refl
+again h (CecVersion version) own = ap (λ v. Known (CecVersion v)) (version_again version)
 again h GetCecVersion own = refl
 again h InitiateArc own = refl
 again h ReportArcInitiated own = refl

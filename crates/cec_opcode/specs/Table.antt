@@ -1,6 +1,9 @@
 -- The opcodes, one row each, and what a frame says.
 use Rattle.std.specs.Prelude.{ℕ, ◌==◌, ◌+◌, Bool, true, false, nat_le, if◌then◌else◌, Option, Some, None, List, [], ◌∷◌, ◌++◌, length, slice_index, drop, codes, find, option_map, is_some, is_none, nat_lt, ◌&&◌, not}
-use Rattle.cec_opcode.specs.Words.{reason_at, reason_byte, power_at, power_byte, status_at, status_byte}
+use Rattle.cec_opcode.specs.Words.{reason_at, reason_byte, power_at, power_byte, system_audio_at, system_audio_byte, device_type_at, device_type_byte, version_at, version_byte, status_at, status_byte}
+use Rattle.cec_opcode.specs.DeckWords.{status_request_at, status_request_byte, deck_info_at, deck_info_byte, play_mode_at, play_mode_byte, deck_control_at, deck_control_byte}
+use Rattle.cec_opcode.specs.ScreenWords.{display_at, display_byte, menu_request_at, menu_request_byte, menu_state_at, menu_state_byte}
+use Rattle.cec_opcode.specs.ControlWords.{user_control_at, user_control_byte}
 use Rattle.cec_opcode.specs.declared.row.Rule.{Rule}
 use Rattle.cec_opcode.specs.declared.message.Address.{Address}
 use Rattle.cec_opcode.specs.declared.message.Triple.{Triple}
@@ -52,39 +55,39 @@ named_rows =
     row 0x00 (codes "feature-abort") (direct 2 2) (λ xs. enough 2 xs (FeatureAbort (slice_index xs 0) (reason_at (slice_index xs 1)))) ∷
     row 0x04 (codes "image-view-on") (direct 0 0) (λ _. Some ImageViewOn) ∷
     row 0x0d (codes "text-view-on") (direct 0 0) (λ _. Some TextViewOn) ∷
-    row 0x1a (codes "give-deck-status") (direct 1 1) (λ xs. enough 1 xs (GiveDeckStatus (slice_index xs 0))) ∷
-    row 0x1b (codes "deck-status") (direct 1 1) (λ xs. enough 1 xs (DeckStatus (slice_index xs 0))) ∷
+    row 0x1a (codes "give-deck-status") (direct 1 1) (λ xs. enough 1 xs (GiveDeckStatus (status_request_at (slice_index xs 0)))) ∷
+    row 0x1b (codes "deck-status") (direct 1 1) (λ xs. enough 1 xs (DeckStatus (deck_info_at (slice_index xs 0)))) ∷
     row 0x32 (codes "set-menu-language") (broadcast 3 3) (λ xs. enough 3 xs (SetMenuLanguage (triple_at xs))) ∷
     row 0x36 (codes "standby") (both 0 0) (λ _. Some Standby) ∷
-    row 0x41 (codes "play") (direct 1 1) (λ xs. enough 1 xs (Play (slice_index xs 0))) ∷
-    row 0x42 (codes "deck-control") (direct 1 1) (λ xs. enough 1 xs (DeckControl (slice_index xs 0))) ∷
-    row 0x44 (codes "user-control-pressed") (direct 1 1) (λ xs. enough 1 xs (UserControlPressed (slice_index xs 0))) ∷
+    row 0x41 (codes "play") (direct 1 1) (λ xs. enough 1 xs (Play (play_mode_at (slice_index xs 0)))) ∷
+    row 0x42 (codes "deck-control") (direct 1 1) (λ xs. enough 1 xs (DeckControl (deck_control_at (slice_index xs 0)))) ∷
+    row 0x44 (codes "user-control-pressed") (direct 1 1) (λ xs. enough 1 xs (UserControlPressed (user_control_at (slice_index xs 0)))) ∷
     row 0x45 (codes "user-control-released") (direct 0 0) (λ _. Some UserControlReleased) ∷
     row 0x46 (codes "give-osd-name") (direct 0 0) (λ _. Some GiveOsdName) ∷
     row 0x47 (codes "set-osd-name") (direct 1 14) (λ xs. enough 1 xs (SetOsdName (record { items = xs }))) ∷
-    row 0x64 (codes "set-osd-string") (direct 1 14) (λ xs. enough 1 xs (SetOsdString (slice_index xs 0) (record { items = drop 1 xs }))) ∷
+    row 0x64 (codes "set-osd-string") (direct 1 14) (λ xs. enough 1 xs (SetOsdString (display_at (slice_index xs 0)) (record { items = drop 1 xs }))) ∷
     row 0x70 (codes "system-audio-mode-request") (direct 0 2) (optional SystemAudioModeRequest) ∷
     row 0x71 (codes "give-audio-status") (direct 0 0) (λ _. Some GiveAudioStatus) ∷
-    row 0x72 (codes "set-system-audio-mode") (both 1 1) (λ xs. enough 1 xs (SetSystemAudioMode (slice_index xs 0))) ∷
+    row 0x72 (codes "set-system-audio-mode") (both 1 1) (λ xs. enough 1 xs (SetSystemAudioMode (system_audio_at (slice_index xs 0)))) ∷
     row 0x7a (codes "report-audio-status") (direct 1 1) (λ xs. enough 1 xs (ReportAudioStatus (status_at (slice_index xs 0)))) ∷
     row 0x7d (codes "give-system-audio-mode-status") (direct 0 0) (λ _. Some GiveSystemAudioModeStatus) ∷
-    row 0x7e (codes "system-audio-mode-status") (direct 1 1) (λ xs. enough 1 xs (SystemAudioModeStatus (slice_index xs 0))) ∷
+    row 0x7e (codes "system-audio-mode-status") (direct 1 1) (λ xs. enough 1 xs (SystemAudioModeStatus (system_audio_at (slice_index xs 0)))) ∷
     row 0x80 (codes "routing-change") (broadcast 4 4) (λ xs. enough 4 xs (RoutingChange (address_at 0 xs) (address_at 2 xs))) ∷
     row 0x81 (codes "routing-information") (broadcast 2 2) (λ xs. enough 2 xs (RoutingInformation (address_at 0 xs))) ∷
     row 0x82 (codes "active-source") (broadcast 2 2) (λ xs. enough 2 xs (ActiveSource (address_at 0 xs))) ∷
     row 0x83 (codes "give-physical-address") (direct 0 0) (λ _. Some GivePhysicalAddress) ∷
-    row 0x84 (codes "report-physical-address") (broadcast 3 3) (λ xs. enough 3 xs (ReportPhysicalAddress (address_at 0 xs) (slice_index xs 2))) ∷
+    row 0x84 (codes "report-physical-address") (broadcast 3 3) (λ xs. enough 3 xs (ReportPhysicalAddress (address_at 0 xs) (device_type_at (slice_index xs 2)))) ∷
     row 0x85 (codes "request-active-source") (broadcast 0 0) (λ _. Some RequestActiveSource) ∷
     row 0x86 (codes "set-stream-path") (broadcast 2 2) (λ xs. enough 2 xs (SetStreamPath (address_at 0 xs))) ∷
     row 0x87 (codes "device-vendor-id") (broadcast 3 3) (λ xs. enough 3 xs (DeviceVendorId (triple_at xs))) ∷
     row 0x8c (codes "give-device-vendor-id") (direct 0 0) (λ _. Some GiveDeviceVendorId) ∷
-    row 0x8d (codes "menu-request") (direct 1 1) (λ xs. enough 1 xs (MenuRequest (slice_index xs 0))) ∷
-    row 0x8e (codes "menu-status") (direct 1 1) (λ xs. enough 1 xs (MenuStatus (slice_index xs 0))) ∷
+    row 0x8d (codes "menu-request") (direct 1 1) (λ xs. enough 1 xs (MenuRequest (menu_request_at (slice_index xs 0)))) ∷
+    row 0x8e (codes "menu-status") (direct 1 1) (λ xs. enough 1 xs (MenuStatus (menu_state_at (slice_index xs 0)))) ∷
     row 0x8f (codes "give-device-power-status") (direct 0 0) (λ _. Some GiveDevicePowerStatus) ∷
     row 0x90 (codes "report-power-status") (direct 1 1) (λ xs. enough 1 xs (ReportPowerStatus (power_at (slice_index xs 0)))) ∷
     row 0x91 (codes "get-menu-language") (direct 0 0) (λ _. Some GetMenuLanguage) ∷
     row 0x9d (codes "inactive-source") (direct 2 2) (λ xs. enough 2 xs (InactiveSource (address_at 0 xs))) ∷
-    row 0x9e (codes "cec-version") (direct 1 1) (λ xs. enough 1 xs (CecVersion (slice_index xs 0))) ∷
+    row 0x9e (codes "cec-version") (direct 1 1) (λ xs. enough 1 xs (CecVersion (version_at (slice_index xs 0)))) ∷
     row 0x9f (codes "get-cec-version") (direct 0 0) (λ _. Some GetCecVersion) ∷
     row 0xc0 (codes "initiate-arc") (direct 0 0) (λ _. Some InitiateArc) ∷
     row 0xc1 (codes "report-arc-initiated") (direct 0 0) (λ _. Some ReportArcInitiated) ∷
@@ -161,40 +164,40 @@ abbrev pub spelling : Message → List ℕ
 spelling (FeatureAbort opcode reason) = 0x00 ∷ opcode ∷ reason_byte reason ∷ []
 spelling ImageViewOn = 0x04 ∷ []
 spelling TextViewOn = 0x0d ∷ []
-spelling (GiveDeckStatus request) = 0x1a ∷ request ∷ []
-spelling (DeckStatus deck) = 0x1b ∷ deck ∷ []
+spelling (GiveDeckStatus request) = 0x1a ∷ status_request_byte request ∷ []
+spelling (DeckStatus deck) = 0x1b ∷ deck_info_byte deck ∷ []
 spelling (SetMenuLanguage language) = 0x32 ∷ language.first ∷ language.second ∷ language.third ∷ []
 spelling Standby = 0x36 ∷ []
-spelling (Play mode) = 0x41 ∷ mode ∷ []
-spelling (DeckControl control) = 0x42 ∷ control ∷ []
-spelling (UserControlPressed code) = 0x44 ∷ code ∷ []
+spelling (Play mode) = 0x41 ∷ play_mode_byte mode ∷ []
+spelling (DeckControl control) = 0x42 ∷ deck_control_byte control ∷ []
+spelling (UserControlPressed code) = 0x44 ∷ user_control_byte code ∷ []
 spelling UserControlReleased = 0x45 ∷ []
 spelling GiveOsdName = 0x46 ∷ []
 spelling (SetOsdName text) = 0x47 ∷ text.items
-spelling (SetOsdString display text) = 0x64 ∷ display ∷ text.items
+spelling (SetOsdString display text) = 0x64 ∷ display_byte display ∷ text.items
 spelling (SystemAudioModeRequest None) = 0x70 ∷ []
 spelling (SystemAudioModeRequest (Some address)) = 0x70 ∷ address.high ∷ address.low ∷ []
 spelling GiveAudioStatus = 0x71 ∷ []
-spelling (SetSystemAudioMode audio) = 0x72 ∷ audio ∷ []
+spelling (SetSystemAudioMode audio) = 0x72 ∷ system_audio_byte audio ∷ []
 spelling (ReportAudioStatus status) = 0x7a ∷ status_byte status ∷ []
 spelling GiveSystemAudioModeStatus = 0x7d ∷ []
-spelling (SystemAudioModeStatus audio) = 0x7e ∷ audio ∷ []
+spelling (SystemAudioModeStatus audio) = 0x7e ∷ system_audio_byte audio ∷ []
 spelling (RoutingChange from to) = 0x80 ∷ from.high ∷ from.low ∷ to.high ∷ to.low ∷ []
 spelling (RoutingInformation address) = 0x81 ∷ address.high ∷ address.low ∷ []
 spelling (ActiveSource address) = 0x82 ∷ address.high ∷ address.low ∷ []
 spelling GivePhysicalAddress = 0x83 ∷ []
-spelling (ReportPhysicalAddress address kind) = 0x84 ∷ address.high ∷ address.low ∷ kind ∷ []
+spelling (ReportPhysicalAddress address kind) = 0x84 ∷ address.high ∷ address.low ∷ device_type_byte kind ∷ []
 spelling RequestActiveSource = 0x85 ∷ []
 spelling (SetStreamPath address) = 0x86 ∷ address.high ∷ address.low ∷ []
 spelling (DeviceVendorId vendor) = 0x87 ∷ vendor.first ∷ vendor.second ∷ vendor.third ∷ []
 spelling GiveDeviceVendorId = 0x8c ∷ []
-spelling (MenuRequest request) = 0x8d ∷ request ∷ []
-spelling (MenuStatus menu) = 0x8e ∷ menu ∷ []
+spelling (MenuRequest request) = 0x8d ∷ menu_request_byte request ∷ []
+spelling (MenuStatus menu) = 0x8e ∷ menu_state_byte menu ∷ []
 spelling GiveDevicePowerStatus = 0x8f ∷ []
 spelling (ReportPowerStatus power) = 0x90 ∷ power_byte power ∷ []
 spelling GetMenuLanguage = 0x91 ∷ []
 spelling (InactiveSource address) = 0x9d ∷ address.high ∷ address.low ∷ []
-spelling (CecVersion version) = 0x9e ∷ version ∷ []
+spelling (CecVersion version) = 0x9e ∷ version_byte version ∷ []
 spelling GetCecVersion = 0x9f ∷ []
 spelling InitiateArc = 0xc0 ∷ []
 spelling ReportArcInitiated = 0xc1 ∷ []

@@ -2,9 +2,12 @@
 ghost use Rattle.std.specs.Prelude.{◌≡◌, ◌≤◌, ◌+◌, length};
 ghost use Rattle.cec_opcode.specs.Table.{decoded, decoded_of, row_of};
 
+use crate::deck_words::{DeckControlMode, DeckInfo, PlayMode, StatusRequest};
 use crate::message::{Address, Decoded, Message, Triple};
 use crate::rows::rows;
-use crate::words::{AudioStatus, Power, Reason};
+use crate::screen_words::{Display, MenuRequestType, MenuState};
+use crate::user_control::UserControl;
+use crate::words::{AudioStatus, DeviceType, Power, Reason, SystemAudio, Version};
 use arrayvec::ArrayVec;
 use cec_frame::Frame;
 
