@@ -1,0 +1,477 @@
+//! Trees, plugs and ports. The traces were worked out by hand from the rules of the wire and of the devices.
+use super::*;
+use crate::emulate::{EmulateError, emulate};
+use crate::run::Totals;
+use std::alloc::Global;
+use std::test::Fail;
+
+/// Runs texts, and answers what was counted. The trace goes to `trace`.
+fn traced(
+    alloc: Global,
+    topology: &str,
+    script: &str,
+    trace: &mut Vec<u8>,
+) -> Result<Totals, EmulateError> {
+    let mut out = Writes::new(trace);
+    emulate(alloc, topology.as_bytes(), script.as_bytes(), &mut out)
+}
+
+/// Four players on one television.
+const FOUR_PLAYERS: &str = "\
+device tv tv 4
+device p1 player 0
+device p2 player 0
+device p3 player 0
+device p4 player 0
+plug p1 tv 1
+plug p2 tv 2
+plug p3 tv 3
+plug p4 tv 4
+";
+
+const FOUR_PLAYERS_TRACE: &str = "\
+12000 39150 complete 0>0 nack by tv out -
+50705 77855 complete 4>4 nack by p1 out -
+89405 212555 complete 0>f report-physical-address 0.0.0.0 tv ok by tv out -
+224105 347255 complete 4>f report-physical-address 1.0.0.0 playback ok by p1 out -
+358818 385968 complete 4>4 ack by p2 out -
+398419 425569 complete 4>4 ack by p3 out -
+438020 465170 complete 4>4 ack by p4 out -
+477634 504784 complete 8>8 nack by p2 out -
+516339 543489 complete 8>8 ack by p3 out -
+555939 679089 complete 8>f report-physical-address 2.0.0.0 playback ok by p2 out -
+690643 717793 complete b>b nack by p3 out -
+729348 756498 complete 8>8 ack by p4 out -
+768948 892098 complete b>f report-physical-address 3.0.0.0 playback ok by p3 out -
+903652 930802 complete b>b ack by p4 out -
+state tv tv 0 0.0.0.0 on active=- path=- deck=1a menu=off audio=off volume=20 mute=off arc=off sel=- lang=656e67 osd=- held=- heard=b:84:30 sub=- queue=0 dropped=0
+state p1 player 4 1.0.0.0 on active=- path=- deck=1a menu=off audio=off volume=20 mute=off arc=off sel=- lang=656e67 osd=- held=- heard=b:84:30 sub=- queue=0 dropped=0
+state p2 player 8 2.0.0.0 on active=- path=- deck=1a menu=off audio=off volume=20 mute=off arc=off sel=- lang=656e67 osd=- held=- heard=b:84:30 sub=- queue=0 dropped=0
+state p3 player b 3.0.0.0 on active=- path=- deck=1a menu=off audio=off volume=20 mute=off arc=off sel=- lang=656e67 osd=- held=- heard=8:84:20 sub=- queue=0 dropped=0
+state p4 player f 4.0.0.0 on active=- path=- deck=1a menu=off audio=off volume=20 mute=off arc=off sel=- lang=656e67 osd=- held=- heard=b:84:30 sub=- queue=0 dropped=0
+1500000 end
+";
+
+#[test]
+fn four_players_find_three_addresses(rt: HostRuntime) -> Result<(), Fail> {
+    let mut trace = Vec::new(rt.alloc());
+    let totals = traced(rt.alloc(), FOUR_PLAYERS, "end 1500000\n", &mut trace);
+    let counts = Totals {
+        rounds: 14,
+        complete: 14,
+        refused: 0,
+    };
+    assert_eq!(rt; totals.ok(), Some(counts));
+    assert_eq!(rt; trace.as_slice(), FOUR_PLAYERS_TRACE.as_bytes());
+    Ok(())
+}
+
+/// A television and a player in its first port.
+const PAIR: &str = "\
+device tv tv 4
+device p1 player 0
+plug p1 tv 1
+";
+
+const PAIR_SCRIPT: &str = "\
+at 1000000 unplug p1
+at 1000000 plug p1 tv 3
+end 1500000
+";
+
+const PAIR_TRACE: &str = "\
+12000 39150 complete 0>0 nack by tv out -
+50705 77855 complete 4>4 nack by p1 out -
+89405 212555 complete 0>f report-physical-address 0.0.0.0 tv ok by tv out -
+224105 347255 complete 4>f report-physical-address 1.0.0.0 playback ok by p1 out -
+1000000 event 1 ok
+1000000 event 2 ok
+1000001 1027151 complete 4>4 nack by p1 out -
+1043501 1166651 complete 4>f report-physical-address 3.0.0.0 playback ok by p1 out -
+state tv tv 0 0.0.0.0 on active=- path=- deck=1a menu=off audio=off volume=20 mute=off arc=off sel=- lang=656e67 osd=- held=- heard=4:84:30 sub=- queue=0 dropped=0
+state p1 player 4 3.0.0.0 on active=- path=- deck=1a menu=off audio=off volume=20 mute=off arc=off sel=- lang=656e67 osd=- held=- heard=- sub=- queue=0 dropped=0
+1500000 end
+";
+
+#[test]
+fn an_unplug_and_a_plug_at_one_instant(rt: HostRuntime) -> Result<(), Fail> {
+    let mut trace = Vec::new(rt.alloc());
+    let totals = traced(rt.alloc(), PAIR, PAIR_SCRIPT, &mut trace);
+    assert!(rt; totals.is_ok());
+    assert_eq!(rt; trace.as_slice(), PAIR_TRACE.as_bytes());
+    Ok(())
+}
+
+/// A television and a switch.
+const SWITCH: &str = "\
+device tv tv 4
+device sw switch 3
+plug sw tv 1
+";
+
+const SWITCH_TRACE: &str = "\
+12000 39150 complete 0>0 nack by tv out sw@1
+50700 173850 complete f>f report-physical-address 1.0.0.0 switch ok by sw out -
+185400 308550 complete 0>f report-physical-address 0.0.0.0 tv ok by tv out -
+state tv tv 0 0.0.0.0 on active=- path=- deck=1a menu=off audio=off volume=20 mute=off arc=off sel=- lang=656e67 osd=- held=- heard=f:84:10 sub=- queue=0 dropped=0
+state sw switch f 1.0.0.0 on active=- path=- deck=1a menu=off audio=off volume=20 mute=off arc=off sel=1 lang=656e67 osd=- held=- heard=0:84:00 sub=- queue=0 dropped=0
+500000 end
+";
+
+#[test]
+fn a_switch_reports_where_it_is(rt: HostRuntime) -> Result<(), Fail> {
+    let mut trace = Vec::new(rt.alloc());
+    let totals = traced(rt.alloc(), SWITCH, "end 500000\n", &mut trace);
+    assert!(rt; totals.is_ok());
+    assert_eq!(rt; trace.as_slice(), SWITCH_TRACE.as_bytes());
+    Ok(())
+}
+
+/// A chain of four switches, and a player below the last of them.
+const CHAIN: &str = "\
+device tv tv 1
+device s1 switch 1
+device s2 switch 1
+device s3 switch 1
+device s4 switch 1
+device p1 player 0
+plug s1 tv 1
+plug s2 s1 1
+plug s3 s2 1
+plug s4 s3 1
+plug p1 s4 1
+";
+
+const CHAIN_TRACE: &str = "\
+12000 39150 complete 0>0 nack by tv out s1@1,s2@1,s3@1,s4@1
+50700 173850 complete f>f report-physical-address 1.0.0.0 switch ok by s1 out s2@28,s3@28,s4@28
+180600 303750 complete f>f report-physical-address 1.1.0.0 switch ok by s2 out s3@34,s4@34
+310500 433650 complete f>f report-physical-address 1.1.1.0 switch ok by s3 out s4@38
+440400 563550 complete f>f report-physical-address 1.1.1.1 switch ok by s4 out -
+575100 698250 complete 0>f report-physical-address 0.0.0.0 tv ok by tv out -
+state tv tv 0 0.0.0.0 on active=- path=- deck=1a menu=off audio=off volume=20 mute=off arc=off sel=- lang=656e67 osd=- held=- heard=f:84:11 sub=- queue=0 dropped=0
+state s1 switch f 1.0.0.0 on active=- path=- deck=1a menu=off audio=off volume=20 mute=off arc=off sel=1 lang=656e67 osd=- held=- heard=0:84:00 sub=- queue=0 dropped=0
+state s2 switch f 1.1.0.0 on active=- path=- deck=1a menu=off audio=off volume=20 mute=off arc=off sel=1 lang=656e67 osd=- held=- heard=0:84:00 sub=- queue=0 dropped=0
+state s3 switch f 1.1.1.0 on active=- path=- deck=1a menu=off audio=off volume=20 mute=off arc=off sel=1 lang=656e67 osd=- held=- heard=0:84:00 sub=- queue=0 dropped=0
+state s4 switch f 1.1.1.1 on active=- path=- deck=1a menu=off audio=off volume=20 mute=off arc=off sel=1 lang=656e67 osd=- held=- heard=0:84:00 sub=- queue=0 dropped=0
+state p1 player f f.f.f.f on active=- path=- deck=1a menu=off audio=off volume=20 mute=off arc=off sel=- lang=656e67 osd=- held=- heard=0:84:00 sub=- queue=0 dropped=0
+1000000 end
+";
+
+#[test]
+fn a_player_below_four_switches_has_no_address(rt: HostRuntime) -> Result<(), Fail> {
+    let mut trace = Vec::new(rt.alloc());
+    let totals = traced(rt.alloc(), CHAIN, "end 1000000\n", &mut trace);
+    assert!(rt; totals.is_ok());
+    assert_eq!(rt; trace.as_slice(), CHAIN_TRACE.as_bytes());
+    Ok(())
+}
+
+/// Devices that are all loose.
+const LOOSE: &str = "\
+device tv tv 4
+device p1 player 0
+device p2 player 0
+device a switch 2
+device b switch 2
+";
+
+const LOOSE_SCRIPT: &str = "\
+at 100 plug p1 tv 5
+at 100 plug p1 tv 0
+at 200 plug p1 tv 1
+at 300 plug p2 tv 1
+at 400 plug p1 tv 2
+at 500 plug tv a 1
+at 600 plug a b 1
+at 700 plug b a 1
+at 800 unplug p2
+at 900 press p2 play
+at 900 press tv play
+end 1000
+";
+
+const LOOSE_TRACE: &str = "\
+100 event 1 refused port-range
+100 event 2 refused port-range
+200 event 3 ok
+300 event 4 refused port-taken
+400 event 5 refused not-loose
+500 event 6 refused not-loose
+600 event 7 ok
+700 event 8 refused loop
+800 event 9 refused not-plugged
+900 event 10 refused off-wire
+900 event 11 refused not-for-kind
+state tv tv - 0.0.0.0 on active=- path=- deck=1a menu=off audio=off volume=20 mute=off arc=off sel=- lang=656e67 osd=- held=- heard=- sub=- queue=0 dropped=0
+state p1 player - 1.0.0.0 on active=- path=- deck=1a menu=off audio=off volume=20 mute=off arc=off sel=- lang=656e67 osd=- held=- heard=- sub=- queue=0 dropped=0
+state p2 player - - on active=- path=- deck=1a menu=off audio=off volume=20 mute=off arc=off sel=- lang=656e67 osd=- held=- heard=- sub=- queue=0 dropped=0
+state a switch - - on active=- path=- deck=1a menu=off audio=off volume=20 mute=off arc=off sel=1 lang=656e67 osd=- held=- heard=- sub=- queue=0 dropped=0
+state b switch - - on active=- path=- deck=1a menu=off audio=off volume=20 mute=off arc=off sel=1 lang=656e67 osd=- held=- heard=- sub=- queue=0 dropped=0
+1000 end
+";
+
+#[test]
+fn refused_events_are_traced(rt: HostRuntime) -> Result<(), Fail> {
+    let mut trace = Vec::new(rt.alloc());
+    let totals = traced(rt.alloc(), LOOSE, LOOSE_SCRIPT, &mut trace);
+    let counts = Totals {
+        rounds: 0,
+        complete: 0,
+        refused: 9,
+    };
+    assert_eq!(rt; totals.ok(), Some(counts));
+    assert_eq!(rt; trace.as_slice(), LOOSE_TRACE.as_bytes());
+    Ok(())
+}
+
+/// Every kind of device, five levels deep.
+const TREE: &str = "\
+device tv tv 4
+device s1 switch 3
+device a1 amp 3
+device r1 recorder 0
+device p1 player 0
+device s2 switch 3
+device p2 player 0
+device r2 recorder 0
+device s3 switch 2
+device p3 player 0
+device s4 switch 2
+device r3 recorder 0
+device p4 player 0
+device p5 player 0
+device r4 recorder 0
+plug s1 tv 1
+plug a1 tv 2
+plug r1 tv 3
+plug p1 tv 4
+plug s2 s1 1
+plug p2 s1 2
+plug r2 s1 3
+plug s3 s2 1
+plug p3 s2 2
+plug s4 s3 1
+plug r3 s3 2
+plug p4 s4 1
+plug p5 a1 1
+plug r4 a1 2
+";
+
+/// The first switch leaves while a player allocates, and comes back while another reports.
+const TREE_SCRIPT: &str = "\
+at 1320000 unplug s1
+at 1420000 plug s1 tv 1
+at 2000000 press p3 play
+end 5000000
+";
+
+const TREE_TRACE: &str = "\
+12000 39150 complete 0>0 nack by tv out s1@1,s2@1,s3@1,s4@1
+50700 173850 complete f>f report-physical-address 1.0.0.0 switch ok by s1 out s2@28,s3@28,s4@28
+180600 303750 complete f>f report-physical-address 1.1.0.0 switch ok by s2 out s3@34,s4@34
+310500 433650 complete f>f report-physical-address 1.1.1.0 switch ok by s3 out s4@38
+440400 563550 complete f>f report-physical-address 1.1.1.1 switch ok by s4 out -
+575100 698250 complete 0>f report-physical-address 0.0.0.0 tv ok by tv out -
+709801 736951 complete 4>4 nack by p3 out -
+748502 775652 complete 4>4 ack by p2 out -
+788102 911252 complete 4>f report-physical-address 1.1.2.0 playback ok by p3 out -
+922802 949952 complete 5>5 nack by a1 out -
+961502 988652 complete 1>1 nack by r4 out -
+1000202 1123352 complete 5>f report-physical-address 2.0.0.0 audio ok by a1 out -
+1134902 1258052 complete 1>f report-physical-address 2.2.0.0 recorder ok by r4 out p2@1
+1269603 1296753 complete 1>1 ack by r1 out -
+1309204 1336354 complete 4>4 ack by p1 out -
+1336804 event 1 ok
+1348813 1375963 complete 4>4 nack by p5 out -
+1387523 1414673 complete 2>2 nack by r1 out -
+1420000 event 2 ok
+1426223 1549373 complete 4>f report-physical-address 2.1.0.0 playback ok by p5 out s1@1,s2@1,s3@1,s4@1
+1560923 1588073 complete 1>1 ack by r3 out s1@1,r1@3,s2@1,s3@1,s4@1
+1600523 1723673 complete 2>f report-physical-address 3.0.0.0 recorder ok by r1 out s1@1,s2@1,s3@1,s4@1
+1735223 1762373 complete 1>1 ack by r2 out s1@1,s2@1,s3@1,s4@1
+1774823 1897973 complete f>f report-physical-address 1.0.0.0 switch ok by s1 out s2@28,s3@28,s4@28
+1904723 2027873 complete f>f report-physical-address 1.1.0.0 switch ok by s2 out s3@34,s4@34
+2027873 event 3 ok
+2034623 2157773 complete f>f report-physical-address 1.1.1.0 switch ok by s3 out s4@38
+2164523 2287673 complete f>f report-physical-address 1.1.1.1 switch ok by s4 out -
+2299223 2326373 complete 2>2 ack by r2 out -
+2338825 2365975 complete 4>4 ack by p3 out -
+2378427 2405577 complete 2>2 ack by r3 out -
+2418036 2445186 complete 8>8 nack by p1 out -
+2456742 2483892 complete 4>4 ack by p2 out -
+2496342 2619492 complete 8>f report-physical-address 4.0.0.0 playback ok by p1 out -
+2631046 2658196 complete 8>8 ack by p2 out -
+2670647 2697797 complete 9>9 nack by r2 out -
+2709350 2736500 complete b>b nack by p2 out -
+2748050 2871200 complete 9>f report-physical-address 1.3.0.0 recorder ok by r2 out -
+2882750 3005900 complete b>f report-physical-address 1.2.0.0 playback ok by p2 out -
+3017451 3044601 complete 9>9 ack by r3 out -
+3057065 3084215 complete 8>8 ack by p3 out -
+3101465 3128615 complete b>b ack by p3 out -
+state tv tv 0 0.0.0.0 on active=- path=- deck=1a menu=off audio=off volume=20 mute=off arc=off sel=- lang=656e67 osd=- held=- heard=b:84:12 sub=- queue=0 dropped=0
+state s1 switch f 1.0.0.0 on active=- path=- deck=1a menu=off audio=off volume=20 mute=off arc=off sel=1 lang=656e67 osd=- held=- heard=b:84:12 sub=- queue=0 dropped=0
+state a1 amp 5 2.0.0.0 on active=- path=- deck=1a menu=off audio=off volume=20 mute=off arc=off sel=- lang=656e67 osd=- held=- heard=b:84:12 sub=- queue=0 dropped=0
+state r1 recorder 2 3.0.0.0 on active=- path=- deck=1a menu=off audio=off volume=20 mute=off arc=off sel=- lang=656e67 osd=- held=- heard=b:84:12 sub=- queue=0 dropped=0
+state p1 player 8 4.0.0.0 on active=- path=- deck=1a menu=off audio=off volume=20 mute=off arc=off sel=- lang=656e67 osd=- held=- heard=b:84:12 sub=- queue=0 dropped=0
+state s2 switch f 1.1.0.0 on active=- path=- deck=1a menu=off audio=off volume=20 mute=off arc=off sel=1 lang=656e67 osd=- held=- heard=b:84:12 sub=- queue=0 dropped=0
+state p2 player b 1.2.0.0 on active=- path=- deck=1a menu=off audio=off volume=20 mute=off arc=off sel=- lang=656e67 osd=- held=- heard=9:84:13 sub=- queue=0 dropped=0
+state r2 recorder 9 1.3.0.0 on active=- path=- deck=1a menu=off audio=off volume=20 mute=off arc=off sel=- lang=656e67 osd=- held=- heard=b:84:12 sub=- queue=0 dropped=0
+state s3 switch f 1.1.1.0 on active=- path=- deck=1a menu=off audio=off volume=20 mute=off arc=off sel=1 lang=656e67 osd=- held=- heard=b:84:12 sub=- queue=0 dropped=0
+state p3 player f 1.1.2.0 on active=1.1.2.0 path=1.1.2.0 deck=11 menu=off audio=off volume=20 mute=off arc=off sel=- lang=656e67 osd=- held=- heard=b:84:12 sub=- queue=0 dropped=0
+state s4 switch f 1.1.1.1 on active=- path=- deck=1a menu=off audio=off volume=20 mute=off arc=off sel=1 lang=656e67 osd=- held=- heard=b:84:12 sub=- queue=0 dropped=0
+state r3 recorder f 1.1.1.2 on active=- path=- deck=1a menu=off audio=off volume=20 mute=off arc=off sel=- lang=656e67 osd=- held=- heard=b:84:12 sub=- queue=0 dropped=0
+state p4 player f f.f.f.f on active=- path=- deck=1a menu=off audio=off volume=20 mute=off arc=off sel=- lang=656e67 osd=- held=- heard=b:84:12 sub=- queue=0 dropped=0
+state p5 player 4 2.1.0.0 on active=- path=- deck=1a menu=off audio=off volume=20 mute=off arc=off sel=- lang=656e67 osd=- held=- heard=b:84:12 sub=- queue=0 dropped=0
+state r4 recorder 1 2.2.0.0 on active=- path=- deck=1a menu=off audio=off volume=20 mute=off arc=off sel=- lang=656e67 osd=- held=- heard=b:84:12 sub=- queue=0 dropped=0
+5000000 end
+";
+
+#[test]
+fn a_deep_tree_is_unplugged_while_it_allocates(rt: HostRuntime) -> Result<(), Fail> {
+    let mut trace = Vec::new(rt.alloc());
+    let totals = traced(rt.alloc(), TREE, TREE_SCRIPT, &mut trace);
+    let counts = Totals {
+        rounds: 39,
+        complete: 39,
+        refused: 0,
+    };
+    assert_eq!(rt; totals.ok(), Some(counts));
+    assert_eq!(rt; trace.as_slice(), TREE_TRACE.as_bytes());
+    Ok(())
+}
+
+/// The base block of a television's EDID, in hex, from its header, maker, revision, and its last two bytes:
+/// the number of extensions and the checksum.
+fn block(
+    alloc: Global,
+    header: &str,
+    maker: &str,
+    revision: &str,
+    last: &str,
+) -> Result<String, Fail> {
+    let rest =
+        "80341d780aee91a3544c99260f505400000001010101010101010101010101010101023a801871382d40582c450008222100001e000000fc004c4f554e474520545620303031000000100000000000000000000000000000000000100000000000000000000000000000";
+    Ok(format!(in alloc; "{header}{maker}0201010000000a1501{revision}{rest}{last}")?)
+}
+
+/// The base block and an extension with this address in its HDMI block, and this checksum, in hex.
+fn edid(alloc: Global, address: &str, check: &str) -> Result<String, Fail> {
+    let mut text = block(alloc, "00ffffffffffff00", "4c2d", "03", "0151")?;
+    text.push_str("020316f143900403230907078301000065030c00")?;
+    text.push_str(address)?;
+    for _ in 0..105 {
+        text.push_str("00")?;
+    }
+    text.push_str(check)?;
+    Ok(text)
+}
+
+/// How an EDID of these digits is refused. Nothing was written.
+fn refusal(rt: &HostRuntime, digits: &str) -> Result<String, Fail> {
+    let topology = format!(in rt.alloc(); "device tv tv 1\nedid {digits}\n")?;
+    let mut trace = Vec::new(rt.alloc());
+    let Err(error) = traced(rt.alloc(), topology.as_str(), "end 5\n", &mut trace) else {
+        return Err("not refused".into());
+    };
+    if !trace.is_empty() {
+        return Err("something was written".into());
+    }
+    Ok(format!(in rt.alloc(); "{error}")?)
+}
+
+#[test]
+fn tells_why_an_edid_is_refused(rt: HostRuntime) -> Result<(), Fail> {
+    let alloc = rt.alloc();
+    let header = "00ffffffffffff00";
+    assert_eq!(rt; refusal(&rt, "00")?.as_str(), "edid: length");
+    for (header, maker, revision, last, expected) in [
+        (header, "4c2d", "03", "0151", "edid: count"),
+        (
+            "01ffffffffffff00",
+            "4c2d",
+            "03",
+            "0151",
+            "edid: base header",
+        ),
+        (header, "4c2d", "03", "0152", "edid: base checksum"),
+        (header, "4c2d", "02", "0152", "edid: base revision"),
+        (header, "6c2d", "03", "0131", "edid: base maker"),
+        (header, "4c2d", "03", "0052", "edid: no-hdmi-block"),
+    ] {
+        let digits = block(alloc, header, maker, revision, last)?;
+        assert_eq!(rt; refusal(&rt, digits.as_str())?.as_str(), expected);
+    }
+    let digits = edid(alloc, "0000", "e9")?;
+    assert_eq!(rt;
+        refusal(&rt, digits.as_str())?.as_str(),
+        "edid: ext 1 checksum"
+    );
+    Ok(())
+}
+
+#[test]
+fn tells_a_script_before_an_edid(rt: HostRuntime) -> Result<(), Fail> {
+    let mut trace = Vec::new(rt.alloc());
+    let error = traced(rt.alloc(), "device tv tv 1\nedid 00\n", "", &mut trace);
+    assert!(rt; matches!(error, Err(EmulateError::Script { line: 1, .. })));
+    Ok(())
+}
+
+/// An amplifier in a switch, both still loose.
+const PARTS: &str = "\
+device tv tv 2
+device sw switch 2
+device a amp 1
+plug a sw 1
+";
+
+const PARTS_SCRIPT: &str = "\
+at 5 plug sw tv 2
+at 5 unplug tv
+at 6 plug a tv 1
+at 6 unplug a
+at 7 plug a tv 1
+end 8
+";
+
+/// What is traced behind the lines of events and ports.
+const PARTS_STATES: &str = "\
+state tv tv - 0.0.0.0 on active=- path=- deck=1a menu=off audio=off volume=20 mute=off arc=off sel=- lang=656e67 osd=- held=- heard=- sub=- queue=0 dropped=0
+state sw switch f 2.0.0.0 on active=- path=- deck=1a menu=off audio=off volume=20 mute=off arc=off sel=1 lang=656e67 osd=- held=- heard=- sub=- queue=1 dropped=0
+state a amp - 1.0.0.0 on active=- path=- deck=1a menu=off audio=off volume=20 mute=off arc=off sel=- lang=656e67 osd=- held=- heard=- sub=- queue=0 dropped=0
+8 end
+";
+
+#[test]
+fn traces_ports_of_what_comes_onto_the_wire(rt: HostRuntime) -> Result<(), Fail> {
+    let alloc = rt.alloc();
+    let root = edid(alloc, "0000", "e8")?;
+    let topology = format!(in alloc; "{PARTS}edid {root}\n")?;
+    let mut expected = String::new(alloc);
+    for (line, address, check) in [
+        ("0 port tv 1 ", "1000", "d8"),
+        ("0 port tv 2 ", "2000", "c8"),
+        ("5 event 1 ok", "", ""),
+        ("5 port sw 1 ", "2100", "c7"),
+        ("5 port sw 2 ", "2200", "c6"),
+        ("5 port a 1 ", "2110", "b7"),
+        ("5 event 2 refused not-plugged", "", ""),
+        ("6 event 3 refused not-loose", "", ""),
+        ("6 event 4 ok", "", ""),
+        ("7 event 5 ok", "", ""),
+        ("7 port a 1 ", "1100", "d7"),
+    ] {
+        expected.push_str(line)?;
+        if !address.is_empty() {
+            expected.push_str(edid(alloc, address, check)?.as_str())?;
+        }
+        expected.push_str("\n")?;
+    }
+    expected.push_str(PARTS_STATES)?;
+    let mut trace = Vec::new(alloc);
+    let totals = traced(alloc, topology.as_str(), PARTS_SCRIPT, &mut trace);
+    assert!(rt; totals.is_ok());
+    assert_eq!(rt; trace.as_slice(), expected.as_bytes());
+    Ok(())
+}
