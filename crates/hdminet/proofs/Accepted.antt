@@ -14,7 +14,8 @@ use Rattle.hdmi_edtext.specs.declared.edid.Edid.{Edid}
 use Rattle.hdmi_edtext.proofs.OneEdid.{one_edid}
 use Rattle.hdminet.specs.Root.{IsRoot}
 use Rattle.hdminet.specs.Run.{start, IsTrace}
-use Rattle.hdminet.specs.Emulate.{IsTraceOf}
+use Rattle.hdminet.specs.Emulate.{IsTraceOf, TextsHaveOneTrace}
+use Rattle.hdminet.proofs.Turns.{one_trace}
 
 -- a tree with a television has a device
 some_device : (tree : List Node) → has_root tree ≡ true → 0 < length tree
@@ -80,3 +81,8 @@ one_trace_of topology script text totals plan course edid t s e w =
     subst (λ x. IsTrace x course.end (start (started plan.tree course.pulses) course.events) text totals) r
     (subst (λ c. IsTrace w.edid c.end (start (started plan.tree c.pulses) c.events) text totals) k
     (subst (λ q. IsTrace w.edid w.course.end (start (started q.tree w.course.pulses) w.course.events) text totals) p w.trace))
+
+pub texts_have_one_trace : TextsHaveOneTrace
+texts_have_one_trace topology script x y s t p q =
+    one_trace p.edid p.course.end (start (started p.plan.tree p.course.pulses) p.course.events) x y s t p.trace
+    (one_trace_of topology script y t p.plan p.course p.edid p.accepted.plan_is p.accepted.course_is p.root q)

@@ -30,6 +30,10 @@ pub record IsTraceOf (topology script text : List ℕ) (totals : Totals) : Type 
   pub root : IsRoot plan.edid edid
   pub trace : IsTrace edid course.end (start (started plan.tree course.pulses) course.events) text totals
 
+-- the texts of a topology and a script have one trace, and one count of what it tells
+abbrev pub TextsHaveOneTrace : Type 0
+TextsHaveOneTrace = (topology script x y : List ℕ) (s t : Totals) → IsTraceOf topology script x s → IsTraceOf topology script y t → (x ≡ y) × (s ≡ t)
+
 abbrev pub topology_told : TopologyError → EmulateError
 topology_told (topologies.At line cause) = Topology line cause
 topology_told topologies.Memory = Memory
