@@ -7,7 +7,7 @@ ghost use Rattle.cec_frame.specs.Bits.{frame_bits};
 
 use crate::hearing::{Ended, Place};
 use crate::recorder::Recorder;
-use crate::senders::{held_until, longest, out_slot, winner};
+use crate::senders::{held_until, out_slot, senders_have_frames, winner};
 use crate::{Loser, Outcome, Seat, Wire};
 use arrayvec::ArrayVec;
 use cec_frame::{Ending, Frame, Reading};
@@ -320,7 +320,7 @@ impl FrameWire {
 
 impl Wire for FrameWire {
     fn round(&mut self, seats: &[Seat], start: u64, pulses: &Pulses) -> Outcome {
-        longest(seats);
+        senders_have_frames(seats);
         let winner = winner(seats);
         let stretches = pulses.as_slice();
         let mut hearing = Hearing::new(&winner);

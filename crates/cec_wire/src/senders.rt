@@ -1,10 +1,10 @@
 //! Who goes on sending, who acknowledges and who pulls after a fall too early, by the bits that were read.
-ghost use Rattle.std.specs.Prelude.{◌≡◌, ◌+◌, ◌-◌, ◌*◌, ◌%◌, ◌==◌, ◌<◌, ◌≤◌, ◌++◌, ◌&&◌, ◌||◌, not, false, length, All, Option, None, slice_index_or, if◌then◌else◌, IfSome};
+ghost use Rattle.std.specs.Prelude.{◌≡◌, ◌+◌, ◌-◌, ◌*◌, ◌%◌, ◌==◌, ◌<◌, ◌≤◌, ◌++◌, ◌&&◌, ◌||◌, not, false, length, All, Option, None, slice_index_or, if◌then◌else◌};
 ghost use Rattle.std.specs.List.{find, list_any};
 ghost use Rattle.cec_frame.specs.Bits.{frame_bits, comes_before, least_among};
 ghost use mathlib.Core.Bool.{beq};
 ghost use Rattle.cec_wire.specs.Round.{bit_read, destination, frames_of, holds_address};
-ghost use Rattle.cec_wire.specs.Machine.{is_out_by, out_by, sends_after, acks_after, breaks_after, acks_until, held_after, is_short, beats, won, first_won, AreSentWell};
+ghost use Rattle.cec_wire.specs.Machine.{is_out_by, out_by, sends_after, acks_after, breaks_after, acks_until, held_after, is_short, beats, won, first_won, IsSentWell, AreSentWell};
 ghost use Rattle.cec_wire.specs.Contend.{AreFrames};
 ghost use Rattle.cec_wire.specs.Falls.{AreShortFrames};
 
@@ -209,23 +209,20 @@ pub fn winner(seats: &[Seat]) -> Option<Frame>
     None
 }
 
-fn blocks(seat: &Seat) -> usize
-    ensures blocks { IfSome seat.now.sends (λ f. result ≡ length f) }
-    ensures short { IfSome seat.now.sends (λ f. (0 < length f) × (length f ≤ 16)) }
+// What a seat sends has 1 to 16 blocks.
+fn sends_blocks(seat: &Seat)
+    ensures { IsSentWell seat.now.sends }
 {
-    match &seat.sends {
-        None => 0,
-        Some(frame) => frame.bytes().len(),
+    if let Some(frame) = &seat.sends {
+        let _blocks = frame.bytes();
     }
 }
 
-/// The blocks of the longest frame that is sent.
-pub fn longest(seats: &[Seat]) -> usize
+/// Each frame that is sent has 1 to 16 blocks (CEC 6).
+pub fn senders_have_frames(seats: &[Seat])
     ensures { AreSentWell seats.now }
 {
-    let mut longest = 0;
     for seat in seats {
-        longest = blocks(seat).max(longest);
+        sends_blocks(seat);
     }
-    longest
 }

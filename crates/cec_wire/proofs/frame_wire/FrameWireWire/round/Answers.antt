@@ -41,7 +41,7 @@ hear-requires-in-microseconds-clause-room c =
     let st = c.as_slice-stretches.result.now in
     let seats = c.args.seats.now in
     has_room seats c.args.start st (made_line seats c.args.start st) c.microseconds.t c.microseconds.recorder.wave c.microseconds.recorder.low_since
-    (are_frames seats c.longest.ensures) (are_short seats c.longest.ensures) c.as_slice-stretches.ensures.sparse (made_round seats c.args.start st) c.microseconds.invariant.records
+    (are_frames seats c.senders_have_frames.ensures) (are_short seats c.senders_have_frames.ensures) c.as_slice-stretches.ensures.sparse (made_round seats c.args.start st) c.microseconds.invariant.records
 
 pub hear-requires-in-microseconds-clause-ready : goal.hear-requires-in-microseconds-clause-ready
 hear-requires-in-microseconds-clause-ready c =
@@ -66,7 +66,7 @@ microseconds-preserved c =
     let i = c.microseconds.invariant in
     let was = c.was_low-was_low.ensures ∙ sym i.records.was in
     let is_low = hears seats c.args.start st low c.microseconds.t h.bits.items h.held h.place h.sends c.winner-winner.result c.was_low-was_low.result c.is_pulled-is_low.result
-    c.longest.ensures line i.stands i.sends c.winner-winner.ensures was c.is_pulled-is_low.ensures in
+    c.senders_have_frames.ensures line i.stands i.sends c.winner-winner.ensures was c.is_pulled-is_low.ensures in
     record {
       stands = stands_next seats low c.args.start c.microseconds.t h.bits.items h.held h.place c.was_low-was_low.result c.is_pulled-is_low.result
           c.hear.new.self.bits.items c.hear.new.self.held c.hear.new.self.place i.stands (no_rise seats c.args.start st low line c.microseconds.t) was is_low
