@@ -11,9 +11,10 @@ ghost use Rattle.cec_text.specs.OperandWords.{word_of, words_of};
 use crate::form::Form;
 use crate::form_rows::form_of;
 use crate::operand_words::WordSet;
-use crate::spelling::opcode_text;
+use crate::spelling::nameless_text;
 use arrayvec::ArrayVec;
 use cec_frame::Frame;
+use cec_opcode::name;
 
 type Operands = ArrayVec<u8, 16>;
 
@@ -216,8 +217,10 @@ fn operands_in(form: Form, text: &[u8]) -> Operands
 fn is_opcode(code: u8, word: &[u8]) -> bool
     ensures { IsTrue result ↔ (opcode_text code ≡ word.now) }
 {
-    let text = opcode_text(code);
-    is_same(&text, word)
+    match name(code) {
+        Some(name) => is_same(name.as_bytes(), word),
+        None => is_same(&nameless_text(code), word),
+    }
 }
 
 pub(crate) fn is_same(left: &[u8], right: &[u8]) -> bool

@@ -299,6 +299,13 @@ fn operands_text(form: Form, operands: &[u8]) -> OperandText
     }
 }
 
+/// `op-` and the hex digits of an opcode.
+pub(crate) fn nameless_text(code: u8) -> [u8; 5]
+    ensures { result ≡ codes "op-" ++ hex_text code }
+{
+    [b'o', b'p', b'-', digit(code / 16), digit(code % 16)]
+}
+
 /// The name of an opcode, or `op-` and its hex digits where it has none.
 pub(crate) fn opcode_text(code: u8) -> ArrayVec<u8, 32>
     ensures { result.items ≡ opcode_text code }
@@ -309,9 +316,7 @@ pub(crate) fn opcode_text(code: u8) -> ArrayVec<u8, 32>
             let _ = items.try_extend_from_slice(name.as_bytes());
         }
         None => {
-            let _ = items.try_extend_from_slice(b"op-");
-            items.push(digit(code / 16));
-            items.push(digit(code % 16));
+            let _ = items.try_extend_from_slice(&nameless_text(code));
         }
     }
     items
