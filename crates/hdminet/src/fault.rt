@@ -3,10 +3,13 @@ use crate::edid_text::{EdidToTextError, TextToHexError};
 use crate::emulate::EmulateError;
 use cec_text::{AssembleError, FrameLinesError};
 use std::alloc::AllocError;
+use std::io::{self, ErrorKind};
 use thiserror::Error;
 
 #[derive(Debug, Drop, Error)]
 pub enum Fault {
+    #[error("an argument is not UTF-8")]
+    NotUtf8,
     #[error("input too long")]
     TooLong,
     #[error("read fault")]
@@ -40,9 +43,18 @@ impl From<FrameLinesError> for Fault {
 }
 
 impl Fault {
+    /// Why the words of the command line were not to be had.
+    pub fn of_words(error: io::Error) -> Fault {
+        match error.kind() {
+            ErrorKind::OutOfMemory => Fault::Memory(AllocError),
+            _ => Fault::NotUtf8,
+        }
+    }
+
     /// The exit status.
     pub fn status(&self) -> u8 {
         match self {
+            Fault::NotUtf8 => 2,
             Fault::TooLong
             | Fault::Read
             | Fault::Write(_)

@@ -16,6 +16,7 @@ Examples, of which the folder examples/ has the inputs and outputs:
       script
       at 1000000 press p1 play
       end 1500000
+      (further ones are four-players.net and ports.net)
   ./hdminet asm < examples/frames.txt
       `4>f active-source 1.0.0.0` gives `4f821000`
   ./hdminet edid < examples/living-room.edid

@@ -20,15 +20,24 @@ mod tests_trees;
 mod trace_text;
 mod written;
 
+use fault::Fault;
 use hdmi_cta::Writes;
-use program::program;
+use program::{program, tell};
+use std::env;
 use std::process::ExitCode;
-use std::{env, io};
 
-fn main(rt: HostRuntime) -> io::Result<ExitCode> {
-    let words: Vec<String> = env::args(&rt)?.collect(rt.alloc())?;
+fn words(rt: &HostRuntime) -> Result<Vec<String>, Fault> {
+    let words = env::args(rt).map_err(Fault::of_words)?;
+    Ok(words.collect(rt.alloc())?)
+}
+
+fn main(rt: HostRuntime) -> ExitCode {
     let mut input = rt.stdin();
     let mut out = Writes::new(rt.stdout());
     let mut err = Writes::new(rt.stderr());
-    Ok(ExitCode::from(program(rt.alloc(), words, &mut input, &mut out, &mut err)))
+    let status = match words(&rt) {
+        Ok(words) => program(rt.alloc(), words, &mut input, &mut out, &mut err),
+        Err(fault) => tell(&fault, &mut err),
+    };
+    ExitCode::from(status)
 }

@@ -1,7 +1,7 @@
 //! What the program does, over readers and writers that it is handed.
 use super::*;
 use std::alloc::Global;
-use std::io::{ErrorKind, Read, Write};
+use std::io::{self, ErrorKind, Read, Write};
 use std::process::Abort;
 use std::test::Fail;
 

@@ -77,11 +77,23 @@ fn tells_that_help_was_not_written(rt: HostRuntime) -> Result<(), Fail> {
 }
 
 #[test]
-fn tells_that_there_is_no_memory(rt: HostRuntime) -> Result<(), Fail> {
-    let alloc = rt.alloc();
-    let mut err = Vec::new(alloc);
-    let status = tell(&Fault::Memory(AllocError), &mut Writes::new(&mut err));
-    assert_eq!(rt; err.as_slice(), b"hdminet: no memory\n".as_slice());
-    assert_eq!(rt; status, 4);
+fn tells_why_it_has_no_words_or_no_memory(rt: HostRuntime) -> Result<(), Fail> {
+    for (fault, text, status) in [
+        (Fault::Memory(AllocError), "hdminet: no memory\n", 4),
+        (
+            Fault::of_words(io::Error::from(ErrorKind::OutOfMemory)),
+            "hdminet: no memory\n",
+            4,
+        ),
+        (
+            Fault::of_words(io::Error::from(ErrorKind::InvalidData)),
+            "hdminet: an argument is not UTF-8\n",
+            2,
+        ),
+    ] {
+        let mut err = Vec::new(rt.alloc());
+        assert_eq!(rt; tell(&fault, &mut Writes::new(&mut err)), status);
+        assert_eq!(rt; err.as_slice(), text.as_bytes());
+    }
     Ok(())
 }
