@@ -1,7 +1,7 @@
 -- Blocks read one by one.
-use Rattle.std.proofs.Common.{◌≡◌, ℕ, suc, ◌+◌, ◌-◌, ◌*◌, ◌/◌, ◌%◌, ◌<◌, ◌≤◌, Bool, true, false, nat_lt, Option, Some, None, List, [], ◌∷◌, ◌++◌, ◌⊎◌, inl, inr, length, get_or, take, drop, replicate, ap, arith, refl, sym, ◌∙◌, length-append, length-drop, lit<, Result, Ok, Err, IsOk, OnOk}
+use Rattle.std.proofs.Common.{◌≡◌, ℕ, ◌+◌, ◌-◌, ◌*◌, ◌/◌, ◌%◌, ◌<◌, ◌≤◌, true, false, Some, List, ◌++◌, ◌⊎◌, inl, inr, length, get_or, take, drop, replicate, ap, arith, refl, sym, ◌∙◌, length-append, length-drop, lit<, Result, Ok, Err, IsOk, OnOk}
 use Rattle.std.proofs.Math.Seq.{take-add}
-use Rattle.std.proofs.lemmas.Bool.{cases_lt, ltb-true}
+use Rattle.std.proofs.lemmas.Bool.{cases_lt}
 use Rattle.std.proofs.lemmas.Grind.{same_number_lists}
 use Rattle.std.proofs.lemmas.List.{get_or-replicate, get_or-drop, get_or-take, get_or-append_right, get_or_append_left, get_or_default, get_or_past, length-replicate, length-take-le}
 use borrow.Author.Tests.{tests}

@@ -1,13 +1,13 @@
 -- What is learnt of an EDID is the address in it.
-use Rattle.std.proofs.Common.{◌≡◌, ℕ, ◌+◌, ◌*◌, ◌/◌, ◌<◌, ◌≤◌, Bool, true, false, Option, Some, None, Result, Ok, Err, IfOk, IfErr, List, ◌++◌, ◌⊎◌, inl, inr, length, get_or, take, replicate, subst, ap, arith, refl, sym, ◌∙◌}
+use Rattle.std.proofs.Common.{◌≡◌, ℕ, ◌+◌, ◌*◌, ◌/◌, ◌<◌, ◌≤◌, true, Some, Result, Ok, Err, IfOk, IfErr, List, inl, inr, length, get_or, replicate, subst, ap, arith, sym, ◌∙◌}
 use Rattle.std.proofs.lemmas.List.{get_or_append_left, take_at}
 use Rattle.hdmi_cta.specs.declared.phys.Phys.{Phys}
 use Rattle.hdmi_edtext.specs.Address.{edid_address}
-use Rattle.hdmi_edtext.specs.Bytes.{edid_bytes, HasLength, HasCount, IsRefused}
+use Rattle.hdmi_edtext.specs.Bytes.{edid_bytes, HasLength}
 use Rattle.hdmi_edtext.specs.declared.edid.Edid.{Edid as EdidValue}
 use Rattle.hdmi_edtext.proofs.OneEdid.{one_edid, length_fits, count_fits, not_refused}
 use Rattle.hdmi_ddc.specs.Bus.{has_segment}
-use Rattle.hdmi_ddc.specs.Learn.{padded, asked, blocks_read, CanBeRead, IsUnread, IsUntold, IsLearnt}
+use Rattle.hdmi_ddc.specs.Learn.{asked, blocks_read, CanBeRead, IsUnread, IsUntold, IsLearnt}
 use Rattle.hdmi_ddc.specs.declared.error.DdcError.{DdcError}
 use Rattle.hdmi_ddc.specs.declared.error.DdcError.TheVariants.{NoAck, Edid, NoHdmiBlock, Length}
 use Rattle.hdmi_ddc.proofs.Lengths.{edid_length, first_segment}

@@ -1,5 +1,5 @@
 -- The lengths of EDIDs.
-use Rattle.std.proofs.Common.{◌≡◌, ℕ, ◌+◌, ◌*◌, ◌<◌, ◌≤◌, ◌==◌, Bool, true, false, ◌||◌, ◌⊎◌, inl, inr, nat_lt, List, length, ap, arith, refl, sym, ◌∙◌, lit≤}
+use Rattle.std.proofs.Common.{◌≡◌, ℕ, ◌*◌, ◌<◌, ◌≤◌, ◌==◌, Bool, true, false, ◌||◌, ◌⊎◌, inl, inr, nat_lt, List, length, arith, refl, lit≤}
 use Rattle.std.proofs.lemmas.Bool.{eqb-true}
 use borrow.Author.Tests.{tests}
 use Rattle.hdmi_edtext.specs.Bytes.{edid_bytes, HasLength}

@@ -1,5 +1,5 @@
 -- The physical address that a device learns over DDC (HDMI 1.4, section 8.7.2; how it reads is own).
-use Rattle.std.specs.Prelude.{◌≡◌, ℕ, ◌+◌, ◌*◌, ◌/◌, ◌<◌, ◌≤◌, ◌⊎◌, Bool, true, false, Option, Some, None, Result, Ok, Err, List, ◌++◌, slice_index, take, replicate}
+use Rattle.std.specs.Prelude.{◌≡◌, ℕ, ◌+◌, ◌*◌, ◌/◌, ◌<◌, ◌≤◌, ◌⊎◌, true, false, Some, None, Result, Ok, Err, List, ◌++◌, slice_index, take, replicate}
 use Rattle.hdmi_cta.specs.declared.phys.Phys.{Phys}
 use Rattle.hdmi_edtext.specs.Address.{edid_address}
 use Rattle.hdmi_edtext.specs.Bytes.{edid_bytes, IsRefused}

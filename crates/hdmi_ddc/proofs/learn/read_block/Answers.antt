@@ -1,4 +1,4 @@
-use Rattle.std.proofs.Common.{◌≡◌, ℕ, ◌+◌, ◌*◌, ◌/◌, ◌%◌, true, ap, sym, ◌∙◌, refl}
+use Rattle.std.proofs.Common.{◌≡◌, ◌+◌, ◌*◌, ◌/◌, ◌%◌, true, ap, sym, ◌∙◌, refl}
 use Rattle.hdmi_ddc.specs.Bus.{Bus, byte_at, has_segment}
 use Rattle.hdmi_ddc.proofs.Blocks.{block_is}
 use Rattle.hdmi_ddc.proofs.learn.read_block.Goals as goal
