@@ -1,9 +1,9 @@
 -- A base block has 128 bytes, and tells at 126 how many extensions follow.
-use Rattle.std.proofs.Common.{◌≡◌, ℕ, zero, suc, ◌+◌, ◌-◌, ◌*◌, ◌≤◌, ◌<◌, nat_le, Option, Some, None, List, [], ◌∷◌, ◌++◌, length, get_or, take, drop, flat_map, ap, arith, refl, sym, ◌∙◌, append_assoc, length-append}
-use Rattle.std.proofs.lemmas.List.{length-replicate, get_or-take, get_or-append_right}
+use Rattle.std.proofs.Common.{◌≡◌, ℕ, zero, suc, ◌+◌, ◌-◌, ◌*◌, nat_le, Option, Some, None, List, [], ◌∷◌, ◌++◌, length, get_or, flat_map, ap, arith, refl, ◌∙◌, append_assoc, length-append}
+use Rattle.std.proofs.lemmas.List.{length-replicate, get_or-append_right}
 use Rattle.std.proofs.lemmas.Bool.{leb-true}
 use Rattle.hdmi_edid.proofs.PartLemmas.{both}
-use Rattle.hdmi_edid.specs.Base.{base_bytes, front_bytes, product_bytes, display_bytes, header}
+use Rattle.hdmi_edid.specs.Base.{base_bytes, front_bytes, product_bytes, header}
 use Rattle.hdmi_edid.specs.Check.{check_of}
 use Rattle.hdmi_edid.specs.Chars.{padding, text_bytes}
 use Rattle.hdmi_edid.specs.Chroma.{chroma_bytes}
@@ -18,7 +18,7 @@ use Rattle.hdmi_edid.specs.declared.descriptor.Descriptor.TheVariants.{Timing, N
 use Rattle.hdmi_edid.specs.declared.standard.Standard.{Standard}
 use Rattle.hdmi_edid.specs.declared.text.Text.{Text as AnyText}
 
-length-flat : {X : Type 0} (f : X → List ℕ) (n : ℕ) → ((x : X) → length (f x) ≡ n) → (xs : List X) → length (flat_map f xs) ≡ n * length xs
+pub length-flat : {X : Type 0} (f : X → List ℕ) (n : ℕ) → ((x : X) → length (f x) ≡ n) → (xs : List X) → length (flat_map f xs) ≡ n * length xs
 length-flat f n each [] = omega arith
 length-flat f n each (x ∷ xs) = omega (arith, length-append (f x) (flat_map f xs), each x, length-flat f n each xs)
 

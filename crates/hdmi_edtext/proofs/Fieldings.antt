@@ -1,14 +1,13 @@
 -- What some forms have.
-use Rattle.std.proofs.Common.{◌≡◌, ℕ, zero, suc, ◌+◌, ◌-◌, ◌<◌, ◌≤◌, ◌==◌, Bool, true, false, List, [], ◌∷◌, ◌++◌, length, drop, flat_map, Option, Some, None, ap, subst, arith, refl, sym, ◌∙◌, length-append, codes, append-nil}
+use Rattle.std.proofs.Common.{◌≡◌, ℕ, ◌<◌, ◌≤◌, ◌==◌, true, List, [], ◌∷◌, ◌++◌, length, drop, flat_map, Option, Some, ap, subst, arith, refl, sym, ◌∙◌, length-append, codes}
 use Rattle.std.specs.Fmt.{decimal}
 use Rattle.std.specs.List.{position_or_len}
-use Rattle.std.proofs.lemmas.Fmt.{decimal_nonempty}
 use Rattle.std.proofs.lemmas.Bool.{ltb-true}
 use Rattle.std.proofs.Common.{nat_lt, ◌^◌}
 use Rattle.hex.specs.Hex.{encode_lower}
 use Rattle.hdmi_edid.proofs.PartLemmas.{both}
 use Rattle.hdmi_edtext.specs.Text.{number_text, fields_text}
-use Rattle.hdmi_edtext.specs.Formed.{FormedFields, HasNumbers, are_numbers, is_spaceless, BeginsSpaced}
+use Rattle.hdmi_edtext.specs.Formed.{FormedFields, are_numbers, BeginsSpaced}
 use Rattle.hdmi_edtext.specs.declared.line.Fields.{Fields}
 use Rattle.hdmi_edtext.specs.declared.line.Fields.TheVariants.{Nothing, Letters, Numbers, Timed, Bytes, Address, Quoted}
 use Rattle.hdmi_edtext.specs.declared.line.Form.{Form}

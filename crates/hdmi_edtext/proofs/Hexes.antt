@@ -1,15 +1,13 @@
 -- Bytes in hex.
-use Rattle.std.proofs.Common.{◌≡◌, ℕ, zero, suc, ◌+◌, ◌-◌, ◌*◌, ◌/◌, ◌%◌, ◌^◌, ◌<◌, ◌≤◌, ◌==◌, Bool, true, false, ◌&&◌, not, nat_lt, cond, List, [], ◌∷◌, ◌++◌, length, take, drop, get_or, slice_index, flat_map, Result, Ok, Err, MatchResult, ap, subst, arith, refl, sym, ◌∙◌, length-append, codes}
-use Rattle.std.specs.List.{position_or_len, list_all}
+use Rattle.std.proofs.Common.{◌≡◌, ℕ, zero, suc, ◌/◌, ◌<◌, ◌≤◌, true, nat_lt, List, [], ◌∷◌, length, Result, Ok, Err, MatchResult, ap, subst, arith, refl, sym, ◌∙◌}
 use Rattle.std.proofs.lemmas.Grind.{common_steps}
 use Rattle.std.proofs.lemmas.Bool.{ltb-true}
-use Rattle.hex.specs.Hex.{IsBytes, encode_lower, encode_with, lower_digits, decode_sized}
+use Rattle.hex.specs.Hex.{IsBytes, encode_lower, lower_digits, decode_sized}
 use Rattle.hex.specs.declared.error.FromHexError.{FromHexError}
 use Rattle.hex.proofs.HexLemmas.{length-encode_with, decode_sized-encode_lower}
 use Rattle.hdmi_edid.proofs.PartLemmas.{both}
 use Rattle.hdmi_edid.specs.Bytes.{are_bytes}
-use Rattle.hdmi_edtext.specs.Text.{hex_word, number_text}
-use Rattle.hdmi_edtext.specs.Formed.{is_spaceless, BeginsSpaced, are_numbers}
+use Rattle.hdmi_edtext.specs.Text.{hex_word}
 
 pub are_bytes-is : (xs : List ℕ) → are_bytes xs ≡ true → IsBytes xs
 are_bytes-is [] h i = omega arith

@@ -1,6 +1,5 @@
 -- The parts of lines.
-use Rattle.std.proofs.Common.{◌≡◌, ℕ, Bool, true, false, List, [], ◌∷◌, Option, Some, None, MatchOption, ap, subst, refl, sym, ◌∙◌, codes}
-use Rattle.std.proofs.Math.ListN.{length}
+use Rattle.std.proofs.Common.{◌≡◌, ℕ, List, [], Option, Some, None, MatchOption, ap, sym, ◌∙◌, codes}
 use Rattle.arrayvec.specs.ArrayVec.{ArrayVec}
 use Rattle.hdmi_edid.specs.declared.descriptor.Descriptor.{Descriptor}
 use Rattle.hdmi_edid.specs.declared.descriptor.Descriptor.TheVariants.{Timing as OfTiming, Name as OfName, Text as OfText, SerialText as OfSerialText, Range as OfRange, Dummy as OfDummy, Raw as OfRaw}
@@ -11,7 +10,7 @@ use Rattle.hdmi_edid.specs.declared.text.Text.{Text as AnyText}
 use Rattle.hdmi_edid.specs.declared.timing.Timing.{Timing as DetailedTiming}
 use Rattle.hdmi_edtext.specs.Lines.{letters_line, numbers_line, bytes_line, quoted_line, timing_line, timing_numbers, descriptor_line, standard_line}
 use Rattle.hdmi_edtext.specs.declared.line.Word.{Word}
-use Rattle.hdmi_edtext.specs.declared.line.Word.TheVariants.{Standard, Timing, Name, Text, SerialText, Range, Dummy, Raw}
+use Rattle.hdmi_edtext.specs.declared.line.Word.TheVariants.{Standard, Timing, Name, Text, SerialText, Range, Raw}
 use Rattle.hdmi_edtext.specs.declared.line.Fields.{Fields}
 use Rattle.hdmi_edtext.specs.declared.line.Fields.TheVariants.{Timed, Bytes}
 use Rattle.hdmi_edtext.specs.declared.line.Line.{Line}

@@ -1,5 +1,5 @@
 -- Bytes spell one EDID at most, and what an EDID spells is not refused.
-use Rattle.std.proofs.Common.{◌≡◌, ℕ, ◌+◌, ◌*◌, ◌%◌, ◌⊎◌, inl, inr, Option, Some, None, option_to_list, Result, Ok, Err, IfOk, IfErr, List, [], ◌∷◌, ◌++◌, length, get_or, take, drop, sum, flat_map, length-drop, take-append-drop, ap, arith, refl, sym, ◌∙◌, subst, length-append}
+use Rattle.std.proofs.Common.{◌≡◌, ℕ, ◌+◌, ◌*◌, ◌%◌, inl, inr, Option, Some, None, option_to_list, Result, Ok, Err, IfOk, IfErr, List, [], ◌∷◌, ◌++◌, length, get_or, take, drop, sum, flat_map, length-drop, take-append-drop, ap, arith, refl, sym, ◌∙◌, subst, length-append}
 use Rattle.std.proofs.Math.Nat.{ℕ_set}
 use Rattle.std.proofs.lemmas.List.{get_or-take, take_all, get_or_append_left}
 use Rattle.hdmi_edid.proofs.Accepted.{accepted}

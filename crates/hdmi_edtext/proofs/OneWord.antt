@@ -1,8 +1,8 @@
 -- A text is one word at most, and each word is listed.
-use Rattle.std.proofs.Common.{Option, Some, None, ◌≡◌, ℕ, ◌<◌, Bool, true, false, cond, List, [], ◌∷◌, ◌++◌, ◌-◌, length, take, get_or, ap, arith, refl, sym, ◌∙◌, codes, flat_map, length-append, eq-eqb, append_assoc}
+use Rattle.std.proofs.Common.{Option, Some, ◌≡◌, ℕ, ◌<◌, true, cond, List, [], ◌∷◌, ◌++◌, ◌-◌, length, take, get_or, ap, arith, refl, sym, ◌∙◌, codes, flat_map, length-append, eq-eqb, append_assoc}
 use Rattle.std.specs.Str.{bytes_eq}
 use Rattle.hex.specs.Hex.{encode_lower}
-use Rattle.hdmi_edtext.specs.Text.{word_text, fields_text, line_text, number_text}
+use Rattle.hdmi_edtext.specs.Text.{word_text, fields_text, number_text}
 use Rattle.hdmi_edtext.specs.Formed.{is_spaceless, BeginsSpaced}
 use Rattle.hdmi_edtext.specs.declared.line.TheConstants.{WORDS}
 use Rattle.hdmi_edtext.specs.declared.line.Fields.{Fields}
@@ -10,7 +10,7 @@ use Rattle.hdmi_edtext.specs.declared.line.Fields.TheVariants.{Nothing, Letters,
 use Rattle.hdmi_edtext.specs.declared.line.Line.{Line}
 use Rattle.hdmi_edtext.specs.declared.line.Word.{Word}
 use Rattle.hdmi_edtext.specs.declared.line.Word.TheVariants.{Edid, Maker, Product, Serial, Made, Input, Size, Gamma, Features, Chroma, Established, Standard, Timing, Name, Text, SerialText, Range, Dummy, Raw, Cta, CtaNone, Tag0, Audio, Video, Vendor, Speakers, Tag5, Tag6, Extended, Hdmi, Tail, Ext}
-use Rattle.hdmi_edtext.proofs.Words.{same_bytes, take_front}
+use Rattle.hdmi_edtext.proofs.Words.{take_front}
 
 abbrev word_at : List ℕ → Word
 word_at w =

@@ -1,6 +1,6 @@
 -- Trailing zeros.
-use Rattle.std.proofs.Common.{◌≡◌, ℕ, zero, suc, ◌+◌, ◌≤◌, ◌<◌, ◌==◌, Bool, true, false, ◌&&◌, cond, List, [], ◌∷◌, ◌++◌, length, get_or, take, replicate, ap, arith, refl, sym, ◌∙◌, length-append}
-use Rattle.std.proofs.lemmas.List.{take_more, take_all}
+use Rattle.std.proofs.Common.{◌≡◌, ℕ, ◌+◌, ◌<◌, ◌==◌, Bool, true, false, ◌&&◌, cond, List, [], ◌∷◌, ◌++◌, length, get_or, take, ap, arith, refl, sym, ◌∙◌, length-append}
+use Rattle.std.proofs.lemmas.List.{take_more}
 use borrow.Author.Tests.{tests}
 use Rattle.hdmi_edtext.specs.Lines.{trimmed}
 

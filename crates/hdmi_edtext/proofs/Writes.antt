@@ -1,12 +1,10 @@
 -- A text is written line by line.
-use Rattle.std.proofs.Common.{◌≡◌, ℕ, zero, suc, ◌+◌, ◌<◌, ◌≤◌, Bool, true, false, List, [], ◌∷◌, ◌++◌, length, take, get_or, Option, Some, None, slice_get, flat_map, ap, arith, refl, sym, ◌∙◌, append-nil, append_assoc, take-append-drop, drop, length-append}
+use Rattle.std.proofs.Common.{◌≡◌, ℕ, zero, suc, ◌+◌, ◌<◌, ◌≤◌, List, [], ◌∷◌, ◌++◌, length, take, get_or, Option, Some, None, slice_get, flat_map, ap, arith, sym, ◌∙◌, append-nil, append_assoc, take-append-drop, drop}
 use Rattle.std.specs.Io.KnownBytes.{Appends}
 use Rattle.std.proofs.lemmas.Grind.{flat_map-append}
 use Rattle.std.proofs.lemmas.List.{take_more, take_all}
-use Rattle.std.proofs.lemmas.Option.{slice_get_within, get_or_from_slice_get, slice_get-get_or}
-use Rattle.std.proofs.lemmas.Bool.{ltb-true}
-use borrow.Author.Tests.{tests}
-use Rattle.std.proofs.Common.{nat_lt, subst}
+use Rattle.std.proofs.lemmas.Option.{slice_get_within, get_or_from_slice_get}
+use Rattle.std.proofs.Common.{subst}
 use Rattle.hdmi_cta.proofs.CutShort.{Appends-trans, cut_short}
 use Rattle.hdmi_edtext.specs.Text.{line_text}
 use Rattle.hdmi_edtext.specs.declared.line.Line.{Line}

@@ -1,5 +1,5 @@
 -- The physical address that an EDID tells: that of its first HDMI block (HDMI 1.4, sections 8.3.2 and 8.7.2).
-use Rattle.std.specs.Prelude.{Option, Some, None}
+use Rattle.std.specs.Prelude.{Option}
 use Rattle.hdmi_cta.specs.Hdmi.{address_of}
 use Rattle.hdmi_cta.specs.declared.phys.Phys.{Phys}
 use Rattle.hdmi_edtext.specs.declared.edid.Edid.{Edid}

@@ -186,7 +186,7 @@ fn kind_word(kind: BlockKind) -> Word
     }
 }
 
-fn is_hdmi(payload: &[u8]) -> bool
+pub fn is_hdmi(payload: &[u8]) -> bool
     ensures { result ≡ is_hdmi payload.now }
 {
     payload.len() >= 5 && payload[0] == 0x03 && payload[1] == 0x0c && payload[2] == 0x00

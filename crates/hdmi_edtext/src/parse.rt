@@ -1,23 +1,28 @@
 //! Reading an EDID's text.
-ghost use Rattle.std.specs.Prelude.{◌≡◌, ◌<◌, ◌++◌, true, IfOk, IsTrue, length, take, flat_map, position, MatchOption, IfSome, ◌==◌};
+ghost use Rattle.std.specs.Prelude.{◌≡◌, ◌⊎◌, ◌<◌, ◌+◌, [], ◌∷◌, IfOk, IfErr, IfSome, Ok, MatchOption, length, position, ◌==◌};
 ghost use Rattle.hdmi_edtext.specs.Lines.{edid_lines, edid_text};
-ghost use Rattle.hdmi_edtext.specs.Text.{line_text};
+ghost use Rattle.hdmi_edtext.specs.Cut.{lines_of};
+ghost use Rattle.hdmi_edtext.specs.declared.edid.Edid.{Edid as EdidValue};
+ghost use Rattle.hdmi_edtext.specs.Refusal.{IsRefusal};
 
 use crate::draft::Draft;
 use crate::edid::Edid;
-use crate::lines::line_at;
 use crate::place::{Place, may_stand};
 use crate::reading::{read_line, read_word};
 use std::alloc::Global;
+use thiserror::Error;
 
 /// Why a text is none of an EDID: the line, from 1, that no accepted text has there.
-#[derive(Clone, Copy, Debug, PartialEq, Eq)]
+#[derive(Clone, Copy, Debug, PartialEq, Eq, Error)]
 pub enum TextError {
     /// Another line would have to stand there.
+    #[error("syntax {0}")]
     Syntax(usize),
     /// The line's first word may stand there with so many words, and a field is at fault.
+    #[error("field {0}")]
     Field(usize),
     /// There was no memory.
+    #[error("no memory")]
     Memory,
 }
 
@@ -46,30 +51,35 @@ fn is_like_a_line(place: Place, line: &[u8]) -> bool {
     }
 }
 
-/// Whether a text is that of an EDID.
-fn is_text_of(edid: &Edid, text: &[u8]) -> bool
-    ensures { IsTrue result → edid_text edid.now ≡ text.now }
+/// The fault of a line that no accepted text has here.
+fn fault(place: Place, line: &[u8], number: usize) -> TextError
+    ensures { (result ≡ TextError.Syntax number) ⊎ (result ≡ TextError.Field number) }
 {
-    let mut rest = text;
-    let mut number = 0;
-    while let Some(line) = line_at(edid, number) {
-        let spelled = line.write();
-        let Some(behind) = rest.strip_prefix(spelled.as_slice()) else {
-            return false;
-        };
-        rest = behind;
-        number += 1;
+    if is_like_a_line(place, line) {
+        TextError::Field(number)
+    } else {
+        TextError::Syntax(number)
     }
-    rest.is_empty()
 }
 
-/// The first line with its line feed, if it has one, and the text behind it.
-fn first_line(text: &[u8]) -> (&[u8], &[u8])
-    ensures { 0 < length text.now → length result.1.now < length text.now }
+/// Where the first line feed stands.
+fn end_of(text: &[u8]) -> Option<usize>
+    ensures { result ≡ position (λ b. b == 10) text.now }
 {
-    match text.iter().position(|byte| *byte == b'\n') {
-        None => (text, &[]),
-        Some(end) => (&text[..end + 1], &text[end + 1..]),
+    text.iter().position(|byte| *byte == b'\n')
+}
+
+/// The first line with its line feed, if it has one, and the text behind it. An empty text has none.
+fn first_line(text: &[u8]) -> Option<(&[u8], &[u8])>
+    ensures lines { MatchOption result (lines_of text.now ≡ []) (λ p. lines_of text.now ≡ p.0.now ∷ lines_of p.1.now) }
+    ensures shorter { IfSome result (λ p. length p.1.now < length text.now) }
+{
+    if text.is_empty() {
+        return None;
+    }
+    match end_of(text) {
+        None => Some((text, &[])),
+        Some(end) => Some((&text[..end + 1], &text[end + 1..])),
     }
 }
 
@@ -77,28 +87,26 @@ fn first_line(text: &[u8]) -> (&[u8], &[u8])
 /// the line behind its last.
 pub fn parse_text(_alloc: Global, text: &[u8]) -> Result<Edid, TextError>
     ensures found { IfOk result (λ e. edid_text e ≡ text.now) }
+    ensures only { (e : EdidValue) → text.now ≡ edid_text e → result ≡ Ok e }
+    ensures refused { IfErr result (λ e. IsRefusal (lines_of text.now) e) }
 {
     let mut draft = Draft::new();
     let mut rest = text;
     let mut number = 1;
-    while !rest.is_empty() {
-        let (line, more) = first_line(rest);
-        let put = match read_line(line) {
-            None => None,
-            Some(read) => draft.put(&read),
+    while let Some((line, more)) = first_line(rest) {
+        let place = draft.place();
+        let Some(read) = read_line(line) else {
+            return Err(fault(place, line, number));
         };
-        if put.is_none() {
-            return Err(if is_like_a_line(draft.place(), line) {
-                TextError::Field(number)
-            } else {
-                TextError::Syntax(number)
-            });
-        }
+        let Some(next) = draft.put(&read) else {
+            return Err(fault(place, line, number));
+        };
+        draft = next;
         rest = more;
-        number = number.saturating_add(1);
+        number += 1;
     }
     match draft.finish() {
-        Some(edid) if is_text_of(&edid, text) => Ok(edid),
-        _ => Err(TextError::Syntax(number)),
+        Some(edid) => Ok(edid),
+        None => Err(TextError::Syntax(number)),
     }
 }

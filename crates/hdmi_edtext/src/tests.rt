@@ -191,3 +191,48 @@ fn returns_a_block_that_runs_past_its_end(rt: HostRuntime) -> Result<(), Fail> {
     assert!(rt; behind.ends_with("0031\n"));
     Ok(())
 }
+
+#[test]
+fn returns_a_lone_tail_that_begins_as_a_timing(rt: HostRuntime) -> Result<(), Fail> {
+    let text = text_and_back(&rt, &with_extension(&rt, "020300f101", 0x09)?)?;
+    assert!(rt; text.as_slice().ends_with(b"\ncta-none f1\ntail 01\n"));
+    Ok(())
+}
+
+#[test]
+fn returns_two_hdmi_blocks(rt: HostRuntime) -> Result<(), Fail> {
+    let front = "020310f165030c00100065030c002000";
+    let text = text_and_back(&rt, &with_extension(&rt, front, 0xe2)?)?;
+    assert!(rt;
+        text.as_slice()
+            .ends_with(b"\ncta f1\nhdmi 1.0.0.0 -\nhdmi 2.0.0.0 -\ntail -\n")
+    );
+    Ok(())
+}
+
+#[test]
+fn returns_a_name_that_ends_in_spaces(rt: HostRuntime) -> Result<(), Fail> {
+    let (front, behind) = BLOCK
+        .split_once("4c4f554e474520545620303031")
+        .ok_or("no name")?;
+    let behind = behind.strip_suffix("51").ok_or("no checksum")?;
+    let mut bytes = hex::decode(rt.alloc(), front)?;
+    bytes.extend_from_slice(b"AB           ")?;
+    bytes.extend_from_slice(&hex::decode(rt.alloc(), behind)?)?;
+    bytes.push(0xb3)?;
+    let whole = both_blocks(&rt)?;
+    bytes.extend_from_slice(whole.as_slice().get(128..).ok_or("no extension")?)?;
+    let text = text_and_back(&rt, &bytes)?;
+    let text = str::from_utf8(&text)?;
+    assert!(rt; text.contains("\nname \"AB           \"\ndummy\n"));
+    Ok(())
+}
+
+#[test]
+fn tells_a_refusal_in_words(rt: HostRuntime) -> Result<(), Fail> {
+    let syntax = format!(in rt.alloc(); "{}", TextError::Syntax(5))?;
+    assert_eq!(rt; syntax.as_str(), "syntax 5");
+    let field = format!(in rt.alloc(); "{}", TextError::Field(12))?;
+    assert_eq!(rt; field.as_str(), "field 12");
+    Ok(())
+}

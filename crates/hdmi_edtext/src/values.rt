@@ -1,5 +1,6 @@
 //! The values that lines tell.
-ghost use Rattle.std.specs.Prelude.{◌≡◌, ℕ, ◌+◌, ◌≤◌, ◌<◌, List, [], ◌∷◌, length, MatchOption, MatchBool, Option};
+ghost use Rattle.std.specs.Prelude.{◌≡◌, ℕ, ◌+◌, ◌≤◌, ◌<◌, List, [], ◌∷◌, length, IsTrue, MatchOption, MatchBool, Option};
+ghost use Rattle.hdmi_edid.specs.Bytes.{are_bytes};
 ghost use Rattle.hdmi_edid.specs.declared.base.Revision.{Revision as RevisionValue};
 ghost use Rattle.hdmi_edid.specs.declared.chroma.Chroma.{Chroma as ChromaValue};
 ghost use Rattle.hdmi_edid.specs.declared.descriptor.Descriptor.{Descriptor as DescriptorValue};
@@ -117,7 +118,7 @@ pub fn one_byte(line: &Line, word: Word) -> Option<u8>
 
 /// The three bytes behind a word.
 pub fn three_bytes(line: &Line, word: Word) -> Option<[u8; 3]>
-    ensures { MatchOption result ((bs : List ℕ) → length bs ≡ 3 → bytes_line word bs ≡ line.now → ⊥) (λ bs. bytes_line word bs ≡ line.now) }
+    ensures { MatchOption result ((bs : List ℕ) → length bs ≡ 3 → bytes_line word bs ≡ line.now → ⊥) (λ bs. (bytes_line word bs ≡ line.now) × IsTrue (are_bytes bs)) }
 {
     let Some(bytes) = bytes_of(line, word) else {
         return None;
@@ -125,7 +126,7 @@ pub fn three_bytes(line: &Line, word: Word) -> Option<[u8; 3]>
     if bytes.len() != 3 {
         return None;
     }
-    Some([bytes[0], bytes[1], bytes[2]])
+    Some(array_from(bytes))
 }
 
 /// The revision that a line tells.
@@ -329,9 +330,10 @@ fn text_of(line: &Line, word: Word) -> Option<Text>
 }
 
 /// The N bytes of a list.
-fn array_from<const N: usize>(bytes: &[u8]) -> [u8; N]
+pub fn array_from<const N: usize>(bytes: &[u8]) -> [u8; N]
     requires { length bytes.now ≡ N }
-    ensures { result ≡ bytes.now }
+    ensures value { result ≡ bytes.now }
+    ensures fit { IsTrue (are_bytes result) }
 {
     <[u8; N]>::try_from(bytes).unwrap()
 }

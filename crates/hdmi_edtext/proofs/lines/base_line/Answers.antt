@@ -1,4 +1,4 @@
-use Rattle.std.proofs.Common.{◌≡◌, ◌+◌, ◌-◌, ◌<◌, sym, ◌∙◌, ap, arith, Some}
+use Rattle.std.proofs.Common.{◌-◌, sym, ◌∙◌, ap, arith, Some}
 use Rattle.hdmi_edtext.specs.Lines.{head_lines, standard_line, descriptor_line}
 use Rattle.hdmi_edtext.proofs.Gets.{get_left, standard_at, descriptor_at}
 use Rattle.hdmi_edtext.proofs.lines.base_line.Goals as goal

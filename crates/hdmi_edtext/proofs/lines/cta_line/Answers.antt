@@ -1,5 +1,5 @@
-use Rattle.std.proofs.Common.{◌≡◌, ◌+◌, ◌-◌, ◌<◌, length, get_or, sym, ◌∙◌, ap, arith, Some}
-use Rattle.hdmi_edtext.specs.Lines.{block_line, timing_line, tail_line}
+use Rattle.std.proofs.Common.{◌-◌, length, get_or, sym, ◌∙◌, ap, arith, Some}
+use Rattle.hdmi_edtext.specs.Lines.{tail_line}
 use Rattle.hdmi_edtext.proofs.Gets.{block_at, timing_at, tail_at, none_at}
 use Rattle.hdmi_edtext.proofs.lines.cta_line.Goals as goal
 

@@ -1,5 +1,5 @@
-use Rattle.std.proofs.Common.{◌≡◌, ◌+◌, ◌-◌, ◌<◌, Some, None, option_to_list, slice_get, flat_map, sym, ◌∙◌, ap, arith}
-use Rattle.hdmi_edtext.specs.Lines.{ext_lines, edid_lines}
+use Rattle.std.proofs.Common.{◌-◌, option_to_list, slice_get, flat_map, ◌∙◌, ap, arith}
+use Rattle.hdmi_edtext.specs.Lines.{ext_lines}
 use Rattle.hdmi_edtext.proofs.Gets.{in_base, in_ext, one_ext}
 use Rattle.hdmi_edtext.proofs.lines.line_at.Goals as goal
 

@@ -1,5 +1,4 @@
-use Rattle.std.proofs.Common.{◌≡◌, ◌≤◌, ◌+◌, take, get_or, arith, refl, ap, sym, ◌∙◌}
-use Rattle.hdmi_edtext.specs.Lines.{trimmed}
+use Rattle.std.proofs.Common.{take, arith, refl, ap, ◌∙◌}
 use Rattle.hdmi_edtext.proofs.Trims.{more_zero, more_some}
 use Rattle.hdmi_edtext.proofs.lines.trimmed_len.Goals as goal
 use Rattle.hdmi_edtext.proofs.lines.trimmed_len.Goals.{then-byte-ne0, else-byte-ne0}

@@ -1,5 +1,17 @@
-use Rattle.std.proofs.Common.{length}
+use Rattle.std.proofs.Common.{◌≡◌, ◌+◌, ◌++◌, ◌≤◌, length, map}
+use Rattle.hdmi_edtext.specs.Cut.{lines_of}
+use Rattle.hdmi_edtext.specs.Drafts.{draft_lines}
+use Rattle.hdmi_edtext.specs.Text.{line_text}
+use Rattle.hdmi_edtext.proofs.FirstBad.{AreTold}
 use Rattle.hdmi_edtext.proofs.parse.parse_text.Given as goal
 
-abbrev pub decreases-loop-rest : goal.decreases-loop-rest
-decreases-loop-rest l = length l.rest
+abbrev pub invariant-loop-line : goal.invariant-loop-line
+invariant-loop-line l = record {
+  lines : lines_of l.text ≡ map line_text (draft_lines l.draft) ++ lines_of l.rest;
+  count : l.number ≡ length (draft_lines l.draft) + 1;
+  few : l.number ≤ 149;
+  told : AreTold (draft_lines l.draft);
+}
+
+abbrev pub decreases-loop-line : goal.decreases-loop-line
+decreases-loop-line l = length l.rest

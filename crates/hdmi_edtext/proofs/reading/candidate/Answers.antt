@@ -1,4 +1,4 @@
-use Rattle.std.proofs.Common.{◌≡◌, Some, None, ap, subst, sym, ◌∙◌}
+use Rattle.std.proofs.Common.{ap, subst, sym, ◌∙◌}
 use Rattle.hdmi_edtext.specs.Formed.{form_of, FormedFields}
 use Rattle.hdmi_edtext.specs.Text.{word_text, fields_text}
 use Rattle.hdmi_edtext.proofs.OneWord.{solid, fields_begin, front_of, some_same, same_line}

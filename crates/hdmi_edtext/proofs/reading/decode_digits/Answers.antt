@@ -1,4 +1,4 @@
-use Rattle.std.proofs.Common.{◌≡◌, sym, ◌∙◌, ap, Ok}
+use Rattle.std.proofs.Common.{◌∙◌, ap}
 use Rattle.std.specs.Result.{is_ok}
 use Rattle.hdmi_edtext.proofs.Hexes.{decoded}
 use Rattle.hdmi_edtext.proofs.reading.decode_digits.Goals as goal

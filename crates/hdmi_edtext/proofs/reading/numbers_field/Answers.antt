@@ -1,4 +1,4 @@
-use Rattle.std.proofs.Common.{◌≡◌, [], Some, ap, ◌∙◌, append-nil, flat_map}
+use Rattle.std.proofs.Common.{[], Some, ap, ◌∙◌, append-nil, flat_map}
 use Rattle.hdmi_edtext.specs.Text.{number_text}
 use Rattle.hdmi_edtext.specs.declared.line.Fields.TheVariants.{Numbers}
 use Rattle.hdmi_edtext.proofs.reading.numbers_field.Goals as goal

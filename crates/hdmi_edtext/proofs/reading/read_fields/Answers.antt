@@ -1,5 +1,4 @@
-use Rattle.std.proofs.Common.{◌≡◌, List, ℕ, true, codes, sym, ◌∙◌, ap, nat_eq}
-use Rattle.std.proofs.lemmas.Slice.Eq.{slice_eq-Decides}
+use Rattle.std.proofs.Common.{sym, ◌∙◌}
 use Rattle.hdmi_edtext.proofs.Words.{same_bytes}
 use Rattle.hdmi_edtext.proofs.Fieldings.{as_timing, as_unused}
 use Rattle.hdmi_edtext.proofs.reading.read_fields.Goals as goal

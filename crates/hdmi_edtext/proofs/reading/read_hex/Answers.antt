@@ -1,5 +1,5 @@
-use Rattle.std.proofs.Common.{◌≡◌, ℕ, List, [], ◌+◌, ◌-◌, ◌/◌, ◌<◌, ◌≤◌, ◌++◌, length, take, drop, sym, ◌∙◌, ap, arith, refl, true, false}
-use Rattle.hdmi_edtext.proofs.Hexes.{hex_short, hex_long, hex_some}
+use Rattle.std.proofs.Common.{sym, ◌∙◌}
+use Rattle.hdmi_edtext.proofs.Hexes.{hex_short, hex_long}
 use Rattle.hdmi_edtext.proofs.reading.read_hex.Goals as goal
 
 pub returns-then-digits-lt2 : goal.returns-then-digits-lt2

@@ -1,8 +1,8 @@
-use Rattle.std.proofs.Common.{◌≡◌, ℕ, List, ◌∷◌, ◌++◌, ◌-◌, ◌+◌, ◌<◌, ◌==◌, length, take, drop, flat_map, sym, ◌∙◌, ap, arith, refl, length-append, true}
+use Rattle.std.proofs.Common.{◌++◌, length, flat_map, sym, ap, arith}
 use Rattle.std.specs.Fmt.{decimal}
 use Rattle.std.proofs.lemmas.Bool.{eqb-true}
 use Rattle.hdmi_edtext.specs.Text.{number_text}
-use Rattle.hdmi_edtext.proofs.Words.{next_of, left_first, left_more, left_none, behind_space, Next}
+use Rattle.hdmi_edtext.proofs.Words.{next_of, left_first, left_more, left_none, behind_space}
 use Rattle.hdmi_edtext.proofs.reading.read_numbers.Goals as goal
 
 pub numbers-init : goal.numbers-init

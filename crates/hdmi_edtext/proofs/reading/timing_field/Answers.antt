@@ -1,7 +1,6 @@
-use Rattle.std.proofs.Common.{◌≡◌, ℕ, List, [], ◌∷◌, ◌++◌, ◌+◌, ◌-◌, ◌<◌, length, get_or, take, drop, sym, ◌∙◌, ap, arith, refl, Some, None}
+use Rattle.std.proofs.Common.{◌≡◌, [], ◌∷◌, length, get_or, sym, ◌∙◌, ap, arith, refl}
 use Rattle.std.proofs.lemmas.Bool.{eqb-true}
 use Rattle.hex.specs.Hex.{encode_lower}
-use Rattle.hdmi_edtext.specs.declared.line.Fields.TheVariants.{Timed}
 use Rattle.hdmi_edtext.proofs.Fieldings.{same_timed}
 use Rattle.hdmi_edtext.proofs.Hexes.{flags_word}
 use Rattle.hdmi_edtext.proofs.Words.{behind_space}

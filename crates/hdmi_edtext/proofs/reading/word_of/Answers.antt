@@ -1,4 +1,4 @@
-use Rattle.std.proofs.Common.{◌≡◌, ℕ, ◌<◌, Some, ap, sym, ◌∙◌, arith}
+use Rattle.std.proofs.Common.{Some, ap, sym, ◌∙◌, arith}
 use Rattle.hdmi_edtext.specs.Text.{word_text}
 use Rattle.hdmi_edtext.proofs.OneWord.{one_word, listed, number_of}
 use Rattle.hdmi_edtext.proofs.Words.{same_bytes}

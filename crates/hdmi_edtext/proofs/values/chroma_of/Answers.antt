@@ -1,4 +1,4 @@
-use Rattle.std.proofs.Common.{◌≡◌, ap, sym, ◌∙◌, arith}
+use Rattle.std.proofs.Common.{ap, sym, ◌∙◌}
 use Rattle.hdmi_edid.proofs.Bytes.{cells}
 use Rattle.hdmi_edtext.specs.Lines.{numbers_line}
 use Rattle.hdmi_edtext.specs.declared.line.Word.TheVariants.{Chroma}

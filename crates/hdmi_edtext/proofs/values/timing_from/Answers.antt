@@ -1,4 +1,4 @@
-use Rattle.std.proofs.Common.{◌≡◌, ap, sym, ◌∙◌, refl}
+use Rattle.std.proofs.Common.{sym, refl}
 use Rattle.hdmi_edid.proofs.Bytes.{cells}
 use Rattle.hdmi_edtext.proofs.values.timing_from.Goals as goal
 

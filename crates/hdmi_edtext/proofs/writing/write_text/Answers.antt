@@ -1,7 +1,6 @@
-use Rattle.std.proofs.Common.{◌≡◌, ◌+◌, ◌*◌, ◌<◌, ◌≤◌, length, take, flat_map, Some, None, slice_get, subst, sym, ◌∙◌, ap, arith, rules, length-append}
-use Rattle.std.specs.Io.KnownBytes.{Appends}
+use Rattle.std.proofs.Common.{◌≡◌, length, take, flat_map, ◌∙◌, ap, arith, length-append}
 use Rattle.std.proofs.lemmas.Option.{slice_get_within}
-use Rattle.hdmi_edtext.specs.Lines.{edid_lines, edid_text}
+use Rattle.hdmi_edtext.specs.Lines.{edid_lines}
 use Rattle.hdmi_edtext.specs.Text.{line_text}
 use Rattle.hdmi_edtext.proofs.Gets.{few_lines}
 use Rattle.hdmi_edtext.proofs.Writes.{wrote_more, wrote_all, cut_line, text_more}

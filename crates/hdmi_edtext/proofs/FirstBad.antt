@@ -1,0 +1,168 @@
+-- Where reading stops, the first bad line stands.
+use Rattle.std.proofs.Common.{◌≡◌, ℕ, ◌+◌, ◌≤◌, ◌⊎◌, inl, inr, List, [], ◌∷◌, ◌++◌, length, map, drop, get_or, flat_map, Option, Some, None, ap, subst, arith, sym, ◌∙◌, append_assoc, append-nil, length-append}
+use Rattle.std.proofs.lemmas.List.{length-map, map-append}
+use Rattle.hdmi_edtext.specs.Cut.{lines_of}
+use Rattle.hdmi_edtext.specs.Drafts.{draft_lines, Follows}
+use Rattle.hdmi_edtext.specs.Formed.{Formed}
+use Rattle.hdmi_edtext.specs.Lines.{edid_lines, edid_text}
+use Rattle.hdmi_edtext.specs.Refusal.{IsFirstBad, IsRefusal, SomeBegins, NoneFollows, line_texts}
+use Rattle.hdmi_edtext.specs.Text.{line_text}
+use Rattle.hdmi_edtext.specs.declared.draft.Draft.{Draft}
+use Rattle.hdmi_edtext.specs.declared.edid.Edid.{Edid}
+use Rattle.hdmi_edtext.specs.declared.line.Line.{Line}
+use Rattle.hdmi_edtext.specs.declared.parse.TextError.{TextError}
+use Rattle.hdmi_edtext.specs.declared.parse.TextError.TheVariants.{Syntax, Field}
+use Rattle.hdmi_edtext.proofs.CutTexts.{joined, joined_lines, lines_again}
+use Rattle.hdmi_edtext.proofs.Gets.{few_lines}
+use Rattle.hdmi_edtext.proofs.Good.{EachGood, edid_good, good_at}
+use Rattle.hdmi_edtext.proofs.Live.{live}
+use Rattle.hdmi_edtext.proofs.OneLines.{one_lines}
+
+-- what follows these lines in an EDID
+pub record Rest (e : Edid) (ls : List Line) (more : List (List ℕ)) : Type 0 where
+  pub rest : List Line
+  pub lines : edid_lines e ≡ ls ++ rest
+  pub texts : map line_text rest ≡ more
+
+-- only these lines have these texts
+abbrev pub AreTold : List Line → Type 0
+AreTold ls = (e : Edid) (more : List (List ℕ)) → line_texts e ≡ map line_text ls ++ more → Rest e ls more
+
+pub no_lines_told : (ls : List Line) → ls ≡ [] → AreTold ls
+no_lines_told ls h e more k = record { rest = edid_lines e; lines = ap (λ t. t ++ edid_lines e) (sym h); texts = k ∙ ap (λ t. map line_text t ++ more) h }
+
+-- the line that reads so, and what follows it
+pub record Next (e : Edid) (ls : List Line) (line : List ℕ) (more : List (List ℕ)) : Type 0 where
+  pub here : Line
+  pub behind : List Line
+  pub lines : edid_lines e ≡ ls ++ here ∷ behind
+  pub text : line_text here ≡ line
+  pub texts : map line_text behind ≡ more
+  pub formed : Formed here
+
+pub next_of : (e : Edid) (ls : List Line) (line : List ℕ) (more : List (List ℕ)) → AreTold ls → line_texts e ≡ map line_text ls ++ line ∷ more → Next e ls line more
+next_of e ls line more told h = let r = told e (line ∷ more) h in go r.rest r.lines r.texts
+  where
+    go : (rest : List Line) → edid_lines e ≡ ls ++ rest → map line_text rest ≡ line ∷ more → Next e ls line more
+    go [] k t = let len = ap length t in absurd (omega (arith, len))
+    go (l ∷ rest) k t = record {
+      here = l;
+      behind = rest;
+      lines = k;
+      text = ap (λ x. get_or x 0 []) t;
+      texts = ap (λ x. drop 1 x) t;
+      formed = (good_at ls l rest (subst EachGood k (edid_good e))).0;
+    }
+
+some_same : (a b : Line) → Path (Option Line) (Some a) (Some b) → a ≡ b
+some_same a b e = cc
+
+-- one line more is told
+pub one_more_told : (ls new : List Line) (l : Line) (line : List ℕ) → AreTold ls → new ≡ ls ++ l ∷ [] → line_text l ≡ line
+    → ((k : Line) → Formed k → line_text k ≡ line → Path (Option Line) (Some l) (Some k)) → AreTold new
+one_more_told ls new l line told is text only e more h =
+    let whole = h ∙ ap (λ t. map line_text t ++ more) is ∙ ap (λ t. t ++ more) (map-append line_text ls (l ∷ [])) ∙ append_assoc (map line_text ls) (line_text l ∷ []) more
+    ∙ ap (λ t. map line_text ls ++ t ∷ more) text in
+    let n = next_of e ls line more told whole in
+    let same = some_same l n.here (only n.here n.formed n.text) in
+    record {
+      rest = n.behind;
+      lines = n.lines ∙ ap (λ k. ls ++ k ∷ n.behind) (sym same) ∙ sym (append_assoc ls (l ∷ []) n.behind) ∙ ap (λ t. t ++ n.behind) (sym is);
+      texts = n.texts;
+    }
+
+pub lines_so : (ls new : List Line) (l : Line) (line : List ℕ) (all more : List (List ℕ)) → all ≡ map line_text ls ++ line ∷ more → new ≡ ls ++ l ∷ [] → line_text l ≡ line
+    → all ≡ map line_text new ++ more
+lines_so ls new l line all more h is text =
+    h ∙ ap (λ t. map line_text ls ++ t ∷ more) (sym text) ∙ sym (append_assoc (map line_text ls) (line_text l ∷ []) more)
+    ∙ ap (λ t. t ++ more) (sym (map-append line_text ls (l ∷ []))) ∙ ap (λ t. map line_text t ++ more) (sym is)
+
+pub count_so : (ls new : List Line) (l : Line) (n : ℕ) → n ≡ length ls + 1 → new ≡ ls ++ l ∷ [] → n + 1 ≡ length new + 1
+count_so ls new l n h is = let len = length-append ls (l ∷ []) in let same = ap length is in omega (arith, len, same, h)
+
+pub few_told : (d : Draft) → length (draft_lines d) ≤ 148
+few_told d =
+    let l = live d in
+    let same = ap length l.1.1 in
+    omega (arith, same, few_lines l.0, length-append (draft_lines d) l.1.0)
+
+some_begins : (d : Draft) → SomeBegins (map line_text (draft_lines d))
+some_begins d = let l = live d in (l.0, (map line_text l.1.0, ap (map line_text) l.1.1 ∙ map-append line_text (draft_lines d) l.1.0))
+
+counted : (ls : List Line) (n : ℕ) → n ≡ length ls + 1 → n ≡ length (map line_text ls) + 1
+counted ls n h = let len = length-map ls line_text in omega (arith, len, h)
+
+-- no line reads so
+pub unread : (d : Draft) (all : List (List ℕ)) (line : List ℕ) (more : List (List ℕ)) (n : ℕ) → AreTold (draft_lines d) → all ≡ map line_text (draft_lines d) ++ line ∷ more
+    → n ≡ length (draft_lines d) + 1 → ((l : Line) → Formed l → line_text l ≡ line → Path (Option Line) None (Some l)) → IsFirstBad all n
+unread d all line more n told h count none = record {
+  before = map line_text (draft_lines d);
+  after = line ∷ more;
+  all = h;
+  count = counted (draft_lines d) n count;
+  some = some_begins d;
+  none = λ e behind k. let x = next_of e (draft_lines d) line behind told k in clash x.here (none x.here x.formed x.text);
+}
+  where
+    clash : (l : Line) → Path (Option Line) None (Some l) → ⊥
+    clash l h = cc
+
+-- the line that is read may not stand here
+pub misplaced : (d : Draft) (all : List (List ℕ)) (line : List ℕ) (more : List (List ℕ)) (n : ℕ) (l : Line) → AreTold (draft_lines d) → all ≡ map line_text (draft_lines d) ++ line ∷ more
+    → n ≡ length (draft_lines d) + 1 → ((k : Line) → Formed k → line_text k ≡ line → Path (Option Line) (Some l) (Some k)) → (Follows (draft_lines d) l → ⊥) → IsFirstBad all n
+misplaced d all line more n l told h count only not = unread_by d all line more n told h count (λ e behind x.
+    not (e, (x.behind, x.lines ∙ ap (λ k. draft_lines d ++ k ∷ x.behind) (sym (some_same l x.here (only x.here x.formed x.text))))))
+  where
+    unread_by : (d : Draft) (all : List (List ℕ)) (line : List ℕ) (more : List (List ℕ)) (n : ℕ) → AreTold (draft_lines d) → all ≡ map line_text (draft_lines d) ++ line ∷ more
+        → n ≡ length (draft_lines d) + 1 → ((e : Edid) (behind : List (List ℕ)) → Next e (draft_lines d) line behind → ⊥) → IsFirstBad all n
+    unread_by d all line more n told h count none = record {
+      before = map line_text (draft_lines d);
+      after = line ∷ more;
+      all = h;
+      count = counted (draft_lines d) n count;
+      some = some_begins d;
+      none = λ e behind k. none e behind (next_of e (draft_lines d) line behind told k);
+    }
+
+all_told : (e : Edid) (ls : List Line) → AreTold ls → line_texts e ≡ map line_text ls → edid_lines e ≡ ls
+all_told e ls told h = let r = told e [] (h ∙ sym (append-nil (map line_text ls))) in go r.rest r.lines r.texts
+  where
+    go : (rest : List Line) → edid_lines e ≡ ls ++ rest → map line_text rest ≡ [] → edid_lines e ≡ ls
+    go [] k t = k ∙ append-nil ls
+    go (l ∷ rest) k t = let len = ap length t in absurd (omega (arith, len))
+
+-- the text ends too early
+pub unfinished : (d : Draft) (all : List (List ℕ)) (n : ℕ) → AreTold (draft_lines d) → all ≡ map line_text (draft_lines d) ++ []
+    → n ≡ length (draft_lines d) + 1 → ((e : Edid) → edid_lines e ≡ draft_lines d → ⊥) → IsFirstBad all n
+unfinished d all n told h count none = record {
+  before = map line_text (draft_lines d);
+  after = [];
+  all = h;
+  count = counted (draft_lines d) n count;
+  some = some_begins d;
+  none = λ e k. none e (all_told e (draft_lines d) told k);
+}
+
+pub refused_by : (all : List (List ℕ)) (x : TextError) (n : ℕ) → (x ≡ Syntax n) ⊎ (x ≡ Field n) → IsFirstBad all n → IsRefusal all x
+refused_by all x n (inl h) b = subst (IsRefusal all) (sym h) b
+refused_by all x n (inr h) b = subst (IsRefusal all) (sym h) b
+
+-- an accepted text has no bad line
+pub no_bad : (all : List (List ℕ)) (n : ℕ) → IsFirstBad all n → (e : Edid) → line_texts e ≡ all → ⊥
+no_bad all n b e h = go b.after b.all b.none
+  where
+    go : (after : List (List ℕ)) → all ≡ b.before ++ after → NoneFollows b.before after → ⊥
+    go [] k none = none e (h ∙ k ∙ append-nil b.before)
+    go (x ∷ xs) k none = none e xs (h ∙ k)
+
+pub cut_again : (e : Edid) (text : List ℕ) → text ≡ edid_text e → line_texts e ≡ lines_of text
+cut_again e text h = sym (ap lines_of h ∙ lines_again (edid_lines e) (edid_good e))
+
+-- a text whose lines were all told
+pub found_text : (a : Edid) (ls : List Line) (text : List ℕ) → edid_lines a ≡ ls → lines_of text ≡ map line_text ls ++ [] → edid_text a ≡ text
+found_text a ls text h k =
+    ap (flat_map line_text) h ∙ sym (joined_lines ls) ∙ ap (flat_map (λ x. x)) (sym (k ∙ append-nil (map line_text ls))) ∙ joined text
+
+pub only_one : (a : Edid) (ls : List Line) (text : List ℕ) → AreTold ls → edid_lines a ≡ ls → lines_of text ≡ map line_text ls ++ [] → (e : Edid) → text ≡ edid_text e → a ≡ e
+only_one a ls text told h k e is =
+    one_lines a e (h ∙ sym (all_told e ls told (cut_again e text is ∙ k ∙ append-nil (map line_text ls))))

@@ -1,0 +1,298 @@
+-- No two EDIDs have the same lines.
+use Rattle.std.proofs.Common.{◌≡◌, ℕ, ◌+◌, ◌-◌, ◌*◌, ◌/◌, ◌%◌, ◌<◌, ◌≤◌, ◌==◌, Bool, true, false, ◌&&◌, nat_le, cond, List, [], ◌∷◌, ◌++◌, length, map, drop, get_or, slice_index, replicate, flat_map, Option, Some, None, option_to_list, ap, arith, refl, sym, ◌∙◌}
+use Rattle.std.specs.Int.{w16, w32, to_le_bytes, to_be_bytes}
+use Rattle.std.proofs.lemmas.Bool.{eqb-true}
+use Rattle.std.proofs.lemmas.List.{length-map}
+use Rattle.hdmi_edid.proofs.PartLemmas.{both}
+use Rattle.hdmi_edid.specs.Base.{base_bytes, product_bytes, display_bytes, header}
+use Rattle.hdmi_edid.specs.Chars.{text_bytes}
+use Rattle.hdmi_edid.specs.Check.{summed}
+use Rattle.hdmi_edid.specs.Chroma.{chroma_bytes}
+use Rattle.hdmi_edid.specs.Descriptor.{descriptor_bytes, tagged}
+use Rattle.hdmi_edid.specs.Maker.{maker_bytes}
+use Rattle.hdmi_edid.specs.Pairs.{low_pairs}
+use Rattle.hdmi_edid.specs.Revisions.{revision_bytes}
+use Rattle.hdmi_edid.specs.Standard.{standard_bytes}
+use Rattle.hdmi_edid.specs.Timing.{timing_bytes, low, high, nibbles}
+use Rattle.hdmi_edid.specs.declared.base.Base.{Base}
+use Rattle.hdmi_edid.specs.declared.base.Revision.{Revision}
+use Rattle.hdmi_edid.specs.declared.base.Revision.TheVariants.{Three, Four}
+use Rattle.hdmi_edid.specs.declared.descriptor.Descriptor.{Descriptor}
+use Rattle.hdmi_edid.specs.declared.descriptor.Descriptor.TheVariants.{Timing as OfTiming, Name as OfName, Text as OfText, SerialText as OfSerialText, Range as OfRange, Dummy as OfDummy, Raw as OfRaw}
+use Rattle.hdmi_edid.specs.declared.standard.Standard.{Standard as StandardTiming}
+use Rattle.hdmi_edid.specs.declared.timing.Timing.{Timing as DetailedTiming}
+use Rattle.hdmi_cta.proofs.OneBlock.{append_same}
+use Rattle.hdmi_cta.specs.Block.{kind_number, block_bytes}
+use Rattle.hdmi_cta.specs.Ext.{ext_bytes}
+use Rattle.hdmi_cta.specs.declared.block.Block.{Block}
+use Rattle.hdmi_cta.specs.declared.block.BlockKind.{BlockKind}
+use Rattle.hdmi_cta.specs.declared.block.BlockKind.TheVariants.{Tag0 as OfTag0, Audio as OfAudio, Video as OfVideo, Vendor as OfVendor, Speakers as OfSpeakers, Tag5 as OfTag5, Tag6 as OfTag6, Extended as OfExtended}
+use Rattle.hdmi_cta.specs.declared.cta.Cta.{Cta as CtaBlock}
+use Rattle.hdmi_cta.specs.declared.raw.Ext.{Ext as AnyExt}
+use Rattle.hdmi_cta.specs.declared.raw.Ext.TheVariants.{Cta as OfCta, Bare as OfBare, Raw as OfRawExt}
+use Rattle.hdmi_edtext.specs.Lines.{bytes_line, revision_letters, standard_line, timing_line, descriptor_line, head_lines, base_lines, is_hdmi, address_line, payload_line, block_line, trimmed, tail_line, cta_lines, ext_lines, edid_lines}
+use Rattle.hdmi_edtext.specs.declared.edid.Edid.{Edid as WholeEdid}
+use Rattle.hdmi_edtext.specs.declared.line.Fields.{Fields}
+use Rattle.hdmi_edtext.specs.declared.line.Fields.TheVariants.{Letters, Numbers, Timed, Bytes, Address, Quoted}
+use Rattle.hdmi_edtext.specs.declared.line.Line.{Line}
+use Rattle.hdmi_edtext.specs.declared.line.Word.{Word}
+use Rattle.hdmi_edtext.specs.declared.line.Word.TheVariants.{Name, Text, Range, Tag0, Audio, Video, Vendor, Speakers, Tag5, Tag6}
+use Rattle.hdmi_edtext.proofs.Fronts.{body_lines}
+use Rattle.hdmi_edtext.proofs.Gets.{base_count, one_ext}
+use Rattle.hdmi_edtext.proofs.OneEdid.{one_edid}
+use Rattle.hdmi_edtext.proofs.Sorts.{long_hdmi, not_timing, not_tail, timing_not_tail}
+use Rattle.hdmi_edtext.proofs.TailLemmas.{padded_trimmed}
+use Rattle.hdmi_edtext.specs.Tails.{padded}
+
+abbrev letters_in : Fields → List ℕ
+letters_in (Letters letters) = letters.items
+letters_in fields = []
+
+abbrev numbers_in : Fields → List ℕ
+numbers_in (Numbers numbers) = numbers.items
+numbers_in fields = []
+
+abbrev bytes_in : Fields → List ℕ
+bytes_in (Bytes bytes) = bytes.items
+bytes_in fields = []
+
+same_bytes : (w v : Word) (a b : List ℕ) → bytes_line w a ≡ bytes_line v b → a ≡ b
+same_bytes w v a b e = ap (λ l. bytes_in l.fields) e
+
+-- the bytes that a line's fields tell
+abbrev revision_told : Fields → List ℕ
+revision_told f = 1 ∷ (slice_index (letters_in f) 2 - 48) ∷ []
+
+abbrev maker_told : Fields → List ℕ
+maker_told f = let xs = letters_in f in to_be_bytes w16 ((slice_index xs 0 - 64) * 1024 + (slice_index xs 1 - 64) * 32 + (slice_index xs 2 - 64))
+
+abbrev chroma_told : Fields → List ℕ
+chroma_told f =
+    let n = numbers_in f in
+    low_pairs (slice_index n 0) (slice_index n 1) (slice_index n 2) (slice_index n 3) ∷ low_pairs (slice_index n 4) (slice_index n 5) (slice_index n 6) (slice_index n 7) ∷
+    (slice_index n 0 / 4) ∷ (slice_index n 1 / 4) ∷ (slice_index n 2 / 4) ∷ (slice_index n 3 / 4) ∷
+    (slice_index n 4 / 4) ∷ (slice_index n 5 / 4) ∷ (slice_index n 6 / 4) ∷ (slice_index n 7 / 4) ∷ []
+
+abbrev standard_told : Fields → List ℕ
+standard_told (Numbers n) = (slice_index n.items 0 / 8 - 31) ∷ (slice_index n.items 1 * 64 + (slice_index n.items 2 - 60)) ∷ []
+standard_told fields = 1 ∷ 1 ∷ []
+
+abbrev timing_told : List ℕ → ℕ → List ℕ
+timing_told n flags =
+    low (slice_index n 0) ∷ high (slice_index n 0) ∷
+    low (slice_index n 1) ∷ low (slice_index n 2) ∷ nibbles (slice_index n 1) (slice_index n 2) ∷
+    low (slice_index n 3) ∷ low (slice_index n 4) ∷ nibbles (slice_index n 3) (slice_index n 4) ∷
+    low (slice_index n 5) ∷ low (slice_index n 6) ∷
+    (slice_index n 7 % 16 * 16 + slice_index n 8 % 16) ∷
+    (high (slice_index n 5) * 64 + high (slice_index n 6) * 16 + slice_index n 7 / 16 * 4 + slice_index n 8 / 16) ∷
+    low (slice_index n 9) ∷ low (slice_index n 10) ∷ nibbles (slice_index n 9) (slice_index n 10) ∷
+    slice_index n 11 ∷ slice_index n 12 ∷ flags ∷ []
+
+abbrev tag_of : Word → ℕ
+tag_of Name = 0xfc
+tag_of Text = 0xfe
+tag_of word = 0xff
+
+abbrev hex_told : Word → List ℕ → List ℕ
+hex_told Range bytes = tagged 0xfd bytes
+hex_told word bytes = bytes
+
+abbrev descriptor_told : Word → Fields → List ℕ
+descriptor_told word (Timed n flags) = timing_told n.items flags
+descriptor_told word (Quoted chars) = tagged (tag_of word) (0 ∷ text_bytes chars.items)
+descriptor_told word (Bytes bytes) = hex_told word bytes.items
+descriptor_told word fields = tagged 0x10 (replicate 14 0)
+
+abbrev number_of : Word → ℕ
+number_of Tag0 = 0
+number_of Audio = 1
+number_of Video = 2
+number_of Vendor = 3
+number_of Speakers = 4
+number_of Tag5 = 5
+number_of Tag6 = 6
+number_of word = 7
+
+abbrev block_told : Word → Fields → List ℕ
+block_told word (Bytes bytes) = (number_of word * 32 + length bytes.items) ∷ bytes.items
+block_told word (Address p bytes) = (96 + (5 + length bytes.items)) ∷ 3 ∷ 12 ∷ 0 ∷ p.high ∷ p.low ∷ bytes.items
+block_told word fields = []
+
+revision_is : (r : Revision) → revision_bytes r ≡ 1 ∷ (slice_index (revision_letters r) 2 - 48) ∷ []
+revision_is Three = refl
+revision_is Four = refl
+
+standard_is : (s : Option StandardTiming) → standard_bytes s ≡ standard_told (standard_line s).fields
+standard_is None = refl
+standard_is (Some s) = refl
+
+descriptor_is : (d : Descriptor) → descriptor_bytes d ≡ descriptor_told (descriptor_line d).word (descriptor_line d).fields
+descriptor_is (OfTiming t) = refl
+descriptor_is (OfName t) = refl
+descriptor_is (OfText t) = refl
+descriptor_is (OfSerialText t) = refl
+descriptor_is (OfRange r) = refl
+descriptor_is OfDummy = refl
+descriptor_is (OfRaw r) = refl
+
+hdmi_is : (p : List ℕ) → is_hdmi p ≡ true → 3 ∷ 12 ∷ 0 ∷ slice_index p 3 ∷ slice_index p 4 ∷ drop 5 p ≡ p
+hdmi_is p h = at p (long_hdmi p h) (both _ _ h)
+  where
+    at : (p : List ℕ) → 5 ≤ length p → ((nat_le 5 (length p) && (slice_index p 0 == 3) && (slice_index p 1 == 12)) ≡ true) × ((slice_index p 2 == 0) ≡ true)
+        → 3 ∷ 12 ∷ 0 ∷ slice_index p 3 ∷ slice_index p 4 ∷ drop 5 p ≡ p
+    at (a ∷ b ∷ c ∷ d ∷ e ∷ p) k f =
+        let more = both (nat_le 5 (length (a ∷ b ∷ c ∷ d ∷ e ∷ p)) && (a == 3)) (b == 12) f.0 in
+        let third : c ≡ 0 = eqb-true _ _ f.1 in
+        let second : b ≡ 12 = eqb-true _ _ more.1 in
+        let first : a ≡ 3 = eqb-true _ _ (both (nat_le 5 (length (a ∷ b ∷ c ∷ d ∷ e ∷ p))) (a == 3) more.0).1 in
+        ap (λ x. x ∷ 12 ∷ 0 ∷ d ∷ e ∷ p) (sym first) ∙ ap (λ x. a ∷ x ∷ 0 ∷ d ∷ e ∷ p) (sym second) ∙ ap (λ x. a ∷ b ∷ x ∷ d ∷ e ∷ p) (sym third)
+    at [] k f = absurd (omega arith)
+    at (a ∷ []) k f = absurd (omega arith)
+    at (a ∷ b ∷ []) k f = absurd (omega arith)
+    at (a ∷ b ∷ c ∷ []) k f = absurd (omega arith)
+    at (a ∷ b ∷ c ∷ d ∷ []) k f = absurd (omega arith)
+
+block_is : (b : Block) → block_bytes b ≡ block_told (block_line b).word (block_line b).fields
+block_is b = at b.kind b.payload.items
+  where
+    vendor : (v : Bool) (p : List ℕ) → is_hdmi p ≡ v → (96 + length p) ∷ p ≡ block_told (cond v (address_line p) (bytes_line Vendor p)).word (cond v (address_line p) (bytes_line Vendor p)).fields
+    vendor true p e = let same = hdmi_is p e in let len = ap length same in ap (λ n. n ∷ p) (omega (arith, len)) ∙ ap (λ t. (96 + (5 + length (drop 5 p))) ∷ t) (sym same)
+    vendor false p e = refl
+
+    at : (k : BlockKind) (p : List ℕ) → (kind_number k * 32 + length p) ∷ p ≡ block_told (payload_line k p).word (payload_line k p).fields
+    at OfTag0 p = refl
+    at OfAudio p = refl
+    at OfVideo p = refl
+    at OfVendor p = vendor (is_hdmi p) p refl
+    at OfSpeakers p = refl
+    at OfTag5 p = refl
+    at OfTag6 p = refl
+    at OfExtended p = refl
+
+-- what is told by a list's lines
+told : {X : Type 0} (f : X → Line) (g : X → List ℕ) (t : Word → Fields → List ℕ) → ((x : X) → g x ≡ t (f x).word (f x).fields) → (xs ys : List X) → map f xs ≡ map f ys → flat_map g xs ≡ flat_map g ys
+told f g t is [] [] e = refl
+told f g t is [] (y ∷ ys) e = let len = ap length e in absurd (omega (arith, len))
+told f g t is (x ∷ xs) [] e = let len = ap length e in absurd (omega (arith, len))
+told f g t is (x ∷ xs) (y ∷ ys) e =
+    let first : f x ≡ f y = ap (λ ls. get_or ls 0 (f x)) e in
+    let rest = told f g t is xs ys (ap (λ ls. drop 1 ls) e) in
+    ap (λ h. h ++ flat_map g xs) (is x ∙ ap (λ l. t l.word l.fields) first ∙ sym (is y)) ∙ ap (λ r. g y ++ r) rest
+
+one_more : {X : Type 0} (x y : X) (xs ys : List X) → x ≡ y → xs ≡ ys → x ∷ xs ≡ y ∷ ys
+one_more x y xs ys e f = ap (λ k. k ∷ xs) e ∙ ap (λ k. y ∷ k) f
+
+two_parts : {X : Type 0} (a b c d : List X) → a ≡ b → c ≡ d → a ++ c ≡ b ++ d
+two_parts a b c d e f = ap (λ k. k ++ c) e ∙ ap (λ k. b ++ k) f
+
+-- one field of a line
+field : {X : Type 0} (f : Fields → X) (d : Line) (n : ℕ) (ls ms : List Line) → ls ≡ ms → f (get_or ls n d).fields ≡ f (get_or ms n d).fields
+field f d n ls ms e = ap (λ x. f (get_or x n d).fields) e
+
+product_same : (a b : Base) → head_lines a ≡ head_lines b → product_bytes a ≡ product_bytes b
+product_same a b e =
+    let d = standard_line None in
+    let one : (n k : ℕ) → slice_index (numbers_in (get_or (head_lines a) n d).fields) k ≡ slice_index (numbers_in (get_or (head_lines b) n d).fields) k
+    = λ n k. field (λ f. slice_index (numbers_in f) k) d n (head_lines a) (head_lines b) e in
+    let byte : (n : ℕ) → slice_index (bytes_in (get_or (head_lines a) n d).fields) 0 ≡ slice_index (bytes_in (get_or (head_lines b) n d).fields) 0
+    = λ n. field (λ f. slice_index (bytes_in f) 0) d n (head_lines a) (head_lines b) e in
+    let maker : maker_bytes a.maker ≡ maker_bytes b.maker = field maker_told d 1 (head_lines a) (head_lines b) e in
+    let revision : revision_bytes a.revision ≡ revision_bytes b.revision = revision_is a.revision ∙ field revision_told d 0 (head_lines a) (head_lines b) e ∙ sym (revision_is b.revision) in
+    let product : a.product ≡ b.product = one 2 0 in
+    let serial : a.serial ≡ b.serial = one 3 0 in
+    let week : a.week ≡ b.week = one 4 0 in
+    let year : a.year ≡ b.year = one 4 1 in
+    let input : a.input ≡ b.input = byte 5 in
+    let width : a.width ≡ b.width = one 6 0 in
+    let height : a.height ≡ b.height = one 6 1 in
+    let gamma : a.gamma ≡ b.gamma = one 7 0 in
+    let features : a.features ≡ b.features = byte 8 in
+    two_parts _ _ _ _ maker (two_parts _ _ _ _ (ap (to_le_bytes w16) product) (two_parts _ _ _ _ (ap (to_le_bytes w32) serial) (
+    one_more _ _ _ _ week (one_more _ _ _ _ (ap (λ y. y - 1990) year) (two_parts _ _ _ _ revision (
+    one_more _ _ _ _ input (one_more _ _ _ _ width (one_more _ _ _ _ height (one_more _ _ _ _ gamma (one_more _ _ _ _ features refl))))))))))
+
+display_same : (a b : Base) → head_lines a ≡ head_lines b → map standard_line a.standard ≡ map standard_line b.standard → map descriptor_line a.descriptors ≡ map descriptor_line b.descriptors
+    → a.extensions ≡ b.extensions → display_bytes a ≡ display_bytes b
+display_same a b e f g h =
+    let d = standard_line None in
+    let chroma : chroma_bytes a.chroma ≡ chroma_bytes b.chroma = field chroma_told d 9 (head_lines a) (head_lines b) e in
+    let established : a.established ≡ b.established = field bytes_in d 10 (head_lines a) (head_lines b) e in
+    let standard = told standard_line standard_bytes (λ w f. standard_told f) standard_is a.standard b.standard f in
+    let descriptors = told descriptor_line descriptor_bytes descriptor_told descriptor_is a.descriptors b.descriptors g in
+    two_parts _ _ _ _ chroma (two_parts _ _ _ _ established (two_parts _ _ _ _ standard (two_parts _ _ _ _ descriptors (ap (λ n. n ∷ []) h))))
+
+same_base : (a b : Base) → base_lines a ≡ base_lines b → a.extensions ≡ b.extensions → base_bytes a ≡ base_bytes b
+same_base a b e h =
+    let first = append_same (head_lines a) (head_lines b) _ _ refl e in
+    let count : length (map standard_line a.standard) ≡ length (map standard_line b.standard) = length-map a.standard standard_line ∙ a.eight ∙ sym (length-map b.standard standard_line ∙ b.eight) in
+    let rest = append_same (map standard_line a.standard) (map standard_line b.standard) _ _ count first.1 in
+    ap summed (ap (λ t. header ++ t) (two_parts _ _ _ _ (product_same a b first.0) (display_same a b first.0 rest.0 rest.1 h)))
+
+-- data blocks and what is behind them
+same_blocks : (cs bs : List Block) (ts us : List DetailedTiming) (x y : List ℕ) → body_lines cs ts x ≡ body_lines bs us y
+    → (flat_map block_bytes cs ≡ flat_map block_bytes bs) × (body_lines [] ts x ≡ body_lines [] us y)
+same_blocks [] [] ts us x y e = (refl, e)
+same_blocks [] (b ∷ bs) [] us x y e = absurd (not_tail b x (sym (ap (λ ls. get_or ls 0 (tail_line x)) e)))
+same_blocks [] (b ∷ bs) (t ∷ ts) us x y e = absurd (not_timing b t (sym (ap (λ ls. get_or ls 0 (tail_line x)) e)))
+same_blocks (c ∷ cs) [] ts [] x y e = absurd (not_tail c y (ap (λ ls. get_or ls 0 (tail_line x)) e))
+same_blocks (c ∷ cs) [] ts (u ∷ us) x y e = absurd (not_timing c u (ap (λ ls. get_or ls 0 (tail_line x)) e))
+same_blocks (c ∷ cs) (b ∷ bs) ts us x y e =
+    let first : block_line c ≡ block_line b = ap (λ ls. get_or ls 0 (tail_line x)) e in
+    let rest = same_blocks cs bs ts us x y (ap (λ ls. drop 1 ls) e) in
+    (two_parts _ _ _ _ (block_is c ∙ ap (λ l. block_told l.word l.fields) first ∙ sym (block_is b)) rest.0, rest.1)
+
+same_timings : (ts us : List DetailedTiming) (x y : List ℕ) → body_lines [] ts x ≡ body_lines [] us y → (flat_map timing_bytes ts ≡ flat_map timing_bytes us) × (tail_line x ≡ tail_line y)
+same_timings [] [] x y e = (refl, ap (λ ls. get_or ls 0 (tail_line x)) e)
+same_timings [] (u ∷ us) x y e = absurd (timing_not_tail u x (sym (ap (λ ls. get_or ls 0 (tail_line x)) e)))
+same_timings (t ∷ ts) [] x y e = absurd (timing_not_tail t y (ap (λ ls. get_or ls 0 (tail_line x)) e))
+same_timings (t ∷ ts) (u ∷ us) x y e =
+    let first : timing_line t ≡ timing_line u = ap (λ ls. get_or ls 0 (tail_line x)) e in
+    let rest = same_timings ts us x y (ap (λ ls. drop 1 ls) e) in
+    (two_parts _ _ _ _ (ap (λ l. descriptor_told l.word l.fields) first) rest.0, rest.1)
+
+same_tails : (x y : List ℕ) → length x ≡ length y → tail_line x ≡ tail_line y → x ≡ y
+same_tails x y h e = sym (padded_trimmed x) ∙ ap (λ n. padded n (trimmed x)) h ∙ ap (padded (length y)) (same_bytes _ _ _ _ e) ∙ padded_trimmed y
+
+same_cta : (c d : CtaBlock) → cta_lines c ≡ cta_lines d → ext_bytes (OfCta c) ≡ ext_bytes (OfCta d)
+same_cta c d e =
+    let flags : c.flags ≡ d.flags = ap (λ ls. slice_index (bytes_in (get_or ls 0 (tail_line [])).fields) 0) e in
+    let blocks = same_blocks c.blocks.items d.blocks.items c.timings.items d.timings.items c.tail.items d.tail.items (ap (λ ls. drop 1 ls) e) in
+    let timings = same_timings c.timings.items d.timings.items c.tail.items d.tail.items blocks.1 in
+    let bl = ap length blocks.0 in
+    let tl = ap length timings.0 in
+    let size : length c.tail.items ≡ length d.tail.items = omega (arith, bl, tl, c.whole, d.whole) in
+    let tail = same_tails c.tail.items d.tail.items size timings.1 in
+    ap summed (one_more _ _ _ _ refl (one_more _ _ _ _ refl (one_more _ _ _ _ (ap (λ n. n + 4) bl) (one_more _ _ _ _ flags (two_parts _ _ _ _ blocks.0 (two_parts _ _ _ _ timings.0 tail))))))
+
+same_ext : (x y : AnyExt) → ext_lines x ≡ ext_lines y → ext_bytes x ≡ ext_bytes y
+same_ext (OfCta c) (OfCta d) e = same_cta c d e
+same_ext (OfBare c) (OfBare d) e =
+    let flags : c.flags ≡ d.flags = ap (λ ls. slice_index (bytes_in (get_or ls 0 (tail_line [])).fields) 0) e in
+    let tail = same_tails c.tail d.tail (c.whole ∙ sym d.whole) (ap (λ ls. get_or ls 1 (tail_line [])) e) in
+    ap summed (one_more _ _ _ _ refl (one_more _ _ _ _ refl (one_more _ _ _ _ refl (one_more _ _ _ _ flags tail))))
+same_ext (OfRawExt c) (OfRawExt d) e = ap (λ ls. bytes_in (get_or ls 0 (tail_line [])).fields) e
+same_ext (OfCta c) (OfBare d) e = let same = ap (λ ls. (get_or ls 0 (tail_line [])).word) e in cc
+same_ext (OfCta c) (OfRawExt d) e = let same = ap (λ ls. (get_or ls 0 (tail_line [])).word) e in cc
+same_ext (OfBare c) (OfCta d) e = let same = ap (λ ls. (get_or ls 0 (tail_line [])).word) e in cc
+same_ext (OfBare c) (OfRawExt d) e = let same = ap (λ ls. (get_or ls 0 (tail_line [])).word) e in cc
+same_ext (OfRawExt c) (OfCta d) e = let same = ap (λ ls. (get_or ls 0 (tail_line [])).word) e in cc
+same_ext (OfRawExt c) (OfBare d) e = let same = ap (λ ls. (get_or ls 0 (tail_line [])).word) e in cc
+
+some_line : (x : AnyExt) → 0 < length (ext_lines x)
+some_line (OfCta c) = omega arith
+some_line (OfBare c) = omega arith
+some_line (OfRawExt c) = omega arith
+
+same_exts : (o p : Option AnyExt) → flat_map ext_lines (option_to_list o) ≡ flat_map ext_lines (option_to_list p)
+    → (length (option_to_list o) ≡ length (option_to_list p)) × (flat_map ext_bytes (option_to_list o) ≡ flat_map ext_bytes (option_to_list p))
+same_exts None None e = (refl, refl)
+same_exts None (Some y) e = let len = ap length (e ∙ one_ext y) in let some = some_line y in absurd (omega (arith, len, some))
+same_exts (Some x) None e = let len = ap length (sym (one_ext x) ∙ e) in let some = some_line x in absurd (omega (arith, len, some))
+same_exts (Some x) (Some y) e = (refl, ap (λ t. t ++ []) (same_ext x y (sym (one_ext x) ∙ e ∙ one_ext y)))
+
+pub one_lines : (a b : WholeEdid) → edid_lines a ≡ edid_lines b → a ≡ b
+one_lines a b e =
+    let parts = append_same (base_lines a.base) (base_lines b.base) _ _ (base_count a.base ∙ sym (base_count b.base)) e in
+    let exts = same_exts a.ext b.ext parts.1 in
+    let base = same_base a.base b.base parts.0 (a.counted ∙ exts.0 ∙ sym b.counted) in
+    one_edid a b (two_parts _ _ _ _ base exts.1)

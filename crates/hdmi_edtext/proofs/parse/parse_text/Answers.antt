@@ -1,0 +1,95 @@
+use Rattle.std.proofs.Common.{◌++◌, length, map, Ok, ap, sym, ◌∙◌, arith}
+use Rattle.hdmi_edtext.specs.Cut.{lines_of}
+use Rattle.hdmi_edtext.specs.Drafts.{draft_lines}
+use Rattle.hdmi_edtext.specs.Text.{line_text}
+use Rattle.hdmi_edtext.proofs.FirstBad.{no_lines_told, unread, misplaced, unfinished, refused_by, lines_so, count_so, one_more_told, few_told, no_bad, cut_again, found_text, only_one}
+use Rattle.hdmi_edtext.proofs.parse.parse_text.Goals as goal
+
+pub loop-line-init : goal.loop-line-init
+loop-line-init c =
+    let none = c.new-draft.ensures in
+    let len = ap length none in
+    record {
+      lines = ap (λ ls. map line_text ls ++ lines_of c.args.text.now) (sym none);
+      count = omega (arith, len);
+      few = omega arith;
+      told = no_lines_told (draft_lines c.new-draft.result) none;
+    }
+
+pub returns-in_default-read_line-clause-only : goal.returns-in_default-read_line-clause-only
+returns-in_default-read_line-clause-only c =
+    let i = c.loop-line.invariant in
+    let d = c.loop-line.draft in
+    let lines = i.lines ∙ ap (λ x. map line_text (draft_lines d) ++ x) c.in-Some.ensures.lines in
+    let bad = unread d (lines_of c.args.text.now) c.in-Some.line.now (lines_of c.in-Some.more.now) c.loop-line.number i.told lines i.count c.in_default-read_line.ensures.only in
+    λ e h. absurd (no_bad (lines_of c.args.text.now) c.loop-line.number bad e (cut_again e c.args.text.now h))
+
+pub returns-in_default-read_line-clause-refused : goal.returns-in_default-read_line-clause-refused
+returns-in_default-read_line-clause-refused c =
+    let i = c.loop-line.invariant in
+    let d = c.loop-line.draft in
+    let lines = i.lines ∙ ap (λ x. map line_text (draft_lines d) ++ x) c.in-Some.ensures.lines in
+    let bad = unread d (lines_of c.args.text.now) c.in-Some.line.now (lines_of c.in-Some.more.now) c.loop-line.number i.told lines i.count c.in_default-read_line.ensures.only in
+    refused_by (lines_of c.args.text.now) c.fault.result c.loop-line.number c.fault.ensures bad
+
+pub returns-in_default-put-clause-only : goal.returns-in_default-put-clause-only
+returns-in_default-put-clause-only c =
+    let i = c.loop-line.invariant in
+    let d = c.loop-line.draft in
+    let lines = i.lines ∙ ap (λ x. map line_text (draft_lines d) ++ x) c.in-Some.ensures.lines in
+    let bad = misplaced d (lines_of c.args.text.now) c.in-Some.line.now (lines_of c.in-Some.more.now) c.loop-line.number c.in-Some-read_line.read i.told lines i.count
+    c.in-Some-read_line.ensures.only c.in_default-put.ensures in
+    λ e h. absurd (no_bad (lines_of c.args.text.now) c.loop-line.number bad e (cut_again e c.args.text.now h))
+
+pub returns-in_default-put-clause-refused : goal.returns-in_default-put-clause-refused
+returns-in_default-put-clause-refused c =
+    let i = c.loop-line.invariant in
+    let d = c.loop-line.draft in
+    let lines = i.lines ∙ ap (λ x. map line_text (draft_lines d) ++ x) c.in-Some.ensures.lines in
+    let bad = misplaced d (lines_of c.args.text.now) c.in-Some.line.now (lines_of c.in-Some.more.now) c.loop-line.number c.in-Some-read_line.read i.told lines i.count
+    c.in-Some-read_line.ensures.only c.in_default-put.ensures in
+    refused_by (lines_of c.args.text.now) c.fault-in_default-put.result c.loop-line.number c.fault-in_default-put.ensures bad
+
+pub loop-line-preserved : goal.loop-line-preserved
+loop-line-preserved c =
+    let i = c.loop-line.invariant in
+    let d = c.loop-line.draft in
+    let next = c.in-Some-put.next in
+    let line = c.in-Some.line.now in
+    let read = c.in-Some-read_line.read in
+    let lines = i.lines ∙ ap (λ x. map line_text (draft_lines d) ++ x) c.in-Some.ensures.lines in
+    let count = count_so (draft_lines d) (draft_lines next) read c.loop-line.number i.count c.in-Some-put.ensures in
+    let few = few_told next in
+    record {
+      lines = lines_so (draft_lines d) (draft_lines next) read line (lines_of c.args.text.now) (lines_of c.in-Some.more.now) lines c.in-Some-put.ensures c.in-Some-read_line.ensures.found;
+      count = count;
+      few = omega (arith, count, few);
+      told = one_more_told (draft_lines d) (draft_lines next) read line i.told c.in-Some-put.ensures c.in-Some-read_line.ensures.found c.in-Some-read_line.ensures.only;
+    }
+
+pub returns-in-Some-finish-clause-found : goal.returns-in-Some-finish-clause-found
+returns-in-Some-finish-clause-found c =
+    let d = c.loop-line.draft in
+    let lines = c.loop-line.invariant.lines ∙ ap (λ x. map line_text (draft_lines d) ++ x) c.in_default.ensures.lines in
+    found_text c.in-Some-finish.edid (draft_lines d) c.args.text.now c.in-Some-finish.ensures lines
+
+pub returns-in-Some-finish-clause-only : goal.returns-in-Some-finish-clause-only
+returns-in-Some-finish-clause-only c =
+    let d = c.loop-line.draft in
+    let lines = c.loop-line.invariant.lines ∙ ap (λ x. map line_text (draft_lines d) ++ x) c.in_default.ensures.lines in
+    λ e h. ap (λ x. Ok x) (only_one c.in-Some-finish.edid (draft_lines d) c.args.text.now c.loop-line.invariant.told c.in-Some-finish.ensures lines e h)
+
+pub returns-in-None-clause-only : goal.returns-in-None-clause-only
+returns-in-None-clause-only c =
+    let i = c.loop-line.invariant in
+    let d = c.loop-line.draft in
+    let lines = i.lines ∙ ap (λ x. map line_text (draft_lines d) ++ x) c.in_default.ensures.lines in
+    let bad = unfinished d (lines_of c.args.text.now) c.loop-line.number i.told lines i.count c.in-None.ensures in
+    λ e h. absurd (no_bad (lines_of c.args.text.now) c.loop-line.number bad e (cut_again e c.args.text.now h))
+
+pub returns-in-None-clause-refused : goal.returns-in-None-clause-refused
+returns-in-None-clause-refused c =
+    let i = c.loop-line.invariant in
+    let d = c.loop-line.draft in
+    let lines = i.lines ∙ ap (λ x. map line_text (draft_lines d) ++ x) c.in_default.ensures.lines in
+    unfinished d (lines_of c.args.text.now) c.loop-line.number i.told lines i.count c.in-None.ensures

@@ -1,0 +1,281 @@
+//! Each line adds to a draft.
+ghost use Rattle.std.specs.Prelude.{◌≡◌, ◌⊎◌, ◌<◌, ◌≤◌, ◌∷◌, [], ◌++◌, ℕ, List, false, true, MatchOption, length};
+ghost use Rattle.arrayvec.specs.ArrayVec.{array_vec_len};
+ghost use Rattle.hdmi_cta.specs.Block.{block_bytes};
+ghost use Rattle.hdmi_cta.specs.declared.raw.RawExt.{RawExt as RawValue};
+ghost use Rattle.hdmi_edtext.specs.Drafts.{draft_lines, Follows, BlockFits, TimingFits, TailFits};
+ghost use Rattle.hdmi_edtext.specs.Lines.{block_line, timing_line, bytes_line, base_lines, ext_lines, edid_lines};
+ghost use Rattle.hdmi_edtext.specs.Tails.{padded, fills, ends};
+ghost use Rattle.hdmi_edtext.specs.declared.edid.Edid.{Edid as EdidValue};
+
+use crate::base_steps::{blank, put_base};
+use crate::blocks::block_of;
+use crate::draft::{Begun, Draft, Headed, Opened};
+use crate::edid::Edid;
+use crate::line::{Line, Word};
+use crate::place::Place;
+use crate::tail::{filled, tail_of};
+use crate::values::{array_from, bytes_of, one_byte, timing_of};
+use arrayvec::ArrayVec;
+use hdmi_cta::{Bare, Block, Cta, Ext, RawExt, read_ext};
+use hdmi_edid::{Base, Timing};
+
+/// The draft with one more line of the base block.
+fn put_begun(begun: Begun, line: &Line) -> Option<Draft>
+    ensures { MatchOption result (Follows (draft_lines (Draft.Begun begun)) line.now → ⊥) (λ d. draft_lines d ≡ draft_lines (Draft.Begun begun) ++ line.now ∷ []) }
+{
+    let Begun { base, number } = begun;
+    let Some(base) = put_base(base, number, line) else {
+        return None;
+    };
+    if number < 22 {
+        Some(Draft::Begun(Begun {
+            base,
+            number: number + 1,
+        }))
+    } else {
+        Some(Draft::Whole(base))
+    }
+}
+
+/// A base block with an extension.
+fn with_ext(mut base: Base, ext: Ext) -> Edid
+    ensures { edid_lines result ≡ base_lines base ++ ext_lines ext }
+{
+    base.extensions = 1;
+    Edid {
+        base,
+        ext: Some(ext),
+    }
+}
+
+/// A base block alone.
+fn alone(mut base: Base) -> Edid
+    ensures { edid_lines result ≡ base_lines base }
+{
+    base.extensions = 0;
+    Edid { base, ext: None }
+}
+
+/// The extension of no known form that a line tells.
+fn raw_ext_of(line: &Line) -> Option<RawExt>
+    ensures { MatchOption result ((r : RawValue) → bytes_line Word.Ext r.bytes ≡ line.now → ⊥) (λ r. bytes_line Word.Ext r.bytes ≡ line.now) }
+{
+    let Some(bytes) = bytes_of(line, Word::Ext) else {
+        return None;
+    };
+    if bytes.len() != 128 {
+        return None;
+    }
+    match read_ext(&array_from(bytes)) {
+        Ok(Ext::Raw(raw)) => Some(raw),
+        _ => None,
+    }
+}
+
+/// The draft with the first line of an extension.
+fn put_whole(base: Base, line: &Line) -> Option<Draft>
+    ensures { MatchOption result (Follows (draft_lines (Draft.Whole base)) line.now → ⊥) (λ d. draft_lines d ≡ draft_lines (Draft.Whole base) ++ line.now ∷ []) }
+{
+    if let Some(flags) = one_byte(line, Word::Cta) {
+        return Some(Draft::Opened(Opened {
+            base,
+            flags,
+            blocks: ArrayVec::new(),
+            timings: ArrayVec::new(),
+            left: 123,
+        }));
+    }
+    if let Some(flags) = one_byte(line, Word::CtaNone) {
+        return Some(Draft::Bare(Headed { base, flags }));
+    }
+    let Some(raw) = raw_ext_of(line) else {
+        return None;
+    };
+    Some(Draft::Ended(base, Ext::Raw(raw)))
+}
+
+/// The draft with a data block, where there is room.
+fn put_block(opened: Opened, block: Block) -> Option<Draft>
+    requires { array_vec_len opened.timings ≡ 0 }
+    ensures { MatchOption result (opened.left < length (block_bytes block)) (λ d. draft_lines d ≡ draft_lines (Draft.Opened opened) ++ block_line block ∷ []) }
+{
+    let len = block.payload.len() + 1;
+    if opened.left < len {
+        return None;
+    }
+    let Opened {
+        base,
+        flags,
+        mut blocks,
+        timings,
+        left,
+    } = opened;
+    blocks.push(block);
+    Some(Draft::Opened(Opened {
+        base,
+        flags,
+        blocks,
+        timings,
+        left: left - len,
+    }))
+}
+
+/// The draft with a timing, where there is room.
+fn put_timing(opened: Opened, timing: Timing) -> Option<Draft>
+    ensures { MatchOption result (opened.left < 18) (λ d. draft_lines d ≡ draft_lines (Draft.Opened opened) ++ timing_line timing ∷ []) }
+{
+    if opened.left < 18 {
+        return None;
+    }
+    let Opened {
+        base,
+        flags,
+        blocks,
+        mut timings,
+        left,
+    } = opened;
+    timings.push(timing);
+    Some(Draft::Opened(Opened {
+        base,
+        flags,
+        blocks,
+        timings,
+        left: left - 18,
+    }))
+}
+
+/// The draft with a tail, where it ends the block.
+fn put_tail(opened: Opened, bytes: &[u8]) -> Option<Draft>
+    ensures { MatchOption result (ends opened.left bytes.now ≡ false) (λ d. draft_lines d ≡ draft_lines (Draft.Opened opened) ++ bytes_line Word.Tail bytes.now ∷ []) }
+{
+    let Some(tail) = tail_of(opened.left, bytes) else {
+        return None;
+    };
+    let Opened {
+        base,
+        flags,
+        blocks,
+        timings,
+        ..
+    } = opened;
+    let cta = Cta {
+        flags,
+        blocks,
+        timings,
+        tail,
+    };
+    Some(Draft::Ended(base, Ext::Cta(cta)))
+}
+
+/// The draft with a timing or the tail.
+fn put_behind_blocks(opened: Opened, line: &Line) -> Option<Draft>
+    ensures { MatchOption result (TimingFits opened.left line.now ⊎ TailFits opened.left line.now → ⊥) (λ d. draft_lines d ≡ draft_lines (Draft.Opened opened) ++ line.now ∷ []) }
+{
+    if let Some(timing) = timing_of(line) {
+        return put_timing(opened, timing);
+    }
+    let Some(bytes) = bytes_of(line, Word::Tail) else {
+        return None;
+    };
+    put_tail(opened, bytes)
+}
+
+/// The draft with a data block, a timing or the tail.
+fn put_in_blocks(opened: Opened, line: &Line) -> Option<Draft>
+    requires { array_vec_len opened.timings ≡ 0 }
+    ensures { MatchOption result (BlockFits opened.left line.now ⊎ (TimingFits opened.left line.now ⊎ TailFits opened.left line.now) → ⊥) (λ d. draft_lines d ≡ draft_lines (Draft.Opened opened) ++ line.now ∷ []) }
+{
+    match block_of(line) {
+        Some(block) => put_block(opened, block),
+        None => put_behind_blocks(opened, line),
+    }
+}
+
+/// The draft with one more line of a CTA block. Its data blocks stand before its timings.
+fn put_opened(opened: Opened, line: &Line) -> Option<Draft>
+    ensures { MatchOption result (Follows (draft_lines (Draft.Opened opened)) line.now → ⊥) (λ d. draft_lines d ≡ draft_lines (Draft.Opened opened) ++ line.now ∷ []) }
+{
+    if opened.timings.is_empty() {
+        put_in_blocks(opened, line)
+    } else {
+        put_behind_blocks(opened, line)
+    }
+}
+
+/// The extension that has a tail alone.
+fn bare_of(flags: u8, bytes: &[u8]) -> Option<Bare>
+    ensures { MatchOption result (fills 123 bytes.now ≡ false) (λ b. (b.flags ≡ flags) × (fills 123 bytes.now ≡ true) × (b.tail ≡ padded 123 bytes.now)) }
+{
+    let Some(tail) = filled(123, bytes) else {
+        return None;
+    };
+    Some(Bare {
+        flags,
+        tail: array_from(tail.as_slice()),
+    })
+}
+
+/// The draft with the tail that stands alone.
+fn put_bare(headed: Headed, line: &Line) -> Option<Draft>
+    ensures { MatchOption result (Follows (draft_lines (Draft.Bare headed)) line.now → ⊥) (λ d. draft_lines d ≡ draft_lines (Draft.Bare headed) ++ line.now ∷ []) }
+{
+    let Headed { base, flags } = headed;
+    let Some(bytes) = bytes_of(line, Word::Tail) else {
+        return None;
+    };
+    let Some(bare) = bare_of(flags, bytes) else {
+        return None;
+    };
+    Some(Draft::Ended(base, Ext::Bare(bare)))
+}
+
+impl Draft {
+    /// No lines.
+    pub fn new() -> Draft
+        ensures { draft_lines result ≡ [] }
+    {
+        Draft::Begun(Begun {
+            base: blank(),
+            number: 0,
+        })
+    }
+
+    /// Where the next line stands.
+    pub fn place(&self) -> Place {
+        match self {
+            Draft::Begun(begun) => Place::InBase(begun.number),
+            Draft::Whole(_) => Place::AtExt,
+            Draft::Opened(opened) if opened.timings.is_empty() => Place::InBlocks(opened.left),
+            Draft::Opened(opened) => Place::InTimings(opened.left),
+            Draft::Bare(_) => Place::AtTail,
+            Draft::Ended(_, _) => Place::AtEnd,
+        }
+    }
+
+    /// The draft with one more line, where some EDID's lines go on with it.
+    pub fn put(self, line: &Line) -> Option<Draft>
+        ensures { MatchOption result (Follows (draft_lines self) line.now → ⊥) (λ d. draft_lines d ≡ draft_lines self ++ line.now ∷ []) }
+    {
+        match self {
+            Draft::Begun(begun) => put_begun(begun, line),
+            Draft::Whole(base) => put_whole(base, line),
+            Draft::Opened(opened) => put_opened(opened, line),
+            Draft::Bare(headed) => put_bare(headed, line),
+            Draft::Ended(_, _) => None,
+        }
+    }
+
+    /// The EDID whose lines these are all.
+    pub fn finish(self) -> Option<Edid>
+        ensures { MatchOption result ((e : EdidValue) → edid_lines e ≡ draft_lines self → ⊥) (λ e. edid_lines e ≡ draft_lines self) }
+    {
+        match self {
+            Draft::Whole(base) => Some(alone(base)),
+            Draft::Ended(base, ext) => Some(with_ext(base, ext)),
+            Draft::Begun(_) => None,
+            Draft::Opened(_) => None,
+            Draft::Bare(_) => None,
+        }
+    }
+}
