@@ -15,8 +15,6 @@ mod run;
 mod state_text;
 #[cfg(test)]
 mod tests;
-#[cfg(test)]
-mod tests_trees;
 mod trace_text;
 mod written;
 

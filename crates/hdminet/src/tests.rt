@@ -11,6 +11,7 @@ mod frames;
 mod limits;
 mod refused_texts;
 mod runs;
+mod trees;
 
 /// A writer that takes one byte at a time, and fails once it holds `room`.
 #[derive(Drop)]

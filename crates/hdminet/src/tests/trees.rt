@@ -2,8 +2,6 @@
 use super::*;
 use crate::emulate::{EmulateError, emulate};
 use crate::run::Totals;
-use std::alloc::Global;
-use std::test::Fail;
 
 /// Runs texts, and answers what was counted. The trace goes to `trace`.
 fn traced(
