@@ -1,17 +1,15 @@
 -- Where reading stops, the first bad line stands.
-use Rattle.std.proofs.Common.{◌≡◌, ℕ, ◌+◌, ◌≤◌, ◌⊎◌, inl, inr, List, [], ◌∷◌, ◌++◌, length, map, drop, get_or, flat_map, Option, Some, None, ap, subst, arith, sym, ◌∙◌, append_assoc, append-nil, length-append}
+use Rattle.std.proofs.Common.{◌≡◌, ℕ, ◌+◌, ◌≤◌, List, [], ◌∷◌, ◌++◌, length, map, drop, get_or, flat_map, Option, Some, None, ap, subst, arith, sym, ◌∙◌, append_assoc, append-nil, length-append}
 use Rattle.std.proofs.lemmas.List.{length-map, map-append}
 use Rattle.hdmi_edtext.specs.Cut.{lines_of}
 use Rattle.hdmi_edtext.specs.Drafts.{draft_lines, Follows}
 use Rattle.hdmi_edtext.specs.Formed.{Formed}
 use Rattle.hdmi_edtext.specs.Lines.{edid_lines, edid_text}
-use Rattle.hdmi_edtext.specs.Refusal.{IsFirstBad, IsRefusal, SomeBegins, NoneFollows, line_texts}
+use Rattle.hdmi_edtext.specs.Refusal.{IsFirstBad, SomeBegins, NoneFollows, line_texts}
 use Rattle.hdmi_edtext.specs.Text.{line_text}
 use Rattle.hdmi_edtext.specs.declared.draft.Draft.{Draft}
 use Rattle.hdmi_edtext.specs.declared.edid.Edid.{Edid}
 use Rattle.hdmi_edtext.specs.declared.line.Line.{Line}
-use Rattle.hdmi_edtext.specs.declared.parse.TextError.{TextError}
-use Rattle.hdmi_edtext.specs.declared.parse.TextError.TheVariants.{Syntax, Field}
 use Rattle.hdmi_edtext.proofs.CutTexts.{joined, joined_lines, lines_again}
 use Rattle.hdmi_edtext.proofs.Gets.{few_lines}
 use Rattle.hdmi_edtext.proofs.Good.{EachGood, edid_good, good_at}
@@ -86,45 +84,39 @@ few_told d =
     let same = ap length l.1.1 in
     omega (arith, same, few_lines l.0, length-append (draft_lines d) l.1.0)
 
-some_begins : (d : Draft) → SomeBegins (map line_text (draft_lines d))
+pub some_begins : (d : Draft) → SomeBegins (map line_text (draft_lines d))
 some_begins d = let l = live d in (l.0, (map line_text l.1.0, ap (map line_text) l.1.1 ∙ map-append line_text (draft_lines d) l.1.0))
 
-counted : (ls : List Line) (n : ℕ) → n ≡ length ls + 1 → n ≡ length (map line_text ls) + 1
+pub counted : (ls : List Line) (n : ℕ) → n ≡ length ls + 1 → n ≡ length (map line_text ls) + 1
 counted ls n h = let len = length-map ls line_text in omega (arith, len, h)
 
--- no line reads so
-pub unread : (d : Draft) (all : List (List ℕ)) (line : List ℕ) (more : List (List ℕ)) (n : ℕ) → AreTold (draft_lines d) → all ≡ map line_text (draft_lines d) ++ line ∷ more
-    → n ≡ length (draft_lines d) + 1 → ((l : Line) → Formed l → line_text l ≡ line → Path (Option Line) None (Some l)) → IsFirstBad all n
-unread d all line more n told h count none = record {
+-- where no EDID goes on so, a line is bad
+pub bad_by : (d : Draft) (all : List (List ℕ)) (line : List ℕ) (more : List (List ℕ)) (n : ℕ) → AreTold (draft_lines d) → all ≡ map line_text (draft_lines d) ++ line ∷ more
+    → n ≡ length (draft_lines d) + 1 → ((e : Edid) (behind : List (List ℕ)) → Next e (draft_lines d) line behind → ⊥) → IsFirstBad all n
+bad_by d all line more n told h count none = record {
   before = map line_text (draft_lines d);
   after = line ∷ more;
   all = h;
   count = counted (draft_lines d) n count;
   some = some_begins d;
-  none = λ e behind k. let x = next_of e (draft_lines d) line behind told k in clash x.here (none x.here x.formed x.text);
+  none = λ e behind k. none e behind (next_of e (draft_lines d) line behind told k);
 }
+
+-- no line reads so
+pub unread : (ls : List Line) (line : List ℕ) → ((l : Line) → Formed l → line_text l ≡ line → Path (Option Line) None (Some l))
+    → (e : Edid) (behind : List (List ℕ)) → Next e ls line behind → ⊥
+unread ls line none e behind x = clash x.here (none x.here x.formed x.text)
   where
     clash : (l : Line) → Path (Option Line) None (Some l) → ⊥
     clash l h = cc
 
 -- the line that is read may not stand here
-pub misplaced : (d : Draft) (all : List (List ℕ)) (line : List ℕ) (more : List (List ℕ)) (n : ℕ) (l : Line) → AreTold (draft_lines d) → all ≡ map line_text (draft_lines d) ++ line ∷ more
-    → n ≡ length (draft_lines d) + 1 → ((k : Line) → Formed k → line_text k ≡ line → Path (Option Line) (Some l) (Some k)) → (Follows (draft_lines d) l → ⊥) → IsFirstBad all n
-misplaced d all line more n l told h count only not = unread_by d all line more n told h count (λ e behind x.
-    not (e, (x.behind, x.lines ∙ ap (λ k. draft_lines d ++ k ∷ x.behind) (sym (some_same l x.here (only x.here x.formed x.text))))))
-  where
-    unread_by : (d : Draft) (all : List (List ℕ)) (line : List ℕ) (more : List (List ℕ)) (n : ℕ) → AreTold (draft_lines d) → all ≡ map line_text (draft_lines d) ++ line ∷ more
-        → n ≡ length (draft_lines d) + 1 → ((e : Edid) (behind : List (List ℕ)) → Next e (draft_lines d) line behind → ⊥) → IsFirstBad all n
-    unread_by d all line more n told h count none = record {
-      before = map line_text (draft_lines d);
-      after = line ∷ more;
-      all = h;
-      count = counted (draft_lines d) n count;
-      some = some_begins d;
-      none = λ e behind k. none e behind (next_of e (draft_lines d) line behind told k);
-    }
+pub misplaced : (ls : List Line) (line : List ℕ) (l : Line) → ((k : Line) → Formed k → line_text k ≡ line → Path (Option Line) (Some l) (Some k)) → (Follows ls l → ⊥)
+    → (e : Edid) (behind : List (List ℕ)) → Next e ls line behind → ⊥
+misplaced ls line l only not e behind x =
+    not (e, (x.behind, x.lines ∙ ap (λ k. ls ++ k ∷ x.behind) (sym (some_same l x.here (only x.here x.formed x.text)))))
 
-all_told : (e : Edid) (ls : List Line) → AreTold ls → line_texts e ≡ map line_text ls → edid_lines e ≡ ls
+pub all_told : (e : Edid) (ls : List Line) → AreTold ls → line_texts e ≡ map line_text ls → edid_lines e ≡ ls
 all_told e ls told h = let r = told e [] (h ∙ sym (append-nil (map line_text ls))) in go r.rest r.lines r.texts
   where
     go : (rest : List Line) → edid_lines e ≡ ls ++ rest → map line_text rest ≡ [] → edid_lines e ≡ ls
@@ -142,10 +134,6 @@ unfinished d all n told h count none = record {
   some = some_begins d;
   none = λ e k. none e (all_told e (draft_lines d) told k);
 }
-
-pub refused_by : (all : List (List ℕ)) (x : TextError) (n : ℕ) → (x ≡ Syntax n) ⊎ (x ≡ Field n) → IsFirstBad all n → IsRefusal all x
-refused_by all x n (inl h) b = subst (IsRefusal all) (sym h) b
-refused_by all x n (inr h) b = subst (IsRefusal all) (sym h) b
 
 -- an accepted text has no bad line
 pub no_bad : (all : List (List ℕ)) (n : ℕ) → IsFirstBad all n → (e : Edid) → line_texts e ≡ all → ⊥

@@ -1,10 +1,15 @@
 -- The first line at fault: the first that no accepted text has there after the lines before it (own).
-use Rattle.std.specs.Prelude.{◌≡◌, ℕ, ◌+◌, List, [], ◌∷◌, ◌++◌, length, map}
+use Rattle.std.specs.Prelude.{◌≡◌, ℕ, suc, ◌+◌, ◌==◌, true, List, [], ◌∷◌, ◌++◌, length, map, take}
+use Rattle.std.specs.List.{count_by, position_or_len}
+use Rattle.hdmi_edtext.specs.Formed.{form_of}
 use Rattle.hdmi_edtext.specs.Lines.{edid_lines}
-use Rattle.hdmi_edtext.specs.Text.{line_text}
+use Rattle.hdmi_edtext.specs.Text.{word_text, line_text}
+use Rattle.hdmi_edtext.specs.Words.{may_begin, has_words}
 use Rattle.hdmi_edtext.specs.declared.edid.Edid.{Edid}
+use Rattle.hdmi_edtext.specs.declared.line.Word.{Word}
 use Rattle.hdmi_edtext.specs.declared.parse.TextError.{TextError}
 use Rattle.hdmi_edtext.specs.declared.parse.TextError.TheVariants.{Syntax, Field, Memory}
+use Rattle.hdmi_edtext.specs.declared.place.Place.{Place}
 
 -- the lines of an accepted text
 abbrev pub line_texts : Edid → List (List ℕ)
@@ -27,7 +32,44 @@ pub record IsFirstBad (lines : List (List ℕ)) (n : ℕ) : Type 0 where
   pub some : SomeBegins before
   pub none : NoneFollows before after
 
+-- what stands before the first space
+abbrev pub first_word : List ℕ → List ℕ
+first_word front = take (position_or_len (λ c. c == 32) front) front
+
+-- the words, a space between them; a quote and all behind it are one
+abbrev pub word_count : List ℕ → ℕ
+word_count front = suc (count_by (λ c. c == 32) (take (position_or_len (λ c. c == 34) front) front))
+
+-- two lines with a line feed, the same first word and as many words
+pub record AreAlike (line other : List ℕ) : Type 0 where
+  pub front : List ℕ
+  pub other_front : List ℕ
+  pub ended : line ≡ front ++ 10 ∷ []
+  pub other_ended : other ≡ other_front ++ 10 ∷ []
+  pub word : first_word front ≡ first_word other_front
+  pub words : word_count front ≡ word_count other_front
+
+-- an accepted text has a line like this one behind these
+abbrev pub HasAlike : List (List ℕ) → List ℕ → Type 0
+HasAlike before line = (e : Edid) × ((other : List ℕ) × ((more : List (List ℕ)) × ((line_texts e ≡ before ++ other ∷ more) × AreAlike line other)))
+
+-- the line that is at fault, and its number
 abbrev pub IsRefusal : List (List ℕ) → TextError → Type 0
-IsRefusal lines (Syntax n) = IsFirstBad lines n
-IsRefusal lines (Field n) = IsFirstBad lines n
+IsRefusal lines (Syntax n) = (bad : IsFirstBad lines n) × ((line : List ℕ) (more : List (List ℕ)) → bad.after ≡ line ∷ more → HasAlike bad.before line → ⊥)
+IsRefusal lines (Field n) = (bad : IsFirstBad lines n) × ((line : List ℕ) × ((more : List (List ℕ)) × ((bad.after ≡ line ∷ more) × HasAlike bad.before line)))
 IsRefusal lines Memory = ⊥
+
+-- a line whose first word may stand at a place with so many words
+pub record MayStand (place : Place) (line : List ℕ) : Type 0 where
+  pub word : Word
+  pub front : List ℕ
+  pub ended : line ≡ front ++ 10 ∷ []
+  pub first : first_word front ≡ word_text word
+  pub begins : may_begin place word ≡ true
+  pub words : has_words (form_of word) (word_count front) ≡ true
+
+-- a fault by such a line, or by another
+abbrev pub IsFaultAt : Place → List ℕ → ℕ → TextError → Type 0
+IsFaultAt place line n (Syntax k) = (n ≡ k) × (MayStand place line → ⊥)
+IsFaultAt place line n (Field k) = (n ≡ k) × MayStand place line
+IsFaultAt place line n Memory = ⊥

@@ -1,14 +1,15 @@
 //! Reading an EDID's text.
-ghost use Rattle.std.specs.Prelude.{◌≡◌, ◌⊎◌, ◌<◌, ◌+◌, [], ◌∷◌, IfOk, IfErr, IfSome, Ok, MatchOption, length, position, ◌==◌};
+ghost use Rattle.std.specs.Prelude.{◌≡◌, ◌<◌, ◌+◌, [], ◌∷◌, IfOk, IfErr, IfSome, Ok, MatchOption, length, position, ◌==◌};
 ghost use Rattle.hdmi_edtext.specs.Lines.{edid_lines, edid_text};
 ghost use Rattle.hdmi_edtext.specs.Cut.{lines_of};
 ghost use Rattle.hdmi_edtext.specs.declared.edid.Edid.{Edid as EdidValue};
-ghost use Rattle.hdmi_edtext.specs.Refusal.{IsRefusal};
+ghost use Rattle.hdmi_edtext.specs.Refusal.{IsRefusal, IsFaultAt};
 
 use crate::draft::Draft;
 use crate::edid::Edid;
-use crate::place::{Place, may_stand};
-use crate::reading::{read_line, read_word};
+use crate::place::Place;
+use crate::reading::read_line;
+use crate::standing::may_stand;
 use std::alloc::Global;
 use thiserror::Error;
 
@@ -26,36 +27,11 @@ pub enum TextError {
     Memory,
 }
 
-/// How many words a line has. A quote and all after it are one.
-fn count_words(line: &[u8]) -> usize {
-    let mut count = 1usize;
-    for byte in line {
-        if *byte == b'"' {
-            return count;
-        }
-        if *byte == b' ' {
-            count = count.saturating_add(1);
-        }
-    }
-    count
-}
-
-/// Whether an accepted text has a line with the same first word and as many words here.
-fn is_like_a_line(place: Place, line: &[u8]) -> bool {
-    let [front @ .., b'\n'] = line else {
-        return false;
-    };
-    match read_word(front) {
-        None => false,
-        Some(word) => may_stand(place, word, count_words(front)),
-    }
-}
-
 /// The fault of a line that no accepted text has here.
 fn fault(place: Place, line: &[u8], number: usize) -> TextError
-    ensures { (result ≡ TextError.Syntax number) ⊎ (result ≡ TextError.Field number) }
+    ensures { IsFaultAt place line.now number result }
 {
-    if is_like_a_line(place, line) {
+    if may_stand(place, line) {
         TextError::Field(number)
     } else {
         TextError::Syntax(number)

@@ -17,7 +17,7 @@ use arrayvec::ArrayVec;
 use hdmi_cta::Phys;
 
 /// Where the first space stands.
-fn space_in(text: &[u8]) -> Option<usize>
+pub fn space_in(text: &[u8]) -> Option<usize>
     ensures { result ≡ position (λ b. b == 32) text.now }
 {
     text.iter().position(|byte| *byte == b' ')
@@ -219,8 +219,9 @@ fn read_fields(form: Form, text: &[u8]) -> Option<Fields>
 }
 
 /// The word that a text is.
-fn word_of(text: &[u8]) -> Option<Word>
-    ensures { (w : WordValue) → word_text w ≡ text.now → result ≡ Some w }
+pub fn word_of(text: &[u8]) -> Option<Word>
+    ensures found { IfSome result (λ w. word_text w ≡ text.now) }
+    ensures only { (w : WordValue) → word_text w ≡ text.now → result ≡ Some w }
 {
     for word in WORDS {
         if word.text().as_bytes() == text {
@@ -228,12 +229,6 @@ fn word_of(text: &[u8]) -> Option<Word>
         }
     }
     None
-}
-
-/// The first word of a line.
-pub fn read_word(front: &[u8]) -> Option<Word> {
-    let (word, _) = next_word(front);
-    word_of(word)
 }
 
 /// The line that a text may spell.

@@ -6,6 +6,7 @@ ghost use Rattle.hdmi_cta.specs.declared.raw.RawExt.{RawExt as RawValue};
 ghost use Rattle.hdmi_edtext.specs.Drafts.{draft_lines, Follows, BlockFits, TimingFits, TailFits};
 ghost use Rattle.hdmi_edtext.specs.Lines.{block_line, timing_line, bytes_line, base_lines, ext_lines, edid_lines};
 ghost use Rattle.hdmi_edtext.specs.Tails.{padded, fills, ends};
+ghost use Rattle.hdmi_edtext.specs.Words.{place_of};
 ghost use Rattle.hdmi_edtext.specs.declared.edid.Edid.{Edid as EdidValue};
 
 use crate::base_steps::{blank, put_base};
@@ -242,7 +243,9 @@ impl Draft {
     }
 
     /// Where the next line stands.
-    pub fn place(&self) -> Place {
+    pub fn place(&self) -> Place
+        ensures { result ≡ place_of self.now }
+    {
         match self {
             Draft::Begun(begun) => Place::InBase(begun.number),
             Draft::Whole(_) => Place::AtExt,

@@ -1,8 +1,7 @@
-use Rattle.std.proofs.Common.{◌≡◌, ◌+◌, ◌*◌, ◌%◌, ℕ, length, get_or, take, drop, sum, refl, inl, inr, Some, None, arith, sym, ◌∙◌, ap}
+use Rattle.std.proofs.Common.{◌≡◌, ◌%◌, length, take, drop, sum, refl, inl, inr, arith, sym, ◌∙◌, ap}
 use Rattle.hdmi_edid.specs.Base.{base_bytes}
 use Rattle.hdmi_edid.specs.Refusals.{refusal}
 use Rattle.hdmi_edid.proofs.Accepted.{accepted}
-use Rattle.hdmi_cta.specs.Ext.{ext_bytes}
 use Rattle.hdmi_edtext.specs.Bytes.{HasLength, HasCount}
 use Rattle.hdmi_edtext.proofs.OneEdid.{count_read, one_block, two_blocks, second_sum}
 use Rattle.hdmi_edtext.proofs.bytes.read_blocks.Goals as goal

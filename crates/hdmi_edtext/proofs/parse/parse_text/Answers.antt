@@ -1,8 +1,10 @@
-use Rattle.std.proofs.Common.{◌++◌, length, map, Ok, ap, sym, ◌∙◌, arith}
+use Rattle.std.proofs.Common.{◌++◌, length, map, Ok, ap, subst, sym, ◌∙◌, arith}
 use Rattle.hdmi_edtext.specs.Cut.{lines_of}
 use Rattle.hdmi_edtext.specs.Drafts.{draft_lines}
+use Rattle.hdmi_edtext.specs.Refusal.{IsFaultAt}
 use Rattle.hdmi_edtext.specs.Text.{line_text}
-use Rattle.hdmi_edtext.proofs.FirstBad.{no_lines_told, unread, misplaced, unfinished, refused_by, lines_so, count_so, one_more_told, few_told, no_bad, cut_again, found_text, only_one}
+use Rattle.hdmi_edtext.proofs.Alike.{refusal, refusal_at_end}
+use Rattle.hdmi_edtext.proofs.FirstBad.{no_lines_told, bad_by, unread, misplaced, unfinished, lines_so, count_so, one_more_told, few_told, no_bad, cut_again, found_text, only_one}
 use Rattle.hdmi_edtext.proofs.parse.parse_text.Goals as goal
 
 pub loop-line-init : goal.loop-line-init
@@ -20,35 +22,47 @@ pub returns-in_default-read_line-clause-only : goal.returns-in_default-read_line
 returns-in_default-read_line-clause-only c =
     let i = c.loop-line.invariant in
     let d = c.loop-line.draft in
+    let all = lines_of c.args.text.now in
+    let line = c.in-Some.line.now in
+    let more = lines_of c.in-Some.more.now in
     let lines = i.lines ∙ ap (λ x. map line_text (draft_lines d) ++ x) c.in-Some.ensures.lines in
-    let bad = unread d (lines_of c.args.text.now) c.in-Some.line.now (lines_of c.in-Some.more.now) c.loop-line.number i.told lines i.count c.in_default-read_line.ensures.only in
-    λ e h. absurd (no_bad (lines_of c.args.text.now) c.loop-line.number bad e (cut_again e c.args.text.now h))
+    let none = unread (draft_lines d) c.in-Some.line.now c.in_default-read_line.ensures.only in
+    λ e h. absurd (no_bad all c.loop-line.number (bad_by d all line more c.loop-line.number i.told lines i.count none) e (cut_again e c.args.text.now h))
 
 pub returns-in_default-read_line-clause-refused : goal.returns-in_default-read_line-clause-refused
 returns-in_default-read_line-clause-refused c =
     let i = c.loop-line.invariant in
     let d = c.loop-line.draft in
+    let all = lines_of c.args.text.now in
+    let line = c.in-Some.line.now in
+    let more = lines_of c.in-Some.more.now in
     let lines = i.lines ∙ ap (λ x. map line_text (draft_lines d) ++ x) c.in-Some.ensures.lines in
-    let bad = unread d (lines_of c.args.text.now) c.in-Some.line.now (lines_of c.in-Some.more.now) c.loop-line.number i.told lines i.count c.in_default-read_line.ensures.only in
-    refused_by (lines_of c.args.text.now) c.fault.result c.loop-line.number c.fault.ensures bad
+    let none = unread (draft_lines d) c.in-Some.line.now c.in_default-read_line.ensures.only in
+    let at = subst (λ p. IsFaultAt p line c.loop-line.number c.fault.result) c.place-place.ensures c.fault.ensures in
+    refusal d all line more c.loop-line.number c.fault.result i.told lines i.count none at
 
 pub returns-in_default-put-clause-only : goal.returns-in_default-put-clause-only
 returns-in_default-put-clause-only c =
     let i = c.loop-line.invariant in
     let d = c.loop-line.draft in
+    let all = lines_of c.args.text.now in
+    let line = c.in-Some.line.now in
+    let more = lines_of c.in-Some.more.now in
     let lines = i.lines ∙ ap (λ x. map line_text (draft_lines d) ++ x) c.in-Some.ensures.lines in
-    let bad = misplaced d (lines_of c.args.text.now) c.in-Some.line.now (lines_of c.in-Some.more.now) c.loop-line.number c.in-Some-read_line.read i.told lines i.count
-    c.in-Some-read_line.ensures.only c.in_default-put.ensures in
-    λ e h. absurd (no_bad (lines_of c.args.text.now) c.loop-line.number bad e (cut_again e c.args.text.now h))
+    let none = misplaced (draft_lines d) c.in-Some.line.now c.in-Some-read_line.read c.in-Some-read_line.ensures.only c.in_default-put.ensures in
+    λ e h. absurd (no_bad all c.loop-line.number (bad_by d all line more c.loop-line.number i.told lines i.count none) e (cut_again e c.args.text.now h))
 
 pub returns-in_default-put-clause-refused : goal.returns-in_default-put-clause-refused
 returns-in_default-put-clause-refused c =
     let i = c.loop-line.invariant in
     let d = c.loop-line.draft in
+    let all = lines_of c.args.text.now in
+    let line = c.in-Some.line.now in
+    let more = lines_of c.in-Some.more.now in
     let lines = i.lines ∙ ap (λ x. map line_text (draft_lines d) ++ x) c.in-Some.ensures.lines in
-    let bad = misplaced d (lines_of c.args.text.now) c.in-Some.line.now (lines_of c.in-Some.more.now) c.loop-line.number c.in-Some-read_line.read i.told lines i.count
-    c.in-Some-read_line.ensures.only c.in_default-put.ensures in
-    refused_by (lines_of c.args.text.now) c.fault-in_default-put.result c.loop-line.number c.fault-in_default-put.ensures bad
+    let none = misplaced (draft_lines d) c.in-Some.line.now c.in-Some-read_line.read c.in-Some-read_line.ensures.only c.in_default-put.ensures in
+    let at = subst (λ p. IsFaultAt p line c.loop-line.number c.fault-in_default-put.result) c.place-place.ensures c.fault-in_default-put.ensures in
+    refusal d all line more c.loop-line.number c.fault-in_default-put.result i.told lines i.count none at
 
 pub loop-line-preserved : goal.loop-line-preserved
 loop-line-preserved c =
@@ -92,4 +106,4 @@ returns-in-None-clause-refused c =
     let i = c.loop-line.invariant in
     let d = c.loop-line.draft in
     let lines = i.lines ∙ ap (λ x. map line_text (draft_lines d) ++ x) c.in_default.ensures.lines in
-    unfinished d (lines_of c.args.text.now) c.loop-line.number i.told lines i.count c.in-None.ensures
+    refusal_at_end d (lines_of c.args.text.now) c.loop-line.number i.told lines i.count c.in-None.ensures

@@ -1,0 +1,78 @@
+//! Which lines may stand somewhere, by their words.
+ghost use Rattle.std.specs.Prelude.{◌≡◌, ◌+◌, ◌-◌, ◌<◌, ◌≤◌, ◌^◌, ◌==◌, Some, true, IfSome, MatchBool, length, position, take};
+ghost use Rattle.std.specs.List.{count_by, position_or_len};
+ghost use Rattle.hdmi_edtext.specs.Refusal.{first_word, word_count, MayStand};
+ghost use Rattle.hdmi_edtext.specs.Text.{word_text};
+ghost use Rattle.hdmi_edtext.specs.declared.line.Word.{Word as WordValue};
+
+use crate::line::Word;
+use crate::place::{Place, has_words, may_begin};
+use crate::reading::{space_in, word_of};
+
+/// What stands before the first space.
+fn first_word(front: &[u8]) -> &[u8]
+    ensures { result.now ≡ first_word front.now }
+{
+    match space_in(front) {
+        None => front,
+        Some(end) => &front[..end],
+    }
+}
+
+/// The first word of a line.
+fn read_word(front: &[u8]) -> Option<Word>
+    ensures found { IfSome result (λ w. word_text w ≡ first_word front.now) }
+    ensures only { (w : WordValue) → word_text w ≡ first_word front.now → result ≡ Some w }
+{
+    word_of(first_word(front))
+}
+
+/// Where the first quote stands.
+fn quote_in(text: &[u8]) -> Option<usize>
+    ensures { result ≡ position (λ b. b == 34) text.now }
+{
+    text.iter().position(|byte| *byte == b'"')
+}
+
+/// What stands before the first quote.
+fn before_quote(text: &[u8]) -> &[u8]
+    ensures { result.now ≡ take (position_or_len (λ b. b == 34) text.now) text.now }
+{
+    match quote_in(text) {
+        None => text,
+        Some(end) => &text[..end],
+    }
+}
+
+/// How many spaces there are.
+fn count_spaces(text: &[u8]) -> usize
+    ensures count { result ≡ count_by (λ b. b == 32) text.now }
+    ensures most { result ≤ length text.now }
+{
+    text.iter().filter(|byte| **byte == b' ').count()
+}
+
+/// How many words a line has. A quote and all behind it are one.
+fn count_words(front: &[u8]) -> usize
+    requires { length front.now + 1 < 2 ^ 64 }
+    ensures { result ≡ word_count front.now }
+{
+    count_spaces(before_quote(front)) + 1
+}
+
+/// Whether an accepted text can have a line here with the same first word and as many words.
+pub fn may_stand(place: Place, line: &[u8]) -> bool
+    ensures { MatchBool result (MayStand place line.now) (MayStand place line.now → ⊥) }
+{
+    if line.is_empty() || line[line.len() - 1] != b'\n' {
+        return false;
+    }
+    let front = &line[..line.len() - 1];
+    let Some(word) = read_word(front) else {
+        return false;
+    };
+    if !may_begin(place, word) {
+        return false;
+    }
+    has_words(word.form(), count_words(front))
+}
