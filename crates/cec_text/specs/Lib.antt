@@ -6,3 +6,4 @@ pub mod FrameReading
 pub mod Refusals
 pub mod Lines
 pub mod FrameLines
+pub mod Agreement

@@ -1,5 +1,6 @@
 //! What holds of every frame and its text.
 ghost use Rattle.std.specs.Prelude.{◌≡◌, IsTrue};
+ghost use Rattle.cec_text.specs.Agreement.{TablesAgree};
 ghost use Rattle.cec_text.specs.FrameReading.{are_bytes, is_frame};
 ghost use Rattle.cec_text.specs.FrameText.{frame_text};
 
@@ -29,3 +30,8 @@ pub fn one_frame_a_text(first: &Frame, second: &Frame)
     frames_are_whole(second);
     let _only = candidate(&frame_text(first));
 }
+
+/// The tables of texts have the rows of the opcode table, and words for the bytes that its sets list.
+pub fn tables_agree()
+    ensures { TablesAgree }
+{}

@@ -14,7 +14,7 @@ mod spelling;
 
 pub use assembler::{AssembleError, assemble};
 pub use frame_lines::{FrameLinesError, LineFault, asm_lines};
-pub use laws::{frames_are_whole, one_frame_a_text};
+pub use laws::{frames_are_whole, one_frame_a_text, tables_agree};
 pub use lines::{first_line, is_skipped};
 pub use operand_words::WordSet;
 pub use spelling::{frame_text, write_frame};
