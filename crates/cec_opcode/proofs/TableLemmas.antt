@@ -1,5 +1,5 @@
 -- A message is read back from its spelling.
-use Rattle.std.proofs.Common.{◌≡◌, ℕ, ◌<◌, Bool, true, false, cond, refl, sym, ap, ◌∙◌, subst, arith, List, [], ◌∷◌, Option, Some, None, find, is_some, ◌==◌}
+use Rattle.std.proofs.Common.{◌≡◌, ℕ, ◌<◌, Bool, true, false, cond, refl, ap, ◌∙◌, subst, arith, List, [], ◌∷◌, Option, Some, None, find, is_some, ◌==◌}
 use borrow.Author.Tests.{tests}
 use Rattle.std.specs.Coded.{le_prop}
 use Rattle.cec_opcode.proofs.WordLemmas.{reason_again, power_again, system_audio_again, device_type_again, version_again, status_request_again, deck_info_again, play_mode_again, deck_control_again, display_again, menu_request_again, menu_state_again, user_control_again}

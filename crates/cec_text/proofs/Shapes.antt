@@ -1,9 +1,8 @@
 -- What the words of operands never look like: they stand behind a space, and do not begin with a colon.
-use Rattle.std.proofs.Common.{◌≡◌, ℕ, ◌<◌, ◌≤◌, ◌+◌, ◌*◌, ◌/◌, ◌%◌, ◌==◌, ◌&&◌, not, Bool, true, false, cond, nat_le, List, [], ◌∷◌, ◌++◌, length, Option, Some, None, option_map, unwrap_or, slice_index, take, drop, codes, refl, sym, ap, ◌∙◌, arith, decimal, subst}
-use Rattle.std.specs.List.{list_all, flat_map, position_or_len}
+use Rattle.std.proofs.Common.{◌≡◌, ℕ, ◌≤◌, ◌/◌, ◌%◌, ◌==◌, ◌&&◌, not, Bool, true, false, cond, nat_le, List, [], ◌∷◌, ◌++◌, length, Option, Some, None, unwrap_or, slice_index, take, drop, codes, refl, sym, ap, ◌∙◌, arith, decimal}
+use Rattle.std.specs.List.{list_all, flat_map}
 use Rattle.std.proofs.lemmas.Bool.Decides.{nat_tests}
-use borrow.Author.Tests.{tests}
-use Rattle.hdmi_cta.specs.Piece.{nibble_text, hex_text, phys_text}
+use Rattle.hdmi_cta.specs.Piece.{nibble_text, hex_text}
 use Rattle.cec_text.proofs.Finding.{and_left, and_right}
 use Rattle.cec_text.proofs.WordLemmas.{plain_word, is_plain_word}
 use Rattle.std.proofs.lemmas.List.{take_all}

@@ -1,11 +1,11 @@
 -- What each text's parts say again.
-use Rattle.std.proofs.Common.{◌≡◌, ℕ, ◌<◌, ◌≤◌, ◌+◌, ◌-◌, ◌*◌, ◌/◌, ◌%◌, ◌==◌, ◌&&◌, not, Bool, true, false, cond, nat_lt, nat_le, List, [], ◌∷◌, ◌++◌, length, Option, Some, None, option_map, unwrap_or, slice_index, take, drop, codes, refl, sym, ap, ◌∙◌, arith, decimal}
+use Rattle.std.proofs.Common.{◌≡◌, ℕ, ◌<◌, ◌≤◌, ◌+◌, ◌-◌, ◌*◌, ◌/◌, ◌%◌, ◌==◌, not, Bool, true, false, cond, nat_lt, nat_le, List, [], ◌∷◌, ◌++◌, length, Option, Some, None, option_map, slice_index, take, drop, codes, refl, sym, ap, arith, decimal}
 use Rattle.std.specs.List.{list_all, flat_map, position_or_len}
 use Rattle.std.proofs.lemmas.Bool.Decides.{nat_tests}
-use borrow.Author.Tests.{tests, ltb-true}
+use borrow.Author.Tests.{ltb-true}
 use Rattle.std.proofs.lemmas.Grind.{common_steps}
 use Rattle.std.proofs.lemmas.Fmt.{decimal_digit}
-use Rattle.hdmi_cta.specs.Piece.{nibble_text, hex_text, phys_text}
+use Rattle.hdmi_cta.specs.Piece.{hex_text}
 use Rattle.cec_text.proofs.Finding.{and_left, and_right}
 use Rattle.cec_text.proofs.VolumeLemmas.{decimal_two, decimal_hundred}
 use Rattle.cec_text.specs.FrameReading.{are_bytes, digit_value, hex_at, hex_bytes, small_number, within_quotes}

@@ -1,10 +1,9 @@
 -- A frame's text is cut into its parts again.
-use Rattle.std.proofs.Common.{◌≡◌, ℕ, ◌<◌, ◌≤◌, ◌+◌, ◌*◌, ◌/◌, ◌%◌, ◌==◌, ◌&&◌, not, Bool, true, false, cond, nat_lt, nat_le, List, [], ◌∷◌, ◌++◌, length, Option, Some, None, unwrap_or, slice_index, take, drop, codes, refl, sym, ap, ◌∙◌, arith, subst}
+use Rattle.std.proofs.Common.{◌≡◌, ℕ, ◌<◌, ◌≤◌, ◌+◌, ◌/◌, ◌%◌, ◌==◌, ◌&&◌, not, Bool, true, false, cond, nat_lt, nat_le, List, [], ◌∷◌, ◌++◌, length, Option, Some, None, unwrap_or, slice_index, take, drop, codes, refl, sym, ap, ◌∙◌, arith}
 use Rattle.std.specs.List.{list_all, position_or_len}
 use Rattle.std.proofs.lemmas.Bool.Decides.{nat_tests}
 use Rattle.std.proofs.lemmas.Bool.{false≢true}
-use borrow.Author.Tests.{tests}
-use Rattle.hdmi_cta.specs.Piece.{nibble_text, hex_text}
+use Rattle.hdmi_cta.specs.Piece.{hex_text}
 use Rattle.cec_opcode.specs.Table.{name_of}
 use Rattle.cec_text.proofs.Finding.{and_left, and_right}
 use Rattle.cec_text.proofs.NameLemmas.{one_named, plain_name, is_plain_name}

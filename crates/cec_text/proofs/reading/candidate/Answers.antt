@@ -1,6 +1,5 @@
-use Rattle.std.proofs.Common.{◌≡◌, ◌<◌, ◌≤◌, ◌∷◌, ℕ, List, Some, take, drop, length, refl, sym, ap, ◌∙◌, arith}
-use Rattle.cec_text.specs.FrameText.{opcode_text, operands_text}
-use Rattle.cec_text.specs.FrameReading.{hex_at}
+use Rattle.std.proofs.Common.{◌≡◌, ◌≤◌, ◌∷◌, Some, take, drop, length, refl, sym, ap, ◌∙◌, arith}
+use Rattle.cec_text.specs.FrameText.{operands_text}
 use Rattle.cec_text.proofs.Whole.{first_len, named_again, command_again}
 use Rattle.cec_text.proofs.reading.candidate.Goals as goal
 

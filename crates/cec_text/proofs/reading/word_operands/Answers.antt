@@ -1,6 +1,5 @@
-use Rattle.std.proofs.Common.{◌≡◌, ◌∷◌, [], List, ℕ, Some, sym, ap, ◌∙◌, arith, drop}
+use Rattle.std.proofs.Common.{◌≡◌, Some, sym, ap, ◌∙◌, arith}
 use Rattle.cec_text.proofs.Spelled.{vendor_again, two_addresses_again, typed_again}
-use Rattle.cec_text.specs.FrameReading.{hex_at}
 use Rattle.cec_text.specs.FrameText.{operand_words, vendor_words, two_address_words, typed_address_words}
 use Rattle.cec_text.proofs.reading.word_operands.Goals as goal
 
