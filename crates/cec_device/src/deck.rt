@@ -1,4 +1,4 @@
-//! What a deck and its menu do (CEC 13.4 and 13.12).
+//! What a deck and its menu do (CEC 13.7 and 13.12).
 ghost use Rattle.std.specs.Prelude.{◌≡◌};
 ghost use Rattle.cec_device.specs.Say.{effected, say_all};
 ghost use Rattle.cec_device.specs.Effects.{controlled, deck_asked, menu_asked, menu_told, mode_deck, notice_of, plays, turned, wound};

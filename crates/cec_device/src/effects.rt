@@ -267,7 +267,7 @@ impl<const Q: usize> Device<Q> {
         }
     }
 
-    // Shows a text on the screen, or none (CEC 13.11).
+    // Shows a text on the screen, or none (CEC 13.10).
     fn show(&mut self, heard: Heard, display: Display, text: &ArrayVec<u8, 16>)
         ensures { self.new ≡ effected Q heard (shown self.old.record_of display text.now) self.old }
     {
