@@ -131,6 +131,27 @@ fn names_the_line_at_fault(rt: HostRuntime) -> Result<(), Fail> {
 }
 
 #[test]
+fn tells_wrong_fields_from_wrong_lines(rt: HostRuntime) -> Result<(), Fail> {
+    let name = "name \"LOUNGE TV 001\"";
+    let changes = [
+        ("edid 1.3", "edid 1.5", TextError::Field(1)),
+        ("edid 1.3", "Edid 1.3", TextError::Syntax(1)),
+        ("made 10 2011", "made 010 2011", TextError::Field(5)),
+        ("standard unused", "standard 640 0", TextError::Syntax(12)),
+        ("standard unused", "standard 640 4 60", TextError::Field(12)),
+        (name, "name \"A\" B\"", TextError::Field(21)),
+        (name, "name A B", TextError::Syntax(21)),
+        (name, "dummy -", TextError::Syntax(21)),
+        ("cta f1", "cta f1f1", TextError::Field(24)),
+        ("cta f1", "tail -", TextError::Syntax(24)),
+    ];
+    for (from, to, fault) in changes {
+        assert_eq!(rt; refusal_of(&rt, from, to)?, Some(fault));
+    }
+    Ok(())
+}
+
+#[test]
 fn names_the_block_line_at_fault(rt: HostRuntime) -> Result<(), Fail> {
     let raw = "raw 000000fc004c4f554e474520545620303031";
     assert_eq!(rt;
