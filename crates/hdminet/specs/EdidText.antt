@@ -8,6 +8,8 @@ use Rattle.hdmi_edtext.specs.Lines.{edid_text}
 use Rattle.hdmi_edtext.specs.declared.edid.Edid.{Edid as EdidValue}
 use Rattle.hdmi_edtext.specs.declared.parse.TextError.{TextError}
 use Rattle.hdmi_edtext.specs.declared.parse.TextError.TheVariants as texts
+use Rattle.hdmi_edtext.specs.Cut.{lines_of}
+use Rattle.hdmi_edtext.specs.Refusal.{IsRefusal}
 use Rattle.hdminet.specs.declared.edid_text.EdidToTextError.{EdidToTextError}
 use Rattle.hdminet.specs.declared.edid_text.EdidToTextError.TheVariants.{Edid, Write}
 use Rattle.hdminet.specs.declared.edid_text.TextToHexError.{TextToHexError}
@@ -41,13 +43,14 @@ text_told (texts.Syntax line) = hex.Syntax line
 text_told (texts.Field line) = hex.Field line
 text_told texts.Memory = hex.Memory
 
--- The text is an EDID's, whose bytes are written in hex, the whole line or its front; else nothing is written.
+-- The text is an EDID's, whose bytes are written in hex, the whole line or its front; or it is none, for its first
+-- line at fault, and nothing is written. Reading a text takes no memory.
 abbrev pub HexAnswers : Option (List ℕ) → Option (List ℕ) → Bool → Bool → List ℕ → Result (Unit {0}) TextToHexError → Type 0
 HexAnswers old new was is text (Ok done) = (e : EdidValue) × (edid_text e ≡ text) × Appends old new (hex_line (edid_bytes e)) × (is ≡ was)
 HexAnswers old new was is text (Err (hex.Write count)) = (e : EdidValue) × (edid_text e ≡ text) × IsCutAt old new is (hex_line (edid_bytes e)) count
-HexAnswers old new was is text (Err (hex.Syntax number)) = (new ≡ old) × (is ≡ was)
-HexAnswers old new was is text (Err (hex.Field number)) = (new ≡ old) × (is ≡ was)
-HexAnswers old new was is text (Err hex.Memory) = (new ≡ old) × (is ≡ was)
+HexAnswers old new was is text (Err (hex.Syntax number)) = IsRefusal (lines_of text) (texts.Syntax number) × (new ≡ old) × (is ≡ was)
+HexAnswers old new was is text (Err (hex.Field number)) = IsRefusal (lines_of text) (texts.Field number) × (new ≡ old) × (is ≡ was)
+HexAnswers old new was is text (Err hex.Memory) = ⊥
 
 abbrev pub is_hex_cut : Result (Unit {0}) TextToHexError → Bool
 is_hex_cut (Err (hex.Write count)) = true
