@@ -4,12 +4,12 @@ use Rattle.std.specs.Io.KnownBytes.{Appends}
 use Rattle.std.specs.List.{flat_map}
 use Rattle.hdmi_cta.specs.Piece.{hex_text}
 use Rattle.hdmi_edtext.specs.Bytes.{edid_bytes, IsRefused}
+use Rattle.hdmi_edtext.specs.Cut.{lines_of}
 use Rattle.hdmi_edtext.specs.Lines.{edid_text}
+use Rattle.hdmi_edtext.specs.Refusal.{IsRefusal}
 use Rattle.hdmi_edtext.specs.declared.edid.Edid.{Edid as EdidValue}
 use Rattle.hdmi_edtext.specs.declared.parse.TextError.{TextError}
 use Rattle.hdmi_edtext.specs.declared.parse.TextError.TheVariants as texts
-use Rattle.hdmi_edtext.specs.Cut.{lines_of}
-use Rattle.hdmi_edtext.specs.Refusal.{IsRefusal}
 use Rattle.hdminet.specs.declared.edid_text.EdidToTextError.{EdidToTextError}
 use Rattle.hdminet.specs.declared.edid_text.EdidToTextError.TheVariants.{Edid, Write}
 use Rattle.hdminet.specs.declared.edid_text.TextToHexError.{TextToHexError}
@@ -43,13 +43,17 @@ text_told (texts.Syntax line) = hex.Syntax line
 text_told (texts.Field line) = hex.Field line
 text_told texts.Memory = hex.Memory
 
--- The text is an EDID's, whose bytes are written in hex, the whole line or its front; or it is none, for its first
--- line at fault, and nothing is written. Reading a text takes no memory.
+-- the text is no EDID's, for its first line at fault
+abbrev pub IsNoText : List ℕ → TextError → Type 0
+IsNoText text cause = IsRefusal (lines_of text) cause × ((e : EdidValue) → edid_text e ≡ text → ⊥)
+
+-- The text is an EDID's, whose bytes are written in hex, the whole line or its front; or it is none, and nothing is
+-- written. Reading a text takes no memory.
 abbrev pub HexAnswers : Option (List ℕ) → Option (List ℕ) → Bool → Bool → List ℕ → Result (Unit {0}) TextToHexError → Type 0
 HexAnswers old new was is text (Ok done) = (e : EdidValue) × (edid_text e ≡ text) × Appends old new (hex_line (edid_bytes e)) × (is ≡ was)
 HexAnswers old new was is text (Err (hex.Write count)) = (e : EdidValue) × (edid_text e ≡ text) × IsCutAt old new is (hex_line (edid_bytes e)) count
-HexAnswers old new was is text (Err (hex.Syntax number)) = IsRefusal (lines_of text) (texts.Syntax number) × (new ≡ old) × (is ≡ was)
-HexAnswers old new was is text (Err (hex.Field number)) = IsRefusal (lines_of text) (texts.Field number) × (new ≡ old) × (is ≡ was)
+HexAnswers old new was is text (Err (hex.Syntax number)) = IsNoText text (texts.Syntax number) × (new ≡ old) × (is ≡ was)
+HexAnswers old new was is text (Err (hex.Field number)) = IsNoText text (texts.Field number) × (new ≡ old) × (is ≡ was)
 HexAnswers old new was is text (Err hex.Memory) = ⊥
 
 abbrev pub is_hex_cut : Result (Unit {0}) TextToHexError → Bool

@@ -90,8 +90,9 @@ fn write_hex_line<S: Sink>(bytes: &[u8], out: &mut S) -> Result<u128, WriteFault
 ///
 /// # Errors
 ///
-/// `Syntax` or `Field` with the first line that no EDID's text has there, and want of memory: then nothing was
-/// written. `Write` where the sink takes no more: then the front of the line was written, as long as it tells.
+/// `Syntax` or `Field` with the first line that no EDID's text has there: then nothing was written. `Write` where the
+/// sink takes no more: then the front of the line was written, as long as it tells. Nothing takes memory today, so
+/// `Memory` does not come.
 pub fn text_to_hex<S: Sink>(alloc: Global, text: &[u8], out: &mut S) -> Result<(), TextToHexError>
     ensures answers { HexAnswers (S.contents out.old) (S.contents out.new) (S.is_stuck out.old) (S.is_stuck out.new) text.now result }
     ensures write { S.is_stuck out.old ≡ false → (IsTrue (is_hex_cut result) ↔ IsTrue (S.is_stuck out.new)) }
