@@ -1,2 +1,3 @@
 pub mod Bus
 pub mod Learn
+pub mod Ports

@@ -3,10 +3,12 @@
 
 mod ddc;
 mod error;
+mod laws;
 mod learn;
 #[cfg(test)]
 mod tests;
 
 pub use ddc::Ddc;
 pub use error::DdcError;
+pub use laws::ports_tell_places;
 pub use learn::learn_address;

@@ -1,7 +1,8 @@
 //! A television's two blocks, read over DDC.
 use crate::{Ddc, DdcError, learn_address};
-use hdmi_cta::{ExtError, Phys};
+use hdmi_cta::{ExtError, Kind, Phys};
 use hdmi_edtext::{EdidError, edid_from_bytes};
+use hdmi_topo::Tree;
 use std::test::Fail;
 
 /// The base block of a television of Samsung, with one extension to follow.
@@ -63,6 +64,20 @@ fn learns_an_address(rt: HostRuntime) -> Result<(), Fail> {
     bytes[255] = 0xc7;
     let mut ddc = Ddc::over(&bytes)?;
     assert_eq!(rt; learn_address(&mut ddc), Ok(Phys { high: 0x21, low: 0 }));
+    Ok(())
+}
+
+#[test]
+fn learns_its_place_from_a_port(rt: HostRuntime) -> Result<(), Fail> {
+    let root = edid_from_bytes(&both_blocks()).map_err(|_| "no EDID")?;
+    let mut tree: Tree<15> = Tree::new();
+    tree.add(b"tv", Kind::Tv, 4)?;
+    tree.add(b"amp", Kind::Amp, 3)?;
+    assert_eq!(rt; tree.count(), 2);
+    tree.plug(1, 0, 2)?;
+    let passed = tree.port_edid(&root, 1, 3)?;
+    let mut ddc = Ddc::new(&passed);
+    assert_eq!(rt; learn_address(&mut ddc), Ok(Phys { high: 0x23, low: 0 }));
     Ok(())
 }
 
