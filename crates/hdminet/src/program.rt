@@ -1,12 +1,10 @@
 //! The program over a reader and two sinks.
-ghost use Rattle.std.specs.Prelude.{◌<◌, length, IfSome};
-
 use crate::choice::{Choice, choose, is_memory};
 use crate::edid_text::{edid_to_text, text_to_hex};
 use crate::emulate::emulate;
 use crate::fault::Fault;
 use arrayvec::ArrayString;
-use cec_text::asm_lines;
+use cec_text::{asm_lines, first_line};
 use clap::Error as CommandLineError;
 use hdmi_cta::{Sink, put_all};
 use std::alloc::{AllocError, Global};
@@ -31,19 +29,6 @@ fn read_input<R: Read>(alloc: Global, input: &mut R) -> Result<Vec<u8>, Fault> {
         }
     }
     Err(Fault::TooLong)
-}
-
-// The first line, and the text after it.
-fn first_line(text: &[u8]) -> Option<(&[u8], &[u8])>
-    ensures { IfSome result (λ parts. length parts.1.now < length text.now) }
-{
-    if text.is_empty() {
-        return None;
-    }
-    match text.iter().position(|byte| *byte == b'\n') {
-        None => Some((text, &[])),
-        Some(end) => Some((&text[..end], &text[end + 1..])),
-    }
 }
 
 // The text before the first line `script`, and the text after it.
