@@ -77,8 +77,8 @@ impl From<EdidCause> for EmulateError {
 /// # Errors
 ///
 /// The first line of the topology, and then of the script, that is at fault, and its cause; then the cause for
-/// which the topology's EDID is refused; want of memory: then nothing was written. A failed write: then the front of the trace was written, as long as it
-/// tells.
+/// which the topology's EDID is refused; want of memory: then nothing was written. A failed write: then the front
+/// of the trace was written, as long as it tells.
 pub fn emulate<S: Sink>(
     alloc: Global,
     topology: &[u8],
