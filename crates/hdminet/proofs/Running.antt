@@ -2,15 +2,15 @@
 use Rattle.std.proofs.Common.{◌≡◌, ℕ, suc, ◌+◌, ◌<◌, List, [], ◌∷◌, ◌++◌, length, take, Option, ◌∙◌, sym, refl, subst, append-nil, arith}
 use Rattle.std.specs.List.{flat_map}
 use Rattle.std.specs.Io.KnownBytes.{Appends}
-use Rattle.hdmi_cta.specs.declared.sink.WriteFault.{WriteFault}
-use Rattle.hdmi_cta.proofs.CutShort.{Appends-trans}
+use Rattle.hdmi_core.specs.declared.sink.WriteFault.{WriteFault}
+use Rattle.hdmi_core.proofs.CutShort.{Appends-trans}
 use Rattle.cec_asm.specs.declared.script.TimedEvent.{TimedEvent}
 use Rattle.cec_net.specs.State.{NetState}
 use Rattle.cec_net.specs.Apply.{applied, event_fault}
 use Rattle.hdminet.specs.declared.run.Totals.{Totals}
 use Rattle.hdminet.specs.declared.run.Turn.TheVariants.{Stop, Apply, Round}
 use Rattle.hdminet.specs.Cut.{CutOff, told_count}
-use Rattle.hdmi_edtext.specs.declared.edid.Edid.{Edid}
+use Rattle.hdmi_blocks.specs.declared.edid.Edid.{Edid}
 use Rattle.hdminet.specs.StateText.{state_line}
 use Rattle.hdminet.specs.TraceText.{end_line}
 use Rattle.hdminet.specs.Run.{Config, turn_at, turn_of, first_time, counted_event, IsTurnBy, IsTurn, IsRoundTurn, Leads, IsTraceFrom, event_text}

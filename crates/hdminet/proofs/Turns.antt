@@ -10,7 +10,7 @@ use Rattle.hdminet.specs.declared.run.Turn.{Turn}
 use Rattle.hdminet.specs.declared.run.Turn.TheVariants.{Stop, Apply, Round}
 use Rattle.cec_asm.specs.declared.script.TimedEvent.{TimedEvent}
 use Rattle.std.specs.List.{flat_map}
-use Rattle.hdmi_edtext.specs.declared.edid.Edid.{Edid}
+use Rattle.hdmi_blocks.specs.declared.edid.Edid.{Edid}
 use Rattle.hdminet.specs.PortText.{port_lines}
 use Rattle.hdminet.specs.StateText.{state_line}
 use Rattle.hdminet.specs.TraceText.{is_complete, round_line, end_line}

@@ -19,7 +19,7 @@ mod trace_text;
 mod written;
 
 use fault::Fault;
-use hdmi_cta::Writes;
+use hdmi_core::Writes;
 use program::{program, tell};
 use std::env;
 use std::process::ExitCode;
