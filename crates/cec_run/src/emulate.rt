@@ -10,7 +10,7 @@ use cec_asm::{
 };
 use cec_net::Net;
 use cec_wire::edge_wire::EdgeWire;
-use hdmi_cta::Sink;
+use hdmi_core::Sink;
 use std::alloc::Global;
 use thiserror::Error;
 

@@ -2,7 +2,7 @@
 use Rattle.std.proofs.Common.{◌≡◌, ℕ, ◌≤◌, ◌/◌, ◌%◌, ◌==◌, ◌&&◌, not, Bool, true, false, cond, nat_le, List, [], ◌∷◌, ◌++◌, length, Option, Some, None, unwrap_or, slice_index, take, drop, codes, refl, sym, ap, ◌∙◌, arith, decimal}
 use Rattle.std.specs.List.{list_all, flat_map}
 use Rattle.std.proofs.lemmas.Bool.Decides.{nat_tests}
-use Rattle.hdmi_cta.specs.Piece.{nibble_text, hex_text}
+use Rattle.hdmi_core.specs.Piece.{nibble_text, hex_text}
 use Rattle.cec_text.proofs.Finding.{and_left, and_right}
 use Rattle.cec_text.proofs.WordLemmas.{plain_word, is_plain_word}
 use Rattle.std.proofs.lemmas.List.{take_all}

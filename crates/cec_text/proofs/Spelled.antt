@@ -5,7 +5,7 @@ use Rattle.std.proofs.lemmas.Bool.Decides.{nat_tests}
 use borrow.Author.Tests.{ltb-true}
 use Rattle.std.proofs.lemmas.Grind.{common_steps}
 use Rattle.std.proofs.lemmas.Fmt.{decimal_digit}
-use Rattle.hdmi_cta.specs.Piece.{hex_text}
+use Rattle.hdmi_core.specs.Piece.{hex_text}
 use Rattle.cec_text.proofs.Finding.{and_left, and_right}
 use Rattle.cec_text.proofs.VolumeLemmas.{decimal_two, decimal_hundred}
 use Rattle.cec_text.specs.FrameReading.{are_bytes, digit_value, hex_at, hex_bytes, small_number, within_quotes}

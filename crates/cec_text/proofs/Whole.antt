@@ -3,7 +3,7 @@ use Rattle.std.proofs.Common.{◌≡◌, ℕ, ◌<◌, ◌≤◌, ◌+◌, ◌/�
 use Rattle.std.specs.List.{list_all, position_or_len}
 use Rattle.std.proofs.lemmas.Bool.Decides.{nat_tests}
 use Rattle.std.proofs.lemmas.Bool.{false≢true}
-use Rattle.hdmi_cta.specs.Piece.{hex_text}
+use Rattle.hdmi_core.specs.Piece.{hex_text}
 use Rattle.cec_opcode.specs.Table.{name_of}
 use Rattle.cec_text.proofs.Finding.{and_left, and_right}
 use Rattle.cec_text.proofs.NameLemmas.{one_named, plain_name, is_plain_name}

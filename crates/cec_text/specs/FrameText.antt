@@ -1,7 +1,7 @@
 -- The one text of a frame (own): its addresses, its opcode's name, and its operands.
 use Rattle.std.specs.Prelude.{ℕ, ◌/◌, ◌%◌, ◌==◌, nat_le, Bool, not, ◌&&◌, if◌then◌else◌, Option, None, Some, List, [], ◌∷◌, ◌++◌, length, codes, option_map, unwrap_or, decimal}
 use Rattle.std.specs.List.{flat_map, list_all}
-use Rattle.hdmi_cta.specs.Piece.{nibble_text, hex_text, phys_text}
+use Rattle.hdmi_core.specs.Piece.{nibble_text, hex_text, phys_text}
 use Rattle.cec_opcode.specs.Table.{name_of}
 use Rattle.cec_text.specs.OperandWords.{word_of, words_of}
 use Rattle.cec_text.specs.OperandForms.{form_of}

@@ -2,9 +2,9 @@
 ghost use Rattle.std.specs.Prelude.{◌≡◌, ◌≤◌, ◌<◌, ◌+◌, ◌/◌, ◌%◌, ◌∷◌, [], ◌++◌, List, length, true, codes, option_map, IfSome, decimal};
 ghost use Rattle.std.specs.List.{flat_map, list_all};
 ghost use Rattle.arrayvec.specs.ArrayVec.{array_vec_len};
-ghost use Rattle.hdmi_cta.specs.Piece.{nibble_text, hex_text, phys_text};
+ghost use Rattle.hdmi_core.specs.Piece.{nibble_text, hex_text, phys_text};
 ghost use Rattle.cec_text.specs.FrameText.{abort_words, address_words, display_words, frame_text, header_text, is_text, is_text_byte, language_words, nothing_words, opcode_text, operand_words, operands_text, optional_address_words, quoted, raw_text, set_words, spaced_word, text_words, two_address_words, typed_address_words, vendor_words, volume_words};
-ghost use Rattle.hdmi_cta.specs.Written.{WrittenAll};
+ghost use Rattle.hdmi_core.specs.Written.{WrittenAll};
 ghost use Rattle.cec_text.specs.OperandForms.{form_of};
 ghost use Rattle.cec_text.specs.OperandWords.{word_of, words_of};
 
@@ -14,7 +14,7 @@ use crate::operand_words::WordSet;
 use arrayvec::ArrayVec;
 use cec_frame::Frame;
 use cec_opcode::name;
-use hdmi_cta::{Sink, WriteFault, put_all};
+use hdmi_core::{Sink, WriteFault, put_all};
 
 /// The text of operands, each word behind a space.
 type OperandText = ArrayVec<u8, 48>;
