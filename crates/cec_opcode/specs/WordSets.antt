@@ -1,7 +1,9 @@
 -- The words of the operands that have words (CEC operand descriptions; the spelling is own).
-use Rattle.std.specs.Prelude.{ℕ, ◌==◌, Option, List, [], ◌∷◌, codes, find, option_map}
-use Rattle.cec_text.specs.declared.operand_words.WordSet.{WordSet}
-use Rattle.cec_text.specs.declared.operand_words.WordSet.TheVariants.{Reason, Power, OnOff, DeviceType, StatusRequest, DeckInfo, PlayMode, DeckControl, Display, MenuRequest, MenuState, Version, UserControl}
+use Rattle.std.specs.Prelude.{ℕ, ◌==◌, Bool, not, Option, List, [], ◌∷◌, codes, find, option_map}
+use Rattle.std.specs.List.{list_any}
+use Rattle.cec_opcode.specs.declared.word_set.Word.{Word as CodeWord}
+use Rattle.cec_opcode.specs.declared.word_set.WordSet.{WordSet}
+use Rattle.cec_opcode.specs.declared.word_set.WordSet.TheVariants.{Reason, Power, OnOff, DeviceType, StatusRequest, DeckInfo, PlayMode, DeckControl, Display, MenuRequest, MenuState, Version, UserControl}
 
 -- a byte and the word that stands for it
 pub record Word : Type 0 where
@@ -10,6 +12,10 @@ pub record Word : Type 0 where
 
 abbrev pub word : ℕ → List ℕ → Word
 word code text = record { code = code; text = text }
+
+-- the same of the code
+abbrev pub spelled : CodeWord → Word
+spelled w = word w.byte w.text.now
 
 -- the words of each set
 abbrev pub words_of : WordSet → List Word
@@ -116,3 +122,7 @@ words_of UserControl =
 -- the word of a byte
 abbrev pub word_of : List Word → ℕ → Option (List ℕ)
 word_of words byte = option_map (λ w. w.text) (find (λ w. w.code == byte) words)
+
+-- no word of the set stands for this byte
+abbrev pub is_unlisted : WordSet → ℕ → Bool
+is_unlisted set byte = not (list_any (λ w. w.code == byte) (words_of set))
