@@ -1,7 +1,7 @@
 //! From the texts of a topology and a script to the trace of their run.
 ghost use Rattle.std.specs.Prelude.{◌≡◌, ℕ, List, ◌↔◌, true, false, IfOk, IfErr, IsTrue};
 ghost use Rattle.std.specs.Io.KnownBytes.{Appends};
-ghost use Rattle.cec_run.specs.Emulate.{IsTraceOf, IsTold, IsCut, is_write};
+ghost use Rattle.hdminet.specs.Emulate.{IsTraceOf, IsTold, IsCut, is_write};
 
 use crate::root::{EdidCause, root_of};
 use crate::run::{Totals, run};
@@ -9,7 +9,7 @@ use cec_asm::{
     ScriptCause, ScriptError, TopologyCause, TopologyError, parse_script, parse_topology,
 };
 use cec_net::Net;
-use cec_wire::edge_wire::EdgeWire;
+use cec_wire::EdgeWire;
 use hdmi_core::Sink;
 use std::alloc::Global;
 use thiserror::Error;
@@ -35,7 +35,7 @@ pub enum EmulateError {
 
 impl From<TopologyError> for EmulateError {
     ghost use Rattle.std.specs.Prelude.{◌≡◌};
-    ghost use Rattle.cec_run.specs.Emulate.{topology_told};
+    ghost use Rattle.hdminet.specs.Emulate.{topology_told};
 
     ghost from_gives = { λ t e. e ≡ topology_told t };
 
@@ -49,7 +49,7 @@ impl From<TopologyError> for EmulateError {
 
 impl From<ScriptError> for EmulateError {
     ghost use Rattle.std.specs.Prelude.{◌≡◌};
-    ghost use Rattle.cec_run.specs.Emulate.{script_told};
+    ghost use Rattle.hdminet.specs.Emulate.{script_told};
 
     ghost from_gives = { λ t e. e ≡ script_told t };
 
@@ -63,7 +63,7 @@ impl From<ScriptError> for EmulateError {
 
 impl From<EdidCause> for EmulateError {
     ghost use Rattle.std.specs.Prelude.{◌≡◌};
-    ghost use Rattle.cec_run.specs.declared.emulate.EmulateError.TheVariants.{Edid};
+    ghost use Rattle.hdminet.specs.declared.emulate.EmulateError.TheVariants.{Edid};
 
     ghost from_gives = { λ cause e. e ≡ Edid cause };
 
