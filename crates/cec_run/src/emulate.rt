@@ -1,7 +1,7 @@
 //! From the texts of a topology and a script to the trace of their run.
 ghost use Rattle.std.specs.Prelude.{◌≡◌, ℕ, List, ◌↔◌, true, false, IfOk, IfErr, IsTrue};
 ghost use Rattle.std.specs.Io.KnownBytes.{Appends};
-ghost use Rattle.hdminet.specs.Emulate.{IsTraceOf, IsTold, IsCut, is_write};
+ghost use Rattle.cec_run.specs.Emulate.{IsTraceOf, IsTold, IsCut, is_write};
 
 use crate::root::{EdidCause, root_of};
 use crate::run::{Totals, run};
@@ -35,7 +35,7 @@ pub enum EmulateError {
 
 impl From<TopologyError> for EmulateError {
     ghost use Rattle.std.specs.Prelude.{◌≡◌};
-    ghost use Rattle.hdminet.specs.Emulate.{topology_told};
+    ghost use Rattle.cec_run.specs.Emulate.{topology_told};
 
     ghost from_gives = { λ t e. e ≡ topology_told t };
 
@@ -49,7 +49,7 @@ impl From<TopologyError> for EmulateError {
 
 impl From<ScriptError> for EmulateError {
     ghost use Rattle.std.specs.Prelude.{◌≡◌};
-    ghost use Rattle.hdminet.specs.Emulate.{script_told};
+    ghost use Rattle.cec_run.specs.Emulate.{script_told};
 
     ghost from_gives = { λ t e. e ≡ script_told t };
 
@@ -63,7 +63,7 @@ impl From<ScriptError> for EmulateError {
 
 impl From<EdidCause> for EmulateError {
     ghost use Rattle.std.specs.Prelude.{◌≡◌};
-    ghost use Rattle.hdminet.specs.declared.emulate.EmulateError.TheVariants.{Edid};
+    ghost use Rattle.cec_run.specs.declared.emulate.EmulateError.TheVariants.{Edid};
 
     ghost from_gives = { λ cause e. e ≡ Edid cause };
 
