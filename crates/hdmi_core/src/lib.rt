@@ -6,6 +6,8 @@ mod kind;
 mod phys;
 mod piece;
 mod sink;
+#[cfg(test)]
+mod tests;
 
 pub use kind::Kind;
 pub use phys::Phys;
