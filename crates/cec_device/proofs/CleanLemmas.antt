@@ -25,7 +25,7 @@ use Rattle.cec_device.specs.Say.{Say, Reply, Cast, Tell, Refuse, Effect, say, sa
 use Rattle.cec_device.specs.Effects.{effect_of, refuses, by_decoded, followed, is_for, heard_of}
 use Rattle.cec_device.specs.Keys.{own_doing, pressing, releasing, keyed_by, key_fault}
 use Rattle.cec_device.specs.Place.{submitted_by, submit_fault, settled_at, is_off, front_by}
-use Rattle.cec_device.proofs.OnceLemmas.{queued-place}
+use Rattle.cec_device.proofs.OnceLemmas.{frame_sent-place, queued-place}
 use Rattle.cec_device.specs.Clean.{is_none_queued, clean_at, is_clean, KeepsClean, KeepsPlace}
 
 clean-empty : (p : Place) → clean_at p [] ≡ true
@@ -255,4 +255,5 @@ keeps_place = record {
   keying = λ limit at key press d. keyed-place limit at key press d (key_fault d key);
   submitting = λ limit at frame d. submitted-place d frame at (submit_fault limit d frame);
   waiting = λ d. refl;
+  telling = λ limit at fate d h. rw h (frame_sent-place d fate);
 }

@@ -1,14 +1,24 @@
 -- Allocation by all fates so far.
+<<<<<<< HEAD
 use Rattle.std.specs.Prelude.{◌≡◌, List, [], ◌∷◌}
 use Rattle.hdmi_core.specs.declared.kind.Kind.{Kind}
+=======
+use Rattle.std.specs.Prelude.{◌≡◌, ℕ, List, [], ◌∷◌}
+use Rattle.hdmi_cta.specs.declared.kind.Kind.{Kind}
+use Rattle.hdmi_cta.specs.declared.phys.Phys.{Phys}
+>>>>>>> tables
 use Rattle.cec_device.specs.declared.record.Place.{Place}
 use Rattle.cec_device.specs.declared.sending.Fate.{Fate}
-use Rattle.cec_device.specs.Place.{stepped, tries, addresses, place_after}
+use Rattle.cec_device.specs.State.{State}
+use Rattle.cec_device.specs.Place.{stepped, tries, addresses, place_after, start_place, joined, sent}
 
 abbrev pub place_told : Kind → Place → List Fate → Place
 place_told kind place [] = place
 place_told kind place (fate ∷ fates) = place_told kind (stepped kind place fate) fates
 
--- step by step a device stands where all the fates of its polls so far put it
-abbrev pub PlaceGoesByFates : Type 0
-PlaceGoesByFates = (kind : Kind) (fates : List Fate) → place_told kind (tries (addresses kind)) fates ≡ place_after (addresses kind) fates
+-- A device begins at the head of its kind's list, and each fate that it is told moves it by a step, where it polls; so
+-- it stands where all the fates of its polls so far put it.
+pub record PlaceGoesByFates : Type 0 where
+  pub joining : (limit number at : ℕ) (phys : Phys) (d : State) → (joined limit d number phys at).place ≡ start_place d.kind phys
+  pub telling : (limit at : ℕ) (fate : Fate) (d : State) → (sent limit d fate at).place ≡ stepped d.kind d.place fate
+  pub by_all : (kind : Kind) (fates : List Fate) → place_told kind (tries (addresses kind)) fates ≡ place_after (addresses kind) fates

@@ -4,6 +4,7 @@ ghost use Rattle.cec_device.specs.Say.{effected, say_all};
 ghost use Rattle.cec_device.specs.Effects.{controlled, deck_asked, menu_asked, menu_told, mode_deck, notice_of, plays, turned, wound};
 
 use crate::device::Device;
+use crate::messages::{deck_status, menu_status};
 use crate::record::Heard;
 use cec_frame::Addr;
 use cec_opcode::{DeckControlMode, MenuRequestType, PlayMode, Reason, StatusRequest};
@@ -49,7 +50,7 @@ impl<const Q: usize> Device<Q> {
     {
         if was != deck {
             if let Some(sub) = sub {
-                self.tell(heard, sub, &[0x1b, deck]);
+                self.tell(heard, sub, &deck_status(deck));
             }
         }
     }
@@ -71,10 +72,10 @@ impl<const Q: usize> Device<Q> {
         match request {
             StatusRequest::On => {
                 self.record.sub = Some(heard.from);
-                self.reply(heard, &[0x1b, self.record.deck]);
+                self.reply(heard, &deck_status(self.record.deck));
             }
             StatusRequest::Off => self.record.sub = None,
-            StatusRequest::Once => self.reply(heard, &[0x1b, self.record.deck]),
+            StatusRequest::Once => self.reply(heard, &deck_status(self.record.deck)),
             StatusRequest::Other(_) => self.refuse(heard, Reason::InvalidOperand),
         }
     }
@@ -124,7 +125,7 @@ impl<const Q: usize> Device<Q> {
     {
         if self.record.power {
             self.record.menu = menu;
-            self.reply(heard, &[0x8e, if menu { 0 } else { 1 }]);
+            self.reply(heard, &menu_status(menu));
         } else {
             self.refuse(heard, Reason::WrongMode);
         }

@@ -1,6 +1,7 @@
 //! A device: who it is, and what it has to send.
 ghost use Rattle.std.specs.Prelude.{◌≡◌, ◌≢◌, ◌<◌, ◌≤◌, ◌+◌, ◌*◌, ◌==◌, ◌∷◌, [], length, true, false};
 ghost use Rattle.cec_device.specs.State.{queued, speaks, holds, frame_to, source, one_more};
+ghost use Rattle.cec_opcode.specs.Table.{spelling};
 ghost use Rattle.cec_opcode.specs.Words.{reason_byte};
 ghost use Rattle.cec_device.specs.Say.{say, Reply, Cast, Tell, Refuse};
 
@@ -9,8 +10,13 @@ use crate::sending::FreeTime;
 use crate::ways::is_nowhere;
 use arrayvec::ArrayVec;
 use cec_frame::{Addr, Frame, FrameError};
+<<<<<<< HEAD
 use cec_opcode::Reason;
 use hdmi_core::{Kind, Phys};
+=======
+use cec_opcode::{Message, Reason, spell};
+use hdmi_cta::{Kind, Phys};
+>>>>>>> tables
 use std::marker::Model;
 use thiserror::Error;
 
@@ -146,30 +152,30 @@ impl<const Q: usize> Device<Q> {
     }
 
     /// Queues an answer to whom the frame came from.
-    pub(crate) fn reply(&mut self, heard: Heard, rest: &[u8])
-        requires { length rest.now ≤ 15 }
-        ensures { self.new ≡ say Q heard (Reply rest.now) self.old }
+    pub(crate) fn reply(&mut self, heard: Heard, message: &Message)
+        requires { length (spelling message.now) ≤ 15 }
+        ensures { self.new ≡ say Q heard (Reply (spelling message.now)) self.old }
     {
         if heard.from.value() < Addr::BROADCAST {
-            self.put(heard.at, heard.from, rest);
+            self.put(heard.at, heard.from, &spell(message));
         }
     }
 
     /// Queues a frame to all.
-    pub(crate) fn cast(&mut self, heard: Heard, rest: &[u8])
-        requires { length rest.now ≤ 15 }
-        ensures { self.new ≡ say Q heard (Cast rest.now) self.old }
+    pub(crate) fn cast(&mut self, heard: Heard, message: &Message)
+        requires { length (spelling message.now) ≤ 15 }
+        ensures { self.new ≡ say Q heard (Cast (spelling message.now)) self.old }
     {
-        self.put(heard.at, Addr::new(15), rest);
+        self.put(heard.at, Addr::new(Addr::BROADCAST), &spell(message));
     }
 
     /// Queues a notice.
-    pub(crate) fn tell(&mut self, heard: Heard, to: Addr, rest: &[u8])
-        requires { length rest.now ≤ 15 }
-        ensures { self.new ≡ say Q heard (Tell to rest.now) self.old }
+    pub(crate) fn tell(&mut self, heard: Heard, to: Addr, message: &Message)
+        requires { length (spelling message.now) ≤ 15 }
+        ensures { self.new ≡ say Q heard (Tell to (spelling message.now)) self.old }
     {
         if to.value() < Addr::BROADCAST {
-            self.put(heard.at, to, rest);
+            self.put(heard.at, to, &spell(message));
         }
     }
 
@@ -181,7 +187,11 @@ impl<const Q: usize> Device<Q> {
             && heard.from.value() < Addr::BROADCAST
             && heard.opcode != 0
         {
-            self.put(heard.at, heard.from, &[0x00, heard.opcode, reason.byte()]);
+            let abort = Message::FeatureAbort {
+                opcode: heard.opcode,
+                reason,
+            };
+            self.put(heard.at, heard.from, &spell(&abort));
         }
     }
 }

@@ -6,14 +6,26 @@ ghost use Rattle.cec_opcode.specs.Table.{decoded_of};
 
 use crate::deck::{NO_MEDIA, PLAYING, STILL, STOPPED};
 use crate::device::Device;
+use crate::messages::{
+    active_source, address as carried, menu_status, report_audio_status, report_of,
+    report_power_status, set_system_audio_mode, system_audio_mode_status,
+};
 use crate::record::{Heard, Note, copy_of};
 use crate::ways::{below, is_nowhere, port_towards};
 use arrayvec::ArrayVec;
 use cec_frame::{Addr, Frame};
 use cec_opcode::{
-    Address, Decoded, Display, Message, Reason, SystemAudio, UserControl, decode, rule,
+    Address, Decoded, Display, Message, Reason, SystemAudio, Triple, UserControl, Version, decode,
+    rule,
 };
 use hdmi_core::{Kind, Phys};
+
+/// The vendor that every device reports.
+const VENDOR: Triple = Triple {
+    first: 0x02,
+    second: 0x00,
+    third: 0x00,
+};
 
 /// The table: for each message the kinds that it is for, and what it does. Another kind refuses.
 macro_rules! rows {
@@ -37,13 +49,13 @@ macro_rules! rows {
                 if address.is_some() {
                     $device.record.power = true;
                     $device.record.audio = true;
-                    $device.cast($heard, &[0x72, 1]);
+                    $device.cast($heard, &set_system_audio_mode(true));
                 } else {
                     $device.record.audio = false;
-                    $device.cast($heard, &[0x72, 0]);
+                    $device.cast($heard, &set_system_audio_mode(false));
                 }
             };
-            [Amp] (Message::GiveAudioStatus) { $device.reply($heard, &[0x7a, $device.audio_status()]); };
+            [Amp] (Message::GiveAudioStatus) { $device.reply($heard, &report_audio_status($device.audio_status())); };
             [] (Message::RoutingChange { to, .. }) { $device.route($heard, phys(to)); };
             [] (Message::ActiveSource { address }) {
                 $device.record.active = Some(phys(address));
@@ -51,7 +63,7 @@ macro_rules! rows {
                 $device.select(phys(address));
             };
             [] (Message::GivePhysicalAddress) {
-                $device.cast($heard, &[0x84, $device.phys.high, $device.phys.low, $device.type_byte()]);
+                $device.cast($heard, &report_of($device.kind, $device.phys));
             };
             [] (Message::ReportPhysicalAddress { .. }) { $device.note($heard); };
             [] (Message::SetStreamPath { address }) { $device.stream($heard, phys(address)); };
@@ -72,32 +84,32 @@ macro_rules! rows {
             [Tv] (Message::SetSystemAudioMode { audio }) { $device.set_audio($heard, *audio); };
             [] (Message::ReportAudioStatus { .. }) { $device.note($heard); };
             [Amp] (Message::GiveSystemAudioModeStatus) {
-                $device.reply($heard, &[0x7e, if $device.record.audio { 1 } else { 0 }]);
+                $device.reply($heard, &system_audio_mode_status($device.record.audio));
             };
             [] (Message::SystemAudioModeStatus { .. }) { $device.note($heard); };
             [] (Message::RoutingInformation { address }) { $device.route($heard, phys(address)); };
             [] (Message::RequestActiveSource) {
                 if $device.record.power && $device.record.active == Some($device.phys) {
-                    $device.cast($heard, &[0x82, $device.phys.high, $device.phys.low]);
+                    $device.cast($heard, &active_source($device.phys));
                 }
             };
             [] (Message::DeviceVendorId { .. }) { $device.note($heard); };
-            [] (Message::GiveDeviceVendorId) { $device.cast($heard, &[0x87, 0x02, 0x00, 0x00]); };
+            [] (Message::GiveDeviceVendorId) { $device.cast($heard, &Message::DeviceVendorId { vendor: VENDOR }); };
             [] (Message::MenuStatus { .. }) { $device.note($heard); };
             [] (Message::GiveDevicePowerStatus) {
-                $device.reply($heard, &[0x90, if $device.record.power { 0 } else { 1 }]);
+                $device.reply($heard, &report_power_status($device.record.power));
             };
             [] (Message::ReportPowerStatus { .. }) { $device.note($heard); };
             [Tv] (Message::GetMenuLanguage) {
                 let language = $device.record.language;
-                $device.cast($heard, &[0x32, language.first, language.second, language.third]);
+                $device.cast($heard, &Message::SetMenuLanguage { language });
             };
             [] (Message::CecVersion { .. }) { $device.note($heard); };
-            [] (Message::GetCecVersion) { $device.reply($heard, &[0x9e, 0x05]); };
+            [] (Message::GetCecVersion) { $device.reply($heard, &Message::CecVersion { version: Version::OnePointFour }); };
             [Tv] (Message::InitiateArc) {
                 if $device.record.power {
                     $device.record.arc = true;
-                    $device.reply($heard, &[0xc1]);
+                    $device.reply($heard, &Message::ReportArcInitiated);
                 } else {
                     $device.refuse($heard, Reason::WrongMode);
                 }
@@ -106,21 +118,21 @@ macro_rules! rows {
             [Amp] (Message::ReportArcTerminated) { $device.record.arc = false; };
             [Amp] (Message::RequestArcTermination) {
                 if $heard.from.value() == 0 {
-                    $device.reply($heard, &[0xc5]);
+                    $device.reply($heard, &Message::TerminateArc);
                 } else {
                     $device.refuse($heard, Reason::Refused);
                 }
             };
             [Tv] (Message::TerminateArc) {
                 $device.record.arc = false;
-                $device.reply($heard, &[0xc2]);
+                $device.reply($heard, &Message::ReportArcTerminated);
             };
             [] (Message::Abort) { $device.refuse($heard, Reason::Unrecognized); };
             [] (Message::Raw { .. }) { $device.refuse($heard, Reason::Unrecognized); };
             [] (Message::Unknown { .. }) { $device.refuse($heard, Reason::Unrecognized); };
             [Amp] (Message::RequestArcInitiation) {
                 if $heard.from.value() == 0 {
-                    $device.reply($heard, &[0xc0]);
+                    $device.reply($heard, &Message::InitiateArc);
                 } else {
                     $device.refuse($heard, Reason::Refused);
                 }
@@ -158,7 +170,6 @@ fn phys(address: &Address) -> Phys
     }
 }
 
-ghost use Rattle.cec_device.specs.State.{type_of};
 ghost use Rattle.cec_device.specs.Effects.{audio_set, hears, pressed, routed, selecting, shown, standby, streamed, told, volume_status};
 
 fn heard_of(header: u8, opcode: u8, operands: &[u8], at: u64) -> Heard
@@ -212,19 +223,6 @@ impl<const Q: usize> Device<Q> {
         }
     }
 
-    /// Its device type (CEC 17, Device Type).
-    pub(crate) fn type_byte(&self) -> u8
-        ensures { result ≡ type_of self.now.kind }
-    {
-        match self.kind {
-            Kind::Tv => 0,
-            Kind::Recorder => 1,
-            Kind::Player => 4,
-            Kind::Amp => 5,
-            Kind::Switch => 6,
-        }
-    }
-
     // A switch selects the port that leads to an address below its own.
     fn select(&mut self, to: Phys)
         ensures { self.new ≡ record self.old { record_of = selecting self.old.kind self.old.phys self.old.ports to self.old.record_of } }
@@ -246,7 +244,12 @@ impl<const Q: usize> Device<Q> {
             if let Some(port) = self.record.selected {
                 let address = below(self.phys, port);
                 if !is_nowhere(address) {
-                    self.cast(heard, &[0x81, address.high, address.low]);
+                    self.cast(
+                        heard,
+                        &Message::RoutingInformation {
+                            address: carried(address),
+                        },
+                    );
                 }
             }
         }
@@ -261,7 +264,7 @@ impl<const Q: usize> Device<Q> {
             Kind::Player | Kind::Recorder | Kind::Amp if to == self.phys => {
                 self.record.power = true;
                 self.record.active = Some(to);
-                self.cast(heard, &[0x82, to.high, to.low]);
+                self.cast(heard, &active_source(to));
             }
             _ => self.select(to),
         }
@@ -334,11 +337,11 @@ impl<const Q: usize> Device<Q> {
             }
             UserControl::RootMenu if is_deck && !self.record.menu => {
                 self.record.menu = true;
-                self.tell(heard, Addr::new(0), &[0x8e, 0]);
+                self.tell(heard, Addr::new(0), &menu_status(true));
             }
             UserControl::Exit if is_deck && self.record.menu => {
                 self.record.menu = false;
-                self.tell(heard, Addr::new(0), &[0x8e, 1]);
+                self.tell(heard, Addr::new(0), &menu_status(false));
             }
             _ => {}
         }
@@ -348,10 +351,9 @@ impl<const Q: usize> Device<Q> {
     fn tell_name(&mut self, heard: Heard)
         ensures { self.new ≡ say Q heard (Reply (0x47 ∷ self.old.name)) self.old }
     {
-        let mut bytes: ArrayVec<u8, 15> = ArrayVec::new();
-        bytes.push(0x47);
-        let _ = bytes.try_extend_from_slice(self.name.as_slice());
-        self.reply(heard, &bytes);
+        let mut text = ArrayVec::new();
+        let _ = text.try_extend_from_slice(self.name.as_slice());
+        self.reply(heard, &Message::SetOsdName { text });
     }
 
     // An amplifier with audio on tells its volume.
@@ -359,7 +361,7 @@ impl<const Q: usize> Device<Q> {
         ensures { self.new ≡ effected Q heard (told self.old.kind self.old.record_of) self.old }
     {
         if self.kind == Kind::Amp && self.record.audio {
-            self.reply(heard, &[0x7a, self.audio_status()]);
+            self.reply(heard, &report_audio_status(self.audio_status()));
         }
     }
 

@@ -1,15 +1,24 @@
 //! The keys of a device, which are this profile's own.
 ghost use Rattle.std.specs.Prelude.{◌≡◌, ◌≤◌, Some, None, IsTrue, MatchResult, length};
+ghost use Rattle.cec_opcode.specs.Table.{spelling};
 ghost use Rattle.cec_device.specs.Say.{effected, say, Tell, Cast};
 ghost use Rattle.cec_device.specs.Keys.{own_doing, has_key, code_of, voiced, ported, taking_over, pressing, releasing, key_fault, keyed};
 
 use crate::deck::{NO_MEDIA, PLAYING, STOPPED};
 use crate::device::Device;
+use crate::messages::{
+    active_source, address, arc_command, arc_request, menu_status, report_audio_status,
+};
 use crate::record::{Heard, Place, Port};
 use crate::ways::below;
 use cec_frame::Addr;
+<<<<<<< HEAD
 use cec_opcode::{Triple, UserControl};
 use hdmi_core::{Kind, Phys};
+=======
+use cec_opcode::{Message, Triple, UserControl};
+use hdmi_cta::{Kind, Phys};
+>>>>>>> tables
 use thiserror::Error;
 
 /// The logical addresses of a television and of an audio system (CEC 10.2).
@@ -103,18 +112,18 @@ fn has_key(kind: Kind, ports: Port, key: &Key) -> bool
 }
 
 impl<const Q: usize> Device<Q> {
-    fn own_tell(&mut self, at: u64, to: Addr, rest: &[u8])
-        requires { length rest.now ≤ 15 }
-        ensures { self.new ≡ say Q (own_doing at) (Tell to rest.now) self.old }
+    fn own_tell(&mut self, at: u64, to: Addr, message: &Message)
+        requires { length (spelling message.now) ≤ 15 }
+        ensures { self.new ≡ say Q (own_doing at) (Tell to (spelling message.now)) self.old }
     {
-        self.tell(own_doing(at), to, rest);
+        self.tell(own_doing(at), to, message);
     }
 
-    fn own_cast(&mut self, at: u64, rest: &[u8])
-        requires { length rest.now ≤ 15 }
-        ensures { self.new ≡ say Q (own_doing at) (Cast rest.now) self.old }
+    fn own_cast(&mut self, at: u64, message: &Message)
+        requires { length (spelling message.now) ≤ 15 }
+        ensures { self.new ≡ say Q (own_doing at) (Cast (spelling message.now)) self.old }
     {
-        self.cast(own_doing(at), rest);
+        self.cast(own_doing(at), message);
     }
 
     // It is the active source, and tells that to the television and to all.
@@ -125,8 +134,8 @@ impl<const Q: usize> Device<Q> {
         self.record.power = true;
         self.record.active = Some(own);
         self.record.path = Some(own);
-        self.own_tell(at, Addr::new(TELEVISION), &[0x04]);
-        self.own_cast(at, &[0x82, own.high, own.low]);
+        self.own_tell(at, Addr::new(TELEVISION), &Message::ImageViewOn);
+        self.own_cast(at, &active_source(own));
     }
 
     fn press_play(&mut self, at: u64)
@@ -155,12 +164,15 @@ impl<const Q: usize> Device<Q> {
         match self.kind {
             Kind::Tv => {
                 self.fall_asleep();
-                self.own_cast(at, &[0x36]);
+                self.own_cast(at, &Message::Standby);
             }
             Kind::Player | Kind::Recorder if self.record.active == Some(own) => {
                 self.record.active = None;
                 self.fall_asleep();
-                self.own_tell(at, Addr::new(TELEVISION), &[0x9d, own.high, own.low]);
+                let inactive = Message::InactiveSource {
+                    address: address(own),
+                };
+                self.own_tell(at, Addr::new(TELEVISION), &inactive);
             }
             _ => self.fall_asleep(),
         }
@@ -178,7 +190,11 @@ impl<const Q: usize> Device<Q> {
         if old != port {
             let from = below(self.phys, old);
             let to = below(self.phys, port);
-            self.own_cast(at, &[0x80, from.high, from.low, to.high, to.low]);
+            let change = Message::RoutingChange {
+                from: address(from),
+                to: address(to),
+            };
+            self.own_cast(at, &change);
         }
     }
 
@@ -197,12 +213,14 @@ impl<const Q: usize> Device<Q> {
         ensures { self.new ≡ effected Q (own_doing at) (pressing self.old.kind self.old.phys self.old.record_of (Key.Volume key)) self.old }
     {
         if self.kind == Kind::Tv && self.record.audio {
-            self.own_tell(at, Addr::new(AMPLIFIER), &[0x44, key.code().byte()]);
+            let pressed = Message::UserControlPressed { code: key.code() };
+            self.own_tell(at, Addr::new(AMPLIFIER), &pressed);
             return;
         }
         self.turn_volume(key);
         if self.kind == Kind::Amp && self.record.audio {
-            self.own_tell(at, Addr::new(TELEVISION), &[0x7a, self.audio_status()]);
+            let report = report_audio_status(self.audio_status());
+            self.own_tell(at, Addr::new(TELEVISION), &report);
         }
     }
 
@@ -211,9 +229,9 @@ impl<const Q: usize> Device<Q> {
         ensures { self.new ≡ effected Q (own_doing at) (pressing self.old.kind self.old.phys self.old.record_of (Key.Arc on)) self.old }
     {
         if self.kind == Kind::Tv {
-            self.own_tell(at, Addr::new(AMPLIFIER), &[if on { 0xc3 } else { 0xc4 }]);
+            self.own_tell(at, Addr::new(AMPLIFIER), &arc_request(on));
         } else {
-            self.own_tell(at, Addr::new(TELEVISION), &[if on { 0xc0 } else { 0xc5 }]);
+            self.own_tell(at, Addr::new(TELEVISION), &arc_command(on));
         }
     }
 
@@ -223,9 +241,13 @@ impl<const Q: usize> Device<Q> {
     {
         if on {
             let path = self.record.path.unwrap_or(Phys { high: 0, low: 0 });
-            self.own_tell(at, Addr::new(AMPLIFIER), &[0x70, path.high, path.low]);
+            let request = Message::SystemAudioModeRequest {
+                address: Some(address(path)),
+            };
+            self.own_tell(at, Addr::new(AMPLIFIER), &request);
         } else {
-            self.own_tell(at, Addr::new(AMPLIFIER), &[0x70]);
+            let request = Message::SystemAudioModeRequest { address: None };
+            self.own_tell(at, Addr::new(AMPLIFIER), &request);
         }
     }
 
@@ -249,16 +271,17 @@ impl<const Q: usize> Device<Q> {
             }
             Key::Menu => {
                 self.record.menu = !self.record.menu;
-                self.own_tell(
-                    at,
-                    Addr::new(TELEVISION),
-                    &[0x8e, if self.record.menu { 0 } else { 1 }],
-                );
+                self.own_tell(at, Addr::new(TELEVISION), &menu_status(self.record.menu));
             }
             Key::Power => self.press_power(at),
             Key::Watch(to) => {
                 self.record.path = Some(to);
-                self.own_cast(at, &[0x86, to.high, to.low]);
+                self.own_cast(
+                    at,
+                    &Message::SetStreamPath {
+                        address: address(to),
+                    },
+                );
             }
             Key::Port(port) => self.press_port(Port::new(port), at),
             Key::Audio { on } => self.press_audio(on, at),
@@ -266,9 +289,13 @@ impl<const Q: usize> Device<Q> {
             Key::Volume(key) => self.press_volume(key, at),
             Key::Language(language) => {
                 self.record.language = language;
-                self.own_cast(at, &[0x32, language.first, language.second, language.third]);
+                self.own_cast(at, &Message::SetMenuLanguage { language });
             }
-            Key::Remote { to, code } => self.own_tell(at, to, &[0x44, code.byte()]),
+            Key::Remote { to, code } => self.own_tell(
+                at,
+                to,
+                &Message::UserControlPressed { code },
+            ),
         }
     }
 
@@ -276,10 +303,10 @@ impl<const Q: usize> Device<Q> {
         ensures { self.new ≡ effected Q (own_doing at) (releasing self.old.kind self.old.record_of key.now) self.old }
     {
         match key {
-            Key::Remote { to, .. } => self.own_tell(at, *to, &[0x45]),
+            Key::Remote { to, .. } => self.own_tell(at, *to, &Message::UserControlReleased),
             Key::Volume(_) => {
                 if self.kind == Kind::Tv && self.record.audio {
-                    self.own_tell(at, Addr::new(AMPLIFIER), &[0x45]);
+                    self.own_tell(at, Addr::new(AMPLIFIER), &Message::UserControlReleased);
                 }
             }
             _ => {}

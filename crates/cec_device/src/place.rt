@@ -1,30 +1,71 @@
 //! Joining and leaving the wire, the allocation of a logical address (CEC 10.2.1), and the fates of frames
 //! (CEC 7.1).
-ghost use Rattle.std.specs.Prelude.{◌≡◌, ◌<◌, Some, None, length, MatchResult, IsSome, ◌≤◌};
-ghost use Rattle.cec_device.specs.Place.{tries_after, addresses, polled_at, start_place, fresh_record, fresh, reported, joined, left, ended, failed, frame_sent, front_is_poll, sent, sent_by, waited, submit_fault, submitted, front_of, ready_of, is_allocating, is_on_wire};
+ghost use Rattle.std.specs.Prelude.{◌≡◌, ◌<◌, Some, None, length, MatchResult, IsSome, IsTrue, ◌≤◌, nat_lt};
+ghost use Rattle.std.specs.List.{list_all};
+ghost use Rattle.cec_device.specs.Place.{tries, tries_after, addresses, polled_at, start_place, fresh_record, fresh, reported, joined, left, ended, failed, frame_sent, front_is_poll, sent, sent_by, waited, submit_fault, submitted, front_of, ready_of, is_allocating, is_on_wire};
 
 use crate::device::{Device, Queued, SubmitError};
+use crate::messages::report_of;
 use crate::record::{Place, Port, Record, Volume};
 use crate::sending::{Fate, FreeTime};
 use crate::ways::{NOWHERE, is_nowhere};
 use arrayvec::ArrayVec;
 use cec_frame::{Addr, Frame};
+<<<<<<< HEAD
 use cec_opcode::Triple;
 use hdmi_core::{Kind, Phys};
+=======
+use cec_opcode::{Triple, spell};
+use hdmi_cta::{Kind, Phys};
+>>>>>>> tables
+
+/// The addresses that a kind may take, in order (CEC 10.2).
+fn addresses(kind: Kind) -> &'static [u8]
+    ensures list { result.now ≡ addresses kind }
+    ensures small { IsTrue (list_all (λ a. nat_lt a 16) result.now) }
+{
+    match kind {
+        Kind::Tv => &[0, 14],
+        Kind::Recorder => &[1, 2, 9],
+        Kind::Player => &[4, 8, 11],
+        Kind::Amp => &[5],
+        Kind::Switch => &[],
+    }
+}
+
+// The poll of the first of these addresses; without one it settles at 15.
+fn tries(list: &[u8]) -> Place
+    requires { IsTrue (list_all (λ a. nat_lt a 16) list.now) }
+    ensures { result ≡ tries list.now }
+{
+    match list {
+        [] => Place::Settled(Addr::new(15)),
+        [first, ..] => Place::Polls(Addr::new(*first)),
+    }
+}
+
+// The same behind the address that was found taken.
+fn tries_after(taken: u8, list: &[u8]) -> Place
+    requires { IsTrue (list_all (λ a. nat_lt a 16) list.now) }
+    ensures { result ≡ tries_after taken list.now }
+{
+    match list {
+        [] => Place::Settled(Addr::new(15)),
+        [first, rest @ ..] => {
+            if taken == *first {
+                tries(rest)
+            } else {
+                tries_after(taken, rest)
+            }
+        }
+    }
+}
 
 /// What is polled after an address that was found taken.
 fn place_behind(kind: Kind, taken: Addr) -> Place
     ensures { result ≡ tries_after taken (addresses kind) }
 {
-    let next = match (kind, taken.value()) {
-        (Kind::Tv, 0) => 14,
-        (Kind::Recorder, 1) => 2,
-        (Kind::Recorder, 2) => 9,
-        (Kind::Player, 4) => 8,
-        (Kind::Player, 8) => 11,
-        _ => return Place::Settled(Addr::new(15)),
-    };
-    Place::Polls(Addr::new(next))
+    tries_after(taken.value(), addresses(kind))
 }
 
 fn first_place(kind: Kind, phys: Phys) -> Place
@@ -33,13 +74,7 @@ fn first_place(kind: Kind, phys: Phys) -> Place
     if is_nowhere(phys) {
         return Place::Settled(Addr::new(15));
     }
-    match kind {
-        Kind::Tv => Place::Polls(Addr::new(0)),
-        Kind::Recorder => Place::Polls(Addr::new(1)),
-        Kind::Player => Place::Polls(Addr::new(4)),
-        Kind::Amp => Place::Polls(Addr::new(5)),
-        Kind::Switch => Place::Settled(Addr::new(15)),
-    }
+    tries(addresses(kind))
 }
 
 /// A copy of a name.
@@ -132,8 +167,8 @@ impl<const Q: usize> Device<Q> {
     fn report(&mut self, at: u64)
         ensures { self.new ≡ reported Q at self.old }
     {
-        let bytes = [0x84, self.phys.high, self.phys.low, self.type_byte()];
-        self.put(at, Addr::new(15), &bytes);
+        let report = report_of(self.kind, self.phys);
+        self.put(at, Addr::new(Addr::BROADCAST), &spell(&report));
     }
 
     /// Joins the wire with its number and its physical address, at `at` microseconds. A switch, and a device
