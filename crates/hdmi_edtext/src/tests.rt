@@ -1,3 +1,5 @@
+mod every_form;
+
 use crate::{TextError, parse_text, write_text};
 use hdmi_blocks::{edid_from_bytes, edid_to_bytes};
 use hdmi_core::Writes;
@@ -12,6 +14,10 @@ const EXTENSION: &str = "020316f143900403230907078301000065030c000000";
 
 const TEXT: &str =
     "edid 1.3\nmaker SAM\nproduct 258\nserial 1\nmade 10 2011\ninput 80\nsize 52 29\ngamma 120\nfeatures 0a\nchroma 655 338 307 614 154 61 320 337\nestablished 000000\nstandard unused\nstandard unused\nstandard unused\nstandard unused\nstandard unused\nstandard unused\nstandard unused\nstandard unused\ntiming 14850 1920 280 1080 45 88 44 4 5 520 290 0 0 1e\nname \"LOUNGE TV 001\"\ndummy\ndummy\ncta f1\nvideo 900403\naudio 090707\nspeakers 010000\nhdmi 0.0.0.0 -\ntail -\n";
+
+/// The last two descriptors of a base block and its end: one of tag F7, and a dummy.
+const RAW_AND_DUMMY: &str =
+    "000000f7000a0000000000000000000000000000001000000000000000000000000000000160";
 
 /// The bytes of the base block and of an extension with this front and checksum.
 fn with_extension(rt: &HostRuntime, front: &str, check: u8) -> Result<Vec<u8>, Fail> {
@@ -211,5 +217,18 @@ fn tells_a_refusal_in_words(rt: HostRuntime) -> Result<(), Fail> {
     assert_eq!(rt; syntax.as_str(), "syntax 5");
     let field = format!(in rt.alloc(); "{}", TextError::Field(12))?;
     assert_eq!(rt; field.as_str(), "field 12");
+    Ok(())
+}
+
+#[test]
+fn returns_a_descriptor_of_no_form(rt: HostRuntime) -> Result<(), Fail> {
+    let (front, _) = BLOCK.split_once("0000001000").ok_or("no descriptor")?;
+    let mut bytes = hex::decode(rt.alloc(), front)?;
+    bytes.extend_from_slice(&hex::decode(rt.alloc(), RAW_AND_DUMMY)?)?;
+    let whole = both_blocks(&rt)?;
+    bytes.extend_from_slice(whole.as_slice().get(128..).ok_or("no extension")?)?;
+    let text = text_and_back(&rt, &bytes)?;
+    let text = str::from_utf8(&text)?;
+    assert!(rt; text.contains("\"\nraw 000000f7000a000000000000000000000000\ndummy\ncta f1\n"));
     Ok(())
 }
