@@ -10,13 +10,8 @@ use crate::sending::FreeTime;
 use crate::ways::is_nowhere;
 use arrayvec::ArrayVec;
 use cec_frame::{Addr, Frame, FrameError};
-<<<<<<< HEAD
-use cec_opcode::Reason;
-use hdmi_core::{Kind, Phys};
-=======
 use cec_opcode::{Message, Reason, spell};
-use hdmi_cta::{Kind, Phys};
->>>>>>> tables
+use hdmi_core::{Kind, Phys};
 use std::marker::Model;
 use thiserror::Error;
 

@@ -12,13 +12,8 @@ use crate::messages::{
 use crate::record::{Heard, Place, Port};
 use crate::ways::below;
 use cec_frame::Addr;
-<<<<<<< HEAD
-use cec_opcode::{Triple, UserControl};
-use hdmi_core::{Kind, Phys};
-=======
 use cec_opcode::{Message, Triple, UserControl};
-use hdmi_cta::{Kind, Phys};
->>>>>>> tables
+use hdmi_core::{Kind, Phys};
 use thiserror::Error;
 
 /// The logical addresses of a television and of an audio system (CEC 10.2).

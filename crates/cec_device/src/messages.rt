@@ -9,7 +9,7 @@ use cec_opcode::{
     Address, AudioStatus, DeckInfo, DeviceType, MenuState, Message, Power, SystemAudio,
     messages_keep_operands,
 };
-use hdmi_cta::{Kind, Phys};
+use hdmi_core::{Kind, Phys};
 
 /// A physical address as a message carries it.
 pub(crate) fn address(phys: Phys) -> Address

@@ -11,13 +11,8 @@ use crate::sending::{Fate, FreeTime};
 use crate::ways::{NOWHERE, is_nowhere};
 use arrayvec::ArrayVec;
 use cec_frame::{Addr, Frame};
-<<<<<<< HEAD
-use cec_opcode::Triple;
-use hdmi_core::{Kind, Phys};
-=======
 use cec_opcode::{Triple, spell};
-use hdmi_cta::{Kind, Phys};
->>>>>>> tables
+use hdmi_core::{Kind, Phys};
 
 /// The addresses that a kind may take, in order (CEC 10.2).
 fn addresses(kind: Kind) -> &'static [u8]
