@@ -1,11 +1,12 @@
 //! The texts that a network is described by: frames, topologies and scripts.
 #![tactic(auto)]
 
+mod keys;
 mod number;
 mod script;
 mod topology;
 mod words;
 
 pub use cec_text::{AssembleError, WordSet, assemble, frame_text, write_frame};
-pub use script::{Script, ScriptCause, ScriptError, TimedEvent, parse_script};
+pub use script::{Script, ScriptCause, ScriptError, TimedEvent, one_script, parse_script};
 pub use topology::{Topology, TopologyCause, TopologyError, parse_topology};
