@@ -1,6 +1,6 @@
 //! Why the program did not do what it was asked.
 use crate::edid_text::{EdidToTextError, TextToHexError};
-use crate::emulate::EmulateError;
+use cec_run::emulate::EmulateError;
 use cec_text::{AssembleError, FrameLinesError};
 use std::alloc::AllocError;
 use std::io::{self, ErrorKind};

@@ -3,20 +3,11 @@
 
 mod choice;
 mod edid_text;
-mod emulate;
 mod fault;
 mod help;
-mod laws;
-mod port_text;
 mod program;
-mod root;
-mod round_text;
-mod run;
-mod state_text;
 #[cfg(test)]
 mod tests;
-mod trace_text;
-mod written;
 
 use fault::Fault;
 use hdmi_cta::Writes;

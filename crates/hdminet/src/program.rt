@@ -1,9 +1,9 @@
 //! The program over a reader and two sinks.
 use crate::choice::{Choice, choose, is_memory};
 use crate::edid_text::{edid_to_text, text_to_hex};
-use crate::emulate::emulate;
 use crate::fault::Fault;
 use arrayvec::ArrayString;
+use cec_run::emulate::emulate;
 use cec_text::{asm_lines, first_line};
 use clap::Error as CommandLineError;
 use hdmi_cta::{Sink, put_all};

@@ -1,6 +1,6 @@
 use super::*;
-use crate::emulate::emulate;
-use crate::run::Totals;
+use cec_run::Totals;
+use cec_run::emulate::emulate;
 
 const TELEVISION: &str = "device tv tv 1\nscript\nend 200000\n";
 

@@ -1,7 +1,7 @@
 //! Trees, plugs and ports. The traces were worked out by hand from the rules of the wire and of the devices.
 use super::*;
-use crate::emulate::{EmulateError, emulate};
-use crate::run::Totals;
+use cec_run::Totals;
+use cec_run::emulate::{EmulateError, emulate};
 
 /// Runs texts, and answers what was counted. The trace goes to `trace`.
 fn traced(

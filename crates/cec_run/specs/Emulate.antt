@@ -1,0 +1,65 @@
+-- What the texts of a topology and a script give.
+use Rattle.std.specs.Prelude.{◌≡◌, ℕ, ◌<◌, Bool, true, false, List, length, take, Option, Some, Result, Ok, Err}
+use Rattle.std.specs.Io.KnownBytes.{Appends}
+use Rattle.cec_asm.specs.Topology.{topology_of, Plan}
+use Rattle.cec_asm.specs.Script.{script_of, Course}
+use Rattle.cec_asm.specs.declared.topology.TopologyError.{TopologyError}
+use Rattle.cec_asm.specs.declared.topology.TopologyError.TheVariants as topologies
+use Rattle.cec_asm.specs.declared.script.ScriptError.{ScriptError}
+use Rattle.cec_asm.specs.declared.script.ScriptError.TheVariants as scripts
+use Rattle.cec_net.specs.State.{started}
+use Rattle.hdmi_edtext.specs.declared.edid.Edid.{Edid as EdidValue}
+use Rattle.cec_run.specs.declared.emulate.EmulateError.{EmulateError}
+use Rattle.cec_run.specs.declared.emulate.EmulateError.TheVariants.{Topology, Script, Edid, Write, Memory}
+use Rattle.cec_run.specs.declared.run.Totals.{Totals}
+use Rattle.cec_run.specs.Cut.{told_count}
+use Rattle.cec_run.specs.Root.{IsRoot, IsNoRoot}
+use Rattle.cec_run.specs.Run.{start, IsTrace}
+
+-- the texts spell this topology and this script
+pub record IsAccepted (topology script : List ℕ) (plan : Plan) (course : Course) : Type 0 where
+  pub plan_is : topology_of topology ≡ Ok plan
+  pub course_is : script_of plan.tree script ≡ Ok course
+
+-- the trace of the run that the texts spell
+pub record IsTraceOf (topology script text : List ℕ) (totals : Totals) : Type 0 where
+  pub plan : Plan
+  pub course : Course
+  pub edid : Option EdidValue
+  pub accepted : IsAccepted topology script plan course
+  pub root : IsRoot plan.edid edid
+  pub trace : IsTrace edid course.end (start (started plan.tree course.pulses) course.events) text totals
+
+-- the texts of a topology and a script have one trace, and one count of what it tells
+abbrev pub TextsHaveOneTrace : Type 0
+TextsHaveOneTrace = (topology script x y : List ℕ) (s t : Totals) → IsTraceOf topology script x s → IsTraceOf topology script y t → (x ≡ y) × (s ≡ t)
+
+abbrev pub topology_told : TopologyError → EmulateError
+topology_told (topologies.At line cause) = Topology line cause
+topology_told topologies.Memory = Memory
+
+abbrev pub script_told : ScriptError → EmulateError
+script_told (scripts.At line cause) = Script line cause
+script_told scripts.Memory = Memory
+
+-- when each refusal comes: the topology's, then the script's, then the EDID; of memory nothing is said
+abbrev pub IsTold : List ℕ → List ℕ → EmulateError → Type 0
+IsTold topology script (Topology line cause) = topology_of topology ≡ Err (record { line = line; cause = cause })
+IsTold topology script (Script line cause) = (plan : Plan) × (topology_of topology ≡ Ok plan) × (script_of plan.tree script ≡ Err (record { line = line; cause = cause }))
+IsTold topology script (Edid cause) = (plan : Plan) × (course : Course) × IsAccepted topology script plan course × (bytes : List ℕ) × (plan.edid ≡ Some bytes) × IsNoRoot bytes cause
+IsTold topology script (Write count) = (plan : Plan) × (course : Course) × IsAccepted topology script plan course × (edid : Option EdidValue) × IsRoot plan.edid edid
+IsTold topology script Memory = Unit {0}
+
+abbrev pub is_write : Result Totals EmulateError → Bool
+is_write (Ok totals) = false
+is_write (Err (Write count)) = true
+is_write (Err _) = false
+
+-- what a refusal has written: after a failed write the front of the trace, and else nothing
+abbrev pub IsCut : List ℕ → List ℕ → Option (List ℕ) → Option (List ℕ) → EmulateError → Type 0
+IsCut topology script old new (Write told) = (text : List ℕ) (totals : Totals) → IsTraceOf topology script text totals
+    → (count : ℕ) × (count < length text) × (told ≡ told_count count) × Appends old new (take count text)
+IsCut topology script old new (Topology line cause) = new ≡ old
+IsCut topology script old new (Script line cause) = new ≡ old
+IsCut topology script old new (Edid cause) = new ≡ old
+IsCut topology script old new Memory = new ≡ old

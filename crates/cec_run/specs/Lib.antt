@@ -1,0 +1,8 @@
+pub mod StateText
+pub mod TraceText
+pub mod PortText
+pub mod Cut
+pub mod Root
+pub mod Run
+pub mod Emulate
+pub mod RunLine

@@ -1,0 +1,45 @@
+-- The line of a whole run, and what is read on it (own).
+use Rattle.std.specs.Prelude.{◌≡◌, ℕ, zero, suc, ◌≤◌, max, false, List, [], ◌∷◌, ◌++◌, map, Option}
+use Rattle.cec_wave.specs.declared.Stretch.{Stretch}
+use Rattle.cec_wave.specs.Line.{line_of, IsWave}
+use Rattle.cec_wave.specs.Pulses.{AreSparse}
+use Rattle.cec_bits.specs.Readings.{readings_of}
+use Rattle.cec_wire.specs.declared.Outcome.{Outcome}
+use Rattle.cec_wire.specs.Alone.{outcome_listed}
+use Rattle.cec_net.specs.Framed.{IsFramedEvent, AreFramed}
+use Rattle.cec_net.specs.Line.{run_wave}
+use Rattle.cec_net.specs.State.{started}
+use Rattle.hdmi_topo.specs.Node.{Node}
+use Rattle.cec_asm.specs.declared.script.TimedEvent.{TimedEvent}
+use Rattle.cec_run.specs.declared.run.Turn.{Turn}
+use Rattle.cec_run.specs.declared.run.Turn.TheVariants.{Stop, Apply, Round}
+use Rattle.hdmi_edtext.specs.declared.edid.Edid.{Edid}
+use Rattle.cec_run.specs.Run.{Config, start, turn_at, IsTurnBy, IsTurn, Leads}
+
+-- the rounds of a turn: one, or none
+abbrev pub rounds_by : (edid : Option Edid) (turn : Turn) (c : Config) (text : List ℕ) (d : Config) → IsTurnBy edid turn c text d → List Outcome
+rounds_by edid Stop c text d t = []
+rounds_by edid (Apply at) c text d t = []
+rounds_by edid (Round begin) c text d t = t.0.outcome ∷ []
+
+-- the rounds of a run, in order: those whose lines its trace has
+abbrev pub rounds_in : (edid : Option Edid) (end turns : ℕ) (c : Config) (text : List ℕ) (d : Config) → Leads edid end turns c text d → List Outcome
+rounds_in edid end zero c text d l = []
+rounds_in edid end (suc turns) c text d l = rounds_by edid (turn_at end c) c l.1 l.0 l.3 ++ rounds_in edid end turns l.0 l.2 d l.4
+
+-- what events hand in has a block at least
+abbrev pub AreFramedEvents : List TimedEvent → Type 0
+AreFramedEvents [] = Unit {0}
+AreFramedEvents (e ∷ events) = IsFramedEvent e.event × AreFramedEvents events
+
+-- The whole line of a run is in order and high from the end or the last close on, and its readings, cut there, are those of
+-- its rounds, in order, each once.
+pub record IsRead (os : List Outcome) (end : ℕ) : Type 0 where
+  pub wave : IsWave (run_wave os)
+  pub over : (u : ℕ) → end ≤ u → line_of (run_wave os) u ≡ false
+  pub readings : readings_of (line_of (run_wave os)) end ≡ map outcome_listed os
+
+abbrev pub RunsAreRead : Type 0
+RunsAreRead = (edid : Option Edid) (tree : List Node) (pulses : List Stretch) (events : List TimedEvent) (end turns : ℕ) (text : List ℕ) (d : Config)
+    → AreSparse pulses → AreFramedEvents events → (leads : Leads edid end turns (start (started tree pulses) events) text d)
+    → IsRead (rounds_in edid end turns (start (started tree pulses) events) text d leads) (max end d.net.close)

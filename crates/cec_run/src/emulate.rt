@@ -1,0 +1,101 @@
+//! From the texts of a topology and a script to the trace of their run.
+ghost use Rattle.std.specs.Prelude.{◌≡◌, ℕ, List, ◌↔◌, true, false, IfOk, IfErr, IsTrue};
+ghost use Rattle.std.specs.Io.KnownBytes.{Appends};
+ghost use Rattle.cec_run.specs.Emulate.{IsTraceOf, IsTold, IsCut, is_write};
+
+use crate::root::{EdidCause, root_of};
+use crate::run::{Totals, run};
+use cec_asm::{
+    ScriptCause, ScriptError, TopologyCause, TopologyError, parse_script, parse_topology,
+};
+use cec_net::Net;
+use cec_wire::edge_wire::EdgeWire;
+use hdmi_cta::Sink;
+use std::alloc::Global;
+use thiserror::Error;
+
+/// Why there is no trace, or not all of it.
+#[derive(Debug, Drop, Error)]
+pub enum EmulateError {
+    /// The first line of the topology at fault, counted from 1, and its cause.
+    #[error("topology line {line}: {cause}")]
+    Topology { line: u64, cause: TopologyCause },
+    /// The first line of the script at fault, counted from 1, and its cause.
+    #[error("script line {line}: {cause}")]
+    Script { line: u64, cause: ScriptCause },
+    /// The topology's bytes of an EDID are refused.
+    #[error("edid: {0}")]
+    Edid(EdidCause),
+    /// A `put` took none. So many bytes of the trace were written.
+    #[error("write fault after {0} bytes")]
+    Write(u128),
+    #[error("no memory")]
+    Memory,
+}
+
+impl From<TopologyError> for EmulateError {
+    ghost use Rattle.std.specs.Prelude.{◌≡◌};
+    ghost use Rattle.cec_run.specs.Emulate.{topology_told};
+
+    ghost from_gives = { λ t e. e ≡ topology_told t };
+
+    fn from(error: TopologyError) -> EmulateError {
+        match error {
+            TopologyError::At { line, cause } => EmulateError::Topology { line, cause },
+            TopologyError::Memory => EmulateError::Memory,
+        }
+    }
+}
+
+impl From<ScriptError> for EmulateError {
+    ghost use Rattle.std.specs.Prelude.{◌≡◌};
+    ghost use Rattle.cec_run.specs.Emulate.{script_told};
+
+    ghost from_gives = { λ t e. e ≡ script_told t };
+
+    fn from(error: ScriptError) -> EmulateError {
+        match error {
+            ScriptError::At { line, cause } => EmulateError::Script { line, cause },
+            ScriptError::Memory => EmulateError::Memory,
+        }
+    }
+}
+
+impl From<EdidCause> for EmulateError {
+    ghost use Rattle.std.specs.Prelude.{◌≡◌};
+    ghost use Rattle.cec_run.specs.declared.emulate.EmulateError.TheVariants.{Edid};
+
+    ghost from_gives = { λ cause e. e ≡ Edid cause };
+
+    fn from(cause: EdidCause) -> EmulateError {
+        EmulateError::Edid(cause)
+    }
+}
+
+/// Runs a script on a topology, and writes the trace of the run: the bytes of that trace and nothing else.
+///
+/// # Errors
+///
+/// The first line of the topology, and then of the script, that is at fault, and its cause; then the cause for
+/// which the topology's EDID is refused; want of memory: then nothing was written. A failed write: then the front
+/// of the trace was written, as long as it tells.
+pub fn emulate<S: Sink>(
+    alloc: Global,
+    topology: &[u8],
+    script: &[u8],
+    out: &mut S,
+) -> Result<Totals, EmulateError>
+    ensures ok { IfOk result (λ totals. (text : List ℕ) × IsTraceOf topology.now script.now text totals × Appends (S.contents out.old) (S.contents out.new) text) }
+    ensures told { IfErr result (IsTold topology.now script.now) }
+    ensures write { S.is_stuck out.old ≡ false → (IsTrue (is_write result) ↔ IsTrue (S.is_stuck out.new)) }
+    ensures cut { IfErr result (IsCut topology.now script.now (S.contents out.old) (S.contents out.new)) }
+{
+    let topology = parse_topology(alloc, topology)?;
+    let script = parse_script(alloc, &topology, script)?;
+    let edid = root_of(&topology.edid)?;
+    let mut net = Net::new(topology.tree, EdgeWire::new(), script.pulses);
+    match run(out, &mut net, &edid, &script.events, script.end) {
+        Ok(totals) => Ok(totals),
+        Err(fault) => Err(EmulateError::Write(fault.count)),
+    }
+}

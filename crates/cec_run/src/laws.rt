@@ -1,0 +1,20 @@
+//! Laws of runs.
+ghost use Rattle.cec_run.specs.Run.{OneTrace};
+ghost use Rattle.cec_run.specs.RunLine.{RunsAreRead};
+ghost use Rattle.cec_run.specs.Emulate.{TextsHaveOneTrace};
+
+/// A run has one trace, and one count of its rounds and refused events.
+pub fn one_trace()
+    ensures { OneTrace }
+{}
+
+/// The texts of a topology and a script have one trace, and one count of what it tells.
+pub fn texts_have_one_trace()
+    ensures { TextsHaveOneTrace }
+{}
+
+/// The readings of a run's whole line, cut at the script's end or the last close, whichever is later, are those
+/// of its rounds, in order, each once.
+pub fn runs_are_read()
+    ensures { RunsAreRead }
+{}

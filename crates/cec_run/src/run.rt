@@ -1,0 +1,290 @@
+//! A run of the network, and its trace.
+ghost use Rattle.std.specs.Prelude.{◌≡◌, ℕ, ◌+◌, ◌++◌, ◌<◌, ◌≤◌, List, length, true, false, Some, IsSome, IfOk, IfErr, OnOk, OnErr, All, Option};
+ghost use Rattle.std.specs.List.{flat_map};
+ghost use Rattle.std.specs.Io.KnownBytes.{Appends};
+ghost use Rattle.hdmi_cta.specs.Written.{WrittenLine};
+ghost use Rattle.cec_asm.specs.Script.{IsSchedule};
+ghost use Rattle.cec_net.specs.State.{next_start};
+ghost use Rattle.cec_run.specs.declared.run.Totals.{Totals as TotalsRecord};
+ghost use Rattle.cec_net.specs.Apply.{NamesDevices, applied, event_fault};
+ghost use Rattle.cec_run.specs.Cut.{CutOff, WrittenText, told_count};
+ghost use Rattle.cec_run.specs.StateText.{state_line};
+ghost use Rattle.cec_run.specs.TraceText.{event_line, end_line, is_complete};
+ghost use Rattle.cec_run.specs.Root.{HasAddress};
+ghost use Rattle.cec_run.specs.Run.{IsTrace, IsTraceFrom, RoundWritten, counted_event, counted_round, event_text, event_turn, first_time, round_turn, start, turn_of};
+
+use crate::port_text::{on_wire, write_ports};
+use crate::round_text::write_round;
+use crate::state_text::write_state;
+use crate::trace_text::{write_end, write_event};
+use crate::written::{counted, cut_at};
+use cec_asm::TimedEvent;
+use cec_device::Device;
+use cec_frame::Ending;
+use cec_net::Net;
+use cec_wire::Wire;
+use hdmi_cta::{Sink, WriteFault};
+use hdmi_edtext::Edid;
+
+/// What a run did.
+#[derive(Clone, Copy, Debug, Default, PartialEq, Eq)]
+pub struct Totals {
+    /// How many rounds the wire carried.
+    pub rounds: u64,
+    /// How many of them were read whole.
+    pub complete: u64,
+    /// How many events were refused.
+    pub refused: u64,
+}
+
+/// What comes next in a run.
+#[derive(Clone, Copy, Debug, PartialEq, Eq)]
+pub enum Turn {
+    Stop,
+    Apply(u64),
+    Round(u64),
+}
+
+// The next round, where it begins before the end.
+fn round_turn(end: u64, begin: Option<u64>) -> Turn
+    ensures { result ≡ round_turn end begin }
+{
+    match begin {
+        Some(begin) if begin < end => Turn::Round(begin),
+        _ => Turn::Stop,
+    }
+}
+
+fn event_turn(end: u64, at: u64) -> Turn
+    ensures { result ≡ event_turn end at }
+{
+    if at < end {
+        Turn::Apply(at)
+    } else {
+        Turn::Stop
+    }
+}
+
+/// What comes next, where the next event has this time.
+fn next_turn<W>(end: u64, net: &Net<W>, time: Option<u64>) -> Turn
+    ensures { result ≡ turn_of end net.now time }
+{
+    let begin = net.next_start();
+    let Some(time) = time else {
+        return round_turn(end, begin);
+    };
+    let at = net.close().max(time);
+    match begin {
+        Some(begin) if begin < at => round_turn(end, Some(begin)),
+        _ => event_turn(end, at),
+    }
+}
+
+fn first_time(events: &[TimedEvent]) -> Option<u64>
+    ensures { result ≡ first_time events.now }
+{
+    match events.first() {
+        None => None,
+        Some(event) => Some(event.at),
+    }
+}
+
+// Applies an event, and writes its line.
+fn apply_alone<S: Sink, W>(
+    out: &mut S,
+    net: &mut Net<W>,
+    totals: &mut Totals,
+    at: u64,
+    event: &TimedEvent,
+) -> Result<u128, WriteFault>
+    requires early { at ≤ 2000000000000 }
+    requires known { NamesDevices (length net.old.tree) event.now.event }
+    requires room { totals.old.refused < 18446744073709551615 }
+    ensures net { net.new ≡ applied at event.now.event net.old }
+    ensures totals { totals.new ≡ counted_event (event_fault net.old event.now.event) totals.old }
+    ensures line { WrittenLine (S.contents out.old) (S.contents out.new) (S.is_stuck out.old) (S.is_stuck out.new)
+        (event_line at event.now.line (event_fault net.old event.now.event)) result }
+{
+    match net.apply(at, event.event.copy()) {
+        Ok(()) => write_event(out, at, event.line, None),
+        Err(error) => {
+            totals.refused += 1;
+            write_event(out, at, event.line, Some(error))
+        }
+    }
+}
+
+/// Applies an event, and writes its line and those of the ports of the devices that come onto the wire by it.
+fn apply_event<S: Sink, W>(
+    out: &mut S,
+    net: &mut Net<W>,
+    edid: &Option<Edid>,
+    totals: &mut Totals,
+    at: u64,
+    event: &TimedEvent,
+) -> Result<u128, WriteFault>
+    requires addressed { HasAddress edid.now }
+    requires early { at ≤ 2000000000000 }
+    requires known { NamesDevices (length net.old.tree) event.now.event }
+    requires room { totals.old.refused < 18446744073709551615 }
+    ensures net { net.new ≡ applied at event.now.event net.old }
+    ensures totals { totals.new ≡ counted_event (event_fault net.old event.now.event) totals.old }
+    ensures text { WrittenText (S.contents out.old) (S.contents out.new) (S.is_stuck out.old) (S.is_stuck out.new)
+        (event_text edid.now at event.now net.old) result }
+{
+    let was = on_wire(net.tree());
+    match apply_alone(out, net, totals, at, event) {
+        Ok(count) => match write_ports(out, at, edid, net.tree(), &was) {
+            Ok(more) => Ok(counted(count, more)),
+            Err(fault) => Err(cut_at(count, fault)),
+        },
+        Err(fault) => Err(cut_at(0, fault)),
+    }
+}
+
+fn counted_round(totals: Totals, ending: Ending) -> Totals
+    requires room { totals.rounds < 18446744073709551615 }
+    requires less { totals.complete ≤ totals.rounds }
+    ensures { result ≡ counted_round (is_complete ending) totals }
+{
+    match ending {
+        Ending::Complete => Totals {
+            rounds: totals.rounds + 1,
+            complete: totals.complete + 1,
+            refused: totals.refused,
+        },
+        _ => Totals {
+            rounds: totals.rounds + 1,
+            complete: totals.complete,
+            refused: totals.refused,
+        },
+    }
+}
+
+/// Runs the next round, and writes its line.
+fn run_round<S: Sink, W: Wire>(
+    out: &mut S,
+    net: &mut Net<W>,
+    totals: &mut Totals,
+) -> Result<u128, WriteFault>
+    requires starts { IsSome (next_start net.old) }
+    requires early { net.old.close ≤ 2000000000000 }
+    requires room { totals.old.rounds < 18446744073709551615 }
+    requires less { totals.old.complete ≤ totals.old.rounds }
+    ensures { RoundWritten net.old net.new totals.old totals.new (S.contents out.old) (S.contents out.new) (S.is_stuck out.old) (S.is_stuck out.new) result }
+{
+    let Some(report) = net.round() else {
+        unreachable!();
+    };
+    *totals = counted_round(*totals, report.outcome.reading.ending);
+    let _stretches = report.outcome.wave.as_slice();
+    write_round(out, net.devices(), &report.outcome)
+}
+
+/// Writes the state lines of the devices.
+fn write_states<S: Sink>(out: &mut S, devices: &[Device<16>]) -> Result<u128, WriteFault>
+    ensures { WrittenText (S.contents out.old) (S.contents out.new) (S.is_stuck out.old) (S.is_stuck out.new) (flat_map state_line devices.now) result }
+{
+    let mut written = 0;
+    for device in devices {
+        match write_state(out, device) {
+            Ok(count) => written = counted(written, count),
+            Err(fault) => return Err(cut_at(written, fault)),
+        }
+    }
+    Ok(written)
+}
+
+// Writes the state lines of the devices, and the last line.
+fn write_last_lines<S: Sink>(
+    out: &mut S,
+    devices: &[Device<16>],
+    end: u64,
+) -> Result<u128, WriteFault>
+    ensures { WrittenText (S.contents out.old) (S.contents out.new) (S.is_stuck out.old) (S.is_stuck out.new) (flat_map state_line devices.now ++ end_line end) result }
+{
+    let written = write_states(out, devices)?;
+    match write_end(out, end) {
+        Ok(count) => Ok(counted(written, count)),
+        Err(fault) => Err(cut_at(written, fault)),
+    }
+}
+
+// Runs a network to `end`, and writes its trace but for the port lines at its start.
+fn run_turns<S: Sink, W: Wire>(
+    out: &mut S,
+    net: &mut Net<W>,
+    edid: &Option<Edid>,
+    events: &[TimedEvent],
+    end: u64,
+) -> Result<Totals, WriteFault>
+    requires addressed { HasAddress edid.now }
+    requires early { end ≤ 1000000000000 }
+    requires fresh { (net.old.close ≤ 1000000000000) × (net.old.rest ≤ 1000000000000) }
+    requires schedule { IsSchedule (length net.old.tree) end 0 events.now }
+    ensures ok { IfOk result (λ totals. (text : List ℕ) × IsTraceFrom edid.now end (start net.old events.now) text totals × Appends (S.contents out.old) (S.contents out.new) text) }
+    ensures same { OnOk result (S.is_stuck out.new ≡ S.is_stuck out.old) }
+    ensures cut { IfErr result (λ fault. (text : List ℕ) (totals : TotalsRecord) → IsTraceFrom edid.now end (start net.old events.now) text totals
+        → CutOff (S.contents out.old) (S.contents out.new) text fault) }
+    ensures stuck { OnErr result (S.is_stuck out.new ≡ true) }
+{
+    let mut rest = events;
+    let mut totals = Totals::default();
+    let mut written = 0;
+    'turns: loop {
+        match next_turn(end, net, first_time(rest)) {
+            Turn::Stop => break,
+            Turn::Apply(at) => {
+                let Some((event, others)) = rest.split_first() else {
+                    unreachable!();
+                };
+                match apply_event(out, net, edid, &mut totals, at, event) {
+                    Ok(count) => written = counted(written, count),
+                    Err(fault) => return Err(cut_at(written, fault)),
+                }
+                rest = others;
+            }
+            Turn::Round(_) => match run_round(out, net, &mut totals) {
+                Ok(count) => written = counted(written, count),
+                Err(fault) => return Err(cut_at(written, fault)),
+            },
+        }
+    }
+    match write_last_lines(out, net.devices(), end) {
+        Ok(_) => Ok(totals),
+        Err(fault) => Err(cut_at(written, fault)),
+    }
+}
+
+/// Runs a network to `end`, at most 1,000,000,000,000 microseconds, and writes its trace. The EDID of the
+/// television, where it is given, has an HDMI block. The events stand in the order of their times, all before
+/// `end`, and name devices of the tree.
+///
+/// # Errors
+///
+/// A `put` took none. Its count, which stays at its greatest value, tells how much of the trace was written.
+pub fn run<S: Sink, W: Wire>(
+    out: &mut S,
+    net: &mut Net<W>,
+    edid: &Option<Edid>,
+    events: &[TimedEvent],
+    end: u64,
+) -> Result<Totals, WriteFault>
+    requires addressed { HasAddress edid.now }
+    requires early { end ≤ 1000000000000 }
+    requires fresh { (net.old.close ≤ 1000000000000) × (net.old.rest ≤ 1000000000000) }
+    requires schedule { IsSchedule (length net.old.tree) end 0 events.now }
+    ensures ok { IfOk result (λ totals. (text : List ℕ) × IsTrace edid.now end (start net.old events.now) text totals × Appends (S.contents out.old) (S.contents out.new) text) }
+    ensures same { OnOk result (S.is_stuck out.new ≡ S.is_stuck out.old) }
+    ensures cut { IfErr result (λ fault. (text : List ℕ) (totals : TotalsRecord) → IsTrace edid.now end (start net.old events.now) text totals
+        → CutOff (S.contents out.old) (S.contents out.new) text fault) }
+    ensures stuck { OnErr result (S.is_stuck out.new ≡ true) }
+{
+    match write_ports(out, 0, edid, net.tree(), &[]) {
+        Ok(written) => match run_turns(out, net, edid, events, end) {
+            Ok(totals) => Ok(totals),
+            Err(fault) => Err(cut_at(written, fault)),
+        },
+        Err(fault) => Err(fault),
+    }
+}

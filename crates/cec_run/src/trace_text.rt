@@ -1,0 +1,150 @@
+//! The lines of a trace that tell rounds and events.
+ghost use Rattle.std.specs.Prelude.{◌≡◌, ℕ, ◌+◌, ◌*◌, ◌-◌, ◌<◌, ◌≤◌, ◌++◌, length, map, List, slice_index_or};
+ghost use Rattle.std.specs.List.{flat_map};
+ghost use Rattle.arrayvec.specs.ArrayVec.{array_vec_len};
+ghost use Rattle.hdmi_cta.specs.Piece.{piece_text};
+ghost use Rattle.hdmi_cta.specs.Written.{WrittenLine};
+ghost use Rattle.cec_run.specs.TraceText.{bit_digit, bits_text, end_line, ending_text, error_word, event_line, key_word, listed, plug_word, submit_word, told_text, unplug_word, verdict_by, verdict_text};
+
+use arrayvec::ArrayVec;
+use cec_device::{KeyError, SubmitError};
+use cec_frame::Ending;
+use cec_net::EventError;
+use hdmi_cta::{Piece, Sink, WriteFault, write_line};
+use hdmi_topo::{PlugError, UnplugError};
+
+fn plug_word(error: PlugError) -> &'static str
+    ensures { result.now ≡ plug_word error }
+{
+    match error {
+        PlugError::PortRange => "port-range",
+        PlugError::PortTaken => "port-taken",
+        PlugError::NotLoose => "not-loose",
+        PlugError::Loop => "loop",
+    }
+}
+
+fn unplug_word(error: UnplugError) -> &'static str
+    ensures { result.now ≡ unplug_word error }
+{
+    match error {
+        UnplugError::NotPlugged => "not-plugged",
+    }
+}
+
+fn key_word(error: KeyError) -> &'static str
+    ensures { result.now ≡ key_word error }
+{
+    match error {
+        KeyError::NotForKind => "not-for-kind",
+        KeyError::OffWire => "off-wire",
+    }
+}
+
+fn submit_word(error: SubmitError) -> &'static str
+    ensures { result.now ≡ submit_word error }
+{
+    match error {
+        SubmitError::QueueFull => "queue-full",
+        SubmitError::OwnAddress => "own-address",
+        SubmitError::NoAddress => "no-address",
+        SubmitError::OffWire => "off-wire",
+    }
+}
+
+fn error_word(error: EventError) -> &'static str
+    ensures { result.now ≡ error_word error }
+{
+    match error {
+        EventError::Plug(error) => plug_word(error),
+        EventError::Unplug(error) => unplug_word(error),
+        EventError::Key(error) => key_word(error),
+        EventError::Send(error) => submit_word(error),
+    }
+}
+
+/// Writes the line of an event: when it was applied, its line in the script, and why it was refused.
+pub fn write_event<S: Sink>(
+    out: &mut S,
+    at: u64,
+    line: u64,
+    refused: Option<EventError>,
+) -> Result<u128, WriteFault>
+    ensures { WrittenLine (S.contents out.old) (S.contents out.new) (S.is_stuck out.old) (S.is_stuck out.new) (event_line at line refused) result }
+{
+    match refused {
+        None => write_line(
+            out,
+            &[
+                Piece::Decimal(at),
+                Piece::Text(" event "),
+                Piece::Decimal(line),
+                Piece::Text(" ok\n"),
+            ],
+        ),
+        Some(error) => write_line(
+            out,
+            &[
+                Piece::Decimal(at),
+                Piece::Text(" event "),
+                Piece::Decimal(line),
+                Piece::Text(" refused "),
+                Piece::Text(error_word(error)),
+                Piece::Text("\n"),
+            ],
+        ),
+    }
+}
+
+/// Writes the last line.
+pub fn write_end<S: Sink>(out: &mut S, end: u64) -> Result<u128, WriteFault>
+    ensures { WrittenLine (S.contents out.old) (S.contents out.new) (S.is_stuck out.old) (S.is_stuck out.new) (end_line end) result }
+{
+    write_line(out, &[Piece::Decimal(end), Piece::Text(" end\n")])
+}
+
+pub fn ending_word(ending: Ending) -> &'static str
+    ensures { result.now ≡ ending_text ending }
+{
+    match ending {
+        Ending::Complete => " complete ",
+        Ending::Short => " short ",
+        Ending::Silent => " silent ",
+        Ending::BadStart => " bad-start ",
+        Ending::Long => " long ",
+        Ending::Open => " open ",
+    }
+}
+
+pub fn verdict_word(is_broadcast: bool, last_bit: bool) -> &'static str
+    ensures { result.now ≡ verdict_by is_broadcast last_bit }
+{
+    match (is_broadcast, last_bit) {
+        (true, true) => " ok",
+        (true, false) => " refused",
+        (false, true) => " nack",
+        (false, false) => " ack",
+    }
+}
+
+fn bit_digit(bit: bool) -> u8
+    ensures { result ≡ bit_digit bit }
+{
+    if bit { b'1' } else { b'0' }
+}
+
+// The bits as digits.
+pub fn bits_text(bits: &[bool]) -> ArrayVec<u8, 160>
+    requires { length bits.now ≤ 160 }
+    ensures { result.items ≡ bits_text bits.now }
+{
+    let mut text = ArrayVec::new();
+    if bits.is_empty() {
+        text.push(b'-');
+        return text;
+    }
+    for bit in bits {
+        text.push(bit_digit(*bit));
+    }
+    text
+}

@@ -1,5 +1,0 @@
-use Rattle.hdminet.proofs.Accepted as Accepted
-use Rattle.hdminet.proofs.laws.texts_have_one_trace.Goals as goal
-
-pub returns : goal.returns
-returns c = Accepted.texts_have_one_trace
