@@ -1,6 +1,7 @@
 -- How a line is read, part by part.
 use Rattle.std.proofs.Common.{◌≡◌, ℕ, ◌+◌, ◌<◌, Bool, true, false, cond, codes, List, [], ◌∷◌, length, Option, Some, None, Result, Ok, Err, refl, sym, ap, subst, ◌∙◌, arith}
 use Rattle.std.proofs.lemmas.List.Splits.{join_with_byte-slice_split}
+use Rattle.cec_wave.specs.declared.Stretch.{Stretch}
 use Rattle.hdmi_topo.specs.Node.{Node}
 use Rattle.hdmi_topo.specs.Tree.{device_named}
 use Rattle.cec_text.specs.declared.assembler.AssembleError.{AssembleError}
@@ -9,7 +10,7 @@ use Rattle.cec_asm.specs.declared.script.ScriptCause.{ScriptCause}
 use Rattle.cec_asm.specs.declared.script.LineError.{LineError}
 use Rattle.cec_asm.specs.declared.script.LineError.TheVariants.{Cause, Memory}
 use Rattle.cec_asm.proofs.WordLemmas.{words_of-some}
-use Rattle.cec_asm.specs.Script.{Course, Notes, ScriptFault, time_of, send_read, IsFrameOf, IsSendRead, IsLineRead, AreLinesRead, GivesNotes, Gives}
+use Rattle.cec_asm.specs.Script.{Course, Notes, ScriptFault, time_of, send_read, ended, IsFrameOf, IsSendRead, IsLineRead, AreLinesRead, GivesNotes, Gives}
 
 pub text_of-words_of : (text : List ℕ) → text_of (words_of text) ≡ text
 text_of-words_of text = join_with_byte-slice_split 32 text
@@ -41,3 +42,13 @@ pub line_read : (tree : List Node) (texts after : List (List ℕ)) (text : List 
     → AreLinesRead tree after (line + 1) next read → AreLinesRead tree texts line notes read
 line_read tree texts after text line notes next read split first rest =
     let P : List (List ℕ) → Type 0 = λ t. AreLinesRead tree t line notes read in subst P (sym split) (Ok next, first, rest)
+
+-- behind the last line
+pub last_line : (tree : List Node) (texts : List (List ℕ)) (line : ℕ) (notes : Notes) (pulses : List Stretch) (time : ℕ) → texts ≡ [] → pulses ≡ notes.pulses → notes.end ≡ Some time
+    → AreLinesRead tree texts line notes (Ok (record { events = notes.events; pulses = pulses; end = time }))
+last_line tree texts line notes pulses time none same end =
+    let course : Course = record { events = notes.events; pulses = pulses; end = time } in
+    let course_is : course ≡ record { events = notes.events; pulses = notes.pulses; end = time } = ap (λ (ps : List Stretch). record { events = notes.events; pulses = ps; end = time }) same in
+    let read : Ok course ≡ ended notes line notes.end = ap Ok course_is ∙ sym (ap (ended notes line) end) in
+    let P : List (List ℕ) → Type 0 = λ t. AreLinesRead tree t line notes (Ok course) in
+    subst P (sym none) read

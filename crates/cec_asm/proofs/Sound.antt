@@ -2,7 +2,9 @@
 use Rattle.std.proofs.Common.{◌≡◌, ℕ, suc, ◌+◌, ◌-◌, ◌<◌, ◌≤◌, ◌&&◌, Bool, true, false, cond, codes, List, [], ◌∷◌, ◌++◌, length, min, nat_lt, nat_le, slice_get, Option, Some, None, is_some, option_map, Result, Ok, Err, refl, sym, ap, subst, ◌∙◌, arith, length-append}
 use Rattle.std.specs.Str.{bytes_eq}
 use Rattle.std.specs.Option.{option_map_or}
+use Rattle.std.specs.List.{All}
 use Rattle.std.proofs.lemmas.Grind.{common_steps}
+use Rattle.std.proofs.lemmas.List.Elements.{All-append, All-nil, All-from_recursion}
 use Rattle.std.proofs.lemmas.Bool.Decides.{nat_tests}
 use Rattle.cec_wave.specs.declared.Stretch.{Stretch}
 use Rattle.cec_wave.specs.declared.PulsesError.{PulsesError}
@@ -11,7 +13,8 @@ use Rattle.cec_wave.specs.Pulses.{stretch_fault, first_of, first_fault, pulses_f
 use Rattle.hdmi_topo.specs.Node.{Node}
 use Rattle.hdmi_topo.specs.Tree.{device_named}
 use Rattle.cec_device.specs.declared.keys.Key.{Key as KeyValue}
-use Rattle.cec_text.specs.Lines.{is_skipped}
+use Rattle.cec_wave.proofs.Sparse.{faultless_are_sparse}
+use Rattle.cec_text.specs.Lines.{lines_of, is_skipped}
 use Rattle.cec_text.specs.FrameReading.{are_bytes, is_frame}
 use Rattle.cec_text.specs.declared.assembler.AssembleError.{AssembleError}
 use Rattle.cec_asm.specs.Words.{words_of, text_of, one_of, two_of, three_of}
@@ -23,7 +26,7 @@ use Rattle.cec_net.specs.declared.event.Event.TheVariants.{Plug, Unplug, Key, Se
 use Rattle.cec_asm.specs.declared.script.TimedEvent.{TimedEvent}
 use Rattle.cec_asm.specs.declared.script.ScriptCause.{ScriptCause}
 use Rattle.cec_asm.specs.declared.script.ScriptCause.TheVariants.{Word, Number, Name, Frame, Width, Order, Close, TooMany, End}
-use Rattle.cec_asm.specs.Script.{Course, Notes, within_limit, time_of, last_time, last_end, scheduled, plug_read, plug_words, unplug_read, unplug_words, key_read, key_words, send_read, event_words, pulse_cause, unless_fault, pulsed, pulse_read, pulse_words, end_read, end_words, other_words, ended, no_notes, IsFrameOf, IsSendRead, IsEventRead, IsWordsRead, IsLineRead, IsAmong, IsSchedule, AreFramedEvents, IsScript}
+use Rattle.cec_asm.specs.Script.{Course, Notes, within_limit, time_of, last_time, last_end, scheduled, plug_read, plug_words, unplug_read, unplug_words, key_read, key_words, send_read, event_words, pulse_cause, unless_fault, pulsed, pulse_read, pulse_words, end_read, end_words, other_words, ended, no_notes, IsFrameOf, IsSendRead, IsEventRead, IsWordsRead, IsLineRead, IsAmong, IsSchedule, AreFramedEvents, IsScript, Onward, AreLinesRead, ScriptsAreSound}
 
 -- ---- times
 
@@ -129,14 +132,19 @@ one_more pulses pulse h g room =
 
 -- ---- what the lines so far keep
 
+-- within the limit of times
+abbrev IsEarly : Stretch → Type 0
+IsEarly pulse = pulse.from ≤ 1000000000000
+
 pub record AreSound (count : ℕ) (notes : Notes) : Type 0 where
   pub schedule : IsSchedule count (last_time notes.events + 1) 0 notes.events
   pub framed : AreFramedEvents notes.events
   pub sparse : pulses_fault notes.pulses ≡ None
+  pub early : All IsEarly notes.pulses
   pub ended : (time : ℕ) → notes.end ≡ Some time → IsSchedule count time 0 notes.events × (time ≤ 1000000000000)
 
 pub sound_start : (count : ℕ) → AreSound count no_notes
-sound_start count = record { schedule = tt; framed = tt; sparse = refl; ended = λ t e. (cc) }
+sound_start count = record { schedule = tt; framed = tt; sparse = refl; early = All-nil IsEarly; ended = λ t e. (cc) }
 
 Keeps : ℕ → Result Notes ScriptCause → Type 0
 Keeps count read = (next : Notes) → read ≡ Ok next → AreSound count next
@@ -174,6 +182,7 @@ scheduled-keeps count notes line time event s known framed =
           schedule = subst Until (sym last) (IsSchedule-append count (time + 1) 0 notes.events timed (IsSchedule-later count (last_time notes.events + 1) (time + 1) 0 notes.events (omega arith) s.schedule) from_zero (omega arith) known);
           framed = AreFramedEvents-append notes.events timed s.framed framed;
           sparse = s.sparse;
+          early = s.early;
           ended = λ t h. (let clash = rw h at unended in cc);
         }
 
@@ -257,8 +266,12 @@ event-keeps tree notes line (time ∷ verb ∷ words) next s h =
     (λ p. send-keeps tree notes line time words next s p)
     (λ q. keeps_next (length tree) (event_words tree notes line time verb words) next (event_words-keeps tree notes line time verb words s) (sym q)) h
 
-pulsed-keeps : (count : ℕ) (notes : Notes) (pulse : Stretch) → AreSound count notes → Keeps count (pulsed notes pulse)
-pulsed-keeps count notes pulse s =
+within_limit-limit : (o : Option ℕ) (time : ℕ) → within_limit o ≡ Some time → time ≤ 1000000000000
+within_limit-limit None time h = cc
+within_limit-limit (Some n) time h = grind (arith, nat_tests)
+
+pulsed-keeps : (count : ℕ) (notes : Notes) (pulse : Stretch) → AreSound count notes → pulse.from ≤ 1000000000000 → Keeps count (pulsed notes pulse)
+pulsed-keeps count notes pulse s within =
     elim (stretch_fault (last_end notes.pulses) pulse) as (λ o. stretch_fault (last_end notes.pulses) pulse ≡ o → Keeps count (unless_fault o notes pulse)) [
       | Some fault ↦ λ e. keeps_err count (pulse_cause fault)
       | None ↦ λ e. keeps_if count (nat_le 4096 (length notes.pulses)) _ _ (λ full. keeps_err count TooMany)
@@ -267,18 +280,19 @@ pulsed-keeps count notes pulse s =
             schedule = s.schedule;
             framed = s.framed;
             sparse = one_more notes.pulses pulse s.sparse e room;
+            early = All-append IsEarly notes.pulses (pulse ∷ []) s.early (All-from_recursion IsEarly (pulse ∷ []) (within, tt));
             ended = s.ended;
           })))
     ] refl
 
-pulse_read-keeps : (count : ℕ) (notes : Notes) (time width : Option ℕ) → AreSound count notes → Keeps count (pulse_read notes time width)
-pulse_read-keeps count notes None width s = keeps_err count Number
-pulse_read-keeps count notes (Some time) None s = keeps_err count Number
-pulse_read-keeps count notes (Some time) (Some width) s = pulsed-keeps count notes (record { from = time; to = time + min width 65535 }) s
+pulse_read-keeps : (count : ℕ) (notes : Notes) (time width : Option ℕ) → AreSound count notes → ((t : ℕ) → time ≡ Some t → t ≤ 1000000000000) → Keeps count (pulse_read notes time width)
+pulse_read-keeps count notes None width s limit = keeps_err count Number
+pulse_read-keeps count notes (Some time) None s limit = keeps_err count Number
+pulse_read-keeps count notes (Some time) (Some width) s limit = pulsed-keeps count notes (record { from = time; to = time + min width 65535 }) s (limit time refl)
 
 pulse_words-keeps : (count : ℕ) (notes : Notes) (words : Option (List ℕ × List ℕ)) → AreSound count notes → Keeps count (pulse_words notes words)
 pulse_words-keeps count notes None s = keeps_err count Word
-pulse_words-keeps count notes (Some words) s = pulse_read-keeps count notes (time_of words.0) (number_of words.1) s
+pulse_words-keeps count notes (Some words) s = pulse_read-keeps count notes (time_of words.0) (number_of words.1) s (within_limit-limit (number_of words.0))
 
 -- after every event there is
 ends_after : (count time : ℕ) (events : List TimedEvent) → IsSchedule count (last_time events + 1) 0 events → (nat_lt 0 (length events) && nat_le time (last_time events)) ≡ false → IsSchedule count time 0 events
@@ -296,13 +310,10 @@ end_read-keeps count notes (Some time) s limit =
       schedule = s.schedule;
       framed = s.framed;
       sparse = s.sparse;
+      early = s.early;
       ended = λ t h. (let same : time ≡ t = cc in let Ends : ℕ → Type 0 = λ n. IsSchedule count n 0 notes.events × (n ≤ 1000000000000) in
           subst Ends same (ends_after count time notes.events s.schedule after, limit time refl));
     })))
-
-within_limit-limit : (o : Option ℕ) (time : ℕ) → within_limit o ≡ Some time → time ≤ 1000000000000
-within_limit-limit None time h = cc
-within_limit-limit (Some n) time h = grind (arith, nat_tests)
 
 end_words-keeps : (count : ℕ) (notes : Notes) (words : Option (List ℕ)) → AreSound count notes → Keeps count (end_words notes words)
 end_words-keeps count notes None s = keeps_err count Word
@@ -328,5 +339,25 @@ line-keeps tree notes line text next s h =
     (λ q. words-keep tree notes line (words_of text) next s q) h
 
 -- what the lines keep at the end is a script
-pub sound_script : (count : ℕ) (notes : Notes) (pulses : List Stretch) (time : ℕ) → AreSound count notes → notes.end ≡ Some time → IsScript count (record { events = notes.events; pulses = pulses; end = time })
-sound_script count notes pulses time s e = let r = s.ended time e in record { schedule = r.0; framed = s.framed; limit = r.1 }
+sound_script : (count : ℕ) (notes : Notes) (line : ℕ) (course : Course) → AreSound count notes → Ok course ≡ ended notes line notes.end → IsScript count course
+sound_script count notes line course s h =
+    let Is : Course → Type 0 = λ found. IsScript count found in
+    elim notes.end as (λ o. notes.end ≡ o → Ok course ≡ ended notes line o → IsScript count course) [
+      | None ↦ λ e g. (cc)
+      | Some time ↦ λ e g. (
+          let r = s.ended time e in
+          let same : record { events = notes.events; pulses = notes.pulses; end = time } ≡ course = cc in
+          subst Is same (record { schedule = r.0; framed = s.framed; sparse = (faultless_are_sparse notes.pulses).0 s.sparse; early = s.early; limit = r.1 }))
+    ] refl h
+
+lines-sound : (tree : List Node) (texts : List (List ℕ)) (line : ℕ) (notes : Notes) (course : Course) → AreSound (length tree) notes → AreLinesRead tree texts line notes (Ok course) → IsScript (length tree) course
+lines-sound tree [] line notes course s h = sound_script (length tree) notes line course s h
+lines-sound tree (text ∷ texts) line notes course s h = step h.0 h.1 h.2 (λ next n. lines-sound tree texts (line + 1) next course n)
+  where
+    step : (r : Result Notes ScriptCause) → IsLineRead tree notes line text r → Onward line r (λ next. AreLinesRead tree texts (line + 1) next (Ok course)) (Ok course)
+        → ((next : Notes) → AreSound (length tree) next → AreLinesRead tree texts (line + 1) next (Ok course) → IsScript (length tree) course) → IsScript (length tree) course
+    step (Ok next) l k on = on next (line-keeps tree notes line text next s l) k
+    step (Err cause) l k on = cc
+
+pub scripts_are_sound : ScriptsAreSound
+scripts_are_sound tree text course h = lines-sound tree (lines_of text) 1 no_notes course (sound_start (length tree)) h

@@ -1,12 +1,12 @@
 -- Texts of scripts (own): lines `at T EVENT`, `pulse T WIDTH`, and last `end T`. Of the causes that apply to a line
 -- it has the first in the order of `ScriptCause`.
-use Rattle.std.specs.Prelude.{◌≡◌, ℕ, ◌+◌, ◌-◌, ◌<◌, ◌≤◌, ◌&&◌, Bool, true, false, cond, codes, length, min, List, [], ◌∷◌, ◌++◌, nat_lt, nat_le, slice_get, if◌then◌else◌, Option, Some, None, is_some, option_map, Result, Ok, Err}
+use Rattle.std.specs.Prelude.{◌≡◌, ℕ, ◌+◌, ◌-◌, ◌<◌, ◌≤◌, ◌&&◌, Bool, true, false, cond, codes, length, min, List, [], ◌∷◌, ◌++◌, nat_lt, nat_le, slice_get, if◌then◌else◌, Option, Some, None, is_some, option_map, Result, Ok, Err, All}
 use Rattle.std.specs.Str.{bytes_eq}
 use Rattle.std.specs.Option.{option_map_or}
 use Rattle.cec_wave.specs.declared.Stretch.{Stretch}
 use Rattle.cec_wave.specs.declared.PulsesError.{PulsesError}
 use Rattle.cec_wave.specs.declared.PulsesError.TheVariants as faults
-use Rattle.cec_wave.specs.Pulses.{stretch_fault}
+use Rattle.cec_wave.specs.Pulses.{stretch_fault, AreSparse}
 use Rattle.cec_device.specs.declared.keys.Key.{Key as KeyValue}
 use Rattle.hdmi_topo.specs.Node.{Node}
 use Rattle.hdmi_topo.specs.Tree.{device_named}
@@ -294,7 +294,13 @@ AreFramedEvents (event ∷ events) = IsFramedEvent event.event × AreFramedEvent
 pub record IsScript (count : ℕ) (course : Course) : Type 0 where
   pub schedule : IsSchedule count course.end 0 course.events
   pub framed : AreFramedEvents course.events
+  pub sparse : AreSparse course.pulses
+  pub early : All (λ pulse. pulse.from ≤ 1000000000000) course.pulses
   pub limit : course.end ≤ 1000000000000
+
+-- every text of a script gives one
+abbrev pub ScriptsAreSound : Type 0
+ScriptsAreSound = (tree : List Node) (text : List ℕ) (course : Course) → IsScriptRead tree text (Ok course) → IsScript (length tree) course
 
 -- a text that is read as a script is read in no other way
 abbrev pub OneScript : Type 0

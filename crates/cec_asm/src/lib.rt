@@ -8,5 +8,10 @@ mod topology;
 mod words;
 
 pub use cec_text::{AssembleError, WordSet, assemble, frame_text, write_frame};
-pub use script::{Script, ScriptCause, ScriptError, TimedEvent, one_script, parse_script};
+pub use script::{
+    Script, ScriptCause, ScriptError, TimedEvent, one_script, parse_script, scripts_are_sound,
+};
 pub use topology::{Topology, TopologyCause, TopologyError, parse_topology};
+
+#[cfg(test)]
+mod tests;

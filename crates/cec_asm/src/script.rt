@@ -3,7 +3,7 @@ ghost use Rattle.std.specs.Prelude.{◌≡◌, ℕ, ◌+◌, ◌<◌, ◌≤◌,
 ghost use Rattle.std.specs.Option.{option_copied};
 ghost use Rattle.cec_wave.specs.Pulses.{pulses_fault};
 ghost use Rattle.cec_asm.specs.Words.{words_behind, one_of, two_of, three_of};
-ghost use Rattle.cec_asm.specs.Script.{Notes, notes_of, course_of, time_of, last_time, last_end, scheduled, plug_words, unplug_words, key_words, event_words, send_read, pulse_cause, pulsed, pulse_words, end_words, other_words, error_at, IsFrameOf, IsSendRead, IsEventRead, IsLineRead, GivesNotes, Gives, GivesScript, IsScript, OneScript};
+ghost use Rattle.cec_asm.specs.Script.{Notes, notes_of, course_of, time_of, last_time, last_end, scheduled, plug_words, unplug_words, key_words, event_words, send_read, pulse_cause, pulsed, pulse_words, end_words, other_words, error_at, IsFrameOf, IsSendRead, IsEventRead, IsLineRead, GivesNotes, Gives, GivesScript, IsScript, OneScript, ScriptsAreSound};
 
 use crate::keys::key_in;
 use crate::number::number_in;
@@ -525,6 +525,12 @@ pub fn parse_script(alloc: Global, topology: &Topology, text: &[u8]) -> Result<S
         end,
     })
 }
+
+/// Every text of a script gives events in the order of their times, of devices that are there and of frames that are
+/// not empty, and sparse pulses.
+pub fn scripts_are_sound()
+    ensures { ScriptsAreSound }
+{}
 
 /// A text that is read as a script is read in no other way.
 pub fn one_script()

@@ -1,8 +1,8 @@
-use Rattle.std.proofs.Common.{arith}
+use Rattle.std.proofs.Common.{◌∙◌, arith}
 use Rattle.cec_text.specs.Lines.{lines_of}
 use Rattle.cec_asm.specs.Script.{notes_of}
-use Rattle.cec_asm.proofs.Reading.{line_read}
-use Rattle.cec_asm.proofs.Sound.{line-keeps, sound_script}
+use Rattle.cec_asm.proofs.Reading.{line_read, last_line}
+use Rattle.cec_asm.proofs.Sound.{line-keeps, scripts_are_sound}
 use Rattle.cec_asm.proofs.script.parse_script.Goals as goal
 
 pub loop-line-preserved : goal.loop-line-preserved
@@ -20,4 +20,9 @@ loop-line-preserved c =
     }
 
 pub returns-clause-script : goal.returns-clause-script
-returns-clause-script c = sound_script _ (notes_of c.loop-line.draft) c.pulses_of-pulses.result c.in-Some-end.end c.loop-line.invariant.sound c.in-Some-end.is
+returns-clause-script c =
+    let tree = c.args.topology.now.tree in
+    let notes = notes_of c.loop-line.draft in
+    let pulses = c.pulses_of-pulses.ensures ∙ c.deref.ensures.value in
+    let last = last_line tree (lines_of c.loop-line.rest.now) c.loop-line.number notes c.pulses_of-pulses.result c.in-Some-end.end c.in_default.ensures.lines pulses c.in-Some-end.is in
+    scripts_are_sound tree c.args.text.now _ (c.loop-line.invariant.reads _ last)
