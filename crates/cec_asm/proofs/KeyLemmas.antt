@@ -6,9 +6,9 @@ use Rattle.std.specs.Str.{bytes_eq}
 use Rattle.std.proofs.lemmas.Slice.Eq.{bytes_eq-Decides}
 use Rattle.std.proofs.lemmas.Bool.{eqb-true}
 use Rattle.std.proofs.lemmas.Bool.Decides.{nat_tests}
-use Rattle.hdmi_cta.specs.Piece.{nibble_text, phys_text}
-use Rattle.cec_text.specs.OperandWords.{Word, word_of, words_of}
-use Rattle.cec_text.specs.declared.operand_words.WordSet.TheVariants as sets
+use Rattle.hdmi_core.specs.Piece.{nibble_text, phys_text}
+use Rattle.cec_opcode.specs.WordSets.{Word, word_of, words_of}
+use Rattle.cec_opcode.specs.declared.word_set.WordSet.TheVariants as sets
 use Rattle.cec_asm.specs.Keys.{byte_in, code_of}
 use Rattle.cec_asm.specs.Words.{is_nibble, nibble_of, has_dots, has_nibbles, phys_at}
 

@@ -6,8 +6,8 @@ use Rattle.std.specs.Char.{is_ascii_lowercase}
 use Rattle.cec_opcode.specs.ControlWords.{user_control_at}
 use Rattle.cec_opcode.specs.declared.message.Triple.{Triple}
 use Rattle.cec_opcode.specs.declared.user_control.UserControl.{UserControl}
-use Rattle.cec_text.specs.OperandWords.{words_of, Word as OperandWord}
-use Rattle.cec_text.specs.declared.operand_words.WordSet.TheVariants as sets
+use Rattle.cec_opcode.specs.WordSets.{words_of, Word as OperandWord}
+use Rattle.cec_opcode.specs.declared.word_set.WordSet.TheVariants as sets
 use Rattle.cec_device.specs.declared.keys.Key.{Key}
 use Rattle.cec_device.specs.declared.keys.Key.TheVariants.{Play, Stop, Eject, Load, Menu, Power, Watch, Port, Audio, Arc, Volume, Language, Remote}
 use Rattle.cec_device.specs.declared.keys.VolumeKey.TheVariants.{Up, Down, Mute}

@@ -1,7 +1,7 @@
 -- Words of a line (own).
 use Rattle.std.specs.Prelude.{ℕ, ◌+◌, ◌-◌, ◌*◌, ◌==◌, nat_lt, nat_le, Bool, ◌&&◌, ◌||◌, if◌then◌else◌, List, [], ◌∷◌, length, slice_index, Option, Some, None}
 use Rattle.std.specs.List.{slice_split, join_with_byte}
-use Rattle.hdmi_cta.specs.declared.phys.Phys.{Phys}
+use Rattle.hdmi_core.specs.declared.phys.Phys.{Phys}
 
 -- the words of a line, one space apart
 abbrev pub words_of : List ℕ → List (List ℕ)

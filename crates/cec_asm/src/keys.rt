@@ -12,8 +12,7 @@ use crate::script::ScriptCause;
 use crate::words::{is_nibble, nibble_of, one_word, phys_in, three_words, two_words};
 use cec_device::{Key, VolumeKey};
 use cec_frame::Addr;
-use cec_opcode::{Triple, UserControl};
-use cec_text::WordSet;
+use cec_opcode::{Triple, UserControl, WordSet};
 
 fn plain_key(word: &[u8]) -> Option<Key>
     ensures { result ≡ plain_key word.now }

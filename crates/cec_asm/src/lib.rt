@@ -7,7 +7,8 @@ mod script;
 mod topology;
 mod words;
 
-pub use cec_text::{AssembleError, WordSet, assemble, frame_text, write_frame};
+pub use cec_opcode::WordSet;
+pub use cec_text::{AssembleError, assemble, frame_text, write_frame};
 pub use script::{
     Script, ScriptCause, ScriptError, TimedEvent, one_script, parse_script, scripts_are_sound,
 };

@@ -1,11 +1,11 @@
 //! Words of a line.
 ghost use Rattle.std.specs.Prelude.{◌≡◌, ℕ, ◌+◌, ◌<◌, ◌≤◌, ◌∷◌, length, position, ◌==◌, IfSome, IsTrue, Some};
 ghost use Rattle.std.specs.Option.{option_map, option_copied};
-ghost use Rattle.hdmi_cta.specs.Piece.{phys_text};
-ghost use Rattle.hdmi_cta.specs.declared.phys.Phys.{Phys as PhysValue};
+ghost use Rattle.hdmi_core.specs.Piece.{phys_text};
+ghost use Rattle.hdmi_core.specs.declared.phys.Phys.{Phys as PhysValue};
 ghost use Rattle.cec_asm.specs.Words.{words_of, words_behind, one_of, two_of, three_of, is_nibble, nibble_of, has_dots, has_nibbles, phys_at, phys_of};
 
-use hdmi_cta::Phys;
+use hdmi_core::Phys;
 
 fn position_of(text: &[u8], byte: u8) -> Option<usize>
     ensures { result ≡ position (λ b. b == byte) text.now }

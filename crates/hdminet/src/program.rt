@@ -6,7 +6,7 @@ use arrayvec::ArrayString;
 use cec_run::emulate::emulate;
 use cec_text::{asm_lines, first_line};
 use clap::Error as CommandLineError;
-use hdmi_cta::{Sink, put_all};
+use hdmi_core::{Sink, put_all};
 use std::alloc::{AllocError, Global};
 use std::fmt::Write;
 use std::io::Read;

@@ -1,5 +1,5 @@
 use Rattle.std.proofs.Common.{ap, sym, ◌∙◌}
-use Rattle.hdmi_cta.specs.Piece.{phys_text}
+use Rattle.hdmi_core.specs.Piece.{phys_text}
 use Rattle.cec_asm.proofs.KeyLemmas.{phys_text-phys_at}
 use Rattle.cec_asm.proofs.words.phys_in.Goals as goal
 
