@@ -1,2 +1,5 @@
 pub mod WordLemmas
-pub mod ScriptLemmas
+pub mod KeyLemmas
+pub mod Reading
+pub mod Sound
+pub mod OneReading

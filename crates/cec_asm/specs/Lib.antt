@@ -1,4 +1,5 @@
 pub mod Words
 pub mod Number
+pub mod Keys
 pub mod Topology
 pub mod Script

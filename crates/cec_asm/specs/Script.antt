@@ -1,23 +1,31 @@
--- Texts of scripts (own): lines `at T plug CHILD PARENT PORT`, `at T unplug CHILD`, `at T press NAME play`,
--- and last `end T`. Of the causes that apply to a line it has the first in the order of `ScriptCause`.
-use Rattle.std.specs.Prelude.{◌≡◌, ℕ, ◌+◌, ◌-◌, ◌<◌, ◌≤◌, ◌&&◌, true, codes, length, min, List, [], ◌∷◌, ◌++◌, nat_lt, nat_le, slice_get, if◌then◌else◌, Option, Some, None, is_some, Result, Ok, Err}
+-- Texts of scripts (own): lines `at T EVENT`, `pulse T WIDTH`, and last `end T`. Of the causes that apply to a line
+-- it has the first in the order of `ScriptCause`.
+use Rattle.std.specs.Prelude.{◌≡◌, ℕ, ◌+◌, ◌-◌, ◌<◌, ◌≤◌, ◌&&◌, Bool, true, false, cond, codes, length, min, List, [], ◌∷◌, ◌++◌, nat_lt, nat_le, slice_get, if◌then◌else◌, Option, Some, None, is_some, option_map, Result, Ok, Err, All}
 use Rattle.std.specs.Str.{bytes_eq}
 use Rattle.std.specs.Option.{option_map_or}
 use Rattle.cec_wave.specs.declared.Stretch.{Stretch}
+use Rattle.cec_wave.specs.declared.PulsesError.{PulsesError}
+use Rattle.cec_wave.specs.declared.PulsesError.TheVariants as faults
+use Rattle.cec_wave.specs.Pulses.{stretch_fault, AreSparse}
 use Rattle.cec_device.specs.declared.keys.Key.{Key as KeyValue}
-use Rattle.cec_device.specs.declared.keys.Key.TheVariants as keys
 use Rattle.hdmi_topo.specs.Node.{Node}
 use Rattle.hdmi_topo.specs.Tree.{device_named}
+use Rattle.cec_text.specs.Causes.{assemble_cause}
+use Rattle.cec_text.specs.FrameLines.{IsTextOf}
 use Rattle.cec_text.specs.Lines.{lines_of, is_skipped}
-use Rattle.cec_asm.specs.Words.{words_of, one_of, two_of, three_of}
+use Rattle.cec_text.specs.Refusals.{IsRefused}
+use Rattle.cec_text.specs.declared.assembler.AssembleError.{AssembleError}
+use Rattle.cec_asm.specs.Words.{words_of, text_of, one_of, two_of, three_of}
 use Rattle.cec_asm.specs.Number.{number_of}
+use Rattle.cec_asm.specs.Keys.{key_of}
+use Rattle.cec_net.specs.Framed.{IsFramedEvent}
 use Rattle.cec_net.specs.declared.event.Event.{Event}
 use Rattle.cec_net.specs.declared.event.Event.TheVariants.{Plug, Unplug, Key, Send}
 use Rattle.cec_asm.specs.declared.script.TimedEvent.{TimedEvent}
 use Rattle.cec_asm.specs.declared.script.Draft.{Draft}
 use Rattle.cec_asm.specs.declared.script.Script.{Script}
 use Rattle.cec_asm.specs.declared.script.ScriptCause.{ScriptCause}
-use Rattle.cec_asm.specs.declared.script.ScriptCause.TheVariants.{Word, Number, Name, Order, End}
+use Rattle.cec_asm.specs.declared.script.ScriptCause.TheVariants.{Word, Number, Name, Frame, Width, Order, Close, TooMany, End}
 use Rattle.cec_asm.specs.declared.script.ScriptError.{ScriptError}
 use Rattle.cec_asm.specs.declared.script.ScriptError.TheVariants as errors
 use Rattle.cec_asm.specs.declared.script.LineError.{LineError}
@@ -28,7 +36,11 @@ abbrev pub script_cause : ScriptCause → List ℕ
 script_cause Word = codes "word"
 script_cause Number = codes "number"
 script_cause Name = codes "name"
+script_cause (Frame cause) = codes "frame " ++ assemble_cause cause
+script_cause Width = codes "width"
 script_cause Order = codes "order"
+script_cause Close = codes "close"
+script_cause TooMany = codes "too-many"
 script_cause End = codes "end"
 
 -- what a script says, without where it lies in memory
@@ -43,10 +55,15 @@ course_of script = record { events = script.events.items; pulses = script.pulses
 -- what the lines so far say
 pub record Notes : Type 0 where
   pub events : List TimedEvent
+  pub pulses : List Stretch
   pub end : Option ℕ
 
 abbrev pub notes_of : Draft → Notes
-notes_of draft = record { events = draft.events.items; end = draft.end }
+notes_of draft = record { events = draft.events.items; pulses = draft.pulses.items; end = draft.end }
+
+-- nothing yet
+abbrev pub no_notes : Notes
+no_notes = record { events = []; pulses = []; end = None }
 
 -- a time, at most 1,000,000,000,000 microseconds
 abbrev pub within_limit : Option ℕ → Option ℕ
@@ -59,6 +76,8 @@ time_of word = within_limit (number_of word)
 -- the time of the last event, 0 where there is none
 abbrev pub last_time : List TimedEvent → ℕ
 last_time events = option_map_or (λ event. event.at) (slice_get events (length events - 1)) 0
+
+-- ---- events
 
 -- an event of this line: its time is not before the last event's, and no `end` stands above it
 abbrev pub scheduled : Notes → ℕ → ℕ → Event → Result Notes ScriptCause
@@ -90,20 +109,85 @@ abbrev pub unplug_words : List Node → Notes → ℕ → List ℕ → Option (L
 unplug_words tree notes line time None = Err Word
 unplug_words tree notes line time (Some word) = unplug_read notes line (time_of time) (device_named tree word)
 
--- the key of a word
-abbrev pub key_named : List ℕ → Option KeyValue
-key_named word = if bytes_eq word (codes "play") then Some keys.Play else None
+-- `at T press NAME KEY`, `at T release NAME KEY`
+abbrev pub key_read : Notes → ℕ → Bool → Result KeyValue ScriptCause → Option ℕ → Option ℕ → Result Notes ScriptCause
+key_read notes line press (Err cause) time device = Err cause
+key_read notes line press (Ok key) None device = Err Number
+key_read notes line press (Ok key) (Some time) None = Err Name
+key_read notes line press (Ok key) (Some time) (Some device) = scheduled notes line time (Key device key press)
 
--- `at T press NAME KEY`
-abbrev pub press_read : Notes → ℕ → Option KeyValue → Option ℕ → Option ℕ → Result Notes ScriptCause
-press_read notes line None time device = Err Word
-press_read notes line (Some key) None device = Err Number
-press_read notes line (Some key) (Some time) None = Err Name
-press_read notes line (Some key) (Some time) (Some device) = scheduled notes line time (Key device key true)
+abbrev pub key_words : List Node → Notes → ℕ → Bool → List ℕ → List (List ℕ) → Result Notes ScriptCause
+key_words tree notes line press time [] = Err Word
+key_words tree notes line press time (name ∷ words) = key_read notes line press (key_of words) (time_of time) (device_named tree name)
 
-abbrev pub press_words : List Node → Notes → ℕ → List ℕ → Option (List ℕ × List ℕ) → Result Notes ScriptCause
-press_words tree notes line time None = Err Word
-press_words tree notes line time (Some words) = press_read notes line (key_named words.1) (time_of time) (device_named tree words.0)
+-- the events whose words say all
+abbrev pub event_words : List Node → Notes → ℕ → List ℕ → List ℕ → List (List ℕ) → Result Notes ScriptCause
+event_words tree notes line time verb words =
+    if bytes_eq verb (codes "plug") then plug_words tree notes line time (three_of words)
+    else if bytes_eq verb (codes "unplug") then unplug_words tree notes line time (one_of words)
+    else if bytes_eq verb (codes "press") then key_words tree notes line true time words
+    else if bytes_eq verb (codes "release") then key_words tree notes line false time words
+    else Err Word
+
+-- a text is this frame's and no other's, or no frame's, for this cause
+abbrev pub IsFrameOf : List ℕ → Result (List ℕ) AssembleError → Type 0
+IsFrameOf text (Ok frame) = IsTextOf text frame × ((other : List ℕ) → IsTextOf text other → frame ≡ other)
+IsFrameOf text (Err cause) = IsRefused text cause × ((frame : List ℕ) → IsTextOf text frame → ⊥)
+
+-- `at T send NAME FRAME`; the frame's text is all that stands behind the name
+abbrev pub send_read : Notes → ℕ → Option ℕ → Option ℕ → Result (List ℕ) AssembleError → Result Notes ScriptCause
+send_read notes line None device frame = Err Number
+send_read notes line (Some time) None frame = Err Name
+send_read notes line (Some time) (Some device) (Err cause) = Err (Frame cause)
+send_read notes line (Some time) (Some device) (Ok frame) = scheduled notes line time (Send device frame)
+
+abbrev pub IsSendRead : List Node → Notes → ℕ → List ℕ → List (List ℕ) → Result Notes ScriptCause → Type 0
+IsSendRead tree notes line time [] read = read ≡ Err Word
+IsSendRead tree notes line time (name ∷ []) read = read ≡ Err Word
+IsSendRead tree notes line time (name ∷ word ∷ words) read =
+    (frame : Result (List ℕ) AssembleError)
+    × IsFrameOf (text_of (word ∷ words)) frame
+    × (read ≡ send_read notes line (time_of time) (device_named tree name) frame)
+
+-- the words behind `at`
+abbrev pub IsEventRead : List Node → Notes → ℕ → List (List ℕ) → Result Notes ScriptCause → Type 0
+IsEventRead tree notes line [] read = read ≡ Err Word
+IsEventRead tree notes line (time ∷ []) read = read ≡ Err Word
+IsEventRead tree notes line (time ∷ verb ∷ words) read =
+    cond {A = Type 0} (bytes_eq verb (codes "send")) (IsSendRead tree notes line time words read) (read ≡ event_words tree notes line time verb words)
+
+-- ---- pulses and the end
+
+abbrev pub pulse_cause : PulsesError → ScriptCause
+pulse_cause faults.Width = Width
+pulse_cause faults.Close = Close
+pulse_cause faults.Order = Order
+pulse_cause faults.TooMany = TooMany
+
+-- the end of the last pulse
+abbrev pub last_end : List Stretch → Option ℕ
+last_end pulses = option_map (λ pulse. pulse.to) (slice_get pulses (length pulses - 1))
+
+-- a pulse behind the others: narrow and far enough from the last, one of at most 4,096, and no `end` stands above it
+abbrev pub unless_fault : Option PulsesError → Notes → Stretch → Result Notes ScriptCause
+unless_fault (Some fault) notes pulse = Err (pulse_cause fault)
+unless_fault None notes pulse =
+    if nat_le 4096 (length notes.pulses) then Err TooMany
+    else if is_some notes.end then Err End
+    else Ok (record notes { pulses = notes.pulses ++ pulse ∷ [] })
+
+abbrev pub pulsed : Notes → Stretch → Result Notes ScriptCause
+pulsed notes pulse = unless_fault (stretch_fault (last_end notes.pulses) pulse) notes pulse
+
+-- `pulse T WIDTH`; a width above 65,535 counts as 65,535
+abbrev pub pulse_read : Notes → Option ℕ → Option ℕ → Result Notes ScriptCause
+pulse_read notes None width = Err Number
+pulse_read notes (Some time) None = Err Number
+pulse_read notes (Some time) (Some width) = pulsed notes (record { from = time; to = time + min width 65535 })
+
+abbrev pub pulse_words : Notes → Option (List ℕ × List ℕ) → Result Notes ScriptCause
+pulse_words notes None = Err Word
+pulse_words notes (Some words) = pulse_read notes (time_of words.0) (number_of words.1)
 
 -- `end T`: one alone, after every event
 abbrev pub end_read : Notes → Option ℕ → Result Notes ScriptCause
@@ -117,66 +201,77 @@ abbrev pub end_words : Notes → Option (List ℕ) → Result Notes ScriptCause
 end_words notes None = Err Word
 end_words notes (Some word) = end_read notes (time_of word)
 
--- the words behind `at T`
-abbrev pub event_words : List Node → Notes → ℕ → List ℕ → List (List ℕ) → Result Notes ScriptCause
-event_words tree notes line time [] = Err Word
-event_words tree notes line time (verb ∷ words) =
-    if bytes_eq verb (codes "plug") then plug_words tree notes line time (three_of words)
-    else if bytes_eq verb (codes "unplug") then unplug_words tree notes line time (one_of words)
-    else if bytes_eq verb (codes "press") then press_words tree notes line time (two_of words)
-    else Err Word
+-- ---- lines
 
-abbrev pub at_words : List Node → Notes → ℕ → List (List ℕ) → Result Notes ScriptCause
-at_words tree notes line [] = Err Word
-at_words tree notes line (time ∷ words) = event_words tree notes line time words
-
--- a line by its words
-abbrev pub worded : List Node → Notes → ℕ → List (List ℕ) → Result Notes ScriptCause
-worded tree notes line [] = Err Word
-worded tree notes line (verb ∷ words) =
-    if bytes_eq verb (codes "at") then at_words tree notes line words
+-- the lines that are no events
+abbrev pub other_words : Notes → List ℕ → List (List ℕ) → Result Notes ScriptCause
+other_words notes verb words =
+    if bytes_eq verb (codes "pulse") then pulse_words notes (two_of words)
     else if bytes_eq verb (codes "end") then end_words notes (one_of words)
     else Err Word
 
-abbrev pub line_read : List Node → Notes → ℕ → List ℕ → Result Notes ScriptCause
-line_read tree notes line text = if is_skipped text then Ok notes else worded tree notes line (words_of text)
+-- a line by its words
+abbrev pub IsWordsRead : List Node → Notes → ℕ → List (List ℕ) → Result Notes ScriptCause → Type 0
+IsWordsRead tree notes line [] read = read ≡ Err Word
+IsWordsRead tree notes line (verb ∷ words) read =
+    cond {A = Type 0} (bytes_eq verb (codes "at")) (IsEventRead tree notes line words read) (read ≡ other_words notes verb words)
+
+-- what a line makes of the notes
+abbrev pub IsLineRead : List Node → Notes → ℕ → List ℕ → Result Notes ScriptCause → Type 0
+IsLineRead tree notes line text read =
+    cond {A = Type 0} (is_skipped text) (read ≡ Ok notes) (IsWordsRead tree notes line (words_of text) read)
 
 -- the first line at fault
 pub record ScriptFault : Type 0 where
   pub line : ℕ
   pub cause : ScriptCause
 
-abbrev pub at_line : ℕ → Result Notes ScriptCause → (Notes → Result Course ScriptFault) → Result Course ScriptFault
-at_line line (Ok notes) onward = onward notes
-at_line line (Err cause) onward = Err (record { line = line; cause = cause })
-
 -- behind the last line an `end` stands above
-abbrev pub ended : List TimedEvent → ℕ → Option ℕ → Result Course ScriptFault
-ended events line None = Err (record { line = line; cause = End })
-ended events line (Some time) = Ok (record { events = events; pulses = []; end = time })
+abbrev pub ended : Notes → ℕ → Option ℕ → Result Course ScriptFault
+ended notes line None = Err (record { line = line; cause = End })
+ended notes line (Some time) = Ok (record { events = notes.events; pulses = notes.pulses; end = time })
 
-abbrev pub lines_read : List Node → List (List ℕ) → ℕ → Notes → Result Course ScriptFault
-lines_read tree [] line notes = ended notes.events line notes.end
-lines_read tree (text ∷ texts) line notes = at_line line (line_read tree notes line text) (λ next. lines_read tree texts (line + 1) next)
+abbrev pub Onward : ℕ → Result Notes ScriptCause → (Notes → Type 0) → Result Course ScriptFault → Type 0
+Onward line (Ok notes) rest read = rest notes
+Onward line (Err cause) rest read = read ≡ Err (record { line = line; cause = cause })
+
+-- what the lines from this number on make of the notes: a script, or the first fault
+abbrev pub AreLinesRead : List Node → List (List ℕ) → ℕ → Notes → Result Course ScriptFault → Type 0
+AreLinesRead tree [] line notes read = read ≡ ended notes line notes.end
+AreLinesRead tree (text ∷ texts) line notes read =
+    (now : Result Notes ScriptCause)
+    × IsLineRead tree notes line text now
+    × Onward line now (λ next. AreLinesRead tree texts (line + 1) next read) read
 
 -- the script of a text for the devices of a tree, or its first fault
-abbrev pub script_of : List Node → List ℕ → Result Course ScriptFault
-script_of tree text = lines_read tree (lines_of text) 1 (record { events = []; end = None })
+abbrev pub IsScriptRead : List Node → List ℕ → Result Course ScriptFault → Type 0
+IsScriptRead tree text read = AreLinesRead tree (lines_of text) 1 no_notes read
 
--- what is answered is what the text says, unless memory ran out
-abbrev pub GivesScript : Result Script ScriptError → Result Course ScriptFault → Type 0
-GivesScript (Ok script) read = read ≡ Ok (course_of script)
-GivesScript (Err errors.Memory) read = Unit {0}
-GivesScript (Err (errors.At line cause)) read = read ≡ Err (record { line = line; cause = cause })
+-- ---- what the program gives
 
+-- what a part of a line made of the draft is what its words say, unless memory ran out
 abbrev pub GivesNotes : Notes → Result Unit LineError → Result Notes ScriptCause → Type 0
 GivesNotes notes (Ok done) read = read ≡ Ok notes
 GivesNotes notes (Err Memory) read = Unit {0}
 GivesNotes notes (Err (Cause cause)) read = read ≡ Err cause
 
+-- the same of what is read by a relation
+abbrev pub Gives : Notes → Result Unit LineError → (Result Notes ScriptCause → Type 0) → Type 0
+Gives notes (Ok done) IsRead = IsRead (Ok notes)
+Gives notes (Err Memory) IsRead = Unit {0}
+Gives notes (Err (Cause cause)) IsRead = IsRead (Err cause)
+
+-- what is answered is what the text says, unless memory ran out
+abbrev pub GivesScript : List Node → List ℕ → Result Script ScriptError → Type 0
+GivesScript tree text (Ok script) = IsScriptRead tree text (Ok (course_of script))
+GivesScript tree text (Err errors.Memory) = Unit {0}
+GivesScript tree text (Err (errors.At line cause)) = IsScriptRead tree text (Err (record { line = line; cause = cause }))
+
 abbrev pub error_at : ℕ → LineError → ScriptError
 error_at line Memory = errors.Memory
 error_at line (Cause cause) = errors.At line cause
+
+-- ---- what holds of every script
 
 -- the devices that an event names are among so many
 abbrev pub IsAmong : ℕ → Event → Type 0
@@ -190,7 +285,24 @@ abbrev pub IsSchedule : ℕ → ℕ → ℕ → List TimedEvent → Type 0
 IsSchedule count end from [] = Unit {0}
 IsSchedule count end from (event ∷ events) = (from ≤ event.at) × (event.at < end) × IsAmong count event.event × IsSchedule count end event.at events
 
+-- no frame that is handed in is empty
+abbrev pub AreFramedEvents : List TimedEvent → Type 0
+AreFramedEvents [] = Unit {0}
+AreFramedEvents (event ∷ events) = IsFramedEvent event.event × AreFramedEvents events
+
 -- a script for so many devices
 pub record IsScript (count : ℕ) (course : Course) : Type 0 where
   pub schedule : IsSchedule count course.end 0 course.events
+  pub framed : AreFramedEvents course.events
+  pub sparse : AreSparse course.pulses
+  pub early : All (λ pulse. pulse.from ≤ 1000000000000) course.pulses
   pub limit : course.end ≤ 1000000000000
+
+-- every text of a script gives one
+abbrev pub ScriptsAreSound : Type 0
+ScriptsAreSound = (tree : List Node) (text : List ℕ) (course : Course) → IsScriptRead tree text (Ok course) → IsScript (length tree) course
+
+-- a text that is read as a script is read in no other way
+abbrev pub OneScript : Type 0
+OneScript = (tree : List Node) (text : List ℕ) (course : Course) (read : Result Course ScriptFault)
+    → IsScriptRead tree text (Ok course) → IsScriptRead tree text read → read ≡ Ok course

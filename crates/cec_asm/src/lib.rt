@@ -1,6 +1,7 @@
 //! The texts that a network is described by: frames, topologies and scripts.
 #![tactic(auto)]
 
+mod keys;
 mod number;
 mod script;
 mod topology;
@@ -8,5 +9,10 @@ mod words;
 
 pub use cec_opcode::WordSet;
 pub use cec_text::{AssembleError, assemble, frame_text, write_frame};
-pub use script::{Script, ScriptCause, ScriptError, TimedEvent, parse_script};
+pub use script::{
+    Script, ScriptCause, ScriptError, TimedEvent, one_script, parse_script, scripts_are_sound,
+};
 pub use topology::{Topology, TopologyCause, TopologyError, parse_topology};
+
+#[cfg(test)]
+mod tests;

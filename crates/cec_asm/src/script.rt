@@ -1,16 +1,19 @@
 //! Scripts and their texts.
-ghost use Rattle.std.specs.Prelude.{◌≡◌, ℕ, ◌+◌, ◌<◌, ◌≤◌, List, [], ◌∷◌, ◌++◌, length, Result, Ok, Err, Some, IfOk, IfSome, OnOk};
+ghost use Rattle.std.specs.Prelude.{◌≡◌, ℕ, ◌+◌, ◌<◌, ◌≤◌, List, [], ◌∷◌, ◌++◌, length, Result, Ok, Err, Some, None, IfOk, IfSome, OnOk};
 ghost use Rattle.std.specs.Option.{option_copied};
+ghost use Rattle.cec_wave.specs.Pulses.{pulses_fault};
 ghost use Rattle.cec_asm.specs.Words.{words_behind, one_of, two_of, three_of};
-ghost use Rattle.cec_asm.specs.Script.{Notes, notes_of, course_of, key_named, time_of, last_time, scheduled, plug_words, unplug_words, press_words, end_words, event_words, at_words, line_read, script_of, error_at, GivesNotes, GivesScript, IsScript};
+ghost use Rattle.cec_asm.specs.Script.{Notes, notes_of, course_of, time_of, last_time, last_end, scheduled, plug_words, unplug_words, key_words, event_words, send_read, pulse_cause, pulsed, pulse_words, end_words, other_words, error_at, IsFrameOf, IsSendRead, IsEventRead, IsLineRead, GivesNotes, Gives, GivesScript, IsScript, OneScript, ScriptsAreSound};
 
+use crate::keys::key_in;
 use crate::number::number_in;
 use crate::topology::Topology;
 use crate::words::{first_word, one_word, three_words, two_words};
-use cec_device::Key;
+use cec_frame::Frame;
 use cec_net::Event;
-use cec_text::{first_line, is_skipped};
-use cec_wave::pulses::Pulses;
+use cec_text::{AssembleError, assemble, first_line, frames_are_whole, is_skipped};
+use cec_wave::pulses::{self, Pulses, stretch_fault};
+use cec_wave::{PulsesError, Stretch};
 use hdmi_topo::Tree;
 use std::alloc::{AllocFailed, Global};
 use std::fmt::{self, Write};
@@ -18,6 +21,9 @@ use thiserror::Error;
 
 /// Times of a script are at most this many microseconds.
 const LATEST: u64 = 1_000_000_000_000;
+
+/// Widths of pulses above this many microseconds count as this many.
+const WIDEST_COUNTED: u64 = 65_535;
 
 /// Why a line of a script is refused: the first of these that applies.
 #[derive(Clone, Copy, Debug, Drop, PartialEq, Eq)]
@@ -28,8 +34,16 @@ pub enum ScriptCause {
     Number,
     /// No device of the topology.
     Name,
-    /// A time before that of the event above.
+    /// No text of a frame, and why.
+    Frame(AssembleError),
+    /// A pulse that is not 1 to 3,000 microseconds wide.
+    Width,
+    /// A time before that of the event above, or a pulse that begins before the end of the one above.
     Order,
+    /// A pulse less than 25,000 microseconds after the end of the one above.
+    Close,
+    /// A pulse behind 4,096 others.
+    TooMany,
     /// No `end`, a line behind it, or one that is not after every event.
     End,
 }
@@ -41,13 +55,17 @@ impl fmt::Display for ScriptCause {
     ghost output = { λ cause. Some (script_cause cause) };
 
     fn fmt<W: Write>(&self, f: &mut fmt::Formatter<W>) -> fmt::Result {
-        f.write_str(match self {
-            ScriptCause::Word => "word",
-            ScriptCause::Number => "number",
-            ScriptCause::Name => "name",
-            ScriptCause::Order => "order",
-            ScriptCause::End => "end",
-        })
+        match self {
+            ScriptCause::Word => f.write_str("word"),
+            ScriptCause::Number => f.write_str("number"),
+            ScriptCause::Name => f.write_str("name"),
+            ScriptCause::Frame(cause) => write!(f, "frame {cause}"),
+            ScriptCause::Width => f.write_str("width"),
+            ScriptCause::Order => f.write_str("order"),
+            ScriptCause::Close => f.write_str("close"),
+            ScriptCause::TooMany => f.write_str("too-many"),
+            ScriptCause::End => f.write_str("end"),
+        }
     }
 }
 
@@ -66,6 +84,17 @@ pub enum ScriptError {
 enum LineError {
     Cause(ScriptCause),
     Memory,
+}
+
+impl From<ScriptCause> for LineError {
+    ghost use Rattle.std.specs.Prelude.{◌≡◌};
+    ghost use Rattle.cec_asm.specs.declared.script.LineError.TheVariants.{Cause};
+
+    ghost from_gives = { λ cause error. error ≡ Cause cause };
+
+    fn from(cause: ScriptCause) -> LineError {
+        LineError::Cause(cause)
+    }
 }
 
 impl<T: Drop> From<AllocFailed<T>> for LineError {
@@ -99,6 +128,7 @@ pub struct Script {
 #[derive(Drop)]
 struct Draft {
     events: Vec<TimedEvent>,
+    pulses: Vec<Stretch>,
     end: Option<u64>,
 }
 
@@ -118,13 +148,13 @@ fn last_time(events: &[TimedEvent]) -> u64
     }
 }
 
-fn key_named(word: &[u8]) -> Option<Key>
-    ensures { result ≡ key_named word.now }
+/// Where the last pulse ends.
+fn last_end(pulses: &[Stretch]) -> Option<u64>
+    ensures { result ≡ last_end pulses.now }
 {
-    if word == b"play".as_slice() {
-        Some(Key::Play)
-    } else {
-        None
+    match pulses.last() {
+        None => None,
+        Some(pulse) => Some(pulse.to),
     }
 }
 
@@ -205,21 +235,24 @@ fn take_unplug(
     schedule(draft, line, time, Event::Unplug { child })
 }
 
-/// Takes the words behind `at T press`.
-fn take_press(
+/// Takes the words behind `at T press` or `at T release`.
+fn take_key(
     tree: &Tree<15>,
     draft: &mut Draft,
     line: u64,
+    press: bool,
     time: &[u8],
     rest: Option<&[u8]>,
 ) -> Result<(), LineError>
-    ensures { GivesNotes (notes_of draft.new) result (press_words tree.now (notes_of draft.old) line time.now (two_of (words_behind (option_copied rest.entry)))) }
+    ensures { GivesNotes (notes_of draft.new) result (key_words tree.now (notes_of draft.old) line press time.now (words_behind (option_copied rest.entry))) }
 {
-    let Some((device, key)) = two_words(rest) else {
+    let Some(rest) = rest else {
         return Err(LineError::Cause(ScriptCause::Word));
     };
-    let Some(key) = key_named(key) else {
-        return Err(LineError::Cause(ScriptCause::Word));
+    let (device, rest) = first_word(rest);
+    let key = match key_in(rest) {
+        Ok(key) => key,
+        Err(cause) => return Err(LineError::Cause(cause)),
     };
     let Some(time) = time_in(time) else {
         return Err(LineError::Cause(ScriptCause::Number));
@@ -227,16 +260,111 @@ fn take_press(
     let Some(device) = tree.device_named(device) else {
         return Err(LineError::Cause(ScriptCause::Name));
     };
-    schedule(
+    schedule(draft, line, time, Event::Key { device, key, press })
+}
+
+/// The frame of a text, or why it is none's.
+fn read_frame(text: &[u8]) -> Result<Frame, AssembleError>
+    ensures { IsFrameOf text.now result }
+{
+    match assemble(text) {
+        Ok(frame) => {
+            frames_are_whole(&frame);
+            Ok(frame)
+        }
+        Err(cause) => Err(cause),
+    }
+}
+
+fn schedule_frame(
+    draft: &mut Draft,
+    line: u64,
+    time: Option<u64>,
+    device: Option<usize>,
+    frame: Result<Frame, AssembleError>,
+) -> Result<(), LineError>
+    ensures { GivesNotes (notes_of draft.new) result (send_read (notes_of draft.old) line time device frame) }
+{
+    let Some(time) = time else {
+        return Err(LineError::Cause(ScriptCause::Number));
+    };
+    let Some(device) = device else {
+        return Err(LineError::Cause(ScriptCause::Name));
+    };
+    match frame {
+        Ok(frame) => schedule(draft, line, time, Event::Send { device, frame }),
+        Err(cause) => Err(LineError::Cause(ScriptCause::Frame(cause))),
+    }
+}
+
+/// Takes the words behind `at T send`: a name, and behind it a frame's text, spaces and all.
+fn take_send(
+    tree: &Tree<15>,
+    draft: &mut Draft,
+    line: u64,
+    time: &[u8],
+    rest: Option<&[u8]>,
+) -> Result<(), LineError>
+    ensures { Gives (notes_of draft.new) result (IsSendRead tree.now (notes_of draft.old) line time.now (words_behind (option_copied rest.entry))) }
+{
+    let Some(rest) = rest else {
+        return Err(LineError::Cause(ScriptCause::Word));
+    };
+    let (name, frame) = first_word(rest);
+    let Some(frame) = frame else {
+        return Err(LineError::Cause(ScriptCause::Word));
+    };
+    schedule_frame(
         draft,
         line,
-        time,
-        Event::Key {
-            device,
-            key,
-            press: true,
-        },
+        time_in(time),
+        tree.device_named(name),
+        read_frame(frame),
     )
+}
+
+fn pulse_cause(fault: PulsesError) -> ScriptCause
+    ensures { result ≡ pulse_cause fault }
+{
+    match fault {
+        PulsesError::Width => ScriptCause::Width,
+        PulsesError::Close => ScriptCause::Close,
+        PulsesError::Order => ScriptCause::Order,
+        PulsesError::TooMany => ScriptCause::TooMany,
+    }
+}
+
+fn add_pulse(draft: &mut Draft, pulse: Stretch) -> Result<(), LineError>
+    ensures { GivesNotes (notes_of draft.new) result (pulsed (notes_of draft.old) pulse) }
+{
+    if let Some(fault) = stretch_fault(last_end(&draft.pulses), pulse) {
+        return Err(LineError::Cause(pulse_cause(fault)));
+    }
+    if draft.pulses.len() >= pulses::MOST {
+        return Err(LineError::Cause(ScriptCause::TooMany));
+    }
+    if draft.end.is_some() {
+        return Err(LineError::Cause(ScriptCause::End));
+    }
+    draft.pulses.push(pulse)?;
+    Ok(())
+}
+
+/// Takes the words behind `pulse`.
+fn take_pulse(draft: &mut Draft, rest: Option<&[u8]>) -> Result<(), LineError>
+    ensures { GivesNotes (notes_of draft.new) result (pulse_words (notes_of draft.old) (two_of (words_behind (option_copied rest.entry)))) }
+{
+    let Some((from, width)) = two_words(rest) else {
+        return Err(LineError::Cause(ScriptCause::Word));
+    };
+    let Some(from) = time_in(from) else {
+        return Err(LineError::Cause(ScriptCause::Number));
+    };
+    let Some(width) = number_in(width) else {
+        return Err(LineError::Cause(ScriptCause::Number));
+    };
+    let to = from + width.min(WIDEST_COUNTED);
+    add_pulse(draft, Stretch { from, to })
 }
 
 /// Takes the word behind `end`.
@@ -259,6 +387,30 @@ fn take_end(draft: &mut Draft, rest: Option<&[u8]>) -> Result<(), LineError>
     Ok(())
 }
 
+/// Takes the words behind `at T VERB`, but for `send`.
+fn take_words(
+    tree: &Tree<15>,
+    draft: &mut Draft,
+    line: u64,
+    time: &[u8],
+    verb: &[u8],
+    rest: Option<&[u8]>,
+) -> Result<(), LineError>
+    ensures { GivesNotes (notes_of draft.new) result (event_words tree.now (notes_of draft.old) line time.now verb.now (words_behind (option_copied rest.entry))) }
+{
+    if verb == b"plug".as_slice() {
+        take_plug(tree, draft, line, time, rest)
+    } else if verb == b"unplug".as_slice() {
+        take_unplug(tree, draft, line, time, rest)
+    } else if verb == b"press".as_slice() {
+        take_key(tree, draft, line, true, time, rest)
+    } else if verb == b"release".as_slice() {
+        take_key(tree, draft, line, false, time, rest)
+    } else {
+        Err(LineError::Cause(ScriptCause::Word))
+    }
+}
+
 /// Takes the words behind `at`.
 fn take_event(
     tree: &Tree<15>,
@@ -266,7 +418,7 @@ fn take_event(
     line: u64,
     rest: Option<&[u8]>,
 ) -> Result<(), LineError>
-    ensures { GivesNotes (notes_of draft.new) result (at_words tree.now (notes_of draft.old) line (words_behind (option_copied rest.entry))) }
+    ensures { Gives (notes_of draft.new) result (IsEventRead tree.now (notes_of draft.old) line (words_behind (option_copied rest.entry))) }
 {
     let Some(rest) = rest else {
         return Err(LineError::Cause(ScriptCause::Word));
@@ -276,12 +428,21 @@ fn take_event(
         return Err(LineError::Cause(ScriptCause::Word));
     };
     let (verb, rest) = first_word(rest);
-    if verb == b"plug".as_slice() {
-        take_plug(tree, draft, line, time, rest)
-    } else if verb == b"unplug".as_slice() {
-        take_unplug(tree, draft, line, time, rest)
-    } else if verb == b"press".as_slice() {
-        take_press(tree, draft, line, time, rest)
+    if verb == b"send".as_slice() {
+        take_send(tree, draft, line, time, rest)
+    } else {
+        take_words(tree, draft, line, time, verb, rest)
+    }
+}
+
+/// Takes the words of a line that is no event.
+fn take_other(draft: &mut Draft, verb: &[u8], rest: Option<&[u8]>) -> Result<(), LineError>
+    ensures { GivesNotes (notes_of draft.new) result (other_words (notes_of draft.old) verb.now (words_behind (option_copied rest.entry))) }
+{
+    if verb == b"pulse".as_slice() {
+        take_pulse(draft, rest)
+    } else if verb == b"end".as_slice() {
+        take_end(draft, rest)
     } else {
         Err(LineError::Cause(ScriptCause::Word))
     }
@@ -289,7 +450,7 @@ fn take_event(
 
 /// Takes a line.
 fn take_line(tree: &Tree<15>, draft: &mut Draft, number: u64, line: &[u8]) -> Result<(), LineError>
-    ensures { GivesNotes (notes_of draft.new) result (line_read tree.now (notes_of draft.old) number line.now) }
+    ensures { Gives (notes_of draft.new) result (IsLineRead tree.now (notes_of draft.old) number line.now) }
 {
     if is_skipped(line) {
         return Ok(());
@@ -297,10 +458,8 @@ fn take_line(tree: &Tree<15>, draft: &mut Draft, number: u64, line: &[u8]) -> Re
     let (verb, rest) = first_word(line);
     if verb == b"at".as_slice() {
         take_event(tree, draft, number, rest)
-    } else if verb == b"end".as_slice() {
-        take_end(draft, rest)
     } else {
-        Err(LineError::Cause(ScriptCause::Word))
+        take_other(draft, verb, rest)
     }
 }
 
@@ -313,20 +472,35 @@ fn error_at(line: u64, error: LineError) -> ScriptError
     }
 }
 
-fn no_pulses() -> Pulses
-    ensures { result ≡ [] }
+/// Pulses without a fault.
+fn pulses_of(stretches: &[Stretch]) -> Pulses
+    requires { pulses_fault stretches.now ≡ None }
+    ensures { result ≡ stretches.now }
 {
-    match Pulses::new(&[]) {
+    match Pulses::new(stretches) {
         Ok(pulses) => pulses,
         Err(_) => unreachable!(),
     }
 }
 
-fn read_script(alloc: Global, tree: &Tree<15>, text: &[u8]) -> Result<Script, ScriptError>
-    ensures { GivesScript result (script_of tree.now text.now) }
+/// Reads a script for the devices of a topology: lines `at T EVENT`, `pulse T WIDTH` and last `end T`, where EVENT is
+/// `plug CHILD PARENT PORT`, `unplug CHILD`, `press NAME KEY`, `release NAME KEY` or `send NAME FRAME`; empty lines
+/// and lines that begin with `#` are skipped. Times are microseconds. Those of events do not go back and are before
+/// the end; pulses are in order and far enough apart. A device's number is below the count of devices, and no frame
+/// is empty.
+///
+/// # Errors
+///
+/// `At` with the first line at fault, counted from 1, and the first cause that applies to it; `Memory` where there
+/// is none for the events and the pulses.
+pub fn parse_script(alloc: Global, topology: &Topology, text: &[u8]) -> Result<Script, ScriptError>
+    ensures gives { GivesScript topology.now.tree text.now result }
+    ensures script { IfOk result (λ script. IsScript (length topology.now.tree) (course_of script)) }
 {
+    let tree = &topology.tree;
     let mut draft = Draft {
         events: Vec::new(alloc),
+        pulses: Vec::new(alloc),
         end: None,
     };
     let mut rest = text;
@@ -344,24 +518,21 @@ fn read_script(alloc: Global, tree: &Tree<15>, text: &[u8]) -> Result<Script, Sc
             cause: ScriptCause::End,
         });
     };
+    let pulses = pulses_of(&draft.pulses);
     Ok(Script {
         events: draft.events,
-        pulses: no_pulses(),
+        pulses,
         end,
     })
 }
 
-/// Reads a script for the devices of a topology: lines `at T plug CHILD PARENT PORT`, `at T unplug CHILD`,
-/// `at T press NAME play`, and last `end T`; empty lines and lines that begin with `#` are skipped. Times
-/// are microseconds, do not go back, and are before the end; a number of a device is below their count.
-///
-/// # Errors
-///
-/// `At` with the first line at fault, counted from 1, and the first cause that applies to it; `Memory` where
-/// there is none.
-pub fn parse_script(alloc: Global, topology: &Topology, text: &[u8]) -> Result<Script, ScriptError>
-    ensures gives { GivesScript result (script_of topology.now.tree text.now) }
-    ensures script { IfOk result (λ script. IsScript (length topology.now.tree) (course_of script)) }
-{
-    read_script(alloc, &topology.tree, text)
-}
+/// Every text of a script gives events in the order of their times, of devices that are there and of frames that are
+/// not empty, and sparse pulses.
+pub fn scripts_are_sound()
+    ensures { ScriptsAreSound }
+{}
+
+/// A text that is read as a script is read in no other way.
+pub fn one_script()
+    ensures { OneScript }
+{}

@@ -14,12 +14,13 @@ use Rattle.cec_net.specs.Line.{Move, Happens, Goes, GoesFrom, Moves, rounds_of, 
 use Rattle.cec_net.proofs.Framed.{framed-started}
 use Rattle.cec_net.proofs.Lines.{runs_are_read, runs_are_waves, runs_over}
 use Rattle.hdmi_topo.specs.Node.{Node}
+use Rattle.cec_asm.specs.Script.{AreFramedEvents}
 use Rattle.cec_asm.specs.declared.script.TimedEvent.{TimedEvent}
 use Rattle.cec_run.specs.declared.run.Turn.{Turn}
 use Rattle.cec_run.specs.declared.run.Turn.TheVariants.{Stop, Apply, Round}
 use Rattle.hdmi_blocks.specs.declared.edid.Edid.{Edid}
 use Rattle.cec_run.specs.Run.{Config, start, turn_at, turn_of, first_time, IsEventTurn, IsTurnBy, IsTurn, Leads}
-use Rattle.cec_run.specs.RunLine.{rounds_by, rounds_in, AreFramedEvents, IsRead, RunsAreRead}
+use Rattle.cec_run.specs.RunLine.{rounds_by, rounds_in, IsRead, RunsAreRead}
 use Rattle.cec_run.proofs.Advance.{round_begins}
 
 -- the moves of a run, with these rounds

@@ -2,7 +2,7 @@
 use Rattle.std.specs.Prelude.{◌≡◌, ℕ, ◌<◌, Bool, true, false, List, length, take, Option, Some, Result, Ok, Err}
 use Rattle.std.specs.Io.KnownBytes.{Appends}
 use Rattle.cec_asm.specs.Topology.{topology_of, Plan}
-use Rattle.cec_asm.specs.Script.{script_of, Course}
+use Rattle.cec_asm.specs.Script.{IsScriptRead, Course}
 use Rattle.cec_asm.specs.declared.topology.TopologyError.{TopologyError}
 use Rattle.cec_asm.specs.declared.topology.TopologyError.TheVariants as topologies
 use Rattle.cec_asm.specs.declared.script.ScriptError.{ScriptError}
@@ -19,7 +19,7 @@ use Rattle.cec_run.specs.Run.{start, IsTrace}
 -- the texts spell this topology and this script
 pub record IsAccepted (topology script : List ℕ) (plan : Plan) (course : Course) : Type 0 where
   pub plan_is : topology_of topology ≡ Ok plan
-  pub course_is : script_of plan.tree script ≡ Ok course
+  pub course_is : IsScriptRead plan.tree script (Ok course)
 
 -- the trace of the run that the texts spell
 pub record IsTraceOf (topology script text : List ℕ) (totals : Totals) : Type 0 where
@@ -45,7 +45,7 @@ script_told scripts.Memory = Memory
 -- when each refusal comes: the topology's, then the script's, then the EDID; of memory nothing is said
 abbrev pub IsTold : List ℕ → List ℕ → EmulateError → Type 0
 IsTold topology script (Topology line cause) = topology_of topology ≡ Err (record { line = line; cause = cause })
-IsTold topology script (Script line cause) = (plan : Plan) × (topology_of topology ≡ Ok plan) × (script_of plan.tree script ≡ Err (record { line = line; cause = cause }))
+IsTold topology script (Script line cause) = (plan : Plan) × (topology_of topology ≡ Ok plan) × IsScriptRead plan.tree script (Err (record { line = line; cause = cause }))
 IsTold topology script (Edid cause) = (plan : Plan) × (course : Course) × IsAccepted topology script plan course × (bytes : List ℕ) × (plan.edid ≡ Some bytes) × IsNoRoot bytes cause
 IsTold topology script (Write count) = (plan : Plan) × (course : Course) × IsAccepted topology script plan course × (edid : Option EdidValue) × IsRoot plan.edid edid
 IsTold topology script Memory = Unit {0}

@@ -6,10 +6,10 @@ use Rattle.cec_wave.specs.Pulses.{AreSparse}
 use Rattle.cec_bits.specs.Readings.{readings_of}
 use Rattle.cec_wire.specs.declared.Outcome.{Outcome}
 use Rattle.cec_wire.specs.Alone.{outcome_listed}
-use Rattle.cec_net.specs.Framed.{IsFramedEvent, AreFramed}
 use Rattle.cec_net.specs.Line.{run_wave}
 use Rattle.cec_net.specs.State.{started}
 use Rattle.hdmi_topo.specs.Node.{Node}
+use Rattle.cec_asm.specs.Script.{AreFramedEvents}
 use Rattle.cec_asm.specs.declared.script.TimedEvent.{TimedEvent}
 use Rattle.cec_run.specs.declared.run.Turn.{Turn}
 use Rattle.cec_run.specs.declared.run.Turn.TheVariants.{Stop, Apply, Round}
@@ -26,11 +26,6 @@ rounds_by edid (Round begin) c text d t = t.0.outcome ∷ []
 abbrev pub rounds_in : (edid : Option Edid) (end turns : ℕ) (c : Config) (text : List ℕ) (d : Config) → Leads edid end turns c text d → List Outcome
 rounds_in edid end zero c text d l = []
 rounds_in edid end (suc turns) c text d l = rounds_by edid (turn_at end c) c l.1 l.0 l.3 ++ rounds_in edid end turns l.0 l.2 d l.4
-
--- what events hand in has a block at least
-abbrev pub AreFramedEvents : List TimedEvent → Type 0
-AreFramedEvents [] = Unit {0}
-AreFramedEvents (e ∷ events) = IsFramedEvent e.event × AreFramedEvents events
 
 -- The whole line of a run is in order and high from the end or the last close on, and its readings, cut there, are those of
 -- its rounds, in order, each once.

@@ -14,3 +14,6 @@ mod written;
 pub use laws::{one_trace, runs_are_read, texts_have_one_trace};
 pub use root::EdidCause;
 pub use run::Totals;
+
+#[cfg(test)]
+mod tests;

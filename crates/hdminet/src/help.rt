@@ -41,10 +41,24 @@ The topology declares the devices and how they are plugged together at the start
   edid HEX                      the television's EDID, once at most; its ports pass it on
 
 The script says what happens, in the order of its times, and when the run ends:
-  at T press NAME play          a key of a player or recorder
   at T plug CHILD PARENT PORT
   at T unplug CHILD
+  at T press NAME KEY
+  at T release NAME KEY
+  at T send NAME FRAME          a frame as `hdminet asm` takes it
+  pulse T WIDTH                 the line is pulled low from outside: 1 to 3000 microseconds, each
+                                at least 25000 after the end of the one above, at most 4096
   end T                         the last line
+
+Keys, by the kinds that have them:
+  play, stop, eject, load, menu                     player, recorder
+  power                                             all
+  watch PA, audio on, audio off, language LLL       tv
+  remote D CODE                 D is 1 to e         tv
+  arc on, arc off, volume-up, volume-down, mute     tv, amp
+  port N                                            switch
+CODE: select up down left right root-menu exit digit-0 .. digit-9 power volume-up volume-down mute
+play stop pause power-off power-on. PA is an address as 1.0.0.0, LLL a language as eng.
 
 An example:
   device tv tv 4
@@ -63,8 +77,20 @@ port of a device that comes on the wire, and at the end the state of each device
   state NAME KIND ..
   T end
 
+An event is refused, and the run goes on, with one of
+  plug      port-range, port-taken, not-loose, loop
+  unplug    not-plugged
+  keys      off-wire, not-for-kind
+  send      off-wire, no-address, own-address, queue-full
+
 Faults: `topology line N: CAUSE`, `script line N: CAUSE`, `edid: CAUSE`, `no script line`. N counts
-from the first line of its part, and nothing is written to standard output then.
+from the first line of its part, and nothing is written to standard output then. CAUSE is
+  of a topology   word, number, name, full, second-root, port-range, port-taken, not-loose, loop, hex,
+                  no-root
+  of a script     word, number, name, frame and the cause of `hdminet asm`, width, order, close,
+                  too-many, end
+  of an EDID      length, count, base header, base checksum, base revision, base maker,
+                  ext 1 checksum, no-hdmi-block
 
 Exit status: 0 done; 1 input refused; 2 command line refused; 3 a read or write fault, or input
 past 1048576 bytes; 4 no memory.";

@@ -1,5 +1,28 @@
-use Rattle.cec_asm.proofs.ScriptLemmas.{IsScript-from_gives}
+use Rattle.std.proofs.Common.{◌∙◌, arith}
+use Rattle.cec_text.specs.Lines.{lines_of}
+use Rattle.cec_asm.specs.Script.{notes_of}
+use Rattle.cec_asm.proofs.Reading.{line_read, last_line}
+use Rattle.cec_asm.proofs.Sound.{line-keeps, scripts_are_sound}
 use Rattle.cec_asm.proofs.script.parse_script.Goals as goal
 
+pub loop-line-preserved : goal.loop-line-preserved
+loop-line-preserved c =
+    let tree = c.args.topology.now.tree in
+    let notes = notes_of c.loop-line.draft in
+    let next = notes_of c.take_line.new.draft in
+    let shorter = c.in-Some.ensures.shorter in
+    let counts = c.loop-line.invariant.counts in
+    record {
+      reads = λ read rest. c.loop-line.invariant.reads read (
+          line_read tree (lines_of c.loop-line.rest.now) (lines_of c.in-Some.after.now) c.in-Some.line.now c.loop-line.number notes next read c.in-Some.ensures.lines c.in_default-take_line.ensures rest);
+      sound = line-keeps tree notes c.loop-line.number c.in-Some.line.now next c.loop-line.invariant.sound c.in_default-take_line.ensures;
+      counts = omega arith;
+    }
+
 pub returns-clause-script : goal.returns-clause-script
-returns-clause-script c = IsScript-from_gives c.args.topology.now.tree c.args.text.now c.read_script.result c.read_script.ensures
+returns-clause-script c =
+    let tree = c.args.topology.now.tree in
+    let notes = notes_of c.loop-line.draft in
+    let pulses = c.pulses_of-pulses.ensures ∙ c.deref.ensures.value in
+    let last = last_line tree (lines_of c.loop-line.rest.now) c.loop-line.number notes c.pulses_of-pulses.result c.in-Some-end.end c.in_default.ensures.lines pulses c.in-Some-end.is in
+    scripts_are_sound tree c.args.text.now _ (c.loop-line.invariant.reads _ last)

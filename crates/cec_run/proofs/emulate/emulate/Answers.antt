@@ -1,9 +1,7 @@
-use Rattle.std.proofs.Common.{rules, ◌≡◌, ◌≤◌, [], Ok, sym, subst}
-use Rattle.std.specs.List.{All}
-use Rattle.std.proofs.lemmas.List.Elements.{All-nil}
+use Rattle.std.proofs.Common.{rules, ◌≡◌, Ok}
 use Rattle.cec_asm.specs.Topology.{topology_of, plan_of}
-use Rattle.cec_asm.specs.Script.{script_of, course_of}
-use Rattle.cec_run.proofs.Accepted.{has_device, no_pulses, one_trace_of}
+use Rattle.cec_asm.specs.Script.{IsScriptRead, course_of}
+use Rattle.cec_run.proofs.Accepted.{early, has_device, one_trace_of}
 use Rattle.cec_run.proofs.emulate.emulate.Goals as goal
 
 pub new-net-requires-clause-some : goal.new-net-requires-clause-some
@@ -12,14 +10,11 @@ new-net-requires-clause-some g c =
     has_device c.args.topology.now (plan_of c.in_ok-topology.topology) plan
 
 pub new-net-requires-clause-early : goal.new-net-requires-clause-early
-new-net-requires-clause-early g c =
-    let course : script_of c.in_ok-topology.topology.tree c.args.script.now ≡ Ok (course_of c.in_ok-script.script) = search rules in
-    let none : c.in_ok-script.script.pulses ≡ [] = no_pulses c.in_ok-topology.topology.tree c.args.script.now (course_of c.in_ok-script.script) course in
-    subst (λ ps. All (λ p. p.from ≤ 2000000000000) ps) (sym none) (All-nil (λ p. p.from ≤ 2000000000000))
+new-net-requires-clause-early g c = early c.in_ok-script.script.pulses c.in_ok-script.ensures.script.early
 
 pub returns-clause-cut : goal.returns-clause-cut
 returns-clause-cut g c text totals trace =
     let plan : topology_of c.args.topology.now ≡ Ok (plan_of c.in_ok-topology.topology) = search rules in
-    let course : script_of c.in_ok-topology.topology.tree c.args.script.now ≡ Ok (course_of c.in_ok-script.script) = search rules in
+    let course : IsScriptRead c.in_ok-topology.topology.tree c.args.script.now (Ok (course_of c.in_ok-script.script)) = c.in_ok-script.ensures.gives in
     c.in-Err.ensures.cut text totals (rw (c.new-net.ensures, c.deref.ensures.value)
     (one_trace_of c.args.topology.now c.args.script.now text totals (plan_of c.in_ok-topology.topology) (course_of c.in_ok-script.script) c.in_ok-edid.edid plan course c.in_ok-edid.ensures.read trace))

@@ -1,0 +1,363 @@
+-- What holds of every script: the order of times, the limit, devices of the tree, frames and pulses.
+use Rattle.std.proofs.Common.{◌≡◌, ℕ, suc, ◌+◌, ◌-◌, ◌<◌, ◌≤◌, ◌&&◌, Bool, true, false, cond, codes, List, [], ◌∷◌, ◌++◌, length, min, nat_lt, nat_le, slice_get, Option, Some, None, is_some, option_map, Result, Ok, Err, refl, sym, ap, subst, ◌∙◌, arith, length-append}
+use Rattle.std.specs.Str.{bytes_eq}
+use Rattle.std.specs.Option.{option_map_or}
+use Rattle.std.specs.List.{All}
+use Rattle.std.proofs.lemmas.Grind.{common_steps}
+use Rattle.std.proofs.lemmas.List.Elements.{All-append, All-nil, All-from_recursion}
+use Rattle.std.proofs.lemmas.Bool.Decides.{nat_tests}
+use Rattle.cec_wave.specs.declared.Stretch.{Stretch}
+use Rattle.cec_wave.specs.declared.PulsesError.{PulsesError}
+use Rattle.cec_wave.specs.declared.PulsesError.TheVariants as faults
+use Rattle.cec_wave.specs.Pulses.{stretch_fault, first_of, first_fault, pulses_fault}
+use Rattle.hdmi_topo.specs.Node.{Node}
+use Rattle.hdmi_topo.specs.Tree.{device_named}
+use Rattle.cec_device.specs.declared.keys.Key.{Key as KeyValue}
+use Rattle.cec_wave.proofs.Sparse.{faultless_are_sparse}
+use Rattle.cec_text.specs.Lines.{lines_of, is_skipped}
+use Rattle.cec_text.specs.FrameReading.{are_bytes, is_frame}
+use Rattle.cec_text.specs.declared.assembler.AssembleError.{AssembleError}
+use Rattle.cec_asm.specs.Words.{words_of, text_of, one_of, two_of, three_of}
+use Rattle.cec_asm.specs.Number.{number_of}
+use Rattle.cec_asm.specs.Keys.{key_of}
+use Rattle.cec_net.specs.Framed.{IsFramedEvent}
+use Rattle.cec_net.specs.declared.event.Event.{Event}
+use Rattle.cec_net.specs.declared.event.Event.TheVariants.{Plug, Unplug, Key, Send}
+use Rattle.cec_asm.specs.declared.script.TimedEvent.{TimedEvent}
+use Rattle.cec_asm.specs.declared.script.ScriptCause.{ScriptCause}
+use Rattle.cec_asm.specs.declared.script.ScriptCause.TheVariants.{Word, Number, Name, Frame, Width, Order, Close, TooMany, End}
+use Rattle.cec_asm.specs.Script.{Course, Notes, within_limit, time_of, last_time, last_end, scheduled, plug_read, plug_words, unplug_read, unplug_words, key_read, key_words, send_read, event_words, pulse_cause, unless_fault, pulsed, pulse_read, pulse_words, end_read, end_words, other_words, ended, no_notes, IsFrameOf, IsSendRead, IsEventRead, IsWordsRead, IsLineRead, IsAmong, IsSchedule, AreFramedEvents, IsScript, Onward, AreLinesRead, ScriptsAreSound}
+
+-- ---- times
+
+-- the time of the last event, from where there is none
+last_from : ℕ → List TimedEvent → ℕ
+last_from from [] = from
+last_from from (event ∷ events) = last_from event.at events
+
+at_place : List TimedEvent → ℕ → ℕ
+at_place events place = option_map_or (λ event. event.at) (slice_get events place) 0
+
+last_time-cons : (event next : TimedEvent) (events : List TimedEvent) → last_time (event ∷ next ∷ events) ≡ last_time (next ∷ events)
+unfolding at_place
+last_time-cons event next events =
+    let long : length (event ∷ next ∷ events) - 1 ≡ suc (length events) = omega arith in
+    let short : length (next ∷ events) - 1 ≡ length events = omega arith in
+    ap (at_place (event ∷ next ∷ events)) long ∙ sym (ap (at_place (next ∷ events)) short)
+
+last_time-last_from : (events : List TimedEvent) → last_time events ≡ last_from 0 events
+unfolding last_from
+last_time-last_from [] = refl
+last_time-last_from (event ∷ events) = onward event events
+  where
+    onward : (event : TimedEvent) (events : List TimedEvent) → last_time (event ∷ events) ≡ last_from event.at events
+    onward event [] = refl
+    onward event (next ∷ events) = last_time-cons event next events ∙ onward next events
+
+IsSchedule-later : (count end later from : ℕ) (events : List TimedEvent) → end ≤ later → IsSchedule count end from events → IsSchedule count later from events
+IsSchedule-later count end later from [] h s = tt
+IsSchedule-later count end later from (event ∷ events) h s = (s.0, omega (arith, s.1), s.2, IsSchedule-later count end later event.at events h s.3)
+
+IsSchedule-append : (count end from : ℕ) (events : List TimedEvent) (event : TimedEvent) → IsSchedule count end from events → last_from from events ≤ event.at → event.at < end → IsAmong count event.event →
+    IsSchedule count end from (events ++ event ∷ [])
+unfolding last_from
+IsSchedule-append count end from [] event s after before known = (after, before, known, tt)
+IsSchedule-append count end from (first ∷ events) event s after before known = (s.0, s.1, s.2, IsSchedule-append count end first.at events event s.3 after before known)
+
+last_from-append : (from : ℕ) (events : List TimedEvent) (event : TimedEvent) → last_from from (events ++ event ∷ []) ≡ event.at
+unfolding last_from
+last_from-append from [] event = refl
+last_from-append from (first ∷ events) event = last_from-append first.at events event
+
+AreFramedEvents-append : (events : List TimedEvent) (event : TimedEvent) → AreFramedEvents events → IsFramedEvent event.event → AreFramedEvents (events ++ event ∷ [])
+AreFramedEvents-append [] event f g = (g, tt)
+AreFramedEvents-append (first ∷ events) event f g = (f.0, AreFramedEvents-append events event f.1 g)
+
+-- ---- pulses
+
+-- the end of the last pulse, from where there is none
+end_from : Option ℕ → List Stretch → Option ℕ
+end_from before [] = before
+end_from before (pulse ∷ pulses) = end_from (Some pulse.to) pulses
+
+end_at : List Stretch → ℕ → Option ℕ
+end_at pulses place = option_map (λ pulse. pulse.to) (slice_get pulses place)
+
+last_end-cons : (pulse next : Stretch) (pulses : List Stretch) → last_end (pulse ∷ next ∷ pulses) ≡ last_end (next ∷ pulses)
+unfolding end_at
+last_end-cons pulse next pulses =
+    let long : length (pulse ∷ next ∷ pulses) - 1 ≡ suc (length pulses) = omega arith in
+    let short : length (next ∷ pulses) - 1 ≡ length pulses = omega arith in
+    ap (end_at (pulse ∷ next ∷ pulses)) long ∙ sym (ap (end_at (next ∷ pulses)) short)
+
+last_end-end_from : (pulses : List Stretch) → last_end pulses ≡ end_from None pulses
+unfolding end_from
+last_end-end_from [] = refl
+last_end-end_from (pulse ∷ pulses) = onward pulse pulses
+  where
+    onward : (pulse : Stretch) (pulses : List Stretch) → last_end (pulse ∷ pulses) ≡ end_from (Some pulse.to) pulses
+    onward pulse [] = refl
+    onward pulse (next ∷ pulses) = last_end-cons pulse next pulses ∙ onward next pulses
+
+no_first : (a b : Option PulsesError) → first_of a b ≡ None → (a ≡ None) × (b ≡ None)
+no_first None b h = (refl, h)
+no_first (Some e) b h = cc
+
+both_none : (a b : Option PulsesError) → a ≡ None → b ≡ None → first_of a b ≡ None
+both_none None b h g = g
+both_none (Some e) b h g = cc
+
+first_fault-append : (before : Option ℕ) (pulses : List Stretch) (pulse : Stretch) → first_fault before pulses ≡ None → stretch_fault (end_from before pulses) pulse ≡ None → first_fault before (pulses ++ pulse ∷ []) ≡ None
+unfolding end_from
+first_fault-append before [] pulse h g = both_none (stretch_fault before pulse) None g refl
+first_fault-append before (first ∷ pulses) pulse h g =
+    let parts = no_first (stretch_fault before first) (first_fault (Some first.to) pulses) h in
+    both_none (stretch_fault before first) (first_fault (Some first.to) (pulses ++ pulse ∷ [])) parts.0 (first_fault-append (Some first.to) pulses pulse parts.1 g)
+
+few : (pulses : List Stretch) → pulses_fault pulses ≡ None → (length pulses ≤ 4096) × (first_fault None pulses ≡ None)
+few pulses h =
+    elim (nat_lt 4096 (length pulses)) as (λ b. nat_lt 4096 (length pulses) ≡ b → cond b (Some faults.TooMany) (first_fault None pulses) ≡ None → (length pulses ≤ 4096) × (first_fault None pulses ≡ None)) [
+      | true ↦ λ e g. (cc)
+      | false ↦ λ e g. (grind (arith, nat_tests), g)
+    ] refl h
+
+faultless : (pulses : List Stretch) → length pulses ≤ 4096 → first_fault None pulses ≡ None → pulses_fault pulses ≡ None
+faultless pulses h g = let not_many : nat_lt 4096 (length pulses) ≡ false = grind (arith, nat_tests) in rw not_many g
+
+one_more : (pulses : List Stretch) (pulse : Stretch) → pulses_fault pulses ≡ None → stretch_fault (last_end pulses) pulse ≡ None → nat_le 4096 (length pulses) ≡ false → pulses_fault (pulses ++ pulse ∷ []) ≡ None
+one_more pulses pulse h g room =
+    let k = few pulses h in
+    let long : length (pulses ++ pulse ∷ []) ≤ 4096 = grind (arith, nat_tests, common_steps) in
+    faultless (pulses ++ pulse ∷ []) long (first_fault-append None pulses pulse k.1 (ap (λ e. stretch_fault e pulse) (sym (last_end-end_from pulses)) ∙ g))
+
+-- ---- what the lines so far keep
+
+-- within the limit of times
+abbrev IsEarly : Stretch → Type 0
+IsEarly pulse = pulse.from ≤ 1000000000000
+
+pub record AreSound (count : ℕ) (notes : Notes) : Type 0 where
+  pub schedule : IsSchedule count (last_time notes.events + 1) 0 notes.events
+  pub framed : AreFramedEvents notes.events
+  pub sparse : pulses_fault notes.pulses ≡ None
+  pub early : All IsEarly notes.pulses
+  pub ended : (time : ℕ) → notes.end ≡ Some time → IsSchedule count time 0 notes.events × (time ≤ 1000000000000)
+
+pub sound_start : (count : ℕ) → AreSound count no_notes
+sound_start count = record { schedule = tt; framed = tt; sparse = refl; early = All-nil IsEarly; ended = λ t e. (cc) }
+
+Keeps : ℕ → Result Notes ScriptCause → Type 0
+Keeps count read = (next : Notes) → read ≡ Ok next → AreSound count next
+
+keeps_next : (count : ℕ) (read : Result Notes ScriptCause) (next : Notes) → Keeps count read → read ≡ Ok next → AreSound count next
+unfolding Keeps
+keeps_next count read next k e = k next e
+
+keeps_err : (count : ℕ) (cause : ScriptCause) → Keeps count (Err cause)
+unfolding Keeps
+keeps_err count cause next h = cc
+
+keeps_if : (count : ℕ) (b : Bool) (x y : Result Notes ScriptCause) → (b ≡ true → Keeps count x) → (b ≡ false → Keeps count y) → Keeps count (cond b x y)
+keeps_if count true x y f g = f refl
+keeps_if count false x y f g = g refl
+
+keeps_ok : (count : ℕ) (notes : Notes) → AreSound count notes → Keeps count (Ok notes)
+unfolding Keeps
+keeps_ok count notes s next h = let e : notes ≡ next = cc in let P : Notes → Type 0 = λ n. AreSound count n in subst P e s
+
+scheduled-keeps : (count : ℕ) (notes : Notes) (line time : ℕ) (event : Event) → AreSound count notes → IsAmong count event → IsFramedEvent event → Keeps count (scheduled notes line time event)
+scheduled-keeps count notes line time event s known framed =
+    keeps_if count (nat_lt time (last_time notes.events)) _ _ (λ e. keeps_err count Order)
+    (λ on_time. keeps_if count (is_some notes.end) _ _ (λ e. keeps_err count End) (λ unended. keeps_ok count _ (sound_more on_time unended)))
+  where
+    sound_more : nat_lt time (last_time notes.events) ≡ false → is_some notes.end ≡ false →
+        AreSound count (record notes { events = notes.events ++ record { line = line; at = time; event = event } ∷ [] })
+    sound_more on_time unended =
+        let timed : TimedEvent = record { line = line; at = time; event = event } in
+        let after : last_time notes.events ≤ time = grind (arith, nat_tests) in
+        let from_zero : last_from 0 notes.events ≤ time = omega (arith, last_time-last_from notes.events) in
+        let last : last_time (notes.events ++ timed ∷ []) ≡ time = last_time-last_from (notes.events ++ timed ∷ []) ∙ last_from-append 0 notes.events timed in
+        let Until : ℕ → Type 0 = λ n. IsSchedule count (n + 1) 0 (notes.events ++ timed ∷ []) in
+        record {
+          schedule = subst Until (sym last) (IsSchedule-append count (time + 1) 0 notes.events timed (IsSchedule-later count (last_time notes.events + 1) (time + 1) 0 notes.events (omega arith) s.schedule) from_zero (omega arith) known);
+          framed = AreFramedEvents-append notes.events timed s.framed framed;
+          sparse = s.sparse;
+          early = s.early;
+          ended = λ t h. (let clash = rw h at unended in cc);
+        }
+
+named-below : (tree : List Node) (name : List ℕ) (device : ℕ) → device_named tree name ≡ Some device → device < length tree
+named-below tree name device h = grind (arith, common_steps)
+
+plug_read-keeps : (count : ℕ) (notes : Notes) (line : ℕ) (time port child parent : Option ℕ) → AreSound count notes →
+    ((i : ℕ) → child ≡ Some i → i < count) → ((i : ℕ) → parent ≡ Some i → i < count) → Keeps count (plug_read notes line time port child parent)
+plug_read-keeps count notes line None port child parent s hc hp = keeps_err count Number
+plug_read-keeps count notes line (Some time) None child parent s hc hp = keeps_err count Number
+plug_read-keeps count notes line (Some time) (Some port) None parent s hc hp = keeps_err count Name
+plug_read-keeps count notes line (Some time) (Some port) (Some child) None s hc hp = keeps_err count Name
+plug_read-keeps count notes line (Some time) (Some port) (Some child) (Some parent) s hc hp =
+    scheduled-keeps count notes line time (Plug child parent (min port 255)) s (hc child refl, hp parent refl) tt
+
+plug_words-keeps : (tree : List Node) (notes : Notes) (line : ℕ) (time : List ℕ) (words : Option (List ℕ × List ℕ × List ℕ)) → AreSound (length tree) notes →
+    Keeps (length tree) (plug_words tree notes line time words)
+plug_words-keeps tree notes line time None s = keeps_err (length tree) Word
+plug_words-keeps tree notes line time (Some words) s =
+    plug_read-keeps (length tree) notes line (time_of time) (number_of words.2) (device_named tree words.0) (device_named tree words.1) s (named-below tree words.0) (named-below tree words.1)
+
+unplug_read-keeps : (count : ℕ) (notes : Notes) (line : ℕ) (time child : Option ℕ) → AreSound count notes → ((i : ℕ) → child ≡ Some i → i < count) → Keeps count (unplug_read notes line time child)
+unplug_read-keeps count notes line None child s hc = keeps_err count Number
+unplug_read-keeps count notes line (Some time) None s hc = keeps_err count Name
+unplug_read-keeps count notes line (Some time) (Some child) s hc = scheduled-keeps count notes line time (Unplug child) s (hc child refl) tt
+
+unplug_words-keeps : (tree : List Node) (notes : Notes) (line : ℕ) (time : List ℕ) (words : Option (List ℕ)) → AreSound (length tree) notes → Keeps (length tree) (unplug_words tree notes line time words)
+unplug_words-keeps tree notes line time None s = keeps_err (length tree) Word
+unplug_words-keeps tree notes line time (Some word) s = unplug_read-keeps (length tree) notes line (time_of time) (device_named tree word) s (named-below tree word)
+
+key_read-keeps : (count : ℕ) (notes : Notes) (line : ℕ) (press : Bool) (key : Result KeyValue ScriptCause) (time device : Option ℕ) → AreSound count notes → ((i : ℕ) → device ≡ Some i → i < count) →
+    Keeps count (key_read notes line press key time device)
+key_read-keeps count notes line press (Err cause) time device s hd = keeps_err count cause
+key_read-keeps count notes line press (Ok key) None device s hd = keeps_err count Number
+key_read-keeps count notes line press (Ok key) (Some time) None s hd = keeps_err count Name
+key_read-keeps count notes line press (Ok key) (Some time) (Some device) s hd = scheduled-keeps count notes line time (Key device key press) s (hd device refl) tt
+
+key_words-keeps : (tree : List Node) (notes : Notes) (line : ℕ) (press : Bool) (time : List ℕ) (words : List (List ℕ)) → AreSound (length tree) notes → Keeps (length tree) (key_words tree notes line press time words)
+key_words-keeps tree notes line press time [] s = keeps_err (length tree) Word
+key_words-keeps tree notes line press time (name ∷ words) s =
+    key_read-keeps (length tree) notes line press (key_of words) (time_of time) (device_named tree name) s (named-below tree name)
+
+event_words-keeps : (tree : List Node) (notes : Notes) (line : ℕ) (time verb : List ℕ) (words : List (List ℕ)) → AreSound (length tree) notes → Keeps (length tree) (event_words tree notes line time verb words)
+event_words-keeps tree notes line time verb words s =
+    keeps_if (length tree) (bytes_eq verb (codes "plug")) _ _ (λ e. plug_words-keeps tree notes line time (three_of words) s)
+    (λ e. keeps_if (length tree) (bytes_eq verb (codes "unplug")) _ _ (λ e. unplug_words-keeps tree notes line time (one_of words) s)
+    (λ e. keeps_if (length tree) (bytes_eq verb (codes "press")) _ _ (λ e. key_words-keeps tree notes line true time words s)
+    (λ e. keeps_if (length tree) (bytes_eq verb (codes "release")) _ _ (λ e. key_words-keeps tree notes line false time words s)
+    (λ e. keeps_err (length tree) Word))))
+
+-- a frame has a block
+frame_some : (frame : List ℕ) → is_frame frame ≡ true → 0 < length frame
+frame_some [] h = cc
+frame_some (block ∷ blocks) h = omega arith
+
+send_read-keeps : (count : ℕ) (notes : Notes) (line : ℕ) (time device : Option ℕ) (text : List ℕ) (frame : Result (List ℕ) AssembleError) → AreSound count notes → ((i : ℕ) → device ≡ Some i → i < count) →
+    IsFrameOf text frame → Keeps count (send_read notes line time device frame)
+send_read-keeps count notes line None device text frame s hd is = keeps_err count Number
+send_read-keeps count notes line (Some time) None text frame s hd is = keeps_err count Name
+send_read-keeps count notes line (Some time) (Some device) text (Err cause) s hd is = keeps_err count (Frame cause)
+send_read-keeps count notes line (Some time) (Some device) text (Ok frame) s hd is =
+    scheduled-keeps count notes line time (Send device frame) s (hd device refl) (frame_some frame is.0.whole)
+
+send-keeps : (tree : List Node) (notes : Notes) (line : ℕ) (time : List ℕ) (words : List (List ℕ)) (next : Notes) → AreSound (length tree) notes → IsSendRead tree notes line time words (Ok next) → AreSound (length tree) next
+send-keeps tree notes line time [] next s h = cc
+send-keeps tree notes line time (name ∷ []) next s h = cc
+send-keeps tree notes line time (name ∷ word ∷ words) next s h =
+    keeps_next (length tree) (send_read notes line (time_of time) (device_named tree name) h.0) next
+    (send_read-keeps (length tree) notes line (time_of time) (device_named tree name) (text_of (word ∷ words)) h.0 s (named-below tree name) h.1) (sym h.2)
+
+-- either way
+by_cond : (b : Bool) (P Q R : Type 0) → (P → R) → (Q → R) → cond {A = Type 0} b P Q → R
+by_cond true P Q R f g h = f h
+by_cond false P Q R f g h = g h
+
+event-keeps : (tree : List Node) (notes : Notes) (line : ℕ) (words : List (List ℕ)) (next : Notes) → AreSound (length tree) notes → IsEventRead tree notes line words (Ok next) → AreSound (length tree) next
+event-keeps tree notes line [] next s h = cc
+event-keeps tree notes line (time ∷ []) next s h = cc
+event-keeps tree notes line (time ∷ verb ∷ words) next s h =
+    by_cond (bytes_eq verb (codes "send")) (IsSendRead tree notes line time words (Ok next)) (Ok next ≡ event_words tree notes line time verb words) (AreSound (length tree) next)
+    (λ p. send-keeps tree notes line time words next s p)
+    (λ q. keeps_next (length tree) (event_words tree notes line time verb words) next (event_words-keeps tree notes line time verb words s) (sym q)) h
+
+within_limit-limit : (o : Option ℕ) (time : ℕ) → within_limit o ≡ Some time → time ≤ 1000000000000
+within_limit-limit None time h = cc
+within_limit-limit (Some n) time h = grind (arith, nat_tests)
+
+pulsed-keeps : (count : ℕ) (notes : Notes) (pulse : Stretch) → AreSound count notes → pulse.from ≤ 1000000000000 → Keeps count (pulsed notes pulse)
+pulsed-keeps count notes pulse s within =
+    elim (stretch_fault (last_end notes.pulses) pulse) as (λ o. stretch_fault (last_end notes.pulses) pulse ≡ o → Keeps count (unless_fault o notes pulse)) [
+      | Some fault ↦ λ e. keeps_err count (pulse_cause fault)
+      | None ↦ λ e. keeps_if count (nat_le 4096 (length notes.pulses)) _ _ (λ full. keeps_err count TooMany)
+          (λ room. keeps_if count (is_some notes.end) _ _ (λ ended. keeps_err count End)
+          (λ unended. keeps_ok count _ (record {
+            schedule = s.schedule;
+            framed = s.framed;
+            sparse = one_more notes.pulses pulse s.sparse e room;
+            early = All-append IsEarly notes.pulses (pulse ∷ []) s.early (All-from_recursion IsEarly (pulse ∷ []) (within, tt));
+            ended = s.ended;
+          })))
+    ] refl
+
+pulse_read-keeps : (count : ℕ) (notes : Notes) (time width : Option ℕ) → AreSound count notes → ((t : ℕ) → time ≡ Some t → t ≤ 1000000000000) → Keeps count (pulse_read notes time width)
+pulse_read-keeps count notes None width s limit = keeps_err count Number
+pulse_read-keeps count notes (Some time) None s limit = keeps_err count Number
+pulse_read-keeps count notes (Some time) (Some width) s limit = pulsed-keeps count notes (record { from = time; to = time + min width 65535 }) s (limit time refl)
+
+pulse_words-keeps : (count : ℕ) (notes : Notes) (words : Option (List ℕ × List ℕ)) → AreSound count notes → Keeps count (pulse_words notes words)
+pulse_words-keeps count notes None s = keeps_err count Word
+pulse_words-keeps count notes (Some words) s = pulse_read-keeps count notes (time_of words.0) (number_of words.1) s (within_limit-limit (number_of words.0))
+
+-- after every event there is
+ends_after : (count time : ℕ) (events : List TimedEvent) → IsSchedule count (last_time events + 1) 0 events → (nat_lt 0 (length events) && nat_le time (last_time events)) ≡ false → IsSchedule count time 0 events
+ends_after count time [] s h = tt
+ends_after count time (event ∷ events) s h =
+    let after : last_time (event ∷ events) < time = grind (arith, nat_tests) in
+    IsSchedule-later count (last_time (event ∷ events) + 1) time 0 (event ∷ events) (omega arith) s
+
+end_read-keeps : (count : ℕ) (notes : Notes) (time : Option ℕ) → AreSound count notes → ((t : ℕ) → time ≡ Some t → t ≤ 1000000000000) → Keeps count (end_read notes time)
+end_read-keeps count notes None s limit = keeps_err count Number
+end_read-keeps count notes (Some time) s limit =
+    keeps_if count (is_some notes.end) _ _ (λ e. keeps_err count End)
+    (λ unended. keeps_if count (nat_lt 0 (length notes.events) && nat_le time (last_time notes.events)) _ _ (λ e. keeps_err count End)
+    (λ after. keeps_ok count _ (record {
+      schedule = s.schedule;
+      framed = s.framed;
+      sparse = s.sparse;
+      early = s.early;
+      ended = λ t h. (let same : time ≡ t = cc in let Ends : ℕ → Type 0 = λ n. IsSchedule count n 0 notes.events × (n ≤ 1000000000000) in
+          subst Ends same (ends_after count time notes.events s.schedule after, limit time refl));
+    })))
+
+end_words-keeps : (count : ℕ) (notes : Notes) (words : Option (List ℕ)) → AreSound count notes → Keeps count (end_words notes words)
+end_words-keeps count notes None s = keeps_err count Word
+end_words-keeps count notes (Some word) s = end_read-keeps count notes (time_of word) s (within_limit-limit (number_of word))
+
+other_words-keeps : (count : ℕ) (notes : Notes) (verb : List ℕ) (words : List (List ℕ)) → AreSound count notes → Keeps count (other_words notes verb words)
+other_words-keeps count notes verb words s =
+    keeps_if count (bytes_eq verb (codes "pulse")) _ _ (λ e. pulse_words-keeps count notes (two_of words) s)
+    (λ e. keeps_if count (bytes_eq verb (codes "end")) _ _ (λ e. end_words-keeps count notes (one_of words) s) (λ e. keeps_err count Word))
+
+words-keep : (tree : List Node) (notes : Notes) (line : ℕ) (words : List (List ℕ)) (next : Notes) → AreSound (length tree) notes → IsWordsRead tree notes line words (Ok next) → AreSound (length tree) next
+words-keep tree notes line [] next s h = cc
+words-keep tree notes line (verb ∷ words) next s h =
+    by_cond (bytes_eq verb (codes "at")) (IsEventRead tree notes line words (Ok next)) (Ok next ≡ other_words notes verb words) (AreSound (length tree) next)
+    (λ p. event-keeps tree notes line words next s p)
+    (λ q. keeps_next (length tree) (other_words notes verb words) next (other_words-keeps (length tree) notes verb words s) (sym q)) h
+
+-- a line that is taken keeps it
+pub line-keeps : (tree : List Node) (notes : Notes) (line : ℕ) (text : List ℕ) (next : Notes) → AreSound (length tree) notes → IsLineRead tree notes line text (Ok next) → AreSound (length tree) next
+line-keeps tree notes line text next s h =
+    by_cond (is_skipped text) (Ok next ≡ Ok notes) (IsWordsRead tree notes line (words_of text) (Ok next)) (AreSound (length tree) next)
+    (λ p. keeps_next (length tree) (Ok notes) next (keeps_ok (length tree) notes s) (sym p))
+    (λ q. words-keep tree notes line (words_of text) next s q) h
+
+-- what the lines keep at the end is a script
+sound_script : (count : ℕ) (notes : Notes) (line : ℕ) (course : Course) → AreSound count notes → Ok course ≡ ended notes line notes.end → IsScript count course
+sound_script count notes line course s h =
+    let Is : Course → Type 0 = λ found. IsScript count found in
+    elim notes.end as (λ o. notes.end ≡ o → Ok course ≡ ended notes line o → IsScript count course) [
+      | None ↦ λ e g. (cc)
+      | Some time ↦ λ e g. (
+          let r = s.ended time e in
+          let same : record { events = notes.events; pulses = notes.pulses; end = time } ≡ course = cc in
+          subst Is same (record { schedule = r.0; framed = s.framed; sparse = (faultless_are_sparse notes.pulses).0 s.sparse; early = s.early; limit = r.1 }))
+    ] refl h
+
+lines-sound : (tree : List Node) (texts : List (List ℕ)) (line : ℕ) (notes : Notes) (course : Course) → AreSound (length tree) notes → AreLinesRead tree texts line notes (Ok course) → IsScript (length tree) course
+lines-sound tree [] line notes course s h = sound_script (length tree) notes line course s h
+lines-sound tree (text ∷ texts) line notes course s h = step h.0 h.1 h.2 (λ next n. lines-sound tree texts (line + 1) next course n)
+  where
+    step : (r : Result Notes ScriptCause) → IsLineRead tree notes line text r → Onward line r (λ next. AreLinesRead tree texts (line + 1) next (Ok course)) (Ok course)
+        → ((next : Notes) → AreSound (length tree) next → AreLinesRead tree texts (line + 1) next (Ok course) → IsScript (length tree) course) → IsScript (length tree) course
+    step (Ok next) l k on = on next (line-keeps tree notes line text next s l) k
+    step (Err cause) l k on = cc
+
+pub scripts_are_sound : ScriptsAreSound
+scripts_are_sound tree text course h = lines-sound tree (lines_of text) 1 no_notes course (sound_start (length tree)) h

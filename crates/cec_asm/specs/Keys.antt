@@ -1,0 +1,98 @@
+-- Words of keys (own): one word, or a word and what it takes.
+use Rattle.std.specs.Prelude.{ℕ, ◌==◌, nat_lt, Bool, true, false, ◌&&◌, if◌then◌else◌, codes, List, length, min, slice_index, find, option_map, Option, Some, None, Result, Ok, Err}
+use Rattle.std.specs.List.{list_all}
+use Rattle.std.specs.Str.{bytes_eq}
+use Rattle.std.specs.Char.{is_ascii_lowercase}
+use Rattle.cec_opcode.specs.ControlWords.{user_control_at}
+use Rattle.cec_opcode.specs.declared.message.Triple.{Triple}
+use Rattle.cec_opcode.specs.declared.user_control.UserControl.{UserControl}
+use Rattle.cec_opcode.specs.WordSets.{words_of, Word as OperandWord}
+use Rattle.cec_opcode.specs.declared.word_set.WordSet.TheVariants as sets
+use Rattle.cec_device.specs.declared.keys.Key.{Key}
+use Rattle.cec_device.specs.declared.keys.Key.TheVariants.{Play, Stop, Eject, Load, Menu, Power, Watch, Port, Audio, Arc, Volume, Language, Remote}
+use Rattle.cec_device.specs.declared.keys.VolumeKey.TheVariants.{Up, Down, Mute}
+use Rattle.cec_asm.specs.Words.{one_of, two_of, three_of, is_nibble, nibble_of, phys_of}
+use Rattle.cec_asm.specs.Number.{number_of}
+use Rattle.cec_asm.specs.declared.script.ScriptCause.{ScriptCause}
+use Rattle.cec_asm.specs.declared.script.ScriptCause.TheVariants.{Word, Number}
+
+-- the keys of one word
+abbrev pub plain_key : List ℕ → Option Key
+plain_key word =
+    if bytes_eq word (codes "play") then Some Play
+    else if bytes_eq word (codes "stop") then Some Stop
+    else if bytes_eq word (codes "eject") then Some Eject
+    else if bytes_eq word (codes "load") then Some Load
+    else if bytes_eq word (codes "menu") then Some Menu
+    else if bytes_eq word (codes "power") then Some Power
+    else if bytes_eq word (codes "volume-up") then Some (Volume Up)
+    else if bytes_eq word (codes "volume-down") then Some (Volume Down)
+    else if bytes_eq word (codes "mute") then Some (Volume Mute)
+    else None
+
+abbrev pub switch_of : List ℕ → Option Bool
+switch_of word = if bytes_eq word (codes "on") then Some true else if bytes_eq word (codes "off") then Some false else None
+
+-- three letters
+abbrev pub language_of : List ℕ → Option Triple
+language_of word =
+    if (length word == 3) && list_all is_ascii_lowercase word
+    then Some (record { first = slice_index word 0; second = slice_index word 1; third = slice_index word 2 })
+    else None
+
+-- a logical address of another device than the television: 1 to e
+abbrev pub is_destination : List ℕ → Bool
+is_destination word = (length word == 1) && is_nibble (slice_index word 0) && nat_lt 48 (slice_index word 0) && nat_lt (slice_index word 0) 102
+
+abbrev pub destination_of : List ℕ → Option ℕ
+destination_of word = if is_destination word then Some (nibble_of (slice_index word 0)) else None
+
+-- the byte that a word stands for, in a set of words
+abbrev pub byte_in : List OperandWord → List ℕ → Option ℕ
+byte_in words word = option_map (λ w. w.code) (find (λ w. bytes_eq w.text word) words)
+
+-- the user control code of a word (CEC table 27)
+unfoldable pub code_of : List ℕ → Option ℕ
+code_of word = byte_in (words_of sets.UserControl) word
+
+abbrev pub control_of : List ℕ → Option UserControl
+control_of word = option_map user_control_at (code_of word)
+
+-- a word is a key's, or no key's
+abbrev pub known : Option Key → Result Key ScriptCause
+known None = Err Word
+known (Some key) = Ok key
+
+-- a port above 255 counts as 255
+abbrev pub port_key : Option ℕ → Result Key ScriptCause
+port_key None = Err Number
+port_key (Some port) = Ok (Port (min port 255))
+
+-- `watch PA`, `port N`, `audio on`, `audio off`, `arc on`, `arc off`, `language LLL`
+abbrev pub key_with : List ℕ → List ℕ → Result Key ScriptCause
+key_with word value =
+    if bytes_eq word (codes "watch") then known (option_map Watch (phys_of value))
+    else if bytes_eq word (codes "port") then port_key (number_of value)
+    else if bytes_eq word (codes "audio") then known (option_map Audio (switch_of value))
+    else if bytes_eq word (codes "arc") then known (option_map Arc (switch_of value))
+    else if bytes_eq word (codes "language") then known (option_map Language (language_of value))
+    else Err Word
+
+-- `remote D CODE`
+abbrev pub remote_by : Option ℕ → Option UserControl → Result Key ScriptCause
+remote_by None code = Err Word
+remote_by (Some to) None = Err Word
+remote_by (Some to) (Some code) = Ok (Remote to code)
+
+abbrev pub remote_key : List ℕ → List ℕ → List ℕ → Result Key ScriptCause
+remote_key word to code = if bytes_eq word (codes "remote") then remote_by (destination_of to) (control_of code) else Err Word
+
+abbrev pub key_by : Option (List ℕ) → Option (List ℕ × List ℕ) → Option (List ℕ × List ℕ × List ℕ) → Result Key ScriptCause
+key_by (Some word) two three = known (plain_key word)
+key_by None (Some words) three = key_with words.0 words.1
+key_by None None (Some words) = remote_key words.0 words.1 words.2
+key_by None None None = Err Word
+
+-- the key of some words, or the first cause for which they are none
+abbrev pub key_of : List (List ℕ) → Result Key ScriptCause
+key_of words = key_by (one_of words) (two_of words) (three_of words)

@@ -1,0 +1,253 @@
+//! Runs worked out by hand from the standard's times, to the byte.
+use crate::emulate::emulate;
+use hdmi_core::Writes;
+use std::alloc::Global;
+use std::process::Abort;
+use std::test::Fail;
+
+// A television, and a player in its first port.
+const TWO: &str = "device tv tv 4\ndevice p1 player 0\nplug p1 tv 1\n";
+
+// A television with an amplifier in its first port and a player in the second.
+const THREE: &str =
+    "device tv tv 4\ndevice amp amp 1\ndevice p1 player 0\nplug amp tv 1\nplug p1 tv 2\n";
+
+const ALONE: &str = "device tv tv 1\n";
+
+fn trace(alloc: Global, topology: &str, script: &str) -> Result<Vec<u8>, Fail> {
+    let mut out = Vec::new(alloc);
+    let _totals = emulate(
+        alloc,
+        topology.as_bytes(),
+        script.as_bytes(),
+        &mut Writes::new(&mut out),
+    )?;
+    Ok(out)
+}
+
+// The lines stand in the trace, one right after another.
+fn tells(
+    rt: &impl Abort,
+    alloc: Global,
+    topology: &str,
+    script: &str,
+    lines: &str,
+) -> Result<(), Fail> {
+    let out = trace(alloc, topology, script)?;
+    let lines = lines.as_bytes();
+    assert!(rt;
+        out.windows(lines.len()).any(|part| part == lines),
+        "{script}"
+    );
+    Ok(())
+}
+
+#[test]
+fn the_lower_address_wins(rt: HostRuntime) -> Result<(), Fail> {
+    tells(
+        &rt,
+        rt.alloc(),
+        THREE,
+        "at 2000000 send amp 5>0 give-device-power-status\nat 2000000 send p1 4>0 image-view-on\nend 2300000\n",
+        "2000000 event 1 ok\n2000000 event 2 ok\n\
+         2000000 2051150 complete 4>0 image-view-on ack by p1 out amp@4\n\
+         2063600 2114750 complete 5>0 give-device-power-status ack by amp out -\n\
+         2127200 2202350 complete 0>5 report-power-status on ack by tv out -\n",
+    )
+}
+
+// A player's send at 1,000,000 beside a pulse, and what the trace tells of it.
+const PULSES: [(&str, &str); 6] = [
+    (
+        "pulse 1006500 100",
+        "1000000 event 1 ok\n1000000 1006500 short 0 by p1 out -\n\
+         1017300 1068450 complete 4>0 image-view-on ack by p1 out -\n",
+    ),
+    (
+        "pulse 1006600 400",
+        "1000000 event 1 ok\n1000000 1051150 complete 4>0 image-view-on ack by p1 out -\n",
+    ),
+    (
+        "pulse 1006560 100",
+        "1000000 1006900 short 0 by p1 out -\n\
+         1017700 1068850 complete 4>0 image-view-on ack by p1 out -\n",
+    ),
+    (
+        "pulse 1006549 400",
+        "1000000 1006549 short 0 by p1 out -\n\
+         1017349 1068499 complete 4>0 image-view-on ack by p1 out -\n",
+    ),
+    (
+        "pulse 1006550 400",
+        "1000000 1051150 complete 4>0 image-view-on ack by p1 out -\n",
+    ),
+    (
+        "pulse 1006600 1200",
+        "1000000 1009351 silent 00 by - out p1@2\n",
+    ),
+];
+
+#[test]
+fn pulses_move_and_break_slots(rt: HostRuntime) -> Result<(), Fail> {
+    let alloc = rt.alloc();
+    for (pulse, lines) in PULSES {
+        let script = format!(in alloc;
+            "at 1000000 send p1 4>0 image-view-on\n{pulse}\nend 1300000\n"
+        )?;
+        tells(&rt, alloc, TWO, script.as_str(), lines)?;
+    }
+    Ok(())
+}
+
+#[test]
+fn six_attempts(rt: HostRuntime) -> Result<(), Fail> {
+    let alloc = rt.alloc();
+    let script = "at 1000000 send p1 4>8 give-osd-name\nend 1300000\n";
+    tells(
+        &rt,
+        alloc,
+        TWO,
+        script,
+        "1000000 1028851 silent 0100100001 by - out p1@10\n\
+         1033900 1062751 silent 0100100001 by - out p1@10\n\
+         1067800 1096651 silent 0100100001 by - out p1@10\n\
+         1101700 1130551 silent 0100100001 by - out p1@10\n\
+         1135600 1164451 silent 0100100001 by - out p1@10\n\
+         1169500 1198351 silent 0100100001 by - out p1@10\n\
+         state tv tv 0 0.0.0.0 ",
+    )?;
+    tells(
+        &rt,
+        alloc,
+        TWO,
+        "at 1000000 send p1 4>8 give-osd-name\npulse 1028851 1\nend 1036100\n",
+        "1000000 1028851 silent 0100100001 by - out p1@10\n\
+         1028851 1028852 bad-start - by - out -\n1036052 ",
+    )?;
+    tells(
+        &rt,
+        alloc,
+        TWO,
+        "at 1000000 send p1 4>8 give-osd-name\npulse 1028800 100\nend 1036200\n",
+        "1000000 1031551 silent 01001000011 by - out p1@10\n1036100 ",
+    )
+}
+
+#[test]
+fn a_refused_broadcast_is_sent_again(rt: HostRuntime) -> Result<(), Fail> {
+    tells(
+        &rt,
+        rt.alloc(),
+        TWO,
+        "at 1000000 press p1 play\nat 2000000 send tv 0>f request-active-source\npulse 2050500 700\nend 2400000\n",
+        "2000000 event 2 ok\n\
+         2000000 2051150 complete 0>f request-active-source refused by tv out -\n\
+         2058400 2109550 complete 0>f request-active-source ok by tv out -\n\
+         2121100 2220250 complete 4>f active-source 1.0.0.0 ok by p1 out -\n\
+         2236600 2335750 complete 4>f active-source 1.0.0.0 ok by p1 out -\n\
+         state tv ",
+    )
+}
+
+#[test]
+fn pulses_before_a_poll(rt: HostRuntime) -> Result<(), Fail> {
+    let alloc = rt.alloc();
+    for (pulse, lines) in [
+        (
+            "pulse 5000 3000",
+            "5000 8000 bad-start - by - out -\n20000 47150 complete 0>0 nack by tv out -\n",
+        ),
+        (
+            "pulse 12901 3000",
+            "12000 15901 bad-start - by tv out -\n23104 50254 complete 0>0 nack by tv out -\n",
+        ),
+        (
+            "pulse 12900 3000",
+            "12000 39150 complete 0>0 nack by tv out -\n",
+        ),
+    ] {
+        let script = format!(in alloc; "{pulse}\nend 200000\n")?;
+        let out = trace(alloc, ALONE, script.as_str())?;
+        assert!(rt; out.starts_with(lines.as_bytes()), "{pulse}");
+    }
+    Ok(())
+}
+
+#[test]
+fn a_queue_has_sixteen_places(rt: HostRuntime) -> Result<(), Fail> {
+    let alloc = rt.alloc();
+    let mut script = String::new(alloc);
+    for _ in 0..17 {
+        script.push_str("at 1000000 send p1 4>0 image-view-on\n")?;
+    }
+    script.push_str("end 1000001\n")?;
+    tells(
+        &rt,
+        alloc,
+        TWO,
+        script.as_str(),
+        "1000000 event 16 ok\n1000000 event 17 refused queue-full\n",
+    )
+}
+
+#[test]
+fn a_switch_tells_its_port(rt: HostRuntime) -> Result<(), Fail> {
+    let alloc = rt.alloc();
+    let topology = "device tv tv 4\ndevice sw switch 3\nplug sw tv 1\n";
+    let script =
+        "at 1000000 press sw port 2\nat 2000000 press sw play\nat 2000000 release sw port 4\nend 2000001\n";
+    let out = trace(alloc, topology, script)?;
+    let lines = "12000 39150 complete 0>0 nack by tv out sw@1\n\
+         50700 173850 complete f>f report-physical-address 1.0.0.0 switch ok by sw out -\n\
+         185400 308550 complete 0>f report-physical-address 0.0.0.0 tv ok by tv out -\n\
+         1000000 event 1 ok\n\
+         1000000 1147150 complete f>f routing-change 1.1.0.0 1.2.0.0 ok by sw out -\n\
+         2000000 event 2 refused not-for-kind\n\
+         2000000 event 3 refused not-for-kind\n";
+    assert!(rt; out.starts_with(lines.as_bytes()));
+    Ok(())
+}
+
+#[test]
+fn sends_are_refused(rt: HostRuntime) -> Result<(), Fail> {
+    let alloc = rt.alloc();
+    tells(
+        &rt,
+        alloc,
+        "device tv tv 1\ndevice p1 player 0\n",
+        "at 5 send p1 4>0 image-view-on\nat 5 press p1 play\nat 5 unplug p1\nat 5 send tv 0>4 standby\n\
+         at 100000 send tv 4>0 standby\nat 100000 send tv 0>0 standby\nend 100001\n",
+        "5 event 1 refused off-wire\n5 event 2 refused off-wire\n5 event 3 refused not-plugged\n5 event 4 refused no-address\n",
+    )?;
+    tells(
+        &rt,
+        alloc,
+        ALONE,
+        "at 200000 send tv 4>0 standby\nat 200000 send tv 0>0 standby\nend 200001\n",
+        "200000 event 1 refused no-address\n200000 event 2 refused own-address\n",
+    )
+}
+
+// 4,096 pulses of 400, each 25,000 after the end of the one before. Each opens a round or falls into one.
+#[test]
+fn runs_with_the_most_pulses(rt: HostRuntime) -> Result<(), Fail> {
+    let alloc = rt.alloc();
+    let mut script = String::new(alloc);
+    for number in 0..4096u64 {
+        let line = format!(in alloc; "pulse {} 400\n", number * 25_400)?;
+        script.push_str(line.as_str())?;
+    }
+    script.push_str("end 104100000\n")?;
+    let mut out = Vec::new(alloc);
+    let totals = emulate(
+        alloc,
+        ALONE.as_bytes(),
+        script.as_bytes(),
+        &mut Writes::new(&mut out),
+    )?;
+    assert!(rt; totals.rounds >= 4000);
+    assert!(rt; totals.rounds <= 104_100_000 / 7200 + 4096);
+    assert!(rt; out.starts_with(b"0 400 bad-start - by - out -\n"));
+    assert!(rt; out.ends_with(b"104100000 end\n"));
+    Ok(())
+}
