@@ -6,6 +6,7 @@ mod script;
 mod topology;
 mod words;
 
-pub use cec_text::{AssembleError, WordSet, assemble, frame_text, write_frame};
+pub use cec_opcode::WordSet;
+pub use cec_text::{AssembleError, assemble, frame_text, write_frame};
 pub use script::{Script, ScriptCause, ScriptError, TimedEvent, parse_script};
 pub use topology::{Topology, TopologyCause, TopologyError, parse_topology};

@@ -7,7 +7,7 @@ ghost use Rattle.cec_asm.specs.Topology.{Plan, plan_of, kind_named, device_line,
 use crate::number::number_in;
 use crate::words::{first_word, one_word, three_words};
 use cec_text::{first_line, is_skipped};
-use hdmi_cta::Kind;
+use hdmi_core::Kind;
 use hdmi_topo::{AddError, PlugError, Tree, is_name};
 use hex::FromHexError;
 use std::alloc::Global;

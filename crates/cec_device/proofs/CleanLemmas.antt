@@ -1,8 +1,8 @@
 -- Why no queued frame goes to the device's own address.
 use Rattle.std.proofs.Common.{◌≡◌, ℕ, ◌==◌, ◌<◌, ◌+◌, ◌*◌, ◌%◌, ◌/◌, Bool, true, false, not, ◌&&◌, ◌||◌, nat_lt, if◌then◌else◌, List, [], ◌∷◌, ◌++◌, length, slice_index, Option, Some, None, refl, ap, subst, ◌∙◌, arith, lit<}
 use Rattle.std.proofs.lemmas.List.Folds.{list_all-append}
-use Rattle.hdmi_cta.specs.declared.kind.Kind.{Kind}
-use Rattle.hdmi_cta.specs.declared.phys.Phys.{Phys}
+use Rattle.hdmi_core.specs.declared.kind.Kind.{Kind}
+use Rattle.hdmi_core.specs.declared.phys.Phys.{Phys}
 use Rattle.cec_device.specs.declared.record.Place.{Place}
 use Rattle.cec_device.specs.declared.record.Place.TheVariants.{Off, Polls, Settled}
 use Rattle.cec_device.specs.declared.sending.Fate.{Fate}

@@ -2,8 +2,8 @@
 use Rattle.std.proofs.Common.{◌≡◌, ℕ, Bool, true, false, List, [], ◌∷◌, length, map, Some, None, refl}
 use Rattle.std.specs.Prelude.{fold, replicate}
 use Rattle.cec_opcode.specs.declared.user_control.UserControl.TheVariants.{Play as PlayCode}
-use Rattle.hdmi_cta.specs.declared.kind.Kind.{Kind}
-use Rattle.hdmi_cta.specs.declared.kind.Kind.TheVariants.{Tv, Amp, Player, Switch}
+use Rattle.hdmi_core.specs.declared.kind.Kind.{Kind}
+use Rattle.hdmi_core.specs.declared.kind.Kind.TheVariants.{Tv, Amp, Player, Switch}
 use Rattle.cec_device.specs.declared.record.Place.TheVariants.{Settled}
 use Rattle.cec_device.specs.declared.sending.Fate.TheVariants.{Delivered, Broken}
 use Rattle.cec_device.specs.declared.keys.Key.{Key}

@@ -24,8 +24,8 @@ use Rattle.cec_opcode.specs.declared.words.SystemAudio.TheVariants.{Off as Audio
 use Rattle.cec_opcode.specs.declared.user_control.UserControl.{UserControl}
 use Rattle.cec_opcode.specs.declared.user_control.UserControl.TheVariants.{RootMenu, Exit, Power, VolumeUp, VolumeDown, Mute, Play as PlayKey, Stop as StopKey, Pause, PowerOff, PowerOn}
 use Rattle.arrayvec.specs.declared.ArrayVec.{ArrayVec}
-use Rattle.hdmi_cta.specs.declared.kind.Kind.{Kind}
-use Rattle.hdmi_cta.specs.declared.phys.Phys.{Phys}
+use Rattle.hdmi_core.specs.declared.kind.Kind.{Kind}
+use Rattle.hdmi_core.specs.declared.phys.Phys.{Phys}
 use Rattle.cec_device.specs.declared.record.Record.{Record}
 use Rattle.cec_device.specs.declared.record.Heard.{Heard}
 use Rattle.cec_device.specs.State.{State, is_tv, is_amp, is_deck, is_switch, type_of, same_phys, is_nowhere, holds}

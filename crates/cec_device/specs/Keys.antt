@@ -4,8 +4,8 @@ use Rattle.std.specs.Prelude.{ℕ, ◌==◌, ◌-◌, Bool, true, not, ◌&&◌,
 use Rattle.cec_opcode.specs.ControlWords.{user_control_byte}
 use Rattle.cec_opcode.specs.declared.user_control.UserControl.{UserControl}
 use Rattle.cec_opcode.specs.declared.user_control.UserControl.TheVariants.{VolumeUp, VolumeDown, Mute as MuteCode}
-use Rattle.hdmi_cta.specs.declared.kind.Kind.{Kind}
-use Rattle.hdmi_cta.specs.declared.phys.Phys.{Phys}
+use Rattle.hdmi_core.specs.declared.kind.Kind.{Kind}
+use Rattle.hdmi_core.specs.declared.phys.Phys.{Phys}
 use Rattle.cec_device.specs.declared.record.Record.{Record}
 use Rattle.cec_device.specs.declared.record.Heard.{Heard}
 use Rattle.cec_device.specs.declared.keys.Key.{Key}

@@ -1,9 +1,9 @@
 -- Joining, leaving, the allocation of a logical address (CEC 10.2.1), and the fates of frames that were sent
 -- (CEC 7.1 and 9.1; that a poll is tried again without limit, and how attempts are counted, are this profile's own).
 use Rattle.std.specs.Prelude.{ℕ, ◌==◌, ◌+◌, ◌*◌, ◌/◌, ◌%◌, Bool, true, false, ◌&&◌, not, nat_lt, List, [], ◌∷◌, ◌++◌, length, slice_index, if◌then◌else◌, Option, Some, None, is_some}
-use Rattle.hdmi_cta.specs.declared.kind.Kind.{Kind}
-use Rattle.hdmi_cta.specs.declared.kind.Kind.TheVariants.{Tv, Amp, Player, Recorder, Switch}
-use Rattle.hdmi_cta.specs.declared.phys.Phys.{Phys}
+use Rattle.hdmi_core.specs.declared.kind.Kind.{Kind}
+use Rattle.hdmi_core.specs.declared.kind.Kind.TheVariants.{Tv, Amp, Player, Recorder, Switch}
+use Rattle.hdmi_core.specs.declared.phys.Phys.{Phys}
 use Rattle.cec_device.specs.declared.record.Place.{Place}
 use Rattle.cec_device.specs.declared.record.Place.TheVariants.{Off, Polls, Settled}
 use Rattle.cec_device.specs.declared.sending.Fate.{Fate}

@@ -1,6 +1,6 @@
 -- Ways through switches: a physical address is the path of ports from the root (CEC 10.1, HDMI 1.4, 8.7.2).
 use Rattle.std.specs.Prelude.{ℕ, ◌==◌, ◌+◌, ◌*◌, ◌%◌, ◌/◌, List, [], ◌∷◌, if◌then◌else◌, Option, Some, None}
-use Rattle.hdmi_cta.specs.declared.phys.Phys.{Phys}
+use Rattle.hdmi_core.specs.declared.phys.Phys.{Phys}
 
 abbrev pub nibbles : Phys → List ℕ
 nibbles p = (p.high / 16) ∷ (p.high % 16) ∷ (p.low / 16) ∷ (p.low % 16) ∷ []

@@ -10,7 +10,7 @@ use crate::ways::is_nowhere;
 use arrayvec::ArrayVec;
 use cec_frame::{Addr, Frame, FrameError};
 use cec_opcode::Reason;
-use hdmi_cta::{Kind, Phys};
+use hdmi_core::{Kind, Phys};
 use std::marker::Model;
 use thiserror::Error;
 

@@ -13,7 +13,7 @@ use cec_frame::{Addr, Frame};
 use cec_opcode::{
     Address, Decoded, Display, Message, Reason, SystemAudio, UserControl, decode, rule,
 };
-use hdmi_cta::{Kind, Phys};
+use hdmi_core::{Kind, Phys};
 
 /// The table: for each message the kinds that it is for, and what it does. Another kind refuses.
 macro_rules! rows {

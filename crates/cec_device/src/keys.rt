@@ -9,7 +9,7 @@ use crate::record::{Heard, Place, Port};
 use crate::ways::below;
 use cec_frame::Addr;
 use cec_opcode::{Triple, UserControl};
-use hdmi_cta::{Kind, Phys};
+use hdmi_core::{Kind, Phys};
 use thiserror::Error;
 
 /// The logical addresses of a television and of an audio system (CEC 10.2).

@@ -10,7 +10,7 @@ use crate::ways::{NOWHERE, is_nowhere};
 use arrayvec::ArrayVec;
 use cec_frame::{Addr, Frame};
 use cec_opcode::Triple;
-use hdmi_cta::{Kind, Phys};
+use hdmi_core::{Kind, Phys};
 
 /// What is polled after an address that was found taken.
 fn place_behind(kind: Kind, taken: Addr) -> Place

@@ -4,7 +4,7 @@ ghost use Rattle.std.specs.Prelude.{◌≡◌};
 use arrayvec::ArrayVec;
 use cec_frame::Addr;
 use cec_opcode::Triple;
-use hdmi_cta::Phys;
+use hdmi_core::Phys;
 use std::marker::Model;
 
 /// The number of a port, or how many ports there are: 0 to 15.

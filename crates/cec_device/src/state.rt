@@ -8,7 +8,7 @@ use crate::record::{Place, Record};
 use crate::sending::FreeTime;
 use arrayvec::ArrayVec;
 use cec_frame::Frame;
-use hdmi_cta::{Kind, Phys};
+use hdmi_core::{Kind, Phys};
 
 impl<const Q: usize> Device<Q> {
     /// What it is.

@@ -2,7 +2,7 @@
 use crate::{Device, Fate, FreeTime, Key, KeyError, Place, SubmitError, VolumeKey};
 use cec_frame::{Addr, Frame};
 use cec_opcode::UserControl;
-use hdmi_cta::{Kind, Phys};
+use hdmi_core::{Kind, Phys};
 use std::process::Abort;
 use std::test::Fail;
 

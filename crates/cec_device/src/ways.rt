@@ -4,7 +4,7 @@ ghost use Rattle.cec_device.specs.State.{is_nowhere};
 ghost use Rattle.cec_device.specs.Ways.{port_towards, below, nibbles, next_nibble};
 
 use crate::record::Port;
-use hdmi_cta::Phys;
+use hdmi_core::Phys;
 
 /// F.F.F.F, which stands for no physical address.
 pub(crate) const NOWHERE: Phys = Phys {

@@ -1,8 +1,9 @@
 -- The frame that a whole reading tells: the first eight bits of each block of ten slots (CEC 6).
-use Rattle.std.specs.Prelude.{ℕ, ◌+◌, ◌*◌, Bool, if◌then◌else◌, List, [], ◌∷◌, Option, Some, None}
+use Rattle.std.specs.Prelude.{◌≡◌, ℕ, ◌+◌, ◌%◌, ◌==◌, ◌<◌, Bool, false, if◌then◌else◌, List, [], ◌∷◌, length, slice_index_or, Option, Some, None, All}
 use Rattle.cec_frame.specs.declared.Ending.{Ending}
-use Rattle.cec_frame.specs.declared.Ending.TheVariants.{Complete, Short, Silent, BadStart, Long, Open}
+use Rattle.cec_frame.specs.declared.Ending.TheVariants.{Complete}
 use Rattle.cec_frame.specs.declared.Reading.{Reading}
+use Rattle.cec_frame.specs.Bits.{frame_bits}
 
 -- a bit at a place of this weight
 abbrev pub weighed : ℕ → Bool → ℕ
@@ -29,3 +30,23 @@ frame_by _ bits = None
 -- the frame of a reading that ended with all its blocks
 abbrev pub frame_in : Reading → Option (List ℕ)
 frame_in reading = frame_by reading.ending reading.bits.items
+
+-- ---- a frame that is read as it was sent
+
+-- bytes of eight bits
+abbrev pub AreBytes : List ℕ → Type 0
+AreBytes f = All (λ b. b < 256) f
+
+-- These bits are as many as a frame has, and those that it sends, but for the acknowledge slots, the last of each ten
+-- (CEC 6.1.2). Slots are counted from 0.
+pub record IsReadAs (bits : List Bool) (f : List ℕ) : Type 0 where
+  pub long : length bits ≡ length (frame_bits f)
+  pub same : (k : ℕ) → k < length bits → (k % 10 == 9) ≡ false → slice_index_or bits k false ≡ slice_index_or (frame_bits f) k false
+
+-- The bytes of a frame's bits are that frame.
+abbrev pub OwnBitsAreRead : Type 0
+OwnBitsAreRead = (f : List ℕ) → AreBytes f → bytes_of (frame_bits f) ≡ f
+
+-- So they are whatever its acknowledge slots were read as.
+abbrev pub FramesAreRead : Type 0
+FramesAreRead = (f : List ℕ) (bits : List Bool) → AreBytes f → IsReadAs bits f → bytes_of bits ≡ f

@@ -2,8 +2,8 @@
 use Rattle.std.proofs.Common.{◌≡◌, ℕ, suc, ◌+◌, ◌*◌, ◌<◌, ◌≤◌, ◌==◌, Bool, true, false, not, ◌&&◌, ◌||◌, nat_lt, if◌then◌else◌, List, [], ◌∷◌, ◌++◌, length, Option, Some, None, refl, sym, ap, ◌∙◌, subst, arith, max, slice_index_or}
 use Rattle.std.specs.List.{All}
 use Rattle.std.proofs.lemmas.List.Elements.{All-nil, All-cons, All-append}
-use Rattle.hdmi_cta.specs.declared.phys.Phys.{Phys}
-use Rattle.hdmi_cta.specs.declared.kind.Kind.{Kind}
+use Rattle.hdmi_core.specs.declared.phys.Phys.{Phys}
+use Rattle.hdmi_core.specs.declared.kind.Kind.{Kind}
 use Rattle.cec_device.specs.declared.record.Place.{Place}
 use Rattle.cec_device.specs.declared.record.Place.TheVariants.{Off, Polls, Settled}
 use Rattle.cec_device.specs.declared.record.Heard.{Heard}

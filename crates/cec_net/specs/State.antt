@@ -1,7 +1,7 @@
 -- Where a run stands between its events and rounds (own).
 use Rattle.std.specs.Prelude.{ℕ, List, [], ◌∷◌, ◌+◌, map, Option, Some, None, Bool, true, false}
 use Rattle.cec_wave.specs.declared.Stretch.{Stretch}
-use Rattle.hdmi_cta.specs.declared.phys.Phys.{Phys}
+use Rattle.hdmi_core.specs.declared.phys.Phys.{Phys}
 use Rattle.hdmi_topo.specs.Node.{Node}
 use Rattle.hdmi_topo.specs.Path.{address_of}
 use Rattle.cec_device.specs.State.{State}

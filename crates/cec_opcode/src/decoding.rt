@@ -11,32 +11,118 @@ use crate::words::{AudioStatus, DeviceType, Power, Reason, SystemAudio, Version}
 use arrayvec::ArrayVec;
 use cec_frame::Frame;
 
-macro_rules! read_row {
-    ($op:literal, $operands:ident, [] { ($make:expr) }) => {
-        Decoded::Known($make)
-    };
-    ($op:literal, $operands:ident, [raw] {}) => {
-        Decoded::Known(Message::Raw { opcode: $op, operands: list($operands) })
-    };
-    ($op:literal, $operands:ident, [optional $some_pattern:pat] { ($none:expr) ($some:expr) }) => {
-        match $operands {
-            [] => Decoded::Known($none),
-            $some_pattern => Decoded::Known($some),
+// Reads one operand off the front.
+macro_rules! take {
+    ($op:literal, $from:expr, $field:ident : Byte, $rest:ident, $then:expr) => {
+        match $from {
+            [byte, $rest @ ..] => {
+                let $field = *byte;
+                $then
+            }
             _ => Decoded::Short($op),
         }
     };
-    ($op:literal, $operands:ident, [$($pattern:tt)*] { ($make:expr) }) => {
-        match $operands {
-            [$($pattern)*] => Decoded::Known($make),
+    ($op:literal, $from:expr, $field:ident : Address, $rest:ident, $then:expr) => {
+        match $from {
+            [high, low, $rest @ ..] => {
+                let $field = Address { high: *high, low: *low };
+                $then
+            }
+            _ => Decoded::Short($op),
+        }
+    };
+    ($op:literal, $from:expr, $field:ident : Language, $rest:ident, $then:expr) => {
+        take!($op, $from, $field: Vendor, $rest, $then)
+    };
+    ($op:literal, $from:expr, $field:ident : Vendor, $rest:ident, $then:expr) => {
+        match $from {
+            [first, second, third, $rest @ ..] => {
+                let $field = Triple { first: *first, second: *second, third: *third };
+                $then
+            }
+            _ => Decoded::Short($op),
+        }
+    };
+    ($op:literal, $from:expr, $field:ident : Volume, $rest:ident, $then:expr) => {
+        take!($op, $from, $field: AudioStatus, $rest, $then)
+    };
+    ($op:literal, $from:expr, $field:ident : $set:ident, $rest:ident, $then:expr) => {
+        match $from {
+            [byte, $rest @ ..] => {
+                let $field = $set::from_byte(*byte);
+                $then
+            }
             _ => Decoded::Short($op),
         }
     };
 }
 
+macro_rules! read_row {
+    ($op:literal, $operands:ident, $message:ident {}) => {
+        Decoded::Known(Message::$message)
+    };
+    ($op:literal, $operands:ident, $message:ident { $field:ident : Text }) => {
+        match $operands {
+            [_, ..] => Decoded::Known(Message::$message { $field: list($operands) }),
+            _ => Decoded::Short($op),
+        }
+    };
+    ($op:literal, $operands:ident, $message:ident { $field:ident : optional Address }) => {
+        match $operands {
+            [] => Decoded::Known(Message::$message { $field: None }),
+            [high, low, ..] => Decoded::Known(Message::$message {
+                $field: Some(Address { high: *high, low: *low }),
+            }),
+            _ => Decoded::Short($op),
+        }
+    };
+    ($op:literal, $operands:ident, $message:ident { $field:ident : Byte }) => {
+        match $operands {
+            [byte, ..] => Decoded::Known(Message::$message { $field: *byte }),
+            _ => Decoded::Short($op),
+        }
+    };
+    ($op:literal, $operands:ident, $message:ident { $field:ident : Address }) => {
+        match $operands {
+            [high, low, ..] => Decoded::Known(Message::$message {
+                $field: Address { high: *high, low: *low },
+            }),
+            _ => Decoded::Short($op),
+        }
+    };
+    ($op:literal, $operands:ident, $message:ident { $field:ident : Language }) => {
+        read_row!($op, $operands, $message { $field: Vendor })
+    };
+    ($op:literal, $operands:ident, $message:ident { $field:ident : Vendor }) => {
+        match $operands {
+            [first, second, third, ..] => Decoded::Known(Message::$message {
+                $field: Triple { first: *first, second: *second, third: *third },
+            }),
+            _ => Decoded::Short($op),
+        }
+    };
+    ($op:literal, $operands:ident, $message:ident { $field:ident : Volume }) => {
+        read_row!($op, $operands, $message { $field: AudioStatus })
+    };
+    ($op:literal, $operands:ident, $message:ident { $field:ident : $set:ident }) => {
+        match $operands {
+            [byte, ..] => Decoded::Known(Message::$message { $field: $set::from_byte(*byte) }),
+            _ => Decoded::Short($op),
+        }
+    };
+    ($op:literal, $operands:ident, $message:ident { $field:ident : $kind:ident, $text:ident : optional Text }) => {
+        take!($op, $operands, $field: $kind, rest, Decoded::Known(Message::$message { $field: $field, $text: list(rest) }))
+    };
+    ($op:literal, $operands:ident, $message:ident { $field:ident : $kind:ident, $next:ident : $after:ident }) => {
+        take!($op, $operands, $field: $kind, rest, take!($op, rest, $next: $after, _rest, Decoded::Known(Message::$message { $field: $field, $next: $next })))
+    };
+}
+
 macro_rules! decode_match {
-    ($code:expr, $operands:ident, $($op:literal $name:literal $least:literal $most:literal $direct:literal $broadcast:literal $pattern:tt $make:tt $take:tt;)*) => {
+    ($code:expr, $operands:ident, { $($op:literal $name:literal $to:ident $message:ident $fields:tt;)* } { $($raw:literal $raw_name:literal;)* }) => {
         match $code {
-            $($op => read_row!($op, $operands, $pattern $make),)*
+            $($op => read_row!($op, $operands, $message $fields),)*
+            $($raw => Decoded::Known(Message::Raw { opcode: $raw, operands: list($operands) }),)*
             _ => Decoded::Unknown($code),
         }
     };

@@ -1,12 +1,13 @@
 //! From messages to frames.
-ghost use Rattle.std.specs.Prelude.{◌≡◌, ◌≤◌, ◌+◌, ◌*◌, ◌∷◌, ◌++◌, Option, IsTrue, ◌↔◌, length, IfOk, IfSome, MatchResult, option_copied, None, Some};
+ghost use Rattle.std.specs.Prelude.{◌≡◌, ◌≤◌, ◌+◌, ◌*◌, ◌∷◌, ◌++◌, [], Option, IsTrue, ◌↔◌, length, IfOk, IfSome, MatchResult, option_copied, None, Some};
 ghost use Rattle.arrayvec.specs.ArrayVec.{array_vec_len};
-ghost use Rattle.cec_opcode.specs.Table.{decoded_of, is_raw_opcode, name_of, rule_of, spelling, refusal, meaning, is_own_message};
+ghost use Rattle.cec_opcode.specs.Table.{decoded_of, is_raw_opcode, name_of, rule_of, operands_of, addressing_of, spelling, refusal, meaning, is_own_message};
 
-use crate::message::{Address, Message, Triple};
+use crate::message::{Message, Triple};
+use crate::operand::{Operand, Operands};
 use crate::row::Rule;
 use crate::rows::rows;
-use crate::words::{AudioStatus, Power, Reason};
+use crate::word_set::{Word, WordSet, text_in};
 use arrayvec::ArrayVec;
 use cec_frame::{Addr, Frame};
 
@@ -18,30 +19,176 @@ pub enum EncodeError {
     TooLong,
 }
 
-macro_rules! name_match {
-    ($code:expr, $unused:ident, $($op:literal $name:literal $least:literal $most:literal $direct:literal $broadcast:literal $pattern:tt $make:tt $take:tt;)*) => {
-        match $code {
-            $($op => Some($name),)*
-            _ => None,
+macro_rules! names {
+    ($unused:expr, $more:ident, { $($op:literal $name:literal $to:ident $message:ident $fields:tt;)* } { $($raw:literal $raw_name:literal;)* }) => {
+        &[$(Word { byte: $op, text: $name },)* $(Word { byte: $raw, text: $raw_name },)*]
+    };
+}
+
+/// The opcodes that have a name.
+const NAMES: &[Word] = rows!(names, 0, unused);
+
+// A word of a row, as a case of `Operand`.
+macro_rules! operand {
+    (Byte) => {
+        Operand::Byte
+    };
+    (Language) => {
+        Operand::Language
+    };
+    (Vendor) => {
+        Operand::Vendor
+    };
+    (Address) => {
+        Operand::Address
+    };
+    (SystemAudio) => {
+        Operand::Word(WordSet::OnOff)
+    };
+    (DeckControlMode) => {
+        Operand::Word(WordSet::DeckControl)
+    };
+    (MenuRequestType) => {
+        Operand::Word(WordSet::MenuRequest)
+    };
+    ($set:ident) => {
+        Operand::Word(WordSet::$set)
+    };
+}
+
+macro_rules! operands {
+    ({}) => {
+        Operands::Nothing
+    };
+    ({ $field:ident : Text }) => {
+        Operands::Text
+    };
+    ({ $field:ident : Volume }) => {
+        Operands::Volume
+    };
+    ({ $field:ident : optional $kind:ident }) => {
+        Operands::Optional(operand!($kind))
+    };
+    ({ $field:ident : $kind:ident }) => {
+        Operands::One(operand!($kind))
+    };
+    ({ $field:ident : $set:ident, $text:ident : optional Text }) => {
+        Operands::WordAndText(WordSet::$set)
+    };
+    ({ $field:ident : $kind:ident, $next:ident : $after:ident }) => {
+        Operands::Two(operand!($kind), operand!($after))
+    };
+}
+
+macro_rules! operands_match {
+    ($at:expr, $unused:ident, { $($op:literal $name:literal $to:ident $message:ident $fields:tt;)* } { $($raw:literal $raw_name:literal;)* }) => {
+        match $at {
+            $($op => operands!($fields),)*
+            _ => Operands::Raw,
         }
     };
 }
 
-macro_rules! rule_match {
-    ($code:expr, $unused:ident, $($op:literal $name:literal $least:literal $most:literal $direct:literal $broadcast:literal $pattern:tt $make:tt $take:tt;)*) => {
-        match $code {
-            $($op => Rule { least: $least, most: $most, direct: $direct, broadcast: $broadcast },)*
-            _ => Rule { least: 0, most: 14, direct: true, broadcast: true },
+macro_rules! addressing {
+    (direct) => {
+        (true, false)
+    };
+    (broadcast) => {
+        (false, true)
+    };
+    (both) => {
+        (true, true)
+    };
+}
+
+macro_rules! addressing_match {
+    ($at:expr, $unused:ident, { $($op:literal $name:literal $to:ident $message:ident $fields:tt;)* } { $($raw:literal $raw_name:literal;)* }) => {
+        match $at {
+            $($op => addressing!($to),)*
+            _ => addressing!(both),
         }
+    };
+}
+
+// The bytes of an operand.
+macro_rules! bytes {
+    (Byte, $field:ident) => {
+        [*$field]
+    };
+    (Address, $field:ident) => {
+        [$field.high, $field.low]
+    };
+    (Language, $field:ident) => {
+        [$field.first, $field.second, $field.third]
+    };
+    (Vendor, $field:ident) => {
+        [$field.first, $field.second, $field.third]
+    };
+    ($set:ident, $field:ident) => {
+        [$field.byte()]
+    };
+}
+
+macro_rules! pattern {
+    ($message:ident) => {
+        Message::$message
+    };
+    ($message:ident $($field:ident)+) => {
+        Message::$message { $($field),+ }
+    };
+}
+
+macro_rules! spell_row {
+    ($op:literal) => {
+        alone($op)
+    };
+    ($op:literal, $field:ident : Text) => {
+        joined(&[$op], $field.as_slice())
+    };
+    ($op:literal, $field:ident : optional Address) => {
+        match $field {
+            None => alone($op),
+            Some(address) => with_two($op, address.high, address.low),
+        }
+    };
+    ($op:literal, $field:ident : Byte) => {
+        with_one($op, *$field)
+    };
+    ($op:literal, $field:ident : Address) => {
+        with_two($op, $field.high, $field.low)
+    };
+    ($op:literal, $field:ident : Language) => {
+        with_three($op, $field)
+    };
+    ($op:literal, $field:ident : Vendor) => {
+        with_three($op, $field)
+    };
+    ($op:literal, $field:ident : $set:ident) => {
+        with_one($op, $field.byte())
+    };
+    ($op:literal, $field:ident : $kind:ident, $text:ident : optional Text) => {
+        joined(&with_one($op, $field.byte()), $text.as_slice())
+    };
+    ($op:literal, $field:ident : $kind:ident, $next:ident : $after:ident) => {
+        joined(&joined(&[$op], &bytes!($kind, $field)), &bytes!($after, $next))
     };
 }
 
 macro_rules! spell_match {
-    ($message:expr, $unused:ident, $($op:literal $name:literal $least:literal $most:literal $direct:literal $broadcast:literal $pattern:tt $make:tt { $(($take:pat) [$($byte:expr),*] ($tail:expr))* };)*) => {
-        match $message {
-            $($($take => joined(&[$op, $($byte),*], $tail),)*)*
+    ($at:expr, $unused:ident, { $($op:literal $name:literal $to:ident $message:ident { $($field:ident : $($kind:ident)+),* };)* } { $($raw:literal $raw_name:literal;)* }) => {
+        match $at {
+            $(pattern!($message $($field)*) => spell_row!($op $(, $field : $($kind)+)*),)*
             Message::Raw { opcode, operands } => joined(&[*opcode], operands.as_slice()),
             Message::Unknown { opcode, operands } => joined(&[*opcode], operands.as_slice()),
+        }
+    };
+}
+
+macro_rules! raw_match {
+    ($at:expr, $unused:ident, { $($op:literal $name:literal $to:ident $message:ident $fields:tt;)* } { $($raw:literal $raw_name:literal;)* }) => {
+        match $at {
+            $($raw => true,)*
+            _ => false,
         }
     };
 }
@@ -51,14 +198,35 @@ pub fn name(code: u8) -> Option<&'static str>
     ensures value { option_copied result ≡ name_of code }
     ensures short { IfSome result (λ name. length name.now ≤ 29) }
 {
-    rows!(name_match, code, code)
+    text_in(NAMES, code)
+}
+
+/// How the operands of an opcode are written.
+pub fn operands_of(code: u8) -> Operands
+    ensures { result ≡ operands_of code }
+{
+    rows!(operands_match, code, code)
+}
+
+// Whether an opcode may come to one device, and to all.
+fn addressing(code: u8) -> (bool, bool)
+    ensures { result ≡ addressing_of code }
+{
+    rows!(addressing_match, code, code)
 }
 
 /// The rule of an opcode.
 pub fn rule(code: u8) -> Rule
     ensures { result ≡ rule_of code }
 {
-    rows!(rule_match, code, code)
+    let operands = operands_of(code);
+    let (direct, broadcast) = addressing(code);
+    Rule {
+        least: operands.least(),
+        most: operands.most(),
+        direct,
+        broadcast,
+    }
 }
 
 /// One list behind another.
@@ -72,6 +240,30 @@ fn joined(front: &[u8], back: &[u8]) -> ArrayVec<u8, 24>
     items
 }
 
+fn alone(code: u8) -> ArrayVec<u8, 24>
+    ensures { result.items ≡ code ∷ [] }
+{
+    joined(&[code], &[])
+}
+
+fn with_one(code: u8, byte: u8) -> ArrayVec<u8, 24>
+    ensures { result.items ≡ code ∷ byte ∷ [] }
+{
+    joined(&[code], &[byte])
+}
+
+fn with_two(code: u8, first: u8, second: u8) -> ArrayVec<u8, 24>
+    ensures { result.items ≡ code ∷ first ∷ second ∷ [] }
+{
+    joined(&[code], &[first, second])
+}
+
+fn with_three(code: u8, bytes: &Triple) -> ArrayVec<u8, 24>
+    ensures { result.items ≡ code ∷ bytes.now.first ∷ bytes.now.second ∷ bytes.now.third ∷ [] }
+{
+    joined(&[code], &[bytes.first, bytes.second, bytes.third])
+}
+
 /// The opcode and the operands of a message.
 pub fn spell(message: &Message) -> ArrayVec<u8, 24>
     ensures value { result.items ≡ spelling message.now }
@@ -79,24 +271,6 @@ pub fn spell(message: &Message) -> ArrayVec<u8, 24>
     ensures most { array_vec_len result ≤ 18 }
 {
     rows!(spell_match, message, message)
-}
-
-macro_rules! raw_row {
-    ([raw]) => {
-        true
-    };
-    ($pattern:tt) => {
-        false
-    };
-}
-
-macro_rules! raw_match {
-    ($code:expr, $unused:ident, $($op:literal $name:literal $least:literal $most:literal $direct:literal $broadcast:literal $pattern:tt $make:tt $take:tt;)*) => {
-        match $code {
-            $($op => raw_row!($pattern),)*
-            _ => false,
-        }
-    };
 }
 
 /// Whether an opcode's operands are kept as they are.

@@ -10,8 +10,8 @@ use Rattle.cec_asm.specs.Script.{Course, Notes, ScriptFault, script_of, ended, l
 use Rattle.cec_asm.specs.declared.script.ScriptCause.{ScriptCause}
 use Rattle.cec_net.specs.State.{started}
 use Rattle.cec_run.specs.declared.run.Totals.{Totals}
-use Rattle.hdmi_edtext.specs.declared.edid.Edid.{Edid}
-use Rattle.hdmi_edtext.proofs.OneEdid.{one_edid}
+use Rattle.hdmi_blocks.specs.declared.edid.Edid.{Edid}
+use Rattle.hdmi_blocks.proofs.OneEdid.{one_edid}
 use Rattle.cec_run.specs.Root.{IsRoot}
 use Rattle.cec_run.specs.Run.{start, IsTrace}
 use Rattle.cec_run.specs.Emulate.{IsTraceOf, TextsHaveOneTrace}

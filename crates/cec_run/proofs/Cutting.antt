@@ -5,8 +5,8 @@ use Rattle.std.specs.List.{flat_map}
 use Rattle.std.proofs.lemmas.Grind.{flat_map-append}
 use Rattle.std.proofs.lemmas.List.{take-append-le, take-append-drop, take_more}
 use Rattle.std.proofs.Math.Seq.{take-append-add}
-use Rattle.hdmi_cta.proofs.CutShort.{Appends-trans}
-use Rattle.hdmi_cta.specs.declared.sink.WriteFault.{WriteFault}
+use Rattle.hdmi_core.proofs.CutShort.{Appends-trans}
+use Rattle.hdmi_core.specs.declared.sink.WriteFault.{WriteFault}
 use Rattle.cec_run.specs.Cut.{CutOff, told_count}
 
 -- the counts of two parts

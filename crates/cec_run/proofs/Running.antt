@@ -2,15 +2,15 @@
 use Rattle.std.proofs.Common.{◌≡◌, ℕ, suc, ◌+◌, ◌<◌, List, [], ◌∷◌, ◌++◌, length, take, Option, ◌∙◌, sym, refl, subst, append-nil, arith}
 use Rattle.std.specs.List.{flat_map}
 use Rattle.std.specs.Io.KnownBytes.{Appends}
-use Rattle.hdmi_cta.specs.declared.sink.WriteFault.{WriteFault}
-use Rattle.hdmi_cta.proofs.CutShort.{Appends-trans}
+use Rattle.hdmi_core.specs.declared.sink.WriteFault.{WriteFault}
+use Rattle.hdmi_core.proofs.CutShort.{Appends-trans}
 use Rattle.cec_asm.specs.declared.script.TimedEvent.{TimedEvent}
 use Rattle.cec_net.specs.State.{NetState}
 use Rattle.cec_net.specs.Apply.{applied, event_fault}
 use Rattle.cec_run.specs.declared.run.Totals.{Totals}
 use Rattle.cec_run.specs.declared.run.Turn.TheVariants.{Stop, Apply, Round}
 use Rattle.cec_run.specs.Cut.{CutOff, told_count}
-use Rattle.hdmi_edtext.specs.declared.edid.Edid.{Edid}
+use Rattle.hdmi_blocks.specs.declared.edid.Edid.{Edid}
 use Rattle.cec_run.specs.StateText.{state_line}
 use Rattle.cec_run.specs.TraceText.{end_line}
 use Rattle.cec_run.specs.Run.{Config, turn_at, turn_of, first_time, counted_event, IsTurnBy, IsTurn, IsRoundTurn, Leads, IsTraceFrom, event_text}

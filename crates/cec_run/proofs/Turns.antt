@@ -10,7 +10,7 @@ use Rattle.cec_run.specs.declared.run.Turn.{Turn}
 use Rattle.cec_run.specs.declared.run.Turn.TheVariants.{Stop, Apply, Round}
 use Rattle.cec_asm.specs.declared.script.TimedEvent.{TimedEvent}
 use Rattle.std.specs.List.{flat_map}
-use Rattle.hdmi_edtext.specs.declared.edid.Edid.{Edid}
+use Rattle.hdmi_blocks.specs.declared.edid.Edid.{Edid}
 use Rattle.cec_run.specs.PortText.{port_lines}
 use Rattle.cec_run.specs.StateText.{state_line}
 use Rattle.cec_run.specs.TraceText.{is_complete, round_line, end_line}

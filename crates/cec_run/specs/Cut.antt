@@ -1,7 +1,7 @@
 -- What has been written of a text, and how a fault tells it.
 use Rattle.std.specs.Prelude.{◌≡◌, ℕ, ◌<◌, min, Bool, true, List, length, take, Option, Result, Ok, Err}
 use Rattle.std.specs.Io.KnownBytes.{Appends}
-use Rattle.hdmi_cta.specs.declared.sink.WriteFault.{WriteFault}
+use Rattle.hdmi_core.specs.declared.sink.WriteFault.{WriteFault}
 
 -- a count of bytes as a u128 tells it, which stays at its greatest value
 abbrev pub told_count : ℕ → ℕ

@@ -1,8 +1,8 @@
 -- The television's EDID, where the topology gives its bytes.
 use Rattle.std.specs.Prelude.{◌≡◌, ℕ, List, Option, Some, None, IsSome}
-use Rattle.hdmi_edtext.specs.Address.{edid_address}
-use Rattle.hdmi_edtext.specs.Bytes.{edid_bytes, IsRefused}
-use Rattle.hdmi_edtext.specs.declared.edid.Edid.{Edid as EdidValue}
+use Rattle.hdmi_blocks.specs.Address.{edid_address}
+use Rattle.hdmi_blocks.specs.Bytes.{edid_bytes, IsRefused}
+use Rattle.hdmi_blocks.specs.declared.edid.Edid.{Edid as EdidValue}
 use Rattle.cec_run.specs.declared.root.EdidCause.{EdidCause}
 use Rattle.cec_run.specs.declared.root.EdidCause.TheVariants.{Edid, NoHdmiBlock}
 

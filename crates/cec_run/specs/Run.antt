@@ -9,13 +9,13 @@ use Rattle.cec_net.specs.Apply.{applied, event_fault}
 use Rattle.cec_net.specs.Step.{IsNextRound}
 use Rattle.cec_net.specs.Progress.{IsProgress}
 use Rattle.cec_net.specs.declared.event.EventError.{EventError}
-use Rattle.hdmi_cta.specs.declared.sink.WriteFault.{WriteFault}
-use Rattle.hdmi_cta.specs.Written.{WrittenLine}
+use Rattle.hdmi_core.specs.declared.sink.WriteFault.{WriteFault}
+use Rattle.hdmi_core.specs.Written.{WrittenLine}
 use Rattle.cec_asm.specs.declared.script.TimedEvent.{TimedEvent}
 use Rattle.cec_run.specs.declared.run.Totals.{Totals}
 use Rattle.cec_run.specs.declared.run.Turn.{Turn}
 use Rattle.cec_run.specs.declared.run.Turn.TheVariants.{Stop, Apply, Round}
-use Rattle.hdmi_edtext.specs.declared.edid.Edid.{Edid}
+use Rattle.hdmi_blocks.specs.declared.edid.Edid.{Edid}
 use Rattle.hdmi_topo.specs.Path.{is_on_wire}
 use Rattle.cec_run.specs.StateText.{state_line}
 use Rattle.cec_run.specs.PortText.{port_lines}

@@ -13,7 +13,7 @@ use Rattle.hdmi_topo.specs.Node.{Node}
 use Rattle.cec_asm.specs.declared.script.TimedEvent.{TimedEvent}
 use Rattle.cec_run.specs.declared.run.Turn.{Turn}
 use Rattle.cec_run.specs.declared.run.Turn.TheVariants.{Stop, Apply, Round}
-use Rattle.hdmi_edtext.specs.declared.edid.Edid.{Edid}
+use Rattle.hdmi_blocks.specs.declared.edid.Edid.{Edid}
 use Rattle.cec_run.specs.Run.{Config, start, turn_at, IsTurnBy, IsTurn, Leads}
 
 -- the rounds of a turn: one, or none

@@ -9,8 +9,8 @@ use cec_asm::{
     ScriptCause, ScriptError, TopologyCause, TopologyError, parse_script, parse_topology,
 };
 use cec_net::Net;
-use cec_wire::edge_wire::EdgeWire;
-use hdmi_cta::Sink;
+use cec_wire::EdgeWire;
+use hdmi_core::Sink;
 use std::alloc::Global;
 use thiserror::Error;
 

@@ -1,8 +1,8 @@
 //! The lines of ports.
 ghost use Rattle.std.specs.Prelude.{◌≡◌, ℕ, ◌+◌, ◌<◌, ◌≤◌, List, length, IsSome, map, slice_index_or, true, false};
 ghost use Rattle.std.specs.List.{flat_map, range_with_len};
-ghost use Rattle.hdmi_cta.specs.Written.{WrittenLine};
-ghost use Rattle.hdmi_edtext.specs.Address.{edid_address};
+ghost use Rattle.hdmi_core.specs.Written.{WrittenLine};
+ghost use Rattle.hdmi_blocks.specs.Address.{edid_address};
 ghost use Rattle.hdmi_topo.specs.Path.{is_on_wire};
 ghost use Rattle.hdmi_topo.specs.Tree.{ports_of};
 ghost use Rattle.cec_run.specs.Cut.{WrittenText};
@@ -10,8 +10,8 @@ ghost use Rattle.cec_run.specs.PortText.{lines_of_new, lines_of_ports, name_in, 
 ghost use Rattle.cec_run.specs.Root.{HasAddress};
 
 use crate::written::{counted, cut_at};
-use hdmi_cta::{Piece, Sink, WriteFault, write_line};
-use hdmi_edtext::{Edid, edid_to_bytes};
+use hdmi_blocks::{Edid, edid_to_bytes};
+use hdmi_core::{Piece, Sink, WriteFault, write_line};
 use hdmi_topo::Tree;
 
 /// Which devices of a tree are on the wire, by number.

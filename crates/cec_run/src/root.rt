@@ -1,10 +1,10 @@
 //! The television's EDID.
 ghost use Rattle.std.specs.Prelude.{◌≡◌, ℕ, List, Some, IfOk, IfErr, IsSome, option_map};
-ghost use Rattle.hdmi_edtext.specs.Address.{edid_address};
-ghost use Rattle.hdmi_edtext.specs.Bytes.{edid_bytes};
+ghost use Rattle.hdmi_blocks.specs.Address.{edid_address};
+ghost use Rattle.hdmi_blocks.specs.Bytes.{edid_bytes};
 ghost use Rattle.cec_run.specs.Root.{IsNoRoot, IsRoot};
 
-use hdmi_edtext::{Edid, EdidError, edid_from_bytes};
+use hdmi_blocks::{Edid, EdidError, edid_from_bytes};
 use thiserror::Error;
 
 /// Why some bytes are no EDID of a television, whose ports each have an address.

@@ -2,8 +2,8 @@
 ghost use Rattle.std.specs.Prelude.{◌≡◌, ℕ, ◌+◌, ◌*◌, ◌-◌, ◌<◌, ◌≤◌, ◌++◌, length, map};
 ghost use Rattle.std.specs.List.{flat_map};
 ghost use Rattle.arrayvec.specs.ArrayVec.{array_vec_len};
-ghost use Rattle.hdmi_cta.specs.Piece.{piece_text};
-ghost use Rattle.hdmi_cta.specs.Written.{WrittenLine};
+ghost use Rattle.hdmi_core.specs.Piece.{piece_text};
+ghost use Rattle.hdmi_core.specs.Written.{WrittenLine};
 ghost use Rattle.cec_run.specs.TraceText.{is_broadcast, last_bit, listed, loser_text, name_at, round_line, round_line_of, told_frame};
 
 use crate::trace_text::{bits_text, ending_word, verdict_word};
@@ -12,7 +12,7 @@ use cec_device::Device;
 use cec_frame::{Addr, Ending, Frame};
 use cec_text::frame_text;
 use cec_wire::{Loser, Outcome};
-use hdmi_cta::{Piece, Sink, WriteFault, write_line};
+use hdmi_core::{Piece, Sink, WriteFault, write_line};
 
 const PARTS: usize = 128;
 

@@ -2,7 +2,7 @@
 ghost use Rattle.std.specs.Prelude.{◌≡◌, ℕ, ◌+◌, ◌++◌, ◌<◌, ◌≤◌, List, length, true, false, Some, IsSome, IfOk, IfErr, OnOk, OnErr, All, Option};
 ghost use Rattle.std.specs.List.{flat_map};
 ghost use Rattle.std.specs.Io.KnownBytes.{Appends};
-ghost use Rattle.hdmi_cta.specs.Written.{WrittenLine};
+ghost use Rattle.hdmi_core.specs.Written.{WrittenLine};
 ghost use Rattle.cec_asm.specs.Script.{IsSchedule};
 ghost use Rattle.cec_net.specs.State.{next_start};
 ghost use Rattle.cec_run.specs.declared.run.Totals.{Totals as TotalsRecord};
@@ -23,8 +23,8 @@ use cec_device::Device;
 use cec_frame::Ending;
 use cec_net::Net;
 use cec_wire::Wire;
-use hdmi_cta::{Sink, WriteFault};
-use hdmi_edtext::Edid;
+use hdmi_blocks::Edid;
+use hdmi_core::{Sink, WriteFault};
 
 /// What a run did.
 #[derive(Clone, Copy, Debug, Default, PartialEq, Eq)]

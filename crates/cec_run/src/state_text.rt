@@ -1,14 +1,14 @@
 //! The line that tells the state of a device.
 ghost use Rattle.std.specs.Prelude.{◌≡◌, ℕ, ◌<◌, ◌≤◌, length, Some, None};
 ghost use Rattle.std.specs.List.{flat_map};
-ghost use Rattle.hdmi_cta.specs.Piece.{phys_text, dash_or};
-ghost use Rattle.hdmi_cta.specs.Written.{WrittenLine};
+ghost use Rattle.hdmi_core.specs.Piece.{phys_text, dash_or};
+ghost use Rattle.hdmi_core.specs.Written.{WrittenLine};
 ghost use Rattle.cec_run.specs.StateText.{kind_text, note_text, place_number, phys_at, power_text, state_line, state_line_of};
 
 use arrayvec::ArrayVec;
 use cec_device::{Device, Note, Place, Port};
 use cec_frame::Addr;
-use hdmi_cta::{Kind, Phys, Piece, Sink, WriteFault, hex_digit, write_line};
+use hdmi_core::{Kind, Phys, Piece, Sink, WriteFault, hex_digit, write_line};
 
 /// The word for a kind of device.
 pub fn kind_word(kind: Kind) -> &'static str

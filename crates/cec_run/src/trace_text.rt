@@ -2,15 +2,15 @@
 ghost use Rattle.std.specs.Prelude.{◌≡◌, ℕ, ◌+◌, ◌*◌, ◌-◌, ◌<◌, ◌≤◌, ◌++◌, length, map, List, slice_index_or};
 ghost use Rattle.std.specs.List.{flat_map};
 ghost use Rattle.arrayvec.specs.ArrayVec.{array_vec_len};
-ghost use Rattle.hdmi_cta.specs.Piece.{piece_text};
-ghost use Rattle.hdmi_cta.specs.Written.{WrittenLine};
+ghost use Rattle.hdmi_core.specs.Piece.{piece_text};
+ghost use Rattle.hdmi_core.specs.Written.{WrittenLine};
 ghost use Rattle.cec_run.specs.TraceText.{bit_digit, bits_text, end_line, ending_text, error_word, event_line, key_word, listed, plug_word, submit_word, told_text, unplug_word, verdict_by, verdict_text};
 
 use arrayvec::ArrayVec;
 use cec_device::{KeyError, SubmitError};
 use cec_frame::Ending;
 use cec_net::EventError;
-use hdmi_cta::{Piece, Sink, WriteFault, write_line};
+use hdmi_core::{Piece, Sink, WriteFault, write_line};
 use hdmi_topo::{PlugError, UnplugError};
 
 fn plug_word(error: PlugError) -> &'static str

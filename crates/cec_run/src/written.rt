@@ -2,7 +2,7 @@
 ghost use Rattle.std.specs.Prelude.{◌≡◌, ◌+◌};
 ghost use Rattle.cec_run.specs.Cut.{told_count};
 
-use hdmi_cta::WriteFault;
+use hdmi_core::WriteFault;
 
 /// How much is written, with the next part.
 pub fn counted(written: u128, count: u128) -> u128

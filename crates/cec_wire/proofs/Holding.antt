@@ -1,7 +1,6 @@
 -- How long those who follow hold the line.
-use Rattle.std.proofs.Common.{◌≡◌, ℕ, zero, suc, ◌+◌, ◌-◌, ◌*◌, ◌%◌, ◌==◌, ◌<◌, ◌≤◌, Bool, true, false, not, ◌&&◌, ◌||◌, nat_lt, nat_le, if◌then◌else◌, List, [], ◌∷◌, ◌++◌, length, ◌⊎◌, inl, inr, Option, Some, None, refl, arith, ap, ◌∙◌, sym, subst}
-use Rattle.std.specs.List.{list_any, filter_map, enumerate_from}
-use Rattle.std.proofs.lemmas.Bool.{cases_lt}
+use Rattle.std.proofs.Common.{◌≡◌, ℕ, suc, ◌+◌, ◌%◌, ◌==◌, ◌<◌, ◌≤◌, Bool, true, false, not, ◌&&◌, ◌||◌, nat_lt, if◌then◌else◌, List, [], ◌∷◌, ◌++◌, length, Option, Some, refl, arith, ap, ◌∙◌, sym}
+use Rattle.std.specs.List.{list_any, enumerate_from}
 use Rattle.std.proofs.lemmas.Bool.Decides.{nat_tests}
 use Rattle.cec_wave.specs.Line.{Line}
 use Rattle.cec_frame.specs.declared.Ending.{Ending}
@@ -9,7 +8,7 @@ use Rattle.cec_frame.specs.declared.Ending.TheVariants.{Complete, Short, Silent,
 use Rattle.cec_bits.specs.Reading.{Slot, End, Known, known, reading_of}
 use Rattle.cec_wire.specs.declared.Seat.{Seat}
 use Rattle.cec_wire.specs.Round.{acknowledges, known_bits, is_acknowledged, is_broken, is_whole, sends_in}
-use Rattle.cec_wire.specs.Machine.{acks_after, acks_until, breaks_after, sends_after, is_short}
+use Rattle.cec_wire.specs.Machine.{acks_after, acks_until, breaks_after, is_short}
 use Rattle.cec_wire.proofs.Early.{AreDone, no_acks}
 use Rattle.cec_wire.proofs.Walk.{Reached, AreOver}
 use Rattle.cec_wire.proofs.Hold.{acks_known, sends_known}

@@ -1,25 +1,24 @@
 -- Where a wire that hears a line microsecond by microsecond stands.
-use Rattle.std.proofs.Common.{◌≡◌, ℕ, zero, suc, ◌+◌, ◌-◌, ◌*◌, ◌%◌, ◌==◌, ◌<◌, ◌≤◌, Bool, true, false, not, ◌&&◌, ◌||◌, nat_lt, nat_le, if◌then◌else◌, List, [], ◌∷◌, ◌++◌, length, slice_index_or, length-append, append-nil, ◌⊎◌, inl, inr, Option, Some, None, IsSome, Result, Ok, Err, min, refl, arith, ap, ◌∙◌, sym, subst}
+use Rattle.std.proofs.Common.{◌≡◌, ℕ, zero, suc, ◌+◌, ◌-◌, ◌*◌, ◌%◌, ◌==◌, ◌<◌, ◌≤◌, Bool, true, false, not, ◌&&◌, ◌||◌, nat_lt, if◌then◌else◌, List, [], ◌∷◌, ◌++◌, length, slice_index_or, length-append, append-nil, ◌⊎◌, inl, inr, Option, Some, None, IsSome, Result, Ok, Err, min, refl, arith, ap, ◌∙◌, sym, subst}
 use Rattle.std.specs.List.{list_any, filter_map}
 use Rattle.std.specs.Option.{option_to_list}
 use Rattle.std.proofs.lemmas.Bool.{cases_lt}
 use Rattle.std.proofs.lemmas.Bool.Decides.{nat_tests}
-use Rattle.cec_wave.specs.declared.Stretch.{Stretch}
-use Rattle.cec_wave.specs.Line.{Line, was_low, is_fall, is_rise}
+use Rattle.cec_wave.specs.Line.{Line, is_fall, is_rise}
 use Rattle.cec_frame.specs.declared.Ending.{Ending}
-use Rattle.cec_frame.specs.declared.Ending.TheVariants.{Complete, Short, Silent, BadStart, Long, Open}
+use Rattle.cec_frame.specs.declared.Ending.TheVariants.{Complete, Short, Silent, BadStart, Long}
 use Rattle.cec_bits.specs.declared.After.{After}
 use Rattle.cec_bits.specs.declared.After.TheVariants.{Next, Ends}
-use Rattle.cec_bits.specs.Reading.{bits_of, first_in, next_fall, next_rise, Read, Slot, End, Known, known, known_slot, reading_of, read_start, read_slots, read_on, read_then, after_slot, after_fall, after_last, last_ending, last_heard, sample, sampled, start_of, start_rise, start_fall}
+use Rattle.cec_bits.specs.Reading.{next_fall, next_rise, Read, Slot, End, Known, known, known_slot, reading_of, read_start, read_slots, read_on, read_then, after_slot, after_fall, after_last, last_ending, last_heard, sample, sampled, start_of, start_rise, start_fall}
 use Rattle.cec_bits.proofs.Search.{first_in_none, first_in_some}
-use Rattle.cec_bits.proofs.Causes.{with_slots, known_start_low, known_start_high, start_risen, known_in_slot, nothing}
+use Rattle.cec_bits.proofs.Causes.{with_slots, start_risen}
 use Rattle.cec_wire.specs.declared.Seat.{Seat}
 use Rattle.cec_wire.specs.declared.hearing.Ended.{Ended}
 use Rattle.cec_wire.specs.declared.hearing.Place.{Place}
 use Rattle.cec_wire.specs.declared.hearing.Place.TheVariants.{StartLow, StartHigh, InSlot, Over}
 use Rattle.cec_wire.specs.Round.{is_acknowledged, is_broken, known_bits}
-use Rattle.cec_wire.specs.Machine.{acks_after, over, next_place, after_start_low, after_start_high, after_last_slot, after_other_slot, bit_told, samples, acks_until, held_after, breaks_after, is_short, IsEarly}
-use Rattle.cec_wire.proofs.Walk.{Reached, reach_next, AreOver, over_sampled, told_more, quiet_sample}
+use Rattle.cec_wire.specs.Machine.{acks_after, over, next_place, after_start_low, after_start_high, after_last_slot, after_other_slot, bit_told, acks_until, held_after, breaks_after, is_short}
+use Rattle.cec_wire.proofs.Walk.{Reached, reach_next, told_more, quiet_sample}
 use Rattle.cec_wire.proofs.Inside.{known_here}
 use Rattle.cec_wire.proofs.Law.{reached_start}
 use Rattle.cec_wire.proofs.Holding.{acks_now, breaks_now}

@@ -1,6 +1,6 @@
 -- Before a round begins, and once it is over, the line is high.
-use Rattle.std.proofs.Common.{◌≡◌, ℕ, zero, suc, ◌+◌, ◌-◌, ◌*◌, ◌%◌, ◌==◌, ◌<◌, ◌≤◌, Bool, true, false, not, ◌&&◌, ◌||◌, nat_lt, nat_le, if◌then◌else◌, List, [], ◌∷◌, ◌++◌, length, ◌⊎◌, inl, inr, Option, Some, None, is_none, refl, arith, ap, ◌∙◌, sym, subst}
-use Rattle.std.specs.List.{list_any, All}
+use Rattle.std.proofs.Common.{◌≡◌, ℕ, zero, suc, ◌+◌, ◌-◌, ◌<◌, ◌≤◌, Bool, true, false, not, ◌&&◌, ◌||◌, nat_lt, nat_le, List, ◌⊎◌, inl, inr, Option, Some, None, is_none, refl, arith, ap, ◌∙◌, sym}
+use Rattle.std.specs.List.{list_any}
 use Rattle.std.proofs.lemmas.Bool.{cases_lt}
 use Rattle.std.proofs.lemmas.Bool.Decides.{nat_tests}
 use Rattle.cec_wave.specs.declared.Stretch.{Stretch}
@@ -8,7 +8,7 @@ use Rattle.cec_wave.specs.Line.{Line, line_of, covers, was_low, is_rise}
 use Rattle.cec_wave.specs.Pulses.{AreSparse, IsNarrow}
 use Rattle.cec_wave.specs.Sender.{sender_stretches}
 use Rattle.cec_frame.specs.Bits.{frame_bits}
-use Rattle.cec_bits.specs.Reading.{Read, Slot, End, Known, known, reading_of}
+use Rattle.cec_bits.specs.Reading.{End, Known, known, reading_of}
 use Rattle.cec_bits.proofs.Causes.{known_start_low, nothing}
 use Rattle.cec_wire.specs.declared.Seat.{Seat}
 use Rattle.cec_wire.specs.declared.hearing.Ended.{Ended}

@@ -1,15 +1,12 @@
 -- What an outcome tells of its senders.
-use Rattle.std.proofs.Common.{◌≡◌, ℕ, zero, suc, ◌+◌, ◌==◌, ◌<◌, ◌≤◌, Bool, true, false, nat_le, if◌then◌else◌, max, List, [], ◌∷◌, ◌++◌, length, slice_get, Option, Some, None, refl, arith, ap, ◌∙◌, sym}
+use Rattle.std.proofs.Common.{◌≡◌, ℕ, zero, suc, ◌+◌, ◌==◌, ◌<◌, Bool, true, false, if◌then◌else◌, max, List, [], ◌∷◌, ◌++◌, length, slice_get, Option, Some, None, refl, arith, ap, ◌∙◌}
 use Rattle.std.proofs.lemmas.Bool.Decides.{nat_tests}
-use Rattle.cec_wave.specs.declared.Stretch.{Stretch}
 use Rattle.cec_wave.specs.Line.{line_of}
 use Rattle.cec_frame.specs.declared.Ending.{Ending}
-use Rattle.cec_frame.specs.Bits.{frame_bits}
 use Rattle.cec_bits.specs.Reading.{Read, reading_of, bits_of}
 use Rattle.cec_wire.specs.declared.Seat.{Seat}
 use Rattle.cec_wire.specs.declared.Loser.{Loser}
-use Rattle.cec_wire.specs.declared.Outcome.{Outcome}
-use Rattle.cec_wire.specs.Round.{destination, out_slot, all_known, lost_at, out_of, losers_from, fate_by, fate_of, fate_in, close_in, close_of, rest_of, out_in, IsRound, FatesTold}
+use Rattle.cec_wire.specs.Round.{destination, lost_at, out_of, losers_from, fate_by, out_in, FatesTold}
 
 -- no destination is read, so it is not 15
 pub short_direct : (bits : List Bool) → length bits < 8 → (destination bits == 15) ≡ false

@@ -1,22 +1,20 @@
 -- The parts of a wire that goes from microsecond to microsecond: where the reading has come, who goes on
 -- sending, and how long those who follow hold the line low. (own)
-use Rattle.std.specs.Prelude.{◌≡◌, ℕ, ◌+◌, ◌-◌, ◌%◌, ◌==◌, ◌<◌, ◌≤◌, Bool, true, false, not, nat_lt, nat_le, ◌&&◌, ◌||◌, if◌then◌else◌, List, [], ◌∷◌, ◌++◌, length, slice_index_or, Option, Some, None, is_none, All}
+use Rattle.std.specs.Prelude.{ℕ, ◌+◌, ◌-◌, ◌%◌, ◌==◌, ◌<◌, ◌≤◌, Bool, true, false, not, nat_lt, nat_le, ◌&&◌, ◌||◌, if◌then◌else◌, List, [], ◌∷◌, ◌++◌, length, slice_index_or, Option, Some, None, is_none, All}
 use Rattle.std.specs.List.{list_any, find, range_with_len}
 use mathlib.Core.Bool.{beq}
 use Rattle.cec_wave.specs.declared.Stretch.{Stretch}
 use Rattle.cec_wave.specs.Line.{covers, line_of, IsWave}
 use Rattle.cec_wave.specs.Sender.{sender_stretches}
-use Rattle.cec_frame.specs.Bits.{frame_bits, comes_before}
+use Rattle.cec_frame.specs.Bits.{frame_bits}
 use Rattle.cec_frame.specs.declared.Ending.{Ending}
-use Rattle.cec_frame.specs.declared.Ending.TheVariants.{Complete, Short, Silent, BadStart, Long, Open}
+use Rattle.cec_frame.specs.declared.Ending.TheVariants.{Complete, Short, Silent, BadStart, Long}
 use Rattle.cec_bits.specs.Reading.{last_ending}
 use Rattle.cec_wire.specs.declared.Seat.{Seat}
-use Rattle.cec_wire.specs.declared.hearing.Ended.{Ended}
 use Rattle.cec_wire.specs.declared.hearing.Place.{Place}
 use Rattle.cec_wire.specs.declared.hearing.Place.TheVariants.{StartLow, StartHigh, InSlot, Over}
 use Rattle.cec_wire.specs.Round.{bit_read, destination, holds_address, is_not_before, lost_at}
 use Rattle.cec_wire.specs.declared.Loser.{Loser}
-use Rattle.cec_wire.specs.declared.frame_wire.Hearing.{Hearing}
 
 -- ---- where the reading comes with microsecond t
 
@@ -124,25 +122,7 @@ abbrev pub IsEarly : Place → Type 0
 IsEarly (InSlot fall last) = fall ≤ 3000000000000
 IsEarly _ = Unit {0}
 
--- ---- the frame that wins
-
--- what is sent comes before the frame
-abbrev pub beats : List ℕ → Option (List ℕ) → Bool
-beats f None = false
-beats f (Some g) = comes_before (frame_bits g) (frame_bits f)
-
-abbrev pub won : List Seat → Option (List ℕ) → Option (List ℕ)
-won seats None = None
-won seats (Some f) = if not (list_any (λ s. beats f s.sends) seats) then Some f else None
-
-abbrev pub first_of : Option (List ℕ) → Option (List ℕ) → Option (List ℕ)
-first_of None later = later
-first_of (Some f) later = Some f
-
--- the first of these seats' frames that wins among all
-abbrev pub first_won : List Seat → List Seat → Option (List ℕ)
-first_won seats [] = None
-first_won seats (s ∷ ss) = first_of (won seats s.sends) (first_won seats ss)
+-- ---- what is sent
 
 -- 1 to 16 blocks
 abbrev pub IsSentWell : Option (List ℕ) → Type 0
@@ -152,17 +132,10 @@ IsSentWell (Some f) = (0 < length f) × (length f ≤ 16)
 abbrev pub AreSentWell : List Seat → Type 0
 AreSentWell seats = All (λ s. IsSentWell s.sends) seats
 
--- ---- the line in microsecond t
-
--- somebody pulls: a pulse, the winner, or those who follow
+-- a sender that goes on pulls in microsecond t
 abbrev pub sent_low : ℕ → Option (List ℕ) → ℕ → Bool
 sent_low begin None t = false
 sent_low begin (Some f) t = line_of (sender_stretches begin (frame_bits f)) t
-
-abbrev pub is_pulled : ℕ → List Stretch → Option (List ℕ) → Hearing → Bool → ℕ → Bool
-is_pulled begin pulses winner h was t =
-    list_any (taken begin (taken_until h.place t) was t) pulses
-    || ((sent_low begin winner t && (h.sends && nat_le t (sends_until h.place t))) || nat_lt t h.held)
 
 -- ---- the wave so far: whole stretches, and the one that is low still
 
@@ -182,11 +155,6 @@ IsReady wave None t = Unit {0}
 IsReady wave (Some from) t = IsWave (wave ++ record { from = from; to = t } ∷ [])
 
 -- ---- the end
-
--- nothing pulls any more: a follower pulls for 3,600 after the ending, and a pulse that touches that for 3,000
-abbrev pub is_done : Place → ℕ → Bool
-is_done (Over ended) t = nat_lt (ended.at + 6600) t
-is_done _ t = false
 
 abbrev pub is_all : Ending → Bool
 is_all Complete = true
@@ -208,10 +176,6 @@ out_after bits whole (Some f) = out_by bits whole (frame_bits f)
 abbrev pub losers_by : List Bool → Bool → ℕ → List Seat → List Loser
 losers_by bits whole n [] = []
 losers_by bits whole n (s ∷ ss) = lost_at n (out_after bits whole s.sends) ++ losers_by bits whole (n + 1) ss
-
--- the winner is sending after these bits
-abbrev pub sends_by : List Bool → Option (List ℕ) → Bool
-sends_by bits winner = sends_after bits winner
 
 abbrev pub IsOver : Place → Type 0
 IsOver (Over ended) = Unit {0}

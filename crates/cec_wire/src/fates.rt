@@ -1,14 +1,143 @@
-//! What becomes of the senders of a round, and its close.
-ghost use Rattle.std.specs.Prelude.{◌≡◌, ◌==◌};
-ghost use Rattle.cec_wire.specs.Round.{is_taken_up, fate_at_end, fate_by, out_in, FatesTold};
+//! What a round gave: who was still sending and who was out, what becomes of them, the rest and the close.
+ghost use Rattle.std.specs.Prelude.{◌≡◌, ◌≤◌, ◌==◌, length};
+ghost use Rattle.cec_wire.specs.Machine.{survives, survivors_by, out_after, losers_by, is_all, IsOver};
+ghost use Rattle.cec_wire.specs.Round.{is_taken_up, fate_at_end, fate_by, out_in, rest_of};
 
-use crate::senders::is_broadcast;
-use crate::{Fate, Outcome};
-use cec_frame::Ending;
+use crate::header::is_broadcast;
+use crate::hearing::{Ended, Place};
+use crate::senders::out_slot;
+use crate::{Fate, Loser, Outcome, Seat};
+use arrayvec::ArrayVec;
+use cec_frame::{Ending, Reading};
+use cec_wave::Stretch;
+use cec_wave::wave::Wave;
 
 const ACK_EVERY: usize = 10;
 
 const INITIATOR_SLOTS: usize = 4;
+
+// ---- the outcome
+
+// The ending has all the blocks of a frame.
+fn is_whole(ending: Ending) -> bool
+    ensures { result ≡ is_all ending }
+{
+    match ending {
+        Ending::Complete | Ending::Long => true,
+        _ => false,
+    }
+}
+
+fn survives(bits: &[bool], whole: bool, seat: &Seat) -> bool
+    ensures { result ≡ survives bits.now whole seat.now.sends }
+{
+    match &seat.sends {
+        None => false,
+        Some(frame) => match out_slot(bits, whole, frame) {
+            None => true,
+            Some(slot) => bits.len() < slot,
+        },
+    }
+}
+
+fn survivors(bits: &[bool], whole: bool, seats: &[Seat]) -> ArrayVec<usize, 15>
+    requires { length seats.now ≤ 15 }
+    ensures { result.items ≡ survivors_by bits.now whole 0 seats.now }
+{
+    let mut survivors = ArrayVec::new();
+    for (place, seat) in seats.iter().enumerate() {
+        if survives(bits, whole, seat) {
+            survivors.push(place);
+        }
+    }
+    survivors
+}
+
+fn out_after(bits: &[bool], whole: bool, seat: &Seat) -> Option<usize>
+    ensures { result ≡ out_after bits.now whole seat.now.sends }
+{
+    match &seat.sends {
+        None => None,
+        Some(frame) => out_slot(bits, whole, frame),
+    }
+}
+
+fn losers(bits: &[bool], whole: bool, seats: &[Seat]) -> ArrayVec<Loser, 15>
+    requires { length seats.now ≤ 15 }
+    ensures { result.items ≡ losers_by bits.now whole 0 seats.now }
+{
+    let mut losers = ArrayVec::new();
+    for (place, seat) in seats.iter().enumerate() {
+        if let Some(slot) = out_after(bits, whole, seat) {
+            losers.push(Loser { seat: place, slot });
+        }
+    }
+    losers
+}
+
+// The end of the last stretch that begins by `until`.
+fn rest(wave: &[Stretch], until: u64) -> u64
+    ensures { result ≡ rest_of until wave.now }
+{
+    let mut rest = 0;
+    for stretch in wave {
+        rest = if stretch.from <= until {
+            stretch.to
+        } else {
+            rest
+        };
+    }
+    rest
+}
+
+pub fn ending(place: Place) -> Ended
+    requires { IsOver place }
+    ensures { place ≡ Place.Over result }
+{
+    match place {
+        Place::Over(ended) => ended,
+        _ => unreachable!(),
+    }
+}
+
+// What a round gave that ended so, with these bits read and this wave carried.
+pub fn outcome(
+    seats: &[Seat],
+    begin: u64,
+    bits: ArrayVec<bool, 160>,
+    ended: Ended,
+    wave: Wave<192>,
+) -> Outcome
+    requires { length seats.now ≤ 15 }
+    ensures begin { result.reading.begin ≡ begin }
+    ensures at { result.reading.at ≡ ended.at }
+    ensures ending { result.reading.ending ≡ ended.ending }
+    ensures bits { result.reading.bits.items ≡ bits.items }
+    ensures survivors { result.survivors.items ≡ survivors_by bits.items (is_all ended.ending) 0 seats.now }
+    ensures losers { result.losers.items ≡ losers_by bits.items (is_all ended.ending) 0 seats.now }
+    ensures rest { result.rest ≡ rest_of ended.until wave }
+    ensures wave { result.wave ≡ wave }
+{
+    let whole = is_whole(ended.ending);
+    let survivors = survivors(bits.as_slice(), whole, seats);
+    let losers = losers(bits.as_slice(), whole, seats);
+    let rest = rest(wave.as_slice(), ended.until);
+    let reading = Reading {
+        begin,
+        at: ended.at,
+        ending: ended.ending,
+        bits,
+    };
+    Outcome {
+        reading,
+        survivors,
+        losers,
+        rest,
+        wave,
+    }
+}
+
+// ---- fates and close
 
 // The last acknowledge slot tells that the frame was taken: 0 for a direct frame, 1 for a broadcast.
 fn is_taken_up(bits: &[bool]) -> bool
@@ -87,8 +216,3 @@ impl Outcome {
         )
     }
 }
-
-/// What an outcome tells of each sender and of its close is what becomes of them in the round.
-pub fn fates_told()
-    ensures { FatesTold }
-{}

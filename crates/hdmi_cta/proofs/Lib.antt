@@ -3,8 +3,5 @@ pub mod OneBlock
 pub mod OneExt
 pub mod OneTimings
 pub mod WholeLemmas
-pub mod SinkLemmas
-pub mod CutShort
-pub mod Digits
 pub mod FirstHdmi
 pub mod Readdressing

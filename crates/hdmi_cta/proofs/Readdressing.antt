@@ -19,7 +19,7 @@ use Rattle.hdmi_cta.specs.Hdmi.{has_identifier, is_vendor, is_hdmi, phys_at, blo
 use Rattle.hdmi_cta.specs.Whole.{cta_bytes}
 use Rattle.hdmi_cta.specs.declared.block.Block.{Block}
 use Rattle.hdmi_cta.specs.declared.cta.Cta.{Cta as CtaBlock}
-use Rattle.hdmi_cta.specs.declared.phys.Phys.{Phys}
+use Rattle.hdmi_core.specs.declared.phys.Phys.{Phys}
 use Rattle.hdmi_cta.specs.declared.raw.Ext.{Ext}
 use Rattle.hdmi_cta.specs.declared.raw.Ext.TheVariants.{Cta, Bare, Raw}
 

@@ -7,9 +7,9 @@ ghost use Rattle.hdmi_cta.specs.Hdmi.{is_hdmi, phys_at, blocks_of, address_of, a
 
 use crate::block::Block;
 use crate::ext::{read_ext, write_ext};
-use crate::phys::Phys;
 use crate::raw::Ext;
 use byteorder::{BigEndian, ByteOrder};
+use hdmi_core::Phys;
 use thiserror::Error;
 
 /// An extension has no HDMI block, so no physical address stands in it.

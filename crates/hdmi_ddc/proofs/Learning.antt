@@ -1,11 +1,11 @@
 -- What is learnt of an EDID is the address in it.
 use Rattle.std.proofs.Common.{◌≡◌, ℕ, ◌+◌, ◌*◌, ◌/◌, ◌<◌, ◌≤◌, true, Some, Result, Ok, Err, IfOk, IfErr, List, inl, inr, length, get_or, replicate, subst, ap, arith, sym, ◌∙◌}
 use Rattle.std.proofs.lemmas.List.{get_or_append_left, take_at}
-use Rattle.hdmi_cta.specs.declared.phys.Phys.{Phys}
-use Rattle.hdmi_edtext.specs.Address.{edid_address}
-use Rattle.hdmi_edtext.specs.Bytes.{edid_bytes, HasLength}
-use Rattle.hdmi_edtext.specs.declared.edid.Edid.{Edid as EdidValue}
-use Rattle.hdmi_edtext.proofs.OneEdid.{one_edid, length_fits, count_fits, not_refused}
+use Rattle.hdmi_core.specs.declared.phys.Phys.{Phys}
+use Rattle.hdmi_blocks.specs.Address.{edid_address}
+use Rattle.hdmi_blocks.specs.Bytes.{edid_bytes, HasLength}
+use Rattle.hdmi_blocks.specs.declared.edid.Edid.{Edid as EdidValue}
+use Rattle.hdmi_blocks.proofs.OneEdid.{one_edid, length_fits, count_fits, not_refused}
 use Rattle.hdmi_ddc.specs.Bus.{has_segment}
 use Rattle.hdmi_ddc.specs.Learn.{asked, blocks_read, CanBeRead, IsUnread, IsUntold, IsLearnt}
 use Rattle.hdmi_ddc.specs.declared.error.DdcError.{DdcError}

@@ -2,9 +2,9 @@
 use Rattle.std.proofs.Common.{◌≡◌, ℕ, ◌*◌, ◌<◌, ◌≤◌, ◌==◌, Bool, true, false, ◌||◌, ◌⊎◌, inl, inr, nat_lt, List, length, arith, refl, lit≤}
 use Rattle.std.proofs.lemmas.Bool.{eqb-true}
 use borrow.Author.Tests.{tests}
-use Rattle.hdmi_edtext.specs.Bytes.{edid_bytes, HasLength}
-use Rattle.hdmi_edtext.specs.declared.edid.Edid.{Edid}
-use Rattle.hdmi_edtext.proofs.OneEdid.{length_fits}
+use Rattle.hdmi_blocks.specs.Bytes.{edid_bytes, HasLength}
+use Rattle.hdmi_blocks.specs.declared.edid.Edid.{Edid}
+use Rattle.hdmi_blocks.proofs.OneEdid.{length_fits}
 use Rattle.hdmi_ddc.specs.Bus.{has_length, has_segment}
 
 pub length_is : (bytes : List ℕ) → HasLength bytes → has_length bytes ≡ true

@@ -1,10 +1,10 @@
 -- The physical address that a device learns over DDC (HDMI 1.4, section 8.7.2; how it reads is own).
 use Rattle.std.specs.Prelude.{◌≡◌, ℕ, ◌+◌, ◌*◌, ◌/◌, ◌<◌, ◌≤◌, ◌⊎◌, true, false, Some, None, Result, Ok, Err, List, ◌++◌, slice_index, take, replicate}
-use Rattle.hdmi_cta.specs.declared.phys.Phys.{Phys}
-use Rattle.hdmi_edtext.specs.Address.{edid_address}
-use Rattle.hdmi_edtext.specs.Bytes.{edid_bytes, IsRefused}
-use Rattle.hdmi_edtext.specs.declared.bytes.EdidError.TheVariants.{Length as EdidLength}
-use Rattle.hdmi_edtext.specs.declared.edid.Edid.{Edid as EdidValue}
+use Rattle.hdmi_core.specs.declared.phys.Phys.{Phys}
+use Rattle.hdmi_blocks.specs.Address.{edid_address}
+use Rattle.hdmi_blocks.specs.Bytes.{edid_bytes, IsRefused}
+use Rattle.hdmi_blocks.specs.declared.bytes.EdidError.TheVariants.{Length as EdidLength}
+use Rattle.hdmi_blocks.specs.declared.edid.Edid.{Edid as EdidValue}
 use Rattle.hdmi_ddc.specs.Bus.{has_segment}
 use Rattle.hdmi_ddc.specs.declared.error.DdcError.{DdcError}
 use Rattle.hdmi_ddc.specs.declared.error.DdcError.TheVariants.{NoAck, Edid, NoHdmiBlock, Length}

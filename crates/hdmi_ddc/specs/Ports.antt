@@ -1,8 +1,8 @@
 -- What a device learns from the port that it is plugged into (HDMI 1.4, sections 8.7.2 and 8.7.3).
 use Rattle.std.specs.Prelude.{◌≡◌, ℕ, false, Some, Result, Ok, List}
-use Rattle.hdmi_cta.specs.declared.phys.Phys.{Phys}
-use Rattle.hdmi_edtext.specs.Bytes.{edid_bytes}
-use Rattle.hdmi_edtext.specs.declared.edid.Edid.{Edid}
+use Rattle.hdmi_core.specs.declared.phys.Phys.{Phys}
+use Rattle.hdmi_blocks.specs.Bytes.{edid_bytes}
+use Rattle.hdmi_blocks.specs.declared.edid.Edid.{Edid}
 use Rattle.hdmi_topo.specs.Node.{Node}
 use Rattle.hdmi_topo.specs.Path.{address_of}
 use Rattle.hdmi_topo.specs.Port.{IsReaddressed, port_address}

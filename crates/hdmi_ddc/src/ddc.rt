@@ -1,10 +1,10 @@
 //! The bytes of an EDID as a reader on the DDC sees them.
 ghost use Rattle.std.specs.Prelude.{◌≡◌, ◌↔◌, ◌+◌, ◌%◌, Some, IsTrue, IsOk, IfOk, IfErr, OnOk, OnErr, EachIndex, length, slice_index, slice_index_or, ◌*◌};
-ghost use Rattle.hdmi_edtext.specs.Bytes.{edid_bytes};
+ghost use Rattle.hdmi_blocks.specs.Bytes.{edid_bytes};
 
 use crate::error::DdcError;
 use arrayvec::ArrayVec;
-use hdmi_edtext::{Edid, edid_to_bytes};
+use hdmi_blocks::{Edid, edid_to_bytes};
 use std::marker::Model;
 
 /// An EDID of one block to four behind a segment pointer and an offset (E-DDC, section 2.2). A

@@ -1,5 +1,5 @@
 //! Why a read over DDC is refused.
-use hdmi_edtext::EdidError;
+use hdmi_blocks::EdidError;
 use thiserror::Error;
 
 /// Why a read over DDC, or the bytes to read from, are refused.

@@ -1,18 +1,18 @@
 //! What a device learns of its place from the EDID that it reads.
 ghost use Rattle.std.specs.Prelude.{◌≡◌, ◌+◌, ◌*◌, ◌/◌, ◌≤◌, ◌<◌, ◌++◌, true, false, Some, IfOk, IfErr, OnOk, take, drop, replicate, length};
 ghost use Rattle.arrayvec.specs.ArrayVec.{array_vec_len};
-ghost use Rattle.hdmi_cta.specs.declared.phys.Phys.{Phys as PhysValue};
-ghost use Rattle.hdmi_edtext.specs.Address.{edid_address};
-ghost use Rattle.hdmi_edtext.specs.Bytes.{edid_bytes};
-ghost use Rattle.hdmi_edtext.specs.declared.edid.Edid.{Edid as EdidValue};
+ghost use Rattle.hdmi_core.specs.declared.phys.Phys.{Phys as PhysValue};
+ghost use Rattle.hdmi_blocks.specs.Address.{edid_address};
+ghost use Rattle.hdmi_blocks.specs.Bytes.{edid_bytes};
+ghost use Rattle.hdmi_blocks.specs.declared.edid.Edid.{Edid as EdidValue};
 ghost use Rattle.hdmi_ddc.specs.Bus.{begun, has_segment};
 ghost use Rattle.hdmi_ddc.specs.Learn.{CanBeRead, IsLearnt, IsUnread, IsUntold, blocks_read, padded};
 
 use crate::ddc::Ddc;
 use crate::error::DdcError;
 use arrayvec::ArrayVec;
-use hdmi_cta::Phys;
-use hdmi_edtext::{EdidError, edid_from_bytes};
+use hdmi_blocks::{EdidError, edid_from_bytes};
+use hdmi_core::Phys;
 
 /// Reads a block of 128 bytes.
 fn read_block(ddc: &mut Ddc, block: u8) -> Result<[u8; 128], DdcError>

@@ -2,13 +2,13 @@
 use Rattle.std.proofs.Common.{◌≡◌, ℕ, ◌+◌, List, [], ◌∷◌, ◌++◌, length, map, get_or, ap, subst, arith, refl, sym, ◌∙◌}
 use Rattle.std.proofs.lemmas.List.{map-append}
 use Rattle.hdmi_edtext.specs.Drafts.{draft_lines}
-use Rattle.hdmi_edtext.specs.Formed.{form_of}
+use Rattle.hdmi_lines.specs.Formed.{form_of}
 use Rattle.hdmi_edtext.specs.Lines.{edid_lines}
 use Rattle.hdmi_edtext.specs.Refusal.{IsFirstBad, IsRefusal, IsFaultAt, MayStand, HasAlike, first_word, word_count}
-use Rattle.hdmi_edtext.specs.Text.{word_text, line_text}
+use Rattle.hdmi_lines.specs.Text.{word_text, line_text}
 use Rattle.hdmi_edtext.specs.Words.{place_of, has_words}
 use Rattle.hdmi_edtext.specs.declared.draft.Draft.{Draft}
-use Rattle.hdmi_edtext.specs.declared.edid.Edid.{Edid}
+use Rattle.hdmi_blocks.specs.declared.edid.Edid.{Edid}
 use Rattle.hdmi_edtext.specs.declared.parse.TextError.{TextError}
 use Rattle.hdmi_edtext.specs.declared.parse.TextError.TheVariants.{Syntax, Field, Memory}
 use Rattle.hdmi_edtext.proofs.FirstBad.{AreTold, Next, next_of, some_begins, counted, all_told}

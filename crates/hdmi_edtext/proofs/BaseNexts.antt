@@ -10,9 +10,9 @@ use Rattle.hdmi_edid.specs.declared.base.Base.{Base}
 use Rattle.hdmi_edid.specs.declared.descriptor.Descriptor.{Descriptor}
 use Rattle.hdmi_edid.specs.declared.standard.Standard.{Standard}
 use Rattle.hdmi_edtext.specs.Lines.{head_lines, base_lines, standard_line, descriptor_line}
-use Rattle.hdmi_edtext.specs.declared.line.Line.{Line}
+use Rattle.hdmi_lines.specs.declared.line.Line.{Line}
 use Rattle.hdmi_edtext.proofs.Gets.{get_left, get_right}
-use Rattle.hdmi_edtext.proofs.Hexes.{are_bytes-is}
+use Rattle.hdmi_lines.proofs.Hexes.{are_bytes-is}
 
 -- the bytes of a base block
 pub byte_fits : (b : Base) → IsBytes (b.week ∷ b.input ∷ b.width ∷ b.height ∷ b.gamma ∷ b.features ∷ b.extensions ∷ b.established)

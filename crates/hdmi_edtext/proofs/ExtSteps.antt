@@ -14,8 +14,8 @@ use Rattle.hdmi_edtext.specs.Lines.{trimmed, base_lines, bytes_line, block_line,
 use Rattle.hdmi_edtext.specs.Tails.{padded, fills, ends}
 use Rattle.hdmi_edtext.specs.declared.draft.Opened.{Opened}
 use Rattle.hdmi_edtext.specs.declared.draft.Draft.TheVariants.{Opened as OfOpened}
-use Rattle.hdmi_edtext.specs.declared.line.Line.{Line}
-use Rattle.hdmi_edtext.specs.declared.line.Word.TheVariants.{Cta, CtaNone, Tail}
+use Rattle.hdmi_lines.specs.declared.line.Line.{Line}
+use Rattle.hdmi_lines.specs.declared.line.Word.TheVariants.{Cta, CtaNone, Tail}
 use Rattle.hdmi_edtext.proofs.Fronts.{opened_next, length-timings}
 use Rattle.hdmi_edtext.proofs.LineParts.{same_bytes_line}
 use Rattle.hdmi_edtext.proofs.Sorts.{same_size, not_timing, not_tail, timing_not_tail}

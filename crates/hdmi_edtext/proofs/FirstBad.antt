@@ -3,13 +3,13 @@ use Rattle.std.proofs.Common.{◌≡◌, ℕ, ◌+◌, ◌≤◌, List, [], ◌�
 use Rattle.std.proofs.lemmas.List.{length-map, map-append}
 use Rattle.hdmi_edtext.specs.Cut.{lines_of}
 use Rattle.hdmi_edtext.specs.Drafts.{draft_lines, Follows}
-use Rattle.hdmi_edtext.specs.Formed.{Formed}
+use Rattle.hdmi_lines.specs.Formed.{Formed}
 use Rattle.hdmi_edtext.specs.Lines.{edid_lines, edid_text}
 use Rattle.hdmi_edtext.specs.Refusal.{IsFirstBad, SomeBegins, NoneFollows, line_texts}
-use Rattle.hdmi_edtext.specs.Text.{line_text}
+use Rattle.hdmi_lines.specs.Text.{line_text}
 use Rattle.hdmi_edtext.specs.declared.draft.Draft.{Draft}
-use Rattle.hdmi_edtext.specs.declared.edid.Edid.{Edid}
-use Rattle.hdmi_edtext.specs.declared.line.Line.{Line}
+use Rattle.hdmi_blocks.specs.declared.edid.Edid.{Edid}
+use Rattle.hdmi_lines.specs.declared.line.Line.{Line}
 use Rattle.hdmi_edtext.proofs.CutTexts.{joined, joined_lines, lines_again}
 use Rattle.hdmi_edtext.proofs.Gets.{few_lines}
 use Rattle.hdmi_edtext.proofs.Good.{EachGood, edid_good, good_at}

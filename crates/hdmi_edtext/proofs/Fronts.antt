@@ -16,10 +16,10 @@ use Rattle.hdmi_edtext.specs.Drafts.{draft_lines, opened_lines, Follows, BlockFi
 use Rattle.hdmi_edtext.specs.Lines.{base_lines, bytes_line, block_line, timing_line, tail_line, ext_lines, cta_lines, edid_lines}
 use Rattle.hdmi_edtext.specs.declared.draft.Opened.{Opened}
 use Rattle.hdmi_edtext.specs.declared.draft.Draft.TheVariants.{Opened as OfOpened}
-use Rattle.hdmi_edtext.specs.declared.edid.Edid.{Edid}
-use Rattle.hdmi_edtext.specs.declared.line.Line.{Line}
-use Rattle.hdmi_edtext.specs.declared.line.Word.TheVariants.{Cta, CtaNone, Ext}
-use Rattle.hdmi_edtext.proofs.BaseLemmas.{length-flat}
+use Rattle.hdmi_blocks.specs.declared.edid.Edid.{Edid}
+use Rattle.hdmi_lines.specs.declared.line.Line.{Line}
+use Rattle.hdmi_lines.specs.declared.line.Word.TheVariants.{Cta, CtaNone, Ext}
+use Rattle.hdmi_blocks.proofs.BaseLemmas.{length-flat}
 use Rattle.hdmi_edtext.proofs.Gets.{get_right, base_count, in_base, one_ext}
 use Rattle.hdmi_edtext.proofs.Sorts.{same_size, not_timing, not_tail, timing_not_tail}
 

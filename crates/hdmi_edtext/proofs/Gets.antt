@@ -13,8 +13,8 @@ use Rattle.hdmi_cta.specs.declared.cta.Cta.{Cta}
 use Rattle.hdmi_cta.specs.declared.raw.Ext.{Ext}
 use Rattle.hdmi_cta.specs.declared.raw.Ext.TheVariants.{Cta as OfCta, Bare, Raw}
 use Rattle.hdmi_edtext.specs.Lines.{head_lines, base_lines, standard_line, descriptor_line, block_line, timing_line, tail_line, cta_lines, ext_lines, edid_lines}
-use Rattle.hdmi_edtext.specs.declared.line.Line.{Line}
-use Rattle.hdmi_edtext.specs.declared.edid.Edid.{Edid}
+use Rattle.hdmi_lines.specs.declared.line.Line.{Line}
+use Rattle.hdmi_blocks.specs.declared.edid.Edid.{Edid}
 
 pub get_left : {X : Type 0} (xs ys : List X) (i : ℕ) → i < length xs → slice_get (xs ++ ys) i ≡ slice_get xs i
 get_left [] ys i h = absurd (omega arith)

@@ -23,13 +23,13 @@ use Rattle.hdmi_cta.specs.declared.block.BlockKind.{BlockKind}
 use Rattle.hdmi_cta.specs.declared.block.BlockKind.TheVariants.{Tag0 as OfTag0, Audio as OfAudio, Video as OfVideo, Vendor as OfVendor, Speakers as OfSpeakers, Tag5 as OfTag5, Tag6 as OfTag6, Extended as OfExtended}
 use Rattle.hdmi_cta.specs.declared.raw.Ext.{Ext as Extension}
 use Rattle.hdmi_cta.specs.declared.raw.Ext.TheVariants.{Cta as OfCta, Bare as OfBare, Raw as OfRawExt}
-use Rattle.hdmi_edtext.specs.Formed.{Formed, are_numbers}
+use Rattle.hdmi_lines.specs.Formed.{Formed, are_numbers}
 use Rattle.hdmi_edtext.specs.Lines.{bytes_line, revision_letters, standard_line, timing_line, timing_numbers, descriptor_line, chroma_numbers, head_lines, base_lines, is_hdmi, address_line, payload_line, block_line, trimmed, tail_line, ext_lines, edid_lines}
-use Rattle.hdmi_edtext.specs.declared.edid.Edid.{Edid as WholeEdid}
-use Rattle.hdmi_edtext.specs.declared.line.Fields.{Fields}
-use Rattle.hdmi_edtext.specs.declared.line.Fields.TheVariants.{Letters, Quoted}
-use Rattle.hdmi_edtext.specs.declared.line.Line.{Line}
-use Rattle.hdmi_edtext.specs.declared.line.Word.TheVariants.{Vendor}
+use Rattle.hdmi_blocks.specs.declared.edid.Edid.{Edid as WholeEdid}
+use Rattle.hdmi_lines.specs.declared.line.Fields.{Fields}
+use Rattle.hdmi_lines.specs.declared.line.Fields.TheVariants.{Letters, Quoted}
+use Rattle.hdmi_lines.specs.declared.line.Line.{Line}
+use Rattle.hdmi_lines.specs.declared.line.Word.TheVariants.{Vendor}
 use Rattle.hdmi_edtext.proofs.BaseNexts.{byte_fits}
 use Rattle.hdmi_edtext.proofs.Gets.{one_ext}
 use Rattle.hdmi_edtext.proofs.Sorts.{long_hdmi}

@@ -9,11 +9,11 @@ use Rattle.hdmi_edid.specs.declared.standard.Standard.{Standard as StandardTimin
 use Rattle.hdmi_edid.specs.declared.text.Text.{Text as AnyText}
 use Rattle.hdmi_edid.specs.declared.timing.Timing.{Timing as DetailedTiming}
 use Rattle.hdmi_edtext.specs.Lines.{letters_line, numbers_line, bytes_line, quoted_line, timing_line, timing_numbers, descriptor_line, standard_line}
-use Rattle.hdmi_edtext.specs.declared.line.Word.{Word}
-use Rattle.hdmi_edtext.specs.declared.line.Word.TheVariants.{Standard, Timing, Name, Text, SerialText, Range, Raw}
-use Rattle.hdmi_edtext.specs.declared.line.Fields.{Fields}
-use Rattle.hdmi_edtext.specs.declared.line.Fields.TheVariants.{Timed, Bytes}
-use Rattle.hdmi_edtext.specs.declared.line.Line.{Line}
+use Rattle.hdmi_lines.specs.declared.line.Word.{Word}
+use Rattle.hdmi_lines.specs.declared.line.Word.TheVariants.{Standard, Timing, Name, Text, SerialText, Range, Raw}
+use Rattle.hdmi_lines.specs.declared.line.Fields.{Fields}
+use Rattle.hdmi_lines.specs.declared.line.Fields.TheVariants.{Timed, Bytes}
+use Rattle.hdmi_lines.specs.declared.line.Line.{Line}
 
 abbrev bytes_in : Fields → List ℕ
 bytes_in (Bytes bytes) = bytes.items

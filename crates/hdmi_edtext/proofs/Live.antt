@@ -16,9 +16,9 @@ use Rattle.hdmi_edtext.specs.declared.draft.Draft.{Draft}
 use Rattle.hdmi_edtext.specs.declared.draft.Draft.TheVariants.{Begun, Whole, Opened as OfOpened, Bare as OfHeaded, Ended}
 use Rattle.hdmi_edtext.specs.declared.draft.Opened.{Opened}
 use Rattle.hdmi_edtext.specs.declared.draft.Headed.{Headed}
-use Rattle.hdmi_edtext.specs.declared.edid.Edid.{Edid}
-use Rattle.hdmi_edtext.specs.declared.line.Line.{Line}
-use Rattle.hdmi_edtext.specs.declared.line.Word.TheVariants.{Cta, CtaNone}
+use Rattle.hdmi_blocks.specs.declared.edid.Edid.{Edid}
+use Rattle.hdmi_lines.specs.declared.line.Line.{Line}
+use Rattle.hdmi_lines.specs.declared.line.Word.TheVariants.{Cta, CtaNone}
 use Rattle.hdmi_edtext.proofs.ExtSteps.{zeros_fit}
 use Rattle.hdmi_edtext.proofs.Fronts.{length-timings}
 use Rattle.hdmi_edtext.proofs.Gets.{one_ext}

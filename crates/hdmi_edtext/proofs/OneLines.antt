@@ -31,15 +31,15 @@ use Rattle.hdmi_cta.specs.declared.cta.Cta.{Cta as CtaBlock}
 use Rattle.hdmi_cta.specs.declared.raw.Ext.{Ext as AnyExt}
 use Rattle.hdmi_cta.specs.declared.raw.Ext.TheVariants.{Cta as OfCta, Bare as OfBare, Raw as OfRawExt}
 use Rattle.hdmi_edtext.specs.Lines.{bytes_line, revision_letters, standard_line, timing_line, descriptor_line, head_lines, base_lines, is_hdmi, address_line, payload_line, block_line, trimmed, tail_line, cta_lines, ext_lines, edid_lines}
-use Rattle.hdmi_edtext.specs.declared.edid.Edid.{Edid as WholeEdid}
-use Rattle.hdmi_edtext.specs.declared.line.Fields.{Fields}
-use Rattle.hdmi_edtext.specs.declared.line.Fields.TheVariants.{Letters, Numbers, Timed, Bytes, Address, Quoted}
-use Rattle.hdmi_edtext.specs.declared.line.Line.{Line}
-use Rattle.hdmi_edtext.specs.declared.line.Word.{Word}
-use Rattle.hdmi_edtext.specs.declared.line.Word.TheVariants.{Name, Text, Range, Tag0, Audio, Video, Vendor, Speakers, Tag5, Tag6}
+use Rattle.hdmi_blocks.specs.declared.edid.Edid.{Edid as WholeEdid}
+use Rattle.hdmi_lines.specs.declared.line.Fields.{Fields}
+use Rattle.hdmi_lines.specs.declared.line.Fields.TheVariants.{Letters, Numbers, Timed, Bytes, Address, Quoted}
+use Rattle.hdmi_lines.specs.declared.line.Line.{Line}
+use Rattle.hdmi_lines.specs.declared.line.Word.{Word}
+use Rattle.hdmi_lines.specs.declared.line.Word.TheVariants.{Name, Text, Range, Tag0, Audio, Video, Vendor, Speakers, Tag5, Tag6}
 use Rattle.hdmi_edtext.proofs.Fronts.{body_lines}
 use Rattle.hdmi_edtext.proofs.Gets.{base_count, one_ext}
-use Rattle.hdmi_edtext.proofs.OneEdid.{one_edid}
+use Rattle.hdmi_blocks.proofs.OneEdid.{one_edid}
 use Rattle.hdmi_edtext.proofs.Sorts.{long_hdmi, not_timing, not_tail, timing_not_tail}
 use Rattle.hdmi_edtext.proofs.TailLemmas.{padded_trimmed}
 use Rattle.hdmi_edtext.specs.Tails.{padded}

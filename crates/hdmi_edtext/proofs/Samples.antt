@@ -19,18 +19,18 @@ use Rattle.hdmi_cta.specs.declared.block.BlockKind.TheVariants.{Tag0 as OfTag0, 
 use Rattle.hdmi_cta.specs.declared.raw.Ext.TheVariants.{Raw as OfRawExt}
 use Rattle.hdmi_cta.specs.declared.raw.RawExt.{RawExt}
 use Rattle.hdmi_edtext.specs.Drafts.{draft_lines, opened_lines, Follows}
-use Rattle.hdmi_edtext.specs.Formed.{form_of}
+use Rattle.hdmi_lines.specs.Formed.{form_of}
 use Rattle.hdmi_edtext.specs.Lines.{standard_line, descriptor_line, head_lines, base_lines, bytes_line, block_line, timing_line, tail_line}
 use Rattle.hdmi_edtext.specs.Words.{place_of, in_base, at_ext, in_timings, in_blocks, may_begin, has_words}
 use Rattle.hdmi_edtext.specs.declared.draft.Draft.{Draft}
 use Rattle.hdmi_edtext.specs.declared.draft.Draft.TheVariants.{Begun, Whole, Opened as OfOpened, Bare as OfBare, Ended}
 use Rattle.hdmi_edtext.specs.declared.draft.Headed.{Headed}
 use Rattle.hdmi_edtext.specs.declared.draft.Opened.{Opened}
-use Rattle.hdmi_edtext.specs.declared.line.Fields.{Fields}
-use Rattle.hdmi_edtext.specs.declared.line.Fields.TheVariants.{Nothing, Letters, Numbers, Timed, Bytes, Address, Quoted}
-use Rattle.hdmi_edtext.specs.declared.line.Line.{Line}
-use Rattle.hdmi_edtext.specs.declared.line.Word.{Word}
-use Rattle.hdmi_edtext.specs.declared.line.Word.TheVariants.{Edid, Maker, Product, Serial, Made, Input, Size, Gamma, Features, Chroma, Established, Standard, Timing, Name, Text, SerialText, Range, Dummy, Raw, Cta, CtaNone, Tag0, Audio, Video, Vendor, Speakers, Tag5, Tag6, Extended, Hdmi, Tail, Ext}
+use Rattle.hdmi_lines.specs.declared.line.Fields.{Fields}
+use Rattle.hdmi_lines.specs.declared.line.Fields.TheVariants.{Nothing, Letters, Numbers, Timed, Bytes, Address, Quoted}
+use Rattle.hdmi_lines.specs.declared.line.Line.{Line}
+use Rattle.hdmi_lines.specs.declared.line.Word.{Word}
+use Rattle.hdmi_lines.specs.declared.line.Word.TheVariants.{Edid, Maker, Product, Serial, Made, Input, Size, Gamma, Features, Chroma, Established, Standard, Timing, Name, Text, SerialText, Range, Dummy, Raw, Cta, CtaNone, Tag0, Audio, Video, Vendor, Speakers, Tag5, Tag6, Extended, Hdmi, Tail, Ext}
 use Rattle.hdmi_edtext.specs.declared.place.Place.TheVariants.{InBlocks, InTimings}
 use Rattle.hdmi_edtext.proofs.BaseNexts.{set_line, set_descriptor}
 use Rattle.hdmi_edtext.proofs.Live.{alone, alone_lines, with_ext, with_ext_lines, zeros_behind, zeros_alone}

@@ -8,11 +8,11 @@ use Rattle.hdmi_cta.specs.declared.block.Block.{Block}
 use Rattle.hdmi_cta.specs.declared.block.BlockKind.{BlockKind}
 use Rattle.hdmi_cta.specs.declared.block.BlockKind.TheVariants.{Tag0 as OfTag0, Audio as OfAudio, Video as OfVideo, Vendor as OfVendor, Speakers as OfSpeakers, Tag5 as OfTag5, Tag6 as OfTag6, Extended as OfExtended}
 use Rattle.hdmi_edtext.specs.Lines.{is_hdmi, address_line, bytes_line, kind_word, payload_line, block_line, timing_line, tail_line}
-use Rattle.hdmi_edtext.specs.declared.line.Fields.{Fields}
-use Rattle.hdmi_edtext.specs.declared.line.Fields.TheVariants.{Bytes, Address}
-use Rattle.hdmi_edtext.specs.declared.line.Line.{Line}
-use Rattle.hdmi_edtext.specs.declared.line.Word.{Word}
-use Rattle.hdmi_edtext.specs.declared.line.Word.TheVariants.{Timing, Tag0, Audio, Video, Vendor, Speakers, Tag5, Tag6, Extended, Hdmi, Tail}
+use Rattle.hdmi_lines.specs.declared.line.Fields.{Fields}
+use Rattle.hdmi_lines.specs.declared.line.Fields.TheVariants.{Bytes, Address}
+use Rattle.hdmi_lines.specs.declared.line.Line.{Line}
+use Rattle.hdmi_lines.specs.declared.line.Word.{Word}
+use Rattle.hdmi_lines.specs.declared.line.Word.TheVariants.{Timing, Tag0, Audio, Video, Vendor, Speakers, Tag5, Tag6, Extended, Hdmi, Tail}
 
 -- 0 for the words of data blocks
 abbrev pub sort_of : Word → ℕ

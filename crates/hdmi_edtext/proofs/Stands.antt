@@ -17,8 +17,8 @@ use Rattle.hdmi_edtext.specs.Words.{place_of, in_base, at_ext, in_timings, in_bl
 use Rattle.hdmi_edtext.specs.declared.draft.Draft.{Draft}
 use Rattle.hdmi_edtext.specs.declared.draft.Draft.TheVariants.{Begun, Whole, Opened as OfOpened, Bare as OfBare, Ended}
 use Rattle.hdmi_edtext.specs.declared.draft.Opened.{Opened}
-use Rattle.hdmi_edtext.specs.declared.line.Line.{Line}
-use Rattle.hdmi_edtext.specs.declared.line.Word.TheVariants.{Standard, Vendor}
+use Rattle.hdmi_lines.specs.declared.line.Line.{Line}
+use Rattle.hdmi_lines.specs.declared.line.Word.TheVariants.{Standard, Vendor}
 use Rattle.hdmi_edtext.specs.declared.place.Place.TheVariants.{InBlocks, InTimings}
 use Rattle.hdmi_edtext.proofs.Fronts.{begun_next, ext_of, opened_next, bare_next, ended_next}
 use Rattle.hdmi_edtext.proofs.Good.{and}

@@ -8,21 +8,21 @@ use Rattle.std.proofs.lemmas.List.Sums.{sum_by-cons}
 use Rattle.hex.specs.Hex.{encode_lower}
 use Rattle.hdmi_edid.proofs.PartLemmas.{both}
 use Rattle.hdmi_cta.proofs.OneBlock.{append_same}
-use Rattle.hdmi_cta.specs.Piece.{phys_text}
-use Rattle.hdmi_edtext.specs.Formed.{form_of, FormedFields, are_numbers}
+use Rattle.hdmi_core.specs.Piece.{phys_text}
+use Rattle.hdmi_lines.specs.Formed.{form_of, FormedFields, are_numbers}
 use Rattle.hdmi_edtext.specs.Refusal.{first_word, word_count}
-use Rattle.hdmi_edtext.specs.Text.{word_text, number_text, hex_word, fields_text, line_text}
+use Rattle.hdmi_lines.specs.Text.{word_text, number_text, hex_word, fields_text, line_text}
 use Rattle.hdmi_edtext.specs.Words.{has_words}
-use Rattle.hdmi_edtext.specs.declared.line.Fields.{Fields}
-use Rattle.hdmi_edtext.specs.declared.line.Fields.TheVariants.{Nothing, Letters, Numbers, Timed, Bytes, Address, Quoted}
-use Rattle.hdmi_edtext.specs.declared.line.Form.{Form}
-use Rattle.hdmi_edtext.specs.declared.line.Form.TheVariants.{Empty, Three, One, Two, Eight, Unused, Timing as OfTiming, Hex, Address as OfAddress, Quoted as OfQuoted}
-use Rattle.hdmi_edtext.specs.declared.line.Line.{Line}
+use Rattle.hdmi_lines.specs.declared.line.Fields.{Fields}
+use Rattle.hdmi_lines.specs.declared.line.Fields.TheVariants.{Nothing, Letters, Numbers, Timed, Bytes, Address, Quoted}
+use Rattle.hdmi_lines.specs.declared.line.Form.{Form}
+use Rattle.hdmi_lines.specs.declared.line.Form.TheVariants.{Empty, Three, One, Two, Eight, Unused, Timing as OfTiming, Hex, Address as OfAddress, Quoted as OfQuoted}
+use Rattle.hdmi_lines.specs.declared.line.Line.{Line}
 use Rattle.hdmi_edtext.proofs.CutTexts.{hex_clean, flags_clean, decimal_clean, phys_clean, word_clean, number_fits}
 use Rattle.hdmi_edtext.proofs.Good.{is_clean, are_clean, PlainFields, Good}
-use Rattle.hdmi_edtext.proofs.OneWord.{solid, fields_begin}
+use Rattle.hdmi_lines.proofs.OneWord.{solid, fields_begin}
 use Rattle.hdmi_edtext.proofs.Samples.{words_of}
-use Rattle.hdmi_edtext.proofs.Words.{cut_at, take_front}
+use Rattle.hdmi_lines.proofs.Words.{cut_at, take_front}
 
 -- what stands before a character
 pub before_some : (k : ℕ) (xs : List ℕ) (i : ℕ) → position (λ b. b == k) xs ≡ Some i → take i xs ≡ take (position_or_len (λ b. b == k) xs) xs

@@ -5,9 +5,9 @@ use Rattle.std.proofs.lemmas.Grind.{flat_map-append}
 use Rattle.std.proofs.lemmas.List.{take_more, take_all}
 use Rattle.std.proofs.lemmas.Option.{slice_get_within, get_or_from_slice_get}
 use Rattle.std.proofs.Common.{subst}
-use Rattle.hdmi_cta.proofs.CutShort.{Appends-trans, cut_short}
-use Rattle.hdmi_edtext.specs.Text.{line_text}
-use Rattle.hdmi_edtext.specs.declared.line.Line.{Line}
+use Rattle.hdmi_core.proofs.CutShort.{Appends-trans, cut_short}
+use Rattle.hdmi_lines.specs.Text.{line_text}
+use Rattle.hdmi_lines.specs.declared.line.Line.{Line}
 
 pub text_more : (ls : List Line) (n : ℕ) (l : Line) → slice_get ls n ≡ Some l → flat_map line_text (take (n + 1) ls) ≡ flat_map line_text (take n ls) ++ line_text l
 text_more ls n l h =

@@ -8,9 +8,9 @@ use Rattle.hdmi_edtext.specs.Lines.{base_lines, block_line, bytes_line, timing_l
 use Rattle.hdmi_edtext.specs.declared.draft.Draft.{Draft}
 use Rattle.hdmi_edtext.specs.declared.draft.Draft.TheVariants.{Begun as OfBegun, Whole, Opened as OfOpened, Bare as OfBare, Ended}
 use Rattle.hdmi_edtext.specs.declared.draft.Opened.{Opened}
-use Rattle.hdmi_edtext.specs.declared.edid.Edid.{Edid}
-use Rattle.hdmi_edtext.specs.declared.line.Line.{Line}
-use Rattle.hdmi_edtext.specs.declared.line.Word.TheVariants.{Cta, CtaNone}
+use Rattle.hdmi_blocks.specs.declared.edid.Edid.{Edid}
+use Rattle.hdmi_lines.specs.declared.line.Line.{Line}
+use Rattle.hdmi_lines.specs.declared.line.Word.TheVariants.{Cta, CtaNone}
 
 -- the lines of a CTA block up to its tail
 abbrev pub opened_lines : Opened → List Line

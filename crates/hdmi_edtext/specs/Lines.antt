@@ -15,12 +15,12 @@ use Rattle.hdmi_cta.specs.declared.cta.Cta.{Cta as CtaBlock}
 use Rattle.hdmi_cta.specs.declared.cta.Bare.{Bare as BareBlock}
 use Rattle.hdmi_cta.specs.declared.raw.Ext.{Ext as Extension}
 use Rattle.hdmi_cta.specs.declared.raw.Ext.TheVariants.{Cta as OfCta, Bare as OfBare, Raw as OfRawExt}
-use Rattle.hdmi_edtext.specs.Text.{line_text}
-use Rattle.hdmi_edtext.specs.declared.edid.Edid.{Edid as WholeEdid}
-use Rattle.hdmi_edtext.specs.declared.line.Word.{Word}
-use Rattle.hdmi_edtext.specs.declared.line.Word.TheVariants.{Edid, Maker, Product, Serial, Made, Input, Size, Gamma, Features, Chroma, Established, Standard, Timing, Name, Text, SerialText, Range, Dummy, Raw, Cta, CtaNone, Tag0, Audio, Video, Vendor, Speakers, Tag5, Tag6, Extended, Hdmi, Tail, Ext}
-use Rattle.hdmi_edtext.specs.declared.line.Fields.TheVariants.{Nothing, Letters, Numbers, Timed, Bytes, Address, Quoted}
-use Rattle.hdmi_edtext.specs.declared.line.Line.{Line}
+use Rattle.hdmi_lines.specs.Text.{line_text}
+use Rattle.hdmi_blocks.specs.declared.edid.Edid.{Edid as WholeEdid}
+use Rattle.hdmi_lines.specs.declared.line.Word.{Word}
+use Rattle.hdmi_lines.specs.declared.line.Word.TheVariants.{Edid, Maker, Product, Serial, Made, Input, Size, Gamma, Features, Chroma, Established, Standard, Timing, Name, Text, SerialText, Range, Dummy, Raw, Cta, CtaNone, Tag0, Audio, Video, Vendor, Speakers, Tag5, Tag6, Extended, Hdmi, Tail, Ext}
+use Rattle.hdmi_lines.specs.declared.line.Fields.TheVariants.{Nothing, Letters, Numbers, Timed, Bytes, Address, Quoted}
+use Rattle.hdmi_lines.specs.declared.line.Line.{Line}
 
 abbrev pub letters_line : Word → List ℕ → Line
 letters_line word letters = record { word = word; fields = Letters (record { items = letters }) }

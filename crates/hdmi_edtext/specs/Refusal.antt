@@ -1,12 +1,12 @@
 -- The first line at fault: the first that no accepted text has there after the lines before it (own).
 use Rattle.std.specs.Prelude.{◌≡◌, ℕ, suc, ◌+◌, ◌==◌, true, List, [], ◌∷◌, ◌++◌, length, map, take}
 use Rattle.std.specs.List.{count_by, position_or_len}
-use Rattle.hdmi_edtext.specs.Formed.{form_of}
+use Rattle.hdmi_lines.specs.Formed.{form_of}
 use Rattle.hdmi_edtext.specs.Lines.{edid_lines}
-use Rattle.hdmi_edtext.specs.Text.{word_text, line_text}
+use Rattle.hdmi_lines.specs.Text.{word_text, line_text}
 use Rattle.hdmi_edtext.specs.Words.{may_begin, has_words}
-use Rattle.hdmi_edtext.specs.declared.edid.Edid.{Edid}
-use Rattle.hdmi_edtext.specs.declared.line.Word.{Word}
+use Rattle.hdmi_blocks.specs.declared.edid.Edid.{Edid}
+use Rattle.hdmi_lines.specs.declared.line.Word.{Word}
 use Rattle.hdmi_edtext.specs.declared.parse.TextError.{TextError}
 use Rattle.hdmi_edtext.specs.declared.parse.TextError.TheVariants.{Syntax, Field, Memory}
 use Rattle.hdmi_edtext.specs.declared.place.Place.{Place}

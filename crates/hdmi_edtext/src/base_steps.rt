@@ -3,12 +3,12 @@ ghost use Rattle.std.specs.Prelude.{◌≡◌, ◌+◌, ◌<◌, ◌++◌, ◌�
 ghost use Rattle.hdmi_edid.specs.declared.base.Base.{Base as BaseValue};
 ghost use Rattle.hdmi_edtext.specs.Lines.{head_lines, base_lines};
 
-use crate::line::{Line, Word};
-use crate::values::{
+use crate::line_to_value::{
     chroma_of, descriptor_of, maker_of, one_byte, one_number, revision_of, standard_of,
     three_bytes, two_numbers,
 };
 use hdmi_edid::{Base, Chroma, Descriptor, Maker, Point, Revision};
+use hdmi_lines::{Line, Word};
 
 /// A base block whose fields do not count.
 pub fn blank() -> Base {

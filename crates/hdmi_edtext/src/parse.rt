@@ -2,14 +2,14 @@
 ghost use Rattle.std.specs.Prelude.{◌≡◌, ◌<◌, ◌+◌, [], ◌∷◌, IfOk, IfErr, IfSome, Ok, MatchOption, length, position, ◌==◌};
 ghost use Rattle.hdmi_edtext.specs.Lines.{edid_lines, edid_text};
 ghost use Rattle.hdmi_edtext.specs.Cut.{lines_of};
-ghost use Rattle.hdmi_edtext.specs.declared.edid.Edid.{Edid as EdidValue};
+ghost use Rattle.hdmi_blocks.specs.declared.edid.Edid.{Edid as EdidValue};
 ghost use Rattle.hdmi_edtext.specs.Refusal.{IsRefusal, IsFaultAt};
 
 use crate::draft::Draft;
-use crate::edid::Edid;
 use crate::place::Place;
-use crate::reading::read_line;
 use crate::standing::may_stand;
+use hdmi_blocks::Edid;
+use hdmi_lines::read_line;
 use std::alloc::Global;
 use thiserror::Error;
 

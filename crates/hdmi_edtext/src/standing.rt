@@ -2,12 +2,11 @@
 ghost use Rattle.std.specs.Prelude.{◌≡◌, ◌+◌, ◌-◌, ◌<◌, ◌≤◌, ◌^◌, ◌==◌, Some, true, IfSome, MatchBool, length, position, take};
 ghost use Rattle.std.specs.List.{count_by, position_or_len};
 ghost use Rattle.hdmi_edtext.specs.Refusal.{first_word, word_count, MayStand};
-ghost use Rattle.hdmi_edtext.specs.Text.{word_text};
-ghost use Rattle.hdmi_edtext.specs.declared.line.Word.{Word as WordValue};
+ghost use Rattle.hdmi_lines.specs.Text.{word_text};
+ghost use Rattle.hdmi_lines.specs.declared.line.Word.{Word as WordValue};
 
-use crate::line::Word;
 use crate::place::{Place, has_words, may_begin};
-use crate::reading::{space_in, word_of};
+use hdmi_lines::{Word, space_in, word_of};
 
 /// What stands before the first space.
 fn first_word(front: &[u8]) -> &[u8]

@@ -7,19 +7,19 @@ ghost use Rattle.hdmi_edtext.specs.Drafts.{draft_lines, Follows, BlockFits, Timi
 ghost use Rattle.hdmi_edtext.specs.Lines.{block_line, timing_line, bytes_line, base_lines, ext_lines, edid_lines};
 ghost use Rattle.hdmi_edtext.specs.Tails.{padded, fills, ends};
 ghost use Rattle.hdmi_edtext.specs.Words.{place_of};
-ghost use Rattle.hdmi_edtext.specs.declared.edid.Edid.{Edid as EdidValue};
+ghost use Rattle.hdmi_blocks.specs.declared.edid.Edid.{Edid as EdidValue};
 
 use crate::base_steps::{blank, put_base};
-use crate::blocks::block_of;
 use crate::draft::{Begun, Draft, Headed, Opened};
-use crate::edid::Edid;
-use crate::line::{Line, Word};
+use crate::line_to_block::block_of;
+use crate::line_to_value::{array_from, bytes_of, one_byte, timing_of};
 use crate::place::Place;
 use crate::tail::{filled, tail_of};
-use crate::values::{array_from, bytes_of, one_byte, timing_of};
 use arrayvec::ArrayVec;
+use hdmi_blocks::Edid;
 use hdmi_cta::{Bare, Block, Cta, Ext, RawExt, read_ext};
 use hdmi_edid::{Base, Timing};
+use hdmi_lines::{Line, Word};
 
 /// The draft with one more line of the base block.
 fn put_begun(begun: Begun, line: &Line) -> Option<Draft>

@@ -1,6 +1,6 @@
-use crate::{EdidError, TextError, edid_from_bytes, edid_to_bytes, parse_text, write_text};
-use hdmi_cta::{ExtError, Writes};
-use hdmi_edid::BaseError;
+use crate::{TextError, parse_text, write_text};
+use hdmi_blocks::{edid_from_bytes, edid_to_bytes};
+use hdmi_core::Writes;
 use std::test::Fail;
 
 /// A base block with one extension to follow.
@@ -39,50 +39,6 @@ fn writes_the_text_of_two_blocks(rt: HostRuntime) -> Result<(), Fail> {
     assert_eq!(rt; write_text(&edid, &mut out), Ok(()));
     assert_eq!(rt; text.as_slice(), TEXT.as_bytes());
     assert_eq!(rt; edid_to_bytes(&edid).as_slice(), bytes.as_slice());
-    Ok(())
-}
-
-#[test]
-fn refuses_wrong_lengths_counts_and_sums(rt: HostRuntime) -> Result<(), Fail> {
-    let mut bytes = both_blocks(&rt)?;
-    let all = bytes.as_slice();
-    let short = all.get(..127).ok_or("no bytes")?;
-    assert!(rt; matches!(edid_from_bytes(short), Err(EdidError::Length)));
-    let first = all.get(..128).ok_or("no block")?;
-    assert!(rt; matches!(edid_from_bytes(first), Err(EdidError::Count)));
-    let mut wrong = Vec::new(rt.alloc());
-    wrong.extend_from_slice(all.get(..127).ok_or("no bytes")?)?;
-    wrong.push(0x52)?;
-    assert!(rt;
-        matches!(
-            edid_from_bytes(&wrong),
-            Err(EdidError::Base(BaseError::Checksum))
-        )
-    );
-    let _ = bytes.pop();
-    bytes.push(0xe9)?;
-    assert!(rt;
-        matches!(
-            edid_from_bytes(&bytes),
-            Err(EdidError::Ext(1, ExtError::Checksum))
-        )
-    );
-    Ok(())
-}
-
-#[test]
-fn tells_refusals_in_words(rt: HostRuntime) -> Result<(), Fail> {
-    for (error, words) in [
-        (EdidError::Length, "length"),
-        (EdidError::Count, "count"),
-        (EdidError::Base(BaseError::Header), "base header"),
-        (EdidError::Base(BaseError::Checksum), "base checksum"),
-        (EdidError::Base(BaseError::Revision), "base revision"),
-        (EdidError::Base(BaseError::Maker), "base maker"),
-        (EdidError::Ext(1, ExtError::Checksum), "ext 1 checksum"),
-    ] {
-        assert_eq!(rt; format!(in rt.alloc(); "{error}")?.as_str(), words);
-    }
     Ok(())
 }
 

@@ -1,12 +1,12 @@
 //! Writing an EDID's text.
 ghost use Rattle.std.specs.Prelude.{◌≡◌, ◌≤◌, ◌<◌, ◌+◌, ◌*◌, ◌^◌, length, take, flat_map};
-ghost use Rattle.hdmi_cta.specs.Written.{WrittenAll};
+ghost use Rattle.hdmi_core.specs.Written.{WrittenAll};
 ghost use Rattle.hdmi_edtext.specs.Lines.{edid_lines, edid_text};
-ghost use Rattle.hdmi_edtext.specs.Text.{line_text};
+ghost use Rattle.hdmi_lines.specs.Text.{line_text};
 
-use crate::edid::Edid;
-use crate::lines::line_at;
-use hdmi_cta::{Sink, WriteFault, put_all};
+use crate::value_to_lines::line_at;
+use hdmi_blocks::Edid;
+use hdmi_core::{Sink, WriteFault, put_all};
 
 /// Writes an EDID's text line by line. After a fault the front of the text is written, as long as
 /// the fault's count says, and the sink is stuck.

@@ -2,12 +2,12 @@
 use Rattle.std.specs.Prelude.{◌≡◌, ℕ, ◌<◌, Bool, true, false, List, ◌++◌, length, take, Option, Result, Ok, Err, codes}
 use Rattle.std.specs.Io.KnownBytes.{Appends}
 use Rattle.std.specs.List.{flat_map}
-use Rattle.hdmi_cta.specs.Piece.{hex_text}
-use Rattle.hdmi_edtext.specs.Bytes.{edid_bytes, IsRefused}
+use Rattle.hdmi_core.specs.Piece.{hex_text}
+use Rattle.hdmi_blocks.specs.Bytes.{edid_bytes, IsRefused}
 use Rattle.hdmi_edtext.specs.Cut.{lines_of}
 use Rattle.hdmi_edtext.specs.Lines.{edid_text}
 use Rattle.hdmi_edtext.specs.Refusal.{IsRefusal}
-use Rattle.hdmi_edtext.specs.declared.edid.Edid.{Edid as EdidValue}
+use Rattle.hdmi_blocks.specs.declared.edid.Edid.{Edid as EdidValue}
 use Rattle.hdmi_edtext.specs.declared.parse.TextError.{TextError}
 use Rattle.hdmi_edtext.specs.declared.parse.TextError.TheVariants as texts
 use Rattle.hdminet.specs.declared.edid_text.EdidToTextError.{EdidToTextError}

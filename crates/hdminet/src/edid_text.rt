@@ -1,10 +1,11 @@
 //! EDIDs from bytes to text, and from text to bytes in hex.
 ghost use Rattle.std.specs.Prelude.{◌≡◌, ◌↔◌, false, IsTrue};
 ghost use Rattle.hdminet.specs.EdidText.{HexAnswers, TextAnswers, hex_line, is_hex_cut, is_text_cut};
-ghost use Rattle.hdmi_cta.specs.Written.{WrittenLine};
+ghost use Rattle.hdmi_core.specs.Written.{WrittenLine};
 
-use hdmi_cta::{Piece, Sink, WriteFault, write_line};
-use hdmi_edtext::{EdidError, TextError, edid_from_bytes, edid_to_bytes, parse_text, write_text};
+use hdmi_blocks::{EdidError, edid_from_bytes, edid_to_bytes};
+use hdmi_core::{Piece, Sink, WriteFault, write_line};
+use hdmi_edtext::{TextError, parse_text, write_text};
 use std::alloc::Global;
 use thiserror::Error;
 

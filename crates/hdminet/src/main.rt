@@ -10,7 +10,7 @@ mod program;
 mod tests;
 
 use fault::Fault;
-use hdmi_cta::Writes;
+use hdmi_core::Writes;
 use program::{program, tell};
 use std::env;
 use std::process::ExitCode;

@@ -8,7 +8,7 @@ use cec_run::Totals;
 use cec_run::emulate::emulate;
 use cec_text::{asm_lines, first_line};
 use clap::Error as CommandLineError;
-use hdmi_cta::{Sink, put_all};
+use hdmi_core::{Sink, put_all};
 use hdminet_help::{counts, explain};
 use std::alloc::{AllocError, Global};
 use std::fmt::Write;

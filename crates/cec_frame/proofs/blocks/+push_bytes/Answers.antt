@@ -1,4 +1,4 @@
-use Rattle.std.proofs.Common.{◌≡◌, ◌+◌, ◌≤◌, ◌∷◌, [], ◌++◌, List, Bool, false, length, ℕ, drop, slice_index_or, refl, ◌∙◌, append_assoc, arith}
+use Rattle.std.proofs.Common.{◌≡◌, ◌+◌, ◌≤◌, ◌∷◌, [], List, Bool, false, length, drop, slice_index_or, refl, append_assoc, arith}
 use Rattle.std.proofs.lemmas.List.{take_rest}
 use Rattle.cec_frame.specs.Blocks.{weighed, bytes_of}
 use Rattle.cec_frame.proofs.blocks.+push_bytes.Goals as goal

@@ -1,7 +1,7 @@
 use Rattle.std.proofs.Common.{◌≡◌, ◌<◌, ◌∙◌, ℕ, Bool, false, List, Ok, Err, length, get_or, subst, arith}
 use Rattle.std.specs.List.{flat_map, range_with_len}
 use Rattle.std.specs.Io.KnownBytes.{Appends}
-use Rattle.hdmi_cta.proofs.CutShort.{Appends-trans}
+use Rattle.hdmi_core.proofs.CutShort.{Appends-trans}
 use Rattle.cec_run.specs.Cut.{WrittenText, told_count}
 use Rattle.cec_run.specs.PortText.{lines_of_new}
 use Rattle.cec_run.proofs.Cutting.{cut_text_part, more_parts, more_told}

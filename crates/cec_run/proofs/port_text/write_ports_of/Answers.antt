@@ -1,7 +1,7 @@
 use Rattle.std.proofs.Common.{◌≡◌, ◌+◌, ◌<◌, ◌∙◌, ℕ, List, length, subst, arith}
 use Rattle.std.specs.List.{flat_map, range_with_len}
 use Rattle.std.specs.Io.KnownBytes.{Appends}
-use Rattle.hdmi_cta.proofs.CutShort.{Appends-trans}
+use Rattle.hdmi_core.proofs.CutShort.{Appends-trans}
 use Rattle.hdmi_topo.specs.Tree.{ports_of}
 use Rattle.cec_run.specs.Cut.{told_count}
 use Rattle.cec_run.specs.PortText.{port_line}

@@ -1,6 +1,6 @@
 use Rattle.std.proofs.Common.{◌≡◌, ◌+◌, ◌*◌, ◌≤◌, ◌++◌, ◌∷◌, map, take, length}
 use Rattle.std.specs.List.{flat_map}
-use Rattle.hdmi_cta.specs.Piece.{piece_text}
+use Rattle.hdmi_core.specs.Piece.{piece_text}
 use Rattle.cec_run.specs.TraceText.{loser_text}
 use Rattle.cec_run.proofs.round_text.add_losers.Given as goal
 

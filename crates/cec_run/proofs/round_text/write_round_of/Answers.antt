@@ -1,6 +1,6 @@
 use Rattle.std.proofs.Common.{◌≡◌, rules, append_assoc}
 use Rattle.std.specs.List.{flat_map}
-use Rattle.hdmi_cta.specs.Piece.{piece_text}
+use Rattle.hdmi_core.specs.Piece.{piece_text}
 use Rattle.cec_run.specs.TraceText.{round_line_of}
 use Rattle.cec_run.proofs.round_text.write_round_of.Goals as goal
 

@@ -1,5 +1,5 @@
 use Rattle.std.proofs.Common.{◌≡◌, ◌∙◌, ◌++◌, ℕ, List, false, subst, ap, sym}
-use Rattle.hdmi_cta.proofs.CutShort.{Appends-trans}
+use Rattle.hdmi_core.proofs.CutShort.{Appends-trans}
 use Rattle.cec_run.specs.Cut.{CutOff}
 use Rattle.cec_run.specs.PortText.{port_lines}
 use Rattle.cec_run.proofs.Cutting.{cut_behind, cut_front}

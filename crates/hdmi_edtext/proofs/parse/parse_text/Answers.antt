@@ -2,7 +2,7 @@ use Rattle.std.proofs.Common.{◌++◌, length, map, Ok, ap, subst, sym, ◌∙�
 use Rattle.hdmi_edtext.specs.Cut.{lines_of}
 use Rattle.hdmi_edtext.specs.Drafts.{draft_lines}
 use Rattle.hdmi_edtext.specs.Refusal.{IsFaultAt}
-use Rattle.hdmi_edtext.specs.Text.{line_text}
+use Rattle.hdmi_lines.specs.Text.{line_text}
 use Rattle.hdmi_edtext.proofs.Alike.{refusal, refusal_at_end}
 use Rattle.hdmi_edtext.proofs.FirstBad.{no_lines_told, bad_by, unread, misplaced, unfinished, lines_so, count_so, one_more_told, few_told, no_bad, cut_again, found_text, only_one}
 use Rattle.hdmi_edtext.proofs.parse.parse_text.Goals as goal

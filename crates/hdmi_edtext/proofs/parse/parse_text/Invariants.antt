@@ -1,7 +1,7 @@
 use Rattle.std.proofs.Common.{◌≡◌, ◌+◌, ◌++◌, ◌≤◌, length, map}
 use Rattle.hdmi_edtext.specs.Cut.{lines_of}
 use Rattle.hdmi_edtext.specs.Drafts.{draft_lines}
-use Rattle.hdmi_edtext.specs.Text.{line_text}
+use Rattle.hdmi_lines.specs.Text.{line_text}
 use Rattle.hdmi_edtext.proofs.FirstBad.{AreTold}
 use Rattle.hdmi_edtext.proofs.parse.parse_text.Given as goal
 

@@ -1,7 +1,7 @@
 use Rattle.std.proofs.Common.{◌≡◌, length, take, flat_map, ◌∙◌, ap, arith, length-append}
 use Rattle.std.proofs.lemmas.Option.{slice_get_within}
 use Rattle.hdmi_edtext.specs.Lines.{edid_lines}
-use Rattle.hdmi_edtext.specs.Text.{line_text}
+use Rattle.hdmi_lines.specs.Text.{line_text}
 use Rattle.hdmi_edtext.proofs.Gets.{few_lines}
 use Rattle.hdmi_edtext.proofs.Writes.{wrote_more, wrote_all, cut_line, text_more}
 use Rattle.hdmi_edtext.proofs.writing.write_text.Goals as goal

@@ -1,6 +1,6 @@
 use Rattle.std.proofs.Common.{◌≡◌, ◌≤◌, ◌*◌, ◌-◌, length, take, flat_map}
 use Rattle.std.specs.Io.KnownBytes.{Appends}
-use Rattle.hdmi_edtext.specs.Text.{line_text}
+use Rattle.hdmi_lines.specs.Text.{line_text}
 use Rattle.hdmi_edtext.specs.Lines.{edid_lines}
 use Rattle.hdmi_edtext.proofs.writing.write_text.Given as goal
 

@@ -1,6 +1,6 @@
 use Rattle.std.proofs.Common.{rules, ◌≡◌, subst}
 use Rattle.std.specs.Io.KnownBytes.{Appends}
-use Rattle.hdmi_edtext.specs.Bytes.{edid_bytes}
+use Rattle.hdmi_blocks.specs.Bytes.{edid_bytes}
 use Rattle.hdminet.specs.EdidText.{IsCutAt, hex_line}
 use Rattle.hdminet.proofs.edid_text.text_to_hex.Goals as goal
 

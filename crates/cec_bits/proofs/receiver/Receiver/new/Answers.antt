@@ -1,0 +1,11 @@
+use Rattle.std.proofs.Common.{Bool, List, refl, ap, ◌∙◌}
+use Rattle.cec_bits.specs.declared.receiver.Place.TheVariants.{Rest}
+use Rattle.cec_bits.specs.Hears.{Hears}
+use Rattle.cec_bits.proofs.Following.{empty_kept}
+use Rattle.cec_bits.proofs.receiver.Receiver.new.Goals as goal
+
+pub returns-clause-empty : goal.returns-clause-empty
+returns-clause-empty c = λ t. record {
+  keeps = ap (λ (bits : List Bool). let h : Hears = record { place = Rest; begin = 0; fall = 0; bits = bits } in h) c.new.ensures ∙ empty_kept t;
+  level = (refl, refl);
+}

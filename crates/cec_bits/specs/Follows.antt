@@ -1,0 +1,63 @@
+-- A receiver that follows a line: where it stands by the line's readings, and how the line goes on to the next tick (own).
+use Rattle.std.specs.Prelude.{◌≡◌, ◌≢◌, ℕ, ◌<◌, ◌≤◌, Bool, Option, Some, None}
+use Rattle.cec_wave.specs.Line.{Line, was_low}
+use Rattle.cec_frame.specs.declared.Ending.{Ending}
+use Rattle.cec_bits.specs.declared.receiver.Told.{Told}
+use Rattle.cec_bits.specs.declared.receiver.Told.TheVariants.{Nothing, Ended}
+use Rattle.cec_bits.specs.declared.receiver.Receiver.{Receiver}
+use Rattle.cec_bits.specs.Hears.{heard_by, wake_of}
+use Rattle.cec_bits.specs.Kept.{kept_of, kept_before, told_at}
+use Rattle.cec_bits.specs.Phase.{Standing, standing_of}
+use Rattle.cec_bits.specs.Phase as phase
+use Rattle.cec_bits.specs.declared.receiver.Standing as code
+use Rattle.cec_bits.specs.declared.receiver.Standing.TheVariants as at
+
+-- It was told the line through microsecond t, and what it keeps is that line's.
+pub record StandsOn (r : Receiver) (low : Line) (t : ℕ) : Type 0 where
+  pub keeps : heard_by r ≡ kept_of low t
+  pub level : (r.was_low ≡ low t) × (r.is_low ≡ low t)
+
+-- It was told the line before microsecond t; an edge may be noted since.
+pub record StoodBefore (r : Receiver) (low : Line) (t : ℕ) : Type 0 where
+  pub keeps : heard_by r ≡ kept_before low t
+  pub level : r.was_low ≡ was_low low t
+
+-- The line goes on to microsecond t as it was told: without an edge up to t, at t with the edge that is noted, or
+-- with none; and t is no later than its wake.
+pub record GoesOn (r : Receiver) (low : Line) (before t : ℕ) : Type 0 where
+  pub from : before ≤ t
+  pub calm : (u : ℕ) → before ≤ u → u < t → low u ≡ r.was_low
+  pub edge : low t ≡ r.is_low
+  pub wake : (w : ℕ) → wake_of (heard_by r) ≡ Some w → t ≤ w
+
+-- A tick at t leaves it standing on each such line, and tells what t tells of that line.
+abbrev pub Follows : Receiver → ℕ → Told → Receiver → Type 0
+Follows old t told new = (low : ℕ → Bool) (before : ℕ) → StoodBefore old low before → GoesOn old low before t → StandsOn new low t × (told ≡ told_at low t)
+
+-- Where no edge came at t and a tick told an ending that belongs to t alone, the line may still fall or rise in t: a second
+-- tick then leaves it standing on the line that does.
+abbrev pub FollowsAgain : Receiver → ℕ → Told → Receiver → Type 0
+FollowsAgain old t told new =
+    (low other : ℕ → Bool) (ending : Ending) → heard_by old ≡ kept_of low t → old.was_low ≡ low t → low t ≡ was_low low t → told_at low t ≡ Ended ending
+    → ((u : ℕ) → u < t → other u ≡ low u) → other t ≡ old.is_low → StandsOn new other t × (told ≡ Nothing)
+
+-- the first instant from t on that tells something of a line
+abbrev pub IsNextTold : Line → ℕ → Option ℕ → Type 0
+IsNextTold low t None = (u : ℕ) → t ≤ u → told_at low u ≡ Nothing
+IsNextTold low t (Some w) = (t ≤ w) × (told_at low w ≢ Nothing) × ((u : ℕ) → t ≤ u → u < w → told_at low u ≡ Nothing)
+
+-- It wakes at that instant of each line that it stood on before t and that has no edge from then on.
+abbrev pub WakesSo : Receiver → Option ℕ → Type 0
+WakesSo r wake = (low : ℕ → Bool) (t : ℕ) → StoodBefore r low t → ((u : ℕ) → t ≤ u → low u ≡ r.was_low) → IsNextTold low t wake
+
+-- the standing that the code's value names
+abbrev pub shown : code.Standing → Standing
+shown at.Idle = phase.Idle
+shown at.StartLow = phase.StartLow
+shown at.StartHigh = phase.StartHigh
+shown (at.Slot k bits) = phase.InSlot k bits.now
+shown at.WaitHigh = phase.WaitHigh
+
+-- It is that of each line on which the receiver stands.
+abbrev pub ShowsStanding : Receiver → Standing → Type 0
+ShowsStanding r standing = (low : ℕ → Bool) (t : ℕ) → StandsOn r low t → standing ≡ standing_of low t

@@ -1,0 +1,98 @@
+-- A receiver, microsecond by microsecond: what it keeps of the line, and what each microsecond tells it. The order
+-- of a reading is the standard's (CEC 5.2 and 6); windows, sampling instant and endings are this profile's own.
+use Rattle.std.specs.Prelude.{ℕ, zero, suc, ◌+◌, ◌==◌, Bool, not, nat_lt, ◌&&◌, if◌then◌else◌, List, [], ◌∷◌, ◌++◌, length, Option, Some, None}
+use Rattle.cec_wave.specs.Line.{Line, was_low}
+use Rattle.cec_frame.specs.declared.Ending.{Ending}
+use Rattle.cec_frame.specs.declared.Ending.TheVariants.{Short, Silent, BadStart}
+use Rattle.cec_bits.specs.declared.receiver.Place.{Place}
+use Rattle.cec_bits.specs.declared.receiver.Place.TheVariants.{Rest, StartLow, StartHigh, Unsampled, Sampled}
+use Rattle.cec_bits.specs.declared.receiver.Told.{Told}
+use Rattle.cec_bits.specs.declared.receiver.Told.TheVariants.{Nothing, Bit, Last, Ended}
+use Rattle.cec_bits.specs.declared.receiver.Receiver.{Receiver}
+use Rattle.cec_bits.specs.Reading.{last_ending}
+
+-- what is kept: where the reading that runs has come, its fall, the fall of its slot, and the bits sampled so far
+pub record Hears : Type 0 where
+  pub place : Place
+  pub begin : ℕ
+  pub fall : ℕ
+  pub bits : List Bool
+
+abbrev pub heard_by : Receiver → Hears
+heard_by r = record { place = r.place; begin = r.begin; fall = r.fall; bits = r.bits.items }
+
+-- outside a reading nothing is kept
+abbrev pub rest : Hears
+rest = record { place = Rest; begin = 0; fall = 0; bits = [] }
+
+-- a reading begins where the line falls
+abbrev pub starts : ℕ → Bool → Hears
+starts t falls = if falls then record { place = StartLow; begin = t; fall = 0; bits = [] } else rest
+
+-- what a microsecond leads to, and tells
+pub record Heard : Type 0 where
+  pub state : Hears
+  pub told : Told
+
+abbrev pub told_so : Hears → Told → Heard
+told_so h told = record { state = h; told = told }
+
+-- the rise is due 3,500 to 3,900 after the fall
+abbrev pub hear_start_low : ℕ → Bool → Bool → Hears → Heard
+hear_start_low t falls rises h =
+    if nat_lt (h.begin + 3900) t then told_so (starts t falls) (Ended BadStart)
+    else if rises then (if nat_lt t (h.begin + 3500) then told_so rest (Ended BadStart) else told_so (record h { place = StartHigh }) Nothing)
+    else told_so h Nothing
+
+-- the first slot's fall is due 4,300 to 4,700 after the start bit's
+abbrev pub hear_start_high : ℕ → Bool → Hears → Heard
+hear_start_high t falls h =
+    if nat_lt (h.begin + 4700) t then told_so (starts t falls) (Ended BadStart)
+    else if falls then (if nat_lt t (h.begin + 4300) then told_so rest (Ended BadStart) else told_so (record h { place = Unsampled; fall = t }) Nothing)
+    else told_so h Nothing
+
+-- the bit is sampled 1,050 after the slot's fall; in a last slot that ends the reading
+abbrev pub sample_as : Option Ending → Bool → Hears → Heard
+sample_as None value h = told_so (record h { place = Sampled; bits = h.bits ++ value ∷ [] }) (Bit (length h.bits + 1) value)
+sample_as (Some ending) value h = told_so rest (Last value ending)
+
+-- a fall before it, or with it, is too early
+abbrev pub hear_unsampled : ℕ → Bool → Bool → Hears → Heard
+hear_unsampled t falls is_low h =
+    if falls then told_so rest (Ended Short)
+    else if t == h.fall + 1050 then sample_as (last_ending h.bits) (not is_low) h
+    else told_so h Nothing
+
+-- the next slot's fall is due 2,050 to 2,750 after this one's
+abbrev pub hear_sampled : ℕ → Bool → Hears → Heard
+hear_sampled t falls h =
+    if nat_lt (h.fall + 2750) t then told_so (starts t falls) (Ended Silent)
+    else if falls then (if nat_lt t (h.fall + 2050) then told_so rest (Ended Short) else told_so (record h { place = Unsampled; fall = t }) Nothing)
+    else told_so h Nothing
+
+abbrev pub hear_at : Place → ℕ → Bool → Bool → Bool → Hears → Heard
+hear_at Rest t falls rises is_low h = told_so (starts t falls) Nothing
+hear_at StartLow t falls rises is_low h = hear_start_low t falls rises h
+hear_at StartHigh t falls rises is_low h = hear_start_high t falls h
+hear_at Unsampled t falls rises is_low h = hear_unsampled t falls is_low h
+hear_at Sampled t falls rises is_low h = hear_sampled t falls h
+
+-- with microsecond t, in which the line is low or not, and was low or not just before
+abbrev pub hear_in : ℕ → Bool → Bool → Hears → Heard
+hear_in t was is_low h = hear_at h.place t (is_low && not was) (not is_low && was) is_low h
+
+-- of a line, in its first so many microseconds
+unfoldable pub hears : Line → ℕ → Hears
+hears low zero = rest
+hears low (suc n) = (hear_in n (was_low low n) (low n) (hears low n)).state
+
+-- the next instant that tells something, where no edge comes first
+abbrev pub wake_of : Hears → Option ℕ
+wake_of h = wake_at h.place h.begin h.fall
+  where
+    wake_at : Place → ℕ → ℕ → Option ℕ
+    wake_at Rest begin fall = None
+    wake_at StartLow begin fall = Some (begin + 3901)
+    wake_at StartHigh begin fall = Some (begin + 4701)
+    wake_at Unsampled begin fall = Some (fall + 1050)
+    wake_at Sampled begin fall = Some (fall + 2751)

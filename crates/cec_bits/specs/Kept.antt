@@ -1,0 +1,101 @@
+-- What a receiver of a line keeps at an instant, and what that instant tells it, by the line's readings (own).
+use Rattle.std.specs.Prelude.{◌≡◌, ℕ, zero, suc, ◌+◌, ◌-◌, ◌==◌, Bool, true, false, nat_lt, if◌then◌else◌, List, [], ◌∷◌, length, is_some, Option, Some, None}
+use Rattle.std.specs.List.{filter_map}
+use Rattle.cec_wave.specs.Line.{Line, is_fall, is_rise}
+use Rattle.cec_frame.specs.declared.Ending.{Ending}
+use Rattle.cec_bits.specs.declared.receiver.Place.{Place}
+use Rattle.cec_bits.specs.declared.receiver.Place.TheVariants.{Rest, StartLow, StartHigh, Unsampled, Sampled}
+use Rattle.cec_bits.specs.declared.receiver.Told.{Told}
+use Rattle.cec_bits.specs.declared.receiver.Told.TheVariants.{Nothing, Bit, Last, Ended}
+use Rattle.cec_bits.specs.Reading.{first_in, Slot, known, reading_of}
+use Rattle.cec_bits.specs.Phase.{Standing, at_rest, standing_of}
+use Rattle.cec_bits.specs.Phase as phase
+use Rattle.cec_bits.specs.Hears.{Hears, rest}
+
+-- ---- the reading that runs at t: it has begun, and has not ended by t
+
+abbrev pub runs_on : Line → ℕ → Option ℕ → (ℕ → Option ℕ) → Option ℕ
+runs_on low t None later = None
+runs_on low t (Some e) later = if nat_lt t (reading_of low e).at then Some e else later ((reading_of low e).until + 1)
+
+-- its fall, where readings begin at `from` or later, over at most `readings` of them
+unfoldable pub running_from : Line → ℕ → ℕ → ℕ → Option ℕ
+running_from low t zero from = None
+running_from low t (suc readings) from = runs_on low t (first_in (is_fall low) from (t + 1 - from)) (running_from low t readings)
+
+abbrev pub running_of : Line → ℕ → Option ℕ
+running_of low t = running_from low t (t + 1) 0
+
+-- ---- what is kept by the end of microsecond t
+
+-- the fall of the last of these slots
+abbrev pub last_fall : ℕ → List Slot → ℕ
+last_fall fall [] = fall
+last_fall fall (s ∷ ss) = last_fall s.fall ss
+
+-- of a reading that runs since e: its fall, the fall of its last slot, and the bits sampled so far
+abbrev pub kept_in : Line → ℕ → ℕ → List Slot → Hears
+kept_in low t e [] = record { place = if is_some (first_in (is_rise low) (e + 1) (t - e)) then StartHigh else StartLow; begin = e; fall = 0; bits = [] }
+kept_in low t e (s ∷ ss) = record {
+  place = if length (filter_map (λ x. x.bit) (s ∷ ss)) == length (s ∷ ss) then Sampled else Unsampled;
+  begin = e;
+  fall = last_fall s.fall ss;
+  bits = filter_map (λ x. x.bit) (s ∷ ss);
+}
+
+abbrev pub kept_by : Line → ℕ → Option ℕ → Hears
+kept_by low t None = rest
+kept_by low t (Some e) = kept_in low t e (known (t + 1) (reading_of low e)).slots
+
+abbrev pub kept_of : Line → ℕ → Hears
+kept_of low t = kept_by low t (running_of low t)
+
+-- before a microsecond: by the end of the one before
+abbrev pub kept_before : Line → ℕ → Hears
+kept_before low zero = rest
+kept_before low (suc t) = kept_of low t
+
+-- where one who keeps this stands
+abbrev pub standing_by : Hears → Bool → Standing
+standing_by h is_low = stands h.place
+  where
+    stands : Place → Standing
+    stands Rest = at_rest is_low
+    stands StartLow = phase.StartLow
+    stands StartHigh = phase.StartHigh
+    stands Unsampled = phase.InSlot (length h.bits + 1) h.bits
+    stands Sampled = phase.InSlot (length h.bits) h.bits
+
+-- That is the standing of the line's readings.
+abbrev pub StandingsAreKept : Type 0
+StandingsAreKept = (low : ℕ → Bool) (t : ℕ) → standing_by (kept_of low t) (low t) ≡ standing_of low t
+
+-- ---- what instant t tells of the reading that ran before it: a sample, an ending, or both
+
+-- the slot, counted from n, that is sampled at t, and its bit
+pub record Sample : Type 0 where
+  pub slot : ℕ
+  pub value : Bool
+
+abbrev pub sample_of : ℕ → Option Bool → Option Sample
+sample_of n None = None
+sample_of n (Some value) = Some (record { slot = n; value = value })
+
+abbrev pub sample_in : ℕ → ℕ → List Slot → Option Sample
+sample_in t n [] = None
+sample_in t n (s ∷ ss) = if s.fall + 1050 == t then sample_of n s.bit else sample_in t (n + 1) ss
+
+abbrev pub told_with : Option Sample → Bool → Ending → Told
+told_with None true ending = Ended ending
+told_with None false ending = Nothing
+told_with (Some s) true ending = Last s.value ending
+told_with (Some s) false ending = Bit s.slot s.value
+
+abbrev pub told_in : Line → ℕ → Option ℕ → Told
+told_in low t None = Nothing
+told_in low t (Some e) = told_with (sample_in t 1 (known (t + 1) (reading_of low e)).slots) ((reading_of low e).at == t) (reading_of low e).ending
+
+-- at 0 nothing has been read
+abbrev pub told_at : Line → ℕ → Told
+told_at low zero = Nothing
+told_at low (suc t) = told_in low (suc t) (running_of low t)

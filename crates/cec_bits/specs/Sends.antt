@@ -1,0 +1,32 @@
+-- A sender, told by told: what each tells it by its own bits (own).
+use Rattle.std.specs.Prelude.{ℕ, ◌-◌, ◌%◌, ◌==◌, Bool, not, ◌&&◌, if◌then◌else◌, List, slice_index_or, false}
+use mathlib.Core.Bool.{beq}
+use Rattle.cec_bits.specs.declared.receiver.Told.{Told}
+use Rattle.cec_bits.specs.declared.receiver.Told.TheVariants.{Nothing, Bit, Last, Ended}
+use Rattle.cec_bits.specs.declared.sender.SenderState.{SenderState}
+use Rattle.cec_bits.specs.declared.sender.SenderState.TheVariants.{Sending, Out, Stopped}
+
+-- the bit of a slot, from 1
+abbrev pub sent_in : List Bool → ℕ → Bool
+sent_in sent n = slice_index_or sent (n - 1) false
+
+-- a sender of these bits sends to everybody
+abbrev pub takes_all : List Bool → Bool
+takes_all sent = sent_in sent 5 && (sent_in sent 6 && (sent_in sent 7 && sent_in sent 8))
+
+abbrev pub is_out_there : List Bool → ℕ → Bool → Bool
+is_out_there sent n value = if n % 10 == 0 then not (beq value (takes_all sent)) else not (beq value (sent_in sent n))
+
+abbrev pub by_told : List Bool → Told → SenderState
+by_told sent Nothing = Sending
+by_told sent (Bit n value) = if is_out_there sent n value then Out n else Sending
+by_told sent (Last value ending) = Stopped
+by_told sent (Ended ending) = Stopped
+
+abbrev pub after_told : List Bool → SenderState → Told → SenderState
+after_told sent Sending told = by_told sent told
+after_told sent state told = state
+
+-- how long it is low in a slot of this bit
+abbrev pub low_of : Bool → ℕ
+low_of bit = if bit then 600 else 1500

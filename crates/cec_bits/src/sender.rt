@@ -1,0 +1,275 @@
+//! A sender of one frame, at the standard's nominal times (CEC 5.2) until it stops.
+ghost use Rattle.std.specs.Prelude.{◌≡◌, ℕ, ◌+◌, ◌-◌, ◌*◌, ◌<◌, ◌≤◌, Bool, false, length, slice_index_or, if◌then◌else◌};
+
+use crate::receiver::Told;
+use cec_frame::Frame;
+
+// Low in the start bit for so long, and the first slot falls so long after the start (CEC 5.2.1).
+const START_LOW: u64 = 3700;
+
+const START: u64 = 4500;
+
+// A slot takes so long; a 1 is low for the first, a 0 for the second (CEC 5.2.2).
+const SLOT: u64 = 2400;
+
+const LOW_OF_1: u64 = 600;
+
+const LOW_OF_0: u64 = 1500;
+
+// A block's acknowledge slot is its tenth (CEC 6.1).
+const BLOCK_SLOTS: usize = 10;
+
+/// How far a sender has come.
+#[derive(Clone, Copy, Debug, PartialEq, Eq)]
+pub enum SenderState {
+    Sending,
+    /// It stopped at this slot: the line was read differently there, or the block was not taken.
+    Out(usize),
+    /// It stopped when the reading ended.
+    Stopped,
+}
+
+/// A sender of one frame. It goes by what a receiver tells of the reading that it began.
+#[derive(Debug, Drop)]
+pub struct Sender {
+    frame: Frame,
+    begin: u64,
+    state: SenderState,
+    // the last microsecond in which it pulls, once it has stopped, or 0
+    last: u64,
+    ghost begun: { begin ≤ 2000000000000 },
+    ghost ended: { last ≤ 2000000000000 },
+    ghost filled: { 0 < length frame },
+}
+
+impl Sender {
+    ghost use Rattle.std.specs.Prelude.{◌&&◌, not, true, Option, is_none};
+    ghost use Rattle.cec_wave.specs.Line.{line_of};
+    ghost use Rattle.cec_wave.specs.Sender.{slot_stretches, sender_stretches};
+    ghost use Rattle.cec_frame.specs.Bits.{frame_bits};
+    ghost use Rattle.cec_bits.specs.Sending.{SenderStood, Hears, StopsAt, PullsSo, ShowsState, IsNextChange, pull_of, stopped_pull, may_pull};
+    ghost use Rattle.cec_bits.specs.Sends.{low_of, takes_all, is_out_there, after_told};
+
+    /// Begins to send a frame at `t`.
+    pub fn begin(frame: Frame, t: u64) -> Self
+        requires early { t ≤ 2000000000000 }
+        ensures begins { (result.frame ≡ frame) × (result.begin ≡ t) }
+        ensures stands { (low : ℕ → Bool) → SenderStood result low (t + 1) }
+    {
+        Sender {
+            frame,
+            begin: t,
+            state: SenderState::Sending,
+            last: 0,
+        }
+    }
+
+    // How long the frame is low in a slot, counted from 1.
+    fn low_in(&self, slot: usize) -> u64
+        requires { 1 ≤ slot }
+        ensures { result ≡ low_of (slice_index_or (frame_bits self.now.frame) (slot - 1) false) }
+    {
+        if self.sent_bit(slot) {
+            LOW_OF_1
+        } else {
+            LOW_OF_0
+        }
+    }
+
+    // Whether the frame is low so long after the first slot's fall, if nothing stops it.
+    fn is_low_in_slots(&self, since: u64) -> bool
+        requires early { since ≤ 2000000000000 }
+        ensures { result ≡ line_of (slot_stretches 0 (frame_bits self.now.frame)) since }
+    {
+        let slot = (since / SLOT) as usize;
+        if slot >= self.frame.slots() {
+            return false;
+        }
+        since % SLOT < self.low_in(slot + 1)
+    }
+
+    // Whether the frame is low at `t`, if nothing stops it.
+    fn is_laid(&self, t: u64) -> bool
+        requires early { t ≤ 2000000000000 }
+        ensures { result ≡ line_of (sender_stretches self.now.begin (frame_bits self.now.frame)) t }
+    {
+        if t < self.begin {
+            false
+        } else if t < self.begin + START {
+            t < self.begin + START_LOW
+        } else {
+            self.is_low_in_slots(t - self.begin - START)
+        }
+    }
+
+    fn may_pull(&self, t: u64) -> bool
+        ensures { result ≡ may_pull self.now.state self.now.last t }
+    {
+        match self.state {
+            SenderState::Sending => true,
+            _ => t <= self.last,
+        }
+    }
+
+    /// Whether it pulls the line low in microsecond `t`: the frame's stretches until it stops, then nothing.
+    pub fn pulls(&self, t: u64) -> bool
+        requires early { t ≤ 2000000000000 }
+        ensures pull { result ≡ pull_of self.now t }
+        ensures round { PullsSo self.now t result }
+    {
+        self.is_pulling(t)
+    }
+
+    fn is_pulling(&self, t: u64) -> bool
+        requires early { t ≤ 2000000000000 }
+        ensures { result ≡ pull_of self.now t }
+    {
+        self.is_laid(t) && self.may_pull(t)
+    }
+
+    // The same of the next instant at which that changes, where the first slot falls at `fall`.
+    fn next_in_slots(&self, fall: u64, t: u64) -> Option<u64>
+        requires from { fall ≤ t }
+        requires early { t ≤ 2000000000000 }
+        ensures { IsNextChange (line_of (slot_stretches fall (frame_bits self.now.frame))) t result }
+    {
+        let slot = ((t - fall) / SLOT) as usize;
+        let within = (t - fall) % SLOT;
+        if slot >= self.frame.slots() {
+            return None;
+        }
+        let low = self.low_in(slot + 1);
+        if within < low {
+            Some(t - within + low)
+        } else if slot + 1 < self.frame.slots() {
+            Some(t - within + SLOT)
+        } else {
+            None
+        }
+    }
+
+    // The first instant after `t` at which the frame's stretches begin or end.
+    fn next_laid(&self, t: u64) -> Option<u64>
+        requires early { t ≤ 2000000000000 }
+        ensures { IsNextChange (line_of (sender_stretches self.now.begin (frame_bits self.now.frame))) t result }
+    {
+        if t < self.begin {
+            Some(self.begin)
+        } else if t < self.begin + START_LOW {
+            Some(self.begin + START_LOW)
+        } else if t < self.begin + START {
+            Some(self.begin + START)
+        } else {
+            self.next_in_slots(self.begin + START, t)
+        }
+    }
+
+    // The same, where it has stopped.
+    fn next_stopped(&self, t: u64) -> Option<u64>
+        requires early { t ≤ 2000000000000 }
+        ensures { IsNextChange (stopped_pull self.now) t result }
+    {
+        if t > self.last {
+            return None;
+        }
+        match self.next_laid(t) {
+            Some(change) if change <= self.last => Some(change),
+            _ => {
+                if self.is_laid(t) {
+                    Some(self.last + 1)
+                } else {
+                    None
+                }
+            }
+        }
+    }
+
+    /// The first instant after `t` at which its pull changes, if it is told nothing more.
+    pub fn next_change(&self, t: u64) -> Option<u64>
+        requires early { t ≤ 2000000000000 }
+        ensures { IsNextChange (pull_of self.now) t result }
+    {
+        match self.state {
+            SenderState::Sending => self.next_laid(t),
+            SenderState::Out(_) => self.next_stopped(t),
+            SenderState::Stopped => self.next_stopped(t),
+        }
+    }
+
+    // The bit that the frame sends in a slot, counted from 1.
+    fn sent_bit(&self, slot: usize) -> bool
+        requires { 1 ≤ slot }
+        ensures { result ≡ slice_index_or (frame_bits self.now.frame) (slot - 1) false }
+    {
+        if slot <= self.frame.slots() {
+            self.frame.bit(slot)
+        } else {
+            false
+        }
+    }
+
+    // Whether this bit tells it to stop: in an acknowledge slot 1 in a direct block and 0 in a broadcast, in another
+    // slot a bit that is not its own.
+    fn is_out_at(&self, slot: usize, value: bool) -> bool
+        ensures { result ≡ is_out_there (frame_bits self.now.frame) slot value }
+    {
+        if slot % BLOCK_SLOTS == 0 {
+            value != self.is_broadcast()
+        } else {
+            value != self.sent_bit(slot)
+        }
+    }
+
+    // The frame is for everybody.
+    fn is_broadcast(&self) -> bool
+        ensures { result ≡ takes_all (frame_bits self.now.frame) }
+    {
+        self.sent_bit(5) && self.sent_bit(6) && self.sent_bit(7) && self.sent_bit(8)
+    }
+
+    fn stop(&mut self, state: SenderState, t: u64)
+        requires early { t ≤ 2000000000000 }
+        ensures keeps { (self.new.frame ≡ self.old.frame) × (self.new.begin ≡ self.old.begin) }
+        ensures stops { (self.new.state ≡ state) × (self.new.last ≡ t) }
+    {
+        self.state = state;
+        self.last = t;
+    }
+
+    /// What the receiver told at `t` of the reading that this sender began.
+    pub fn heard(&mut self, told: Told, t: u64)
+        requires early { t ≤ 2000000000000 }
+        ensures keeps { (self.new.frame ≡ self.old.frame) × (self.new.begin ≡ self.old.begin) }
+        ensures hears { Hears self.old told t self.new }
+        ensures stops { StopsAt self.old.state self.old.last t self.new.state self.new.last }
+    {
+        self.go_by(told, t);
+    }
+
+    fn go_by(&mut self, told: Told, t: u64)
+        requires early { t ≤ 2000000000000 }
+        ensures keeps { (self.new.frame ≡ self.old.frame) × (self.new.begin ≡ self.old.begin) }
+        ensures state { self.new.state ≡ after_told (frame_bits self.old.frame) self.old.state told }
+        ensures stops { StopsAt self.old.state self.old.last t self.new.state self.new.last }
+    {
+        if let SenderState::Sending = self.state {
+            match told {
+                Told::Nothing => {}
+                Told::Bit(slot, value) => {
+                    if self.is_out_at(slot, value) {
+                        self.stop(SenderState::Out(slot), t);
+                    }
+                }
+                Told::Last(_, _) | Told::Ended(_) => self.stop(SenderState::Stopped, t),
+            }
+        }
+    }
+
+    /// How far it has come.
+    pub fn state(&self) -> SenderState
+        ensures told { result ≡ self.now.state }
+        ensures shows { ShowsState self.now result }
+    {
+        self.state
+    }
+}

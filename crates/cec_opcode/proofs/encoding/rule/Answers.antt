@@ -1,6 +1,0 @@
-use Rattle.std.proofs.Common.{rules}
-use borrow.Author.Tests.{tests}
-use Rattle.cec_opcode.proofs.encoding.rule.Goals as goal
-
-pub returns-in_default : goal.returns-in_default
-returns-in_default c = search (tests, rules)

@@ -1,0 +1,121 @@
+-- How long a round takes at most, where its last stretch begins, and how many pulses begin in it.
+use Rattle.std.proofs.Common.{◌≡◌, ℕ, suc, ◌+◌, ◌-◌, ◌==◌, ◌<◌, ◌≤◌, Bool, true, false, ◌&&◌, nat_le, if◌then◌else◌, List, [], ◌∷◌, length, inl, inr, refl, arith, ap, ◌∙◌, sym, subst}
+use Rattle.std.specs.List.{All, fold}
+use Rattle.std.proofs.lemmas.Bool.{cases_lt}
+use Rattle.std.proofs.lemmas.Bool.Decides.{nat_tests}
+use Rattle.cec_wave.specs.declared.Stretch.{Stretch}
+use Rattle.cec_wave.specs.Line.{Line, line_of, covers, is_fall, IsWave, IsWaveFrom}
+use Rattle.cec_wave.specs.Pulses.{AreSparse}
+use Rattle.cec_bits.specs.Reading.{Read, reading_of}
+use Rattle.cec_bits.proofs.Ends.{at_by}
+use Rattle.cec_bits.proofs.Waves.{falls_of_wave}
+use Rattle.cec_wire.specs.declared.Seat.{Seat}
+use Rattle.cec_wire.specs.declared.Outcome.{Outcome}
+use Rattle.cec_wire.specs.declared.hearing.Ended.{Ended}
+use Rattle.cec_wire.specs.declared.hearing.Place.{Place}
+use Rattle.cec_wire.specs.declared.hearing.Place.TheVariants.{StartLow, StartHigh, InSlot, Over}
+use Rattle.cec_wire.specs.Round.{IsRound, IsRoundLine}
+use Rattle.cec_wire.specs.Contend.{AreFrames}
+use Rattle.cec_wire.specs.Edges.{heard_of}
+use Rattle.cec_wire.specs.Bounds.{begun_within, RoundsAreShort}
+use Rattle.cec_wire.proofs.Differ.{In, any_in}
+use Rattle.cec_wire.proofs.OneOutcome.{covers_own}
+use Rattle.cec_wire.proofs.Spans.{reading_bound}
+use Rattle.cec_wire.proofs.Still.{high_after}
+use Rattle.cec_wire.proofs.Stands.{AtEnd, StandsAt}
+use Rattle.cec_wire.proofs.Between.{heard_stands}
+use Rattle.cec_wire.proofs.Afterwards.{no_fall_after}
+use Rattle.cec_wire.proofs.Alone.{in_all}
+use Rattle.cec_wire.proofs.Few.{begins_within, few_begun}
+
+-- ---- the rest
+
+ends : (low : Line) (begin : ℕ) → (reading_of low begin).at ≤ begin + 444861
+ends low begin = omega (arith, at_by low begin, reading_bound low begin)
+
+-- so long after the begin the reading is over
+over_by : (seats : List Seat) (low : Line) (begin t : ℕ) (bits : List Bool) (held : ℕ) (place : Place) → StandsAt seats low begin t bits held place → begin + 460000 ≤ t
+    → (e : Ended) × AtEnd seats low begin t bits e held
+unfolding StandsAt
+over_by seats low begin t bits held StartLow s l = absurd (omega (arith, s.early))
+over_by seats low begin t bits held StartHigh s l = absurd (omega (arith, s.early))
+over_by seats low begin t bits held (InSlot fall last) s l = absurd (omega (arith, s.early, s.near, s.room))
+over_by seats low begin t bits held (Over e) s l = (e, s)
+
+-- and the line is high 6,600 after the ending
+high_late : (seats : List Seat) (begin : ℕ) (pulses : List Stretch) (low : Line) (n : ℕ) → AreSparse pulses → IsRoundLine seats begin pulses low → 460000 ≤ n
+    → (u : ℕ) → (reading_of low begin).at + 6600 ≤ u → low u ≡ false
+high_late seats begin pulses low n sparse line l u m =
+    let h = heard_of seats low begin n in
+    let e = over_by seats low begin (begin + n) h.bits h.held h.place (heard_stands seats begin pulses low line n).stands (omega arith) in
+    let same : (reading_of low begin).at ≡ e.0.at = ap (λ (r : Read). r.at) e.1.reads in
+    high_after seats begin pulses low (begin + n) h.bits e.0 h.held line sparse e.1 u (omega (arith, m, same))
+
+wide : (from : ℕ) (ss : List Stretch) (s : Stretch) → IsWaveFrom from ss → In s ss → s.from < s.to
+wide from [] s w i = absurd i
+wide from (x ∷ ss) s w (inl e) =
+    let f : s.from ≡ x.from = ap (λ (y : Stretch). y.from) e in
+    let t : s.to ≡ x.to = ap (λ (y : Stretch). y.to) e in
+    omega (arith, w.1, f, t)
+wide from (x ∷ ss) s w (inr i) = wide (x.to + 1) ss s w.2 i
+
+rest_under : (until r bound : ℕ) (ss : List Stretch) → r ≤ bound → ((s : Stretch) → In s ss → s.to ≤ bound) → fold (λ rest s. if nat_le s.from until then s.to else rest) r ss ≤ bound
+rest_under until r bound [] l h = l
+rest_under until r bound (s ∷ ss) l h =
+    rest_under until (if nat_le s.from until then s.to else r) bound ss (by_test (nat_le s.from until)) (λ x i. h x (inr i))
+  where
+    by_test : (b : Bool) → (if b then s.to else r) ≤ bound
+    by_test true = h s (inl refl)
+    by_test false = l
+
+rests : (seats : List Seat) (begin : ℕ) (pulses : List Stretch) (o : Outcome) (n : ℕ) → 460000 ≤ n → AreSparse pulses → IsWave o.wave → IsRound seats begin pulses o → o.rest ≤ begin + 451461
+rests seats begin pulses o n l sparse wave round =
+    subst (λ r. r ≤ begin + 451461) (sym round.rest) (rest_under (reading_of (line_of o.wave) begin).until 0 (begin + 451461) o.wave (omega arith) each)
+  where
+    each : (s : Stretch) → In s o.wave → s.to ≤ begin + 451461
+    each s i = elim (cases_lt (begin + 451461) s.to) [
+      | inr ge ↦ ge
+      | inl lt ↦ (
+          let w : s.from < s.to = wide 0 o.wave s wave i in
+          let own : covers s (s.to - 1) ≡ true = covers_own s (s.to - 1) (omega arith) (omega arith) in
+          let low : line_of o.wave (s.to - 1) ≡ true = any_in (λ x. covers x (s.to - 1)) o.wave s i own in
+          let high : line_of o.wave (s.to - 1) ≡ false = high_late seats begin pulses (line_of o.wave) n sparse round.line l (s.to - 1) (omega (arith, lt, ends (line_of o.wave) begin)) in
+          let no : true ≡ false = sym low ∙ high in cc)
+    ]
+
+-- ---- where the last stretch begins
+
+begins : (seats : List Seat) (begin : ℕ) (pulses : List Stretch) (o : Outcome) → AreFrames seats → AreSparse pulses → IsWave o.wave → IsRound seats begin pulses o
+    → All (λ s. s.from ≤ (reading_of (line_of o.wave) begin).until) o.wave
+begins seats begin pulses o frames sparse wave round = in_all (λ s. s.from ≤ (reading_of (line_of o.wave) begin).until) o.wave each
+  where
+    each : (s : Stretch) → In s o.wave → s.from ≤ (reading_of (line_of o.wave) begin).until
+    each s i = elim (cases_lt (reading_of (line_of o.wave) begin).until s.from) [
+      | inr ge ↦ ge
+      | inl lt ↦ (
+          let own : (s.from == s.from) ≡ true = grind (arith, nat_tests) in
+          let fall : is_fall (line_of o.wave) s.from ≡ true = falls_of_wave o.wave 0 s.from wave ∙ any_in (λ x. x.from == s.from) o.wave s i own in
+          let none : is_fall (line_of o.wave) s.from ≡ false = no_fall_after seats begin pulses (line_of o.wave) frames sparse round.line (at_by (line_of o.wave) begin) s.from lt in
+          let no : true ≡ false = sym fall ∙ none in cc)
+    ]
+
+-- ---- how many pulses begin
+
+same_count : (begin end : ℕ) (ps : List Stretch) → length (begun_within begin end ps) ≡ length (begins_within begin end ps)
+unfolding begins_within
+same_count begin end [] = refl
+same_count begin end (p ∷ ps) = by_test (nat_le begin p.from && nat_le p.from end) (same_count begin end ps)
+  where
+    by_test : (b : Bool) → length (begun_within begin end ps) ≡ length (begins_within begin end ps)
+        → length (if b then p ∷ begun_within begin end ps else begun_within begin end ps) ≡ length (if b then p.from ∷ begins_within begin end ps else begins_within begin end ps)
+    by_test true e = ap suc e
+    by_test false e = e
+
+pub rounds_are_short : RoundsAreShort
+rounds_are_short = record {
+  ends = ends;
+  rests = λ seats begin pulses o sparse wave round. rests seats begin pulses o 460000 (omega arith) sparse wave round;
+  begins = begins;
+  few = λ seats begin pulses o sparse wave round.
+      omega (arith, same_count begin o.rest pulses, few_begun begin o.rest pulses sparse (omega (arith, rests seats begin pulses o 460000 (omega arith) sparse wave round)));
+}

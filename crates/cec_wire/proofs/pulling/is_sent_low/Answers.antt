@@ -1,0 +1,24 @@
+use Rattle.std.proofs.Common.{◌≡◌, ◌+◌, ◌-◌, ◌/◌, ◌%◌, false, nat_lt, if◌then◌else◌, slice_get, arith, ap, ◌∙◌, sym}
+use Rattle.std.proofs.lemmas.Option.{get_or_from_slice_get}
+use Rattle.cec_frame.specs.Bits.{frame_bits}
+use Rattle.cec_wire.proofs.Lays.{slot_at, slots_over, start_at, before_start, after_start}
+use Rattle.cec_wire.proofs.pulling.is_sent_low.Goals as goal
+
+pub returns-then-t-start : goal.returns-then-t-start
+returns-then-t-start c = sym (before_start (frame_bits c.args.frame.now) c.args.start c.args.t (omega arith))
+
+pub returns-then-since-lt-FIRST_SLOT : goal.returns-then-since-lt-FIRST_SLOT
+returns-then-since-lt-FIRST_SLOT c = sym (start_at (frame_bits c.args.frame.now) c.args.start c.args.t (omega arith) (omega arith))
+
+pub returns-then-place-slots : goal.returns-then-place-slots
+returns-then-place-slots c =
+    sym (after_start (frame_bits c.args.frame.now) c.args.start c.args.t (omega arith)
+    ∙ slots_over (frame_bits c.args.frame.now) (c.args.start + 4500) c.args.t (omega arith))
+
+pub returns : goal.returns
+returns c =
+    let q = (c.args.t - c.args.start - 4500) / 2400 in
+    let r = (c.args.t - c.args.start - 4500) % 2400 in
+    ap (λ n. nat_lt r n) (c.low_of.ensures ∙ ap (λ b. if b then 600 else 1500) (sym (get_or_from_slice_get (frame_bits c.args.frame.now) q c.bit.result false (ap (λ k. slice_get (frame_bits c.args.frame.now) k) (let e : q ≡ q + 1 - 1 = omega arith in e) ∙ c.bit.ensures))))
+    ∙ sym (after_start (frame_bits c.args.frame.now) c.args.start c.args.t (omega arith)
+    ∙ slot_at (frame_bits c.args.frame.now) (c.args.start + 4500) q r c.args.t (omega arith) (omega arith) (omega arith))

@@ -1,0 +1,90 @@
+//! Who follows: who acknowledges a block, who pulls after a fall too early, and for how long.
+ghost use Rattle.std.specs.Prelude.{◌≡◌, ◌+◌, ◌%◌, ◌==◌, ◌<◌, ◌≤◌, ◌&&◌, not, length, if◌then◌else◌};
+ghost use Rattle.std.specs.List.{list_any};
+ghost use Rattle.cec_wire.specs.Round.{destination, holds_address};
+ghost use Rattle.cec_wire.specs.Machine.{acks_after, breaks_after, acks_until, held_after, is_short};
+
+use crate::Seat;
+use crate::header::destination;
+use crate::hearing::Place;
+use crate::senders::sends;
+use cec_frame::{Addr, Ending};
+
+const ACK_PULL: u64 = 1500;
+
+const SHORT_PULL: u64 = 3600;
+
+fn holds(seat: &Seat, address: u8) -> bool
+    ensures { result ≡ holds_address seat.now.holds address }
+{
+    match seat.holds {
+        None => false,
+        Some(held) => held.value() == address && held.value() < Addr::BROADCAST,
+    }
+}
+
+// A seat acknowledges in the slot after these bits.
+fn acknowledges(bits: &[bool], seat: &Seat) -> bool
+    requires { 8 ≤ length bits.now }
+    ensures { result ≡ acks_after bits.now seat.now }
+{
+    seat.plugged && holds(seat, destination(bits)) && !sends(bits, seat)
+}
+
+fn is_acknowledged(bits: &[bool], seats: &[Seat]) -> bool
+    requires { 8 ≤ length bits.now }
+    ensures { result ≡ list_any (acks_after bits.now) seats.now }
+{
+    for seat in seats {
+        if acknowledges(bits, seat) {
+            return true;
+        }
+    }
+    false
+}
+
+// Some seat pulls after a fall too early.
+fn is_broken(bits: &[bool], seats: &[Seat]) -> bool
+    ensures { result ≡ list_any (breaks_after bits.now) seats.now }
+{
+    for seat in seats {
+        if seat.plugged && !sends(bits, seat) {
+            return true;
+        }
+    }
+    false
+}
+
+// How long acknowledgers hold the line in the slot that falls at `fall`, after these bits.
+fn acknowledged_until(seats: &[Seat], bits: &[bool], fall: u64) -> u64
+    requires { fall ≤ 3000000000000 }
+    ensures { result ≡ acks_until seats.now bits.now fall }
+{
+    if (bits.len() + 1) % 10 == 0 && is_acknowledged(bits, seats) {
+        fall + ACK_PULL
+    } else {
+        0
+    }
+}
+
+/// How long those who follow hold the line, once microsecond `t` brought the reading to this place.
+pub fn held_until(seats: &[Seat], bits: &[bool], place: Place, t: u64, held: u64) -> u64
+    requires { t ≤ 3000000000000 }
+    ensures { result ≡ held_after seats.now bits.now place t held }
+{
+    match place {
+        Place::InSlot(fall, _) if fall == t => acknowledged_until(seats, bits, fall),
+        Place::Over(ended) if ended.at == t && is_short(ended.ending) && is_broken(bits, seats) => t
+            + SHORT_PULL,
+        _ => held,
+    }
+}
+
+fn is_short(ending: Ending) -> bool
+    ensures { result ≡ is_short ending }
+{
+    match ending {
+        Ending::Short => true,
+        _ => false,
+    }
+}

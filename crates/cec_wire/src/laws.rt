@@ -1,0 +1,134 @@
+//! Laws of rounds.
+ghost use Rattle.cec_wire.specs.Alone.{RoundsAreLone};
+ghost use Rattle.cec_wire.specs.Bounds.{RoundsAreShort};
+ghost use Rattle.cec_wire.specs.Contend.{AcknowledgedIsZero, AcknowledgersHold, CompleteIsWinners, HasLine, LaterPulses, LosersInside, RoundBelow, SameLine, WinnersLast, WinnersWindow};
+ghost use Rattle.cec_wire.specs.Falls.{EachFallBegins, FewFalls, RoundFits, WaveFits};
+ghost use Rattle.cec_wire.specs.Lasting.{RoundsLast};
+ghost use Rattle.cec_wire.specs.OneOutcome.{OneOutcome};
+ghost use Rattle.cec_wire.specs.Polls.{FreeIsRead, HoldersAreHeard};
+ghost use Rattle.cec_wire.specs.Round.{FatesTold, OneLine};
+ghost use Rattle.cec_wire.specs.Standings.{ReceiversStand};
+ghost use Rattle.cec_wire.specs.Winning.{CompleteIsRead};
+
+// ---- the line
+
+/// A round has one line, whichever way it is found.
+pub fn one_line()
+    ensures { OneLine }
+{}
+
+/// Where a sender that is not out pulls, a winner that is not out pulls.
+pub fn losers_inside()
+    ensures { LosersInside }
+{}
+
+/// It is one line, whether the winners alone pull until they are out, or all who send.
+pub fn same_line()
+    ensures { SameLine }
+{}
+
+/// While a winner is still sending, the read fall of a slot is not after its own and at most 350 before it.
+pub fn winners_window()
+    ensures { WinnersWindow }
+{}
+
+/// No winner is out before another sender is.
+pub fn winners_last()
+    ensures { WinnersLast }
+{}
+
+/// Each round has a line.
+pub fn has_line()
+    ensures { HasLine }
+{}
+
+/// A pulse changes nothing before it begins.
+pub fn later_pulses()
+    ensures { LaterPulses }
+{}
+
+/// What everybody pulled below an instant is the round's line there, whatever pulses follow.
+pub fn round_below()
+    ensures { RoundBelow }
+{}
+
+/// A complete reading has, acknowledge slots left out, the bits of a winner.
+pub fn complete_is_winners()
+    ensures { CompleteIsWinners }
+{}
+
+/// What is read of a complete round as its frame is the frame of a winner.
+pub fn complete_is_read()
+    ensures { CompleteIsRead }
+{}
+
+/// Where an acknowledger pulls, the slot is read 0.
+pub fn acknowledged_is_zero()
+    ensures { AcknowledgedIsZero }
+{}
+
+/// Who acknowledges is decided at the slot's fall, and holds for the 1,500 of the pull.
+pub fn acknowledgers_hold()
+    ensures { AcknowledgersHold }
+{}
+
+// ---- falls, and how long it lasts
+
+/// A line that keeps the round's rule falls only where a sender's stretch or a pulse begins, so it falls at
+/// most 179 times, and a wave of it has at most 179 stretches. Frames have at most 16 blocks (CEC 6), and
+/// the pulses are sparse.
+pub fn few_falls()
+    ensures begins { EachFallBegins }
+    ensures few { FewFalls }
+    ensures wave { WaveFits }
+    ensures round { RoundFits }
+{}
+
+/// A round in which a seat sends, or a pulse begins at its begin, ends after its begin, and its last low
+/// stretch too.
+pub fn rounds_last()
+    ensures { RoundsLast }
+{}
+
+/// A round's line by itself is read once, from the round's begin: it is high before and from the rest on, and
+/// falls no more once the reading is over. That reading is the outcome's.
+pub fn rounds_are_lone()
+    ensures { RoundsAreLone }
+{}
+
+/// A round's reading ends at most 444,861 microseconds after its begin, and its last low stretch at most 451,461
+/// after it. That stretch begins by the reading's last microsecond, and at most 19 pulses begin in all that time.
+pub fn rounds_are_short()
+    ensures { RoundsAreShort }
+{}
+
+// ---- what the outcome tells
+
+/// A round has one outcome: the same seats, begin and pulses give one reading, the same survivors and losers,
+/// one rest and one wave.
+pub fn one_outcome()
+    ensures { OneOutcome }
+{}
+
+/// What an outcome tells of each sender and of its close is what becomes of them in the round.
+pub fn fates_told()
+    ensures { FatesTold }
+{}
+
+/// A poll of an address below 15 that nobody acknowledged was read whole, just as it was sent.
+pub fn free_is_read()
+    ensures { FreeIsRead }
+{}
+
+/// Where a poll was not acknowledged, whoever is plugged in and holds its address was itself still sending to that
+/// address, whatever pulses there were.
+pub fn holders_are_heard()
+    ensures { HoldersAreHeard }
+{}
+
+// ---- receivers
+
+/// Where the wire says that the receivers of its line stand, they stand by that line's readings.
+pub fn receivers_stand()
+    ensures { ReceiversStand }
+{}

@@ -1,0 +1,99 @@
+//! Who pulls the line low in a microsecond.
+ghost use Rattle.std.specs.Prelude.{◌≡◌, ◌&&◌, if◌then◌else◌, nat_le};
+ghost use Rattle.std.specs.List.{list_any};
+ghost use Rattle.cec_wave.specs.Line.{line_of};
+ghost use Rattle.cec_wave.specs.Sender.{sender_stretches};
+ghost use Rattle.cec_frame.specs.Bits.{frame_bits};
+ghost use Rattle.cec_wire.specs.Machine.{taken, taken_until, sends_until, sent_low};
+
+use crate::Seat;
+use crate::hearing::Place;
+use cec_frame::Frame;
+use cec_wave::Stretch;
+
+const START_LOW: u64 = 3700;
+
+const FIRST_SLOT: u64 = 4500;
+
+const SLOT: u64 = 2400;
+
+const LOW_OF_1: u64 = 600;
+
+const LOW_OF_0: u64 = 1500;
+
+// How long a sender pulls for a bit.
+fn low_of(bit: bool) -> u64
+    ensures { result ≡ (if bit then 600 else 1500) }
+{
+    if bit { LOW_OF_1 } else { LOW_OF_0 }
+}
+
+// Whether a sender that starts at `start` and goes on pulls in microsecond `t`.
+fn is_sent_low(frame: &Frame, start: u64, t: u64) -> bool
+    ensures { result ≡ line_of (sender_stretches start (frame_bits frame.now)) t }
+{
+    if t < start {
+        return false;
+    }
+    let since = t - start;
+    if since < FIRST_SLOT {
+        return since < START_LOW;
+    }
+    let place = (since - FIRST_SLOT) / SLOT;
+    let within = (since - FIRST_SLOT) % SLOT;
+    if place >= frame.slots() as u64 {
+        return false;
+    }
+    within < low_of(frame.bit(place as usize + 1))
+}
+
+// Whether a sender, if there is one, that starts at `start` and goes on pulls in microsecond `t`.
+fn sender_pulls(sends: &Option<Frame>, start: u64, t: u64) -> bool
+    ensures { result ≡ sent_low start sends.now t }
+{
+    match sends {
+        None => false,
+        Some(frame) => is_sent_low(frame, start, t),
+    }
+}
+
+/// Whether a seat's sender pulls in microsecond `t`, where it `sends` on until an instant.
+pub fn pulls_on(seat: &Seat, sends: bool, begin: u64, until: u64, t: u64) -> bool
+    ensures { result ≡ (sent_low begin seat.now.sends t && (sends && nat_le t until)) }
+{
+    if sends && t <= until {
+        sender_pulls(&seat.sends, begin, t)
+    } else {
+        false
+    }
+}
+
+/// Whether a pulse pulls in microsecond `t` that the round takes: one that begins from `start` to
+/// `until`, or any that begins there where the line was low just before.
+pub fn is_pulsed(pulses: &[Stretch], start: u64, until: u64, was_low: bool, t: u64) -> bool
+    ensures { result ≡ list_any (taken start until was_low t) pulses.now }
+{
+    pulses.iter().any(|pulse| pulse.from <= t
+        && t < pulse.to
+        && (start <= pulse.from && (pulse.from <= until || was_low)))
+}
+
+/// The last microsecond in which a pulse begins that the round takes.
+pub fn pulses_until(place: Place, t: u64) -> u64
+    ensures { result ≡ taken_until place t }
+{
+    match place {
+        Place::Over(ended) => ended.until,
+        _ => t,
+    }
+}
+
+/// The last microsecond in which a sender pulls.
+pub fn senders_until(place: Place, t: u64) -> u64
+    ensures { result ≡ sends_until place t }
+{
+    match place {
+        Place::Over(ended) => ended.at,
+        _ => t,
+    }
+}

@@ -1,0 +1,3 @@
+pub mod CutShort
+pub mod Digits
+pub mod SinkLemmas

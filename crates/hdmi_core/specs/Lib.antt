@@ -1,0 +1,3 @@
+pub mod Sink
+pub mod Piece
+pub mod Written

@@ -1,0 +1,15 @@
+//! What both the EDIDs and the CEC wire speak of: kinds of device and physical addresses; and how lines are
+//! written, part by part, to a sink that says how many bytes it took.
+#![tactic(auto)]
+
+mod kind;
+mod phys;
+mod piece;
+mod sink;
+#[cfg(test)]
+mod tests;
+
+pub use kind::Kind;
+pub use phys::Phys;
+pub use piece::{Piece, hex_digit, write_line, write_pieces};
+pub use sink::{Sink, WriteFault, Writes, put_all};

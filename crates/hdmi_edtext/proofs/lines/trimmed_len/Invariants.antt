@@ -1,9 +1,0 @@
-use Rattle.std.proofs.Common.{◌≡◌, ◌≤◌, take}
-use Rattle.hdmi_edtext.specs.Lines.{trimmed}
-use Rattle.hdmi_edtext.proofs.lines.trimmed_len.Given as goal
-
-abbrev pub invariant-loop-i : goal.invariant-loop-i
-invariant-loop-i l = record {
-  within : l.len ≤ l.i;
-  front : take l.len l.bytes ≡ trimmed (take l.i l.bytes);
-}

@@ -1,0 +1,430 @@
+//! The values that lines tell.
+ghost use Rattle.std.specs.Prelude.{◌≡◌, ℕ, ◌+◌, ◌≤◌, ◌<◌, List, [], ◌∷◌, length, IsTrue, MatchOption, MatchBool, Option};
+ghost use Rattle.hdmi_edid.specs.Bytes.{are_bytes};
+ghost use Rattle.hdmi_edid.specs.declared.base.Revision.{Revision as RevisionValue};
+ghost use Rattle.hdmi_edid.specs.declared.chroma.Chroma.{Chroma as ChromaValue};
+ghost use Rattle.hdmi_edid.specs.declared.descriptor.Descriptor.{Descriptor as DescriptorValue};
+ghost use Rattle.std.specs.List.{list_all};
+ghost use Rattle.hdmi_edid.specs.Chars.{is_char};
+ghost use Rattle.hdmi_edid.specs.declared.descriptor.RangeLimits.{RangeLimits as RangeValue};
+ghost use Rattle.hdmi_edid.specs.declared.descriptor.RawDescriptor.{RawDescriptor as RawValue};
+ghost use Rattle.hdmi_edid.specs.declared.maker.Maker.{Maker as MakerValue};
+ghost use Rattle.hdmi_edid.specs.declared.standard.Standard.{Standard as StandardValue};
+ghost use Rattle.hdmi_edid.specs.declared.text.Text.{Text as TextValue};
+ghost use Rattle.hdmi_edid.specs.declared.timing.Timing.{Timing as TimingValue};
+ghost use Rattle.hdmi_cta.specs.declared.block.Block.{Block as BlockValue};
+ghost use Rattle.hdmi_cta.specs.declared.block.BlockKind.{BlockKind as KindValue};
+ghost use Rattle.hdmi_edtext.specs.Lines.{letters_line, numbers_line, bytes_line, quoted_line, revision_letters, standard_line, timing_numbers, timing_line, descriptor_line, chroma_numbers, kind_word, block_line};
+
+use arrayvec::ArrayVec;
+use hdmi_cta::BlockKind;
+use hdmi_edid::{
+    Chroma, Descriptor, Maker, Point, RangeLimits, RawDescriptor, Revision, Standard, Text, Timing,
+};
+use hdmi_lines::{Fields, Line, Word};
+
+/// The letters behind a word.
+fn letters_of(line: &Line, word: Word) -> Option<&[u8]>
+    ensures { MatchOption result ((xs : List ℕ) → letters_line word xs ≡ line.now → ⊥) (λ xs. letters_line word xs.now ≡ line.now) }
+{
+    if line.word != word {
+        return None;
+    }
+    match &line.fields {
+        Fields::Letters(letters) => Some(letters.as_slice()),
+        _ => None,
+    }
+}
+
+/// The numbers behind a word.
+fn numbers_of(line: &Line, word: Word) -> Option<&[u32]>
+    ensures { MatchOption result ((ns : List ℕ) → numbers_line word ns ≡ line.now → ⊥) (λ ns. numbers_line word ns.now ≡ line.now) }
+{
+    if line.word != word {
+        return None;
+    }
+    match &line.fields {
+        Fields::Numbers(numbers) => Some(numbers.as_slice()),
+        _ => None,
+    }
+}
+
+/// The bytes behind a word.
+pub fn bytes_of(line: &Line, word: Word) -> Option<&[u8]>
+    ensures { MatchOption result ((bs : List ℕ) → bytes_line word bs ≡ line.now → ⊥) (λ bs. bytes_line word bs.now ≡ line.now) }
+{
+    if line.word != word {
+        return None;
+    }
+    match &line.fields {
+        Fields::Bytes(bytes) => Some(bytes.as_slice()),
+        _ => None,
+    }
+}
+
+/// The characters behind a word.
+fn quoted_of(line: &Line, word: Word) -> Option<&[u8]>
+    ensures { MatchOption result ((xs : List ℕ) → quoted_line word xs ≡ line.now → ⊥) (λ xs. quoted_line word xs.now ≡ line.now) }
+{
+    if line.word != word {
+        return None;
+    }
+    match &line.fields {
+        Fields::Quoted(chars) => Some(chars.as_slice()),
+        _ => None,
+    }
+}
+
+/// The only number behind a word, where it is not too large.
+pub fn one_number(line: &Line, word: Word, most: u32) -> Option<u32>
+    ensures { MatchOption result ((n : ℕ) → n ≤ most → numbers_line word (n ∷ []) ≡ line.now → ⊥) (λ n. (n ≤ most) × (numbers_line word (n ∷ []) ≡ line.now)) }
+{
+    let Some(numbers) = numbers_of(line, word) else {
+        return None;
+    };
+    if numbers.len() != 1 || numbers[0] > most {
+        return None;
+    }
+    Some(numbers[0])
+}
+
+/// The two numbers behind a word, where they are within bounds.
+pub fn two_numbers(line: &Line, word: Word, least: u32, most: u32) -> Option<(u8, u32)>
+    ensures { MatchOption result
+        ((m n : ℕ) → m < 256 → least ≤ n → n ≤ most → numbers_line word (m ∷ n ∷ []) ≡ line.now → ⊥)
+        (λ r. (least ≤ r.1) × (r.1 ≤ most) × (numbers_line word (r.0 ∷ r.1 ∷ []) ≡ line.now)) }
+{
+    let Some(numbers) = numbers_of(line, word) else {
+        return None;
+    };
+    if numbers.len() != 2 || numbers[0] > 255 || numbers[1] < least || numbers[1] > most {
+        return None;
+    }
+    Some((numbers[0] as u8, numbers[1]))
+}
+
+/// The only byte behind a word.
+pub fn one_byte(line: &Line, word: Word) -> Option<u8>
+    ensures { MatchOption result ((b : ℕ) → bytes_line word (b ∷ []) ≡ line.now → ⊥) (λ b. bytes_line word (b ∷ []) ≡ line.now) }
+{
+    let Some(bytes) = bytes_of(line, word) else {
+        return None;
+    };
+    if bytes.len() != 1 {
+        return None;
+    }
+    Some(bytes[0])
+}
+
+/// The three bytes behind a word.
+pub fn three_bytes(line: &Line, word: Word) -> Option<[u8; 3]>
+    ensures { MatchOption result ((bs : List ℕ) → length bs ≡ 3 → bytes_line word bs ≡ line.now → ⊥) (λ bs. (bytes_line word bs ≡ line.now) × IsTrue (are_bytes bs)) }
+{
+    let Some(bytes) = bytes_of(line, word) else {
+        return None;
+    };
+    if bytes.len() != 3 {
+        return None;
+    }
+    Some(array_from(bytes))
+}
+
+/// The revision that a line tells.
+pub fn revision_of(line: &Line) -> Option<Revision>
+    ensures { MatchOption result ((r : RevisionValue) → letters_line Word.Edid (revision_letters r) ≡ line.now → ⊥) (λ r. letters_line Word.Edid (revision_letters r) ≡ line.now) }
+{
+    let Some(letters) = letters_of(line, Word::Edid) else {
+        return None;
+    };
+    if letters == b"1.3".as_slice() {
+        Some(Revision::Three)
+    } else if letters == b"1.4".as_slice() {
+        Some(Revision::Four)
+    } else {
+        None
+    }
+}
+
+/// The maker that a line tells.
+pub fn maker_of(line: &Line) -> Option<Maker>
+    ensures { MatchOption result
+        ((m : MakerValue) → letters_line Word.Maker (m.first ∷ m.second ∷ m.third ∷ []) ≡ line.now → ⊥)
+        (λ m. letters_line Word.Maker (m.first ∷ m.second ∷ m.third ∷ []) ≡ line.now) }
+{
+    let Some(letters) = letters_of(line, Word::Maker) else {
+        return None;
+    };
+    if letters.len() != 3 {
+        return None;
+    }
+    let (first, second, third) = (letters[0], letters[1], letters[2]);
+    if first < b'A'
+        || b'Z' < first
+        || second < b'A'
+        || b'Z' < second
+        || third < b'A'
+        || b'Z' < third
+    {
+        return None;
+    }
+    Some(Maker {
+        first,
+        second,
+        third,
+    })
+}
+
+/// The chromaticities that a line tells.
+pub fn chroma_of(line: &Line) -> Option<Chroma>
+    ensures { MatchOption result ((c : ChromaValue) → numbers_line Word.Chroma (chroma_numbers c) ≡ line.now → ⊥) (λ c. numbers_line Word.Chroma (chroma_numbers c) ≡ line.now) }
+{
+    let Some(n) = numbers_of(line, Word::Chroma) else {
+        return None;
+    };
+    if n.len() != 8 {
+        return None;
+    }
+    if n[0] > 1023 || n[1] > 1023 || n[2] > 1023 || n[3] > 1023 {
+        return None;
+    }
+    if n[4] > 1023 || n[5] > 1023 || n[6] > 1023 || n[7] > 1023 {
+        return None;
+    }
+    Some(Chroma {
+        red: Point {
+            x: n[0] as u16,
+            y: n[1] as u16,
+        },
+        green: Point {
+            x: n[2] as u16,
+            y: n[3] as u16,
+        },
+        blue: Point {
+            x: n[4] as u16,
+            y: n[5] as u16,
+        },
+        white: Point {
+            x: n[6] as u16,
+            y: n[7] as u16,
+        },
+    })
+}
+
+/// The standard timing that three numbers are.
+fn used_standard(n: &[u32]) -> Option<Standard>
+    ensures { MatchOption result ((s : StandardValue) → s.width ∷ s.aspect ∷ s.rate ∷ [] ≡ n.now → ⊥) (λ s. s.width ∷ s.aspect ∷ s.rate ∷ [] ≡ n.now) }
+{
+    if n.len() != 3 {
+        return None;
+    }
+    let (width, aspect, rate) = (n[0], n[1], n[2]);
+    if width < 248 || width > 2288 || width % 8 != 0 {
+        return None;
+    }
+    if aspect > 3 || rate < 60 || rate > 123 {
+        return None;
+    }
+    if width == 256 && aspect == 0 && rate == 61 {
+        return None;
+    }
+    Some(Standard {
+        width: width as u16,
+        aspect: aspect as u8,
+        rate: rate as u8,
+    })
+}
+
+/// The standard timing that a line tells, or that one is unused.
+pub fn standard_of(line: &Line) -> Option<Option<Standard>>
+    ensures { MatchOption result ((s : Option StandardValue) → standard_line s ≡ line.now → ⊥) (λ s. standard_line s ≡ line.now) }
+{
+    if let Some(letters) = letters_of(line, Word::Standard) {
+        return if letters == b"unused".as_slice() {
+            Some(None)
+        } else {
+            None
+        };
+    }
+    let Some(numbers) = numbers_of(line, Word::Standard) else {
+        return None;
+    };
+    match used_standard(numbers) {
+        None => None,
+        Some(standard) => Some(Some(standard)),
+    }
+}
+
+/// The detailed timing that a line tells.
+pub fn timing_of(line: &Line) -> Option<Timing>
+    ensures { MatchOption result ((t : TimingValue) → timing_line t ≡ line.now → ⊥) (λ t. timing_line t ≡ line.now) }
+{
+    if line.word != Word::Timing {
+        return None;
+    }
+    match &line.fields {
+        Fields::Timed(numbers, flags) => timing_from(numbers.as_slice(), *flags),
+        _ => None,
+    }
+}
+
+/// The detailed timing that thirteen numbers and flags are.
+fn timing_from(n: &[u32], flags: u8) -> Option<Timing>
+    ensures { MatchOption result ((t : TimingValue) → timing_numbers t ≡ n.now → t.flags ≡ flags → ⊥) (λ t. (timing_numbers t ≡ n.now) × (t.flags ≡ flags)) }
+{
+    if n.len() != 13 || n[0] == 0 || n[0] > 65535 {
+        return None;
+    }
+    if n[1] > 4095 || n[2] > 4095 || n[3] > 4095 || n[4] > 4095 {
+        return None;
+    }
+    if n[5] > 1023 || n[6] > 1023 || n[7] > 63 || n[8] > 63 {
+        return None;
+    }
+    if n[9] > 4095 || n[10] > 4095 || n[11] > 255 || n[12] > 255 {
+        return None;
+    }
+    Some(Timing {
+        clock: n[0] as u16,
+        horizontal_active: n[1] as u16,
+        horizontal_blanking: n[2] as u16,
+        vertical_active: n[3] as u16,
+        vertical_blanking: n[4] as u16,
+        horizontal_sync_offset: n[5] as u16,
+        horizontal_sync_width: n[6] as u16,
+        vertical_sync_offset: n[7] as u8,
+        vertical_sync_width: n[8] as u8,
+        width: n[9] as u16,
+        height: n[10] as u16,
+        horizontal_border: n[11] as u8,
+        vertical_border: n[12] as u8,
+        flags,
+    })
+}
+
+fn is_char(byte: u8) -> bool
+    ensures { result ≡ is_char byte }
+{
+    0x20 <= byte && byte <= 0x7e && byte != 0x22
+}
+
+/// Whether all characters may stand in a descriptor.
+fn are_chars(chars: &[u8]) -> bool
+    ensures { result ≡ list_all is_char chars.now }
+{
+    chars.iter().all(|byte| is_char(*byte))
+}
+
+/// The text of a descriptor that a line tells.
+fn text_of(line: &Line, word: Word) -> Option<Text>
+    ensures { MatchOption result ((t : TextValue) → quoted_line word t.chars.items ≡ line.now → ⊥) (λ t. quoted_line word t.chars.items ≡ line.now) }
+{
+    let Some(text) = quoted_of(line, word) else {
+        return None;
+    };
+    if text.len() > 13 || !are_chars(text) {
+        return None;
+    }
+    let mut chars = ArrayVec::new();
+    let _ = chars.try_extend_from_slice(text);
+    Some(Text { chars })
+}
+
+/// The N bytes of a list.
+pub fn array_from<const N: usize>(bytes: &[u8]) -> [u8; N]
+    requires { length bytes.now ≡ N }
+    ensures value { result ≡ bytes.now }
+    ensures fit { IsTrue (are_bytes result) }
+{
+    <[u8; N]>::try_from(bytes).unwrap()
+}
+
+/// The range limits that 14 bytes are.
+fn limits_from(bytes: &[u8]) -> RangeLimits
+    requires { length bytes.now ≡ 14 }
+    ensures { result.bytes ≡ bytes.now }
+{
+    RangeLimits {
+        bytes: array_from(bytes),
+    }
+}
+
+/// The range limits that a line tells.
+fn range_of(line: &Line) -> Option<RangeLimits>
+    ensures { MatchOption result ((r : RangeValue) → bytes_line Word.Range r.bytes ≡ line.now → ⊥) (λ r. bytes_line Word.Range r.bytes ≡ line.now) }
+{
+    let Some(bytes) = bytes_of(line, Word::Range) else {
+        return None;
+    };
+    if bytes.len() != 14 {
+        return None;
+    }
+    Some(limits_from(bytes))
+}
+
+/// The descriptor of no known form that a line tells.
+fn raw_of(line: &Line) -> Option<RawDescriptor>
+    ensures { MatchOption result ((r : RawValue) → bytes_line Word.Raw r.bytes ≡ line.now → ⊥) (λ r. bytes_line Word.Raw r.bytes ≡ line.now) }
+{
+    let Some(bytes) = bytes_of(line, Word::Raw) else {
+        return None;
+    };
+    if bytes.len() != 18 {
+        return None;
+    }
+    match Descriptor::read(&array_from(bytes)) {
+        Descriptor::Raw(raw) => Some(raw),
+        _ => None,
+    }
+}
+
+/// Whether a line is `dummy`.
+fn is_dummy(line: &Line) -> bool
+    ensures { MatchBool result (descriptor_line Descriptor.Dummy ≡ line.now) (descriptor_line Descriptor.Dummy ≡ line.now → ⊥) }
+{
+    line.word == Word::Dummy && matches!(&line.fields, Fields::Nothing)
+}
+
+/// The descriptor that a line tells.
+pub fn descriptor_of(line: &Line) -> Option<Descriptor>
+    ensures { MatchOption result ((d : DescriptorValue) → descriptor_line d ≡ line.now → ⊥) (λ d. descriptor_line d ≡ line.now) }
+{
+    if let Some(timing) = timing_of(line) {
+        return Some(Descriptor::Timing(timing));
+    }
+    if let Some(text) = text_of(line, Word::Name) {
+        return Some(Descriptor::Name(text));
+    }
+    if let Some(text) = text_of(line, Word::Text) {
+        return Some(Descriptor::Text(text));
+    }
+    if let Some(text) = text_of(line, Word::SerialText) {
+        return Some(Descriptor::SerialText(text));
+    }
+    if let Some(limits) = range_of(line) {
+        return Some(Descriptor::Range(limits));
+    }
+    if is_dummy(line) {
+        return Some(Descriptor::Dummy);
+    }
+    match raw_of(line) {
+        None => None,
+        Some(raw) => Some(Descriptor::Raw(raw)),
+    }
+}
+
+/// The kind of data block that a word names.
+pub fn kind_of(word: Word) -> Option<BlockKind>
+    ensures { MatchOption result ((k : KindValue) → kind_word k ≡ word → ⊥) (λ k. kind_word k ≡ word) }
+{
+    match word {
+        Word::Tag0 => Some(BlockKind::Tag0),
+        Word::Audio => Some(BlockKind::Audio),
+        Word::Video => Some(BlockKind::Video),
+        Word::Vendor => Some(BlockKind::Vendor),
+        Word::Speakers => Some(BlockKind::Speakers),
+        Word::Tag5 => Some(BlockKind::Tag5),
+        Word::Tag6 => Some(BlockKind::Tag6),
+        Word::Extended => Some(BlockKind::Extended),
+        _ => None,
+    }
+}

@@ -1,0 +1,290 @@
+//! The lines of an EDID's text.
+ghost use Rattle.std.specs.Prelude.{◌≡◌, ◌≤◌, ◌<◌, ◌+◌, ◌∷◌, [], Option, Some, None, length, take, slice_get, IfErr};
+ghost use Rattle.hdmi_edtext.specs.Lines.{letters_line, numbers_line, bytes_line, quoted_line, revision_letters, standard_line, timing_line, descriptor_line, head_lines, base_lines, kind_word, is_hdmi, block_line, trimmed, tail_line, cta_lines, bare_lines, ext_lines, edid_lines};
+
+use arrayvec::ArrayVec;
+use hdmi_blocks::Edid;
+use hdmi_core::Phys;
+use hdmi_cta::{Bare, Block, BlockKind, Cta, Ext};
+use hdmi_edid::{Base, Descriptor, Revision, Standard, Text, Timing};
+use hdmi_lines::{Fields, Line, Word};
+
+fn letters_line(word: Word, letters: &[u8]) -> Line
+    requires { length letters.now ≤ 8 }
+    ensures { result ≡ letters_line word letters.now }
+{
+    let mut field = ArrayVec::new();
+    let _ = field.try_extend_from_slice(letters);
+    Line {
+        word,
+        fields: Fields::Letters(field),
+    }
+}
+
+fn numbers_line(word: Word, numbers: &[u32]) -> Line
+    requires { length numbers.now ≤ 13 }
+    ensures { result ≡ numbers_line word numbers.now }
+{
+    let mut field = ArrayVec::new();
+    let _ = field.try_extend_from_slice(numbers);
+    Line {
+        word,
+        fields: Fields::Numbers(field),
+    }
+}
+
+fn bytes_line(word: Word, bytes: &[u8]) -> Line
+    requires { length bytes.now ≤ 128 }
+    ensures { result ≡ bytes_line word bytes.now }
+{
+    let mut field = ArrayVec::new();
+    let _ = field.try_extend_from_slice(bytes);
+    Line {
+        word,
+        fields: Fields::Bytes(field),
+    }
+}
+
+fn quoted_line(word: Word, text: &Text) -> Line
+    ensures { result ≡ quoted_line word text.now.chars.items }
+{
+    let mut field = ArrayVec::new();
+    let _ = field.try_extend_from_slice(text.chars.as_slice());
+    Line {
+        word,
+        fields: Fields::Quoted(field),
+    }
+}
+
+fn revision_letters(revision: Revision) -> &'static [u8; 3]
+    ensures { result.now ≡ revision_letters revision }
+{
+    match revision {
+        Revision::Three => b"1.3",
+        Revision::Four => b"1.4",
+    }
+}
+
+/// One of the eleven lines that stand once in each base block.
+fn head_line(base: &Base, number: usize) -> Line
+    requires { number < 11 }
+    ensures { slice_get (head_lines base.now) number ≡ Some result }
+{
+    match number {
+        0 => letters_line(Word::Edid, revision_letters(base.revision)),
+        1 => letters_line(
+            Word::Maker,
+            &[base.maker.first, base.maker.second, base.maker.third],
+        ),
+        2 => numbers_line(Word::Product, &[u32::from(base.product)]),
+        3 => numbers_line(Word::Serial, &[base.serial]),
+        4 => numbers_line(Word::Made, &[u32::from(base.week), u32::from(base.year)]),
+        5 => bytes_line(Word::Input, &[base.input]),
+        6 => numbers_line(Word::Size, &[u32::from(base.width), u32::from(base.height)]),
+        7 => numbers_line(Word::Gamma, &[u32::from(base.gamma)]),
+        8 => bytes_line(Word::Features, &[base.features]),
+        9 => numbers_line(
+            Word::Chroma,
+            &[
+                u32::from(base.chroma.red.x),
+                u32::from(base.chroma.red.y),
+                u32::from(base.chroma.green.x),
+                u32::from(base.chroma.green.y),
+                u32::from(base.chroma.blue.x),
+                u32::from(base.chroma.blue.y),
+                u32::from(base.chroma.white.x),
+                u32::from(base.chroma.white.y),
+            ],
+        ),
+        _ => bytes_line(Word::Established, &base.established),
+    }
+}
+
+fn standard_line(standard: Option<Standard>) -> Line
+    ensures { result ≡ standard_line standard }
+{
+    match standard {
+        None => letters_line(Word::Standard, b"unused"),
+        Some(timing) => numbers_line(
+            Word::Standard,
+            &[
+                u32::from(timing.width),
+                u32::from(timing.aspect),
+                u32::from(timing.rate),
+            ],
+        ),
+    }
+}
+
+fn timing_line(timing: &Timing) -> Line
+    ensures { result ≡ timing_line timing.now }
+{
+    let mut numbers = ArrayVec::new();
+    let _ = numbers.try_extend_from_slice(&[
+        u32::from(timing.clock),
+        u32::from(timing.horizontal_active),
+        u32::from(timing.horizontal_blanking),
+        u32::from(timing.vertical_active),
+        u32::from(timing.vertical_blanking),
+        u32::from(timing.horizontal_sync_offset),
+        u32::from(timing.horizontal_sync_width),
+        u32::from(timing.vertical_sync_offset),
+        u32::from(timing.vertical_sync_width),
+        u32::from(timing.width),
+        u32::from(timing.height),
+        u32::from(timing.horizontal_border),
+        u32::from(timing.vertical_border),
+    ]);
+    Line {
+        word: Word::Timing,
+        fields: Fields::Timed(numbers, timing.flags),
+    }
+}
+
+fn descriptor_line(descriptor: &Descriptor) -> Line
+    ensures { result ≡ descriptor_line descriptor.now }
+{
+    match descriptor {
+        Descriptor::Timing(timing) => timing_line(timing),
+        Descriptor::Name(text) => quoted_line(Word::Name, text),
+        Descriptor::Text(text) => quoted_line(Word::Text, text),
+        Descriptor::SerialText(text) => quoted_line(Word::SerialText, text),
+        Descriptor::Range(limits) => bytes_line(Word::Range, &limits.bytes),
+        Descriptor::Dummy => Line {
+            word: Word::Dummy,
+            fields: Fields::Nothing,
+        },
+        Descriptor::Raw(raw) => bytes_line(Word::Raw, &raw.bytes),
+    }
+}
+
+/// One of the 23 lines of a base block.
+fn base_line(base: &Base, number: usize) -> Line
+    requires { number < 23 }
+    ensures { slice_get (base_lines base.now) number ≡ Some result }
+{
+    if number < 11 {
+        head_line(base, number)
+    } else if number < 19 {
+        standard_line(base.standard[number - 11])
+    } else {
+        descriptor_line(&base.descriptors[number - 19])
+    }
+}
+
+fn kind_word(kind: BlockKind) -> Word
+    ensures { result ≡ kind_word kind }
+{
+    match kind {
+        BlockKind::Tag0 => Word::Tag0,
+        BlockKind::Audio => Word::Audio,
+        BlockKind::Video => Word::Video,
+        BlockKind::Vendor => Word::Vendor,
+        BlockKind::Speakers => Word::Speakers,
+        BlockKind::Tag5 => Word::Tag5,
+        BlockKind::Tag6 => Word::Tag6,
+        BlockKind::Extended => Word::Extended,
+    }
+}
+
+pub fn is_hdmi(payload: &[u8]) -> bool
+    ensures { result ≡ is_hdmi payload.now }
+{
+    payload.len() >= 5 && payload[0] == 0x03 && payload[1] == 0x0c && payload[2] == 0x00
+}
+
+fn block_line(block: &Block) -> Line
+    ensures { result ≡ block_line block.now }
+{
+    let payload = block.payload.as_slice();
+    if block.kind != BlockKind::Vendor || !is_hdmi(payload) {
+        return bytes_line(kind_word(block.kind), payload);
+    }
+    let mut field = ArrayVec::new();
+    let _ = field.try_extend_from_slice(&payload[5..]);
+    let phys = Phys {
+        high: payload[3],
+        low: payload[4],
+    };
+    Line {
+        word: Word::Hdmi,
+        fields: Fields::Address(phys, field),
+    }
+}
+
+/// How long the bytes are without their trailing zeros.
+fn trimmed_len(bytes: &[u8]) -> usize
+    ensures within { result ≤ length bytes.now }
+    ensures front { take result bytes.now ≡ trimmed bytes.now }
+{
+    let mut len = 0;
+    for (i, byte) in bytes.iter().enumerate() {
+        if *byte != 0 {
+            len = i + 1;
+        }
+    }
+    len
+}
+
+fn tail_line(bytes: &[u8]) -> Line
+    requires { length bytes.now ≤ 123 }
+    ensures { result ≡ tail_line bytes.now }
+{
+    bytes_line(Word::Tail, &bytes[..trimmed_len(bytes)])
+}
+
+fn cta_line(cta: &Cta, number: usize) -> Option<Line>
+    ensures { slice_get (cta_lines cta.now) number ≡ result }
+{
+    if number == 0 {
+        return Some(bytes_line(Word::Cta, &[cta.flags]));
+    }
+    let blocks = cta.blocks.as_slice();
+    let number = number - 1;
+    if number < blocks.len() {
+        return Some(block_line(&blocks[number]));
+    }
+    let timings = cta.timings.as_slice();
+    let number = number - blocks.len();
+    if number < timings.len() {
+        return Some(timing_line(&timings[number]));
+    }
+    if number == timings.len() {
+        return Some(tail_line(cta.tail.as_slice()));
+    }
+    None
+}
+
+fn bare_line(bare: &Bare, number: usize) -> Option<Line>
+    ensures { slice_get (bare_lines bare.now) number ≡ result }
+{
+    match number {
+        0 => Some(bytes_line(Word::CtaNone, &[bare.flags])),
+        1 => Some(tail_line(&bare.tail)),
+        _ => None,
+    }
+}
+
+fn ext_line(ext: &Ext, number: usize) -> Option<Line>
+    ensures { slice_get (ext_lines ext.now) number ≡ result }
+{
+    match ext {
+        Ext::Cta(cta) => cta_line(cta, number),
+        Ext::Bare(bare) => bare_line(bare, number),
+        Ext::Raw(raw) if number == 0 => Some(bytes_line(Word::Ext, &raw.bytes)),
+        Ext::Raw(_) => None,
+    }
+}
+
+/// The line with this number, from 0, of an EDID's text.
+pub fn line_at(edid: &Edid, number: usize) -> Option<Line>
+    ensures { slice_get (edid_lines edid.now) number ≡ result }
+{
+    if number < 23 {
+        return Some(base_line(&edid.base, number));
+    }
+    match &edid.ext {
+        None => None,
+        Some(ext) => ext_line(ext, number - 23),
+    }
+}

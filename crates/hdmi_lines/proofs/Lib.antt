@@ -1,0 +1,4 @@
+pub mod Fieldings
+pub mod Hexes
+pub mod OneWord
+pub mod Words
