@@ -1,7 +1,8 @@
 //! The command line.
 use crate::help;
 use clap::error::ErrorKind;
-use clap::{Arg, ArgAction, Command, Error};
+use clap::{Arg, ArgAction, ArgMatches, Command, Error};
+use hdminet_help::Input;
 use std::alloc::{AllocError, Global};
 
 /// What the words of a command line ask for.
@@ -15,6 +16,34 @@ pub enum Choice {
     EdidToText,
     /// The bytes of an EDID, from its text.
     TextToHex,
+}
+
+/// What a command line asks for.
+#[derive(Clone, Copy, Debug, PartialEq, Eq)]
+pub struct Asked {
+    pub choice: Choice,
+    /// Whether faults are explained, and runs counted, on standard error.
+    pub explains: bool,
+}
+
+impl Choice {
+    /// What the input is to be.
+    pub fn input(self) -> Input {
+        match self {
+            Choice::Run => Input::Network,
+            Choice::Asm => Input::Lines,
+            Choice::EdidToText => Input::EdidBytes,
+            Choice::TextToHex => Input::EdidText,
+        }
+    }
+}
+
+fn explain_flag<'a>(alloc: Global) -> Arg<'a> {
+    Arg::new(alloc, "explain")
+        .long("explain")
+        .help(help::EXPLAIN_FLAG)
+        .action(ArgAction::SetTrue)
+        .global(true)
 }
 
 fn edid_command<'a>(alloc: Global) -> Result<Command<'a>, AllocError> {
@@ -40,20 +69,29 @@ fn command<'a>(alloc: Global) -> Result<Command<'a>, AllocError> {
         .version("0.1.0")
         .after_help(help::OVERVIEW)
         .disable_help_subcommand(true)
+        .arg(explain_flag(alloc))?
         .subcommand(run)?
         .subcommand(asm)?
         .subcommand(edid_command(alloc)?)
 }
 
-/// Reads a command line. With no word after the program's name it is `run`.
-pub fn choose(alloc: Global, words: &[String]) -> Result<Choice, Error> {
-    let matches = command(alloc)?.try_get_matches_from(words)?;
+// What the words after the flags ask for.
+fn choice_of(matches: &ArgMatches<'_>) -> Choice {
     match matches.subcommand() {
-        Some(("asm", _)) => Ok(Choice::Asm),
-        Some(("edid", edid)) if edid.get_flag("text") => Ok(Choice::TextToHex),
-        Some(("edid", _)) => Ok(Choice::EdidToText),
-        _ => Ok(Choice::Run),
+        Some(("asm", _)) => Choice::Asm,
+        Some(("edid", edid)) if edid.get_flag("text") => Choice::TextToHex,
+        Some(("edid", _)) => Choice::EdidToText,
+        _ => Choice::Run,
     }
+}
+
+/// Reads a command line. With no word after the program's name it is `run`.
+pub fn choose(alloc: Global, words: &[String]) -> Result<Asked, Error> {
+    let matches = command(alloc)?.try_get_matches_from(words)?;
+    Ok(Asked {
+        choice: choice_of(&matches),
+        explains: matches.get_flag("explain"),
+    })
 }
 
 /// Whether it is want of memory that refused a command line.

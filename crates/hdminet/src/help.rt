@@ -3,7 +3,16 @@
 pub const ABOUT: &str =
     "Emulates a living-room HDMI network: a television, and below it devices that share one CEC wire.";
 
+pub const EXPLAIN_FLAG: &str =
+    "After a fault, shows its line and word, and what would be right; after a run, its counts";
+
+/// What follows a refused command line that has `--explain`.
+pub const EXPLAINED: &str =
+    "  the subcommands are run, asm and edid; each reads standard input, as `hdminet run < FILE`\n";
+
 pub const OVERVIEW: &str = "\
+With --explain a fault is followed by the line of the input, the word at fault, and what would be right.
+
 Each subcommand reads standard input and writes standard output. `hdminet SUBCOMMAND --help` explains
 its input. With no subcommand it is `run`.
 
@@ -24,7 +33,7 @@ Examples, of which the folder examples/ has the inputs and outputs:
   ./hdminet edid --text < examples/living-room.edid.txt
       and the lines give the bytes in hex
 
-Faults go to standard error, as `hdminet: script line 3: word`.
+Faults go to standard error, as `hdminet: script line 3: word`; with --explain indented lines follow.
 
 Exit status: 0 done; 1 input refused; 2 command line refused; 3 a read or write fault, or input
 past 1048576 bytes; 4 no memory.";

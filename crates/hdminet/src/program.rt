@@ -1,12 +1,15 @@
 //! The program over a reader and two sinks.
-use crate::choice::{Choice, choose, is_memory};
+use crate::choice::{Asked, Choice, choose, is_memory};
 use crate::edid_text::{edid_to_text, text_to_hex};
 use crate::fault::Fault;
+use crate::help::EXPLAINED;
 use arrayvec::ArrayString;
+use cec_run::Totals;
 use cec_run::emulate::emulate;
 use cec_text::{asm_lines, first_line};
 use clap::Error as CommandLineError;
 use hdmi_core::{Sink, put_all};
+use hdminet_help::{counts, explain};
 use std::alloc::{AllocError, Global};
 use std::fmt::Write;
 use std::io::Read;
@@ -43,31 +46,58 @@ fn parts(text: &[u8]) -> Option<(&[u8], &[u8])> {
     None
 }
 
-fn perform<R: Read, W: Sink>(
+// Does what is asked for. Of a run the result has the counts.
+fn perform<W: Sink>(
     alloc: Global,
     choice: Choice,
-    input: &mut R,
+    input: &[u8],
     out: &mut W,
-) -> Result<(), Fault> {
-    let input = read_input(alloc, input)?;
+) -> Result<Option<Totals>, Fault> {
     match choice {
         Choice::Run => {
-            let (topology, script) = parts(&input).ok_or(Fault::NoScriptLine)?;
-            emulate(alloc, topology, script, out)?;
+            let (topology, script) = parts(input).ok_or(Fault::NoScriptLine)?;
+            return Ok(Some(emulate(alloc, topology, script, out)?));
         }
-        Choice::Asm => asm_lines(&input, out)?,
-        Choice::EdidToText => edid_to_text(&input, out)?,
-        Choice::TextToHex => text_to_hex(alloc, &input, out)?,
+        Choice::Asm => asm_lines(input, out)?,
+        Choice::EdidToText => edid_to_text(input, out)?,
+        Choice::TextToHex => text_to_hex(alloc, input, out)?,
     }
-    Ok(())
+    Ok(None)
 }
 
-/// Tells of a fault, and answers its exit status.
+/// Writes the line of a fault, and returns its exit status.
 pub fn tell<E: Sink>(fault: &Fault, err: &mut E) -> u8 {
     let mut text = ArrayString::<256>::new();
     let _ = writeln!(text, "hdminet: {fault}");
     let _ = put_all(err, text.as_bytes());
     fault.status()
+}
+
+// What follows the line of a fault with `--explain`.
+fn explanation(
+    alloc: Global,
+    choice: Choice,
+    fault: &Fault,
+    input: &[u8],
+) -> Result<String, AllocError> {
+    let line = format!(in alloc; "{fault}")?;
+    explain(alloc, choice.input(), line.as_str(), input)
+}
+
+// Writes lines that only help. Where memory runs out there are none.
+fn add_help<E: Sink>(text: Result<String, AllocError>, err: &mut E) {
+    if let Ok(text) = text {
+        let _ = put_all(err, text.as_bytes());
+    }
+}
+
+// Writes the line of a fault, and what follows it.
+fn report<E: Sink>(alloc: Global, asked: Asked, fault: &Fault, input: &[u8], err: &mut E) -> u8 {
+    let status = tell(fault, err);
+    if asked.explains {
+        add_help(explanation(alloc, asked.choice, fault, input), err);
+    }
+    status
 }
 
 // Shows why a command line is refused, or the help that it asks for. Answers the exit status.
@@ -93,7 +123,17 @@ fn show_refused<W: Sink, E: Sink>(
     }
 }
 
-/// The whole program. `words` has the program's name first. It answers the exit status: 0 done, 1 input
+// Whether `--explain` is one of the words of a refused command line.
+fn has_explain(words: &[String]) -> bool {
+    for word in words {
+        if word.as_str() == "--explain" {
+            return true;
+        }
+    }
+    false
+}
+
+/// The whole program. `words` has the program's name first. It returns the exit status: 0 done, 1 input
 /// refused, 2 command line refused, 3 a read or write fault or input past its limit, 4 no memory.
 pub fn program<R: Read, W: Sink, E: Sink>(
     alloc: Global,
@@ -102,12 +142,27 @@ pub fn program<R: Read, W: Sink, E: Sink>(
     out: &mut W,
     err: &mut E,
 ) -> u8 {
-    let choice = match choose(alloc, &words) {
-        Ok(choice) => choice,
-        Err(refused) => return show_refused(alloc, &refused, out, err),
+    let asked = match choose(alloc, &words) {
+        Ok(asked) => asked,
+        Err(refused) => {
+            let status = show_refused(alloc, &refused, out, err);
+            if status == 2 && has_explain(&words) {
+                let _ = put_all(err, EXPLAINED.as_bytes());
+            }
+            return status;
+        }
     };
-    match perform(alloc, choice, input, out) {
-        Ok(()) => 0,
-        Err(fault) => tell(&fault, err),
+    let input = match read_input(alloc, input) {
+        Ok(input) => input,
+        Err(fault) => return report(alloc, asked, &fault, b"", err),
+    };
+    match perform(alloc, asked.choice, &input, out) {
+        Ok(Some(totals)) if asked.explains => {
+            let line = counts(alloc, totals.rounds, totals.complete, totals.refused);
+            add_help(line, err);
+            0
+        }
+        Ok(_) => 0,
+        Err(fault) => report(alloc, asked, &fault, &input, err),
     }
 }

@@ -7,6 +7,8 @@ use std::test::Fail;
 
 mod command_line;
 mod edids;
+mod examples;
+mod explained;
 mod frames;
 mod limits;
 mod refused_texts;
@@ -125,6 +127,36 @@ fn refuses(
     Ok(())
 }
 
+/// The program writes a whole text byte by byte.
+fn writes_whole(
+    rt: &impl Abort,
+    alloc: Global,
+    texts: &[&str],
+    input: &[u8],
+    whole: &[u8],
+) -> Result<(), Fail> {
+    let told = stingy_answer(alloc, texts, input, whole.len())?;
+    assert_eq!(rt; told.out.as_slice(), whole);
+    assert_eq!(rt; told.status, 0);
+    Ok(())
+}
+
+/// The program writes the front of a text where a writer fails.
+fn writes_front(
+    rt: &impl Abort,
+    alloc: Global,
+    texts: &[&str],
+    input: &[u8],
+    front: &[u8],
+) -> Result<(), Fail> {
+    let told = stingy_answer(alloc, texts, input, front.len())?;
+    let fault = format!(in alloc; "hdminet: write fault after {} bytes\n", front.len())?;
+    assert_eq!(rt; told.out.as_slice(), front);
+    assert_eq!(rt; told.err.as_slice(), fault.as_bytes());
+    assert_eq!(rt; told.status, 3);
+    Ok(())
+}
+
 /// The program writes a whole text byte by byte, and the front of it where a writer fails.
 fn cuts(
     rt: &impl Abort,
@@ -134,13 +166,48 @@ fn cuts(
     whole: &[u8],
     room: usize,
 ) -> Result<(), Fail> {
-    let full = stingy_answer(alloc, texts, input, whole.len())?;
-    assert_eq!(rt; full.out.as_slice(), whole);
-    assert_eq!(rt; full.status, 0);
-    let cut = stingy_answer(alloc, texts, input, room)?;
-    let fault = format!(in alloc; "hdminet: write fault after {room} bytes\n")?;
-    assert_eq!(rt; Some(cut.out.as_slice()), whole.get(..room));
-    assert_eq!(rt; cut.err.as_slice(), fault.as_bytes());
-    assert_eq!(rt; cut.status, 3);
+    let front = whole.get(..room).ok_or("too short")?;
+    writes_whole(rt, alloc, texts, input, whole)?;
+    writes_front(rt, alloc, texts, input, front)
+}
+
+/// A text with a line feed for each `;`.
+fn with_lines(alloc: Global, text: &str) -> Result<String, Fail> {
+    let mut lines = String::new(alloc);
+    for part in text.split_inclusive(';') {
+        match part.strip_suffix(';') {
+            Some(line) => {
+                lines.push_str(line)?;
+                lines.push('\n')?;
+            }
+            None => lines.push_str(part)?,
+        }
+    }
+    Ok(lines)
+}
+
+/// The text before and after the input of a case, and what its fault begins with.
+#[derive(Clone, Copy)]
+struct Frame<'a> {
+    before: &'a str,
+    after: &'a str,
+    fault: &'a str,
+}
+
+/// Cases, one a line: an input with `;` for each line feed, ` => `, and how the program refuses it.
+fn refuses_each(
+    rt: &impl Abort,
+    alloc: Global,
+    texts: &[&str],
+    frame: Frame<'_>,
+    cases: &str,
+) -> Result<(), Fail> {
+    for case in cases.lines() {
+        let (text, cause) = case.rsplit_once(" => ").ok_or("no case")?;
+        let text = with_lines(alloc, text)?;
+        let input = format!(in alloc; "{}{text}{}", frame.before, frame.after)?;
+        let fault = format!(in alloc; "{}{cause}", frame.fault)?;
+        refuses(rt, alloc, texts, input.as_bytes(), fault.as_str())?;
+    }
     Ok(())
 }

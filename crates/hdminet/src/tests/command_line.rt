@@ -13,31 +13,33 @@ fn shows(rt: &impl Abort, alloc: Global, texts: &[&str], part: &str) -> Result<(
     Ok(())
 }
 
+/// A subcommand, and a part of what its help says.
+const HELP: &str = "\
+run =>   at 1000000 press p1 play
+asm => 4f821000
+edid =>   made 10 2011 
+edid => --text
+edid => --explain
+";
+
+/// Parts of what the help of the program says.
+const OVERVIEW: &str = "\
+With --explain a fault is followed by
+      device tv tv 4
+`4>f active-source 1.0.0.0`
+./hdminet edid --text < 
+";
+
 #[test]
 fn explains_itself(rt: HostRuntime) -> Result<(), Fail> {
     let alloc = rt.alloc();
-    shows(&rt, alloc, ["--help"].as_slice(), "      device tv tv 4\n")?;
-    shows(
-        &rt,
-        alloc,
-        ["--help"].as_slice(),
-        "`4>f active-source 1.0.0.0`",
-    )?;
-    shows(
-        &rt,
-        alloc,
-        ["--help"].as_slice(),
-        "./hdminet edid --text < ",
-    )?;
-    shows(
-        &rt,
-        alloc,
-        ["run", "--help"].as_slice(),
-        "  at 1000000 press p1 play\n",
-    )?;
-    shows(&rt, alloc, ["asm", "--help"].as_slice(), "4f821000\n")?;
-    shows(&rt, alloc, ["edid", "--help"].as_slice(), "  made 10 2011 ")?;
-    shows(&rt, alloc, ["edid", "--help"].as_slice(), "--text")?;
+    for case in HELP.lines() {
+        let (command, part) = case.split_once(" => ").ok_or("no case")?;
+        shows(&rt, alloc, [command, "--help"].as_slice(), part)?;
+    }
+    for part in OVERVIEW.lines() {
+        shows(&rt, alloc, ["--help"].as_slice(), part)?;
+    }
     shows(&rt, alloc, ["--version"].as_slice(), "hdminet 0.1.0\n")
 }
 

@@ -1,5 +1,4 @@
 use super::*;
-use crate::edid_text::{edid_to_text, text_to_hex};
 
 /// A base block with one extension to follow.
 const BASE: &str =
@@ -166,61 +165,86 @@ fn writes_descriptors_both_ways(rt: HostRuntime) -> Result<(), Fail> {
     Ok(())
 }
 
+/// How many bytes of the example are refused, and how.
+const FRONTS: &str = "\
+0 length
+127 length
+128 count
+255 length
+";
+
+/// A part of the base block, what stands in its place, the checksum, and how that is refused. Those with revision 2 and
+/// version 2 have a right checksum.
+const CHANGED: &str = "\
+4c2d 4c2d 52 base checksum
+0103803 0102803 52 base revision
+0103803 0203803 50 base revision
+4c2d 6c2d 31 base maker
+00ff 01ff 50 base header
+";
+
+/// The bytes of these digits are refused as an EDID.
+fn is_no_edid(rt: &impl Abort, alloc: Global, digits: &str, cause: &str) -> Result<(), Fail> {
+    let bytes = hex::decode(alloc, digits)?;
+    let fault = format!(in alloc; "edid: {cause}")?;
+    refuses(rt, alloc, EDID.as_slice(), &bytes, fault.as_str())
+}
+
+#[test]
+fn refuses_the_front_of_an_edid(rt: HostRuntime) -> Result<(), Fail> {
+    let alloc = rt.alloc();
+    let digits = example(alloc)?;
+    for case in FRONTS.lines() {
+        let (count, cause) = case.split_once(' ').ok_or("no case")?;
+        let count: usize = count.parse()?;
+        let front = digits
+            .as_str()
+            .get(..count.saturating_mul(2))
+            .ok_or("too short")?;
+        is_no_edid(&rt, alloc, front, cause)?;
+    }
+    Ok(())
+}
+
 #[test]
 fn tells_why_bytes_are_no_edid(rt: HostRuntime) -> Result<(), Fail> {
     let alloc = rt.alloc();
-    let whole = hex::decode(alloc, example(alloc)?.as_str())?;
-    for (count, fault) in [
-        (0, "length"),
-        (127, "length"),
-        (128, "count"),
-        (255, "length"),
-    ] {
-        let front = whole.as_slice().get(..count).ok_or("too short")?;
-        let told = format!(in alloc; "edid: {fault}")?;
-        refuses(&rt, alloc, EDID.as_slice(), front, told.as_str())?;
-    }
-    for (from, to, check, fault) in [
-        ("4c2d", "4c2d", "52", "base checksum"),
-        // Revision 2, and version 2, with right checksums.
-        ("0103803", "0102803", "52", "base revision"),
-        ("0103803", "0203803", "50", "base revision"),
-        ("4c2d", "6c2d", "31", "base maker"),
-        ("00ff", "01ff", "50", "base header"),
-    ] {
+    for case in CHANGED.lines() {
+        let (from, rest) = case.split_once(' ').ok_or("no case")?;
+        let (to, rest) = rest.split_once(' ').ok_or("no case")?;
+        let (check, cause) = rest.split_once(' ').ok_or("no case")?;
         let digits = changed(alloc, from, to, check)?;
-        let bytes = hex::decode(alloc, digits.as_str())?;
-        let told = format!(in alloc; "edid: {fault}")?;
-        refuses(&rt, alloc, EDID.as_slice(), &bytes, told.as_str())?;
+        is_no_edid(&rt, alloc, digits.as_str(), cause)?;
     }
     let digits = blocks(alloc, EXTENSION, "e9")?;
-    let bytes = hex::decode(alloc, digits.as_str())?;
-    refuses(&rt, alloc, EDID.as_slice(), &bytes, "edid: ext 1 checksum")
+    is_no_edid(&rt, alloc, digits.as_str(), "ext 1 checksum")
 }
+
+/// A part of the example's text, what stands in its place, and how that is refused. `;` stands for a line feed.
+const CHANGED_TEXTS: &str = "\
+made 10 2011 => made 10 2300 => field 5
+made 10 2011 => made 10 2011 0 => syntax 5
+made 10 2011; =>  => syntax 5
+features 0a => features 0A => field 9
+cta f1 => cta F1 => field 24
+maker SAM => maker sam => field 2
+tail -; => tail - => syntax 29
+tail -; =>  => syntax 29
+tail -; => tail -;; => syntax 30
+edid 1.3 => # an EDID;edid 1.3 => syntax 1
+name \"LOUNGE TV 001\" => raw 000000fc004c4f554e474520545620303031 => field 21
+";
 
 #[test]
 fn names_the_line_of_a_text(rt: HostRuntime) -> Result<(), Fail> {
     let alloc = rt.alloc();
-    for (from, to, fault) in [
-        ("made 10 2011", "made 10 2300", "field 5"),
-        ("made 10 2011", "made 10 2011 0", "syntax 5"),
-        ("made 10 2011\n", "", "syntax 5"),
-        ("features 0a", "features 0A", "field 9"),
-        ("cta f1", "cta F1", "field 24"),
-        ("maker SAM", "maker sam", "field 2"),
-        ("tail -\n", "tail -", "syntax 29"),
-        ("tail -\n", "", "syntax 29"),
-        ("tail -\n", "tail -\n\n", "syntax 30"),
-        ("edid 1.3", "# an EDID\nedid 1.3", "syntax 1"),
-        (
-            "name \"LOUNGE TV 001\"",
-            "raw 000000fc004c4f554e474520545620303031",
-            "field 21",
-        ),
-    ] {
-        let text = changed_text(alloc, from, to)?;
-        let told = format!(in alloc; "text: {fault}")?;
-        refuses(&rt, alloc, TEXT.as_slice(), text.as_bytes(), told.as_str())?;
+    for case in CHANGED_TEXTS.lines() {
+        let (rest, cause) = case.rsplit_once(" => ").ok_or("no case")?;
+        let (from, to) = rest.split_once(" => ").ok_or("no case")?;
+        let (from, to) = (with_lines(alloc, from)?, with_lines(alloc, to)?);
+        let text = changed_text(alloc, from.as_str(), to.as_str())?;
+        let fault = format!(in alloc; "text: {cause}")?;
+        refuses(&rt, alloc, TEXT.as_slice(), text.as_bytes(), fault.as_str())?;
     }
     refuses(&rt, alloc, TEXT.as_slice(), b"", "text: syntax 1")
 }
@@ -251,21 +275,4 @@ fn writes_the_front_of_an_edid(rt: HostRuntime) -> Result<(), Fail> {
         line.as_bytes(),
         512,
     )
-}
-
-#[test]
-fn answers_its_callers(rt: HostRuntime) -> Result<(), Fail> {
-    let alloc = rt.alloc();
-    let digits = example(alloc)?;
-    let bytes = hex::decode(alloc, digits.as_str())?;
-    let mut text = Vec::new(alloc);
-    assert_eq!(rt; edid_to_text(&bytes, &mut Writes::new(&mut text)), Ok(()));
-    let mut line = Vec::new(alloc);
-    assert_eq!(rt;
-        text_to_hex(alloc, &text, &mut Writes::new(&mut line)),
-        Ok(())
-    );
-    assert_eq!(rt; line.len(), 513);
-    assert_eq!(rt; line.as_slice().get(..512), Some(digits.as_bytes()));
-    Ok(())
 }

@@ -2,73 +2,60 @@ use super::*;
 
 const ASM: [&str; 1] = ["asm"];
 
+/// Texts of frames, with `;` for each line feed, and what is written for them.
+const TEXTS: &str = "\
+4>f active-source 1.0.0.0;4>4; => 4f821000;44;
+4>0 play forward => 404124;
+4>0 play :99; => 404199;
+# a poll;;4>4;#4>0 frob; => 44;
+5>0 set-osd-name \"AVR\"; => 5047415652;
+5>0 report-audio-status sound 20; => 507a14;
+4>0 op-e5 :000102030405060708090a0b0c0d; => 40e5000102030405060708090a0b0c0d;
+5>0 set-osd-name \"ABCDEFGHIJKLMN\" => 50474142434445464748494a4b4c4d4e;
+# nothing => 
+";
+
 #[test]
 fn writes_frames_in_hex(rt: HostRuntime) -> Result<(), Fail> {
     let alloc = rt.alloc();
-    for (texts, lines) in [
-        ("4>f active-source 1.0.0.0\n4>4\n", "4f821000\n44\n"),
-        ("4>0 play forward", "404124\n"),
-        ("4>0 play :99\n", "404199\n"),
-        ("# a poll\n\n4>4\n#4>0 frob\n", "44\n"),
-        ("5>0 set-osd-name \"AVR\"\n", "5047415652\n"),
-        ("5>0 report-audio-status sound 20\n", "507a14\n"),
-        (
-            "4>0 op-e5 :000102030405060708090a0b0c0d\n",
-            "40e5000102030405060708090a0b0c0d\n",
-        ),
-        (
-            "5>0 set-osd-name \"ABCDEFGHIJKLMN\"",
-            "50474142434445464748494a4b4c4d4e\n",
-        ),
-        ("", ""),
-        ("# nothing", ""),
-    ] {
-        gives(
-            &rt,
-            alloc,
-            ASM.as_slice(),
-            texts.as_bytes(),
-            lines.as_bytes(),
-        )?;
+    for case in TEXTS.lines() {
+        let (text, hex) = case.rsplit_once(" => ").ok_or("no case")?;
+        let (text, hex) = (with_lines(alloc, text)?, with_lines(alloc, hex)?);
+        gives(&rt, alloc, ASM.as_slice(), text.as_bytes(), hex.as_bytes())?;
     }
-    Ok(())
+    gives(&rt, alloc, ASM.as_slice(), b"", b"")
 }
+
+/// Texts that spell no frame.
+const REFUSED: &str = "\
+4>f active-source 1.0.0.0;4>4;4>0 play; => line 3: count
+4>0 frob => line 1: name
+4>0  => line 1: name
+4>0 play :24 => line 1: operand
+4>0 play FORWARD => line 1: operand
+4>0 play :9A => line 1: operand
+5>0 set-osd-name \"ABCDEFGHIJKLMNO\" => line 1: operand
+5>0 set-osd-name A\"B C => line 1: operand
+4>f  active-source 1.0.0.0 => line 1: name
+4>f active-source  1.0.0.0 => line 1: count
+4>0 give-osd-name  => line 1: count
+4>g => line 1: address
+4>F => line 1: address
+  => line 1: address
+4>4\r; => line 1: address
+4>0 op-e5 :000102030405060708090a0b0c0d0e => line 1: too-long
+4>0 op-e5 :000102030405060708090a0b0c0d0 => line 1: too-long
+# polls;;4>4;4>4 ;4>g; => line 4: name
+";
 
 #[test]
 fn names_the_first_line_that_tells_no_frame(rt: HostRuntime) -> Result<(), Fail> {
-    let alloc = rt.alloc();
-    for (texts, fault) in [
-        (
-            "4>f active-source 1.0.0.0\n4>4\n4>0 play\n",
-            "line 3: count",
-        ),
-        ("4>0 frob", "line 1: name"),
-        ("4>0 ", "line 1: name"),
-        ("4>0 play :24", "line 1: operand"),
-        ("4>0 play FORWARD", "line 1: operand"),
-        ("4>0 play :9A", "line 1: operand"),
-        ("5>0 set-osd-name \"ABCDEFGHIJKLMNO\"", "line 1: operand"),
-        ("5>0 set-osd-name A\"B C", "line 1: operand"),
-        ("4>f  active-source 1.0.0.0", "line 1: name"),
-        ("4>f active-source  1.0.0.0", "line 1: count"),
-        ("4>0 give-osd-name ", "line 1: count"),
-        ("4>g", "line 1: address"),
-        ("4>F", "line 1: address"),
-        (" ", "line 1: address"),
-        ("4>4\r\n", "line 1: address"),
-        (
-            "4>0 op-e5 :000102030405060708090a0b0c0d0e",
-            "line 1: too-long",
-        ),
-        (
-            "4>0 op-e5 :000102030405060708090a0b0c0d0",
-            "line 1: too-long",
-        ),
-        ("# polls\n\n4>4\n4>4 \n4>g\n", "line 4: name"),
-    ] {
-        refuses(&rt, alloc, ASM.as_slice(), texts.as_bytes(), fault)?;
-    }
-    Ok(())
+    let frame = Frame {
+        before: "",
+        after: "",
+        fault: "",
+    };
+    refuses_each(&rt, rt.alloc(), ASM.as_slice(), frame, REFUSED)
 }
 
 #[test]

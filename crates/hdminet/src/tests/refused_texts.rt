@@ -1,161 +1,115 @@
 use super::*;
 
 /// A topology, and the line and cause that it is refused with.
-const TOPOLOGIES: [(&str, &str); 46] = [
-    ("frob", "1: word"),
-    (" ", "1: word"),
-    ("device tv tv", "1: word"),
-    ("device tv tv 1 2", "1: word"),
-    ("device  a player 0", "1: word"),
-    ("device tv dvd 1", "1: word"),
-    ("device tv dvd 99", "1: word"),
-    ("plug p1 tv", "1: word"),
-    ("edid", "1: word"),
-    ("edid 00 00", "1: word"),
-    ("edid 00\nedid 00", "2: word"),
-    ("device p player ", "1: number"),
-    ("device tv tv 16", "1: number"),
-    ("device tv tv 01", "1: number"),
-    ("device tv tv -1", "1: number"),
-    ("device Tv tv x", "1: number"),
-    ("plug p1 tv x", "1: number"),
-    ("device Tv tv 1", "1: name"),
-    ("device 1a tv 1", "1: name"),
-    ("device -a tv 1", "1: name"),
-    ("device  tv 1", "1: name"),
-    ("device a.b tv 1", "1: name"),
-    ("device abcdefghijklmno tv 1", "1: name"),
-    ("device tv tv 1\n\n# again\ndevice tv player 0", "4: name"),
-    ("device tv tv 1\nplug p1 tv 1", "2: name"),
-    (
-        "device p1 player 0\nplug p1 tv 1\ndevice tv tv 1",
-        "2: name",
-    ),
-    ("device tv tv 1\ndevice t2 tv 1", "2: second-root"),
-    ("", "2: no-root"),
-    ("# none\n\ndevice p1 player 0", "4: no-root"),
-    (
-        "device tv tv 1\ndevice p1 player 0\nplug p1 tv 2",
-        "3: port-range",
-    ),
-    (
-        "device tv tv 1\ndevice p1 player 0\nplug p1 tv 0",
-        "3: port-range",
-    ),
-    (
-        "device tv tv 15\ndevice p1 player 0\nplug p1 tv 256",
-        "3: port-range",
-    ),
-    (
-        "device tv tv 1\ndevice a player 0\ndevice b player 0\nplug a tv 1\nplug b tv 1",
-        "5: port-taken",
-    ),
-    (
-        "device tv tv 2\ndevice a player 0\nplug a tv 1\nplug a tv 2",
-        "4: not-loose",
-    ),
-    (
-        "device tv tv 1\ndevice a amp 1\nplug tv a 1",
-        "3: not-loose",
-    ),
-    ("device tv tv 1\ndevice s switch 1\nplug s s 1", "3: loop"),
-    (
-        "device tv tv 1\ndevice a switch 1\ndevice b switch 1\nplug b a 1\nplug a b 1",
-        "5: loop",
-    ),
-    ("edid ", "1: hex"),
-    ("edid -", "1: hex"),
-    ("edid 0", "1: hex"),
-    ("edid 0g", "1: hex"),
-    ("edid 0x", "1: hex"),
-    ("device tv tv 1\nplug tv tv 0", "2: port-range"),
-    ("device tv tv 1\rdevice p1 player 0", "1: word"),
-    ("device tv tv 1\r", "1: number"),
-    ("DEVICE tv tv 1", "1: word"),
-];
+const TOPOLOGIES: &str = "\
+frob => 1: word
+  => 1: word
+device tv tv => 1: word
+device tv tv 1 2 => 1: word
+device  a player 0 => 1: word
+device tv dvd 1 => 1: word
+device tv dvd 99 => 1: word
+plug p1 tv => 1: word
+edid => 1: word
+edid 00 00 => 1: word
+edid 00;edid 00 => 2: word
+device p player  => 1: number
+device tv tv 16 => 1: number
+device tv tv 01 => 1: number
+device tv tv -1 => 1: number
+device Tv tv x => 1: number
+plug p1 tv x => 1: number
+device Tv tv 1 => 1: name
+device 1a tv 1 => 1: name
+device -a tv 1 => 1: name
+device  tv 1 => 1: name
+device a.b tv 1 => 1: name
+device abcdefghijklmno tv 1 => 1: name
+device tv tv 1;;# again;device tv player 0 => 4: name
+device tv tv 1;plug p1 tv 1 => 2: name
+device p1 player 0;plug p1 tv 1;device tv tv 1 => 2: name
+device tv tv 1;device t2 tv 1 => 2: second-root
+ => 2: no-root
+# none;;device p1 player 0 => 4: no-root
+device tv tv 1;device p1 player 0;plug p1 tv 2 => 3: port-range
+device tv tv 1;device p1 player 0;plug p1 tv 0 => 3: port-range
+device tv tv 15;device p1 player 0;plug p1 tv 256 => 3: port-range
+device tv tv 1;device a player 0;device b player 0;plug a tv 1;plug b tv 1 => 5: port-taken
+device tv tv 2;device a player 0;plug a tv 1;plug a tv 2 => 4: not-loose
+device tv tv 1;device a amp 1;plug tv a 1 => 3: not-loose
+device tv tv 1;device s switch 1;plug s s 1 => 3: loop
+device tv tv 1;device a switch 1;device b switch 1;plug b a 1;plug a b 1 => 5: loop
+edid  => 1: hex
+edid - => 1: hex
+edid 0 => 1: hex
+edid 0g => 1: hex
+edid 0x => 1: hex
+device tv tv 1;plug tv tv 0 => 2: port-range
+device tv tv 1\rdevice p1 player 0 => 1: word
+device tv tv 1\r => 1: number
+DEVICE tv tv 1 => 1: word
+";
 
 /// A script over a television with four ports and a player in the first, and the line and cause that it is
 /// refused with.
-const SCRIPTS: [(&str, &str); 37] = [
-    ("frob", "1: word"),
-    (" ", "1: word"),
-    ("at", "1: word"),
-    ("at 5", "1: word"),
-    ("at 5 frob p1", "1: word"),
-    ("at 5 press p1", "1: word"),
-    ("at 5 press p1 frob", "1: word"),
-    ("at 5 press p1 play again", "1: word"),
-    ("at x press p1 frob", "1: word"),
-    ("at 5 plug p1 tv", "1: word"),
-    ("at 5 unplug", "1: word"),
-    ("at 5 unplug p1 tv", "1: word"),
-    ("end", "1: word"),
-    ("end 5 6", "1: word"),
-    ("# a\n\nfrob", "3: word"),
-    ("end 10\nfrob", "2: word"),
-    ("at 05 press p1 play", "1: number"),
-    ("at x press p1 play", "1: number"),
-    ("at  press p1 play", "1: number"),
-    ("at 1000000000001 press p1 play", "1: number"),
-    ("at 18446744073709551617 press p1 play", "1: number"),
-    ("at x press p2 play", "1: number"),
-    ("at 5 plug p2 tv x", "1: number"),
-    ("end ", "1: number"),
-    ("end 1000000000001", "1: number"),
-    ("at 5 press p2 play", "1: name"),
-    ("at 5 press P1 play", "1: name"),
-    ("at 5 plug p2 tv 2", "1: name"),
-    ("at 5 plug p1 amp 2", "1: name"),
-    ("at 5 unplug p2", "1: name"),
-    (
-        "at 10 press p1 play\nat 9 press p1 play\nend 20",
-        "2: order",
-    ),
-    (
-        "at 10 press p1 play\nend 20\nat 9 press p1 play",
-        "3: order",
-    ),
-    ("", "1: end"),
-    ("at 5 press p1 play\n# no end\n", "3: end"),
-    ("end 10\nend 20", "2: end"),
-    ("end 10\nat 20 press p1 play", "2: end"),
-    ("at 10 press p1 play\nend 10", "2: end"),
-];
-
-const NETWORK: &str = "device tv tv 4\ndevice p1 player 0\nplug p1 tv 1\n";
+const SCRIPTS: &str = "\
+frob => 1: word
+  => 1: word
+at => 1: word
+at 5 => 1: word
+at 5 frob p1 => 1: word
+at 5 press p1 => 1: word
+at 5 press p1 frob => 1: word
+at 5 press p1 play again => 1: word
+at x press p1 frob => 1: word
+at 5 plug p1 tv => 1: word
+at 5 unplug => 1: word
+at 5 unplug p1 tv => 1: word
+end => 1: word
+end 5 6 => 1: word
+# a;;frob => 3: word
+end 10;frob => 2: word
+at 05 press p1 play => 1: number
+at x press p1 play => 1: number
+at  press p1 play => 1: number
+at 1000000000001 press p1 play => 1: number
+at 18446744073709551617 press p1 play => 1: number
+at x press p2 play => 1: number
+at 5 plug p2 tv x => 1: number
+end  => 1: number
+end 1000000000001 => 1: number
+at 5 press p2 play => 1: name
+at 5 press P1 play => 1: name
+at 5 plug p2 tv 2 => 1: name
+at 5 plug p1 amp 2 => 1: name
+at 5 unplug p2 => 1: name
+at 10 press p1 play;at 9 press p1 play;end 20 => 2: order
+at 10 press p1 play;end 20;at 9 press p1 play => 3: order
+ => 1: end
+at 5 press p1 play;# no end; => 3: end
+end 10;end 20 => 2: end
+end 10;at 20 press p1 play => 2: end
+at 10 press p1 play;end 10 => 2: end
+";
 
 #[test]
 fn names_the_line_of_a_topology(rt: HostRuntime) -> Result<(), Fail> {
-    let alloc = rt.alloc();
-    for (topology, told) in TOPOLOGIES {
-        let input = format!(in alloc; "{topology}\nscript\nfrob\n")?;
-        let fault = format!(in alloc; "topology line {told}")?;
-        refuses(
-            &rt,
-            alloc,
-            ["run"].as_slice(),
-            input.as_bytes(),
-            fault.as_str(),
-        )?;
-    }
-    Ok(())
+    let frame = Frame {
+        before: "",
+        after: "\nscript\nfrob\n",
+        fault: "topology line ",
+    };
+    refuses_each(&rt, rt.alloc(), ["run"].as_slice(), frame, TOPOLOGIES)
 }
 
 #[test]
 fn names_the_line_of_a_script(rt: HostRuntime) -> Result<(), Fail> {
-    let alloc = rt.alloc();
-    for (script, told) in SCRIPTS {
-        let input = format!(in alloc; "{NETWORK}script\n{script}")?;
-        let fault = format!(in alloc; "script line {told}")?;
-        refuses(
-            &rt,
-            alloc,
-            ["run"].as_slice(),
-            input.as_bytes(),
-            fault.as_str(),
-        )?;
-    }
-    Ok(())
+    let frame = Frame {
+        before: "device tv tv 4\ndevice p1 player 0\nplug p1 tv 1\nscript\n",
+        after: "",
+        fault: "script line ",
+    };
+    refuses_each(&rt, rt.alloc(), ["run"].as_slice(), frame, SCRIPTS)
 }
 
 /// A television and 14 players.

@@ -1,17 +1,23 @@
 //! Trees, plugs and ports. The traces were worked out by hand from the rules of the wire and of the devices.
 use super::*;
-use cec_run::Totals;
-use cec_run::emulate::{EmulateError, emulate};
 
-/// Runs texts, and answers what was counted. The trace goes to `trace`.
-fn traced(
+/// A topology and a script write this trace, with these counts.
+fn traces(
+    rt: &impl Abort,
     alloc: Global,
     topology: &str,
     script: &str,
-    trace: &mut Vec<u8>,
-) -> Result<Totals, EmulateError> {
-    let mut out = Writes::new(trace);
-    emulate(alloc, topology.as_bytes(), script.as_bytes(), &mut out)
+    trace: &str,
+    counted: &str,
+) -> Result<(), Fail> {
+    let input = format!(in alloc; "{topology}script\n{script}")?;
+    let mut rest = input.as_bytes();
+    let told = answer_to(alloc, ["run", "--explain"].as_slice(), &mut rest)?;
+    let counted = format!(in alloc; "  {counted}\n")?;
+    assert_eq!(rt; told.err.as_slice(), counted.as_bytes());
+    assert_eq!(rt; told.out.as_slice(), trace.as_bytes());
+    assert_eq!(rt; told.status, 0);
+    Ok(())
 }
 
 /// Four players on one television.
@@ -52,16 +58,15 @@ state p4 player f 4.0.0.0 on active=- path=- deck=1a menu=off audio=off volume=2
 
 #[test]
 fn four_players_find_three_addresses(rt: HostRuntime) -> Result<(), Fail> {
-    let mut trace = Vec::new(rt.alloc());
-    let totals = traced(rt.alloc(), FOUR_PLAYERS, "end 1500000\n", &mut trace);
-    let counts = Totals {
-        rounds: 14,
-        complete: 14,
-        refused: 0,
-    };
-    assert_eq!(rt; totals.ok(), Some(counts));
-    assert_eq!(rt; trace.as_slice(), FOUR_PLAYERS_TRACE.as_bytes());
-    Ok(())
+    let counted = "rounds 14, complete rounds 14, refused events 0";
+    traces(
+        &rt,
+        rt.alloc(),
+        FOUR_PLAYERS,
+        "end 1500000\n",
+        FOUR_PLAYERS_TRACE,
+        counted,
+    )
 }
 
 /// A television and a player in its first port.
@@ -93,11 +98,8 @@ state p1 player 4 3.0.0.0 on active=- path=- deck=1a menu=off audio=off volume=2
 
 #[test]
 fn an_unplug_and_a_plug_at_one_instant(rt: HostRuntime) -> Result<(), Fail> {
-    let mut trace = Vec::new(rt.alloc());
-    let totals = traced(rt.alloc(), PAIR, PAIR_SCRIPT, &mut trace);
-    assert!(rt; totals.is_ok());
-    assert_eq!(rt; trace.as_slice(), PAIR_TRACE.as_bytes());
-    Ok(())
+    let counted = "rounds 6, complete rounds 6, refused events 0";
+    traces(&rt, rt.alloc(), PAIR, PAIR_SCRIPT, PAIR_TRACE, counted)
 }
 
 /// A television and a switch.
@@ -118,11 +120,15 @@ state sw switch f 1.0.0.0 on active=- path=- deck=1a menu=off audio=off volume=2
 
 #[test]
 fn a_switch_reports_where_it_is(rt: HostRuntime) -> Result<(), Fail> {
-    let mut trace = Vec::new(rt.alloc());
-    let totals = traced(rt.alloc(), SWITCH, "end 500000\n", &mut trace);
-    assert!(rt; totals.is_ok());
-    assert_eq!(rt; trace.as_slice(), SWITCH_TRACE.as_bytes());
-    Ok(())
+    let counted = "rounds 3, complete rounds 3, refused events 0";
+    traces(
+        &rt,
+        rt.alloc(),
+        SWITCH,
+        "end 500000\n",
+        SWITCH_TRACE,
+        counted,
+    )
 }
 
 /// A chain of four switches, and a player below the last of them.
@@ -158,11 +164,15 @@ state p1 player f f.f.f.f on active=- path=- deck=1a menu=off audio=off volume=2
 
 #[test]
 fn a_player_below_four_switches_has_no_address(rt: HostRuntime) -> Result<(), Fail> {
-    let mut trace = Vec::new(rt.alloc());
-    let totals = traced(rt.alloc(), CHAIN, "end 1000000\n", &mut trace);
-    assert!(rt; totals.is_ok());
-    assert_eq!(rt; trace.as_slice(), CHAIN_TRACE.as_bytes());
-    Ok(())
+    let counted = "rounds 6, complete rounds 6, refused events 0";
+    traces(
+        &rt,
+        rt.alloc(),
+        CHAIN,
+        "end 1000000\n",
+        CHAIN_TRACE,
+        counted,
+    )
 }
 
 /// Devices that are all loose.
@@ -211,16 +221,8 @@ state b switch - - on active=- path=- deck=1a menu=off audio=off volume=20 mute=
 
 #[test]
 fn refused_events_are_traced(rt: HostRuntime) -> Result<(), Fail> {
-    let mut trace = Vec::new(rt.alloc());
-    let totals = traced(rt.alloc(), LOOSE, LOOSE_SCRIPT, &mut trace);
-    let counts = Totals {
-        rounds: 0,
-        complete: 0,
-        refused: 9,
-    };
-    assert_eq!(rt; totals.ok(), Some(counts));
-    assert_eq!(rt; trace.as_slice(), LOOSE_TRACE.as_bytes());
-    Ok(())
+    let counted = "rounds 0, complete rounds 0, refused events 9";
+    traces(&rt, rt.alloc(), LOOSE, LOOSE_SCRIPT, LOOSE_TRACE, counted)
 }
 
 /// Every kind of device, five levels deep.
@@ -327,16 +329,8 @@ state r4 recorder 1 2.2.0.0 on active=- path=- deck=1a menu=off audio=off volume
 
 #[test]
 fn a_deep_tree_is_unplugged_while_it_allocates(rt: HostRuntime) -> Result<(), Fail> {
-    let mut trace = Vec::new(rt.alloc());
-    let totals = traced(rt.alloc(), TREE, TREE_SCRIPT, &mut trace);
-    let counts = Totals {
-        rounds: 39,
-        complete: 39,
-        refused: 0,
-    };
-    assert_eq!(rt; totals.ok(), Some(counts));
-    assert_eq!(rt; trace.as_slice(), TREE_TRACE.as_bytes());
-    Ok(())
+    let counted = "rounds 39, complete rounds 39, refused events 0";
+    traces(&rt, rt.alloc(), TREE, TREE_SCRIPT, TREE_TRACE, counted)
 }
 
 /// The base block of a television's EDID, in hex, from its header, maker, revision, and its last two bytes:
@@ -365,55 +359,43 @@ fn edid(alloc: Global, address: &str, check: &str) -> Result<String, Fail> {
     Ok(text)
 }
 
-/// How an EDID of these digits is refused. Nothing was written.
-fn refusal(rt: &HostRuntime, digits: &str) -> Result<String, Fail> {
-    let topology = format!(in rt.alloc(); "device tv tv 1\nedid {digits}\n")?;
-    let mut trace = Vec::new(rt.alloc());
-    let Err(error) = traced(rt.alloc(), topology.as_str(), "end 5\n", &mut trace) else {
-        return Err("not refused".into());
-    };
-    if !trace.is_empty() {
-        return Err("something was written".into());
-    }
-    Ok(format!(in rt.alloc(); "{error}")?)
+/// The parts of a base block, and how an EDID of it is refused.
+const BLOCKS: &str = "\
+00ffffffffffff00 4c2d 03 0151 count
+01ffffffffffff00 4c2d 03 0151 base header
+00ffffffffffff00 4c2d 03 0152 base checksum
+00ffffffffffff00 4c2d 02 0152 base revision
+00ffffffffffff00 6c2d 03 0131 base maker
+00ffffffffffff00 4c2d 03 0052 no-hdmi-block
+";
+
+/// A television with an EDID of these digits is refused so.
+fn refuses_edid(rt: &impl Abort, alloc: Global, digits: &str, cause: &str) -> Result<(), Fail> {
+    let input = format!(in alloc; "device tv tv 1\nedid {digits}\nscript\nend 5\n")?;
+    let fault = format!(in alloc; "edid: {cause}")?;
+    refuses(
+        rt,
+        alloc,
+        ["run"].as_slice(),
+        input.as_bytes(),
+        fault.as_str(),
+    )
 }
 
 #[test]
 fn tells_why_an_edid_is_refused(rt: HostRuntime) -> Result<(), Fail> {
     let alloc = rt.alloc();
-    let header = "00ffffffffffff00";
-    assert_eq!(rt; refusal(&rt, "00")?.as_str(), "edid: length");
-    for (header, maker, revision, last, expected) in [
-        (header, "4c2d", "03", "0151", "edid: count"),
-        (
-            "01ffffffffffff00",
-            "4c2d",
-            "03",
-            "0151",
-            "edid: base header",
-        ),
-        (header, "4c2d", "03", "0152", "edid: base checksum"),
-        (header, "4c2d", "02", "0152", "edid: base revision"),
-        (header, "6c2d", "03", "0131", "edid: base maker"),
-        (header, "4c2d", "03", "0052", "edid: no-hdmi-block"),
-    ] {
+    for case in BLOCKS.lines() {
+        let (header, rest) = case.split_once(' ').ok_or("no case")?;
+        let (maker, rest) = rest.split_once(' ').ok_or("no case")?;
+        let (revision, rest) = rest.split_once(' ').ok_or("no case")?;
+        let (last, cause) = rest.split_once(' ').ok_or("no case")?;
         let digits = block(alloc, header, maker, revision, last)?;
-        assert_eq!(rt; refusal(&rt, digits.as_str())?.as_str(), expected);
+        refuses_edid(&rt, alloc, digits.as_str(), cause)?;
     }
     let digits = edid(alloc, "0000", "e9")?;
-    assert_eq!(rt;
-        refusal(&rt, digits.as_str())?.as_str(),
-        "edid: ext 1 checksum"
-    );
-    Ok(())
-}
-
-#[test]
-fn tells_a_script_before_an_edid(rt: HostRuntime) -> Result<(), Fail> {
-    let mut trace = Vec::new(rt.alloc());
-    let error = traced(rt.alloc(), "device tv tv 1\nedid 00\n", "", &mut trace);
-    assert!(rt; matches!(error, Err(EmulateError::Script { line: 1, .. })));
-    Ok(())
+    refuses_edid(&rt, alloc, digits.as_str(), "ext 1 checksum")?;
+    refuses_edid(&rt, alloc, "00", "length")
 }
 
 /// An amplifier in a switch, both still loose.
@@ -441,35 +423,53 @@ state a amp - 1.0.0.0 on active=- path=- deck=1a menu=off audio=off volume=20 mu
 8 end
 ";
 
+/// What is traced before, and of a port's EDID the address and the checksum.
+const PARTS_TRACE: &str = "\
+0 port tv 1 => 1000 d8
+0 port tv 2 => 2000 c8
+5 event 1 ok
+5 port sw 1 => 2100 c7
+5 port sw 2 => 2200 c6
+5 port a 1 => 2110 b7
+5 event 2 refused not-plugged
+6 event 3 refused not-loose
+6 event 4 ok
+7 event 5 ok
+7 port a 1 => 1100 d7
+";
+
+/// The lines of a trace, with each port's EDID whole.
+fn with_edids(alloc: Global, lines: &str) -> Result<String, Fail> {
+    let mut text = String::new(alloc);
+    for line in lines.lines() {
+        match line.split_once(" => ") {
+            None => text.push_str(line)?,
+            Some((front, rest)) => {
+                let (address, check) = rest.split_once(' ').ok_or("no checksum")?;
+                text.push_str(front)?;
+                text.push_str(" ")?;
+                text.push_str(edid(alloc, address, check)?.as_str())?;
+            }
+        }
+        text.push_str("\n")?;
+    }
+    Ok(text)
+}
+
 #[test]
 fn traces_ports_of_what_comes_onto_the_wire(rt: HostRuntime) -> Result<(), Fail> {
     let alloc = rt.alloc();
     let root = edid(alloc, "0000", "e8")?;
     let topology = format!(in alloc; "{PARTS}edid {root}\n")?;
-    let mut expected = String::new(alloc);
-    for (line, address, check) in [
-        ("0 port tv 1 ", "1000", "d8"),
-        ("0 port tv 2 ", "2000", "c8"),
-        ("5 event 1 ok", "", ""),
-        ("5 port sw 1 ", "2100", "c7"),
-        ("5 port sw 2 ", "2200", "c6"),
-        ("5 port a 1 ", "2110", "b7"),
-        ("5 event 2 refused not-plugged", "", ""),
-        ("6 event 3 refused not-loose", "", ""),
-        ("6 event 4 ok", "", ""),
-        ("7 event 5 ok", "", ""),
-        ("7 port a 1 ", "1100", "d7"),
-    ] {
-        expected.push_str(line)?;
-        if !address.is_empty() {
-            expected.push_str(edid(alloc, address, check)?.as_str())?;
-        }
-        expected.push_str("\n")?;
-    }
-    expected.push_str(PARTS_STATES)?;
-    let mut trace = Vec::new(alloc);
-    let totals = traced(alloc, topology.as_str(), PARTS_SCRIPT, &mut trace);
-    assert!(rt; totals.is_ok());
-    assert_eq!(rt; trace.as_slice(), expected.as_bytes());
-    Ok(())
+    let mut trace = with_edids(alloc, PARTS_TRACE)?;
+    trace.push_str(PARTS_STATES)?;
+    let counted = "rounds 0, complete rounds 0, refused events 2";
+    traces(
+        &rt,
+        alloc,
+        topology.as_str(),
+        PARTS_SCRIPT,
+        trace.as_str(),
+        counted,
+    )
 }

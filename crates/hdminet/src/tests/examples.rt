@@ -1,0 +1,271 @@
+//! The files of examples/, each with its output. tools/example-tests writes this file.
+use super::*;
+
+const FIRST_PATH_NET: &str = "\
+# A television with four ports, and a player in its first port.
+device tv tv 4
+device p1 player 0
+plug p1 tv 1
+script
+at 1000000 press p1 play
+end 1500000
+";
+
+const FIRST_PATH_TRACE: &str = "\
+12000 39150 complete 0>0 nack by tv out -
+50705 77855 complete 4>4 nack by p1 out -
+89405 212555 complete 0>f report-physical-address 0.0.0.0 tv ok by tv out -
+224105 347255 complete 4>f report-physical-address 1.0.0.0 playback ok by p1 out -
+1000000 event 1 ok
+1000000 1051150 complete 4>0 image-view-on ack by p1 out -
+1068400 1167550 complete 4>f active-source 1.0.0.0 ok by p1 out -
+state tv tv 0 0.0.0.0 on active=1.0.0.0 path=1.0.0.0 deck=1a menu=off audio=off volume=20 mute=off arc=off sel=- lang=656e67 osd=- held=- heard=4:84:10 sub=- queue=0 dropped=0
+state p1 player 4 1.0.0.0 on active=1.0.0.0 path=1.0.0.0 deck=11 menu=off audio=off volume=20 mute=off arc=off sel=- lang=656e67 osd=- held=- heard=0:84:00 sub=- queue=0 dropped=0
+1500000 end
+";
+
+#[test]
+fn first_path(rt: HostRuntime) -> Result<(), Fail> {
+    let words = ["run"];
+    let (input, output) = (FIRST_PATH_NET.as_bytes(), FIRST_PATH_TRACE.as_bytes());
+    gives(&rt, rt.alloc(), words.as_slice(), input, output)
+}
+
+const FOUR_PLAYERS_NET: &str = "\
+# Four players on one television. Players share three addresses, so the last one finds none.
+device tv tv 4
+device p1 player 0
+device p2 player 0
+device p3 player 0
+device p4 player 0
+plug p1 tv 1
+plug p2 tv 2
+plug p3 tv 3
+plug p4 tv 4
+script
+end 1500000
+";
+
+const FOUR_PLAYERS_TRACE: &str = "\
+12000 39150 complete 0>0 nack by tv out -
+50705 77855 complete 4>4 nack by p1 out -
+89405 212555 complete 0>f report-physical-address 0.0.0.0 tv ok by tv out -
+224105 347255 complete 4>f report-physical-address 1.0.0.0 playback ok by p1 out -
+358818 385968 complete 4>4 ack by p2 out -
+398419 425569 complete 4>4 ack by p3 out -
+438020 465170 complete 4>4 ack by p4 out -
+477634 504784 complete 8>8 nack by p2 out -
+516339 543489 complete 8>8 ack by p3 out -
+555939 679089 complete 8>f report-physical-address 2.0.0.0 playback ok by p2 out -
+690643 717793 complete b>b nack by p3 out -
+729348 756498 complete 8>8 ack by p4 out -
+768948 892098 complete b>f report-physical-address 3.0.0.0 playback ok by p3 out -
+903652 930802 complete b>b ack by p4 out -
+state tv tv 0 0.0.0.0 on active=- path=- deck=1a menu=off audio=off volume=20 mute=off arc=off sel=- lang=656e67 osd=- held=- heard=b:84:30 sub=- queue=0 dropped=0
+state p1 player 4 1.0.0.0 on active=- path=- deck=1a menu=off audio=off volume=20 mute=off arc=off sel=- lang=656e67 osd=- held=- heard=b:84:30 sub=- queue=0 dropped=0
+state p2 player 8 2.0.0.0 on active=- path=- deck=1a menu=off audio=off volume=20 mute=off arc=off sel=- lang=656e67 osd=- held=- heard=b:84:30 sub=- queue=0 dropped=0
+state p3 player b 3.0.0.0 on active=- path=- deck=1a menu=off audio=off volume=20 mute=off arc=off sel=- lang=656e67 osd=- held=- heard=8:84:20 sub=- queue=0 dropped=0
+state p4 player f 4.0.0.0 on active=- path=- deck=1a menu=off audio=off volume=20 mute=off arc=off sel=- lang=656e67 osd=- held=- heard=b:84:30 sub=- queue=0 dropped=0
+1500000 end
+";
+
+#[test]
+fn four_players(rt: HostRuntime) -> Result<(), Fail> {
+    let words = ["run"];
+    let (input, output) = (FOUR_PLAYERS_NET.as_bytes(), FOUR_PLAYERS_TRACE.as_bytes());
+    gives(&rt, rt.alloc(), words.as_slice(), input, output)
+}
+
+const PORTS_NET: &str = "\
+# A television with an EDID. An amplifier, and a player below it, move from its first port to its second.
+device tv tv 2
+device amp amp 1
+device p1 player 0
+plug amp tv 1
+plug p1 amp 1
+edid 00ffffffffffff004c2d0201010000000a15010380341d780aee91a3544c99260f505400000001010101010101010101010101010101023a801871382d40582c450008222100001e000000fc004c4f554e4745205456203030310000001000000000000000000000000000000000001000000000000000000000000000000151020316f143900403230907078301000065030c000000000000000000000000000000000000000000000000000000000000000000000000000000000000000000000000000000000000000000000000000000000000000000000000000000000000000000000000000000000000000000000000000000000000000000000000e8
+script
+at 1000000 unplug amp
+at 1000000 plug amp tv 2
+end 2000000
+";
+
+const PORTS_TRACE: &str = "\
+0 port tv 1 00ffffffffffff004c2d0201010000000a15010380341d780aee91a3544c99260f505400000001010101010101010101010101010101023a801871382d40582c450008222100001e000000fc004c4f554e4745205456203030310000001000000000000000000000000000000000001000000000000000000000000000000151020316f143900403230907078301000065030c001000000000000000000000000000000000000000000000000000000000000000000000000000000000000000000000000000000000000000000000000000000000000000000000000000000000000000000000000000000000000000000000000000000000000000000000d8
+0 port tv 2 00ffffffffffff004c2d0201010000000a15010380341d780aee91a3544c99260f505400000001010101010101010101010101010101023a801871382d40582c450008222100001e000000fc004c4f554e4745205456203030310000001000000000000000000000000000000000001000000000000000000000000000000151020316f143900403230907078301000065030c002000000000000000000000000000000000000000000000000000000000000000000000000000000000000000000000000000000000000000000000000000000000000000000000000000000000000000000000000000000000000000000000000000000000000000000000c8
+0 port amp 1 00ffffffffffff004c2d0201010000000a15010380341d780aee91a3544c99260f505400000001010101010101010101010101010101023a801871382d40582c450008222100001e000000fc004c4f554e4745205456203030310000001000000000000000000000000000000000001000000000000000000000000000000151020316f143900403230907078301000065030c001100000000000000000000000000000000000000000000000000000000000000000000000000000000000000000000000000000000000000000000000000000000000000000000000000000000000000000000000000000000000000000000000000000000000000000000d7
+12000 39150 complete 0>0 nack by tv out -
+50705 77855 complete 5>5 nack by amp out -
+89405 212555 complete 0>f report-physical-address 0.0.0.0 tv ok by tv out -
+224105 347255 complete 5>f report-physical-address 1.0.0.0 audio ok by amp out -
+358818 385968 complete 4>4 nack by p1 out -
+402318 525468 complete 4>f report-physical-address 1.1.0.0 playback ok by p1 out -
+1000000 event 1 ok
+1000000 event 2 ok
+1000000 port amp 1 00ffffffffffff004c2d0201010000000a15010380341d780aee91a3544c99260f505400000001010101010101010101010101010101023a801871382d40582c450008222100001e000000fc004c4f554e4745205456203030310000001000000000000000000000000000000000001000000000000000000000000000000151020316f143900403230907078301000065030c002100000000000000000000000000000000000000000000000000000000000000000000000000000000000000000000000000000000000000000000000000000000000000000000000000000000000000000000000000000000000000000000000000000000000000000000c7
+1000001 1027151 complete 5>5 nack by amp out -
+1038706 1065856 complete 4>4 nack by p1 out -
+1077406 1200556 complete 5>f report-physical-address 2.0.0.0 audio ok by amp out -
+1212106 1335256 complete 4>f report-physical-address 2.1.0.0 playback ok by p1 out -
+state tv tv 0 0.0.0.0 on active=- path=- deck=1a menu=off audio=off volume=20 mute=off arc=off sel=- lang=656e67 osd=- held=- heard=4:84:21 sub=- queue=0 dropped=0
+state amp amp 5 2.0.0.0 on active=- path=- deck=1a menu=off audio=off volume=20 mute=off arc=off sel=- lang=656e67 osd=- held=- heard=4:84:21 sub=- queue=0 dropped=0
+state p1 player 4 2.1.0.0 on active=- path=- deck=1a menu=off audio=off volume=20 mute=off arc=off sel=- lang=656e67 osd=- held=- heard=5:84:20 sub=- queue=0 dropped=0
+2000000 end
+";
+
+#[test]
+fn ports(rt: HostRuntime) -> Result<(), Fail> {
+    let words = ["run"];
+    let (input, output) = (PORTS_NET.as_bytes(), PORTS_TRACE.as_bytes());
+    gives(&rt, rt.alloc(), words.as_slice(), input, output)
+}
+
+const FRAMES_TXT: &str = "\
+# What a television, an amplifier and a player say to each other.
+
+# The player takes its address, and tells where it is plugged in.
+4>4
+4>f report-physical-address 1.0.0.0 playback
+4>0 give-osd-name
+0>4 set-osd-name \"TV\"
+
+# Play is pressed: the television wakes and shows the player.
+4>0 image-view-on
+4>f active-source 1.0.0.0
+0>4 play forward
+
+# An operand that no word names.
+0>4 play :99
+
+# The amplifier turns up the volume.
+0>5 user-control-pressed volume-up
+0>5 user-control-released
+5>0 report-audio-status sound 21
+
+# Good night.
+0>f standby
+";
+
+const FRAMES_HEX: &str = "\
+44
+4f84100004
+4046
+04475456
+4004
+4f821000
+044124
+044199
+054441
+0545
+507a15
+0f36
+";
+
+#[test]
+fn frames(rt: HostRuntime) -> Result<(), Fail> {
+    let words = ["asm"];
+    let (input, output) = (FRAMES_TXT.as_bytes(), FRAMES_HEX.as_bytes());
+    gives(&rt, rt.alloc(), words.as_slice(), input, output)
+}
+
+const LIVING_ROOM_EDID: &str =
+    "00ffffffffffff004c2d0201010000000a15010380341d780eee91a3544c99260f505420000001010101010101010101010101010101023a801871382d40582c450008222100001e011d007251d01e206e28550008222100001e000000fc004c4f554e47452054560a202020000000fd00173d0f440f000a20202020202001d402031af14490040301230907078301000065030c000000e2004f0000000000000000000000000000000000000000000000000000000000000000000000000000000000000000000000000000000000000000000000000000000000000000000000000000000000000000000000000000000000000000000000000000000000b1\n";
+
+const LIVING_ROOM_EDID_TXT: &str = "\
+edid 1.3
+maker SAM
+product 258
+serial 1
+made 10 2011
+input 80
+size 52 29
+gamma 120
+features 0e
+chroma 655 338 307 614 154 61 320 337
+established 200000
+standard unused
+standard unused
+standard unused
+standard unused
+standard unused
+standard unused
+standard unused
+standard unused
+timing 14850 1920 280 1080 45 88 44 4 5 520 290 0 0 1e
+timing 7425 1280 370 720 30 110 40 5 5 520 290 0 0 1e
+name \"LOUNGE TV\"
+range 00173d0f440f000a202020202020
+cta f1
+video 90040301
+audio 090707
+speakers 010000
+hdmi 0.0.0.0 -
+extended 004f
+tail -
+";
+
+#[test]
+fn living_room_as_text(rt: HostRuntime) -> Result<(), Fail> {
+    let words = ["edid"];
+    let input = hex::decode(rt.alloc(), LIVING_ROOM_EDID.trim_end())?;
+    let output = LIVING_ROOM_EDID_TXT.as_bytes();
+    gives(&rt, rt.alloc(), words.as_slice(), &input, output)
+}
+
+#[test]
+fn living_room_as_bytes(rt: HostRuntime) -> Result<(), Fail> {
+    let words = ["edid", "--text"];
+    let (input, output) = (LIVING_ROOM_EDID_TXT.as_bytes(), LIVING_ROOM_EDID.as_bytes());
+    gives(&rt, rt.alloc(), words.as_slice(), input, output)
+}
+
+const MONITOR_1_4_EDID: &str =
+    "00ffffffffffff0010ac0041000000000c1e0104a53c22783eee91a3544c99260f5054a54b008180a9c0d1c001010101010101010101023a801871382d40582c450056502100001e000000ff00434656394e303132330a202020000000fc004445534b204d4f4e49544f520a000000fd00314b1e5311010a202020202020018f020315f14590040302012309070783010000e200ca011d007251d01e206e28550056502100001e00000000000000000000000000000000000000000000000000000000000000000000000000000000000000000000000000000000000000000000000000000000000000000000000000000000000000000000000000000000ed\n";
+
+const MONITOR_1_4_EDID_TXT: &str = "\
+edid 1.4
+maker DEL
+product 16640
+serial 0
+made 12 2020
+input a5
+size 60 34
+gamma 120
+features 3e
+chroma 655 338 307 614 154 61 320 337
+established a54b00
+standard 1280 2 60
+standard 1600 3 60
+standard 1920 3 60
+standard unused
+standard unused
+standard unused
+standard unused
+standard unused
+timing 14850 1920 280 1080 45 88 44 4 5 598 336 0 0 1e
+serial-text \"CFV9N0123\"
+name \"DESK MONITOR\"
+range 00314b1e5311010a202020202020
+cta f1
+video 9004030201
+audio 090707
+speakers 010000
+extended 00ca
+timing 7425 1280 370 720 30 110 40 5 5 598 336 0 0 1e
+tail -
+";
+
+#[test]
+fn monitor_1_4_as_text(rt: HostRuntime) -> Result<(), Fail> {
+    let words = ["edid"];
+    let input = hex::decode(rt.alloc(), MONITOR_1_4_EDID.trim_end())?;
+    let output = MONITOR_1_4_EDID_TXT.as_bytes();
+    gives(&rt, rt.alloc(), words.as_slice(), &input, output)
+}
+
+#[test]
+fn monitor_1_4_as_bytes(rt: HostRuntime) -> Result<(), Fail> {
+    let words = ["edid", "--text"];
+    let (input, output) = (MONITOR_1_4_EDID_TXT.as_bytes(), MONITOR_1_4_EDID.as_bytes());
+    gives(&rt, rt.alloc(), words.as_slice(), input, output)
+}

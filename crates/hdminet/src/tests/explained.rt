@@ -1,0 +1,103 @@
+//! What `--explain` adds, and that it changes nothing else.
+use super::*;
+
+/// The words of a command line, an input with `;` for each line feed, and what follows the line of its fault.
+const CASES: &str = "\
+run => device tv tv 4;script;at 5 press tv plya;end 9; =>   line 3: at 5 press tv plya
+run => device tv tv 4\r;script\r;end 9\r; =>   line 2: script.
+run => DEVICE tv tv 4;script;end 9; =>   line 1: DEVICE tv tv 4
+run => device tv tv 4;script;end 9 ; =>   line 3: end 9 
+run => device tv\ttv 4;script;end 9; =>   line 1: device tv.tv 4
+run =>  =>   a line `script`, and nothing else on it, parts the topology from the script
+asm => 4>0 pley forward; =>   line 1: 4>0 pley forward
+asm => 4>4\r; =>   line 1: 4>4.
+asm => 4>0\tplay forward; =>   line 1: 4>0.play forward
+asm => 4>4 ; =>   line 1: 4>4 
+edid =>  =>   an EDID has 128 bytes, and 128 more for each extension
+edid => 00ffffffffffff00; =>   an EDID has 128 bytes, and 128 more for each extension
+edid --text => edid 1.3;maker sam; =>   line 2: maker sam
+edid --text =>  =>   line 1: 
+";
+
+/// The program refuses an input with one line, and with `--explain` the same line and this one follow.
+fn is_explained(
+    rt: &impl Abort,
+    alloc: Global,
+    texts: &[&str],
+    input: &[u8],
+    second: &str,
+) -> Result<(), Fail> {
+    let (mut rest, mut again) = (input, input);
+    let plain = answer_to(alloc, texts, &mut rest)?;
+    let mut more = Vec::new(alloc);
+    more.extend_from_slice(texts)?;
+    more.push("--explain")?;
+    let told = answer_to(alloc, &more, &mut again)?;
+    let mut front = plain.err;
+    front.extend_from_slice(second.as_bytes())?;
+    front.push(b'\n')?;
+    assert!(rt; told.err.starts_with(&front), "{second}");
+    assert_eq!(rt; told.out.len(), 0);
+    assert_eq!(rt; plain.out.len(), 0);
+    assert_eq!(rt; told.status, plain.status);
+    Ok(())
+}
+
+#[test]
+fn faults_are_followed_by_their_explanation(rt: HostRuntime) -> Result<(), Fail> {
+    let alloc = rt.alloc();
+    for case in CASES.split('\n') {
+        let Some((words, rest)) = case.split_once(" => ") else {
+            continue;
+        };
+        let (text, second) = rest.split_once(" => ").ok_or("no case")?;
+        let text = with_lines(alloc, text)?;
+        let mut texts = Vec::new(alloc);
+        for word in words.split(' ') {
+            texts.push(word)?;
+        }
+        is_explained(&rt, alloc, &texts, text.as_bytes(), second)?;
+    }
+    Ok(())
+}
+
+#[test]
+fn a_write_fault_is_explained(rt: HostRuntime) -> Result<(), Fail> {
+    let alloc = rt.alloc();
+    let told = stingy_answer(alloc, ["asm", "--explain"].as_slice(), b"4>4\n", 1)?;
+    assert_eq!(rt; told.out.as_slice(), b"4".as_slice());
+    assert_eq!(rt;
+        told.err.as_slice(),
+        b"hdminet: write fault after 1 bytes
+  standard output takes no more: is the disk full, or the reader gone? What was written before is the front of the output
+"
+            .as_slice()
+    );
+    assert_eq!(rt; told.status, 3);
+    Ok(())
+}
+
+#[test]
+fn what_is_done_is_as_without_the_flag(rt: HostRuntime) -> Result<(), Fail> {
+    let alloc = rt.alloc();
+    gives(
+        &rt,
+        alloc,
+        ["--explain", "asm"].as_slice(),
+        b"4>4\n",
+        b"44\n",
+    )
+}
+
+#[test]
+fn a_file_name_is_explained(rt: HostRuntime) -> Result<(), Fail> {
+    let alloc = rt.alloc();
+    let words = ["run", "tv.net", "--explain"].as_slice();
+    let told = answer_to(alloc, words, &mut b"".as_slice())?;
+    let said = String::from_utf8(told.err)?;
+    assert!(rt; said.contains("tv.net"));
+    assert!(rt; said.ends_with("as `hdminet run < FILE`\n"));
+    assert_eq!(rt; told.out.len(), 0);
+    assert_eq!(rt; told.status, 2);
+    Ok(())
+}

@@ -1,0 +1,336 @@
+//! What follows the line of a fault.
+use crate::causes::right;
+use crate::fault::{Fault, Part, read_fault};
+use crate::grammar::{EDID_WORDS, KEYS, KEYWORDS, KINDS, SCRIPT, TOPOLOGY, fitting, most_fitting};
+use crate::hints::{is_shown, of_edid, of_line, of_text};
+use crate::marks::{Mark, marked};
+use crate::words::{Word, is_near, words_of};
+use cec_opcode::name;
+use std::alloc::{AllocError, Global};
+
+/// What an input is to be.
+#[derive(Clone, Copy, Debug, PartialEq, Eq)]
+pub enum Input {
+    /// A topology, a line `script` and a script.
+    Network,
+    /// Lines of their own: frames or edges.
+    Lines,
+    /// The bytes of an EDID.
+    EdidBytes,
+    /// The text of an EDID.
+    EdidText,
+}
+
+/// A line is shown up to so many columns.
+const COLUMNS: usize = 160;
+
+/// A line of an input, with its number from 1.
+#[derive(Clone, Copy, Debug)]
+struct Place<'a> {
+    number: usize,
+    line: &'a [u8],
+}
+
+// The line of this number, from 1.
+fn line_of(input: &[u8], number: usize) -> Option<Place<'_>> {
+    let line = input
+        .split(|byte| *byte == b'\n')
+        .nth(number.checked_sub(1)?)?;
+    Some(Place { number, line })
+}
+
+// The first line after some others that reads so.
+fn find_line<'a>(input: &'a [u8], after: usize, text: &str) -> Option<Place<'a>> {
+    let mut number = 0usize;
+    for line in input.split(|byte| *byte == b'\n') {
+        number = number.saturating_add(1);
+        if number > after && line == text.as_bytes() {
+            return Some(Place { number, line });
+        }
+    }
+    None
+}
+
+// The first line that begins so, blanks and case aside.
+fn find_like<'a>(input: &'a [u8], text: &str) -> Option<Place<'a>> {
+    let mut number = 0usize;
+    for line in input.split(|byte| *byte == b'\n') {
+        number = number.saturating_add(1);
+        let bare = line.trim_ascii();
+        if bare.len() >= text.len() && is_like(bare, text) {
+            return Some(Place { number, line });
+        }
+    }
+    None
+}
+
+fn is_like(line: &[u8], text: &str) -> bool {
+    match line.split_at_checked(text.len()) {
+        Some((front, _)) => front.eq_ignore_ascii_case(text.as_bytes()),
+        None => false,
+    }
+}
+
+// How many lines stand before the lines of a part, `script` or `steps` among them.
+fn lines_before(part: Part, input: &[u8]) -> usize {
+    let script = find_line(input, 0, "script").map_or(0, |place| place.number);
+    match part {
+        Part::Script => script,
+        Part::Steps => find_line(input, script, "steps").map_or(0, |place| place.number),
+        _ => 0,
+    }
+}
+
+// Where a fault stands in a whole input.
+fn place_of<'a>(input: &'a [u8], what: Input, fault: Fault<'_>) -> Option<Place<'a>> {
+    if fault.part == Part::Topology && fault.cause == "no-root" {
+        return None;
+    }
+    if let Some(line) = fault.line {
+        return line_of(input, lines_before(fault.part, input).saturating_add(line));
+    }
+    if fault.part == Part::Edid && what == Input::Network {
+        return find_like(input, "edid ");
+    }
+    match fault.cause {
+        "no script line" => find_like(input, "script"),
+        "no steps line" => find_like(input, "steps"),
+        _ => None,
+    }
+}
+
+// A line as it is shown: `.` for what is not printable, and cut after so many columns.
+fn shown(alloc: Global, line: &[u8]) -> Result<String, AllocError> {
+    let mut text = String::new(alloc);
+    for byte in line.iter().take(COLUMNS) {
+        text.push(if is_shown(*byte) {
+            char::from(*byte)
+        } else {
+            '.'
+        })?;
+    }
+    Ok(text)
+}
+
+// The names of the devices that lines before this one declare.
+fn declared<'a>(alloc: Global, input: &'a [u8], before: usize) -> Result<Vec<&'a str>, AllocError> {
+    let mut names = Vec::new(alloc);
+    for line in input.split(|byte| *byte == b'\n').take(before) {
+        if let Some(name) = declared_by(line) {
+            names.push(name)?;
+        }
+    }
+    Ok(names)
+}
+
+fn declared_by(line: &[u8]) -> Option<&str> {
+    let text = str::from_utf8(line).ok()?;
+    let (name, _) = text.strip_prefix("device ")?.split_once(' ')?;
+    Some(name)
+}
+
+// Blanks, and `^` below the marked words.
+fn add_mark(
+    text: &mut String,
+    before: usize,
+    words: &[Word<'_>],
+    mark: Mark,
+) -> Result<(), AllocError> {
+    let Some(first) = words.get(mark.first) else {
+        return Ok(());
+    };
+    let last = words.get(mark.last).or(words.last()).unwrap_or(first);
+    let end = last.column.saturating_add(last.text.len().max(1));
+    for _ in 0..before.saturating_add(first.column) {
+        text.push(' ')?;
+    }
+    for _ in first.column..end {
+        text.push('^')?;
+    }
+    text.push('\n')
+}
+
+fn add_line(text: &mut String, line: &str) -> Result<(), AllocError> {
+    text.push_str("  ")?;
+    text.push_str(line)?;
+    text.push('\n')
+}
+
+fn add_hints(text: &mut String, hints: &[Option<&'static str>]) -> Result<(), AllocError> {
+    for hint in hints {
+        if let Some(hint) = hint {
+            add_line(text, hint)?;
+        }
+    }
+    Ok(())
+}
+
+// The forms that a line fits as far as any.
+fn add_forms(text: &mut String, forms: &[&str], words: &[Word<'_>]) -> Result<(), AllocError> {
+    let most = most_fitting(forms, words);
+    let mut before = "  a line here reads `";
+    for form in forms {
+        if fitting(form, words) == most {
+            text.push_str(before)?;
+            text.push_str(form)?;
+            before = "`, `";
+        }
+    }
+    text.push_str("`\n")
+}
+
+// A word that may have been meant.
+fn add_meant(text: &mut String, alloc: Global, word: &str, near: &str) -> Result<(), AllocError> {
+    let line = format!(in alloc; "`{word}`: did you mean `{near}`?")?;
+    add_line(text, line.as_str())
+}
+
+// The first of some known words that a word may have been meant for. Returns whether there is one.
+fn add_nearest(
+    text: &mut String,
+    alloc: Global,
+    known: &[&str],
+    word: &str,
+) -> Result<bool, AllocError> {
+    for near in known {
+        if is_near(alloc, near, word)? {
+            add_meant(text, alloc, word, near)?;
+            return Ok(true);
+        }
+    }
+    Ok(false)
+}
+
+// The first name of an opcode that a word may have been meant for.
+fn add_nearest_opcode(text: &mut String, alloc: Global, word: &str) -> Result<bool, AllocError> {
+    for code in 0..=u8::MAX {
+        if let Some(near) = name(code) {
+            if is_near(alloc, near, word)? {
+                add_meant(text, alloc, word, near)?;
+                return Ok(true);
+            }
+        }
+    }
+    Ok(false)
+}
+
+// The word of a topology or a script that a word may have been meant for.
+fn add_nearest_word(text: &mut String, alloc: Global, word: &str) -> Result<bool, AllocError> {
+    if add_nearest(text, alloc, KEYWORDS.as_slice(), word)? {
+        return Ok(true);
+    }
+    if add_nearest(text, alloc, KINDS.as_slice(), word)? {
+        return Ok(true);
+    }
+    add_nearest(text, alloc, KEYS.as_slice(), word)
+}
+
+// What the word at fault may have been meant for.
+fn add_suggestion(
+    text: &mut String,
+    alloc: Global,
+    fault: Fault<'_>,
+    word: &str,
+    declared: &[&str],
+) -> Result<bool, AllocError> {
+    match fault.part {
+        Part::Topology | Part::Script if fault.cause == "name" => {
+            add_nearest(text, alloc, declared, word)
+        }
+        Part::Script if fault.cause.starts_with("frame ") => {
+            add_nearest_opcode(text, alloc, word)
+        }
+        Part::Topology | Part::Script => add_nearest_word(text, alloc, word),
+        Part::EdidText => add_nearest(text, alloc, EDID_WORDS.as_slice(), word),
+        Part::Lines => add_nearest_opcode(text, alloc, word),
+        Part::Steps | Part::Edid | Part::Program => Ok(false),
+    }
+}
+
+// The line of a fault, its mark, and what is odd about it.
+fn add_place(
+    text: &mut String,
+    alloc: Global,
+    input: &[u8],
+    place: Place<'_>,
+    fault: Fault<'_>,
+) -> Result<(), AllocError> {
+    let line = shown(alloc, place.line)?;
+    let words = words_of(alloc, line.as_str())?;
+    let names = declared(alloc, input, place.number.saturating_sub(1))?;
+    let head = format!(in alloc; "  line {}: ", place.number)?;
+    text.push_str(head.as_str())?;
+    text.push_str(line.as_str())?;
+    text.push_str(if place.line.len() > COLUMNS {
+        " ..\n"
+    } else {
+        "\n"
+    })?;
+    let mark = marked(fault, &words, &names);
+    if let Some(mark) = mark {
+        add_mark(text, head.len(), &words, mark)?;
+    }
+    add_hints(text, of_line(place.line, line.as_str()).as_slice())?;
+    match (fault.part, fault.cause) {
+        (Part::Topology, "word") => add_forms(text, TOPOLOGY.as_slice(), &words)?,
+        (Part::Script, "word") => add_forms(text, SCRIPT.as_slice(), &words)?,
+        _ => {}
+    }
+    if let Some(mark) = mark {
+        if let Some(word) = words.get(mark.first) {
+            add_suggestion(text, alloc, fault, word.text, &names)?;
+        }
+    }
+    Ok(())
+}
+
+// How long an input is that is no EDID by its length.
+fn add_length(text: &mut String, alloc: Global, length: usize) -> Result<(), AllocError> {
+    let more = length % 128;
+    let blocks = length.saturating_sub(more);
+    let line = format!(in alloc; "the input has {blocks} bytes and {more} more")?;
+    add_line(text, line.as_str())
+}
+
+/// The indented lines that follow the line of a fault, which is without `hdminet: ` here: the line of the input with its
+/// number, the word marked, what would be right, and what often goes wrong so.
+///
+/// # Errors
+///
+/// Where memory runs out.
+pub fn explain(
+    alloc: Global,
+    what: Input,
+    fault: &str,
+    input: &[u8],
+) -> Result<String, AllocError> {
+    let mut text = String::new(alloc);
+    let fault = read_fault(fault);
+    if let Some(place) = place_of(input, what, fault) {
+        add_place(&mut text, alloc, input, place, fault)?;
+    }
+    if let Some(right) = right(fault) {
+        add_line(&mut text, right)?;
+    }
+    match (what, fault.part) {
+        (_, Part::Program) if fault.cause != "no script line" => {}
+        (Input::EdidBytes, _) => {
+            add_hints(&mut text, of_edid(input).as_slice())?;
+            if fault.cause == "length" {
+                add_length(&mut text, alloc, input.len())?;
+            }
+        }
+        _ => add_hints(&mut text, of_text(input).as_slice())?,
+    }
+    Ok(text)
+}
+
+/// The line that follows a run: its rounds, those of them that were complete, and the events that were refused.
+pub fn counts(
+    alloc: Global,
+    rounds: u64,
+    complete: u64,
+    refused: u64,
+) -> Result<String, AllocError> {
+    format!(in alloc; "  rounds {rounds}, complete rounds {complete}, refused events {refused}\n")
+}

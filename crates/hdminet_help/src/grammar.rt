@@ -1,0 +1,104 @@
+//! The forms of the lines of topologies and scripts. A word in capitals stands for a value.
+use crate::words::Word;
+
+/// The lines of a topology.
+pub const TOPOLOGY: [&str; 3] = [
+    "device NAME KIND PORTS",
+    "plug CHILD PARENT PORT",
+    "edid HEX",
+];
+
+/// The lines of a script.
+pub const SCRIPT: [&str; 4] = [
+    "at T press NAME KEY",
+    "at T plug CHILD PARENT PORT",
+    "at T unplug CHILD",
+    "end T",
+];
+
+/// The words that stand for a KIND.
+pub const KINDS: [&str; 5] = ["tv", "amp", "player", "recorder", "switch"];
+
+/// The words that stand for a KEY.
+pub const KEYS: [&str; 1] = ["play"];
+
+/// The words that stand for themselves.
+pub const KEYWORDS: [&str; 8] = [
+    "device", "plug", "edid", "script", "at", "press", "unplug", "end",
+];
+
+/// The words that the lines of an EDID's text begin with.
+pub const EDID_WORDS: [&str; 32] = [
+    "edid",
+    "maker",
+    "product",
+    "serial",
+    "made",
+    "input",
+    "size",
+    "gamma",
+    "features",
+    "chroma",
+    "established",
+    "standard",
+    "timing",
+    "name",
+    "text",
+    "serial-text",
+    "range",
+    "dummy",
+    "raw",
+    "cta",
+    "cta-none",
+    "tag0",
+    "audio",
+    "video",
+    "vendor",
+    "speakers",
+    "tag5",
+    "tag6",
+    "extended",
+    "hdmi",
+    "tail",
+    "ext",
+];
+
+// Whether a word of a form stands for a value.
+fn is_value(wanted: &str) -> bool {
+    match wanted.as_bytes().first() {
+        Some(byte) => byte.is_ascii_uppercase(),
+        None => false,
+    }
+}
+
+// Whether a word may stand where a form has another.
+fn fits(wanted: &str, word: &str) -> bool {
+    if wanted == "KIND" {
+        KINDS.contains(&word)
+    } else if wanted == "KEY" {
+        KEYS.contains(&word)
+    } else {
+        is_value(wanted) || wanted == word
+    }
+}
+
+/// How many words of a line, from the left, fit a form.
+pub fn fitting(form: &str, words: &[Word<'_>]) -> usize {
+    let mut count = 0usize;
+    for wanted in form.split(' ') {
+        match words.get(count) {
+            Some(word) if fits(wanted, word.text) => count = count.saturating_add(1),
+            _ => return count,
+        }
+    }
+    count
+}
+
+/// The most words of a line that fit one of the forms: the word after them is the first that fits none.
+pub fn most_fitting(forms: &[&str], words: &[Word<'_>]) -> usize {
+    let mut most = 0;
+    for form in forms {
+        most = most.max(fitting(form, words));
+    }
+    most
+}

@@ -1,0 +1,16 @@
+//! What the program says of a fault beyond its one line: the line of the input, the word, and what would be right.
+//!
+//! All of it is text for people, so that tests speak of it and no contract does.
+#![tactic(auto)]
+
+mod causes;
+mod explanation;
+mod fault;
+mod grammar;
+mod hints;
+mod marks;
+#[cfg(test)]
+mod tests;
+mod words;
+
+pub use explanation::{Input, counts, explain};

@@ -1,0 +1,337 @@
+//! What is said of faults. Each input is as a user gives it, with the line of its fault.
+use super::*;
+use std::alloc::Global;
+use std::process::Abort;
+use std::test::Fail;
+
+/// An input, the fault that it is refused with, and the lines that explain it.
+type Case = (&'static [u8], &'static str, &'static str);
+
+const NETWORKS: [Case; 12] = [
+    (
+        b"device tv tv 4\ndevice p1 playr 0\nscript\nend 5\n",
+        "topology line 2: word",
+        "  line 2: device p1 playr 0
+                    ^^^^^
+  a line here reads `device NAME KIND PORTS`
+  `playr`: did you mean `player`?
+  KIND is tv, amp, player, recorder or switch; words stand one space apart; `edid` comes once
+",
+    ),
+    (
+        b"DEVICE tv tv 4\nscript\nend 5\n",
+        "topology line 1: word",
+        "  line 1: DEVICE tv tv 4
+          ^^^^^^
+  a line here reads `device NAME KIND PORTS`, `plug CHILD PARENT PORT`, `edid HEX`
+  `DEVICE`: did you mean `device`?
+  KIND is tv, amp, player, recorder or switch; words stand one space apart; `edid` comes once
+",
+    ),
+    (
+        b"\xef\xbb\xbfdevice tv tv 4\nscript\nend 5\n",
+        "topology line 1: word",
+        "  line 1: ...device tv tv 4
+          ^^^^^^^^^
+  this line has bytes that are no printable text; `.` stands for each
+  a line here reads `device NAME KIND PORTS`, `plug CHILD PARENT PORT`, `edid HEX`
+  KIND is tv, amp, player, recorder or switch; words stand one space apart; `edid` comes once
+  the input begins with a byte order mark, ef bb bf, which is no part of the text
+",
+    ),
+    (
+        b"device tv tv 4\r\nscript\r\nend 5\r\n",
+        "no script line",
+        "  line 2: script.
+  lines end with LF; this one has a CR before it
+  a line `script`, and nothing else on it, parts the topology from the script
+",
+    ),
+    (
+        b"",
+        "no script line",
+        "  a line `script`, and nothing else on it, parts the topology from the script
+  the input is empty
+",
+    ),
+    (
+        b"device tv tv 4\ndevice p1 player 0\nplug p2 tv 1\nscript\nend 5\n",
+        "topology line 3: name",
+        "  line 3: plug p2 tv 1
+               ^^
+  NAME is new, of 1 to 14 of a to z, 0 to 9 and `-`, first a letter; CHILD and PARENT have a `device` line above
+",
+    ),
+    (
+        b"device p1 player 0\nscript\nend 5\n",
+        "topology line 2: no-root",
+        "  a network has a device of the kind tv, as `device tv tv 4`\n",
+    ),
+    (
+        b"device tv tv 4\ndevice p1 player 0\nplug p1 tv 1\n# play\nscript\nat 1000000 press p1 plya\nend 5\n",
+        "script line 1: word",
+        "  line 6: at 1000000 press p1 plya
+                              ^^^^
+  a line here reads `at T press NAME KEY`
+  `plya`: did you mean `play`?
+  words stand one space apart, and nothing follows the last one
+",
+    ),
+    (
+        b"device tv tv 4\nscript\nend 1e6\n",
+        "script line 1: number",
+        "  line 3: end 1e6
+              ^^^
+  T is decimal microseconds, 0 to 1000000000000; PORT and WIDTH are decimal numbers; none has a zero before it
+",
+    ),
+    (
+        b"device tv tv 4\ndevice player player 0\nscript\nat 5 press player play\nat 5 press playr play\nend 9\n",
+        "script line 2: name",
+        "  line 5: at 5 press playr play
+                     ^^^^^
+  `playr`: did you mean `player`?
+  a NAME, CHILD or PARENT of the script has a `device` line in the topology
+",
+    ),
+    (
+        b"device tv tv 4\nscript\nat 5\tpress tv play \nend 9\n",
+        "script line 1: word",
+        "  line 3: at 5.press tv play 
+                     ^^
+  this line has a tab; words stand one space apart
+  this line ends with a space
+  a line here reads `at T press NAME KEY`, `at T plug CHILD PARENT PORT`, `at T unplug CHILD`
+  words stand one space apart, and nothing follows the last one
+",
+    ),
+    (
+        b"device tv tv 4\nedid 00ff\nscript\nend 9\n",
+        "edid: length",
+        "  line 2: edid 00ff
+               ^^^^
+  an EDID has 128 bytes, and 128 more for each extension
+",
+    ),
+];
+
+const FRAMES: [Case; 5] = [
+    (
+        b"4>4\n4>0 pley forward\n",
+        "line 2: name",
+        "  line 2: 4>0 pley forward
+              ^^^^
+  `pley`: did you mean `play`?
+  after `I>D` and one space comes an opcode's name, or `op-XX` for an opcode that has none
+",
+    ),
+    (
+        b"4>4\r\n",
+        "line 1: address",
+        "  line 1: 4>4.
+          ^^^^
+  lines end with LF; this one has a CR before it
+  a line begins with `I>D`, the hex digits of initiator and destination in lower case, as `4>0`
+",
+    ),
+    (
+        b"4>f  active-source 1.0.0.0\n",
+        "line 1: name",
+        "  line 1: 4>f  active-source 1.0.0.0
+              ^
+  two spaces stand side by side here
+  after `I>D` and one space comes an opcode's name, or `op-XX` for an opcode that has none
+",
+    ),
+    (
+        b"4>0 play FORWARD x\n",
+        "line 1: operand",
+        "  line 1: 4>0 play FORWARD x
+                   ^^^^^^^^^
+  operands are the opcode's words, as docs/formats.md has them; as hex, `:` and two lower-case digits a byte, where no word says them
+",
+    ),
+    (
+        b"\x80\x81",
+        "line 1: address",
+        "  line 1: ..
+          ^^
+  this line has bytes that are no printable text; `.` stands for each
+  a line begins with `I>D`, the hex digits of initiator and destination in lower case, as `4>0`
+",
+    ),
+];
+
+const EDIDS: [Case; 5] = [
+    (
+        b"00ffffffffffff00\n4c2d\n",
+        "edid: length",
+        "  an EDID has 128 bytes, and 128 more for each extension
+  this looks like a hex dump; `xxd -r -p` makes bytes of it
+  the input has 0 bytes and 22 more
+",
+    ),
+    (
+        b"00000000: 00ff ffff ffff ff00 4c2d",
+        "edid: length",
+        "  an EDID has 128 bytes, and 128 more for each extension
+  this looks like a hex dump; `xxd -r` makes bytes of one that `xxd` made
+  the input has 0 bytes and 34 more
+",
+    ),
+    (
+        b"",
+        "edid: length",
+        "  an EDID has 128 bytes, and 128 more for each extension
+  the input is empty
+  the input has 0 bytes and 0 more
+",
+    ),
+    (
+        b"edid 1.3\nmaker SAM\n",
+        "edid: length",
+        "  an EDID has 128 bytes, and 128 more for each extension
+  this looks like the text of an EDID, which `edid --text` reads
+  the input has 0 bytes and 19 more
+",
+    ),
+    (
+        b"\x00\xff",
+        "write fault after 9 bytes",
+        "  standard output takes no more: is the disk full, or the reader gone? What was written before is the front of the output
+",
+    ),
+];
+
+const EDID_TEXTS: [Case; 3] = [
+    (
+        b"edid 1.3\nmaker sam\n",
+        "text: field 2",
+        "  line 2: maker sam
+                ^^^
+  a field is out of its range or not spelled as it should be: numbers are decimal with no zero before them, hex is lower case
+",
+    ),
+    (
+        b"edid 1.3\nmakers SAM\n",
+        "text: syntax 2",
+        "  line 2: makers SAM
+          ^^^^^^
+  `makers`: did you mean `maker`?
+  here another line has to stand: `edid --help` shows the lines in their order; each has its word and all its fields, and ends with a line feed
+",
+    ),
+    (
+        b"\x00\xff\xff\xff",
+        "text: syntax 1",
+        "  line 1: ....
+          ^^^^
+  this line has bytes that are no printable text; `.` stands for each
+  here another line has to stand: `edid --help` shows the lines in their order; each has its word and all its fields, and ends with a line feed
+  this looks like the bytes of an EDID, which `edid` reads without `--text`
+",
+    ),
+];
+
+fn are_explained(rt: &impl Abort, alloc: Global, what: Input, cases: &[Case]) -> Result<(), Fail> {
+    for (input, fault, want) in cases {
+        let text = explain(alloc, what, fault, input)?;
+        assert_eq!(rt; text.as_str(), *want);
+    }
+    Ok(())
+}
+
+#[test]
+fn faults_are_explained(rt: HostRuntime) -> Result<(), Fail> {
+    let alloc = rt.alloc();
+    are_explained(&rt, alloc, Input::Network, NETWORKS.as_slice())?;
+    are_explained(&rt, alloc, Input::Lines, FRAMES.as_slice())?;
+    are_explained(&rt, alloc, Input::EdidBytes, EDIDS.as_slice())?;
+    are_explained(&rt, alloc, Input::EdidText, EDID_TEXTS.as_slice())
+}
+
+/// Each fault that a subcommand may end with.
+const FAULTS: [&str; 44] = [
+    "topology line 1: word",
+    "topology line 1: number",
+    "topology line 1: name",
+    "topology line 1: full",
+    "topology line 1: second-root",
+    "topology line 1: no-root",
+    "topology line 1: port-range",
+    "topology line 1: port-taken",
+    "topology line 1: not-loose",
+    "topology line 1: loop",
+    "topology line 1: hex",
+    "script line 1: word",
+    "script line 1: number",
+    "script line 1: name",
+    "script line 1: frame name",
+    "script line 1: frame operand",
+    "script line 1: width",
+    "script line 1: order",
+    "script line 1: close",
+    "script line 1: too-many",
+    "script line 1: end",
+    "steps line 1",
+    "line 1: address",
+    "line 1: name",
+    "line 1: too-long",
+    "line 1: count",
+    "line 1: operand",
+    "line 1: line",
+    "line 1: order",
+    "edid: length",
+    "edid: count",
+    "edid: base header",
+    "edid: base checksum",
+    "edid: base revision",
+    "edid: base maker",
+    "edid: ext 3 checksum",
+    "edid: no-hdmi-block",
+    "text: syntax 1",
+    "text: field 1",
+    "no script line",
+    "no steps line",
+    "input too long",
+    "read fault",
+    "no memory",
+];
+
+#[test]
+fn each_fault_has_its_explanation(rt: HostRuntime) -> Result<(), Fail> {
+    let last = explain(rt.alloc(), Input::Network, "none of them", b"")?;
+    for fault in FAULTS {
+        let text = explain(
+            rt.alloc(),
+            Input::Network,
+            fault,
+            b"at 5 x y\nscript\nat 6 z\nsteps\nstep\n",
+        )?;
+        assert!(rt; text.starts_with("  "), "{fault}");
+        assert!(rt; text.ends_with("\n"), "{fault}");
+        assert_ne!(rt; text, last, "{fault}");
+    }
+    Ok(())
+}
+
+#[test]
+fn a_long_line_is_cut(rt: HostRuntime) -> Result<(), Fail> {
+    let line = "x".repeat(rt.alloc(), 300)?;
+    let text = explain(rt.alloc(), Input::Lines, "line 1: address", line.as_bytes())?;
+    let shown = "x".repeat(rt.alloc(), 160)?;
+    let marks = "^".repeat(rt.alloc(), 160)?;
+    let front = format!(in rt.alloc(); "  line 1: {shown} ..\n          {marks}\n")?;
+    assert!(rt; text.starts_with(front.as_str()));
+    Ok(())
+}
+
+#[test]
+fn counts_are_said(rt: HostRuntime) -> Result<(), Fail> {
+    let line = counts(rt.alloc(), 4, 3, 1)?;
+    assert_eq!(rt;
+        line.as_str(),
+        "  rounds 4, complete rounds 3, refused events 1\n"
+    );
+    Ok(())
+}
