@@ -76,6 +76,116 @@ fn four_players(rt: HostRuntime) -> Result<(), Fail> {
     gives(&rt, rt.alloc(), words.as_slice(), input, output)
 }
 
+const LIVING_ROOM_EVENING_NET: &str = "\
+# A television; an amplifier in its first port, with a player below it; a switch in its second port, with a
+# recorder below it; and a second player that is still on the shelf.
+device tv tv 4
+device amp amp 2
+device p1 player 0
+device sw switch 3
+device rec recorder 0
+device p2 player 0
+plug amp tv 1
+plug p1 amp 1
+plug sw tv 2
+plug rec sw 2
+script
+# The film begins. A disturbance breaks its first frame.
+at 2000000 press p1 play
+pulse 2006500 100
+# Sound goes to the amplifier, and is turned up by the television's remote control.
+at 3000000 press tv audio on
+at 4000000 press tv volume-up
+at 4500000 release tv volume-up
+# The second player is plugged in, and then asked for its name. A disturbance hides a slot of the answer.
+at 5000000 plug p2 tv 3
+at 6000000 send tv 0>8 give-osd-name
+pulse 6073900 2400
+# Who shows the picture? A disturbance refuses the question.
+at 7000000 send tv 0>f request-active-source
+pulse 7050500 700
+# The switch goes to the recorder, which the television wants to watch.
+at 8000000 press sw port 2
+at 9000000 press tv watch 2.2.0.0
+at 10000000 press tv remote 1 stop
+at 10500000 release tv remote 1 stop
+# Two slips: the amplifier has no such key, and the player is not the recorder.
+at 11000000 press amp eject
+at 11000000 send p1 1>0 standby
+# The first player is taken away, and all go to sleep.
+at 12000000 unplug p1
+at 13000000 press tv power
+end 14000000
+";
+
+const LIVING_ROOM_EVENING_TRACE: &str = "\
+12000 39150 complete 0>0 nack by tv out sw@1
+50700 173850 complete f>f report-physical-address 2.0.0.0 switch ok by sw out -
+185400 308550 complete 0>f report-physical-address 0.0.0.0 tv ok by tv out -
+320100 347250 complete 1>1 nack by rec out -
+358801 385951 complete 5>5 nack by amp out -
+397501 520651 complete 1>f report-physical-address 2.2.0.0 recorder ok by rec out -
+532201 655351 complete 5>f report-physical-address 1.0.0.0 audio ok by amp out -
+666914 694064 complete 4>4 nack by p1 out -
+710414 833564 complete 4>f report-physical-address 1.1.0.0 playback ok by p1 out -
+2000000 event 2 ok
+2000000 2006500 short 0 by p1 out -
+2017300 2068450 complete 4>0 image-view-on ack by p1 out -
+2085700 2184850 complete 4>f active-source 1.1.0.0 ok by p1 out -
+3000000 event 5 ok
+3000000 3099150 complete 0>5 system-audio-mode-request 1.1.0.0 ack by tv out -
+3111600 3186750 complete 5>f set-system-audio-mode on ok by amp out -
+4000000 event 6 ok
+4000000 4075150 complete 0>5 user-control-pressed volume-up ack by tv out -
+4087600 4162750 complete 5>0 report-audio-status sound 21 ack by amp out -
+4500000 event 7 ok
+4500000 4551150 complete 0>5 user-control-released ack by tv out -
+5000000 event 9 ok
+5000005 5027155 complete 4>4 ack by p2 out -
+5044405 5071555 complete 8>8 nack by p2 out -
+5087905 5211055 complete 8>f report-physical-address 3.0.0.0 playback ok by p2 out -
+6000000 event 10 ok
+6000000 6051150 complete 0>8 give-osd-name ack by tv out -
+6063600 6075651 silent 100 by p2 out -
+6083500 6182650 complete 8>0 set-osd-name \"p2\" ack by p2 out -
+7000000 event 13 ok
+7000000 7051150 complete 0>f request-active-source refused by tv out -
+7058400 7109550 complete 0>f request-active-source ok by tv out -
+7121100 7220250 complete 4>f active-source 1.1.0.0 ok by p1 out -
+7236600 7335750 complete 4>f active-source 1.1.0.0 ok by p1 out -
+8000000 event 16 ok
+8000000 8147150 complete f>f routing-change 2.1.0.0 2.2.0.0 ok by sw out -
+9000000 event 17 ok
+9000000 9099150 complete 0>f set-stream-path 2.2.0.0 ok by tv out -
+9110700 9209850 complete 1>f active-source 2.2.0.0 ok by rec out -
+10000000 event 18 ok
+10000000 10075150 complete 0>1 user-control-pressed stop ack by tv out -
+10500000 event 19 ok
+10500000 10551150 complete 0>1 user-control-released ack by tv out -
+11000000 event 21 refused not-for-kind
+11000000 event 22 refused no-address
+12000000 event 24 ok
+13000000 event 25 ok
+13000000 13051150 complete 0>f standby ok by tv out -
+state tv tv 0 0.0.0.0 standby active=2.2.0.0 path=2.2.0.0 deck=1a menu=off audio=on volume=20 mute=off arc=off sel=- lang=656e67 osd=- held=- heard=8:47:70 sub=- queue=0 dropped=0
+state amp amp 5 1.0.0.0 standby active=2.2.0.0 path=2.2.0.0 deck=1a menu=off audio=on volume=21 mute=off arc=off sel=- lang=656e67 osd=- held=- heard=8:84:30 sub=- queue=0 dropped=0
+state p1 player - - on active=- path=- deck=1a menu=off audio=off volume=20 mute=off arc=off sel=- lang=656e67 osd=- held=- heard=- sub=- queue=0 dropped=0
+state sw switch f 2.0.0.0 standby active=2.2.0.0 path=2.2.0.0 deck=1a menu=off audio=off volume=20 mute=off arc=off sel=2 lang=656e67 osd=- held=- heard=8:84:30 sub=- queue=0 dropped=0
+state rec recorder 1 2.2.0.0 standby active=2.2.0.0 path=2.2.0.0 deck=1a menu=off audio=off volume=20 mute=off arc=off sel=- lang=656e67 osd=- held=- heard=8:84:30 sub=- queue=0 dropped=0
+state p2 player 8 3.0.0.0 standby active=2.2.0.0 path=2.2.0.0 deck=1a menu=off audio=off volume=20 mute=off arc=off sel=- lang=656e67 osd=- held=- heard=- sub=- queue=0 dropped=0
+14000000 end
+";
+
+#[test]
+fn living_room_evening(rt: HostRuntime) -> Result<(), Fail> {
+    let words = ["run"];
+    let (input, output) = (
+        LIVING_ROOM_EVENING_NET.as_bytes(),
+        LIVING_ROOM_EVENING_TRACE.as_bytes(),
+    );
+    gives(&rt, rt.alloc(), words.as_slice(), input, output)
+}
+
 const PORTS_NET: &str = "\
 # A television with an EDID. An amplifier, and a player below it, move from its first port to its second.
 device tv tv 2
