@@ -5,3 +5,4 @@ pub mod OneTimings
 pub mod WholeLemmas
 pub mod FirstHdmi
 pub mod Readdressing
+pub mod Hearing

@@ -3,3 +3,4 @@ pub mod Cta
 pub mod Whole
 pub mod Ext
 pub mod Hdmi
+pub mod Audio

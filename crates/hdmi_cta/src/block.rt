@@ -76,6 +76,7 @@ impl Default for Block {
 
 impl Block {
     ghost use Rattle.hdmi_cta.specs.Block.{block_bytes};
+    ghost use Rattle.hdmi_cta.specs.Audio.{is_audio};
     ghost use Rattle.hdmi_cta.specs.Hdmi.{is_hdmi};
 
     /// Whether it is an HDMI block: a vendor block of five bytes and more that begins 03 0C 00
@@ -85,6 +86,13 @@ impl Block {
     {
         self.kind == BlockKind::Vendor
             && matches!(self.payload.as_slice(), [0x03, 0x0c, 0x00, _, _, ..])
+    }
+
+    /// Whether it is an audio block.
+    pub fn is_audio(&self) -> bool
+        ensures { result ≡ is_audio self.now }
+    {
+        matches!(self.kind, BlockKind::Audio)
     }
 
     /// Its bytes.

@@ -89,7 +89,8 @@ fn append_blocks(out: &mut ArrayVec<u8, 123>, blocks: &[Block])
     }
 }
 
-fn append_timings(out: &mut ArrayVec<u8, 123>, timings: &[Timing])
+/// Appends the bytes of timings for which there is room.
+pub fn append_timings(out: &mut ArrayVec<u8, 123>, timings: &[Timing])
     requires { array_vec_len out.old + length (flat_map timing_bytes timings.now) ≤ 123 }
     ensures { out.new.items ≡ out.old.items ++ flat_map timing_bytes timings.now }
 {

@@ -1,6 +1,7 @@
 //! The CTA extension block: flags, data blocks, detailed timings and a tail.
 #![tactic(auto)]
 
+mod audio;
 mod block;
 mod cta;
 mod ext;
@@ -8,7 +9,10 @@ mod hdmi;
 mod parts;
 mod raw;
 mod reading;
+#[cfg(test)]
+mod tests;
 
+pub use audio::with_audio;
 pub use block::{Block, BlockKind};
 pub use cta::{Bare, Cta};
 pub use ext::{ExtError, read_ext, write_ext};

@@ -1,0 +1,84 @@
+-- The audio that an amplifier passes on in place of the television's (own; CTA-861-D, 7.5.2, lays out an audio data block).
+use Rattle.std.specs.Prelude.{◌≡◌, ℕ, ◌+◌, ◌-◌, ◌==◌, ◌&&◌, Bool, true, false, nat_le, if◌then◌else◌, List, [], ◌∷◌, ◌++◌, length, take, drop, replicate, flat_map, find}
+use Rattle.std.specs.List.{before_first, list_all}
+use Rattle.hdmi_edid.specs.Check.{summed}
+use Rattle.hdmi_edid.specs.Timing.{timing_bytes}
+use Rattle.hdmi_cta.specs.Block.{block_bytes}
+use Rattle.hdmi_cta.specs.Ext.{ext_bytes}
+use Rattle.hdmi_cta.specs.Hdmi.{is_hdmi, blocks_of, address_place}
+use Rattle.hdmi_cta.specs.Whole.{cta_bytes}
+use Rattle.hdmi_cta.specs.declared.block.Block.{Block}
+use Rattle.hdmi_cta.specs.declared.block.BlockKind.{BlockKind}
+use Rattle.hdmi_cta.specs.declared.block.BlockKind.TheVariants.{Audio}
+use Rattle.hdmi_cta.specs.declared.cta.Cta.{Cta as CtaValue}
+use Rattle.hdmi_cta.specs.declared.raw.Ext.{Ext}
+use Rattle.hdmi_cta.specs.declared.raw.Ext.TheVariants.{Cta, Bare, Raw}
+
+abbrev pub is_audio_kind : BlockKind → Bool
+is_audio_kind Audio = true
+is_audio_kind _ = false
+
+abbrev pub is_audio : Block → Bool
+is_audio b = is_audio_kind b.kind
+
+-- eight channels of linear PCM, and six of AC-3
+abbrev pub amplifier_audio : List ℕ
+amplifier_audio = 0x26 ∷ 0x0f ∷ 0x7f ∷ 0x07 ∷ 0x15 ∷ 0x07 ∷ 0x50 ∷ []
+
+-- the bytes of data blocks, where the first audio block is the amplifier's
+abbrev pub heard : List Block → List ℕ
+heard [] = []
+heard (b ∷ bs) = if is_audio b then amplifier_audio ++ flat_map block_bytes bs else block_bytes b ++ heard bs
+
+-- by how many bytes the data blocks grow, and by how many they shrink
+abbrev pub growth : List Block → ℕ
+growth blocks = length (heard blocks) - length (flat_map block_bytes blocks)
+
+abbrev pub shrinkage : List Block → ℕ
+shrinkage blocks = length (flat_map block_bytes blocks) - length (heard blocks)
+
+-- so many zeros stand at the end
+abbrev pub ends_in_zeros : ℕ → List ℕ → Bool
+ends_in_zeros n bytes = nat_le n (length bytes) && list_all (λ b. b == 0) (drop (length bytes - n) bytes)
+
+-- a tail without so many of its last bytes, and with so many zeros more
+abbrev pub fitted : ℕ → ℕ → List ℕ → List ℕ
+fitted less more tail = take (length tail - less) tail ++ replicate more 0
+
+abbrev pub has_room : CtaValue → Bool
+has_room c = ends_in_zeros (growth c.blocks.items) c.tail.items
+
+-- what follows the data blocks
+abbrev pub moved : CtaValue → List ℕ
+moved c = flat_map timing_bytes c.timings.items ++ fitted (growth c.blocks.items) (shrinkage c.blocks.items) c.tail.items
+
+-- the 128 bytes with the amplifier's audio, where there is room; what follows it moves, and the checksum is mended
+abbrev pub heard_cta : CtaValue → List ℕ
+heard_cta c =
+    if has_room c then summed (2 ∷ 3 ∷ (length (heard c.blocks.items) + 4) ∷ c.flags ∷ (heard c.blocks.items ++ moved c))
+    else cta_bytes c
+
+abbrev pub heard_bytes : Ext → List ℕ
+heard_bytes (Cta c) = heard_cta c
+heard_bytes (Bare b) = ext_bytes (Bare b)
+heard_bytes (Raw r) = ext_bytes (Raw r)
+
+-- where the address of the first HDMI block stands then
+abbrev pub place_in : CtaValue → ℕ
+place_in c = if has_room c then 8 + length (heard (before_first is_hdmi c.blocks.items)) else address_place c.blocks.items
+
+abbrev pub heard_place : Ext → ℕ
+heard_place (Cta c) = place_in c
+heard_place (Bare b) = address_place (blocks_of (Bare b))
+heard_place (Raw r) = address_place (blocks_of (Raw r))
+
+-- nothing changes
+pub record IsUnheard (c : CtaValue) : Type 0 where
+  pub bytes : cta_bytes c ≡ heard_cta c
+  pub place : address_place c.blocks.items ≡ place_in c
+
+-- a block with the amplifier's audio, and the HDMI block that was there
+pub record IsHeard (c heard : CtaValue) : Type 0 where
+  pub bytes : cta_bytes heard ≡ heard_cta c
+  pub hdmi : find is_hdmi heard.blocks.items ≡ find is_hdmi c.blocks.items
+  pub place : address_place heard.blocks.items ≡ place_in c

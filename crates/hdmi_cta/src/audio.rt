@@ -1,0 +1,208 @@
+//! The audio that an amplifier passes on in place of the television's.
+ghost use Rattle.std.specs.Prelude.{◌≡◌, ◌≤◌, ◌<◌, ◌+◌, ◌-◌, ◌++◌, ◌==◌, true, Some, length, flat_map, position, find, slice_set, IfSome, IfNone, IsTrue};
+ghost use Rattle.std.specs.List.{before_first, list_all};
+ghost use Rattle.hdmi_edid.specs.Bytes.{are_bytes};
+ghost use Rattle.hdmi_edid.specs.Timing.{timing_bytes};
+ghost use Rattle.hdmi_cta.specs.Block.{block_bytes};
+ghost use Rattle.hdmi_cta.specs.Ext.{ext_bytes};
+ghost use Rattle.hdmi_cta.specs.Hdmi.{is_hdmi, blocks_of, address_of, address_place};
+ghost use Rattle.hdmi_cta.specs.Audio.{is_audio, amplifier_audio, heard, growth, shrinkage, ends_in_zeros, fitted, heard_bytes, heard_place, IsHeard, IsUnheard};
+
+use crate::block::{Block, BlockKind};
+use crate::cta::Cta;
+use crate::ext::{append_timings, read_ext, write_ext};
+use crate::parts::append;
+use crate::raw::Ext;
+use crate::reading::read_timings;
+use arrayvec::ArrayVec;
+use hdmi_edid::Timing;
+
+/// What an amplifier's audio data block tells: eight channels of linear PCM, and six of AC-3.
+const AMPLIFIER_AUDIO: [u8; 6] = [0x0f, 0x7f, 0x07, 0x15, 0x07, 0x50];
+
+/// The amplifier's audio data block.
+fn amplifier_block() -> Block
+    ensures bytes { block_bytes result ≡ amplifier_audio }
+    ensures audio { is_audio result ≡ true }
+{
+    let mut payload = ArrayVec::new();
+    append(&mut payload, &AMPLIFIER_AUDIO);
+    Block {
+        kind: BlockKind::Audio,
+        payload,
+    }
+}
+
+/// The same data block.
+fn copy_of(block: &Block) -> Block
+    ensures { result ≡ block.now }
+{
+    let mut payload = ArrayVec::new();
+    append(&mut payload, block.payload.as_slice());
+    Block {
+        kind: block.kind,
+        payload,
+    }
+}
+
+/// The same data blocks.
+fn copies_of(blocks: &[Block]) -> ArrayVec<Block, 123>
+    requires { length blocks.now ≤ 123 }
+    ensures { result.items ≡ blocks.now }
+{
+    let mut copies = ArrayVec::new();
+    for block in blocks {
+        copies.push(copy_of(block));
+    }
+    copies
+}
+
+/// The same extension.
+fn same(ext: &Ext) -> Ext
+    ensures { result ≡ ext.now }
+{
+    read_ext(&write_ext(ext)).unwrap()
+}
+
+/// The first audio block.
+fn first_audio(blocks: &[Block]) -> Option<usize>
+    ensures { result ≡ position is_audio blocks.now }
+{
+    blocks.iter().position(|block| block.is_audio())
+}
+
+/// Puts a data block in the place of another.
+fn put(blocks: &mut ArrayVec<Block, 123>, index: usize, block: Block)
+    requires { index < length blocks.old.items }
+    ensures { blocks.new.items ≡ slice_set blocks.old.items index block }
+{
+    blocks[index] = block;
+}
+
+/// The same data blocks, where the first audio block is the amplifier's.
+fn heard(blocks: &[Block], index: usize) -> ArrayVec<Block, 123>
+    requires few { length blocks.now ≤ 123 }
+    requires first { position is_audio blocks.now ≡ Some index }
+    ensures bytes { flat_map block_bytes result.items ≡ heard blocks.now }
+    ensures hdmi { find is_hdmi result.items ≡ find is_hdmi blocks.now }
+    ensures before { flat_map block_bytes (before_first is_hdmi result.items) ≡ heard (before_first is_hdmi blocks.now) }
+{
+    let mut copies = copies_of(blocks);
+    put(&mut copies, index, amplifier_block());
+    copies
+}
+
+/// By how many bytes the data blocks grow, and by how many they shrink.
+fn growth(blocks: &[Block], index: usize) -> (usize, usize)
+    requires first { position is_audio blocks.now ≡ Some index }
+    ensures less { result.0 ≡ growth blocks.now }
+    ensures more { result.1 ≡ shrinkage blocks.now }
+    ensures few { result.1 ≤ 25 }
+{
+    let old = blocks[index].payload.len();
+    (
+        AMPLIFIER_AUDIO.len().saturating_sub(old),
+        old.saturating_sub(AMPLIFIER_AUDIO.len()),
+    )
+}
+
+/// Whether all bytes are 0.
+fn are_zeros(bytes: &[u8]) -> bool
+    ensures { result ≡ list_all (λ b. b == 0) bytes.now }
+{
+    bytes.iter().all(|byte| *byte == 0)
+}
+
+/// Whether so many zeros stand at the end.
+fn ends_in_zeros(bytes: &[u8], count: usize) -> bool
+    ensures { result ≡ ends_in_zeros count bytes.now }
+{
+    count <= bytes.len() && are_zeros(&bytes[bytes.len() - count..])
+}
+
+/// A tail with fewer or more zeros at its end.
+#[tactic(auto, using(crate::proofs::Hearing::zeros_front))]
+fn fitted(tail: &[u8], less: usize, more: usize) -> ArrayVec<u8, 123>
+    requires less { less ≤ length tail.now }
+    requires more { more ≤ 25 }
+    requires room { (length tail.now - less) + more ≤ 123 }
+    ensures { result.items ≡ fitted less more tail.now }
+{
+    let mut bytes = ArrayVec::new();
+    append(&mut bytes, &tail[..tail.len() - less]);
+    append(&mut bytes, &[0; 25][..more]);
+    bytes
+}
+
+/// The bytes behind the data blocks, with fewer or more zeros at their end.
+fn moved(timings: &[Timing], tail: &[u8]) -> ArrayVec<u8, 123>
+    requires { length (flat_map timing_bytes timings.now) + length tail.now ≤ 123 }
+    ensures { result.items ≡ flat_map timing_bytes timings.now ++ tail.now }
+{
+    let mut bytes = ArrayVec::new();
+    append_timings(&mut bytes, timings);
+    append(&mut bytes, tail);
+    bytes
+}
+
+/// These bytes as a tail.
+fn tail_of(bytes: &[u8]) -> ArrayVec<u8, 123>
+    requires { length bytes.now ≤ 123 }
+    ensures items { result.items ≡ bytes.now }
+    ensures fit { IsTrue (are_bytes result.items) }
+{
+    let mut tail = ArrayVec::new();
+    append(&mut tail, bytes);
+    tail
+}
+
+/// Data blocks, and the timings and the tail that these bytes spell.
+fn made_of(flags: u8, blocks: ArrayVec<Block, 123>, bytes: &[u8]) -> Cta
+    requires { length (flat_map block_bytes blocks.items) + length bytes.now ≡ 123 }
+    ensures flags { result.flags ≡ flags }
+    ensures blocks { result.blocks.items ≡ blocks.items }
+    ensures rest { flat_map timing_bytes result.timings.items ++ result.tail.items ≡ bytes.now }
+{
+    let (timings, rest) = read_timings(bytes);
+    let tail = tail_of(rest);
+    Cta {
+        flags,
+        blocks,
+        timings,
+        tail,
+    }
+}
+
+/// The block with the amplifier's audio; none where it has no audio block, or no room for it.
+fn amplified(cta: &Cta) -> Option<Cta>
+    ensures none { IfNone result (IsUnheard cta.now) }
+    ensures some { IfSome result (IsHeard cta.now) }
+{
+    let Some(index) = first_audio(cta.blocks.as_slice()) else {
+        return None;
+    };
+    let (less, more) = growth(cta.blocks.as_slice(), index);
+    if !ends_in_zeros(cta.tail.as_slice(), less) {
+        return None;
+    }
+    let blocks = heard(cta.blocks.as_slice(), index);
+    let tail = fitted(cta.tail.as_slice(), less, more);
+    let rest = moved(cta.timings.as_slice(), tail.as_slice());
+    Some(made_of(cta.flags, blocks, rest.as_slice()))
+}
+
+/// The extension that an amplifier passes on: its first audio block is the amplifier's. What follows moves, zeros
+/// at the end make up for it, and the checksum is mended. Where the tail ends in too few zeros, and where there is
+/// no audio block, the extension stays as it is.
+pub fn with_audio(ext: &Ext) -> Ext
+    ensures bytes { ext_bytes result ≡ heard_bytes ext.now }
+    ensures addressed { address_of result ≡ address_of ext.now }
+    ensures place { address_place (blocks_of result) ≡ heard_place ext.now }
+{
+    if let Ext::Cta(cta) = ext {
+        if let Some(heard) = amplified(cta) {
+            return Ext::Cta(heard);
+        }
+    }
+    same(ext)
+}
