@@ -58,10 +58,7 @@ const SCRIPT: [Row; 8] = [
         "name",
         "a NAME, CHILD or PARENT of the script has a `device` line in the topology",
     ),
-    (
-        "width",
-        "WIDTH is a number of microseconds from 1 up to the widest pulse that docs/formats.md gives",
-    ),
+    ("width", "WIDTH is a number of microseconds, 1 to 3000"),
     (
         "order",
         "times do not go back: each T is that of the line before it or later, and a pulse begins after the end of the last one",

@@ -9,22 +9,41 @@ pub const TOPOLOGY: [&str; 3] = [
 ];
 
 /// The lines of a script.
-pub const SCRIPT: [&str; 4] = [
+pub const SCRIPT: [&str; 7] = [
     "at T press NAME KEY",
+    "at T release NAME KEY",
     "at T plug CHILD PARENT PORT",
     "at T unplug CHILD",
+    "at T send NAME FRAME",
+    "pulse T WIDTH",
     "end T",
 ];
 
 /// The words that stand for a KIND.
 pub const KINDS: [&str; 5] = ["tv", "amp", "player", "recorder", "switch"];
 
-/// The words that stand for a KEY.
-pub const KEYS: [&str; 1] = ["play"];
+/// The words that a KEY is, or begins with.
+pub const KEYS: [&str; 15] = [
+    "play",
+    "stop",
+    "eject",
+    "load",
+    "menu",
+    "power",
+    "volume-up",
+    "volume-down",
+    "mute",
+    "port",
+    "watch",
+    "language",
+    "audio",
+    "arc",
+    "remote",
+];
 
 /// The words that stand for themselves.
-pub const KEYWORDS: [&str; 8] = [
-    "device", "plug", "edid", "script", "at", "press", "unplug", "end",
+pub const KEYWORDS: [&str; 11] = [
+    "device", "plug", "edid", "script", "at", "press", "release", "send", "unplug", "pulse", "end",
 ];
 
 /// The words that the lines of an EDID's text begin with.

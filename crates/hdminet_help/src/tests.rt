@@ -101,7 +101,7 @@ const NETWORKS: [Case; 12] = [
                      ^^
   this line has a tab; words stand one space apart
   this line ends with a space
-  a line here reads `at T press NAME KEY`, `at T plug CHILD PARENT PORT`, `at T unplug CHILD`
+  a line here reads `at T press NAME KEY`, `at T release NAME KEY`, `at T plug CHILD PARENT PORT`, `at T unplug CHILD`, `at T send NAME FRAME`
   words stand one space apart, and nothing follows the last one
 ",
     ),

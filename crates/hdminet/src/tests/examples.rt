@@ -27,7 +27,8 @@ state p1 player 4 1.0.0.0 on active=1.0.0.0 path=1.0.0.0 deck=11 menu=off audio=
 #[test]
 fn first_path(rt: HostRuntime) -> Result<(), Fail> {
     let words = ["run"];
-    let (input, output) = (FIRST_PATH_NET.as_bytes(), FIRST_PATH_TRACE.as_bytes());
+    let input = FIRST_PATH_NET.as_bytes();
+    let output = FIRST_PATH_TRACE.as_bytes();
     gives(&rt, rt.alloc(), words.as_slice(), input, output)
 }
 
@@ -72,7 +73,8 @@ state p4 player f 4.0.0.0 on active=- path=- deck=1a menu=off audio=off volume=2
 #[test]
 fn four_players(rt: HostRuntime) -> Result<(), Fail> {
     let words = ["run"];
-    let (input, output) = (FOUR_PLAYERS_NET.as_bytes(), FOUR_PLAYERS_TRACE.as_bytes());
+    let input = FOUR_PLAYERS_NET.as_bytes();
+    let output = FOUR_PLAYERS_TRACE.as_bytes();
     gives(&rt, rt.alloc(), words.as_slice(), input, output)
 }
 
@@ -179,10 +181,8 @@ state p2 player 8 3.0.0.0 standby active=2.2.0.0 path=2.2.0.0 deck=1a menu=off a
 #[test]
 fn living_room_evening(rt: HostRuntime) -> Result<(), Fail> {
     let words = ["run"];
-    let (input, output) = (
-        LIVING_ROOM_EVENING_NET.as_bytes(),
-        LIVING_ROOM_EVENING_TRACE.as_bytes(),
-    );
+    let input = LIVING_ROOM_EVENING_NET.as_bytes();
+    let output = LIVING_ROOM_EVENING_TRACE.as_bytes();
     gives(&rt, rt.alloc(), words.as_slice(), input, output)
 }
 
@@ -226,7 +226,8 @@ state p1 player 4 2.1.0.0 on active=- path=- deck=1a menu=off audio=off volume=2
 #[test]
 fn ports(rt: HostRuntime) -> Result<(), Fail> {
     let words = ["run"];
-    let (input, output) = (PORTS_NET.as_bytes(), PORTS_TRACE.as_bytes());
+    let input = PORTS_NET.as_bytes();
+    let output = PORTS_TRACE.as_bytes();
     gives(&rt, rt.alloc(), words.as_slice(), input, output)
 }
 
@@ -274,7 +275,8 @@ const FRAMES_HEX: &str = "\
 #[test]
 fn frames(rt: HostRuntime) -> Result<(), Fail> {
     let words = ["asm"];
-    let (input, output) = (FRAMES_TXT.as_bytes(), FRAMES_HEX.as_bytes());
+    let input = FRAMES_TXT.as_bytes();
+    let output = FRAMES_HEX.as_bytes();
     gives(&rt, rt.alloc(), words.as_slice(), input, output)
 }
 
@@ -325,7 +327,8 @@ fn living_room_as_text(rt: HostRuntime) -> Result<(), Fail> {
 #[test]
 fn living_room_as_bytes(rt: HostRuntime) -> Result<(), Fail> {
     let words = ["edid", "--text"];
-    let (input, output) = (LIVING_ROOM_EDID_TXT.as_bytes(), LIVING_ROOM_EDID.as_bytes());
+    let input = LIVING_ROOM_EDID_TXT.as_bytes();
+    let output = LIVING_ROOM_EDID.as_bytes();
     gives(&rt, rt.alloc(), words.as_slice(), input, output)
 }
 
@@ -376,6 +379,7 @@ fn monitor_1_4_as_text(rt: HostRuntime) -> Result<(), Fail> {
 #[test]
 fn monitor_1_4_as_bytes(rt: HostRuntime) -> Result<(), Fail> {
     let words = ["edid", "--text"];
-    let (input, output) = (MONITOR_1_4_EDID_TXT.as_bytes(), MONITOR_1_4_EDID.as_bytes());
+    let input = MONITOR_1_4_EDID_TXT.as_bytes();
+    let output = MONITOR_1_4_EDID.as_bytes();
     gives(&rt, rt.alloc(), words.as_slice(), input, output)
 }
