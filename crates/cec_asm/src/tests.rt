@@ -10,133 +10,137 @@ use std::test::Fail;
 // A television with four ports, and a player in the first.
 const NETWORK: &str = "device tv tv 4\ndevice p1 player 0\nplug p1 tv 1\n";
 
-// Scripts, and the line and cause that each is refused with.
-const REFUSED: [(&str, &str); 86] = [
-    // word
-    ("frob", "line 1: word"),
-    (" ", "line 1: word"),
-    ("at", "line 1: word"),
-    ("at 5", "line 1: word"),
-    ("at 5 frob p1", "line 1: word"),
-    ("at 5 plug p1 tv", "line 1: word"),
-    ("at 5 unplug p1 tv", "line 1: word"),
-    ("at 5 press", "line 1: word"),
-    ("at 5 press p1", "line 1: word"),
-    ("at 5 press p1 frob", "line 1: word"),
-    ("at 5 press p1 play again", "line 1: word"),
-    ("at 5 press p1 Play", "line 1: word"),
-    ("at 5 press p1 port", "line 1: word"),
-    ("at 5 press p1 port 1 2", "line 1: word"),
-    ("at 5 press p1 audio", "line 1: word"),
-    ("at 5 press p1 audio up", "line 1: word"),
-    ("at 5 press p1 arc 1", "line 1: word"),
-    ("at 5 press p1 watch", "line 1: word"),
-    ("at 5 press p1 watch 1.0.0", "line 1: word"),
-    ("at 5 press p1 watch 1.0.0.G", "line 1: word"),
-    ("at 5 press p1 watch 1.0.0.F", "line 1: word"),
-    ("at 5 press p1 watch 1000000", "line 1: word"),
-    ("at 5 press p1 watch 1.0.0.00", "line 1: word"),
-    ("at 5 press p1 language en", "line 1: word"),
-    ("at 5 press p1 language engl", "line 1: word"),
-    ("at 5 press p1 language Eng", "line 1: word"),
-    ("at 5 press p1 language e1g", "line 1: word"),
-    ("at 5 press p1 remote 4", "line 1: word"),
-    ("at 5 press p1 remote 0 play", "line 1: word"),
-    ("at 5 press p1 remote f play", "line 1: word"),
-    ("at 5 press p1 remote E play", "line 1: word"),
-    ("at 5 press p1 remote 10 play", "line 1: word"),
-    ("at 5 press p1 remote 4 frob", "line 1: word"),
-    ("at 5 press p1 remote 4 44", "line 1: word"),
-    ("at 5 release p1", "line 1: word"),
-    ("at 5 send", "line 1: word"),
-    ("at 5 send p1", "line 1: word"),
-    ("at x send frob", "line 1: word"),
-    ("pulse", "line 1: word"),
-    ("pulse 5", "line 1: word"),
-    ("pulse 5 6 7", "line 1: word"),
-    ("pulse x y z", "line 1: word"),
-    ("end", "line 1: word"),
-    ("end 5 6", "line 1: word"),
-    ("# a\n\nfrob", "line 3: word"),
-    ("end 10\nfrob", "line 2: word"),
-    // number
-    ("at x press p2 port x", "line 1: number"),
-    ("at 5 press p2 port 01", "line 1: number"),
-    ("at 5 press p2 port ", "line 1: number"),
-    ("at x send p2 4>g", "line 1: number"),
-    ("at 1000000000001 send p1 4>4", "line 1: number"),
-    ("pulse 05 100", "line 1: number"),
-    ("pulse 5 0x64", "line 1: number"),
-    ("pulse 1000000000001 0", "line 1: number"),
-    ("end 1000000000001", "line 1: number"),
-    // name
-    ("at 5 press p2 port 1", "line 1: name"),
-    ("at 5 release P1 play", "line 1: name"),
-    ("at 5 send p2 4>g", "line 1: name"),
-    ("at 5 send  4>4", "line 1: name"),
-    // frame
-    ("at 5 send tv ", "line 1: frame address"),
-    ("at 5 send p1 4>g", "line 1: frame address"),
-    ("at 5 send p1 4>0 frob", "line 1: frame name"),
-    ("at 5 send p1 4>0 ", "line 1: frame name"),
-    ("at 5 send p1 4>0 play", "line 1: frame count"),
-    ("at 5 send p1 4>0 play :24", "line 1: frame operand"),
-    (
-        "at 5 send p1 4>0 op-e5 :000102030405060708090a0b0c0d0e",
-        "line 1: frame too-long",
-    ),
-    (
-        "at 9 send p1 4>4\nat 5 send p1 4>g",
-        "line 2: frame address",
-    ),
-    // width
-    ("pulse 5 0", "line 1: width"),
-    ("pulse 5 3001", "line 1: width"),
-    ("pulse 5 18446744073709551617", "line 1: width"),
-    ("pulse 100000 400\npulse 5 3001", "line 2: width"),
-    ("end 10\npulse 5 0", "line 2: width"),
-    // order
-    (
-        "at 10 press p1 play\nat 9 press p1 play\nend 20",
-        "line 2: order",
-    ),
-    (
-        "at 10 press p1 play\nend 20\nat 9 press p1 play",
-        "line 3: order",
-    ),
-    ("pulse 100000 400\npulse 100399 1", "line 2: order"),
-    ("pulse 100000 400\nend 20\npulse 100399 1", "line 3: order"),
-    // close
-    ("pulse 100000 400\npulse 125399 1", "line 2: close"),
-    ("pulse 100000 400\nend 20\npulse 100400 1", "line 3: close"),
-    // end
-    ("", "line 1: end"),
-    ("at 5 press p1 play\n# no end\n", "line 3: end"),
-    ("end 10\nend 20", "line 2: end"),
-    ("end 10\nat 20 press p1 play", "line 2: end"),
-    ("end 10\npulse 100000 400", "line 2: end"),
-    ("at 10 press p1 play\nend 10", "line 2: end"),
-    ("at 10 send p1 4>4\nend 9", "line 2: end"),
-    ("at 5 unplug p1\nend 6\n\n# more\nend 7", "line 5: end"),
-];
+// Scripts, a `;` for each line feed, and the line and cause that each is refused with.
+const REFUSED: &str = "\
+frob => line 1: word
+  => line 1: word
+at => line 1: word
+at 5 => line 1: word
+at 5 frob p1 => line 1: word
+at 5 plug p1 tv => line 1: word
+at 5 unplug p1 tv => line 1: word
+at 5 press => line 1: word
+at 5 press p1 => line 1: word
+at 5 press p1 frob => line 1: word
+at 5 press p1 play again => line 1: word
+at 5 press p1 Play => line 1: word
+at 5 press p1 port => line 1: word
+at 5 press p1 port 1 2 => line 1: word
+at 5 press p1 audio => line 1: word
+at 5 press p1 audio up => line 1: word
+at 5 press p1 arc 1 => line 1: word
+at 5 press p1 watch => line 1: word
+at 5 press p1 watch 1.0.0 => line 1: word
+at 5 press p1 watch 1.0.0.G => line 1: word
+at 5 press p1 watch 1.0.0.F => line 1: word
+at 5 press p1 watch 1000000 => line 1: word
+at 5 press p1 watch 1.0.0.00 => line 1: word
+at 5 press p1 language en => line 1: word
+at 5 press p1 language engl => line 1: word
+at 5 press p1 language Eng => line 1: word
+at 5 press p1 language e1g => line 1: word
+at 5 press p1 remote 4 => line 1: word
+at 5 press p1 remote 0 play => line 1: word
+at 5 press p1 remote f play => line 1: word
+at 5 press p1 remote E play => line 1: word
+at 5 press p1 remote 10 play => line 1: word
+at 5 press p1 remote 4 frob => line 1: word
+at 5 press p1 remote 4 44 => line 1: word
+at 5 release p1 => line 1: word
+at 5 send => line 1: word
+at 5 send p1 => line 1: word
+at x send frob => line 1: word
+pulse => line 1: word
+pulse 5 => line 1: word
+pulse 5 6 7 => line 1: word
+pulse x y z => line 1: word
+end => line 1: word
+end 5 6 => line 1: word
+# a;;frob => line 3: word
+end 10;frob => line 2: word
+at x press p2 port x => line 1: number
+at 5 press p2 port 01 => line 1: number
+at 5 press p2 port  => line 1: number
+at x send p2 4>g => line 1: number
+at 1000000000001 send p1 4>4 => line 1: number
+pulse 05 100 => line 1: number
+pulse 5 0x64 => line 1: number
+pulse 1000000000001 0 => line 1: number
+end 1000000000001 => line 1: number
+at 5 press p2 port 1 => line 1: name
+at 5 release P1 play => line 1: name
+at 5 send p2 4>g => line 1: name
+at 5 send  4>4 => line 1: name
+at 5 send tv  => line 1: frame address
+at 5 send p1 4>g => line 1: frame address
+at 5 send p1 4>0 frob => line 1: frame name
+at 5 send p1 4>0  => line 1: frame name
+at 5 send p1 4>0 play => line 1: frame count
+at 5 send p1 4>0 play :24 => line 1: frame operand
+at 5 send p1 4>0 op-e5 :000102030405060708090a0b0c0d0e => line 1: frame too-long
+at 9 send p1 4>4;at 5 send p1 4>g => line 2: frame address
+pulse 5 0 => line 1: width
+pulse 5 3001 => line 1: width
+pulse 5 18446744073709551617 => line 1: width
+pulse 100000 400;pulse 5 3001 => line 2: width
+end 10;pulse 5 0 => line 2: width
+at 10 press p1 play;at 9 press p1 play;end 20 => line 2: order
+at 10 press p1 play;end 20;at 9 press p1 play => line 3: order
+pulse 100000 400;pulse 100399 1 => line 2: order
+pulse 100000 400;end 20;pulse 100399 1 => line 3: order
+pulse 100000 400;pulse 125399 1 => line 2: close
+pulse 100000 400;end 20;pulse 100400 1 => line 3: close
+ => line 1: end
+at 5 press p1 play;# no end; => line 3: end
+end 10;end 20 => line 2: end
+end 10;at 20 press p1 play => line 2: end
+end 10;pulse 100000 400 => line 2: end
+at 10 press p1 play;end 10 => line 2: end
+at 10 send p1 4>4;end 9 => line 2: end
+at 5 unplug p1;end 6;;# more;end 7 => line 5: end
+";
 
 fn read(alloc: Global, text: &str) -> Result<Result<Script, ScriptError>, Fail> {
     let topology = parse_topology(alloc, NETWORK.as_bytes())?;
     Ok(parse_script(alloc, &topology, text.as_bytes()))
 }
 
-#[test]
-fn names_the_first_line_at_fault_and_its_cause(rt: HostRuntime) -> Result<(), Fail> {
-    let alloc = rt.alloc();
-    for (text, told) in REFUSED {
-        match read(alloc, text)? {
-            Ok(_) => assert!(rt; false, "{text} is taken"),
-            Err(error) => {
-                let error = format!(in alloc; "{error}")?;
-                assert_eq!(rt; error.as_str(), told, "{text}");
+// A text with a line feed for each `;`.
+fn with_lines(alloc: Global, text: &str) -> Result<String, Fail> {
+    let mut lines = String::new(alloc);
+    for part in text.split_inclusive(';') {
+        match part.strip_suffix(';') {
+            Some(line) => {
+                lines.push_str(line)?;
+                lines.push('\n')?;
             }
+            None => lines.push_str(part)?,
         }
     }
+    Ok(lines)
+}
+
+// The text of a case is refused as the case says.
+fn refuses(rt: &impl Abort, alloc: Global, case: &str) -> Result<(), Fail> {
+    let (text, told) = case.rsplit_once(" => ").ok_or("no case")?;
+    let text = with_lines(alloc, text)?;
+    let error = match read(alloc, text.as_str())? {
+        Ok(_) => return Err(Fail::from("a script")),
+        Err(error) => error,
+    };
+    let error = format!(in alloc; "{error}")?;
+    assert_eq!(rt; error.as_str(), told, "{text}");
+    Ok(())
+}
+
+#[test]
+fn names_the_first_line_at_fault_and_its_cause(rt: HostRuntime) -> Result<(), Fail> {
+    let mut count = 0u32;
+    for case in REFUSED.lines() {
+        refuses(&rt, rt.alloc(), case)?;
+        count = count.saturating_add(1);
+    }
+    assert_eq!(rt; count, 86);
     Ok(())
 }
 
@@ -305,10 +309,24 @@ fn reads_each_code_of_a_remote_control(rt: HostRuntime) -> Result<(), Fail> {
 fn pulses(alloc: Global, count: u64) -> Result<String, Fail> {
     let mut text = String::new(alloc);
     for number in 0..count {
-        let line = format!(in alloc; "pulse {} 400\n", number * 25_400)?;
+        let from = number.saturating_mul(25_400);
+        let line = format!(in alloc; "pulse {from} 400\n")?;
         text.push_str(line.as_str())?;
     }
     Ok(text)
+}
+
+// With one line more before its end, a script is refused as the case says.
+fn refuses_behind(rt: &impl Abort, alloc: Global, text: &str, case: &str) -> Result<(), Fail> {
+    let (line, told) = case.rsplit_once(" => ").ok_or("no case")?;
+    let more = format!(in alloc; "{text}{line}\nend 20\n")?;
+    let error = match read(alloc, more.as_str())? {
+        Ok(_) => return Err(Fail::from("a script")),
+        Err(error) => error,
+    };
+    let error = format!(in alloc; "{error}")?;
+    assert_eq!(rt; error.as_str(), told);
+    Ok(())
 }
 
 #[test]
@@ -326,22 +344,25 @@ fn reads_pulses(rt: HostRuntime) -> Result<(), Fail> {
     );
     assert_eq!(rt; script.end, 20);
     // One more is too many, unless it is at fault otherwise.
-    for (line, told) in [
-        ("pulse 104038400 400", "line 4097: too-many"),
-        ("pulse 104038400 0", "line 4097: width"),
-        ("pulse 104038399 400", "line 4097: close"),
-        ("pulse 0 400", "line 4097: order"),
-    ] {
-        let more = format!(in alloc; "{text}{line}\nend 20\n")?;
-        match read(alloc, more.as_str())? {
-            Ok(_) => assert!(rt; false, "{line} is taken"),
-            Err(error) => {
-                let error = format!(in alloc; "{error}")?;
-                assert_eq!(rt; error.as_str(), told);
-            }
-        }
-    }
-    Ok(())
+    refuses_behind(
+        &rt,
+        alloc,
+        text.as_str(),
+        "pulse 104038400 400 => line 4097: too-many",
+    )?;
+    refuses_behind(
+        &rt,
+        alloc,
+        text.as_str(),
+        "pulse 104038400 0 => line 4097: width",
+    )?;
+    refuses_behind(
+        &rt,
+        alloc,
+        text.as_str(),
+        "pulse 104038399 400 => line 4097: close",
+    )?;
+    refuses_behind(&rt, alloc, text.as_str(), "pulse 0 400 => line 4097: order")
 }
 
 #[test]

@@ -35,10 +35,9 @@ fn tells(
 ) -> Result<(), Fail> {
     let out = trace(alloc, topology, script)?;
     let lines = lines.as_bytes();
-    assert!(rt;
-        out.windows(lines.len()).any(|part| part == lines),
-        "{script}"
-    );
+    let length = lines.len();
+    assert!(rt; length > 0);
+    assert!(rt; out.windows(length).any(|part| part == lines), "{script}");
     Ok(())
 }
 
