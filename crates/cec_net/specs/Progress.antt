@@ -10,5 +10,5 @@ pub record IsProgress (before : NetState) (begin : ℕ) (after : NetState) : Typ
   pub later : before.rest ≤ begin
   -- pulls the line low once it has begun,
   pub low : begin < after.rest
-  -- and closes at most 451,500 after that.
-  pub closed : after.close ≤ begin + 451500
+  -- and closes at most 458,500 after that.
+  pub closed : after.close ≤ begin + 458500

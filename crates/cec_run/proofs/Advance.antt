@@ -66,8 +66,8 @@ round_begins end s time x h = by_time time h
 pub record Brought (end : ℕ) (s t : NetState) : Type 0 where
   pub sooner : s.rest < t.rest
   pub before : s.rest < end
-  pub close : t.close ≤ end + 451500
-  pub rest : t.rest ≤ end + 451500
+  pub close : t.close ≤ end + 458500
+  pub rest : t.rest ≤ end + 458500
   pub tree : t.tree ≡ s.tree
 
 -- what a state keeps after a round

@@ -22,12 +22,12 @@ far_row : pulses_fault (pulse 100000 100400 ∷ pulse 125400 125401 ∷ []) ≡ 
 unfolding pulse
 far_row = refl
 
--- a width of 0 and one of 3,001 are refused, before the order
+-- a width of 0 and one of 10,001 are refused, before the order
 width_row : pulses_fault (pulse 100000 100400 ∷ pulse 50000 50000 ∷ []) ≡ Some Width
 unfolding pulse
 width_row = refl
 
-wide_row : pulses_fault (pulse 100000 103001 ∷ []) ≡ Some Width
+wide_row : pulses_fault (pulse 100000 110001 ∷ []) ≡ Some Width
 unfolding pulse
 wide_row = refl
 

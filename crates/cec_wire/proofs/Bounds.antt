@@ -34,7 +34,7 @@ ends : (low : Line) (begin : ℕ) → (reading_of low begin).at ≤ begin + 4448
 ends low begin = omega (arith, at_by low begin, reading_bound low begin)
 
 -- so long after the begin the reading is over
-over_by : (seats : List Seat) (low : Line) (begin t : ℕ) (bits : List Bool) (held : ℕ) (place : Place) → StandsAt seats low begin t bits held place → begin + 460000 ≤ t
+over_by : (seats : List Seat) (low : Line) (begin t : ℕ) (bits : List Bool) (held : ℕ) (place : Place) → StandsAt seats low begin t bits held place → begin + 470000 ≤ t
     → (e : Ended) × AtEnd seats low begin t bits e held
 unfolding StandsAt
 over_by seats low begin t bits held StartLow s l = absurd (omega (arith, s.early))
@@ -42,9 +42,9 @@ over_by seats low begin t bits held StartHigh s l = absurd (omega (arith, s.earl
 over_by seats low begin t bits held (InSlot fall last) s l = absurd (omega (arith, s.early, s.near, s.room))
 over_by seats low begin t bits held (Over e) s l = (e, s)
 
--- and the line is high 6,600 after the ending
-high_late : (seats : List Seat) (begin : ℕ) (pulses : List Stretch) (low : Line) (n : ℕ) → AreSparse pulses → IsRoundLine seats begin pulses low → 460000 ≤ n
-    → (u : ℕ) → (reading_of low begin).at + 6600 ≤ u → low u ≡ false
+-- and the line is high 13,600 after the ending
+high_late : (seats : List Seat) (begin : ℕ) (pulses : List Stretch) (low : Line) (n : ℕ) → AreSparse pulses → IsRoundLine seats begin pulses low → 470000 ≤ n
+    → (u : ℕ) → (reading_of low begin).at + 13600 ≤ u → low u ≡ false
 high_late seats begin pulses low n sparse line l u m =
     let h = heard_of seats low begin n in
     let e = over_by seats low begin (begin + n) h.bits h.held h.place (heard_stands seats begin pulses low line n).stands (omega arith) in
@@ -68,12 +68,12 @@ rest_under until r bound (s ∷ ss) l h =
     by_test true = h s (inl refl)
     by_test false = l
 
-rests : (seats : List Seat) (begin : ℕ) (pulses : List Stretch) (o : Outcome) (n : ℕ) → 460000 ≤ n → AreSparse pulses → IsWave o.wave → IsRound seats begin pulses o → o.rest ≤ begin + 451461
+rests : (seats : List Seat) (begin : ℕ) (pulses : List Stretch) (o : Outcome) (n : ℕ) → 470000 ≤ n → AreSparse pulses → IsWave o.wave → IsRound seats begin pulses o → o.rest ≤ begin + 458461
 rests seats begin pulses o n l sparse wave round =
-    subst (λ r. r ≤ begin + 451461) (sym round.rest) (rest_under (reading_of (line_of o.wave) begin).until 0 (begin + 451461) o.wave (omega arith) each)
+    subst (λ r. r ≤ begin + 458461) (sym round.rest) (rest_under (reading_of (line_of o.wave) begin).until 0 (begin + 458461) o.wave (omega arith) each)
   where
-    each : (s : Stretch) → In s o.wave → s.to ≤ begin + 451461
-    each s i = elim (cases_lt (begin + 451461) s.to) [
+    each : (s : Stretch) → In s o.wave → s.to ≤ begin + 458461
+    each s i = elim (cases_lt (begin + 458461) s.to) [
       | inr ge ↦ ge
       | inl lt ↦ (
           let w : s.from < s.to = wide 0 o.wave s wave i in
@@ -114,8 +114,8 @@ same_count begin end (p ∷ ps) = by_test (nat_le begin p.from && nat_le p.from 
 pub rounds_are_short : RoundsAreShort
 rounds_are_short = record {
   ends = ends;
-  rests = λ seats begin pulses o sparse wave round. rests seats begin pulses o 460000 (omega arith) sparse wave round;
+  rests = λ seats begin pulses o sparse wave round. rests seats begin pulses o 470000 (omega arith) sparse wave round;
   begins = begins;
   few = λ seats begin pulses o sparse wave round.
-      omega (arith, same_count begin o.rest pulses, few_begun begin o.rest pulses sparse (omega (arith, rests seats begin pulses o 460000 (omega arith) sparse wave round)));
+      omega (arith, same_count begin o.rest pulses, few_begun begin o.rest pulses sparse (omega (arith, rests seats begin pulses o 470000 (omega arith) sparse wave round)));
 }

@@ -143,7 +143,7 @@ pulse_held seats begin pulses low t bits e held line sparse s (suc n) h =
     ]
 
 pub high_after : (seats : List Seat) (begin : ℕ) (pulses : List Stretch) (low : Line) (t : ℕ) (bits : List Bool) (e : Ended) (held : ℕ) → IsRoundLine seats begin pulses low → AreSparse pulses → AtEnd seats low begin t bits e held
-    → (u : ℕ) → e.at + 6600 ≤ u → low u ≡ false
+    → (u : ℕ) → e.at + 13600 ≤ u → low u ≡ false
 high_after seats begin pulses low t bits e held line sparse s u l = by_low (low u) refl
   where
     by_low : (b : Bool) → low u ≡ b → low u ≡ false

@@ -16,9 +16,9 @@ begun_within begin end pulses = filter (λ p. nat_le begin p.from && nat_le p.fr
 pub record RoundsAreShort : Type 0 where
   -- a reading of any line: a start of 4,700, 160 slots of 2,750, and a microsecond
   pub ends : (low : ℕ → Bool) (begin : ℕ) → (reading_of low begin).at ≤ begin + 444861
-  -- after it, 3,600 of those who pull after a fall too early, and a pulse of 3,000 that touches their pull
+  -- after it, 3,600 of those who pull after a fall too early, and a pulse of 10,000 that touches their pull
   pub rests : (seats : List Seat) (begin : ℕ) (pulses : List Stretch) (o : Outcome) → AreSparse pulses → IsWave o.wave
-      → IsRound seats begin pulses o → o.rest ≤ begin + 451461
+      → IsRound seats begin pulses o → o.rest ≤ begin + 458461
   -- no stretch begins after the reading's last microsecond
   pub begins : (seats : List Seat) (begin : ℕ) (pulses : List Stretch) (o : Outcome) → AreFrames seats → AreSparse pulses → IsWave o.wave
       → IsRound seats begin pulses o → All (λ s. s.from ≤ (reading_of (line_of o.wave) begin).until) o.wave
