@@ -78,7 +78,7 @@ fn a_deck_turns(rt: HostRuntime) -> Result<(), Fail> {
     let mut player = settled(Kind::Player);
     follow(&mut player, &[0x04, 0x1a, 0x01])?;
     follow(&mut player, &[0x04, 0x41, 0x25])?;
-    assert_eq!(rt; player.record().deck, 0x14);
+    assert_eq!(rt; player.record().deck.byte(), 0x14);
     assert!(rt; player.record().sub == Some(Addr::new(0)));
     says(
         &rt,
@@ -88,7 +88,7 @@ fn a_deck_turns(rt: HostRuntime) -> Result<(), Fail> {
     let mut player = settled(Kind::Player);
     follow(&mut player, &[0x04, 0x42, 0x04])?;
     follow(&mut player, &[0x04, 0x41, 0x24])?;
-    assert_eq!(rt; player.record().deck, 0x19);
+    assert_eq!(rt; player.record().deck.byte(), 0x19);
     says(&rt, &mut player, &[&[0x40, 0x00, 0x41, 0x01]]);
     Ok(())
 }
@@ -143,7 +143,7 @@ fn a_television_sleeps(rt: HostRuntime) -> Result<(), Fail> {
 fn keys_act(rt: HostRuntime) -> Result<(), Fail> {
     let mut player = settled(Kind::Player);
     player.key(Key::Play, true, 0)?;
-    assert_eq!(rt; player.record().deck, 0x11);
+    assert_eq!(rt; player.record().deck.byte(), 0x11);
     says(
         &rt,
         &mut player,
