@@ -448,3 +448,24 @@ hearing low h t was is keeps before now =
           ∙ ap (λ x. ended_before low t ++ option_to_list (ended_of x t (running_by (kept_before low t) t))) (told_heard low t ∙ ap (λ (x : Heard). x.told) made)
           ∙ ap (λ k. ended_before low t ++ option_to_list (ended_of (hear_in t was is h).told t (running_by k t))) (sym keeps);
     }
+
+-- ---- what has ended stays
+
+ended_on : (low : Line) (t m : ℕ) → (zs : List Listed) × (ended_by low (t + m) ≡ ended_by low t ++ zs)
+ended_on low t zero = ([], ap (ended_by low) (let x : t + zero ≡ t = omega arith in x) ∙ sym (append-nil (ended_by low t)))
+ended_on low t (suc m) =
+    let before = ended_on low t m in
+    let told : List Listed = option_to_list (ended_of (told_at low (suc (t + m))) (suc (t + m)) (running_by (kept_before low (suc (t + m))) (suc (t + m)))) in (
+      before.0 ++ told,
+      ap (ended_by low) (let x : t + suc m ≡ suc (t + m) = omega arith in x) ∙ endings_are_told low (suc (t + m)) ∙ ap (λ (xs : List Listed). xs ++ told) before.1
+          ∙ append_assoc (ended_by low t) before.0 told,
+    )
+
+-- the readings that have ended by an instant are the first of those of a later one
+pub ended_first : (low : Line) (t u : ℕ) → t ≤ u → (zs : List Listed) × (readings_of low u ≡ ended_by low t ++ zs)
+ended_first low t u l =
+    let on = ended_on low t (u - t) in
+    let last : List Listed = option_to_list (running_by (kept_of low u) u) in (
+      on.0 ++ last,
+      running_is_kept low u ∙ ap (λ (xs : List Listed). xs ++ last) (ap (ended_by low) (let x : u ≡ t + (u - t) = omega (arith, l) in x) ∙ on.1) ∙ append_assoc (ended_by low t) on.0 last,
+    )

@@ -1,5 +1,5 @@
 -- Up to the next edge: what the wakes of a monitor's receiver lead to, and what they report.
-use Rattle.std.proofs.Common.{◌≡◌, ℕ, zero, suc, ◌+◌, ◌-◌, ◌==◌, ◌<◌, ◌≤◌, Bool, true, false, not, ◌&&◌, nat_lt, if◌then◌else◌, List, [], ◌∷◌, ◌++◌, append_assoc, append-nil, inl, inr, Option, Some, None, refl, arith, ap, ◌∙◌, sym, subst}
+use Rattle.std.proofs.Common.{◌≡◌, ℕ, zero, suc, ◌+◌, ◌-◌, ◌==◌, ◌<◌, ◌≤◌, Bool, true, false, not, ◌&&◌, nat_lt, if◌then◌else◌, List, [], ◌∷◌, ◌++◌, append_assoc, append-nil, inl, inr, Option, Some, None, option_map, refl, arith, ap, ◌∙◌, sym, subst}
 use Rattle.std.specs.Option.{option_to_list, option_or}
 use Rattle.std.proofs.lemmas.Bool.{cases_lt}
 use Rattle.std.proofs.lemmas.Bool.Decides.{nat_tests}
@@ -18,7 +18,11 @@ use Rattle.cec_bits.specs.Kept.{kept_before}
 use Rattle.cec_bits.specs.Reports.{running_by, ended_of, ended_before}
 use Rattle.cec_bits.proofs.Following.{hears_by}
 use Rattle.cec_bits.proofs.Reported.{Stays, stays, Hearing, hearing, wake_after, running_is_kept}
-use Rattle.cec_mon.specs.Monitor.{Microsecond, heard_at, woken_at, woken, woken_again, waited}
+use Rattle.cec_frame.specs.declared.Reading.{Reading}
+use Rattle.cec_bits.specs.Hears.{heard_by}
+use Rattle.cec_bits.specs.Reports.{listed_as}
+use Rattle.cec_mon.specs.declared.monitor.Monitor.{Monitor as Watcher}
+use Rattle.cec_mon.specs.Monitor.{Microsecond, heard_at, woken_at, woken, woken_again, waited, IsStill, HeardBefore, IsCalm}
 
 -- ---- what a wake leads to
 
@@ -273,3 +277,42 @@ finishes low n t b h l keeps level q =
     ∙ ap (λ (xs : List Listed). xs ++ option_to_list (running_by (waited (t + 1) b h).state t)) (sym (ap (ended_before low) same) ∙ w.told)
     ∙ or_more (ended_before low n) (waited (t + 1) b h).ended (running_by (waited (t + 1) b h).state t)
     (λ x e. ap (λ k. running_by k t) (w.rests x e))
+
+-- ---- a monitor
+
+map_or : (a b : Option Reading) → option_map listed_as (option_or a b) ≡ option_or (option_map listed_as a) (option_map listed_as b)
+map_or None b = refl
+map_or (Some x) b = refl
+
+pub edge_told : (low : Line) (n t : ℕ) (falls : Bool) (old mid noted new : Watcher) (w e o : Option Reading) → HeardBefore old low n → n ≤ t → IsCalm old low n t → low t ≡ falls
+    → (let m : Microsecond = record { state = heard_by mid.receiver; ended = option_map listed_as w } in m) ≡ waited t old.receiver.is_low (heard_by old.receiver)
+    → IsStill mid → mid.receiver.is_low ≡ old.receiver.is_low
+    → heard_by noted.receiver ≡ heard_by mid.receiver → noted.receiver.was_low ≡ mid.receiver.was_low → noted.receiver.is_low ≡ falls
+    → (let m : Microsecond = record { state = heard_by new.receiver; ended = option_map listed_as e } in m) ≡ heard_at t noted.receiver.was_low noted.receiver.is_low (heard_by noted.receiver)
+    → new.receiver.was_low ≡ noted.receiver.is_low → new.receiver.is_low ≡ noted.receiver.is_low → o ≡ option_or w e
+    → HeardBefore new low (t + 1) × (ended_by low t ≡ ended_before low n ++ option_to_list (option_map listed_as o))
+edge_told low n t falls old mid noted new w e o h l calm now first still same keeps was is second level after or =
+    let b : Bool = old.receiver.is_low in
+    let k = edges low n t old.receiver.is_low falls (heard_by old.receiver) l h.stood.keeps (sym h.stood.level ∙ h.still) (λ u a c. calm u a c ∙ h.still) now in
+    let state : heard_by mid.receiver ≡ (waited t old.receiver.is_low (heard_by old.receiver)).state = ap (λ (m : Microsecond). m.state) first in
+    let mid_is : noted.receiver.was_low ≡ old.receiver.is_low = was ∙ still ∙ same in
+    let made : heard_at t noted.receiver.was_low noted.receiver.is_low (heard_by noted.receiver) ≡ heard_at t old.receiver.is_low falls (waited t old.receiver.is_low (heard_by old.receiver)).state =
+    ap (λ x. heard_at t x noted.receiver.is_low (heard_by noted.receiver)) mid_is ∙ ap (λ x. heard_at t old.receiver.is_low x (heard_by noted.receiver)) is
+    ∙ ap (heard_at t old.receiver.is_low falls) (keeps ∙ state) in (
+      record {
+        stood = record { keeps = ap (λ (m : Microsecond). m.state) (second ∙ made) ∙ sym k.kept; level = level ∙ is ∙ sym k.level };
+        still = level ∙ sym after;
+      },
+      k.told ∙ ap (λ (x : Option Listed). ended_before low n ++ option_to_list (option_or x (heard_at t old.receiver.is_low falls (waited t old.receiver.is_low (heard_by old.receiver)).state).ended))
+          (sym (ap (λ (m : Microsecond). m.ended) first))
+          ∙ ap (λ (x : Option Listed). ended_before low n ++ option_to_list (option_or (option_map listed_as w) x)) (sym (ap (λ (m : Microsecond). m.ended) (second ∙ made)))
+          ∙ ap (λ (x : Option Listed). ended_before low n ++ option_to_list x) (sym (map_or w e))
+          ∙ ap (λ (x : Option Reading). ended_before low n ++ option_to_list (option_map listed_as x)) (sym or),
+    )
+
+pub end_told : (low : Line) (n t : ℕ) (old mid : Watcher) (w : Option Reading) → HeardBefore old low n → n ≤ t + 1 → IsCalm old low n (t + 1)
+    → (let m : Microsecond = record { state = heard_by mid.receiver; ended = option_map listed_as w } in m) ≡ waited (t + 1) old.receiver.is_low (heard_by old.receiver)
+    → readings_of low t ≡ ended_before low n ++ option_to_list (option_or (option_map listed_as w) (running_by (heard_by mid.receiver) t))
+end_told low n t old mid w h l calm first =
+    finishes low n t old.receiver.is_low (heard_by old.receiver) l h.stood.keeps (sym h.stood.level ∙ h.still) (λ u a c. calm u a c ∙ h.still)
+    ∙ sym (ap (λ (m : Microsecond). ended_before low n ++ option_to_list (option_or m.ended (running_by m.state t))) first)

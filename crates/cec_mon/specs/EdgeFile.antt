@@ -1,6 +1,7 @@
 -- Edge files, and the line that they tell (own). A line `T 0` is a fall, `T 1` a rise, `T end` the end; lines that are
 -- empty or begin with `#` are skipped, but counted.
-use Rattle.std.specs.Prelude.{◌≡◌, ℕ, ◌+◌, ◌<◌, ◌≤◌, ◌==◌, Bool, true, false, not, nat_lt, nat_le, ◌&&◌, if◌then◌else◌, List, [], ◌∷◌, length, codes, Option, Some, None, Result, Ok, Err}
+use Rattle.std.specs.Prelude.{◌≡◌, ℕ, ◌+◌, ◌<◌, ◌≤◌, Bool, true, false, not, nat_lt, nat_le, ◌&&◌, if◌then◌else◌, List, [], ◌∷◌, length, codes, Option, Some, None, Result, Ok, Err}
+use Rattle.std.specs.Str.{bytes_eq}
 use Rattle.cec_wave.specs.declared.Edge.{Edge as EdgeOf}
 use Rattle.cec_wave.specs.Line.{Line}
 use Rattle.cec_text.specs.Lines.{lines_of, is_skipped}
@@ -24,9 +25,9 @@ time_of word = within (number_of word)
 
 abbrev pub marked : ℕ → List ℕ → Option EdgeLine
 marked at mark =
-    if mark == codes "0" then Some (Edge (record { at = at; low = true }))
-    else if mark == codes "1" then Some (Edge (record { at = at; low = false }))
-    else if mark == codes "end" then Some (End at)
+    if bytes_eq mark (codes "0") then Some (Edge (record { at = at; low = true }))
+    else if bytes_eq mark (codes "1") then Some (Edge (record { at = at; low = false }))
+    else if bytes_eq mark (codes "end") then Some (End at)
     else None
 
 abbrev pub marked_by : Option ℕ → List ℕ → Option EdgeLine
@@ -50,6 +51,10 @@ pub record EdgeFile : Type 0 where
 abbrev pub with_edge : EdgeOf → Result EdgeFile EdgeFault → Result EdgeFile EdgeFault
 with_edge e (Ok f) = Ok (record { edges = e ∷ f.edges; end = f.end })
 with_edge e (Err fault) = Err fault
+
+abbrev pub with_edges : List EdgeOf → Result EdgeFile EdgeFault → Result EdgeFile EdgeFault
+with_edges [] r = r
+with_edges (e ∷ es) r = with_edge e (with_edges es r)
 
 -- nothing stands after the end
 abbrev pub end_read : List (List ℕ) → ℕ → ℕ → Result EdgeFile EdgeFault

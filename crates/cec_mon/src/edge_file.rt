@@ -51,44 +51,6 @@ fn marked(at: u64, mark: &[u8]) -> Option<EdgeLine>
 }
 
 // What a line says.
-#[derive(Clone, Copy, Debug, PartialEq, Eq)]
-pub enum EdgeLine {
-    /// The line of the bus falls or rises.
-    Edge(Edge),
-    /// The file ends with this instant.
-    End(u64),
-}
-
-/// The first line at fault, counted from 1.
-#[derive(Clone, Copy, Debug, PartialEq, Eq)]
-pub enum EdgeFault {
-    /// It is ill-formed, or stands after the end, or the end is missing.
-    Line(u64),
-    /// It is out of turn, or its time goes back.
-    Order(u64),
-}
-
-fn time_of(word: &[u8]) -> Option<u64>
-    ensures { result ≡ time_of word.now }
-{
-    match number_in(word) {
-        Some(time) if time <= LATEST => Some(time),
-        _ => None,
-    }
-}
-
-fn marked(at: u64, mark: &[u8]) -> Option<EdgeLine>
-    ensures { result ≡ marked at mark.now }
-{
-    match mark {
-        b"0" => Some(EdgeLine::Edge(Edge { at, low: true })),
-        b"1" => Some(EdgeLine::Edge(Edge { at, low: false })),
-        b"end" => Some(EdgeLine::End(at)),
-        _ => None,
-    }
-}
-
-// What a line says.
 fn line_in(line: &[u8]) -> Option<EdgeLine>
     ensures { result ≡ edge_line_of line.now }
 {
@@ -131,9 +93,9 @@ impl<'a> EdgeLines<'a> {
     }
 
     // Nothing stands after the end.
-    fn end(self, t: u64) -> Result<EdgeLine, EdgeFault>
-        requires room { self.number + length self.rest.now < 18446744073709551615 }
-        ensures { EndsSo (lines_of self.rest.now) self.number t result }
+    fn end(&self, t: u64) -> Result<EdgeLine, EdgeFault>
+        requires room { self.now.number + length self.now.rest.now < 18446744073709551615 }
+        ensures { EndsSo (lines_of self.now.rest.now) self.now.number t result }
     {
         let mut rest = self.rest;
         let mut number = self.number;

@@ -98,6 +98,19 @@ impl Monitor {
         }
     }
 
+    // The edge is noted, before the tick at its instant.
+    fn note(&mut self, edge: Edge)
+        ensures keeps { heard_by self.new.receiver ≡ heard_by self.old.receiver }
+        ensures was { self.new.receiver.was_low ≡ self.old.receiver.was_low }
+        ensures is { self.new.receiver.is_low ≡ edge.low }
+    {
+        if edge.low {
+            self.receiver.fall(edge.at);
+        } else {
+            self.receiver.rise(edge.at);
+        }
+    }
+
     /// The line falls or rises, at most at 2,000,000,000,000 microseconds. Edges alternate from a fall, with rising
     /// times. Answers the reading that has ended since the edge before, at this edge too: there is one at most.
     pub fn edge(&mut self, edge: Edge) -> Option<Reading>
@@ -105,11 +118,7 @@ impl Monitor {
         ensures follows { FollowsEdge self.old edge (option_map listed_as result) self.new }
     {
         let waited = self.wait(edge.at);
-        if edge.low {
-            self.receiver.fall(edge.at);
-        } else {
-            self.receiver.rise(edge.at);
-        }
+        self.note(edge);
         let ended = self.tick(edge.at);
         waited.or(ended)
     }
