@@ -1,5 +1,5 @@
-use Rattle.cec_asm.proofs.WordLemmas.{three_of-past}
-use Rattle.cec_asm.proofs.words.three_words.Goals as goal
+use Rattle.cec_text.proofs.PartedLemmas.{three_of-past}
+use Rattle.cec_text.proofs.words.three_words.Goals as goal
 
 pub returns-in_default-Some : goal.returns-in_default-Some
 returns-in_default-Some c =

@@ -1,6 +1,6 @@
 use Rattle.std.proofs.Common.{◌≡◌, ℕ, ◌<◌, List, [], ◌∷◌, length, None, ◌==◌, sym, refl, arith}
 use Rattle.std.proofs.lemmas.List.Splits.{length-slice_split}
-use Rattle.cec_asm.specs.Words.{words_of, one_of, two_of, three_of}
+use Rattle.cec_text.specs.Words.{words_of, one_of, two_of, three_of}
 
 -- a line has a word
 pub words_of-some : (line : List ℕ) → 0 < length (words_of line)

@@ -7,7 +7,7 @@ use Rattle.std.proofs.lemmas.List.{take-append-le, take-append-drop, take_more}
 use Rattle.std.proofs.Math.Seq.{take-append-add}
 use Rattle.hdmi_core.proofs.CutShort.{Appends-trans}
 use Rattle.hdmi_core.specs.declared.sink.WriteFault.{WriteFault}
-use Rattle.cec_run.specs.Cut.{CutOff, told_count}
+use Rattle.cec_text.specs.Cut.{CutOff, told_count}
 
 -- the counts of two parts
 pub told_sum : (n m a b : ℕ) → n ≡ told_count a → m ≡ told_count b → told_count (n + m) ≡ told_count (a + b)

@@ -1,6 +1,6 @@
 //! Counts of what was written of a text, part by part.
 ghost use Rattle.std.specs.Prelude.{◌≡◌, ◌+◌};
-ghost use Rattle.cec_run.specs.Cut.{told_count};
+ghost use Rattle.cec_text.specs.Cut.{told_count};
 
 use hdmi_core::WriteFault;
 

@@ -1,5 +1,5 @@
-use Rattle.cec_asm.proofs.WordLemmas.{one_of-past}
-use Rattle.cec_asm.proofs.words.one_word.Goals as goal
+use Rattle.cec_text.proofs.PartedLemmas.{one_of-past}
+use Rattle.cec_text.proofs.words.one_word.Goals as goal
 
 pub returns-in_default-Some : goal.returns-in_default-Some
 returns-in_default-Some c =

@@ -1,6 +1,6 @@
 use Rattle.std.proofs.Common.{◌≡◌, map, take}
-use Rattle.cec_run.specs.TraceText.{bit_digit}
-use Rattle.cec_run.proofs.trace_text.bits_text.Given as goal
+use Rattle.cec_text.specs.ReadingText.{bit_digit}
+use Rattle.cec_text.proofs.reading_text.bits_text.Given as goal
 
 -- the digits of the bits so far
 abbrev pub invariant-loop-bit : goal.invariant-loop-bit
