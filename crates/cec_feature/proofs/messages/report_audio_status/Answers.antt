@@ -1,6 +1,6 @@
 use Rattle.std.proofs.Common.{◌<◌, arith}
-use Rattle.cec_device.proofs.MessageLemmas.{status_spelled}
-use Rattle.cec_device.proofs.messages.report_audio_status.Goals as goal
+use Rattle.cec_feature.proofs.MessageLemmas.{status_spelled}
+use Rattle.cec_feature.proofs.messages.report_audio_status.Goals as goal
 
 pub returns : goal.returns
 returns c =

@@ -1,5 +1,5 @@
 use Rattle.std.proofs.Common.{length}
-use Rattle.cec_device.proofs.ways.+next_nibble.Given as goal
+use Rattle.cec_feature.proofs.ways.+next_nibble.Given as goal
 
 -- the nibbles that are left
 abbrev pub decreases-next_nibble : goal.decreases-next_nibble

@@ -3,10 +3,10 @@ ghost use Rattle.std.specs.Prelude.{◌≡◌, ◌∷◌, [], if◌then◌else�
 ghost use Rattle.cec_opcode.specs.Table.{spelling};
 ghost use Rattle.cec_opcode.specs.ScreenWords.{menu_state_byte};
 ghost use Rattle.cec_opcode.specs.Words.{power_byte, system_audio_byte};
-ghost use Rattle.cec_device.specs.State.{type_of};
+ghost use Rattle.cec_feature.specs.Kinds.{type_of};
 
 use cec_opcode::{
-    Address, AudioStatus, DeckInfo, DeviceType, MenuState, Message, Power, SystemAudio,
+    Address, AudioStatus, DeviceType, MenuState, Message, Power, SystemAudio,
     messages_keep_operands,
 };
 use hdmi_core::{Kind, Phys};
@@ -31,7 +31,7 @@ pub(crate) fn active_source(phys: Phys) -> Message
 }
 
 /// Report Physical Address.
-pub(crate) fn report_of(kind: Kind, phys: Phys) -> Message
+pub fn report_of(kind: Kind, phys: Phys) -> Message
     ensures { spelling result ≡ 0x84 ∷ phys.high ∷ phys.low ∷ type_of kind ∷ [] }
 {
     Message::ReportPhysicalAddress {
@@ -43,16 +43,6 @@ pub(crate) fn report_of(kind: Kind, phys: Phys) -> Message
             Kind::Amp => DeviceType::Audio,
             Kind::Switch => DeviceType::Switch,
         },
-    }
-}
-
-/// Deck Status.
-pub(crate) fn deck_status(deck: u8) -> Message
-    ensures { spelling result ≡ 0x1b ∷ deck ∷ [] }
-{
-    messages_keep_operands();
-    Message::DeckStatus {
-        deck: DeckInfo::from_byte(deck),
     }
 }
 

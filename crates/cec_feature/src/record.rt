@@ -1,10 +1,11 @@
 //! What a device remembers.
 ghost use Rattle.std.specs.Prelude.{◌≡◌};
+ghost use Rattle.cec_feature.specs.Fresh.{fresh_record};
 
 use arrayvec::ArrayVec;
 use cec_frame::Addr;
-use cec_opcode::Triple;
-use hdmi_core::Phys;
+use cec_opcode::{DeckInfo, Triple};
+use hdmi_core::{Kind, Phys};
 use std::marker::Model;
 
 /// The number of a port, or how many ports there are: 0 to 15.
@@ -65,7 +66,7 @@ impl Model for Volume {
 
 impl Volume {
     ghost use Rattle.std.specs.Prelude.{◌≡◌, ◌-◌, ◌≤◌};
-    ghost use Rattle.cec_device.specs.Volume.{louder};
+    ghost use Rattle.cec_feature.specs.Volume.{louder};
 
     /// The volume of a new device.
     pub fn new() -> Self
@@ -101,15 +102,6 @@ impl Volume {
     }
 }
 
-/// Where a device stands on the wire: off it, polling an address, or settled at one. It is settled
-/// at 15 where it found no address, or takes none.
-#[derive(Clone, Copy, PartialEq, Eq)]
-pub enum Place {
-    Off,
-    Polls(Addr),
-    Settled(Addr),
-}
-
 /// The last report that was heard: who sent it, its opcode, and its first operand.
 #[derive(Clone, Copy)]
 pub struct Note {
@@ -127,8 +119,8 @@ pub struct Record {
     pub active: Option<Phys>,
     /// The path that was routed last.
     pub path: Option<Phys>,
-    /// The state of the deck, as Deck Status carries it.
-    pub deck: u8,
+    /// What the deck does.
+    pub deck: DeckInfo,
     /// Whether its menu is shown.
     pub menu: bool,
     /// Whether system audio mode is on.
@@ -159,6 +151,37 @@ pub(crate) fn copy_of(text: &ArrayVec<u8, 16>) -> ArrayVec<u8, 16>
 }
 
 impl Record {
+    /// The record of a new device.
+    pub fn new(kind: Kind, ports: Port) -> Self
+        ensures { result ≡ fresh_record kind ports }
+    {
+        Record {
+            power: true,
+            active: None,
+            path: None,
+            deck: DeckInfo::Stop,
+            menu: false,
+            audio: false,
+            volume: Volume::new(),
+            mute: false,
+            arc: false,
+            selected: if kind == Kind::Switch && ports.value() > 0 {
+                Some(Port::new(1))
+            } else {
+                None
+            },
+            language: Triple {
+                first: b'e',
+                second: b'n',
+                third: b'g',
+            },
+            osd: ArrayVec::new(),
+            held: None,
+            heard: None,
+            sub: None,
+        }
+    }
+
     /// The same record again.
     pub fn copy(&self) -> Self
         ensures { result ≡ self.now }

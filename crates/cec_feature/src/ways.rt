@@ -1,19 +1,19 @@
 //! Ways through switches, by physical addresses.
 ghost use Rattle.std.specs.Prelude.{◌≡◌};
-ghost use Rattle.cec_device.specs.State.{is_nowhere};
-ghost use Rattle.cec_device.specs.Ways.{port_towards, below, nibbles, next_nibble};
+ghost use Rattle.cec_feature.specs.Kinds.{is_nowhere};
+ghost use Rattle.cec_feature.specs.Ways.{port_towards, below, nibbles, next_nibble};
 
 use crate::record::Port;
 use hdmi_core::Phys;
 
 /// F.F.F.F, which stands for no physical address.
-pub(crate) const NOWHERE: Phys = Phys {
+pub const NOWHERE: Phys = Phys {
     high: 0xff,
     low: 0xff,
 };
 
 /// Whether it is F.F.F.F.
-pub(crate) fn is_nowhere(address: Phys) -> bool
+pub fn is_nowhere(address: Phys) -> bool
     ensures { result ≡ is_nowhere address }
 {
     address.high == 0xff && address.low == 0xff

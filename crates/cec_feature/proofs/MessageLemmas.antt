@@ -1,12 +1,11 @@
 -- Messages that are made of a byte have that byte.
-use Rattle.std.proofs.Common.{◌≡◌, ℕ, ◌<◌, true, List, [], ◌∷◌, refl, ap, ◌∙◌, arith}
+use Rattle.std.proofs.Common.{◌≡◌, ℕ, ◌<◌, true, [], ◌∷◌, refl, ap, ◌∙◌, arith}
 use Rattle.std.proofs.lemmas.Bool.Decides.{nat_tests}
-use Rattle.cec_opcode.specs.DeckWords.{deck_info_at}
 use Rattle.cec_opcode.specs.Words.{status_at}
 use Rattle.cec_opcode.specs.Table.{decoded, row_of, spelling}
 use Rattle.cec_opcode.specs.Laws.{KeepsOperands, SaysOperands, are_bytes}
 use Rattle.cec_opcode.specs.declared.message.Message.{Message}
-use Rattle.cec_opcode.specs.declared.message.Message.TheVariants.{DeckStatus, ReportAudioStatus}
+use Rattle.cec_opcode.specs.declared.message.Message.TheVariants.{ReportAudioStatus}
 use Rattle.cec_opcode.specs.declared.message.Decoded.TheVariants.{Known}
 
 one_byte : (b : ℕ) → b < 256 → are_bytes (b ∷ []) ≡ true
@@ -17,11 +16,6 @@ known m n e = cc
 
 abbrev pub Keeps : Type 0
 Keeps = (code : ℕ) → KeepsOperands code
-
-pub deck_spelled : Keeps → (deck : ℕ) → deck < 256 → spelling (DeckStatus (deck_info_at deck)) ≡ 0x1b ∷ deck ∷ []
-deck_spelled keeps deck h =
-    let says : SaysOperands 0x1b (deck ∷ []) (decoded 0x1b (deck ∷ []) (row_of 0x1b)) = keeps 0x1b (deck ∷ []) refl (one_byte deck h) refl in
-    ap spelling (known (DeckStatus (deck_info_at deck)) says.message says.said) ∙ says.sent
 
 pub status_spelled : Keeps → (status : ℕ) → status < 256 → spelling (ReportAudioStatus (status_at status)) ≡ 0x7a ∷ status ∷ []
 status_spelled keeps status h =
