@@ -1,4 +1,3 @@
-pub mod WordLemmas
 pub mod KeyLemmas
 pub mod Reading
 pub mod Sound

@@ -1,5 +1,4 @@
 pub mod Words
-pub mod Number
 pub mod Keys
 pub mod Topology
 pub mod Script

@@ -7,7 +7,7 @@ use Rattle.cec_wave.specs.declared.Stretch.{Stretch}
 use Rattle.cec_wave.specs.declared.PulsesError.{PulsesError}
 use Rattle.cec_wave.specs.declared.PulsesError.TheVariants as faults
 use Rattle.cec_wave.specs.Pulses.{stretch_fault, AreSparse}
-use Rattle.cec_device.specs.declared.keys.Key.{Key as KeyValue}
+use Rattle.cec_feature.specs.declared.keys.Key.{Key as KeyValue}
 use Rattle.hdmi_topo.specs.Node.{Node}
 use Rattle.hdmi_topo.specs.Tree.{device_named}
 use Rattle.cec_text.specs.Causes.{assemble_cause}
@@ -15,8 +15,8 @@ use Rattle.cec_text.specs.FrameLines.{IsTextOf}
 use Rattle.cec_text.specs.Lines.{lines_of, is_skipped}
 use Rattle.cec_text.specs.Refusals.{IsRefused}
 use Rattle.cec_text.specs.declared.assembler.AssembleError.{AssembleError}
-use Rattle.cec_asm.specs.Words.{words_of, text_of, one_of, two_of, three_of}
-use Rattle.cec_asm.specs.Number.{number_of}
+use Rattle.cec_text.specs.Words.{words_of, text_of, one_of, two_of, three_of}
+use Rattle.cec_text.specs.Number.{number_of}
 use Rattle.cec_asm.specs.Keys.{key_of}
 use Rattle.cec_net.specs.Framed.{IsFramedEvent}
 use Rattle.cec_net.specs.declared.event.Event.{Event}

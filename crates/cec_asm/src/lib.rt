@@ -2,7 +2,6 @@
 #![tactic(auto)]
 
 mod keys;
-mod number;
 mod script;
 mod topology;
 mod words;

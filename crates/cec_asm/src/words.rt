@@ -1,60 +1,10 @@
-//! Words of a line.
-ghost use Rattle.std.specs.Prelude.{◌≡◌, ℕ, ◌+◌, ◌<◌, ◌≤◌, ◌∷◌, length, position, ◌==◌, IfSome, IsTrue, Some};
-ghost use Rattle.std.specs.Option.{option_map, option_copied};
+//! Words that spell a physical address.
+ghost use Rattle.std.specs.Prelude.{◌≡◌, ◌+◌, ◌<◌, ◌≤◌, length, IfSome, IsTrue, Some};
 ghost use Rattle.hdmi_core.specs.Piece.{phys_text};
 ghost use Rattle.hdmi_core.specs.declared.phys.Phys.{Phys as PhysValue};
-ghost use Rattle.cec_asm.specs.Words.{words_of, words_behind, one_of, two_of, three_of, is_nibble, nibble_of, has_dots, has_nibbles, phys_at, phys_of};
+ghost use Rattle.cec_asm.specs.Words.{is_nibble, nibble_of, has_dots, has_nibbles, phys_at, phys_of};
 
 use hdmi_core::Phys;
-
-fn position_of(text: &[u8], byte: u8) -> Option<usize>
-    ensures { result ≡ position (λ b. b == byte) text.now }
-{
-    text.iter().position(|b| *b == byte)
-}
-
-/// The first word of a line, and what stands behind the space after it.
-pub fn first_word(line: &[u8]) -> (&[u8], Option<&[u8]>)
-    ensures { words_of line.now ≡ result.0.now ∷ words_behind (option_copied result.1) }
-{
-    match position_of(line, b' ') {
-        None => (line, None),
-        Some(end) => (&line[..end], Some(&line[end + 1..])),
-    }
-}
-
-/// The word, where just one is left.
-pub fn one_word(rest: Option<&[u8]>) -> Option<&[u8]>
-    ensures { option_copied result ≡ one_of (words_behind (option_copied rest.entry)) }
-{
-    match first_word(rest?) {
-        (word, None) => Some(word),
-        (_, Some(_)) => None,
-    }
-}
-
-/// The words, where just two are left.
-pub fn two_words(rest: Option<&[u8]>) -> Option<(&[u8], &[u8])>
-    ensures { option_map (λ w. (w.0.now, w.1.now)) result ≡ two_of (words_behind (option_copied rest.entry)) }
-{
-    let (first, rest) = first_word(rest?);
-    match first_word(rest?) {
-        (second, None) => Some((first, second)),
-        (_, Some(_)) => None,
-    }
-}
-
-/// The words, where just three are left.
-pub fn three_words(rest: Option<&[u8]>) -> Option<(&[u8], &[u8], &[u8])>
-    ensures { option_map (λ w. (w.0.now, w.1.now, w.2.now)) result ≡ three_of (words_behind (option_copied rest.entry)) }
-{
-    let (first, rest) = first_word(rest?);
-    let (second, rest) = first_word(rest?);
-    match first_word(rest?) {
-        (third, None) => Some((first, second, third)),
-        (_, Some(_)) => None,
-    }
-}
 
 /// Whether a byte is a hex digit in lower case.
 pub fn is_nibble(byte: u8) -> bool

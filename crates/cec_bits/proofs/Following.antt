@@ -26,7 +26,7 @@ no_rise : (b : Bool) → (not b && b) ≡ false
 no_rise true = refl
 no_rise false = refl
 
-abbrev hears_by : Place → ℕ → ℕ → List Bool → Hears
+abbrev pub hears_by : Place → ℕ → ℕ → List Bool → Hears
 hears_by place begin fall bits = record { place = place; begin = begin; fall = fall; bits = bits }
 
 still_at : (low : Line) (n : ℕ) (b : Bool) (place : Place) (begin fall : ℕ) (bits : List Bool) → StandsIn low n place begin fall bits → ((w : ℕ) → wake_of (hears_by place begin fall bits) ≡ Some w → n < w)
@@ -46,7 +46,7 @@ still_at low n b Sampled begin fall bits s w =
     ap (λ c. if c then told_so (starts n false) (Ended Silent) else told_so (hears_by Sampled begin fall bits) Nothing)
     (let l = w (fall + 2751) refl in let x : nat_lt (fall + 2750) n ≡ false = grind (arith, nat_tests) in x)
 
-heard_same : (low : Line) (n : ℕ) (b : Bool) → ((w : ℕ) → wake_of (hears low n) ≡ Some w → n < w) → hear_in n b b (hears low n) ≡ told_so (hears low n) Nothing
+pub heard_same : (low : Line) (n : ℕ) (b : Bool) → ((w : ℕ) → wake_of (hears low n) ≡ Some w → n < w) → hear_in n b b (hears low n) ≡ told_so (hears low n) Nothing
 heard_same low n b w =
     ap (λ c. hear_at h.place n c (not b && b) b h) (no_fall b) ∙ ap (λ c. hear_at h.place n false c b h) (no_rise b)
     ∙ still_at low n b h.place h.begin h.fall h.bits (stands_at low n) w
@@ -71,7 +71,7 @@ calm low n (suc m) b w q k =
     ∙ ap (λ (h : Heard). h.state) (heard_same low (n + m) b (λ v e. let x = k v (sym (ap wake_of before) ∙ e) in omega (arith, x)))
     ∙ before
 
-calm_to : (low : Line) (n t : ℕ) (b : Bool) → n ≤ t → was_low low n ≡ b → ((u : ℕ) → n ≤ u → u < t → low u ≡ b) → ((w : ℕ) → wake_of (hears low n) ≡ Some w → t ≤ w)
+pub calm_to : (low : Line) (n t : ℕ) (b : Bool) → n ≤ t → was_low low n ≡ b → ((u : ℕ) → n ≤ u → u < t → low u ≡ b) → ((w : ℕ) → wake_of (hears low n) ≡ Some w → t ≤ w)
     → (hears low t ≡ hears low n) × (was_low low t ≡ b)
 calm_to low n t b l w q k =
     let e : n + (t - n) ≡ t = omega arith in (
@@ -259,11 +259,11 @@ told_before low n t b w l q k =
     ∙ ap (λ (x : Heard). x.told) (heard_same low t b (λ v e. k v (ap wake_of (sym c.0) ∙ e)))
 
 -- the wake tells something, and is not past
-record WakesNow (n : ℕ) (b : Bool) (place : Place) (begin fall : ℕ) (bits : List Bool) (w : ℕ) : Type 0 where
-  from : n ≤ w
-  tells : (hear_at place w false false b (hears_by place begin fall bits)).told ≢ Nothing
+pub record WakesNow (n : ℕ) (b : Bool) (place : Place) (begin fall : ℕ) (bits : List Bool) (w : ℕ) : Type 0 where
+  pub from : n ≤ w
+  pub tells : (hear_at place w false false b (hears_by place begin fall bits)).told ≢ Nothing
 
-wakes_now : (low : Line) (n : ℕ) (b : Bool) (place : Place) (begin fall : ℕ) (bits : List Bool) → StandsIn low n place begin fall bits → (w : ℕ) → wake_of (hears_by place begin fall bits) ≡ Some w → WakesNow n b place begin fall bits w
+pub wakes_now : (low : Line) (n : ℕ) (b : Bool) (place : Place) (begin fall : ℕ) (bits : List Bool) → StandsIn low n place begin fall bits → (w : ℕ) → wake_of (hears_by place begin fall bits) ≡ Some w → WakesNow n b place begin fall bits w
 unfolding StandsIn
 wakes_now low n b Rest begin fall bits s w e = cc
 wakes_now low n b StartLow begin fall bits s w e =

@@ -30,11 +30,11 @@ abbrev pub ArePast : Line → ℕ → ℕ → List ℕ → ℕ → Type 0
 ArePast low n from [] to = to ≡ from
 ArePast low n from (e ∷ es) to = IsFirstFall low from e × (e < n) × ((reading_of low e).at < n) × ArePast low n ((reading_of low e).until + 1) es to
 
-past_later : (low : Line) (n from : ℕ) (es : List ℕ) (to : ℕ) → ArePast low n from es to → ArePast low (n + 1) from es to
+pub past_later : (low : Line) (n from : ℕ) (es : List ℕ) (to : ℕ) → ArePast low n from es to → ArePast low (n + 1) from es to
 past_later low n from [] to h = h
 past_later low n from (e ∷ es) to h = (h.0, omega (arith, h.1), omega (arith, h.2), past_later low n ((reading_of low e).until + 1) es to h.3)
 
-past_more : (low : Line) (n from : ℕ) (es : List ℕ) (to e : ℕ) → ArePast low n from es to → IsFirstFall low to e → e < n → (reading_of low e).at < n → ArePast low n from (es ++ e ∷ []) ((reading_of low e).until + 1)
+pub past_more : (low : Line) (n from : ℕ) (es : List ℕ) (to e : ℕ) → ArePast low n from es to → IsFirstFall low to e → e < n → (reading_of low e).at < n → ArePast low n from (es ++ e ∷ []) ((reading_of low e).until + 1)
 past_more low n from [] to e h f l m = (subst (λ x. IsFirstFall low x e) h f, l, m, refl)
 past_more low n from (x ∷ es) to e h f l m = (h.0, h.1, h.2, past_more low n ((reading_of low x).until + 1) es to e h.3 f l m)
 

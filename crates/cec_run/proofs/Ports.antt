@@ -13,7 +13,7 @@ use Rattle.hdmi_blocks.specs.Bytes.{edid_bytes}
 use Rattle.hdmi_topo.specs.Node.{Node}
 use Rattle.hdmi_topo.specs.Path.{is_on_wire}
 use Rattle.hdmi_topo.specs.Port.{port_address, readdressed_bytes}
-use Rattle.cec_run.specs.Cut.{told_count}
+use Rattle.cec_text.specs.Cut.{told_count}
 use Rattle.cec_run.specs.PortText.{lines_of_new, port_bytes, port_lines}
 use Rattle.cec_run.proofs.Advance.{event_keeps}
 

@@ -9,13 +9,13 @@ use Rattle.cec_net.specs.State.{NetState}
 use Rattle.cec_net.specs.Apply.{applied, event_fault}
 use Rattle.cec_run.specs.declared.run.Totals.{Totals}
 use Rattle.cec_run.specs.declared.run.Turn.TheVariants.{Stop, Apply, Round}
-use Rattle.cec_run.specs.Cut.{CutOff, told_count}
+use Rattle.cec_text.specs.Cut.{CutOff, told_count}
 use Rattle.hdmi_blocks.specs.declared.edid.Edid.{Edid}
 use Rattle.cec_run.specs.StateText.{state_line}
 use Rattle.cec_run.specs.TraceText.{end_line}
 use Rattle.cec_run.specs.Run.{Config, turn_at, turn_of, first_time, counted_event, IsTurnBy, IsTurn, IsRoundTurn, Leads, IsTraceFrom, event_text}
 use Rattle.cec_run.proofs.Turns.{one_more, front_of_trace, whole_trace}
-use Rattle.cec_run.proofs.Cutting.{told_parts, cut_after, cut_again}
+use Rattle.cec_text.proofs.Cutting.{told_parts, cut_after, cut_again}
 
 pub record Reached (edid : Option Edid) (end : ℕ) (c d : Config) (old new : Option (List ℕ)) (written : ℕ) : Type 0 where
   pub turns : ℕ

@@ -13,7 +13,8 @@ use Rattle.std.specs.List.{flat_map}
 use Rattle.hdmi_blocks.specs.declared.edid.Edid.{Edid}
 use Rattle.cec_run.specs.PortText.{port_lines}
 use Rattle.cec_run.specs.StateText.{state_line}
-use Rattle.cec_run.specs.TraceText.{is_complete, round_line, end_line}
+use Rattle.cec_text.specs.ReadingText.{is_complete}
+use Rattle.cec_run.specs.TraceText.{round_line, end_line}
 use Rattle.cec_run.specs.Run.{Config, turn_at, counted_round, IsEventTurn, IsRoundTurn, IsTurnBy, IsTurn, Leads, IsTraceFrom, OneTrace}
 
 -- outcomes that tell the same are one

@@ -1,7 +1,6 @@
 pub mod StateText
 pub mod TraceText
 pub mod PortText
-pub mod Cut
 pub mod Root
 pub mod Run
 pub mod Emulate

@@ -19,7 +19,8 @@ use Rattle.hdmi_blocks.specs.declared.edid.Edid.{Edid}
 use Rattle.hdmi_topo.specs.Path.{is_on_wire}
 use Rattle.cec_run.specs.StateText.{state_line}
 use Rattle.cec_run.specs.PortText.{port_lines}
-use Rattle.cec_run.specs.TraceText.{event_line, is_complete, round_line, end_line}
+use Rattle.cec_text.specs.ReadingText.{is_complete}
+use Rattle.cec_run.specs.TraceText.{event_line, round_line, end_line}
 
 -- where a run stands: the network, the events that are left, and what is counted so far
 pub record Config : Type 0 where

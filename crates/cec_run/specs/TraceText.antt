@@ -1,13 +1,10 @@
 -- The lines of a trace that tell rounds and events (the profile's own text).
-use Rattle.std.specs.Prelude.{ℕ, ◌==◌, ◌%◌, Bool, true, false, List, [], ◌∷◌, ◌++◌, map, length, slice_get, slice_index, slice_index_or, ◌-◌, Option, Some, None, codes}
+use Rattle.std.specs.Prelude.{ℕ, List, [], ◌∷◌, ◌++◌, map, slice_get, Option, Some, None, codes}
 use Rattle.std.specs.Fmt.{decimal}
 use Rattle.std.specs.List.{concat, flat_map}
-use Rattle.cec_frame.specs.declared.Ending.{Ending}
-use Rattle.cec_frame.specs.declared.Ending.TheVariants.{Complete, Short, Silent, BadStart, Long, Open}
-use Rattle.cec_frame.specs.declared.Reading.{Reading}
 use Rattle.cec_wire.specs.declared.Loser.{Loser}
 use Rattle.cec_wire.specs.declared.Outcome.{Outcome}
-use Rattle.cec_text.specs.FrameText.{frame_text}
+use Rattle.cec_text.specs.ReadingText.{told_text, verdict_text, reading_text_of}
 use Rattle.cec_device.specs.declared.keys.KeyError.{KeyError}
 use Rattle.cec_device.specs.declared.keys.KeyError.TheVariants as key
 use Rattle.cec_device.specs.declared.device.SubmitError.{SubmitError}
@@ -15,7 +12,6 @@ use Rattle.cec_device.specs.declared.device.SubmitError.TheVariants as submit
 use Rattle.cec_device.specs.State.{State}
 use Rattle.cec_net.specs.declared.event.EventError.{EventError}
 use Rattle.cec_net.specs.declared.event.EventError.TheVariants.{Plug, Unplug, Key, Send}
-use Rattle.cec_frame.specs.Blocks.{frame_in}
 use Rattle.hdmi_topo.specs.declared.plug.PlugError.{PlugError}
 use Rattle.hdmi_topo.specs.declared.plug.PlugError.TheVariants as plug
 use Rattle.hdmi_topo.specs.declared.plug.UnplugError.{UnplugError}
@@ -25,69 +21,6 @@ use Rattle.hdmi_topo.specs.declared.plug.UnplugError.TheVariants as unplug
 abbrev pub listed : List (List ℕ) → List ℕ
 listed [] = codes "-"
 listed (text ∷ texts) = text ++ flat_map (λ t. 44 ∷ t) texts
-
--- ---- readings
-
-abbrev pub bit_digit : Bool → ℕ
-bit_digit true = 49
-bit_digit false = 48
-
-abbrev pub bits_text : List Bool → List ℕ
-bits_text [] = codes "-"
-bits_text (b ∷ bits) = map bit_digit (b ∷ bits)
-
-abbrev pub ending_text : Ending → List ℕ
-ending_text Complete = codes " complete "
-ending_text Short = codes " short "
-ending_text Silent = codes " silent "
-ending_text BadStart = codes " bad-start "
-ending_text Long = codes " long "
-ending_text Open = codes " open "
-
-abbrev pub is_complete : Ending → Bool
-is_complete Complete = true
-is_complete _ = false
-
--- the text of the frame of a complete reading
-abbrev pub told_frame : Option (List ℕ) → List ℕ
-told_frame None = []
-told_frame (Some frame) = frame_text frame
-
--- the last acknowledge slot: 0 takes a direct frame, and refuses a broadcast (CEC 6, acknowledgement)
-abbrev pub verdict_by : Bool → Bool → List ℕ
-verdict_by true true = codes " ok"
-verdict_by true false = codes " refused"
-verdict_by false true = codes " nack"
-verdict_by false false = codes " ack"
-
-abbrev pub is_broadcast : Option (List ℕ) → Bool
-is_broadcast None = false
-is_broadcast (Some frame) = slice_index frame 0 % 16 == 15
-
-abbrev pub last_bit : List Bool → Bool
-last_bit bits = slice_index_or bits (length bits - 1) false
-
--- a complete reading tells its frame, another one its bits
-abbrev pub told_by : Bool → Reading → List ℕ
-told_by true r = told_frame (frame_in r)
-told_by false r = bits_text r.bits.items
-
-abbrev pub verdict_in : Bool → Reading → List ℕ
-verdict_in true r = verdict_by (is_broadcast (frame_in r)) (last_bit r.bits.items)
-verdict_in false r = []
-
-abbrev pub told_text : Reading → List ℕ
-told_text r = told_by (is_complete r.ending) r
-
-abbrev pub verdict_text : Reading → List ℕ
-verdict_text r = verdict_in (is_complete r.ending) r
-
--- a reading's text, from what it tells and its verdict
-abbrev pub reading_text_of : Reading → List ℕ → List ℕ → List ℕ
-reading_text_of r told verdict = concat (decimal r.begin ∷ codes " " ∷ decimal r.at ∷ ending_text r.ending ∷ told ∷ verdict ∷ [])
-
-abbrev pub reading_text : Reading → List ℕ
-reading_text r = reading_text_of r (told_text r) (verdict_text r)
 
 -- ---- rounds
 

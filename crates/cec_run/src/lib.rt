@@ -9,7 +9,6 @@ mod round_text;
 mod run;
 mod state_text;
 mod trace_text;
-mod written;
 
 pub use laws::{one_trace, runs_are_read, texts_have_one_trace};
 pub use root::EdidCause;

@@ -4,13 +4,11 @@ ghost use Rattle.std.specs.List.{flat_map};
 ghost use Rattle.arrayvec.specs.ArrayVec.{array_vec_len};
 ghost use Rattle.hdmi_core.specs.Piece.{piece_text};
 ghost use Rattle.hdmi_core.specs.Written.{WrittenLine};
-ghost use Rattle.cec_run.specs.TraceText.{is_broadcast, last_bit, listed, loser_text, name_at, round_line, round_line_of, told_frame};
+ghost use Rattle.cec_run.specs.TraceText.{listed, loser_text, name_at, round_line, round_line_of};
 
-use crate::trace_text::{bits_text, ending_word, verdict_word};
 use arrayvec::ArrayVec;
 use cec_device::Device;
-use cec_frame::{Addr, Ending, Frame};
-use cec_text::frame_text;
+use cec_text::{ending_word, reading_told, reading_verdict};
 use cec_wire::{Loser, Outcome};
 use hdmi_core::{Piece, Sink, WriteFault, write_line};
 
@@ -116,34 +114,6 @@ fn write_round_of<'a, S: Sink>(
     write_line(out, &line)
 }
 
-// What a complete reading shows of its frame.
-fn frame_bytes(frame: &Option<Frame>) -> ArrayVec<u8, 96>
-    ensures { result.items ≡ told_frame frame.now }
-{
-    match frame {
-        None => ArrayVec::new(),
-        Some(frame) => frame_text(frame),
-    }
-}
-
-fn is_broadcast(frame: &Option<Frame>) -> bool
-    ensures { result ≡ is_broadcast frame.now }
-{
-    match frame {
-        None => false,
-        Some(frame) => frame.destination().value() == Addr::BROADCAST,
-    }
-}
-
-fn last_bit(bits: &[bool]) -> bool
-    ensures { result ≡ last_bit bits.now }
-{
-    match bits.last() {
-        None => false,
-        Some(bit) => *bit,
-    }
-}
-
 /// Writes the line of a round.
 pub fn write_round<S: Sink>(
     out: &mut S,
@@ -153,14 +123,7 @@ pub fn write_round<S: Sink>(
     ensures { WrittenLine (S.contents out.old) (S.contents out.new) (S.is_stuck out.old) (S.is_stuck out.new)
         (round_line devices.now outcome.now) result }
 {
-    let reading = &outcome.reading;
-    if reading.ending == Ending::Complete {
-        let frame = reading.frame();
-        let told = frame_bytes(&frame);
-        let verdict = verdict_word(is_broadcast(&frame), last_bit(&reading.bits));
-        write_round_of(out, devices, outcome, &told, verdict)
-    } else {
-        let told = bits_text(&reading.bits);
-        write_round_of(out, devices, outcome, &told, "")
-    }
+    let told = reading_told(&outcome.reading);
+    let verdict = reading_verdict(&outcome.reading);
+    write_round_of(out, devices, outcome, &told, verdict)
 }

@@ -1,14 +1,9 @@
-//! The lines of a trace that tell rounds and events.
-ghost use Rattle.std.specs.Prelude.{◌≡◌, ℕ, ◌+◌, ◌*◌, ◌-◌, ◌<◌, ◌≤◌, ◌++◌, length, map, List, slice_index_or};
-ghost use Rattle.std.specs.List.{flat_map};
-ghost use Rattle.arrayvec.specs.ArrayVec.{array_vec_len};
-ghost use Rattle.hdmi_core.specs.Piece.{piece_text};
+//! The lines of a trace that tell events, and its last one.
+ghost use Rattle.std.specs.Prelude.{◌≡◌};
 ghost use Rattle.hdmi_core.specs.Written.{WrittenLine};
-ghost use Rattle.cec_run.specs.TraceText.{bit_digit, bits_text, end_line, ending_text, error_word, event_line, key_word, listed, plug_word, submit_word, told_text, unplug_word, verdict_by, verdict_text};
+ghost use Rattle.cec_run.specs.TraceText.{end_line, error_word, event_line, key_word, plug_word, submit_word, unplug_word};
 
-use arrayvec::ArrayVec;
 use cec_device::{KeyError, SubmitError};
-use cec_frame::Ending;
 use cec_net::EventError;
 use hdmi_core::{Piece, Sink, WriteFault, write_line};
 use hdmi_topo::{PlugError, UnplugError};
@@ -101,50 +96,4 @@ pub fn write_end<S: Sink>(out: &mut S, end: u64) -> Result<u128, WriteFault>
     ensures { WrittenLine (S.contents out.old) (S.contents out.new) (S.is_stuck out.old) (S.is_stuck out.new) (end_line end) result }
 {
     write_line(out, &[Piece::Decimal(end), Piece::Text(" end\n")])
-}
-
-pub fn ending_word(ending: Ending) -> &'static str
-    ensures { result.now ≡ ending_text ending }
-{
-    match ending {
-        Ending::Complete => " complete ",
-        Ending::Short => " short ",
-        Ending::Silent => " silent ",
-        Ending::BadStart => " bad-start ",
-        Ending::Long => " long ",
-        Ending::Open => " open ",
-    }
-}
-
-pub fn verdict_word(is_broadcast: bool, last_bit: bool) -> &'static str
-    ensures { result.now ≡ verdict_by is_broadcast last_bit }
-{
-    match (is_broadcast, last_bit) {
-        (true, true) => " ok",
-        (true, false) => " refused",
-        (false, true) => " nack",
-        (false, false) => " ack",
-    }
-}
-
-fn bit_digit(bit: bool) -> u8
-    ensures { result ≡ bit_digit bit }
-{
-    if bit { b'1' } else { b'0' }
-}
-
-// The bits as digits.
-pub fn bits_text(bits: &[bool]) -> ArrayVec<u8, 160>
-    requires { length bits.now ≤ 160 }
-    ensures { result.items ≡ bits_text bits.now }
-{
-    let mut text = ArrayVec::new();
-    if bits.is_empty() {
-        text.push(b'-');
-        return text;
-    }
-    for bit in bits {
-        text.push(bit_digit(*bit));
-    }
-    text
 }

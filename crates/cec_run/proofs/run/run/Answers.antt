@@ -1,8 +1,8 @@
 use Rattle.std.proofs.Common.{◌≡◌, ◌∙◌, ◌++◌, ℕ, List, false, subst, ap, sym}
 use Rattle.hdmi_core.proofs.CutShort.{Appends-trans}
-use Rattle.cec_run.specs.Cut.{CutOff}
+use Rattle.cec_text.specs.Cut.{CutOff}
 use Rattle.cec_run.specs.PortText.{port_lines}
-use Rattle.cec_run.proofs.Cutting.{cut_behind, cut_front}
+use Rattle.cec_text.proofs.Cutting.{cut_behind, cut_front}
 use Rattle.cec_run.proofs.run.run.Goals as goal
 
 pub returns-in-Ok-run_turns-clause-ok : goal.returns-in-Ok-run_turns-clause-ok

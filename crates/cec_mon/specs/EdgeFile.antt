@@ -1,0 +1,138 @@
+-- Edge files, and the line that they tell (own). A line `T 0` is a fall, `T 1` a rise, `T end` the end; lines that are
+-- empty or begin with `#` are skipped, but counted.
+use Rattle.std.specs.Prelude.{◌≡◌, ℕ, ◌+◌, ◌<◌, ◌≤◌, Bool, true, false, not, nat_lt, nat_le, ◌&&◌, if◌then◌else◌, List, [], ◌∷◌, length, codes, Option, Some, None, Result, Ok, Err}
+use Rattle.std.specs.Str.{bytes_eq}
+use Rattle.cec_wave.specs.declared.Edge.{Edge as EdgeOf}
+use Rattle.cec_wave.specs.Line.{Line}
+use Rattle.cec_text.specs.Lines.{lines_of, is_skipped}
+use Rattle.cec_text.specs.Number.{number_of}
+use Rattle.cec_text.specs.Words.{words_of, two_of}
+use Rattle.cec_mon.specs.declared.edge_file.EdgeLine.{EdgeLine}
+use Rattle.cec_mon.specs.declared.edge_file.EdgeLine.TheVariants.{Edge, End}
+use Rattle.cec_mon.specs.declared.edge_file.EdgeFault.{EdgeFault}
+use Rattle.cec_mon.specs.declared.edge_file.EdgeFault.TheVariants as fault
+use Rattle.cec_mon.specs.declared.edge_file.EdgeLines.{EdgeLines}
+
+-- ---- a line
+
+-- a time, in microseconds, within the limit
+abbrev pub within : Option ℕ → Option ℕ
+within None = None
+within (Some t) = if nat_le t 2000000000000 then Some t else None
+
+abbrev pub time_of : List ℕ → Option ℕ
+time_of word = within (number_of word)
+
+abbrev pub marked : ℕ → List ℕ → Option EdgeLine
+marked at mark =
+    if bytes_eq mark (codes "0") then Some (Edge (record { at = at; low = true }))
+    else if bytes_eq mark (codes "1") then Some (Edge (record { at = at; low = false }))
+    else if bytes_eq mark (codes "end") then Some (End at)
+    else None
+
+abbrev pub marked_by : Option ℕ → List ℕ → Option EdgeLine
+marked_by None mark = None
+marked_by (Some at) mark = marked at mark
+
+abbrev pub line_by : Option (List ℕ × List ℕ) → Option EdgeLine
+line_by None = None
+line_by (Some words) = marked_by (time_of words.0) words.1
+
+abbrev pub edge_line_of : List ℕ → Option EdgeLine
+edge_line_of line = line_by (two_of (words_of line))
+
+-- ---- a file
+
+-- an edge file: its edges, and the instant with which it ends
+pub record EdgeFile : Type 0 where
+  pub edges : List EdgeOf
+  pub end : ℕ
+
+abbrev pub with_edge : EdgeOf → Result EdgeFile EdgeFault → Result EdgeFile EdgeFault
+with_edge e (Ok f) = Ok (record { edges = e ∷ f.edges; end = f.end })
+with_edge e (Err fault) = Err fault
+
+abbrev pub with_edges : List EdgeOf → Result EdgeFile EdgeFault → Result EdgeFile EdgeFault
+with_edges [] r = r
+with_edges (e ∷ es) r = with_edge e (with_edges es r)
+
+-- nothing stands after the end
+abbrev pub end_read : List (List ℕ) → ℕ → ℕ → Result EdgeFile EdgeFault
+end_read [] number t = Ok (record { edges = []; end = t })
+end_read (line ∷ lines) number t = if is_skipped line then end_read lines (number + 1) t else Err (fault.Line number)
+
+-- an edge turns the line, at `from` or later; the end is not before the last edge
+abbrev pub is_in_turn : Bool → ℕ → EdgeOf → Bool
+is_in_turn is_low from e = (if e.low then not is_low else is_low) && nat_le from e.at
+
+abbrev pub read_line : ℕ → Bool → ℕ → Option EdgeLine → (EdgeOf → Result EdgeFile EdgeFault) → (ℕ → Result EdgeFile EdgeFault) → Result EdgeFile EdgeFault
+read_line number is_low from None more last = Err (fault.Line number)
+read_line number is_low from (Some (Edge e)) more last = if is_in_turn is_low from e then with_edge e (more e) else Err (fault.Order number)
+read_line number is_low from (Some (End t)) more last = if nat_le from (t + 1) then last t else Err (fault.Order number)
+
+-- what lines are read as, of which the first has this number, where the line of the bus is low or not and may change
+-- at `from` or later
+abbrev pub edges_read : List (List ℕ) → ℕ → Bool → ℕ → Result EdgeFile EdgeFault
+edges_read [] number is_low from = Err (fault.Line number)
+edges_read (line ∷ lines) number is_low from =
+    if is_skipped line then edges_read lines (number + 1) is_low from
+    else read_line number is_low from (edge_line_of line) (λ e. edges_read lines (number + 1) e.low (e.at + 1)) (λ t. end_read lines (number + 1) t)
+
+-- what a text is read as
+abbrev pub file_of : List ℕ → Result EdgeFile EdgeFault
+file_of text = edges_read (lines_of text) 1 false 0
+
+-- ---- its line
+
+-- the line is low from each fall to the next rise
+abbrev pub level_at : Bool → List EdgeOf → ℕ → Bool
+level_at is_low [] u = is_low
+level_at is_low (e ∷ es) u = if nat_lt u e.at then is_low else level_at e.low es u
+
+abbrev pub line_of_edges : List EdgeOf → Line
+line_of_edges es = level_at false es
+
+-- ---- a reader of the lines
+
+-- what is left of the file, by the lines that are left
+abbrev pub file_left : EdgeLines → Result EdgeFile EdgeFault
+file_left l = edges_read (lines_of l.rest.now) l.number l.is_low l.from
+
+-- nothing stands after an end, or a line that is not skipped
+abbrev pub EndsSo : List (List ℕ) → ℕ → ℕ → Result EdgeLine EdgeFault → Type 0
+EndsSo lines number t (Ok line) = (line ≡ End t) × (end_read lines number t ≡ Ok (record { edges = []; end = t }))
+EndsSo lines number t (Err fault) = end_read lines number t ≡ Err fault
+
+-- what a line of this number leads to, which is not skipped, where these lines are left after it
+abbrev pub left_after : ℕ → List ℕ → EdgeLines → Result EdgeFile EdgeFault
+left_after number line l =
+    read_line number l.is_low l.from (edge_line_of line) (λ e. edges_read (lines_of l.rest.now) l.number e.low (e.at + 1)) (λ t. end_read (lines_of l.rest.now) l.number t)
+
+pub record TakesEdge (number : ℕ) (line : List ℕ) (old : EdgeLines) (e : EdgeOf) (new : EdgeLines) : Type 0 where
+  pub file : left_after number line old ≡ with_edge e (file_left new)
+  pub level : new.is_low ≡ e.low
+  pub from : new.from ≡ e.at + 1
+  pub after : old.from ≤ e.at
+  pub early : e.at ≤ 2000000000000
+  pub rest : new.rest.now ≡ old.rest.now
+  pub count : new.number ≡ old.number
+
+abbrev pub ReadsLine : ℕ → List ℕ → EdgeLines → Result EdgeLine EdgeFault → EdgeLines → Type 0
+ReadsLine number line old (Ok (Edge e)) new = TakesEdge number line old e new
+ReadsLine number line old (Ok (End t)) new = (left_after number line old ≡ Ok (record { edges = []; end = t })) × (old.from ≤ t + 1) × (t ≤ 2000000000000)
+ReadsLine number line old (Err fault) new = left_after number line old ≡ Err fault
+
+-- it goes on behind an edge, and counts the lines that it took
+pub record GoesBehind (old : EdgeLines) (e : EdgeOf) (new : EdgeLines) : Type 0 where
+  pub file : file_left old ≡ with_edge e (file_left new)
+  pub level : new.is_low ≡ e.low
+  pub from : new.from ≡ e.at + 1
+  pub after : old.from ≤ e.at
+  pub early : e.at ≤ 2000000000000
+  pub shorter : length new.rest.now < length old.rest.now
+  pub room : new.number + length new.rest.now ≤ old.number + length old.rest.now
+
+abbrev pub ReadsOn : EdgeLines → Result EdgeLine EdgeFault → EdgeLines → Type 0
+ReadsOn old (Ok (Edge e)) new = GoesBehind old e new
+ReadsOn old (Ok (End t)) new = (file_left old ≡ Ok (record { edges = []; end = t })) × (old.from ≤ t + 1) × (t ≤ 2000000000000)
+ReadsOn old (Err fault) new = file_left old ≡ Err fault

@@ -1,0 +1,3 @@
+pub mod Monitor
+pub mod EdgeFile
+pub mod Watch

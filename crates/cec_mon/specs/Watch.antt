@@ -1,0 +1,51 @@
+-- What is written of an edge file: the readings of its line (own).
+use Rattle.std.specs.Prelude.{◌≡◌, ℕ, Bool, true, List, [], map, Option, Some, None, Result, Ok, Err}
+use Rattle.std.specs.List.{flat_map}
+use Rattle.std.specs.Option.{option_to_list}
+use Rattle.std.specs.Io.KnownBytes.{Appends}
+use Rattle.hdmi_core.specs.declared.sink.WriteFault.{WriteFault}
+use Rattle.cec_frame.specs.declared.Reading.{Reading}
+use Rattle.cec_bits.specs.Readings.{Listed, readings_of}
+use Rattle.cec_text.specs.Cut.{CutOff}
+use Rattle.cec_text.specs.ReadingText.{reading_line}
+use Rattle.cec_mon.specs.EdgeFile.{EdgeFile, file_of, line_of_edges}
+use Rattle.cec_mon.specs.declared.edge_file.EdgeFault.{EdgeFault}
+use Rattle.cec_mon.specs.declared.edge_file.EdgeFault.TheVariants as fault
+use Rattle.cec_mon.specs.declared.watching.WatchError.{WatchError}
+use Rattle.cec_mon.specs.declared.watching.WatchError.TheVariants.{Line, Order, Write, Memory}
+
+-- a reading of a line's list, as a reading by itself
+abbrev pub reading_as : Listed → Reading
+reading_as x = record { begin = x.begin; at = x.told.at; ending = x.told.ending; bits = record { items = x.told.bits } }
+
+-- the lines of readings
+abbrev pub listed_line : Listed → List ℕ
+listed_line x = reading_line (reading_as x)
+
+abbrev pub readings_text : List Listed → List ℕ
+readings_text xs = flat_map listed_line xs
+
+abbrev pub reported_text : Option Listed → List ℕ
+reported_text o = readings_text (option_to_list o)
+
+-- the readings of a file's line, cut at its end
+abbrev pub file_readings : EdgeFile → List Listed
+file_readings f = readings_of (line_of_edges f.edges) f.end
+
+abbrev pub told_so : EdgeFault → WatchError
+told_so (fault.Line line) = Line line
+told_so (fault.Order line) = Order line
+
+-- their lines are written, whole or their front up to a fault
+abbrev pub WritesFile : Option (List ℕ) → Option (List ℕ) → Bool → Bool → EdgeFile → Result (Unit {0}) WriteFault → Type 0
+WritesFile old new was is f (Ok n) = Appends old new (readings_text (file_readings f)) × (is ≡ was)
+WritesFile old new was is f (Err fault) = CutOff old new (readings_text (file_readings f)) fault × (is ≡ true)
+
+-- A file without a fault has its readings written, and of another one the first line at fault is told, and nothing
+-- is written. Memory is never wanted.
+abbrev pub Answers : Option (List ℕ) → Option (List ℕ) → Bool → Bool → List ℕ → Result (Unit {0}) WatchError → Type 0
+Answers old new was is text (Ok n) = (f : EdgeFile) × (file_of text ≡ Ok f) × WritesFile old new was is f (Ok n)
+Answers old new was is text (Err (Write count)) = (f : EdgeFile) × (file_of text ≡ Ok f) × WritesFile old new was is f (Err (record { count = count }))
+Answers old new was is text (Err (Line line)) = (file_of text ≡ Err (fault.Line line)) × (new ≡ old) × (is ≡ was)
+Answers old new was is text (Err (Order line)) = (file_of text ≡ Err (fault.Order line)) × (new ≡ old) × (is ≡ was)
+Answers old new was is text (Err Memory) = ⊥

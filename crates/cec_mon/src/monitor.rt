@@ -1,0 +1,139 @@
+//! A monitor, which is told the line edge by edge.
+ghost use Rattle.std.specs.Prelude.{◌≡◌, ◌≤◌, ◌<◌, length, IfSome, option_map};
+ghost use Rattle.cec_bits.specs.Hears.{heard_by};
+ghost use Rattle.cec_bits.specs.Reports.{ended_of, listed_as};
+
+use cec_bits::{Receiver, Told};
+use cec_frame::Reading;
+use cec_wave::Edge;
+
+// The reading that ran, where instant `t` told that it ended.
+fn ended_of(told: Told, t: u64, running: Option<Reading>) -> Option<Reading>
+    requires room { IfSome running (λ reading. length reading.bits.items < 160) }
+    ensures { option_map listed_as result ≡ ended_of told t (option_map listed_as running) }
+{
+    let Some(reading) = running else {
+        return None;
+    };
+    match told {
+        Told::Nothing | Told::Bit(..) => None,
+        Told::Last(bit, ending) => {
+            let mut bits = reading.bits;
+            bits.push(bit);
+            Some(Reading {
+                begin: reading.begin,
+                at: t,
+                ending,
+                bits,
+            })
+        }
+        Told::Ended(ending) => Some(Reading {
+            begin: reading.begin,
+            at: t,
+            ending,
+            bits: reading.bits,
+        }),
+    }
+}
+
+/// A monitor of the line. It is told each edge, and answers each reading when it has ended. It takes no memory.
+#[derive(Debug, Drop)]
+pub struct Monitor {
+    receiver: Receiver,
+}
+
+impl Monitor {
+    ghost use Rattle.std.specs.Prelude.{ℕ, Bool, ◌+◌};
+    ghost use Rattle.cec_wave.specs.Line.{Line};
+    ghost use Rattle.cec_mon.specs.Monitor.{HeardBefore, IsStill, FollowsEdge, FollowsEnd, Microsecond, heard_at, woken, waited};
+
+    /// A monitor of a line of which nothing is told yet.
+    pub fn new() -> Self
+        ensures { (low : Line) → HeardBefore result low 0 }
+    {
+        Monitor {
+            receiver: Receiver::new(),
+        }
+    }
+
+    // Microsecond `t` has come.
+    fn tick(&mut self, t: u64) -> Option<Reading>
+        requires early { t ≤ 2000000000000 }
+        ensures heard { (let m : Microsecond = record { state = heard_by self.new.receiver; ended = option_map listed_as result } in m)
+            ≡ heard_at t self.old.receiver.was_low self.old.receiver.is_low (heard_by self.old.receiver) }
+        ensures was { self.new.receiver.was_low ≡ self.old.receiver.is_low }
+        ensures is { self.new.receiver.is_low ≡ self.old.receiver.is_low }
+    {
+        let running = self.receiver.running(t);
+        let told = self.receiver.tick(t);
+        ended_of(told, t, running)
+    }
+
+    // The next wake, where it comes before this instant.
+    fn wake(&mut self, until: u64) -> Option<Reading>
+        requires early { until ≤ 2000000000001 }
+        ensures heard { IsStill self.old → (let m : Microsecond = record { state = heard_by self.new.receiver; ended = option_map listed_as result } in m)
+            ≡ woken until self.old.receiver.is_low (heard_by self.old.receiver) }
+        ensures still { IsStill self.old → IsStill self.new }
+        ensures is { self.new.receiver.is_low ≡ self.old.receiver.is_low }
+    {
+        match self.receiver.wakes_at() {
+            Some(wake) if wake < until => self.tick(wake),
+            _ => None,
+        }
+    }
+
+    // The wakes before this instant: there are two at most, a slot's sample and then the end of the wait for the next
+    // slot's fall.
+    fn wait(&mut self, until: u64) -> Option<Reading>
+        requires early { until ≤ 2000000000001 }
+        ensures heard { IsStill self.old → (let m : Microsecond = record { state = heard_by self.new.receiver; ended = option_map listed_as result } in m)
+            ≡ waited until self.old.receiver.is_low (heard_by self.old.receiver) }
+        ensures still { IsStill self.old → IsStill self.new }
+        ensures is { self.new.receiver.is_low ≡ self.old.receiver.is_low }
+    {
+        match self.wake(until) {
+            Some(reading) => Some(reading),
+            None => self.wake(until),
+        }
+    }
+
+    // The edge is noted, before the tick at its instant.
+    fn note(&mut self, edge: Edge)
+        ensures keeps { heard_by self.new.receiver ≡ heard_by self.old.receiver }
+        ensures was { self.new.receiver.was_low ≡ self.old.receiver.was_low }
+        ensures is { self.new.receiver.is_low ≡ edge.low }
+    {
+        if edge.low {
+            self.receiver.fall(edge.at);
+        } else {
+            self.receiver.rise(edge.at);
+        }
+    }
+
+    /// The line falls or rises, at most at 2,000,000,000,000 microseconds. Edges alternate from a fall, with rising
+    /// times. Answers the reading that has ended since the edge before, at this edge too: there is one at most.
+    pub fn edge(&mut self, edge: Edge) -> Option<Reading>
+        requires early { edge.at ≤ 2000000000000 }
+        ensures follows { FollowsEdge self.old edge (option_map listed_as result) self.new }
+    {
+        let waited = self.wait(edge.at);
+        self.note(edge);
+        let ended = self.tick(edge.at);
+        waited.or(ended)
+    }
+
+    /// The line goes on without an edge to `t`, which is not before the last edge and at most 2,000,000,000,000
+    /// microseconds. Answers the reading that has ended since the last edge, at `t` too, or the one that still
+    /// runs, which is open at `t`.
+    pub fn finish(self, t: u64) -> Option<Reading>
+        requires early { t ≤ 2000000000000 }
+        ensures { FollowsEnd self t (option_map listed_as result) }
+    {
+        let mut monitor = self;
+        match monitor.wait(t + 1) {
+            Some(reading) => Some(reading),
+            None => monitor.receiver.running(t),
+        }
+    }
+}

@@ -1,0 +1,119 @@
+//! From an edge file to the lines of its readings.
+ghost use Rattle.std.specs.Prelude.{◌≡◌, ℕ, ◌+◌, ◌<◌, length, MatchResult, option_map, Ok, Err};
+ghost use Rattle.cec_bits.specs.Reports.{listed_as};
+ghost use Rattle.cec_mon.specs.EdgeFile.{EdgeFile, file_of};
+ghost use Rattle.cec_mon.specs.Watch.{Answers, WritesFile, reported_text, told_so};
+ghost use Rattle.cec_text.specs.Cut.{WrittenText};
+
+use crate::edge_file::{EdgeFault, EdgeLine, EdgeLines};
+use crate::monitor::Monitor;
+use cec_frame::Reading;
+use cec_text::{counted, cut_at, write_reading};
+use hdmi_core::{Sink, WriteFault};
+use std::alloc::Global;
+use thiserror::Error;
+
+/// Why the readings of an edge file are not written, or not all of them.
+#[derive(Clone, Copy, Debug, Drop, PartialEq, Eq, Error)]
+pub enum WatchError {
+    /// The first line at fault, counted from 1, is ill-formed, its time is past the limit, or it stands after the
+    /// end. Without an end it is the line after the last.
+    #[error("line {0}: line")]
+    Line(u64),
+    /// The first line at fault is an edge out of turn, or its time goes back.
+    #[error("line {0}: order")]
+    Order(u64),
+    /// A `put` took none. So many bytes were written.
+    #[error("write fault after {0} bytes")]
+    Write(u128),
+    #[error("no memory")]
+    Memory,
+}
+
+fn told_so(fault: EdgeFault) -> WatchError
+    ensures { result ≡ told_so fault }
+{
+    match fault {
+        EdgeFault::Line(line) => WatchError::Line(line),
+        EdgeFault::Order(line) => WatchError::Order(line),
+    }
+}
+
+// Looks for a line at fault.
+fn check_file(text: &[u8]) -> Result<(), EdgeFault>
+    ensures { MatchResult result
+        (λ _. (f : EdgeFile) × (file_of text.now ≡ Ok f))
+        (λ fault. file_of text.now ≡ Err fault) }
+{
+    let mut lines = EdgeLines::new(text);
+    'edges: loop {
+        match lines.next()? {
+            EdgeLine::Edge(_) => {}
+            EdgeLine::End(_) => return Ok(()),
+        }
+    }
+}
+
+// Writes the line of a reading, if there is one.
+fn write_reported<S: Sink>(reading: &Option<Reading>, out: &mut S) -> Result<u128, WriteFault>
+    ensures { WrittenText (S.contents out.old) (S.contents out.new) (S.is_stuck out.old) (S.is_stuck out.new)
+        (reported_text (option_map listed_as reading.now)) result }
+{
+    match reading {
+        None => Ok(0),
+        Some(reading) => match write_reading(reading, out) {
+            Ok(count) => Ok(counted(0, count)),
+            Err(fault) => Err(cut_at(0, fault)),
+        },
+    }
+}
+
+// Writes the readings of a file without a fault.
+fn write_readings<S: Sink>(text: &[u8], out: &mut S) -> Result<(), WriteFault>
+    ensures { (f : EdgeFile) → file_of text.now ≡ Ok f
+        → WritesFile (S.contents out.old) (S.contents out.new) (S.is_stuck out.old) (S.is_stuck out.new) f result }
+{
+    let mut lines = EdgeLines::new(text);
+    let mut monitor = Monitor::new();
+    let mut written = 0;
+    'edges: loop {
+        let line = lines.next();
+        match line {
+            Ok(EdgeLine::Edge(edge)) => {
+                let reading = monitor.edge(edge);
+                match write_reported(&reading, out) {
+                    Ok(count) => written = counted(written, count),
+                    Err(fault) => return Err(cut_at(written, fault)),
+                }
+            }
+            Ok(EdgeLine::End(t)) => {
+                let reading = monitor.finish(t);
+                return match write_reported(&reading, out) {
+                    Ok(_) => Ok(()),
+                    Err(fault) => Err(cut_at(written, fault)),
+                };
+            }
+            Err(_) => return Ok(()),
+        }
+    }
+}
+
+/// Writes the readings of an edge file, a line each: those of any line of the bus, in order, each once, and last the
+/// one that is open at the end. It reads the file twice and takes no memory.
+///
+/// # Errors
+///
+/// `Line` or `Order` with the first line at fault: then nothing was written. `Write` where the sink takes no more:
+/// then the front of the readings was written, as long as it tells. Lines that are empty or begin with `#` are
+/// skipped, but counted. `Memory` never comes.
+pub fn watch<S: Sink>(_alloc: Global, text: &[u8], out: &mut S) -> Result<(), WatchError>
+    ensures { Answers (S.contents out.old) (S.contents out.new) (S.is_stuck out.old) (S.is_stuck out.new) text.now result }
+{
+    if let Err(fault) = check_file(text) {
+        return Err(told_so(fault));
+    }
+    match write_readings(text, out) {
+        Ok(()) => Ok(()),
+        Err(fault) => Err(WatchError::Write(fault.count)),
+    }
+}
