@@ -37,7 +37,7 @@ pub enum ScriptCause {
     Name,
     /// No text of a frame, and why.
     Frame(AssembleError),
-    /// A pulse that is not 1 to 3,000 microseconds wide.
+    /// A pulse that is not 1 to 10,000 microseconds wide.
     Width,
     /// A time before that of the event above, or a pulse that begins before the end of the one above.
     Order,

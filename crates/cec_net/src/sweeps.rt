@@ -14,7 +14,9 @@ use std::test::Fail;
 const LATEST: u64 = 2_000_000_000_000;
 
 /// How wide the pulses are, in microseconds.
-const WIDTHS: [u64; 3] = [1, 400, 3_000];
+const POLL_WIDTHS: [u64; 5] = [1, 400, 3_000, 3_700, 10_000];
+
+const FRAME_WIDTHS: [u64; 3] = [1, 400, 3_000];
 
 /// A poll of the television begins at 12,000 and is complete at 39,150.
 const POLL_BEGIN: u64 = 12_000;
@@ -68,9 +70,9 @@ fn polled_under(rt: &impl Abort, from: u64, width: u64) -> Place {
 
 #[test]
 fn a_poll_under_each_pulse(rt: HostRuntime) -> Result<(), Fail> {
-    for width in WIDTHS {
+    for width in POLL_WIDTHS {
         for from in POLL_BEGIN..POLL_COMPLETE + 1 {
-            let is_false = width == 3_000 && FIRST_FALSE <= from && from <= LAST_FALSE;
+            let is_false = width >= 3_000 && FIRST_FALSE <= from && from <= LAST_FALSE;
             let address = if is_false { 14 } else { 0 };
             assert!(&rt; polled_under(&rt, from, width) == Place::Settled(Addr::new(address)));
         }
@@ -112,7 +114,7 @@ fn sends_once_under(rt: &impl Abort, from: u64, width: u64) {
 
 #[test]
 fn a_frame_under_each_pulse(rt: HostRuntime) -> Result<(), Fail> {
-    for width in WIDTHS {
+    for width in FRAME_WIDTHS {
         for from in FRAME_BEGIN..FRAME_COMPLETE + 1 {
             sends_once_under(&rt, from, width);
         }

@@ -172,6 +172,43 @@ fn pulses_before_a_poll(rt: HostRuntime) -> Result<(), Fail> {
     Ok(())
 }
 
+// A pulse wider than what a follower pulls, and the first lines of the trace, each ended by `;`.
+const WIDE_PULSES: &str = "\
+pulse 5000 3700 => 5000 9701 bad-start - by - out -;20704 47854 complete 0>0 nack by tv out -;
+pulse 5000 10000 => 5000 8901 bad-start - by - out -;27008 54158 complete 0>0 nack by tv out -;
+pulse 12100 3800 => 12000 39150 complete 0>0 nack by tv out -;
+pulse 12100 3801 => 12000 15901 bad-start - by tv out -;23104 50254 complete 0>0 nack by tv out -;
+";
+
+#[test]
+fn wide_pulses_before_a_poll(rt: HostRuntime) -> Result<(), Fail> {
+    let alloc = rt.alloc();
+    for case in WIDE_PULSES.lines() {
+        let (pulse, lines) = case.rsplit_once(" => ").ok_or("no case")?;
+        let mut want = String::new(alloc);
+        for line in lines.split_inclusive(';') {
+            want.push_str(line.strip_suffix(';').unwrap_or(line))?;
+            want.push('\n')?;
+        }
+        let script = format!(in alloc; "{pulse}\nend 200000\n")?;
+        let out = trace(alloc, ALONE, script.as_str())?;
+        assert!(&rt; out.starts_with(want.as_bytes()), "{pulse}");
+    }
+    Ok(())
+}
+
+#[test]
+fn a_pulse_over_several_slots(rt: HostRuntime) -> Result<(), Fail> {
+    tells(
+        &rt,
+        rt.alloc(),
+        TWO,
+        "at 1000000 send p1 4>0 image-view-on\npulse 1004500 10000\nend 1300000\n",
+        "1000000 1007251 silent 0 by p1 out -\n\
+         1021700 1072850 complete 4>0 image-view-on ack by p1 out -\n",
+    )
+}
+
 #[test]
 fn a_queue_has_sixteen_places(rt: HostRuntime) -> Result<(), Fail> {
     let alloc = rt.alloc();

@@ -55,7 +55,7 @@ The script says what happens, in the order of its times, and when the run ends:
   at T press NAME KEY
   at T release NAME KEY
   at T send NAME FRAME          a frame as `hdminet asm` takes it
-  pulse T WIDTH                 the line is pulled low from outside: 1 to 3000 microseconds, each
+  pulse T WIDTH                 the line is pulled low from outside: 1 to 10000 microseconds, each
                                 at least 25000 after the end of the one above, at most 4096
   end T                         the last line
 

@@ -58,7 +58,7 @@ const SCRIPT: [Row; 8] = [
         "name",
         "a NAME, CHILD or PARENT of the script has a `device` line in the topology",
     ),
-    ("width", "WIDTH is a number of microseconds, 1 to 3000"),
+    ("width", "WIDTH is a number of microseconds, 1 to 10000"),
     (
         "order",
         "times do not go back: each T is that of the line before it or later, and a pulse begins after the end of the last one",
