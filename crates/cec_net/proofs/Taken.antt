@@ -79,6 +79,9 @@ taken_one s begin o sparse g p i l = λ t a b. subst (λ u. line_of o.wave u ≡
         true_or (is_within (known p.from (reading_of (line_of o.wave) begin)).ended p.from) (was_low (line_of o.wave) p.from)
         (ap (λ b. is_within (if b then Some (record { ending = (reading_of (line_of o.wave) begin).ending; at = (reading_of (line_of o.wave) begin).at; until = until }) else None) p.from) still)
 
+    was-low : (t : ℕ) → 0 < t → line_of o.wave (t - 1) ≡ true → was_low (line_of o.wave) t ≡ true
+    was-low t h low = let some : nat_lt 0 t ≡ true = grind (arith, nat_tests) in rw some low
+
     -- or where it overlaps or touches the last low stretch
     touching : until < p.from → was_low (line_of o.wave) p.from ≡ true
     touching m = by_last (last_of until 0 o.rest o.wave (sym g.round.rest))
@@ -88,9 +91,6 @@ taken_one s begin o sparse g p i l = λ t a b. subst (λ u. line_of o.wave u ≡
         by_last (inr e) =
             let low : line_of o.wave (p.from - 1) ≡ true = low_inside e.last o.wave (p.from - 1) e.in_wave (omega (arith, e.early, m)) (omega (arith, e.end, l, m)) in
             was-low p.from (omega (arith, m)) low
-
-    was-low : (t : ℕ) → 0 < t → line_of o.wave (t - 1) ≡ true → was_low (line_of o.wave) t ≡ true
-    was-low t h low = let some : nat_lt 0 t ≡ true = grind (arith, nat_tests) in rw some low
 
     step : (n : ℕ) → p.from + n < p.to → line_of o.wave (p.from + n) ≡ true
     step zero b =
