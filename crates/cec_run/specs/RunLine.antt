@@ -1,5 +1,5 @@
 -- The line of a whole run, and what is read on it (own).
-use Rattle.std.specs.Prelude.{◌≡◌, ℕ, zero, suc, ◌≤◌, max, false, List, [], ◌∷◌, ◌++◌, map, Option}
+use Rattle.std.specs.Prelude.{◌≡◌, ℕ, zero, suc, ◌+◌, ◌/◌, ◌≤◌, max, false, List, [], ◌∷◌, ◌++◌, map, Option}
 use Rattle.cec_wave.specs.declared.Stretch.{Stretch}
 use Rattle.cec_wave.specs.Line.{line_of, IsWave}
 use Rattle.cec_wave.specs.Pulses.{AreSparse}
@@ -14,7 +14,8 @@ use Rattle.cec_asm.specs.declared.script.TimedEvent.{TimedEvent}
 use Rattle.cec_run.specs.declared.run.Turn.{Turn}
 use Rattle.cec_run.specs.declared.run.Turn.TheVariants.{Stop, Apply, Round}
 use Rattle.hdmi_blocks.specs.declared.edid.Edid.{Edid}
-use Rattle.cec_run.specs.Run.{Config, start, turn_at, IsTurnBy, IsTurn, Leads}
+use Rattle.cec_run.specs.declared.run.Totals.{Totals}
+use Rattle.cec_run.specs.Run.{Config, start, turn_at, IsTurnBy, IsTurn, Leads, IsTrace}
 
 -- the rounds of a turn: one, or none
 abbrev pub rounds_by : (edid : Option Edid) (turn : Turn) (c : Config) (text : List ℕ) (d : Config) → IsTurnBy edid turn c text d → List Outcome
@@ -38,3 +39,9 @@ abbrev pub RunsAreRead : Type 0
 RunsAreRead = (edid : Option Edid) (tree : List Node) (pulses : List Stretch) (events : List TimedEvent) (end turns : ℕ) (text : List ℕ) (d : Config)
     → AreSparse pulses → AreFramedEvents events → (leads : Leads edid end turns (start (started tree pulses) events) text d)
     → IsRead (rounds_in edid end turns (start (started tree pulses) events) text d leads) (max end d.net.close)
+
+-- A run ends: it has at most one round for each 7,200 microseconds (CEC 9.1, the shortest signal free time) before its end,
+-- and one more for each of 4,096 pulses.
+abbrev pub RunsAreShort : Type 0
+RunsAreShort = (edid : Option Edid) (tree : List Node) (pulses : List Stretch) (events : List TimedEvent) (end : ℕ) (text : List ℕ) (totals : Totals)
+    → AreSparse pulses → AreFramedEvents events → IsTrace edid end (start (started tree pulses) events) text totals → totals.rounds ≤ end / 7200 + 4096

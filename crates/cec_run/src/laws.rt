@@ -1,6 +1,6 @@
 //! Laws of runs.
 ghost use Rattle.cec_run.specs.Run.{OneTrace};
-ghost use Rattle.cec_run.specs.RunLine.{RunsAreRead};
+ghost use Rattle.cec_run.specs.RunLine.{RunsAreRead, RunsAreShort};
 ghost use Rattle.cec_run.specs.Emulate.{TextsHaveOneTrace};
 
 /// A run has one trace, and one count of its rounds and refused events.
@@ -17,4 +17,9 @@ pub fn texts_have_one_trace()
 /// of its rounds, in order, each once.
 pub fn runs_are_read()
     ensures { RunsAreRead }
+{}
+
+/// A run ends: it has at most `end / 7200 + 4096` rounds.
+pub fn runs_are_short()
+    ensures { RunsAreShort }
 {}

@@ -10,7 +10,7 @@ mod run;
 mod state_text;
 mod trace_text;
 
-pub use laws::{one_trace, runs_are_read, texts_have_one_trace};
+pub use laws::{one_trace, runs_are_read, runs_are_short, texts_have_one_trace};
 pub use root::EdidCause;
 pub use run::Totals;
 
