@@ -9,19 +9,11 @@ use Rattle.cec_net.specs.State.{NetState}
 use Rattle.cec_net.specs.Apply.{applied}
 use Rattle.hdmi_core.proofs.CutShort.{Appends-trans}
 use Rattle.hdmi_blocks.specs.declared.edid.Edid.{Edid}
-use Rattle.hdmi_blocks.specs.Bytes.{edid_bytes}
 use Rattle.hdmi_topo.specs.Node.{Node}
 use Rattle.hdmi_topo.specs.Path.{is_on_wire}
-use Rattle.hdmi_topo.specs.Port.{port_address, readdressed_bytes}
 use Rattle.cec_text.specs.Cut.{told_count}
-use Rattle.cec_run.specs.PortText.{lines_of_new, port_bytes, port_lines}
+use Rattle.cec_run.specs.PortText.{lines_of_new, port_lines}
 use Rattle.cec_run.proofs.Advance.{event_keeps}
-
--- an EDID with a port's address has that port's bytes
-pub passed_on : (passed root : Edid) (tree : List Node) (device port : ℕ) → edid_bytes passed ≡ readdressed_bytes root (port_address tree device port)
-    → edid_bytes passed ≡ port_bytes root tree device port
-unfolding port_bytes
-passed_on passed root tree device port h = h
 
 -- numbers that count up
 pub range_item : (a n i x : ℕ) → i < n → x ≡ a + i → get_or (range_with_len a n) i x ≡ x

@@ -8,18 +8,14 @@ use Rattle.hdmi_blocks.specs.declared.edid.Edid.{Edid}
 use Rattle.hdmi_topo.specs.Node.{Node}
 use Rattle.hdmi_topo.specs.Tree.{ports_of}
 use Rattle.hdmi_topo.specs.Path.{is_on_wire}
-use Rattle.hdmi_topo.specs.Port.{port_address, readdressed_bytes}
+use Rattle.hdmi_topo.specs.Port.{port_bytes}
 
--- the line: the instant, the name of the port's device, the port's number, and all bytes of an EDID
+-- the line: the instant, the name of the port's device, the port's number, and all bytes of the EDID that it passes on
 abbrev pub port_line_of : ℕ → List ℕ → ℕ → List ℕ → List ℕ
 port_line_of at name port bytes = concat (decimal at ∷ codes " port " ∷ name ∷ codes " " ∷ decimal port ∷ codes " " ∷ flat_map hex_text bytes ∷ codes "\n" ∷ [])
 
 abbrev pub name_in : List Node → ℕ → List ℕ
 name_in tree device = option_map_or (λ node. node.name) (slice_get tree device) []
-
--- the bytes that a port passes on: the television's EDID with the address of that port
-unfoldable pub port_bytes : Edid → List Node → ℕ → ℕ → List ℕ
-port_bytes root tree device port = readdressed_bytes root (port_address tree device port)
 
 abbrev pub port_line : ℕ → Edid → List Node → ℕ → ℕ → List ℕ
 port_line at root tree device port = port_line_of at (name_in tree device) port (port_bytes root tree device port)

@@ -1,2 +1,5 @@
 pub mod BaseLemmas
+pub mod Lengths
 pub mod OneEdid
+pub mod Passed
+pub mod Reading

@@ -1,5 +1,5 @@
 -- The bytes of a whole EDID (E-EDID Release A, section 2.2.1): the base block, and each extension behind it.
-use Rattle.std.specs.Prelude.{◌≡◌, ◌≢◌, ℕ, ◌+◌, ◌*◌, ◌%◌, ◌⊎◌, List, ◌++◌, length, take, drop, slice_index, sum, flat_map, option_to_list, Some, None, codes}
+use Rattle.std.specs.Prelude.{◌≡◌, ◌≢◌, ℕ, ◌+◌, ◌*◌, ◌%◌, ◌<◌, ◌==◌, Bool, ◌||◌, IsTrue, List, ◌++◌, length, take, drop, slice_index, sum, flat_map, Some, None, codes}
 use Rattle.std.specs.Fmt.{decimal}
 use Rattle.hdmi_edid.specs.declared.base.BaseError.{BaseError}
 use Rattle.hdmi_edid.specs.declared.base.BaseError.TheVariants as bases
@@ -13,24 +13,43 @@ use Rattle.hdmi_blocks.specs.declared.bytes.EdidError.TheVariants.{Length, Count
 use Rattle.hdmi_blocks.specs.declared.edid.Edid.{Edid}
 
 abbrev pub edid_bytes : Edid → List ℕ
-edid_bytes e = base_bytes e.base ++ flat_map ext_bytes (option_to_list e.ext)
+edid_bytes e = base_bytes e.base ++ flat_map ext_bytes e.extensions.items
 
--- one block or two (own: the standard has up to 256)
+-- one block to four (own: the standard has up to 256)
+abbrev pub has_length : List ℕ → Bool
+has_length bytes = (length bytes == 128) || (length bytes == 256) || (length bytes == 384) || (length bytes == 512)
+
 abbrev pub HasLength : List ℕ → Type 0
-HasLength bytes = (length bytes ≡ 128) ⊎ (length bytes ≡ 256)
+HasLength bytes = IsTrue (has_length bytes)
 
--- byte 126 tells how many blocks follow the first
+-- byte 126 says how many blocks follow the first
 abbrev pub HasCount : List ℕ → Type 0
 HasCount bytes = slice_index bytes 126 * 128 + 128 ≡ length bytes
+
+-- the block with this number, 0 for the base block
+abbrev pub block_at : List ℕ → ℕ → List ℕ
+block_at bytes number = take 128 (drop (128 * number) bytes)
+
+-- the first extension whose bytes do not add up to a multiple of 256, by its number from 1
+pub record IsFirstUnsummed (bytes : List ℕ) (number : ℕ) : Type 0 where
+  pub least : 0 < number
+  pub there : 128 * number < length bytes
+  pub wrong : sum (block_at bytes number) % 256 ≢ 0
+  pub before : (k : ℕ) → 0 < k → k < number → sum (block_at bytes k) % 256 ≡ 0
 
 -- the reason why bytes are no EDID, where all that comes before it is in order
 abbrev pub IsRefused : List ℕ → EdidError → Type 0
 IsRefused bytes Length = ¬ HasLength bytes
 IsRefused bytes (Base cause) = HasLength bytes × (refusal (take 128 bytes) ≡ Some cause)
 IsRefused bytes Count = HasLength bytes × (refusal (take 128 bytes) ≡ None) × ¬ HasCount bytes
-IsRefused bytes (Ext i cause) = HasLength bytes × (refusal (take 128 bytes) ≡ None) × HasCount bytes × (i ≡ 1) × (sum (drop 128 bytes) % 256 ≢ 0)
+IsRefused bytes (Ext i cause) = HasLength bytes × (refusal (take 128 bytes) ≡ None) × HasCount bytes × IsFirstUnsummed bytes i
 
--- the words by which a refusal is told (own)
+-- why the extensions of bytes can't be read
+abbrev pub IsUnsummed : List ℕ → EdidError → Type 0
+IsUnsummed bytes (Ext i cause) = IsFirstUnsummed bytes i
+IsUnsummed bytes _ = ⊥
+
+-- the words of a refusal (own)
 abbrev pub base_cause : BaseError → List ℕ
 base_cause bases.Header = codes "header"
 base_cause bases.Checksum = codes "checksum"

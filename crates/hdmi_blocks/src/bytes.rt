@@ -1,21 +1,22 @@
 //! The bytes of a whole EDID.
-ghost use Rattle.std.specs.Prelude.{◌≡◌, ◌++◌, ◌+◌, ◌≤◌, List, ℕ, IfOk, IfErr, OnErr, IsErr, length, take, drop, slice_index};
+ghost use Rattle.std.specs.Prelude.{◌≡◌, ◌++◌, ◌+◌, ◌*◌, ◌≤◌, IfOk, IfErr, flat_map, length, drop};
 ghost use Rattle.arrayvec.specs.ArrayVec.{array_vec_len};
-ghost use Rattle.hdmi_blocks.specs.Bytes.{edid_bytes, IsRefused};
+ghost use Rattle.hdmi_cta.specs.Ext.{ext_bytes};
+ghost use Rattle.hdmi_blocks.specs.Bytes.{HasLength, IsRefused, IsUnsummed, block_at, edid_bytes, has_length};
 ghost use Rattle.hdmi_blocks.specs.declared.edid.Edid.{Edid as EdidValue};
 
 use crate::edid::Edid;
 use arrayvec::ArrayVec;
-use hdmi_cta::{ExtError, read_ext, write_ext};
+use hdmi_cta::{Ext, ExtError, read_ext, write_ext};
 use hdmi_edid::{BaseError, read_base, write_base};
 use std::fmt::{self, Write};
 
 /// Why some bytes are no EDID.
 #[derive(Clone, Copy, Debug, PartialEq, Eq)]
 pub enum EdidError {
-    /// They are neither 128 nor 256.
+    /// They are neither 128, 256, 384 nor 512.
     Length,
-    /// Byte 126 does not tell the number of extensions that are there.
+    /// Byte 126 is not the number of extensions that are there.
     Count,
     /// The base block is at fault.
     Base(BaseError),
@@ -42,30 +43,53 @@ impl fmt::Display for EdidError {
     }
 }
 
-/// The 128 bytes from a place on.
-fn block_at(bytes: &[u8], at: usize) -> [u8; 128]
-    requires { at + 128 ≤ length bytes.now }
-    ensures { result ≡ take 128 (drop at bytes.now) }
+/// The block with this number, 0 for the base block.
+fn block_at(bytes: &[u8], number: usize) -> [u8; 128]
+    requires { 128 * number + 128 ≤ length bytes.now }
+    ensures { result ≡ block_at bytes.now number }
 {
+    let at = 128 * number;
     <[u8; 128]>::try_from(&bytes[at..at + 128]).unwrap()
 }
 
-/// The EDID that 128 or 256 bytes spell, or the first reason why they spell none: their length,
-/// the base block, the number of extensions, the extension (E-EDID Release A, section 2.2.1).
-pub fn edid_from_bytes(bytes: &[u8]) -> Result<Edid, EdidError>
-    ensures found { IfOk result (λ e. edid_bytes e ≡ bytes.now) }
-    ensures only { (e : EdidValue) → bytes.now ≡ edid_bytes e → result ≡ Ok e }
-    ensures refused { IfErr result (λ e. IsRefused bytes.now e) }
+/// Appends a block for which there is room.
+fn append(bytes: &mut ArrayVec<u8, 512>, block: &[u8; 128])
+    requires { array_vec_len bytes.old + 128 ≤ 512 }
+    ensures items { bytes.new.items ≡ bytes.old.items ++ block.now }
 {
-    read_blocks(bytes)
+    let _ = bytes.try_extend_from_slice(block);
 }
 
-/// Reads one block, or two.
+/// Whether there are as many bytes as an EDID can have: one block to four.
+fn has_length(bytes: &[u8]) -> bool
+    ensures { result ≡ has_length bytes.now }
+{
+    matches!(bytes.len(), 128 | 256 | 384 | 512)
+}
+
+/// The extensions behind the base block, or the first that is at fault.
+fn read_extensions(bytes: &[u8]) -> Result<ArrayVec<Ext, 3>, EdidError>
+    requires { HasLength bytes.now }
+    ensures found { IfOk result (λ es. flat_map ext_bytes es.items ≡ drop 128 bytes.now) }
+    ensures count { IfOk result (λ es. 128 * length es.items + 128 ≡ length bytes.now) }
+    ensures refused { IfErr result (λ e. IsUnsummed bytes.now e) }
+{
+    let mut extensions = ArrayVec::new();
+    for number in 1..bytes.len() / 128 {
+        match read_ext(&block_at(bytes, number)) {
+            Err(cause) => return Err(EdidError::Ext(number as u8, cause)),
+            Ok(extension) => extensions.push(extension),
+        }
+    }
+    Ok(extensions)
+}
+
+/// Reads the blocks.
 fn read_blocks(bytes: &[u8]) -> Result<Edid, EdidError>
     ensures found { IfOk result (λ e. edid_bytes e ≡ bytes.now) }
     ensures refused { IfErr result (λ e. IsRefused bytes.now e) }
 {
-    if bytes.len() != 128 && bytes.len() != 256 {
+    if !has_length(bytes) {
         return Err(EdidError::Length);
     }
     let base = match read_base(&block_at(bytes, 0)) {
@@ -75,26 +99,30 @@ fn read_blocks(bytes: &[u8]) -> Result<Edid, EdidError>
     if usize::from(bytes[126]) * 128 + 128 != bytes.len() {
         return Err(EdidError::Count);
     }
-    if bytes.len() == 128 {
-        return Ok(Edid { base, ext: None });
-    }
-    match read_ext(&block_at(bytes, 128)) {
-        Err(cause) => Err(EdidError::Ext(1, cause)),
-        Ok(ext) => Ok(Edid {
-            base,
-            ext: Some(ext),
-        }),
+    match read_extensions(bytes) {
+        Err(error) => Err(error),
+        Ok(extensions) => Ok(Edid { base, extensions }),
     }
 }
 
-/// The bytes of an EDID: 128, or 256 with an extension.
+/// The EDID that 128, 256, 384 or 512 bytes spell, or the first reason why they spell none: their length, the base
+/// block, the number of extensions, the first extension at fault (E-EDID Release A, section 2.2.1).
+pub fn edid_from_bytes(bytes: &[u8]) -> Result<Edid, EdidError>
+    ensures found { IfOk result (λ e. edid_bytes e ≡ bytes.now) }
+    ensures only { (e : EdidValue) → bytes.now ≡ edid_bytes e → result ≡ Ok e }
+    ensures refused { IfErr result (λ e. IsRefused bytes.now e) }
+{
+    read_blocks(bytes)
+}
+
+/// The bytes of an EDID: 128, and 128 more for each extension.
 pub fn edid_to_bytes(edid: &Edid) -> ArrayVec<u8, 512>
     ensures { result.items ≡ edid_bytes edid.now }
 {
     let mut bytes = ArrayVec::new();
-    let _ = bytes.try_extend_from_slice(&write_base(&edid.base));
-    if let Some(ext) = &edid.ext {
-        let _ = bytes.try_extend_from_slice(&write_ext(ext));
+    append(&mut bytes, &write_base(&edid.base));
+    for ext in edid.extensions.as_slice() {
+        append(&mut bytes, &write_ext(ext));
     }
     bytes
 }

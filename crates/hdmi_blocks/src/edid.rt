@@ -1,14 +1,16 @@
 //! A whole EDID.
-ghost use Rattle.std.specs.Prelude.{◌≡◌, length, option_to_list};
+ghost use Rattle.std.specs.Prelude.{◌≡◌, ◌≤◌, length};
 
+use arrayvec::ArrayVec;
 use hdmi_cta::Ext;
 use hdmi_edid::Base;
 
-/// A base block and the extension behind it, if any. Byte 126 of the base block, `extensions`,
-/// tells how many there are.
+/// A base block and up to three extensions behind it. Byte 126 of the base block, `base.extensions`, says how many
+/// there are (E-EDID Release A, section 3.11).
 #[derive(Drop)]
 pub struct Edid {
     pub base: Base,
-    pub ext: Option<Ext>,
-    ghost counted: { base.extensions ≡ length (option_to_list ext) },
+    pub extensions: ArrayVec<Ext, 3>,
+    ghost counted: { base.extensions ≡ length extensions.items },
+    ghost few: { length extensions.items ≤ 3 },
 }

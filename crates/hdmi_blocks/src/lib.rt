@@ -1,11 +1,14 @@
-//! Whole EDIDs: a base block and its extension, bytes to values and back, and the physical address in them.
+//! Whole EDIDs: a base block and up to three extensions, bytes to values and back, the physical address in them, and
+//! what of them a port passes on.
 #![tactic(auto)]
 
 mod address;
 mod bytes;
 mod edid;
+mod passing;
 #[cfg(test)]
 mod tests;
 
 pub use bytes::{EdidError, edid_from_bytes, edid_to_bytes};
 pub use edid::Edid;
+pub use passing::AudioFrom;

@@ -177,10 +177,14 @@ pub fn write_pieces<S: Sink>(out: &mut S, pieces: &[Piece]) -> Result<u128, Writ
     Ok(written)
 }
 
+/// The most bytes of a line that goes out in one `put`: those of the longest line of a port, an instant of 13 digits,
+/// ` port `, a name of 14 bytes, a space, a port of 2 digits, a space, 512 bytes in hex and the line feed.
+const LINE_MOST: usize = 1_062;
+
 // A line that is being made of its parts. It takes bytes as long as there is room.
 #[derive(Drop)]
 struct LineBuffer {
-    bytes: ArrayVec<u8, 768>,
+    bytes: ArrayVec<u8, LINE_MOST>,
     stuck: bool,
 }
 
@@ -200,8 +204,8 @@ impl Sink for LineBuffer {
     }
 }
 
-/// Writes a line made of these parts, as one `put` where the sink takes it and it is no longer than 768
-/// bytes. Answers its length.
+/// Writes a line made of these parts, as one `put` where the sink takes it and it is no longer than 1,062
+/// bytes. Returns its length.
 pub fn write_line<S: Sink>(out: &mut S, pieces: &[Piece]) -> Result<u128, WriteFault>
     ensures { WrittenLine (S.contents out.old) (S.contents out.new) (S.is_stuck out.old) (S.is_stuck out.new) (flat_map piece_text pieces.now) result }
 {

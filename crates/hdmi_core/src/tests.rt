@@ -73,3 +73,45 @@ fn tells_what_was_written_at_each_fault(rt: HostRuntime) {
         assert_eq!(rt; writer.calls, fails_at + 1);
     }
 }
+
+/// The longest line of a port: 512 bytes in hex.
+fn port_line(bytes: &[u8; 512]) -> [Piece<'_>; 8] {
+    [
+        Piece::Decimal(1_000_000_000_000),
+        Piece::Text(" port "),
+        Piece::Bytes(b"a-long-name-14"),
+        Piece::Text(" "),
+        Piece::Decimal(15),
+        Piece::Text(" "),
+        Piece::Hex(bytes),
+        Piece::Text("\n"),
+    ]
+}
+
+#[test]
+fn calls_the_writer_once_for_the_longest_port_line(rt: HostRuntime) {
+    let mut writer = Counted::new(9, 10_000);
+    let mut out = Writes::new(&mut writer);
+    assert_eq!(rt; write_line(&mut out, &port_line(&[0; 512])), Ok(1_062));
+    assert_eq!(rt; write_line(&mut out, &port_line(&[0xff; 512])), Ok(1_062));
+    assert_eq!(rt; writer.calls, 2);
+    assert_eq!(rt; writer.taken, 2_124);
+}
+
+#[test]
+fn says_how_much_of_a_port_line_was_written(rt: HostRuntime) {
+    for fails_at in 1..12u32 {
+        let mut writer = Counted::new(fails_at, 100);
+        let mut out = Writes::new(&mut writer);
+        let count = u128::from(fails_at - 1) * 100;
+        assert_eq!(rt;
+            write_line(&mut out, &port_line(&[0; 512])),
+            Err(WriteFault { count })
+        );
+        assert_eq!(rt; writer.calls, fails_at);
+    }
+    let mut writer = Counted::new(12, 100);
+    let mut out = Writes::new(&mut writer);
+    assert_eq!(rt; write_line(&mut out, &port_line(&[0; 512])), Ok(1_062));
+    assert_eq!(rt; writer.calls, 11);
+}

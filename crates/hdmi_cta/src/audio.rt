@@ -10,7 +10,7 @@ ghost use Rattle.hdmi_cta.specs.Audio.{is_audio, amplifier_audio, heard, growth,
 
 use crate::block::{Block, BlockKind};
 use crate::cta::Cta;
-use crate::ext::{append_timings, read_ext, write_ext};
+use crate::ext::append_timings;
 use crate::parts::append;
 use crate::raw::Ext;
 use crate::reading::read_timings;
@@ -55,13 +55,6 @@ fn copies_of(blocks: &[Block]) -> ArrayVec<Block, 123>
         copies.push(copy_of(block));
     }
     copies
-}
-
-/// The same extension.
-fn same(ext: &Ext) -> Ext
-    ensures { result ≡ ext.now }
-{
-    read_ext(&write_ext(ext)).unwrap()
 }
 
 /// The first audio block.
@@ -204,5 +197,5 @@ pub fn with_audio(ext: &Ext) -> Ext
             return Ext::Cta(heard);
         }
     }
-    same(ext)
+    ext.copy()
 }

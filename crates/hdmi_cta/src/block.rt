@@ -6,7 +6,7 @@ use crate::parts::append;
 use arrayvec::ArrayVec;
 
 /// What a data block tells, by the tag in the top three bits of its first byte (CTA-861-D, 7.5, the data block
-/// collection). Tags 0, 5 and 6 are reserved.
+/// collection). Tag 5 is VESA's display transfer characteristic; tags 0 and 6 are reserved.
 #[derive(Clone, Copy, Debug, PartialEq, Eq)]
 pub enum BlockKind {
     Tag0,

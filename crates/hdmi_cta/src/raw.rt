@@ -28,3 +28,13 @@ pub enum Ext {
     /// Any other block.
     Raw(RawExt),
 }
+
+/// A block without data blocks and timings, for the places of an array that hold no extension yet.
+impl Default for Ext {
+    fn default() -> Self {
+        Ext::Bare(Bare {
+            flags: 0,
+            tail: [0; 123],
+        })
+    }
+}

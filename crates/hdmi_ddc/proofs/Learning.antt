@@ -1,9 +1,11 @@
 -- What is learnt of an EDID is the address in it.
-use Rattle.std.proofs.Common.{◌≡◌, ℕ, ◌+◌, ◌*◌, ◌/◌, ◌<◌, ◌≤◌, true, Some, Result, Ok, Err, IfOk, IfErr, List, inl, inr, length, get_or, replicate, subst, ap, arith, sym, ◌∙◌}
+use Rattle.std.proofs.Common.{◌≡◌, ℕ, ◌+◌, ◌*◌, ◌/◌, ◌<◌, ◌≤◌, true, nat_lt, Some, Result, Ok, Err, IfOk, IfErr, List, inl, inr, length, get_or, replicate, subst, ap, arith, sym, ◌∙◌}
 use Rattle.std.proofs.lemmas.List.{get_or_append_left, take_at}
 use Rattle.hdmi_core.specs.declared.phys.Phys.{Phys}
 use Rattle.hdmi_blocks.specs.Address.{edid_address}
-use Rattle.hdmi_blocks.specs.Bytes.{edid_bytes, HasLength}
+use Rattle.hdmi_blocks.specs.Bytes.{edid_bytes}
+use Rattle.hdmi_blocks.proofs.Lengths.{counted}
+use borrow.Author.Tests.{tests}
 use Rattle.hdmi_blocks.specs.declared.edid.Edid.{Edid as EdidValue}
 use Rattle.hdmi_blocks.proofs.OneEdid.{one_edid, length_fits, count_fits, not_refused}
 use Rattle.hdmi_ddc.specs.Bus.{has_segment}
@@ -22,30 +24,28 @@ learnt bytes blocks can e (Err error) told refused = inr (can, subst (λ (b : Li
 
 -- the bytes of an EDID are read whole
 pub record IsWhole (bytes : List ℕ) : Type 0 where
-  pub few : asked bytes ≤ 1
+  pub few : asked bytes ≤ 3
+  pub len : length bytes ≡ 128 * (asked bytes + 1)
   pub all : blocks_read bytes ≡ bytes
-
-two_lengths : (bytes : List ℕ) → HasLength bytes → (128 ≤ length bytes) × (length bytes ≤ 256)
-two_lengths bytes (inl e) = (omega arith, omega arith)
-two_lengths bytes (inr e) = (omega arith, omega arith)
 
 pub whole : (e : EdidValue) → IsWhole (edid_bytes e)
 whole e =
     let bytes = edid_bytes e in
-    let len = two_lengths bytes (length_fits e) in
-    let least = len.0 in
-    let most = len.1 in
+    let blocks = counted bytes (length_fits e) in
+    let len = blocks.len in
+    let least = blocks.least in
+    let most = blocks.most in
     let count : get_or bytes 126 0 * 128 + 128 ≡ length bytes = count_fits e in
     let there : 126 < length bytes = omega arith in
     let told : asked bytes ≡ get_or bytes 126 0 = get_or_append_left bytes (replicate 512 0xff) 0 126 there in
     let size : length bytes ≡ 128 * (asked bytes + 1) = omega (arith, told, count) in
-    record { few = omega (arith, told, count, most); all = take_at bytes (replicate 512 0xff) (128 * (asked bytes + 1)) size }
+    record { few = omega (arith, told, count, len, most); len = size; all = take_at bytes (replicate 512 0xff) (128 * (asked bytes + 1)) size }
 
 acknowledged : (e : EdidValue) → has_segment (edid_bytes e) (asked (edid_bytes e) / 2) ≡ true
 acknowledged e =
-    let few = (whole e).few in
-    let none : asked (edid_bytes e) / 2 ≡ 0 = omega arith in
-    ap (λ (k : ℕ). has_segment (edid_bytes e) k) none ∙ first_segment (edid_bytes e) (edid_length e)
+    let len = (whole e).len in
+    let there : 256 * (asked (edid_bytes e) / 2) < length (edid_bytes e) = omega (arith, len) in
+    let t : nat_lt (256 * (asked (edid_bytes e) / 2)) (length (edid_bytes e)) ≡ true = grind (arith, tests) in t
 
 not_unread : (e : EdidValue) (x : DdcError) → IsUnread (edid_bytes e) x → ⊥
 not_unread e NoAck (inl h) = let t = first_segment (edid_bytes e) (edid_length e) in cc

@@ -1,15 +1,11 @@
 -- What a reader sees of an EDID over DDC: 256 bytes a segment, chosen by a segment pointer and an offset (E-DDC, section 2.2).
 -- The wrap inside a segment, FF for missing bytes and the missing acknowledgement are this profile's (own).
-use Rattle.std.specs.Prelude.{ℕ, ◌+◌, ◌*◌, ◌==◌, Bool, ◌||◌, nat_lt, Option, Some, None, List, length, slice_index_or, if◌then◌else◌}
+use Rattle.std.specs.Prelude.{ℕ, ◌+◌, ◌*◌, Bool, nat_lt, Option, Some, None, List, length, slice_index_or, if◌then◌else◌}
 
 pub record Bus : Type 0 where
   pub bytes : List ℕ
   pub segment : ℕ
   pub offset : ℕ
-
--- one block to four
-abbrev pub has_length : List ℕ → Bool
-has_length bytes = (length bytes == 128) || (length bytes == 256) || (length bytes == 384) || (length bytes == 512)
 
 -- a segment in which there is a block
 abbrev pub has_segment : List ℕ → ℕ → Bool

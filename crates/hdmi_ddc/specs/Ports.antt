@@ -5,7 +5,7 @@ use Rattle.hdmi_blocks.specs.Bytes.{edid_bytes}
 use Rattle.hdmi_blocks.specs.declared.edid.Edid.{Edid}
 use Rattle.hdmi_topo.specs.Node.{Node}
 use Rattle.hdmi_topo.specs.Path.{address_of}
-use Rattle.hdmi_topo.specs.Port.{IsReaddressed, port_address}
+use Rattle.hdmi_topo.specs.Port.{IsPassedOn}
 use Rattle.hdmi_topo.specs.Tree.{is_root, plug_of}
 use Rattle.hdmi_topo.specs.declared.plug.Plug.{Plug}
 use Rattle.hdmi_ddc.specs.Learn.{IsLearnt}
@@ -15,4 +15,4 @@ use Rattle.hdmi_ddc.specs.declared.error.DdcError.{DdcError}
 abbrev pub PortsTellPlaces : Type 0
 PortsTellPlaces = (tree : List Node) (root passed : Edid) (device : ℕ) (plug : Plug) (address : Phys) (result : Result Phys DdcError)
     → is_root tree device ≡ false → plug_of tree device ≡ Some plug → address_of tree device ≡ Some address
-    → IsReaddressed root (port_address tree plug.parent plug.port) passed → IsLearnt (edid_bytes passed) result → result ≡ Ok address
+    → IsPassedOn root tree plug.parent plug.port passed → IsLearnt (edid_bytes passed) result → result ≡ Ok address

@@ -18,7 +18,8 @@ pub struct Ddc {
 
 impl Model for Ddc {
     ghost use Rattle.std.specs.Prelude.{IsTrue};
-    ghost use Rattle.hdmi_ddc.specs.Bus.{Bus, has_length, has_segment};
+    ghost use Rattle.hdmi_blocks.specs.Bytes.{has_length};
+    ghost use Rattle.hdmi_ddc.specs.Bus.{Bus, has_segment};
 
     ghost Value = { Bus };
 
@@ -28,7 +29,8 @@ impl Model for Ddc {
 }
 
 impl Ddc {
-    ghost use Rattle.hdmi_ddc.specs.Bus.{Bus, begun, byte_at, has_length, has_segment};
+    ghost use Rattle.hdmi_blocks.specs.Bytes.{has_length};
+    ghost use Rattle.hdmi_ddc.specs.Bus.{Bus, begun, byte_at, has_segment};
 
     /// The DDC of an EDID, at segment 0 and offset 0.
     pub fn new(edid: &Edid) -> Self

@@ -112,3 +112,70 @@ fn takes_one_block_to_four(rt: HostRuntime) -> Result<(), Fail> {
     assert_eq!(rt; ddc.segment(1), Ok(()));
     Ok(())
 }
+
+/// Four blocks: the television's with three extensions to follow, a block map, one with an HDMI block, an empty one.
+fn four_blocks() -> [u8; 512] {
+    let mut bytes = [0; 512];
+    bytes[..256].copy_from_slice(&both_blocks());
+    bytes[126] = 0x03;
+    bytes[127] = 0x4f;
+    bytes[128..150].copy_from_slice(&[0; 22]);
+    bytes[128..131].copy_from_slice(&[0xf0, 0x02, 0x02]);
+    bytes[255] = 0x0c;
+    bytes[256..278].copy_from_slice(&EXTENSION);
+    bytes[383] = 0xe8;
+    bytes[384..388].copy_from_slice(&[0x02, 0x03, 0x04, 0xf1]);
+    bytes[511] = 0x06;
+    bytes
+}
+
+#[test]
+fn reads_four_blocks_in_two_segments(rt: HostRuntime) -> Result<(), Fail> {
+    let bytes = four_blocks();
+    let edid = edid_from_bytes(&bytes).map_err(|_| "no EDID")?;
+    let mut ddc = Ddc::new(&edid);
+    assert_eq!(rt; ddc.segment(1), Ok(()));
+    let mut read = [0; 4];
+    ddc.offset(0);
+    ddc.read(&mut read);
+    assert_eq!(rt; read.as_slice(), [0x02, 0x03, 0x16, 0xf1].as_slice());
+    ddc.offset(254);
+    ddc.read(&mut read);
+    assert_eq!(rt; read.as_slice(), [0x00, 0x06, 0x02, 0x03].as_slice());
+    assert_eq!(rt; ddc.segment(2), Err(DdcError::NoAck));
+    let mut ddc = Ddc::over(&bytes)?;
+    assert_eq!(rt; ddc.segment(1), Ok(()));
+    assert_eq!(rt; ddc.segment(2), Err(DdcError::NoAck));
+    assert_eq!(rt; learn_address(&mut ddc), Ok(Phys { high: 0, low: 0 }));
+    Ok(())
+}
+
+#[test]
+fn reads_a_missing_fourth_block_as_ff(rt: HostRuntime) -> Result<(), Fail> {
+    let mut bytes = four_blocks();
+    bytes[126] = 0x02;
+    bytes[127] = 0x50;
+    let front = bytes.as_slice().get(..384).ok_or("no bytes")?;
+    let mut ddc = Ddc::over(front)?;
+    assert_eq!(rt; ddc.segment(1), Ok(()));
+    ddc.offset(126);
+    let mut read = [0; 4];
+    ddc.read(&mut read);
+    assert_eq!(rt; read.as_slice(), [0x00, 0xe8, 0xff, 0xff].as_slice());
+    assert_eq!(rt; learn_address(&mut ddc), Ok(Phys { high: 0, low: 0 }));
+    Ok(())
+}
+
+#[test]
+fn learns_its_place_below_an_amplifier(rt: HostRuntime) -> Result<(), Fail> {
+    let root = edid_from_bytes(&four_blocks()).map_err(|_| "no EDID")?;
+    let mut tree: Tree<15> = Tree::new();
+    tree.add(b"tv", Kind::Tv, 4)?;
+    tree.add(b"amp", Kind::Amp, 3)?;
+    assert_eq!(rt; tree.count(), 2);
+    tree.plug(1, 0, 2)?;
+    let passed = tree.port_edid(&root, 1, 3)?;
+    let mut ddc = Ddc::new(&passed);
+    assert_eq!(rt; learn_address(&mut ddc), Ok(Phys { high: 0x23, low: 0 }));
+    Ok(())
+}

@@ -2,17 +2,17 @@
 use Rattle.std.proofs.Common.{◌≡◌, ℕ, zero, suc, ◌+◌, ◌-◌, ◌<◌, ◌⊎◌, inl, inr, true, false, Option, Some, None, MatchOption, List, [], ◌∷◌, ◌++◌, length, map, replicate, flat_map, ap, arith, refl, sym, ◌∙◌, append_assoc}
 use Rattle.hdmi_edid.proofs.Bytes.{are_bytes-append, are_bytes-cons}
 use Rattle.hdmi_edid.proofs.PartLemmas.{both}
-use Rattle.hdmi_edid.specs.declared.base.Base.{Base}
 use Rattle.hdmi_edid.specs.Timing.{timing_bytes}
 use Rattle.hdmi_edid.specs.Bytes.{are_bytes}
 use Rattle.hdmi_edid.specs.declared.timing.Timing.{Timing as DetailedTiming}
 use Rattle.hdmi_cta.specs.Block.{block_bytes}
 use Rattle.hdmi_cta.specs.Cta.{is_tail}
 use Rattle.hdmi_cta.specs.declared.block.Block.{Block}
-use Rattle.hdmi_edtext.specs.Drafts.{draft_lines, opened_lines, Follows, BlockFits, TimingFits, TailFits}
-use Rattle.hdmi_edtext.specs.Lines.{trimmed, base_lines, bytes_line, block_line, timing_line, tail_line}
+use Rattle.hdmi_edtext.specs.Drafts.{whole_lines, draft_lines, opened_lines, Follows, BlockFits, TimingFits, TailFits}
+use Rattle.hdmi_edtext.specs.Lines.{trimmed, bytes_line, block_line, timing_line, tail_line}
 use Rattle.hdmi_edtext.specs.Tails.{padded, fills, ends}
 use Rattle.hdmi_edtext.specs.declared.draft.Opened.{Opened}
+use Rattle.hdmi_edtext.specs.declared.draft.Whole.{Whole}
 use Rattle.hdmi_edtext.specs.declared.draft.Draft.TheVariants.{Opened as OfOpened}
 use Rattle.hdmi_lines.specs.declared.line.Line.{Line}
 use Rattle.hdmi_lines.specs.declared.line.Word.TheVariants.{Cta, CtaNone, Tail}
@@ -93,7 +93,7 @@ pub tail_whole : (o : Opened) (bytes tail : List ℕ) → ends o.left bytes ≡ 
 tail_whole o bytes tail h e =
     let at = ends_is o.left bytes h in
     let len = ap length e ∙ length-padded o.left bytes at.0.fits in
-    omega (arith, o.whole, length-timings o.timings.items, len)
+    omega (arith, o.spelled, length-timings o.timings.items, len)
 
 pub tail_ended : (left : ℕ) (bytes tail : List ℕ) → ends left bytes ≡ true → tail ≡ padded left bytes → is_tail tail ≡ true
 tail_ended left bytes tail h e = ap is_tail e ∙ (ends_is left bytes h).1
@@ -105,21 +105,21 @@ same_tail : (left : ℕ) (bytes tail : List ℕ) → fills left bytes ≡ true �
 same_tail left bytes tail h e = ap (bytes_line Tail) (ap trimmed e ∙ (fills_is left bytes h).same)
 
 pub tail_told : (o : Opened) (bytes tail : List ℕ) → ends o.left bytes ≡ true → tail ≡ padded o.left bytes
-    → base_lines o.base ++ (bytes_line Cta (o.flags ∷ []) ∷ (map block_line o.blocks.items ++ (map timing_line o.timings.items ++ (tail_line tail ∷ [])))) ≡ draft_lines (OfOpened o) ++ bytes_line Tail bytes ∷ []
+    → whole_lines o.whole ++ (bytes_line Cta (o.flags ∷ []) ∷ (map block_line o.blocks.items ++ (map timing_line o.timings.items ++ (tail_line tail ∷ [])))) ≡ draft_lines (OfOpened o) ++ bytes_line Tail bytes ∷ []
 tail_told o bytes tail h e =
     let line = same_tail o.left bytes tail (both _ _ h).0 e in
     let bs = map block_line o.blocks.items in
     let ts = map timing_line o.timings.items in
-    ap (λ l. base_lines o.base ++ (bytes_line Cta (o.flags ∷ []) ∷ (bs ++ (ts ++ (l ∷ []))))) line
-    ∙ ap (λ ls. base_lines o.base ++ (bytes_line Cta (o.flags ∷ []) ∷ ls)) (sym (append_assoc bs ts (bytes_line Tail bytes ∷ [])))
-    ∙ sym (append_assoc (base_lines o.base) (opened_lines o) (bytes_line Tail bytes ∷ []))
+    ap (λ l. whole_lines o.whole ++ (bytes_line Cta (o.flags ∷ []) ∷ (bs ++ (ts ++ (l ∷ []))))) line
+    ∙ ap (λ ls. whole_lines o.whole ++ (bytes_line Cta (o.flags ∷ []) ∷ ls)) (sym (append_assoc bs ts (bytes_line Tail bytes ∷ [])))
+    ∙ sym (append_assoc (whole_lines o.whole) (opened_lines o) (bytes_line Tail bytes ∷ []))
 
 pub bare_whole : (bytes tail : List ℕ) → fills 123 bytes ≡ true → tail ≡ padded 123 bytes → length tail ≡ 123
 bare_whole bytes tail h e = ap length e ∙ length-padded 123 bytes (fills_is 123 bytes h).fits
 
-pub bare_told : (b : Base) (flags other : ℕ) (bytes tail : List ℕ) → other ≡ flags → fills 123 bytes ≡ true → tail ≡ padded 123 bytes
-    → base_lines b ++ (bytes_line CtaNone (other ∷ []) ∷ tail_line tail ∷ []) ≡ (base_lines b ++ (bytes_line CtaNone (flags ∷ []) ∷ [])) ++ bytes_line Tail bytes ∷ []
-bare_told b flags other bytes tail f h e =
-    ap (λ x. base_lines b ++ (bytes_line CtaNone (x ∷ []) ∷ tail_line tail ∷ [])) f
-    ∙ ap (λ l. base_lines b ++ (bytes_line CtaNone (flags ∷ []) ∷ l ∷ [])) (same_tail 123 bytes tail h e)
-    ∙ sym (append_assoc (base_lines b) (bytes_line CtaNone (flags ∷ []) ∷ []) (bytes_line Tail bytes ∷ []))
+pub bare_told : (w : Whole) (flags other : ℕ) (bytes tail : List ℕ) → other ≡ flags → fills 123 bytes ≡ true → tail ≡ padded 123 bytes
+    → whole_lines w ++ (bytes_line CtaNone (other ∷ []) ∷ tail_line tail ∷ []) ≡ (whole_lines w ++ (bytes_line CtaNone (flags ∷ []) ∷ [])) ++ bytes_line Tail bytes ∷ []
+bare_told w flags other bytes tail f h e =
+    ap (λ x. whole_lines w ++ (bytes_line CtaNone (x ∷ []) ∷ tail_line tail ∷ [])) f
+    ∙ ap (λ l. whole_lines w ++ (bytes_line CtaNone (flags ∷ []) ∷ l ∷ [])) (same_tail 123 bytes tail h e)
+    ∙ sym (append_assoc (whole_lines w) (bytes_line CtaNone (flags ∷ []) ∷ []) (bytes_line Tail bytes ∷ []))

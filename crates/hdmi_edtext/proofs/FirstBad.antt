@@ -78,7 +78,7 @@ lines_so ls new l line all more h is text =
 pub count_so : (ls new : List Line) (l : Line) (n : ℕ) → n ≡ length ls + 1 → new ≡ ls ++ l ∷ [] → n + 1 ≡ length new + 1
 count_so ls new l n h is = let len = length-append ls (l ∷ []) in let same = ap length is in omega (arith, len, same, h)
 
-pub few_told : (d : Draft) → length (draft_lines d) ≤ 148
+pub few_told : (d : Draft) → length (draft_lines d) ≤ 398
 few_told d =
     let l = live d in
     let same = ap length l.1.1 in

@@ -1,6 +1,7 @@
 -- The lines of an EDID, behind those that were told.
-use Rattle.std.proofs.Common.{◌≡◌, ℕ, ◌+◌, ◌*◌, ◌<◌, ◌⊎◌, inl, inr, IsTrue, List, [], ◌∷◌, ◌++◌, length, map, take, get_or, drop, Option, Some, None, option_to_list, slice_get, flat_map, ap, arith, refl, sym, ◌∙◌, length-append, append_assoc, append-nil}
-use Rattle.std.proofs.lemmas.List.{length-take-le}
+use Rattle.std.proofs.Common.{◌≡◌, ℕ, suc, ◌+◌, ◌*◌, ◌<◌, ◌==◌, ◌⊎◌, inl, inr, Bool, true, false, cond, IsTrue, List, [], ◌∷◌, ◌++◌, length, map, take, get_or, drop, Some, slice_get, flat_map, ap, arith, refl, sym, ◌∙◌, length-append, append_assoc, append-nil}
+use Rattle.std.specs.Prelude.{if◌then◌else◌}
+use Rattle.std.proofs.lemmas.List.{length-map, length-take-le}
 use Rattle.hdmi_edid.specs.declared.base.Base.{Base}
 use Rattle.hdmi_edid.specs.declared.timing.Timing.{Timing as DetailedTiming}
 use Rattle.hdmi_edid.specs.Timing.{timing_bytes}
@@ -12,16 +13,18 @@ use Rattle.hdmi_cta.specs.declared.cta.Cta.{Cta as CtaBlock}
 use Rattle.hdmi_cta.specs.declared.raw.Ext.{Ext as AnyExt}
 use Rattle.hdmi_cta.specs.declared.raw.Ext.TheVariants.{Cta as OfCta, Bare as OfBare, Raw as OfRaw}
 use Rattle.hdmi_cta.specs.declared.raw.RawExt.{RawExt}
-use Rattle.hdmi_edtext.specs.Drafts.{draft_lines, opened_lines, Follows, BlockFits, TimingFits, TailFits}
+use Rattle.hdmi_edtext.specs.Drafts.{whole_lines, draft_lines, opened_lines, Follows, BlockFits, TimingFits, TailFits}
 use Rattle.hdmi_edtext.specs.Lines.{base_lines, bytes_line, block_line, timing_line, tail_line, ext_lines, cta_lines, edid_lines}
 use Rattle.hdmi_edtext.specs.declared.draft.Opened.{Opened}
+use Rattle.hdmi_edtext.specs.declared.draft.Whole.{Whole}
 use Rattle.hdmi_edtext.specs.declared.draft.Draft.TheVariants.{Opened as OfOpened}
 use Rattle.hdmi_blocks.specs.declared.edid.Edid.{Edid}
 use Rattle.hdmi_lines.specs.declared.line.Line.{Line}
+use Rattle.hdmi_lines.specs.declared.line.Word.{Word}
 use Rattle.hdmi_lines.specs.declared.line.Word.TheVariants.{Cta, CtaNone, Ext}
 use Rattle.hdmi_blocks.proofs.BaseLemmas.{length-flat}
-use Rattle.hdmi_edtext.proofs.Gets.{get_right, base_count, in_base, one_ext}
-use Rattle.hdmi_edtext.proofs.Sorts.{same_size, not_timing, not_tail, timing_not_tail}
+use Rattle.hdmi_edtext.proofs.Gets.{get_right, base_count, in_base}
+use Rattle.hdmi_edtext.proofs.Sorts.{sort_of, block_sort, same_size, not_timing, not_tail, timing_not_tail}
 
 -- the first line of some
 first_line : (l : Line) (ls ms : List Line) (m : Line) → l ∷ ls ≡ m ∷ ms → l ≡ m
@@ -36,59 +39,138 @@ begun_next b n l h f =
     let len : length (take n (base_lines b)) ≡ n = length-take-le n (base_lines b) (omega (arith, h, base_count b)) in
     (f.0.base, sym (in_base f.0 n h) ∙ ap (λ ls. slice_get ls n) f.1.1 ∙ get_right (take n (base_lines b)) (l ∷ f.1.0) n 0 (omega (arith, len)))
 
-exts_of : (e : Edid) (b : Base) (ys : List Line) → edid_lines e ≡ base_lines b ++ ys → flat_map ext_lines (option_to_list e.ext) ≡ ys
-exts_of e b ys h = (append_same (base_lines e.base) (base_lines b) _ _ (base_count e.base ∙ sym (base_count b)) h).1
+-- the lines of a CTA block behind its first, and more
+abbrev pub body_lines : List Block → List DetailedTiming → List ℕ → List Line → List Line
+body_lines bs ts tail more = map block_line bs ++ (map timing_line ts ++ (tail_line tail ∷ more))
 
--- the lines of the extension
-pub ext_of : (e : Edid) (b : Base) (y : Line) (ys : List Line) → edid_lines e ≡ base_lines b ++ y ∷ ys → (x : AnyExt) × (ext_lines x ≡ y ∷ ys)
-ext_of e b y ys h = at e.ext (exts_of e b (y ∷ ys) h)
+body_more : (bs : List Block) (ts : List DetailedTiming) (tail : List ℕ) (more : List Line) → body_lines bs ts tail [] ++ more ≡ body_lines bs ts tail more
+body_more bs ts tail more =
+    append_assoc (map block_line bs) (map timing_line ts ++ (tail_line tail ∷ [])) more
+    ∙ ap (λ ls. map block_line bs ++ ls) (append_assoc (map timing_line ts) (tail_line tail ∷ []) more)
+
+-- how many lines there are up to the first tail
+abbrev to_tail : List Line → ℕ
+to_tail [] = 0
+to_tail (l ∷ ls) = if sort_of l.word == 2 then 1 else suc (to_tail ls)
+
+abbrev is_raw_word : Word → Bool
+is_raw_word Ext = true
+is_raw_word word = false
+
+-- how many lines the first extension has
+abbrev group_len : List Line → ℕ
+group_len [] = 0
+group_len (l ∷ ls) = if is_raw_word l.word then 1 else suc (to_tail ls)
+
+past_timings : (ts : List DetailedTiming) (tail : List ℕ) (more : List Line) → to_tail (map timing_line ts ++ (tail_line tail ∷ more)) ≡ suc (length ts)
+past_timings [] tail more = refl
+past_timings (t ∷ ts) tail more = ap suc (past_timings ts tail more)
+
+later : (sort n : ℕ) → sort ≡ 0 → cond (sort == 2) 1 (suc n) ≡ suc n
+later sort n e = rw e refl
+
+past_blocks : (bs : List Block) (ls : List Line) → to_tail (map block_line bs ++ ls) ≡ length bs + to_tail ls
+past_blocks [] ls = omega arith
+past_blocks (b ∷ bs) ls =
+    let rest = past_blocks bs ls in
+    let here = later (sort_of (block_line b).word) (to_tail (map block_line bs ++ ls)) (block_sort b) in
+    omega (arith, rest, here)
+
+pub cta_count : (c : CtaBlock) → length (cta_lines c) ≡ length c.blocks.items + length c.timings.items + 2
+cta_count c =
+    let l0 = length-append (map block_line c.blocks.items) (map timing_line c.timings.items ++ (tail_line c.tail.items ∷ [])) in
+    let l1 = length-append (map timing_line c.timings.items) (tail_line c.tail.items ∷ []) in
+    omega (arith, l0, l1, length-map c.blocks.items block_line, length-map c.timings.items timing_line)
+
+group : (x : AnyExt) (more : List Line) → group_len (ext_lines x ++ more) ≡ length (ext_lines x)
+group (OfCta c) more =
+    let lines = ap (λ ls. suc (to_tail ls)) (body_more c.blocks.items c.timings.items c.tail.items more) in
+    let blocks = past_blocks c.blocks.items (map timing_line c.timings.items ++ (tail_line c.tail.items ∷ more)) in
+    let timings = past_timings c.timings.items c.tail.items more in
+    let count = cta_count c in
+    omega (arith, lines, blocks, timings, count)
+group (OfBare c) more = refl
+group (OfRaw c) more = refl
+
+-- extensions are told apart
+pub parted : (x y : AnyExt) (xs ys : List Line) → ext_lines x ++ xs ≡ ext_lines y ++ ys → (ext_lines x ≡ ext_lines y) × (xs ≡ ys)
+parted x y xs ys e = append_same (ext_lines x) (ext_lines y) xs ys (sym (group x xs) ∙ ap group_len e ∙ group y ys) e
+
+pub some_line : (x : AnyExt) (more : List Line) → ext_lines x ++ more ≡ [] → ⊥
+some_line (OfCta c) more e = let len = ap length e in omega (arith, len)
+some_line (OfBare c) more e = let len = ap length e in omega (arith, len)
+some_line (OfRaw c) more e = let len = ap length e in omega (arith, len)
+
+exts_behind : (xs zs : List AnyExt) (ys : List Line) → flat_map ext_lines zs ≡ flat_map ext_lines xs ++ ys
+    → (rest : List AnyExt) × ((flat_map ext_lines rest ≡ ys) × (length zs ≡ length xs + length rest))
+exts_behind [] zs ys e = (zs, (e, omega arith))
+exts_behind (x ∷ xs) [] ys e = absurd (some_line x (flat_map ext_lines xs ++ ys) (sym (append_assoc (ext_lines x) (flat_map ext_lines xs) ys) ∙ sym e))
+exts_behind (x ∷ xs) (z ∷ zs) ys e =
+    let p = parted z x (flat_map ext_lines zs) (flat_map ext_lines xs ++ ys) (e ∙ append_assoc (ext_lines x) (flat_map ext_lines xs) ys) in
+    let more = exts_behind xs zs ys p.1 in
+    let count = more.1.1 in
+    (more.0, (more.1.0, omega (arith, count)))
+
+-- the next extension
+pub record NextExt (w : Whole) (ys : List Line) : Type 0 where
+  pub ext : AnyExt
+  pub more : List Line
+  pub lines : ext_lines ext ++ more ≡ ys
+  pub room : length w.extensions.items < 3
+
+pub ext_of : (e : Edid) (w : Whole) (y : Line) (ys : List Line) → edid_lines e ≡ whole_lines w ++ y ∷ ys → NextExt w (y ∷ ys)
+ext_of e w y ys h =
+    let split = append_same (base_lines e.base) (base_lines w.base) _ _ (base_count e.base ∙ sym (base_count w.base)) (h ∙ append_assoc (base_lines w.base) (flat_map ext_lines w.extensions.items) (y ∷ ys)) in
+    let b = exts_behind w.extensions.items e.extensions.items (y ∷ ys) split.1 in
+    at b.0 b.1.0 b.1.1
   where
-    at : (o : Option AnyExt) → flat_map ext_lines (option_to_list o) ≡ y ∷ ys → (x : AnyExt) × (ext_lines x ≡ y ∷ ys)
-    at None k = let len = ap length k in absurd (omega (arith, len))
-    at (Some x) k = (x, sym (one_ext x) ∙ k)
+    at : (rest : List AnyExt) → flat_map ext_lines rest ≡ y ∷ ys → length e.extensions.items ≡ length w.extensions.items + length rest → NextExt w (y ∷ ys)
+    at [] k count = let len = ap length k in absurd (omega (arith, len))
+    at (x ∷ xs) k count = let few = e.few in record { ext = x; more = flat_map ext_lines xs; lines = k; room = omega (arith, count, few) }
+
+-- nothing follows three extensions
+pub full_next : (w : Whole) (l : Line) → length w.extensions.items ≡ 3 → Follows (whole_lines w) l → ⊥
+full_next w l full f = let room = (ext_of f.0 w l f.1.0 f.1.1).room in omega (arith, room, full)
 
 -- the first line of an extension
-pub whole_next : (b : Base) (l : Line) → ((f : ℕ) → bytes_line Cta (f ∷ []) ≡ l → ⊥) → ((f : ℕ) → bytes_line CtaNone (f ∷ []) ≡ l → ⊥)
-    → ((r : RawExt) → bytes_line Ext r.bytes ≡ l → ⊥) → Follows (base_lines b) l → ⊥
-whole_next b l h i j f = let x = ext_of f.0 b l f.1.0 f.1.1 in at x.0 x.1
+pub whole_next : (w : Whole) (l : Line) → ((f : ℕ) → bytes_line Cta (f ∷ []) ≡ l → ⊥) → ((f : ℕ) → bytes_line CtaNone (f ∷ []) ≡ l → ⊥)
+    → ((r : RawExt) → bytes_line Ext r.bytes ≡ l → ⊥) → Follows (whole_lines w) l → ⊥
+whole_next w l h i j f = let x = ext_of f.0 w l f.1.0 f.1.1 in at x.ext x.more x.lines
   where
-    at : (x : AnyExt) → ext_lines x ≡ l ∷ f.1.0 → ⊥
-    at (OfCta c) e = h c.flags (first_line _ _ _ _ e)
-    at (OfBare c) e = i c.flags (first_line _ _ _ _ e)
-    at (OfRaw r) e = j r (first_line _ _ _ _ e)
-
--- the lines of a CTA block behind its first
-abbrev pub body_lines : List Block → List DetailedTiming → List ℕ → List Line
-body_lines bs ts tail = map block_line bs ++ (map timing_line ts ++ (tail_line tail ∷ []))
+    at : (x : AnyExt) (more : List Line) → ext_lines x ++ more ≡ l ∷ f.1.0 → ⊥
+    at (OfCta c) more e = h c.flags (first_line _ _ _ _ e)
+    at (OfBare c) more e = i c.flags (first_line _ _ _ _ e)
+    at (OfRaw r) more e = j r (first_line _ _ _ _ e)
 
 -- data blocks that were told
-blocks_behind : (bs cs : List Block) (ts : List DetailedTiming) (tail : List ℕ) (zs : List Line) → body_lines cs ts tail ≡ map block_line bs ++ zs
-    → (rest : List Block) × ((body_lines rest ts tail ≡ zs) × (length (flat_map block_bytes cs) ≡ length (flat_map block_bytes bs) + length (flat_map block_bytes rest)))
-blocks_behind [] cs ts tail zs e = (cs, (e, omega arith))
-blocks_behind (b ∷ bs) [] [] tail zs e = absurd (not_tail b tail (sym (first_line _ _ _ _ e)))
-blocks_behind (b ∷ bs) [] (t ∷ ts) tail zs e = absurd (not_timing b t (sym (first_line _ _ _ _ e)))
-blocks_behind (b ∷ bs) (c ∷ cs) ts tail zs e =
+blocks_behind : (bs cs : List Block) (ts : List DetailedTiming) (tail : List ℕ) (more zs : List Line) → body_lines cs ts tail more ≡ map block_line bs ++ zs
+    → (rest : List Block) × ((body_lines rest ts tail more ≡ zs) × (length (flat_map block_bytes cs) ≡ length (flat_map block_bytes bs) + length (flat_map block_bytes rest)))
+blocks_behind [] cs ts tail more zs e = (cs, (e, omega arith))
+blocks_behind (b ∷ bs) [] [] tail more zs e = absurd (not_tail b tail (sym (first_line _ _ _ _ e)))
+blocks_behind (b ∷ bs) [] (t ∷ ts) tail more zs e = absurd (not_timing b t (sym (first_line _ _ _ _ e)))
+blocks_behind (b ∷ bs) (c ∷ cs) ts tail more zs e =
     let same = same_size c b (first_line _ _ _ _ e) in
-    let more = blocks_behind bs cs ts tail zs (other_lines _ _ _ _ e) in
-    let sizes = more.1.1 in
-    (more.0, (more.1.0, omega (arith, same, sizes, length-append (block_bytes b) (flat_map block_bytes bs), length-append (block_bytes c) (flat_map block_bytes cs))))
+    let rest = blocks_behind bs cs ts tail more zs (other_lines _ _ _ _ e) in
+    let sizes = rest.1.1 in
+    (rest.0, (rest.1.0, omega (arith, same, sizes, length-append (block_bytes b) (flat_map block_bytes bs), length-append (block_bytes c) (flat_map block_bytes cs))))
 
 -- timings that were told
-timings_behind : (us ts : List DetailedTiming) (tail : List ℕ) (zs : List Line) → map timing_line ts ++ (tail_line tail ∷ []) ≡ map timing_line us ++ zs
-    → (rest : List DetailedTiming) × ((map timing_line rest ++ (tail_line tail ∷ []) ≡ zs) × (length ts ≡ length us + length rest))
-timings_behind [] ts tail zs e = (ts, (e, omega arith))
-timings_behind (u ∷ us) [] tail zs e = absurd (timing_not_tail u tail (sym (first_line _ _ _ _ e)))
-timings_behind (u ∷ us) (t ∷ ts) tail zs e =
-    let more = timings_behind us ts tail zs (other_lines _ _ _ _ e) in
-    let sizes = more.1.1 in
-    (more.0, (more.1.0, omega (arith, sizes)))
+timings_behind : (us ts : List DetailedTiming) (tail : List ℕ) (more zs : List Line) → map timing_line ts ++ (tail_line tail ∷ more) ≡ map timing_line us ++ zs
+    → (rest : List DetailedTiming) × ((map timing_line rest ++ (tail_line tail ∷ more) ≡ zs) × (length ts ≡ length us + length rest))
+timings_behind [] ts tail more zs e = (ts, (e, omega arith))
+timings_behind (u ∷ us) [] tail more zs e = absurd (timing_not_tail u tail (sym (first_line _ _ _ _ e)))
+timings_behind (u ∷ us) (t ∷ ts) tail more zs e =
+    let rest = timings_behind us ts tail more zs (other_lines _ _ _ _ e) in
+    let sizes = rest.1.1 in
+    (rest.0, (rest.1.0, omega (arith, sizes)))
 
 -- what is behind the lines of an open block
 pub record Behind (o : Opened) (zs : List Line) : Type 0 where
   pub blocks : List Block
   pub timings : List DetailedTiming
   pub tail : List ℕ
-  pub lines : body_lines blocks timings tail ≡ zs
+  pub more : List Line
+  pub lines : body_lines blocks timings tail more ≡ zs
   pub size : length (flat_map block_bytes blocks) + 18 * length timings + length tail ≡ o.left
   pub ended : IsTrue (is_tail tail)
   pub order : (o.timings.items ≡ []) ⊎ (blocks ≡ [])
@@ -96,13 +178,13 @@ pub record Behind (o : Opened) (zs : List Line) : Type 0 where
 pub length-timings : (ts : List DetailedTiming) → length (flat_map timing_bytes ts) ≡ 18 * length ts
 length-timings ts = length-flat timing_bytes 18 (λ t. refl) ts
 
-cta_behind : (o : Opened) (c : CtaBlock) (zs : List Line) → cta_lines c ≡ opened_lines o ++ zs → Behind o zs
-cta_behind o c zs e =
-    let body = other_lines _ _ _ _ e ∙ append_assoc (map block_line o.blocks.items) (map timing_line o.timings.items) zs in
-    let more = blocks_behind o.blocks.items c.blocks.items c.timings.items c.tail.items _ body in
-    at more.0 o.timings.items refl more.1.0 more.1.1
+cta_behind : (o : Opened) (c : CtaBlock) (more zs : List Line) → cta_lines c ++ more ≡ opened_lines o ++ zs → Behind o zs
+cta_behind o c more zs e =
+    let body = sym (body_more c.blocks.items c.timings.items c.tail.items more) ∙ other_lines _ _ _ _ e ∙ append_assoc (map block_line o.blocks.items) (map timing_line o.timings.items) zs in
+    let rest = blocks_behind o.blocks.items c.blocks.items c.timings.items c.tail.items more _ body in
+    at rest.0 o.timings.items refl rest.1.0 rest.1.1
   where
-    at : (rest : List Block) (us : List DetailedTiming) → o.timings.items ≡ us → body_lines rest c.timings.items c.tail.items ≡ map timing_line us ++ zs
+    at : (rest : List Block) (us : List DetailedTiming) → o.timings.items ≡ us → body_lines rest c.timings.items c.tail.items more ≡ map timing_line us ++ zs
         → length (flat_map block_bytes c.blocks.items) ≡ length (flat_map block_bytes o.blocks.items) + length (flat_map block_bytes rest) → Behind o zs
     at rest [] none lines size =
         let len = ap length none in
@@ -110,29 +192,31 @@ cta_behind o c zs e =
           blocks = rest;
           timings = c.timings.items;
           tail = c.tail.items;
+          more = more;
           lines = lines;
-          size = omega (arith, size, c.whole, o.whole, length-timings c.timings.items, len);
+          size = omega (arith, size, c.whole, o.spelled, length-timings c.timings.items, len);
           ended = c.ended;
           order = inl none;
         }
     at (b ∷ bs) (u ∷ us) some lines size = absurd (not_timing b u (first_line _ _ _ _ lines))
     at [] (u ∷ us) some lines size =
-        let more = timings_behind (u ∷ us) c.timings.items c.tail.items zs lines in
+        let behind = timings_behind (u ∷ us) c.timings.items c.tail.items more zs lines in
         let len = ap length some in
-        let count = more.1.1 in
+        let count = behind.1.1 in
         record {
           blocks = [];
-          timings = more.0;
+          timings = behind.0;
           tail = c.tail.items;
-          lines = more.1.0;
-          size = omega (arith, size, c.whole, o.whole, length-timings c.timings.items, len, count);
+          more = more;
+          lines = behind.1.0;
+          size = omega (arith, size, c.whole, o.spelled, length-timings c.timings.items, len, count);
           ended = c.ended;
           order = inr refl;
         }
 
-pub opened_behind : (o : Opened) (e : Edid) (zs : List Line) → edid_lines e ≡ (base_lines o.base ++ opened_lines o) ++ zs → Behind o zs
+pub opened_behind : (o : Opened) (e : Edid) (zs : List Line) → edid_lines e ≡ (whole_lines o.whole ++ opened_lines o) ++ zs → Behind o zs
 opened_behind o e zs h =
-    let x = ext_of e o.base _ _ (h ∙ append_assoc (base_lines o.base) (opened_lines o) zs) in at x.0 x.1
+    let x = ext_of e o.whole _ _ (h ∙ append_assoc (whole_lines o.whole) (opened_lines o) zs) in at x.ext x.more x.lines
   where
     words : (f g : ℕ) (ls ms : List Line) → bytes_line CtaNone (f ∷ []) ∷ ls ≡ bytes_line Cta (g ∷ []) ∷ ms → ⊥
     words f g ls ms k = let same = ap (λ l. l.word) (first_line _ _ _ _ k) in cc
@@ -140,35 +224,40 @@ opened_behind o e zs h =
     raw_words : (bs : List ℕ) (g : ℕ) (ls ms : List Line) → bytes_line Ext bs ∷ ls ≡ bytes_line Cta (g ∷ []) ∷ ms → ⊥
     raw_words bs g ls ms k = let same = ap (λ l. l.word) (first_line _ _ _ _ k) in cc
 
-    at : (x : AnyExt) → ext_lines x ≡ opened_lines o ++ zs → Behind o zs
-    at (OfCta c) k = cta_behind o c zs k
-    at (OfBare c) k = absurd (words c.flags o.flags _ _ k)
-    at (OfRaw r) k = absurd (raw_words r.bytes o.flags _ _ k)
+    at : (x : AnyExt) (more : List Line) → ext_lines x ++ more ≡ opened_lines o ++ zs → Behind o zs
+    at (OfCta c) more k = cta_behind o c more zs k
+    at (OfBare c) more k = absurd (words c.flags o.flags _ _ k)
+    at (OfRaw r) more k = absurd (raw_words r.bytes o.flags _ _ k)
 
 -- which line can come next
 pub opened_next : (o : Opened) (l : Line) → Follows (draft_lines (OfOpened o)) l → ((o.timings.items ≡ []) × BlockFits o.left l) ⊎ (TimingFits o.left l ⊎ TailFits o.left l)
-opened_next o l f = let b = opened_behind o f.0 (l ∷ f.1.0) f.1.1 in at b.blocks b.timings b.tail b.lines b.size b.ended b.order
+opened_next o l f = let b = opened_behind o f.0 (l ∷ f.1.0) f.1.1 in at b.blocks b.timings b.tail b.more b.lines b.size b.ended b.order
   where
-    at : (bs : List Block) (ts : List DetailedTiming) (tail : List ℕ) → body_lines bs ts tail ≡ l ∷ f.1.0
+    at : (bs : List Block) (ts : List DetailedTiming) (tail : List ℕ) (more : List Line) → body_lines bs ts tail more ≡ l ∷ f.1.0
         → length (flat_map block_bytes bs) + 18 * length ts + length tail ≡ o.left → IsTrue (is_tail tail) → (o.timings.items ≡ []) ⊎ (bs ≡ [])
         → ((o.timings.items ≡ []) × BlockFits o.left l) ⊎ (TimingFits o.left l ⊎ TailFits o.left l)
-    at [] [] tail lines size ended order = inr (inr (tail, (first_line _ _ _ _ lines, (omega (arith, size), ended))))
-    at [] (t ∷ ts) tail lines size ended order = inr (inl (t, (first_line _ _ _ _ lines, omega (arith, size))))
-    at (b ∷ bs) ts tail lines size ended (inl none) =
+    at [] [] tail more lines size ended order = inr (inr (tail, (first_line _ _ _ _ lines, (omega (arith, size), ended))))
+    at [] (t ∷ ts) tail more lines size ended order = inr (inl (t, (first_line _ _ _ _ lines, omega (arith, size))))
+    at (b ∷ bs) ts tail more lines size ended (inl none) =
         inl (none, (b, (first_line _ _ _ _ lines, omega (arith, size, length-append (block_bytes b) (flat_map block_bytes bs)))))
-    at (b ∷ bs) ts tail lines size ended (inr none) = let len = ap length none in absurd (omega (arith, len))
+    at (b ∷ bs) ts tail more lines size ended (inr none) = let len = ap length none in absurd (omega (arith, len))
 
 -- an open block is not all
 pub opened_not_all : (o : Opened) (e : Edid) → edid_lines e ≡ draft_lines (OfOpened o) → ⊥
 opened_not_all o e h =
-    let b = opened_behind o e [] (h ∙ sym (append-nil (base_lines o.base ++ opened_lines o))) in
+    let b = opened_behind o e [] (h ∙ sym (append-nil (whole_lines o.whole ++ opened_lines o))) in
     let len = ap length b.lines in
-    omega (arith, len, length-append (map block_line b.blocks) (map timing_line b.timings ++ (tail_line b.tail ∷ [])), length-append (map timing_line b.timings) (tail_line b.tail ∷ []))
+    omega (arith, len, length-append (map block_line b.blocks) (map timing_line b.timings ++ (tail_line b.tail ∷ b.more)), length-append (map timing_line b.timings) (tail_line b.tail ∷ b.more))
 
 -- the tail that stands alone
-bare_of : (e : Edid) (b : Base) (flags : ℕ) (zs : List Line) → edid_lines e ≡ (base_lines b ++ (bytes_line CtaNone (flags ∷ []) ∷ [])) ++ zs
-    → (bytes : List ℕ) × ((length bytes ≡ 123) × (tail_line bytes ∷ [] ≡ zs))
-bare_of e b flags zs h = let x = ext_of e b _ _ (h ∙ append_assoc (base_lines b) (bytes_line CtaNone (flags ∷ []) ∷ []) zs) in at x.0 x.1
+pub record LoneTail (zs : List Line) : Type 0 where
+  pub bytes : List ℕ
+  pub more : List Line
+  pub size : length bytes ≡ 123
+  pub lines : tail_line bytes ∷ more ≡ zs
+
+bare_of : (e : Edid) (w : Whole) (flags : ℕ) (zs : List Line) → edid_lines e ≡ (whole_lines w ++ (bytes_line CtaNone (flags ∷ []) ∷ [])) ++ zs → LoneTail zs
+bare_of e w flags zs h = let x = ext_of e w _ _ (h ∙ append_assoc (whole_lines w) (bytes_line CtaNone (flags ∷ []) ∷ []) zs) in at x.ext x.more x.lines
   where
     words : (f g : ℕ) (ls ms : List Line) → bytes_line Cta (f ∷ []) ∷ ls ≡ bytes_line CtaNone (g ∷ []) ∷ ms → ⊥
     words f g ls ms k = let same = ap (λ l. l.word) (first_line _ _ _ _ k) in cc
@@ -176,63 +265,21 @@ bare_of e b flags zs h = let x = ext_of e b _ _ (h ∙ append_assoc (base_lines 
     raw_words : (bs : List ℕ) (g : ℕ) (ls ms : List Line) → bytes_line Ext bs ∷ ls ≡ bytes_line CtaNone (g ∷ []) ∷ ms → ⊥
     raw_words bs g ls ms k = let same = ap (λ l. l.word) (first_line _ _ _ _ k) in cc
 
-    at : (x : AnyExt) → ext_lines x ≡ bytes_line CtaNone (flags ∷ []) ∷ zs → (bytes : List ℕ) × ((length bytes ≡ 123) × (tail_line bytes ∷ [] ≡ zs))
-    at (OfCta c) k = absurd (words c.flags flags _ _ k)
-    at (OfBare c) k = (c.tail, (c.whole, other_lines _ _ _ _ k))
-    at (OfRaw r) k = absurd (raw_words r.bytes flags _ _ k)
+    at : (x : AnyExt) (more : List Line) → ext_lines x ++ more ≡ bytes_line CtaNone (flags ∷ []) ∷ zs → LoneTail zs
+    at (OfCta c) more k = absurd (words c.flags flags _ _ k)
+    at (OfBare c) more k = record { bytes = c.tail; more = more; size = c.whole; lines = other_lines _ _ _ _ k }
+    at (OfRaw r) more k = absurd (raw_words r.bytes flags _ _ k)
 
-pub bare_next : (b : Base) (flags : ℕ) (l : Line) → Follows (base_lines b ++ (bytes_line CtaNone (flags ∷ []) ∷ [])) l → (bytes : List ℕ) × ((length bytes ≡ 123) × (tail_line bytes ≡ l))
-bare_next b flags l f = let t = bare_of f.0 b flags (l ∷ f.1.0) f.1.1 in (t.0, (t.1.0, first_line _ _ _ _ t.1.1))
+pub bare_next : (w : Whole) (flags : ℕ) (l : Line) → Follows (whole_lines w ++ (bytes_line CtaNone (flags ∷ []) ∷ [])) l → (bytes : List ℕ) × ((length bytes ≡ 123) × (tail_line bytes ≡ l))
+bare_next w flags l f = let t = bare_of f.0 w flags (l ∷ f.1.0) f.1.1 in (t.bytes, (t.size, first_line _ _ _ _ t.lines))
 
-pub bare_not_all : (b : Base) (flags : ℕ) (e : Edid) → edid_lines e ≡ base_lines b ++ (bytes_line CtaNone (flags ∷ []) ∷ []) → ⊥
-bare_not_all b flags e h =
-    let t = bare_of e b flags [] (h ∙ sym (append-nil (base_lines b ++ (bytes_line CtaNone (flags ∷ []) ∷ [])))) in
-    let len = ap length t.1.1 in omega (arith, len)
+pub bare_not_all : (w : Whole) (flags : ℕ) (e : Edid) → edid_lines e ≡ whole_lines w ++ (bytes_line CtaNone (flags ∷ []) ∷ []) → ⊥
+bare_not_all w flags e h =
+    let t = bare_of e w flags [] (h ∙ sym (append-nil (whole_lines w ++ (bytes_line CtaNone (flags ∷ []) ∷ [])))) in
+    let len = ap length t.lines in omega (arith, len)
 
 pub begun_not_all : (b : Base) (n : ℕ) (e : Edid) → n < 23 → edid_lines e ≡ take n (base_lines b) → ⊥
 begun_not_all b n e h k =
     let len = ap length k in
     let short : length (take n (base_lines b)) ≡ n = length-take-le n (base_lines b) (omega (arith, h, base_count b)) in
-    omega (arith, len, short, h, base_count e.base, length-append (base_lines e.base) (flat_map ext_lines (option_to_list e.ext)))
-
--- no line comes behind a tail
-behind_tail : (bs : List Block) (ts : List DetailedTiming) (tail other : List ℕ) (l : Line) (more : List Line) → body_lines bs ts tail ≡ tail_line other ∷ l ∷ more → ⊥
-behind_tail [] [] tail other l more e = let len = ap length e in omega (arith, len)
-behind_tail [] (t ∷ ts) tail other l more e = timing_not_tail t other (first_line _ _ _ _ e)
-behind_tail (b ∷ bs) ts tail other l more e = not_tail b other (first_line _ _ _ _ e)
-
-cta_whole : (c d : CtaBlock) (l : Line) (more : List Line) → cta_lines d ≡ cta_lines c ++ l ∷ more → ⊥
-cta_whole c d l more e =
-    let body = other_lines _ _ _ _ e ∙ append_assoc (map block_line c.blocks.items) (map timing_line c.timings.items ++ (tail_line c.tail.items ∷ [])) (l ∷ more) in
-    let rest = blocks_behind c.blocks.items d.blocks.items d.timings.items d.tail.items _ body in
-    at rest.0 c.timings.items (rest.1.0 ∙ append_assoc (map timing_line c.timings.items) (tail_line c.tail.items ∷ []) (l ∷ more))
-  where
-    at : (bs : List Block) (us : List DetailedTiming) → body_lines bs d.timings.items d.tail.items ≡ map timing_line us ++ tail_line c.tail.items ∷ l ∷ more → ⊥
-    at bs [] k = behind_tail bs d.timings.items d.tail.items c.tail.items l more k
-    at (b ∷ bs) (u ∷ us) k = not_timing b u (first_line _ _ _ _ k)
-    at [] (u ∷ us) k = let r = timings_behind (u ∷ us) d.timings.items d.tail.items _ k in behind_tail [] r.0 d.tail.items c.tail.items l more r.1.0
-
--- nor behind an extension
-ext_whole : (x y : AnyExt) (l : Line) (more : List Line) → ext_lines y ≡ ext_lines x ++ l ∷ more → ⊥
-ext_whole (OfCta c) (OfCta d) l more e = cta_whole c d l more e
-ext_whole (OfCta c) (OfBare d) l more e = let same = ap (λ l. l.word) (first_line _ _ _ _ e) in cc
-ext_whole (OfCta c) (OfRaw d) l more e = let same = ap (λ l. l.word) (first_line _ _ _ _ e) in cc
-ext_whole (OfBare c) (OfCta d) l more e = let same = ap (λ l. l.word) (first_line _ _ _ _ e) in cc
-ext_whole (OfBare c) (OfBare d) l more e = let len = ap length e in omega (arith, len)
-ext_whole (OfBare c) (OfRaw d) l more e = let same = ap (λ l. l.word) (first_line _ _ _ _ e) in cc
-ext_whole (OfRaw c) (OfCta d) l more e = let same = ap (λ l. l.word) (first_line _ _ _ _ e) in cc
-ext_whole (OfRaw c) (OfBare d) l more e = let same = ap (λ l. l.word) (first_line _ _ _ _ e) in cc
-ext_whole (OfRaw c) (OfRaw d) l more e = let len = ap length e in omega (arith, len)
-
-some_ext : (x : AnyExt) → (y : Line) × ((ys : List Line) × (ext_lines x ≡ y ∷ ys))
-some_ext (OfCta c) = (_, (_, refl))
-some_ext (OfBare c) = (_, (_, refl))
-some_ext (OfRaw c) = (_, (_, refl))
-
-pub ended_next : (b : Base) (x : AnyExt) (l : Line) → Follows (base_lines b ++ ext_lines x) l → ⊥
-ended_next b x l f =
-    let s = some_ext x in
-    let zs = l ∷ f.1.0 in
-    let all = f.1.1 ∙ append_assoc (base_lines b) (ext_lines x) zs in
-    let y = ext_of f.0 b s.0 (s.1.0 ++ zs) (all ∙ ap (λ k. base_lines b ++ (k ++ zs)) s.1.1) in
-    ext_whole x y.0 l f.1.0 (y.1 ∙ ap (λ k. k ++ zs) (sym s.1.1))
+    omega (arith, len, short, h, base_count e.base, length-append (base_lines e.base) (flat_map ext_lines e.extensions.items))

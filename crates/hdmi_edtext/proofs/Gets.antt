@@ -1,5 +1,5 @@
 -- The line at a place.
-use Rattle.std.proofs.Common.{◌≡◌, ℕ, zero, suc, ◌+◌, ◌-◌, ◌<◌, ◌≤◌, List, [], ◌∷◌, ◌++◌, length, map, get_or, Option, Some, None, option_map, option_to_list, slice_get, flat_map, ap, arith, refl, sym, ◌∙◌, length-append, append-nil}
+use Rattle.std.proofs.Common.{◌≡◌, ℕ, zero, suc, ◌+◌, ◌-◌, ◌*◌, ◌<◌, ◌≤◌, List, [], ◌∷◌, ◌++◌, length, map, get_or, Option, Some, None, option_map, slice_get, flat_map, ap, arith, refl, sym, ◌∙◌, length-append, drop, drop-cons}
 use Rattle.std.proofs.lemmas.Option.{slice_get-get_or, slice_get-map}
 use Rattle.std.proofs.lemmas.List.{length-map}
 use Rattle.hdmi_edid.specs.Timing.{timing_bytes}
@@ -76,11 +76,26 @@ none_at c n i h k =
 pub in_base : (e : Edid) (n : ℕ) → n < 23 → slice_get (edid_lines e) n ≡ slice_get (base_lines e.base) n
 in_base e n h = get_left (base_lines e.base) _ n (omega (arith, base_count e.base, h))
 
-pub in_ext : (e : Edid) (n i : ℕ) → n ≡ 23 + i → slice_get (edid_lines e) n ≡ slice_get (flat_map ext_lines (option_to_list e.ext)) i
+pub in_ext : (e : Edid) (n i : ℕ) → n ≡ 23 + i → slice_get (edid_lines e) n ≡ slice_get (flat_map ext_lines e.extensions.items) i
 in_ext e n i h = get_right (base_lines e.base) _ n i (omega (arith, base_count e.base, h))
 
-pub one_ext : (x : Ext) → flat_map ext_lines (option_to_list (Some x)) ≡ ext_lines x
-one_ext x = append-nil (ext_lines x)
+-- a line of the first of some extensions, and one behind it
+pub in_first : (x : Ext) (xs : List Ext) (n : ℕ) → n < length (ext_lines x) → slice_get (flat_map ext_lines (x ∷ xs)) n ≡ slice_get (ext_lines x) n
+in_first x xs n h = get_left (ext_lines x) (flat_map ext_lines xs) n h
+
+pub behind_first : (x : Ext) (xs : List Ext) (n : ℕ) → length (ext_lines x) ≤ n → slice_get (flat_map ext_lines (x ∷ xs)) n ≡ slice_get (flat_map ext_lines xs) (n - length (ext_lines x))
+behind_first x xs n h = get_right (ext_lines x) (flat_map ext_lines xs) n (n - length (ext_lines x)) (omega (arith, h))
+
+pub first_left : (xs : List Ext) (i n : ℕ) (x : Ext) → i < length xs → x ≡ get_or xs i x → n < length (ext_lines x) → slice_get (flat_map ext_lines (drop i xs)) n ≡ slice_get (ext_lines x) n
+first_left xs i n x h e less =
+    ap (λ ys. slice_get (flat_map ext_lines ys) n) (drop-cons xs i x h ∙ ap (λ y. y ∷ drop (suc i) xs) (sym e)) ∙ in_first x (drop (suc i) xs) n less
+
+pub rest_left : (xs : List Ext) (i n : ℕ) (x : Ext) → i < length xs → x ≡ get_or xs i x → length (ext_lines x) ≤ n
+    → slice_get (flat_map ext_lines (drop i xs)) n ≡ slice_get (flat_map ext_lines (drop (i + 1) xs)) (n - length (ext_lines x))
+rest_left xs i n x h e most =
+    let next : suc i ≡ i + 1 = omega arith in
+    ap (λ ys. slice_get (flat_map ext_lines ys) n) (drop-cons xs i x h ∙ ap (λ y. y ∷ drop (suc i) xs) (sym e)) ∙ behind_first x (drop (suc i) xs) n most
+    ∙ ap (λ k. slice_get (flat_map ext_lines (drop k xs)) (n - length (ext_lines x))) next
 
 few_blocks : (bs : List Block) → length bs ≤ length (flat_map block_bytes bs)
 few_blocks [] = omega arith
@@ -98,10 +113,10 @@ ext_few (OfCta c) =
 ext_few (Bare b) = omega arith
 ext_few (Raw r) = omega arith
 
+exts_few : (xs : List Ext) → length (flat_map ext_lines xs) ≤ 125 * length xs
+exts_few [] = omega arith
+exts_few (x ∷ xs) = omega (arith, length-append (ext_lines x) (flat_map ext_lines xs), ext_few x, exts_few xs)
+
 -- an EDID has few lines
-pub few_lines : (e : Edid) → length (edid_lines e) ≤ 148
-few_lines e = omega (arith, length-append (base_lines e.base) (flat_map ext_lines (option_to_list e.ext)), base_count e.base, some e.ext)
-  where
-    some : (o : Option Ext) → length (flat_map ext_lines (option_to_list o)) ≤ 125
-    some None = omega arith
-    some (Some x) = let same = ap length (one_ext x) in omega (arith, same, ext_few x)
+pub few_lines : (e : Edid) → length (edid_lines e) ≤ 398
+few_lines e = omega (arith, length-append (base_lines e.base) (flat_map ext_lines e.extensions.items), base_count e.base, exts_few e.extensions.items, e.few)

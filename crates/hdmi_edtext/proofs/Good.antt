@@ -1,5 +1,5 @@
 -- What each line of an EDID is like.
-use Rattle.std.proofs.Common.{◌≡◌, ℕ, ◌^◌, ◌<◌, ◌≤◌, ◌==◌, Bool, true, false, ◌&&◌, not, nat_lt, nat_le, cond, List, [], ◌∷◌, ◌++◌, length, map, flat_map, Option, Some, None, option_to_list, ap, subst, arith, refl, sym, length-drop}
+use Rattle.std.proofs.Common.{◌≡◌, ℕ, ◌^◌, ◌<◌, ◌≤◌, ◌==◌, Bool, true, false, ◌&&◌, not, nat_lt, nat_le, cond, List, [], ◌∷◌, ◌++◌, length, map, flat_map, Option, Some, None, ap, arith, refl, length-drop}
 use Rattle.std.specs.List.{list_all}
 use Rattle.std.proofs.lemmas.Bool.{leb-true, ltb-true}
 use borrow.Author.Tests.{tests}
@@ -31,7 +31,6 @@ use Rattle.hdmi_lines.specs.declared.line.Fields.TheVariants.{Letters, Quoted}
 use Rattle.hdmi_lines.specs.declared.line.Line.{Line}
 use Rattle.hdmi_lines.specs.declared.line.Word.TheVariants.{Vendor}
 use Rattle.hdmi_edtext.proofs.BaseNexts.{byte_fits}
-use Rattle.hdmi_edtext.proofs.Gets.{one_ext}
 use Rattle.hdmi_edtext.proofs.Sorts.{long_hdmi}
 use Rattle.hdmi_edtext.proofs.TailLemmas.{trimmed_le}
 
@@ -297,9 +296,9 @@ ext_good (OfBare b) =
     (((omega arith, one_byte_good b.flags flags), tt), (tail_good b.tail (omega (arith, whole)) fit.1, tt))
 ext_good (OfRawExt r) = (((let h = r.whole in omega (arith, h), r.bytes_fit), tt), tt)
 
+exts_good : (xs : List Extension) → EachGood (flat_map ext_lines xs)
+exts_good [] = tt
+exts_good (x ∷ xs) = good-append (ext_lines x) (flat_map ext_lines xs) (ext_good x) (exts_good xs)
+
 pub edid_good : (e : WholeEdid) → EachGood (edid_lines e)
-edid_good e = good-append (base_lines e.base) (flat_map ext_lines (option_to_list e.ext)) (base_good e.base) (at e.ext)
-  where
-    at : (o : Option Extension) → EachGood (flat_map ext_lines (option_to_list o))
-    at None = tt
-    at (Some x) = subst EachGood (sym (one_ext x)) (ext_good x)
+edid_good e = good-append (base_lines e.base) (flat_map ext_lines e.extensions.items) (base_good e.base) (exts_good e.extensions.items)

@@ -1,5 +1,5 @@
 -- No two EDIDs have the same lines.
-use Rattle.std.proofs.Common.{◌≡◌, ℕ, ◌+◌, ◌-◌, ◌*◌, ◌/◌, ◌%◌, ◌<◌, ◌≤◌, ◌==◌, Bool, true, false, ◌&&◌, nat_le, cond, List, [], ◌∷◌, ◌++◌, length, map, drop, get_or, slice_index, replicate, flat_map, Option, Some, None, option_to_list, ap, arith, refl, sym, ◌∙◌}
+use Rattle.std.proofs.Common.{◌≡◌, ℕ, suc, ◌+◌, ◌-◌, ◌*◌, ◌/◌, ◌%◌, ◌≤◌, ◌==◌, Bool, true, false, ◌&&◌, nat_le, cond, List, [], ◌∷◌, ◌++◌, length, map, drop, get_or, slice_index, replicate, flat_map, Option, Some, None, ap, arith, refl, sym, ◌∙◌}
 use Rattle.std.specs.Int.{w16, w32, to_le_bytes, to_be_bytes}
 use Rattle.std.proofs.lemmas.Bool.{eqb-true}
 use Rattle.std.proofs.lemmas.List.{length-map}
@@ -37,8 +37,8 @@ use Rattle.hdmi_lines.specs.declared.line.Fields.TheVariants.{Letters, Numbers, 
 use Rattle.hdmi_lines.specs.declared.line.Line.{Line}
 use Rattle.hdmi_lines.specs.declared.line.Word.{Word}
 use Rattle.hdmi_lines.specs.declared.line.Word.TheVariants.{Name, Text, Range, Tag0, Audio, Video, Vendor, Speakers, Tag5, Tag6}
-use Rattle.hdmi_edtext.proofs.Fronts.{body_lines}
-use Rattle.hdmi_edtext.proofs.Gets.{base_count, one_ext}
+use Rattle.hdmi_edtext.proofs.Fronts.{body_lines, parted, some_line}
+use Rattle.hdmi_edtext.proofs.Gets.{base_count}
 use Rattle.hdmi_blocks.proofs.OneEdid.{one_edid}
 use Rattle.hdmi_edtext.proofs.Sorts.{long_hdmi, not_timing, not_tail, timing_not_tail}
 use Rattle.hdmi_edtext.proofs.TailLemmas.{padded_trimmed}
@@ -229,8 +229,8 @@ same_base a b e h =
     ap summed (ap (λ t. header ++ t) (two_parts _ _ _ _ (product_same a b first.0) (display_same a b first.0 rest.0 rest.1 h)))
 
 -- data blocks and what is behind them
-same_blocks : (cs bs : List Block) (ts us : List DetailedTiming) (x y : List ℕ) → body_lines cs ts x ≡ body_lines bs us y
-    → (flat_map block_bytes cs ≡ flat_map block_bytes bs) × (body_lines [] ts x ≡ body_lines [] us y)
+same_blocks : (cs bs : List Block) (ts us : List DetailedTiming) (x y : List ℕ) → body_lines cs ts x [] ≡ body_lines bs us y []
+    → (flat_map block_bytes cs ≡ flat_map block_bytes bs) × (body_lines [] ts x [] ≡ body_lines [] us y [])
 same_blocks [] [] ts us x y e = (refl, e)
 same_blocks [] (b ∷ bs) [] us x y e = absurd (not_tail b x (sym (ap (λ ls. get_or ls 0 (tail_line x)) e)))
 same_blocks [] (b ∷ bs) (t ∷ ts) us x y e = absurd (not_timing b t (sym (ap (λ ls. get_or ls 0 (tail_line x)) e)))
@@ -241,7 +241,7 @@ same_blocks (c ∷ cs) (b ∷ bs) ts us x y e =
     let rest = same_blocks cs bs ts us x y (ap (λ ls. drop 1 ls) e) in
     (two_parts _ _ _ _ (block_is c ∙ ap (λ l. block_told l.word l.fields) first ∙ sym (block_is b)) rest.0, rest.1)
 
-same_timings : (ts us : List DetailedTiming) (x y : List ℕ) → body_lines [] ts x ≡ body_lines [] us y → (flat_map timing_bytes ts ≡ flat_map timing_bytes us) × (tail_line x ≡ tail_line y)
+same_timings : (ts us : List DetailedTiming) (x y : List ℕ) → body_lines [] ts x [] ≡ body_lines [] us y [] → (flat_map timing_bytes ts ≡ flat_map timing_bytes us) × (tail_line x ≡ tail_line y)
 same_timings [] [] x y e = (refl, ap (λ ls. get_or ls 0 (tail_line x)) e)
 same_timings [] (u ∷ us) x y e = absurd (timing_not_tail u x (sym (ap (λ ls. get_or ls 0 (tail_line x)) e)))
 same_timings (t ∷ ts) [] x y e = absurd (timing_not_tail t y (ap (λ ls. get_or ls 0 (tail_line x)) e))
@@ -278,21 +278,18 @@ same_ext (OfBare c) (OfRawExt d) e = let same = ap (λ ls. (get_or ls 0 (tail_li
 same_ext (OfRawExt c) (OfCta d) e = let same = ap (λ ls. (get_or ls 0 (tail_line [])).word) e in cc
 same_ext (OfRawExt c) (OfBare d) e = let same = ap (λ ls. (get_or ls 0 (tail_line [])).word) e in cc
 
-some_line : (x : AnyExt) → 0 < length (ext_lines x)
-some_line (OfCta c) = omega arith
-some_line (OfBare c) = omega arith
-some_line (OfRawExt c) = omega arith
-
-same_exts : (o p : Option AnyExt) → flat_map ext_lines (option_to_list o) ≡ flat_map ext_lines (option_to_list p)
-    → (length (option_to_list o) ≡ length (option_to_list p)) × (flat_map ext_bytes (option_to_list o) ≡ flat_map ext_bytes (option_to_list p))
-same_exts None None e = (refl, refl)
-same_exts None (Some y) e = let len = ap length (e ∙ one_ext y) in let some = some_line y in absurd (omega (arith, len, some))
-same_exts (Some x) None e = let len = ap length (sym (one_ext x) ∙ e) in let some = some_line x in absurd (omega (arith, len, some))
-same_exts (Some x) (Some y) e = (refl, ap (λ t. t ++ []) (same_ext x y (sym (one_ext x) ∙ e ∙ one_ext y)))
+same_exts : (xs ys : List AnyExt) → flat_map ext_lines xs ≡ flat_map ext_lines ys → (length xs ≡ length ys) × (flat_map ext_bytes xs ≡ flat_map ext_bytes ys)
+same_exts [] [] e = (refl, refl)
+same_exts [] (y ∷ ys) e = absurd (some_line y (flat_map ext_lines ys) (sym e))
+same_exts (x ∷ xs) [] e = absurd (some_line x (flat_map ext_lines xs) e)
+same_exts (x ∷ xs) (y ∷ ys) e =
+    let p = parted x y (flat_map ext_lines xs) (flat_map ext_lines ys) e in
+    let rest = same_exts xs ys p.1 in
+    (ap suc rest.0, two_parts _ _ _ _ (same_ext x y p.0) rest.1)
 
 pub one_lines : (a b : WholeEdid) → edid_lines a ≡ edid_lines b → a ≡ b
 one_lines a b e =
     let parts = append_same (base_lines a.base) (base_lines b.base) _ _ (base_count a.base ∙ sym (base_count b.base)) e in
-    let exts = same_exts a.ext b.ext parts.1 in
+    let exts = same_exts a.extensions.items b.extensions.items parts.1 in
     let base = same_base a.base b.base parts.0 (a.counted ∙ exts.0 ∙ sym b.counted) in
     one_edid a b (two_parts _ _ _ _ base exts.1)

@@ -18,20 +18,21 @@ use Rattle.hdmi_cta.specs.declared.block.BlockKind.{BlockKind}
 use Rattle.hdmi_cta.specs.declared.block.BlockKind.TheVariants.{Tag0 as OfTag0, Audio as OfAudio, Video as OfVideo, Vendor as OfVendor, Speakers as OfSpeakers, Tag5 as OfTag5, Tag6 as OfTag6, Extended as OfExtended}
 use Rattle.hdmi_cta.specs.declared.raw.Ext.TheVariants.{Raw as OfRawExt}
 use Rattle.hdmi_cta.specs.declared.raw.RawExt.{RawExt}
-use Rattle.hdmi_edtext.specs.Drafts.{draft_lines, opened_lines, Follows}
+use Rattle.hdmi_edtext.specs.Drafts.{whole_lines, draft_lines, opened_lines, Follows}
 use Rattle.hdmi_lines.specs.Formed.{form_of}
 use Rattle.hdmi_edtext.specs.Lines.{standard_line, descriptor_line, head_lines, base_lines, bytes_line, block_line, timing_line, tail_line}
 use Rattle.hdmi_edtext.specs.Words.{place_of, in_base, at_ext, in_timings, in_blocks, may_begin, has_words}
 use Rattle.hdmi_edtext.specs.declared.draft.Draft.{Draft}
-use Rattle.hdmi_edtext.specs.declared.draft.Draft.TheVariants.{Begun, Whole, Opened as OfOpened, Bare as OfBare, Ended}
+use Rattle.hdmi_edtext.specs.declared.draft.Draft.TheVariants.{Begun, Whole as OfWhole, Opened as OfOpened, Bare as OfBare}
 use Rattle.hdmi_edtext.specs.declared.draft.Headed.{Headed}
+use Rattle.hdmi_edtext.specs.declared.draft.Whole.{Whole}
 use Rattle.hdmi_edtext.specs.declared.draft.Opened.{Opened}
 use Rattle.hdmi_lines.specs.declared.line.Fields.{Fields}
 use Rattle.hdmi_lines.specs.declared.line.Fields.TheVariants.{Nothing, Letters, Numbers, Timed, Bytes, Address, Quoted}
 use Rattle.hdmi_lines.specs.declared.line.Line.{Line}
 use Rattle.hdmi_lines.specs.declared.line.Word.{Word}
 use Rattle.hdmi_lines.specs.declared.line.Word.TheVariants.{Edid, Maker, Product, Serial, Made, Input, Size, Gamma, Features, Chroma, Established, Standard, Timing, Name, Text, SerialText, Range, Dummy, Raw, Cta, CtaNone, Tag0, Audio, Video, Vendor, Speakers, Tag5, Tag6, Extended, Hdmi, Tail, Ext}
-use Rattle.hdmi_edtext.specs.declared.place.Place.TheVariants.{InBlocks, InTimings}
+use Rattle.hdmi_edtext.specs.declared.place.Place.TheVariants.{AtExt, AtEnd, InBlocks, InTimings}
 use Rattle.hdmi_edtext.proofs.BaseNexts.{set_line, set_descriptor}
 use Rattle.hdmi_edtext.proofs.Live.{alone, alone_lines, with_ext, with_ext_lines, zeros_behind, zeros_alone}
 
@@ -203,26 +204,33 @@ a_raw_ext = record {
 two_words : (ls : List Line) (w : Word) (m : ℕ) (l : Line) → Follows ls l → l.word ≡ w → words_of l.fields ≡ 2 → (m == 2) ≡ true → Sample ls w m
 two_words ls w m l f is size count = let two : m ≡ 2 = eqb-true _ _ count in record { line = l; follows = f; word = is; words = size ∙ sym two }
 
-cta_next : (b : Base) → Follows (base_lines b) (bytes_line Cta (0 ∷ []))
-cta_next b =
-    let o : Opened = record { base = b; flags = 0; blocks = record { items = [] }; timings = record { items = [] }; left = 123; flags_fit = omega arith; whole = refl; few = omega arith } in
+cta_next : (w : Whole) → length w.extensions.items < 3 → Follows (whole_lines w) (bytes_line Cta (0 ∷ []))
+cta_next w room =
+    let o : Opened = record { whole = w; flags = 0; blocks = record { items = [] }; timings = record { items = [] }; left = 123; room = room; flags_fit = omega arith; spelled = refl; few = omega arith } in
     let z = zeros_behind o in
-    (z.0, (tail_line (replicate 123 0) ∷ [], z.1 ∙ append_assoc (base_lines b) (bytes_line Cta (0 ∷ []) ∷ []) (tail_line (replicate 123 0) ∷ [])))
+    (z.0, (tail_line (replicate 123 0) ∷ [], z.1 ∙ append_assoc (whole_lines w) (bytes_line Cta (0 ∷ []) ∷ []) (tail_line (replicate 123 0) ∷ [])))
 
-cta_none_next : (b : Base) → Follows (base_lines b) (bytes_line CtaNone (0 ∷ []))
-cta_none_next b =
-    let d : Headed = record { base = b; flags = 0; flags_fit = omega arith } in
+cta_none_next : (w : Whole) → length w.extensions.items < 3 → Follows (whole_lines w) (bytes_line CtaNone (0 ∷ []))
+cta_none_next w room =
+    let d : Headed = record { whole = w; flags = 0; room = room; flags_fit = omega arith } in
     let z = zeros_alone d in
-    (z.0, (tail_line (replicate 123 0) ∷ [], z.1 ∙ append_assoc (base_lines b) (bytes_line CtaNone (0 ∷ []) ∷ []) (tail_line (replicate 123 0) ∷ [])))
+    (z.0, (tail_line (replicate 123 0) ∷ [], z.1 ∙ append_assoc (whole_lines w) (bytes_line CtaNone (0 ∷ []) ∷ []) (tail_line (replicate 123 0) ∷ [])))
 
-ext_next : (b : Base) → Follows (base_lines b) (bytes_line Ext a_raw_ext.bytes)
-ext_next b = (with_ext b (OfRawExt a_raw_ext), ([], with_ext_lines b (OfRawExt a_raw_ext)))
+ext_next : (w : Whole) → length w.extensions.items < 3 → Follows (whole_lines w) (bytes_line Ext a_raw_ext.bytes)
+ext_next w room = (with_ext w room (OfRawExt a_raw_ext), ([], with_ext_lines w room (OfRawExt a_raw_ext)))
 
-whole_sample : (b : Base) (m : ℕ) (w : Word) → at_ext w ≡ true → has_words (form_of w) m ≡ true → Sample (base_lines b) w m
-whole_sample b m Cta at count = two_words (base_lines b) Cta m (bytes_line Cta (0 ∷ [])) (cta_next b) refl refl count
-whole_sample b m CtaNone at count = two_words (base_lines b) CtaNone m (bytes_line CtaNone (0 ∷ [])) (cta_none_next b) refl refl count
-whole_sample b m Ext at count = two_words (base_lines b) Ext m (bytes_line Ext a_raw_ext.bytes) (ext_next b) refl refl count
-whole_sample b m w at count = absurd (clash at)
+ext_sample : (w : Whole) (m : ℕ) (word : Word) → length w.extensions.items < 3 → at_ext word ≡ true → has_words (form_of word) m ≡ true → Sample (whole_lines w) word m
+ext_sample w m Cta room at count = two_words (whole_lines w) Cta m (bytes_line Cta (0 ∷ [])) (cta_next w room) refl refl count
+ext_sample w m CtaNone room at count = two_words (whole_lines w) CtaNone m (bytes_line CtaNone (0 ∷ [])) (cta_none_next w room) refl refl count
+ext_sample w m Ext room at count = two_words (whole_lines w) Ext m (bytes_line Ext a_raw_ext.bytes) (ext_next w room) refl refl count
+ext_sample w m word room at count = absurd (clash at)
+
+whole_sample : (w : Whole) (m : ℕ) (word : Word) → may_begin (place_of (OfWhole w)) word ≡ true → has_words (form_of word) m ≡ true → Sample (whole_lines w) word m
+whole_sample w m word at count = cases (nat_lt (length w.extensions.items) 3) refl at
+  where
+    cases : (v : Bool) → nat_lt (length w.extensions.items) 3 ≡ v → may_begin (cond v AtExt AtEnd) word ≡ true → Sample (whole_lines w) word m
+    cases true e h = ext_sample w m word (ltb-true _ _ e) h count
+    cases false e h = absurd (clash h)
 
 -- one more data block
 more_block : (o : Opened) (b : Block) → o.timings.items ≡ [] → length (block_bytes b) ≤ o.left → Follows (draft_lines (OfOpened o)) (block_line b)
@@ -233,17 +241,17 @@ more_block o b none h =
     let one : length (flat_map block_bytes (b ∷ [])) ≡ length (block_bytes b) = ap length (append-nil (block_bytes b)) in
     let len = ap length none in
     let left = o.left - length (block_bytes b) in
-    let whole : length (flat_map block_bytes blocks) + 18 * length {A = DetailedTiming} [] + left ≡ 123 = omega (arith, flat, one, o.whole, h, len) in
+    let spelled : length (flat_map block_bytes blocks) + 18 * length {A = DetailedTiming} [] + left ≡ 123 = omega (arith, flat, one, o.spelled, h, len) in
     let few : length blocks + left ≤ 123 = omega (arith, length-append o.blocks.items (b ∷ []), o.few, h) in
-    let new : Opened = record { base = o.base; flags = o.flags; blocks = record { items = blocks }; timings = record { items = [] }; left = left; flags_fit = o.flags_fit; whole = whole; few = few } in
+    let new : Opened = record { whole = o.whole; flags = o.flags; blocks = record { items = blocks }; timings = record { items = [] }; left = left; room = o.room; flags_fit = o.flags_fit; spelled = spelled; few = few } in
     let z = zeros_behind new in
     let last = tail_line (replicate left 0) ∷ [] in
     let body : map block_line blocks ++ [] ≡ (map block_line o.blocks.items ++ map timing_line o.timings.items) ++ block_line b ∷ [] =
     append-nil (map block_line blocks) ∙ map-append block_line o.blocks.items (b ∷ []) ∙ ap (λ t. t ++ block_line b ∷ []) (sym (append-nil (map block_line o.blocks.items)))
     ∙ ap (λ ts. (map block_line o.blocks.items ++ map timing_line ts) ++ block_line b ∷ []) (sym none) in
-    let lines : base_lines o.base ++ opened_lines new ≡ (base_lines o.base ++ opened_lines o) ++ block_line b ∷ [] =
-    ap (λ t. base_lines o.base ++ (bytes_line Cta (o.flags ∷ []) ∷ t)) body ∙ sym (append_assoc (base_lines o.base) (opened_lines o) (block_line b ∷ [])) in
-    (z.0, (last, z.1 ∙ ap (λ t. t ++ last) lines ∙ append_assoc (base_lines o.base ++ opened_lines o) (block_line b ∷ []) last))
+    let lines : whole_lines o.whole ++ opened_lines new ≡ (whole_lines o.whole ++ opened_lines o) ++ block_line b ∷ [] =
+    ap (λ t. whole_lines o.whole ++ (bytes_line Cta (o.flags ∷ []) ∷ t)) body ∙ sym (append_assoc (whole_lines o.whole) (opened_lines o) (block_line b ∷ [])) in
+    (z.0, (last, z.1 ∙ ap (λ t. t ++ last) lines ∙ append_assoc (whole_lines o.whole ++ opened_lines o) (block_line b ∷ []) last))
 
 an_empty_block : BlockKind → Block
 an_empty_block k = record { kind = k; payload = record { items = [] }; short = omega arith; bytes_fit = refl }
@@ -257,17 +265,17 @@ more_timing o h =
     let more = o.timings.items ++ a_timing ∷ [] in
     let len = length-append o.timings.items (a_timing ∷ []) in
     let left = o.left - 18 in
-    let whole : length (flat_map block_bytes o.blocks.items) + 18 * length more + left ≡ 123 = omega (arith, len, o.whole, h) in
+    let spelled : length (flat_map block_bytes o.blocks.items) + 18 * length more + left ≡ 123 = omega (arith, len, o.spelled, h) in
     let few : length o.blocks.items + left ≤ 123 = omega (arith, o.few, h) in
-    let new : Opened = record { base = o.base; flags = o.flags; blocks = o.blocks; timings = record { items = more }; left = left; flags_fit = o.flags_fit; whole = whole; few = few } in
+    let new : Opened = record { whole = o.whole; flags = o.flags; blocks = o.blocks; timings = record { items = more }; left = left; room = o.room; flags_fit = o.flags_fit; spelled = spelled; few = few } in
     let z = zeros_behind new in
     let last = tail_line (replicate left 0) ∷ [] in
     let bs = map block_line o.blocks.items in
     let body : bs ++ map timing_line more ≡ (bs ++ map timing_line o.timings.items) ++ timing_line a_timing ∷ [] =
     ap (λ t. bs ++ t) (map-append timing_line o.timings.items (a_timing ∷ [])) ∙ sym (append_assoc bs (map timing_line o.timings.items) (timing_line a_timing ∷ [])) in
-    let lines : base_lines o.base ++ opened_lines new ≡ (base_lines o.base ++ opened_lines o) ++ timing_line a_timing ∷ [] =
-    ap (λ t. base_lines o.base ++ (bytes_line Cta (o.flags ∷ []) ∷ t)) body ∙ sym (append_assoc (base_lines o.base) (opened_lines o) (timing_line a_timing ∷ [])) in
-    (z.0, (last, z.1 ∙ ap (λ t. t ++ last) lines ∙ append_assoc (base_lines o.base ++ opened_lines o) (timing_line a_timing ∷ []) last))
+    let lines : whole_lines o.whole ++ opened_lines new ≡ (whole_lines o.whole ++ opened_lines o) ++ timing_line a_timing ∷ [] =
+    ap (λ t. whole_lines o.whole ++ (bytes_line Cta (o.flags ∷ []) ∷ t)) body ∙ sym (append_assoc (whole_lines o.whole) (opened_lines o) (timing_line a_timing ∷ [])) in
+    (z.0, (last, z.1 ∙ ap (λ t. t ++ last) lines ∙ append_assoc (whole_lines o.whole ++ opened_lines o) (timing_line a_timing ∷ []) last))
 
 a_tail : (o : Opened) → Follows (draft_lines (OfOpened o)) (tail_line (replicate o.left 0))
 a_tail o = let z = zeros_behind o in (z.0, ([], z.1))
@@ -322,7 +330,6 @@ bare_sample d m w at count = absurd (clash at)
 
 pub samples : (d : Draft) (w : Word) (m : ℕ) → may_begin (place_of d) w ≡ true → has_words (form_of w) m ≡ true → Sample (draft_lines d) w m
 samples (Begun d) w m at count = begun_sample d.base d.number m w d.few at count
-samples (Whole b) w m at count = whole_sample b m w at count
+samples (OfWhole whole) w m at count = whole_sample whole m w at count
 samples (OfOpened o) w m at count = opened_sample o m w at count
 samples (OfBare d) w m at count = bare_sample d m w at count
-samples (Ended b x) w m at count = absurd (clash at)

@@ -15,12 +15,12 @@ use Rattle.hdmi_edtext.specs.Drafts.{draft_lines, Follows, BlockFits, TimingFits
 use Rattle.hdmi_edtext.specs.Lines.{bytes_line, standard_line, descriptor_line, base_lines, is_hdmi, address_line, payload_line, block_line, ext_lines}
 use Rattle.hdmi_edtext.specs.Words.{place_of, in_base, at_ext, in_timings, in_blocks, may_begin}
 use Rattle.hdmi_edtext.specs.declared.draft.Draft.{Draft}
-use Rattle.hdmi_edtext.specs.declared.draft.Draft.TheVariants.{Begun, Whole, Opened as OfOpened, Bare as OfBare, Ended}
+use Rattle.hdmi_edtext.specs.declared.draft.Draft.TheVariants.{Begun, Whole as OfWhole, Opened as OfOpened, Bare as OfBare}
 use Rattle.hdmi_edtext.specs.declared.draft.Opened.{Opened}
 use Rattle.hdmi_lines.specs.declared.line.Line.{Line}
 use Rattle.hdmi_lines.specs.declared.line.Word.TheVariants.{Standard, Vendor}
-use Rattle.hdmi_edtext.specs.declared.place.Place.TheVariants.{InBlocks, InTimings}
-use Rattle.hdmi_edtext.proofs.Fronts.{begun_next, ext_of, opened_next, bare_next, ended_next}
+use Rattle.hdmi_edtext.specs.declared.place.Place.TheVariants.{AtExt, AtEnd, InBlocks, InTimings}
+use Rattle.hdmi_edtext.proofs.Fronts.{begun_next, ext_of, opened_next, bare_next}
 use Rattle.hdmi_edtext.proofs.Good.{and}
 use Rattle.hdmi_edtext.proofs.Sorts.{long_hdmi}
 
@@ -73,10 +73,10 @@ base_from b =
     let rest = standards_from b.standard b.descriptors 11 (omega arith) (let eight = b.eight in omega (arith, eight)) in
     (refl, (refl, (refl, (refl, (refl, (refl, (refl, (refl, (refl, (refl, (refl, rest)))))))))))
 
-whole_stands : (x : AnyExt) (l : Line) (more : List Line) → ext_lines x ≡ l ∷ more → at_ext l.word ≡ true
-whole_stands (OfCta c) l more e = ap (λ ls. at_ext (get_or ls 0 l).word) (sym e)
-whole_stands (OfBareExt c) l more e = ap (λ ls. at_ext (get_or ls 0 l).word) (sym e)
-whole_stands (OfRawExt c) l more e = ap (λ ls. at_ext (get_or ls 0 l).word) (sym e)
+ext_stands : (x : AnyExt) (behind : List Line) (l : Line) (more : List Line) → ext_lines x ++ behind ≡ l ∷ more → at_ext l.word ≡ true
+ext_stands (OfCta c) behind l more e = ap (λ ls. at_ext (get_or ls 0 l).word) (sym e)
+ext_stands (OfBareExt c) behind l more e = ap (λ ls. at_ext (get_or ls 0 l).word) (sym e)
+ext_stands (OfRawExt c) behind l more e = ap (λ ls. at_ext (get_or ls 0 l).word) (sym e)
 
 block_stands : (b : Block) (left : ℕ) → length (block_bytes b) ≤ left → in_blocks left (block_line b).word ≡ true
 block_stands b left h =
@@ -118,7 +118,10 @@ opened_stands o l (inr x) = let t = timing_stands o.left l x in at (length o.tim
 
 pub stands : (d : Draft) (l : Line) → Follows (draft_lines d) l → may_begin (place_of d) l.word ≡ true
 stands (Begun d) l f = let a = begun_next d.base d.number l d.few f in from_at (base_lines a.0) 0 d.number d.number l (base_from a.0) (omega arith) a.1
-stands (Whole b) l f = let x = ext_of f.0 b l f.1.0 f.1.1 in whole_stands x.0 l f.1.0 x.1
+stands (OfWhole w) l f =
+    let x = ext_of f.0 w l f.1.0 f.1.1 in
+    let room = x.room in
+    let less : nat_lt (length w.extensions.items) 3 ≡ true = grind (arith, tests) in
+    ap (λ v. may_begin (cond v AtExt AtEnd) l.word) less ∙ ext_stands x.ext x.more l f.1.0 x.lines
 stands (OfOpened o) l f = opened_stands o l (opened_next o l f)
-stands (OfBare d) l f = let t = bare_next d.base d.flags l f in ap (λ x. may_begin (place_of (OfBare d)) x.word) (sym t.1.1)
-stands (Ended b x) l f = absurd (ended_next b x l f)
+stands (OfBare d) l f = let t = bare_next d.whole d.flags l f in ap (λ x. may_begin (place_of (OfBare d)) x.word) (sym t.1.1)

@@ -1,16 +1,21 @@
--- What some first lines of a text tell, and which line can come next.
-use Rattle.std.specs.Prelude.{◌≡◌, ℕ, ◌≤◌, IsTrue, List, [], ◌∷◌, ◌++◌, length, map, take}
+-- What some first lines of a text say, and which line can come next.
+use Rattle.std.specs.Prelude.{◌≡◌, ℕ, ◌≤◌, IsTrue, List, [], ◌∷◌, ◌++◌, length, map, take, flat_map}
 use Rattle.hdmi_edid.specs.declared.timing.Timing.{Timing}
 use Rattle.hdmi_cta.specs.Block.{block_bytes}
 use Rattle.hdmi_cta.specs.Cta.{is_tail}
 use Rattle.hdmi_cta.specs.declared.block.Block.{Block}
 use Rattle.hdmi_edtext.specs.Lines.{base_lines, block_line, bytes_line, timing_line, tail_line, ext_lines, edid_lines}
 use Rattle.hdmi_edtext.specs.declared.draft.Draft.{Draft}
-use Rattle.hdmi_edtext.specs.declared.draft.Draft.TheVariants.{Begun as OfBegun, Whole, Opened as OfOpened, Bare as OfBare, Ended}
+use Rattle.hdmi_edtext.specs.declared.draft.Draft.TheVariants.{Begun as OfBegun, Whole as OfWhole, Opened as OfOpened, Bare as OfBare}
 use Rattle.hdmi_edtext.specs.declared.draft.Opened.{Opened}
+use Rattle.hdmi_edtext.specs.declared.draft.Whole.{Whole}
 use Rattle.hdmi_blocks.specs.declared.edid.Edid.{Edid}
 use Rattle.hdmi_lines.specs.declared.line.Line.{Line}
 use Rattle.hdmi_lines.specs.declared.line.Word.TheVariants.{Cta, CtaNone}
+
+-- the lines of whole blocks
+abbrev pub whole_lines : Whole → List Line
+whole_lines w = base_lines w.base ++ flat_map ext_lines w.extensions.items
 
 -- the lines of a CTA block up to its tail
 abbrev pub opened_lines : Opened → List Line
@@ -18,10 +23,9 @@ opened_lines o = bytes_line Cta (o.flags ∷ []) ∷ (map block_line o.blocks.it
 
 abbrev pub draft_lines : Draft → List Line
 draft_lines (OfBegun d) = take d.number (base_lines d.base)
-draft_lines (Whole base) = base_lines base
-draft_lines (OfOpened o) = base_lines o.base ++ opened_lines o
-draft_lines (OfBare d) = base_lines d.base ++ (bytes_line CtaNone (d.flags ∷ []) ∷ [])
-draft_lines (Ended base ext) = base_lines base ++ ext_lines ext
+draft_lines (OfWhole w) = whole_lines w
+draft_lines (OfOpened o) = whole_lines o.whole ++ opened_lines o
+draft_lines (OfBare d) = whole_lines d.whole ++ (bytes_line CtaNone (d.flags ∷ []) ∷ [])
 
 -- the lines of some EDID begin so, and go on with this line
 abbrev pub Follows : List Line → Line → Type 0

@@ -1,5 +1,5 @@
 -- The lines of an EDID's text (own: this text is the project's).
-use Rattle.std.specs.Prelude.{ℕ, ◌==◌, Bool, ◌&&◌, nat_le, List, [], ◌∷◌, ◌++◌, length, map, drop, slice_index, Option, Some, None, option_to_list, codes, flat_map, if◌then◌else◌}
+use Rattle.std.specs.Prelude.{ℕ, ◌==◌, Bool, ◌&&◌, nat_le, List, [], ◌∷◌, ◌++◌, length, map, drop, slice_index, Option, Some, None, codes, flat_map, if◌then◌else◌}
 use Rattle.hdmi_edid.specs.declared.base.Base.{Base}
 use Rattle.hdmi_edid.specs.declared.base.Revision.{Revision}
 use Rattle.hdmi_edid.specs.declared.base.Revision.TheVariants.{Three, Four}
@@ -132,7 +132,7 @@ ext_lines (OfBare b) = bare_lines b
 ext_lines (OfRawExt r) = bytes_line Ext r.bytes ∷ []
 
 abbrev pub edid_lines : WholeEdid → List Line
-edid_lines e = base_lines e.base ++ flat_map ext_lines (option_to_list e.ext)
+edid_lines e = base_lines e.base ++ flat_map ext_lines e.extensions.items
 
 -- the whole text
 abbrev pub edid_text : WholeEdid → List ℕ

@@ -1,7 +1,7 @@
 -- Which first words may stand where, and how many words a line has (own).
 use Rattle.std.specs.Prelude.{ℕ, ◌==◌, Bool, true, false, ◌&&◌, ◌||◌, nat_lt, nat_le, length, if◌then◌else◌}
 use Rattle.hdmi_edtext.specs.declared.draft.Draft.{Draft}
-use Rattle.hdmi_edtext.specs.declared.draft.Draft.TheVariants.{Begun, Whole, Opened, Bare, Ended}
+use Rattle.hdmi_edtext.specs.declared.draft.Draft.TheVariants.{Begun, Whole, Opened, Bare}
 use Rattle.hdmi_lines.specs.declared.line.Form.{Form}
 use Rattle.hdmi_lines.specs.declared.line.Form.TheVariants.{Empty, Three, One, Two, Eight, Unused, Timing as OfTiming, Hex, Address, Quoted}
 use Rattle.hdmi_lines.specs.declared.line.Word.{Word}
@@ -12,10 +12,9 @@ use Rattle.hdmi_edtext.specs.declared.place.Place.TheVariants.{InBase, AtExt, In
 -- where a draft's next line stands
 abbrev pub place_of : Draft → Place
 place_of (Begun d) = InBase d.number
-place_of (Whole base) = AtExt
+place_of (Whole w) = if nat_lt (length w.extensions.items) 3 then AtExt else AtEnd
 place_of (Opened o) = if length o.timings.items == 0 then InBlocks o.left else InTimings o.left
 place_of (Bare d) = AtTail
-place_of (Ended base ext) = AtEnd
 
 -- the line of a base block with this number
 abbrev pub in_base : ℕ → Word → Bool

@@ -1,4 +1,4 @@
-//! What some first lines of a text tell.
+//! What some first lines of a text say.
 ghost use Rattle.std.specs.Prelude.{◌≡◌, ◌+◌, ◌*◌, ◌<◌, ◌≤◌, length, flat_map};
 ghost use Rattle.hdmi_cta.specs.Block.{block_bytes};
 
@@ -6,7 +6,7 @@ use arrayvec::ArrayVec;
 use hdmi_cta::{Block, Ext};
 use hdmi_edid::{Base, Timing};
 
-/// A base block of which the first lines were told, and so many.
+/// A base block of which the first lines were read, and so many.
 #[derive(Drop)]
 pub struct Begun {
     pub base: Base,
@@ -14,36 +14,43 @@ pub struct Begun {
     ghost few: { number < 23 },
 }
 
-/// A base block, and an open CTA block: its flags, data blocks and timings so far, and how many bytes
-/// are left for more.
+/// A whole base block, and the whole extensions behind it.
+#[derive(Drop)]
+pub struct Whole {
+    pub base: Base,
+    pub extensions: ArrayVec<Ext, 3>,
+    ghost few: { length extensions.items ≤ 3 },
+}
+
+/// Whole blocks, and an open CTA block: its flags, data blocks and timings so far, and how many bytes are left for
+/// more.
 #[derive(Drop)]
 pub struct Opened {
-    pub base: Base,
+    pub whole: Whole,
     pub flags: u8,
     pub blocks: ArrayVec<Block, 123>,
     pub timings: ArrayVec<Timing, 6>,
     pub left: usize,
+    ghost room: { length whole.extensions.items < 3 },
     ghost flags_fit: { flags < 256 },
-    ghost whole: { length (flat_map block_bytes blocks.items) + 18 * length timings.items + left ≡ 123 },
+    ghost spelled: { length (flat_map block_bytes blocks.items) + 18 * length timings.items + left ≡ 123 },
     ghost few: { length blocks.items + left ≤ 123 },
 }
 
-/// A base block, and the flags of an extension that has a tail alone.
+/// Whole blocks, and the flags of an extension that has a tail alone.
 #[derive(Drop)]
 pub struct Headed {
-    pub base: Base,
+    pub whole: Whole,
     pub flags: u8,
+    ghost room: { length whole.extensions.items < 3 },
     ghost flags_fit: { flags < 256 },
 }
 
-/// What the lines so far tell.
+/// What the lines so far say.
 #[derive(Drop)]
 pub enum Draft {
     Begun(Begun),
-    /// The base block.
-    Whole(Base),
+    Whole(Whole),
     Opened(Opened),
     Bare(Headed),
-    /// All, with an extension.
-    Ended(Base, Ext),
 }

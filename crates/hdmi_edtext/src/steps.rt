@@ -3,14 +3,14 @@ ghost use Rattle.std.specs.Prelude.{◌≡◌, ◌⊎◌, ◌<◌, ◌≤◌, �
 ghost use Rattle.arrayvec.specs.ArrayVec.{array_vec_len};
 ghost use Rattle.hdmi_cta.specs.Block.{block_bytes};
 ghost use Rattle.hdmi_cta.specs.declared.raw.RawExt.{RawExt as RawValue};
-ghost use Rattle.hdmi_edtext.specs.Drafts.{draft_lines, Follows, BlockFits, TimingFits, TailFits};
+ghost use Rattle.hdmi_edtext.specs.Drafts.{whole_lines, draft_lines, Follows, BlockFits, TimingFits, TailFits};
 ghost use Rattle.hdmi_edtext.specs.Lines.{block_line, timing_line, bytes_line, base_lines, ext_lines, edid_lines};
 ghost use Rattle.hdmi_edtext.specs.Tails.{padded, fills, ends};
 ghost use Rattle.hdmi_edtext.specs.Words.{place_of};
 ghost use Rattle.hdmi_blocks.specs.declared.edid.Edid.{Edid as EdidValue};
 
 use crate::base_steps::{blank, put_base};
-use crate::draft::{Begun, Draft, Headed, Opened};
+use crate::draft::{Begun, Draft, Headed, Opened, Whole};
 use crate::line_to_block::block_of;
 use crate::line_to_value::{array_from, bytes_of, one_byte, timing_of};
 use crate::place::Place;
@@ -18,7 +18,7 @@ use crate::tail::{filled, tail_of};
 use arrayvec::ArrayVec;
 use hdmi_blocks::Edid;
 use hdmi_cta::{Bare, Block, Cta, Ext, RawExt, read_ext};
-use hdmi_edid::{Base, Timing};
+use hdmi_edid::Timing;
 use hdmi_lines::{Line, Word};
 
 /// The draft with one more line of the base block.
@@ -35,27 +35,36 @@ fn put_begun(begun: Begun, line: &Line) -> Option<Draft>
             number: number + 1,
         }))
     } else {
-        Some(Draft::Whole(base))
+        Some(Draft::Whole(Whole {
+            base,
+            extensions: ArrayVec::new(),
+        }))
     }
 }
 
-/// A base block with an extension.
-fn with_ext(mut base: Base, ext: Ext) -> Edid
-    ensures { edid_lines result ≡ base_lines base ++ ext_lines ext }
+/// The EDID of these blocks.
+fn edid_of(whole: Whole) -> Edid
+    ensures { edid_lines result ≡ whole_lines whole }
 {
-    base.extensions = 1;
-    Edid {
+    let Whole {
+        mut base,
+        extensions,
+    } = whole;
+    base.extensions = extensions.len() as u8;
+    Edid { base, extensions }
+}
+
+/// The draft with one more whole extension.
+fn with_extension(whole: Whole, ext: Ext) -> Draft
+    requires { array_vec_len whole.extensions < 3 }
+    ensures { draft_lines result ≡ whole_lines whole ++ ext_lines ext }
+{
+    let Whole {
         base,
-        ext: Some(ext),
-    }
-}
-
-/// A base block alone.
-fn alone(mut base: Base) -> Edid
-    ensures { edid_lines result ≡ base_lines base }
-{
-    base.extensions = 0;
-    Edid { base, ext: None }
+        mut extensions,
+    } = whole;
+    extensions.push(ext);
+    Draft::Whole(Whole { base, extensions })
 }
 
 /// The extension of no known form that a line tells.
@@ -74,13 +83,16 @@ fn raw_ext_of(line: &Line) -> Option<RawExt>
     }
 }
 
-/// The draft with the first line of an extension.
-fn put_whole(base: Base, line: &Line) -> Option<Draft>
-    ensures { MatchOption result (Follows (draft_lines (Draft.Whole base)) line.now → ⊥) (λ d. draft_lines d ≡ draft_lines (Draft.Whole base) ++ line.now ∷ []) }
+/// The draft with the first line of an extension, where there is room for one.
+fn put_whole(whole: Whole, line: &Line) -> Option<Draft>
+    ensures { MatchOption result (Follows (draft_lines (Draft.Whole whole)) line.now → ⊥) (λ d. draft_lines d ≡ draft_lines (Draft.Whole whole) ++ line.now ∷ []) }
 {
+    if whole.extensions.len() == 3 {
+        return None;
+    }
     if let Some(flags) = one_byte(line, Word::Cta) {
         return Some(Draft::Opened(Opened {
-            base,
+            whole,
             flags,
             blocks: ArrayVec::new(),
             timings: ArrayVec::new(),
@@ -88,12 +100,12 @@ fn put_whole(base: Base, line: &Line) -> Option<Draft>
         }));
     }
     if let Some(flags) = one_byte(line, Word::CtaNone) {
-        return Some(Draft::Bare(Headed { base, flags }));
+        return Some(Draft::Bare(Headed { whole, flags }));
     }
     let Some(raw) = raw_ext_of(line) else {
         return None;
     };
-    Some(Draft::Ended(base, Ext::Raw(raw)))
+    Some(with_extension(whole, Ext::Raw(raw)))
 }
 
 /// The draft with a data block, where there is room.
@@ -106,7 +118,7 @@ fn put_block(opened: Opened, block: Block) -> Option<Draft>
         return None;
     }
     let Opened {
-        base,
+        whole,
         flags,
         mut blocks,
         timings,
@@ -114,7 +126,7 @@ fn put_block(opened: Opened, block: Block) -> Option<Draft>
     } = opened;
     blocks.push(block);
     Some(Draft::Opened(Opened {
-        base,
+        whole,
         flags,
         blocks,
         timings,
@@ -130,7 +142,7 @@ fn put_timing(opened: Opened, timing: Timing) -> Option<Draft>
         return None;
     }
     let Opened {
-        base,
+        whole,
         flags,
         blocks,
         mut timings,
@@ -138,7 +150,7 @@ fn put_timing(opened: Opened, timing: Timing) -> Option<Draft>
     } = opened;
     timings.push(timing);
     Some(Draft::Opened(Opened {
-        base,
+        whole,
         flags,
         blocks,
         timings,
@@ -154,7 +166,7 @@ fn put_tail(opened: Opened, bytes: &[u8]) -> Option<Draft>
         return None;
     };
     let Opened {
-        base,
+        whole,
         flags,
         blocks,
         timings,
@@ -166,7 +178,7 @@ fn put_tail(opened: Opened, bytes: &[u8]) -> Option<Draft>
         timings,
         tail,
     };
-    Some(Draft::Ended(base, Ext::Cta(cta)))
+    Some(with_extension(whole, Ext::Cta(cta)))
 }
 
 /// The draft with a timing or the tail.
@@ -221,14 +233,14 @@ fn bare_of(flags: u8, bytes: &[u8]) -> Option<Bare>
 fn put_bare(headed: Headed, line: &Line) -> Option<Draft>
     ensures { MatchOption result (Follows (draft_lines (Draft.Bare headed)) line.now → ⊥) (λ d. draft_lines d ≡ draft_lines (Draft.Bare headed) ++ line.now ∷ []) }
 {
-    let Headed { base, flags } = headed;
+    let Headed { whole, flags } = headed;
     let Some(bytes) = bytes_of(line, Word::Tail) else {
         return None;
     };
     let Some(bare) = bare_of(flags, bytes) else {
         return None;
     };
-    Some(Draft::Ended(base, Ext::Bare(bare)))
+    Some(with_extension(whole, Ext::Bare(bare)))
 }
 
 impl Draft {
@@ -248,11 +260,11 @@ impl Draft {
     {
         match self {
             Draft::Begun(begun) => Place::InBase(begun.number),
-            Draft::Whole(_) => Place::AtExt,
+            Draft::Whole(whole) if whole.extensions.len() < 3 => Place::AtExt,
+            Draft::Whole(_) => Place::AtEnd,
             Draft::Opened(opened) if opened.timings.is_empty() => Place::InBlocks(opened.left),
             Draft::Opened(opened) => Place::InTimings(opened.left),
             Draft::Bare(_) => Place::AtTail,
-            Draft::Ended(_, _) => Place::AtEnd,
         }
     }
 
@@ -262,10 +274,9 @@ impl Draft {
     {
         match self {
             Draft::Begun(begun) => put_begun(begun, line),
-            Draft::Whole(base) => put_whole(base, line),
+            Draft::Whole(whole) => put_whole(whole, line),
             Draft::Opened(opened) => put_opened(opened, line),
             Draft::Bare(headed) => put_bare(headed, line),
-            Draft::Ended(_, _) => None,
         }
     }
 
@@ -274,8 +285,7 @@ impl Draft {
         ensures { MatchOption result ((e : EdidValue) → edid_lines e ≡ draft_lines self → ⊥) (λ e. edid_lines e ≡ draft_lines self) }
     {
         match self {
-            Draft::Whole(base) => Some(alone(base)),
-            Draft::Ended(base, ext) => Some(with_ext(base, ext)),
+            Draft::Whole(whole) => Some(edid_of(whole)),
             Draft::Begun(_) => None,
             Draft::Opened(_) => None,
             Draft::Bare(_) => None,

@@ -134,7 +134,7 @@ fn names_the_block_line_at_fault(rt: HostRuntime) -> Result<(), Fail> {
     );
     assert_eq!(rt;
         refusal_of(&rt, "tail -\n", "tail -\ncta f1\n")?,
-        Some(TextError::Syntax(30))
+        Some(TextError::Syntax(31))
     );
     assert_eq!(rt;
         refusal_of(&rt, "tail -\n", "")?,
@@ -230,5 +230,63 @@ fn returns_a_descriptor_of_no_form(rt: HostRuntime) -> Result<(), Fail> {
     let text = text_and_back(&rt, &bytes)?;
     let text = str::from_utf8(&text)?;
     assert!(rt; text.contains("\"\nraw 000000f7000a000000000000000000000000\ndummy\ncta f1\n"));
+    Ok(())
+}
+
+/// The base block with three extensions to follow, a block map, the extension with four data blocks, and an empty one.
+fn four_blocks(rt: &HostRuntime) -> Result<Vec<u8>, Fail> {
+    let mut bytes = hex::decode(rt.alloc(), BLOCK)?;
+    let _ = bytes.pop();
+    let _ = bytes.pop();
+    bytes.extend_from_slice(&[0x03, 0x4f])?;
+    for (front, check) in [("f00202", 0x0c), (EXTENSION, 0xe8), ("020304f1", 0x06)] {
+        let front = hex::decode(rt.alloc(), front)?;
+        bytes.extend_from_slice(&front)?;
+        for _ in front.len()..127 {
+            bytes.push(0)?;
+        }
+        bytes.push(check)?;
+    }
+    Ok(bytes)
+}
+
+#[test]
+fn returns_four_blocks(rt: HostRuntime) -> Result<(), Fail> {
+    let text = text_and_back(&rt, &four_blocks(&rt)?)?;
+    let text = str::from_utf8(&text)?;
+    let (front, rest) = text.split_once("\ndummy\ndummy\n").ok_or("no base")?;
+    assert!(rt; TEXT.starts_with(front));
+    let (map, rest) = rest.split_once("\n").ok_or("no block map")?;
+    assert_eq!(rt; map.len(), 260);
+    assert!(rt; map.starts_with("ext f0020200"));
+    assert!(rt; map.ends_with("000c"));
+    assert_eq!(rt;
+        rest,
+        "cta f1\nvideo 900403\naudio 090707\nspeakers 010000\nhdmi 0.0.0.0 -\ntail -\ncta f1\ntail -\n"
+    );
+    Ok(())
+}
+
+#[test]
+fn takes_three_extensions_at_most(rt: HostRuntime) -> Result<(), Fail> {
+    let two = "tail -\ncta-none f1\ntail -\n";
+    let three = "tail -\ncta-none f1\ntail -\ncta f1\ntail -\n";
+    let four = "tail -\ncta-none f1\ntail -\ncta f1\ntail -\ncta f1\n";
+    assert_eq!(rt; refusal_of(&rt, "tail -\n", two)?, None);
+    assert_eq!(rt; refusal_of(&rt, "tail -\n", three)?, None);
+    assert_eq!(rt;
+        refusal_of(&rt, "tail -\n", four)?,
+        Some(TextError::Syntax(34))
+    );
+    let cut = "tail -\ncta-none f1\n";
+    assert_eq!(rt;
+        refusal_of(&rt, "tail -\n", cut)?,
+        Some(TextError::Syntax(31))
+    );
+    let wrong = "tail -\ncta-none f1\ntail 00\n";
+    assert_eq!(rt;
+        refusal_of(&rt, "tail -\n", wrong)?,
+        Some(TextError::Field(31))
+    );
     Ok(())
 }

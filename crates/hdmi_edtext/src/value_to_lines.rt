@@ -1,5 +1,5 @@
 //! The lines of an EDID's text.
-ghost use Rattle.std.specs.Prelude.{◌≡◌, ◌≤◌, ◌<◌, ◌+◌, ◌∷◌, [], Option, Some, None, length, take, slice_get, IfErr};
+ghost use Rattle.std.specs.Prelude.{◌≡◌, ◌≤◌, ◌<◌, ◌+◌, ◌∷◌, [], Option, Some, None, length, take, slice_get, flat_map};
 ghost use Rattle.hdmi_edtext.specs.Lines.{letters_line, numbers_line, bytes_line, quoted_line, revision_letters, standard_line, timing_line, descriptor_line, head_lines, base_lines, kind_word, is_hdmi, block_line, trimmed, tail_line, cta_lines, bare_lines, ext_lines, edid_lines};
 
 use arrayvec::ArrayVec;
@@ -276,6 +276,32 @@ fn ext_line(ext: &Ext, number: usize) -> Option<Line>
     }
 }
 
+/// How many lines an extension has.
+fn line_count(ext: &Ext) -> usize
+    ensures { result ≡ length (ext_lines ext.now) }
+{
+    match ext {
+        Ext::Cta(cta) => cta.blocks.len() + cta.timings.len() + 2,
+        Ext::Bare(_) => 2,
+        Ext::Raw(_) => 1,
+    }
+}
+
+/// The line with this number, from 0, of some extensions.
+fn line_in(extensions: &[Ext], number: usize) -> Option<Line>
+    ensures { slice_get (flat_map ext_lines extensions.now) number ≡ result }
+{
+    let mut number = number;
+    for ext in extensions {
+        let count = line_count(ext);
+        if number < count {
+            return ext_line(ext, number);
+        }
+        number -= count;
+    }
+    None
+}
+
 /// The line with this number, from 0, of an EDID's text.
 pub fn line_at(edid: &Edid, number: usize) -> Option<Line>
     ensures { slice_get (edid_lines edid.now) number ≡ result }
@@ -283,8 +309,5 @@ pub fn line_at(edid: &Edid, number: usize) -> Option<Line>
     if number < 23 {
         return Some(base_line(&edid.base, number));
     }
-    match &edid.ext {
-        None => None,
-        Some(ext) => ext_line(ext, number - 23),
-    }
+    line_in(edid.extensions.as_slice(), number - 23)
 }

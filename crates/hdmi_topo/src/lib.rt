@@ -10,7 +10,7 @@ mod plug;
 mod port;
 mod tree;
 
-pub use laws::{loops_are_found, paths_are_found, ports_have_addresses};
+pub use laws::{amplifiers_are_found, loops_are_found, paths_are_found, ports_have_addresses};
 pub use name::is_name;
 pub use plug::{AddError, Plug, PlugError, UnplugError};
 pub use port::PortEdidError;

@@ -136,3 +136,53 @@ fn no_port_passes_on_an_edid_without_an_address(rt: HostRuntime) -> Result<(), F
     );
     Ok(())
 }
+
+/// A television, an amplifier in its first port with a switch in its own, and a switch in the second.
+fn tree_with_an_amplifier() -> Result<Tree<15>, Fail> {
+    let mut tree: Tree<15> = Tree::new();
+    tree.add(b"tv", Kind::Tv, 2)?;
+    tree.add(b"amp", Kind::Amp, 1)?;
+    tree.add(b"below", Kind::Switch, 1)?;
+    tree.add(b"beside", Kind::Switch, 1)?;
+    if tree.count() != 4 {
+        return Err(Fail::from("no tree"));
+    }
+    tree.plug(1, 0, 1)?;
+    tree.plug(2, 1, 1)?;
+    tree.plug(3, 0, 2)?;
+    Ok(tree)
+}
+
+/// The extension that an amplifier passes on, up to its zeros, but for the address.
+const HEARD: [u8; 23] = [
+    0x02, 0x03, 0x19, 0xf1, 0x43, 0x90, 0x04, 0x03, 0x26, 0x0f, 0x7f, 0x07, 0x15, 0x07, 0x50, 0x83,
+    0x01, 0x00, 0x00, 0x65, 0x03, 0x0c, 0x00,
+];
+
+/// That extension with an address and a checksum.
+fn heard(address: [u8; 2], checksum: u8) -> [u8; 128] {
+    let mut bytes = [0; 128];
+    bytes[..23].copy_from_slice(&HEARD);
+    bytes[23..25].copy_from_slice(&address);
+    bytes[127] = checksum;
+    bytes
+}
+
+#[test]
+fn ports_below_an_amplifier_pass_on_its_audio(rt: HostRuntime) -> Result<(), Fail> {
+    let root = edid_from_bytes(&both_blocks()).map_err(|_| "no EDID")?;
+    let tree = tree_with_an_amplifier()?;
+    assert_eq!(rt; tree.count(), 4);
+    let above = tree.port_edid(&root, 0, 1)?;
+    assert_eq!(rt; address_and_checksum(&above), Some([0x10, 0x00, 0xd8]));
+    let amp = edid_to_bytes(&tree.port_edid(&root, 1, 1)?);
+    assert_eq!(rt; amp.as_slice().get(..128), Some(LOUNGE.as_slice()));
+    let wanted = heard([0x11, 0x00], 0xe7);
+    assert_eq!(rt; amp.as_slice().get(128..), Some(wanted.as_slice()));
+    let below = edid_to_bytes(&tree.port_edid(&root, 2, 1)?);
+    let wanted = heard([0x11, 0x10], 0xd7);
+    assert_eq!(rt; below.as_slice().get(128..), Some(wanted.as_slice()));
+    let beside = tree.port_edid(&root, 3, 1)?;
+    assert_eq!(rt; address_and_checksum(&beside), Some([0x21, 0x00, 0xc7]));
+    Ok(())
+}

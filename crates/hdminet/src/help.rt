@@ -139,10 +139,10 @@ pub const EDID_ABOUT: &str = "Writes an EDID as text, or a text's EDID in hex";
 pub const TEXT_FLAG: &str = "Reads an EDID's text, and prints its bytes as one line of hex";
 
 pub const EDID_HELP: &str = "\
-The input is an EDID of 128 or 256 bytes: a base block of E-EDID 1.3 or 1.4, and perhaps one
-extension block. The output is its text, a line for each part. With --text it is the other way
-round. Each EDID has one text, and nothing of a block is lost: a part that fits no form is kept in
-hex, after `raw` or `ext`.
+The input is an EDID of 128, 256, 384 or 512 bytes: a base block of E-EDID 1.3 or 1.4, and up to
+three extension blocks. The output is its text, a line for each part. With --text it is the other
+way round. Each EDID has one text, and nothing of a block is lost: a part that fits no form is kept
+in hex, after `raw` or `ext`.
 
 An example of a text. There are always eight `standard` lines, and four lines for the descriptors:
   edid 1.3
@@ -161,7 +161,7 @@ An example of a text. There are always eight `standard` lines, and four lines fo
   name \"LOUNGE TV 001\"
   dummy
   dummy
-  cta f1                               an extension: flags, data blocks, timings, tail
+  cta f1                               an extension, of three at most: flags, blocks, timings, tail
   video 900403
   hdmi 0.0.0.0 -                       the physical address, and what follows it
   tail -
@@ -172,7 +172,7 @@ To see an EDID, and to make the bytes again:
   ./hdminet edid --text < tv.txt | xxd -r -p > tv.edid
 
 Faults: `edid: CAUSE` with length, count (byte 126 does not tell the extensions), base header, base
-checksum, base revision, base maker or ext 1 checksum; with --text `text: syntax N` or
+checksum, base revision, base maker or ext N checksum; with --text `text: syntax N` or
 `text: field N`, for the first line that no EDID's text has there. Nothing is written then.
 
 Exit status: 0 done; 1 input refused; 2 command line refused; 3 a read or write fault, or input

@@ -113,7 +113,7 @@ const LINES: [Row; 7] = [
 const EDID: [Row; 8] = [
     (
         "length",
-        "an EDID has 128 bytes, and 128 more for each extension",
+        "an EDID has 128, 256, 384 or 512 bytes: a base block and up to three extensions of 128 bytes each",
     ),
     (
         "count",

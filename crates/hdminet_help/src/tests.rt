@@ -110,7 +110,7 @@ const NETWORKS: [Case; 12] = [
         "edid: length",
         "  line 2: edid 00ff
                ^^^^
-  an EDID has 128 bytes, and 128 more for each extension
+  an EDID has 128, 256, 384 or 512 bytes: a base block and up to three extensions of 128 bytes each
 ",
     ),
 ];
@@ -166,7 +166,7 @@ const EDIDS: [Case; 5] = [
     (
         b"00ffffffffffff00\n4c2d\n",
         "edid: length",
-        "  an EDID has 128 bytes, and 128 more for each extension
+        "  an EDID has 128, 256, 384 or 512 bytes: a base block and up to three extensions of 128 bytes each
   this looks like a hex dump; `xxd -r -p` makes bytes of it
   the input has 0 bytes and 22 more
 ",
@@ -174,7 +174,7 @@ const EDIDS: [Case; 5] = [
     (
         b"00000000: 00ff ffff ffff ff00 4c2d",
         "edid: length",
-        "  an EDID has 128 bytes, and 128 more for each extension
+        "  an EDID has 128, 256, 384 or 512 bytes: a base block and up to three extensions of 128 bytes each
   this looks like a hex dump; `xxd -r` makes bytes of one that `xxd` made
   the input has 0 bytes and 34 more
 ",
@@ -182,7 +182,7 @@ const EDIDS: [Case; 5] = [
     (
         b"",
         "edid: length",
-        "  an EDID has 128 bytes, and 128 more for each extension
+        "  an EDID has 128, 256, 384 or 512 bytes: a base block and up to three extensions of 128 bytes each
   the input is empty
   the input has 0 bytes and 0 more
 ",
@@ -190,7 +190,7 @@ const EDIDS: [Case; 5] = [
     (
         b"edid 1.3\nmaker SAM\n",
         "edid: length",
-        "  an EDID has 128 bytes, and 128 more for each extension
+        "  an EDID has 128, 256, 384 or 512 bytes: a base block and up to three extensions of 128 bytes each
   this looks like the text of an EDID, which `edid --text` reads
   the input has 0 bytes and 19 more
 ",

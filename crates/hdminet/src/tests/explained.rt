@@ -13,8 +13,8 @@ asm => 4>0 pley forward; =>   line 1: 4>0 pley forward
 asm => 4>4\r; =>   line 1: 4>4.
 asm => 4>0\tplay forward; =>   line 1: 4>0.play forward
 asm => 4>4 ; =>   line 1: 4>4 
-edid =>  =>   an EDID has 128 bytes, and 128 more for each extension
-edid => 00ffffffffffff00; =>   an EDID has 128 bytes, and 128 more for each extension
+edid =>  =>   an EDID has 128, 256, 384 or 512 bytes: a base block and up to three extensions of 128 bytes each
+edid => 00ffffffffffff00; =>   an EDID has 128, 256, 384 or 512 bytes: a base block and up to three extensions of 128 bytes each
 edid --text => edid 1.3;maker sam; =>   line 2: maker sam
 edid --text =>  =>   line 1: 
 ";

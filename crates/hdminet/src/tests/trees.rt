@@ -347,12 +347,18 @@ fn block(
     Ok(format!(in alloc; "{header}{maker}0201010000000a1501{revision}{rest}{last}")?)
 }
 
+/// The television's extension up to its address.
+const OWN: &str = "020316f143900403230907078301000065030c00";
+
+/// The same with an amplifier's audio.
+const AMPLIFIED: &str = "020319f143900403260f7f071507508301000065030c00";
+
 /// The base block and an extension with this address in its HDMI block, and this checksum, in hex.
-fn edid(alloc: Global, address: &str, check: &str) -> Result<String, Fail> {
+fn edid(alloc: Global, front: &str, address: &str, check: &str) -> Result<String, Fail> {
     let mut text = block(alloc, "00ffffffffffff00", "4c2d", "03", "0151")?;
-    text.push_str("020316f143900403230907078301000065030c00")?;
+    text.push_str(front)?;
     text.push_str(address)?;
-    for _ in 0..105 {
+    for _ in (front.len() / 2)..125 {
         text.push_str("00")?;
     }
     text.push_str(check)?;
@@ -393,7 +399,7 @@ fn tells_why_an_edid_is_refused(rt: HostRuntime) -> Result<(), Fail> {
         let digits = block(alloc, header, maker, revision, last)?;
         refuses_edid(&rt, alloc, digits.as_str(), cause)?;
     }
-    let digits = edid(alloc, "0000", "e9")?;
+    let digits = edid(alloc, OWN, "0000", "e9")?;
     refuses_edid(&rt, alloc, digits.as_str(), "ext 1 checksum")?;
     refuses_edid(&rt, alloc, "00", "length")
 }
@@ -423,19 +429,19 @@ state a amp - 1.0.0.0 on active=- path=- deck=1a menu=off audio=off volume=20 mu
 8 end
 ";
 
-/// What is traced before, and of a port's EDID the address and the checksum.
+/// What is traced before, and of a port's EDID the address, the checksum, and whether the audio is an amplifier's.
 const PARTS_TRACE: &str = "\
 0 port tv 1 => 1000 d8
 0 port tv 2 => 2000 c8
 5 event 1 ok
 5 port sw 1 => 2100 c7
 5 port sw 2 => 2200 c6
-5 port a 1 => 2110 b7
+5 port a 1 => 2110 c7 amplifier
 5 event 2 refused not-plugged
 6 event 3 refused not-loose
 6 event 4 ok
 7 event 5 ok
-7 port a 1 => 1100 d7
+7 port a 1 => 1100 e7 amplifier
 ";
 
 /// The lines of a trace, with each port's EDID whole.
@@ -448,7 +454,11 @@ fn with_edids(alloc: Global, lines: &str) -> Result<String, Fail> {
                 let (address, check) = rest.split_once(' ').ok_or("no checksum")?;
                 text.push_str(front)?;
                 text.push_str(" ")?;
-                text.push_str(edid(alloc, address, check)?.as_str())?;
+                let (check, front) = match check.split_once(' ') {
+                    None => (check, OWN),
+                    Some((check, _)) => (check, AMPLIFIED),
+                };
+                text.push_str(edid(alloc, front, address, check)?.as_str())?;
             }
         }
         text.push_str("\n")?;
@@ -459,7 +469,7 @@ fn with_edids(alloc: Global, lines: &str) -> Result<String, Fail> {
 #[test]
 fn traces_ports_of_what_comes_onto_the_wire(rt: HostRuntime) -> Result<(), Fail> {
     let alloc = rt.alloc();
-    let root = edid(alloc, "0000", "e8")?;
+    let root = edid(alloc, OWN, "0000", "e8")?;
     let topology = format!(in alloc; "{PARTS}edid {root}\n")?;
     let mut trace = with_edids(alloc, PARTS_TRACE)?;
     trace.push_str(PARTS_STATES)?;

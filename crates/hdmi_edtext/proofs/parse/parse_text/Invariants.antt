@@ -9,7 +9,7 @@ abbrev pub invariant-loop-line : goal.invariant-loop-line
 invariant-loop-line l = record {
   lines : lines_of l.text ≡ map line_text (draft_lines l.draft) ++ lines_of l.rest;
   count : l.number ≡ length (draft_lines l.draft) + 1;
-  few : l.number ≤ 149;
+  few : l.number ≤ 399;
   told : AreTold (draft_lines l.draft);
 }
 

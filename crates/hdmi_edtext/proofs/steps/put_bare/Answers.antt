@@ -8,12 +8,12 @@ use Rattle.hdmi_edtext.proofs.steps.put_bare.Goals as goal
 
 pub returns-in_default : goal.returns-in_default
 returns-in_default c = λ f.
-    let t = bare_next c.args.headed.base c.args.headed.flags c.args.line.now f in
+    let t = bare_next c.args.headed.whole c.args.headed.flags c.args.line.now f in
     c.in_default.ensures (trimmed t.0) t.1.1
 
 pub returns-in_default-bare_of : goal.returns-in_default-bare_of
 returns-in_default-bare_of c = λ f.
-    let t = bare_next c.args.headed.base c.args.headed.flags c.args.line.now f in
+    let t = bare_next c.args.headed.whole c.args.headed.flags c.args.line.now f in
     no_bare c.in-Some.bytes.now t.0 c.args.line.now c.in-Some.ensures c.in_default-bare_of.ensures t.1.0 t.1.1
 
 pub returns : goal.returns
@@ -21,5 +21,5 @@ returns c =
     let h = c.args.headed in
     let b = c.in-Some-bare_of.bare in
     let told = c.in-Some-bare_of.ensures in
-    bare_told h.base h.flags b.flags c.in-Some.bytes.now b.tail told.0 told.1 told.2
+    c.with_extension.ensures ∙ bare_told h.whole h.flags b.flags c.in-Some.bytes.now b.tail told.0 told.1 told.2
     ∙ ap (λ l. draft_lines (Bare h) ++ l ∷ []) c.in-Some.ensures

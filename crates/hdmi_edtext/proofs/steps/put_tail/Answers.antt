@@ -1,4 +1,4 @@
-use Rattle.std.proofs.Common.{arith}
+use Rattle.std.proofs.Common.{arith, ◌∙◌}
 use Rattle.hdmi_edid.proofs.Bytes.{are_bytes-cells}
 use Rattle.hdmi_edtext.proofs.ExtSteps.{tail_whole, tail_ended, tail_fits, tail_told}
 use Rattle.hdmi_edtext.proofs.steps.put_tail.Goals as goal
@@ -16,4 +16,4 @@ invariant_of-cta c =
     }
 
 pub returns : goal.returns
-returns c = tail_told c.args.opened c.args.bytes.now c.in-Some.tail.items c.in-Some.ensures.0 c.in-Some.ensures.1
+returns c = c.with_extension.ensures ∙ tail_told c.args.opened c.args.bytes.now c.in-Some.tail.items c.in-Some.ensures.0 c.in-Some.ensures.1

@@ -10,8 +10,8 @@ invariant-loop-line g l = record {
   flag : g.S.Sink.is_stuck l.out ≡ g.S.Sink.is_stuck l.fn.out;
   count : l.written ≡ length (flat_map line_text (take l.number (edid_lines l.edid)));
   bound : l.written ≤ 300 * l.number;
-  few : l.number ≤ 148;
+  few : l.number ≤ 398;
 }
 
 abbrev pub decreases-loop-line : goal.decreases-loop-line
-decreases-loop-line g l = 149 - l.number
+decreases-loop-line g l = 399 - l.number

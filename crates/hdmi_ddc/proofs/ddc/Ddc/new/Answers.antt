@@ -1,5 +1,5 @@
 use Rattle.std.proofs.Common.{ap, ◌∙◌}
-use Rattle.hdmi_ddc.specs.Bus.{has_length}
+use Rattle.hdmi_blocks.specs.Bytes.{has_length}
 use Rattle.hdmi_ddc.proofs.Lengths.{edid_length, first_segment}
 use Rattle.hdmi_ddc.proofs.ddc.Ddc.new.Goals as goal
 

@@ -10,4 +10,4 @@ pub returns-in-Opened : goal.returns-in-Opened
 returns-in-Opened c = λ e h. opened_not_all c.in-Opened.field-0 e (h ∙ ap draft_lines c.in-Opened.is)
 
 pub returns-in-Bare : goal.returns-in-Bare
-returns-in-Bare c = λ e h. bare_not_all c.in-Bare.field-0.base c.in-Bare.field-0.flags e (h ∙ ap draft_lines c.in-Bare.is)
+returns-in-Bare c = λ e h. bare_not_all c.in-Bare.field-0.whole c.in-Bare.field-0.flags e (h ∙ ap draft_lines c.in-Bare.is)

@@ -1,6 +1,5 @@
 use Rattle.std.proofs.Common.{◌≡◌, ◌++◌, ◌∷◌, [], MatchOption, subst, sym}
 use Rattle.hdmi_edtext.specs.Drafts.{draft_lines, Follows}
-use Rattle.hdmi_edtext.proofs.Fronts.{ended_next}
 use Rattle.hdmi_edtext.proofs.draft.Draft.put.Goals as goal
 
 pub returns-in-Begun : goal.returns-in-Begun
@@ -14,6 +13,3 @@ returns-in-Opened c = subst (λ x. MatchOption c.put_opened.result (Follows (dra
 
 pub returns-in-Bare : goal.returns-in-Bare
 returns-in-Bare c = subst (λ x. MatchOption c.put_bare.result (Follows (draft_lines x) c.args.line.now → ⊥) (λ d. draft_lines d ≡ draft_lines x ++ c.args.line.now ∷ [])) (sym c.in-Bare.is) c.put_bare.ensures
-
-pub returns-in-Ended : goal.returns-in-Ended
-returns-in-Ended c = λ f. ended_next c.in-Ended.field-0 c.in-Ended.field-1 c.args.line.now (subst (λ x. Follows (draft_lines x) c.args.line.now) c.in-Ended.is f)

@@ -1,0 +1,86 @@
+//! The EDID that is passed on to the device in a port.
+ghost use Rattle.std.specs.Prelude.{◌≡◌, ◌≤◌, ◌<◌, ◌↔◌, None, Some, IsErr, IfOk, length, slice_set, flat_map};
+ghost use Rattle.hdmi_cta.specs.Ext.{ext_bytes};
+ghost use Rattle.hdmi_cta.specs.Hdmi.{address_of};
+ghost use Rattle.hdmi_blocks.specs.Address.{edid_address};
+ghost use Rattle.hdmi_blocks.specs.Bytes.{edid_bytes};
+ghost use Rattle.hdmi_blocks.specs.Passing.{passed_bytes, passed_on_bytes};
+
+use crate::address::first_addressed;
+use crate::edid::Edid;
+use arrayvec::ArrayVec;
+use hdmi_core::Phys;
+use hdmi_cta::{Ext, NoHdmiBlock, with_address, with_audio};
+use hdmi_edid::{Base, read_base, write_base};
+
+/// Whose audio an EDID reports when it is passed on.
+#[derive(Clone, Copy, Debug, PartialEq, Eq)]
+pub enum AudioFrom {
+    Television,
+    Amplifier,
+}
+
+/// An extension with another physical address, and with an amplifier's audio.
+fn passed_extension(ext: &Ext, audio: AudioFrom, address: Phys) -> Result<Ext, NoHdmiBlock>
+    ensures bytes { IfOk result (λ e. ext_bytes e ≡ passed_bytes audio address ext.now) }
+    ensures addressed { IfOk result (λ e. address_of e ≡ Some address) }
+    ensures refused { IsErr result ↔ (address_of ext.now ≡ None) }
+{
+    match audio {
+        AudioFrom::Television => with_address(ext, address),
+        AudioFrom::Amplifier => with_address(&with_audio(ext), address),
+    }
+}
+
+/// The same base block.
+fn copy_of(base: &Base) -> Base
+    ensures { result ≡ base.now }
+{
+    read_base(&write_base(base)).unwrap()
+}
+
+/// The same extensions.
+fn copies_of(extensions: &[Ext]) -> ArrayVec<Ext, 3>
+    requires { length extensions.now ≤ 3 }
+    ensures { result.items ≡ extensions.now }
+{
+    let mut copies = ArrayVec::new();
+    for ext in extensions {
+        copies.push(ext.copy());
+    }
+    copies
+}
+
+/// The same extensions, but for one.
+fn with_extension(extensions: &[Ext], index: usize, ext: Ext) -> ArrayVec<Ext, 3>
+    requires few { length extensions.now ≤ 3 }
+    requires known { index < length extensions.now }
+    ensures { result.items ≡ slice_set extensions.now index ext }
+{
+    let mut copies = copies_of(extensions);
+    copies[index] = ext;
+    copies
+}
+
+impl Edid {
+    /// The EDID that a port with this address passes on. In the first extension that has an HDMI block, the audio is
+    /// the amplifier's where it is asked for, the two bytes of the address in that block are the port's, and the
+    /// checksum is mended; all other bytes stay (HDMI 1.4, section 8.7.3).
+    pub fn passed_on(&self, audio: AudioFrom, address: Phys) -> Result<Edid, NoHdmiBlock>
+        ensures bytes { IfOk result (λ e. edid_bytes e ≡ passed_on_bytes audio address self.now) }
+        ensures addressed { IfOk result (λ e. edid_address e ≡ Some address) }
+        ensures refused { IsErr result ↔ (edid_address self.now ≡ None) }
+    {
+        let extensions = self.extensions.as_slice();
+        let Some(index) = first_addressed(extensions) else {
+            return Err(NoHdmiBlock);
+        };
+        match passed_extension(&extensions[index], audio, address) {
+            Err(refused) => Err(refused),
+            Ok(passed) => Ok(Edid {
+                base: copy_of(&self.base),
+                extensions: with_extension(extensions, index, passed),
+            }),
+        }
+    }
+}
