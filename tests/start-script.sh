@@ -25,8 +25,10 @@ case "$1 $2" in
       echo "fn $crate::f: proved"
       echo "logic=proved functions=3 sum=0"
     done
+    printf '== summary\nlow: ok\nhdminet: ok\n'
     ;;
   "run --")
+    echo "logic=proved functions=3 sum=0"
     mkdir -p out
     { echo '#!/bin/sh'; echo "echo '$(cat src/main.rt)' \"\$@\""; } > out/hdminet
     chmod +x out/hdminet
@@ -83,6 +85,7 @@ start "$room/checkout/hdminet" run x
 check "the first start builds and starts" wrote "one run x"
 check "it tells the minutes before" says "about "
 check "it tells each crate" says "crate 2 of 2 is proved: hdminet (6 functions so far"
+check "the linking is no crate" [ "$(grep -c "is proved" "$room/err")" -le 2 ]
 check "it tells that the program may be copied" says "It needs the C library alone and may be copied."
 check "it checks and links once" [ "$(calls)" = 2 ]
 start "$room/checkout/hdminet" again

@@ -12,7 +12,7 @@ use Rattle.cec_wave.specs.declared.PulsesError.TheVariants as faults
 use Rattle.cec_wave.specs.Pulses.{stretch_fault, first_of, first_fault, pulses_fault}
 use Rattle.hdmi_topo.specs.Node.{Node}
 use Rattle.hdmi_topo.specs.Tree.{device_named}
-use Rattle.cec_device.specs.declared.keys.Key.{Key as KeyValue}
+use Rattle.cec_feature.specs.declared.keys.Key.{Key as KeyValue}
 use Rattle.cec_wave.proofs.Sparse.{faultless_are_sparse}
 use Rattle.cec_text.specs.Lines.{lines_of, is_skipped}
 use Rattle.cec_text.specs.FrameReading.{are_bytes, is_frame}

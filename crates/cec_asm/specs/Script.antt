@@ -7,7 +7,7 @@ use Rattle.cec_wave.specs.declared.Stretch.{Stretch}
 use Rattle.cec_wave.specs.declared.PulsesError.{PulsesError}
 use Rattle.cec_wave.specs.declared.PulsesError.TheVariants as faults
 use Rattle.cec_wave.specs.Pulses.{stretch_fault, AreSparse}
-use Rattle.cec_device.specs.declared.keys.Key.{Key as KeyValue}
+use Rattle.cec_feature.specs.declared.keys.Key.{Key as KeyValue}
 use Rattle.hdmi_topo.specs.Node.{Node}
 use Rattle.hdmi_topo.specs.Tree.{device_named}
 use Rattle.cec_text.specs.Causes.{assemble_cause}

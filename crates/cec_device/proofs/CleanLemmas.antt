@@ -1,29 +1,37 @@
 -- Why no queued frame goes to the device's own address.
+use Rattle.cec_opcode.specs.Words.{reason_byte}
+use Rattle.cec_opcode.specs.declared.words.Reason.TheVariants.{Unrecognized}
 use Rattle.std.proofs.Common.{◌≡◌, ℕ, ◌==◌, ◌<◌, ◌+◌, ◌*◌, ◌%◌, ◌/◌, Bool, true, false, not, ◌&&◌, ◌||◌, nat_lt, if◌then◌else◌, List, [], ◌∷◌, ◌++◌, length, slice_index, Option, Some, None, refl, ap, subst, ◌∙◌, arith, lit<}
 use Rattle.std.proofs.lemmas.List.Folds.{list_all-append}
 use Rattle.hdmi_core.specs.declared.kind.Kind.{Kind}
 use Rattle.hdmi_core.specs.declared.phys.Phys.{Phys}
-use Rattle.cec_device.specs.declared.record.Place.{Place}
-use Rattle.cec_device.specs.declared.record.Place.TheVariants.{Off, Polls, Settled}
+use Rattle.cec_device.specs.declared.place.Place.{Place}
+use Rattle.cec_device.specs.declared.place.Place.TheVariants.{Off, Polls, Settled}
 use Rattle.cec_device.specs.declared.sending.Fate.{Fate}
 use Rattle.cec_device.specs.declared.sending.Fate.TheVariants.{Delivered, Unacked, Lost, Broken}
 use Rattle.cec_device.specs.declared.sending.FreeTime.TheVariants.{Retry}
 use Rattle.cec_device.specs.declared.device.Queued.{Queued}
-use Rattle.cec_device.specs.State.{State, holds, queued, speaks, may_speak, source, frame_to, one_more, type_of}
+use Rattle.cec_device.specs.State.{State, holds, queued, speaks, may_speak, source, frame_to, one_more}
+use Rattle.cec_feature.specs.Kinds.{type_of}
 use Rattle.cec_device.specs.Place.{sent_by, polled_at, frame_sent, ended, failed, reported, fresh, start_place, polled, front_is_poll, class_of_poll}
 use Rattle.cec_device.specs.Once.{goes_elsewhere}
 use Rattle.std.proofs.lemmas.Bool.Decides.{nat_tests}
 use Rattle.cec_device.specs.declared.device.SubmitError.TheVariants.{QueueFull, OwnAddress, NoAddress, OffWire}
-use Rattle.cec_device.specs.declared.record.Heard.{Heard}
+use Rattle.cec_feature.specs.declared.record.Heard.{Heard}
 use Rattle.cec_opcode.specs.declared.message.Decoded.{Decoded}
 use Rattle.cec_opcode.specs.declared.message.Decoded.TheVariants.{Poll, Known, Short, Unknown as NoName}
 use Rattle.cec_opcode.specs.Table.{decoded_of}
-use Rattle.cec_device.specs.declared.keys.Key.{Key}
+use Rattle.cec_feature.specs.declared.keys.Key.{Key}
 use Rattle.cec_device.specs.declared.keys.KeyError.{KeyError}
 use Rattle.cec_device.specs.declared.device.SubmitError.{SubmitError}
-use Rattle.cec_device.specs.Say.{Say, Reply, Cast, Tell, Refuse, Effect, say, say_all, effected}
-use Rattle.cec_device.specs.Effects.{effect_of, refuses, by_decoded, followed, is_for, heard_of}
-use Rattle.cec_device.specs.Keys.{own_doing, pressing, releasing, keyed_by, key_fault}
+use Rattle.cec_device.specs.Say.{say, say_all, effected}
+use Rattle.cec_feature.specs.declared.say.Say.{Say}
+use Rattle.cec_feature.specs.declared.say.Say.TheVariants.{Reply, Cast, Tell, Refuse}
+use Rattle.cec_feature.specs.Effect.{Effect}
+use Rattle.cec_device.specs.Effects.{by_decoded, followed, is_for}
+use Rattle.cec_feature.specs.Effects.{effect_of, refuses, heard_of}
+use Rattle.cec_device.specs.Keys.{own_doing, keyed_by, key_fault}
+use Rattle.cec_feature.specs.Keys.{pressing, releasing}
 use Rattle.cec_device.specs.Place.{submitted_by, submit_fault, settled_at, is_off, front_by}
 use Rattle.cec_device.proofs.OnceLemmas.{frame_sent-place, queued-place}
 use Rattle.cec_device.specs.Clean.{is_none_queued, clean_at, is_clean, KeepsClean, KeepsPlace}
@@ -129,8 +137,8 @@ clean-say limit h (Cast bytes) d k = clean-queued limit h.at 15 bytes d (lit< tt
 clean-say limit h (Tell to bytes) d k =
     kept_then (nat_lt to 15) (queued limit h.at to bytes d) d k (λ e. clean-queued limit h.at to bytes d (below_15 to e) k)
 clean-say limit h (Refuse reason) d k =
-    kept_then (nat_lt h.to 15 && (nat_lt h.from 15 && not (h.opcode == 0))) (queued limit h.at h.from (0x00 ∷ h.opcode ∷ reason ∷ []) d) d k
-    (λ e. clean-queued limit h.at h.from (0x00 ∷ h.opcode ∷ reason ∷ []) d
+    kept_then (nat_lt h.to 15 && (nat_lt h.from 15 && not (h.opcode == 0))) (queued limit h.at h.from (0x00 ∷ h.opcode ∷ reason_byte reason ∷ []) d) d k
+    (λ e. clean-queued limit h.at h.from (0x00 ∷ h.opcode ∷ reason_byte reason ∷ []) d
     (below_15 h.from (and_left (nat_lt h.from 15) (not (h.opcode == 0)) (and_right (nat_lt h.to 15) (nat_lt h.from 15 && not (h.opcode == 0)) e))) k)
 
 clean-say_all : (limit : ℕ) (h : Heard) (says : List Say) (d : State) → is_clean d ≡ true → is_clean (say_all limit h says d) ≡ true
@@ -142,7 +150,7 @@ clean-effected limit h e d k = clean-say_all limit h e.says (record d { record_o
 
 clean-decoded : (limit : ℕ) (h : Heard) (d : State) (said : Decoded) → is_clean d ≡ true → is_clean (by_decoded limit h d said) ≡ true
 clean-decoded limit h d (Known message) k = clean-effected limit h (effect_of d.kind d.phys d.name d.ports h d.record_of message) d k
-clean-decoded limit h d (NoName opcode) k = clean-effected limit h (refuses d.record_of 0) d k
+clean-decoded limit h d (NoName opcode) k = clean-effected limit h (refuses d.record_of Unrecognized) d k
 clean-decoded limit h d (Short opcode) k = k
 clean-decoded limit h d Poll k = k
 
@@ -217,8 +225,8 @@ say-place limit h (Reply bytes) d = place_then (nat_lt h.from 15) (queued limit 
 say-place limit h (Cast bytes) d = queued-place limit h.at 15 bytes d
 say-place limit h (Tell to bytes) d = place_then (nat_lt to 15) (queued limit h.at to bytes d) d (queued-place limit h.at to bytes d)
 say-place limit h (Refuse reason) d =
-    place_then (nat_lt h.to 15 && (nat_lt h.from 15 && not (h.opcode == 0))) (queued limit h.at h.from (0x00 ∷ h.opcode ∷ reason ∷ []) d) d
-    (queued-place limit h.at h.from (0x00 ∷ h.opcode ∷ reason ∷ []) d)
+    place_then (nat_lt h.to 15 && (nat_lt h.from 15 && not (h.opcode == 0))) (queued limit h.at h.from (0x00 ∷ h.opcode ∷ reason_byte reason ∷ []) d) d
+    (queued-place limit h.at h.from (0x00 ∷ h.opcode ∷ reason_byte reason ∷ []) d)
 
 say_all-place : (limit : ℕ) (h : Heard) (says : List Say) (d : State) → (say_all limit h says d).place ≡ d.place
 say_all-place limit h [] d = refl
@@ -229,7 +237,7 @@ effected-place limit h e d = say_all-place limit h e.says (record d { record_of 
 
 decoded-place : (limit : ℕ) (h : Heard) (d : State) (said : Decoded) → (by_decoded limit h d said).place ≡ d.place
 decoded-place limit h d (Known message) = effected-place limit h (effect_of d.kind d.phys d.name d.ports h d.record_of message) d
-decoded-place limit h d (NoName opcode) = effected-place limit h (refuses d.record_of 0) d
+decoded-place limit h d (NoName opcode) = effected-place limit h (refuses d.record_of Unrecognized) d
 decoded-place limit h d (Short opcode) = refl
 decoded-place limit h d Poll = refl
 

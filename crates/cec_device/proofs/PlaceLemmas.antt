@@ -2,11 +2,12 @@
 use Rattle.std.proofs.Common.{◌≡◌, ℕ, List, [], ◌∷◌, refl, ◌∙◌}
 use Rattle.hdmi_core.specs.declared.kind.Kind.{Kind}
 use Rattle.hdmi_core.specs.declared.kind.Kind.TheVariants.{Tv, Amp, Player, Recorder, Switch}
-use Rattle.cec_device.specs.declared.record.Place.{Place}
-use Rattle.cec_device.specs.declared.record.Place.TheVariants.{Off, Polls, Settled}
+use Rattle.cec_device.specs.declared.place.Place.{Place}
+use Rattle.cec_device.specs.declared.place.Place.TheVariants.{Off, Polls, Settled}
 use Rattle.cec_device.specs.declared.sending.Fate.{Fate}
 use Rattle.cec_device.specs.declared.sending.Fate.TheVariants.{Delivered, Unacked, Lost, Broken}
-use Rattle.cec_device.specs.State.{State, type_of}
+use Rattle.cec_device.specs.State.{State}
+use Rattle.cec_feature.specs.Kinds.{type_of}
 use Rattle.cec_device.specs.Place.{addresses, class_of_poll, place_after, polled, polled_at, sent_by, stepped, tries}
 use Rattle.cec_device.proofs.OnceLemmas.{frame_sent-place, queued-place}
 use Rattle.cec_device.proofs.NumberLemmas.{put_on}

@@ -4,11 +4,11 @@ use Rattle.std.specs.Prelude.{fold, replicate}
 use Rattle.cec_opcode.specs.declared.user_control.UserControl.TheVariants.{Play as PlayCode}
 use Rattle.hdmi_core.specs.declared.kind.Kind.{Kind}
 use Rattle.hdmi_core.specs.declared.kind.Kind.TheVariants.{Tv, Amp, Player, Switch}
-use Rattle.cec_device.specs.declared.record.Place.TheVariants.{Settled}
+use Rattle.cec_device.specs.declared.place.Place.TheVariants.{Settled}
 use Rattle.cec_device.specs.declared.sending.Fate.TheVariants.{Delivered, Broken}
-use Rattle.cec_device.specs.declared.keys.Key.{Key}
-use Rattle.cec_device.specs.declared.keys.Key.TheVariants.{Play, Power, Watch, Port, Audio, Volume, Remote}
-use Rattle.cec_device.specs.declared.keys.VolumeKey.TheVariants.{Mute}
+use Rattle.cec_feature.specs.declared.keys.Key.{Key}
+use Rattle.cec_feature.specs.declared.keys.Key.TheVariants.{Play, Power, Watch, Port, Audio, Volume, Remote}
+use Rattle.cec_feature.specs.declared.keys.VolumeKey.TheVariants.{Mute}
 use Rattle.cec_device.specs.declared.keys.KeyError.TheVariants.{NotForKind, OffWire}
 use Rattle.cec_device.specs.declared.device.Queued.{Queued}
 use Rattle.cec_device.specs.State.{State}

@@ -3,10 +3,10 @@ use Rattle.std.specs.Prelude.{◌≡◌, ℕ, ◌==◌, ◌||◌, Bool, true, Li
 use Rattle.std.specs.List.{list_any}
 use Rattle.hdmi_core.specs.declared.kind.Kind.{Kind}
 use Rattle.hdmi_core.specs.declared.phys.Phys.{Phys}
-use Rattle.cec_device.specs.declared.record.Place.{Place}
-use Rattle.cec_device.specs.declared.record.Place.TheVariants.{Off, Polls, Settled}
+use Rattle.cec_device.specs.declared.place.Place.{Place}
+use Rattle.cec_device.specs.declared.place.Place.TheVariants.{Off, Polls, Settled}
 use Rattle.cec_device.specs.declared.sending.Fate.{Fate}
-use Rattle.cec_device.specs.declared.keys.Key.{Key}
+use Rattle.cec_feature.specs.declared.keys.Key.{Key}
 use Rattle.cec_device.specs.State.{State, holds}
 use Rattle.cec_device.specs.Place.{addresses, sent, waited, joined, left, submitted}
 use Rattle.cec_device.specs.Effects.{followed}

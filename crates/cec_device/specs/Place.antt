@@ -1,20 +1,21 @@
 -- Joining, leaving, the allocation of a logical address (CEC 10.2.1), and the fates of frames that were sent
 -- (CEC 7.1 and 9.1; that a poll is tried again without limit, and how attempts are counted, are this profile's own).
-use Rattle.std.specs.Prelude.{ℕ, ◌==◌, ◌+◌, ◌*◌, ◌/◌, ◌%◌, Bool, true, false, ◌&&◌, not, nat_lt, List, [], ◌∷◌, ◌++◌, length, slice_index, if◌then◌else◌, Option, Some, None, is_some}
+use Rattle.std.specs.Prelude.{ℕ, ◌==◌, ◌+◌, ◌*◌, ◌/◌, ◌%◌, Bool, true, false, not, nat_lt, List, [], ◌∷◌, ◌++◌, length, slice_index, if◌then◌else◌, Option, Some, None, is_some}
 use Rattle.hdmi_core.specs.declared.kind.Kind.{Kind}
 use Rattle.hdmi_core.specs.declared.kind.Kind.TheVariants.{Tv, Amp, Player, Recorder, Switch}
 use Rattle.hdmi_core.specs.declared.phys.Phys.{Phys}
-use Rattle.cec_device.specs.declared.record.Place.{Place}
-use Rattle.cec_device.specs.declared.record.Place.TheVariants.{Off, Polls, Settled}
+use Rattle.cec_device.specs.declared.place.Place.{Place}
+use Rattle.cec_device.specs.declared.place.Place.TheVariants.{Off, Polls, Settled}
 use Rattle.cec_device.specs.declared.sending.Fate.{Fate}
 use Rattle.cec_device.specs.declared.sending.Fate.TheVariants.{Delivered, Unacked, Lost, Broken}
 use Rattle.cec_device.specs.declared.sending.FreeTime.{FreeTime}
 use Rattle.cec_device.specs.declared.sending.FreeTime.TheVariants.{Retry, NewInitiator, PresentInitiator}
-use Rattle.cec_device.specs.declared.record.Record.{Record}
 use Rattle.cec_device.specs.declared.device.Queued.{Queued}
 use Rattle.cec_device.specs.declared.device.SubmitError.{SubmitError}
 use Rattle.cec_device.specs.declared.device.SubmitError.TheVariants.{QueueFull, OwnAddress, NoAddress, OffWire}
-use Rattle.cec_device.specs.State.{State, is_switch, is_nowhere, type_of, holds, queued}
+use Rattle.cec_feature.specs.Kinds.{is_nowhere, type_of}
+use Rattle.cec_feature.specs.Fresh.{fresh_record}
+use Rattle.cec_device.specs.State.{State, holds, queued}
 
 -- the addresses that a kind may take, in order (CEC 10.2; 14 for a television, and none for a switch, are own)
 abbrev pub addresses : Kind → List ℕ
@@ -57,26 +58,6 @@ stepped kind place fate = place
 -- where a device stands when it joins
 abbrev pub start_place : Kind → Phys → Place
 start_place kind phys = if is_nowhere phys then Settled 15 else tries (addresses kind)
-
--- a new device's record
-abbrev pub fresh_record : Kind → ℕ → Record
-fresh_record kind ports = record {
-  power = true;
-  active = None;
-  path = None;
-  deck = 0x1a;
-  menu = false;
-  audio = false;
-  volume = 20;
-  mute = false;
-  arc = false;
-  selected = if is_switch kind && nat_lt 0 ports then Some 1 else None;
-  language = record { first = 0x65; second = 0x6e; third = 0x67 };
-  osd = record { items = [] };
-  held = None;
-  heard = None;
-  sub = None;
-}
 
 -- a new device
 abbrev pub fresh : Kind → List ℕ → ℕ → State

@@ -1,13 +1,13 @@
 -- What a device is to its callers, and who it is on the wire. That a device with no address speaks only where it is
 -- a switch, and how many frames wait, are this profile's own.
-use Rattle.std.specs.Prelude.{ℕ, ◌==◌, ◌*◌, ◌+◌, Bool, true, false, ◌&&◌, ◌||◌, not, nat_lt, List, [], ◌∷◌, ◌++◌, length, if◌then◌else◌, min}
+use Rattle.std.specs.Prelude.{ℕ, ◌==◌, ◌*◌, ◌+◌, Bool, false, ◌&&◌, ◌||◌, not, nat_lt, List, [], ◌∷◌, ◌++◌, length, if◌then◌else◌, min}
 use Rattle.hdmi_core.specs.declared.kind.Kind.{Kind}
-use Rattle.hdmi_core.specs.declared.kind.Kind.TheVariants.{Tv, Amp, Player, Recorder, Switch}
 use Rattle.hdmi_core.specs.declared.phys.Phys.{Phys}
 use Rattle.cec_device.specs.declared.sending.FreeTime.{FreeTime}
-use Rattle.cec_device.specs.declared.record.Place.{Place}
-use Rattle.cec_device.specs.declared.record.Place.TheVariants.{Off, Polls, Settled}
-use Rattle.cec_device.specs.declared.record.Record.{Record}
+use Rattle.cec_device.specs.declared.place.Place.{Place}
+use Rattle.cec_device.specs.declared.place.Place.TheVariants.{Off, Polls, Settled}
+use Rattle.cec_feature.specs.declared.record.Record.{Record}
+use Rattle.cec_feature.specs.Kinds.{is_switch, is_nowhere}
 use Rattle.cec_device.specs.declared.device.Queued.{Queued}
 
 pub record State : Type 0 where
@@ -23,40 +23,6 @@ pub record State : Type 0 where
   pub class : FreeTime
   pub poll_ready : ℕ
   pub dropped : ℕ
-
--- ---- kinds
-
-abbrev pub is_tv : Kind → Bool
-is_tv Tv = true
-is_tv _ = false
-
-abbrev pub is_amp : Kind → Bool
-is_amp Amp = true
-is_amp _ = false
-
-abbrev pub is_deck : Kind → Bool
-is_deck Player = true
-is_deck Recorder = true
-is_deck _ = false
-
-abbrev pub is_switch : Kind → Bool
-is_switch Switch = true
-is_switch _ = false
-
--- the type byte of 84
-abbrev pub type_of : Kind → ℕ
-type_of Tv = 0
-type_of Recorder = 1
-type_of Player = 4
-type_of Amp = 5
-type_of Switch = 6
-
-abbrev pub same_phys : Phys → Phys → Bool
-same_phys p q = (p.high == q.high) && (p.low == q.low)
-
--- F.F.F.F
-abbrev pub is_nowhere : Phys → Bool
-is_nowhere p = (p.high == 255) && (p.low == 255)
 
 -- ---- who it is on the wire
 

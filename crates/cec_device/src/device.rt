@@ -1,16 +1,14 @@
 //! A device: who it is, and what it has to send.
 ghost use Rattle.std.specs.Prelude.{◌≡◌, ◌≢◌, ◌<◌, ◌≤◌, ◌+◌, ◌*◌, ◌==◌, ◌∷◌, [], length, true, false};
 ghost use Rattle.cec_device.specs.State.{queued, speaks, holds, frame_to, source, one_more};
-ghost use Rattle.cec_opcode.specs.Table.{spelling};
-ghost use Rattle.cec_opcode.specs.Words.{reason_byte};
-ghost use Rattle.cec_device.specs.Say.{say, Reply, Cast, Tell, Refuse};
+ghost use Rattle.cec_device.specs.Say.{say, say_all};
 
-use crate::record::{Heard, Place, Port, Record};
+use crate::place::Place;
 use crate::sending::FreeTime;
-use crate::ways::is_nowhere;
 use arrayvec::ArrayVec;
+use cec_feature::{DataBlocks, Heard, Port, Record, Say, is_nowhere};
 use cec_frame::{Addr, Frame, FrameError};
-use cec_opcode::{Message, Reason, spell};
+use cec_opcode::Message;
 use hdmi_core::{Kind, Phys};
 use std::marker::Model;
 use thiserror::Error;
@@ -146,47 +144,47 @@ impl<const Q: usize> Device<Q> {
         }
     }
 
-    /// Queues an answer to whom the frame came from.
-    pub(crate) fn reply(&mut self, heard: Heard, message: &Message)
-        requires { length (spelling message.now) ≤ 15 }
-        ensures { self.new ≡ say Q heard (Reply (spelling message.now)) self.old }
+    /// Queues one thing that is said. A reply and a notice go to an address below 15 alone, and a refusal to
+    /// who sent a frame to this device itself, unless that was a refusal (CEC 12.3).
+    fn say(&mut self, heard: &Heard, said: &Say)
+        ensures { self.new ≡ say Q heard.now said.now self.old }
     {
-        if heard.from.value() < Addr::BROADCAST {
-            self.put(heard.at, heard.from, &spell(message));
+        match said {
+            Say::Reply(blocks) => {
+                if heard.from.value() < Addr::BROADCAST {
+                    self.put(heard.at, heard.from, blocks.bytes());
+                }
+            }
+            Say::Cast(blocks) => {
+                self.put(heard.at, Addr::new(Addr::BROADCAST), blocks.bytes());
+            }
+            Say::Tell(to, blocks) => {
+                if to.value() < Addr::BROADCAST {
+                    self.put(heard.at, *to, blocks.bytes());
+                }
+            }
+            Say::Refuse(reason) => {
+                if heard.to.value() < Addr::BROADCAST
+                    && heard.from.value() < Addr::BROADCAST
+                    && heard.opcode != 0
+                {
+                    let abort = DataBlocks::new(&Message::FeatureAbort {
+                        opcode: heard.opcode,
+                        reason: *reason,
+                    });
+                    self.put(heard.at, heard.from, abort.bytes());
+                }
+            }
         }
     }
 
-    /// Queues a frame to all.
-    pub(crate) fn cast(&mut self, heard: Heard, message: &Message)
-        requires { length (spelling message.now) ≤ 15 }
-        ensures { self.new ≡ say Q heard (Cast (spelling message.now)) self.old }
+    /// Queues what is said, in order.
+    pub(crate) fn say_all(&mut self, heard: &Heard, says: &[Say])
+        ensures { self.new ≡ say_all Q heard.now says.now self.old }
     {
-        self.put(heard.at, Addr::new(Addr::BROADCAST), &spell(message));
-    }
-
-    /// Queues a notice.
-    pub(crate) fn tell(&mut self, heard: Heard, to: Addr, message: &Message)
-        requires { length (spelling message.now) ≤ 15 }
-        ensures { self.new ≡ say Q heard (Tell to (spelling message.now)) self.old }
-    {
-        if to.value() < Addr::BROADCAST {
-            self.put(heard.at, to, &spell(message));
-        }
-    }
-
-    /// Answers with a refusal, where the frame can be answered so.
-    pub(crate) fn refuse(&mut self, heard: Heard, reason: Reason)
-        ensures { self.new ≡ say Q heard (Refuse (reason_byte reason)) self.old }
-    {
-        if heard.to.value() < Addr::BROADCAST
-            && heard.from.value() < Addr::BROADCAST
-            && heard.opcode != 0
-        {
-            let abort = Message::FeatureAbort {
-                opcode: heard.opcode,
-                reason,
-            };
-            self.put(heard.at, heard.from, &spell(&abort));
+        if let [first, rest @ ..] = says {
+            self.say(heard, first);
+            self.say_all(heard, rest);
         }
     }
 }

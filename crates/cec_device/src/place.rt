@@ -2,20 +2,26 @@
 //! (CEC 7.1).
 ghost use Rattle.std.specs.Prelude.{◌≡◌, ◌<◌, Some, None, length, MatchResult, IsSome, IsTrue, ◌≤◌, nat_lt};
 ghost use Rattle.std.specs.List.{list_all};
-ghost use Rattle.cec_device.specs.Place.{tries, tries_after, addresses, polled_at, start_place, fresh_record, fresh, reported, joined, left, ended, failed, frame_sent, front_is_poll, sent, sent_by, waited, submit_fault, submitted, front_of, ready_of, is_allocating, is_on_wire};
+ghost use Rattle.cec_device.specs.Place.{tries, tries_after, addresses, polled_at, start_place, fresh, reported, joined, left, ended, failed, frame_sent, front_is_poll, sent, sent_by, waited, submit_fault, submitted, front_of, ready_of, is_allocating, is_on_wire};
 
 use crate::device::{Device, Queued, SubmitError};
-use crate::messages::report_of;
-use crate::record::{Place, Port, Record, Volume};
 use crate::sending::{Fate, FreeTime};
-use crate::ways::{NOWHERE, is_nowhere};
 use arrayvec::ArrayVec;
+use cec_feature::{DataBlocks, NOWHERE, Port, Record, is_nowhere, report_of};
 use cec_frame::{Addr, Frame};
-use cec_opcode::{Triple, spell};
 use hdmi_core::{Kind, Phys};
 
-/// The addresses that a kind may take, in order (CEC 10.2).
-fn addresses(kind: Kind) -> &'static [u8]
+/// Where a device stands on the wire: off it, polling an address, or settled at one. It is settled
+/// at 15 where it found no address, or takes none.
+#[derive(Clone, Copy, PartialEq, Eq)]
+pub enum Place {
+    Off,
+    Polls(Addr),
+    Settled(Addr),
+}
+
+/// The logical addresses that a kind may take, in order (CEC 10.2).
+pub fn addresses(kind: Kind) -> &'static [u8]
     ensures list { result.now ≡ addresses kind }
     ensures small { IsTrue (list_all (λ a. nat_lt a 16) result.now) }
 {
@@ -82,36 +88,6 @@ pub(crate) fn short(name: &[u8]) -> ArrayVec<u8, 14>
     copy
 }
 
-fn new_record(kind: Kind, ports: Port) -> Record
-    ensures { result ≡ fresh_record kind ports }
-{
-    Record {
-        power: true,
-        active: None,
-        path: None,
-        deck: 0x1a,
-        menu: false,
-        audio: false,
-        volume: Volume::new(),
-        mute: false,
-        arc: false,
-        selected: if kind == Kind::Switch && ports.value() > 0 {
-            Some(Port::new(1))
-        } else {
-            None
-        },
-        language: Triple {
-            first: b'e',
-            second: b'n',
-            third: b'g',
-        },
-        osd: ArrayVec::new(),
-        held: None,
-        heard: None,
-        sub: None,
-    }
-}
-
 /// A switch without ports or a name, to fill the room of those that are yet to come.
 impl<const Q: usize> Default for Device<Q> {
     fn default() -> Self {
@@ -134,7 +110,7 @@ impl<const Q: usize> Device<Q> {
             number: 0,
             phys: NOWHERE,
             place: Place::Off,
-            record: new_record(kind, ports),
+            record: Record::new(kind, ports),
             queue: ArrayVec::new(),
             attempts: 0,
             class: FreeTime::NewInitiator,
@@ -150,7 +126,7 @@ impl<const Q: usize> Device<Q> {
         self.number = 0;
         self.phys = NOWHERE;
         self.place = Place::Off;
-        self.record = new_record(self.kind, self.ports);
+        self.record = Record::new(self.kind, self.ports);
         self.queue = ArrayVec::new();
         self.attempts = 0;
         self.class = FreeTime::NewInitiator;
@@ -162,8 +138,8 @@ impl<const Q: usize> Device<Q> {
     fn report(&mut self, at: u64)
         ensures { self.new ≡ reported Q at self.old }
     {
-        let report = report_of(self.kind, self.phys);
-        self.put(at, Addr::new(Addr::BROADCAST), &spell(&report));
+        let report = DataBlocks::new(&report_of(self.kind, self.phys));
+        self.put(at, Addr::new(Addr::BROADCAST), report.bytes());
     }
 
     /// Joins the wire with its number and its physical address, at `at` microseconds. A switch, and a device

@@ -3,10 +3,10 @@ ghost use Rattle.std.specs.Prelude.{◌≡◌, ◌≤◌, length};
 ghost use Rattle.cec_device.specs.Place.{front_of, ready_of, is_allocating, is_on_wire};
 
 use crate::device::{Device, Queued, framed};
-use crate::place::short;
-use crate::record::{Place, Record};
+use crate::place::{Place, short};
 use crate::sending::FreeTime;
 use arrayvec::ArrayVec;
+use cec_feature::Record;
 use cec_frame::Frame;
 use hdmi_core::{Kind, Phys};
 

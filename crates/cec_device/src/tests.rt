@@ -1,30 +1,10 @@
 //! Worked rows of single devices.
-use crate::{Device, Fate, FreeTime, Key, KeyError, Place, SubmitError, VolumeKey};
+use crate::cases::{check, says, settled};
+use crate::{Device, Fate, FreeTime, Key, KeyError, Place, SubmitError};
 use cec_frame::{Addr, Frame};
-use cec_opcode::UserControl;
 use hdmi_core::{Kind, Phys};
 use std::process::Abort;
 use std::test::Fail;
-
-// A device at 1.0.0.0 that has settled, with nothing queued.
-fn settled(kind: Kind) -> Device<16> {
-    let mut device = Device::new(kind, b"p1", 3);
-    device.join(
-        1,
-        Phys {
-            high: 0x10,
-            low: 0x00,
-        },
-        0,
-    );
-    if let Some(_) = device.queue_front() {
-        device.sent(Fate::Unacked, 0);
-    }
-    if let Some(_) = device.queue_front() {
-        device.sent(Fate::Delivered, 0);
-    }
-    device
-}
 
 fn follow(device: &mut Device<16>, bytes: &[u8]) -> Result<(), Fail> {
     let frame = Frame::new(bytes)?;
@@ -32,151 +12,36 @@ fn follow(device: &mut Device<16>, bytes: &[u8]) -> Result<(), Fail> {
     Ok(())
 }
 
-fn play_of_a_player() -> Key {
-    Key::Remote {
-        to: Addr::new(4),
-        code: UserControl::Play,
-    }
-}
-
-// What it has to say are these frames, and no more.
-fn says(rt: &impl Abort, device: &mut Device<16>, frames: &[&[u8]]) {
-    for frame in frames {
-        let Some(front) = device.queue_front() else {
-            panic!(rt; "nothing queued")
-        };
-        assert_eq!(rt; front.bytes(), *frame);
-        device.sent(Fate::Delivered, 0);
-    }
-    assert_eq!(rt; device.queue_len(), 0);
-}
-
-#[test]
-fn a_player_answers(rt: HostRuntime) -> Result<(), Fail> {
-    let rows: [(&[u8], &[&[u8]]); 10] = [
-        (&[0x04, 0x33], &[&[0x40, 0x00, 0x33, 0x00]]),
-        (&[0x0f, 0x33], &[]),
-        (&[0xf4, 0x33], &[]),
-        (&[0xf4, 0x46], &[]),
-        (&[0x04, 0xff], &[&[0x40, 0x00, 0xff, 0x00]]),
-        (&[0x04, 0x41], &[]),
-        (&[0x04, 0x41, 0x99], &[&[0x40, 0x00, 0x41, 0x03]]),
-        (&[0x04, 0x00, 0x41, 0x00], &[]),
-        (&[0x04, 0x46], &[&[0x40, 0x47, b'p', b'1']]),
-        (&[0x0f, 0x86, 0x10, 0x00], &[&[0x4f, 0x82, 0x10, 0x00]]),
-    ];
-    for (frame, said) in rows {
-        let mut player = settled(Kind::Player);
-        follow(&mut player, frame)?;
-        says(&rt, &mut player, said);
-    }
-    Ok(())
-}
+/// Rows of single devices, each from a new record: the frames that are followed one after another, what then stands
+/// in the record, and what is queued.
+const ROWS: &str = "\
+amp | - | 05 70 10 00 | audio=on | 5f 72 01
+amp | audio=on | 05 70 | audio=off | 5f 72 00
+amp | - | 05 70 10 | - | -
+amp | audio=on | 05 44 41 | volume=21 held=41 | 50 7a 15
+amp | audio=on volume=21 held=41 | 05 44 43 | mute=on held=43 | 50 7a 95
+amp | - | 05 c3 | - | 50 c0
+amp | - | 45 c3 | - | 54 00 c3 04
+tv | - | 50 c0 | arc=on | 05 c1
+tv | arc=on | 5f 36 | power=off | -
+tv | power=off arc=on | 50 c0 | - | 05 00 c0 01
+player | - | 04 42 04 | deck=19 | -
+player | deck=19 | 04 41 24 | - | 40 00 41 01
+player | - | 04 1a 01 | sub=0 | 40 1b 1a
+player | sub=0 | 04 41 25 | deck=14 | 40 1b 14
+player | - | 0f 86 10 00 | path=1000 active=1000 | 4f 82 10 00
+player | - | 04 33 | - | 40 00 33 00
+player | - | 0f 33 | - | -
+player | - | f4 33 | - | -
+player | - | f4 46 | - | -
+player | - | 04 ff | - | 40 00 ff 00
+player | - | 04 41 | - | -
+player | - | 04 41 99 | - | 40 00 41 03
+player | - | 04 00 41 00 | - | -";
 
 #[test]
-fn a_deck_turns(rt: HostRuntime) -> Result<(), Fail> {
-    let mut player = settled(Kind::Player);
-    follow(&mut player, &[0x04, 0x1a, 0x01])?;
-    follow(&mut player, &[0x04, 0x41, 0x25])?;
-    assert_eq!(rt; player.record().deck, 0x14);
-    assert!(rt; player.record().sub == Some(Addr::new(0)));
-    says(
-        &rt,
-        &mut player,
-        &[&[0x40, 0x1b, 0x1a], &[0x40, 0x1b, 0x14]],
-    );
-    let mut player = settled(Kind::Player);
-    follow(&mut player, &[0x04, 0x42, 0x04])?;
-    follow(&mut player, &[0x04, 0x41, 0x24])?;
-    assert_eq!(rt; player.record().deck, 0x19);
-    says(&rt, &mut player, &[&[0x40, 0x00, 0x41, 0x01]]);
-    Ok(())
-}
-
-#[test]
-fn an_amplifier_sounds(rt: HostRuntime) -> Result<(), Fail> {
-    let mut amplifier = settled(Kind::Amp);
-    follow(&mut amplifier, &[0x05, 0x70, 0x10, 0x00])?;
-    assert!(rt; amplifier.record().audio);
-    follow(&mut amplifier, &[0x05, 0x44, 0x41])?;
-    assert_eq!(rt; amplifier.record().volume.value(), 21);
-    follow(&mut amplifier, &[0x05, 0x44, 0x43])?;
-    assert!(rt; amplifier.record().mute);
-    assert_eq!(rt; amplifier.record().held, Some(0x43));
-    follow(&mut amplifier, &[0x05, 0x70])?;
-    assert!(rt; !amplifier.record().audio);
-    follow(&mut amplifier, &[0x05, 0x70, 0x10])?;
-    follow(&mut amplifier, &[0x05, 0xc3])?;
-    follow(&mut amplifier, &[0x45, 0xc3])?;
-    says(
-        &rt,
-        &mut amplifier,
-        &[
-            &[0x5f, 0x72, 0x01],
-            &[0x50, 0x7a, 0x15],
-            &[0x50, 0x7a, 0x95],
-            &[0x5f, 0x72, 0x00],
-            &[0x50, 0xc0],
-            &[0x54, 0x00, 0xc3, 0x04],
-        ],
-    );
-    Ok(())
-}
-
-#[test]
-fn a_television_sleeps(rt: HostRuntime) -> Result<(), Fail> {
-    let mut television = settled(Kind::Tv);
-    follow(&mut television, &[0x50, 0xc0])?;
-    assert!(rt; television.record().arc);
-    follow(&mut television, &[0x5f, 0x36])?;
-    assert!(rt; !television.record().power);
-    follow(&mut television, &[0x50, 0xc0])?;
-    says(
-        &rt,
-        &mut television,
-        &[&[0x05, 0xc1], &[0x05, 0x00, 0xc0, 0x01]],
-    );
-    Ok(())
-}
-
-#[test]
-fn keys_act(rt: HostRuntime) -> Result<(), Fail> {
-    let mut player = settled(Kind::Player);
-    player.key(Key::Play, true, 0)?;
-    assert_eq!(rt; player.record().deck, 0x11);
-    says(
-        &rt,
-        &mut player,
-        &[&[0x40, 0x04], &[0x4f, 0x82, 0x10, 0x00]],
-    );
-    let mut switch = settled(Kind::Switch);
-    switch.key(Key::Port(2), true, 0)?;
-    says(&rt, &mut switch, &[&[0xff, 0x80, 0x11, 0x00, 0x12, 0x00]]);
-    assert_eq!(rt;
-        switch.key(Key::Port(4), false, 0),
-        Err(KeyError::NotForKind)
-    );
-    assert_eq!(rt; switch.key(Key::Play, true, 0), Err(KeyError::NotForKind));
-    switch.leave();
-    assert_eq!(rt; switch.key(Key::Play, true, 0), Err(KeyError::OffWire));
-    let mut television = settled(Kind::Tv);
-    television.key(Key::Audio { on: true }, true, 0)?;
-    television.key(Key::Arc { on: false }, true, 0)?;
-    television.key(play_of_a_player(), true, 0)?;
-    television.key(play_of_a_player(), false, 0)?;
-    television.key(Key::Volume(VolumeKey::Down), true, 0)?;
-    assert_eq!(rt; television.record().volume.value(), 19);
-    says(
-        &rt,
-        &mut television,
-        &[
-            &[0x05, 0x70, 0x00, 0x00],
-            &[0x05, 0xc4],
-            &[0x04, 0x44, 0x44],
-            &[0x04, 0x45],
-        ],
-    );
-    Ok(())
+fn devices_answer(rt: HostRuntime) -> Result<(), Fail> {
+    check(&rt, ROWS)
 }
 
 #[test]
@@ -188,16 +53,24 @@ fn a_queue_fills(rt: HostRuntime) -> Result<(), Fail> {
     assert_eq!(rt; player.queue_len(), 16);
     assert_eq!(rt; player.dropped(), 1);
     let front = player.queue_front().ok_or("nothing queued")?;
+    assert_eq!(rt; front.bytes(), [0x40, 0x47, b'p', b'1'].as_slice());
     assert_eq!(rt; player.submit(front, 0), Err(SubmitError::QueueFull));
-    if let Some(_) = player.queue_front() {
-        player.sent(Fate::Delivered, 0);
-    }
+    end_front(&rt, &mut player);
     let copy = player.copy();
     assert_eq!(rt; copy.queue_len(), 15);
     player.key(Key::Play, true, 0)?;
     assert_eq!(rt; player.queue_len(), 16);
     assert_eq!(rt; player.dropped(), 2);
-    Ok(())
+    for _ in 0..15 {
+        end_front(&rt, &mut player);
+    }
+    says(&rt, &mut player, "40 04", 4, "the last one")
+}
+
+// The front frame is delivered.
+fn end_front(rt: &impl Abort, device: &mut Device<16>) {
+    assert!(rt; device.queue_front().is_some());
+    device.sent(Fate::Delivered, 0);
 }
 
 #[test]
@@ -237,13 +110,11 @@ fn fates_are_told(rt: HostRuntime) -> Result<(), Fail> {
     player.submit(Frame::new(&[0x48, 0x46])?, 900)?;
     for _ in 0..6 {
         assert_eq!(rt; player.ready_at(), Some(900));
-        if let Some(_) = player.queue_front() {
-            player.sent(Fate::Lost, 0);
-        }
+        assert!(rt; player.queue_front().is_some());
+        player.sent(Fate::Lost, 0);
         assert_eq!(rt; player.class().micros(), 12_000);
-        if let Some(_) = player.queue_front() {
-            player.sent(Fate::Broken, 0);
-        }
+        assert!(rt; player.queue_front().is_some());
+        player.sent(Fate::Broken, 0);
     }
     assert!(rt; player.queue_front().is_none());
     assert_eq!(rt; player.dropped(), 0);
@@ -255,6 +126,8 @@ fn fates_are_told(rt: HostRuntime) -> Result<(), Fail> {
         player.submit(Frame::new(&[0x48, 0x46])?, 0),
         Err(SubmitError::OffWire)
     );
+    assert_eq!(rt; player.key(Key::Play, true, 0), Err(KeyError::OffWire));
+    assert_eq!(rt; player.key(Key::Menu, false, 0), Err(KeyError::OffWire));
     assert_eq!(rt; player.name(), b"p1".as_slice());
     assert_eq!(rt;
         (player.kind(), player.ports(), player.number()),

@@ -1,24 +1,32 @@
 -- What a device does between its rounds keeps its front frame, and queues nothing that is ready later than the call.
+use Rattle.cec_opcode.specs.Words.{reason_byte}
+use Rattle.cec_opcode.specs.declared.words.Reason.TheVariants.{Unrecognized}
 use Rattle.std.proofs.Common.{◌≡◌, ℕ, suc, ◌+◌, ◌<◌, ◌≤◌, ◌%◌, ◌/◌, ◌==◌, Bool, true, false, not, ◌&&◌, ◌||◌, nat_lt, if◌then◌else◌, List, [], ◌∷◌, ◌++◌, length, slice_index, Option, Some, None, IsSome, refl, sym, ap, ◌∙◌, subst, arith, length-append}
 use Rattle.std.specs.List.{All}
 use Rattle.std.proofs.lemmas.List.Elements.{All-nil, All-cons, All-append}
 use Rattle.cec_opcode.specs.declared.message.Decoded.{Decoded}
 use Rattle.cec_opcode.specs.declared.message.Decoded.TheVariants.{Known, Poll, Short, Unknown as NoName}
 use Rattle.cec_opcode.specs.Table.{decoded_of}
-use Rattle.cec_device.specs.declared.record.Heard.{Heard}
-use Rattle.cec_device.specs.declared.record.Place.{Place}
-use Rattle.cec_device.specs.declared.record.Place.TheVariants.{Off, Polls, Settled}
-use Rattle.cec_device.specs.declared.keys.Key.{Key}
+use Rattle.cec_feature.specs.declared.record.Heard.{Heard}
+use Rattle.cec_device.specs.declared.place.Place.{Place}
+use Rattle.cec_device.specs.declared.place.Place.TheVariants.{Off, Polls, Settled}
+use Rattle.cec_feature.specs.declared.keys.Key.{Key}
 use Rattle.cec_device.specs.declared.keys.KeyError.{KeyError}
 use Rattle.cec_device.specs.declared.sending.Fate.{Fate}
 use Rattle.cec_device.specs.declared.sending.Fate.TheVariants.{Delivered, Unacked, Lost, Broken}
 use Rattle.cec_device.specs.declared.sending.FreeTime.TheVariants.{Retry, NewInitiator}
 use Rattle.cec_device.specs.declared.device.Queued.{Queued}
 use Rattle.cec_device.specs.declared.device.SubmitError.{SubmitError}
-use Rattle.cec_device.specs.State.{State, queued, speaks, holds, frame_to, one_more, type_of}
-use Rattle.cec_device.specs.Say.{Say, Reply, Cast, Tell, Refuse, Effect, say, say_all, effected}
-use Rattle.cec_device.specs.Effects.{effect_of, refuses, by_decoded, followed, is_for, heard_of}
-use Rattle.cec_device.specs.Keys.{own_doing, pressing, releasing, key_fault, keyed_by, keyed}
+use Rattle.cec_device.specs.State.{State, queued, speaks, holds, frame_to, one_more}
+use Rattle.cec_feature.specs.Kinds.{type_of}
+use Rattle.cec_device.specs.Say.{say, say_all, effected}
+use Rattle.cec_feature.specs.declared.say.Say.{Say}
+use Rattle.cec_feature.specs.declared.say.Say.TheVariants.{Reply, Cast, Tell, Refuse}
+use Rattle.cec_feature.specs.Effect.{Effect}
+use Rattle.cec_device.specs.Effects.{by_decoded, followed, is_for}
+use Rattle.cec_feature.specs.Effects.{effect_of, refuses, heard_of}
+use Rattle.cec_device.specs.Keys.{own_doing, key_fault, keyed_by, keyed}
+use Rattle.cec_feature.specs.Keys.{pressing, releasing}
 use Rattle.cec_device.specs.Place.{polled, polled_at, class_of_poll, ended, failed, front_is_poll, frame_sent, sent_by, sent, waited, submit_fault, submitted_by, submitted, front_by, front_of, ready_by, ready_of}
 use Rattle.cec_net.specs.Step.{followed_unless}
 use Rattle.cec_net.specs.Sound.{IsReadyBy}
@@ -72,8 +80,8 @@ ahead-say b limit h (Reply bytes) d le = ahead-then b (nat_lt h.from 15) d (queu
 ahead-say b limit h (Cast bytes) d le = ahead-queued b limit h.at 15 bytes d le
 ahead-say b limit h (Tell to bytes) d le = ahead-then b (nat_lt to 15) d (queued limit h.at to bytes d) (ahead-queued b limit h.at to bytes d le)
 ahead-say b limit h (Refuse reason) d le =
-    ahead-then b (nat_lt h.to 15 && (nat_lt h.from 15 && not (h.opcode == 0))) d (queued limit h.at h.from (0x00 ∷ h.opcode ∷ reason ∷ []) d)
-    (ahead-queued b limit h.at h.from (0x00 ∷ h.opcode ∷ reason ∷ []) d le)
+    ahead-then b (nat_lt h.to 15 && (nat_lt h.from 15 && not (h.opcode == 0))) d (queued limit h.at h.from (0x00 ∷ h.opcode ∷ reason_byte reason ∷ []) d)
+    (ahead-queued b limit h.at h.from (0x00 ∷ h.opcode ∷ reason_byte reason ∷ []) d le)
 
 ahead-say_all : (b limit : ℕ) (h : Heard) (says : List Say) (d : State) → h.at ≤ b → IsAhead b d (say_all limit h says d)
 ahead-say_all b limit h [] d le = ahead-same b d
@@ -88,7 +96,7 @@ ahead-effected b limit h e d le =
 
 ahead-decoded : (b limit : ℕ) (h : Heard) (d : State) (said : Decoded) → h.at ≤ b → IsAhead b d (by_decoded limit h d said)
 ahead-decoded b limit h d (Known message) le = ahead-effected b limit h (effect_of d.kind d.phys d.name d.ports h d.record_of message) d le
-ahead-decoded b limit h d (NoName opcode) le = ahead-effected b limit h (refuses d.record_of 0) d le
+ahead-decoded b limit h d (NoName opcode) le = ahead-effected b limit h (refuses d.record_of Unrecognized) d le
 ahead-decoded b limit h d (Short opcode) le = ahead-same b d
 ahead-decoded b limit h d Poll le = ahead-same b d
 

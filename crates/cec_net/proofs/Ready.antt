@@ -4,13 +4,14 @@ use Rattle.std.specs.List.{All}
 use Rattle.std.proofs.lemmas.List.Elements.{All-nil, All-cons, All-append}
 use Rattle.hdmi_core.specs.declared.phys.Phys.{Phys}
 use Rattle.hdmi_core.specs.declared.kind.Kind.{Kind}
-use Rattle.cec_device.specs.declared.record.Place.{Place}
-use Rattle.cec_device.specs.declared.record.Place.TheVariants.{Off, Polls, Settled}
-use Rattle.cec_device.specs.declared.record.Heard.{Heard}
+use Rattle.cec_device.specs.declared.place.Place.{Place}
+use Rattle.cec_device.specs.declared.place.Place.TheVariants.{Off, Polls, Settled}
+use Rattle.cec_feature.specs.declared.record.Heard.{Heard}
 use Rattle.cec_device.specs.declared.sending.Fate.{Fate}
 use Rattle.cec_device.specs.declared.sending.Fate.TheVariants.{Delivered, Unacked, Lost, Broken}
 use Rattle.cec_device.specs.declared.device.Queued.{Queued}
-use Rattle.cec_device.specs.State.{State, queued, speaks, holds, frame_to, one_more, type_of}
+use Rattle.cec_device.specs.State.{State, queued, speaks, holds, frame_to, one_more}
+use Rattle.cec_feature.specs.Kinds.{type_of}
 use Rattle.cec_device.specs.Place.{is_on_wire, is_off, fresh, start_place, reported, joined, left}
 use Rattle.hdmi_topo.specs.Node.{Node}
 use Rattle.hdmi_topo.specs.Path.{address_of}

@@ -6,6 +6,8 @@ use Rattle.cec_net.specs.State.{NetState}
 pub record IsProgress (before : NetState) (begin : ℕ) (after : NetState) : Type 0 where
   -- begins after the line was high for the shortest signal free time (CEC 9.1), or takes a pulse,
   pub apart : (before.rest + 7200 ≤ begin) ⊎ (length after.pulses < length before.pulses)
+  -- adds no pulse,
+  pub kept : length after.pulses ≤ length before.pulses
   -- not before the line was high,
   pub later : before.rest ≤ begin
   -- pulls the line low once it has begun,

@@ -7,9 +7,10 @@ use Rattle.hdmi_core.specs.declared.kind.Kind.TheVariants.{Tv, Amp, Player, Reco
 use Rattle.hdmi_core.specs.declared.phys.Phys.{Phys}
 use Rattle.hdmi_core.specs.Piece.{nibble_text, hex_text, hex_or_dash, phys_text, dash_or, switch_text}
 use Rattle.cec_opcode.specs.declared.message.Triple.{Triple}
-use Rattle.cec_device.specs.declared.record.Place.{Place}
-use Rattle.cec_device.specs.declared.record.Place.TheVariants.{Off, Polls, Settled}
-use Rattle.cec_device.specs.declared.record.Note.{Note}
+use Rattle.cec_opcode.specs.DeckWords.{deck_info_byte}
+use Rattle.cec_device.specs.declared.place.Place.{Place}
+use Rattle.cec_device.specs.declared.place.Place.TheVariants.{Off, Polls, Settled}
+use Rattle.cec_feature.specs.declared.record.Note.{Note}
 use Rattle.cec_device.specs.State.{State}
 use Rattle.std.specs.Prelude.{length}
 
@@ -48,7 +49,7 @@ abbrev pub state_line_of : State → List ℕ → List ℕ → List ℕ
 state_line_of d language heard = concat (
     codes "state " ∷ d.name ∷ codes " " ∷ kind_text d.kind ∷ codes " " ∷ dash_or (λ n. nibble_text (n % 16)) (place_number d.place) ∷ codes " " ∷ dash_or phys_text (phys_at d.place d.phys)
     ∷ codes " " ∷ power_text d.record_of.power ∷ codes " active=" ∷ dash_or phys_text d.record_of.active ∷ codes " path=" ∷ dash_or phys_text d.record_of.path
-    ∷ codes " deck=" ∷ hex_text d.record_of.deck ∷ codes " menu=" ∷ switch_text d.record_of.menu ∷ codes " audio=" ∷ switch_text d.record_of.audio
+    ∷ codes " deck=" ∷ hex_text (deck_info_byte d.record_of.deck) ∷ codes " menu=" ∷ switch_text d.record_of.menu ∷ codes " audio=" ∷ switch_text d.record_of.audio
     ∷ codes " volume=" ∷ decimal d.record_of.volume ∷ codes " mute=" ∷ switch_text d.record_of.mute ∷ codes " arc=" ∷ switch_text d.record_of.arc
     ∷ codes " sel=" ∷ dash_or decimal d.record_of.selected ∷ codes " lang=" ∷ flat_map hex_text language
     ∷ codes " osd=" ∷ hex_or_dash d.record_of.osd.items ∷ codes " held=" ∷ dash_or hex_text d.record_of.held

@@ -112,7 +112,7 @@ fn write_state_of<'a, S: Sink>(
         Piece::Text(" path="),
         Piece::PhysOrDash(record.path),
         Piece::Text(" deck="),
-        Piece::HexByte(record.deck),
+        Piece::HexByte(record.deck.byte()),
         Piece::Text(" menu="),
         Piece::Switch(record.menu),
         Piece::Text(" audio="),

@@ -10,6 +10,7 @@ mod edids;
 mod examples;
 mod explained;
 mod frames;
+mod hostile;
 mod limits;
 mod refused_texts;
 mod runs;
@@ -169,6 +170,48 @@ fn cuts(
     let front = whole.get(..room).ok_or("too short")?;
     writes_whole(rt, alloc, texts, input, whole)?;
     writes_front(rt, alloc, texts, input, front)
+}
+
+/// Runs the program on each front of an input, the empty one and the whole one too. What is refused writes nothing
+/// and says why. Returns how many are accepted.
+fn accepted_fronts(
+    rt: &impl Abort,
+    alloc: Global,
+    texts: &[&str],
+    input: &[u8],
+) -> Result<usize, Fail> {
+    let mut accepted = 0usize;
+    for length in 0..=input.len() {
+        let mut front = input.get(..length).ok_or("too long")?;
+        let answer = answer_to(alloc, texts, &mut front)?;
+        if answer.status == 0 {
+            assert_eq!(rt; answer.err.len(), 0);
+            accepted = accepted.saturating_add(1);
+        } else {
+            assert_eq!(rt; answer.status, 1);
+            assert_eq!(rt; answer.out.len(), 0);
+            assert!(rt; answer.err.starts_with(b"hdminet: "));
+        }
+    }
+    Ok(accepted)
+}
+
+/// Writes into writers that take one byte a call, and fail after each count of bytes in turn.
+fn cuts_everywhere(
+    rt: &impl Abort,
+    alloc: Global,
+    texts: &[&str],
+    input: &[u8],
+) -> Result<(), Fail> {
+    let mut rest = input;
+    let whole = answer_to(alloc, texts, &mut rest)?.out;
+    assert!(rt; whole.len() > 0);
+    writes_whole(rt, alloc, texts, input, &whole)?;
+    for room in 0..whole.len() {
+        let front = whole.get(..room).ok_or("too long")?;
+        writes_front(rt, alloc, texts, input, front)?;
+    }
+    Ok(())
 }
 
 /// A text with a line feed for each `;`.

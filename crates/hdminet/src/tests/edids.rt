@@ -250,29 +250,17 @@ fn names_the_line_of_a_text(rt: HostRuntime) -> Result<(), Fail> {
 }
 
 #[test]
-fn writes_the_front_of_an_edid(rt: HostRuntime) -> Result<(), Fail> {
+fn fronts_of_an_edid_and_of_its_text(rt: HostRuntime) -> Result<(), Fail> {
     let alloc = rt.alloc();
     let digits = example(alloc)?;
     let bytes = hex::decode(alloc, digits.as_str())?;
     let text = behind_base(alloc, EXTENSION_TEXT)?;
-    let line = format!(in alloc; "{digits}\n")?;
-    for room in [0, 1, 10, 400] {
-        cuts(&rt, alloc, EDID.as_slice(), &bytes, text.as_bytes(), room)?;
-        cuts(
-            &rt,
-            alloc,
-            TEXT.as_slice(),
-            text.as_bytes(),
-            line.as_bytes(),
-            room,
-        )?;
-    }
-    cuts(
-        &rt,
-        alloc,
-        TEXT.as_slice(),
-        text.as_bytes(),
-        line.as_bytes(),
-        512,
-    )
+    assert_eq!(&rt; accepted_fronts(&rt, alloc, EDID.as_slice(), &bytes)?, 1);
+    // The text of the base block alone is a text too: that of an EDID without an extension.
+    assert_eq!(&rt;
+        accepted_fronts(&rt, alloc, TEXT.as_slice(), text.as_bytes())?,
+        2
+    );
+    cuts_everywhere(&rt, alloc, EDID.as_slice(), &bytes)?;
+    cuts_everywhere(&rt, alloc, TEXT.as_slice(), text.as_bytes())
 }

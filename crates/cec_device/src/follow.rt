@@ -1,0 +1,83 @@
+//! Frames that a device follows.
+ghost use Rattle.std.specs.Prelude.{◌≡◌};
+ghost use Rattle.cec_opcode.specs.Table.{decoded_of};
+ghost use Rattle.cec_feature.specs.Effects.{heard_of};
+ghost use Rattle.cec_device.specs.Effects.{by_decoded, followed, is_for};
+
+use crate::device::Device;
+use cec_feature::{Heard, Identity, refuse};
+use cec_frame::{Addr, Frame};
+use cec_opcode::{Decoded, Reason, decode, rule};
+
+fn heard_of(header: u8, opcode: u8, operands: &[u8], at: u64) -> Heard
+    ensures { result ≡ heard_of header opcode operands.now at }
+{
+    Heard {
+        from: Addr::new(header / 16),
+        to: Addr::new(header % 16),
+        opcode,
+        first: match operands {
+            [first, ..] => *first,
+            [] => 0,
+        },
+        at,
+    }
+}
+
+impl<const Q: usize> Device<Q> {
+    /// What it is, as the tables go by it.
+    pub(crate) fn identity(&self) -> Identity
+        ensures { result ≡ record { kind = self.now.kind; phys = self.now.phys; ports = self.now.ports } }
+    {
+        Identity {
+            kind: self.kind,
+            phys: self.phys,
+            ports: self.ports,
+        }
+    }
+
+    // A direct frame is followed by who holds its destination, and only as the opcode may go.
+    fn is_for(&self, to: Addr, opcode: u8) -> bool
+        ensures { result ≡ is_for self.now to opcode }
+    {
+        let rule = rule(opcode);
+        if to.value() == 15 {
+            rule.broadcast
+        } else {
+            rule.direct && self.holds(to)
+        }
+    }
+
+    // Too few operands are ignored, and an opcode with no name is refused.
+    fn obey(&mut self, heard: &Heard, frame: &Frame)
+        ensures { self.new ≡ by_decoded Q heard.now self.old (decoded_of frame.now) }
+    {
+        let me = self.identity();
+        match decode(frame) {
+            Decoded::Known(message) => {
+                let says = self.record.obey(me, self.name.as_slice(), heard, &message);
+                self.say_all(heard, says.as_slice());
+            }
+            Decoded::Unknown(_) => {
+                let says = refuse(Reason::Unrecognized);
+                self.say_all(heard, says.as_slice());
+            }
+            Decoded::Poll | Decoded::Short(_) => {}
+        }
+    }
+
+    /// Follows a frame that came whole, by the opcode table, at `at` microseconds: a direct one where it holds
+    /// the destination, and a broadcast. What it answers is ready at that time.
+    pub fn follow(&mut self, frame: &Frame, at: u64)
+        ensures { self.new ≡ followed Q self.old frame.now at }
+    {
+        let [header, opcode, operands @ ..] = frame.bytes() else {
+            return;
+        };
+        let heard = heard_of(*header, *opcode, operands, at);
+        if !self.is_for(heard.to, *opcode) {
+            return;
+        }
+        self.obey(&heard, frame);
+    }
+}

@@ -1,0 +1,110 @@
+-- The key table, which is this profile's own: what a press and a release do, by kind. What a key sends are the
+-- messages of CEC 13.
+use Rattle.std.specs.Prelude.{ℕ, ◌==◌, ◌-◌, Bool, true, not, ◌&&◌, ◌||◌, nat_le, List, [], ◌∷◌, if◌then◌else◌, Option, Some, None}
+use Rattle.cec_opcode.specs.ControlWords.{user_control_byte}
+use Rattle.cec_opcode.specs.declared.user_control.UserControl.{UserControl}
+use Rattle.cec_opcode.specs.declared.user_control.UserControl.TheVariants.{VolumeUp, VolumeDown, Mute as MuteCode}
+use Rattle.hdmi_core.specs.declared.kind.Kind.{Kind}
+use Rattle.hdmi_core.specs.declared.phys.Phys.{Phys}
+use Rattle.cec_feature.specs.declared.record.Record.{Record}
+use Rattle.cec_feature.specs.declared.keys.Key.{Key}
+use Rattle.cec_feature.specs.declared.keys.Key.TheVariants.{Play, Stop, Eject, Load, Menu, Power, Watch, Port, Audio, Arc, Volume, Language, Remote}
+use Rattle.cec_feature.specs.declared.keys.VolumeKey.{VolumeKey}
+use Rattle.cec_feature.specs.declared.keys.VolumeKey.TheVariants.{Up, Down, Mute}
+use Rattle.cec_feature.specs.declared.say.Say.{Say}
+use Rattle.cec_feature.specs.declared.say.Say.TheVariants.{Tell, Cast}
+use Rattle.cec_opcode.specs.declared.deck_words.DeckInfo.TheVariants.{Play as Playing, NoMedia, Stop as Stopped}
+use Rattle.cec_feature.specs.Kinds.{is_tv, is_amp, is_deck, is_switch}
+use Rattle.cec_feature.specs.Effect.{Effect, does}
+use Rattle.cec_feature.specs.Effects.{notice, standby, turned, is_active, is_no_media, volume_status}
+use Rattle.cec_feature.specs.Volume.{louder}
+use Rattle.cec_feature.specs.Ways.{below}
+
+-- The kinds that have a key. A switch has those of its ports.
+abbrev pub has_key : Kind → ℕ → Key → Bool
+has_key kind ports Play = is_deck kind
+has_key kind ports Stop = is_deck kind
+has_key kind ports Eject = is_deck kind
+has_key kind ports Load = is_deck kind
+has_key kind ports Menu = is_deck kind
+has_key kind ports Power = true
+has_key kind ports (Watch to) = is_tv kind
+has_key kind ports (Port port) = is_switch kind && (nat_le 1 port && nat_le port ports)
+has_key kind ports (Audio on) = is_tv kind
+has_key kind ports (Arc on) = is_tv kind || is_amp kind
+has_key kind ports (Volume key) = is_tv kind || is_amp kind
+has_key kind ports (Language language) = is_tv kind
+has_key kind ports (Remote to code) = is_tv kind
+
+-- the user control code of a key of the sound
+abbrev pub code_of : VolumeKey → UserControl
+code_of Up = VolumeUp
+code_of Down = VolumeDown
+code_of Mute = MuteCode
+
+-- the record with its sound as the key sets it
+abbrev pub voiced : VolumeKey → Record → Record
+voiced Up r = record r { volume = louder r.volume }
+voiced Down r = record r { volume = r.volume - 1 }
+voiced Mute r = record r { mute = not r.mute }
+
+-- an amplifier with audio on tells the television its volume
+abbrev pub volume_told : Kind → Record → Effect
+volume_told kind r = does r (if is_amp kind && r.audio then Tell 0 (0x7a ∷ volume_status r ∷ []) ∷ [] else [])
+
+-- The address of a port, 0.0.0.0 where there is no path.
+abbrev pub path_bytes : Option Phys → List ℕ
+path_bytes None = 0 ∷ 0 ∷ []
+path_bytes (Some path) = path.high ∷ path.low ∷ []
+
+-- System Audio Mode Request, for the path or without one
+abbrev pub audio_said : Bool → Option Phys → Say
+audio_said on path = Tell 5 (0x70 ∷ (if on then path_bytes path else []))
+
+-- Request ARC Initiation or Termination of a television, Initiate ARC or Terminate ARC of an amplifier
+abbrev pub arc_said : Kind → Bool → Say
+arc_said kind on = if is_tv kind then Tell 5 ((if on then 0xc3 else 0xc4) ∷ []) else Tell 0 ((if on then 0xc0 else 0xc5) ∷ [])
+
+-- another port is selected, and that is told with both addresses
+abbrev pub ported : Phys → ℕ → Record → Option ℕ → Effect
+ported own port r None = does (record r { selected = Some port }) []
+ported own port r (Some old) = does (record r { selected = Some port }) (if old == port then [] else
+    Cast (0x80 ∷ (below own old).high ∷ (below own old).low ∷ (below own port).high ∷ (below own port).low ∷ []) ∷ [])
+
+-- to standby: a television sends all others there, and the active source tells the television
+abbrev pub goes_off : Kind → Phys → Record → Effect
+goes_off kind own r =
+    if is_tv kind then does (standby r) (Cast (0x36 ∷ []) ∷ []) else (
+    if is_deck kind && is_active r.active own then does (standby (record r { active = None })) (Tell 0 (0x9d ∷ own.high ∷ own.low ∷ []) ∷ [])
+    else does (standby r) [])
+
+-- the active source, as it tells the television and all
+abbrev pub taking_over : Phys → Record → Effect
+taking_over own r = does
+    (record r { power = true; active = Some own; path = Some own }) (Tell 0 (0x04 ∷ []) ∷ Cast (0x82 ∷ own.high ∷ own.low ∷ []) ∷ [])
+
+-- what a press does
+abbrev pub pressing : Kind → Phys → Record → Key → Effect
+pressing kind own r Play = does
+    (record r { power = true; active = Some own; path = Some own; deck = if is_no_media r.deck then r.deck else Playing })
+    (Tell 0 (0x04 ∷ []) ∷ Cast (0x82 ∷ own.high ∷ own.low ∷ []) ∷ (if is_no_media r.deck then [] else notice r Playing))
+pressing kind own r Stop = if is_no_media r.deck then does r [] else turned r Stopped
+pressing kind own r Eject = turned r NoMedia
+pressing kind own r Load = if is_no_media r.deck then turned r Stopped else does r []
+pressing kind own r Menu = does (record r { menu = not r.menu }) (Tell 0 (0x8e ∷ (if r.menu then 1 else 0) ∷ []) ∷ [])
+pressing kind own r Power = if r.power then goes_off kind own r else does (record r { power = true }) []
+pressing kind own r (Watch to) = does (record r { path = Some to }) (Cast (0x86 ∷ to.high ∷ to.low ∷ []) ∷ [])
+pressing kind own r (Port port) = ported own port r r.selected
+pressing kind own r (Audio on) = does r (audio_said on r.path ∷ [])
+pressing kind own r (Arc on) = does r (arc_said kind on ∷ [])
+pressing kind own r (Volume key) =
+    if is_tv kind && r.audio then does r (Tell 5 (0x44 ∷ user_control_byte (code_of key) ∷ []) ∷ []) else volume_told kind (voiced key r)
+pressing kind own r (Language language) =
+    does (record r { language = language }) (Cast (0x32 ∷ language.first ∷ language.second ∷ language.third ∷ []) ∷ [])
+pressing kind own r (Remote to code) = does r (Tell to (0x44 ∷ user_control_byte code ∷ []) ∷ [])
+
+-- what a release does
+abbrev pub releasing : Kind → Record → Key → Effect
+releasing kind r (Volume key) = if is_tv kind && r.audio then does r (Tell 5 (0x45 ∷ []) ∷ []) else does r []
+releasing kind r (Remote to code) = does r (Tell to (0x45 ∷ []) ∷ [])
+releasing kind r _ = does r []

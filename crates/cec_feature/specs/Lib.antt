@@ -1,0 +1,7 @@
+pub mod Kinds
+pub mod Volume
+pub mod Ways
+pub mod Effect
+pub mod Fresh
+pub mod Effects
+pub mod Keys

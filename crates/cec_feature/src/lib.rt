@@ -1,0 +1,22 @@
+//! What a device remembers, and the tables of opcodes and keys: what each message and each key changes in the
+//! record, and what is said.
+#![tactic(auto)]
+
+mod deck;
+mod effects;
+mod keys;
+mod kinds;
+mod messages;
+mod record;
+mod say;
+mod ways;
+
+pub use keys::{Key, VolumeKey, has_key};
+pub use kinds::Identity;
+pub use messages::report_of;
+pub use record::{Heard, Note, Port, Record, Volume};
+pub use say::{DataBlocks, Say, Says, refuse};
+pub use ways::{NOWHERE, is_nowhere};
+
+#[cfg(test)]
+mod tests;

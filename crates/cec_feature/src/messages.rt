@@ -1,0 +1,130 @@
+//! What a device says of itself, as messages.
+ghost use Rattle.std.specs.Prelude.{◌≡◌, ◌∷◌, [], if◌then◌else◌};
+ghost use Rattle.cec_opcode.specs.Table.{spelling};
+ghost use Rattle.cec_opcode.specs.ScreenWords.{menu_state_byte};
+ghost use Rattle.cec_opcode.specs.Words.{power_byte, system_audio_byte};
+ghost use Rattle.cec_feature.specs.Kinds.{type_of};
+
+use cec_opcode::{
+    Address, AudioStatus, DeviceType, MenuState, Message, Power, SystemAudio,
+    messages_keep_operands,
+};
+use hdmi_core::{Kind, Phys};
+
+/// A physical address as a message carries it.
+pub(crate) fn address(phys: Phys) -> Address
+    ensures { result ≡ record { high = phys.high; low = phys.low } }
+{
+    Address {
+        high: phys.high,
+        low: phys.low,
+    }
+}
+
+/// Active Source.
+pub(crate) fn active_source(phys: Phys) -> Message
+    ensures { spelling result ≡ 0x82 ∷ phys.high ∷ phys.low ∷ [] }
+{
+    Message::ActiveSource {
+        address: address(phys),
+    }
+}
+
+/// Report Physical Address.
+pub fn report_of(kind: Kind, phys: Phys) -> Message
+    ensures { spelling result ≡ 0x84 ∷ phys.high ∷ phys.low ∷ type_of kind ∷ [] }
+{
+    Message::ReportPhysicalAddress {
+        address: address(phys),
+        kind: match kind {
+            Kind::Tv => DeviceType::Tv,
+            Kind::Recorder => DeviceType::Recorder,
+            Kind::Player => DeviceType::Playback,
+            Kind::Amp => DeviceType::Audio,
+            Kind::Switch => DeviceType::Switch,
+        },
+    }
+}
+
+/// Report Audio Status.
+pub(crate) fn report_audio_status(status: u8) -> Message
+    ensures { spelling result ≡ 0x7a ∷ status ∷ [] }
+{
+    messages_keep_operands();
+    Message::ReportAudioStatus {
+        status: AudioStatus::from_byte(status),
+    }
+}
+
+/// Menu Status, of a menu that is shown or not.
+pub(crate) fn menu_status(shown: bool) -> Message
+    ensures { spelling result ≡ 0x8e ∷ (if shown then 0 else 1) ∷ [] }
+{
+    Message::MenuStatus {
+        menu: if shown {
+            MenuState::Activated
+        } else {
+            MenuState::Deactivated
+        },
+    }
+}
+
+/// Report Power Status.
+pub(crate) fn report_power_status(on: bool) -> Message
+    ensures { spelling result ≡ 0x90 ∷ (if on then 0 else 1) ∷ [] }
+{
+    Message::ReportPowerStatus {
+        power: if on { Power::On } else { Power::Standby },
+    }
+}
+
+/// System audio mode, as a word.
+fn system_audio(on: bool) -> SystemAudio
+    ensures { system_audio_byte result ≡ (if on then 1 else 0) }
+{
+    if on {
+        SystemAudio::On
+    } else {
+        SystemAudio::Off
+    }
+}
+
+/// Set System Audio Mode.
+pub(crate) fn set_system_audio_mode(on: bool) -> Message
+    ensures { spelling result ≡ 0x72 ∷ (if on then 1 else 0) ∷ [] }
+{
+    Message::SetSystemAudioMode {
+        audio: system_audio(on),
+    }
+}
+
+/// System Audio Mode Status.
+pub(crate) fn system_audio_mode_status(on: bool) -> Message
+    ensures { spelling result ≡ 0x7e ∷ (if on then 1 else 0) ∷ [] }
+{
+    Message::SystemAudioModeStatus {
+        audio: system_audio(on),
+    }
+}
+
+/// Request ARC Initiation, or Termination.
+pub(crate) fn arc_request(on: bool) -> Message
+    ensures { spelling result ≡ (if on then 0xc3 else 0xc4) ∷ [] }
+{
+    if on {
+        Message::RequestArcInitiation
+    } else {
+        Message::RequestArcTermination
+    }
+}
+
+/// Initiate ARC, or Terminate ARC.
+pub(crate) fn arc_command(on: bool) -> Message
+    ensures { spelling result ≡ (if on then 0xc0 else 0xc5) ∷ [] }
+{
+    if on {
+        Message::InitiateArc
+    } else {
+        Message::TerminateArc
+    }
+}

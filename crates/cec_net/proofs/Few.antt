@@ -1,0 +1,43 @@
+-- Each round begins well after the one before, or takes a pulse.
+use Rattle.std.proofs.Common.{◌≡◌, ℕ, ◌+◌, ◌*◌, ◌<◌, ◌≤◌, max, nat_lt, List, [], ◌∷◌, length, inl, inr, sym, ap, subst, arith}
+use Rattle.std.specs.List.{All, filter}
+use Rattle.std.proofs.lemmas.List.Elements.{filter_passes}
+use Rattle.std.proofs.lemmas.Bool.Decides.{nat_tests}
+use Rattle.cec_wave.specs.declared.Stretch.{Stretch}
+use Rattle.cec_wave.specs.Pulses.{AreSparse}
+use Rattle.cec_wave.proofs.Kept.{sparse-filter}
+use Rattle.cec_wire.specs.declared.Outcome.{Outcome}
+use Rattle.cec_net.specs.declared.event.Event.{Event}
+use Rattle.cec_net.specs.State.{NetState}
+use Rattle.cec_net.specs.Apply.{applied}
+use Rattle.cec_net.specs.Step.{after_round}
+use Rattle.cec_net.specs.Line.{Move, Happens, Goes, Moves, rounds_of}
+use Rattle.cec_net.specs.Few.{BeginBefore, RunsAreShort}
+use Rattle.cec_net.proofs.Lines.{kept, sparse_kept}
+use Rattle.cec_net.proofs.Progress.{ComeLater, progress}
+
+later_kept : (at : ℕ) (event : Event) (s : NetState) → ComeLater s.rest s.pulses → ComeLater (applied at event s).rest (applied at event s).pulses
+later_kept at event s h =
+    let k = kept at event s in
+    let rested : ComeLater (applied at event s).rest s.pulses = subst (λ rest. ComeLater rest s.pulses) (sym k.rest) h in
+    subst (λ (ps : List Stretch). ComeLater (applied at event s).rest ps) (sym k.pulses) rested
+
+-- the pulses that are left come after the rest
+later_after : (rest : ℕ) (pulses : List Stretch) → ComeLater rest (filter (λ p. nat_lt rest p.from) pulses)
+later_after rest pulses k p l = (let e = filter_passes (λ (q : Stretch). nat_lt rest q.from) pulses k p l in grind (arith, nat_tests))
+
+pub runs_are_short : RunsAreShort
+runs_are_short s t [] end sparse later m b = omega arith
+runs_are_short s t (Happens at event ∷ ms) end sparse later m b =
+    let k = kept at event s in
+    let left : length (applied at event s).pulses ≡ length s.pulses = ap length k.pulses in
+    let rest : (applied at event s).rest ≡ s.rest = k.rest in
+    let more = runs_are_short (applied at event s) t ms end (sparse_kept at event s sparse) (later_kept at event s later) m.1 b in
+    omega (arith, more, left, rest)
+runs_are_short s t (Goes begin o ∷ ms) end sparse later m b =
+    let p = progress s begin o sparse later m.0.begins m.0.wave m.0.round in
+    let more = runs_are_short (after_round s begin o) t ms end (sparse-filter (λ q. nat_lt o.rest q.from) s.pulses sparse) (later_after o.rest s.pulses) m.1 b.1 in
+    elim p.apart [
+      | inl late ↦ omega (arith, more, late, p.later, p.low, p.kept, b.0)
+      | inr fewer ↦ omega (arith, more, fewer, p.later, p.low, p.kept, b.0)
+    ]

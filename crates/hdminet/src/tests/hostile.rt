@@ -1,0 +1,25 @@
+use super::*;
+
+const PAIR: &str =
+    "device tv tv 4\ndevice p1 player 0\nplug p1 tv 1\nscript\nat 1000000 press p1 play\nend 1300000\n";
+
+const FRAMES: &str = "4>f active-source 1.0.0.0\n4>0 play forward\n4>4\n";
+
+#[test]
+fn each_front_of_an_input(rt: HostRuntime) -> Result<(), Fail> {
+    let alloc = rt.alloc();
+    // A script is whole once its last line has a time after the key press: from `end 1300000` on.
+    let fronts = accepted_fronts(&rt, alloc, ["run"].as_slice(), PAIR.as_bytes())?;
+    assert_eq!(&rt; fronts, 2);
+    // Nothing, a poll to 15, the first line, the same with its line feed, and so on.
+    let fronts = accepted_fronts(&rt, alloc, ["asm"].as_slice(), FRAMES.as_bytes())?;
+    assert_eq!(&rt; fronts, 9);
+    Ok(())
+}
+
+#[test]
+fn a_writer_that_fails_at_each_byte(rt: HostRuntime) -> Result<(), Fail> {
+    let alloc = rt.alloc();
+    cuts_everywhere(&rt, alloc, ["run"].as_slice(), PAIR.as_bytes())?;
+    cuts_everywhere(&rt, alloc, ["asm"].as_slice(), FRAMES.as_bytes())
+}
