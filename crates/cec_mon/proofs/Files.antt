@@ -1,5 +1,5 @@
 -- An edge file read edge by edge, and what is written of it.
-use Rattle.std.proofs.Common.{◌≡◌, ℕ, zero, suc, ◌+◌, ◌<◌, ◌≤◌, Bool, true, false, not, ◌&&◌, nat_lt, nat_le, if◌then◌else◌, List, [], ◌∷◌, ◌++◌, length, append_assoc, append-nil, inl, inr, Option, Some, None, Result, Ok, Err, refl, arith, ap, ◌∙◌, sym, subst}
+use Rattle.std.proofs.Common.{◌≡◌, ℕ, zero, suc, ◌+◌, ◌-◌, ◌<◌, ◌≤◌, Bool, true, false, not, ◌&&◌, nat_lt, nat_le, if◌then◌else◌, List, [], ◌∷◌, ◌++◌, length, append_assoc, append-nil, inl, inr, Option, Some, None, Result, Ok, Err, refl, arith, ap, ◌∙◌, sym, subst}
 use Rattle.std.specs.List.{flat_map}
 use Rattle.std.specs.Option.{option_to_list}
 use Rattle.std.specs.Io.KnownBytes.{Appends}
@@ -24,7 +24,7 @@ use Rattle.cec_mon.specs.declared.edge_file.EdgeFault.TheVariants as fault
 use Rattle.cec_mon.specs.declared.edge_file.EdgeLine.{EdgeLine}
 use Rattle.cec_mon.specs.declared.edge_file.EdgeLine.TheVariants.{Edge, End}
 use Rattle.cec_mon.specs.declared.edge_file.EdgeLines.{EdgeLines}
-use Rattle.cec_mon.specs.EdgeFile.{EdgeFile, edge_line_of, edges_read, end_read, file_left, file_of, is_in_turn, level_at, line_of_edges, read_line, with_edge, with_edges, GoesBehind}
+use Rattle.cec_mon.specs.EdgeFile.{EdgeFile, edge_line_of, edges_read, end_read, file_left, file_of, is_in_turn, level_at, line_of_edges, read_line, with_edge, with_edges, GoesBehind, ReadsOn}
 use Rattle.cec_mon.specs.Monitor.{HeardBefore, FollowsEdge, FollowsEnd, IsCalm}
 use Rattle.cec_mon.specs.Watch.{WritesFile, file_readings, listed_line, readings_text, reported_text}
 
@@ -146,6 +146,7 @@ record Told (f : EdgeFile) (lines next : EdgeLines) (m new : Watcher) (e : EdgeO
 
 told_edge : (f : EdgeFile) (lines next : EdgeLines) (m new : Watcher) (e : EdgeOf) (told : Option Listed) (old now : Option (List ℕ)) (was is : Bool) (written : ℕ) → Watched f lines m old now was is written
     → GoesBehind lines e next → FollowsEdge m e told new → Told f lines next m new e told
+unfolding Late
 told_edge f lines next m new e told old now was is written w g follows = record {
   left = b.left;
   file = b.is;
@@ -266,20 +267,20 @@ cut_edge f lines next m new e told old mid out was is now written inner cut w g 
       wrote.1,
     )
 
+same_file : (a b : EdgeFile) (r : Result EdgeFile EdgeFault) → r ≡ Ok a → r ≡ Ok b → a ≡ b
+same_file a b r h k = cc
+
 -- the last reading, and with it the whole list
 all_read : (f : EdgeFile) (lines : EdgeLines) (m : Watcher) (t : ℕ) (told : Option Listed) (old mid : Option (List ℕ)) (was is : Bool) (written : ℕ) → Watched f lines m old mid was is written
     → file_left lines ≡ Ok (record { edges = []; end = t }) → lines.from ≤ t + 1 → FollowsEnd m t told
     → readings_text (file_readings f) ≡ readings_text (ended_before (line_of_edges f.edges) lines.from) ++ reported_text told
 all_read f lines m t told old mid was is written w file l follows =
-    let left : w.left ≡ record { edges = []; end = t } = one w.left (record { edges = []; end = t }) (sym w.file ∙ file) in
+    let left : w.left ≡ record { edges = []; end = t } = same_file w.left (record { edges = []; end = t }) (file_left lines) w.file file in
     let end : f.end ≡ t = sym w.end ∙ ap (λ (x : EdgeFile). x.end) left in
     let level : (u : ℕ) → lines.from ≤ u → line_of_edges f.edges u ≡ lines.is_low = λ u k. w.level u k ∙ ap (λ (x : EdgeFile). level_at lines.is_low x.edges u) left in
     ap readings_text (ap (readings_of (line_of_edges f.edges)) end
     ∙ follows (line_of_edges f.edges) lines.from w.heard l (λ u k s. level u k ∙ sym w.before ∙ sym w.heard.stood.level))
     ∙ text_more (ended_before (line_of_edges f.edges) lines.from) told
-  where
-    one : (a b : EdgeFile) → Ok a ≡ Ok b → a ≡ b
-    one a b e = cc
 
 pub end_written : (f : EdgeFile) (lines : EdgeLines) (m : Watcher) (t : ℕ) (told : Option Listed) (old mid out : Option (List ℕ)) (was is now : Bool) (written count : ℕ) → Watched f lines m old mid was is written
     → file_left lines ≡ Ok (record { edges = []; end = t }) → lines.from ≤ t + 1 → FollowsEnd m t told → WrittenText mid out is now (reported_text told) (Ok count)
@@ -301,7 +302,15 @@ end_cut f lines m t told old mid out was is now written inner cut w file l follo
 
 -- a file without a fault has none where it is read on
 pub no_fault : (f : EdgeFile) (lines : EdgeLines) (m : Watcher) (old mid : Option (List ℕ)) (was is : Bool) (written : ℕ) (x : EdgeFault) → Watched f lines m old mid was is written → file_left lines ≡ Err x → ⊥
-no_fault f lines m old mid was is written x w e = no (sym w.file ∙ e)
+no_fault f lines m old mid was is written x w e = no w.left (file_left lines) w.file e
   where
-    no : Ok w.left ≡ Err x → ⊥
-    no k = cc
+    no : (a : EdgeFile) (r : Result EdgeFile EdgeFault) → r ≡ Ok a → r ≡ Err x → ⊥
+    no a r h k = cc
+
+-- ---- what the reader of the lines answers
+
+pub edge_read : (old new : EdgeLines) (l : EdgeLine) (e : EdgeOf) → ReadsOn old (Ok l) new → l ≡ Edge e → GoesBehind old e new
+edge_read old new l e h line = subst (λ x. ReadsOn old (Ok x) new) line h
+
+pub end_read_so : (old new : EdgeLines) (l : EdgeLine) (t : ℕ) → ReadsOn old (Ok l) new → l ≡ End t → (file_left old ≡ Ok (record { edges = []; end = t })) × (old.from ≤ t + 1) × (t ≤ 2000000000000)
+end_read_so old new l t h line = subst (λ x. ReadsOn old (Ok x) new) line h

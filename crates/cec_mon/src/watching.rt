@@ -47,9 +47,12 @@ fn check_file(text: &[u8]) -> Result<(), EdgeFault>
 {
     let mut lines = EdgeLines::new(text);
     'edges: loop {
-        match lines.next()? {
-            EdgeLine::Edge(_) => {}
-            EdgeLine::End(_) => return Ok(()),
+        match lines.next() {
+            Err(fault) => return Err(fault),
+            Ok(line) => match line {
+                EdgeLine::Edge(_) => {}
+                EdgeLine::End(_) => return Ok(()),
+            },
         }
     }
 }
@@ -77,23 +80,24 @@ fn write_readings<S: Sink>(text: &[u8], out: &mut S) -> Result<(), WriteFault>
     let mut monitor = Monitor::new();
     let mut written = 0;
     'edges: loop {
-        let line = lines.next();
-        match line {
-            Ok(EdgeLine::Edge(edge)) => {
-                let reading = monitor.edge(edge);
-                match write_reported(&reading, out) {
-                    Ok(count) => written = counted(written, count),
-                    Err(fault) => return Err(cut_at(written, fault)),
-                }
-            }
-            Ok(EdgeLine::End(t)) => {
-                let reading = monitor.finish(t);
-                return match write_reported(&reading, out) {
-                    Ok(_) => Ok(()),
-                    Err(fault) => Err(cut_at(written, fault)),
-                };
-            }
+        match lines.next() {
             Err(_) => return Ok(()),
+            Ok(line) => match line {
+                EdgeLine::Edge(edge) => {
+                    let reading = monitor.edge(edge);
+                    match write_reported(&reading, out) {
+                        Ok(count) => written = counted(written, count),
+                        Err(fault) => return Err(cut_at(written, fault)),
+                    }
+                }
+                EdgeLine::End(t) => {
+                    let reading = monitor.finish(t);
+                    return match write_reported(&reading, out) {
+                        Ok(_) => Ok(()),
+                        Err(fault) => Err(cut_at(written, fault)),
+                    };
+                }
+            },
         }
     }
 }

@@ -12,6 +12,8 @@ pub enum Choice {
     Run,
     /// The bytes of frames, from their texts.
     Asm,
+    /// The readings of an edge file.
+    Mon,
     /// The text of an EDID, from its bytes.
     EdidToText,
     /// The bytes of an EDID, from its text.
@@ -31,7 +33,7 @@ impl Choice {
     pub fn input(self) -> Input {
         match self {
             Choice::Run => Input::Network,
-            Choice::Asm => Input::Lines,
+            Choice::Asm | Choice::Mon => Input::Lines,
             Choice::EdidToText => Input::EdidBytes,
             Choice::TextToHex => Input::EdidText,
         }
@@ -64,6 +66,9 @@ fn command<'a>(alloc: Global) -> Result<Command<'a>, AllocError> {
     let asm = Command::new(alloc, "asm")
         .about(help::ASM_ABOUT)
         .after_help(help::ASM_HELP);
+    let mon = Command::new(alloc, "mon")
+        .about(help::MON_ABOUT)
+        .after_help(help::MON_HELP);
     Command::new(alloc, "hdminet")
         .about(help::ABOUT)
         .version("0.1.0")
@@ -72,6 +77,7 @@ fn command<'a>(alloc: Global) -> Result<Command<'a>, AllocError> {
         .arg(explain_flag(alloc))?
         .subcommand(run)?
         .subcommand(asm)?
+        .subcommand(mon)?
         .subcommand(edid_command(alloc)?)
 }
 
@@ -79,6 +85,7 @@ fn command<'a>(alloc: Global) -> Result<Command<'a>, AllocError> {
 fn choice_of(matches: &ArgMatches<'_>) -> Choice {
     match matches.subcommand() {
         Some(("asm", _)) => Choice::Asm,
+        Some(("mon", _)) => Choice::Mon,
         Some(("edid", edid)) if edid.get_flag("text") => Choice::TextToHex,
         Some(("edid", _)) => Choice::EdidToText,
         _ => Choice::Run,

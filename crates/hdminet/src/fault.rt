@@ -1,5 +1,6 @@
 //! Why the program did not do what it was asked.
 use crate::edid_text::{EdidToTextError, TextToHexError};
+use cec_mon::WatchError;
 use cec_run::emulate::EmulateError;
 use cec_text::{AssembleError, FrameLinesError};
 use std::alloc::AllocError;
@@ -20,6 +21,8 @@ pub enum Fault {
     Emulate(#[from] EmulateError),
     #[error("line {line}: {cause}")]
     Line { line: u64, cause: AssembleError },
+    #[error(transparent)]
+    Watch(#[from] WatchError),
     #[error(transparent)]
     EdidToText(#[from] EdidToTextError),
     #[error(transparent)]
@@ -59,14 +62,17 @@ impl Fault {
             | Fault::Read
             | Fault::Write(_)
             | Fault::Emulate(EmulateError::Write(_))
+            | Fault::Watch(WatchError::Write(_))
             | Fault::EdidToText(EdidToTextError::Write(_))
             | Fault::TextToHex(TextToHexError::Write(_)) => 3,
             Fault::Memory(_)
             | Fault::Emulate(EmulateError::Memory)
+            | Fault::Watch(WatchError::Memory)
             | Fault::TextToHex(TextToHexError::Memory) => 4,
             Fault::NoScriptLine
             | Fault::Emulate(_)
             | Fault::Line { .. }
+            | Fault::Watch(_)
             | Fault::EdidToText(_)
             | Fault::TextToHex(_) => 1,
         }

@@ -8,7 +8,7 @@ pub const EXPLAIN_FLAG: &str =
 
 /// What follows a refused command line that has `--explain`.
 pub const EXPLAINED: &str =
-    "  the subcommands are run, asm and edid; each reads standard input, as `hdminet run < FILE`\n";
+    "  the subcommands are run, asm, mon and edid; each reads standard input, as `hdminet run < FILE`\n";
 
 pub const OVERVIEW: &str = "\
 With --explain a fault is followed by the line of the input, the word at fault, and what would be right.
@@ -28,6 +28,8 @@ Examples, of which the folder examples/ has the inputs and outputs:
       (further ones are four-players.net and ports.net)
   ./hdminet asm < examples/frames.txt
       `4>f active-source 1.0.0.0` gives `4f821000`
+  ./hdminet mon < examples/capture.edges
+      the falls and rises of a captured line give `1000 8251 silent 1` and so on
   ./hdminet edid < examples/living-room.edid
       the bytes of an EDID give the lines `edid 1.3`, `maker SAM` and so on
   ./hdminet edid --text < examples/living-room.edid.txt
@@ -130,6 +132,42 @@ is the first of these that applies:
   too-long   more than 14 operands in hex
   count      not as many words as the opcode's operands have
   operand    the words are no operands of the opcode, or not spelled as they should be
+
+Exit status: 0 done; 1 input refused; 2 command line refused; 3 a read or write fault, or input
+past 1048576 bytes; 4 no memory.";
+
+pub const MON_ABOUT: &str = "Prints what was read on a captured line";
+
+pub const MON_HELP: &str = "\
+The input is an edge file: the falls and rises of the CEC line in the order of their times, as a logic
+analyser captures them, and the end of the capture. Lines that are empty or begin with `#` are skipped,
+but counted. Times are whole microseconds, at most 2000000000000.
+  T 0           the line falls; the first edge is a fall, and falls and rises take turns
+  T 1           the line rises
+  T end         the last line, not before the last edge
+
+The output has a line for each reading, in order: its fall, its ending, how it ended, and what it told.
+  START END complete FRAME VERDICT   a frame as `hdminet asm` takes it; ack or nack, and of a
+                                     broadcast ok or refused
+  START END short BITS               a fall too early for the next slot
+  START END silent BITS              no fall in time for the next slot
+  START END bad-start -              a start bit out of time
+  START END long BITS                a sixteenth block that is not the last
+  START END open BITS                not ended at the end of the capture
+BITS are the bits read so far, `-` for none.
+
+An example, and what it gives:
+  1000 0
+  4700 1
+  5500 0
+  6100 1
+  20000 end                          1000 8251 silent 1
+
+docs/formats.md says how to make an edge file from a logic analyser's export.
+
+Faults: `line N: line` for the first line that is ill-formed, past the limit or behind the end (the line
+after the last, where no end is there); `line N: order` for one out of turn or time. Nothing is written
+then.
 
 Exit status: 0 done; 1 input refused; 2 command line refused; 3 a read or write fault, or input
 past 1048576 bytes; 4 no memory.";

@@ -1,4 +1,5 @@
-//! Emulates a living-room HDMI network from texts, and writes its trace; writes frames and EDIDs as texts and bytes.
+//! Emulates a living-room HDMI network from texts, and writes its trace; reads captures of its
+//! wire; writes frames and EDIDs as texts and bytes.
 #![tactic(auto)]
 
 mod choice;

@@ -4,6 +4,7 @@ use crate::edid_text::{edid_to_text, text_to_hex};
 use crate::fault::Fault;
 use crate::help::EXPLAINED;
 use arrayvec::ArrayString;
+use cec_mon::watch;
 use cec_run::Totals;
 use cec_run::emulate::emulate;
 use cec_text::{asm_lines, first_line};
@@ -59,6 +60,7 @@ fn perform<W: Sink>(
             return Ok(Some(emulate(alloc, topology, script, out)?));
         }
         Choice::Asm => asm_lines(input, out)?,
+        Choice::Mon => watch(alloc, input, out)?,
         Choice::EdidToText => edid_to_text(input, out)?,
         Choice::TextToHex => text_to_hex(alloc, input, out)?,
     }

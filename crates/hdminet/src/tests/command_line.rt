@@ -54,7 +54,7 @@ fn refuses_other_command_lines(rt: HostRuntime) -> Result<(), Fail> {
         ["asm", "--text"].as_slice(),
         ["edid", "--hex"].as_slice(),
         ["edid", "--text", "--text"].as_slice(),
-        ["mon"].as_slice(),
+        ["mon", "--edges"].as_slice(),
         ["step"].as_slice(),
     ] {
         let told = answer_to(alloc, texts, &mut "".as_bytes())?;

@@ -1,0 +1,50 @@
+use Rattle.std.proofs.Common.{◌≡◌, length, option_map, ap, arith}
+use Rattle.cec_bits.specs.Reports.{listed_as}
+use Rattle.cec_mon.proofs.Files.{watched_first, watched_more, cut_edge, end_written, end_cut, no_fault, edge_read, end_read_so}
+use Rattle.cec_mon.proofs.watching.write_readings.Goals as goal
+
+pub edges-init : goal.edges-init
+edges-init g c =
+    let count = c.new-lines.ensures.first.0 in
+    let text : length c.new-lines.result.rest.now ≡ length c.args.text.now = ap length c.new-lines.ensures.rest in
+    record {
+      watched = λ f h. watched_first c.args.text.now f c.new-lines.result c.new-monitor.result (g.S.Sink.contents c.args.out.now) (g.S.Sink.is_stuck c.args.out.now) h
+          c.new-lines.ensures.rest c.new-lines.ensures.first.0 c.new-lines.ensures.first.1 c.new-lines.ensures.first.2 c.new-monitor.ensures;
+      room = omega (arith, count, text);
+    }
+
+pub edges-preserved : goal.edges-preserved
+edges-preserved g c =
+    let b = edge_read c.edges.lines c.next.new.self c.in-Ok.line c.in-Edge.edge c.in-Ok.ensures c.in-Edge.is in
+    record {
+      watched = λ f h. watched_more f c.edges.lines c.next.new.self c.edges.monitor c.edge-reading.new.self c.in-Edge.edge (option_map listed_as c.edge-reading.result)
+          (g.S.Sink.contents c.args.out.now) (g.S.Sink.contents c.edges.out) (g.S.Sink.contents c.write_reported.new.out) (g.S.Sink.is_stuck c.args.out.now) (g.S.Sink.is_stuck c.edges.out) (g.S.Sink.is_stuck c.write_reported.new.out)
+          c.edges.written c.in-Ok-write_reported.count c.counted-written.result (c.edges.invariant.watched f h) b c.edge-reading.ensures.follows c.in-Ok-write_reported.ensures c.counted-written.ensures;
+      room = omega (arith, b.room, c.edges.invariant.room);
+    }
+
+pub returns-in-Err-write_reported : goal.returns-in-Err-write_reported
+returns-in-Err-write_reported g c = λ f h.
+    let b = edge_read c.edges.lines c.next.new.self c.in-Ok.line c.in-Edge.edge c.in-Ok.ensures c.in-Edge.is in
+    cut_edge f c.edges.lines c.next.new.self c.edges.monitor c.edge-reading.new.self c.in-Edge.edge (option_map listed_as c.edge-reading.result)
+    (g.S.Sink.contents c.args.out.now) (g.S.Sink.contents c.edges.out) (g.S.Sink.contents c.write_reported.new.out) (g.S.Sink.is_stuck c.args.out.now) (g.S.Sink.is_stuck c.edges.out) (g.S.Sink.is_stuck c.write_reported.new.out)
+    c.edges.written c.in-Err-write_reported.fault c.cut_at.result (c.edges.invariant.watched f h) b c.edge-reading.ensures.follows c.in-Err-write_reported.ensures c.cut_at.ensures
+
+pub returns-in-Ok-write_reported-2 : goal.returns-in-Ok-write_reported-2
+returns-in-Ok-write_reported-2 g c = λ f h.
+    let b = end_read_so c.edges.lines c.next.new.self c.in-Ok.line c.in-End.t c.in-Ok.ensures c.in-End.is in
+    end_written f c.edges.lines c.edges.monitor c.in-End.t (option_map listed_as c.finish-reading.result)
+    (g.S.Sink.contents c.args.out.now) (g.S.Sink.contents c.edges.out) (g.S.Sink.contents c.write_reported-in-End.new.out) (g.S.Sink.is_stuck c.args.out.now) (g.S.Sink.is_stuck c.edges.out) (g.S.Sink.is_stuck c.write_reported-in-End.new.out)
+    c.edges.written c.in-Ok-write_reported-2.field-0 (c.edges.invariant.watched f h) b.0 b.1 c.finish-reading.ensures c.in-Ok-write_reported-2.ensures
+
+pub returns-in-Err-write_reported-2 : goal.returns-in-Err-write_reported-2
+returns-in-Err-write_reported-2 g c = λ f h.
+    let b = end_read_so c.edges.lines c.next.new.self c.in-Ok.line c.in-End.t c.in-Ok.ensures c.in-End.is in
+    end_cut f c.edges.lines c.edges.monitor c.in-End.t (option_map listed_as c.finish-reading.result)
+    (g.S.Sink.contents c.args.out.now) (g.S.Sink.contents c.edges.out) (g.S.Sink.contents c.write_reported-in-End.new.out) (g.S.Sink.is_stuck c.args.out.now) (g.S.Sink.is_stuck c.edges.out) (g.S.Sink.is_stuck c.write_reported-in-End.new.out)
+    c.edges.written c.in-Err-write_reported-2.fault c.cut_at-in-Err-write_reported-2.result (c.edges.invariant.watched f h) b.0 b.1 c.finish-reading.ensures c.in-Err-write_reported-2.ensures c.cut_at-in-Err-write_reported-2.ensures
+
+pub returns-in-Err : goal.returns-in-Err
+returns-in-Err g c = λ f h.
+    absurd (no_fault f c.edges.lines c.edges.monitor (g.S.Sink.contents c.args.out.now) (g.S.Sink.contents c.edges.out) (g.S.Sink.is_stuck c.args.out.now) (g.S.Sink.is_stuck c.edges.out) c.edges.written
+    c.in-Err.field-0 (c.edges.invariant.watched f h) c.in-Err.ensures)
