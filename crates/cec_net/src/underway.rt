@@ -69,7 +69,7 @@ fn copied_wire(wire: &Option<EdgeWire>) -> Option<EdgeWire>
 }
 
 impl Net<EdgeWire> {
-    ghost use Rattle.std.specs.Prelude.{false, Some, None, IsSome};
+    ghost use Rattle.std.specs.Prelude.{MatchBool, Some, None, IsSome};
     ghost use Rattle.cec_bits.specs.Follows.{shown};
     ghost use Rattle.cec_net.specs.State.{next_start};
     ghost use Rattle.cec_net.specs.Step.{IsNextRound};
@@ -96,9 +96,9 @@ impl Net<EdgeWire> {
     /// where there is no next start. The last round closed by 2,000,000,000,000.
     pub fn begin(&mut self) -> bool
         requires { self.old.close ≤ 2000000000000 }
-        ensures { MatchOption (next_start self.old)
-            ((result ≡ false) × (self.new ≡ self.old))
-            (λ begin. (result ≡ true) × (self.new ≡ record self.old { heard = Some begin })) }
+        ensures { MatchBool result
+            ((begin : ℕ) × (next_start self.old ≡ Some begin) × (self.new ≡ record self.old { heard = Some begin }))
+            ((next_start self.old ≡ None) × (self.new ≡ self.old)) }
     {
         let Some(begin) = self.next_start() else {
             return false;
