@@ -1,5 +1,5 @@
 -- Between two wakes nothing is heard, so a receiver that skips to the next edge or wake keeps what the line's readings say.
-use Rattle.std.proofs.Common.{◌≡◌, ◌≢◌, ℕ, zero, suc, ◌+◌, ◌-◌, ◌==◌, ◌<◌, ◌≤◌, Bool, true, false, not, ◌&&◌, nat_lt, if◌then◌else◌, List, Option, Some, None, refl, arith, ap, ◌∙◌, sym}
+use Rattle.std.proofs.Common.{◌≡◌, ◌≢◌, ℕ, zero, suc, ◌+◌, ◌-◌, ◌==◌, ◌<◌, ◌≤◌, Bool, true, false, not, ◌&&◌, nat_lt, if◌then◌else◌, List, Option, Some, None, refl, arith, ap, ◌∙◌, sym, subst}
 use Rattle.std.proofs.lemmas.Bool.Decides.{nat_tests}
 use Rattle.cec_wave.specs.Line.{Line, was_low}
 use Rattle.cec_frame.specs.declared.Ending.{Ending}
@@ -9,7 +9,7 @@ use Rattle.cec_bits.specs.declared.receiver.Place.TheVariants.{Rest, StartLow, S
 use Rattle.cec_bits.specs.declared.receiver.Told.{Told}
 use Rattle.cec_bits.specs.declared.receiver.Told.TheVariants.{Nothing, Ended}
 use Rattle.cec_bits.specs.Reading.{last_ending}
-use Rattle.cec_bits.specs.Hears.{Hears, Heard, told_so, rest, starts, sample_as, hear_at, hear_in, hears, wake_of}
+use Rattle.cec_bits.specs.Hears.{Hears, Heard, told_so, rest, starts, sample_as, hear_at, hear_in, hears, wake_of, wakes_left}
 use Rattle.cec_bits.specs.Phase.{Standing, standing_of}
 use Rattle.cec_bits.specs.Kept.{kept_of, kept_before, told_at, standing_by}
 use Rattle.cec_bits.specs.Follows.{IsNextTold}
@@ -90,6 +90,65 @@ follows_so h new was is_low t told e low before keeps level from quiet edge wake
     let heard : hear_in t (was_low low t) (low t) (hears low t) ≡ told_so new told =
     ap (λ b. hear_in t b (low t) (hears low t)) c.1 ∙ ap (λ b. hear_in t was b (hears low t)) edge ∙ ap (hear_in t was is_low) (c.0 ∙ sym is) ∙ sym e in
     (sym (kept_heard low t ∙ ap (λ (x : Heard). x.state) heard), sym (told_heard low t ∙ ap (λ (x : Heard). x.told) heard))
+
+-- before it nothing is told
+told_calm : (low : Line) (n t : ℕ) (b : Bool) → was_low low n ≡ b → n ≤ t → ((u : ℕ) → n ≤ u → u ≤ t → low u ≡ b) → ((w : ℕ) → wake_of (hears low n) ≡ Some w → t < w) → told_at low t ≡ Nothing
+told_calm low n t b w l q k =
+    let c = calm_to low n t b l w (λ u a d. q u a (omega arith)) (λ v e. let x = k v e in omega (arith, x)) in
+    told_heard low t
+    ∙ ap (λ x. (hear_in t x (low t) (hears low t)).told) c.1 ∙ ap (λ x. (hear_in t b x (hears low t)).told) (q t l (omega arith))
+    ∙ ap (λ (x : Heard). x.told) (heard_same low t b (λ v e. k v (ap wake_of (sym c.0) ∙ e)))
+
+pub once_so : (h : Hears) (was : Bool) (t : ℕ) (low : Line) (before : ℕ) → h ≡ kept_before low before → was ≡ was_low low before → ((u : ℕ) → before ≤ u → u < t → low u ≡ was)
+    → ((w : ℕ) → wake_of h ≡ Some w → t ≤ w) → (u : ℕ) → before ≤ u → u < t → told_at low u ≡ Nothing
+once_so h was t low before keeps level quiet wake u a b =
+    told_calm low before u was (sym level) a (λ v c d. quiet v c (omega arith)) (λ w e. let x = wake w (ap wake_of (keeps ∙ before_heard low before) ∙ e) in omega (arith, x))
+
+-- who stood on a line stands on it later, where it goes on without an edge up to the wake
+pub stood_calm : (h : Hears) (was : Bool) (low : Line) (before t : ℕ) → h ≡ kept_before low before → was ≡ was_low low before → before ≤ t → ((u : ℕ) → before ≤ u → u < t → low u ≡ was)
+    → ((w : ℕ) → wake_of h ≡ Some w → t ≤ w) → (h ≡ kept_before low t) × (was ≡ was_low low t)
+stood_calm h was low before t keeps level from quiet wake =
+    let is : h ≡ hears low before = keeps ∙ before_heard low before in
+    let c = calm_to low before t was from (sym level) quiet (λ w f. wake w (ap wake_of is ∙ f)) in
+    (is ∙ sym c.0 ∙ sym (before_heard low t), sym c.1)
+
+-- ---- how many wakes are left
+
+fewer_at : (t : ℕ) (b : Bool) (place : Place) (begin fall : ℕ) (bits : List Bool) → wake_of (hears_by place begin fall bits) ≡ Some t
+    → wakes_left (hear_at place t false false b (hears_by place begin fall bits)).state.place < wakes_left place
+fewer_at t b Rest begin fall bits e = cc
+fewer_at t b StartLow begin fall bits e =
+    let is : begin + 3901 ≡ t = cc in
+    let x : nat_lt (begin + 3900) t ≡ true = grind (arith, nat_tests) in
+    let y : wakes_left (hear_at StartLow t false false b (hears_by StartLow begin fall bits)).state.place ≡ 0 =
+    ap (λ c. wakes_left (if c then told_so (starts t false) (Ended BadStart) else told_so (hears_by StartLow begin fall bits) Nothing).state.place) x in omega (arith, y)
+fewer_at t b StartHigh begin fall bits e =
+    let is : begin + 4701 ≡ t = cc in
+    let x : nat_lt (begin + 4700) t ≡ true = grind (arith, nat_tests) in
+    let y : wakes_left (hear_at StartHigh t false false b (hears_by StartHigh begin fall bits)).state.place ≡ 0 =
+    ap (λ c. wakes_left (if c then told_so (starts t false) (Ended BadStart) else told_so (hears_by StartHigh begin fall bits) Nothing).state.place) x in omega (arith, y)
+fewer_at t b Unsampled begin fall bits e =
+    let is : fall + 1050 ≡ t = cc in
+    let x : (t == fall + 1050) ≡ true = grind (arith, nat_tests) in
+    let y : wakes_left (hear_at Unsampled t false false b (hears_by Unsampled begin fall bits)).state.place ≡ wakes_left (sample_as (last_ending bits) (not b) (hears_by Unsampled begin fall bits)).state.place =
+    ap (λ c. wakes_left (if c then sample_as (last_ending bits) (not b) (hears_by Unsampled begin fall bits) else told_so (hears_by Unsampled begin fall bits) Nothing).state.place) x in
+    let z = by_last (last_ending bits) in omega (arith, y, z)
+  where
+    by_last : (last : Option Ending) → wakes_left (sample_as last (not b) (hears_by Unsampled begin fall bits)).state.place < 2
+    by_last None = omega arith
+    by_last (Some x) = omega arith
+fewer_at t b Sampled begin fall bits e =
+    let is : fall + 2751 ≡ t = cc in
+    let x : nat_lt (fall + 2750) t ≡ true = grind (arith, nat_tests) in
+    let y : wakes_left (hear_at Sampled t false false b (hears_by Sampled begin fall bits)).state.place ≡ 0 =
+    ap (λ c. wakes_left (if c then told_so (starts t false) (Ended Silent) else told_so (hears_by Sampled begin fall bits) Nothing).state.place) x in omega (arith, y)
+
+pub fewer_so : (h new : Hears) (was is_low : Bool) (t : ℕ) (told : Told) → told_so new told ≡ hear_in t was is_low h → wake_of h ≡ Some t → is_low ≡ was → wakes_left new.place < wakes_left h.place
+fewer_so h new was is_low t told e wake level =
+    let made : told_so new told ≡ hear_at h.place t false false was h =
+    e ∙ ap (λ c. hear_in t was c h) level
+    ∙ ap (λ c. hear_at h.place t c (not was && was) was h) (no_fall was) ∙ ap (λ c. hear_at h.place t false c was h) (no_rise was) in
+    subst (λ (x : Heard). wakes_left x.state.place < wakes_left h.place) (sym made) (fewer_at t was h.place h.begin h.fall h.bits wake)
 
 -- ---- a second tick at one instant
 
@@ -239,6 +298,11 @@ wakes_now low n b Sampled begin fall bits s w e =
       tells = λ k. let x : nat_lt (fall + 2750) w ≡ true = grind (arith, nat_tests) in
           let y : Ended Silent ≡ Nothing = sym (ap (λ c. (if c then told_so (starts w false) (Ended Silent) else told_so (hears_by Sampled begin fall bits) Nothing).told) x) ∙ k in cc;
     }
+
+-- a wake is not past
+pub wake_late : (h : Hears) (low : Line) (n w : ℕ) → h ≡ kept_before low n → wake_of h ≡ Some w → n ≤ w
+wake_late h low n w keeps e =
+    (wakes_now low n false (hears low n).place (hears low n).begin (hears low n).fall (hears low n).bits (stands_at low n) w (ap wake_of (sym (keeps ∙ before_heard low n)) ∙ e)).from
 
 pub wakes_so : (h : Hears) (was : Bool) (low : Line) (t : ℕ) → h ≡ kept_before low t → was ≡ was_low low t → ((u : ℕ) → t ≤ u → low u ≡ was) → IsNextTold low t (wake_of h)
 wakes_so h was low t keeps level quiet = by_wake (wake_of h) refl

@@ -39,12 +39,12 @@ skip low t (suc n) from (e ∷ es) to l h =
           ∙ s.same;
     }
 
-none_runs : (low : Line) (t n from : ℕ) → ((u : ℕ) → from ≤ u → u < t + 1 → is_fall low u ≡ false) → running_from low t n from ≡ None
+pub none_runs : (low : Line) (t n from : ℕ) → ((u : ℕ) → from ≤ u → u < t + 1 → is_fall low u ≡ false) → running_from low t n from ≡ None
 unfolding running_from
 none_runs low t zero from q = refl
 none_runs low t (suc n) from q = ap (λ o. runs_on low t o (running_from low t n)) (first_in_none (is_fall low) from (t + 1 - from) (λ u a b. q u a (omega (arith, a, b))))
 
-one_runs : (low : Line) (t n from begin : ℕ) → t + 1 ≤ n + from → from ≤ begin → begin < t + 1 → is_fall low begin ≡ true → ((u : ℕ) → from ≤ u → u < begin → is_fall low u ≡ false)
+pub one_runs : (low : Line) (t n from begin : ℕ) → t + 1 ≤ n + from → from ≤ begin → begin < t + 1 → is_fall low begin ≡ true → ((u : ℕ) → from ≤ u → u < begin → is_fall low u ≡ false)
     → t < (reading_of low begin).at → running_from low t n from ≡ Some begin
 unfolding running_from
 one_runs low t zero from begin l a b f q late = absurd (omega arith)

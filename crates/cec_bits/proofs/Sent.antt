@@ -334,7 +334,7 @@ tells_state low n b sent l r =
 
 -- ---- a sender that is told nothing, and then something
 
-stays_same : (sent : List Bool) (state : SenderState) → after_told sent state Nothing ≡ state
+pub stays_same : (sent : List Bool) (state : SenderState) → after_told sent state Nothing ≡ state
 stays_same sent Sending = refl
 stays_same sent (Out n) = refl
 stays_same sent Stopped = refl

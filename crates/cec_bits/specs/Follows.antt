@@ -5,7 +5,7 @@ use Rattle.cec_frame.specs.declared.Ending.{Ending}
 use Rattle.cec_bits.specs.declared.receiver.Told.{Told}
 use Rattle.cec_bits.specs.declared.receiver.Told.TheVariants.{Nothing, Ended}
 use Rattle.cec_bits.specs.declared.receiver.Receiver.{Receiver}
-use Rattle.cec_bits.specs.Hears.{heard_by, wake_of}
+use Rattle.cec_bits.specs.Hears.{heard_by, wake_of, wakes_left}
 use Rattle.cec_bits.specs.Kept.{kept_of, kept_before, told_at}
 use Rattle.cec_bits.specs.Phase.{Standing, standing_of}
 use Rattle.cec_bits.specs.Phase as phase
@@ -40,6 +40,14 @@ abbrev pub FollowsAgain : Receiver → ℕ → Told → Receiver → Type 0
 FollowsAgain old t told new =
     (low other : ℕ → Bool) (ending : Ending) → heard_by old ≡ kept_of low t → old.was_low ≡ low t → low t ≡ was_low low t → told_at low t ≡ Ended ending
     → ((u : ℕ) → u < t → other u ≡ low u) → other t ≡ old.is_low → StandsOn new other t × (told ≡ Nothing)
+
+-- Up to that tick no instant told anything of such a line.
+abbrev pub TellsOnce : Receiver → ℕ → Type 0
+TellsOnce old t = (low : ℕ → Bool) (before : ℕ) → StoodBefore old low before → GoesOn old low before t → (u : ℕ) → before ≤ u → u < t → told_at low u ≡ Nothing
+
+-- A wake without an edge leaves fewer wakes: between two edges there are at most two.
+abbrev pub WakesFewer : Receiver → ℕ → Receiver → Type 0
+WakesFewer old t new = wake_of (heard_by old) ≡ Some t → old.is_low ≡ old.was_low → wakes_left new.place < wakes_left old.place
 
 -- the first instant from t on that tells something of a line
 abbrev pub IsNextTold : Line → ℕ → Option ℕ → Type 0

@@ -96,3 +96,11 @@ wake_of h = wake_at h.place h.begin h.fall
     wake_at StartHigh begin fall = Some (begin + 4701)
     wake_at Unsampled begin fall = Some (fall + 1050)
     wake_at Sampled begin fall = Some (fall + 2751)
+
+-- how many wakes there can be before the next edge
+abbrev pub wakes_left : Place → ℕ
+wakes_left Rest = 0
+wakes_left StartLow = 1
+wakes_left StartHigh = 1
+wakes_left Unsampled = 2
+wakes_left Sampled = 1

@@ -37,8 +37,8 @@ pub struct Sender {
     state: SenderState,
     // the last microsecond in which it pulls, once it has stopped, or 0
     last: u64,
-    ghost begun: { begin ≤ 2000000000000 },
-    ghost ended: { last ≤ 2000000000000 },
+    ghost begun: { begin ≤ 3000000000000 },
+    ghost ended: { last ≤ 3000000000000 },
     ghost filled: { 0 < length frame },
 }
 
@@ -50,9 +50,21 @@ impl Sender {
     ghost use Rattle.cec_bits.specs.Sending.{SenderStood, Hears, StopsAt, PullsSo, ShowsState, IsNextChange, pull_of, stopped_pull, may_pull};
     ghost use Rattle.cec_bits.specs.Sends.{low_of, takes_all, is_out_there, after_told};
 
+    /// The same sender again.
+    pub fn copy(&self) -> Self
+        ensures { result ≡ self.now }
+    {
+        Sender {
+            frame: self.frame.copy(),
+            begin: self.begin,
+            state: self.state,
+            last: self.last,
+        }
+    }
+
     /// Begins to send a frame at `t`.
     pub fn begin(frame: Frame, t: u64) -> Self
-        requires early { t ≤ 2000000000000 }
+        requires early { t ≤ 3000000000000 }
         ensures begins { (result.frame ≡ frame) × (result.begin ≡ t) }
         ensures stands { (low : ℕ → Bool) → SenderStood result low (t + 1) }
     {
@@ -78,7 +90,7 @@ impl Sender {
 
     // Whether the frame is low so long after the first slot's fall, if nothing stops it.
     fn is_low_in_slots(&self, since: u64) -> bool
-        requires early { since ≤ 2000000000000 }
+        requires early { since ≤ 3000000000000 }
         ensures { result ≡ line_of (slot_stretches 0 (frame_bits self.now.frame)) since }
     {
         let slot = (since / SLOT) as usize;
@@ -90,7 +102,7 @@ impl Sender {
 
     // Whether the frame is low at `t`, if nothing stops it.
     fn is_laid(&self, t: u64) -> bool
-        requires early { t ≤ 2000000000000 }
+        requires early { t ≤ 3000000000000 }
         ensures { result ≡ line_of (sender_stretches self.now.begin (frame_bits self.now.frame)) t }
     {
         if t < self.begin {
@@ -113,7 +125,7 @@ impl Sender {
 
     /// Whether it pulls the line low in microsecond `t`: the frame's stretches until it stops, then nothing.
     pub fn pulls(&self, t: u64) -> bool
-        requires early { t ≤ 2000000000000 }
+        requires early { t ≤ 3000000000000 }
         ensures pull { result ≡ pull_of self.now t }
         ensures round { PullsSo self.now t result }
     {
@@ -121,7 +133,7 @@ impl Sender {
     }
 
     fn is_pulling(&self, t: u64) -> bool
-        requires early { t ≤ 2000000000000 }
+        requires early { t ≤ 3000000000000 }
         ensures { result ≡ pull_of self.now t }
     {
         self.is_laid(t) && self.may_pull(t)
@@ -130,7 +142,7 @@ impl Sender {
     // The same of the next instant at which that changes, where the first slot falls at `fall`.
     fn next_in_slots(&self, fall: u64, t: u64) -> Option<u64>
         requires from { fall ≤ t }
-        requires early { t ≤ 2000000000000 }
+        requires early { t ≤ 3000000000000 }
         ensures { IsNextChange (line_of (slot_stretches fall (frame_bits self.now.frame))) t result }
     {
         let slot = ((t - fall) / SLOT) as usize;
@@ -150,7 +162,7 @@ impl Sender {
 
     // The first instant after `t` at which the frame's stretches begin or end.
     fn next_laid(&self, t: u64) -> Option<u64>
-        requires early { t ≤ 2000000000000 }
+        requires early { t ≤ 3000000000000 }
         ensures { IsNextChange (line_of (sender_stretches self.now.begin (frame_bits self.now.frame))) t result }
     {
         if t < self.begin {
@@ -166,7 +178,7 @@ impl Sender {
 
     // The same, where it has stopped.
     fn next_stopped(&self, t: u64) -> Option<u64>
-        requires early { t ≤ 2000000000000 }
+        requires early { t ≤ 3000000000000 }
         ensures { IsNextChange (stopped_pull self.now) t result }
     {
         if t > self.last {
@@ -186,7 +198,7 @@ impl Sender {
 
     /// The first instant after `t` at which its pull changes, if it is told nothing more.
     pub fn next_change(&self, t: u64) -> Option<u64>
-        requires early { t ≤ 2000000000000 }
+        requires early { t ≤ 3000000000000 }
         ensures { IsNextChange (pull_of self.now) t result }
     {
         match self.state {
@@ -228,7 +240,7 @@ impl Sender {
     }
 
     fn stop(&mut self, state: SenderState, t: u64)
-        requires early { t ≤ 2000000000000 }
+        requires early { t ≤ 3000000000000 }
         ensures keeps { (self.new.frame ≡ self.old.frame) × (self.new.begin ≡ self.old.begin) }
         ensures stops { (self.new.state ≡ state) × (self.new.last ≡ t) }
     {
@@ -238,7 +250,7 @@ impl Sender {
 
     /// What the receiver told at `t` of the reading that this sender began.
     pub fn heard(&mut self, told: Told, t: u64)
-        requires early { t ≤ 2000000000000 }
+        requires early { t ≤ 3000000000000 }
         ensures keeps { (self.new.frame ≡ self.old.frame) × (self.new.begin ≡ self.old.begin) }
         ensures hears { Hears self.old told t self.new }
         ensures stops { StopsAt self.old.state self.old.last t self.new.state self.new.last }
@@ -247,7 +259,7 @@ impl Sender {
     }
 
     fn go_by(&mut self, told: Told, t: u64)
-        requires early { t ≤ 2000000000000 }
+        requires early { t ≤ 3000000000000 }
         ensures keeps { (self.new.frame ≡ self.old.frame) × (self.new.begin ≡ self.old.begin) }
         ensures state { self.new.state ≡ after_told (frame_bits self.old.frame) self.old.state told }
         ensures stops { StopsAt self.old.state self.old.last t self.new.state self.new.last }

@@ -15,14 +15,15 @@ use Rattle.cec_wire.specs.declared.edge_wire.EdgeWire.{EdgeWire}
 use Rattle.cec_wire.specs.Round.{IsRound, IsRoundLine}
 use Rattle.cec_wire.specs.Edges.{IsNextEdge}
 use Rattle.cec_wire.specs.Lasting.{is_begun}
-use Rattle.cec_wire.specs.Wired.{EachOf, IsBegun, IsKept, IsNext, SameRound, Leaves, NextEdges, Follow, IsRoundOf, is_silent_in}
+use Rattle.cec_wire.specs.Wired.{EachOf, IsBegun, IsKept, Listens, IsNext, SameRound, Leaves, NextEdges, Follow, IsRoundOf, is_silent_in}
 use Rattle.cec_wire.proofs.Rounding.{Rests, first, rest, rests_first, rests_next, rests_more, rests_begin, round_of}
 use Rattle.cec_wire.proofs.Lasting.{begun_by, contended, low_at_begin}
 use Rattle.cec_device.specs.State.{State}
 use Rattle.hdmi_topo.specs.Node.{Node}
 use Rattle.cec_net.specs.State.{NetState, next_start}
 use Rattle.cec_net.specs.Sound.{IsSound}
-use Rattle.cec_net.specs.Step.{seats_of}
+use Rattle.std.proofs.lemmas.List.{length-map}
+use Rattle.cec_net.specs.Step.{seat_of, seats_of}
 use Rattle.cec_net.specs.Underway.{OfRound, standing_told, idle, Takes, IsNextOn, IsUnderway}
 use Rattle.cec_net.proofs.Lines.{begun, late_start}
 
@@ -31,8 +32,8 @@ use Rattle.cec_net.proofs.Lines.{begun, late_start}
 rests_of : (ps : List Stretch) (w : EdgeWire) (h : Takes ps w) → Rests w.seats.items w.begin ps [] h.left w
 rests_of ps w h = record { all_of = h.parts; late = h.late; begun = h.stands; kept = h.kept; same_seats = refl; same_begin = refl }
 
-takes_of : (seats : List Seat) (begin : ℕ) (ps left : List Stretch) (w : EdgeWire) → Rests seats begin ps [] left w → Takes ps w
-takes_of seats begin ps left w r = record { stands = r.begun; kept = r.kept; left = left; parts = r.all_of; late = r.late }
+takes_of : (seats : List Seat) (begin : ℕ) (ps left : List Stretch) (w : EdgeWire) → Listens w → Rests seats begin ps [] left w → Takes ps w
+takes_of seats begin ps left w l r = record { stands = r.begun; kept = r.kept; listens = l; left = left; parts = r.all_of; late = r.late }
 
 next_is : (ps : List Stretch) (w : EdgeWire) (next : Option Stretch) (h : Takes ps w) → next ≡ slice_get ps (length w.pulses.items) → next ≡ first h.left
 next_is ps w next h e = e ∙ rests_first w.seats.items w.begin ps [] h.left w (length w.pulses.items) (rests_of ps w h) (omega arith)
@@ -40,11 +41,11 @@ next_is ps w next h e = e ∙ rests_first w.seats.items w.begin ps [] h.left w (
 pub next_pulse : (ps : List Stretch) (w : EdgeWire) (next : Option Stretch) → AreSparse ps → Takes ps w → next ≡ slice_get ps (length w.pulses.items) → IsNext w.pulses.items w.time next
 next_pulse ps w next s h e = subst (λ o. IsNext w.pulses.items w.time o) (sym (next_is ps w next h e)) (rests_next w.seats.items w.begin ps [] h.left w s (rests_of ps w h))
 
-pub takes_on : (ps : List Stretch) (old new : EdgeWire) (next : Option Stretch) → AreSparse ps → Takes ps old → next ≡ slice_get ps (length old.pulses.items) → IsBegun new → IsKept new → SameRound old new
+pub takes_on : (ps : List Stretch) (old new : EdgeWire) (next : Option Stretch) → AreSparse ps → Takes ps old → next ≡ slice_get ps (length old.pulses.items) → IsBegun new → IsKept new → Listens new → SameRound old new
     → new.time ≤ old.time + 16000 → Leaves old next new → Takes ps new
-takes_on ps old new next s h e b kept same soon l =
+takes_on ps old new next s h e b kept hears same soon l =
     let m = rests_more old.seats.items old.begin ps [] h.left old new s (rests_of ps old h) b kept same soon (subst (λ o. Leaves old o new) (next_is ps old next h e) l) in
-    takes_of old.seats.items old.begin ps m.0 new m.1
+    takes_of old.seats.items old.begin ps m.0 new hears m.1
 
 parted : (left : List Stretch) → left ≡ option_to_list (first left) ++ rest left
 parted [] = refl
@@ -76,10 +77,10 @@ none_before start i d m = absurd (omega (arith, m))
 pub round_on : (ps : List Stretch) (w : EdgeWire) (o : Outcome) → AreSparse ps → Takes ps w → IsRoundOf w o → IsRound w.seats.items w.begin ps o
 round_on ps w o s h r = round_of w.seats.items w.begin ps [] h.left w o s (none_before w.begin) (rests_of ps w h) r
 
-pub takes_first : (s : NetState) (begin : ℕ) (w : EdgeWire) → AreSparse s.pulses → next_start s ≡ Some begin → IsBegun w → IsKept w → w.seats.items ≡ seats_of s begin → w.begin ≡ begin → w.time ≡ begin → w.pulses.items ≡ [] → Takes s.pulses w
-takes_first s begin w sparse next b kept seats begins time ps =
+pub takes_first : (s : NetState) (begin : ℕ) (w : EdgeWire) → AreSparse s.pulses → next_start s ≡ Some begin → IsBegun w → IsKept w → Listens w → w.seats.items ≡ seats_of s begin → w.begin ≡ begin → w.time ≡ begin → w.pulses.items ≡ [] → Takes s.pulses w
+takes_first s begin w sparse next b kept hears seats begins time ps =
     let m = rests_begin (seats_of s begin) begin 0 s.pulses w sparse (late_start s begin next) b kept seats begins time ps in
-    takes_of (seats_of s begin) begin s.pulses m.0 w m.1
+    takes_of (seats_of s begin) begin s.pulses m.0 w hears m.1
 
 -- ---- the round of a network
 
@@ -96,13 +97,13 @@ no_wire s w f = cc
 pub underway_along : (s t : NetState) (o : Option EdgeWire) → s ≡ t → IsUnderway (idle s) o → IsUnderway (idle t) o
 underway_along s t o e h = subst (λ x. IsUnderway (idle x) o) e h
 
-pub is_next : (s : NetState) (begin : ℕ) (w : EdgeWire) → s.close ≤ 2000000000000 → AreSparse s.pulses → next_start s ≡ Some begin → IsBegun w → IsKept w → w.seats.items ≡ seats_of s begin → w.begin ≡ begin
+pub is_next : (s : NetState) (begin : ℕ) (w : EdgeWire) → s.close ≤ 2000000000000 → AreSparse s.pulses → next_start s ≡ Some begin → IsBegun w → IsKept w → Listens w → w.seats.items ≡ seats_of s begin → w.begin ≡ begin
     → w.time ≡ begin → w.pulses.items ≡ [] → IsNextOn s w
-is_next s begin w early sparse next b kept seats begins time ps = record {
+is_next s begin w early sparse next b kept hears seats begins time ps = record {
   begins = next ∙ ap Some (sym begins);
   early = early;
   seats = seats ∙ ap (seats_of s) (sym begins);
-  takes = takes_first s begin w sparse next b kept seats begins time ps;
+  takes = takes_first s begin w sparse next b kept hears seats begins time ps;
 }
 
 pub next_on : (s : NetState) (old new : EdgeWire) → IsNextOn s old → SameRound old new → Takes s.pulses new → IsNextOn s new
@@ -166,6 +167,11 @@ stand_told s t w standing e told sparse h before after =
     subst (λ x. standing ≡ standing_told low x heard) (same_number w.begin begin (sym h.begins ∙ n))
     (subst (λ x. standing ≡ standing_told low w.begin x) (same_number w.time heard (sym told ∙ k))
     (stand_at s w low standing sparse h (line_on s w begin low h n line) before after)))
+
+pub seat_known : (s : NetState) (w : EdgeWire) (number : ℕ) → IsSound s → IsNextOn s w → number < length s.tree → number < length w.seats.items
+seat_known s w number h n l =
+    let e : length w.seats.items ≡ length s.devices = ap length n.seats ∙ length-map s.devices (seat_of s.rest w.begin) in
+    omega (arith, e, h.matched, l)
 
 -- ---- copies
 

@@ -6,7 +6,7 @@ use Rattle.cec_wave.specs.Line.{Line}
 use Rattle.cec_bits.specs.Phase.{Standing, at_rest, standing_of}
 use Rattle.cec_wire.specs.declared.edge_wire.EdgeWire.{EdgeWire}
 use Rattle.cec_wire.specs.Round.{IsRoundLine}
-use Rattle.cec_wire.specs.Wired.{IsBegun, IsKept}
+use Rattle.cec_wire.specs.Wired.{IsBegun, IsKept, Listens}
 use Rattle.cec_net.specs.State.{NetState, next_start}
 use Rattle.cec_net.specs.Step.{seats_of}
 
@@ -29,6 +29,7 @@ idle s = record s { heard = None }
 pub record Takes (pulses : List Stretch) (w : EdgeWire) : Type 0 where
   pub stands : IsBegun w
   pub kept : IsKept w
+  pub listens : Listens w
   pub left : List Stretch
   pub parts : pulses ≡ w.pulses.items ++ left
   pub late : All (λ p. w.time ≤ p.from) left

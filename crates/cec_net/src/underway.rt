@@ -30,7 +30,7 @@ fn next_edge_of(wire: &mut EdgeWire, pulses: &[Stretch]) -> Option<Edge>
     ensures round { SameRound wire.old wire.new }
     ensures near { IfSome result (λ edge. wire.new.time ≤ wire.new.begin + 470000) }
     ensures goes { MatchOption result (is_silent_in wire.new ≡ true) (λ edge. wire.old.time < wire.new.time) }
-    ensures at { IfSome result (λ edge. wire.new.time ≡ edge.at + 1) }
+    ensures at { IfSome result (λ edge. edge.at + 1 ≡ wire.new.time) }
     ensures edge { (low : ℕ → Bool) → IsRoundLine wire.old.seats.items wire.old.begin pulses.now low → IsNextEdge low wire.old.time result }
 {
     let next = next_of(wire, pulses);
@@ -115,7 +115,7 @@ impl Net<EdgeWire> {
     pub fn next_edge(&mut self) -> Option<Edge>
         requires { IsSome self.old.heard }
         ensures edge { OfRound self.old (λ begin heard low. IsNextEdge low heard result) }
-        ensures state { (heard : ℕ) × (self.new ≡ record self.old { heard = Some heard }) × IfSome result (λ edge. heard ≡ edge.at + 1) }
+        ensures state { (heard : ℕ) × (self.new ≡ record self.old { heard = Some heard }) × IfSome result (λ edge. edge.at + 1 ≡ heard) }
     {
         let Some(mut wire) = self.begun.take() else {
             unreachable!();
