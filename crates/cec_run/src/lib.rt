@@ -12,13 +12,8 @@ mod trace_text;
 mod written;
 
 pub use laws::{one_trace, runs_are_read, texts_have_one_trace};
-pub use port_text::write_ports;
-pub use root::{EdidCause, root_of};
-pub use round_text::write_round;
-pub use run::{Totals, Turn, apply_event, first_time, next_turn};
-pub use state_text::write_state;
-pub use trace_text::bits_text;
-pub use written::{counted, cut_at};
+pub use root::EdidCause;
+pub use run::Totals;
 
 #[cfg(test)]
 mod tests;
