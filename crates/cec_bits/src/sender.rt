@@ -50,6 +50,18 @@ impl Sender {
     ghost use Rattle.cec_bits.specs.Sending.{SenderStood, Hears, StopsAt, PullsSo, ShowsState, IsNextChange, pull_of, stopped_pull, may_pull};
     ghost use Rattle.cec_bits.specs.Sends.{low_of, takes_all, is_out_there, after_told};
 
+    /// The same sender again.
+    pub fn copy(&self) -> Self
+        ensures { result ≡ self.now }
+    {
+        Sender {
+            frame: self.frame.copy(),
+            begin: self.begin,
+            state: self.state,
+            last: self.last,
+        }
+    }
+
     /// Begins to send a frame at `t`.
     pub fn begin(frame: Frame, t: u64) -> Self
         requires early { t ≤ 3000000000000 }

@@ -37,9 +37,9 @@ accepted at (Unplug child) s = rewired at (unplugged s.tree child) s
 accepted at (Key device key press) s = record s { devices = changed_at device (λ d. keyed 16 d key press at) s.devices }
 accepted at (Send device frame) s = record s { devices = changed_at device (λ d. submitted 16 d frame at) s.devices }
 
--- an event that is refused changes nothing
+-- A round that was begun is given up by an event; one that is refused changes nothing.
 abbrev pub applied_unless : Option EventError → ℕ → Event → NetState → NetState
-applied_unless None at event s = accepted at event s
+applied_unless None at event s = record (accepted at event s) { heard = None }
 applied_unless (Some fault) at event s = s
 
 abbrev pub applied : ℕ → Event → NetState → NetState

@@ -9,13 +9,14 @@ use Rattle.cec_device.specs.Place.{is_on_wire, fresh, joined, left}
 use Rattle.cec_net.specs.Start.{sooner, least_start, first_onset}
 
 -- the tree, its devices by number, the pulses that no round has taken, the end of the last round and that
--- of its last low stretch
+-- of its last low stretch; and where a round was begun to be taken edge by edge, the instant before which its line was told
 pub record NetState : Type 0 where
   pub tree : List Node
   pub devices : List State
   pub pulses : List Stretch
   pub close : ℕ
   pub rest : ℕ
+  pub heard : Option ℕ
 
 -- each device, from number n on, changed by its number
 abbrev pub each_from : ℕ → (ℕ → State → State) → List State → List State
@@ -41,7 +42,7 @@ loose tree = map (λ node. fresh node.kind node.name node.ports) tree
 
 -- A run begins at 0, where the devices that the tree joins come on the wire.
 abbrev pub started : List Node → List Stretch → NetState
-started tree pulses = rewired 0 tree (record { tree = tree; devices = loose tree; pulses = pulses; close = 0; rest = 0 })
+started tree pulses = rewired 0 tree (record { tree = tree; devices = loose tree; pulses = pulses; close = 0; rest = 0; heard = None })
 
 -- the begin of the next round: the least start of a device, or the onset of the next pulse where that is sooner
 abbrev pub next_start : NetState → Option ℕ

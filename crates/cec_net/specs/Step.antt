@@ -83,6 +83,7 @@ after_round s begin o = record s {
   pulses = filter (λ p. nat_lt o.rest p.from) s.pulses;
   close = close_in o;
   rest = o.rest;
+  heard = None;
 }
 
 -- The next round: it begins at `begin`, gives this outcome, and leaves that state.

@@ -79,7 +79,38 @@ fn hear_all(senders: &mut [Option<Sender>], told: Told, t: u64)
     }
 }
 
+// The same sender again, if there is one.
+fn copied_sender(sender: &Option<Sender>) -> Option<Sender>
+    ensures { result ≡ sender.now }
+{
+    match sender {
+        None => None,
+        Some(sender) => Some(sender.copy()),
+    }
+}
+
+fn copied_senders(senders: &[Option<Sender>]) -> ArrayVec<Option<Sender>, 15>
+    requires { length senders.now ≤ 15 }
+    ensures { result.items ≡ senders.now }
+{
+    let mut copy = ArrayVec::new();
+    for sender in senders {
+        copy.push(copied_sender(sender));
+    }
+    copy
+}
+
 impl Listeners {
+    /// The same listeners again.
+    pub fn copy(&self) -> Self
+        ensures { result ≡ self.now }
+    {
+        Listeners {
+            receiver: self.receiver.copy(),
+            senders: copied_senders(self.senders.as_slice()),
+        }
+    }
+
     /// Before the round that begins at `begin`.
     pub fn new(seats: &[Seat], begin: u64) -> Self
         requires few { length seats.now ≤ 15 }

@@ -25,6 +25,16 @@ impl Recorder {
         }
     }
 
+    /// The same record again.
+    pub fn copy(&self) -> Self
+        ensures { result ≡ self.now }
+    {
+        Recorder {
+            wave: self.wave.copy(),
+            low_since: self.low_since,
+        }
+    }
+
     /// Whether the line was low last.
     pub fn was_low(&self) -> bool
         ensures { result ≡ is_some self.now.low_since }

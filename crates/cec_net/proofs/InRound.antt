@@ -1,0 +1,189 @@
+-- A round that is taken edge by edge: the wire on which it goes, and the pulses that it is handed.
+use Rattle.std.proofs.Common.{◌≡◌, ℕ, zero, suc, ◌+◌, ◌-◌, ◌<◌, ◌≤◌, Bool, true, false, nat_lt, if◌then◌else◌, List, [], ◌∷◌, ◌++◌, length, slice_get, Option, Some, None, IfSome, MatchOption, is_some, refl, arith, ap, ◌∙◌, sym, subst}
+use Rattle.std.specs.List.{All}
+use Rattle.std.specs.Option.{option_to_list, option_map, ForSome}
+use Rattle.std.proofs.lemmas.Bool.Decides.{nat_tests}
+use Rattle.cec_wave.specs.declared.Stretch.{Stretch}
+use Rattle.cec_wave.specs.declared.Edge.{Edge}
+use Rattle.cec_wave.specs.Line.{Line}
+use Rattle.cec_wave.specs.Pulses.{AreSparse}
+use Rattle.cec_bits.specs.Phase.{Standing, at_rest, standing_of}
+use Rattle.cec_bits.specs.Reading.{start_of}
+use Rattle.cec_wire.specs.declared.Seat.{Seat}
+use Rattle.cec_wire.specs.declared.Outcome.{Outcome}
+use Rattle.cec_wire.specs.declared.edge_wire.EdgeWire.{EdgeWire}
+use Rattle.cec_wire.specs.Round.{IsRound, IsRoundLine}
+use Rattle.cec_wire.specs.Edges.{IsNextEdge}
+use Rattle.cec_wire.specs.Lasting.{is_begun}
+use Rattle.cec_wire.specs.Wired.{EachOf, IsBegun, IsKept, Listens, IsNext, SameRound, Leaves, NextEdges, Follow, IsRoundOf, is_silent_in}
+use Rattle.cec_wire.proofs.Rounding.{Rests, first, rest, rests_first, rests_next, rests_more, rests_begin, round_of}
+use Rattle.cec_wire.proofs.Lasting.{begun_by, contended, low_at_begin}
+use Rattle.cec_device.specs.State.{State}
+use Rattle.hdmi_topo.specs.Node.{Node}
+use Rattle.cec_net.specs.State.{NetState, next_start}
+use Rattle.cec_net.specs.Sound.{IsSound}
+use Rattle.std.proofs.lemmas.List.{length-map}
+use Rattle.cec_net.specs.Step.{seat_of, seats_of}
+use Rattle.cec_net.specs.Underway.{OfRound, standing_told, idle, Takes, IsNextOn, IsUnderway}
+use Rattle.cec_net.proofs.Lines.{begun, late_start}
+
+-- ---- the pulses
+
+rests_of : (ps : List Stretch) (w : EdgeWire) (h : Takes ps w) → Rests w.seats.items w.begin ps [] h.left w
+rests_of ps w h = record { all_of = h.parts; late = h.late; begun = h.stands; kept = h.kept; same_seats = refl; same_begin = refl }
+
+takes_of : (seats : List Seat) (begin : ℕ) (ps left : List Stretch) (w : EdgeWire) → Listens w → Rests seats begin ps [] left w → Takes ps w
+takes_of seats begin ps left w l r = record { stands = r.begun; kept = r.kept; listens = l; left = left; parts = r.all_of; late = r.late }
+
+next_is : (ps : List Stretch) (w : EdgeWire) (next : Option Stretch) (h : Takes ps w) → next ≡ slice_get ps (length w.pulses.items) → next ≡ first h.left
+next_is ps w next h e = e ∙ rests_first w.seats.items w.begin ps [] h.left w (length w.pulses.items) (rests_of ps w h) (omega arith)
+
+pub next_pulse : (ps : List Stretch) (w : EdgeWire) (next : Option Stretch) → AreSparse ps → Takes ps w → next ≡ slice_get ps (length w.pulses.items) → IsNext w.pulses.items w.time next
+next_pulse ps w next s h e = subst (λ o. IsNext w.pulses.items w.time o) (sym (next_is ps w next h e)) (rests_next w.seats.items w.begin ps [] h.left w s (rests_of ps w h))
+
+pub takes_on : (ps : List Stretch) (old new : EdgeWire) (next : Option Stretch) → AreSparse ps → Takes ps old → next ≡ slice_get ps (length old.pulses.items) → IsBegun new → IsKept new → Listens new → SameRound old new
+    → new.time ≤ old.time + 16000 → Leaves old next new → Takes ps new
+takes_on ps old new next s h e b kept hears same soon l =
+    let m = rests_more old.seats.items old.begin ps [] h.left old new s (rests_of ps old h) b kept same soon (subst (λ o. Leaves old o new) (next_is ps old next h e) l) in
+    takes_of old.seats.items old.begin ps m.0 new hears m.1
+
+parted : (left : List Stretch) → left ≡ option_to_list (first left) ++ rest left
+parted [] = refl
+parted (p ∷ left) = refl
+
+followed_by : (left : List Stretch) → Follow (first left) (rest left)
+followed_by [] = refl
+followed_by (p ∷ left) = tt
+
+pub edge_on : (ps : List Stretch) (old : EdgeWire) (next : Option Stretch) (edge : Option Edge) → AreSparse ps → Takes ps old → next ≡ slice_get ps (length old.pulses.items) → NextEdges old next edge
+    → (low : ℕ → Bool) → IsRoundLine old.seats.items old.begin ps low → IsNextEdge low old.time edge
+edge_on ps old next edge s h e n low line =
+    let all : ps ≡ old.pulses.items ++ (option_to_list (first h.left) ++ rest h.left) = h.parts ∙ ap (λ (qs : List Stretch). old.pulses.items ++ qs) (parted h.left) in
+    (subst (λ o. NextEdges old o edge) (next_is ps old next h e) n) (rest h.left) low (subst AreSparse all s) (followed_by h.left)
+    (subst (λ qs. IsRoundLine old.seats.items old.begin qs low) all line)
+
+pub silent_when : (edge : Option Edge) (w : EdgeWire) (P : Edge → Type 0) → is_some edge ≡ false → MatchOption edge (is_silent_in w ≡ true) P → is_silent_in w ≡ true
+silent_when None w P e m = m
+silent_when (Some edge) w P e m = cc
+
+pub goes_on_when : (edge : Option Edge) (old new : EdgeWire) → is_some edge ≡ true → IfSome edge (λ e. new.time ≤ new.begin + 470000) → MatchOption edge (is_silent_in new ≡ true) (λ e. old.time < new.time)
+    → (new.time ≤ new.begin + 470000) × (old.time < new.time)
+goes_on_when None old new e n g = cc
+goes_on_when (Some edge) old new e n g = (n, g)
+
+none_before : (start : ℕ) → All (λ (p : Stretch). p.from < start) []
+none_before start i d m = absurd (omega (arith, m))
+
+pub round_on : (ps : List Stretch) (w : EdgeWire) (o : Outcome) → AreSparse ps → Takes ps w → IsRoundOf w o → IsRound w.seats.items w.begin ps o
+round_on ps w o s h r = round_of w.seats.items w.begin ps [] h.left w o s (none_before w.begin) (rests_of ps w h) r
+
+pub takes_first : (s : NetState) (begin : ℕ) (w : EdgeWire) → AreSparse s.pulses → next_start s ≡ Some begin → IsBegun w → IsKept w → Listens w → w.seats.items ≡ seats_of s begin → w.begin ≡ begin → w.time ≡ begin → w.pulses.items ≡ [] → Takes s.pulses w
+takes_first s begin w sparse next b kept hears seats begins time ps =
+    let m = rests_begin (seats_of s begin) begin 0 s.pulses w sparse (late_start s begin next) b kept seats begins time ps in
+    takes_of (seats_of s begin) begin s.pulses m.0 w hears m.1
+
+-- ---- the round of a network
+
+pub sound_so : (s : NetState) → IsSound (idle s) → IsSound s
+sound_so s h = record { few = h.few; matched = h.matched; rested = h.rested; closed = h.closed; ready = h.ready; early = h.early; later = h.later; orderly = h.orderly }
+
+pub none_underway : (s : NetState) (o : Option EdgeWire) → option_map (λ w. w.time) o ≡ None → IsUnderway s o
+none_underway s None e w f = cc
+none_underway s (Some v) e w f = cc
+
+pub no_wire : (s : NetState) → IsUnderway s None
+no_wire s w f = cc
+
+pub underway_along : (s t : NetState) (o : Option EdgeWire) → s ≡ t → IsUnderway (idle s) o → IsUnderway (idle t) o
+underway_along s t o e h = subst (λ x. IsUnderway (idle x) o) e h
+
+pub is_next : (s : NetState) (begin : ℕ) (w : EdgeWire) → s.close ≤ 2000000000000 → AreSparse s.pulses → next_start s ≡ Some begin → IsBegun w → IsKept w → Listens w → w.seats.items ≡ seats_of s begin → w.begin ≡ begin
+    → w.time ≡ begin → w.pulses.items ≡ [] → IsNextOn s w
+is_next s begin w early sparse next b kept hears seats begins time ps = record {
+  begins = next ∙ ap Some (sym begins);
+  early = early;
+  seats = seats ∙ ap (seats_of s) (sym begins);
+  takes = takes_first s begin w sparse next b kept hears seats begins time ps;
+}
+
+pub next_on : (s : NetState) (old new : EdgeWire) → IsNextOn s old → SameRound old new → Takes s.pulses new → IsNextOn s new
+next_on s old new h same takes = record {
+  begins = h.begins ∙ ap Some (sym same.begin);
+  early = h.early;
+  seats = same.seats ∙ h.seats ∙ ap (seats_of s) (sym same.begin);
+  takes = takes;
+}
+
+pub some_wire : (s : NetState) (w : EdgeWire) → IsNextOn s w → IsUnderway s (Some w)
+some_wire s w h v e = let f : w ≡ v = some_is w v e in subst (λ x. IsNextOn s x) f h
+  where
+    some_is : (x y : EdgeWire) → Some x ≡ Some y → x ≡ y
+    some_is x y e = ap (λ (o : Option EdgeWire). from x o) e
+      where
+        from : EdgeWire → Option EdgeWire → EdgeWire
+        from d None = d
+        from d (Some z) = z
+
+same_number : (x y : ℕ) → Some x ≡ Some y → x ≡ y
+same_number x y e = cc
+
+-- the line of the round on the wire is the network's next round's
+line_on : (s : NetState) (w : EdgeWire) (begin : ℕ) (low : Line) → IsNextOn (idle s) w → next_start s ≡ Some begin → IsRoundLine (seats_of s begin) begin s.pulses low → IsRoundLine w.seats.items w.begin s.pulses low
+line_on s w begin low h n line =
+    let b : begin ≡ w.begin = same_number begin w.begin (sym n ∙ h.begins) in
+    subst (λ x. IsRoundLine x w.begin s.pulses low) (sym h.seats) (subst (λ x. IsRoundLine (seats_of s x) x s.pulses low) b line)
+
+pub edge_told : (s t : NetState) (w : EdgeWire) (edge : Option Edge) → s ≡ t → s.heard ≡ Some w.time → IsNextOn (idle s) w
+    → ((low : ℕ → Bool) → IsRoundLine w.seats.items w.begin s.pulses low → IsNextEdge low w.time edge) → OfRound t (λ begin heard low. IsNextEdge low heard edge)
+edge_told s t w edge e told h step =
+    subst (λ x. OfRound x (λ begin heard low. IsNextEdge low heard edge)) e
+    (λ begin heard low n k line. subst (λ x. IsNextEdge low x edge) (same_number w.time heard (sym told ∙ k)) (step low (line_on s w begin low h n line)))
+
+stand_at : (s : NetState) (w : EdgeWire) (low : Line) (standing : Standing) → AreSparse s.pulses → IsNextOn (idle s) w → IsRoundLine w.seats.items w.begin s.pulses low
+    → (w.time ≡ w.begin → standing ≡ at_rest false)
+    → (w.begin < w.time → EachOf w (λ l. l w.begin ≡ true → standing ≡ standing_of l (w.time - 1)))
+    → standing ≡ standing_told low w.begin w.time
+stand_at s w low standing sparse h line before after = by_time (nat_lt w.begin w.time) refl
+  where
+    falls : low w.begin ≡ true
+    falls =
+        low_at_begin w.seats.items w.begin s.pulses low sparse (contended w.seats.items w.begin s.pulses low line) (begun_by low w.begin (start_of low w.begin) refl).tells
+        (subst (λ x. is_begun_by x) (sym h.seats) (begun s w.begin h.begins))
+      where
+        is_begun_by : List Seat → Type 0
+        is_begun_by x = is_begun x w.begin s.pulses ≡ true
+
+    by_time : (b : Bool) → nat_lt w.begin w.time ≡ b → standing ≡ (if b then standing_of low (w.time - 1) else at_rest false)
+    by_time true e = after (grind (arith, nat_tests)) h.takes.left low (subst AreSparse h.takes.parts sparse) h.takes.late (subst (λ ps. IsRoundLine w.seats.items w.begin ps low) h.takes.parts line) falls
+    by_time false e = before (let l : w.begin ≤ w.time = h.takes.stands.from in grind (arith, nat_tests))
+
+pub stand_told : (s t : NetState) (w : EdgeWire) (standing : Standing) → s ≡ t → s.heard ≡ Some w.time → AreSparse s.pulses → IsNextOn (idle s) w
+    → (w.time ≡ w.begin → standing ≡ at_rest false)
+    → (w.begin < w.time → EachOf w (λ low. low w.begin ≡ true → standing ≡ standing_of low (w.time - 1)))
+    → OfRound t (λ begin heard low. standing ≡ standing_told low begin heard)
+stand_told s t w standing e told sparse h before after =
+    subst (λ x. OfRound x (λ begin heard low. standing ≡ standing_told low begin heard)) e
+    (λ begin heard low n k line.
+    subst (λ x. standing ≡ standing_told low x heard) (same_number w.begin begin (sym h.begins ∙ n))
+    (subst (λ x. standing ≡ standing_told low w.begin x) (same_number w.time heard (sym told ∙ k))
+    (stand_at s w low standing sparse h (line_on s w begin low h n line) before after)))
+
+pub seat_known : (s : NetState) (w : EdgeWire) (number : ℕ) → IsSound s → IsNextOn s w → number < length s.tree → number < length w.seats.items
+seat_known s w number h n l =
+    let e : length w.seats.items ≡ length s.devices = ap length n.seats ∙ length-map s.devices (seat_of s.rest w.begin) in
+    omega (arith, e, h.matched, l)
+
+-- ---- copies
+
+pub same_state : (s : NetState) (o p : Option EdgeWire) (tree : List Node) (devices : List State) (pulses : List Stretch) → tree ≡ s.tree → devices ≡ s.devices → pulses ≡ s.pulses → p ≡ o
+    → IsSound s × IsUnderway s o → IsSound (record s { tree = tree; devices = devices; pulses = pulses }) × IsUnderway (record s { tree = tree; devices = devices; pulses = pulses }) p
+same_state s o p tree devices pulses a b c d h =
+    let e : record s { tree = tree; devices = devices; pulses = pulses } ≡ s = (λ i. record s { tree = a i; devices = b i; pulses = c i }) in
+    let Keeps : NetState → Type 0 = λ t. IsSound t × IsUnderway t p in
+    subst Keeps (sym e) (h.0, subst (λ q. IsUnderway s q) (sym d) h.1)
+
+-- ---- the end
+
+pub round_is : (s : NetState) (w : EdgeWire) (begin : ℕ) (ps : List Stretch) (o : Outcome) → IsNextOn s w → begin ≡ w.begin → ps ≡ s.pulses → IsRound w.seats.items w.begin ps o → IsRound (seats_of s begin) begin s.pulses o
+round_is s w begin ps o h b p r =
+    subst (λ x. IsRound (seats_of s x) x s.pulses o) (sym b) (subst (λ x. IsRound x w.begin s.pulses o) h.seats (subst (λ x. IsRound w.seats.items w.begin x o) p r))

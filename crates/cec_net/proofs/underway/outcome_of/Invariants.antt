@@ -1,0 +1,14 @@
+use Rattle.std.proofs.Common.{◌+◌, ◌-◌}
+use Rattle.cec_wire.specs.Wired.{SameRound}
+use Rattle.cec_net.specs.Underway.{Takes}
+use Rattle.cec_net.proofs.underway.outcome_of.Given as goal
+
+-- the wire stands in the round
+abbrev pub invariant-edges : goal.invariant-edges
+invariant-edges l = record {
+  takes : Takes l.pulses l.wire;
+  same : SameRound l.initial.wire l.wire;
+}
+
+abbrev pub decreases-edges : goal.decreases-edges
+decreases-edges l = l.wire.begin + 480000 - l.wire.time

@@ -1,0 +1,46 @@
+-- A round that was begun, and whose line is told edge by edge (own).
+use Rattle.std.specs.Prelude.{◌≡◌, ℕ, ◌-◌, ◌≤◌, Bool, false, nat_lt, if◌then◌else◌, List, ◌++◌, All, Option, Some, None}
+use Rattle.std.specs.Option.{ForSome}
+use Rattle.cec_wave.specs.declared.Stretch.{Stretch}
+use Rattle.cec_wave.specs.Line.{Line}
+use Rattle.cec_bits.specs.Phase.{Standing, at_rest, standing_of}
+use Rattle.cec_wire.specs.declared.edge_wire.EdgeWire.{EdgeWire}
+use Rattle.cec_wire.specs.Round.{IsRoundLine}
+use Rattle.cec_wire.specs.Wired.{IsBegun, IsKept, Listens}
+use Rattle.cec_net.specs.State.{NetState, next_start}
+use Rattle.cec_net.specs.Step.{seats_of}
+
+-- A fact of each line that the round can have which was begun: of its begin, of the instant before which it was told, and of
+-- the line. There is one line (`one_line` of cec_wire).
+abbrev pub OfRound : NetState → (ℕ → ℕ → (ℕ → Bool) → Type 0) → Type 0
+OfRound s P = (begin heard : ℕ) (low : ℕ → Bool) → next_start s ≡ Some begin → s.heard ≡ Some heard → IsRoundLine (seats_of s begin) begin s.pulses low → P begin heard low
+
+-- where each receiver stands by what was told of the line before an instant; before the first edge the line is high
+abbrev pub standing_told : Line → ℕ → ℕ → Standing
+standing_told low begin heard = if nat_lt begin heard then standing_of low (heard - 1) else at_rest false
+
+-- ---- the wire that tells it
+
+-- with no round begun
+abbrev pub idle : NetState → NetState
+idle s = record s { heard = None }
+
+-- A wire stands in a round, and has taken those of these pulses that have begun.
+pub record Takes (pulses : List Stretch) (w : EdgeWire) : Type 0 where
+  pub stands : IsBegun w
+  pub kept : IsKept w
+  pub listens : Listens w
+  pub left : List Stretch
+  pub parts : pulses ≡ w.pulses.items ++ left
+  pub late : All (λ p. w.time ≤ p.from) left
+
+-- It stands in the next round.
+pub record IsNextOn (s : NetState) (w : EdgeWire) : Type 0 where
+  pub begins : next_start s ≡ Some w.begin
+  pub early : s.close ≤ 2000000000000
+  pub seats : w.seats.items ≡ seats_of s w.begin
+  pub takes : Takes s.pulses w
+
+-- a round that was begun is the next one
+abbrev pub IsUnderway : NetState → Option EdgeWire → Type 0
+IsUnderway s begun = ForSome begun (λ w. IsNextOn s w)

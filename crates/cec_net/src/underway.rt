@@ -1,0 +1,157 @@
+//! A round that is taken edge by edge.
+ghost use Rattle.std.specs.Prelude.{◌≡◌, ◌+◌, ◌≤◌, ◌<◌, length, IfSome, MatchOption, Option, slice_get, ℕ, Bool, true};
+ghost use Rattle.cec_wave.specs.Pulses.{AreSparse};
+ghost use Rattle.cec_wire.specs.Edges.{IsNextEdge};
+ghost use Rattle.cec_wire.specs.Round.{IsRound, IsRoundLine};
+ghost use Rattle.cec_wire.specs.Wired.{IsBegun, is_silent_in, SameRound};
+ghost use Rattle.cec_net.specs.Underway.{Takes};
+
+use crate::net::Net;
+use crate::step::{RoundReport, seats_of};
+use crate::wiring::DEVICES;
+use arrayvec::ArrayVec;
+use cec_bits::Standing;
+use cec_device::Device;
+use cec_wave::{Edge, Stretch};
+use cec_wire::{EdgeWire, Outcome};
+
+// The first of the pulses that has not begun.
+fn next_of(wire: &EdgeWire, pulses: &[Stretch]) -> Option<Stretch>
+    ensures { result ≡ slice_get pulses.now (length wire.now.pulses.items) }
+{
+    pulses.get(wire.pulses_begun()).copied()
+}
+
+// The next edge of the round in which a wire stands, with these pulses.
+fn next_edge_of(wire: &mut EdgeWire, pulses: &[Stretch]) -> Option<Edge>
+    requires sparse { AreSparse pulses.now }
+    requires takes { Takes pulses.now wire.old }
+    ensures takes { Takes pulses.now wire.new }
+    ensures round { SameRound wire.old wire.new }
+    ensures near { IfSome result (λ edge. wire.new.time ≤ wire.new.begin + 470000) }
+    ensures goes { MatchOption result (is_silent_in wire.new ≡ true) (λ edge. wire.old.time < wire.new.time) }
+    ensures at { IfSome result (λ edge. edge.at + 1 ≡ wire.new.time) }
+    ensures edge { (low : ℕ → Bool) → IsRoundLine wire.old.seats.items wire.old.begin pulses.now low → IsNextEdge low wire.old.time result }
+{
+    let next = next_of(wire, pulses);
+    wire.next_edge(next)
+}
+
+// What a round gives, with the edges that are left.
+fn outcome_of(wire: EdgeWire, pulses: &[Stretch]) -> Outcome
+    requires sparse { AreSparse pulses.now }
+    requires takes { Takes pulses.now wire }
+    ensures { IsRound wire.seats.items wire.begin pulses.now result }
+{
+    let mut wire = wire;
+    'edges: while next_edge_of(&mut wire, pulses).is_some() {}
+    wire.finish()
+}
+
+fn copied_devices(devices: &[Device<16>]) -> ArrayVec<Device<16>, DEVICES>
+    requires { length devices.now ≤ 15 }
+    ensures { result.items ≡ devices.now }
+{
+    let mut copy = ArrayVec::new();
+    for device in devices {
+        copy.push(device.copy());
+    }
+    copy
+}
+
+fn copied_wire(wire: &Option<EdgeWire>) -> Option<EdgeWire>
+    ensures { result ≡ wire.now }
+{
+    match wire {
+        None => None,
+        Some(wire) => Some(wire.copy()),
+    }
+}
+
+impl Net<EdgeWire> {
+    ghost use Rattle.std.specs.Prelude.{MatchBool, Some, None, IsSome};
+    ghost use Rattle.cec_bits.specs.Follows.{shown};
+    ghost use Rattle.cec_net.specs.State.{next_start};
+    ghost use Rattle.cec_net.specs.Step.{IsNextRound};
+    ghost use Rattle.cec_net.specs.Progress.{IsProgress};
+    ghost use Rattle.cec_net.specs.Held.{HeldOnce};
+    ghost use Rattle.cec_net.specs.Underway.{OfRound, standing_told};
+
+    /// The same network again, where this one stands.
+    pub fn copy(&self) -> Self
+        ensures { result ≡ self.now }
+    {
+        Net {
+            tree: self.tree.copy(),
+            wire: self.wire.copy(),
+            pulses: self.pulses.copy(),
+            devices: copied_devices(&self.devices),
+            close: self.close,
+            rest: self.rest,
+            begun: copied_wire(&self.begun),
+        }
+    }
+
+    /// Begins the next round, to take it edge by edge. A round that was begun is given up. False, and nothing changes,
+    /// where there is no next start. The last round closed by 2,000,000,000,000.
+    pub fn begin(&mut self) -> bool
+        requires { self.old.close ≤ 2000000000000 }
+        ensures { MatchBool result
+            ((begin : ℕ) × (next_start self.old ≡ Some begin) × (self.new ≡ record self.old { heard = Some begin }))
+            ((next_start self.old ≡ None) × (self.new ≡ self.old)) }
+    {
+        let Some(begin) = self.next_start() else {
+            return false;
+        };
+        let seats = seats_of(&self.devices, self.rest, begin);
+        let _pulses = self.pulses.as_slice();
+        let mut wire = EdgeWire::new();
+        wire.begin(&seats, begin);
+        self.begun = Some(wire);
+        true
+    }
+
+    /// The next edge of the line of a round that was begun, if there is one. The line is then told through that edge.
+    pub fn next_edge(&mut self) -> Option<Edge>
+        requires { IsSome self.old.heard }
+        ensures edge { OfRound self.old (λ begin heard low. IsNextEdge low heard result) }
+        ensures state { (heard : ℕ) × (self.new ≡ record self.old { heard = Some heard }) × IfSome result (λ edge. edge.at + 1 ≡ heard) }
+    {
+        let Some(mut wire) = self.begun.take() else {
+            unreachable!();
+        };
+        let edge = next_edge_of(&mut wire, self.pulses.as_slice());
+        self.begun = Some(wire);
+        edge
+    }
+
+    /// Where the receiver of a device stands in a round that was begun, by what was told of its line so far. The
+    /// device's number is below the count.
+    pub fn standing_of(&self, number: usize) -> Standing<'_>
+        requires underway { IsSome self.now.heard }
+        requires known { number < length self.now.tree }
+        ensures { OfRound self.now (λ begin heard low. shown result ≡ standing_told low begin heard) }
+    {
+        let _pulses = self.pulses.as_slice();
+        match &self.begun {
+            None => unreachable!(),
+            Some(wire) => wire.standing_of(number),
+        }
+    }
+
+    /// Takes the edges that are left of a round that was begun, and ends it as `round` does.
+    pub fn finish_round(&mut self) -> RoundReport
+        requires { IsSome self.old.heard }
+        ensures begins { next_start self.old ≡ Some result.begin }
+        ensures step { IsNextRound self.old result.begin result.outcome self.new }
+        ensures progress { IsProgress self.old result.begin self.new }
+        ensures once { HeldOnce self.new.devices }
+    {
+        let Some(wire) = self.begun.take() else {
+            unreachable!();
+        };
+        let begin = wire.begun_at();
+        let outcome = outcome_of(wire, self.pulses.as_slice());
+        self.end(begin, outcome)
+    }
+}
