@@ -116,15 +116,19 @@ fn takes_one_block_to_four(rt: HostRuntime) -> Result<(), Fail> {
 /// Four blocks: the television's with three extensions to follow, a block map, one with an HDMI block, an empty one.
 fn four_blocks() -> [u8; 512] {
     let mut bytes = [0; 512];
-    bytes[..256].copy_from_slice(&both_blocks());
+    bytes[..128].copy_from_slice(&LOUNGE);
+    bytes[256..278].copy_from_slice(&EXTENSION);
     bytes[126] = 0x03;
     bytes[127] = 0x4f;
-    bytes[128..150].copy_from_slice(&[0; 22]);
-    bytes[128..131].copy_from_slice(&[0xf0, 0x02, 0x02]);
+    bytes[128] = 0xf0;
+    bytes[129] = 0x02;
+    bytes[130] = 0x02;
     bytes[255] = 0x0c;
-    bytes[256..278].copy_from_slice(&EXTENSION);
     bytes[383] = 0xe8;
-    bytes[384..388].copy_from_slice(&[0x02, 0x03, 0x04, 0xf1]);
+    bytes[384] = 0x02;
+    bytes[385] = 0x03;
+    bytes[386] = 0x04;
+    bytes[387] = 0xf1;
     bytes[511] = 0x06;
     bytes
 }
