@@ -42,7 +42,7 @@ pub next_pulse : (ps : List Stretch) (w : EdgeWire) (next : Option Stretch) → 
 next_pulse ps w next s h e = subst (λ o. IsNext w.pulses.items w.time o) (sym (next_is ps w next h e)) (rests_next w.seats.items w.begin ps [] h.left w s (rests_of ps w h))
 
 pub takes_on : (ps : List Stretch) (old new : EdgeWire) (next : Option Stretch) → AreSparse ps → Takes ps old → next ≡ slice_get ps (length old.pulses.items) → IsBegun new → IsKept new → Listens new → SameRound old new
-    → new.time ≤ old.time + 16000 → Leaves old next new → Takes ps new
+    → new.time ≤ old.time + 23000 → Leaves old next new → Takes ps new
 takes_on ps old new next s h e b kept hears same soon l =
     let m = rests_more old.seats.items old.begin ps [] h.left old new s (rests_of ps old h) b kept same soon (subst (λ o. Leaves old o new) (next_is ps old next h e) l) in
     takes_of old.seats.items old.begin ps m.0 new hears m.1
