@@ -1,0 +1,712 @@
+#!/usr/bin/env python3
+"""python3 compare.py PROGRAM KIND COUNT SEED: random inputs of KIND through PROGRAM and the model; prints differences.
+KIND: run feat wire edges mon step asm edid edtext odd."""
+import os, random, subprocess, sys, time
+import wire, edid, net
+from model import model
+
+MAXDIFF = int(os.environ.get('MODEL_MAX', '5'))
+KINDS5 = ['tv', 'amp', 'player', 'recorder', 'switch'] + (['combo', 'combo'] if net.BOX else [])
+
+
+def prog(program, args, data):
+    try:
+        p = subprocess.run([program] + args, input=data, capture_output=True, timeout=120)
+    except subprocess.TimeoutExpired:
+        return 'timeout', b'', ''
+    e = p.stderr.decode('latin1').split('\n')[0]
+    f = e[9:] if e.startswith('hdminet: ') else ('?' + e if e else '')
+    return p.returncode, p.stdout, f
+
+
+def differs(program, args, data):
+    try:
+        m = model(args, data)
+    except Exception as x:
+        m = ('model', b'', repr(x))
+        raise
+    g = prog(program, args, data)
+    return (m, g) if m != g else None
+
+
+def minimise(program, args, data, budget=250):
+    """drops lines, then words' digits are left alone"""
+    if b'\0' in data[:64] or args[:1] == ['edid'] and '--text' not in args:
+        return data
+    def cls(d):
+        m, g = d
+        return (m[0], g[0], m[2].split(' ')[0], g[2].split(' ')[0])
+    first = differs(program, args, data)
+    want = cls(first)
+    ls = data.split(b'\n')
+    n = max(1, len(ls) // 2)
+    while n >= 1 and budget > 0:
+        i = 0
+        changed = False
+        while i < len(ls) and budget > 0:
+            cand = ls[:i] + ls[i + n:]
+            budget -= 1
+            d = b'\n'.join(cand)
+            try: x = differs(program, args, d)
+            except Exception: x = None
+            if x and cls(x) == want:
+                ls = cand
+                changed = True
+            else: i += n
+        if n == 1 and not changed: break
+        n = max(1, n // 2) if n > 1 else (1 if changed else 0)
+    return b'\n'.join(ls)
+
+
+# ------------------------------------------------------------------ generators
+B = bytes.fromhex('00ffffffffffff004c2d0201010000000a15010380341d780aee91a3544c99260f5054000000' + '0101' * 8 + '023a801871382d40582c450008222100001e000000fc004c4f554e474520545620303031' + ('00000010' + '00' * 14) * 2 + '0151')
+X = bytes.fromhex('020316f143900403230907078301000065030c000000' + '00' * 105 + 'e8')
+
+
+def gen_block_hdmi(r):
+    return bytes([3, 12, 0, r.choice([0, 0x10, 0xff]), 0]) + r.randbytes(r.choice([0, 0, 1, 3, 26]))
+
+
+def gen_timing(r):
+    b = bytearray(r.randbytes(18))
+    if not (b[0] or b[1]): b[0] = 1
+    return bytes(b)
+
+
+def gen_ext(r, room_mode=True):
+    """a CTA extension of random make, often full or nearly so"""
+    k = r.random()
+    if k < .08:
+        b = bytearray(r.randbytes(128))
+        if r.random() < .5: b[0:2] = b'\x02\x03'
+        if r.random() < .3: b[2] = r.choice([0, 1, 2, 3, 4, 5, 126, 127, 128, 255])
+        return edid.mend(bytes(b))
+    if k < .16:
+        t = bytearray(r.choice([123 * b'\0', r.randbytes(123)]))
+        if r.random() < .5: t[r.randrange(123):] = bytes(len(t[r.randrange(123):]))
+        t = bytes(t[:123]).ljust(123, b'\0')
+        return edid.mend(bytes([2, 3, 0, r.randrange(256)]) + t + b'\0')
+    body = b''
+    for _ in range(r.choice([0, 1, 2, 3, 4, 5, 8])):
+        if r.random() < .35: tag, d = 3, gen_block_hdmi(r)
+        else:
+            tag = r.choice([1, 1, 1, 2, 3, 4, 7, 0, 5, 6])
+            d = r.randbytes(r.choice([0, 1, 2, 3, 4, 5, 6, 7, 9, 12, 15, 30, 31]))
+            if tag == 3 and r.random() < .3: d = bytes([3, 12, 0]) + d[:2]
+        if len(body) + 1 + len(d) <= 123: body += bytes([tag << 5 | len(d)]) + d
+    if r.random() < .15:    # fill up to leave a small room
+        want = 123 - r.choice([0, 0, 1, 2, 3, 5, 6, 17, 18, 19])
+        while len(body) < want:
+            n = min(31, want - len(body) - 1)
+            body += bytes([r.choice([1, 2, 4, 7, 6]) << 5 | n]) + r.randbytes(n)
+    d = 4 + len(body)
+    for _ in range(r.choice([0, 0, 1, 2, 6])):
+        if len(body) + 18 <= 123: body += gen_timing(r)
+    room = 123 - len(body)
+    tail = r.choice([b'', b'', r.randbytes(r.randrange(0, room + 1)), b'\0\0' + r.randbytes(min(room, 20)), r.randbytes(room)])[:room]
+    b = bytes([2, 3, d, r.randrange(256)]) + body + tail.ljust(room, b'\0')
+    if r.random() < .06:
+        b = bytearray(b); b[2] = r.choice([d + 1, d - 1, 1, 2, 3, 128, 255]) & 255; b = bytes(b)
+    return edid.mend(b + b'\0')
+
+
+def gen_desc(r):
+    k = r.random()
+    if k < .3: return gen_timing(r)
+    if k < .6:
+        n = r.choice([0, 1, 5, 12, 13])
+        t = bytes(r.choice([32, 126, 65, r.randrange(32, 127)]) for _ in range(n))
+        if n < 13: t = t + b'\n' + b' ' * (12 - n)
+        d = bytearray(bytes([0, 0, 0, r.choice([0xFF, 0xFE, 0xFC]), 0]) + t)
+        if r.random() < .3: d[r.randrange(2, 18)] = r.choice([0, 10, 13, 32, 34, 127, 128, 31])
+        return bytes(d)
+    if k < .75: return bytes([0, 0, r.choice([0, 0, 0, 1]), 0xFD]) + r.randbytes(14)
+    if k < .9: return bytes([0, 0, 0, 0x10]) + r.choice([bytes(14), bytes(14), bytes(13) + b'\1'])
+    return bytes([0, 0]) + r.randbytes(16)
+
+
+def gen_edid(r, exts=None):
+    b = bytearray(128)
+    b[0:8] = B[0:8]
+    m = r.randrange(1, 27) << 10 | r.randrange(1, 27) << 5 | r.randrange(1, 27)
+    b[8:10] = m.to_bytes(2, 'big')
+    b[10:18] = r.randbytes(8)
+    b[18], b[19] = 1, r.choice([3, 4])
+    b[20:38] = r.randbytes(18)
+    for i in range(8):
+        b[38 + 2 * i:40 + 2 * i] = r.choice([b'\1\1', b'\1\1', r.randbytes(2), b'\1\0', b'\0\1', b'\0\0', b'\1\x41'])
+    for i in range(4): b[54 + 18 * i:72 + 18 * i] = gen_desc(r)
+    n = r.choice([0, 1, 1, 1, 2, 3]) if exts is None else exts
+    b[126] = n
+    return edid.mend(bytes(b)) + b''.join(gen_ext(r) for _ in range(n))
+
+
+def gen_topology(r, edid_chance=.15):
+    n = r.choice([1, 2, 2, 3, 3, 4, 5, 6, 8, 15])
+    ls, names, ports, kinds = [], [], [], []
+    tv = r.randrange(n)
+    for i in range(n):
+        k = 'tv' if i == tv else r.choice(KINDS5[1:])
+        p = r.choice([0, 1, 2, 3, 4, 15]) if k != 'tv' else r.choice([1, 3, 4, 8, 15])
+        if k == 'switch' and r.random() < .7: p = r.choice([1, 2, 3, 4])
+        nm = '%s%d' % (k[0], i)
+        names.append(nm); ports.append(p); kinds.append(k)
+        ls.append('device %s %s %d' % (nm, k, p))
+    on = [tv]
+    taken = set()
+    order = [i for i in range(n) if i != tv]
+    r.shuffle(order)
+    for i in order:
+        if r.random() < .12: continue
+        c = [(p, q) for p in on for q in range(1, ports[p] + 1) if (p, q) not in taken]
+        if not c: continue
+        if r.random() < .5:     # prefer depth
+            c = [x for x in c if x[0] == c[-1][0]] or c
+        p, q = r.choice(c)
+        taken.add((p, q))
+        ls.append('plug %s %s %d' % (names[i], names[p], q))
+        on.append(i)
+    if r.random() < edid_chance:
+        while True:
+            e = gen_edid(r, r.choice([1, 1, 2, 3]))
+            if edid.first_hdmi(e) is not None or r.random() < .02: break
+        ls.append('edid ' + e.hex())
+    return ls, names, ports, kinds
+
+
+def text_word(r, least, most):
+    n = r.choice([least, least + 1, 5, most, r.randrange(least, most + 1)])
+    return '"' + ''.join(chr(r.choice([32, 65, 97, 126, 35, 58])) for _ in range(n)) + '"'
+
+
+def pa_word(r, near=None):
+    if near and r.random() < .6: return r.choice(near)
+    return r.choice(['0.0.0.0', '1.0.0.0', '2.0.0.0', '1.1.0.0', '3.1.2.0', 'f.f.f.f', '1.2.0.0', '1.1.1.0', '1.1.1.1', '1.1.2.0', '%x.%x.%x.%x' % tuple(r.randrange(16) for _ in range(4))])
+
+
+def gen_frame(r, src=None, dst=None, near=None, op=None):
+    s = '%x' % (src if src is not None else r.randrange(16))
+    d = '%x' % (dst if dst is not None else r.choice([0, 4, 5, 15, r.randrange(16)]))
+    if op is None:
+        if r.random() < .04: return s + '>' + d
+        op = r.choice(list(wire.ROWS) * 4 + list(wire.SECOND) + [0xE5, 0x02, 0xFE])
+    if op in wire.ROWS and r.random() < .82:
+        name, ops, to = wire.ROWS[op]
+        if dst is None and r.random() < .9: d = 'f' if to == 'B' else d
+        ws = []
+        for k in ops:
+            if k == 'byte': ws.append('%02x' % r.choice([0, 0x44, r.randrange(256)]))
+            elif k == 'pa': ws.append(pa_word(r, near))
+            elif k == 'pa?':
+                if r.random() < .6: ws.append(pa_word(r, near))
+            elif k == 'id': ws.append(r.randbytes(3).hex())
+            elif k == 'lang': ws.append(''.join(r.choice('abz') for _ in range(3)))
+            elif k == 'text14': ws.append(text_word(r, 1, 14))
+            elif k == 'text13?':
+                if r.random() < .7: ws.append(text_word(r, 1, 13))
+            elif k == 'vol': ws += [r.choice(['mute', 'sound']), str(r.choice([0, 1, 20, 99, 100]))]
+            else: ws.append(r.choice(list(wire.SETS[k].values())))
+        t = ' '.join(['%s>%s' % (s, d), name] + ws)
+        try:
+            wire.assemble(t.encode())
+            return t
+        except wire.Refused:
+            pass
+    data = r.randbytes(r.choice([0, 1, 1, 2, 2, 3, 4, 5, 14]))
+    if op in wire.ROWS and r.random() < .5:
+        x = bytearray(data)
+        for i in range(len(x)): x[i] = r.choice([0, 1, 2, 3, 4, 0x10, 0x24, 0x40, 0x80, 0x41, x[i]])
+        data = bytes(x)
+    return wire.frame_text(bytes([int(s, 16) << 4 | int(d, 16), op]) + data)
+
+
+def gen_key(r, kind, near=None):
+    deck = ['play', 'stop', 'eject', 'load', 'menu', 'power', 'play']
+    tv = ['power', 'watch ' + pa_word(r, near), 'audio on', 'audio off', 'arc on', 'arc off', 'volume-up', 'volume-down', 'mute',
+          'language ' + r.choice(['eng', 'ger', 'zzz']), 'remote %x %s' % (r.randrange(1, 15), r.choice(list(wire.SETS['code'].values()))),
+          'remote %s %s' % (r.choice('45118'), r.choice(['power', 'volume-up', 'mute', 'play', 'stop', 'root-menu', 'exit', 'power-on', 'power-off', 'pause']))]
+    amp = ['power', 'arc on', 'arc off', 'volume-up', 'volume-down', 'mute']
+    sw = ['power', 'port %d' % r.choice([0, 1, 2, 3, 4, 15, 255, 300])] + ['port %d' % r.choice([1, 2, 3])] * 3
+    by = {'combo': deck, 'tv': tv, 'amp': amp, 'player': deck, 'recorder': deck, 'switch': sw}
+    if r.random() < .07: kind = r.choice(KINDS5)
+    return r.choice(by[kind])
+
+
+def addresses(topo):
+    """{name: (la or None, phys)} after 3 s"""
+    st, out, f = model(['run'], ('\n'.join(topo) + '\nscript\nend 3500000\n').encode())
+    res = {}
+    for l in out.decode('latin1').splitlines():
+        if l.startswith('state '):
+            w = l.split(' ')
+            la = [x for x in w[3].split('+') if x != '-']
+            res[w[1]] = (int(la[-1], 16) if la else None, w[4])
+    return res
+
+
+def gen_script(r, topo, names, ports, kinds, feat=False):
+    adr = addresses(topo)
+    las = [a for a, p in adr.values() if a is not None]
+    near = [p for a, p in adr.values() if p != '-'] or None
+    start = 3500000 if feat and len(names) > 5 else 1200000 if not feat and r.random() < .5 else 2600000
+    if not feat and r.random() < .25: start = r.choice([0, 1, 30000, 100000, 300000, 600000])
+    t = start
+    ls = []
+    n = r.choice([1, 3, 10, 25]) if not feat else r.choice([20, 40])
+    for _ in range(n):
+        t += r.choice([0, 0, 1, 1000, 40000, 160000, 160000, 300000]) if not feat else r.choice([0, 1, 20000, 90000, 160000, 160000, 250000])
+        i = r.randrange(len(names))
+        k = r.random()
+        if k < (.06 if feat else .2):
+            j = r.randrange(len(names))
+            if r.random() < .5: ls.append('at %d unplug %s' % (t, names[i]))
+            else: ls.append('at %d plug %s %s %d' % (t, names[i], names[j], r.choice([1, 2, 3, r.randrange(0, 17), 255, 999])))
+        elif k < (.45 if feat else .6):
+            ls.append('at %d %s %s %s' % (t, r.choice(['press', 'press', 'press', 'release']), names[i], gen_key(r, kinds[i], near)))
+        else:
+            la = adr.get(names[i], (None, '-'))[0]
+            src = la if r.random() < .95 and la is not None else None
+            dst = r.choice(las) if las and r.random() < .75 else None
+            ls.append('at %d send %s %s' % (t, names[i], gen_frame(r, src, dst, near)))
+    if r.random() < .15:    # a burst that fills a queue
+        i = r.randrange(len(names))
+        la = adr.get(names[i], (None, '-'))[0]
+        for _ in range(r.choice([14, 15, 16, 17])):
+            ls.append('at %d send %s %s' % (t, names[i], gen_frame(r, la, r.choice([0, 15, 3]), near, 0x36)))
+        for _ in range(r.choice([1, 4])):
+            ls.append('at %d press %s %s' % (t, names[i], gen_key(r, kinds[i], near)))
+        j = r.randrange(len(names))
+        for _ in range(r.choice([0, 2, 20])):
+            ls.append('at %d send %s %s' % (t, names[j], gen_frame(r, adr.get(names[j], (None, '-'))[0], la, near, r.choice([0x46, 0x8F, 0x9F, 0x83]))))
+        t += r.choice([1, 4000000])
+    end = t + r.choice([1, 1000, 100000, 1000000, 2000000])
+    return ls, start, end
+
+
+def gen_pulses(r, end, n=None):
+    out = []
+    t = r.choice([0, 1, 11000, 50000, 1200000])
+    for _ in range(n or r.choice([0, 0, 1, 3, 10, 40])):
+        w = r.choice(([3700, 3501, 10000, 4700] if net.MAX_WIDTH > 3000 else []) + [1, 2, 100, 400, 600, 1000, 1050, 1500, 2400, 2999, 3000, r.randrange(1, 3001)])
+        if t >= end: break
+        out.append('pulse %d %d' % (t, w))
+        t += w + 25000 + r.choice([0, 0, 1, 500, 3000, 20000, 100000, r.randrange(200000)])
+    return out
+
+
+def gen_run(r, feat=False):
+    topo, names, ports, kinds = gen_topology(r, .04 if feat else .12)
+    ev, start, end = gen_script(r, topo, names, ports, kinds, feat)
+    pul = [] if feat else gen_pulses(r, end)
+    # merge in any order: pulses are independent of the at lines
+    body = ev + pul if r.random() < .5 else pul + ev
+    return ['run'], '\n'.join(topo + ['script'] + body + ['end %d' % end]) + '\n'
+
+
+def gen_feat(r):
+    """five kinds settled; frames by true initiators over the whole opcode table"""
+    shapes = [
+        ['device tv tv 4', 'device amp amp 2', 'device p player 0', 'device rec recorder 0', 'device sw switch 3', 'plug amp tv 1', 'plug p amp 1', 'plug sw tv 2', 'plug rec sw 2'],
+        ['device p player 1', 'device tv tv 3', 'device rec recorder 0', 'device amp amp 3', 'plug p tv 2', 'plug rec tv 3', 'plug amp tv 1'],
+        ['device tv tv 2', 'device sw switch 4', 'device s2 switch 2', 'device s3 switch 2', 'device s4 switch 1', 'device p player 0', 'plug sw tv 1', 'plug s2 sw 2', 'plug s3 s2 1', 'plug s4 s3 2', 'plug p s3 1'],
+    ]
+    if r.random() < .25: return gen_run(r, True)
+    topo = list(r.choice(shapes))
+    names, kinds = [], []
+    for l in topo:
+        w = l.split()
+        if w[0] == 'device': names.append(w[1]); kinds.append(w[2])
+    adr = addresses(topo)
+    near = [p for a, p in adr.values()] * 2 + ['1.2.0.0', '1.3.0.0', '2.1.0.0', '2.2.0.0', '1.2.1.2', '1.2.2.0', '1.4.0.0', '2.3.0.0', '2.4.0.0']
+    las = [a for a, p in adr.values() if a < 15]
+    t = 2000000
+    ls = []
+    focus = r.choice([None, None, [0x1A, 0x1A, 0x41, 0x42, 0x44, 0x36, 0x1B], [0x70, 0x71, 0x72, 0x7D, 0x44, 0x45, 0xC0, 0xC1, 0xC2, 0xC3, 0xC4, 0xC5, 0x36, 0x04],
+                      [0x80, 0x81, 0x82, 0x82, 0x85, 0x86, 0x86, 0x9D, 0x36, 0x04], [0x04, 0x0D, 0x36, 0x64, 0x64, 0x44, 0x8F, 0x8D, 0x32, 0x91, 0x46]])
+    for _ in range(r.choice([10, 30, 50])):
+        t += r.choice([0, 100000, 180000, 250000, 400000])
+        i = r.randrange(len(names))
+        k = r.random()
+        if k < .3: ls.append('at %d %s %s %s' % (t, r.choice(['press', 'press', 'press', 'release']), names[i], gen_key(r, kinds[i], near)))
+        else:
+            la = adr[names[i]][0]
+            dst = r.choice(las + [None])
+            if k > .9 and la < 15 and kinds[i] != 'switch':
+                dst = r.choice([a for a in las if a != la] or [None])
+            op = r.choice(focus) if focus and r.random() < .9 else None
+            ls.append('at %d send %s %s' % (t, names[i], gen_frame(r, la, None if op in wire.ROWS and wire.ROWS[op][2] == 'B' and r.random() < .95 else dst, near, op)))
+    return ['run'], '\n'.join(topo + ['script'] + ls + ['end %d' % (t + r.choice([300000, 1500000]))]) + '\n'
+
+
+OFFS = sorted(set(x + d for x in [0, 350, 450, 600, 700, 1050, 1500, 1700, 2050, 2100, 2400, 2700, 2750, 2751, 3500, 3600, 3700, 3900, 3901,
+                                   4300, 4500, 4700, 4701, 7200, 12000, 16800] for d in (-1, 0, 1)) |
+              set(-x + d for x in [0, 200, 350, 600, 1050, 1500, 2050, 2400, 2750, 3000] for d in (-1, 0, 1)))
+
+
+BORDER = [a + d for a in (1050, 1500, 2050, 2051, 2100, 2399, 2750, 2751, 3500, 3700, 3900, 4300, 4500, 4700, 7200) for d in (-1, 0, 1)] + [-350, -351, -349, -200, -201, -1, 0, 1, 600, 601]
+
+
+def gen_wire(r, edges=False):
+    topo = r.choice([
+        ['device tv tv 4', 'device p1 player 0', 'plug p1 tv 1'],
+        ['device tv tv 2', 'device amp amp 0', 'device p1 player 0', 'plug amp tv 1', 'plug p1 tv 2'],
+        ['device tv tv 1'],
+        ['device tv tv 4', 'device p1 player 0', 'device p2 player 0', 'device sw switch 2', 'plug p1 tv 1', 'plug p2 tv 2', 'plug sw tv 3'],
+        ['device tv tv 4', 'device r1 recorder 0', 'device p2 player 0', 'device amp amp 2', 'plug r1 tv 1', 'plug p2 amp 2', 'plug amp tv 3'],
+    ])
+    names = [l.split()[1] for l in topo if l.startswith('device')]
+    adr = addresses(topo)
+    ls = []
+    t = 1500000 if len(names) < 3 else 2500000
+    base = t
+    for _ in range(r.choice([0, 1, 2, 4])):
+        nm = r.choice(names)
+        la = adr[nm][0]
+        ls.append('at %d send %s %s' % (t, nm, gen_frame(r, la, r.choice([0, 4, 5, 15, 8, 3]), None, r.choice([0x04, 0x46, 0x83, 0x8F, 0x36, 0x85, 0x9F, 0x47, None]))))
+        t += r.choice([0, 0, 0, 30000, 150000])
+    end = t + 400000
+    pulses = []
+    low = 0
+    border = r.random() < .5
+    persist = r.random() < .15
+    for _ in range(r.choice([1, 1, 2, 3, 6]) if not persist else 14):
+        text = '\n'.join(topo + ['script'] + ls + ['pulse %d %d' % p for p in pulses] + ['end %d' % end]) + '\n'
+        st, out, f = model(['run', '--edges'], text.encode())
+        assert st == 0, (text, f)
+        E = [int(l.split()[0]) for l in out.decode().splitlines()[:-1] if not border or l.endswith(' 0')]
+        after = low if (not ls or r.random() < .3) else max(low, base - 1000)
+        if persist:             # the next round, again and again
+            after = low
+        elif r.random() < .4:     # about the endings
+            st, out, f = model(['run'], text.encode())
+            E = [int(l.split()[1]) for l in out.decode().splitlines() if (l.split() + ['', ''])[2] in ('complete', 'short', 'silent', 'bad-start')]
+            E = [x - d for x in E for d in (0, 1050, 2751)]
+        E = [x for x in E if x >= after - 4000] or [after + r.randrange(50000)]
+        x = r.choice(E[:r.choice([2, 12, 60, 10000])] if not persist else E[:12])
+        if border and not persist and r.random() < .2:
+            st, out, f = model(['run'], text.encode())
+            S = [int(l.split()[0]) for l in out.decode().splitlines() if (l.split() + ['', ''])[2] in ('complete', 'short', 'silent', 'bad-start') and int(l.split()[0]) >= after]
+            if S: x = r.choice(S[:4])
+        w = r.choice(([3700, 3500, 3499, 3900, 3901, 5000, 9999, 10000, r.randrange(3000, 10001)] * 2 if net.MAX_WIDTH > 3000 else []) + [1, 2, 100, 349, 350, 351, 400, 449, 450, 451, 600, 1049, 1050, 1051, 1500, 1501, 2050, 2999, 3000, r.randrange(1, 3001)])
+        on = x + r.choice(OFFS if not border else BORDER)
+        if border and r.random() < .3: w = r.choice([351, 350, 352, 1, 2, 400])
+        if persist and r.random() < .8: on, w = x + r.randrange(1600, 2040), 100
+        elif r.random() < .3: on -= w
+        if on < low or on < 0: continue
+        pulses.append((on, w))
+        low = on + w + 25000
+        if r.random() < .1: low += 0
+    text = '\n'.join(topo + ['script'] + ls + ['pulse %d %d' % p for p in pulses] + ['end %d' % end]) + '\n'
+    return (['run', '--edges'] if edges else ['run']), text
+
+
+def gen_amp(r):
+    """port EDIDs: trees with amplifiers and EDIDs that have an audio block and an HDMI block"""
+    topo, names, ports, kinds = gen_topology(r, 0)
+    exts = []
+    n = r.choice([1, 1, 2, 3])
+    for i in range(n):
+        if i and r.random() < .5:
+            exts.append(gen_ext(r))
+            continue
+        blocks = [bytes([1 << 5 | L]) + r.randbytes(L) for L in [r.choice([0, 1, 2, 3, 4, 5, 5, 6, 7, 8, 12, 30, 31]) for _ in range(r.choice([0, 1, 1, 1, 2]))]]
+        h = gen_block_hdmi(r)
+        blocks.append(bytes([3 << 5 | len(h)]) + h)
+        if r.random() < .3:
+            h = gen_block_hdmi(r); blocks.append(bytes([3 << 5 | len(h)]) + h)
+        if r.random() < .4:
+            L = r.choice([0, 3, 9, 31]); blocks.append(bytes([r.choice([2, 4, 7, 0, 5, 6]) << 5 | L]) + r.randbytes(L))
+        r.shuffle(blocks)
+        body = b''
+        for b in blocks:
+            if len(body) + len(b) <= 123: body += b
+        d = 4 + len(body)
+        if r.random() < .3:     # nearly full
+            while len(body) + 32 <= 123 - r.choice([0, 5]): body += bytes([2 << 5 | 31]) + r.randbytes(31)
+            L = 123 - len(body) - r.choice([0, 1, 2, 3, 4, 5, 6, 7])
+            if 1 <= L <= 32: body += bytes([2 << 5 | (L - 1)]) + r.randbytes(L - 1)
+            d = 4 + len(body)
+        for _ in range(r.choice([0, 0, 1, 2, 6])):
+            if len(body) + 18 <= 123: body += gen_timing(r)
+        room = 123 - len(body)
+        z = r.choice([0, 1, 2, 3, 4, 5, 6, 7, room, room])
+        tail = r.randbytes(max(0, room - z))
+        if tail and r.random() < .5: tail = b'\0\0' + tail[2:]
+        tail = tail[:room]
+        exts.append(edid.mend(bytes([2, 3, d, r.randrange(256)]) + body + tail.ljust(room, b'\0') + b'\0'))
+    b = bytearray(B); b[126] = n
+    topo.insert(r.randrange(len(topo) + 1), 'edid ' + (edid.mend(bytes(b)) + b''.join(exts)).hex())
+    t = 1
+    ls = []
+    for _ in range(r.choice([0, 3])):
+        ls.append('at %d %s' % (t, r.choice(['unplug ' + r.choice(names), 'plug %s %s %d' % (r.choice(names), r.choice(names), r.choice([1, 2, 3]))])))
+        t += r.choice([0, 1, 300000])
+    return ['run'], '\n'.join(topo + ['script'] + ls + ['end %d' % (t + 5)]) + '\n'
+
+
+def gen_ops(r):
+    """every opcode and operand byte alike, from every kind of initiator, in varying states"""
+    topo = ['device tv tv 4', 'device amp amp 2', 'device p player 0', 'device rec recorder 0', 'device sw switch 3', 'plug amp tv 1', 'plug p amp 1', 'plug sw tv 2', 'plug rec sw 2']
+    names, kinds = ['tv', 'amp', 'p', 'rec', 'sw'], ['tv', 'amp', 'player', 'recorder', 'switch']
+    if net.BOX:
+        topo += ['device box combo 1', 'plug box tv 3']
+        names.append('box'); kinds.append('combo')
+    las = {'tv': [0], 'amp': [5], 'p': [4], 'rec': [1], 'sw': [15]}
+    if net.BOX:
+        st, out, f = model(['run'], ('\n'.join(topo) + '\nscript\nend 3500000\n').encode())
+        for l in out.decode().splitlines():
+            w = l.split(' ')
+            if w[0] == 'state': las[w[1]] = [int(x, 16) for x in w[3].split('+')]
+    t = 3000000
+    ls = []
+    allas = [a for x in las.values() for a in x]
+    for _ in range(40):
+        i = r.choice(names)
+        src = r.choice(las[i])
+        dst = r.choice(allas + [15, 15])
+        if r.random() < .15: ls.append('at %d press %s %s' % (t, i, gen_key(r, kinds[names.index(i)])))
+        op = r.randrange(256) if r.random() < .5 else r.choice(list(wire.ROWS))
+        data = bytearray(r.randbytes(r.choice([0, 1, 1, 1, 2, 2, 3, 4, 5, 14])))
+        if data and r.random() < .5: data[0] = r.choice([0, 1, 2, 3, 4, 0x10, 0x12, 0x20, 0x24, 0x25, 5, 6, 7, 9, 10, 11, 0x40, 0x41, 0x42, 0x43, 0x44, 0x45, 0x46, 0x6C, 0x6D, 0x80, 0xD])
+        if len(data) > 1 and r.random() < .5: data[1] = r.choice([0, 0, 0, 0x10, 0x20])
+        ls.append('at %d send %s %s' % (t, i, wire.frame_text(bytes([src << 4 | dst, op]) + bytes(data))))
+        t += 300000
+    return ['run'], '\n'.join(topo + ['script'] + ls + ['end %d' % (t + 500000)]) + '\n'
+
+
+def gen_edges(r):
+    k = r.random()
+    if k < .5: return gen_wire(r, True)
+    a, t = gen_run(r)
+    return ['run', '--edges'], t
+
+
+def gen_mon(r):
+    ls = []
+    t = r.choice([0, 0, 1, 1000, 12345, 10 ** 12])
+    if r.random() < .25:    # a run's edges, disturbed a little
+        a, text = gen_wire(r, True)
+        st, out, f = model(a, text.encode())
+        ls = out.decode().splitlines()[:400]
+        if not ls[-1].endswith('end'): ls.append(str(int(ls[-1].split()[0]) + 5000) + ' end')
+        for _ in range(r.choice([0, 1, 3])):
+            i = r.randrange(len(ls))
+            w = ls[i].split()
+            w[0] = str(max(0, int(w[0]) + r.choice([-2400, -1050, -350, -1, 1, 350, 351, 1050])))
+            ls[i] = ' '.join(w)
+    else:
+        dice = r.choice([0, .02, .1])
+        for _ in range(r.choice([1, 1, 2, 4])):
+            long = r.random() < .08
+            blocks = 16 if long else r.choice([1, 1, 2, 3, 5])
+            e = t
+            ls.append('%d 0' % t)
+            up = e + r.choice([3700] * 6 + [3499, 3500, 3900, 3901, 3902, 100, 5000, 4701])
+            ls.append('%d 1' % up)
+            t = max(up + 1, e + r.choice([4500] * 8 + [4299, 4300, 4700, 4701, 4702, 9000]))
+            n = 10 * blocks
+            if r.random() < .5: n = r.randrange(1, n + 1)
+            for k in range(1, n + 1):
+                ls.append('%d 0' % t)
+                eom = 1 if k == 10 * blocks - 1 and not (long and r.random() < .5) else 0
+                b = eom if k % 10 == 9 else r.randrange(2)
+                w = 600 if b else 1500
+                if r.random() < dice: w = r.choice([1, 1049, 1050, 1051, 2000, 2049, 2750, 2751, 3000, 2400])
+                ls.append('%d 1' % (t + w))
+                gap = 2400
+                if r.random() < dice: gap = r.choice([2049, 2050, 2051, 2749, 2750, 2751, 2752, 1050, 1051, 1049, 700, 5000])
+                t = max(t + w + 1, t + gap)
+            t += r.choice([0, 1, 10, 351, 1000, 2000, 4800, 20000])
+        lastfall = max([int(l.split()[0]) for l in ls if l.endswith(' 0')] or [0])
+        lastedge = int(ls[-1].split()[0])
+        ls.append('%d end' % r.choice([max(lastedge, lastfall + r.choice([1050, 2751, 3901, 4701, 2050]) + r.choice([-1, 0, 1]))] * 6 + [t, t + 1, t + 1050, t + 5000, t + 100000, max(0, int(ls[-1].split()[0])), int(ls[-1].split()[0]) + r.choice([1, 449, 450, 451, 2150, 2151, 3000])]))
+    if r.random() < .25:
+        i = r.randrange(len(ls))
+        ls = r.choice([ls[:i] + ls[i + 1:], ls[:i] + [''] + ls[i:], ls[:i] + ['# x'] + ls[i:], ls[:i] + [ls[i]] + ls[i:], ls[:i] + [ls[i] + ' '] + ls[i + 1:],
+                       ls[:i] + ['0' + ls[i]] + ls[i + 1:], ls + ls[-1:], ls + ['zz'], ls[:-1], ls[:i] + ['%d 0' % (2 * 10 ** 12 + r.randrange(-1, 2))] + ls[i:]])
+    return ['mon'], '\n'.join(ls) + r.choice(['\n', '\n', ''])
+
+
+def gen_step(r):
+    k = r.random()
+    if k < .4: a, t = gen_wire(r)
+    elif k < .7: a, t = gen_run(r)
+    else: a, t = gen_feat(r)
+    names = [l.split()[1] for l in t.splitlines() if l.startswith('device ')]
+    ops = ['84', '82', '04', '46', '47', '00', '36', '90', '8f', 'ff', '9f']
+    ls = []
+    for _ in range(r.choice([1, 5, 15, 40])):
+        ls.append(r.choice(['edge'] * 4 + ['round'] * 3 + ['until opcode ' + r.choice(ops), 'until device ' + r.choice(names), 'until break', 'show ' + r.choice(names), 'show ' + r.choice(names)]))
+        if ls[-1] == 'edge' and r.random() < .5: ls += ['edge'] * r.choice([1, 3, 10, 60])
+    if r.random() < .08:
+        i = r.randrange(len(ls))
+        ls[i] = r.choice(['edge ', 'Edge', 'until', 'until opcode 8A', 'until opcode 8', 'until opcode 084', 'until device nosuch', 'show', 'show nosuch', '', '# c', 'until break x', 'round 3'])
+    return ['step'], t + 'steps\n' + '\n'.join(ls) + r.choice(['\n', ''])
+
+
+def mutate_text(r, t):
+    k = r.randrange(12)
+    if not t: return t
+    i = r.randrange(len(t))
+    if k == 0: return t[:i]
+    if k == 1: return t[:i] + t[i + 1:]
+    if k == 2: return t[:i] + r.choice(list('0123456789abcdefxzAF:" >.-#\t\r')) + t[i:]
+    if k == 3: return t[:i] + r.choice(list('0123456789abcdefxzAF:" >.-\x7f\x80\x00')) + t[i + 1:]
+    if k == 4:
+        w = t.split(' '); j = r.randrange(len(w)); return ' '.join(w[:j] + w[j + 1:])
+    if k == 5:
+        w = t.split(' '); j = r.randrange(len(w)); return ' '.join(w[:j] + [w[j]] + w[j:])
+    if k == 6:
+        w = t.split(' '); j = r.randrange(len(w)); w[j] = r.choice(['', '0', '00', '1', '15', '16', '255', '256', '101', 'f.f.f.f', '"x"', ':', ':00', 'on', 'off', 'tv', 'play', 'x', w[j].upper()]); return ' '.join(w)
+    if k == 7: return t + ' '
+    if k == 8: return ' ' + t
+    if k == 9: return t.upper()
+    if k == 10: return t.replace(' ', '  ', 1)
+    return t + r.choice(['0', ' 0', ' :', '"', ' x'])
+
+
+def gen_asm(r):
+    ls = []
+    for _ in range(r.choice([1, 1, 1, 5, 20])):
+        t = gen_frame(r)
+        if r.random() < .3 and len(t) > 3:
+            # raw spelling of any length, with perhaps a fault
+            sp = t.split(' ')
+            t = sp[0] + ' ' + (sp[1] if len(sp) > 1 else 'play') + ' :' + r.randbytes(r.choice([0, 1, 2, 3, 13, 14, 15, 16])).hex()
+        if r.random() < .35: t = mutate_text(r, t)
+        if r.random() < .03: t = r.choice(['', '#', '# 4>4', ' '])
+        ls.append(t)
+    return ['asm'], ('\n'.join(ls) + r.choice(['\n', '\n', ''])).encode('latin1', 'replace')
+
+
+def gen_edidcmd(r):
+    e = gen_edid(r)
+    k = r.random()
+    if k < .3:
+        b = bytearray(e)
+        for _ in range(r.choice([1, 1, 2, 4])): b[r.randrange(len(b))] = r.choice([0, 1, 255, r.randrange(256)])
+        if r.random() < .6:
+            e = b''.join(edid.mend(bytes(b[i:i + 128])) for i in range(0, len(b), 128))
+        else: e = bytes(b)
+    elif k < .36: e = e[:r.choice([0, 1, 64, 127, 128, 129, 255, 256, 257, 384, 511])]
+    elif k < .4: e = e + r.choice([b'\0', bytes(128), gen_ext(r)])
+    return ['edid'], e
+
+
+def gen_edtext(r):
+    e = gen_edid(r)
+    t = edid.edid_text(e).decode('latin1')
+    k = r.random()
+    if k < .75:
+        ls = t.split('\n')
+        for _ in range(r.choice([1, 1, 1, 2])):
+            i = r.randrange(len(ls))
+            if len(ls) > 24 and r.random() < .5: i = r.randrange(20, len(ls))
+            m = r.random()
+            if m < .12: ls = ls[:i] + ls[i + 1:]
+            elif m < .24: ls = ls[:i] + [ls[i]] + ls[i:]
+            elif m < .32:
+                j = r.randrange(len(ls)); ls[i], ls[j] = ls[j], ls[i]
+            elif m < .45:
+                ls = ls[:i] + [r.choice(['audio -', 'audio ' + '00' * r.choice([30, 31, 32]), 'vendor 030c000000', 'vendor 030c0000', 'hdmi 1.0.0.0 -', 'hdmi 1.0.0.0 ' + '00' * r.choice([25, 26, 27]),
+                                 'tail -', 'tail 00', 'tail 0100', 'tail 01', 'cta f1', 'cta-none f1', 'timing 1 1 1 1 1 1 1 1 1 1 1 1 1 00', 'timing 0 1 1 1 1 1 1 1 1 1 1 1 1 00',
+                                 'standard 256 0 61', 'standard 248 0 60', 'standard 2288 3 123', 'standard 2296 3 123', 'raw ' + '00' * 18, 'raw 00000001' + '00' * 14, 'raw 00000010' + '00' * 14, 'raw 000000fd' + '00' * 14,
+                                 'raw 000001fd' + '00' * 14, 'raw 000000fc00' + '20' * 13, 'raw 000000fc01' + '20' * 13, 'name ""', 'name "' + 'x' * 13 + '"', 'name "' + 'x' * 14 + '"', 'name "a"b"', 'name x', 'name', 'name "a" ', 'text "a b c"', 'text a"b c"', 'range -', 'range ' + '00' * 14,
+                                 'dummy ', 'ext -', 'ext ' + '00' * 128, 'ext ' + '02030001' + '00' * 123 + 'fa', 'ext ' + '02030101' + '00' * 123 + 'f9', 'extended -', 'tag0 -', 'tag1 00', 'raw ' + '00' * 17])] + ls[i:]
+            else: ls[i] = mutate_text(r, ls[i])
+        t = '\n'.join(ls)
+    if r.random() < .05: t = t[:r.randrange(len(t))]
+    return ['edid', '--text'], t.encode('latin1', 'replace')
+
+
+def gen_odd(r):
+    g = r.choice(ODD)
+    a, d = g(r)
+    if isinstance(d, str): d = d.encode('latin1', 'replace')
+    k = r.random()
+    if k < .25: d = d[:r.randrange(len(d) + 1)]
+    elif k < .75 and d:
+        for _ in range(r.choice([1, 1, 1, 2, 3])):
+            ls = d.decode('latin1').split('\n')
+            i = r.randrange(len(ls))
+            m = r.random()
+            if m < .7: ls[i] = mutate_text(r, ls[i])
+            elif m < .8: ls = ls[:i] + ls[i + 1:]
+            elif m < .9: ls = ls[:i] + [ls[i]] + ls[i:]
+            else:
+                j = r.randrange(len(ls)); ls[i], ls[j] = ls[j], ls[i]
+            d = '\n'.join(ls).encode('latin1', 'replace')
+    elif k < .85:
+        b = bytearray(d)
+        for _ in range(r.choice([1, 3])):
+            if b: b[r.randrange(len(b))] = r.randrange(256)
+        d = bytes(b)
+    elif k < .9: d = d.replace(b'\n', b'\r\n')
+    elif k < .93: d = b'\xef\xbb\xbf' + d
+    else:
+        # special lines of topologies and scripts
+        ls = d.decode('latin1').split('\n')
+        i = r.randrange(len(ls))
+        sp = r.choice(['device x tv 1', 'device x player 16', 'device x player 015', 'device xxxxxxxxxxxxxxx player 1', 'device -x player 1', 'device X player 1', 'device x combo 0', 'device x tv', 'device x tv 1 1',
+                       'plug x y 1', 'plug x', 'plug tv tv 1', 'plug p1 tv 0', 'plug p1 tv 300', 'plug tv p1 1', 'edid 00', 'edid zz', 'edid 0', 'edid', 'edid -', 'edid ', 'device  tv 1', 'device x player ', 'device x  1',
+                       'end 5', 'end', 'end 1000000000001', 'end 1000000000000', 'end 01', 'end x', 'end ', 'pulse 5 0', 'pulse 5 1', 'pulse 5 3001', 'pulse 1000000000001 1', 'pulse 5', 'pulse 5 99999999999999999999999', 'pulse 5 01', 'pulse  5',
+                       'at 5 plug p1 tv', 'at 5 plug p1 tv x', 'at 5 unplug', 'at 5 unplug x', 'at 5 unplug ', 'at 5 press tv', 'at 5 press tv ', 'at 5 press tv power ', 'at 5 press tv watch 1.0.0', 'at 5 press tv port 01', 'at 5 press tv port x', 'at 5 press x port x', 'at 5 press x power',
+                       'at 5 press tv language EN', 'at 5 press tv language deu', 'at 5 press tv remote f play', 'at 5 press tv remote 0 play', 'at 5 press tv remote 4 frob', 'at 5 press tv remote 4', 'at 5 press tv audio', 'at 5 press tv audio up', 'at x press x play',
+                       'at 5 send tv', 'at 5 send tv ', 'at 5 send tv 0>f', 'at 5 send x 0>g', 'at 5 send tv 0>g', 'at 5 send tv 0>4 frob', 'at 5 send tv 0>4 play', 'at 5 send tv 0>4 play :24', 'at 5 send tv 0>4 play :' + '00' * 15, 'at 1000000000001 send tv 0>4', 'at 99999999999 send tv 0>g', 'at 5', 'at', 'script', 'steps', 'edge', 'until opcode 84'])
+        ls = ls[:i] + [sp] + ls[i:]
+        d = '\n'.join(ls).encode('latin1', 'replace')
+    return a, d
+
+
+def small_run(r):
+    a, t = gen_wire(r)
+    return a, t
+
+
+ODD = [gen_run, small_run, small_run, gen_asm, gen_edidcmd, gen_edtext] + ([] if os.environ.get('MODEL_NO_MON') else [gen_mon]) + ([] if os.environ.get('MODEL_NO_STEP') else [gen_step])
+GEN = dict(ops=gen_ops, amp=gen_amp, run=gen_run, feat=gen_feat, wire=gen_wire, edges=gen_edges, mon=gen_mon, step=gen_step, asm=gen_asm, edid=gen_edidcmd, edtext=gen_edtext, odd=gen_odd)
+
+
+def main():
+    program, kind, count, seed = sys.argv[1], sys.argv[2], int(sys.argv[3]), int(sys.argv[4])
+    if '/' not in program: program = './' + program
+    os.nice(10)
+    t0 = time.time()
+    nd = 0
+    stat = {}
+    for n in range(count):
+        r = random.Random('%s %d' % (kind, seed + n))
+        args, data = GEN[kind](r)
+        if isinstance(data, str): data = data.encode('latin1', 'replace')
+        if len(data) > 1048576: continue
+        try:
+            d = differs(program, args, data)
+        except Exception as x:
+            print('MODEL FAILS at seed', seed + n, repr(x))
+            open('/work/qa/model-fail', 'wb').write(data)
+            raise
+        m = model(args, data) if not d else d[0]
+        key = '%s %s' % (args[0], 'ok' if m[0] == 0 else ' '.join(w for w in m[2].split() if not w.isdigit()))
+        stat[key] = stat.get(key, 0) + 1
+        if d:
+            nd += 1
+            if nd > MAXDIFF: continue
+            small = minimise(program, args, data)
+            (ms, mo, mf), (gs, go, gf) = differs(program, args, small)
+            print('=' * 30, kind, 'seed', seed + n, args)
+            print(small.decode('latin1') if '\0' not in small.decode('latin1') else small.hex())
+            print('-- model: %r %s' % (ms, mf)); print('-- found: %r %s' % (gs, gf))
+            ml, gl = mo.decode('latin1').splitlines(), go.decode('latin1').splitlines()
+            for i in range(max(len(ml), len(gl))):
+                a = ml[i] if i < len(ml) else '(none)'
+                b = gl[i] if i < len(gl) else '(none)'
+                if a != b:
+                    print('-- line %d expected: %s\n--        found:    %s' % (i + 1, a[:700], b[:700]))
+                    break
+            open('/work/qa/diff-%s-%d' % (kind, seed + n), 'wb').write(small)
+    print('%s: %d inputs from seed %d, %d differ, %.0f s; %s' % (kind, count, seed, nd, time.time() - t0, ', '.join('%s %d' % x for x in sorted(stat.items(), key=lambda x: -x[1])[:40])))
+    return nd != 0
+
+
+if __name__ == '__main__':
+    sys.exit(main())

@@ -1,0 +1,26 @@
+#!/usr/bin/env python3
+"""python3 model.py SUB [flag] < input: the model as a program; fault text on standard error."""
+import sys
+import net, wire, edid
+
+LIMIT = 1048576
+
+
+def model(args, data):
+    """(status, output, fault) of the subcommand on these bytes"""
+    if len(data) > LIMIT:
+        return 3, b'', 'input too long'
+    sub = args[0] if args else 'run'
+    if sub == 'run': return net.run(data, '--edges' in args)
+    if sub == 'step': return net.step(data)
+    if sub == 'mon': return wire.mon(data)
+    if sub == 'asm': return wire.asm(data)
+    if sub == 'edid': return edid.text_cmd(data) if '--text' in args else edid.edid_cmd(data)
+    return 2, b'', 'command line'
+
+
+if __name__ == '__main__':
+    st, out, fault = model(sys.argv[1:], sys.stdin.buffer.read())
+    sys.stdout.buffer.write(out)
+    if fault: sys.stderr.write('hdminet: ' + fault + '\n')
+    sys.exit(st)
