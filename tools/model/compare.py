@@ -1,5 +1,5 @@
 #!/usr/bin/env python3
-"""python3 compare.py PROGRAM KIND COUNT SEED: random inputs of KIND through PROGRAM and the model; prints differences.
+"""python3 compare.py PROGRAM KIND COUNT START: random inputs of KIND through PROGRAM and the model; prints differences.
 KIND: run feat wire edges mon step asm edid edtext odd."""
 import os, random, subprocess, sys, time
 import wire, edid, net
@@ -668,22 +668,22 @@ GEN = dict(ops=gen_ops, amp=gen_amp, run=gen_run, feat=gen_feat, wire=gen_wire, 
 
 
 def main():
-    program, kind, count, seed = sys.argv[1], sys.argv[2], int(sys.argv[3]), int(sys.argv[4])
+    program, kind, count, start = sys.argv[1], sys.argv[2], int(sys.argv[3]), int(sys.argv[4])
     if '/' not in program: program = './' + program
     os.nice(10)
     t0 = time.time()
     nd = 0
     stat = {}
     for n in range(count):
-        r = random.Random('%s %d' % (kind, seed + n))
+        r = random.Random('%s %d' % (kind, start + n))
         args, data = GEN[kind](r)
         if isinstance(data, str): data = data.encode('latin1', 'replace')
         if len(data) > 1048576: continue
         try:
             d = differs(program, args, data)
         except Exception as x:
-            print('MODEL FAILS at seed', seed + n, repr(x))
-            open('/work/qa/model-fail', 'wb').write(data)
+            print('MODEL FAILS at start', start + n, repr(x))
+            open('model-fails', 'wb').write(data)
             raise
         m = model(args, data) if not d else d[0]
         key = '%s %s' % (args[0], 'ok' if m[0] == 0 else ' '.join(w for w in m[2].split() if not w.isdigit()))
@@ -693,7 +693,7 @@ def main():
             if nd > MAXDIFF: continue
             small = minimise(program, args, data)
             (ms, mo, mf), (gs, go, gf) = differs(program, args, small)
-            print('=' * 30, kind, 'seed', seed + n, args)
+            print('=' * 30, kind, 'start', start + n, args)
             print(small.decode('latin1') if '\0' not in small.decode('latin1') else small.hex())
             print('-- model: %r %s' % (ms, mf)); print('-- found: %r %s' % (gs, gf))
             ml, gl = mo.decode('latin1').splitlines(), go.decode('latin1').splitlines()
@@ -703,8 +703,8 @@ def main():
                 if a != b:
                     print('-- line %d expected: %s\n--        found:    %s' % (i + 1, a[:700], b[:700]))
                     break
-            open('/work/qa/diff-%s-%d' % (kind, seed + n), 'wb').write(small)
-    print('%s: %d inputs from seed %d, %d differ, %.0f s; %s' % (kind, count, seed, nd, time.time() - t0, ', '.join('%s %d' % x for x in sorted(stat.items(), key=lambda x: -x[1])[:40])))
+            open('differs-%s-%d' % (kind, start + n), 'wb').write(small)
+    print('%s: %d inputs from start %d, %d differ, %.0f s; %s' % (kind, count, start, nd, time.time() - t0, ', '.join('%s %d' % x for x in sorted(stat.items(), key=lambda x: -x[1])[:40])))
     return nd != 0
 
 
