@@ -1,11 +1,22 @@
 //! Laws of runs.
-ghost use Rattle.cec_run.specs.Run.{OneTrace};
+ghost use Rattle.cec_run.specs.Run.{OneRunText, OneTrace};
 ghost use Rattle.cec_run.specs.RunLine.{RunsAreRead, RunsAreShort};
-ghost use Rattle.cec_run.specs.Emulate.{TextsHaveOneTrace};
+ghost use Rattle.cec_run.specs.Emulate.{TextsHaveOneEdgeTrace, TextsHaveOneTrace};
 
 /// A run has one trace, and one count of its rounds and refused events.
 pub fn one_trace()
     ensures { OneTrace }
+{}
+
+/// A run writes one text, whether its trace or the edges of its line, and has one count of its rounds and refused
+/// events.
+pub fn one_run_text()
+    ensures { OneRunText }
+{}
+
+/// The texts of a topology and a script have one text of edges, and one count of its rounds and refused events.
+pub fn texts_have_one_edge_trace()
+    ensures { TextsHaveOneEdgeTrace }
 {}
 
 /// The texts of a topology and a script have one trace, and one count of what it tells.
