@@ -1,6 +1,6 @@
 //! Laws of runs.
 ghost use Rattle.cec_run.specs.Run.{OneRunText, OneTrace};
-ghost use Rattle.cec_run.specs.RunLine.{RunsAreRead, RunsAreShort};
+ghost use Rattle.cec_run.specs.RunLine.{EdgesAreTheLine, RunsAreRead, RunsAreShort};
 ghost use Rattle.cec_run.specs.Emulate.{TextsHaveOneEdgeTrace, TextsHaveOneTrace};
 
 /// A run has one trace, and one count of its rounds and refused events.
@@ -28,6 +28,12 @@ pub fn texts_have_one_trace()
 /// of its rounds, in order, each once.
 pub fn runs_are_read()
     ensures { RunsAreRead }
+{}
+
+/// The edge file of a run has the edges of its whole line, and ends at the script's end or the last close, whichever
+/// is later; the readings of that line, cut there, are those of the run's rounds, in order, each once.
+pub fn edges_are_the_line()
+    ensures { EdgesAreTheLine }
 {}
 
 /// A run ends: it has at most `end / 7200 + 4096` rounds.

@@ -13,8 +13,8 @@ mod state_text;
 mod trace_text;
 
 pub use laws::{
-    one_run_text, one_trace, runs_are_read, runs_are_short, texts_have_one_edge_trace,
-    texts_have_one_trace,
+    edges_are_the_line, one_run_text, one_trace, runs_are_read, runs_are_short,
+    texts_have_one_edge_trace, texts_have_one_trace,
 };
 pub use root::EdidCause;
 pub use run::Totals;
