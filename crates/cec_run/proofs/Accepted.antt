@@ -15,9 +15,11 @@ use Rattle.cec_run.specs.declared.run.Totals.{Totals}
 use Rattle.hdmi_blocks.specs.declared.edid.Edid.{Edid}
 use Rattle.hdmi_blocks.proofs.OneEdid.{one_edid}
 use Rattle.cec_run.specs.Root.{IsRoot}
-use Rattle.cec_run.specs.Run.{start, IsTrace}
-use Rattle.cec_run.specs.Emulate.{IsTraceOf, TextsHaveOneTrace}
-use Rattle.cec_run.proofs.Turns.{one_trace}
+use Rattle.cec_run.specs.declared.run.Telling.{Telling}
+use Rattle.cec_run.specs.declared.run.Telling.TheVariants.{Trace, Edges}
+use Rattle.cec_run.specs.Run.{start, IsTrace, IsRunText}
+use Rattle.cec_run.specs.Emulate.{IsAccepted, IsTraceOf, IsEdgeTraceOf, TextsHaveOneTrace, TextsHaveOneEdgeTrace}
+use Rattle.cec_run.proofs.Turns.{one_trace, one_run_text}
 
 -- a tree with a television has a device
 some_device : (tree : List Node) → has_root tree ≡ true → 0 < length tree
@@ -60,19 +62,40 @@ one_root (Some bytes) None b r s = absurd r
 one_root (Some bytes) (Some a) None r s = absurd s
 one_root (Some bytes) (Some a) (Some b) r s = ap Some (one_edid a b (r.0 ∙ sym s.0))
 
+one_plan : (topology : List ℕ) (plan other : Plan) → topology_of topology ≡ Ok plan → topology_of topology ≡ Ok other → other ≡ plan
+one_plan topology plan other t u = same_plan other plan (topology_of topology) u t
+
+-- a run of texts is that of what they spell
+one_run_of : (topology script text : List ℕ) (totals : Totals) (plan : Plan) (course : Course) (telling : Telling) → topology_of topology ≡ Ok plan → IsScriptRead plan.tree script (Ok course)
+    → (other : Plan) (otherwise : Course) → IsAccepted topology script other otherwise
+    → IsRunText telling otherwise.end (start (started other.tree otherwise.pulses) otherwise.events) text totals
+    → IsRunText telling course.end (start (started plan.tree course.pulses) course.events) text totals
+one_run_of topology script text totals plan course telling t s other otherwise accepted told =
+    let p : other ≡ plan = one_plan topology plan other t accepted.plan_is in
+    let read : IsScriptRead plan.tree script (Ok otherwise) = subst (λ (q : Plan). IsScriptRead q.tree script (Ok otherwise)) p accepted.course_is in
+    let k : otherwise ≡ course = same_ok otherwise course (Ok otherwise) (one_script plan.tree script course (Ok otherwise) s read) refl in
+    subst (λ (c : Course). IsRunText telling c.end (start (started plan.tree c.pulses) c.events) text totals) k
+    (subst (λ (q : Plan). IsRunText telling otherwise.end (start (started q.tree otherwise.pulses) otherwise.events) text totals) p told)
+
 -- texts spell one topology, one EDID and one script
 pub one_trace_of : (topology script text : List ℕ) (totals : Totals) (plan : Plan) (course : Course) (edid : Option Edid) → topology_of topology ≡ Ok plan → IsScriptRead plan.tree script (Ok course)
     → IsRoot plan.edid edid → IsTraceOf topology script text totals → IsTrace edid course.end (start (started plan.tree course.pulses) course.events) text totals
 one_trace_of topology script text totals plan course edid t s e w =
-    let p : w.plan ≡ plan = same_plan w.plan plan (topology_of topology) w.accepted.plan_is t in
-    let read : IsScriptRead plan.tree script (Ok w.course) = subst (λ (q : Plan). IsScriptRead q.tree script (Ok w.course)) p w.accepted.course_is in
-    let k : w.course ≡ course = same_ok w.course course (Ok w.course) (one_script plan.tree script course (Ok w.course) s read) refl in
-    let r : w.edid ≡ edid = one_root plan.edid w.edid edid (subst (λ q. IsRoot q.edid w.edid) p w.root) e in
+    let r : w.edid ≡ edid = one_root plan.edid w.edid edid (subst (λ q. IsRoot q.edid w.edid) (one_plan topology plan w.plan t w.accepted.plan_is) w.root) e in
     subst (λ x. IsTrace x course.end (start (started plan.tree course.pulses) course.events) text totals) r
-    (subst (λ c. IsTrace w.edid c.end (start (started plan.tree c.pulses) c.events) text totals) k
-    (subst (λ q. IsTrace w.edid w.course.end (start (started q.tree w.course.pulses) w.course.events) text totals) p w.trace))
+    (one_run_of topology script text totals plan course (Trace w.edid) t s w.plan w.course w.accepted w.trace)
+
+pub one_edge_trace_of : (topology script text : List ℕ) (totals : Totals) (plan : Plan) (course : Course) → topology_of topology ≡ Ok plan → IsScriptRead plan.tree script (Ok course)
+    → IsEdgeTraceOf topology script text totals → IsRunText Edges course.end (start (started plan.tree course.pulses) course.events) text totals
+one_edge_trace_of topology script text totals plan course t s w =
+    one_run_of topology script text totals plan course Edges t s w.plan w.course w.accepted w.edges
 
 pub texts_have_one_trace : TextsHaveOneTrace
 texts_have_one_trace topology script x y s t p q =
     one_trace p.edid p.course.end (start (started p.plan.tree p.course.pulses) p.course.events) x y s t p.trace
     (one_trace_of topology script y t p.plan p.course p.edid p.accepted.plan_is p.accepted.course_is p.root q)
+
+pub texts_have_one_edge_trace : TextsHaveOneEdgeTrace
+texts_have_one_edge_trace topology script x y s t p q =
+    one_run_text Edges p.course.end (start (started p.plan.tree p.course.pulses) p.course.events) x y s t p.edges
+    (one_edge_trace_of topology script y t p.plan p.course p.accepted.plan_is p.accepted.course_is q)

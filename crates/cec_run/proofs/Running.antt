@@ -1,6 +1,5 @@
 -- A run on its way: the turns so far, and what was written of them.
-use Rattle.std.proofs.Common.{◌≡◌, ℕ, suc, ◌+◌, ◌<◌, List, [], ◌∷◌, ◌++◌, length, take, Option, ◌∙◌, sym, refl, subst, append-nil, arith}
-use Rattle.std.specs.List.{flat_map}
+use Rattle.std.proofs.Common.{◌≡◌, ℕ, suc, ◌+◌, List, [], ◌∷◌, ◌++◌, length, Option, ◌∙◌, sym, refl, subst, append-nil}
 use Rattle.std.specs.Io.KnownBytes.{Appends}
 use Rattle.hdmi_core.specs.declared.sink.WriteFault.{WriteFault}
 use Rattle.hdmi_core.proofs.CutShort.{Appends-trans}
@@ -10,131 +9,112 @@ use Rattle.cec_net.specs.Apply.{applied, event_fault}
 use Rattle.cec_run.specs.declared.run.Totals.{Totals}
 use Rattle.cec_run.specs.declared.run.Turn.TheVariants.{Stop, Apply, Round}
 use Rattle.cec_text.specs.Cut.{CutOff, told_count}
-use Rattle.hdmi_blocks.specs.declared.edid.Edid.{Edid}
-use Rattle.cec_run.specs.StateText.{state_line}
-use Rattle.cec_run.specs.TraceText.{end_line}
-use Rattle.cec_run.specs.Run.{Config, turn_at, turn_of, first_time, counted_event, IsTurnBy, IsTurn, IsRoundTurn, Leads, IsTraceFrom, event_text}
-use Rattle.cec_run.proofs.Turns.{one_more, front_of_trace, whole_trace}
-use Rattle.cec_text.proofs.Cutting.{told_parts, cut_after, cut_again}
+use Rattle.cec_run.specs.declared.run.Telling.{Telling}
+use Rattle.cec_run.specs.Run.{Config, turn_at, turn_of, first_time, counted_event, IsTurnBy, IsTurn, IsRoundTurn, Leads, IsRunTextFrom, event_told, end_told}
+use Rattle.cec_run.proofs.Turns.{one_more, front_of_text, whole_text}
+use Rattle.cec_text.proofs.Cutting.{told_parts, cut_again}
 
-pub record Reached (edid : Option Edid) (end : ℕ) (c d : Config) (old new : Option (List ℕ)) (written : ℕ) : Type 0 where
+pub record Reached (telling : Telling) (end : ℕ) (c d : Config) (old new : Option (List ℕ)) (written : ℕ) : Type 0 where
   pub turns : ℕ
   pub text : List ℕ
-  pub leads : Leads edid end turns c text d
+  pub leads : Leads telling end turns c text d
   pub so_far : Appends old new text
   pub counted : written ≡ told_count (length text)
 
 -- one turn more, whose text was written
-pub reached_more : (edid : Option Edid) (end : ℕ) (c d e : Config) (old mid new : Option (List ℕ)) (n count m : ℕ) (line : List ℕ) → Reached edid end c d old mid n → IsTurn edid end d line e
-    → count ≡ told_count (length line) → Appends mid new line → m ≡ told_count (n + count) → Reached edid end c e old new m
-reached_more edid end c d e old mid new n count m line r turn len wrote told = record {
+pub reached_more : (telling : Telling) (end : ℕ) (c d e : Config) (old mid new : Option (List ℕ)) (n count m : ℕ) (line : List ℕ) → Reached telling end c d old mid n → IsTurn telling end d line e
+    → count ≡ told_count (length line) → Appends mid new line → m ≡ told_count (n + count) → Reached telling end c e old new m
+reached_more telling end c d e old mid new n count m line r turn len wrote told = record {
   turns = suc r.turns;
   text = r.text ++ line;
-  leads = one_more edid end r.turns c d e r.text line r.leads turn;
+  leads = one_more telling end r.turns c d e r.text line r.leads turn;
   so_far = Appends-trans old mid new r.text line r.so_far wrote;
   counted = told ∙ told_parts n count r.text line r.counted len;
 }
 
--- the same, where the line's length was answered
-pub reached_line : (edid : Option Edid) (end : ℕ) (c d e : Config) (old mid new : Option (List ℕ)) (n count m : ℕ) (line : List ℕ) → Reached edid end c d old mid n → IsTurn edid end d line e
-    → count ≡ length line → Appends mid new line → m ≡ told_count (n + count) → Reached edid end c e old new m
-reached_line edid end c d e old mid new n count m line r turn len wrote told =
-    reached_more edid end c d e old mid new n (told_count (length line)) m line r turn refl wrote (told ∙ same n count (length line) len)
-  where
-    same : (n a b : ℕ) → a ≡ b → told_count (n + a) ≡ told_count (n + told_count b)
-    same n a b e = omega arith
-
--- a line of the next turn was cut off
-pub cut_line : (edid : Option Edid) (end : ℕ) (c d e : Config) (old mid new : Option (List ℕ)) (n k : ℕ) (fault : WriteFault) (line : List ℕ) → Reached edid end c d old mid n → IsTurn edid end d line e
-    → k < length line → Appends mid new (take k line) → fault.count ≡ told_count (n + k)
-    → (text : List ℕ) (totals : Totals) → IsTraceFrom edid end c text totals → CutOff old new text fault
-cut_line edid end c d e old mid new n k fault line r turn short front told text totals trace =
-    let whole = front_of_trace edid end (suc r.turns) c e (r.text ++ line) text totals (one_more edid end r.turns c d e r.text line r.leads turn) trace in
-    subst (λ t. CutOff old new t fault) (sym whole.1) (cut_after old mid new r.text line whole.0 n k fault r.counted r.so_far short front told)
-
 -- a text of the next turn was cut off
-pub cut_text : (edid : Option Edid) (end : ℕ) (c d e : Config) (old mid new : Option (List ℕ)) (n : ℕ) (inner fault : WriteFault) (turns_text : List ℕ) → Reached edid end c d old mid n
-    → IsTurn edid end d turns_text e → CutOff mid new turns_text inner → fault.count ≡ told_count (n + inner.count)
-    → (text : List ℕ) (totals : Totals) → IsTraceFrom edid end c text totals → CutOff old new text fault
-cut_text edid end c d e old mid new n inner fault turns_text r turn cut told text totals trace =
-    let whole = front_of_trace edid end (suc r.turns) c e (r.text ++ turns_text) text totals (one_more edid end r.turns c d e r.text turns_text r.leads turn) trace in
+pub cut_text : (telling : Telling) (end : ℕ) (c d e : Config) (old mid new : Option (List ℕ)) (n : ℕ) (inner fault : WriteFault) (turns_text : List ℕ) → Reached telling end c d old mid n
+    → IsTurn telling end d turns_text e → CutOff mid new turns_text inner → fault.count ≡ told_count (n + inner.count)
+    → (text : List ℕ) (totals : Totals) → IsRunTextFrom telling end c text totals → CutOff old new text fault
+cut_text telling end c d e old mid new n inner fault turns_text r turn cut told text totals trace =
+    let whole = front_of_text telling end (suc r.turns) c e (r.text ++ turns_text) text totals (one_more telling end r.turns c d e r.text turns_text r.leads turn) trace in
     subst (λ t. CutOff old new t fault) (sym whole.1) (cut_again old mid new r.text turns_text whole.0 n inner fault r.counted r.so_far cut told)
 
 -- the run stops, and its last lines were written
-pub last_written : (edid : Option Edid) (end : ℕ) (c d : Config) (old mid new : Option (List ℕ)) (n : ℕ) → Reached edid end c d old mid n → turn_at end d ≡ Stop
-    → Appends mid new (flat_map state_line d.net.devices ++ end_line end)
-    → (text : List ℕ) × IsTraceFrom edid end c text d.totals × Appends old new text
-last_written edid end c d old mid new n r stops wrote = (
-  r.text ++ (flat_map state_line d.net.devices ++ end_line end),
+pub last_written : (telling : Telling) (end : ℕ) (c d : Config) (old mid new : Option (List ℕ)) (n : ℕ) → Reached telling end c d old mid n → turn_at end d ≡ Stop
+    → Appends mid new (end_told telling end d.net)
+    → (text : List ℕ) × IsRunTextFrom telling end c text d.totals × Appends old new text
+last_written telling end c d old mid new n r stops wrote = (
+  r.text ++ end_told telling end d.net,
   record { turns = r.turns; last = d; body = r.text; leads = r.leads; stops = stops; whole = refl; counts = refl },
-  Appends-trans old mid new r.text (flat_map state_line d.net.devices ++ end_line end) r.so_far wrote,
+  Appends-trans old mid new r.text (end_told telling end d.net) r.so_far wrote,
 )
 
 -- or were cut off
-pub last_cut : (edid : Option Edid) (end : ℕ) (c d : Config) (old mid new : Option (List ℕ)) (n : ℕ) (inner fault : WriteFault) → Reached edid end c d old mid n → turn_at end d ≡ Stop
-    → CutOff mid new (flat_map state_line d.net.devices ++ end_line end) inner → fault.count ≡ told_count (n + inner.count)
-    → (text : List ℕ) (totals : Totals) → IsTraceFrom edid end c text totals → CutOff old new text fault
-last_cut edid end c d old mid new n inner fault r stops cut told text totals trace =
-    let whole = whole_trace edid end r.turns c d r.text text totals r.leads stops trace in
-    let last : List ℕ = flat_map state_line d.net.devices ++ end_line end in
+pub last_cut : (telling : Telling) (end : ℕ) (c d : Config) (old mid new : Option (List ℕ)) (n : ℕ) (inner fault : WriteFault) → Reached telling end c d old mid n → turn_at end d ≡ Stop
+    → CutOff mid new (end_told telling end d.net) inner → fault.count ≡ told_count (n + inner.count)
+    → (text : List ℕ) (totals : Totals) → IsRunTextFrom telling end c text totals → CutOff old new text fault
+last_cut telling end c d old mid new n inner fault r stops cut told text totals trace =
+    let whole = whole_text telling end r.turns c d r.text text totals r.leads stops trace in
+    let last : List ℕ = end_told telling end d.net in
     let same : text ≡ (r.text ++ last) ++ [] = whole.0 ∙ sym (append-nil (r.text ++ last)) in
     subst (λ t. CutOff old new t fault) (sym same) (cut_again old mid new r.text last [] n inner fault r.counted r.so_far cut told)
 
 -- an event's turn
-pub event_turn_is : (edid : Option Edid) (end at : ℕ) (net : NetState) (e : TimedEvent) (others : List TimedEvent) (totals : Totals) → turn_of end net (first_time (e ∷ others)) ≡ Apply at
-    → IsTurn edid end (record { net = net; events = e ∷ others; totals = totals }) (event_text edid at e net)
+pub event_turn_is : (telling : Telling) (end at : ℕ) (net : NetState) (e : TimedEvent) (others : List TimedEvent) (totals : Totals) → turn_of end net (first_time (e ∷ others)) ≡ Apply at
+    → IsTurn telling end (record { net = net; events = e ∷ others; totals = totals }) (event_told telling at e net)
     (record { net = applied at e.event net; events = others; totals = counted_event (event_fault net e.event) totals })
-event_turn_is edid end at net e others totals h =
-    subst (λ turn. IsTurnBy edid turn (record { net = net; events = e ∷ others; totals = totals }) (event_text edid at e net)
+event_turn_is telling end at net e others totals h =
+    subst (λ turn. IsTurnBy telling turn (record { net = net; events = e ∷ others; totals = totals }) (event_told telling at e net)
     (record { net = applied at e.event net; events = others; totals = counted_event (event_fault net e.event) totals })) (sym h) (refl, refl)
 
 -- a round's turn
-pub round_turn_is : (edid : Option Edid) (end begin : ℕ) (net after : NetState) (events : List TimedEvent) (totals counted : Totals) (line : List ℕ) → turn_of end net (first_time events) ≡ Round begin
-    → IsRoundTurn begin net totals line after counted
-    → IsTurn edid end (record { net = net; events = events; totals = totals }) line (record { net = after; events = events; totals = counted })
-round_turn_is edid end begin net after events totals counted line h turn =
-    subst (λ t. IsTurnBy edid t (record { net = net; events = events; totals = totals }) line (record { net = after; events = events; totals = counted })) (sym h) (turn, refl)
+pub round_turn_is : (telling : Telling) (end begin : ℕ) (net after : NetState) (events : List TimedEvent) (totals counted : Totals) (line : List ℕ) → turn_of end net (first_time events) ≡ Round begin
+    → IsRoundTurn telling begin net totals line after counted
+    → IsTurn telling end (record { net = net; events = events; totals = totals }) line (record { net = after; events = events; totals = counted })
+round_turn_is telling end begin net after events totals counted line h turn =
+    subst (λ t. IsTurnBy telling t (record { net = net; events = events; totals = totals }) line (record { net = after; events = events; totals = counted })) (sym h) (turn, refl)
 
 -- ---- one turn, from what the calls tell
 
-pub after_event : (edid : Option Edid) (end at : ℕ) (net new : NetState) (e : TimedEvent) (rest others : List TimedEvent) (totals counted : Totals) (c : Config) (old mid out : Option (List ℕ)) (n count m : ℕ)
+pub after_event : (telling : Telling) (end at : ℕ) (net new : NetState) (e : TimedEvent) (rest others : List TimedEvent) (totals counted : Totals) (c : Config) (old mid out : Option (List ℕ)) (n count m : ℕ)
     → rest ≡ e ∷ others → turn_of end net (first_time rest) ≡ Apply at → new ≡ applied at e.event net → counted ≡ counted_event (event_fault net e.event) totals
-    → Reached edid end c (record { net = net; events = rest; totals = totals }) old mid n
-    → count ≡ told_count (length (event_text edid at e net)) → Appends mid out (event_text edid at e net) → m ≡ told_count (n + count)
-    → Reached edid end c (record { net = new; events = others; totals = counted }) old out m
-after_event edid end at net new e rest others totals counted c old mid out n count m split turn step count_is r len wrote told =
+    → Reached telling end c (record { net = net; events = rest; totals = totals }) old mid n
+    → count ≡ told_count (length (event_told telling at e net)) → Appends mid out (event_told telling at e net) → m ≡ told_count (n + count)
+    → Reached telling end c (record { net = new; events = others; totals = counted }) old out m
+after_event telling end at net new e rest others totals counted c old mid out n count m split turn step count_is r len wrote told =
     let come : turn_of end net (first_time (e ∷ others)) ≡ Apply at = subst (λ xs. turn_of end net (first_time xs) ≡ Apply at) split turn in
-    let here : Reached edid end c (record { net = net; events = e ∷ others; totals = totals }) old mid n =
-    subst (λ xs. Reached edid end c (record { net = net; events = xs; totals = totals }) old mid n) split r in
-    let there : Reached edid end c (record { net = applied at e.event net; events = others; totals = counted_event (event_fault net e.event) totals }) old out m =
-    reached_more edid end c _ _ old mid out n count m _ here (event_turn_is edid end at net e others totals come) len wrote told in
+    let here : Reached telling end c (record { net = net; events = e ∷ others; totals = totals }) old mid n =
+    subst (λ xs. Reached telling end c (record { net = net; events = xs; totals = totals }) old mid n) split r in
+    let there : Reached telling end c (record { net = applied at e.event net; events = others; totals = counted_event (event_fault net e.event) totals }) old out m =
+    reached_more telling end c _ _ old mid out n count m _ here (event_turn_is telling end at net e others totals come) len wrote told in
     rw (step, count_is) there
 
-pub cut_event : (edid : Option Edid) (end at : ℕ) (net : NetState) (e : TimedEvent) (rest others : List TimedEvent) (totals : Totals) (c : Config) (old mid out : Option (List ℕ)) (n : ℕ) (inner fault : WriteFault)
+pub cut_event : (telling : Telling) (end at : ℕ) (net : NetState) (e : TimedEvent) (rest others : List TimedEvent) (totals : Totals) (c : Config) (old mid out : Option (List ℕ)) (n : ℕ) (inner fault : WriteFault)
     → rest ≡ e ∷ others → turn_of end net (first_time rest) ≡ Apply at
-    → Reached edid end c (record { net = net; events = rest; totals = totals }) old mid n
-    → CutOff mid out (event_text edid at e net) inner → fault.count ≡ told_count (n + inner.count)
-    → (text : List ℕ) (all : Totals) → IsTraceFrom edid end c text all → CutOff old out text fault
-cut_event edid end at net e rest others totals c old mid out n inner fault split turn r cut told text all trace =
+    → Reached telling end c (record { net = net; events = rest; totals = totals }) old mid n
+    → CutOff mid out (event_told telling at e net) inner → fault.count ≡ told_count (n + inner.count)
+    → (text : List ℕ) (all : Totals) → IsRunTextFrom telling end c text all → CutOff old out text fault
+cut_event telling end at net e rest others totals c old mid out n inner fault split turn r cut told text all trace =
     let come : turn_of end net (first_time (e ∷ others)) ≡ Apply at = subst (λ xs. turn_of end net (first_time xs) ≡ Apply at) split turn in
-    let here : Reached edid end c (record { net = net; events = e ∷ others; totals = totals }) old mid n =
-    subst (λ xs. Reached edid end c (record { net = net; events = xs; totals = totals }) old mid n) split r in
-    cut_text edid end c _ _ old mid out n inner fault _ here (event_turn_is edid end at net e others totals come) cut told text all trace
+    let here : Reached telling end c (record { net = net; events = e ∷ others; totals = totals }) old mid n =
+    subst (λ xs. Reached telling end c (record { net = net; events = xs; totals = totals }) old mid n) split r in
+    cut_text telling end c _ _ old mid out n inner fault _ here (event_turn_is telling end at net e others totals come) cut told text all trace
 
-pub after_turn : (edid : Option Edid) (end begin x : ℕ) (net new : NetState) (rest : List TimedEvent) (totals counted : Totals) (line : List ℕ) (c : Config) (old mid out : Option (List ℕ)) (n count m : ℕ)
-    → turn_of end net (first_time rest) ≡ Round x → begin ≡ x → IsRoundTurn begin net totals line new counted
-    → Reached edid end c (record { net = net; events = rest; totals = totals }) old mid n
-    → count ≡ length line → Appends mid out line → m ≡ told_count (n + count)
-    → Reached edid end c (record { net = new; events = rest; totals = counted }) old out m
-after_turn edid end begin x net new rest totals counted line c old mid out n count m turn same round r len wrote told =
-    let now : IsRoundTurn x net totals line new counted = subst (λ b. IsRoundTurn b net totals line new counted) same round in
-    reached_line edid end c _ _ old mid out n count m line r (round_turn_is edid end x net new rest totals counted line turn now) len wrote told
+pub after_turn : (telling : Telling) (end begin x : ℕ) (net new : NetState) (rest : List TimedEvent) (totals counted : Totals) (line : List ℕ) (c : Config) (old mid out : Option (List ℕ)) (n count m : ℕ)
+    → turn_of end net (first_time rest) ≡ Round x → begin ≡ x → IsRoundTurn telling begin net totals line new counted
+    → Reached telling end c (record { net = net; events = rest; totals = totals }) old mid n
+    → count ≡ told_count (length line) → Appends mid out line → m ≡ told_count (n + count)
+    → Reached telling end c (record { net = new; events = rest; totals = counted }) old out m
+after_turn telling end begin x net new rest totals counted line c old mid out n count m turn same round r len wrote told =
+    let now : IsRoundTurn telling x net totals line new counted = subst (λ b. IsRoundTurn telling b net totals line new counted) same round in
+    reached_more telling end c _ _ old mid out n count m line r (round_turn_is telling end x net new rest totals counted line turn now) len wrote told
 
-pub cut_turn : (edid : Option Edid) (end begin x : ℕ) (net new : NetState) (rest : List TimedEvent) (totals counted : Totals) (line : List ℕ) (c : Config) (old mid out : Option (List ℕ)) (n k : ℕ) (fault : WriteFault)
-    → turn_of end net (first_time rest) ≡ Round x → begin ≡ x → IsRoundTurn begin net totals line new counted
-    → Reached edid end c (record { net = net; events = rest; totals = totals }) old mid n
-    → k < length line → Appends mid out (take k line) → fault.count ≡ told_count (n + k)
-    → (text : List ℕ) (all : Totals) → IsTraceFrom edid end c text all → CutOff old out text fault
-cut_turn edid end begin x net new rest totals counted line c old mid out n k fault turn same round r short front told text all trace =
-    let now : IsRoundTurn x net totals line new counted = subst (λ b. IsRoundTurn b net totals line new counted) same round in
-    cut_line edid end c _ _ old mid out n k fault line r (round_turn_is edid end x net new rest totals counted line turn now) short front told text all trace
+pub cut_turn : (telling : Telling) (end begin x : ℕ) (net new : NetState) (rest : List TimedEvent) (totals counted : Totals) (line : List ℕ) (c : Config) (old mid out : Option (List ℕ)) (n : ℕ) (inner fault : WriteFault)
+    → turn_of end net (first_time rest) ≡ Round x → begin ≡ x → IsRoundTurn telling begin net totals line new counted
+    → Reached telling end c (record { net = net; events = rest; totals = totals }) old mid n
+    → CutOff mid out line inner → fault.count ≡ told_count (n + inner.count)
+    → (text : List ℕ) (all : Totals) → IsRunTextFrom telling end c text all → CutOff old out text fault
+cut_turn telling end begin x net new rest totals counted line c old mid out n inner fault turn same round r cut told text all trace =
+    let now : IsRoundTurn telling x net totals line new counted = subst (λ b. IsRoundTurn telling b net totals line new counted) same round in
+    cut_text telling end c _ _ old mid out n inner fault line r (round_turn_is telling end x net new rest totals counted line turn now) cut told text all trace

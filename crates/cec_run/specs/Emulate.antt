@@ -14,7 +14,8 @@ use Rattle.cec_run.specs.declared.emulate.EmulateError.TheVariants.{Topology, Sc
 use Rattle.cec_run.specs.declared.run.Totals.{Totals}
 use Rattle.cec_text.specs.Cut.{told_count}
 use Rattle.cec_run.specs.Root.{IsRoot, IsNoRoot}
-use Rattle.cec_run.specs.Run.{start, IsTrace}
+use Rattle.cec_run.specs.declared.run.Telling.TheVariants.{Edges}
+use Rattle.cec_run.specs.Run.{start, IsRunText, IsTrace}
 
 -- the texts spell this topology and this script
 pub record IsAccepted (topology script : List ℕ) (plan : Plan) (course : Course) : Type 0 where
@@ -30,6 +31,15 @@ pub record IsTraceOf (topology script text : List ℕ) (totals : Totals) : Type 
   pub root : IsRoot plan.edid edid
   pub trace : IsTrace edid course.end (start (started plan.tree course.pulses) course.events) text totals
 
+-- the edges of the run that the texts spell, and its end
+pub record IsEdgeTraceOf (topology script text : List ℕ) (totals : Totals) : Type 0 where
+  pub plan : Plan
+  pub course : Course
+  pub edid : Option EdidValue
+  pub accepted : IsAccepted topology script plan course
+  pub root : IsRoot plan.edid edid
+  pub edges : IsRunText Edges course.end (start (started plan.tree course.pulses) course.events) text totals
+
 -- the texts of a topology and a script have one trace, and one count of what it tells
 abbrev pub TextsHaveOneTrace : Type 0
 TextsHaveOneTrace = (topology script x y : List ℕ) (s t : Totals) → IsTraceOf topology script x s → IsTraceOf topology script y t → (x ≡ y) × (s ≡ t)
@@ -41,6 +51,10 @@ topology_told topologies.Memory = Memory
 abbrev pub script_told : ScriptError → EmulateError
 script_told (scripts.At line cause) = Script line cause
 script_told scripts.Memory = Memory
+
+-- and one text of edges
+abbrev pub TextsHaveOneEdgeTrace : Type 0
+TextsHaveOneEdgeTrace = (topology script x y : List ℕ) (s t : Totals) → IsEdgeTraceOf topology script x s → IsEdgeTraceOf topology script y t → (x ≡ y) × (s ≡ t)
 
 -- when each refusal comes: the topology's, then the script's, then the EDID; of memory nothing is said
 abbrev pub IsTold : List ℕ → List ℕ → EmulateError → Type 0
@@ -55,11 +69,17 @@ is_write (Ok totals) = false
 is_write (Err (Write count)) = true
 is_write (Err _) = false
 
--- what a refusal has written: after a failed write the front of the trace, and else nothing
-abbrev pub IsCut : List ℕ → List ℕ → Option (List ℕ) → Option (List ℕ) → EmulateError → Type 0
-IsCut topology script old new (Write told) = (text : List ℕ) (totals : Totals) → IsTraceOf topology script text totals
+-- what a refusal has written: after a failed write the front of the text due, and else nothing
+abbrev pub IsCutText : (List ℕ → Totals → Type 0) → Option (List ℕ) → Option (List ℕ) → EmulateError → Type 0
+IsCutText IsDue old new (Write told) = (text : List ℕ) (totals : Totals) → IsDue text totals
     → (count : ℕ) × (count < length text) × (told ≡ told_count count) × Appends old new (take count text)
-IsCut topology script old new (Topology line cause) = new ≡ old
-IsCut topology script old new (Script line cause) = new ≡ old
-IsCut topology script old new (Edid cause) = new ≡ old
-IsCut topology script old new Memory = new ≡ old
+IsCutText IsDue old new (Topology line cause) = new ≡ old
+IsCutText IsDue old new (Script line cause) = new ≡ old
+IsCutText IsDue old new (Edid cause) = new ≡ old
+IsCutText IsDue old new Memory = new ≡ old
+
+abbrev pub IsCut : List ℕ → List ℕ → Option (List ℕ) → Option (List ℕ) → EmulateError → Type 0
+IsCut topology script = IsCutText (IsTraceOf topology script)
+
+abbrev pub IsEdgeCut : List ℕ → List ℕ → Option (List ℕ) → Option (List ℕ) → EmulateError → Type 0
+IsEdgeCut topology script = IsCutText (IsEdgeTraceOf topology script)

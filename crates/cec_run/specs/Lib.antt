@@ -1,6 +1,7 @@
 pub mod StateText
 pub mod TraceText
 pub mod PortText
+pub mod EdgeText
 pub mod Root
 pub mod Run
 pub mod Emulate

@@ -1,5 +1,5 @@
--- A run, and its trace (own): the next event or the next round, again and again, until neither comes before
--- the end.
+-- A run, and what it writes (own): the next event or the next round, again and again, until neither comes before
+-- the end. It writes its trace, or the edges of its line.
 use Rattle.std.specs.Prelude.{◌≡◌, ℕ, zero, suc, Bool, true, false, ◌+◌, max, nat_lt, nat_le, if◌then◌else◌, List, [], ◌∷◌, ◌++◌, Option, Some, None, Result}
 use Rattle.std.specs.List.{flat_map}
 use Rattle.cec_wave.specs.Line.{IsWave}
@@ -10,17 +10,22 @@ use Rattle.cec_net.specs.Step.{IsNextRound}
 use Rattle.cec_net.specs.Progress.{IsProgress}
 use Rattle.cec_net.specs.declared.event.EventError.{EventError}
 use Rattle.hdmi_core.specs.declared.sink.WriteFault.{WriteFault}
-use Rattle.hdmi_core.specs.Written.{WrittenLine}
 use Rattle.cec_asm.specs.declared.script.TimedEvent.{TimedEvent}
 use Rattle.cec_run.specs.declared.run.Totals.{Totals}
+use Rattle.cec_run.specs.declared.run.Telling.{Telling}
+use Rattle.cec_run.specs.declared.run.Telling.TheVariants.{Trace, Edges}
 use Rattle.cec_run.specs.declared.run.Turn.{Turn}
 use Rattle.cec_run.specs.declared.run.Turn.TheVariants.{Stop, Apply, Round}
 use Rattle.hdmi_blocks.specs.declared.edid.Edid.{Edid}
 use Rattle.hdmi_topo.specs.Path.{is_on_wire}
 use Rattle.cec_run.specs.StateText.{state_line}
 use Rattle.cec_run.specs.PortText.{port_lines}
+use Rattle.cec_device.specs.State.{State}
+use Rattle.cec_text.specs.Cut.{WrittenText}
 use Rattle.cec_text.specs.ReadingText.{is_complete}
 use Rattle.cec_run.specs.TraceText.{event_line, round_line, end_line}
+use Rattle.cec_run.specs.EdgeText.{edge_lines}
+use Rattle.cec_run.specs.Root.{HasAddress}
 
 -- where a run stands: the network, the events that are left, and what is counted so far
 pub record Config : Type 0 where
@@ -60,7 +65,38 @@ first_time (e ∷ events) = Some e.at
 abbrev pub turn_at : ℕ → Config → Turn
 turn_at end c = turn_of end c.net (first_time c.events)
 
--- ---- one turn, and its lines
+-- ---- what is told
+
+-- the EDID that ports pass on, where it is given, tells an address
+abbrev pub HasAddressTold : Telling → Type 0
+HasAddressTold (Trace edid) = HasAddress edid
+HasAddressTold Edges = Unit {0}
+
+-- at the start: the port lines of the devices that are on the wire
+abbrev pub start_told : Telling → NetState → List ℕ
+start_told (Trace edid) s = port_lines 0 edid (λ device. false) s.tree
+start_told Edges s = []
+
+-- an event's line, and behind it the port lines of the devices that come onto the wire by it
+abbrev pub event_text : Option Edid → ℕ → TimedEvent → NetState → List ℕ
+event_text edid at e s = event_line at e.line (event_fault s e.event) ++ port_lines at edid (is_on_wire s.tree) (applied at e.event s).tree
+
+-- of an event: its text, and no edge
+abbrev pub event_told : Telling → ℕ → TimedEvent → NetState → List ℕ
+event_told (Trace edid) at e s = event_text edid at e s
+event_told Edges at e s = []
+
+-- of a round, by the devices after it: its line, or the edges of its wave
+abbrev pub round_told : Telling → List State → Outcome → List ℕ
+round_told (Trace edid) devices o = round_line devices o
+round_told Edges devices o = edge_lines o.wave
+
+-- at the end: a state line for each device, and the end; or the end, but not before the last round has closed
+abbrev pub end_told : Telling → ℕ → NetState → List ℕ
+end_told (Trace edid) end s = flat_map state_line s.devices ++ end_line end
+end_told Edges end s = end_line (max end s.close)
+
+-- ---- one turn, and what it tells
 
 abbrev pub counted_event : Option EventError → Totals → Totals
 counted_event None t = t
@@ -70,65 +106,70 @@ abbrev pub counted_round : Bool → Totals → Totals
 counted_round true t = record t { rounds = t.rounds + 1; complete = t.complete + 1 }
 counted_round false t = record t { rounds = t.rounds + 1 }
 
--- an event's line, and behind it the port lines of the devices that come onto the wire by it
-abbrev pub event_text : Option Edid → ℕ → TimedEvent → NetState → List ℕ
-event_text edid at e s = event_line at e.line (event_fault s e.event) ++ port_lines at edid (is_on_wire s.tree) (applied at e.event s).tree
-
-abbrev pub IsEventTurn : Option Edid → ℕ → List TimedEvent → Config → List ℕ → Config → Type 0
-IsEventTurn edid at [] c text d = (text ≡ []) × (d ≡ c)
-IsEventTurn edid at (e ∷ events) c text d =
-    (text ≡ event_text edid at e c.net)
+abbrev pub IsEventTurn : Telling → ℕ → List TimedEvent → Config → List ℕ → Config → Type 0
+IsEventTurn telling at [] c text d = (text ≡ []) × (d ≡ c)
+IsEventTurn telling at (e ∷ events) c text d =
+    (text ≡ event_told telling at e c.net)
     × (d ≡ record { net = applied at e.event c.net; events = events; totals = counted_event (event_fault c.net e.event) c.totals })
 
--- the round begins then, gives some outcome, and its line tells that outcome
-pub record IsRoundTurn (begin : ℕ) (before : NetState) (t : Totals) (line : List ℕ) (after : NetState) (u : Totals) : Type 0 where
+-- the round begins then, gives some outcome, and its text tells that outcome
+pub record IsRoundTurn (telling : Telling) (begin : ℕ) (before : NetState) (t : Totals) (text : List ℕ) (after : NetState) (u : Totals) : Type 0 where
   pub outcome : Outcome
   pub wave : IsWave outcome.wave
   pub next : IsNextRound before begin outcome after
-  pub told : line ≡ round_line after.devices outcome
+  pub told : text ≡ round_told telling after.devices outcome
   pub totals : u ≡ counted_round (is_complete outcome.reading.ending) t
 
-abbrev pub IsTurnBy : Option Edid → Turn → Config → List ℕ → Config → Type 0
-IsTurnBy edid Stop c text d = ⊥
-IsTurnBy edid (Apply at) c text d = IsEventTurn edid at c.events c text d
-IsTurnBy edid (Round begin) c text d = IsRoundTurn begin c.net c.totals text d.net d.totals × (d.events ≡ c.events)
+abbrev pub IsTurnBy : Telling → Turn → Config → List ℕ → Config → Type 0
+IsTurnBy telling Stop c text d = ⊥
+IsTurnBy telling (Apply at) c text d = IsEventTurn telling at c.events c text d
+IsTurnBy telling (Round begin) c text d = IsRoundTurn telling begin c.net c.totals text d.net d.totals × (d.events ≡ c.events)
 
-abbrev pub IsTurn : Option Edid → ℕ → Config → List ℕ → Config → Type 0
-IsTurn edid end c text d = IsTurnBy edid (turn_at end c) c text d
+abbrev pub IsTurn : Telling → ℕ → Config → List ℕ → Config → Type 0
+IsTurn telling end c text d = IsTurnBy telling (turn_at end c) c text d
 
 -- ---- the whole run
 
--- one turn after another, and their lines one after another
-abbrev pub Leads : Option Edid → ℕ → ℕ → Config → List ℕ → Config → Type 0
-Leads edid end zero c text d = (text ≡ []) × (d ≡ c)
-Leads edid end (suc turns) c text d =
-    (mid : Config) × (line : List ℕ) × (rest : List ℕ) × IsTurn edid end c line mid × Leads edid end turns mid rest d × (text ≡ line ++ rest)
+-- one turn after another, and their texts one after another
+abbrev pub Leads : Telling → ℕ → ℕ → Config → List ℕ → Config → Type 0
+Leads telling end zero c text d = (text ≡ []) × (d ≡ c)
+Leads telling end (suc turns) c text d =
+    (mid : Config) × (told : List ℕ) × (rest : List ℕ) × IsTurn telling end c told mid × Leads telling end turns mid rest d × (text ≡ told ++ rest)
 
--- the lines of the turns up to where the run stops, a state line for each device, and the last line
-pub record IsTraceFrom (edid : Option Edid) (end : ℕ) (c : Config) (text : List ℕ) (totals : Totals) : Type 0 where
+-- what the turns up to where the run stops tell, and what the end tells
+pub record IsRunTextFrom (telling : Telling) (end : ℕ) (c : Config) (text : List ℕ) (totals : Totals) : Type 0 where
   pub turns : ℕ
   pub last : Config
   pub body : List ℕ
-  pub leads : Leads edid end turns c body last
+  pub leads : Leads telling end turns c body last
   pub stops : turn_at end last ≡ Stop
-  pub whole : text ≡ body ++ (flat_map state_line last.net.devices ++ end_line end)
+  pub whole : text ≡ body ++ end_told telling end last.net
   pub counts : totals ≡ last.totals
 
--- the port lines of the devices that are on the wire at the start, and then those lines
-pub record IsTrace (edid : Option Edid) (end : ℕ) (c : Config) (text : List ℕ) (totals : Totals) : Type 0 where
+-- what the start tells, and then that
+pub record IsRunText (telling : Telling) (end : ℕ) (c : Config) (text : List ℕ) (totals : Totals) : Type 0 where
   pub rest : List ℕ
-  pub run : IsTraceFrom edid end c rest totals
-  pub whole : text ≡ port_lines 0 edid (λ device. false) c.net.tree ++ rest
+  pub run : IsRunTextFrom telling end c rest totals
+  pub whole : text ≡ start_told telling c.net ++ rest
+
+-- a run writes one text
+abbrev pub OneRunText : Type 0
+OneRunText = (telling : Telling) (end : ℕ) (c : Config) (x y : List ℕ) (s t : Totals) → IsRunText telling end c x s → IsRunText telling end c y t → (x ≡ y) × (s ≡ t)
+
+-- its trace: the port lines of the devices on the wire at the start, the lines of events, ports and rounds, a state line for
+-- each device, and the end
+abbrev pub IsTrace : Option Edid → ℕ → Config → List ℕ → Totals → Type 0
+IsTrace edid = IsRunText (Trace edid)
 
 -- a run has one trace
 abbrev pub OneTrace : Type 0
 OneTrace = (edid : Option Edid) (end : ℕ) (c : Config) (x y : List ℕ) (s t : Totals) → IsTrace edid end c x s → IsTrace edid end c y t → (x ≡ y) × (s ≡ t)
 
--- a round was run from one state to the next, and its line written
-pub record RoundWritten (before after : NetState) (t u : Totals) (old new : Option (List ℕ)) (was is : Bool) (result : Result ℕ WriteFault) : Type 0 where
+-- a round was run from one state to the next, and what it tells was written
+pub record RoundWritten (telling : Telling) (before after : NetState) (t u : Totals) (old new : Option (List ℕ)) (was is : Bool) (result : Result ℕ WriteFault) : Type 0 where
   pub begin : ℕ
-  pub line : List ℕ
+  pub text : List ℕ
   pub begins : next_start before ≡ Some begin
-  pub turn : IsRoundTurn begin before t line after u
+  pub turn : IsRoundTurn telling begin before t text after u
   pub progress : IsProgress before begin after
-  pub written : WrittenLine old new was is line result
+  pub written : WrittenText old new was is text result

@@ -1,5 +1,5 @@
 -- The line of a whole run, and what is read on it (own).
-use Rattle.std.specs.Prelude.{◌≡◌, ℕ, zero, suc, ◌+◌, ◌/◌, ◌≤◌, max, false, List, [], ◌∷◌, ◌++◌, map, Option}
+use Rattle.std.specs.Prelude.{◌≡◌, ℕ, zero, suc, ◌+◌, ◌/◌, ◌≤◌, max, false, List, [], ◌∷◌, ◌++◌, map}
 use Rattle.cec_wave.specs.declared.Stretch.{Stretch}
 use Rattle.cec_wave.specs.Line.{line_of, IsWave}
 use Rattle.cec_wave.specs.Pulses.{AreSparse}
@@ -13,20 +13,23 @@ use Rattle.cec_asm.specs.Script.{AreFramedEvents}
 use Rattle.cec_asm.specs.declared.script.TimedEvent.{TimedEvent}
 use Rattle.cec_run.specs.declared.run.Turn.{Turn}
 use Rattle.cec_run.specs.declared.run.Turn.TheVariants.{Stop, Apply, Round}
-use Rattle.hdmi_blocks.specs.declared.edid.Edid.{Edid}
+use Rattle.cec_run.specs.declared.run.Telling.{Telling}
+use Rattle.cec_run.specs.declared.run.Telling.TheVariants.{Edges}
+use Rattle.cec_run.specs.EdgeText.{edge_lines}
+use Rattle.cec_run.specs.TraceText.{end_line}
 use Rattle.cec_run.specs.declared.run.Totals.{Totals}
-use Rattle.cec_run.specs.Run.{Config, start, turn_at, IsTurnBy, IsTurn, Leads, IsTrace}
+use Rattle.cec_run.specs.Run.{Config, start, turn_at, IsTurnBy, Leads, IsRunText}
 
 -- the rounds of a turn: one, or none
-abbrev pub rounds_by : (edid : Option Edid) (turn : Turn) (c : Config) (text : List ℕ) (d : Config) → IsTurnBy edid turn c text d → List Outcome
-rounds_by edid Stop c text d t = []
-rounds_by edid (Apply at) c text d t = []
-rounds_by edid (Round begin) c text d t = t.0.outcome ∷ []
+abbrev pub rounds_by : (telling : Telling) (turn : Turn) (c : Config) (text : List ℕ) (d : Config) → IsTurnBy telling turn c text d → List Outcome
+rounds_by telling Stop c text d t = []
+rounds_by telling (Apply at) c text d t = []
+rounds_by telling (Round begin) c text d t = t.0.outcome ∷ []
 
--- the rounds of a run, in order: those whose lines its trace has
-abbrev pub rounds_in : (edid : Option Edid) (end turns : ℕ) (c : Config) (text : List ℕ) (d : Config) → Leads edid end turns c text d → List Outcome
-rounds_in edid end zero c text d l = []
-rounds_in edid end (suc turns) c text d l = rounds_by edid (turn_at end c) c l.1 l.0 l.3 ++ rounds_in edid end turns l.0 l.2 d l.4
+-- the rounds of a run, in order: those that its text tells
+abbrev pub rounds_in : (telling : Telling) (end turns : ℕ) (c : Config) (text : List ℕ) (d : Config) → Leads telling end turns c text d → List Outcome
+rounds_in telling end zero c text d l = []
+rounds_in telling end (suc turns) c text d l = rounds_by telling (turn_at end c) c l.1 l.0 l.3 ++ rounds_in telling end turns l.0 l.2 d l.4
 
 -- The whole line of a run is in order and high from the end or the last close on, and its readings, cut there, are those of
 -- its rounds, in order, each once.
@@ -36,12 +39,23 @@ pub record IsRead (os : List Outcome) (end : ℕ) : Type 0 where
   pub readings : readings_of (line_of (run_wave os)) end ≡ map outcome_listed os
 
 abbrev pub RunsAreRead : Type 0
-RunsAreRead = (edid : Option Edid) (tree : List Node) (pulses : List Stretch) (events : List TimedEvent) (end turns : ℕ) (text : List ℕ) (d : Config)
-    → AreSparse pulses → AreFramedEvents events → (leads : Leads edid end turns (start (started tree pulses) events) text d)
-    → IsRead (rounds_in edid end turns (start (started tree pulses) events) text d leads) (max end d.net.close)
+RunsAreRead = (telling : Telling) (tree : List Node) (pulses : List Stretch) (events : List TimedEvent) (end turns : ℕ) (text : List ℕ) (d : Config)
+    → AreSparse pulses → AreFramedEvents events → (leads : Leads telling end turns (start (started tree pulses) events) text d)
+    → IsRead (rounds_in telling end turns (start (started tree pulses) events) text d leads) (max end d.net.close)
+
+-- The text of the edges of a run is that of its whole line, which its rounds make, and of an end that is the later of the
+-- script's end and the last close; and cut there, that line has the readings of the rounds, in order, each once.
+pub record IsLineText (os : List Outcome) (end : ℕ) (text : List ℕ) : Type 0 where
+  pub read : IsRead os end
+  pub whole : text ≡ edge_lines (run_wave os) ++ end_line end
+
+abbrev pub EdgesAreTheLine : Type 0
+EdgesAreTheLine = (tree : List Node) (pulses : List Stretch) (events : List TimedEvent) (end : ℕ) (text : List ℕ) (totals : Totals)
+    → AreSparse pulses → AreFramedEvents events → (told : IsRunText Edges end (start (started tree pulses) events) text totals)
+    → IsLineText (rounds_in Edges end told.run.turns (start (started tree pulses) events) told.run.body told.run.last told.run.leads) (max end told.run.last.net.close) text
 
 -- A run ends: it has at most one round for each 7,200 microseconds (CEC 9.1, the shortest signal free time) before its end,
 -- and one more for each of 4,096 pulses.
 abbrev pub RunsAreShort : Type 0
-RunsAreShort = (edid : Option Edid) (tree : List Node) (pulses : List Stretch) (events : List TimedEvent) (end : ℕ) (text : List ℕ) (totals : Totals)
-    → AreSparse pulses → AreFramedEvents events → IsTrace edid end (start (started tree pulses) events) text totals → totals.rounds ≤ end / 7200 + 4096
+RunsAreShort = (telling : Telling) (tree : List Node) (pulses : List Stretch) (events : List TimedEvent) (end : ℕ) (text : List ℕ) (totals : Totals)
+    → AreSparse pulses → AreFramedEvents events → IsRunText telling end (start (started tree pulses) events) text totals → totals.rounds ≤ end / 7200 + 4096

@@ -4,7 +4,7 @@ ghost use Rattle.std.specs.Io.KnownBytes.{Appends};
 ghost use Rattle.cec_run.specs.Emulate.{IsTraceOf, IsTold, IsCut, is_write};
 
 use crate::root::{EdidCause, root_of};
-use crate::run::{Totals, run};
+use crate::run::{Telling, Totals, run};
 use cec_asm::{
     ScriptCause, ScriptError, TopologyCause, TopologyError, parse_script, parse_topology,
 };
@@ -94,7 +94,13 @@ pub fn emulate<S: Sink>(
     let script = parse_script(alloc, &topology, script)?;
     let edid = root_of(&topology.edid)?;
     let mut net = Net::new(topology.tree, EdgeWire::new(), script.pulses);
-    match run(out, &mut net, &edid, &script.events, script.end) {
+    match run(
+        out,
+        &mut net,
+        &Telling::Trace(edid),
+        &script.events,
+        script.end,
+    ) {
         Ok(totals) => Ok(totals),
         Err(fault) => Err(EmulateError::Write(fault.count)),
     }

@@ -1,6 +1,8 @@
-//! The run of a network, from the texts of its topology and its script, and the trace of the run.
+//! The run of a network, from the texts of its topology and its script, and the trace of the run or its edges.
 #![tactic(auto)]
 
+mod edge_text;
+pub mod edges;
 pub mod emulate;
 mod laws;
 mod port_text;
@@ -10,7 +12,10 @@ mod run;
 mod state_text;
 mod trace_text;
 
-pub use laws::{one_trace, runs_are_read, runs_are_short, texts_have_one_trace};
+pub use laws::{
+    edges_are_the_line, one_run_text, one_trace, runs_are_read, runs_are_short,
+    texts_have_one_edge_trace, texts_have_one_trace,
+};
 pub use root::EdidCause;
 pub use run::Totals;
 

@@ -1,5 +1,5 @@
-//! A run of the network, and its trace.
-ghost use Rattle.std.specs.Prelude.{◌≡◌, ℕ, ◌+◌, ◌++◌, ◌<◌, ◌≤◌, List, length, true, false, Some, IsSome, IfOk, IfErr, OnOk, OnErr, All, Option};
+//! A run of the network, and what it writes.
+ghost use Rattle.std.specs.Prelude.{◌≡◌, ℕ, ◌+◌, ◌++◌, ◌<◌, ◌≤◌, List, length, true, false, Some, IsSome, IfOk, IfErr, OnOk, OnErr, All, Bool, Option};
 ghost use Rattle.std.specs.List.{flat_map};
 ghost use Rattle.std.specs.Io.KnownBytes.{Appends};
 ghost use Rattle.hdmi_core.specs.Written.{WrittenLine};
@@ -12,8 +12,9 @@ ghost use Rattle.cec_run.specs.StateText.{state_line};
 ghost use Rattle.cec_text.specs.ReadingText.{is_complete};
 ghost use Rattle.cec_run.specs.TraceText.{event_line, end_line};
 ghost use Rattle.cec_run.specs.Root.{HasAddress};
-ghost use Rattle.cec_run.specs.Run.{IsTrace, IsTraceFrom, RoundWritten, counted_event, counted_round, event_text, event_turn, first_time, round_turn, start, turn_of};
+ghost use Rattle.cec_run.specs.Run.{HasAddressTold, IsRunText, IsRunTextFrom, RoundWritten, counted_event, counted_round, end_told, event_text, event_told, event_turn, first_time, round_told, round_turn, start, start_told, turn_of};
 
+use crate::edge_text::write_edges;
 use crate::port_text::{on_wire, write_ports};
 use crate::round_text::write_round;
 use crate::state_text::write_state;
@@ -21,9 +22,9 @@ use crate::trace_text::{write_end, write_event};
 use cec_asm::TimedEvent;
 use cec_device::Device;
 use cec_frame::Ending;
-use cec_net::Net;
+use cec_net::{EventError, Net};
 use cec_text::{counted, cut_at};
-use cec_wire::Wire;
+use cec_wire::{Outcome, Wire};
 use hdmi_blocks::Edid;
 use hdmi_core::{Sink, WriteFault};
 
@@ -36,6 +37,15 @@ pub struct Totals {
     pub complete: u64,
     /// How many events were refused.
     pub refused: u64,
+}
+
+/// What a run writes.
+#[derive(Drop)]
+pub enum Telling {
+    /// Its trace, with the EDID that ports pass on, where it is given.
+    Trace(Option<Edid>),
+    /// The edges of its line.
+    Edges,
 }
 
 /// What comes next in a run.
@@ -90,6 +100,29 @@ fn first_time(events: &[TimedEvent]) -> Option<u64>
     }
 }
 
+// Applies an event, and counts it where it is refused. Returns why it is refused.
+fn apply_counted<W>(
+    net: &mut Net<W>,
+    totals: &mut Totals,
+    at: u64,
+    event: &TimedEvent,
+) -> Option<EventError>
+    requires early { at ≤ 2000000000000 }
+    requires known { NamesDevices (length net.old.tree) event.now.event }
+    requires room { totals.old.refused < 18446744073709551615 }
+    ensures net { net.new ≡ applied at event.now.event net.old }
+    ensures totals { totals.new ≡ counted_event (event_fault net.old event.now.event) totals.old }
+    ensures fault { result ≡ event_fault net.old event.now.event }
+{
+    match net.apply(at, event.event.copy()) {
+        Ok(()) => None,
+        Err(error) => {
+            totals.refused += 1;
+            Some(error)
+        }
+    }
+}
+
 // Applies an event, and writes its line.
 fn apply_alone<S: Sink, W>(
     out: &mut S,
@@ -106,13 +139,8 @@ fn apply_alone<S: Sink, W>(
     ensures line { WrittenLine (S.contents out.old) (S.contents out.new) (S.is_stuck out.old) (S.is_stuck out.new)
         (event_line at event.now.line (event_fault net.old event.now.event)) result }
 {
-    match net.apply(at, event.event.copy()) {
-        Ok(()) => write_event(out, at, event.line, None),
-        Err(error) => {
-            totals.refused += 1;
-            write_event(out, at, event.line, Some(error))
-        }
-    }
+    let refused = apply_counted(net, totals, at, event);
+    write_event(out, at, event.line, refused)
 }
 
 /// Applies an event, and writes its line and those of the ports of the devices that come onto the wire by it.
@@ -143,6 +171,33 @@ fn apply_event<S: Sink, W>(
     }
 }
 
+// Applies an event, and writes what is told of it.
+fn apply_told<S: Sink, W>(
+    out: &mut S,
+    net: &mut Net<W>,
+    telling: &Telling,
+    totals: &mut Totals,
+    at: u64,
+    event: &TimedEvent,
+) -> Result<u128, WriteFault>
+    requires addressed { HasAddressTold telling.now }
+    requires early { at ≤ 2000000000000 }
+    requires known { NamesDevices (length net.old.tree) event.now.event }
+    requires room { totals.old.refused < 18446744073709551615 }
+    ensures net { net.new ≡ applied at event.now.event net.old }
+    ensures totals { totals.new ≡ counted_event (event_fault net.old event.now.event) totals.old }
+    ensures text { WrittenText (S.contents out.old) (S.contents out.new) (S.is_stuck out.old) (S.is_stuck out.new)
+        (event_told telling.now at event.now net.old) result }
+{
+    match telling {
+        Telling::Trace(edid) => apply_event(out, net, edid, totals, at, event),
+        Telling::Edges => {
+            let _refused = apply_counted(net, totals, at, event);
+            Ok(0)
+        }
+    }
+}
+
 fn counted_round(totals: Totals, ending: Ending) -> Totals
     requires room { totals.rounds < 18446744073709551615 }
     requires less { totals.complete ≤ totals.rounds }
@@ -162,24 +217,51 @@ fn counted_round(totals: Totals, ending: Ending) -> Totals
     }
 }
 
-/// Runs the next round, and writes its line.
+// What was returned of a line, as it is returned of a text.
+fn as_text(line: Result<u128, WriteFault>) -> Result<u128, WriteFault>
+    ensures { (old new : Option (List ℕ)) (was is : Bool) (text : List ℕ) → WrittenLine old new was is text line → WrittenText old new was is text result }
+{
+    match line {
+        Ok(count) => Ok(counted(0, count)),
+        Err(fault) => Err(cut_at(0, fault)),
+    }
+}
+
+// Writes what is told of a round.
+fn write_round_told<S: Sink>(
+    out: &mut S,
+    telling: &Telling,
+    devices: &[Device<16>],
+    outcome: &Outcome,
+) -> Result<u128, WriteFault>
+    ensures { WrittenText (S.contents out.old) (S.contents out.new) (S.is_stuck out.old) (S.is_stuck out.new)
+        (round_told telling.now devices.now outcome.now) result }
+{
+    match telling {
+        Telling::Trace(_) => as_text(write_round(out, devices, outcome)),
+        Telling::Edges => write_edges(out, outcome.wave.as_slice()),
+    }
+}
+
+/// Runs the next round, and writes what is told of it.
 fn run_round<S: Sink, W: Wire>(
     out: &mut S,
     net: &mut Net<W>,
+    telling: &Telling,
     totals: &mut Totals,
 ) -> Result<u128, WriteFault>
     requires starts { IsSome (next_start net.old) }
     requires early { net.old.close ≤ 2000000000000 }
     requires room { totals.old.rounds < 18446744073709551615 }
     requires less { totals.old.complete ≤ totals.old.rounds }
-    ensures { RoundWritten net.old net.new totals.old totals.new (S.contents out.old) (S.contents out.new) (S.is_stuck out.old) (S.is_stuck out.new) result }
+    ensures { RoundWritten telling.now net.old net.new totals.old totals.new (S.contents out.old) (S.contents out.new) (S.is_stuck out.old) (S.is_stuck out.new) result }
 {
     let Some(report) = net.round() else {
         unreachable!();
     };
     *totals = counted_round(*totals, report.outcome.reading.ending);
     let _stretches = report.outcome.wave.as_slice();
-    write_round(out, net.devices(), &report.outcome)
+    write_round_told(out, telling, net.devices(), &report.outcome)
 }
 
 /// Writes the state lines of the devices.
@@ -211,21 +293,51 @@ fn write_last_lines<S: Sink>(
     }
 }
 
-// Runs a network to `end`, and writes its trace but for the port lines at its start.
+// Writes what is told at the start.
+fn write_start_told<S: Sink, W>(
+    out: &mut S,
+    telling: &Telling,
+    net: &Net<W>,
+) -> Result<u128, WriteFault>
+    requires { HasAddressTold telling.now }
+    ensures { WrittenText (S.contents out.old) (S.contents out.new) (S.is_stuck out.old) (S.is_stuck out.new) (start_told telling.now net.now) result }
+{
+    match telling {
+        Telling::Trace(edid) => write_ports(out, 0, edid, net.tree(), &[]),
+        Telling::Edges => Ok(0),
+    }
+}
+
+// Writes what is told at the end.
+fn write_end_told<S: Sink, W>(
+    out: &mut S,
+    telling: &Telling,
+    net: &Net<W>,
+    end: u64,
+) -> Result<u128, WriteFault>
+    ensures { WrittenText (S.contents out.old) (S.contents out.new) (S.is_stuck out.old) (S.is_stuck out.new) (end_told telling.now end net.now) result }
+{
+    match telling {
+        Telling::Trace(_) => write_last_lines(out, net.devices(), end),
+        Telling::Edges => as_text(write_end(out, end.max(net.close()))),
+    }
+}
+
+// Runs a network to `end`, and writes what is told of it but for the start.
 fn run_turns<S: Sink, W: Wire>(
     out: &mut S,
     net: &mut Net<W>,
-    edid: &Option<Edid>,
+    telling: &Telling,
     events: &[TimedEvent],
     end: u64,
 ) -> Result<Totals, WriteFault>
-    requires addressed { HasAddress edid.now }
+    requires addressed { HasAddressTold telling.now }
     requires early { end ≤ 1000000000000 }
     requires fresh { (net.old.close ≤ 1000000000000) × (net.old.rest ≤ 1000000000000) }
     requires schedule { IsSchedule (length net.old.tree) end 0 events.now }
-    ensures ok { IfOk result (λ totals. (text : List ℕ) × IsTraceFrom edid.now end (start net.old events.now) text totals × Appends (S.contents out.old) (S.contents out.new) text) }
+    ensures ok { IfOk result (λ totals. (text : List ℕ) × IsRunTextFrom telling.now end (start net.old events.now) text totals × Appends (S.contents out.old) (S.contents out.new) text) }
     ensures same { OnOk result (S.is_stuck out.new ≡ S.is_stuck out.old) }
-    ensures cut { IfErr result (λ fault. (text : List ℕ) (totals : TotalsRecord) → IsTraceFrom edid.now end (start net.old events.now) text totals
+    ensures cut { IfErr result (λ fault. (text : List ℕ) (totals : TotalsRecord) → IsRunTextFrom telling.now end (start net.old events.now) text totals
         → CutOff (S.contents out.old) (S.contents out.new) text fault) }
     ensures stuck { OnErr result (S.is_stuck out.new ≡ true) }
 {
@@ -239,50 +351,50 @@ fn run_turns<S: Sink, W: Wire>(
                 let Some((event, others)) = rest.split_first() else {
                     unreachable!();
                 };
-                match apply_event(out, net, edid, &mut totals, at, event) {
+                match apply_told(out, net, telling, &mut totals, at, event) {
                     Ok(count) => written = counted(written, count),
                     Err(fault) => return Err(cut_at(written, fault)),
                 }
                 rest = others;
             }
-            Turn::Round(_) => match run_round(out, net, &mut totals) {
+            Turn::Round(_) => match run_round(out, net, telling, &mut totals) {
                 Ok(count) => written = counted(written, count),
                 Err(fault) => return Err(cut_at(written, fault)),
             },
         }
     }
-    match write_last_lines(out, net.devices(), end) {
+    match write_end_told(out, telling, net, end) {
         Ok(_) => Ok(totals),
         Err(fault) => Err(cut_at(written, fault)),
     }
 }
 
-/// Runs a network to `end`, at most 1,000,000,000,000 microseconds, and writes its trace. The EDID of the
-/// television, where it is given, has an HDMI block. The events stand in the order of their times, all before
-/// `end`, and name devices of the tree.
+/// Runs a network to `end`, at most 1,000,000,000,000 microseconds, and writes its trace, or the edges of its
+/// line. The EDID that ports pass on, where it is given, has an HDMI block. The events stand in the order of their
+/// times, all before `end`, and name devices of the tree.
 ///
 /// # Errors
 ///
-/// A `put` took none. Its count, which stays at its greatest value, tells how much of the trace was written.
+/// A `put` took none. Its count, which stays at its greatest value, tells how much of the text was written.
 pub fn run<S: Sink, W: Wire>(
     out: &mut S,
     net: &mut Net<W>,
-    edid: &Option<Edid>,
+    telling: &Telling,
     events: &[TimedEvent],
     end: u64,
 ) -> Result<Totals, WriteFault>
-    requires addressed { HasAddress edid.now }
+    requires addressed { HasAddressTold telling.now }
     requires early { end ≤ 1000000000000 }
     requires fresh { (net.old.close ≤ 1000000000000) × (net.old.rest ≤ 1000000000000) }
     requires schedule { IsSchedule (length net.old.tree) end 0 events.now }
-    ensures ok { IfOk result (λ totals. (text : List ℕ) × IsTrace edid.now end (start net.old events.now) text totals × Appends (S.contents out.old) (S.contents out.new) text) }
+    ensures ok { IfOk result (λ totals. (text : List ℕ) × IsRunText telling.now end (start net.old events.now) text totals × Appends (S.contents out.old) (S.contents out.new) text) }
     ensures same { OnOk result (S.is_stuck out.new ≡ S.is_stuck out.old) }
-    ensures cut { IfErr result (λ fault. (text : List ℕ) (totals : TotalsRecord) → IsTrace edid.now end (start net.old events.now) text totals
+    ensures cut { IfErr result (λ fault. (text : List ℕ) (totals : TotalsRecord) → IsRunText telling.now end (start net.old events.now) text totals
         → CutOff (S.contents out.old) (S.contents out.new) text fault) }
     ensures stuck { OnErr result (S.is_stuck out.new ≡ true) }
 {
-    match write_ports(out, 0, edid, net.tree(), &[]) {
-        Ok(written) => match run_turns(out, net, edid, events, end) {
+    match write_start_told(out, telling, net) {
+        Ok(written) => match run_turns(out, net, telling, events, end) {
             Ok(totals) => Ok(totals),
             Err(fault) => Err(cut_at(written, fault)),
         },

@@ -1,4 +1,5 @@
 //! Runs worked out by hand from the standard's times, to the byte.
+use crate::edges::emulate_edges;
 use crate::emulate::emulate;
 use hdmi_core::Writes;
 use std::alloc::Global;
@@ -285,5 +286,55 @@ fn runs_with_the_most_pulses(rt: HostRuntime) -> Result<(), Fail> {
     assert!(rt; totals.rounds <= 104_100_000 / 7200 + 4096);
     assert!(rt; out.starts_with(b"0 400 bad-start - by - out -\n"));
     assert!(rt; out.ends_with(b"104100000 end\n"));
+    Ok(())
+}
+
+fn edges(alloc: Global, topology: &str, script: &str) -> Result<Vec<u8>, Fail> {
+    let mut out = Vec::new(alloc);
+    let _totals = emulate_edges(
+        alloc,
+        topology.as_bytes(),
+        script.as_bytes(),
+        &mut Writes::new(&mut out),
+    )?;
+    Ok(out)
+}
+
+// Scripts of a television alone, and the end of its edge file. The poll begins at 12,000 and closes at 39,150.
+const ENDS: &str = "\
+end 12000 => 12000 end
+end 12001 => 38700 1;39150 end
+end 39150 => 38700 1;39150 end
+end 39151 => 38700 1;39151 end
+pulse 5000 3000;end 5001 => 5000 0;8000 1;8000 end
+";
+
+#[test]
+fn an_edge_file_ends_with_the_end_or_the_last_close(rt: HostRuntime) -> Result<(), Fail> {
+    let alloc = rt.alloc();
+    for case in ENDS.lines() {
+        let (script, lines) = case.rsplit_once(" => ").ok_or("no case")?;
+        let script = script.replace(alloc, ";", "\n")?;
+        let lines = lines.replace(alloc, ";", "\n")?;
+        let script = format!(in alloc; "{script}\n")?;
+        let lines = format!(in alloc; "{lines}\n")?;
+        let out = edges(alloc, ALONE, script.as_str())?;
+        assert!(&rt; out.ends_with(lines.as_bytes()), "{case}");
+    }
+    Ok(())
+}
+
+// A round that ends silent, and one that a pulse breaks: the follower pulls low from the offending fall.
+#[test]
+fn edges_of_broken_rounds(rt: HostRuntime) -> Result<(), Fail> {
+    let alloc = rt.alloc();
+    let out = edges(
+        alloc,
+        TWO,
+        "at 1000000 send p1 4>0 image-view-on\npulse 1006500 100\nend 1010000\n",
+    )?;
+    let broken: &[u8] =
+        b"\n1000000 0\n1003700 1\n1004500 0\n1006000 1\n1006500 0\n1010100 1\n1010100 end\n";
+    assert!(rt; out.ends_with(broken));
     Ok(())
 }

@@ -10,6 +10,8 @@ use std::alloc::{AllocError, Global};
 pub enum Choice {
     /// The trace of a topology and a script.
     Run,
+    /// The edge file of a topology and a script.
+    Edges,
     /// The bytes of frames, from their texts.
     Asm,
     /// The readings of an edge file.
@@ -32,7 +34,7 @@ impl Choice {
     /// What the input is to be.
     pub fn input(self) -> Input {
         match self {
-            Choice::Run => Input::Network,
+            Choice::Run | Choice::Edges => Input::Network,
             Choice::Asm | Choice::Mon => Input::Lines,
             Choice::EdidToText => Input::EdidBytes,
             Choice::TextToHex => Input::EdidText,
@@ -59,10 +61,18 @@ fn edid_command<'a>(alloc: Global) -> Result<Command<'a>, AllocError> {
         .arg(text)
 }
 
-fn command<'a>(alloc: Global) -> Result<Command<'a>, AllocError> {
-    let run = Command::new(alloc, "run")
+fn run_command<'a>(alloc: Global) -> Result<Command<'a>, AllocError> {
+    let edges = Arg::new(alloc, "edges")
+        .long("edges")
+        .help(help::EDGES_FLAG)
+        .action(ArgAction::SetTrue);
+    Command::new(alloc, "run")
         .about(help::RUN_ABOUT)
-        .after_help(help::RUN_HELP);
+        .after_help(help::RUN_HELP)
+        .arg(edges)
+}
+
+fn command<'a>(alloc: Global) -> Result<Command<'a>, AllocError> {
     let asm = Command::new(alloc, "asm")
         .about(help::ASM_ABOUT)
         .after_help(help::ASM_HELP);
@@ -75,7 +85,7 @@ fn command<'a>(alloc: Global) -> Result<Command<'a>, AllocError> {
         .after_help(help::OVERVIEW)
         .disable_help_subcommand(true)
         .arg(explain_flag(alloc))?
-        .subcommand(run)?
+        .subcommand(run_command(alloc)?)?
         .subcommand(asm)?
         .subcommand(mon)?
         .subcommand(edid_command(alloc)?)
@@ -84,6 +94,7 @@ fn command<'a>(alloc: Global) -> Result<Command<'a>, AllocError> {
 // What the words after the flags ask for.
 fn choice_of(matches: &ArgMatches<'_>) -> Choice {
     match matches.subcommand() {
+        Some(("run", run)) if run.get_flag("edges") => Choice::Edges,
         Some(("asm", _)) => Choice::Asm,
         Some(("mon", _)) => Choice::Mon,
         Some(("edid", edid)) if edid.get_flag("text") => Choice::TextToHex,

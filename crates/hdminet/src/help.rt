@@ -26,6 +26,8 @@ Examples, of which the folder examples/ has the inputs and outputs:
       at 1000000 press p1 play
       end 1500000
       (further ones are four-players.net and ports.net)
+  ./hdminet run --edges < examples/first-path.net
+      the same network, but the falls and rises of its CEC line: `12000 0`, `15700 1` and so on
   ./hdminet asm < examples/frames.txt
       `4>f active-source 1.0.0.0` gives `4f821000`
   ./hdminet mon < examples/capture.edges
@@ -41,6 +43,8 @@ Exit status: 0 done; 1 input refused; 2 command line refused; 3 a read or write 
 past 1048576 bytes; 4 no memory.";
 
 pub const RUN_ABOUT: &str = "Runs a topology and a script, and prints the trace (the default)";
+
+pub const EDGES_FLAG: &str = "Prints the edges of the CEC line in place of the trace";
 
 pub const RUN_HELP: &str = "\
 The input has two parts, parted by a line `script`. Lines that are empty or begin with `#` are
@@ -87,6 +91,10 @@ port of a device that comes on the wire, and at the end the state of each device
   T port NAME PORT HEX
   state NAME KIND ..
   T end
+
+With --edges the output is an edge file, as `hdminet mon` takes it: `T 0` for each fall of the CEC line,
+`T 1` for each rise, and last `T end`, the end of the script or the close of the last round, whichever is
+later. Its readings are those of the trace.
 
 An event is refused, and the run goes on, with one of
   plug      port-range, port-taken, not-loose, loop

@@ -6,6 +6,7 @@ use crate::help::EXPLAINED;
 use arrayvec::ArrayString;
 use cec_mon::watch;
 use cec_run::Totals;
+use cec_run::edges::emulate_edges;
 use cec_run::emulate::emulate;
 use cec_text::{asm_lines, first_line};
 use clap::Error as CommandLineError;
@@ -58,6 +59,10 @@ fn perform<W: Sink>(
         Choice::Run => {
             let (topology, script) = parts(input).ok_or(Fault::NoScriptLine)?;
             return Ok(Some(emulate(alloc, topology, script, out)?));
+        }
+        Choice::Edges => {
+            let (topology, script) = parts(input).ok_or(Fault::NoScriptLine)?;
+            return Ok(Some(emulate_edges(alloc, topology, script, out)?));
         }
         Choice::Asm => asm_lines(input, out)?,
         Choice::Mon => watch(alloc, input, out)?,

@@ -6,7 +6,9 @@ use std::process::Abort;
 use std::test::Fail;
 
 mod command_line;
+mod edge_files;
 mod edids;
+mod example_lines;
 mod examples;
 mod explained;
 mod frames;

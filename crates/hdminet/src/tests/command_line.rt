@@ -16,6 +16,7 @@ fn shows(rt: &impl Abort, alloc: Global, texts: &[&str], part: &str) -> Result<(
 /// A subcommand, and a part of what its help says.
 const HELP: &str = "\
 run =>   at 1000000 press p1 play
+run => --edges
 asm => 4f821000
 edid =>   made 10 2011 
 edid => --text
@@ -49,7 +50,8 @@ fn refuses_other_command_lines(rt: HostRuntime) -> Result<(), Fail> {
     for texts in [
         ["frob"].as_slice(),
         ["--frob"].as_slice(),
-        ["run", "--edges"].as_slice(),
+        ["--edges"].as_slice(),
+        ["run", "--edges", "--edges"].as_slice(),
         ["run", "tv.net"].as_slice(),
         ["asm", "--text"].as_slice(),
         ["edid", "--hex"].as_slice(),

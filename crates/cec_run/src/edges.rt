@@ -1,0 +1,41 @@
+//! From the texts of a topology and a script to the edges of their run.
+ghost use Rattle.std.specs.Prelude.{◌≡◌, ℕ, List, ◌↔◌, true, false, IfOk, IfErr, IsTrue};
+ghost use Rattle.std.specs.Io.KnownBytes.{Appends};
+ghost use Rattle.cec_run.specs.Emulate.{IsEdgeTraceOf, IsTold, IsEdgeCut, is_write};
+
+use crate::emulate::EmulateError;
+use crate::root::root_of;
+use crate::run::{Telling, Totals, run};
+use cec_asm::{parse_script, parse_topology};
+use cec_net::Net;
+use cec_wire::EdgeWire;
+use hdmi_core::Sink;
+use std::alloc::Global;
+
+/// Runs a script on a topology, and writes the edge file of the run: the falls and rises of the whole run's line,
+/// and then the later of the script's end and the close of the last round.
+///
+/// # Errors
+///
+/// Those of [`emulate`](crate::emulate::emulate), in the same order. A failed write: then the front of the edge file
+/// was written, as long as it tells. Else nothing was written.
+pub fn emulate_edges<S: Sink>(
+    alloc: Global,
+    topology: &[u8],
+    script: &[u8],
+    out: &mut S,
+) -> Result<Totals, EmulateError>
+    ensures ok { IfOk result (λ totals. (text : List ℕ) × IsEdgeTraceOf topology.now script.now text totals × Appends (S.contents out.old) (S.contents out.new) text) }
+    ensures told { IfErr result (IsTold topology.now script.now) }
+    ensures write { S.is_stuck out.old ≡ false → (IsTrue (is_write result) ↔ IsTrue (S.is_stuck out.new)) }
+    ensures cut { IfErr result (IsEdgeCut topology.now script.now (S.contents out.old) (S.contents out.new)) }
+{
+    let topology = parse_topology(alloc, topology)?;
+    let script = parse_script(alloc, &topology, script)?;
+    let _edid = root_of(&topology.edid)?;
+    let mut net = Net::new(topology.tree, EdgeWire::new(), script.pulses);
+    match run(out, &mut net, &Telling::Edges, &script.events, script.end) {
+        Ok(totals) => Ok(totals),
+        Err(fault) => Err(EmulateError::Write(fault.count)),
+    }
+}
