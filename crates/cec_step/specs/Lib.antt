@@ -1,1 +1,4 @@
-
+pub mod EdgeText
+pub mod Steps
+pub mod Ready
+pub mod Commands

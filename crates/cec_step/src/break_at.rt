@@ -1,5 +1,11 @@
 //! The round that is looked for.
-use cec_frame::Ending;
+ghost use Rattle.std.specs.Prelude.{◌≡◌, ◌==◌, slice_get, option_map};
+ghost use Rattle.std.specs.List.{list_any};
+ghost use Rattle.cec_net.specs.Step.{is_among};
+ghost use Rattle.cec_frame.specs.Blocks.{frame_in};
+ghost use Rattle.cec_step.specs.Steps.{has_opcode, stops};
+
+use cec_frame::{Ending, Reading};
 use cec_wire::{Loser, Outcome};
 
 /// The round that is looked for.
@@ -13,28 +19,42 @@ pub enum Break {
     AnyBreak,
 }
 
-fn reads_opcode(outcome: &Outcome, opcode: u8) -> bool {
-    match outcome.reading.frame() {
+fn has_opcode(reading: &Reading, opcode: u8) -> bool
+    ensures { result ≡ has_opcode opcode (frame_in reading.now) }
+{
+    match reading.frame() {
         None => false,
-        Some(frame) => frame.bytes().get(1).copied() == Some(opcode),
+        Some(frame) => match frame.bytes().get(1) {
+            None => false,
+            Some(byte) => *byte == opcode,
+        },
     }
 }
 
-fn is_among(seats: &[usize], device: usize) -> bool {
+fn is_among(seats: &[usize], device: usize) -> bool
+    ensures { result ≡ is_among seats.now device }
+{
     seats.iter().any(|seat| *seat == device)
 }
 
-fn is_out(losers: &[Loser], device: usize) -> bool {
+fn is_out(losers: &[Loser], device: usize) -> bool
+    ensures { result ≡ list_any (λ loser. loser.seat == device) losers.now }
+{
     losers.iter().any(|loser| loser.seat == device)
 }
 
 /// Whether a round is the one that is looked for.
-pub(crate) fn stops(at: Break, outcome: &Outcome) -> bool {
+pub(crate) fn stops(at: Break, outcome: &Outcome) -> bool
+    ensures { result ≡ stops at outcome.now }
+{
     match at {
-        Break::Opcode(opcode) => reads_opcode(outcome, opcode),
+        Break::Opcode(opcode) => has_opcode(&outcome.reading, opcode),
         Break::Device(device) => {
             is_among(&outcome.survivors, device) || is_out(&outcome.losers, device)
         }
-        Break::AnyBreak => outcome.reading.ending != Ending::Complete,
+        Break::AnyBreak => match outcome.reading.ending {
+            Ending::Complete => false,
+            _ => true,
+        },
     }
 }

@@ -2,8 +2,11 @@
 #![tactic(auto)]
 
 mod break_at;
+mod commands;
 mod edge_text;
+mod parts;
 mod position;
+pub mod step_run;
 mod stepper;
 
 pub use break_at::Break;

@@ -1,8 +1,23 @@
 //! Where a run stands, and its next round.
+ghost use Rattle.std.specs.Prelude.{◌≡◌, ℕ, ◌+◌, ◌++◌, ◌<◌, ◌≤◌, List, ◌∷◌, drop, length, MatchBool, MatchOption, IfSome, OnOk, OnErr, IsSome, true, false};
+ghost use Rattle.cec_net.specs.Apply.{applied};
+ghost use Rattle.cec_net.specs.Underway.{OfRound, standing_told};
+ghost use Rattle.cec_step.specs.EdgeText.{edge_line};
+ghost use Rattle.cec_text.specs.Cut.{WrittenText};
+ghost use Rattle.cec_asm.specs.declared.script.TimedEvent.{TimedEvent as TimedEventRecord};
+ghost use Rattle.cec_run.specs.declared.run.Turn.TheVariants.{Apply, Round, Stop};
+ghost use Rattle.cec_run.specs.Root.{HasAddress};
+ghost use Rattle.cec_run.specs.Run.{event_text};
+ghost use Rattle.cec_step.specs.Ready.{Begins, Brings, IsReady, point_of};
+ghost use Rattle.cec_step.specs.Steps.{IsOver, IsRoundStep, passed, passed_text, start_text, turn_at};
+
+use crate::edge_text::write_edge;
+use crate::parts::behind;
 use cec_asm::TimedEvent;
 use cec_net::{Net, RoundReport};
-use cec_run::{Totals, Turn, apply_event, first_time, next_turn, write_ports, write_round};
+use cec_run::{Totals, Turn, apply_event, first_time, next_turn, write_ports};
 use cec_text::{counted, cut_at};
+use cec_wave::Edge;
 use cec_wire::EdgeWire;
 use hdmi_blocks::Edid;
 use hdmi_core::{Sink, WriteFault};
@@ -27,14 +42,22 @@ pub(crate) struct Position {
 
 impl Course {
     // The events that are left after so many.
-    fn left(&self, applied: usize) -> &[TimedEvent] {
-        self.events.get(applied..).unwrap_or(&[])
+    fn left(&self, applied: usize) -> &[TimedEvent]
+        ensures { result.now ≡ drop applied self.now.events.items }
+    {
+        if applied <= self.events.len() {
+            &self.events[applied..]
+        } else {
+            &[]
+        }
     }
 }
 
 impl Position {
     /// The same position again.
-    pub fn copy(&self) -> Self {
+    pub fn copy(&self) -> Self
+        ensures { result ≡ self.now }
+    {
         Position {
             net: self.net.copy(),
             applied: self.applied,
@@ -42,60 +65,134 @@ impl Position {
         }
     }
 
-    /// What comes next in the run.
-    pub fn turn(&self, course: &Course) -> Turn {
-        next_turn(
-            course.end,
-            &self.net,
-            first_time(course.left(self.applied)),
-        )
+    // What comes next in the run.
+    fn turn(&self, course: &Course) -> Turn
+        ensures { result ≡ turn_at course.now.end (point_of course.now.events.items self.now) }
+    {
+        let left = course.left(self.applied);
+        next_turn(course.end, &self.net, first_time(left))
     }
 
-    /// Whether a round comes next.
-    pub fn is_before_round(&self, course: &Course) -> bool {
-        matches!(self.turn(course), Turn::Round(_))
+    // Applies the next event, which comes at this instant.
+    fn pass_event(&mut self, course: &Course, at: u64)
+        requires turn { turn_at course.now.end (point_of course.now.events.items self.old) ≡ Apply at }
+        requires ready { IsReady course.now.end (point_of course.now.events.items self.old) }
+        ensures point { (event : TimedEventRecord) × (drop self.old.applied course.now.events.items ≡ event ∷ drop self.new.applied course.now.events.items)
+            × (self.new.net ≡ applied at event.event self.old.net) × (self.new.is_first ≡ self.old.is_first) }
+        ensures ready { IsReady course.now.end (point_of course.now.events.items self.new) }
+    {
+        let Some((event, _others)) = course.left(self.applied).split_first() else {
+            unreachable!();
+        };
+        let _refused = self.net.apply(at, event.event.copy());
+        self.applied += 1;
     }
 
-    /// Applies the events that come before the next round.
-    pub fn pass_events(&mut self, course: &Course) {
-        'events: while let Turn::Apply(at) = self.turn(course) {
-            let Some(event) = course.left(self.applied).first() else {
-                unreachable!();
-            };
-            let _refused = self.net.apply(at, event.event.copy());
-            self.applied += 1;
+    // Applies the events that come before the next round. Returns whether a round comes then.
+    fn pass_events(&mut self, course: &Course) -> bool
+        requires { IsReady course.now.end (point_of course.now.events.items self.old) }
+        ensures point { point_of course.now.events.items self.new ≡ passed course.now.end (point_of course.now.events.items self.old) }
+        ensures comes { MatchBool result
+            ((begin : ℕ) × (turn_at course.now.end (passed course.now.end (point_of course.now.events.items self.old)) ≡ Round begin))
+            (IsOver course.now.end (point_of course.now.events.items self.old)) }
+        ensures rest { self.new.net.rest ≡ self.old.net.rest }
+        ensures ready { IsReady course.now.end (point_of course.now.events.items self.new) }
+    {
+        'events: loop {
+            match self.turn(course) {
+                Turn::Apply(at) => self.pass_event(course, at),
+                Turn::Round(_) => return true,
+                Turn::Stop => return false,
+            }
         }
     }
 
     /// Runs the events and the round that come next. None where no round comes.
-    pub fn pass_round(&mut self, course: &Course) -> Option<RoundReport> {
-        self.pass_events(course);
-        if !self.is_before_round(course) {
+    pub fn pass_round(&mut self, course: &Course) -> Option<RoundReport>
+        requires { IsReady course.now.end (point_of course.now.events.items self.old) }
+        ensures step { MatchOption result
+            (IsOver course.now.end (point_of course.now.events.items self.old))
+            (λ report. IsRoundStep course.now.end (point_of course.now.events.items self.old) report.outcome (point_of course.now.events.items self.new)) }
+        ensures brings { IfSome result (λ _. Brings course.now.end (point_of course.now.events.items self.old) (point_of course.now.events.items self.new)) }
+        ensures ready { IfSome result (λ _. IsReady course.now.end (point_of course.now.events.items self.new)) }
+    {
+        if !self.pass_events(course) {
             return None;
         }
+        let Some(report) = self.net.round() else {
+            unreachable!();
+        };
+        let _stretches = report.outcome.wave.as_slice();
         self.is_first = false;
-        self.net.round()
+        Some(report)
+    }
+
+    /// Begins the round that comes next, with the events before it. Returns the first edge of its line; None where no
+    /// round comes.
+    pub fn begin_round(&mut self, course: &Course) -> Option<Edge>
+        requires { IsReady course.now.end (point_of course.now.events.items self.old) }
+        ensures { MatchOption result
+            (IsOver course.now.end (point_of course.now.events.items self.old))
+            (λ edge. Begins course.now.end (point_of course.now.events.items self.old) edge (point_of course.now.events.items self.new)) }
+    {
+        if !self.pass_events(course) {
+            return None;
+        }
+        if !self.net.begin() {
+            unreachable!();
+        }
+        self.net.next_edge()
+    }
+
+    // Applies the next event, and writes its lines.
+    fn write_event<S: Sink>(
+        &mut self,
+        course: &Course,
+        at: u64,
+        out: &mut S,
+    ) -> Result<u128, WriteFault>
+        requires turn { turn_at course.now.end (point_of course.now.events.items self.old) ≡ Apply at }
+        requires ready { IsReady course.now.end (point_of course.now.events.items self.old) }
+        requires addressed { HasAddress course.now.edid }
+        ensures point { (event : TimedEventRecord) × (drop self.old.applied course.now.events.items ≡ event ∷ drop self.new.applied course.now.events.items)
+            × (self.new.net ≡ applied at event.event self.old.net) × (self.new.is_first ≡ self.old.is_first)
+            × WrittenText (S.contents out.old) (S.contents out.new) (S.is_stuck out.old) (S.is_stuck out.new) (event_text course.now.edid at event self.old.net) result }
+        ensures ready { IsReady course.now.end (point_of course.now.events.items self.new) }
+    {
+        let Some((event, _others)) = course.left(self.applied).split_first() else {
+            unreachable!();
+        };
+        let mut totals = Totals::default();
+        self.applied += 1;
+        apply_event(out, &mut self.net, &course.edid, &mut totals, at, event)
     }
 
     // Applies the events that come before the next round, and writes their lines.
-    fn write_events<S: Sink>(&mut self, course: &Course, out: &mut S) -> Result<u128, WriteFault> {
+    fn write_events<S: Sink>(&mut self, course: &Course, out: &mut S) -> Result<u128, WriteFault>
+        requires ready { IsReady course.now.end (point_of course.now.events.items self.old) }
+        requires addressed { HasAddress course.now.edid }
+        ensures { WrittenText (S.contents out.old) (S.contents out.new) (S.is_stuck out.old) (S.is_stuck out.new)
+            (passed_text course.now.edid course.now.end (point_of course.now.events.items self.old)) result }
+    {
         let mut written = 0;
-        'events: while let Turn::Apply(at) = self.turn(course) {
-            let Some(event) = course.left(self.applied).first() else {
-                unreachable!();
-            };
-            let mut totals = Totals::default();
-            match apply_event(out, &mut self.net, &course.edid, &mut totals, at, event) {
-                Ok(count) => written = counted(written, count),
-                Err(fault) => return Err(cut_at(written, fault)),
+        'events: loop {
+            match self.turn(course) {
+                Turn::Apply(at) => match self.write_event(course, at, out) {
+                    Ok(count) => written = counted(written, count),
+                    Err(fault) => return Err(cut_at(written, fault)),
+                },
+                Turn::Round(_) => return Ok(written),
+                Turn::Stop => return Ok(written),
             }
-            self.applied += 1;
         }
-        Ok(written)
     }
 
     // Writes the lines that are due before any event: those of the ports, before the first round.
-    fn write_start<S: Sink>(&self, course: &Course, out: &mut S) -> Result<u128, WriteFault> {
+    fn write_start<S: Sink>(&self, course: &Course, out: &mut S) -> Result<u128, WriteFault>
+        requires addressed { HasAddress course.now.edid }
+        ensures { WrittenText (S.contents out.old) (S.contents out.new) (S.is_stuck out.old) (S.is_stuck out.new)
+            (start_text course.now.edid (point_of course.now.events.items self.now)) result }
+    {
         if self.is_first {
             write_ports(out, 0, &course.edid, self.net.tree(), &[])
         } else {
@@ -103,24 +200,32 @@ impl Position {
         }
     }
 
-    /// Runs the events and the round that come next, and writes their lines.
-    pub fn write_step<S: Sink>(
+    /// Applies the events that come before the next round, and writes what the trace has before that round.
+    pub fn write_before<S: Sink>(
         &mut self,
         course: &Course,
         out: &mut S,
-    ) -> Result<u128, WriteFault> {
-        let mut written = self.write_start(course, out)?;
-        match self.write_events(course, out) {
-            Ok(count) => written = counted(written, count),
-            Err(fault) => return Err(cut_at(written, fault)),
+    ) -> Result<u128, WriteFault>
+        requires ready { IsReady course.now.end (point_of course.now.events.items self.old) }
+        requires addressed { HasAddress course.now.edid }
+        ensures { WrittenText (S.contents out.old) (S.contents out.new) (S.is_stuck out.old) (S.is_stuck out.new)
+            (start_text course.now.edid (point_of course.now.events.items self.old)
+            ++ passed_text course.now.edid course.now.end (point_of course.now.events.items self.old)) result }
+    {
+        match self.write_start(course, out) {
+            Ok(count) => behind(count, self.write_events(course, out)),
+            Err(fault) => Err(fault),
         }
-        self.is_first = false;
-        let Some(report) = self.net.round() else {
-            unreachable!();
-        };
-        match write_round(out, self.net.devices(), &report.outcome) {
-            Ok(count) => Ok(counted(written, count)),
-            Err(fault) => Err(cut_at(written, fault)),
-        }
+    }
+
+    /// Writes the line of an edge through which the line of the round that was begun is told. All devices hear one line:
+    /// the first one's receiver stands where each one does.
+    pub fn write_edge<S: Sink>(&self, out: &mut S, edge: Edge) -> Result<u128, WriteFault>
+        requires underway { IsSome self.now.net.heard }
+        requires some { 0 < length self.now.net.tree }
+        ensures { (text : List ℕ) × OfRound self.now.net (λ begin heard low. text ≡ edge_line self.now.net.devices edge (standing_told low begin heard))
+            × WrittenText (S.contents out.old) (S.contents out.new) (S.is_stuck out.old) (S.is_stuck out.new) text result }
+    {
+        write_edge(out, self.net.devices(), edge, self.net.standing_of(0))
     }
 }

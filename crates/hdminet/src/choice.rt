@@ -12,6 +12,8 @@ pub enum Choice {
     Run,
     /// The edge file of a topology and a script.
     Edges,
+    /// Steps of a run, edge by edge and round by round.
+    Step,
     /// The bytes of frames, from their texts.
     Asm,
     /// The readings of an edge file.
@@ -34,7 +36,7 @@ impl Choice {
     /// What the input is to be.
     pub fn input(self) -> Input {
         match self {
-            Choice::Run | Choice::Edges => Input::Network,
+            Choice::Run | Choice::Edges | Choice::Step => Input::Network,
             Choice::Asm | Choice::Mon => Input::Lines,
             Choice::EdidToText => Input::EdidBytes,
             Choice::TextToHex => Input::EdidText,
@@ -79,6 +81,9 @@ fn command<'a>(alloc: Global) -> Result<Command<'a>, AllocError> {
     let mon = Command::new(alloc, "mon")
         .about(help::MON_ABOUT)
         .after_help(help::MON_HELP);
+    let step = Command::new(alloc, "step")
+        .about(help::STEP_ABOUT)
+        .after_help(help::STEP_HELP);
     Command::new(alloc, "hdminet")
         .about(help::ABOUT)
         .version("0.1.0")
@@ -86,6 +91,7 @@ fn command<'a>(alloc: Global) -> Result<Command<'a>, AllocError> {
         .disable_help_subcommand(true)
         .arg(explain_flag(alloc))?
         .subcommand(run_command(alloc)?)?
+        .subcommand(step)?
         .subcommand(asm)?
         .subcommand(mon)?
         .subcommand(edid_command(alloc)?)
@@ -95,6 +101,7 @@ fn command<'a>(alloc: Global) -> Result<Command<'a>, AllocError> {
 fn choice_of(matches: &ArgMatches<'_>) -> Choice {
     match matches.subcommand() {
         Some(("run", run)) if run.get_flag("edges") => Choice::Edges,
+        Some(("step", _)) => Choice::Step,
         Some(("asm", _)) => Choice::Asm,
         Some(("mon", _)) => Choice::Mon,
         Some(("edid", edid)) if edid.get_flag("text") => Choice::TextToHex,

@@ -2,6 +2,7 @@
 use crate::edid_text::{EdidToTextError, TextToHexError};
 use cec_mon::WatchError;
 use cec_run::emulate::EmulateError;
+use cec_step::step_run::StepRunError;
 use cec_text::{AssembleError, FrameLinesError};
 use std::alloc::AllocError;
 use std::io::{self, ErrorKind};
@@ -17,8 +18,12 @@ pub enum Fault {
     Read,
     #[error("no script line")]
     NoScriptLine,
+    #[error("no steps line")]
+    NoStepsLine,
     #[error(transparent)]
     Emulate(#[from] EmulateError),
+    #[error("steps line {0}")]
+    Steps(u64),
     #[error("line {line}: {cause}")]
     Line { line: u64, cause: AssembleError },
     #[error(transparent)]
@@ -41,6 +46,15 @@ impl From<FrameLinesError> for Fault {
                 cause: fault.cause,
             },
             FrameLinesError::Write(fault) => Fault::Write(fault.count),
+        }
+    }
+}
+
+impl From<StepRunError> for Fault {
+    fn from(error: StepRunError) -> Fault {
+        match error {
+            StepRunError::Run(error) => Fault::Emulate(error),
+            StepRunError::Steps(line) => Fault::Steps(line),
         }
     }
 }
@@ -70,6 +84,8 @@ impl Fault {
             | Fault::Watch(WatchError::Memory)
             | Fault::TextToHex(TextToHexError::Memory) => 4,
             Fault::NoScriptLine
+            | Fault::NoStepsLine
+            | Fault::Steps(_)
             | Fault::Emulate(_)
             | Fault::Line { .. }
             | Fault::Watch(_)

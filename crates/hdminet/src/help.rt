@@ -8,7 +8,7 @@ pub const EXPLAIN_FLAG: &str =
 
 /// What follows a refused command line that has `--explain`.
 pub const EXPLAINED: &str =
-    "  the subcommands are run, asm, mon and edid; each reads standard input, as `hdminet run < FILE`\n";
+    "  the subcommands are run, step, asm, mon and edid; each reads standard input, as `hdminet run < FILE`\n";
 
 pub const OVERVIEW: &str = "\
 With --explain a fault is followed by the line of the input, the word at fault, and what would be right.
@@ -28,6 +28,8 @@ Examples, of which the folder examples/ has the inputs and outputs:
       (further ones are four-players.net and ports.net)
   ./hdminet run --edges < examples/first-path.net
       the same network, but the falls and rises of its CEC line: `12000 0`, `15700 1` and so on
+  ./hdminet step < examples/arbitration.steps
+      two devices send at once: the line of that round edge by edge, and where each device then stands
   ./hdminet asm < examples/frames.txt
       `4>f active-source 1.0.0.0` gives `4f821000`
   ./hdminet mon < examples/capture.edges
@@ -110,6 +112,45 @@ from the first line of its part, and nothing is written to standard output then.
                   too-many, end
   of an EDID      length, count, base header, base checksum, base revision, base maker,
                   ext 1 checksum, no-hdmi-block
+
+Exit status: 0 done; 1 input refused; 2 command line refused; 3 a read or write fault, or input
+past 1048576 bytes; 4 no memory.";
+
+pub const STEP_ABOUT: &str = "Takes a run step by step, edge by edge or round by round";
+
+pub const STEP_HELP: &str = "\
+The input is that of `hdminet run`, and behind its `end` line a line `steps` and the steps, one a
+line. Lines that are empty or begin with `#` are skipped.
+  edge                    the next edge of the CEC line; it begins the next round where none is begun,
+                          or where the last one has given all its edges
+  round                   what the trace has of the round that was begun, or of the next one: the lines
+                          of the events before it, and its own
+  until opcode XX         the same of the first round that reads a complete frame of this opcode (two
+                          hex digits in lower case); of a round that was begun, or of the next one on
+  until device NAME       of the first round in which the device sends
+  until break             of the first round that ends in any other way than complete
+  show NAME               the state line of a device
+
+A step that the run does not have any more writes `ended`, and the run stays where it is.
+
+The line of an edge is `T low` or `T high`, and then ` NAME=STANDING` for each device on the wire:
+  idle                    outside a reading, the line high
+  start-low, start-high   in the start bit, before and after its rise
+  slot:K:BITS             in slot K, with the bits sampled so far, `-` for none
+  wait-high               after an ending, the line still low
+
+An example, and what it gives:
+  device tv tv 1
+  script
+  end 200000
+  steps
+  edge                    12000 low tv=start-low
+  edge                    15700 high tv=start-high
+  round                   12000 39150 complete 0>0 nack by tv out -
+  until break             ended
+
+Faults: those of `hdminet run`; then `no steps line`, or `steps line N` for the first line that is no
+step, where N counts from the line behind `steps`. Nothing is written then.
 
 Exit status: 0 done; 1 input refused; 2 command line refused; 3 a read or write fault, or input
 past 1048576 bytes; 4 no memory.";

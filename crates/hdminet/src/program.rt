@@ -8,6 +8,7 @@ use cec_mon::watch;
 use cec_run::Totals;
 use cec_run::edges::emulate_edges;
 use cec_run::emulate::emulate;
+use cec_step::step_run::step_run;
 use cec_text::{asm_lines, first_line};
 use clap::Error as CommandLineError;
 use hdmi_core::{Sink, put_all};
@@ -36,16 +37,21 @@ fn read_input<R: Read>(alloc: Global, input: &mut R) -> Result<Vec<u8>, Fault> {
     Err(Fault::TooLong)
 }
 
-// The text before the first line `script`, and the text after it.
-fn parts(text: &[u8]) -> Option<(&[u8], &[u8])> {
+// The text before the first line that reads so, and the text after it.
+fn parted<'a>(text: &'a [u8], mark: &[u8]) -> Option<(&'a [u8], &'a [u8])> {
     let mut rest = text;
     while let Some((line, after)) = first_line(rest) {
-        if line == b"script".as_slice() {
+        if line == mark {
             return Some((&text[..text.len() - rest.len()], after));
         }
         rest = after;
     }
     None
+}
+
+// The text before the first line `script`, and the text after it.
+fn parts(text: &[u8]) -> Result<(&[u8], &[u8]), Fault> {
+    parted(text, b"script").ok_or(Fault::NoScriptLine)
 }
 
 // Does what is asked for. Of a run the result has the counts.
@@ -57,12 +63,17 @@ fn perform<W: Sink>(
 ) -> Result<Option<Totals>, Fault> {
     match choice {
         Choice::Run => {
-            let (topology, script) = parts(input).ok_or(Fault::NoScriptLine)?;
+            let (topology, script) = parts(input)?;
             return Ok(Some(emulate(alloc, topology, script, out)?));
         }
         Choice::Edges => {
-            let (topology, script) = parts(input).ok_or(Fault::NoScriptLine)?;
+            let (topology, script) = parts(input)?;
             return Ok(Some(emulate_edges(alloc, topology, script, out)?));
+        }
+        Choice::Step => {
+            let (topology, rest) = parts(input)?;
+            let (script, steps) = parted(rest, b"steps").ok_or(Fault::NoStepsLine)?;
+            step_run(alloc, topology, script, steps, out)?;
         }
         Choice::Asm => asm_lines(input, out)?,
         Choice::Mon => watch(alloc, input, out)?,

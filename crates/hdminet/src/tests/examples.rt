@@ -231,6 +231,73 @@ fn ports(rt: HostRuntime) -> Result<(), Fail> {
     gives(&rt, rt.alloc(), words.as_slice(), input, output)
 }
 
+const ARBITRATION_STEPS: &str = "\
+# Two devices send at once, and the one with the lower address goes on: an arbitration edge by edge.
+device tv tv 4
+device amp amp 0
+device p1 player 0
+plug amp tv 1
+plug p1 tv 2
+script
+at 2000000 send amp 5>0 give-device-power-status
+at 2000000 send p1 4>0 image-view-on
+end 2300000
+steps
+# on to the reports, by which each device has its address
+until opcode 84
+until opcode 84
+until opcode 84
+# both send: the start bit, and its rise
+edge
+edge
+# slots 1 to 3: 5 and 4 begin with the same bits, 0 1 0
+edge
+edge
+edge
+edge
+edge
+edge
+# slot 4: amp sends a 1 and lets go after 600, p1 holds the line for its 0. All read 0, and amp is out.
+edge
+edge
+# the rest of that round: what the trace has of it
+round
+# amp sends its frame again, and the television replies
+until device amp
+round
+until break
+";
+
+const ARBITRATION_STEPPED: &str = "\
+89405 212555 complete 0>f report-physical-address 0.0.0.0 tv ok by tv out -
+224105 347255 complete 5>f report-physical-address 1.0.0.0 audio ok by amp out -
+402318 525468 complete 4>f report-physical-address 2.0.0.0 playback ok by p1 out -
+2000000 low tv=start-low amp=start-low p1=start-low
+2003700 high tv=start-high amp=start-high p1=start-high
+2004500 low tv=slot:1:- amp=slot:1:- p1=slot:1:-
+2006000 high tv=slot:1:0 amp=slot:1:0 p1=slot:1:0
+2006900 low tv=slot:2:0 amp=slot:2:0 p1=slot:2:0
+2007500 high tv=slot:2:0 amp=slot:2:0 p1=slot:2:0
+2009300 low tv=slot:3:01 amp=slot:3:01 p1=slot:3:01
+2010800 high tv=slot:3:010 amp=slot:3:010 p1=slot:3:010
+2011700 low tv=slot:4:010 amp=slot:4:010 p1=slot:4:010
+2013200 high tv=slot:4:0100 amp=slot:4:0100 p1=slot:4:0100
+2000000 event 1 ok
+2000000 event 2 ok
+2000000 2051150 complete 4>0 image-view-on ack by p1 out amp@4
+2063600 2114750 complete 5>0 give-device-power-status ack by amp out -
+2127200 2202350 complete 0>5 report-power-status on ack by tv out -
+ended
+";
+
+#[test]
+fn arbitration(rt: HostRuntime) -> Result<(), Fail> {
+    let words = ["step"];
+    let input = ARBITRATION_STEPS.as_bytes();
+    let output = ARBITRATION_STEPPED.as_bytes();
+    gives(&rt, rt.alloc(), words.as_slice(), input, output)
+}
+
 const FRAMES_TXT: &str = "\
 # What a television, an amplifier and a player say to each other.
 

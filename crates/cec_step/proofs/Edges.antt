@@ -1,0 +1,32 @@
+-- The edges of a round: its line has one, and the text of an edge is the same whichever line is taken.
+use Rattle.std.proofs.Common.{◌≡◌, ℕ, ◌+◌, ◌-◌, ◌<◌, ◌≤◌, ◌&&◌, nat_lt, Bool, true, false, List, Option, Some, None, ap, ◌∙◌, sym, refl, subst, arith}
+use Rattle.std.proofs.lemmas.Bool.Decides.{nat_tests}
+use Rattle.cec_wave.specs.Line.{Line, was_low}
+use Rattle.cec_wave.specs.Pulses.{AreSparse}
+use Rattle.cec_bits.specs.Reading.{start_of}
+use Rattle.cec_wire.specs.Edges.{IsNextEdge}
+use Rattle.cec_wire.specs.Round.{IsRoundLine}
+use Rattle.cec_wire.proofs.Lasting.{begun_by, contended, low_at_begin}
+use Rattle.cec_wire.proofs.Still.{high_before}
+use Rattle.cec_net.specs.State.{NetState, next_start}
+use Rattle.cec_net.specs.Step.{seats_of}
+use Rattle.cec_net.proofs.Lines.{begun}
+
+fresh : (low : Line) (begin : ℕ) → ((u : ℕ) → u < begin → low u ≡ false) → was_low low begin ≡ false
+fresh low begin high = by (nat_lt 0 begin) refl
+  where
+    by : (b : Bool) → nat_lt 0 begin ≡ b → (b && low (begin - 1)) ≡ false
+    by true e = let l : 0 < begin = grind (arith, nat_tests) in high (begin - 1) (omega (arith, l))
+    by false e = refl
+
+-- the line of a round falls as it begins
+pub has_edge : (s : NetState) (begin : ℕ) (low : Line) → next_start s ≡ Some begin → AreSparse s.pulses → IsRoundLine (seats_of s begin) begin s.pulses low → IsNextEdge low begin None → ⊥
+has_edge s begin low next sparse line none =
+    let up : low begin ≡ true =
+    low_at_begin (seats_of s begin) begin s.pulses low sparse (contended (seats_of s begin) begin s.pulses low line) (begun_by low begin (start_of low begin) refl).tells (begun s begin next) in
+    let down : was_low low begin ≡ false = fresh low begin (high_before (seats_of s begin) begin s.pulses low line) in
+    clash (low begin) (was_low low begin) up down (none begin (omega arith))
+  where
+    clash : (a b : Bool) → a ≡ true → b ≡ false → a ≡ b → ⊥
+    clash a b x y e = cc
+

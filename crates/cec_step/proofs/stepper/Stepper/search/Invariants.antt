@@ -1,0 +1,14 @@
+use Rattle.std.proofs.Common.{◌≡◌, ℕ, ◌-◌}
+use Rattle.cec_step.specs.Ready.{IsReady, point_of}
+use Rattle.cec_step.specs.Steps.{Skips}
+use Rattle.cec_step.proofs.stepper.Stepper.search.Given as goal
+
+-- none of the rounds so far is looked for
+abbrev pub invariant-rounds : goal.invariant-rounds
+invariant-rounds l = record {
+  skips : (rounds : ℕ) × Skips l.self.run.end l.at rounds l.self.last (point_of l.self.run.events l.before);
+  ready : IsReady l.self.run.end (point_of l.self.run.events l.before);
+}
+
+abbrev pub decreases-rounds : goal.decreases-rounds
+decreases-rounds l = 2000000000000 - l.before.net.rest

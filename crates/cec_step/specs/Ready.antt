@@ -1,0 +1,67 @@
+-- What a position of the code says, and what holds wherever a run stands (own).
+use Rattle.std.specs.Prelude.{◌≡◌, ℕ, ◌+◌, ◌≤◌, ◌<◌, List, drop, length, Option, Some, None, Bool, true, false}
+use Rattle.cec_asm.specs.declared.script.TimedEvent.{TimedEvent}
+use Rattle.cec_asm.specs.Script.{IsSchedule}
+use Rattle.cec_net.specs.State.{NetState}
+use Rattle.cec_wave.specs.Pulses.{AreSparse}
+use Rattle.cec_wave.specs.declared.Edge.{Edge}
+use Rattle.cec_wire.specs.Edges.{IsNextEdge}
+use Rattle.cec_net.specs.Underway.{OfRound}
+use Rattle.cec_run.specs.declared.run.Turn.TheVariants.{Round}
+use Rattle.cec_step.specs.declared.position.Position.{Position}
+use Rattle.cec_step.specs.declared.position.Course.{Course}
+use Rattle.cec_step.specs.declared.stepper.Found.{Found}
+use Rattle.cec_step.specs.declared.break_at.Break.{Break}
+use Rattle.cec_step.specs.Steps.{Point, Run, Steps, IsRoundStep, Skips, stops, turn_at, passed}
+
+-- where a position stands in a run with these events
+abbrev pub point_of : List TimedEvent → Position → Point
+point_of events p = record { net = p.net; events = drop p.applied events; is_first = p.is_first }
+
+-- what a run in the code is made of
+abbrev pub run_of : Course → Run
+run_of course = record { edid = course.edid; events = course.events.items; end = course.end }
+
+-- times stay below the limits, and the events that are left come in their order, before the end
+pub record IsReady (end : ℕ) (p : Point) : Type 0 where
+  pub some : 0 < length p.net.tree
+  pub early : end ≤ 1000000000000
+  pub sparse : AreSparse p.net.pulses
+  pub closed : p.net.close ≤ 2000000000000
+  pub schedule : (from : ℕ) × IsSchedule (length p.net.tree) end from p.events
+
+-- a position in the round that comes next, whose line was told before an instant
+pub record IsInside (end : ℕ) (p q : Point) : Type 0 where
+  pub begin : ℕ
+  pub heard : ℕ
+  pub turn : turn_at end (passed end p) ≡ Round begin
+  pub told : q ≡ record (passed end p) { net = record (passed end p).net { heard = Some heard } }
+
+abbrev pub InsideIf : Bool → ℕ → Point → Point → Type 0
+InsideIf false end p q = Unit {0}
+InsideIf true end p q = IsInside end p q
+
+abbrev pub begun_in : Bool → Point → Option NetState
+begun_in false q = None
+begun_in true q = Some q.net
+
+-- a round brings the rest on
+pub record Brings (end : ℕ) (p q : Point) : Type 0 where
+  pub before : p.net.rest < end
+  pub later : p.net.rest < q.net.rest
+
+-- the next round was begun, and this is the first edge of its line
+pub record Begins (end : ℕ) (p : Point) (edge : Edge) (q : Point) : Type 0 where
+  pub begin : ℕ
+  pub turn : turn_at end (passed end p) ≡ Round begin
+  pub first : OfRound (record (passed end p).net { heard = Some begin }) (λ begin heard low. IsNextEdge low heard (Some edge))
+  pub told : q ≡ record (passed end p) { net = record (passed end p).net { heard = Some (edge.at + 1) } }
+
+-- the round that a search found
+pub record IsFound (s : Steps) (at : Break) (found : Found) : Type 0 where
+  pub rounds : ℕ
+  pub skips : Skips s.run.end at rounds s.last (point_of s.run.events found.before)
+  pub step : IsRoundStep s.run.end (point_of s.run.events found.before) found.outcome (point_of s.run.events found.after)
+  pub stop : stops at found.outcome ≡ true
+  pub before : IsReady s.run.end (point_of s.run.events found.before)
+  pub after : IsReady s.run.end (point_of s.run.events found.after)
