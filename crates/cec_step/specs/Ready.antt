@@ -1,5 +1,5 @@
 -- What a position of the code says, and what holds wherever a run stands (own).
-use Rattle.std.specs.Prelude.{◌≡◌, ℕ, ◌+◌, ◌≤◌, ◌<◌, List, drop, length, Option, Some, None, Bool, true, false}
+use Rattle.std.specs.Prelude.{◌≡◌, ℕ, ◌+◌, ◌≤◌, ◌<◌, List, drop, [], ◌∷◌, length, Option, Some, None, Bool, true, false}
 use Rattle.cec_asm.specs.declared.script.TimedEvent.{TimedEvent}
 use Rattle.cec_asm.specs.Script.{IsSchedule}
 use Rattle.cec_net.specs.State.{NetState}
@@ -7,6 +7,9 @@ use Rattle.cec_wave.specs.Pulses.{AreSparse}
 use Rattle.cec_wave.specs.declared.Edge.{Edge}
 use Rattle.cec_wire.specs.Edges.{IsNextEdge}
 use Rattle.cec_net.specs.Underway.{OfRound}
+use Rattle.hdmi_blocks.specs.declared.edid.Edid.{Edid}
+use Rattle.cec_net.specs.Apply.{applied}
+use Rattle.cec_run.specs.Run.{event_text}
 use Rattle.cec_run.specs.declared.run.Turn.TheVariants.{Round}
 use Rattle.cec_step.specs.declared.position.Position.{Position}
 use Rattle.cec_step.specs.declared.position.Course.{Course}
@@ -44,6 +47,18 @@ InsideIf true end p q = IsInside end p q
 abbrev pub begun_in : Bool → Point → Option NetState
 begun_in false q = None
 begun_in true q = Some q.net
+
+-- an event that comes at an instant leads from one position to another
+pub record Passes (at : ℕ) (events : List TimedEvent) (p q : Position) : Type 0 where
+  pub event : TimedEvent
+  pub split : drop p.applied events ≡ event ∷ drop q.applied events
+  pub step : q.net ≡ applied at event.event p.net
+  pub first : q.is_first ≡ p.is_first
+
+-- what is told of the first of these events
+abbrev pub first_text : Option Edid → ℕ → NetState → List TimedEvent → List ℕ
+first_text edid at s [] = []
+first_text edid at s (event ∷ events) = event_text edid at event s
 
 -- a round brings the rest on
 pub record Brings (end : ℕ) (p q : Point) : Type 0 where

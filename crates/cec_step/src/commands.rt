@@ -86,6 +86,18 @@ fn device_to(tree: &Tree<15>, word: Option<&[u8]>) -> Option<Break>
     }
 }
 
+fn no_more(rest: Option<&[u8]>) -> Option<Break>
+    ensures { result ≡ no_more (words_behind (option_copied rest.entry)) }
+{
+    match rest {
+        None => Some(Break::AnyBreak),
+        Some(rest) => {
+            let (_word, _others) = first_word(rest);
+            None
+        }
+    }
+}
+
 fn break_of(tree: &Tree<15>, rest: Option<&[u8]>) -> Option<Break>
     ensures { result ≡ break_of tree.now (words_behind (option_copied rest.entry)) }
 {
@@ -94,8 +106,8 @@ fn break_of(tree: &Tree<15>, rest: Option<&[u8]>) -> Option<Break>
         opcode_named(one_word(rest))
     } else if what == b"device".as_slice() {
         device_to(tree, one_word(rest))
-    } else if what == b"break".as_slice() && rest.is_none() {
-        Some(Break::AnyBreak)
+    } else if what == b"break".as_slice() {
+        no_more(rest)
     } else {
         None
     }
@@ -124,7 +136,10 @@ fn alone(rest: Option<&[u8]>, command: Command) -> Option<Command>
 {
     match rest {
         None => Some(command),
-        Some(_) => None,
+        Some(rest) => {
+            let (_word, _others) = first_word(rest);
+            None
+        }
     }
 }
 

@@ -14,12 +14,30 @@ use cec_text::{counted, cut_at};
 use cec_wave::Edge;
 use hdmi_core::{Piece, Sink, WriteFault, write_line};
 
-// Writes the instant of an edge, and the level that the line then has.
-fn write_level<S: Sink>(out: &mut S, edge: Edge) -> Result<u128, WriteFault>
+fn write_level_line<S: Sink>(out: &mut S, edge: Edge) -> Result<u128, WriteFault>
     ensures { WrittenLine (S.contents out.old) (S.contents out.new) (S.is_stuck out.old) (S.is_stuck out.new) (level_text edge) result }
 {
     let level = if edge.low { " low" } else { " high" };
     write_line(out, &[Piece::Decimal(edge.at), Piece::Text(level)])
+}
+
+// Writes the instant of an edge, and the level that the line then has.
+fn write_level<S: Sink>(out: &mut S, edge: Edge) -> Result<u128, WriteFault>
+    ensures { WrittenText (S.contents out.old) (S.contents out.new) (S.is_stuck out.old) (S.is_stuck out.new) (level_text edge) result }
+{
+    whole(write_level_line(out, edge))
+}
+
+fn write_plain<S: Sink>(out: &mut S, word: &str) -> Result<u128, WriteFault>
+    ensures { WrittenLine (S.contents out.old) (S.contents out.new) (S.is_stuck out.old) (S.is_stuck out.new) word.now result }
+{
+    write_line(out, &[Piece::Text(word)])
+}
+
+fn write_word<S: Sink>(out: &mut S, word: &str) -> Result<u128, WriteFault>
+    ensures { WrittenText (S.contents out.old) (S.contents out.new) (S.is_stuck out.old) (S.is_stuck out.new) word.now result }
+{
+    whole(write_plain(out, word))
 }
 
 fn write_bit<S: Sink>(out: &mut S, bit: bool) -> Result<u128, WriteFault>
@@ -48,13 +66,13 @@ fn write_bits<S: Sink>(out: &mut S, bits: &[bool]) -> Result<u128, WriteFault>
     ensures { WrittenText (S.contents out.old) (S.contents out.new) (S.is_stuck out.old) (S.is_stuck out.new) (bits_text bits.now) result }
 {
     if bits.is_empty() {
-        whole(write_line(out, &[Piece::Text("-")]))
+        write_word(out, "-")
     } else {
         write_digits(out, bits)
     }
 }
 
-fn write_slot_number<S: Sink>(out: &mut S, slot: usize) -> Result<u128, WriteFault>
+fn write_slot_line<S: Sink>(out: &mut S, slot: usize) -> Result<u128, WriteFault>
     ensures { WrittenLine (S.contents out.old) (S.contents out.new) (S.is_stuck out.old) (S.is_stuck out.new) (slot_text slot) result }
 {
     write_line(
@@ -67,11 +85,17 @@ fn write_slot_number<S: Sink>(out: &mut S, slot: usize) -> Result<u128, WriteFau
     )
 }
 
+fn write_slot_number<S: Sink>(out: &mut S, slot: usize) -> Result<u128, WriteFault>
+    ensures { WrittenText (S.contents out.old) (S.contents out.new) (S.is_stuck out.old) (S.is_stuck out.new) (slot_text slot) result }
+{
+    whole(write_slot_line(out, slot))
+}
+
 // Writes the slot in which a receiver stands, and the bits that it has sampled.
 fn write_slot<S: Sink>(out: &mut S, slot: usize, bits: &[bool]) -> Result<u128, WriteFault>
     ensures { WrittenText (S.contents out.old) (S.contents out.new) (S.is_stuck out.old) (S.is_stuck out.new) (slot_text slot ++ bits_text bits.now) result }
 {
-    match whole(write_slot_number(out, slot)) {
+    match write_slot_number(out, slot) {
         Ok(count) => behind(count, write_bits(out, bits)),
         Err(fault) => Err(fault),
     }
@@ -82,21 +106,27 @@ fn write_standing<S: Sink>(out: &mut S, standing: Standing) -> Result<u128, Writ
     ensures { WrittenText (S.contents out.old) (S.contents out.new) (S.is_stuck out.old) (S.is_stuck out.new) (standing_text (shown standing.entry)) result }
 {
     match standing {
-        Standing::Idle => whole(write_line(out, &[Piece::Text("idle")])),
-        Standing::StartLow => whole(write_line(out, &[Piece::Text("start-low")])),
-        Standing::StartHigh => whole(write_line(out, &[Piece::Text("start-high")])),
+        Standing::Idle => write_word(out, "idle"),
+        Standing::StartLow => write_word(out, "start-low"),
+        Standing::StartHigh => write_word(out, "start-high"),
         Standing::Slot(slot, bits) => write_slot(out, slot, bits),
-        Standing::WaitHigh => whole(write_line(out, &[Piece::Text("wait-high")])),
+        Standing::WaitHigh => write_word(out, "wait-high"),
     }
 }
 
-fn write_name<S: Sink>(out: &mut S, name: &[u8]) -> Result<u128, WriteFault>
+fn write_name_line<S: Sink>(out: &mut S, name: &[u8]) -> Result<u128, WriteFault>
     ensures { WrittenLine (S.contents out.old) (S.contents out.new) (S.is_stuck out.old) (S.is_stuck out.new) (name_text name.now) result }
 {
     write_line(
         out,
         &[Piece::Text(" "), Piece::Bytes(name), Piece::Text("=")],
     )
+}
+
+fn write_name<S: Sink>(out: &mut S, name: &[u8]) -> Result<u128, WriteFault>
+    ensures { WrittenText (S.contents out.old) (S.contents out.new) (S.is_stuck out.old) (S.is_stuck out.new) (name_text name.now) result }
+{
+    whole(write_name_line(out, name))
 }
 
 // Writes the name of a device, and where it stands.
@@ -108,7 +138,7 @@ fn write_plugged<S: Sink>(
     ensures { WrittenText (S.contents out.old) (S.contents out.new) (S.is_stuck out.old) (S.is_stuck out.new)
         (name_text device.now.name ++ standing_text (shown standing.entry)) result }
 {
-    match whole(write_name(out, device.name())) {
+    match write_name(out, device.name()) {
         Ok(count) => behind(count, write_standing(out, standing)),
         Err(fault) => Err(fault),
     }
@@ -157,7 +187,7 @@ fn write_rest<S: Sink>(
         (flat_map (device_text (shown standing.entry)) devices.now ++ codes "\n") result }
 {
     match write_devices(out, devices, standing) {
-        Ok(count) => behind(count, whole(write_line(out, &[Piece::Text("\n")]))),
+        Ok(count) => behind(count, write_word(out, "\n")),
         Err(fault) => Err(fault),
     }
 }
@@ -171,7 +201,7 @@ pub(crate) fn write_edge<S: Sink>(
 ) -> Result<u128, WriteFault>
     ensures { WrittenText (S.contents out.old) (S.contents out.new) (S.is_stuck out.old) (S.is_stuck out.new) (edge_line devices.now edge (shown standing.entry)) result }
 {
-    match whole(write_level(out, edge)) {
+    match write_level(out, edge) {
         Ok(count) => behind(count, write_rest(out, devices, standing)),
         Err(fault) => Err(fault),
     }

@@ -1,14 +1,11 @@
 //! Where a run stands, and its next round.
-ghost use Rattle.std.specs.Prelude.{◌≡◌, ℕ, ◌+◌, ◌++◌, ◌<◌, ◌≤◌, List, ◌∷◌, drop, length, MatchBool, MatchOption, IfSome, OnOk, OnErr, IsSome, true, false};
-ghost use Rattle.cec_net.specs.Apply.{applied};
+ghost use Rattle.std.specs.Prelude.{◌≡◌, ℕ, ◌+◌, ◌++◌, ◌<◌, ◌≤◌, drop, length, MatchBool, MatchOption, IfSome, IsSome, true, false};
 ghost use Rattle.cec_net.specs.Underway.{OfRound, standing_told};
 ghost use Rattle.cec_step.specs.EdgeText.{edge_line};
 ghost use Rattle.cec_text.specs.Cut.{WrittenText};
-ghost use Rattle.cec_asm.specs.declared.script.TimedEvent.{TimedEvent as TimedEventRecord};
 ghost use Rattle.cec_run.specs.declared.run.Turn.TheVariants.{Apply, Round, Stop};
 ghost use Rattle.cec_run.specs.Root.{HasAddress};
-ghost use Rattle.cec_run.specs.Run.{event_text};
-ghost use Rattle.cec_step.specs.Ready.{Begins, Brings, IsReady, point_of};
+ghost use Rattle.cec_step.specs.Ready.{Begins, Brings, IsReady, Passes, first_text, point_of};
 ghost use Rattle.cec_step.specs.Steps.{IsOver, IsRoundStep, passed, passed_text, start_text, turn_at};
 
 use crate::edge_text::write_edge;
@@ -77,13 +74,13 @@ impl Position {
     fn pass_event(&mut self, course: &Course, at: u64)
         requires turn { turn_at course.now.end (point_of course.now.events.items self.old) ≡ Apply at }
         requires ready { IsReady course.now.end (point_of course.now.events.items self.old) }
-        ensures point { (event : TimedEventRecord) × (drop self.old.applied course.now.events.items ≡ event ∷ drop self.new.applied course.now.events.items)
-            × (self.new.net ≡ applied at event.event self.old.net) × (self.new.is_first ≡ self.old.is_first) }
+        ensures point { Passes at course.now.events.items self.old self.new }
         ensures ready { IsReady course.now.end (point_of course.now.events.items self.new) }
     {
-        let Some((event, _others)) = course.left(self.applied).split_first() else {
+        let Some((event, others)) = course.left(self.applied).split_first() else {
             unreachable!();
         };
+        let _left = others;
         let _refused = self.net.apply(at, event.event.copy());
         self.applied += 1;
     }
@@ -154,14 +151,15 @@ impl Position {
         requires turn { turn_at course.now.end (point_of course.now.events.items self.old) ≡ Apply at }
         requires ready { IsReady course.now.end (point_of course.now.events.items self.old) }
         requires addressed { HasAddress course.now.edid }
-        ensures point { (event : TimedEventRecord) × (drop self.old.applied course.now.events.items ≡ event ∷ drop self.new.applied course.now.events.items)
-            × (self.new.net ≡ applied at event.event self.old.net) × (self.new.is_first ≡ self.old.is_first)
-            × WrittenText (S.contents out.old) (S.contents out.new) (S.is_stuck out.old) (S.is_stuck out.new) (event_text course.now.edid at event self.old.net) result }
+        ensures point { Passes at course.now.events.items self.old self.new }
+        ensures text { WrittenText (S.contents out.old) (S.contents out.new) (S.is_stuck out.old) (S.is_stuck out.new)
+            (first_text course.now.edid at self.old.net (drop self.old.applied course.now.events.items)) result }
         ensures ready { IsReady course.now.end (point_of course.now.events.items self.new) }
     {
-        let Some((event, _others)) = course.left(self.applied).split_first() else {
+        let Some((event, others)) = course.left(self.applied).split_first() else {
             unreachable!();
         };
+        let _left = others;
         let mut totals = Totals::default();
         self.applied += 1;
         apply_event(out, &mut self.net, &course.edid, &mut totals, at, event)

@@ -1,0 +1,26 @@
+use Rattle.std.proofs.Common.{rules, ◌≡◌, ◌∙◌, ◌+◌, ◌++◌, ◌∷◌, [], ℕ, List, Bool, true, Option, Ok, Err, Some, codes, false, get_or, slice_index_or, length, drop, take, ap, sym, subst, refl, arith, append_assoc, append-nil, MatchBool}
+use Rattle.cec_step.specs.Ready.{Begins, Brings, IsReady, Passes, first_text, point_of}
+use Rattle.cec_step.specs.Steps.{IsOver, IsRoundStep, passed, passed_text, start_text, turn_at}
+use Rattle.cec_asm.specs.declared.script.TimedEvent.{TimedEvent}
+use Rattle.cec_run.specs.declared.run.Turn.TheVariants.{Apply, Round, Stop}
+use Rattle.cec_run.specs.Run.{event_text}
+use Rattle.cec_net.specs.Apply.{applied}
+use Rattle.cec_text.specs.Cut.{WrittenText, CutOff, told_count}
+use Rattle.std.specs.Io.KnownBytes.{Appends}
+use Rattle.cec_step.proofs.Passing.{drop_next, ready_event}
+use Rattle.cec_step.proofs.position.Position.pass_event.Goals as goal
+
+pub returns-clause-point : goal.returns-clause-point
+returns-clause-point c =
+    let event = c.in-Some.event.now in
+    let split : drop c.args.self.now.applied c.args.course.now.events.items ≡ event ∷ c.in-Some.others.now = search rules in
+    let step : c.apply-refused.new.self ≡ applied c.args.at event.event c.args.self.now.net = search rules in
+    record { event = event; split = split ∙ ap (λ (es : List TimedEvent). event ∷ es) (sym (drop_next c.args.self.now.applied c.args.course.now.events.items event c.in-Some.others.now split)); step = step; first = refl }
+
+pub returns-clause-ready : goal.returns-clause-ready
+returns-clause-ready c =
+    let event = c.in-Some.event.now in
+    let split : drop c.args.self.now.applied c.args.course.now.events.items ≡ event ∷ c.in-Some.others.now = search rules in
+    let step : c.apply-refused.new.self ≡ applied c.args.at event.event c.args.self.now.net = search rules in
+    ready_event c.args.course.now.end c.args.at (point_of c.args.course.now.events.items c.args.self.now) c.apply-refused.new.self c.args.self.now.is_first event
+    (drop (c.args.self.now.applied + 1) c.args.course.now.events.items) (split ∙ ap (λ (es : List TimedEvent). event ∷ es) (sym (drop_next c.args.self.now.applied c.args.course.now.events.items event c.in-Some.others.now split))) step c.requires.ready

@@ -1,0 +1,39 @@
+use Rattle.std.proofs.Common.{rules, ◌≡◌, ◌∙◌, ◌+◌, ◌++◌, ◌∷◌, [], ℕ, List, Bool, true, Option, Ok, Err, Some, codes, false, get_or, slice_index_or, length, drop, take, ap, sym, subst, refl, arith, append_assoc, append-nil, MatchBool}
+use Rattle.cec_step.specs.Ready.{Begins, Brings, IsReady, Passes, first_text, point_of}
+use Rattle.cec_step.specs.Steps.{IsOver, IsRoundStep, passed, passed_text, start_text, turn_at}
+use Rattle.cec_asm.specs.declared.script.TimedEvent.{TimedEvent}
+use Rattle.cec_run.specs.declared.run.Turn.TheVariants.{Apply, Round, Stop}
+use Rattle.cec_run.specs.Run.{event_text}
+use Rattle.cec_net.specs.Apply.{applied}
+use Rattle.cec_text.specs.Cut.{WrittenText, CutOff, told_count}
+use Rattle.std.specs.Io.KnownBytes.{Appends}
+use Rattle.cec_step.proofs.Rounds.{over_round, over_stop, pass_more, rest_more}
+use Rattle.cec_step.proofs.position.Position.pass_events.Goals as goal
+
+pub events-preserved : goal.events-preserved
+events-preserved c =
+    let es = c.args.course.now.events.items in
+    let e = c.pass_event.ensures in
+    record {
+      point = pass_more c.args.course.now.end c.in-Apply.at es c.events.self c.pass_event.new.self (sym c.in-Apply.ensures) e.point ∙ c.events.invariant.point;
+      rest = rest_more c.in-Apply.at es c.events.self c.pass_event.new.self e.point ∙ c.events.invariant.rest;
+      ready = e.ready;
+    }
+
+pub returns-in-Round-clause-point : goal.returns-in-Round-clause-point
+returns-in-Round-clause-point c =
+    over_round c.args.course.now.end c.in-Round.field-0 c.args.course.now.events.items c.events.self (sym c.in-Round.ensures) ∙ c.events.invariant.point
+
+pub returns-in-Round-clause-comes : goal.returns-in-Round-clause-comes
+returns-in-Round-clause-comes c =
+    let there = over_round c.args.course.now.end c.in-Round.field-0 c.args.course.now.events.items c.events.self (sym c.in-Round.ensures) ∙ c.events.invariant.point in
+    (c.in-Round.field-0, ap (turn_at c.args.course.now.end) (sym there) ∙ sym c.in-Round.ensures)
+
+pub returns-in-Stop-clause-point : goal.returns-in-Stop-clause-point
+returns-in-Stop-clause-point c =
+    over_stop c.args.course.now.end c.args.course.now.events.items c.events.self (sym c.in-Stop.ensures) ∙ c.events.invariant.point
+
+pub returns-in-Stop-clause-comes : goal.returns-in-Stop-clause-comes
+returns-in-Stop-clause-comes c =
+    let there = over_stop c.args.course.now.end c.args.course.now.events.items c.events.self (sym c.in-Stop.ensures) ∙ c.events.invariant.point in
+    ap (turn_at c.args.course.now.end) (sym there) ∙ sym c.in-Stop.ensures

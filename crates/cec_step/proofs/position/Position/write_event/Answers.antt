@@ -1,0 +1,31 @@
+use Rattle.std.proofs.Common.{rules, ◌≡◌, ◌∙◌, ◌+◌, ◌++◌, ◌∷◌, [], ℕ, List, Bool, true, Option, Ok, Err, Some, codes, false, get_or, slice_index_or, length, drop, take, ap, sym, subst, refl, arith, append_assoc, append-nil, MatchBool}
+use Rattle.cec_step.specs.Ready.{Begins, Brings, IsReady, Passes, first_text, point_of}
+use Rattle.cec_step.specs.Steps.{IsOver, IsRoundStep, passed, passed_text, start_text, turn_at}
+use Rattle.cec_asm.specs.declared.script.TimedEvent.{TimedEvent}
+use Rattle.cec_run.specs.declared.run.Turn.TheVariants.{Apply, Round, Stop}
+use Rattle.cec_run.specs.Run.{event_text}
+use Rattle.cec_net.specs.Apply.{applied}
+use Rattle.cec_text.specs.Cut.{WrittenText, CutOff, told_count}
+use Rattle.std.specs.Io.KnownBytes.{Appends}
+use Rattle.cec_step.proofs.Passing.{drop_next, ready_event}
+use Rattle.cec_step.proofs.position.Position.write_event.Goals as goal
+
+pub returns-clause-point : goal.returns-clause-point
+returns-clause-point g c =
+    let event = c.in-Some.event.now in
+    let split : drop c.args.self.now.applied c.args.course.now.events.items ≡ event ∷ c.in-Some.others.now = search rules in
+    record { event = event; split = split ∙ ap (λ (es : List TimedEvent). event ∷ es) (sym (drop_next c.args.self.now.applied c.args.course.now.events.items event c.in-Some.others.now split)); step = c.apply_event.ensures.net; first = refl }
+
+pub returns-clause-text : goal.returns-clause-text
+returns-clause-text g c =
+    let event = c.in-Some.event.now in
+    let split : drop c.args.self.now.applied c.args.course.now.events.items ≡ event ∷ c.in-Some.others.now = search rules in
+    subst (λ (es : List TimedEvent). WrittenText (g.S.Sink.contents c.args.out.now) (g.S.Sink.contents c.apply_event.new.out) (g.S.Sink.is_stuck c.args.out.now) (g.S.Sink.is_stuck c.apply_event.new.out)
+    (first_text c.args.course.now.edid c.args.at c.args.self.now.net es) c.apply_event.result) (sym split) c.apply_event.ensures.text
+
+pub returns-clause-ready : goal.returns-clause-ready
+returns-clause-ready g c =
+    let event = c.in-Some.event.now in
+    let split : drop c.args.self.now.applied c.args.course.now.events.items ≡ event ∷ c.in-Some.others.now = search rules in
+    ready_event c.args.course.now.end c.args.at (point_of c.args.course.now.events.items c.args.self.now) c.apply_event.new.net c.args.self.now.is_first event
+    (drop (c.args.self.now.applied + 1) c.args.course.now.events.items) (split ∙ ap (λ (es : List TimedEvent). event ∷ es) (sym (drop_next c.args.self.now.applied c.args.course.now.events.items event c.in-Some.others.now split))) c.apply_event.ensures.net c.requires.ready

@@ -1,0 +1,68 @@
+use Rattle.std.proofs.Common.{rules, ◌≡◌, ◌∙◌, ◌+◌, ◌++◌, ◌∷◌, [], ℕ, List, Bool, true, Option, Ok, Err, Some, codes, false, get_or, slice_index_or, length, drop, take, ap, sym, subst, refl, arith, append_assoc, append-nil, MatchBool}
+use Rattle.cec_step.specs.Ready.{Begins, Brings, IsReady, Passes, first_text, point_of}
+use Rattle.cec_step.specs.Steps.{IsOver, IsRoundStep, passed, passed_text, start_text, turn_at}
+use Rattle.cec_asm.specs.declared.script.TimedEvent.{TimedEvent}
+use Rattle.cec_run.specs.declared.run.Turn.TheVariants.{Apply, Round, Stop}
+use Rattle.cec_run.specs.Run.{event_text}
+use Rattle.cec_net.specs.Apply.{applied}
+use Rattle.cec_text.specs.Cut.{WrittenText, CutOff, told_count}
+use Rattle.std.specs.Io.KnownBytes.{Appends}
+use Rattle.hdmi_core.proofs.CutShort.{Appends-trans}
+use Rattle.cec_text.proofs.Cutting.{cut_again, told_parts}
+use Rattle.cec_step.proofs.Passing.{passed_round_text, passed_stop_text}
+use Rattle.cec_step.proofs.Rounds.{text_more}
+use Rattle.cec_step.proofs.position.Position.write_events.Goals as goal
+
+pub events-preserved : goal.events-preserved
+events-preserved g c =
+    let es = c.args.course.now.events.items in
+    let e = c.in-Ok.ensures in
+    let inv = c.events.invariant in
+    let first = first_text c.args.course.now.edid c.in-Apply.at c.events.self.net (drop c.events.self.applied es) in
+    let after = passed_text c.args.course.now.edid c.args.course.now.end (point_of es c.write_event.new.self) in
+    let more = text_more c.args.course.now.edid c.args.course.now.end c.in-Apply.at es c.events.self c.write_event.new.self (sym c.in-Apply.ensures) e.point in
+    record {
+      text = (
+        inv.text.0 ++ first,
+        inv.text.1 ∙ ap (λ (t : List ℕ). inv.text.0 ++ t) more ∙ sym (append_assoc inv.text.0 first after),
+        Appends-trans _ _ _ inv.text.0 first inv.text.2 e.text.1,
+        c.counted-written.ensures ∙ told_parts c.events.written c.in-Ok.count inv.text.0 first inv.text.3 e.text.0,
+      );
+      flag = e.text.2 ∙ inv.flag;
+      ready = e.ready;
+    }
+
+pub returns-in-Err : goal.returns-in-Err
+returns-in-Err g c =
+    let es = c.args.course.now.events.items in
+    let e = c.in-Err.ensures in
+    let inv = c.events.invariant in
+    let first = first_text c.args.course.now.edid c.in-Apply.at c.events.self.net (drop c.events.self.applied es) in
+    let after = passed_text c.args.course.now.edid c.args.course.now.end (point_of es c.write_event.new.self) in
+    let more = text_more c.args.course.now.edid c.args.course.now.end c.in-Apply.at es c.events.self c.write_event.new.self (sym c.in-Apply.ensures) e.point in
+    let whole = append_assoc inv.text.0 first after ∙ sym (inv.text.1 ∙ ap (λ (t : List ℕ). inv.text.0 ++ t) more) in (
+      subst (λ (t : List ℕ). CutOff (g.S.Sink.contents c.args.out.now) (g.S.Sink.contents c.write_event.new.out) t c.cut_at.result) whole
+          (cut_again (g.S.Sink.contents c.args.out.now) (g.S.Sink.contents c.events.out) (g.S.Sink.contents c.write_event.new.out) inv.text.0 first after c.events.written c.in-Err.fault c.cut_at.result
+          inv.text.3 inv.text.2 e.text.0 c.cut_at.ensures),
+      e.text.1,
+    )
+
+pub returns-in-Round : goal.returns-in-Round
+returns-in-Round g c =
+    let inv = c.events.invariant in
+    let none = passed_round_text c.args.course.now.edid c.args.course.now.end c.in-Round.field-0 c.events.self.net (drop c.events.self.applied c.args.course.now.events.items) (sym c.in-Round.ensures) in
+    let same = sym (inv.text.1 ∙ ap (λ (t : List ℕ). inv.text.0 ++ t) none ∙ append-nil inv.text.0) in (
+      subst (λ (t : List ℕ). c.events.written ≡ told_count (length t)) same inv.text.3,
+      subst (λ (t : List ℕ). Appends (g.S.Sink.contents c.args.out.now) (g.S.Sink.contents c.events.out) t) same inv.text.2,
+      inv.flag,
+    )
+
+pub returns-in-Stop : goal.returns-in-Stop
+returns-in-Stop g c =
+    let inv = c.events.invariant in
+    let none = passed_stop_text c.args.course.now.edid c.args.course.now.end c.events.self.net (drop c.events.self.applied c.args.course.now.events.items) (sym c.in-Stop.ensures) in
+    let same = sym (inv.text.1 ∙ ap (λ (t : List ℕ). inv.text.0 ++ t) none ∙ append-nil inv.text.0) in (
+      subst (λ (t : List ℕ). c.events.written ≡ told_count (length t)) same inv.text.3,
+      subst (λ (t : List ℕ). Appends (g.S.Sink.contents c.args.out.now) (g.S.Sink.contents c.events.out) t) same inv.text.2,
+      inv.flag,
+    )
