@@ -1,3 +1,4 @@
 pub mod Passing
 pub mod Edges
 pub mod Rounds
+pub mod Taken

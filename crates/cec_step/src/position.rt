@@ -1,5 +1,5 @@
 //! Where a run stands, and its next round.
-ghost use Rattle.std.specs.Prelude.{◌≡◌, ℕ, ◌+◌, ◌++◌, ◌<◌, ◌≤◌, drop, length, MatchBool, MatchOption, IfSome, IsSome, true, false};
+ghost use Rattle.std.specs.Prelude.{◌≡◌, ℕ, ◌+◌, ◌++◌, ◌<◌, ◌≤◌, List, drop, length, MatchBool, MatchOption, IfSome, IsSome, true, false};
 ghost use Rattle.cec_net.specs.Underway.{OfRound, standing_told};
 ghost use Rattle.cec_step.specs.EdgeText.{edge_line};
 ghost use Rattle.cec_text.specs.Cut.{WrittenText};

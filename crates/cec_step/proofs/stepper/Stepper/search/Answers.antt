@@ -1,0 +1,26 @@
+use Rattle.std.proofs.Common.{rules, ◌≡◌, ◌∙◌, ◌+◌, ◌++◌, ◌∷◌, [], ℕ, suc, List, Bool, true, Option, Ok, Err, Some, codes, false, length, drop, take, ap, sym, subst, refl, arith, slice_get}
+use Rattle.cec_step.specs.Ready.{IsReady, point_of, run_of}
+use Rattle.cec_step.specs.Steps.{Point, Run, IsOver, IsRoundStep, Skips, stops, passed, passed_text, start_text, step_text, turn_at, shown_net, as_written}
+use Rattle.cec_step.specs.declared.position.Position.{Position}
+use Rattle.cec_text.specs.Cut.{WrittenText, CutOff, told_count}
+use Rattle.hdmi_core.specs.Written.{WrittenLine}
+use Rattle.cec_device.specs.State.{State}
+use Rattle.cec_net.specs.State.{NetState}
+use Rattle.cec_run.specs.TraceText.{round_line}
+use Rattle.cec_run.specs.StateText.{state_line}
+use Rattle.cec_step.proofs.stepper.Stepper.search.Goals as goal
+
+pub rounds-preserved : goal.rounds-preserved
+rounds-preserved c =
+    let run = c.args.self.now.run in
+    let inv = c.rounds.invariant in
+    let e = c.in-Some.ensures in
+    let outcome = c.in-Some.report.outcome in
+    let viewed : run_of c.self.inside.course ≡ run = search rules in
+    let copied : c.copy-after.result ≡ c.rounds.before = c.copy-after.ensures in
+    let here = subst (λ (p : Position). IsRoundStep c.self.inside.course.end (point_of c.self.inside.course.events.items p) outcome (point_of c.self.inside.course.events.items c.pass_round.new.self)) copied e.step in
+    let step = subst (λ (r : Run). IsRoundStep r.end (point_of r.events c.rounds.before) outcome (point_of r.events c.pass_round.new.self)) viewed here in
+    record {
+      skips = (suc inv.skips.0, (point_of run.events c.rounds.before, outcome, inv.skips.1, step, sym c.stops.ensures ∙ c.if-stops.false));
+      ready = subst (λ (r : Run). IsReady r.end (point_of r.events c.pass_round.new.self)) viewed e.ready;
+    }

@@ -1,0 +1,23 @@
+use Rattle.std.proofs.Common.{rules, ◌≡◌, ◌∙◌, ◌+◌, ◌++◌, ◌∷◌, [], ℕ, suc, List, Bool, true, Option, Ok, Err, Some, codes, false, length, drop, take, ap, sym, subst, refl, arith, slice_get}
+use Rattle.cec_step.specs.Ready.{IsReady, point_of, run_of}
+use Rattle.cec_step.specs.Steps.{Point, Run, IsOver, IsRoundStep, Skips, stops, passed, passed_text, start_text, step_text, turn_at, shown_net, as_written}
+use Rattle.cec_step.specs.declared.position.Position.{Position}
+use Rattle.cec_text.specs.Cut.{WrittenText, CutOff, told_count}
+use Rattle.hdmi_core.specs.Written.{WrittenLine}
+use Rattle.cec_device.specs.State.{State}
+use Rattle.cec_net.specs.State.{NetState}
+use Rattle.cec_run.specs.TraceText.{round_line}
+use Rattle.cec_run.specs.StateText.{state_line}
+use Rattle.cec_step.proofs.stepper.write_step.Goals as goal
+
+pub returns-in-Ok : goal.returns-in-Ok
+returns-in-Ok g c =
+    let outcome = c.args.outcome.now in
+    let line = round_line c.args.after.now.net.devices outcome in
+    let told = subst (λ (devices : List State). WrittenLine (g.S.Sink.contents c.write_before.new.out) (g.S.Sink.contents c.write_round.new.out) (g.S.Sink.is_stuck c.write_before.new.out) (g.S.Sink.is_stuck c.write_round.new.out)
+    (round_line devices outcome) c.write_round.result) c.devices.ensures c.write_round.ensures in
+    c.behind.ensures (g.S.Sink.contents c.args.out.now) (g.S.Sink.contents c.write_before.new.out) (g.S.Sink.contents c.write_round.new.out)
+    (g.S.Sink.is_stuck c.args.out.now) (g.S.Sink.is_stuck c.write_before.new.out) (g.S.Sink.is_stuck c.write_round.new.out)
+    (start_text c.args.course.now.edid (point_of c.args.course.now.events.items c.args.before) ++ passed_text c.args.course.now.edid c.args.course.now.end (point_of c.args.course.now.events.items c.args.before))
+    line c.in-Ok.ensures
+    (c.whole.ensures (g.S.Sink.contents c.write_before.new.out) (g.S.Sink.contents c.write_round.new.out) (g.S.Sink.is_stuck c.write_before.new.out) (g.S.Sink.is_stuck c.write_round.new.out) line told)
