@@ -30,7 +30,7 @@ abbrev pub sent_in : ℕ → ℕ → State → Option (List ℕ)
 sent_in rest begin d = if contends rest begin d then front_of d else None
 
 abbrev pub seat_of : ℕ → ℕ → State → Seat
-seat_of rest begin d = record { plugged = is_on_wire d; holds = held_at d.place; sends = sent_in rest begin d }
+seat_of rest begin d = record { plugged = is_on_wire d; holds = held_at d.place ∷ None ∷ []; sends = sent_in rest begin d }
 
 abbrev pub seats_of : NetState → ℕ → List Seat
 seats_of s begin = map (seat_of s.rest begin) s.devices
