@@ -132,6 +132,8 @@ fn kind_named(word: &[u8]) -> Option<Kind>
         Some(Kind::Recorder)
     } else if word == b"switch".as_slice() {
         Some(Kind::Switch)
+    } else if word == b"combo".as_slice() {
+        Some(Kind::Combo)
     } else {
         None
     }

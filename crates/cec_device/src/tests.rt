@@ -1,6 +1,6 @@
 //! Worked rows of single devices.
 use crate::cases::{check, says, settled};
-use crate::{Device, Fate, FreeTime, Key, KeyError, Place, SubmitError};
+use crate::{Device, Fate, FreeTime, Key, KeyError, SubmitError};
 use cec_frame::{Addr, Frame};
 use hdmi_core::{Kind, Phys};
 use std::process::Abort;
@@ -85,7 +85,7 @@ fn fates_are_told(rt: HostRuntime) -> Result<(), Fail> {
         500,
     );
     for address in [4, 8, 11] {
-        assert!(rt; player.place() == Place::Polls(Addr::new(address)));
+        assert!(rt; player.held() == [None, None]);
         assert_eq!(rt; player.ready_at(), Some(500));
         let Some(poll) = player.queue_front() else {
             panic!(rt; "no poll")
@@ -93,7 +93,7 @@ fn fates_are_told(rt: HostRuntime) -> Result<(), Fail> {
         assert_eq!(rt; poll.bytes(), [address * 17].as_slice());
         player.sent(Fate::Delivered, 500);
     }
-    assert!(rt; player.place() == Place::Settled(Addr::new(15)));
+    assert!(rt; player.held() == [Some(Addr::new(15)), None]);
     assert!(rt; player.queue_front().is_none());
     let mut player = settled(Kind::Player);
     assert!(rt; player.holds(Addr::new(4)));
@@ -121,7 +121,7 @@ fn fates_are_told(rt: HostRuntime) -> Result<(), Fail> {
     player.waited();
     assert_eq!(rt; player.class().micros(), 12_000);
     player.leave();
-    assert!(rt; player.place() == Place::Off);
+    assert!(rt; !player.is_on_wire() && player.held() == [None, None]);
     assert_eq!(rt;
         player.submit(Frame::new(&[0x48, 0x46])?, 0),
         Err(SubmitError::OffWire)
