@@ -1,7 +1,8 @@
--- Sparse pulses without the first of them, and those of them that begin after an instant.
-use Rattle.std.proofs.Common.{◌≡◌, ℕ, zero, suc, ◌+◌, ◌-◌, ◌<◌, ◌≤◌, Bool, true, false, nat_lt, List, [], ◌∷◌, length, take, drop, length-drop, get_or, refl, ap, add-one, arith}
+-- Sparse pulses without the first of them, some of them, and those of them that begin after an instant.
+use Rattle.std.proofs.Common.{◌≡◌, ℕ, zero, suc, ◌+◌, ◌-◌, ◌<◌, ◌≤◌, Bool, true, false, if◌then◌else◌, nat_lt, List, [], ◌∷◌, length, take, drop, length-drop, get_or, refl, ap, add-one, arith}
 use Rattle.std.specs.List.{All, filter}
-use Rattle.std.proofs.lemmas.List.Elements.{All-nil, All-cons}
+use Rattle.std.proofs.lemmas.List.Elements.{All-nil, All-cons, All-filter}
+use Rattle.std.proofs.lemmas.List.Sums.{length-filter, count_by-le-length}
 use Rattle.std.proofs.lemmas.Bool.Decides.{nat_tests}
 use Rattle.cec_wave.specs.declared.Stretch.{Stretch}
 use Rattle.cec_wave.proofs.Sparse.{take_all}
@@ -90,3 +91,27 @@ pub left_sparse : (gone : ℕ) (items : List Stretch) → AreSparse items → Ar
 left_sparse gone items h =
     let l = length-drop gone items in
     rw (take_all (drop gone items) (length items - gone) (omega (arith, l))) (sparse-drop gone items h)
+
+-- ---- some of sparse pulses are sparse
+
+far-cons : (a : Stretch) (ss : List Stretch) → All (From (a.to + 25000)) ss → AreFarApart ss → AreFarApart (a ∷ ss)
+far-cons a [] h f = tt
+far-cons a (b ∷ ss) h f = (h 0 b (omega arith), f)
+
+either : (b : Bool) (xs ys : List Stretch) → AreFarApart xs → AreFarApart ys → AreFarApart (if b then xs else ys)
+either true xs ys h k = h
+either false xs ys h k = k
+
+far-filter : (test : Stretch → Bool) (ss : List Stretch) → AreFarApart ss → All IsNarrow ss → AreFarApart (filter test ss)
+far-filter test [] f w = tt
+far-filter test (a ∷ ss) f w =
+    let rest = far-filter test ss (far-tail a ss f) (λ k d l. w (suc k) d (omega arith)) in
+    either (test a) (a ∷ filter test ss) (filter test ss)
+    (far-cons a (filter test ss) (All-filter test (From (a.to + 25000)) ss (far-from a ss f (λ k d l. w (suc k) d (omega arith)))) rest) rest
+
+pub sparse-filter : (test : Stretch → Bool) (ss : List Stretch) → AreSparse ss → AreSparse (filter test ss)
+sparse-filter test ss h = record {
+  few = (let e = length-filter test ss in let l = count_by-le-length test ss in omega arith);
+  narrow = All-filter test IsNarrow ss h.narrow;
+  far = far-filter test ss h.far h.narrow;
+}
