@@ -4,10 +4,10 @@ use super::*;
 const RUN: [&str; 2] = ["run", "--edges"];
 
 /// A television polls address 0, and the script ends before the round has closed.
-const POLL: &str = "device tv tv 1\nscript\nend 20000\n";
+pub(super) const POLL: &str = "device tv tv 1\nscript\nend 20000\n";
 
 /// The start bit, eight bits 0, and EOM and ACK 1.
-const POLL_EDGES: &str = "\
+pub(super) const POLL_EDGES: &str = "\
 12000 0
 15700 1
 16500 0

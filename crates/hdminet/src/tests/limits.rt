@@ -78,6 +78,8 @@ fn refuses_what_is_too_long(rt: HostRuntime) -> Result<(), Fail> {
         ["asm"].as_slice(),
         ["edid"].as_slice(),
         ["edid", "--text"].as_slice(),
+        ["run", "--edges"].as_slice(),
+        ["mon"].as_slice(),
     ] {
         let mut rest = input.as_slice();
         let told = answer_to(alloc, texts, &mut rest)?;
