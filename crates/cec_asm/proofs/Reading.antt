@@ -5,11 +5,11 @@ use Rattle.cec_wave.specs.declared.Stretch.{Stretch}
 use Rattle.hdmi_topo.specs.Node.{Node}
 use Rattle.hdmi_topo.specs.Tree.{device_named}
 use Rattle.cec_text.specs.declared.assembler.AssembleError.{AssembleError}
-use Rattle.cec_text.specs.Words.{words_of, text_of}
+use Rattle.cec_words.specs.Words.{words_of, text_of}
 use Rattle.cec_asm.specs.declared.script.ScriptCause.{ScriptCause}
 use Rattle.cec_asm.specs.declared.script.LineError.{LineError}
 use Rattle.cec_asm.specs.declared.script.LineError.TheVariants.{Cause, Memory}
-use Rattle.cec_text.proofs.PartedLemmas.{words_of-some}
+use Rattle.cec_words.proofs.PartedLemmas.{words_of-some}
 use Rattle.cec_asm.specs.Script.{Course, Notes, ScriptFault, time_of, send_read, ended, IsFrameOf, IsSendRead, IsLineRead, AreLinesRead, GivesNotes, Gives}
 
 pub text_of-words_of : (text : List ℕ) → text_of (words_of text) ≡ text

@@ -13,9 +13,9 @@ use Rattle.hdmi_topo.specs.declared.plug.AddError.{AddError}
 use Rattle.hdmi_topo.specs.declared.plug.AddError.TheVariants as adding
 use Rattle.hdmi_topo.specs.declared.plug.PlugError.{PlugError}
 use Rattle.hdmi_topo.specs.declared.plug.PlugError.TheVariants as plugging
-use Rattle.cec_text.specs.Lines.{lines_of, is_skipped}
-use Rattle.cec_text.specs.Words.{words_of, one_of, three_of}
-use Rattle.cec_text.specs.Number.{number_of}
+use Rattle.cec_words.specs.Lines.{lines_of, is_skipped}
+use Rattle.cec_words.specs.Words.{words_of, one_of, three_of}
+use Rattle.cec_words.specs.Number.{number_of}
 use Rattle.cec_asm.specs.declared.topology.Topology.{Topology}
 use Rattle.cec_asm.specs.declared.topology.TopologyCause.{TopologyCause}
 use Rattle.cec_asm.specs.declared.topology.TopologyCause.TheVariants.{Word, Number, Name, Full, SecondRoot, NoRoot, PortRange, PortTaken, NotLoose, Loop, Hex}

@@ -1,10 +1,10 @@
 //! The lines of edges.
 ghost use Rattle.std.specs.Prelude.{◌≡◌};
 ghost use Rattle.hdmi_core.specs.Written.{WrittenLine};
-ghost use Rattle.cec_text.specs.Cut.{WrittenText};
+ghost use Rattle.cec_words.specs.Cut.{WrittenText};
 ghost use Rattle.cec_run.specs.EdgeText.{edge_lines, stretch_lines};
 
-use cec_text::{counted, cut_at};
+use cec_words::{counted, cut_at};
 use cec_wave::Stretch;
 use hdmi_core::{Piece, Sink, WriteFault, write_line};
 

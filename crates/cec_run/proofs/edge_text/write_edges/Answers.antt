@@ -1,6 +1,6 @@
 use Rattle.std.proofs.Common.{rules, ◌≡◌, slice_index_or}
 use Rattle.cec_wave.specs.declared.Stretch.{Stretch}
-use Rattle.cec_text.proofs.Cutting.{cut_part}
+use Rattle.cec_words.proofs.Cutting.{cut_part}
 use Rattle.cec_run.specs.EdgeText.{stretch_lines}
 use Rattle.cec_run.proofs.edge_text.write_edges.Goals as goal
 
