@@ -16,8 +16,11 @@ pub use laws::{
     edges_are_the_line, one_run_text, one_trace, runs_are_read, runs_are_short,
     texts_have_one_edge_trace, texts_have_one_trace,
 };
-pub use root::EdidCause;
-pub use run::Totals;
+pub use port_text::write_ports;
+pub use root::{EdidCause, root_of};
+pub use round_text::write_round;
+pub use run::{Totals, Turn, apply_event, first_time, next_turn};
+pub use state_text::write_state;
 
 #[cfg(test)]
 mod tests;

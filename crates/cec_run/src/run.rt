@@ -77,7 +77,7 @@ fn event_turn(end: u64, at: u64) -> Turn
 }
 
 /// What comes next, where the next event has this time.
-fn next_turn<W>(end: u64, net: &Net<W>, time: Option<u64>) -> Turn
+pub fn next_turn<W>(end: u64, net: &Net<W>, time: Option<u64>) -> Turn
     ensures { result ≡ turn_of end net.now time }
 {
     let begin = net.next_start();
@@ -91,7 +91,8 @@ fn next_turn<W>(end: u64, net: &Net<W>, time: Option<u64>) -> Turn
     }
 }
 
-fn first_time(events: &[TimedEvent]) -> Option<u64>
+/// The time of the next event.
+pub fn first_time(events: &[TimedEvent]) -> Option<u64>
     ensures { result ≡ first_time events.now }
 {
     match events.first() {
@@ -144,7 +145,7 @@ fn apply_alone<S: Sink, W>(
 }
 
 /// Applies an event, and writes its line and those of the ports of the devices that come onto the wire by it.
-fn apply_event<S: Sink, W>(
+pub fn apply_event<S: Sink, W>(
     out: &mut S,
     net: &mut Net<W>,
     edid: &Option<Edid>,
