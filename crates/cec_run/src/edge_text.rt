@@ -7,13 +7,9 @@ ghost use Rattle.hdmi_core.specs.Written.{WrittenLine};
 ghost use Rattle.cec_words.specs.Cut.{WrittenText};
 ghost use Rattle.cec_run.specs.EdgeText.{edge_lines, stretch_lines};
 
-<<<<<<< HEAD
-use cec_words::{counted, cut_at};
-=======
 use crate::line::{PARTS, add};
 use arrayvec::ArrayVec;
 use cec_words::{counted, cut_at};
->>>>>>> lead
 use cec_wave::Stretch;
 use hdmi_core::{Piece, Sink, WriteFault, write_line};
 
