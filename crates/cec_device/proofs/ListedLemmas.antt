@@ -217,11 +217,11 @@ unit_holds : (place : Place) (unit a : ℕ) → slice_get (held place) unit ≡ 
 unit_holds Off zero a e low = cc
 unit_holds Off (suc zero) a e low = cc
 unit_holds (Polls None b) zero a e low = cc
-unit_holds (Polls (Some first) b) zero a e low = first_of_two _ _ (unit_is a first e low)
+unit_holds (Polls (Some first) b) zero a e low = first_of_two (is_held (Some first) a) (is_held None a) (unit_is a first e low)
 unit_holds (Polls found b) (suc zero) a e low = cc
-unit_holds (Settled first second) zero a e low = first_of_two _ _ (unit_is a first e low)
+unit_holds (Settled first second) zero a e low = first_of_two (is_held (Some first) a) (is_held second a) (unit_is a first e low)
 unit_holds (Settled first None) (suc zero) a e low = cc
-unit_holds (Settled first (Some second)) (suc zero) a e low = second_of_two _ _ (unit_is a second e low)
+unit_holds (Settled first (Some second)) (suc zero) a e low = second_of_two (is_held (Some first) a) (is_held (Some second) a) (unit_is a second e low)
 unit_holds place (suc (suc unit)) a e low = absurd (past_two place unit a e)
 
 pub holds_listed : HoldsListed

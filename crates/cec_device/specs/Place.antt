@@ -1,6 +1,6 @@
 -- Joining, leaving, the allocation of a logical address (CEC 10.2.1), and the fates of frames that were sent
 -- (CEC 7.1 and 9.1; that a poll is tried again without limit, and how attempts are counted, are this profile's own).
-use Rattle.std.specs.Prelude.{ℕ, ◌==◌, ◌+◌, ◌*◌, ◌/◌, ◌%◌, Bool, true, false, not, nat_lt, List, [], ◌∷◌, ◌++◌, length, slice_index, if◌then◌else◌, Option, Some, None, is_some}
+use Rattle.std.specs.Prelude.{ℕ, ◌==◌, ◌+◌, ◌*◌, ◌/◌, ◌%◌, ◌||◌, Bool, true, false, not, nat_lt, List, [], ◌∷◌, ◌++◌, length, slice_index, if◌then◌else◌, Option, Some, None, is_some}
 use Rattle.hdmi_core.specs.declared.kind.Kind.{Kind}
 use Rattle.hdmi_core.specs.declared.phys.Phys.{Phys}
 use Rattle.cec_device.specs.declared.place.Place.{Place}
@@ -163,9 +163,13 @@ abbrev pub polled_at : Place → Option ℕ
 polled_at (Polls found a) = Some a
 polled_at _ = None
 
+-- the fate of a poll moves it by a step
+abbrev pub poll_sent : ℕ → State → Fate → ℕ → State
+poll_sent limit d fate at = reported limit at (record d { place = stepped d.kind d.place fate; poll_ready = at; class = class_of_poll fate })
+
 -- the fate of a poll of an address, or of a queued frame
 abbrev pub sent_by : ℕ → State → Fate → ℕ → Option ℕ → State
-sent_by limit d fate at (Some a) = reported limit at (record d { place = stepped d.kind d.place fate; poll_ready = at; class = class_of_poll fate })
+sent_by limit d fate at (Some a) = poll_sent limit d fate at
 sent_by limit d fate at None = frame_sent d fate
 
 abbrev pub sent : ℕ → State → Fate → ℕ → State

@@ -180,12 +180,7 @@ impl<const Q: usize> Device<Q> {
                 }
             }
             Say::Cast(blocks) => {
-                self.put(
-                    heard.at,
-                    from,
-                    Addr::new(Addr::BROADCAST),
-                    blocks.bytes(),
-                );
+                self.put(heard.at, from, Addr::new(Addr::BROADCAST), blocks.bytes());
             }
             Say::Tell(to, blocks) => {
                 if to.value() < Addr::BROADCAST {

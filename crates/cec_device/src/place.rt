@@ -3,8 +3,7 @@
 ghost use Rattle.std.specs.Prelude.{◌≡◌, ◌<◌, Some, None, length, MatchResult, IsSome, IsTrue, ◌≤◌, nat_lt};
 ghost use Rattle.std.specs.List.{list_all};
 ghost use Rattle.cec_feature.specs.Kinds.{addresses, second_addresses};
-ghost use Rattle.cec_device.specs.declared.place.Place.TheVariants.{Polls};
-ghost use Rattle.cec_device.specs.Place.{begins, settles, tries, tries_after, list_of, unplaced, polled_at, settled_at, start_place, fresh, reported, reported_from, joined, left, ended, failed, frame_sent, front_is_poll, sent, sent_by, waited, submit_fault, submitted, front_of, ready_of, is_allocating, is_on_wire};
+ghost use Rattle.cec_device.specs.Place.{begins, settles, tries, tries_after, list_of, stepped, class_of_poll, unplaced, polled_at, settled_at, start_place, fresh, reported, reported_from, joined, left, ended, failed, frame_sent, front_is_poll, sent, poll_sent, waited, submit_fault, submitted, front_of, ready_of, is_allocating, is_on_wire};
 
 use crate::device::{Device, Queued, SubmitError};
 use crate::sending::{Fate, FreeTime};
@@ -96,6 +95,30 @@ fn place_behind(kind: Kind, found: Option<Addr>, taken: Addr) -> Place
         Some(_) => second_addresses(kind),
     };
     tries_after(kind, found, taken.value(), list)
+}
+
+// Where a device stands after the fate of a poll. An address whose poll nobody acknowledged is free: the unit takes it.
+fn stepped(kind: Kind, place: Place, fate: Fate) -> Place
+    ensures { result ≡ stepped kind place fate }
+{
+    match place {
+        Place::Polls { found, address } => match fate {
+            Fate::Unacked => settles(kind, found, address),
+            Fate::Delivered => place_behind(kind, found, address),
+            Fate::Lost | Fate::Broken => Place::Polls { found, address },
+        },
+        place => place,
+    }
+}
+
+fn class_of_poll(fate: Fate) -> FreeTime
+    ensures { result ≡ class_of_poll fate }
+{
+    match fate {
+        Fate::Unacked | Fate::Delivered => FreeTime::PresentInitiator,
+        Fate::Lost => FreeTime::NewInitiator,
+        Fate::Broken => FreeTime::Retry,
+    }
 }
 
 // Every unit at 15.
@@ -246,24 +269,13 @@ impl<const Q: usize> Device<Q> {
         }
     }
 
-    // An address whose poll nobody acknowledged is free: the unit takes that one.
-    fn poll_sent(&mut self, found: Option<Addr>, address: Addr, fate: Fate, at: u64)
-        requires { self.old.place ≡ Polls found address }
-        ensures { self.new ≡ sent_by Q self.old fate at (Some address) }
+    // The fate of a poll moves it by a step.
+    fn poll_sent(&mut self, fate: Fate, at: u64)
+        ensures { self.new ≡ poll_sent Q self.old fate at }
     {
+        self.place = stepped(self.kind, self.place, fate);
         self.poll_ready = at;
-        match fate {
-            Fate::Unacked => {
-                self.place = settles(self.kind, found, address);
-                self.class = FreeTime::PresentInitiator;
-            }
-            Fate::Delivered => {
-                self.place = place_behind(self.kind, found, address);
-                self.class = FreeTime::PresentInitiator;
-            }
-            Fate::Lost => self.class = FreeTime::NewInitiator,
-            Fate::Broken => self.class = FreeTime::Retry,
-        }
+        self.class = class_of_poll(fate);
         self.report(at);
     }
 
@@ -294,9 +306,10 @@ impl<const Q: usize> Device<Q> {
         requires { IsSome (front_of self.old) }
         ensures { self.new ≡ sent Q self.old fate at }
     {
-        match self.place {
-            Place::Polls { found, address } => self.poll_sent(found, address, fate, at),
-            _ => self.frame_sent(fate),
+        if self.is_allocating() {
+            self.poll_sent(fate, at);
+        } else {
+            self.frame_sent(fate);
         }
     }
 

@@ -51,7 +51,7 @@ The input has two parts, parted by a line `script`. Lines that are empty or begi
 skipped. Words stand one space apart. Times are microseconds.
 
 The topology declares the devices and how they are plugged together at the start:
-  device NAME KIND PORTS        KIND is tv, amp, player, recorder or switch; PORTS is 0 to 15
+  device NAME KIND PORTS        KIND is tv, amp, player, recorder, switch or combo; PORTS is 0 to 15
   plug CHILD PARENT PORT        into a port of a device declared above, counted from 1
   edid HEX                      the television's EDID, once at most; its ports pass it on
 
@@ -66,7 +66,7 @@ The script says what happens, in the order of its times, and when the run ends:
   end T                         the last line
 
 Keys, by the kinds that have them:
-  play, stop, eject, load, menu                     player, recorder
+  play, stop, eject, load, menu                     player, recorder, combo
   power                                             all
   watch PA, audio on, audio off, language LLL       tv
   remote D CODE                 D is 1 to e         tv

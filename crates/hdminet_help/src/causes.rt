@@ -7,7 +7,7 @@ type Row = (&'static str, &'static str);
 const TOPOLOGY: [Row; 11] = [
     (
         "word",
-        "KIND is tv, amp, player, recorder or switch; words stand one space apart; `edid` comes once",
+        "KIND is tv, amp, player, recorder, switch or combo; words stand one space apart; `edid` comes once",
     ),
     (
         "number",

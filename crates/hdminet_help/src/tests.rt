@@ -15,7 +15,7 @@ const NETWORKS: [Case; 12] = [
                     ^^^^^
   a line here reads `device NAME KIND PORTS`
   `playr`: did you mean `player`?
-  KIND is tv, amp, player, recorder or switch; words stand one space apart; `edid` comes once
+  KIND is tv, amp, player, recorder, switch or combo; words stand one space apart; `edid` comes once
 ",
     ),
     (
@@ -25,7 +25,7 @@ const NETWORKS: [Case; 12] = [
           ^^^^^^
   a line here reads `device NAME KIND PORTS`, `plug CHILD PARENT PORT`, `edid HEX`
   `DEVICE`: did you mean `device`?
-  KIND is tv, amp, player, recorder or switch; words stand one space apart; `edid` comes once
+  KIND is tv, amp, player, recorder, switch or combo; words stand one space apart; `edid` comes once
 ",
     ),
     (
@@ -35,7 +35,7 @@ const NETWORKS: [Case; 12] = [
           ^^^^^^^^^
   this line has bytes that are no printable text; `.` stands for each
   a line here reads `device NAME KIND PORTS`, `plug CHILD PARENT PORT`, `edid HEX`
-  KIND is tv, amp, player, recorder or switch; words stand one space apart; `edid` comes once
+  KIND is tv, amp, player, recorder, switch or combo; words stand one space apart; `edid` comes once
   the input begins with a byte order mark, ef bb bf, which is no part of the text
 ",
     ),
