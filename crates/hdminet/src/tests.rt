@@ -216,6 +216,15 @@ fn cuts_everywhere(
     Ok(())
 }
 
+/// The words of a command line, one space apart.
+fn parted<'a>(alloc: Global, line: &'a str) -> Result<Vec<&'a str>, Fail> {
+    let mut texts = Vec::new(alloc);
+    for word in line.split(' ') {
+        texts.push(word)?;
+    }
+    Ok(texts)
+}
+
 /// A text with a line feed for each `;`.
 fn with_lines(alloc: Global, text: &str) -> Result<String, Fail> {
     let mut lines = String::new(alloc);
