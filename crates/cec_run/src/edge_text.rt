@@ -4,8 +4,8 @@ ghost use Rattle.hdmi_core.specs.Written.{WrittenLine};
 ghost use Rattle.cec_words.specs.Cut.{WrittenText};
 ghost use Rattle.cec_run.specs.EdgeText.{edge_lines, stretch_lines};
 
-use cec_words::{counted, cut_at};
 use cec_wave::Stretch;
+use cec_words::{counted, cut_at};
 use hdmi_core::{Piece, Sink, WriteFault, write_line};
 
 // Writes the fall and the rise of a stretch.
