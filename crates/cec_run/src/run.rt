@@ -23,8 +23,8 @@ use cec_asm::TimedEvent;
 use cec_device::Device;
 use cec_frame::Ending;
 use cec_net::{EventError, Net};
-use cec_words::{counted, cut_at};
 use cec_wire::{Outcome, Wire};
+use cec_words::{counted, cut_at};
 use hdmi_blocks::Edid;
 use hdmi_core::{Sink, WriteFault};
 

@@ -1,4 +1,4 @@
-use Rattle.std.proofs.Common.{◌≡◌, ◌+◌, ◌≤◌, length, Result}
+use Rattle.std.proofs.Common.{◌+◌, ◌≤◌, length, Result}
 use Rattle.cec_words.specs.Lines.{lines_of}
 use Rattle.cec_asm.specs.Script.{Course, ScriptFault, AreLinesRead, IsScriptRead, notes_of}
 use Rattle.cec_asm.proofs.Sound.{AreSound}
