@@ -144,6 +144,11 @@ is the first of these that applies:
 Exit status: 0 done; 1 input refused; 2 command line refused; 3 a read or write fault, or input
 past 1048576 bytes; 4 no memory.";
 
+/// What the list of the forms of frames begins with.
+pub const ASM_FORMS: &str = "\
+The frames of each opcode that has a name, by its hex digits, behind `I>D` and a space; what stands in
+brackets may be left out:";
+
 pub const MON_ABOUT: &str = "Prints what was read on a captured line";
 
 pub const MON_HELP: &str = "\

@@ -11,6 +11,7 @@ mod edids;
 mod example_lines;
 mod examples;
 mod explained;
+mod frame_help;
 mod frames;
 mod hostile;
 mod limits;
