@@ -6,7 +6,7 @@ import wire, edid, net
 from model import model
 
 MAXDIFF = int(os.environ.get('MODEL_MAX', '5'))
-KINDS5 = ['tv', 'amp', 'player', 'recorder', 'switch'] + (['combo', 'combo'] if net.BOX else [])
+KINDS6 = ['tv', 'amp', 'player', 'recorder', 'switch', 'combo', 'combo']
 
 
 def prog(program, args, data):
@@ -146,7 +146,7 @@ def gen_topology(r, edid_chance=.15):
     ls, names, ports, kinds = [], [], [], []
     tv = r.randrange(n)
     for i in range(n):
-        k = 'tv' if i == tv else r.choice(KINDS5[1:])
+        k = 'tv' if i == tv else r.choice(KINDS6[1:])
         p = r.choice([0, 1, 2, 3, 4, 15]) if k != 'tv' else r.choice([1, 3, 4, 8, 15])
         if k == 'switch' and r.random() < .7: p = r.choice([1, 2, 3, 4])
         nm = '%s%d' % (k[0], i)
@@ -228,7 +228,7 @@ def gen_key(r, kind, near=None):
     amp = ['power', 'arc on', 'arc off', 'volume-up', 'volume-down', 'mute']
     sw = ['power', 'port %d' % r.choice([0, 1, 2, 3, 4, 15, 255, 300])] + ['port %d' % r.choice([1, 2, 3])] * 3
     by = {'combo': deck, 'tv': tv, 'amp': amp, 'player': deck, 'recorder': deck, 'switch': sw}
-    if r.random() < .07: kind = r.choice(KINDS5)
+    if r.random() < .07: kind = r.choice(KINDS6)
     return r.choice(by[kind])
 
 
@@ -448,15 +448,13 @@ def gen_ops(r):
     """every opcode and operand byte alike, from every kind of initiator, in varying states"""
     topo = ['device tv tv 4', 'device amp amp 2', 'device p player 0', 'device rec recorder 0', 'device sw switch 3', 'plug amp tv 1', 'plug p amp 1', 'plug sw tv 2', 'plug rec sw 2']
     names, kinds = ['tv', 'amp', 'p', 'rec', 'sw'], ['tv', 'amp', 'player', 'recorder', 'switch']
-    if net.BOX:
-        topo += ['device box combo 1', 'plug box tv 3']
-        names.append('box'); kinds.append('combo')
+    topo += ['device box combo 1', 'plug box tv 3']
+    names.append('box'); kinds.append('combo')
     las = {'tv': [0], 'amp': [5], 'p': [4], 'rec': [1], 'sw': [15]}
-    if net.BOX:
-        st, out, f = model(['run'], ('\n'.join(topo) + '\nscript\nend 3500000\n').encode())
-        for l in out.decode().splitlines():
-            w = l.split(' ')
-            if w[0] == 'state': las[w[1]] = [int(x, 16) for x in w[3].split('+')]
+    st, out, f = model(['run'], ('\n'.join(topo) + '\nscript\nend 3500000\n').encode())
+    for l in out.decode().splitlines():
+        w = l.split(' ')
+        if w[0] == 'state': las[w[1]] = [int(x, 16) for x in w[3].split('+')]
     t = 3000000
     ls = []
     allas = [a for x in las.values() for a in x]

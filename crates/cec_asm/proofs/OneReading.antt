@@ -1,13 +1,13 @@
 -- A text that is read as a script is read in no other way.
-use Rattle.std.proofs.Common.{◌≡◌, ℕ, ◌+◌, Bool, true, false, cond, codes, List, [], ◌∷◌, Option, Some, None, Result, Ok, Err, refl, sym, ap, subst, ◌∙◌}
+use Rattle.std.proofs.Common.{◌≡◌, ℕ, ◌+◌, Bool, true, false, cond, codes, List, [], ◌∷◌, Option, Some, None, Result, Ok, Err, sym, ap, subst, ◌∙◌}
 use Rattle.std.specs.Str.{bytes_eq}
 use Rattle.hdmi_topo.specs.Node.{Node}
 use Rattle.hdmi_topo.specs.Tree.{device_named}
-use Rattle.cec_text.specs.Lines.{lines_of, is_skipped}
+use Rattle.cec_words.specs.Lines.{lines_of, is_skipped}
 use Rattle.cec_text.specs.declared.assembler.AssembleError.{AssembleError}
-use Rattle.cec_text.specs.Words.{words_of, text_of}
+use Rattle.cec_words.specs.Words.{words_of, text_of}
 use Rattle.cec_asm.specs.declared.script.ScriptCause.{ScriptCause}
-use Rattle.cec_asm.specs.Script.{Course, Notes, ScriptFault, time_of, send_read, event_words, other_words, ended, no_notes, IsFrameOf, IsSendRead, IsEventRead, IsWordsRead, IsLineRead, Onward, AreLinesRead, IsScriptRead, OneScript}
+use Rattle.cec_asm.specs.Script.{Course, Notes, ScriptFault, time_of, send_read, event_words, other_words, no_notes, IsFrameOf, IsSendRead, IsEventRead, IsWordsRead, IsLineRead, Onward, AreLinesRead, OneScript}
 
 -- a frame's text is no other's
 one_frame : (text frame : List ℕ) (r : Result (List ℕ) AssembleError) → IsFrameOf text (Ok frame) → IsFrameOf text r → r ≡ Ok frame

@@ -1,15 +1,15 @@
 -- How a line is read, part by part.
-use Rattle.std.proofs.Common.{◌≡◌, ℕ, ◌+◌, ◌<◌, Bool, true, false, cond, codes, List, [], ◌∷◌, length, Option, Some, None, Result, Ok, Err, refl, sym, ap, subst, ◌∙◌, arith}
+use Rattle.std.proofs.Common.{◌≡◌, ℕ, ◌+◌, ◌<◌, List, [], ◌∷◌, length, Option, Some, Result, Ok, Err, refl, sym, ap, subst, ◌∙◌, arith}
 use Rattle.std.proofs.lemmas.List.Splits.{join_with_byte-slice_split}
 use Rattle.cec_wave.specs.declared.Stretch.{Stretch}
 use Rattle.hdmi_topo.specs.Node.{Node}
 use Rattle.hdmi_topo.specs.Tree.{device_named}
 use Rattle.cec_text.specs.declared.assembler.AssembleError.{AssembleError}
-use Rattle.cec_text.specs.Words.{words_of, text_of}
+use Rattle.cec_words.specs.Words.{words_of, text_of}
 use Rattle.cec_asm.specs.declared.script.ScriptCause.{ScriptCause}
 use Rattle.cec_asm.specs.declared.script.LineError.{LineError}
 use Rattle.cec_asm.specs.declared.script.LineError.TheVariants.{Cause, Memory}
-use Rattle.cec_text.proofs.PartedLemmas.{words_of-some}
+use Rattle.cec_words.proofs.PartedLemmas.{words_of-some}
 use Rattle.cec_asm.specs.Script.{Course, Notes, ScriptFault, time_of, send_read, ended, IsFrameOf, IsSendRead, IsLineRead, AreLinesRead, GivesNotes, Gives}
 
 pub text_of-words_of : (text : List ℕ) → text_of (words_of text) ≡ text

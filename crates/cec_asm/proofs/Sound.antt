@@ -1,5 +1,5 @@
 -- What holds of every script: the order of times, the limit, devices of the tree, frames and pulses.
-use Rattle.std.proofs.Common.{◌≡◌, ℕ, suc, ◌+◌, ◌-◌, ◌<◌, ◌≤◌, ◌&&◌, Bool, true, false, cond, codes, List, [], ◌∷◌, ◌++◌, length, min, nat_lt, nat_le, slice_get, Option, Some, None, is_some, option_map, Result, Ok, Err, refl, sym, ap, subst, ◌∙◌, arith, length-append}
+use Rattle.std.proofs.Common.{◌≡◌, ℕ, suc, ◌+◌, ◌-◌, ◌<◌, ◌≤◌, ◌&&◌, Bool, true, false, cond, codes, List, [], ◌∷◌, ◌++◌, length, min, nat_lt, nat_le, slice_get, Option, Some, None, is_some, option_map, Result, Ok, Err, refl, sym, ap, subst, ◌∙◌, arith}
 use Rattle.std.specs.Str.{bytes_eq}
 use Rattle.std.specs.Option.{option_map_or}
 use Rattle.std.specs.List.{All}
@@ -14,18 +14,18 @@ use Rattle.hdmi_topo.specs.Node.{Node}
 use Rattle.hdmi_topo.specs.Tree.{device_named}
 use Rattle.cec_feature.specs.declared.keys.Key.{Key as KeyValue}
 use Rattle.cec_wave.proofs.Sparse.{faultless_are_sparse}
-use Rattle.cec_text.specs.Lines.{lines_of, is_skipped}
-use Rattle.cec_text.specs.FrameReading.{are_bytes, is_frame}
+use Rattle.cec_words.specs.Lines.{lines_of, is_skipped}
+use Rattle.cec_text.specs.FrameReading.{is_frame}
 use Rattle.cec_text.specs.declared.assembler.AssembleError.{AssembleError}
-use Rattle.cec_text.specs.Words.{words_of, text_of, one_of, two_of, three_of}
-use Rattle.cec_text.specs.Number.{number_of}
+use Rattle.cec_words.specs.Words.{words_of, text_of, one_of, two_of, three_of}
+use Rattle.cec_words.specs.Number.{number_of}
 use Rattle.cec_asm.specs.Keys.{key_of}
 use Rattle.cec_net.specs.Framed.{IsFramedEvent}
 use Rattle.cec_net.specs.declared.event.Event.{Event}
 use Rattle.cec_net.specs.declared.event.Event.TheVariants.{Plug, Unplug, Key, Send}
 use Rattle.cec_asm.specs.declared.script.TimedEvent.{TimedEvent}
 use Rattle.cec_asm.specs.declared.script.ScriptCause.{ScriptCause}
-use Rattle.cec_asm.specs.declared.script.ScriptCause.TheVariants.{Word, Number, Name, Frame, Width, Order, Close, TooMany, End}
+use Rattle.cec_asm.specs.declared.script.ScriptCause.TheVariants.{Word, Number, Name, Frame, Order, TooMany, End}
 use Rattle.cec_asm.specs.Script.{Course, Notes, within_limit, time_of, last_time, last_end, scheduled, plug_read, plug_words, unplug_read, unplug_words, key_read, key_words, send_read, event_words, pulse_cause, unless_fault, pulsed, pulse_read, pulse_words, end_read, end_words, other_words, ended, no_notes, IsFrameOf, IsSendRead, IsEventRead, IsWordsRead, IsLineRead, IsAmong, IsSchedule, AreFramedEvents, IsScript, Onward, AreLinesRead, ScriptsAreSound}
 
 -- ---- times

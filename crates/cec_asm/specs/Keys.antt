@@ -11,9 +11,9 @@ use Rattle.cec_opcode.specs.declared.word_set.WordSet.TheVariants as sets
 use Rattle.cec_feature.specs.declared.keys.Key.{Key}
 use Rattle.cec_feature.specs.declared.keys.Key.TheVariants.{Play, Stop, Eject, Load, Menu, Power, Watch, Port, Audio, Arc, Volume, Language, Remote}
 use Rattle.cec_feature.specs.declared.keys.VolumeKey.TheVariants.{Up, Down, Mute}
-use Rattle.cec_text.specs.Words.{one_of, two_of, three_of}
+use Rattle.cec_words.specs.Words.{one_of, two_of, three_of}
 use Rattle.cec_asm.specs.Words.{is_nibble, nibble_of, phys_of}
-use Rattle.cec_text.specs.Number.{number_of}
+use Rattle.cec_words.specs.Number.{number_of}
 use Rattle.cec_asm.specs.declared.script.ScriptCause.{ScriptCause}
 use Rattle.cec_asm.specs.declared.script.ScriptCause.TheVariants.{Word, Number}
 

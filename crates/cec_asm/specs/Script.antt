@@ -12,11 +12,11 @@ use Rattle.hdmi_topo.specs.Node.{Node}
 use Rattle.hdmi_topo.specs.Tree.{device_named}
 use Rattle.cec_text.specs.Causes.{assemble_cause}
 use Rattle.cec_text.specs.FrameLines.{IsTextOf}
-use Rattle.cec_text.specs.Lines.{lines_of, is_skipped}
+use Rattle.cec_words.specs.Lines.{lines_of, is_skipped}
 use Rattle.cec_text.specs.Refusals.{IsRefused}
 use Rattle.cec_text.specs.declared.assembler.AssembleError.{AssembleError}
-use Rattle.cec_text.specs.Words.{words_of, text_of, one_of, two_of, three_of}
-use Rattle.cec_text.specs.Number.{number_of}
+use Rattle.cec_words.specs.Words.{words_of, text_of, one_of, two_of, three_of}
+use Rattle.cec_words.specs.Number.{number_of}
 use Rattle.cec_asm.specs.Keys.{key_of}
 use Rattle.cec_net.specs.Framed.{IsFramedEvent}
 use Rattle.cec_net.specs.declared.event.Event.{Event}

@@ -5,7 +5,7 @@ use Rattle.std.specs.Str.{bytes_eq}
 use Rattle.std.specs.Result.{result_ok}
 use Rattle.hex.specs.Hex.{decode_of}
 use Rattle.hdmi_core.specs.declared.kind.Kind.{Kind}
-use Rattle.hdmi_core.specs.declared.kind.Kind.TheVariants.{Tv, Amp, Player, Recorder, Switch}
+use Rattle.hdmi_core.specs.declared.kind.Kind.TheVariants.{Tv, Amp, Player, Recorder, Switch, Combo}
 use Rattle.hdmi_topo.specs.Name.{is_name}
 use Rattle.hdmi_topo.specs.Node.{Node}
 use Rattle.hdmi_topo.specs.Tree.{device_named, has_root, add_fault, added, plug_fault, plugged}
@@ -13,9 +13,9 @@ use Rattle.hdmi_topo.specs.declared.plug.AddError.{AddError}
 use Rattle.hdmi_topo.specs.declared.plug.AddError.TheVariants as adding
 use Rattle.hdmi_topo.specs.declared.plug.PlugError.{PlugError}
 use Rattle.hdmi_topo.specs.declared.plug.PlugError.TheVariants as plugging
-use Rattle.cec_text.specs.Lines.{lines_of, is_skipped}
-use Rattle.cec_text.specs.Words.{words_of, one_of, three_of}
-use Rattle.cec_text.specs.Number.{number_of}
+use Rattle.cec_words.specs.Lines.{lines_of, is_skipped}
+use Rattle.cec_words.specs.Words.{words_of, one_of, three_of}
+use Rattle.cec_words.specs.Number.{number_of}
 use Rattle.cec_asm.specs.declared.topology.Topology.{Topology}
 use Rattle.cec_asm.specs.declared.topology.TopologyCause.{TopologyCause}
 use Rattle.cec_asm.specs.declared.topology.TopologyCause.TheVariants.{Word, Number, Name, Full, SecondRoot, NoRoot, PortRange, PortTaken, NotLoose, Loop, Hex}
@@ -53,6 +53,7 @@ kind_named word =
     else if bytes_eq word (codes "player") then Some Player
     else if bytes_eq word (codes "recorder") then Some Recorder
     else if bytes_eq word (codes "switch") then Some Switch
+    else if bytes_eq word (codes "combo") then Some Combo
     else None
 
 -- the causes that a tree's refusals give

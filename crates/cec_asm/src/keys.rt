@@ -3,8 +3,8 @@ ghost use Rattle.std.specs.Prelude.{◌≡◌, ◌≤◌, ◌<◌, IsTrue, optio
 ghost use Rattle.std.specs.List.{list_all};
 ghost use Rattle.std.specs.Char.{is_ascii_lowercase};
 ghost use Rattle.std.specs.Option.{option_copied};
-ghost use Rattle.cec_text.specs.Number.{number_of};
-ghost use Rattle.cec_text.specs.Words.{words_behind};
+ghost use Rattle.cec_words.specs.Number.{number_of};
+ghost use Rattle.cec_words.specs.Words.{words_behind};
 ghost use Rattle.cec_asm.specs.Keys.{plain_key, switch_of, language_of, destination_of, code_of, control_of, known, port_key, key_with, remote_by, remote_key, key_of};
 
 use crate::script::ScriptCause;
@@ -12,7 +12,7 @@ use crate::words::{is_nibble, nibble_of, phys_in};
 use cec_device::{Key, VolumeKey};
 use cec_frame::Addr;
 use cec_opcode::{Triple, UserControl, WordSet};
-use cec_text::{number_in, one_word, three_words, two_words};
+use cec_words::{number_in, one_word, three_words, two_words};
 
 fn plain_key(word: &[u8]) -> Option<Key>
     ensures { result ≡ plain_key word.now }

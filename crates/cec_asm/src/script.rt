@@ -2,19 +2,17 @@
 ghost use Rattle.std.specs.Prelude.{◌≡◌, ℕ, ◌+◌, ◌<◌, ◌≤◌, List, [], ◌∷◌, ◌++◌, length, Result, Ok, Err, Some, None, IfOk, IfSome, OnOk};
 ghost use Rattle.std.specs.Option.{option_copied};
 ghost use Rattle.cec_wave.specs.Pulses.{pulses_fault};
-ghost use Rattle.cec_text.specs.Words.{words_behind, one_of, two_of, three_of};
+ghost use Rattle.cec_words.specs.Words.{words_behind, one_of, two_of, three_of};
 ghost use Rattle.cec_asm.specs.Script.{Notes, notes_of, course_of, time_of, last_time, last_end, scheduled, plug_words, unplug_words, key_words, event_words, send_read, pulse_cause, pulsed, pulse_words, end_words, other_words, error_at, IsFrameOf, IsSendRead, IsEventRead, IsLineRead, GivesNotes, Gives, GivesScript, IsScript, OneScript, ScriptsAreSound};
 
 use crate::keys::key_in;
 use crate::topology::Topology;
 use cec_frame::Frame;
 use cec_net::Event;
-use cec_text::{
-    AssembleError, assemble, first_line, first_word, frames_are_whole, is_skipped, number_in,
-    one_word, three_words, two_words,
-};
+use cec_text::{AssembleError, assemble, frames_are_whole};
 use cec_wave::pulses::{self, Pulses, stretch_fault};
 use cec_wave::{PulsesError, Stretch};
+use cec_words::{first_line, first_word, is_skipped, number_in, one_word, three_words, two_words};
 use hdmi_topo::Tree;
 use std::alloc::{AllocFailed, Global};
 use std::fmt::{self, Write};

@@ -1,10 +1,10 @@
 //! Topologies and their texts.
 ghost use Rattle.std.specs.Prelude.{◌≡◌, ℕ, ◌+◌, ◌<◌, List, [], ◌∷◌, ◌++◌, Result, Ok, Err, Some};
 ghost use Rattle.std.specs.Option.{option_copied};
-ghost use Rattle.cec_text.specs.Words.{words_behind, one_of, three_of};
+ghost use Rattle.cec_words.specs.Words.{words_behind, one_of, three_of};
 ghost use Rattle.cec_asm.specs.Topology.{Plan, plan_of, kind_named, device_line, plug_line, edid_line, line_read, topology_of, error_at, GivesLine, GivesTopology};
 
-use cec_text::{first_line, first_word, is_skipped, number_in, one_word, three_words};
+use cec_words::{first_line, first_word, is_skipped, number_in, one_word, three_words};
 use hdmi_core::Kind;
 use hdmi_topo::{AddError, PlugError, Tree, is_name};
 use hex::FromHexError;
@@ -132,6 +132,8 @@ fn kind_named(word: &[u8]) -> Option<Kind>
         Some(Kind::Recorder)
     } else if word == b"switch".as_slice() {
         Some(Kind::Switch)
+    } else if word == b"combo".as_slice() {
+        Some(Kind::Combo)
     } else {
         None
     }

@@ -1,58 +1,85 @@
 -- Step by step, and by all fates at once.
-use Rattle.std.proofs.Common.{◌≡◌, ℕ, List, [], ◌∷◌, refl, ◌∙◌}
+use Rattle.std.proofs.Common.{◌≡◌, ℕ, List, [], ◌∷◌, Option, Some, None, refl, ap, ◌∙◌}
 use Rattle.hdmi_core.specs.declared.kind.Kind.{Kind}
-use Rattle.hdmi_core.specs.declared.kind.Kind.TheVariants.{Tv, Amp, Player, Recorder, Switch}
+use Rattle.hdmi_core.specs.declared.kind.Kind.TheVariants.{Tv, Amp, Player, Recorder, Switch, Combo}
 use Rattle.cec_device.specs.declared.place.Place.{Place}
 use Rattle.cec_device.specs.declared.place.Place.TheVariants.{Off, Polls, Settled}
 use Rattle.cec_device.specs.declared.sending.Fate.{Fate}
 use Rattle.cec_device.specs.declared.sending.Fate.TheVariants.{Delivered, Unacked, Lost, Broken}
 use Rattle.cec_device.specs.State.{State}
-use Rattle.cec_feature.specs.Kinds.{type_of}
-use Rattle.cec_device.specs.Place.{addresses, class_of_poll, place_after, polled, polled_at, sent_by, stepped, tries}
-use Rattle.cec_device.proofs.OnceLemmas.{frame_sent-place, queued-place}
+use Rattle.cec_feature.specs.Kinds.{addresses, players, second_addresses}
+use Rattle.cec_device.specs.Place.{class_of_poll, place_after, polled_at, searched, second_after, sent_by, settles, stepped, tries}
+use Rattle.cec_device.proofs.OnceLemmas.{frame_sent-place, reported-place}
 use Rattle.cec_device.proofs.NumberLemmas.{put_on}
 use Rattle.cec_device.specs.PlaceLaw.{place_told, PlaceGoesByFates}
 
 -- who has settled stays
-settled : (kind : Kind) (a : ℕ) (fates : List Fate) → place_told kind (Settled a) fates ≡ Settled a
-settled kind a [] = refl
-settled kind a (fate ∷ fates) = settled kind a fates
+settled : (kind : Kind) (first : ℕ) (second : Option ℕ) (fates : List Fate) → place_told kind (Settled first second) fates ≡ Settled first second
+settled kind first second [] = refl
+settled kind first second (fate ∷ fates) = settled kind first second fates
+
+-- what follows where a unit has settled, by the fates that are left
+abbrev Goes : Kind → Option ℕ → (ℕ → List Fate → Place) → Type 0
+Goes kind found then = (a : ℕ) (fates : List Fate) → place_told kind (settles kind found a) fates ≡ then a fates
+
+-- a unit's search from some addresses on
+abbrev Searches : Kind → Option ℕ → (ℕ → List Fate → Place) → ℕ → List ℕ → Type 0
+Searches kind found then a rest = (fates : List Fate) → place_told kind (Polls found a) fates ≡ searched (λ b. Polls found b) then (a ∷ rest) fates
 
 -- the last address of a list, and one before the others
-last : (kind : Kind) (a : ℕ) → stepped kind (Polls a) Delivered ≡ Settled 15 → (fates : List Fate) → place_told kind (Polls a) fates ≡ place_after (a ∷ []) fates
-last kind a e [] = refl
-last kind a e (Unacked ∷ fates) = settled kind a fates
-last kind a e (Delivered ∷ fates) = rw e (settled kind 15 fates)
-last kind a e (Lost ∷ fates) = last kind a e fates
-last kind a e (Broken ∷ fates) = last kind a e fates
+last : (kind : Kind) (found : Option ℕ) (then : ℕ → List Fate → Place) → Goes kind found then → (a : ℕ)
+    → stepped kind (Polls found a) Delivered ≡ settles kind found 15 → Searches kind found then a []
+last kind found then goes a e [] = refl
+last kind found then goes a e (Unacked ∷ fates) = goes a fates
+last kind found then goes a e (Delivered ∷ fates) = rw e (goes 15 fates)
+last kind found then goes a e (Lost ∷ fates) = last kind found then goes a e fates
+last kind found then goes a e (Broken ∷ fates) = last kind found then goes a e fates
 
-before : (kind : Kind) (a b : ℕ) (rest : List ℕ) → stepped kind (Polls a) Delivered ≡ Polls b
-    → ((fates : List Fate) → place_told kind (Polls b) fates ≡ place_after (b ∷ rest) fates)
-    → (fates : List Fate) → place_told kind (Polls a) fates ≡ place_after (a ∷ b ∷ rest) fates
-before kind a b rest e next [] = refl
-before kind a b rest e next (Unacked ∷ fates) = settled kind a fates
-before kind a b rest e next (Delivered ∷ fates) = rw e (next fates)
-before kind a b rest e next (Lost ∷ fates) = before kind a b rest e next fates
-before kind a b rest e next (Broken ∷ fates) = before kind a b rest e next fates
+before : (kind : Kind) (found : Option ℕ) (then : ℕ → List Fate → Place) → Goes kind found then → (a b : ℕ) (rest : List ℕ)
+    → stepped kind (Polls found a) Delivered ≡ Polls found b → Searches kind found then b rest → Searches kind found then a (b ∷ rest)
+before kind found then goes a b rest e next [] = refl
+before kind found then goes a b rest e next (Unacked ∷ fates) = goes a fates
+before kind found then goes a b rest e next (Delivered ∷ fates) = rw e (next fates)
+before kind found then goes a b rest e next (Lost ∷ fates) = before kind found then goes a b rest e next fates
+before kind found then goes a b rest e next (Broken ∷ fates) = before kind found then goes a b rest e next fates
 
-by_all : (kind : Kind) (fates : List Fate) → place_told kind (tries (addresses kind)) fates ≡ place_after (addresses kind) fates
-by_all Tv = before Tv 0 14 [] refl (last Tv 14 refl)
-by_all Recorder = before Recorder 1 2 (9 ∷ []) refl (before Recorder 2 9 [] refl (last Recorder 9 refl))
-by_all Player = before Player 4 8 (11 ∷ []) refl (before Player 8 11 [] refl (last Player 11 refl))
-by_all Amp = last Amp 5 refl
-by_all Switch = settled Switch 15
+-- a device of one unit has then settled
+alone : (kind : Kind) → second_addresses kind ≡ [] → Goes kind None (second_after (second_addresses kind))
+alone kind e a fates = rw e (settled kind a None fates)
+
+-- the player of a box, whose recorder has settled
+player_searches : (first : ℕ) → Searches Combo (Some first) (λ second _. Settled first (Some second)) 4 (8 ∷ 11 ∷ [])
+player_searches first =
+    before Combo (Some first) (λ second _. Settled first (Some second)) (λ a fates. settled Combo first (Some a) fates) 4 8 (11 ∷ []) refl
+    (before Combo (Some first) (λ second _. Settled first (Some second)) (λ a fates. settled Combo first (Some a) fates) 8 11 [] refl
+    (last Combo (Some first) (λ second _. Settled first (Some second)) (λ a fates. settled Combo first (Some a) fates) 11 refl))
+
+by_all : (kind : Kind) (fates : List Fate) → place_told kind (tries kind None (addresses kind)) fates ≡ place_after kind fates
+by_all Tv = before Tv None (second_after []) (alone Tv refl) 0 14 [] refl (last Tv None (second_after []) (alone Tv refl) 14 refl)
+by_all Recorder =
+    before Recorder None (second_after []) (alone Recorder refl) 1 2 (9 ∷ []) refl
+    (before Recorder None (second_after []) (alone Recorder refl) 2 9 [] refl (last Recorder None (second_after []) (alone Recorder refl) 9 refl))
+by_all Player =
+    before Player None (second_after []) (alone Player refl) 4 8 (11 ∷ []) refl
+    (before Player None (second_after []) (alone Player refl) 8 11 [] refl (last Player None (second_after []) (alone Player refl) 11 refl))
+by_all Amp = last Amp None (second_after []) (alone Amp refl) 5 refl
+by_all Switch = settled Switch 15 None
+by_all Combo =
+    before Combo None (second_after players) player_searches 1 2 (9 ∷ []) refl
+    (before Combo None (second_after players) player_searches 2 9 [] refl (last Combo None (second_after players) player_searches 9 refl))
 
 -- a fate moves a device that polls, by a step
 told-place : (limit at : ℕ) (fate : Fate) (d : State) (place : Place) → d.place ≡ place
     → (sent_by limit d fate at (polled_at place)).place ≡ stepped d.kind place fate
 told-place limit at fate d Off e = frame_sent-place d fate ∙ e
-told-place limit at fate d (Settled a) e = frame_sent-place d fate ∙ e
-told-place limit at fate d (Polls a) e =
-    queued-place limit at 15 (0x84 ∷ d.phys.high ∷ d.phys.low ∷ type_of d.kind ∷ []) (record d { place = polled d.kind a fate; poll_ready = at; class = class_of_poll fate })
+told-place limit at fate d (Settled first second) e = frame_sent-place d fate ∙ e
+told-place limit at fate d (Polls found a) e =
+    reported-place limit at (record d { place = stepped d.kind d.place fate; poll_ready = at; class = class_of_poll fate })
+    ∙ ap (λ (p : Place). stepped d.kind p fate) e
 
 pub place_goes_by_fates : PlaceGoesByFates
 place_goes_by_fates = record {
-  joining = λ limit number at phys d. queued-place limit at 15 (0x84 ∷ phys.high ∷ phys.low ∷ type_of d.kind ∷ []) (put_on number at phys d);
+  joining = λ limit number at phys d. reported-place limit at (put_on number at phys d);
   telling = λ limit at fate d. told-place limit at fate d d.place refl;
   by_all = by_all;
 }

@@ -18,7 +18,7 @@ use Rattle.cec_device.specs.Keys.{keyed, key_fault}
 
 -- a device that has settled at an address, as new
 abbrev device : Kind → ℕ → State
-device kind a = record (fresh kind (0x70 ∷ 0x31 ∷ []) 0) { phys = record { high = 0x10; low = 0x00 }; place = Settled a }
+device kind a = record (fresh kind (0x70 ∷ 0x31 ∷ []) 0) { phys = record { high = 0x10; low = 0x00 }; place = Settled a None }
 
 abbrev after : State → List (List ℕ) → State
 after d frames = fold (λ (s : State) (frame : List ℕ). followed 16 s frame 0) d frames
@@ -81,7 +81,7 @@ abbrev keys : State → List (Key × Bool) → State
 keys d presses = fold (λ (s : State) (p : Key × Bool). keyed 16 s p.0 p.1 0) d presses
 
 abbrev switch : State
-switch = record (fresh Switch (0x73 ∷ []) 3) { phys = record { high = 0x10; low = 0x00 }; place = Settled 15 }
+switch = record (fresh Switch (0x73 ∷ []) 3) { phys = record { high = 0x10; low = 0x00 }; place = Settled 15 None }
 
 switch-port : queue (keys switch ((Port 2, true) ∷ (Port 2, true) ∷ (Port 1, false) ∷ [])) ≡ (0xff ∷ 0x80 ∷ 0x11 ∷ 0x00 ∷ 0x12 ∷ 0x00 ∷ []) ∷ []
 switch-port = refl
@@ -106,7 +106,7 @@ new-player = joined 16 (fresh Player (0x70 ∷ []) 0) 1 (record { high = 0x10; l
 player-polls : front_of (sent 16 (sent 16 new-player Delivered 0) Broken 0) ≡ Some (0x88 ∷ [])
 player-polls = refl
 
-player-finds_none : (sent 16 (sent 16 (sent 16 new-player Delivered 0) Delivered 0) Delivered 0).place ≡ Settled 15
+player-finds_none : (sent 16 (sent 16 (sent 16 new-player Delivered 0) Delivered 0) Delivered 0).place ≡ Settled 15 None
 player-finds_none = refl
 
 player-says_nothing : front_of (sent 16 (sent 16 (sent 16 new-player Delivered 0) Delivered 0) Delivered 0) ≡ None

@@ -1,30 +1,38 @@
--- A device polls and holds addresses of its kind's list alone.
-use Rattle.std.specs.Prelude.{◌≡◌, ℕ, ◌==◌, ◌||◌, Bool, true, List}
-use Rattle.std.specs.List.{list_any}
+-- A device polls and holds addresses of its kind's lists alone, each unit those of its own.
+use Rattle.std.specs.Prelude.{◌≡◌, ℕ, ◌<◌, ◌==◌, ◌&&◌, ◌||◌, Bool, true, List, slice_get, Option, Some, None, zero, suc}
 use Rattle.hdmi_core.specs.declared.kind.Kind.{Kind}
 use Rattle.hdmi_core.specs.declared.phys.Phys.{Phys}
 use Rattle.cec_device.specs.declared.place.Place.{Place}
 use Rattle.cec_device.specs.declared.place.Place.TheVariants.{Off, Polls, Settled}
 use Rattle.cec_device.specs.declared.sending.Fate.{Fate}
 use Rattle.cec_feature.specs.declared.keys.Key.{Key}
-use Rattle.cec_device.specs.State.{State, holds}
-use Rattle.cec_device.specs.Place.{addresses, sent, waited, joined, left, submitted}
+use Rattle.cec_feature.specs.Kinds.{addresses, is_in, second_addresses}
+use Rattle.cec_device.specs.State.{State, held, holds}
+use Rattle.cec_device.specs.Place.{sent, waited, joined, left, submitted}
 use Rattle.cec_device.specs.Effects.{followed}
 use Rattle.cec_device.specs.Keys.{keyed}
 
-abbrev pub is_address_of : Kind → ℕ → Bool
-is_address_of kind a = list_any (λ b. b == a) (addresses kind)
+-- the addresses that a unit may take
+abbrev pub unit_addresses : Kind → ℕ → List ℕ
+unit_addresses kind zero = addresses kind
+unit_addresses kind (suc unit) = second_addresses kind
 
--- off the wire, polling an address of the list, or settled at one or at 15
+-- a unit may settle at an address of its list, or at 15
+abbrev pub may_take : List ℕ → ℕ → Bool
+may_take list a = (a == 15) || is_in list a
+
+-- off the wire, or each unit polling an address of its list, or settled at one or at 15
 abbrev pub listed_at : Kind → Place → Bool
 listed_at kind Off = true
-listed_at kind (Polls a) = is_address_of kind a
-listed_at kind (Settled a) = (a == 15) || is_address_of kind a
+listed_at kind (Polls None a) = is_in (addresses kind) a
+listed_at kind (Polls (Some first) a) = may_take (addresses kind) first && is_in (second_addresses kind) a
+listed_at kind (Settled first None) = may_take (addresses kind) first
+listed_at kind (Settled first (Some second)) = may_take (addresses kind) first && may_take (second_addresses kind) second
 
 abbrev pub is_listed : State → Bool
 is_listed d = listed_at d.kind d.place
 
--- each call keeps it, and who is so holds addresses of the list alone
+-- each call keeps it, and who is so holds addresses of the lists alone
 pub record HoldsListed : Type 0 where
   pub leaving : (d : State) → is_listed (left d) ≡ true
   pub joining : (limit number at : ℕ) (phys : Phys) (d : State) → is_listed (joined limit d number phys at) ≡ true
@@ -33,4 +41,10 @@ pub record HoldsListed : Type 0 where
   pub submitting : (limit at : ℕ) (frame : List ℕ) (d : State) → is_listed d ≡ true → is_listed (submitted limit d frame at) ≡ true
   pub following : (limit at : ℕ) (frame : List ℕ) (d : State) → is_listed d ≡ true → is_listed (followed limit d frame at) ≡ true
   pub keying : (limit at : ℕ) (key : Key) (press : Bool) (d : State) → is_listed d ≡ true → is_listed (keyed limit d key press at) ≡ true
-  pub holding : (d : State) (a : ℕ) → is_listed d ≡ true → holds d.place a ≡ true → is_address_of d.kind a ≡ true
+  pub holding : (d : State) (unit a : ℕ) → is_listed d ≡ true → slice_get (held d.place) unit ≡ Some (Some a) → a < 15
+      → is_in (unit_addresses d.kind unit) a ≡ true
+  -- no two lists of a kind have an address in common, so no two units of a device hold the same one
+  pub apart : (d : State) (unit other a : ℕ) → is_listed d ≡ true → slice_get (held d.place) unit ≡ Some (Some a)
+      → slice_get (held d.place) other ≡ Some (Some a) → a < 15 → unit ≡ other
+  -- what a unit holds below 15 the device holds
+  pub units : (place : Place) (unit a : ℕ) → slice_get (held place) unit ≡ Some (Some a) → a < 15 → holds place a ≡ true

@@ -1,8 +1,7 @@
 -- Joining, leaving, the allocation of a logical address (CEC 10.2.1), and the fates of frames that were sent
 -- (CEC 7.1 and 9.1; that a poll is tried again without limit, and how attempts are counted, are this profile's own).
-use Rattle.std.specs.Prelude.{ℕ, ◌==◌, ◌+◌, ◌*◌, ◌/◌, ◌%◌, Bool, true, false, not, nat_lt, List, [], ◌∷◌, ◌++◌, length, slice_index, if◌then◌else◌, Option, Some, None, is_some}
+use Rattle.std.specs.Prelude.{ℕ, ◌==◌, ◌+◌, ◌*◌, ◌/◌, ◌%◌, ◌||◌, Bool, true, false, not, nat_lt, List, [], ◌∷◌, ◌++◌, length, slice_index, if◌then◌else◌, Option, Some, None, is_some}
 use Rattle.hdmi_core.specs.declared.kind.Kind.{Kind}
-use Rattle.hdmi_core.specs.declared.kind.Kind.TheVariants.{Tv, Amp, Player, Recorder, Switch}
 use Rattle.hdmi_core.specs.declared.phys.Phys.{Phys}
 use Rattle.cec_device.specs.declared.place.Place.{Place}
 use Rattle.cec_device.specs.declared.place.Place.TheVariants.{Off, Polls, Settled}
@@ -13,51 +12,74 @@ use Rattle.cec_device.specs.declared.sending.FreeTime.TheVariants.{Retry, NewIni
 use Rattle.cec_device.specs.declared.device.Queued.{Queued}
 use Rattle.cec_device.specs.declared.device.SubmitError.{SubmitError}
 use Rattle.cec_device.specs.declared.device.SubmitError.TheVariants.{QueueFull, OwnAddress, NoAddress, OffWire}
-use Rattle.cec_feature.specs.Kinds.{is_nowhere, type_of}
+use Rattle.cec_feature.specs.Kinds.{addresses, is_nowhere, is_switch, second_addresses, type_of}
 use Rattle.cec_feature.specs.Fresh.{fresh_record}
-use Rattle.cec_device.specs.State.{State, holds, queued}
+use Rattle.cec_device.specs.State.{State, held, holds, queued}
 
--- the addresses that a kind may take, in order (CEC 10.2; 14 for a television, and none for a switch, are own)
-abbrev pub addresses : Kind → List ℕ
-addresses Tv = 0 ∷ 14 ∷ []
-addresses Recorder = 1 ∷ 2 ∷ 9 ∷ []
-addresses Player = 4 ∷ 8 ∷ 11 ∷ []
-addresses Amp = 5 ∷ []
-addresses Switch = []
+-- ---- the allocation of addresses, unit after unit
 
--- the next poll, or settled at 15
-abbrev pub tries : List ℕ → Place
-tries [] = Settled 15
-tries (a ∷ rest) = Polls a
+-- A first unit has settled at an address: then the second one begins with its list, if there is one.
+abbrev pub begins : ℕ → List ℕ → Place
+begins first [] = Settled first None
+begins first (a ∷ rest) = Polls (Some first) a
+
+-- A unit has settled at an address. `found` is where the first one has settled, where it is the second that polls.
+abbrev pub settles : Kind → Option ℕ → ℕ → Place
+settles kind None a = begins a (second_addresses kind)
+settles kind (Some first) a = Settled first (Some a)
+
+-- the next poll of a unit, or settled at 15
+abbrev pub tries : Kind → Option ℕ → List ℕ → Place
+tries kind found [] = settles kind found 15
+tries kind found (a ∷ rest) = Polls found a
 
 -- the same after the address that was found taken
-abbrev pub tries_after : ℕ → List ℕ → Place
-tries_after a [] = Settled 15
-tries_after a (b ∷ rest) = if a == b then tries rest else tries_after a rest
+abbrev pub tries_after : Kind → Option ℕ → ℕ → List ℕ → Place
+tries_after kind found a [] = settles kind found 15
+tries_after kind found a (b ∷ rest) = if a == b then tries kind found rest else tries_after kind found a rest
+
+-- the list of the unit that polls
+abbrev pub list_of : Kind → Option ℕ → List ℕ
+list_of kind None = addresses kind
+list_of kind (Some first) = second_addresses kind
 
 -- where a device stands after the fate of a poll
-abbrev pub polled : Kind → ℕ → Fate → Place
-polled kind a Unacked = Settled a
-polled kind a Delivered = tries_after a (addresses kind)
-polled kind a _ = Polls a
+abbrev pub polled : Kind → Option ℕ → ℕ → Fate → Place
+polled kind found a Unacked = settles kind found a
+polled kind found a Delivered = tries_after kind found a (list_of kind found)
+polled kind found a _ = Polls found a
 
--- The same by all fates so far: an address whose poll was unacknowledged is held, each one before it was found taken.
-abbrev pub place_after : List ℕ → List Fate → Place
-place_after [] fates = Settled 15
-place_after (a ∷ rest) [] = Polls a
-place_after (a ∷ rest) (Unacked ∷ fates) = Settled a
-place_after (a ∷ rest) (Delivered ∷ fates) = place_after rest fates
-place_after (a ∷ rest) (Lost ∷ fates) = place_after (a ∷ rest) fates
-place_after (a ∷ rest) (Broken ∷ fates) = place_after (a ∷ rest) fates
+-- The same by all fates so far: an address whose poll was unacknowledged is held, each one before it was found taken,
+-- and at the end of its list a unit settles at 15.
+abbrev pub searched : (ℕ → Place) → (ℕ → List Fate → Place) → List ℕ → List Fate → Place
+searched polls settled [] fates = settled 15 fates
+searched polls settled (a ∷ rest) [] = polls a
+searched polls settled (a ∷ rest) (Unacked ∷ fates) = settled a fates
+searched polls settled (a ∷ rest) (Delivered ∷ fates) = searched polls settled rest fates
+searched polls settled (a ∷ rest) (Lost ∷ fates) = searched polls settled (a ∷ rest) fates
+searched polls settled (a ∷ rest) (Broken ∷ fates) = searched polls settled (a ∷ rest) fates
+
+-- the second unit's search, with the fates after those of the first one's
+abbrev pub second_after : List ℕ → ℕ → List Fate → Place
+second_after [] first fates = Settled first None
+second_after (a ∷ rest) first fates = searched (λ b. Polls (Some first) b) (λ second _. Settled first (Some second)) (a ∷ rest) fates
+
+abbrev pub place_after : Kind → List Fate → Place
+place_after kind fates = searched (λ a. Polls None a) (second_after (second_addresses kind)) (addresses kind) fates
 
 -- one step of it
 abbrev pub stepped : Kind → Place → Fate → Place
-stepped kind (Polls a) fate = polled kind a fate
+stepped kind (Polls found a) fate = polled kind found a fate
 stepped kind place fate = place
+
+-- every unit at 15
+abbrev pub unplaced : List ℕ → Place
+unplaced [] = Settled 15 None
+unplaced (a ∷ rest) = Settled 15 (Some 15)
 
 -- where a device stands when it joins
 abbrev pub start_place : Kind → Phys → Place
-start_place kind phys = if is_nowhere phys then Settled 15 else tries (addresses kind)
+start_place kind phys = if is_nowhere phys then unplaced (second_addresses kind) else tries kind None (addresses kind)
 
 -- a new device
 abbrev pub fresh : Kind → List ℕ → ℕ → State
@@ -76,9 +98,20 @@ fresh kind name ports = record {
   dropped = 0;
 }
 
--- its physical address, to all; one that does not speak queues nothing
+-- Report Physical Address of a unit, to all; one without an address says nothing, but for a switch, which never has one
+abbrev pub reported_from : ℕ → ℕ → Option ℕ → State → State
+reported_from limit at None d = d
+reported_from limit at (Some from) d =
+    if nat_lt from 15 || is_switch d.kind then queued limit at from 15 (0x84 ∷ d.phys.high ∷ d.phys.low ∷ type_of d.kind from ∷ []) d else d
+
+-- one after another
+abbrev pub reported_by : ℕ → ℕ → List (Option ℕ) → State → State
+reported_by limit at [] d = d
+reported_by limit at (unit ∷ units) d = reported_by limit at units (reported_from limit at unit d)
+
+-- the report of each unit, once all have settled; a device that does not speak queues nothing
 abbrev pub reported : ℕ → ℕ → State → State
-reported limit at d = queued limit at 15 (0x84 ∷ d.phys.high ∷ d.phys.low ∷ type_of d.kind ∷ []) d
+reported limit at d = reported_by limit at (held d.place) d
 
 -- a device that has joined
 abbrev pub joined : ℕ → State → ℕ → Phys → ℕ → State
@@ -127,12 +160,16 @@ frame_sent d Broken = if front_is_poll d.queue then record d { class = Retry } e
 
 -- the address that it polls
 abbrev pub polled_at : Place → Option ℕ
-polled_at (Polls a) = Some a
+polled_at (Polls found a) = Some a
 polled_at _ = None
+
+-- the fate of a poll moves it by a step
+abbrev pub poll_sent : ℕ → State → Fate → ℕ → State
+poll_sent limit d fate at = reported limit at (record d { place = stepped d.kind d.place fate; poll_ready = at; class = class_of_poll fate })
 
 -- the fate of a poll of an address, or of a queued frame
 abbrev pub sent_by : ℕ → State → Fate → ℕ → Option ℕ → State
-sent_by limit d fate at (Some a) = reported limit at (record d { place = polled d.kind a fate; poll_ready = at; class = class_of_poll fate })
+sent_by limit d fate at (Some a) = poll_sent limit d fate at
 sent_by limit d fate at None = frame_sent d fate
 
 abbrev pub sent : ℕ → State → Fate → ℕ → State
@@ -149,8 +186,14 @@ waited d = record d { class = class_after_waiting d.class }
 
 -- ---- submit
 
+-- a unit has settled at this address
+abbrev pub is_at : Option ℕ → ℕ → Bool
+is_at None from = false
+is_at (Some a) from = a == from
+
+-- all units have settled, and one of them at this address
 abbrev pub settled_at : Place → ℕ → Bool
-settled_at (Settled a) from = a == from
+settled_at (Settled first second) from = (first == from) || is_at second from
 settled_at _ from = false
 
 abbrev pub is_off : Place → Bool

@@ -1,11 +1,12 @@
 -- Allocation by all fates so far.
-use Rattle.std.specs.Prelude.{◌≡◌, ℕ, List, [], ◌∷◌}
+use Rattle.std.specs.Prelude.{◌≡◌, ℕ, List, [], ◌∷◌, None}
 use Rattle.hdmi_core.specs.declared.kind.Kind.{Kind}
 use Rattle.hdmi_core.specs.declared.phys.Phys.{Phys}
+use Rattle.cec_feature.specs.Kinds.{addresses}
 use Rattle.cec_device.specs.declared.place.Place.{Place}
 use Rattle.cec_device.specs.declared.sending.Fate.{Fate}
 use Rattle.cec_device.specs.State.{State}
-use Rattle.cec_device.specs.Place.{stepped, tries, addresses, place_after, start_place, joined, sent}
+use Rattle.cec_device.specs.Place.{stepped, tries, place_after, start_place, joined, sent}
 
 abbrev pub place_told : Kind → Place → List Fate → Place
 place_told kind place [] = place
@@ -16,4 +17,4 @@ place_told kind place (fate ∷ fates) = place_told kind (stepped kind place fat
 pub record PlaceGoesByFates : Type 0 where
   pub joining : (limit number at : ℕ) (phys : Phys) (d : State) → (joined limit d number phys at).place ≡ start_place d.kind phys
   pub telling : (limit at : ℕ) (fate : Fate) (d : State) → (sent limit d fate at).place ≡ stepped d.kind d.place fate
-  pub by_all : (kind : Kind) (fates : List Fate) → place_told kind (tries (addresses kind)) fates ≡ place_after (addresses kind) fates
+  pub by_all : (kind : Kind) (fates : List Fate) → place_told kind (tries kind None (addresses kind)) fates ≡ place_after kind fates

@@ -5,17 +5,18 @@ use Rattle.cec_feature.specs.declared.record.Heard.{Heard}
 use Rattle.cec_feature.specs.declared.say.Say.{Say}
 use Rattle.cec_feature.specs.declared.say.Say.TheVariants.{Reply, Cast, Tell, Refuse}
 use Rattle.cec_feature.specs.Effect.{Effect}
-use Rattle.cec_device.specs.State.{State, queued}
+use Rattle.cec_device.specs.State.{State, queued, source}
 
 -- How one is queued. A reply or a notice goes to an address below 15 alone, and a refusal answers a frame
--- that was addressed to the device itself, unless it is a refusal (CEC 12.3).
+-- that was addressed to the device itself, unless it is a refusal (CEC 12.3). What answers a direct frame comes from
+-- the address that this one went to.
 abbrev pub say : ℕ → Heard → Say → State → State
-say limit h (Reply bytes) d = if nat_lt h.from 15 then queued limit h.at h.from bytes d else d
-say limit h (Cast bytes) d = queued limit h.at 15 bytes d
-say limit h (Tell to bytes) d = if nat_lt to 15 then queued limit h.at to bytes d else d
+say limit h (Reply bytes) d = if nat_lt h.from 15 then queued limit h.at (source d.place h.to) h.from bytes d else d
+say limit h (Cast bytes) d = queued limit h.at (source d.place h.to) 15 bytes d
+say limit h (Tell to bytes) d = if nat_lt to 15 then queued limit h.at (source d.place h.to) to bytes d else d
 say limit h (Refuse reason) d =
     if nat_lt h.to 15 && (nat_lt h.from 15 && not (h.opcode == 0))
-    then queued limit h.at h.from (0x00 ∷ h.opcode ∷ reason_byte reason ∷ []) d
+    then queued limit h.at (source d.place h.to) h.from (0x00 ∷ h.opcode ∷ reason_byte reason ∷ []) d
     else d
 
 -- all of it, in order

@@ -16,16 +16,17 @@ fn kind_of(word: &str) -> Result<Kind, Fail> {
         "player" => Ok(Kind::Player),
         "recorder" => Ok(Kind::Recorder),
         "switch" => Ok(Kind::Switch),
+        "combo" => Ok(Kind::Combo),
         _ => Err("no kind".into()),
     }
 }
 
-// The first address of the kind's list; 15 for a switch.
+// The first address of the kind's list, the player's of a box; 15 for a switch.
 fn own_address(kind: Kind) -> u8 {
     match kind {
         Kind::Tv => 0,
         Kind::Amp => 5,
-        Kind::Player => 4,
+        Kind::Player | Kind::Combo => 4,
         Kind::Recorder => 1,
         Kind::Switch => 15,
     }
@@ -36,11 +37,15 @@ pub(crate) fn settled(kind: Kind) -> Device<16> {
     let high = if kind == Kind::Tv { 0 } else { 0x10 };
     let mut device = Device::new(kind, b"p1", 3);
     device.join(1, Phys { high, low: 0 }, 0);
-    if let Some(_) = device.queue_front() {
-        device.sent(Fate::Unacked, 0);
+    for _ in 0..2 {
+        if device.is_allocating() && device.queue_front().is_some() {
+            device.sent(Fate::Unacked, 0);
+        }
     }
-    if let Some(_) = device.queue_front() {
-        device.sent(Fate::Delivered, 0);
+    for _ in 0..2 {
+        if device.queue_front().is_some() {
+            device.sent(Fate::Delivered, 0);
+        }
     }
     device
 }

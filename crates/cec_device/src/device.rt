@@ -1,6 +1,6 @@
 //! A device: who it is, and what it has to send.
 ghost use Rattle.std.specs.Prelude.{◌≡◌, ◌≢◌, ◌<◌, ◌≤◌, ◌+◌, ◌*◌, ◌==◌, ◌∷◌, [], length, true, false};
-ghost use Rattle.cec_device.specs.State.{queued, speaks, holds, frame_to, source, one_more};
+ghost use Rattle.cec_device.specs.State.{queued, speaks, holds, is_held, frame_of, main_of, source, one_more};
 ghost use Rattle.cec_device.specs.Say.{say, say_all};
 
 use crate::place::Place;
@@ -96,32 +96,54 @@ pub(crate) fn framed(from: Addr, to: Addr, rest: &[u8]) -> Frame
     }
 }
 
+// The main address of a device that has settled.
+fn main_of(first: Addr, second: Option<Addr>) -> Addr
+    ensures { result ≡ main_of first second }
+{
+    match second {
+        Some(second) if second.value() < 15 => second,
+        _ => first,
+    }
+}
+
+fn is_held(unit: Option<Addr>, to: Addr) -> bool
+    ensures { result ≡ is_held unit to }
+{
+    match unit {
+        None => false,
+        Some(address) => address == to && to.value() < 15,
+    }
+}
+
 impl<const Q: usize> Device<Q> {
-    fn source(&self) -> Addr
-        ensures { result ≡ source self.now.place }
+    // The address that a frame comes from: the destination of the direct frame that it answers, else the main one.
+    fn source(&self, asked: Addr) -> Addr
+        ensures { result ≡ source self.now.place asked }
     {
+        if asked.value() < Addr::BROADCAST {
+            return asked;
+        }
         match self.place {
-            Place::Settled(address) => address,
+            Place::Settled { first, second } => main_of(first, second),
             _ => Addr::new(15),
         }
     }
 
-    /// Whether it holds this address, which is then below 15.
+    /// Whether one of its units holds this address, which is then below 15.
     pub fn holds(&self, to: Addr) -> bool
         ensures { result ≡ holds self.now.place to }
     {
-        match self.place {
-            Place::Settled(address) => address == to && to.value() < 15,
-            _ => false,
-        }
+        let [first, second] = self.held();
+        is_held(first, to) || is_held(second, to)
     }
 
     fn speaks(&self) -> bool
         ensures { result ≡ speaks self.now }
     {
         match self.place {
-            Place::Settled(address) => {
-                address.value() < 15 || (self.kind == Kind::Switch && !is_nowhere(self.phys))
+            Place::Settled { first, second } => {
+                main_of(first, second).value() < 15
+                    || (self.kind == Kind::Switch && !is_nowhere(self.phys))
             }
             _ => false,
         }
@@ -129,15 +151,15 @@ impl<const Q: usize> Device<Q> {
 
     /// Queues a frame of a reply, report or key, where the device speaks and the frame is not to itself.
     /// One that finds the queue full is dropped and counted.
-    pub(crate) fn put(&mut self, at: u64, to: Addr, rest: &[u8])
+    pub(crate) fn put(&mut self, at: u64, from: Addr, to: Addr, rest: &[u8])
         requires { length rest.now ≤ 15 }
-        ensures { self.new ≡ queued Q at to rest.now self.old }
+        ensures { self.new ≡ queued Q at from to rest.now self.old }
     {
         if !self.speaks() || self.holds(to) {
             return;
         }
         if self.queue.len() < Q {
-            let frame = framed(self.source(), to, rest);
+            let frame = framed(from, to, rest);
             self.queue.push(Queued { frame, ready: at });
         } else {
             self.dropped = self.dropped.saturating_add(1);
@@ -145,22 +167,24 @@ impl<const Q: usize> Device<Q> {
     }
 
     /// Queues one thing that is said. A reply and a notice go to an address below 15 alone, and a refusal to
-    /// who sent a frame to this device itself, unless that was a refusal (CEC 12.3).
+    /// who sent a frame to this device itself, unless that was a refusal (CEC 12.3). What answers a direct frame
+    /// comes from the address that this one went to.
     fn say(&mut self, heard: &Heard, said: &Say)
         ensures { self.new ≡ say Q heard.now said.now self.old }
     {
+        let from = self.source(heard.to);
         match said {
             Say::Reply(blocks) => {
                 if heard.from.value() < Addr::BROADCAST {
-                    self.put(heard.at, heard.from, blocks.bytes());
+                    self.put(heard.at, from, heard.from, blocks.bytes());
                 }
             }
             Say::Cast(blocks) => {
-                self.put(heard.at, Addr::new(Addr::BROADCAST), blocks.bytes());
+                self.put(heard.at, from, Addr::new(Addr::BROADCAST), blocks.bytes());
             }
             Say::Tell(to, blocks) => {
                 if to.value() < Addr::BROADCAST {
-                    self.put(heard.at, *to, blocks.bytes());
+                    self.put(heard.at, from, *to, blocks.bytes());
                 }
             }
             Say::Refuse(reason) => {
@@ -172,7 +196,7 @@ impl<const Q: usize> Device<Q> {
                         opcode: heard.opcode,
                         reason: *reason,
                     });
-                    self.put(heard.at, heard.from, abort.bytes());
+                    self.put(heard.at, from, heard.from, abort.bytes());
                 }
             }
         }

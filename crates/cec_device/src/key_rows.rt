@@ -3,24 +3,24 @@ use crate::cases::check;
 use std::test::Fail;
 
 const PRESSES: &str = "\
-player+recorder | power=off | press play | power=on deck=11 active=1000 path=1000 | @0 04, @f 82 10 00
-player+recorder | sub=3 | press play | deck=11 active=1000 path=1000 | @0 04, @f 82 10 00, @3 1b 11
-player+recorder | deck=19 sub=3 | press play | active=1000 path=1000 | @0 04, @f 82 10 00
-player+recorder | deck=11 sub=3 | press play | active=1000 path=1000 | @0 04, @f 82 10 00
-player+recorder | deck=11 sub=3 | press stop | deck=1a | @3 1b 1a
-player+recorder | deck=19 sub=3 | press stop | - | -
-player+recorder | sub=3 | press eject | deck=19 | @3 1b 19
-player+recorder | deck=19 sub=3 | press eject | - | -
-player+recorder | deck=19 sub=3 | press load | deck=1a | @3 1b 1a
-player+recorder | deck=11 sub=3 | press load | - | -
-player+recorder | - | press menu | menu=on | @0 8e 00
-player+recorder | menu=on | press menu | menu=off | @0 8e 01
-tv+amp+player+recorder+switch | power=off | press power | power=on | -
+player+recorder+combo | power=off | press play | power=on deck=11 active=1000 path=1000 | @0 04, @f 82 10 00
+player+recorder+combo | sub=3 | press play | deck=11 active=1000 path=1000 | @0 04, @f 82 10 00, @3 1b 11
+player+recorder+combo | deck=19 sub=3 | press play | active=1000 path=1000 | @0 04, @f 82 10 00
+player+recorder+combo | deck=11 sub=3 | press play | active=1000 path=1000 | @0 04, @f 82 10 00
+player+recorder+combo | deck=11 sub=3 | press stop | deck=1a | @3 1b 1a
+player+recorder+combo | deck=19 sub=3 | press stop | - | -
+player+recorder+combo | sub=3 | press eject | deck=19 | @3 1b 19
+player+recorder+combo | deck=19 sub=3 | press eject | - | -
+player+recorder+combo | deck=19 sub=3 | press load | deck=1a | @3 1b 1a
+player+recorder+combo | deck=11 sub=3 | press load | - | -
+player+recorder+combo | - | press menu | menu=on | @0 8e 00
+player+recorder+combo | menu=on | press menu | menu=off | @0 8e 01
+tv+amp+player+recorder+combo+switch | power=off | press power | power=on | -
 tv | menu=on held=44 | press power | power=off menu=off held=- | @f 36
 amp+switch | held=44 | press power | power=off held=- | -
-player+recorder | deck=11 | press power | power=off deck=1a | -
-player+recorder | active=1000 deck=11 sub=3 menu=on held=44 | press power | power=off active=- deck=1a sub=- menu=off held=- | @0 9d 10 00
-player+recorder | active=1100 deck=19 | press power | power=off | -
+player+recorder+combo | deck=11 | press power | power=off deck=1a | -
+player+recorder+combo | active=1000 deck=11 sub=3 menu=on held=44 | press power | power=off active=- deck=1a sub=- menu=off held=- | @0 9d 10 00
+player+recorder+combo | active=1100 deck=19 | press power | power=off | -
 amp | active=1000 | press power | power=off | -
 tv | - | press watch 1200 | path=1200 | @f 86 12 00
 switch | - | press port 2 | sel=2 | ff 80 11 00 12 00
@@ -50,12 +50,12 @@ tv | - | press remote 4 44 | - | @4 44 44
 tv | - | press remote e 6d | - | @e 44 6d";
 
 const RELEASES: &str = "\
-player+recorder | - | release play | - | -
-player+recorder | - | release stop | - | -
-player+recorder | - | release eject | - | -
-player+recorder | - | release load | - | -
-player+recorder | - | release menu | - | -
-tv+amp+player+recorder+switch | - | release power | - | -
+player+recorder+combo | - | release play | - | -
+player+recorder+combo | - | release stop | - | -
+player+recorder+combo | - | release eject | - | -
+player+recorder+combo | - | release load | - | -
+player+recorder+combo | - | release menu | - | -
+tv+amp+player+recorder+combo+switch | - | release power | - | -
 tv | - | release watch 1200 | - | -
 switch | - | release port 2 | - | -
 tv | - | release audio on | - | -
@@ -79,23 +79,23 @@ tv+amp+switch | - | press eject | refused | -
 tv+amp+switch | deck=19 | press load | refused | -
 tv+amp+switch | - | press menu | refused | -
 tv+amp+switch | - | release menu | refused | -
-amp+player+recorder+switch | - | press watch 1200 | refused | -
-amp+player+recorder+switch | - | release watch 1200 | refused | -
-tv+amp+player+recorder | - | press port 1 | refused | -
+amp+player+recorder+combo+switch | - | press watch 1200 | refused | -
+amp+player+recorder+combo+switch | - | release watch 1200 | refused | -
+tv+amp+player+recorder+combo | - | press port 1 | refused | -
 switch | - | press port 0 | refused | -
 switch | - | press port 4 | refused | -
 switch | - | release port 4 | refused | -
-amp+player+recorder+switch | - | press audio on | refused | -
-amp+player+recorder+switch | - | press audio off | refused | -
-player+recorder+switch | - | press arc on | refused | -
-player+recorder+switch | - | press arc off | refused | -
-player+recorder+switch | - | press volume-up | refused | -
-player+recorder+switch | - | press volume-down | refused | -
-player+recorder+switch | - | press mute | refused | -
-player+recorder+switch | - | release mute | refused | -
-amp+player+recorder+switch | - | press language 667261 | refused | -
-amp+player+recorder+switch | - | press remote 4 44 | refused | -
-amp+player+recorder+switch | - | release remote 4 44 | refused | -";
+amp+player+recorder+combo+switch | - | press audio on | refused | -
+amp+player+recorder+combo+switch | - | press audio off | refused | -
+player+recorder+combo+switch | - | press arc on | refused | -
+player+recorder+combo+switch | - | press arc off | refused | -
+player+recorder+combo+switch | - | press volume-up | refused | -
+player+recorder+combo+switch | - | press volume-down | refused | -
+player+recorder+combo+switch | - | press mute | refused | -
+player+recorder+combo+switch | - | release mute | refused | -
+amp+player+recorder+combo+switch | - | press language 667261 | refused | -
+amp+player+recorder+combo+switch | - | press remote 4 44 | refused | -
+amp+player+recorder+combo+switch | - | release remote 4 44 | refused | -";
 
 #[test]
 fn each_key_does_what_it_says(rt: HostRuntime) -> Result<(), Fail> {

@@ -2,80 +2,146 @@
 //! (CEC 7.1).
 ghost use Rattle.std.specs.Prelude.{◌≡◌, ◌<◌, Some, None, length, MatchResult, IsSome, IsTrue, ◌≤◌, nat_lt};
 ghost use Rattle.std.specs.List.{list_all};
-ghost use Rattle.cec_device.specs.Place.{tries, tries_after, addresses, polled_at, start_place, fresh, reported, joined, left, ended, failed, frame_sent, front_is_poll, sent, sent_by, waited, submit_fault, submitted, front_of, ready_of, is_allocating, is_on_wire};
+ghost use Rattle.cec_feature.specs.Kinds.{addresses, second_addresses};
+ghost use Rattle.cec_device.specs.Place.{begins, settles, tries, tries_after, list_of, stepped, class_of_poll, unplaced, polled_at, settled_at, start_place, fresh, reported, reported_from, joined, left, ended, failed, frame_sent, front_is_poll, sent, poll_sent, waited, submit_fault, submitted, front_of, ready_of, is_allocating, is_on_wire};
 
 use crate::device::{Device, Queued, SubmitError};
 use crate::sending::{Fate, FreeTime};
 use arrayvec::ArrayVec;
-use cec_feature::{DataBlocks, NOWHERE, Port, Record, is_nowhere, report_of};
+use cec_feature::{
+    DataBlocks, NOWHERE, Port, Record, addresses, is_nowhere, report_of, second_addresses,
+};
 use cec_frame::{Addr, Frame};
 use hdmi_core::{Kind, Phys};
 
-/// Where a device stands on the wire: off it, polling an address, or settled at one. It is settled
-/// at 15 where it found no address, or takes none.
+/// Where a device stands on the wire. A box has a second unit, which begins once the first one has settled; any
+/// other device has one.
 #[derive(Clone, Copy, PartialEq, Eq)]
-pub enum Place {
+pub(crate) enum Place {
+    /// Off the wire.
     Off,
-    Polls(Addr),
-    Settled(Addr),
+    /// A unit polls an address; `found` is where the first one has settled, where it is the second that polls.
+    Polls { found: Option<Addr>, address: Addr },
+    /// Each unit has settled at an address, at 15 where it found none or takes none.
+    Settled { first: Addr, second: Option<Addr> },
 }
 
-/// The logical addresses that a kind may take, in order (CEC 10.2).
-pub fn addresses(kind: Kind) -> &'static [u8]
-    ensures list { result.now ≡ addresses kind }
-    ensures small { IsTrue (list_all (λ a. nat_lt a 16) result.now) }
+// The first unit has settled. The second one begins with its list, if there is one.
+fn begins(kind: Kind, first: Addr) -> Place
+    ensures { result ≡ begins first (second_addresses kind) }
 {
-    match kind {
-        Kind::Tv => &[0, 14],
-        Kind::Recorder => &[1, 2, 9],
-        Kind::Player => &[4, 8, 11],
-        Kind::Amp => &[5],
-        Kind::Switch => &[],
+    match second_addresses(kind) {
+        [] => Place::Settled {
+            first,
+            second: None,
+        },
+        [address, ..] => Place::Polls {
+            found: Some(first),
+            address: Addr::new(*address),
+        },
     }
 }
 
-// The poll of the first of these addresses; without one it settles at 15.
-fn tries(list: &[u8]) -> Place
+// A unit has settled.
+fn settles(kind: Kind, found: Option<Addr>, address: Addr) -> Place
+    ensures { result ≡ settles kind found address }
+{
+    match found {
+        None => begins(kind, address),
+        Some(first) => Place::Settled {
+            first,
+            second: Some(address),
+        },
+    }
+}
+
+// The poll of the first of these addresses; without one the unit settles at 15.
+fn tries(kind: Kind, found: Option<Addr>, list: &[u8]) -> Place
     requires { IsTrue (list_all (λ a. nat_lt a 16) list.now) }
-    ensures { result ≡ tries list.now }
+    ensures { result ≡ tries kind found list.now }
 {
     match list {
-        [] => Place::Settled(Addr::new(15)),
-        [first, ..] => Place::Polls(Addr::new(*first)),
+        [] => settles(kind, found, Addr::new(15)),
+        [address, ..] => Place::Polls {
+            found,
+            address: Addr::new(*address),
+        },
     }
 }
 
 // The same behind the address that was found taken.
-fn tries_after(taken: u8, list: &[u8]) -> Place
+fn tries_after(kind: Kind, found: Option<Addr>, taken: u8, list: &[u8]) -> Place
     requires { IsTrue (list_all (λ a. nat_lt a 16) list.now) }
-    ensures { result ≡ tries_after taken list.now }
+    ensures { result ≡ tries_after kind found taken list.now }
 {
     match list {
-        [] => Place::Settled(Addr::new(15)),
+        [] => settles(kind, found, Addr::new(15)),
         [first, rest @ ..] => {
             if taken == *first {
-                tries(rest)
+                tries(kind, found, rest)
             } else {
-                tries_after(taken, rest)
+                tries_after(kind, found, taken, rest)
             }
         }
     }
 }
 
-/// What is polled after an address that was found taken.
-fn place_behind(kind: Kind, taken: Addr) -> Place
-    ensures { result ≡ tries_after taken (addresses kind) }
+// What is polled after an address that was found taken.
+fn place_behind(kind: Kind, found: Option<Addr>, taken: Addr) -> Place
+    ensures { result ≡ tries_after kind found taken (list_of kind found) }
 {
-    tries_after(taken.value(), addresses(kind))
+    let list = match found {
+        None => addresses(kind),
+        Some(_) => second_addresses(kind),
+    };
+    tries_after(kind, found, taken.value(), list)
+}
+
+// Where a device stands after the fate of a poll. An address whose poll nobody acknowledged is free: the unit takes it.
+fn stepped(kind: Kind, place: Place, fate: Fate) -> Place
+    ensures { result ≡ stepped kind place fate }
+{
+    match place {
+        Place::Polls { found, address } => match fate {
+            Fate::Unacked => settles(kind, found, address),
+            Fate::Delivered => place_behind(kind, found, address),
+            Fate::Lost | Fate::Broken => Place::Polls { found, address },
+        },
+        place => place,
+    }
+}
+
+fn class_of_poll(fate: Fate) -> FreeTime
+    ensures { result ≡ class_of_poll fate }
+{
+    match fate {
+        Fate::Unacked | Fate::Delivered => FreeTime::PresentInitiator,
+        Fate::Lost => FreeTime::NewInitiator,
+        Fate::Broken => FreeTime::Retry,
+    }
+}
+
+// Every unit at 15.
+fn unplaced(kind: Kind) -> Place
+    ensures { result ≡ unplaced (second_addresses kind) }
+{
+    let second = match second_addresses(kind) {
+        [] => None,
+        _ => Some(Addr::new(15)),
+    };
+    Place::Settled {
+        first: Addr::new(15),
+        second,
+    }
 }
 
 fn first_place(kind: Kind, phys: Phys) -> Place
     ensures { result ≡ start_place kind phys }
 {
     if is_nowhere(phys) {
-        return Place::Settled(Addr::new(15));
+        return unplaced(kind);
     }
-    tries(addresses(kind))
+    tries(kind, None, addresses(kind))
 }
 
 /// A copy of a name.
@@ -134,16 +200,31 @@ impl<const Q: usize> Device<Q> {
         self.dropped = 0;
     }
 
-    // Queues its physical address to all.
+    // Queues the physical address to all, from a unit that has an address. A switch, which never has one, says it too.
+    fn report_from(&mut self, unit: Option<Addr>, at: u64)
+        ensures { self.new ≡ reported_from Q at unit self.old }
+    {
+        let Some(from) = unit else {
+            return;
+        };
+        if from.value() < 15 || self.kind == Kind::Switch {
+            let report = DataBlocks::new(&report_of(self.kind, self.phys, from));
+            self.put(at, from, Addr::new(Addr::BROADCAST), report.bytes());
+        }
+    }
+
+    // Each of its units reports, once all have settled.
     fn report(&mut self, at: u64)
         ensures { self.new ≡ reported Q at self.old }
     {
-        let report = DataBlocks::new(&report_of(self.kind, self.phys));
-        self.put(at, Addr::new(Addr::BROADCAST), report.bytes());
+        let [first, second] = self.held();
+        self.report_from(first, at);
+        self.report_from(second, at);
     }
 
     /// Joins the wire with its number and its physical address, at `at` microseconds. A switch, and a device
-    /// at F.F.F.F, settles at 15 at once. Any other begins to poll the addresses of its kind in order.
+    /// at F.F.F.F, settles at 15 at once. Any other begins to poll the addresses of its kind in order; a box those
+    /// of its recorder, and then those of its player.
     pub fn join(&mut self, number: u8, phys: Phys, at: u64)
         ensures { self.new ≡ joined Q self.old number phys at }
     {
@@ -183,34 +264,18 @@ impl<const Q: usize> Device<Q> {
         ensures { result ≡ polled_at self.now.place }
     {
         match self.place {
-            Place::Polls(address) => Some(address),
+            Place::Polls { address, .. } => Some(address),
             _ => None,
         }
     }
 
-    // An address whose poll nobody acknowledged is free: it takes that one.
-    fn poll_sent(&mut self, address: Addr, fate: Fate, at: u64)
-        ensures { self.new ≡ sent_by Q self.old fate at (Some address) }
+    // The fate of a poll moves it by a step.
+    fn poll_sent(&mut self, fate: Fate, at: u64)
+        ensures { self.new ≡ poll_sent Q self.old fate at }
     {
+        self.place = stepped(self.kind, self.place, fate);
         self.poll_ready = at;
-        match fate {
-            Fate::Unacked => {
-                self.place = Place::Settled(address);
-                self.class = FreeTime::PresentInitiator;
-            }
-            Fate::Delivered => {
-                self.place = place_behind(self.kind, address);
-                self.class = FreeTime::PresentInitiator;
-            }
-            Fate::Lost => {
-                self.place = Place::Polls(address);
-                self.class = FreeTime::NewInitiator;
-            }
-            Fate::Broken => {
-                self.place = Place::Polls(address);
-                self.class = FreeTime::Retry;
-            }
-        }
+        self.class = class_of_poll(fate);
         self.report(at);
     }
 
@@ -241,9 +306,10 @@ impl<const Q: usize> Device<Q> {
         requires { IsSome (front_of self.old) }
         ensures { self.new ≡ sent Q self.old fate at }
     {
-        match self.polled() {
-            Some(address) => self.poll_sent(address, fate, at),
-            None => self.frame_sent(fate),
+        if self.is_allocating() {
+            self.poll_sent(fate, at);
+        } else {
+            self.frame_sent(fate);
         }
     }
 
@@ -257,8 +323,18 @@ impl<const Q: usize> Device<Q> {
         };
     }
 
+    // Whether all its units have settled, and one of them at this address.
+    fn is_settled_at(&self, from: Addr) -> bool
+        ensures { result ≡ settled_at self.now.place from }
+    {
+        match self.place {
+            Place::Settled { first, second } => first == from || second == Some(from),
+            _ => false,
+        }
+    }
+
     /// Queues a frame that somebody hands in. It is refused with `OffWire`, `NoAddress` where the device has
-    /// not settled or the frame's initiator is not its address, `OwnAddress` where the frame goes to itself,
+    /// not settled or the frame's initiator is none of its addresses, `OwnAddress` where the frame goes to itself,
     /// and `QueueFull`, in this order. A refusal changes nothing.
     pub fn submit(&mut self, frame: Frame, at: u64) -> Result<(), SubmitError>
         ensures answer { MatchResult result (λ _. submit_fault Q self.old frame ≡ None) (λ fault. submit_fault Q self.old frame ≡ Some fault) }
@@ -267,7 +343,7 @@ impl<const Q: usize> Device<Q> {
         if self.place == Place::Off {
             return Err(SubmitError::OffWire);
         }
-        if self.place != Place::Settled(frame.initiator()) {
+        if !self.is_settled_at(frame.initiator()) {
             return Err(SubmitError::NoAddress);
         }
         if self.holds(frame.destination()) {

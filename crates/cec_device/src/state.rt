@@ -1,5 +1,6 @@
 //! What a device tells of itself.
 ghost use Rattle.std.specs.Prelude.{◌≡◌, ◌≤◌, length};
+ghost use Rattle.cec_device.specs.State.{held};
 ghost use Rattle.cec_device.specs.Place.{front_of, ready_of, is_allocating, is_on_wire};
 
 use crate::device::{Device, Queued, framed};
@@ -7,7 +8,7 @@ use crate::place::{Place, short};
 use crate::sending::FreeTime;
 use arrayvec::ArrayVec;
 use cec_feature::Record;
-use cec_frame::Frame;
+use cec_frame::{Addr, Frame};
 use hdmi_core::{Kind, Phys};
 
 impl<const Q: usize> Device<Q> {
@@ -48,11 +49,15 @@ impl<const Q: usize> Device<Q> {
         self.phys
     }
 
-    /// Where it stands on the wire.
-    pub fn place(&self) -> Place
-        ensures { result ≡ self.now.place }
+    /// Where each of its units has settled, at 15 where it found no address. A device of one unit has no second one.
+    pub fn held(&self) -> [Option<Addr>; 2]
+        ensures { result ≡ held self.now.place }
     {
-        self.place
+        match self.place {
+            Place::Off => [None, None],
+            Place::Polls { found, .. } => [found, None],
+            Place::Settled { first, second } => [Some(first), second],
+        }
     }
 
     /// Whether it is on the wire.
@@ -66,7 +71,7 @@ impl<const Q: usize> Device<Q> {
     pub fn is_allocating(&self) -> bool
         ensures { result ≡ is_allocating self.now }
     {
-        matches!(self.place, Place::Polls(_))
+        matches!(self.place, Place::Polls { .. })
     }
 
     /// What it remembers.

@@ -1,6 +1,6 @@
 //! Worked rows of single devices.
 use crate::cases::{check, says, settled};
-use crate::{Device, Fate, FreeTime, Key, KeyError, Place, SubmitError};
+use crate::{Device, Fate, FreeTime, Key, KeyError, SubmitError};
 use cec_frame::{Addr, Frame};
 use hdmi_core::{Kind, Phys};
 use std::process::Abort;
@@ -85,7 +85,7 @@ fn fates_are_told(rt: HostRuntime) -> Result<(), Fail> {
         500,
     );
     for address in [4, 8, 11] {
-        assert!(rt; player.place() == Place::Polls(Addr::new(address)));
+        assert!(rt; player.held() == [None, None]);
         assert_eq!(rt; player.ready_at(), Some(500));
         let Some(poll) = player.queue_front() else {
             panic!(rt; "no poll")
@@ -93,7 +93,7 @@ fn fates_are_told(rt: HostRuntime) -> Result<(), Fail> {
         assert_eq!(rt; poll.bytes(), [address * 17].as_slice());
         player.sent(Fate::Delivered, 500);
     }
-    assert!(rt; player.place() == Place::Settled(Addr::new(15)));
+    assert!(rt; player.held() == [Some(Addr::new(15)), None]);
     assert!(rt; player.queue_front().is_none());
     let mut player = settled(Kind::Player);
     assert!(rt; player.holds(Addr::new(4)));
@@ -121,7 +121,7 @@ fn fates_are_told(rt: HostRuntime) -> Result<(), Fail> {
     player.waited();
     assert_eq!(rt; player.class().micros(), 12_000);
     player.leave();
-    assert!(rt; player.place() == Place::Off);
+    assert!(rt; !player.is_on_wire() && player.held() == [None, None]);
     assert_eq!(rt;
         player.submit(Frame::new(&[0x48, 0x46])?, 0),
         Err(SubmitError::OffWire)
@@ -140,5 +140,85 @@ fn fates_are_told(rt: HostRuntime) -> Result<(), Fail> {
             low: 0xff
         }
     );
+    Ok(())
+}
+
+// A box at 1.0.0.0 whose polls have had these fates.
+fn box_after(fates: &[Fate]) -> Device<16> {
+    let mut device = Device::new(Kind::Combo, b"b", 0);
+    device.join(
+        1,
+        Phys {
+            high: 0x10,
+            low: 0x00,
+        },
+        0,
+    );
+    for fate in fates {
+        if device.queue_front().is_some() {
+            device.sent(*fate, 0);
+        }
+    }
+    device
+}
+
+const FREE: Fate = Fate::Unacked;
+
+const TAKEN: Fate = Fate::Delivered;
+
+#[test]
+fn a_box_takes_two_addresses(rt: HostRuntime) -> Result<(), Fail> {
+    let one = Some(Addr::new(1));
+    let four = Some(Addr::new(4));
+    let none = Some(Addr::new(15));
+    let frame = Frame::new(&[0x34, 0x46])?;
+    let mut half = box_after(&[FREE]);
+    assert!(rt; half.held() == [one, None] && half.is_allocating());
+    assert!(rt; half.holds(Addr::new(1)) && !half.holds(Addr::new(4)));
+    assert_eq!(rt; half.submit(frame.copy(), 0), Err(SubmitError::NoAddress));
+    follow(&mut half, &[0x31, 0x46])?;
+    assert_eq!(rt; half.queue_len(), 0);
+    let mut whole = box_after(&[FREE, FREE]);
+    assert!(rt; whole.held() == [one, four] && !whole.is_allocating());
+    assert_eq!(rt; whole.submit(frame.copy(), 0), Err(SubmitError::NoAddress));
+    assert_eq!(rt;
+        whole.submit(Frame::new(&[0x14, 0x46])?, 0),
+        Err(SubmitError::OwnAddress)
+    );
+    assert_eq!(rt;
+        whole.submit(Frame::new(&[0x41, 0x46])?, 0),
+        Err(SubmitError::OwnAddress)
+    );
+    says(&rt, &mut whole, "1f 84 10 00 01, 4f 84 10 00 04", 4, "both")?;
+    let mut player = box_after(&[TAKEN, TAKEN, TAKEN, TAKEN, FREE]);
+    assert!(rt; player.held() == [none, Some(Addr::new(8))]);
+    player.submit(Frame::new(&[0xf0, 0x46])?, 0)?;
+    says(&rt, &mut player, "8f 84 10 00 04, f0 46", 8, "the player")?;
+    let mut recorder = box_after(&[TAKEN, FREE, TAKEN, TAKEN, TAKEN]);
+    assert!(rt; recorder.held() == [Some(Addr::new(2)), none]);
+    recorder.key(Key::Eject, true, 0)?;
+    recorder.key(Key::Menu, true, 0)?;
+    says(
+        &rt,
+        &mut recorder,
+        "2f 84 10 00 01, 20 8e 00",
+        2,
+        "the recorder",
+    )?;
+    let mut neither = box_after(&[TAKEN; 6]);
+    assert!(rt; neither.held() == [none, none]);
+    neither.key(Key::Menu, true, 0)?;
+    assert_eq!(rt; neither.queue_len(), 0);
+    let mut below: Device<16> = Device::new(Kind::Combo, b"b", 0);
+    below.join(
+        1,
+        Phys {
+            high: 0xff,
+            low: 0xff,
+        },
+        0,
+    );
+    assert!(rt; below.held() == [none, none]);
+    assert_eq!(rt; below.queue_len(), 0);
     Ok(())
 }

@@ -242,7 +242,7 @@ effect_of kind own name ports h r GiveAudioStatus = only (is_amp kind) r (does r
 effect_of kind own name ports h r (RoutingChange from to) = routed kind own (phys_of to) r
 effect_of kind own name ports h r (ActiveSource address) = does (selecting kind own ports (phys_of address) (record r { active = Some (phys_of address); path = Some (phys_of address) })) []
 effect_of kind own name ports h r (InactiveSource address) = only (is_tv kind) r (if is_active r.active (phys_of address) then does (record r { active = None }) [] else does r [])
-effect_of kind own name ports h r GivePhysicalAddress = does r (Cast (0x84 ∷ own.high ∷ own.low ∷ type_of kind ∷ []) ∷ [])
+effect_of kind own name ports h r GivePhysicalAddress = does r (Cast (0x84 ∷ own.high ∷ own.low ∷ type_of kind h.to ∷ []) ∷ [])
 effect_of kind own name ports h r (ReportPhysicalAddress address type) = hears h r
 effect_of kind own name ports h r (SetStreamPath address) = streamed kind own ports (phys_of address) r
 effect_of kind own name ports h r (MenuRequest request) = only (is_deck kind) r (menu_asked r request)

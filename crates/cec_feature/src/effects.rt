@@ -43,9 +43,9 @@ macro_rules! rows {
                 $record.osd = ArrayVec::new();
                 silence()
             };
-            [Player Recorder] (Message::GiveDeckStatus { request }) { $record.ask_deck($heard, *request) };
+            [Player Recorder Combo] (Message::GiveDeckStatus { request }) { $record.ask_deck($heard, *request) };
             [] (Message::DeckStatus { .. }) { $record.note($heard) };
-            [Player Recorder Amp] (Message::SetMenuLanguage { language }) {
+            [Player Recorder Combo Amp] (Message::SetMenuLanguage { language }) {
                 if $heard.from.value() == 0 {
                     $record.language = *language;
                 }
@@ -55,10 +55,10 @@ macro_rules! rows {
                 $record.fall_asleep();
                 silence()
             };
-            [Player Recorder] (Message::Play { mode }) { $record.play(*mode) };
-            [Player Recorder] (Message::DeckControl { control }) { $record.control_deck(*control) };
-            [Tv Amp Player Recorder] (Message::UserControlPressed { code }) { $record.press($me.kind, *code) };
-            [Tv Amp Player Recorder] (Message::UserControlReleased) {
+            [Player Recorder Combo] (Message::Play { mode }) { $record.play(*mode) };
+            [Player Recorder Combo] (Message::DeckControl { control }) { $record.control_deck(*control) };
+            [Tv Amp Player Recorder Combo] (Message::UserControlPressed { code }) { $record.press($me.kind, *code) };
+            [Tv Amp Player Recorder Combo] (Message::UserControlReleased) {
                 $record.held = None;
                 silence()
             };
@@ -88,7 +88,7 @@ macro_rules! rows {
                 $record.select($me, phys(address));
                 silence()
             };
-            [] (Message::GivePhysicalAddress) { cast(&report_of($me.kind, $me.phys)) };
+            [] (Message::GivePhysicalAddress) { cast(&report_of($me.kind, $me.phys, $heard.to)) };
             [] (Message::ReportPhysicalAddress { .. }) { $record.note($heard) };
             [] (Message::RequestActiveSource) {
                 if $record.power && $record.active == Some($me.phys) {
@@ -100,7 +100,7 @@ macro_rules! rows {
             [] (Message::SetStreamPath { address }) { $record.stream($me, phys(address)) };
             [] (Message::DeviceVendorId { .. }) { $record.note($heard) };
             [] (Message::GiveDeviceVendorId) { cast(&Message::DeviceVendorId { vendor: VENDOR }) };
-            [Player Recorder] (Message::MenuRequest { request }) { $record.ask_menu(*request) };
+            [Player Recorder Combo] (Message::MenuRequest { request }) { $record.ask_menu(*request) };
             [] (Message::MenuStatus { .. }) { $record.note($heard) };
             [] (Message::GiveDevicePowerStatus) { reply(&report_power_status($record.power)) };
             [] (Message::ReportPowerStatus { .. }) { $record.note($heard) };
@@ -266,7 +266,7 @@ impl Record {
     {
         self.path = Some(to);
         match me.kind {
-            Kind::Player | Kind::Recorder | Kind::Amp if to == me.phys => {
+            Kind::Player | Kind::Recorder | Kind::Combo | Kind::Amp if to == me.phys => {
                 self.power = true;
                 self.active = Some(to);
                 cast(&active_source(to))

@@ -140,7 +140,7 @@ impl Record {
                 self.fall_asleep();
                 cast(&Message::Standby)
             }
-            Kind::Player | Kind::Recorder if self.active == Some(me.phys) => {
+            Kind::Player | Kind::Recorder | Kind::Combo if self.active == Some(me.phys) => {
                 self.active = None;
                 self.fall_asleep();
                 to_television(&Message::InactiveSource {

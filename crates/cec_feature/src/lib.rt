@@ -12,7 +12,7 @@ mod say;
 mod ways;
 
 pub use keys::{Key, VolumeKey, has_key};
-pub use kinds::Identity;
+pub use kinds::{Identity, addresses, second_addresses};
 pub use messages::report_of;
 pub use record::{Heard, Note, Port, Record, Volume};
 pub use say::{DataBlocks, Say, Says, refuse};

@@ -5,6 +5,8 @@ ghost use Rattle.cec_opcode.specs.ScreenWords.{menu_state_byte};
 ghost use Rattle.cec_opcode.specs.Words.{power_byte, system_audio_byte};
 ghost use Rattle.cec_feature.specs.Kinds.{type_of};
 
+use crate::kinds::is_recorders;
+use cec_frame::Addr;
 use cec_opcode::{
     Address, AudioStatus, DeviceType, MenuState, Message, Power, SystemAudio,
     messages_keep_operands,
@@ -30,9 +32,9 @@ pub(crate) fn active_source(phys: Phys) -> Message
     }
 }
 
-/// Report Physical Address.
-pub fn report_of(kind: Kind, phys: Phys) -> Message
-    ensures { spelling result ≡ 0x84 ∷ phys.high ∷ phys.low ∷ type_of kind ∷ [] }
+/// Report Physical Address, from this logical address.
+pub fn report_of(kind: Kind, phys: Phys, from: Addr) -> Message
+    ensures { spelling result ≡ 0x84 ∷ phys.high ∷ phys.low ∷ type_of kind from ∷ [] }
 {
     Message::ReportPhysicalAddress {
         address: address(phys),
@@ -42,6 +44,8 @@ pub fn report_of(kind: Kind, phys: Phys) -> Message
             Kind::Player => DeviceType::Playback,
             Kind::Amp => DeviceType::Audio,
             Kind::Switch => DeviceType::Switch,
+            Kind::Combo if is_recorders(from.value()) => DeviceType::Recorder,
+            Kind::Combo => DeviceType::Playback,
         },
     }
 }

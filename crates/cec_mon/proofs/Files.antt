@@ -1,9 +1,7 @@
 -- An edge file read edge by edge, and what is written of it.
-use Rattle.std.proofs.Common.{◌≡◌, ℕ, zero, suc, ◌+◌, ◌-◌, ◌<◌, ◌≤◌, Bool, true, false, not, ◌&&◌, nat_lt, nat_le, if◌then◌else◌, List, [], ◌∷◌, ◌++◌, length, append_assoc, append-nil, inl, inr, Option, Some, None, Result, Ok, Err, refl, arith, ap, ◌∙◌, sym, subst}
-use Rattle.std.specs.List.{flat_map}
+use Rattle.std.proofs.Common.{◌≡◌, ℕ, suc, ◌+◌, ◌-◌, ◌<◌, ◌≤◌, Bool, true, false, not, ◌&&◌, nat_lt, nat_le, if◌then◌else◌, List, [], ◌∷◌, ◌++◌, length, append-nil, Option, Some, None, Result, Ok, Err, refl, arith, ap, ◌∙◌, sym, subst}
 use Rattle.std.specs.Option.{option_to_list}
 use Rattle.std.specs.Io.KnownBytes.{Appends}
-use Rattle.std.proofs.lemmas.Bool.{cases_lt}
 use Rattle.std.proofs.lemmas.Bool.Decides.{nat_tests}
 use Rattle.std.proofs.lemmas.Grind.{flat_map-append}
 use Rattle.hdmi_core.specs.declared.sink.WriteFault.{WriteFault}
@@ -15,9 +13,9 @@ use Rattle.cec_bits.specs.Ended.{ended_by}
 use Rattle.cec_bits.specs.Reports.{ended_before}
 use Rattle.cec_bits.proofs.Reported.{ended_first}
 use Rattle.cec_bits.proofs.Stood.{was_now}
-use Rattle.cec_text.specs.Cut.{CutOff, WrittenText, told_count}
-use Rattle.cec_text.specs.Lines.{lines_of, is_skipped}
-use Rattle.cec_text.proofs.Cutting.{told_parts, cut_again}
+use Rattle.cec_words.specs.Cut.{CutOff, WrittenText, told_count}
+use Rattle.cec_words.specs.Lines.{lines_of, is_skipped}
+use Rattle.cec_words.proofs.Cutting.{told_parts, cut_again}
 use Rattle.cec_mon.specs.declared.monitor.Monitor.{Monitor as Watcher}
 use Rattle.cec_mon.specs.declared.edge_file.EdgeFault.{EdgeFault}
 use Rattle.cec_mon.specs.declared.edge_file.EdgeFault.TheVariants as fault
@@ -25,7 +23,7 @@ use Rattle.cec_mon.specs.declared.edge_file.EdgeLine.{EdgeLine}
 use Rattle.cec_mon.specs.declared.edge_file.EdgeLine.TheVariants.{Edge, End}
 use Rattle.cec_mon.specs.declared.edge_file.EdgeLines.{EdgeLines}
 use Rattle.cec_mon.specs.EdgeFile.{EdgeFile, edge_line_of, edges_read, end_read, file_left, file_of, is_in_turn, level_at, line_of_edges, read_line, with_edge, with_edges, GoesBehind, ReadsOn}
-use Rattle.cec_mon.specs.Monitor.{HeardBefore, FollowsEdge, FollowsEnd, IsCalm}
+use Rattle.cec_mon.specs.Monitor.{HeardBefore, FollowsEdge, FollowsEnd}
 use Rattle.cec_mon.specs.Watch.{WritesFile, file_readings, listed_line, readings_text, reported_text}
 
 -- ---- edges before what is left

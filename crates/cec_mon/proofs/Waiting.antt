@@ -1,7 +1,6 @@
 -- Up to the next edge: what the wakes of a monitor's receiver lead to, and what they report.
-use Rattle.std.proofs.Common.{◌≡◌, ℕ, zero, suc, ◌+◌, ◌-◌, ◌==◌, ◌<◌, ◌≤◌, Bool, true, false, not, ◌&&◌, nat_lt, if◌then◌else◌, List, [], ◌∷◌, ◌++◌, append_assoc, append-nil, inl, inr, Option, Some, None, option_map, refl, arith, ap, ◌∙◌, sym, subst}
+use Rattle.std.proofs.Common.{◌≡◌, ℕ, suc, ◌+◌, ◌==◌, ◌<◌, ◌≤◌, Bool, true, false, not, nat_lt, if◌then◌else◌, List, [], ◌∷◌, ◌++◌, append-nil, Option, Some, None, option_map, refl, arith, ap, ◌∙◌, sym}
 use Rattle.std.specs.Option.{option_to_list, option_or}
-use Rattle.std.proofs.lemmas.Bool.{cases_lt}
 use Rattle.std.proofs.lemmas.Bool.Decides.{nat_tests}
 use Rattle.cec_wave.specs.Line.{Line, was_low}
 use Rattle.cec_frame.specs.declared.Ending.{Ending}
@@ -17,7 +16,7 @@ use Rattle.cec_bits.specs.Hears.{Hears, Heard, told_so, rest, starts, sample_as,
 use Rattle.cec_bits.specs.Kept.{kept_before}
 use Rattle.cec_bits.specs.Reports.{running_by, ended_of, ended_before}
 use Rattle.cec_bits.proofs.Following.{hears_by}
-use Rattle.cec_bits.proofs.Reported.{Stays, stays, Hearing, hearing, wake_after, running_is_kept}
+use Rattle.cec_bits.proofs.Reported.{stays, hearing, wake_after, running_is_kept}
 use Rattle.cec_frame.specs.declared.Reading.{Reading}
 use Rattle.cec_bits.specs.Hears.{heard_by}
 use Rattle.cec_bits.specs.Reports.{listed_as}

@@ -4,9 +4,9 @@ use Rattle.std.specs.Prelude.{◌≡◌, ℕ, ◌+◌, ◌<◌, ◌≤◌, Bool,
 use Rattle.std.specs.Str.{bytes_eq}
 use Rattle.cec_wave.specs.declared.Edge.{Edge as EdgeOf}
 use Rattle.cec_wave.specs.Line.{Line}
-use Rattle.cec_text.specs.Lines.{lines_of, is_skipped}
-use Rattle.cec_text.specs.Number.{number_of}
-use Rattle.cec_text.specs.Words.{words_of, two_of}
+use Rattle.cec_words.specs.Lines.{lines_of, is_skipped}
+use Rattle.cec_words.specs.Number.{number_of}
+use Rattle.cec_words.specs.Words.{words_of, two_of}
 use Rattle.cec_mon.specs.declared.edge_file.EdgeLine.{EdgeLine}
 use Rattle.cec_mon.specs.declared.edge_file.EdgeLine.TheVariants.{Edge, End}
 use Rattle.cec_mon.specs.declared.edge_file.EdgeFault.{EdgeFault}

@@ -1,12 +1,12 @@
 -- What is written of an edge file: the readings of its line (own).
-use Rattle.std.specs.Prelude.{◌≡◌, ℕ, Bool, true, List, [], map, Option, Some, None, Result, Ok, Err}
+use Rattle.std.specs.Prelude.{◌≡◌, ℕ, Bool, true, List, Option, Result, Ok, Err}
 use Rattle.std.specs.List.{flat_map}
 use Rattle.std.specs.Option.{option_to_list}
 use Rattle.std.specs.Io.KnownBytes.{Appends}
 use Rattle.hdmi_core.specs.declared.sink.WriteFault.{WriteFault}
 use Rattle.cec_frame.specs.declared.Reading.{Reading}
 use Rattle.cec_bits.specs.Readings.{Listed, readings_of}
-use Rattle.cec_text.specs.Cut.{CutOff}
+use Rattle.cec_words.specs.Cut.{CutOff}
 use Rattle.cec_text.specs.ReadingText.{reading_line}
 use Rattle.cec_mon.specs.EdgeFile.{EdgeFile, file_of, line_of_edges}
 use Rattle.cec_mon.specs.declared.edge_file.EdgeFault.{EdgeFault}

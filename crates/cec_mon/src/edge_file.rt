@@ -1,10 +1,10 @@
 //! The lines of an edge file.
 ghost use Rattle.std.specs.Prelude.{◌≡◌, ℕ, ◌+◌, ◌≤◌, ◌<◌, false, length};
-ghost use Rattle.cec_text.specs.Lines.{lines_of};
+ghost use Rattle.cec_words.specs.Lines.{lines_of};
 ghost use Rattle.cec_mon.specs.EdgeFile.{edge_line_of, marked, time_of};
 
-use cec_text::{first_line, is_skipped, number_in, two_words};
 use cec_wave::Edge;
+use cec_words::{first_line, is_skipped, number_in, two_words};
 
 /// The latest time of an edge file, in microseconds.
 const LATEST: u64 = 2_000_000_000_000;

@@ -3,12 +3,13 @@ ghost use Rattle.std.specs.Prelude.{◌≡◌, ℕ, ◌+◌, ◌<◌, length, Ma
 ghost use Rattle.cec_bits.specs.Reports.{listed_as};
 ghost use Rattle.cec_mon.specs.EdgeFile.{EdgeFile, file_of};
 ghost use Rattle.cec_mon.specs.Watch.{Answers, WritesFile, reported_text, told_so};
-ghost use Rattle.cec_text.specs.Cut.{WrittenText};
+ghost use Rattle.cec_words.specs.Cut.{WrittenText};
 
 use crate::edge_file::{EdgeFault, EdgeLine, EdgeLines};
 use crate::monitor::Monitor;
 use cec_frame::Reading;
-use cec_text::{counted, cut_at, write_reading};
+use cec_text::write_reading;
+use cec_words::{counted, cut_at};
 use hdmi_core::{Sink, WriteFault};
 use std::alloc::Global;
 use thiserror::Error;

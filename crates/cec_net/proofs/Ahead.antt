@@ -17,8 +17,7 @@ use Rattle.cec_device.specs.declared.sending.Fate.TheVariants.{Delivered, Unacke
 use Rattle.cec_device.specs.declared.sending.FreeTime.TheVariants.{Retry, NewInitiator}
 use Rattle.cec_device.specs.declared.device.Queued.{Queued}
 use Rattle.cec_device.specs.declared.device.SubmitError.{SubmitError}
-use Rattle.cec_device.specs.State.{State, queued, speaks, holds, frame_to, one_more}
-use Rattle.cec_feature.specs.Kinds.{type_of}
+use Rattle.cec_device.specs.State.{State, queued, speaks, holds, frame_of, source, one_more}
 use Rattle.cec_device.specs.Say.{say, say_all, effected}
 use Rattle.cec_feature.specs.declared.say.Say.{Say}
 use Rattle.cec_feature.specs.declared.say.Say.TheVariants.{Reply, Cast, Tell, Refuse}
@@ -27,10 +26,10 @@ use Rattle.cec_device.specs.Effects.{by_decoded, followed, is_for}
 use Rattle.cec_feature.specs.Effects.{effect_of, refuses, heard_of}
 use Rattle.cec_device.specs.Keys.{own_doing, key_fault, keyed_by, keyed}
 use Rattle.cec_feature.specs.Keys.{pressing, releasing}
-use Rattle.cec_device.specs.Place.{polled, polled_at, class_of_poll, ended, failed, front_is_poll, frame_sent, sent_by, sent, waited, submit_fault, submitted_by, submitted, front_by, front_of, ready_by, ready_of}
+use Rattle.cec_device.specs.Place.{stepped, polled_at, class_of_poll, ended, failed, front_is_poll, frame_sent, sent_by, sent, waited, submit_fault, submitted_by, submitted, front_by, front_of, ready_by, ready_of}
 use Rattle.cec_net.specs.Step.{followed_unless}
 use Rattle.cec_net.specs.Sound.{IsReadyBy}
-use Rattle.cec_net.proofs.Ready.{ready-queued}
+use Rattle.cec_net.proofs.Ready.{ready-queued, ready-reported}
 
 -- the second state comes from the first
 pub record IsAhead (b : ℕ) (d e : State) : Type 0 where
@@ -64,24 +63,24 @@ two_longer true q d y z h k = omega arith
 two_longer false true d y z h k = h
 two_longer false false d y z h k = k
 
-ahead-queued : (b limit at to : ℕ) (bytes : List ℕ) (d : State) → at ≤ b → IsAhead b d (queued limit at to bytes d)
-ahead-queued b limit at to bytes d le =
-    let last : List Queued = record { frame = frame_to d to bytes; ready = at } ∷ [] in
+ahead-queued : (b limit at from to : ℕ) (bytes : List ℕ) (d : State) → at ≤ b → IsAhead b d (queued limit at from to bytes d)
+ahead-queued b limit at from to bytes d le =
+    let last : List Queued = record { frame = frame_of from to bytes; ready = at } ∷ [] in
     let y : State = record d { queue = d.queue ++ last } in
     let z : State = record d { dropped = one_more d.dropped } in
     record {
-      ready = ready-queued b limit at to bytes d le;
+      ready = ready-queued b limit at from to bytes d le;
       place = two_place (not (speaks d) || holds d.place to) (nat_lt (length d.queue) limit) d y z refl refl;
       longer = two_longer (not (speaks d) || holds d.place to) (nat_lt (length d.queue) limit) d y z (omega (arith, length-append d.queue last)) (omega arith);
     }
 
 ahead-say : (b limit : ℕ) (h : Heard) (s : Say) (d : State) → h.at ≤ b → IsAhead b d (say limit h s d)
-ahead-say b limit h (Reply bytes) d le = ahead-then b (nat_lt h.from 15) d (queued limit h.at h.from bytes d) (ahead-queued b limit h.at h.from bytes d le)
-ahead-say b limit h (Cast bytes) d le = ahead-queued b limit h.at 15 bytes d le
-ahead-say b limit h (Tell to bytes) d le = ahead-then b (nat_lt to 15) d (queued limit h.at to bytes d) (ahead-queued b limit h.at to bytes d le)
+ahead-say b limit h (Reply bytes) d le = ahead-then b (nat_lt h.from 15) d (queued limit h.at (source d.place h.to) h.from bytes d) (ahead-queued b limit h.at (source d.place h.to) h.from bytes d le)
+ahead-say b limit h (Cast bytes) d le = ahead-queued b limit h.at (source d.place h.to) 15 bytes d le
+ahead-say b limit h (Tell to bytes) d le = ahead-then b (nat_lt to 15) d (queued limit h.at (source d.place h.to) to bytes d) (ahead-queued b limit h.at (source d.place h.to) to bytes d le)
 ahead-say b limit h (Refuse reason) d le =
-    ahead-then b (nat_lt h.to 15 && (nat_lt h.from 15 && not (h.opcode == 0))) d (queued limit h.at h.from (0x00 ∷ h.opcode ∷ reason_byte reason ∷ []) d)
-    (ahead-queued b limit h.at h.from (0x00 ∷ h.opcode ∷ reason_byte reason ∷ []) d le)
+    ahead-then b (nat_lt h.to 15 && (nat_lt h.from 15 && not (h.opcode == 0))) d (queued limit h.at (source d.place h.to) h.from (0x00 ∷ h.opcode ∷ reason_byte reason ∷ []) d)
+    (ahead-queued b limit h.at (source d.place h.to) h.from (0x00 ∷ h.opcode ∷ reason_byte reason ∷ []) d le)
 
 ahead-say_all : (b limit : ℕ) (h : Heard) (says : List Say) (d : State) → h.at ≤ b → IsAhead b d (say_all limit h says d)
 ahead-say_all b limit h [] d le = ahead-same b d
@@ -163,8 +162,7 @@ ready-frame_sent b Broken d h = two_ready b (front_is_poll d.queue) (record d { 
 ready-sent_by : (b limit at : ℕ) (fate : Fate) (d : State) (p : Option ℕ) → at ≤ b → IsReadyBy b d → IsReadyBy b (sent_by limit d fate at p)
 ready-sent_by b limit at fate d None le h = ready-frame_sent b fate d h
 ready-sent_by b limit at fate d (Some a) le h =
-    ready-queued b limit at 15 (0x84 ∷ d.phys.high ∷ d.phys.low ∷ type_of d.kind ∷ []) (record d { place = polled d.kind a fate; poll_ready = at; class = class_of_poll fate })
-    le (record { poll = le; queue = h.queue })
+    ready-reported b limit at (record d { place = stepped d.kind d.place fate; poll_ready = at; class = class_of_poll fate }) le (record { poll = le; queue = h.queue })
 
 pub ready-sent : (b limit at : ℕ) (fate : Fate) (d : State) → at ≤ b → IsReadyBy b d → IsReadyBy b (sent limit d fate at)
 ready-sent b limit at fate d le h = ready-sent_by b limit at fate d (polled_at d.place) le h

@@ -10,9 +10,9 @@ use Rattle.cec_feature.specs.declared.record.Heard.{Heard}
 use Rattle.cec_device.specs.declared.sending.Fate.{Fate}
 use Rattle.cec_device.specs.declared.sending.Fate.TheVariants.{Delivered, Unacked, Lost, Broken}
 use Rattle.cec_device.specs.declared.device.Queued.{Queued}
-use Rattle.cec_device.specs.State.{State, queued, speaks, holds, frame_to, one_more}
-use Rattle.cec_feature.specs.Kinds.{type_of}
-use Rattle.cec_device.specs.Place.{is_on_wire, is_off, fresh, start_place, reported, joined, left}
+use Rattle.cec_device.specs.State.{State, held, queued, speaks, holds, frame_of, one_more}
+use Rattle.cec_feature.specs.Kinds.{is_switch, type_of}
+use Rattle.cec_device.specs.Place.{is_on_wire, is_off, fresh, start_place, reported, reported_by, reported_from, joined, left}
 use Rattle.hdmi_topo.specs.Node.{Node}
 use Rattle.hdmi_topo.specs.Path.{address_of}
 use Rattle.cec_net.specs.State.{each_from, moved, moved_by, loose}
@@ -26,14 +26,32 @@ either_ready b false false x y z h i j = j
 pub ready-later : (b c : ℕ) (d : State) → b ≤ c → IsReadyBy b d → IsReadyBy c d
 ready-later b c d le h = record { poll = omega (arith, h.poll); queue = λ k q l. (let m = h.queue k q l in omega arith) }
 
-pub ready-queued : (b limit at to : ℕ) (bytes : List ℕ) (d : State) → at ≤ b → IsReadyBy b d → IsReadyBy b (queued limit at to bytes d)
-ready-queued b limit at to bytes d le h =
-    let last : List Queued = record { frame = frame_to d to bytes; ready = at } ∷ [] in
+pub ready-queued : (b limit at from to : ℕ) (bytes : List ℕ) (d : State) → at ≤ b → IsReadyBy b d → IsReadyBy b (queued limit at from to bytes d)
+ready-queued b limit at from to bytes d le h =
+    let last : List Queued = record { frame = frame_of from to bytes; ready = at } ∷ [] in
     let Early : Queued → Type 0 = λ q. q.ready ≤ b in
     either_ready b (not (speaks d) || holds d.place to) (nat_lt (length d.queue) limit) d
     (record d { queue = d.queue ++ last }) (record d { dropped = one_more d.dropped }) h
-    (record { poll = h.poll; queue = All-append Early d.queue last h.queue (All-cons Early (record { frame = frame_to d to bytes; ready = at }) [] le (All-nil Early)) })
+    (record { poll = h.poll; queue = All-append Early d.queue last h.queue (All-cons Early (record { frame = frame_of from to bytes; ready = at }) [] le (All-nil Early)) })
     (record { poll = h.poll; queue = h.queue })
+
+ready-reported_from : (b limit at : ℕ) (unit : Option ℕ) (d : State) → at ≤ b → IsReadyBy b d → IsReadyBy b (reported_from limit at unit d)
+ready-reported_from b limit at None d le h = h
+ready-reported_from b limit at (Some from) d le h =
+    either (nat_lt from 15 || is_switch d.kind) (ready-queued b limit at from 15 (0x84 ∷ d.phys.high ∷ d.phys.low ∷ type_of d.kind from ∷ []) d le h)
+  where
+    either : (t : Bool) → IsReadyBy b (queued limit at from 15 (0x84 ∷ d.phys.high ∷ d.phys.low ∷ type_of d.kind from ∷ []) d)
+        → IsReadyBy b (if t then queued limit at from 15 (0x84 ∷ d.phys.high ∷ d.phys.low ∷ type_of d.kind from ∷ []) d else d)
+    either true k = k
+    either false k = h
+
+ready-reported_by : (b limit at : ℕ) (units : List (Option ℕ)) (d : State) → at ≤ b → IsReadyBy b d → IsReadyBy b (reported_by limit at units d)
+ready-reported_by b limit at [] d le h = h
+ready-reported_by b limit at (unit ∷ units) d le h =
+    ready-reported_by b limit at units (reported_from limit at unit d) le (ready-reported_from b limit at unit d le h)
+
+pub ready-reported : (b limit at : ℕ) (d : State) → at ≤ b → IsReadyBy b d → IsReadyBy b (reported limit at d)
+ready-reported b limit at d le h = ready-reported_by b limit at (held d.place) d le h
 
 pub ready-left : (b : ℕ) (d : State) → IsReadyBy b (left d)
 ready-left b d = record { poll = omega arith; queue = All-nil (λ (q : Queued). q.ready ≤ b) }
@@ -49,8 +67,7 @@ ready-joined b limit number at phys d le =
       place = start_place d.kind phys;
       poll_ready = at;
     } in
-    ready-queued b limit at 15 (0x84 ∷ phys.high ∷ phys.low ∷ type_of d.kind ∷ []) new le
-    (record { poll = le; queue = All-nil (λ (q : Queued). q.ready ≤ b) })
+    ready-reported b limit at new le (record { poll = le; queue = All-nil (λ (q : Queued). q.ready ≤ b) })
 
 pub ready-moved : (b at number : ℕ) (plugged : Bool) (address : Option Phys) (d : State) → at ≤ b → IsReadyBy b d → IsReadyBy b (moved at number plugged address d)
 ready-moved b at number false (Some address) d le h = ready-joined b 16 number at address d le

@@ -9,11 +9,9 @@ use Rattle.cec_wire.specs.declared.Outcome.{Outcome}
 use Rattle.cec_wire.specs.Round.{IsRound, fate_in, close_in}
 use Rattle.cec_wire.specs.OneOutcome.{SameOutcome}
 use Rattle.cec_wave.specs.Line.{IsWave}
-use Rattle.cec_device.specs.declared.place.Place.{Place}
-use Rattle.cec_device.specs.declared.place.Place.TheVariants.{Off, Polls, Settled}
 use Rattle.cec_device.specs.declared.sending.Fate.{Fate}
 use Rattle.cec_device.specs.declared.sending.Fate.TheVariants.{Delivered, Unacked, Lost, Broken}
-use Rattle.cec_device.specs.State.{State}
+use Rattle.cec_device.specs.State.{State, held}
 use Rattle.cec_device.specs.Place.{front_of, is_on_wire, sent, waited}
 use Rattle.cec_device.specs.Effects.{followed}
 use Rattle.cec_net.specs.Start.{contends}
@@ -21,16 +19,12 @@ use Rattle.cec_net.specs.State.{NetState, each_from}
 
 -- ---- the seats of a round, by the devices' numbers
 
-abbrev pub held_at : Place → Option ℕ
-held_at (Settled a) = Some a
-held_at _ = None
-
 -- what a device sends in a round that begins at `begin`: those whose start instant that is contend
 abbrev pub sent_in : ℕ → ℕ → State → Option (List ℕ)
 sent_in rest begin d = if contends rest begin d then front_of d else None
 
 abbrev pub seat_of : ℕ → ℕ → State → Seat
-seat_of rest begin d = record { plugged = is_on_wire d; holds = held_at d.place; sends = sent_in rest begin d }
+seat_of rest begin d = record { plugged = is_on_wire d; holds = held d.place; sends = sent_in rest begin d }
 
 abbrev pub seats_of : NetState → ℕ → List Seat
 seats_of s begin = map (seat_of s.rest begin) s.devices

@@ -1,7 +1,6 @@
 //! A pulse at each microsecond of a poll, and at each one of a frame. What has to come out was worked out from the
 //! rules of the wire: a pulse breaks a frame, acknowledges one falsely or refuses one, and never makes another of it.
 use crate::{Event, Net};
-use cec_device::Place;
 use cec_frame::{Addr, Ending, Frame};
 use cec_wave::Stretch;
 use cec_wave::pulses::Pulses;
@@ -56,7 +55,7 @@ fn room(rt: &impl Abort, with_player: bool, pulses: Pulses) -> Net<EdgeWire> {
 }
 
 // The address that the television holds in the end, where a pulse falls into its poll.
-fn polled_under(rt: &impl Abort, from: u64, width: u64) -> Place {
+fn polled_under(rt: &impl Abort, from: u64, width: u64) -> [Option<Addr>; 2] {
     let mut net = room(rt, false, pulse(rt, from, width));
     for _round in 0..20 {
         if net.next_start().is_some_and(|start| start < 200_000) {
@@ -65,7 +64,7 @@ fn polled_under(rt: &impl Abort, from: u64, width: u64) -> Place {
         }
     }
     assert!(rt; 0 < net.tree().count());
-    net.device(0).place()
+    net.device(0).held()
 }
 
 #[test]
@@ -74,7 +73,7 @@ fn a_poll_under_each_pulse(rt: HostRuntime) -> Result<(), Fail> {
         for from in POLL_BEGIN..POLL_COMPLETE + 1 {
             let is_false = width >= 3_000 && FIRST_FALSE <= from && from <= LAST_FALSE;
             let address = if is_false { 14 } else { 0 };
-            assert!(&rt; polled_under(&rt, from, width) == Place::Settled(Addr::new(address)));
+            assert!(&rt; polled_under(&rt, from, width) == [Some(Addr::new(address)), None]);
         }
     }
     Ok(())

@@ -1,5 +1,5 @@
 //! From messages to frames.
-ghost use Rattle.std.specs.Prelude.{◌≡◌, ◌≤◌, ◌+◌, ◌*◌, ◌∷◌, ◌++◌, [], Option, IsTrue, ◌↔◌, length, IfOk, IfSome, MatchResult, option_copied, None, Some};
+ghost use Rattle.std.specs.Prelude.{◌≡◌, ◌≢◌, ℕ, ◌<◌, IfNone, ◌≤◌, ◌+◌, ◌*◌, ◌∷◌, ◌++◌, [], Option, IsTrue, ◌↔◌, length, IfOk, IfSome, MatchResult, option_copied, None, Some};
 ghost use Rattle.arrayvec.specs.ArrayVec.{array_vec_len};
 ghost use Rattle.cec_opcode.specs.Table.{decoded_of, is_raw_opcode, name_of, rule_of, operands_of, addressing_of, spelling, refusal, meaning, is_own_message};
 
@@ -7,7 +7,7 @@ use crate::message::{Message, Triple};
 use crate::operand::{Operand, Operands};
 use crate::row::Rule;
 use crate::rows::rows;
-use crate::word_set::{Word, WordSet, text_in};
+use crate::word_set::{Word, WordSet, byte_in, text_in};
 use arrayvec::ArrayVec;
 use cec_frame::{Addr, Frame};
 
@@ -199,6 +199,14 @@ pub fn name(code: u8) -> Option<&'static str>
     ensures short { IfSome result (λ name. length name.now ≤ 29) }
 {
     text_in(NAMES, code)
+}
+
+/// The opcode that has this name, if one has.
+pub fn code_named(text: &[u8]) -> Option<u8>
+    ensures found { IfSome result (λ code. name_of code ≡ Some text.now) }
+    ensures none { IfNone result ((code : ℕ) → code < 256 → name_of code ≢ Some text.now) }
+{
+    byte_in(NAMES, text)
 }
 
 /// How the operands of an opcode are written.

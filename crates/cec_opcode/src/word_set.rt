@@ -1,5 +1,6 @@
 //! The sets of words that stand for an operand byte: each word once, with its byte and its name in the code.
 ghost use Rattle.std.specs.Prelude.{◌≡◌, ◌≢◌, ◌≤◌, ◌<◌, ◌↔◌, ℕ, option_copied, length, map, IfSome, IfNone, IsTrue};
+ghost use Rattle.cec_opcode.specs.Naming.{byte_of};
 ghost use Rattle.cec_opcode.specs.WordSets.{spelled, word_of, words_of};
 
 /// A byte, and the word that stands for it.
@@ -238,6 +239,22 @@ pub(crate) fn text_in(words: &[Word], byte: u8) -> Option<&'static str>
     }
 }
 
+/// The byte of the first of these words that has this text.
+pub(crate) fn byte_in(words: &[Word], text: &[u8]) -> Option<u8>
+    ensures { result ≡ byte_of (map spelled words.now) text.now }
+{
+    match words {
+        [] => None,
+        [word, rest @ ..] => {
+            if word.text.as_bytes() == text {
+                Some(word.byte)
+            } else {
+                byte_in(rest, text)
+            }
+        }
+    }
+}
+
 impl WordSet {
     /// Its words.
     pub fn words(self) -> &'static [Word]
@@ -268,26 +285,11 @@ impl WordSet {
         text_in(self.words(), byte)
     }
 
-    /// Whether a text is the word of a byte.
-    fn is_word(self, byte: u8, text: &[u8]) -> bool
-        ensures { IsTrue result ↔ (word_of (words_of self) byte ≡ Some text.now) }
-    {
-        match self.word(byte) {
-            Some(word) => word.as_bytes() == text,
-            None => false,
-        }
-    }
-
     /// The byte that a word stands for, if it stands for one.
     pub fn byte(self, text: &[u8]) -> Option<u8>
         ensures found { IfSome result (λ byte. word_of (words_of self) byte ≡ Some text.now) }
         ensures none { IfNone result ((byte : ℕ) → byte < 256 → word_of (words_of self) byte ≢ Some text.now) }
     {
-        for byte in 0..=u8::MAX {
-            if self.is_word(byte, text) {
-                return Some(byte);
-            }
-        }
-        None
+        byte_in(self.words(), text)
     }
 }

@@ -4,7 +4,7 @@ use Rattle.std.specs.List.{All}
 use Rattle.cec_wave.specs.declared.Stretch.{Stretch}
 use Rattle.hdmi_topo.specs.Node.{Node}
 use Rattle.hdmi_topo.specs.Tree.{has_root}
-use Rattle.cec_text.specs.Lines.{lines_of}
+use Rattle.cec_words.specs.Lines.{lines_of}
 use Rattle.cec_asm.specs.Topology.{Plan, TopologyFault, topology_of, lines_read, at_line, line_read}
 use Rattle.cec_asm.specs.declared.topology.TopologyCause.{TopologyCause}
 use Rattle.cec_asm.specs.declared.topology.TopologyCause.TheVariants.{NoRoot}

@@ -11,7 +11,7 @@ use Rattle.hdmi_core.proofs.CutShort.{Appends-trans}
 use Rattle.hdmi_blocks.specs.declared.edid.Edid.{Edid}
 use Rattle.hdmi_topo.specs.Node.{Node}
 use Rattle.hdmi_topo.specs.Path.{is_on_wire}
-use Rattle.cec_text.specs.Cut.{told_count}
+use Rattle.cec_words.specs.Cut.{told_count}
 use Rattle.cec_run.specs.PortText.{lines_of_new, port_lines}
 use Rattle.cec_run.proofs.Advance.{event_keeps}
 

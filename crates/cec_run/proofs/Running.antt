@@ -8,11 +8,11 @@ use Rattle.cec_net.specs.State.{NetState}
 use Rattle.cec_net.specs.Apply.{applied, event_fault}
 use Rattle.cec_run.specs.declared.run.Totals.{Totals}
 use Rattle.cec_run.specs.declared.run.Turn.TheVariants.{Stop, Apply, Round}
-use Rattle.cec_text.specs.Cut.{CutOff, told_count}
+use Rattle.cec_words.specs.Cut.{CutOff, told_count}
 use Rattle.cec_run.specs.declared.run.Telling.{Telling}
 use Rattle.cec_run.specs.Run.{Config, turn_at, turn_of, first_time, counted_event, IsTurnBy, IsTurn, IsRoundTurn, Leads, IsRunTextFrom, event_told, end_told}
 use Rattle.cec_run.proofs.Turns.{one_more, front_of_text, whole_text}
-use Rattle.cec_text.proofs.Cutting.{told_parts, cut_again}
+use Rattle.cec_words.proofs.Cutting.{told_parts, cut_again}
 
 pub record Reached (telling : Telling) (end : ℕ) (c d : Config) (old new : Option (List ℕ)) (written : ℕ) : Type 0 where
   pub turns : ℕ

@@ -21,7 +21,7 @@ use Rattle.hdmi_topo.specs.Path.{is_on_wire}
 use Rattle.cec_run.specs.StateText.{state_line}
 use Rattle.cec_run.specs.PortText.{port_lines}
 use Rattle.cec_device.specs.State.{State}
-use Rattle.cec_text.specs.Cut.{WrittenText}
+use Rattle.cec_words.specs.Cut.{WrittenText}
 use Rattle.cec_text.specs.ReadingText.{is_complete}
 use Rattle.cec_run.specs.TraceText.{event_line, round_line, end_line}
 use Rattle.cec_run.specs.EdgeText.{edge_lines}

@@ -1,17 +1,16 @@
 -- The line that tells the state of a device (the profile's own text).
-use Rattle.std.specs.Prelude.{ℕ, ◌%◌, Bool, true, false, List, [], ◌∷◌, ◌++◌, Option, Some, None, codes}
+use Rattle.std.specs.Prelude.{ℕ, ◌%◌, Bool, true, false, List, [], ◌∷◌, ◌++◌, if◌then◌else◌, Option, Some, None, codes}
 use Rattle.std.specs.Fmt.{decimal}
 use Rattle.std.specs.List.{concat, flat_map}
 use Rattle.hdmi_core.specs.declared.kind.Kind.{Kind}
-use Rattle.hdmi_core.specs.declared.kind.Kind.TheVariants.{Tv, Amp, Player, Recorder, Switch}
+use Rattle.hdmi_core.specs.declared.kind.Kind.TheVariants.{Tv, Amp, Player, Recorder, Switch, Combo}
 use Rattle.hdmi_core.specs.declared.phys.Phys.{Phys}
 use Rattle.hdmi_core.specs.Piece.{nibble_text, hex_text, hex_or_dash, phys_text, dash_or, switch_text}
 use Rattle.cec_opcode.specs.declared.message.Triple.{Triple}
 use Rattle.cec_opcode.specs.DeckWords.{deck_info_byte}
-use Rattle.cec_device.specs.declared.place.Place.{Place}
-use Rattle.cec_device.specs.declared.place.Place.TheVariants.{Off, Polls, Settled}
 use Rattle.cec_feature.specs.declared.record.Note.{Note}
-use Rattle.cec_device.specs.State.{State}
+use Rattle.cec_device.specs.State.{State, held}
+use Rattle.cec_device.specs.Place.{is_on_wire}
 use Rattle.std.specs.Prelude.{length}
 
 abbrev pub kind_text : Kind → List ℕ
@@ -20,18 +19,21 @@ kind_text Amp = codes "amp"
 kind_text Player = codes "player"
 kind_text Recorder = codes "recorder"
 kind_text Switch = codes "switch"
+kind_text Combo = codes "combo"
 
--- the logical address: none off the wire and while it allocates, and `f` for a device that settled without one
-abbrev pub place_number : Place → Option ℕ
-place_number Off = None
-place_number (Polls a) = None
-place_number (Settled a) = Some a
+-- A unit's logical address: none off the wire and while it has not settled, and `f` where it settled without one.
+abbrev pub unit_text : Option ℕ → List ℕ
+unit_text unit = dash_or (λ n. nibble_text (n % 16)) unit
+
+-- the logical address of a device, and of a box those of both its units
+abbrev pub address_text : Kind → List (Option ℕ) → List ℕ
+address_text Combo (first ∷ second ∷ _) = unit_text first ++ codes "+" ++ unit_text second
+address_text _ (first ∷ _) = unit_text first
+address_text _ [] = []
 
 -- the physical address: none off the wire
-abbrev pub phys_at : Place → Phys → Option Phys
-phys_at Off p = None
-phys_at (Polls a) p = Some p
-phys_at (Settled a) p = Some p
+abbrev pub phys_on : Bool → Phys → Option Phys
+phys_on is_on p = if is_on then Some p else None
 
 abbrev pub power_text : Bool → List ℕ
 power_text true = codes "on"
@@ -44,10 +46,10 @@ language_bytes t = t.first ∷ t.second ∷ t.third ∷ []
 abbrev pub note_text : Note → List ℕ
 note_text n = nibble_text (n.from % 16) ++ codes ":" ++ hex_text n.opcode ++ codes ":" ++ hex_text n.first
 
--- the line, from the bytes of the language and the text of what was heard
-abbrev pub state_line_of : State → List ℕ → List ℕ → List ℕ
-state_line_of d language heard = concat (
-    codes "state " ∷ d.name ∷ codes " " ∷ kind_text d.kind ∷ codes " " ∷ dash_or (λ n. nibble_text (n % 16)) (place_number d.place) ∷ codes " " ∷ dash_or phys_text (phys_at d.place d.phys)
+-- the line, from the text of the logical address, the bytes of the language and the text of what was heard
+abbrev pub state_line_of : State → List ℕ → List ℕ → List ℕ → List ℕ
+state_line_of d address language heard = concat (
+    codes "state " ∷ d.name ∷ codes " " ∷ kind_text d.kind ∷ codes " " ∷ address ∷ codes " " ∷ dash_or phys_text (phys_on (is_on_wire d) d.phys)
     ∷ codes " " ∷ power_text d.record_of.power ∷ codes " active=" ∷ dash_or phys_text d.record_of.active ∷ codes " path=" ∷ dash_or phys_text d.record_of.path
     ∷ codes " deck=" ∷ hex_text (deck_info_byte d.record_of.deck) ∷ codes " menu=" ∷ switch_text d.record_of.menu ∷ codes " audio=" ∷ switch_text d.record_of.audio
     ∷ codes " volume=" ∷ decimal d.record_of.volume ∷ codes " mute=" ∷ switch_text d.record_of.mute ∷ codes " arc=" ∷ switch_text d.record_of.arc
@@ -57,4 +59,4 @@ state_line_of d language heard = concat (
     ∷ codes " queue=" ∷ decimal (length d.queue) ∷ codes " dropped=" ∷ decimal d.dropped ∷ codes "\n" ∷ [])
 
 abbrev pub state_line : State → List ℕ
-state_line d = state_line_of d (language_bytes d.record_of.language) (dash_or note_text d.record_of.heard)
+state_line d = state_line_of d (address_text d.kind (held d.place)) (language_bytes d.record_of.language) (dash_or note_text d.record_of.heard)

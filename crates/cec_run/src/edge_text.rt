@@ -1,38 +1,58 @@
 //! The lines of edges.
-ghost use Rattle.std.specs.Prelude.{◌≡◌};
+ghost use Rattle.std.specs.Prelude.{◌≡◌, ◌++◌, ◌+◌, ◌≤◌, length};
+ghost use Rattle.std.specs.List.{flat_map};
+ghost use Rattle.arrayvec.specs.ArrayVec.{array_vec_len};
+ghost use Rattle.hdmi_core.specs.Piece.{piece_text};
 ghost use Rattle.hdmi_core.specs.Written.{WrittenLine};
-ghost use Rattle.cec_text.specs.Cut.{WrittenText};
+ghost use Rattle.cec_words.specs.Cut.{WrittenText};
 ghost use Rattle.cec_run.specs.EdgeText.{edge_lines, stretch_lines};
 
-use cec_text::{counted, cut_at};
+use crate::line::{PARTS, add};
+use arrayvec::ArrayVec;
+use cec_words::{counted, cut_at};
 use cec_wave::Stretch;
 use hdmi_core::{Piece, Sink, WriteFault, write_line};
 
-// Writes the fall and the rise of a stretch.
-fn write_stretch<S: Sink>(out: &mut S, stretch: &Stretch) -> Result<u128, WriteFault>
-    ensures { WrittenLine (S.contents out.old) (S.contents out.new) (S.is_stuck out.old) (S.is_stuck out.new) (stretch_lines stretch.now) result }
+/// The most stretches whose lines go out in one `put`. A fall and a rise of 13 digits each take 32 bytes.
+const TOGETHER: usize = 32;
+
+// Adds the fall and the rise of a stretch.
+fn add_stretch(lines: &mut ArrayVec<Piece<'static>, PARTS>, stretch: &Stretch)
+    requires room { array_vec_len lines.old + 4 ≤ 128 }
+    ensures text { flat_map piece_text lines.new.items ≡ flat_map piece_text lines.old.items ++ stretch_lines stretch.now }
+    ensures len { array_vec_len lines.new ≡ array_vec_len lines.old + 4 }
 {
-    write_line(
-        out,
-        &[
-            Piece::Decimal(stretch.from),
-            Piece::Text(" 0\n"),
-            Piece::Decimal(stretch.to),
-            Piece::Text(" 1\n"),
-        ],
-    )
+    add(lines, Piece::Decimal(stretch.from));
+    add(lines, Piece::Text(" 0\n"));
+    add(lines, Piece::Decimal(stretch.to));
+    add(lines, Piece::Text(" 1\n"));
+}
+
+// Writes the falls and rises of a few stretches at once.
+fn write_few<S: Sink>(out: &mut S, stretches: &[Stretch]) -> Result<u128, WriteFault>
+    requires few { length stretches.now ≤ 32 }
+    ensures { WrittenLine (S.contents out.old) (S.contents out.new) (S.is_stuck out.old) (S.is_stuck out.new) (edge_lines stretches.now) result }
+{
+    let mut lines = ArrayVec::new();
+    for stretch in stretches {
+        add_stretch(&mut lines, stretch);
+    }
+    write_line(out, &lines)
 }
 
 /// Writes the falls and rises of stretches, a line each.
 pub fn write_edges<S: Sink>(out: &mut S, stretches: &[Stretch]) -> Result<u128, WriteFault>
     ensures { WrittenText (S.contents out.old) (S.contents out.new) (S.is_stuck out.old) (S.is_stuck out.new) (edge_lines stretches.now) result }
 {
-    let mut written = 0;
-    for stretch in stretches {
-        match write_stretch(out, stretch) {
-            Ok(count) => written = counted(written, count),
-            Err(fault) => return Err(cut_at(written, fault)),
-        }
+    if stretches.is_empty() {
+        return Ok(0);
     }
-    Ok(written)
+    let (few, others) = stretches.split_at(stretches.len().min(TOGETHER));
+    match write_few(out, few) {
+        Ok(count) => match write_edges(out, others) {
+            Ok(more) => Ok(counted(count, more)),
+            Err(fault) => Err(cut_at(count, fault)),
+        },
+        Err(fault) => Err(cut_at(0, fault)),
+    }
 }

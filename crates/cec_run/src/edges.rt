@@ -19,6 +19,8 @@ use std::alloc::Global;
 ///
 /// Those of [`emulate`](crate::emulate::emulate), in the same order. A failed write: then the front of the edge file
 /// was written, as long as it tells. Else nothing was written.
+// The network is large: where this stood inside its caller, the caller's frame would hold one for each kind of run.
+#[inline(never)]
 pub fn emulate_edges<S: Sink>(
     alloc: Global,
     topology: &[u8],

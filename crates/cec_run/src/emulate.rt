@@ -79,6 +79,8 @@ impl From<EdidCause> for EmulateError {
 /// The first line of the topology, and then of the script, that is at fault, and its cause; then the cause for
 /// which the topology's EDID is refused; want of memory: then nothing was written. A failed write: then the front
 /// of the trace was written, as long as it tells.
+// The network is large: where this stood inside its caller, the caller's frame would hold one for each kind of run.
+#[inline(never)]
 pub fn emulate<S: Sink>(
     alloc: Global,
     topology: &[u8],

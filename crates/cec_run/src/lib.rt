@@ -5,6 +5,7 @@ mod edge_text;
 pub mod edges;
 pub mod emulate;
 mod laws;
+mod line;
 mod port_text;
 mod root;
 mod round_text;

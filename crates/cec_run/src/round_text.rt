@@ -6,22 +6,12 @@ ghost use Rattle.hdmi_core.specs.Piece.{piece_text};
 ghost use Rattle.hdmi_core.specs.Written.{WrittenLine};
 ghost use Rattle.cec_run.specs.TraceText.{listed, loser_text, name_at, round_line, round_line_of};
 
+use crate::line::{PARTS, add};
 use arrayvec::ArrayVec;
 use cec_device::Device;
 use cec_text::{ending_word, reading_told, reading_verdict};
 use cec_wire::{Loser, Outcome};
 use hdmi_core::{Piece, Sink, WriteFault, write_line};
-
-const PARTS: usize = 128;
-
-// Adds a part to a line.
-fn add<'a>(line: &mut ArrayVec<Piece<'a>, PARTS>, piece: Piece<'a>)
-    requires room { array_vec_len line.old < 128 }
-    ensures text { flat_map piece_text line.new.items ≡ flat_map piece_text line.old.items ++ piece_text piece.entry }
-    ensures len { array_vec_len line.new ≡ array_vec_len line.old + 1 }
-{
-    line.push(piece);
-}
 
 // Adds the name of a device.
 fn add_name<'a>(line: &mut ArrayVec<Piece<'a>, PARTS>, devices: &'a [Device<16>], number: usize)

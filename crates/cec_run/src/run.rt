@@ -7,7 +7,7 @@ ghost use Rattle.cec_asm.specs.Script.{IsSchedule};
 ghost use Rattle.cec_net.specs.State.{next_start};
 ghost use Rattle.cec_run.specs.declared.run.Totals.{Totals as TotalsRecord};
 ghost use Rattle.cec_net.specs.Apply.{NamesDevices, applied, event_fault};
-ghost use Rattle.cec_text.specs.Cut.{CutOff, WrittenText, told_count};
+ghost use Rattle.cec_words.specs.Cut.{CutOff, WrittenText, told_count};
 ghost use Rattle.cec_run.specs.StateText.{state_line};
 ghost use Rattle.cec_text.specs.ReadingText.{is_complete};
 ghost use Rattle.cec_run.specs.TraceText.{event_line, end_line};
@@ -23,8 +23,8 @@ use cec_asm::TimedEvent;
 use cec_device::Device;
 use cec_frame::Ending;
 use cec_net::{EventError, Net};
-use cec_text::{counted, cut_at};
 use cec_wire::{Outcome, Wire};
+use cec_words::{counted, cut_at};
 use hdmi_blocks::Edid;
 use hdmi_core::{Sink, WriteFault};
 

@@ -1,12 +1,12 @@
 //! The line that tells the state of a device.
-ghost use Rattle.std.specs.Prelude.{◌≡◌, ℕ, ◌<◌, ◌≤◌, length, Some, None};
+ghost use Rattle.std.specs.Prelude.{◌≡◌, ℕ, ◌<◌, ◌≤◌, ◌∷◌, [], length, Some, None};
 ghost use Rattle.std.specs.List.{flat_map};
 ghost use Rattle.hdmi_core.specs.Piece.{phys_text, dash_or};
 ghost use Rattle.hdmi_core.specs.Written.{WrittenLine};
-ghost use Rattle.cec_run.specs.StateText.{kind_text, note_text, place_number, phys_at, power_text, state_line, state_line_of};
+ghost use Rattle.cec_run.specs.StateText.{address_text, kind_text, note_text, phys_on, power_text, state_line, state_line_of, unit_text};
 
 use arrayvec::ArrayVec;
-use cec_device::{Device, Note, Place, Port};
+use cec_device::{Device, Note, Port};
 use cec_frame::Addr;
 use hdmi_core::{Kind, Phys, Piece, Sink, WriteFault, hex_digit, write_line};
 
@@ -20,6 +20,7 @@ pub fn kind_word(kind: Kind) -> &'static str
         Kind::Player => "player",
         Kind::Recorder => "recorder",
         Kind::Switch => "switch",
+        Kind::Combo => "combo",
     }
 }
 
@@ -29,23 +30,33 @@ fn power_word(is_on: bool) -> &'static str
     if is_on { "on" } else { "standby" }
 }
 
-// The logical address of a device that has settled.
-fn settled_number(place: Place) -> Option<u8>
-    ensures { result ≡ place_number place }
+fn phys_on_wire(is_on: bool, phys: Phys) -> Option<Phys>
+    ensures { result ≡ phys_on is_on phys }
 {
-    match place {
-        Place::Settled(address) => Some(address.value()),
-        _ => None,
+    if is_on { Some(phys) } else { None }
+}
+
+fn unit_digit(unit: Option<Addr>) -> u8
+    ensures { result ∷ [] ≡ unit_text unit }
+{
+    match unit {
+        None => b'-',
+        Some(address) => hex_digit(address.value()),
     }
 }
 
-fn phys_on_wire(place: Place, phys: Phys) -> Option<Phys>
-    ensures { result ≡ phys_at place phys }
+// The logical address, and of a box those of both its units.
+fn address_bytes(kind: Kind, held: [Option<Addr>; 2]) -> ArrayVec<u8, 3>
+    ensures { result.items ≡ address_text kind held }
 {
-    match place {
-        Place::Off => None,
-        _ => Some(phys),
+    let [first, second] = held;
+    let mut bytes = ArrayVec::new();
+    bytes.push(unit_digit(first));
+    if kind == Kind::Combo {
+        bytes.push(b'+');
+        bytes.push(unit_digit(second));
     }
+    bytes
 }
 
 fn number_of(address: Option<Addr>) -> Option<u8>
@@ -86,14 +97,16 @@ fn note_bytes(note: Option<Note>) -> ArrayVec<u8, 7>
     bytes
 }
 
-// Writes the state line of a device, from the bytes of its language and the text of what it heard.
+// Writes the state line of a device, from the texts of its logical address and of what it heard, and the bytes of its
+// language.
 fn write_state_of<'a, S: Sink>(
     out: &mut S,
     device: &'a Device<16>,
+    address: &'a [u8],
     language: &'a [u8],
     heard: &'a [u8],
 ) -> Result<u128, WriteFault>
-    ensures { WrittenLine (S.contents out.old) (S.contents out.new) (S.is_stuck out.old) (S.is_stuck out.new) (state_line_of device.now language.now heard.now) result }
+    ensures { WrittenLine (S.contents out.old) (S.contents out.new) (S.is_stuck out.old) (S.is_stuck out.new) (state_line_of device.now address.now language.now heard.now) result }
 {
     let record = device.record();
     let pieces = [
@@ -102,9 +115,9 @@ fn write_state_of<'a, S: Sink>(
         Piece::Text(" "),
         Piece::Text(kind_word(device.kind())),
         Piece::Text(" "),
-        Piece::NibbleOrDash(settled_number(device.place())),
+        Piece::Bytes(address),
         Piece::Text(" "),
-        Piece::PhysOrDash(phys_on_wire(device.place(), device.phys())),
+        Piece::PhysOrDash(phys_on_wire(device.is_on_wire(), device.phys())),
         Piece::Text(" "),
         Piece::Text(power_word(record.power)),
         Piece::Text(" active="),
@@ -155,5 +168,6 @@ pub fn write_state<S: Sink>(out: &mut S, device: &Device<16>) -> Result<u128, Wr
         record.language.third,
     ];
     let heard = note_bytes(record.heard);
-    write_state_of(out, device, &language, &heard)
+    let address = address_bytes(device.kind(), device.held());
+    write_state_of(out, device, &address, &language, &heard)
 }

@@ -265,6 +265,63 @@ fn sends_are_refused(rt: HostRuntime) -> Result<(), Fail> {
     )
 }
 
+// A television, and a recorder and a player in one box in its port.
+const BOX: &str = "device tv tv 1\ndevice b combo 0\nplug b tv 1\n";
+
+const REST: &str =
+    "on active=- path=- deck=1a menu=off audio=off volume=20 mute=off arc=off sel=- lang=656e67 osd=- held=-";
+
+#[test]
+fn a_box_has_two_addresses(rt: HostRuntime) -> Result<(), Fail> {
+    let alloc = rt.alloc();
+    let script =
+        "at 1000000 send tv 0>1 give-physical-address\nat 1500000 send b 4>1 give-osd-name\n\
+         at 1500000 send b 2>0 image-view-on\nend 2000000\n";
+    let out = trace(alloc, BOX, script)?;
+    let wanted = format!(in alloc;
+        "12000 39150 complete 0>0 nack by tv out -\n\
+         50705 77855 complete 1>1 nack by b out -\n\
+         89405 212555 complete 0>f report-physical-address 0.0.0.0 tv ok by tv out -\n\
+         224113 251263 complete 4>4 nack by b out -\n\
+         267613 390763 complete 1>f report-physical-address 1.0.0.0 recorder ok by b out -\n\
+         407113 530263 complete 4>f report-physical-address 1.0.0.0 playback ok by b out -\n\
+         1000000 event 1 ok\n\
+         1000000 1051150 complete 0>1 give-physical-address ack by tv out -\n\
+         1063600 1186750 complete 1>f report-physical-address 1.0.0.0 recorder ok by b out -\n\
+         1500000 event 2 refused own-address\n1500000 event 3 refused no-address\n\
+         state tv tv 0 0.0.0.0 {REST} heard=1:84:10 sub=- queue=0 dropped=0\n\
+         state b combo 1+4 1.0.0.0 {REST} heard=0:84:00 sub=- queue=0 dropped=0\n2000000 end\n"
+    )?;
+    assert_eq!(rt; out.as_slice(), wanted.as_bytes());
+    Ok(())
+}
+
+// What a state line tells of a box that is off the wire, whose player has not settled yet, and whose recorder found no
+// address.
+#[test]
+fn a_box_is_told_by_both_its_units(rt: HostRuntime) -> Result<(), Fail> {
+    let alloc = rt.alloc();
+    tells(
+        &rt,
+        alloc,
+        "device tv tv 1\ndevice b combo 0\n",
+        "end 5\n",
+        "state b combo -+- - on ",
+    )?;
+    tells(&rt, alloc, BOX, "end 5\n", "state b combo -+- 1.0.0.0 on ")?;
+    tells(
+        &rt,
+        alloc,
+        BOX,
+        "end 60000\n",
+        "state b combo 1+- 1.0.0.0 on ",
+    )?;
+    let crowded = "device tv tv 4\ndevice b combo 0\ndevice r1 recorder 0\ndevice r2 recorder 0\n\
+         device r3 recorder 0\nplug r1 tv 1\nplug r2 tv 2\nplug r3 tv 3\n";
+    let script = "at 2000000 plug b tv 4\nend 3000000\n";
+    tells(&rt, alloc, crowded, script, "state b combo f+4 4.0.0.0 on ")
+}
+
 // 4,096 pulses of 400, each 25,000 after the end of the one before. Each opens a round or falls into one.
 #[test]
 fn runs_with_the_most_pulses(rt: HostRuntime) -> Result<(), Fail> {

@@ -3,8 +3,8 @@ use Rattle.std.specs.Prelude.{◌≡◌, ℕ, ◌+◌, ◌-◌, ◌*◌, ◌&&�
 use Rattle.std.specs.Str.{bytes_eq}
 use Rattle.hdmi_topo.specs.Node.{Node}
 use Rattle.hdmi_topo.specs.Tree.{device_named}
-use Rattle.cec_text.specs.Lines.{lines_of, is_skipped}
-use Rattle.cec_text.specs.Words.{words_of, one_of}
+use Rattle.cec_words.specs.Lines.{lines_of, is_skipped}
+use Rattle.cec_words.specs.Words.{words_of, one_of}
 use Rattle.cec_step.specs.declared.break_at.Break.{Break}
 use Rattle.cec_step.specs.declared.break_at.Break.TheVariants.{Opcode, Device, AnyBreak}
 use Rattle.cec_step.specs.declared.commands.Command.{Command}

@@ -1,11 +1,11 @@
 //! Texts of steps.
 ghost use Rattle.std.specs.Prelude.{◌≡◌, ◌+◌, ◌≤◌, IfOk, IfErr, Ok, length};
 ghost use Rattle.std.specs.Option.{option_copied};
-ghost use Rattle.cec_text.specs.Words.{words_behind, words_of, one_of};
+ghost use Rattle.cec_words.specs.Words.{words_behind, words_of, one_of};
 ghost use Rattle.cec_step.specs.Commands.{IsFault, alone, break_of, byte_of, command_of, commands_of, device_to, digit_of, no_more, opcode_named, shown_of, until_by};
 
 use crate::break_at::Break;
-use cec_text::{first_line, first_word, is_skipped, one_word};
+use cec_words::{first_line, first_word, is_skipped, one_word};
 use hdmi_topo::Tree;
 use std::alloc::{AllocFailed, Global};
 

@@ -3,14 +3,14 @@ ghost use Rattle.std.specs.Prelude.{◌≡◌, ℕ, ◌∷◌, ◌++◌, [], cod
 ghost use Rattle.std.specs.List.{flat_map};
 ghost use Rattle.hdmi_core.specs.Written.{WrittenLine};
 ghost use Rattle.cec_bits.specs.Follows.{shown};
-ghost use Rattle.cec_text.specs.Cut.{WrittenText};
+ghost use Rattle.cec_words.specs.Cut.{WrittenText};
 ghost use Rattle.cec_text.specs.ReadingText.{bit_digit, bits_text};
 ghost use Rattle.cec_step.specs.EdgeText.{device_text, edge_line, level_text, name_text, slot_text, standing_text};
 
 use crate::parts::{behind, whole};
 use cec_bits::Standing;
 use cec_device::Device;
-use cec_text::{counted, cut_at};
+use cec_words::{counted, cut_at};
 use cec_wave::Edge;
 use hdmi_core::{Piece, Sink, WriteFault, write_line};
 

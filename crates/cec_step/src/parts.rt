@@ -1,9 +1,9 @@
 //! Parts of a text, one written behind another.
 ghost use Rattle.std.specs.Prelude.{◌≡◌, ℕ, Bool, List, ◌++◌, Option, Ok};
 ghost use Rattle.hdmi_core.specs.Written.{WrittenLine};
-ghost use Rattle.cec_text.specs.Cut.{WrittenText};
+ghost use Rattle.cec_words.specs.Cut.{WrittenText};
 
-use cec_text::{counted, cut_at};
+use cec_words::{counted, cut_at};
 use hdmi_core::WriteFault;
 
 /// What was returned of a line, as it is returned of a text.

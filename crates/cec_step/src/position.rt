@@ -2,7 +2,7 @@
 ghost use Rattle.std.specs.Prelude.{◌≡◌, ℕ, ◌+◌, ◌++◌, ◌<◌, ◌≤◌, List, drop, length, MatchBool, MatchOption, IfSome, IsSome, true, false};
 ghost use Rattle.cec_net.specs.Underway.{OfRound, standing_told};
 ghost use Rattle.cec_step.specs.EdgeText.{edge_line};
-ghost use Rattle.cec_text.specs.Cut.{WrittenText};
+ghost use Rattle.cec_words.specs.Cut.{WrittenText};
 ghost use Rattle.cec_run.specs.declared.run.Turn.TheVariants.{Apply, Round, Stop};
 ghost use Rattle.cec_run.specs.Root.{HasAddress};
 ghost use Rattle.cec_step.specs.Ready.{Begins, Brings, IsReady, Passes, first_text, point_of};
@@ -13,7 +13,7 @@ use crate::parts::behind;
 use cec_asm::TimedEvent;
 use cec_net::{Net, RoundReport};
 use cec_run::{Totals, Turn, apply_event, first_time, next_turn, write_ports};
-use cec_text::{counted, cut_at};
+use cec_words::{counted, cut_at};
 use cec_wave::Edge;
 use cec_wire::EdgeWire;
 use hdmi_blocks::Edid;

@@ -4,7 +4,7 @@ use crate::stepper::{StepError, Stepper};
 use cec_asm::{parse_script, parse_topology};
 use cec_run::emulate::EmulateError;
 use cec_run::root_of;
-use cec_text::{counted, cut_at};
+use cec_words::{counted, cut_at};
 use hdmi_core::{Piece, Sink, WriteFault, write_line};
 use std::alloc::Global;
 use thiserror::Error;

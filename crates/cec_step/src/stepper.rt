@@ -1,6 +1,6 @@
 //! The stepper.
 ghost use Rattle.std.specs.Prelude.{◌≡◌, ℕ, ◌++◌, Bool, List, Option, Result, Some, IsSome, length};
-ghost use Rattle.cec_text.specs.Cut.{WrittenText};
+ghost use Rattle.cec_words.specs.Cut.{WrittenText};
 ghost use Rattle.cec_run.specs.Root.{HasAddress};
 ghost use Rattle.cec_step.specs.Ready.{IsReady, point_of, run_of};
 ghost use Rattle.cec_step.specs.Steps.{step_text};

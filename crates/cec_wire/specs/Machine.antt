@@ -13,7 +13,7 @@ use Rattle.cec_bits.specs.Reading.{last_ending}
 use Rattle.cec_wire.specs.declared.Seat.{Seat}
 use Rattle.cec_wire.specs.declared.hearing.Place.{Place}
 use Rattle.cec_wire.specs.declared.hearing.Place.TheVariants.{StartLow, StartHigh, InSlot, Over}
-use Rattle.cec_wire.specs.Round.{bit_read, destination, holds_address, is_not_before, lost_at}
+use Rattle.cec_wire.specs.Round.{bit_read, destination, is_held, is_not_before, lost_at}
 use Rattle.cec_wire.specs.declared.Loser.{Loser}
 
 -- ---- where the reading comes with microsecond t
@@ -79,7 +79,7 @@ sends_after bits (Some f) = is_none (out_by bits false (frame_bits f))
 
 -- a seat acknowledges in the slot after these bits
 abbrev pub acks_after : List Bool → Seat → Bool
-acks_after bits seat = seat.plugged && (holds_address seat.holds (destination bits) && not (sends_after bits seat.sends))
+acks_after bits seat = seat.plugged && (is_held seat.holds (destination bits) && not (sends_after bits seat.sends))
 
 -- a seat pulls after a fall too early, which came after these bits
 abbrev pub breaks_after : List Bool → Seat → Bool

@@ -1,7 +1,7 @@
 //! Who follows: who acknowledges a block, who pulls after a fall too early, and for how long.
 ghost use Rattle.std.specs.Prelude.{◌≡◌, ◌+◌, ◌%◌, ◌==◌, ◌<◌, ◌≤◌, ◌&&◌, not, length, if◌then◌else◌};
 ghost use Rattle.std.specs.List.{list_any};
-ghost use Rattle.cec_wire.specs.Round.{destination, holds_address};
+ghost use Rattle.cec_wire.specs.Round.{destination, holds_address, is_held};
 ghost use Rattle.cec_wire.specs.Machine.{acks_after, breaks_after, acks_until, held_after, is_short};
 
 use crate::Seat;
@@ -14,13 +14,21 @@ const ACK_PULL: u64 = 1500;
 
 const SHORT_PULL: u64 = 3600;
 
-fn holds(seat: &Seat, address: u8) -> bool
-    ensures { result ≡ holds_address seat.now.holds address }
+// A unit at this address, if it has settled, holds an address below 15.
+fn is_at(held: &Option<Addr>, address: u8) -> bool
+    ensures { result ≡ holds_address held.now address }
 {
-    match seat.holds {
+    match held {
         None => false,
         Some(held) => held.value() == address && held.value() < Addr::BROADCAST,
     }
+}
+
+// One of the seat's units holds it.
+fn holds(seat: &Seat, address: u8) -> bool
+    ensures { result ≡ is_held seat.now.holds address }
+{
+    seat.holds.iter().any(|held| is_at(held, address))
 }
 
 // A seat acknowledges in the slot after these bits.

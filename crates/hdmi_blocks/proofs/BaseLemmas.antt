@@ -3,7 +3,8 @@ use Rattle.std.proofs.Common.{◌≡◌, ℕ, zero, suc, ◌+◌, ◌-◌, ◌*�
 use Rattle.std.proofs.lemmas.List.{length-replicate, get_or-append_right}
 use Rattle.std.proofs.lemmas.Bool.{leb-true}
 use Rattle.hdmi_edid.proofs.PartLemmas.{both}
-use Rattle.hdmi_edid.specs.Base.{base_bytes, front_bytes, product_bytes, header}
+use Rattle.hdmi_edid.specs.Base.{base_bytes, front_bytes, product_bytes}
+use Rattle.hdmi_edid.specs.Header.{header}
 use Rattle.hdmi_edid.specs.Check.{check_of}
 use Rattle.hdmi_edid.specs.Chars.{padding, text_bytes}
 use Rattle.hdmi_edid.specs.Chroma.{chroma_bytes}

@@ -8,7 +8,8 @@ ghost use Rattle.hdmi_blocks.specs.declared.edid.Edid.{Edid as EdidValue};
 use crate::edid::Edid;
 use arrayvec::ArrayVec;
 use hdmi_cta::{Ext, ExtError, read_ext, write_ext};
-use hdmi_edid::{BaseError, read_base, write_base};
+use hdmi_edid::{BaseError, part, read_base, write_base};
+use std::error::Error;
 use std::fmt::{self, Write};
 
 /// Why some bytes are no EDID.
@@ -43,13 +44,14 @@ impl fmt::Display for EdidError {
     }
 }
 
+impl Error for EdidError {}
+
 /// The block with this number, 0 for the base block.
 fn block_at(bytes: &[u8], number: usize) -> [u8; 128]
     requires { 128 * number + 128 ≤ length bytes.now }
     ensures { result ≡ block_at bytes.now number }
 {
-    let at = 128 * number;
-    <[u8; 128]>::try_from(&bytes[at..at + 128]).unwrap()
+    part(bytes, 128 * number)
 }
 
 /// Appends a block for which there is room.

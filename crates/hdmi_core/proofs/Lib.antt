@@ -1,3 +1,2 @@
 pub mod CutShort
-pub mod Digits
 pub mod SinkLemmas

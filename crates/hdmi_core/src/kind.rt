@@ -8,4 +8,6 @@ pub enum Kind {
     Player,
     Recorder,
     Switch,
+    /// A recorder and a player in one box: one device with two logical addresses.
+    Combo,
 }

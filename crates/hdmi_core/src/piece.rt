@@ -2,7 +2,7 @@
 ghost use Rattle.std.specs.Prelude.{◌≡◌, ℕ, ◌+◌, ◌*◌, ◌^◌, ◌<◌, ◌≤◌, ◌-◌, ◌↔◌, Bool, List, [], ◌∷◌, ◌++◌, length, take, true, false, Some, IsErr, IsTrue, IfErr, IfOk, OnOk};
 ghost use Rattle.std.specs.Fmt.{decimal};
 ghost use Rattle.std.specs.List.{flat_map};
-ghost use Rattle.hdmi_core.specs.Piece.{dash_or, hex_text, nibble_text, phys_text, piece_text};
+ghost use Rattle.hdmi_core.specs.Piece.{dash_or, hex_text, nibble_text, piece_text};
 ghost use Rattle.hdmi_core.specs.Written.{Written, WrittenLine};
 ghost use Rattle.arrayvec.specs.ArrayVec.{array_vec_len};
 
@@ -47,20 +47,6 @@ impl Default for Piece<'_> {
     }
 }
 
-/// Adds the digits of a number.
-#[tactic(auto, using(std::proofs::lemmas::Fmt::decimal_digit, std::proofs::lemmas::Fmt::decimal_step))]
-fn add_decimal(out: &mut ArrayVec<u8, 24>, number: u64)
-    requires { array_vec_len out.old + length (decimal number) ≤ 24 }
-    ensures { out.new.items ≡ out.old.items ++ decimal number }
-{
-    if number < 10 {
-        out.push(b'0' + number as u8);
-        return;
-    }
-    add_decimal(out, number / 10);
-    out.push(b'0' + (number % 10) as u8);
-}
-
 /// The hex digit, lower case, of a number below 16.
 pub fn hex_digit(nibble: u8) -> u8
     requires { nibble < 16 }
@@ -71,20 +57,6 @@ pub fn hex_digit(nibble: u8) -> u8
     } else {
         b'a' + (nibble - 10)
     }
-}
-
-fn phys_bytes(phys: Phys) -> [u8; 7]
-    ensures { result ≡ phys_text phys }
-{
-    [
-        hex_digit(phys.high / 16),
-        b'.',
-        hex_digit(phys.high % 16),
-        b'.',
-        hex_digit(phys.low / 16),
-        b'.',
-        hex_digit(phys.low % 16),
-    ]
 }
 
 fn switch_word(is_on: bool) -> &'static str
@@ -104,9 +76,8 @@ fn put_bytes<S: Sink>(out: &mut S, text: &[u8]) -> Result<u64, WriteFault>
 fn put_decimal<S: Sink>(out: &mut S, number: u64) -> Result<u64, WriteFault>
     ensures { Written (S.contents out.old) (S.contents out.new) (S.is_stuck out.old) (S.is_stuck out.new) (decimal number) result }
 {
-    let mut digits = ArrayVec::new();
-    add_decimal(&mut digits, number);
-    put_bytes(out, &digits)
+    let mut digits = itoa::Buffer::new();
+    put_bytes(out, digits.format(number).as_bytes())
 }
 
 fn put_hex_byte<S: Sink>(out: &mut S, byte: u8) -> Result<u64, WriteFault>
@@ -146,9 +117,9 @@ fn put_piece<S: Sink>(out: &mut S, piece: &Piece) -> Result<u64, WriteFault>
         Piece::Hex(bytes) => put_hex(out, bytes),
         Piece::HexOrDash([]) => put_bytes(out, b"-"),
         Piece::HexOrDash(bytes) => put_hex(out, bytes),
-        Piece::Phys(phys) => put_bytes(out, &phys_bytes(phys)),
+        Piece::Phys(phys) => put_bytes(out, &phys.text()),
         Piece::Switch(is_on) => put_bytes(out, switch_word(is_on).as_bytes()),
-        Piece::PhysOrDash(Some(phys)) => put_bytes(out, &phys_bytes(phys)),
+        Piece::PhysOrDash(Some(phys)) => put_bytes(out, &phys.text()),
         Piece::DecimalOrDash(Some(number)) => put_decimal(out, number),
         Piece::NibbleOrDash(Some(nibble)) => put_bytes(out, &[hex_digit(nibble % 16)]),
         Piece::HexByteOrDash(Some(byte)) => put_hex_byte(out, byte),

@@ -5,6 +5,7 @@ ghost use Rattle.std.specs.Io.KnownBytes.{Appends};
 ghost use Rattle.hdmi_core.specs.Sink.{took_none};
 
 use std::io;
+use thiserror::Error;
 
 /// A writer to which each `put` gives some bytes, of which it takes the first few.
 pub trait Sink {
@@ -56,7 +57,8 @@ impl<W: io::Write> Sink for Writes<W> {
 }
 
 /// A `put` took none. `count` bytes had been written by then.
-#[derive(Clone, Copy, Debug, PartialEq, Eq)]
+#[derive(Clone, Copy, Debug, PartialEq, Eq, Error)]
+#[error("the writer took no more after {count} bytes")]
 pub struct WriteFault {
     pub count: u128,
 }

@@ -11,11 +11,10 @@ ghost use Rattle.hdmi_cta.specs.Audio.{is_audio, amplifier_audio, heard, growth,
 use crate::block::{Block, BlockKind};
 use crate::cta::Cta;
 use crate::ext::append_timings;
-use crate::parts::append;
 use crate::raw::Ext;
 use crate::reading::read_timings;
 use arrayvec::ArrayVec;
-use hdmi_edid::Timing;
+use hdmi_edid::{Timing, append};
 
 /// What an amplifier's audio data block tells: eight channels of linear PCM, and six of AC-3.
 const AMPLIFIER_AUDIO: [u8; 6] = [0x0f, 0x7f, 0x07, 0x15, 0x07, 0x50];

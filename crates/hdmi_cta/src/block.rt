@@ -2,8 +2,9 @@
 ghost use Rattle.std.specs.Prelude.{◌≡◌, ◌<◌, ◌/◌, length, IsTrue};
 ghost use Rattle.hdmi_edid.specs.Bytes.{are_bytes};
 
-use crate::parts::append;
+use crate::hdmi::has_identifier;
 use arrayvec::ArrayVec;
+use hdmi_edid::append;
 
 /// What a data block tells, by the tag in the top three bits of its first byte (CTA-861-D, 7.5, the data block
 /// collection). Tag 5 is VESA's display transfer characteristic; tags 0 and 6 are reserved.
@@ -84,8 +85,7 @@ impl Block {
     pub fn is_hdmi(&self) -> bool
         ensures { result ≡ is_hdmi self.now }
     {
-        self.kind == BlockKind::Vendor
-            && matches!(self.payload.as_slice(), [0x03, 0x0c, 0x00, _, _, ..])
+        self.kind == BlockKind::Vendor && has_identifier(self.payload.as_slice())
     }
 
     /// Whether it is an audio block.

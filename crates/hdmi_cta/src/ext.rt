@@ -12,15 +12,17 @@ ghost use Rattle.hdmi_cta.specs.declared.raw.Ext.{Ext as ExtValue};
 
 use crate::block::Block;
 use crate::cta::{Bare, Cta};
-use crate::parts::{append, part};
 use crate::raw::{Ext, RawExt};
 use crate::reading::{read_blocks, read_timings};
 use arrayvec::ArrayVec;
-use hdmi_edid::{Timing, is_summed};
+use hdmi_edid::{Timing, append, is_summed, part};
+use thiserror::Error;
 
 /// Why 128 bytes are no extension: their sum is wrong.
-#[derive(Clone, Copy, Debug, PartialEq, Eq)]
+#[derive(Clone, Copy, Debug, PartialEq, Eq, Error)]
 pub enum ExtError {
+    /// The sum of the bytes is not 0 modulo 256.
+    #[error("a wrong checksum")]
     Checksum,
 }
 

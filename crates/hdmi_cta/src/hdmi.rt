@@ -3,7 +3,7 @@ ghost use Rattle.std.specs.Prelude.{◌≡◌, ◌↔◌, ◌≤◌, ◌<◌, �
 ghost use Rattle.hdmi_cta.specs.Block.{block_bytes};
 ghost use Rattle.hdmi_edid.specs.Check.{summed};
 ghost use Rattle.hdmi_cta.specs.Ext.{ext_bytes};
-ghost use Rattle.hdmi_cta.specs.Hdmi.{is_hdmi, phys_at, blocks_of, address_of, address_place, readdressed};
+ghost use Rattle.hdmi_cta.specs.Hdmi.{has_identifier, is_hdmi, phys_at, blocks_of, address_of, address_place, readdressed};
 
 use crate::block::Block;
 use crate::ext::{read_ext, write_ext};
@@ -16,6 +16,14 @@ use thiserror::Error;
 #[derive(Clone, Copy, Debug, PartialEq, Eq, Error)]
 #[error("no HDMI block")]
 pub struct NoHdmiBlock;
+
+/// Whether the payload of a vendor block is HDMI's: it begins with the identifier 00-0C-03, its lowest byte first, and two
+/// bytes of an address stand behind (HDMI 1.4, section 8.3.2).
+pub fn has_identifier(payload: &[u8]) -> bool
+    ensures { result ≡ has_identifier payload.now }
+{
+    matches!(payload, [0x03, 0x0c, 0x00, _, _, ..])
+}
 
 /// The data blocks of an extension.
 fn blocks_of(ext: &Ext) -> &[Block]

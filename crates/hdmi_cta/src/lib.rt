@@ -6,7 +6,6 @@ mod block;
 mod cta;
 mod ext;
 mod hdmi;
-mod parts;
 mod raw;
 mod reading;
 #[cfg(test)]
@@ -16,7 +15,7 @@ pub use audio::with_audio;
 pub use block::{Block, BlockKind};
 pub use cta::{Bare, Cta};
 pub use ext::{ExtError, read_ext, write_ext};
-pub use hdmi::{NoHdmiBlock, hdmi_address, with_address};
+pub use hdmi::{NoHdmiBlock, has_identifier, hdmi_address, with_address};
 pub use hdmi_core::{
     Kind, Phys, Piece, Sink, WriteFault, Writes, hex_digit, put_all, write_line, write_pieces,
 };

@@ -6,9 +6,8 @@ ghost use Rattle.hdmi_cta.specs.Cta.{is_tail};
 ghost use Rattle.hdmi_cta.specs.declared.block.Block.{Block as BlockValue};
 
 use crate::block::{Block, BlockKind};
-use crate::parts::part;
 use arrayvec::ArrayVec;
-use hdmi_edid::Timing;
+use hdmi_edid::{Timing, part};
 
 /// The data block in front, and the bytes behind it.
 fn first_block(bytes: &[u8]) -> Option<(Block, &[u8])>

@@ -6,7 +6,8 @@ use Rattle.hdmi_edid.proofs.PartLemmas.{both, sum_with}
 use Rattle.hdmi_edid.specs.Base.{base_bytes, front_bytes}
 use Rattle.hdmi_edid.specs.Check.{check_of}
 use Rattle.hdmi_edid.specs.Letters.{is_letter, is_number, has_letters}
-use Rattle.hdmi_edid.specs.Refusals.{refusal, has_header, has_revision}
+use Rattle.hdmi_edid.specs.Header.{has_header}
+use Rattle.hdmi_edid.specs.Refusals.{refusal, has_revision}
 use Rattle.hdmi_edid.specs.declared.base.Base.{Base}
 use Rattle.hdmi_edid.specs.declared.base.BaseError.TheVariants.{Header, Checksum, Revision, Maker}
 use Rattle.hdmi_edid.specs.declared.base.Revision.TheVariants.{Three, Four}

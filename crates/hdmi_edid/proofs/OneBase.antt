@@ -15,7 +15,8 @@ use Rattle.hdmi_edid.proofs.PartLemmas.{both}
 use Rattle.hdmi_edid.specs.Chars.{padding, text_bytes}
 use Rattle.hdmi_edid.specs.declared.text.Text.{Text}
 use Rattle.hdmi_edid.specs.declared.descriptor.Descriptor.TheVariants.{Timing as OfTiming, Name, Text as OfText, SerialText, Range, Dummy, Raw}
-use Rattle.hdmi_edid.specs.Base.{base_bytes, front_bytes, header}
+use Rattle.hdmi_edid.specs.Base.{base_bytes, front_bytes}
+use Rattle.hdmi_edid.specs.Header.{header}
 use Rattle.std.proofs.Common.{IsTrue, true}
 use Rattle.std.proofs.Math.Bool.{Bool-set}
 use Rattle.hdmi_edid.specs.Bytes.{are_bytes}

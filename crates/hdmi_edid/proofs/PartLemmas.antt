@@ -6,9 +6,11 @@ use Rattle.std.proofs.Common.{◌*◌, ◌/◌, rules}
 use Rattle.std.specs.Int.{w16, w32, to_le_bytes, from_le_bytes}
 use Rattle.std.proofs.lemmas.Nat.{le_bytes_4}
 use Rattle.std.proofs.lemmas.Bool.{eqb-true}
+use Rattle.std.proofs.lemmas.Bool.Decides.{Decides-eqb}
+use Rattle.std.proofs.lemmas.Slice.Eq.{starts_is}
 use Rattle.std.proofs.lemmas.Grind.{common_steps}
-use Rattle.hdmi_edid.specs.Refusals.{has_header, refusal}
-use Rattle.hdmi_edid.specs.Base.{header}
+use Rattle.hdmi_edid.specs.Refusals.{refusal}
+use Rattle.hdmi_edid.specs.Header.{header, has_header}
 use Rattle.hdmi_edid.specs.Check.{check_of}
 
 pub piece : (xs : List ℕ) (i n : ℕ) → drop i xs ≡ take n (drop i xs) ++ drop (i + n) xs
@@ -45,23 +47,9 @@ both false b h = cc
 
 pub header_is : (xs : List ℕ) → has_header xs ≡ true → IsHeader xs
 header_is xs h =
-    let p7 = both ((get_or xs 0 0 == 0) && (get_or xs 1 0 == 255) && (get_or xs 2 0 == 255) && (get_or xs 3 0 == 255) && (get_or xs 4 0 == 255) && (get_or xs 5 0 == 255) && (get_or xs 6 0 == 255)) (get_or xs 7 0 == 0) h in
-    let p6 = both ((get_or xs 0 0 == 0) && (get_or xs 1 0 == 255) && (get_or xs 2 0 == 255) && (get_or xs 3 0 == 255) && (get_or xs 4 0 == 255) && (get_or xs 5 0 == 255)) (get_or xs 6 0 == 255) p7.0 in
-    let p5 = both ((get_or xs 0 0 == 0) && (get_or xs 1 0 == 255) && (get_or xs 2 0 == 255) && (get_or xs 3 0 == 255) && (get_or xs 4 0 == 255)) (get_or xs 5 0 == 255) p6.0 in
-    let p4 = both ((get_or xs 0 0 == 0) && (get_or xs 1 0 == 255) && (get_or xs 2 0 == 255) && (get_or xs 3 0 == 255)) (get_or xs 4 0 == 255) p5.0 in
-    let p3 = both ((get_or xs 0 0 == 0) && (get_or xs 1 0 == 255) && (get_or xs 2 0 == 255)) (get_or xs 3 0 == 255) p4.0 in
-    let p2 = both ((get_or xs 0 0 == 0) && (get_or xs 1 0 == 255)) (get_or xs 2 0 == 255) p3.0 in
-    let p1 = both ((get_or xs 0 0 == 0)) (get_or xs 1 0 == 255) p2.0 in
-    record {
-      b0 = eqb-true _ _ p1.0;
-      b1 = eqb-true _ _ p1.1;
-      b2 = eqb-true _ _ p2.1;
-      b3 = eqb-true _ _ p3.1;
-      b4 = eqb-true _ _ p4.1;
-      b5 = eqb-true _ _ p5.1;
-      b6 = eqb-true _ _ p6.1;
-      b7 = eqb-true _ _ p7.1;
-    }
+    let front : xs ≡ header ++ drop 8 xs = (starts_is Decides-eqb xs header true (sym h)).0 refl in
+    let at : (k : ℕ) → get_or xs k 0 ≡ get_or (header ++ drop 8 xs) k 0 = λ k. ap (λ t. get_or t k 0) front in
+    record { b0 = at 0; b1 = at 1; b2 = at 2; b3 = at 3; b4 = at 4; b5 = at 5; b6 = at 6; b7 = at 7 }
 
 -- a refusal that does not come
 accepted : {E : Type 0} (t : Bool) (e : E) (o : Option E) → cond (not t) (Some e) o ≡ None → (t ≡ true) × (o ≡ None)

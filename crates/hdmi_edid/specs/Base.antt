@@ -4,13 +4,11 @@ use Rattle.std.specs.Int.{w16, w32, to_le_bytes}
 use Rattle.hdmi_edid.specs.Check.{summed}
 use Rattle.hdmi_edid.specs.Chroma.{chroma_bytes}
 use Rattle.hdmi_edid.specs.Descriptor.{descriptor_bytes}
+use Rattle.hdmi_edid.specs.Header.{header}
 use Rattle.hdmi_edid.specs.Maker.{maker_bytes}
 use Rattle.hdmi_edid.specs.Revisions.{revision_bytes}
 use Rattle.hdmi_edid.specs.Standard.{standard_bytes}
 use Rattle.hdmi_edid.specs.declared.base.Base.{Base}
-
-abbrev pub header : List ℕ
-header = 0 ∷ 0xff ∷ 0xff ∷ 0xff ∷ 0xff ∷ 0xff ∷ 0xff ∷ 0 ∷ []
 
 -- bytes 8 to 24
 abbrev pub product_bytes : Base → List ℕ

@@ -9,3 +9,7 @@ chroma_bytes c =
     low_pairs c.red.x c.red.y c.green.x c.green.y ∷ low_pairs c.blue.x c.blue.y c.white.x c.white.y ∷
     (c.red.x / 4) ∷ (c.red.y / 4) ∷ (c.green.x / 4) ∷ (c.green.y / 4) ∷
     (c.blue.x / 4) ∷ (c.blue.y / 4) ∷ (c.white.x / 4) ∷ (c.white.y / 4) ∷ []
+
+-- red, green, blue and white, each with x and y (own: the order in a text)
+abbrev pub chroma_numbers : Chroma → List ℕ
+chroma_numbers c = c.red.x ∷ c.red.y ∷ c.green.x ∷ c.green.y ∷ c.blue.x ∷ c.blue.y ∷ c.white.x ∷ c.white.y ∷ []

@@ -1,13 +1,9 @@
 -- When 128 bytes are no base block, and why: the first reason. The header, checksum, revision and maker are those of E-EDID Release A, sections 3.3, 3.11, 3.5 and 3.4.1; the order, and that no other revision is taken, are own.
 use Rattle.std.specs.Prelude.{ℕ, ◌%◌, ◌==◌, Bool, ◌&&◌, ◌||◌, not, Option, Some, None, List, slice_index, sum, if◌then◌else◌}
+use Rattle.hdmi_edid.specs.Header.{has_header}
 use Rattle.hdmi_edid.specs.Letters.{has_letters}
 use Rattle.hdmi_edid.specs.declared.base.BaseError.{BaseError}
 use Rattle.hdmi_edid.specs.declared.base.BaseError.TheVariants.{Header, Checksum, Revision, Maker}
-
-abbrev pub has_header : List ℕ → Bool
-has_header b =
-    (slice_index b 0 == 0) && (slice_index b 1 == 0xff) && (slice_index b 2 == 0xff) && (slice_index b 3 == 0xff) &&
-    (slice_index b 4 == 0xff) && (slice_index b 5 == 0xff) && (slice_index b 6 == 0xff) && (slice_index b 7 == 0)
 
 abbrev pub has_revision : List ℕ → Bool
 has_revision b = (slice_index b 18 == 1) && ((slice_index b 19 == 3) || (slice_index b 19 == 4))

@@ -5,3 +5,7 @@ use Rattle.hdmi_edid.specs.declared.standard.Standard.{Standard}
 abbrev pub standard_bytes : Option Standard → List ℕ
 standard_bytes None = 1 ∷ 1 ∷ []
 standard_bytes (Some s) = (s.width / 8 - 31) ∷ (s.aspect * 64 + (s.rate - 60)) ∷ []
+
+-- the width, the two bits of the aspect ratio, and the rate (own: the order in a text)
+abbrev pub standard_numbers : Standard → List ℕ
+standard_numbers s = s.width ∷ s.aspect ∷ s.rate ∷ []

@@ -22,3 +22,10 @@ timing_bytes t =
     (high t.horizontal_sync_offset * 64 + high t.horizontal_sync_width * 16 + t.vertical_sync_offset / 16 * 4 + t.vertical_sync_width / 16) ∷
     low t.width ∷ low t.height ∷ nibbles t.width t.height ∷
     t.horizontal_border ∷ t.vertical_border ∷ t.flags ∷ []
+
+-- clock; active and blanking, horizontally and vertically; sync offset and width, in the same way; millimetres; borders (own: the order in a text)
+abbrev pub timing_numbers : Timing → List ℕ
+timing_numbers t =
+    t.clock ∷ t.horizontal_active ∷ t.horizontal_blanking ∷ t.vertical_active ∷ t.vertical_blanking ∷
+    t.horizontal_sync_offset ∷ t.horizontal_sync_width ∷ t.vertical_sync_offset ∷ t.vertical_sync_width ∷
+    t.width ∷ t.height ∷ t.horizontal_border ∷ t.vertical_border ∷ []

@@ -6,13 +6,14 @@ ghost use Rattle.hdmi_edid.specs.Standard.{standard_bytes};
 ghost use Rattle.hdmi_edid.specs.Maker.{maker_bytes};
 ghost use Rattle.hdmi_edid.specs.Bytes.{are_bytes};
 ghost use Rattle.hdmi_edid.specs.Revisions.{revision_bytes};
-ghost use Rattle.hdmi_edid.specs.Refusals.{refusal, has_header};
+ghost use Rattle.hdmi_edid.specs.Refusals.{refusal};
 
 use crate::block::Block;
 use crate::checksum::is_summed;
 use crate::chroma::Chroma;
 use crate::descriptor::Descriptor;
 use crate::maker::Maker;
+use crate::parts::{append, part};
 use crate::standard::Standard;
 use arrayvec::ArrayVec;
 use thiserror::Error;
@@ -86,27 +87,8 @@ pub struct Base {
     ghost four: { length descriptors ≡ 4 },
 }
 
-/// The N bytes from a place on.
-fn part<const N: usize>(bytes: &[u8], at: usize) -> [u8; N]
-    requires { at + N ≤ length bytes.now }
-    ensures { result ≡ take N (drop at bytes.now) }
-{
-    <[u8; N]>::try_from(&bytes[at..at + N]).unwrap()
-}
-
-/// Whether the header stands in front.
-fn has_header(bytes: &[u8; 128]) -> bool
-    ensures { result ≡ has_header bytes.now }
-{
-    bytes[0] == 0
-        && bytes[1] == 0xff
-        && bytes[2] == 0xff
-        && bytes[3] == 0xff
-        && bytes[4] == 0xff
-        && bytes[5] == 0xff
-        && bytes[6] == 0xff
-        && bytes[7] == 0
-}
+/// The bytes that each base block begins with (section 3.3).
+const HEADER: [u8; 8] = [0x00, 0xff, 0xff, 0xff, 0xff, 0xff, 0xff, 0x00];
 
 fn read_descriptors(bytes: &[u8; 72]) -> [Descriptor; 4]
     ensures { flat_map descriptor_bytes result ≡ bytes.now }
@@ -119,20 +101,11 @@ fn read_descriptors(bytes: &[u8; 72]) -> [Descriptor; 4]
     ]
 }
 
-/// Appends bytes for which there is room.
-fn append(block: &mut ArrayVec<u8, 128>, bytes: &[u8])
-    requires { array_vec_len block.old + length bytes.now ≤ 128 }
-    ensures items { block.new.items ≡ block.old.items ++ bytes.now }
-    ensures len { array_vec_len block.new ≡ array_vec_len block.old + length bytes.now }
-{
-    let _ = block.try_extend_from_slice(bytes);
-}
-
 /// Refuses bytes that are no base block.
 fn check(bytes: &[u8; 128]) -> Result<(Revision, Maker), BaseError>
     ensures { MatchResult result (λ r. (refusal bytes.now ≡ None) × (maker_bytes r.1 ≡ slice_index bytes.now 8 ∷ slice_index bytes.now 9 ∷ []) × (revision_bytes r.0 ≡ slice_index bytes.now 18 ∷ slice_index bytes.now 19 ∷ [])) (λ e. refusal bytes.now ≡ Some e) }
 {
-    if !has_header(bytes) {
+    if !bytes.starts_with(&HEADER) {
         return Err(BaseError::Header);
     }
     if !is_summed(bytes) {
@@ -148,10 +121,11 @@ fn check(bytes: &[u8; 128]) -> Result<(Revision, Maker), BaseError>
 }
 
 impl Base {
-    ghost use Rattle.hdmi_edid.specs.Base.{base_bytes, header, product_bytes, display_bytes};
+    ghost use Rattle.hdmi_edid.specs.Base.{base_bytes, product_bytes, display_bytes};
+    ghost use Rattle.hdmi_edid.specs.Header.{header};
 
-    /// The base block that 128 bytes spell.
-    pub fn read(bytes: &[u8; 128]) -> Result<Base, BaseError>
+    /// A base block that 128 bytes spell.
+    pub(crate) fn read(bytes: &[u8; 128]) -> Result<Base, BaseError>
         ensures read { IfOk result (λ b. base_bytes b ≡ bytes.now) }
         ensures accepted { OnOk result (refusal bytes.now ≡ None) }
         ensures refused { IfErr result (λ e. refusal bytes.now ≡ Some e) }
@@ -183,10 +157,7 @@ impl Base {
         ensures len { array_vec_len result ≡ 25 }
     {
         let mut block = ArrayVec::new();
-        append(
-            &mut block,
-            &[0x00, 0xff, 0xff, 0xff, 0xff, 0xff, 0xff, 0x00],
-        );
+        append(&mut block, &HEADER);
         append(&mut block, &self.maker.write());
         append(&mut block, &self.product.to_le_bytes());
         append(&mut block, &self.serial.to_le_bytes());
@@ -219,7 +190,7 @@ impl Base {
     }
 
     /// The 128 bytes of the block.
-    pub fn write(&self) -> [u8; 128]
+    pub(crate) fn write(&self) -> [u8; 128]
         ensures { result ≡ base_bytes self.now }
     {
         let mut block = self.front();

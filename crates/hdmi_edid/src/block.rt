@@ -1,8 +1,9 @@
 //! A block of bytes whose last one is a checksum.
-ghost use Rattle.std.specs.Prelude.{◌≡◌, ◌≢◌, ◌+◌, ◌%◌, IfSome, IfNone, length, sum};
+ghost use Rattle.std.specs.Prelude.{◌≡◌, ◌+◌, ◌%◌, length, sum};
 ghost use Rattle.hdmi_edid.specs.Check.{summed};
 
-use crate::checksum::{checksum_of, is_summed};
+use crate::checksum::checksum_of;
+use crate::parts::append;
 use arrayvec::ArrayVec;
 
 /// `N` bytes whose sum is 0 modulo 256. A block of an EDID has 128 (E-EDID Release A, section 3.11).
@@ -11,20 +12,6 @@ pub struct Block<const N: usize> {
     pub bytes: [u8; N],
     ghost whole: { length bytes ≡ N },
     ghost checked: { sum bytes % 256 ≡ 0 },
-}
-
-impl<const N: usize> Block<N> {
-    /// The block of these bytes, where their sum is right.
-    pub fn new(bytes: &[u8; N]) -> Option<Self>
-        ensures some { IfSome result (λ b. b.bytes ≡ bytes.now) }
-        ensures none { IfNone result (sum bytes.now % 256 ≢ 0) }
-    {
-        if is_summed(bytes) {
-            Some(Block { bytes: *bytes })
-        } else {
-            None
-        }
-    }
 }
 
 impl Block<128> {
@@ -45,7 +32,7 @@ fn with_checksum(front: &[u8]) -> [u8; 128]
     ensures { result ≡ summed front.now }
 {
     let mut bytes: ArrayVec<u8, 128> = ArrayVec::new();
-    let _ = bytes.try_extend_from_slice(front);
+    append(&mut bytes, front);
     bytes.push(checksum_of(front));
     <[u8; 128]>::try_from(bytes.as_slice()).unwrap()
 }

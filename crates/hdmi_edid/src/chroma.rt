@@ -1,5 +1,5 @@
 //! The chromaticities, numbers of ten bits.
-ghost use Rattle.std.specs.Prelude.{◌≡◌, ◌<◌, ◌+◌, ◌*◌, ◌/◌, ◌%◌, ◌^◌};
+ghost use Rattle.std.specs.Prelude.{◌≡◌, ◌<◌, ◌+◌, ◌*◌, ◌/◌, ◌%◌, ◌^◌, MatchOption};
 ghost use Rattle.hdmi_edid.specs.Pairs.{low_pairs};
 
 /// A point of the colour space, in parts of 1024.
@@ -36,7 +36,58 @@ fn ten_bits(high: u8, pairs: u8, place: u8) -> u16
 }
 
 impl Chroma {
-    ghost use Rattle.hdmi_edid.specs.Chroma.{chroma_bytes};
+    ghost use Rattle.hdmi_edid.specs.Chroma.{chroma_bytes, chroma_numbers};
+    ghost use Rattle.hdmi_edid.specs.declared.chroma.Chroma.{Chroma as ChromaValue};
+
+    /// The chromaticities that eight numbers are: those of red, green, blue and white, each with `x` before `y`.
+    pub fn new(numbers: &[u32]) -> Option<Chroma>
+        ensures { MatchOption result ((c : ChromaValue) → chroma_numbers c ≡ numbers.now → ⊥) (λ c. chroma_numbers c ≡ numbers.now) }
+    {
+        let n = numbers;
+        if n.len() != 8 {
+            return None;
+        }
+        if n[0] > 1023 || n[1] > 1023 || n[2] > 1023 || n[3] > 1023 {
+            return None;
+        }
+        if n[4] > 1023 || n[5] > 1023 || n[6] > 1023 || n[7] > 1023 {
+            return None;
+        }
+        Some(Chroma {
+            red: Point {
+                x: n[0] as u16,
+                y: n[1] as u16,
+            },
+            green: Point {
+                x: n[2] as u16,
+                y: n[3] as u16,
+            },
+            blue: Point {
+                x: n[4] as u16,
+                y: n[5] as u16,
+            },
+            white: Point {
+                x: n[6] as u16,
+                y: n[7] as u16,
+            },
+        })
+    }
+
+    /// Its eight numbers.
+    pub fn numbers(&self) -> [u32; 8]
+        ensures { result ≡ chroma_numbers self.now }
+    {
+        [
+            u32::from(self.red.x),
+            u32::from(self.red.y),
+            u32::from(self.green.x),
+            u32::from(self.green.y),
+            u32::from(self.blue.x),
+            u32::from(self.blue.y),
+            u32::from(self.white.x),
+            u32::from(self.white.y),
+        ]
+    }
 
     /// The chromaticities that ten bytes spell.
     pub fn read(bytes: &[u8; 10]) -> Chroma

@@ -12,7 +12,32 @@ pub struct Maker {
 }
 
 impl Maker {
-    ghost use Rattle.hdmi_edid.specs.Maker.{maker_bytes};
+    ghost use Rattle.hdmi_edid.specs.declared.maker.Maker.{Maker as MakerValue};
+    ghost use Rattle.hdmi_edid.specs.Maker.{maker_bytes, maker_letters};
+
+    /// The maker with these letters, where they are three from `A` to `Z`.
+    pub fn new(letters: &[u8]) -> Option<Maker>
+        ensures { MatchOption result ((m : MakerValue) → maker_letters m ≡ letters.now → ⊥) (λ m. maker_letters m ≡ letters.now) }
+    {
+        if letters.len() != 3 {
+            return None;
+        }
+        let (first, second, third) = (letters[0], letters[1], letters[2]);
+        if first < b'A'
+            || b'Z' < first
+            || second < b'A'
+            || b'Z' < second
+            || third < b'A'
+            || b'Z' < third
+        {
+            return None;
+        }
+        Some(Maker {
+            first,
+            second,
+            third,
+        })
+    }
 
     /// The maker that two bytes spell.
     pub fn read(high: u8, low: u8) -> Option<Maker>

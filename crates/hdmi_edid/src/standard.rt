@@ -1,5 +1,5 @@
 //! Standard timings, of two bytes each.
-ghost use Rattle.std.specs.Prelude.{◌≡◌, ◌∷◌, [], ◌≤◌, ◌<◌, ◌%◌, ◌==◌, ◌&&◌, IsTrue, not, flat_map};
+ghost use Rattle.std.specs.Prelude.{◌≡◌, ◌∷◌, [], ◌≤◌, ◌<◌, ◌%◌, ◌==◌, ◌&&◌, IsTrue, MatchOption, not, flat_map};
 
 /// A standard timing (E-EDID Release A, section 3.9).
 #[derive(Clone, Copy, Debug, PartialEq, Eq)]
@@ -20,7 +20,43 @@ pub struct Standard {
 }
 
 impl Standard {
-    ghost use Rattle.hdmi_edid.specs.Standard.{standard_bytes};
+    ghost use Rattle.hdmi_edid.specs.declared.standard.Standard.{Standard as StandardValue};
+    ghost use Rattle.hdmi_edid.specs.Standard.{standard_bytes, standard_numbers};
+
+    /// The timing that three numbers are: the width, the bits of the aspect ratio, and the rate.
+    pub fn new(numbers: &[u32]) -> Option<Standard>
+        ensures { MatchOption result ((s : StandardValue) → standard_numbers s ≡ numbers.now → ⊥) (λ s. standard_numbers s ≡ numbers.now) }
+    {
+        if numbers.len() != 3 {
+            return None;
+        }
+        let (width, aspect, rate) = (numbers[0], numbers[1], numbers[2]);
+        if width < 248 || width > 2288 || width % 8 != 0 {
+            return None;
+        }
+        if aspect > 3 || rate < 60 || rate > 123 {
+            return None;
+        }
+        if width == 256 && aspect == 0 && rate == 61 {
+            return None;
+        }
+        Some(Standard {
+            width: width as u16,
+            aspect: aspect as u8,
+            rate: rate as u8,
+        })
+    }
+
+    /// Its three numbers.
+    pub fn numbers(self) -> [u32; 3]
+        ensures { result ≡ standard_numbers self }
+    {
+        [
+            u32::from(self.width),
+            u32::from(self.aspect),
+            u32::from(self.rate),
+        ]
+    }
 
     /// The timing that two bytes spell: 01 01 is none.
     pub fn read(first: u8, second: u8) -> Option<Standard>

@@ -1,5 +1,5 @@
 //! A text of at most 13 characters.
-ghost use Rattle.std.specs.Prelude.{◌≡◌, ◌==◌, IsTrue, false, true, length, MatchOption, drop};
+ghost use Rattle.std.specs.Prelude.{◌≡◌, ◌≤◌, ◌==◌, IsTrue, false, true, length, MatchOption, drop};
 ghost use Rattle.std.specs.List.{prefix_len, list_all};
 ghost use Rattle.hdmi_edid.specs.Chars.{is_char, is_text, is_padding, is_text_form, text_bytes};
 
@@ -16,6 +16,13 @@ fn is_char(byte: u8) -> bool
     ensures { result ≡ is_char byte }
 {
     0x20 <= byte && byte <= 0x7e && byte != 0x22
+}
+
+/// Whether all characters may stand in a descriptor.
+fn are_chars(chars: &[u8]) -> bool
+    ensures { result ≡ list_all is_char chars.now }
+{
+    chars.iter().all(|byte| is_char(*byte))
 }
 
 /// How many characters stand in front.
@@ -43,6 +50,20 @@ fn is_padding(bytes: &[u8]) -> bool
 }
 
 impl Text {
+    ghost use Rattle.hdmi_edid.specs.declared.text.Text.{Text as TextValue};
+
+    /// The text with these characters, where they can be those of one.
+    pub fn new(chars: &[u8]) -> Option<Text>
+        ensures { MatchOption result ((t : TextValue) → t.chars.items ≡ chars.now → ⊥) (λ t. t.chars.items ≡ chars.now) }
+    {
+        if chars.len() > 13 || !are_chars(chars) {
+            return None;
+        }
+        let mut text = ArrayVec::new();
+        let _ = text.try_extend_from_slice(chars);
+        Some(Text { chars: text })
+    }
+
     /// The text that 13 bytes spell.
     pub fn read(bytes: &[u8]) -> Option<Text>
         requires { length bytes.now ≡ 13 }

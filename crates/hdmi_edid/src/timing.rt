@@ -37,7 +37,66 @@ pub struct Timing {
 }
 
 impl Timing {
-    ghost use Rattle.hdmi_edid.specs.Timing.{timing_bytes};
+    ghost use Rattle.hdmi_edid.specs.Timing.{timing_bytes, timing_numbers};
+    ghost use Rattle.hdmi_edid.specs.declared.timing.Timing.{Timing as TimingValue};
+
+    /// The timing that 13 numbers, in the order of its fields, and flags are.
+    pub fn new(numbers: &[u32], flags: u8) -> Option<Timing>
+        ensures { MatchOption result
+            ((t : TimingValue) → timing_numbers t ≡ numbers.now → t.flags ≡ flags → ⊥)
+            (λ t. (timing_numbers t ≡ numbers.now) × (t.flags ≡ flags)) }
+    {
+        let n = numbers;
+        if n.len() != 13 || n[0] == 0 || n[0] > 65535 {
+            return None;
+        }
+        if n[1] > 4095 || n[2] > 4095 || n[3] > 4095 || n[4] > 4095 {
+            return None;
+        }
+        if n[5] > 1023 || n[6] > 1023 || n[7] > 63 || n[8] > 63 {
+            return None;
+        }
+        if n[9] > 4095 || n[10] > 4095 || n[11] > 255 || n[12] > 255 {
+            return None;
+        }
+        Some(Timing {
+            clock: n[0] as u16,
+            horizontal_active: n[1] as u16,
+            horizontal_blanking: n[2] as u16,
+            vertical_active: n[3] as u16,
+            vertical_blanking: n[4] as u16,
+            horizontal_sync_offset: n[5] as u16,
+            horizontal_sync_width: n[6] as u16,
+            vertical_sync_offset: n[7] as u8,
+            vertical_sync_width: n[8] as u8,
+            width: n[9] as u16,
+            height: n[10] as u16,
+            horizontal_border: n[11] as u8,
+            vertical_border: n[12] as u8,
+            flags,
+        })
+    }
+
+    /// Its 13 numbers.
+    pub fn numbers(&self) -> [u32; 13]
+        ensures { result ≡ timing_numbers self.now }
+    {
+        [
+            u32::from(self.clock),
+            u32::from(self.horizontal_active),
+            u32::from(self.horizontal_blanking),
+            u32::from(self.vertical_active),
+            u32::from(self.vertical_blanking),
+            u32::from(self.horizontal_sync_offset),
+            u32::from(self.horizontal_sync_width),
+            u32::from(self.vertical_sync_offset),
+            u32::from(self.vertical_sync_width),
+            u32::from(self.width),
+            u32::from(self.height),
+            u32::from(self.horizontal_border),
+            u32::from(self.vertical_border),
+        ]
+    }
 
     /// The timing that 18 bytes spell: a clock of 0 is none.
     pub fn read(bytes: &[u8; 18]) -> Option<Timing>

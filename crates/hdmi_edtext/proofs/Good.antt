@@ -24,7 +24,10 @@ use Rattle.hdmi_cta.specs.declared.block.BlockKind.TheVariants.{Tag0 as OfTag0, 
 use Rattle.hdmi_cta.specs.declared.raw.Ext.{Ext as Extension}
 use Rattle.hdmi_cta.specs.declared.raw.Ext.TheVariants.{Cta as OfCta, Bare as OfBare, Raw as OfRawExt}
 use Rattle.hdmi_lines.specs.Formed.{Formed, are_numbers}
-use Rattle.hdmi_edtext.specs.Lines.{bytes_line, revision_letters, standard_line, timing_line, timing_numbers, descriptor_line, chroma_numbers, head_lines, base_lines, is_hdmi, address_line, payload_line, block_line, trimmed, tail_line, ext_lines, edid_lines}
+use Rattle.hdmi_edtext.specs.Lines.{bytes_line, revision_letters, standard_line, timing_line, descriptor_line, head_lines, base_lines, address_line, payload_line, block_line, trimmed, tail_line, ext_lines, edid_lines}
+use Rattle.hdmi_cta.specs.Hdmi.{has_identifier}
+use Rattle.hdmi_edid.specs.Timing.{timing_numbers}
+use Rattle.hdmi_edid.specs.Chroma.{chroma_numbers}
 use Rattle.hdmi_blocks.specs.declared.edid.Edid.{Edid as WholeEdid}
 use Rattle.hdmi_lines.specs.declared.line.Fields.{Fields}
 use Rattle.hdmi_lines.specs.declared.line.Fields.TheVariants.{Letters, Quoted}
@@ -250,7 +253,7 @@ base_good b =
 block_good : (b : Block) → Good (block_line b)
 block_good b = at b.kind b.payload.items b.short b.bytes_fit
   where
-    vendor : (v : Bool) (p : List ℕ) → is_hdmi p ≡ v → length p < 32 → are_bytes p ≡ true → Good (cond v (address_line p) (bytes_line Vendor p))
+    vendor : (v : Bool) (p : List ℕ) → has_identifier p ≡ v → length p < 32 → are_bytes p ≡ true → Good (cond v (address_line p) (bytes_line Vendor p))
     vendor true p e h k =
         let long = long_hdmi p e in
         ((are_bytes-at p 3 k, are_bytes-at p 4 k, omega (arith, long, h, length-drop 5 p), are_bytes-drop 5 p k), tt)
@@ -260,7 +263,7 @@ block_good b = at b.kind b.payload.items b.short b.bytes_fit
     at OfTag0 p h k = ((omega (arith, h), k), tt)
     at OfAudio p h k = ((omega (arith, h), k), tt)
     at OfVideo p h k = ((omega (arith, h), k), tt)
-    at OfVendor p h k = vendor (is_hdmi p) p refl h k
+    at OfVendor p h k = vendor (has_identifier p) p refl h k
     at OfSpeakers p h k = ((omega (arith, h), k), tt)
     at OfTag5 p h k = ((omega (arith, h), k), tt)
     at OfTag6 p h k = ((omega (arith, h), k), tt)

@@ -4,7 +4,8 @@ use Rattle.std.specs.Int.{w16, w32, to_le_bytes, to_be_bytes}
 use Rattle.std.proofs.lemmas.Bool.{eqb-true}
 use Rattle.std.proofs.lemmas.List.{length-map}
 use Rattle.hdmi_edid.proofs.PartLemmas.{both}
-use Rattle.hdmi_edid.specs.Base.{base_bytes, product_bytes, display_bytes, header}
+use Rattle.hdmi_edid.specs.Base.{base_bytes, product_bytes, display_bytes}
+use Rattle.hdmi_edid.specs.Header.{header}
 use Rattle.hdmi_edid.specs.Chars.{text_bytes}
 use Rattle.hdmi_edid.specs.Check.{summed}
 use Rattle.hdmi_edid.specs.Chroma.{chroma_bytes}
@@ -30,7 +31,8 @@ use Rattle.hdmi_cta.specs.declared.block.BlockKind.TheVariants.{Tag0 as OfTag0, 
 use Rattle.hdmi_cta.specs.declared.cta.Cta.{Cta as CtaBlock}
 use Rattle.hdmi_cta.specs.declared.raw.Ext.{Ext as AnyExt}
 use Rattle.hdmi_cta.specs.declared.raw.Ext.TheVariants.{Cta as OfCta, Bare as OfBare, Raw as OfRawExt}
-use Rattle.hdmi_edtext.specs.Lines.{bytes_line, revision_letters, standard_line, timing_line, descriptor_line, head_lines, base_lines, is_hdmi, address_line, payload_line, block_line, trimmed, tail_line, cta_lines, ext_lines, edid_lines}
+use Rattle.hdmi_edtext.specs.Lines.{bytes_line, revision_letters, standard_line, timing_line, descriptor_line, head_lines, base_lines, address_line, payload_line, block_line, trimmed, tail_line, cta_lines, ext_lines, edid_lines}
+use Rattle.hdmi_cta.specs.Hdmi.{has_identifier}
 use Rattle.hdmi_blocks.specs.declared.edid.Edid.{Edid as WholeEdid}
 use Rattle.hdmi_lines.specs.declared.line.Fields.{Fields}
 use Rattle.hdmi_lines.specs.declared.line.Fields.TheVariants.{Letters, Numbers, Timed, Bytes, Address, Quoted}
@@ -135,7 +137,7 @@ descriptor_is (OfRange r) = refl
 descriptor_is OfDummy = refl
 descriptor_is (OfRaw r) = refl
 
-hdmi_is : (p : List ℕ) → is_hdmi p ≡ true → 3 ∷ 12 ∷ 0 ∷ slice_index p 3 ∷ slice_index p 4 ∷ drop 5 p ≡ p
+hdmi_is : (p : List ℕ) → has_identifier p ≡ true → 3 ∷ 12 ∷ 0 ∷ slice_index p 3 ∷ slice_index p 4 ∷ drop 5 p ≡ p
 hdmi_is p h = at p (long_hdmi p h) (both _ _ h)
   where
     at : (p : List ℕ) → 5 ≤ length p → ((nat_le 5 (length p) && (slice_index p 0 == 3) && (slice_index p 1 == 12)) ≡ true) × ((slice_index p 2 == 0) ≡ true)
@@ -155,7 +157,7 @@ hdmi_is p h = at p (long_hdmi p h) (both _ _ h)
 block_is : (b : Block) → block_bytes b ≡ block_told (block_line b).word (block_line b).fields
 block_is b = at b.kind b.payload.items
   where
-    vendor : (v : Bool) (p : List ℕ) → is_hdmi p ≡ v → (96 + length p) ∷ p ≡ block_told (cond v (address_line p) (bytes_line Vendor p)).word (cond v (address_line p) (bytes_line Vendor p)).fields
+    vendor : (v : Bool) (p : List ℕ) → has_identifier p ≡ v → (96 + length p) ∷ p ≡ block_told (cond v (address_line p) (bytes_line Vendor p)).word (cond v (address_line p) (bytes_line Vendor p)).fields
     vendor true p e = let same = hdmi_is p e in let len = ap length same in ap (λ n. n ∷ p) (omega (arith, len)) ∙ ap (λ t. (96 + (5 + length (drop 5 p))) ∷ t) (sym same)
     vendor false p e = refl
 
@@ -163,7 +165,7 @@ block_is b = at b.kind b.payload.items
     at OfTag0 p = refl
     at OfAudio p = refl
     at OfVideo p = refl
-    at OfVendor p = vendor (is_hdmi p) p refl
+    at OfVendor p = vendor (has_identifier p) p refl
     at OfSpeakers p = refl
     at OfTag5 p = refl
     at OfTag6 p = refl

@@ -7,7 +7,8 @@ use Rattle.hdmi_cta.specs.Block.{block_bytes}
 use Rattle.hdmi_cta.specs.declared.block.Block.{Block}
 use Rattle.hdmi_cta.specs.declared.block.BlockKind.{BlockKind}
 use Rattle.hdmi_cta.specs.declared.block.BlockKind.TheVariants.{Tag0 as OfTag0, Audio as OfAudio, Video as OfVideo, Vendor as OfVendor, Speakers as OfSpeakers, Tag5 as OfTag5, Tag6 as OfTag6, Extended as OfExtended}
-use Rattle.hdmi_edtext.specs.Lines.{is_hdmi, address_line, bytes_line, kind_word, payload_line, block_line, timing_line, tail_line}
+use Rattle.hdmi_edtext.specs.Lines.{address_line, bytes_line, kind_word, payload_line, block_line, timing_line, tail_line}
+use Rattle.hdmi_cta.specs.Hdmi.{has_identifier}
 use Rattle.hdmi_lines.specs.declared.line.Fields.{Fields}
 use Rattle.hdmi_lines.specs.declared.line.Fields.TheVariants.{Bytes, Address}
 use Rattle.hdmi_lines.specs.declared.line.Line.{Line}
@@ -46,19 +47,19 @@ block_sort b = at b.kind b.payload.items
     at OfTag0 p = refl
     at OfAudio p = refl
     at OfVideo p = refl
-    at OfVendor p = vendor (is_hdmi p) p
+    at OfVendor p = vendor (has_identifier p) p
     at OfSpeakers p = refl
     at OfTag5 p = refl
     at OfTag6 p = refl
     at OfExtended p = refl
 
-pub long_hdmi : (p : List ℕ) → is_hdmi p ≡ true → 5 ≤ length p
+pub long_hdmi : (p : List ℕ) → has_identifier p ≡ true → 5 ≤ length p
 long_hdmi p h = leb-true _ _ (both (nat_le 5 (length p)) _ (both _ _ (both _ _ h).0).0).0
 
 pub block_size : (b : Block) → size_of (block_line b).fields ≡ length (block_bytes b)
 block_size b = at b.kind b.payload.items
   where
-    vendor : (v : Bool) (p : List ℕ) → is_hdmi p ≡ v → size_of (cond v (address_line p) (bytes_line Vendor p)).fields ≡ suc (length p)
+    vendor : (v : Bool) (p : List ℕ) → has_identifier p ≡ v → size_of (cond v (address_line p) (bytes_line Vendor p)).fields ≡ suc (length p)
     vendor true p h = let long = long_hdmi p h in omega (arith, long, length-drop 5 p)
     vendor false p h = refl
 
@@ -66,7 +67,7 @@ block_size b = at b.kind b.payload.items
     at OfTag0 p = refl
     at OfAudio p = refl
     at OfVideo p = refl
-    at OfVendor p = vendor (is_hdmi p) p refl
+    at OfVendor p = vendor (has_identifier p) p refl
     at OfSpeakers p = refl
     at OfTag5 p = refl
     at OfTag6 p = refl
@@ -96,7 +97,7 @@ block_cases b l = at b.kind b.payload.items
     at OfTag0 p e = inr e
     at OfAudio p e = inr e
     at OfVideo p e = inr e
-    at OfVendor p e = vendor (is_hdmi p) p e
+    at OfVendor p e = vendor (has_identifier p) p e
     at OfSpeakers p e = inr e
     at OfTag5 p e = inr e
     at OfTag6 p e = inr e

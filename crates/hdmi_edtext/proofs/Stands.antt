@@ -12,7 +12,8 @@ use Rattle.hdmi_cta.specs.declared.block.BlockKind.TheVariants.{Tag0 as OfTag0, 
 use Rattle.hdmi_cta.specs.declared.raw.Ext.{Ext as AnyExt}
 use Rattle.hdmi_cta.specs.declared.raw.Ext.TheVariants.{Cta as OfCta, Bare as OfBareExt, Raw as OfRawExt}
 use Rattle.hdmi_edtext.specs.Drafts.{draft_lines, Follows, BlockFits, TimingFits, TailFits}
-use Rattle.hdmi_edtext.specs.Lines.{bytes_line, standard_line, descriptor_line, base_lines, is_hdmi, address_line, payload_line, block_line, ext_lines}
+use Rattle.hdmi_edtext.specs.Lines.{bytes_line, standard_line, descriptor_line, base_lines, address_line, payload_line, block_line, ext_lines}
+use Rattle.hdmi_cta.specs.Hdmi.{has_identifier}
 use Rattle.hdmi_edtext.specs.Words.{place_of, in_base, at_ext, in_timings, in_blocks, may_begin}
 use Rattle.hdmi_edtext.specs.declared.draft.Draft.{Draft}
 use Rattle.hdmi_edtext.specs.declared.draft.Draft.TheVariants.{Begun, Whole as OfWhole, Opened as OfOpened, Bare as OfBare}
@@ -84,7 +85,7 @@ block_stands b left h =
     let t : nat_le 1 left ≡ true = grind (arith, tests) in
     at b.kind b.payload.items t h
   where
-    vendor : (v : Bool) (p : List ℕ) → is_hdmi p ≡ v → nat_le 1 left ≡ true → suc (length p) ≤ left → in_blocks left (cond v (address_line p) (bytes_line Vendor p)).word ≡ true
+    vendor : (v : Bool) (p : List ℕ) → has_identifier p ≡ v → nat_le 1 left ≡ true → suc (length p) ≤ left → in_blocks left (cond v (address_line p) (bytes_line Vendor p)).word ≡ true
     vendor true p e t k = let long = long_hdmi p e in let six : 6 ≤ left = omega (arith, long, k) in grind (arith, tests)
     vendor false p e t k = t
 
@@ -92,7 +93,7 @@ block_stands b left h =
     at OfTag0 p t k = t
     at OfAudio p t k = t
     at OfVideo p t k = t
-    at OfVendor p t k = vendor (is_hdmi p) p refl t k
+    at OfVendor p t k = vendor (has_identifier p) p refl t k
     at OfSpeakers p t k = t
     at OfTag5 p t k = t
     at OfTag6 p t k = t

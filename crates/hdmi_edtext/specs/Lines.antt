@@ -1,5 +1,10 @@
 -- The lines of an EDID's text (own: this text is the project's).
-use Rattle.std.specs.Prelude.{ℕ, ◌==◌, Bool, ◌&&◌, nat_le, List, [], ◌∷◌, ◌++◌, length, map, drop, slice_index, Option, Some, None, codes, flat_map, if◌then◌else◌}
+use Rattle.std.specs.Prelude.{ℕ, ◌==◌, ◌&&◌, List, [], ◌∷◌, ◌++◌, length, map, drop, slice_index, Option, Some, None, codes, flat_map, if◌then◌else◌}
+use Rattle.hdmi_edid.specs.Chroma.{chroma_numbers}
+use Rattle.hdmi_edid.specs.Maker.{maker_letters}
+use Rattle.hdmi_edid.specs.Standard.{standard_numbers}
+use Rattle.hdmi_edid.specs.Timing.{timing_numbers}
+use Rattle.hdmi_cta.specs.Hdmi.{has_identifier}
 use Rattle.hdmi_edid.specs.declared.base.Base.{Base}
 use Rattle.hdmi_edid.specs.declared.base.Revision.{Revision}
 use Rattle.hdmi_edid.specs.declared.base.Revision.TheVariants.{Three, Four}
@@ -38,17 +43,9 @@ abbrev pub revision_letters : Revision → List ℕ
 revision_letters Three = codes "1.3"
 revision_letters Four = codes "1.4"
 
--- width, aspect bits, rate
 abbrev pub standard_line : Option StandardTiming → Line
 standard_line None = letters_line Standard (codes "unused")
-standard_line (Some s) = numbers_line Standard (s.width ∷ s.aspect ∷ s.rate ∷ [])
-
--- clock; active and blanking, horizontally and vertically; sync offset and width, in the same way; millimetres; borders
-abbrev pub timing_numbers : DetailedTiming → List ℕ
-timing_numbers t =
-    t.clock ∷ t.horizontal_active ∷ t.horizontal_blanking ∷ t.vertical_active ∷ t.vertical_blanking ∷
-    t.horizontal_sync_offset ∷ t.horizontal_sync_width ∷ t.vertical_sync_offset ∷ t.vertical_sync_width ∷
-    t.width ∷ t.height ∷ t.horizontal_border ∷ t.vertical_border ∷ []
+standard_line (Some s) = numbers_line Standard (standard_numbers s)
 
 -- the flags stand last, in hex
 abbrev pub timing_line : DetailedTiming → Line
@@ -63,15 +60,11 @@ descriptor_line (OfRange limits) = bytes_line Range limits.bytes
 descriptor_line OfDummy = record { word = Dummy; fields = Nothing }
 descriptor_line (OfRaw raw) = bytes_line Raw raw.bytes
 
--- red, green, blue and white, each with x and y
-abbrev pub chroma_numbers : Chromaticities → List ℕ
-chroma_numbers c = c.red.x ∷ c.red.y ∷ c.green.x ∷ c.green.y ∷ c.blue.x ∷ c.blue.y ∷ c.white.x ∷ c.white.y ∷ []
-
 -- what stands once in each base block
 abbrev pub head_lines : Base → List Line
 head_lines b =
     letters_line Edid (revision_letters b.revision) ∷
-    letters_line Maker (b.maker.first ∷ b.maker.second ∷ b.maker.third ∷ []) ∷
+    letters_line Maker (maker_letters b.maker) ∷
     numbers_line Product (b.product ∷ []) ∷
     numbers_line Serial (b.serial ∷ []) ∷
     numbers_line Made (b.week ∷ b.year ∷ []) ∷
@@ -95,15 +88,11 @@ kind_word OfTag5 = Tag5
 kind_word OfTag6 = Tag6
 kind_word OfExtended = Extended
 
--- the payload of a vendor block that is HDMI's: the identifier 000C03, low byte first, and two address bytes (HDMI 1.4, 8.3.2)
-abbrev pub is_hdmi : List ℕ → Bool
-is_hdmi p = nat_le 5 (length p) && (slice_index p 0 == 3) && (slice_index p 1 == 12) && (slice_index p 2 == 0)
-
 abbrev pub address_line : List ℕ → Line
 address_line p = record { word = Hdmi; fields = Address (record { high = slice_index p 3; low = slice_index p 4 }) (record { items = drop 5 p }) }
 
 abbrev pub vendor_line : List ℕ → Line
-vendor_line p = if is_hdmi p then address_line p else bytes_line Vendor p
+vendor_line p = if has_identifier p then address_line p else bytes_line Vendor p
 
 abbrev pub payload_line : BlockKind → List ℕ → Line
 payload_line OfVendor p = vendor_line p

@@ -4,10 +4,9 @@ ghost use Rattle.hdmi_cta.specs.declared.block.Block.{Block as BlockValue};
 ghost use Rattle.hdmi_edtext.specs.Lines.{address_line, block_line};
 
 use crate::line_to_value::{bytes_of, kind_of};
-use crate::value_to_lines::is_hdmi;
 use arrayvec::ArrayVec;
 use hdmi_core::Phys;
-use hdmi_cta::{Block, BlockKind};
+use hdmi_cta::{Block, BlockKind, has_identifier};
 use hdmi_lines::{Fields, Line, Word};
 
 /// The HDMI block with an address and the bytes behind it.
@@ -61,7 +60,7 @@ pub fn block_of(line: &Line) -> Option<Block>
     let Some(bytes) = bytes_of(line, line.word) else {
         return None;
     };
-    if bytes.len() > 31 || (kind == BlockKind::Vendor && is_hdmi(bytes)) {
+    if bytes.len() > 31 || (kind == BlockKind::Vendor && has_identifier(bytes)) {
         return None;
     }
     Some(plain_block(kind, bytes))

@@ -4,8 +4,8 @@ ghost use Rattle.hdmi_edid.specs.Bytes.{are_bytes};
 ghost use Rattle.hdmi_edid.specs.declared.base.Revision.{Revision as RevisionValue};
 ghost use Rattle.hdmi_edid.specs.declared.chroma.Chroma.{Chroma as ChromaValue};
 ghost use Rattle.hdmi_edid.specs.declared.descriptor.Descriptor.{Descriptor as DescriptorValue};
-ghost use Rattle.std.specs.List.{list_all};
-ghost use Rattle.hdmi_edid.specs.Chars.{is_char};
+ghost use Rattle.hdmi_edid.specs.Chroma.{chroma_numbers};
+ghost use Rattle.hdmi_edid.specs.Maker.{maker_letters};
 ghost use Rattle.hdmi_edid.specs.declared.descriptor.RangeLimits.{RangeLimits as RangeValue};
 ghost use Rattle.hdmi_edid.specs.declared.descriptor.RawDescriptor.{RawDescriptor as RawValue};
 ghost use Rattle.hdmi_edid.specs.declared.maker.Maker.{Maker as MakerValue};
@@ -14,12 +14,11 @@ ghost use Rattle.hdmi_edid.specs.declared.text.Text.{Text as TextValue};
 ghost use Rattle.hdmi_edid.specs.declared.timing.Timing.{Timing as TimingValue};
 ghost use Rattle.hdmi_cta.specs.declared.block.Block.{Block as BlockValue};
 ghost use Rattle.hdmi_cta.specs.declared.block.BlockKind.{BlockKind as KindValue};
-ghost use Rattle.hdmi_edtext.specs.Lines.{letters_line, numbers_line, bytes_line, quoted_line, revision_letters, standard_line, timing_numbers, timing_line, descriptor_line, chroma_numbers, kind_word, block_line};
+ghost use Rattle.hdmi_edtext.specs.Lines.{letters_line, numbers_line, bytes_line, quoted_line, revision_letters, standard_line, timing_line, descriptor_line, kind_word, block_line};
 
-use arrayvec::ArrayVec;
 use hdmi_cta::BlockKind;
 use hdmi_edid::{
-    Chroma, Descriptor, Maker, Point, RangeLimits, RawDescriptor, Revision, Standard, Text, Timing,
+    Chroma, Descriptor, Maker, RangeLimits, RawDescriptor, Revision, Standard, Text, Timing,
 };
 use hdmi_lines::{Fields, Line, Word};
 
@@ -148,90 +147,23 @@ pub fn revision_of(line: &Line) -> Option<Revision>
 /// The maker that a line tells.
 pub fn maker_of(line: &Line) -> Option<Maker>
     ensures { MatchOption result
-        ((m : MakerValue) → letters_line Word.Maker (m.first ∷ m.second ∷ m.third ∷ []) ≡ line.now → ⊥)
-        (λ m. letters_line Word.Maker (m.first ∷ m.second ∷ m.third ∷ []) ≡ line.now) }
+        ((m : MakerValue) → letters_line Word.Maker (maker_letters m) ≡ line.now → ⊥)
+        (λ m. letters_line Word.Maker (maker_letters m) ≡ line.now) }
 {
     let Some(letters) = letters_of(line, Word::Maker) else {
         return None;
     };
-    if letters.len() != 3 {
-        return None;
-    }
-    let (first, second, third) = (letters[0], letters[1], letters[2]);
-    if first < b'A'
-        || b'Z' < first
-        || second < b'A'
-        || b'Z' < second
-        || third < b'A'
-        || b'Z' < third
-    {
-        return None;
-    }
-    Some(Maker {
-        first,
-        second,
-        third,
-    })
+    Maker::new(letters)
 }
 
 /// The chromaticities that a line tells.
 pub fn chroma_of(line: &Line) -> Option<Chroma>
     ensures { MatchOption result ((c : ChromaValue) → numbers_line Word.Chroma (chroma_numbers c) ≡ line.now → ⊥) (λ c. numbers_line Word.Chroma (chroma_numbers c) ≡ line.now) }
 {
-    let Some(n) = numbers_of(line, Word::Chroma) else {
+    let Some(numbers) = numbers_of(line, Word::Chroma) else {
         return None;
     };
-    if n.len() != 8 {
-        return None;
-    }
-    if n[0] > 1023 || n[1] > 1023 || n[2] > 1023 || n[3] > 1023 {
-        return None;
-    }
-    if n[4] > 1023 || n[5] > 1023 || n[6] > 1023 || n[7] > 1023 {
-        return None;
-    }
-    Some(Chroma {
-        red: Point {
-            x: n[0] as u16,
-            y: n[1] as u16,
-        },
-        green: Point {
-            x: n[2] as u16,
-            y: n[3] as u16,
-        },
-        blue: Point {
-            x: n[4] as u16,
-            y: n[5] as u16,
-        },
-        white: Point {
-            x: n[6] as u16,
-            y: n[7] as u16,
-        },
-    })
-}
-
-/// The standard timing that three numbers are.
-fn used_standard(n: &[u32]) -> Option<Standard>
-    ensures { MatchOption result ((s : StandardValue) → s.width ∷ s.aspect ∷ s.rate ∷ [] ≡ n.now → ⊥) (λ s. s.width ∷ s.aspect ∷ s.rate ∷ [] ≡ n.now) }
-{
-    if n.len() != 3 {
-        return None;
-    }
-    let (width, aspect, rate) = (n[0], n[1], n[2]);
-    if width < 248 || width > 2288 || width % 8 != 0 {
-        return None;
-    }
-    if aspect > 3 || rate < 60 || rate > 123 {
-        return None;
-    }
-    if width == 256 && aspect == 0 && rate == 61 {
-        return None;
-    }
-    Some(Standard {
-        width: width as u16,
-        aspect: aspect as u8,
-        rate: rate as u8,
-    })
+    Chroma::new(numbers)
 }
 
 /// The standard timing that a line tells, or that one is unused.
@@ -248,7 +180,7 @@ pub fn standard_of(line: &Line) -> Option<Option<Standard>>
     let Some(numbers) = numbers_of(line, Word::Standard) else {
         return None;
     };
-    match used_standard(numbers) {
+    match Standard::new(numbers) {
         None => None,
         Some(standard) => Some(Some(standard)),
     }
@@ -262,71 +194,19 @@ pub fn timing_of(line: &Line) -> Option<Timing>
         return None;
     }
     match &line.fields {
-        Fields::Timed(numbers, flags) => timing_from(numbers.as_slice(), *flags),
+        Fields::Timed(numbers, flags) => Timing::new(numbers.as_slice(), *flags),
         _ => None,
     }
-}
-
-/// The detailed timing that thirteen numbers and flags are.
-fn timing_from(n: &[u32], flags: u8) -> Option<Timing>
-    ensures { MatchOption result ((t : TimingValue) → timing_numbers t ≡ n.now → t.flags ≡ flags → ⊥) (λ t. (timing_numbers t ≡ n.now) × (t.flags ≡ flags)) }
-{
-    if n.len() != 13 || n[0] == 0 || n[0] > 65535 {
-        return None;
-    }
-    if n[1] > 4095 || n[2] > 4095 || n[3] > 4095 || n[4] > 4095 {
-        return None;
-    }
-    if n[5] > 1023 || n[6] > 1023 || n[7] > 63 || n[8] > 63 {
-        return None;
-    }
-    if n[9] > 4095 || n[10] > 4095 || n[11] > 255 || n[12] > 255 {
-        return None;
-    }
-    Some(Timing {
-        clock: n[0] as u16,
-        horizontal_active: n[1] as u16,
-        horizontal_blanking: n[2] as u16,
-        vertical_active: n[3] as u16,
-        vertical_blanking: n[4] as u16,
-        horizontal_sync_offset: n[5] as u16,
-        horizontal_sync_width: n[6] as u16,
-        vertical_sync_offset: n[7] as u8,
-        vertical_sync_width: n[8] as u8,
-        width: n[9] as u16,
-        height: n[10] as u16,
-        horizontal_border: n[11] as u8,
-        vertical_border: n[12] as u8,
-        flags,
-    })
-}
-
-fn is_char(byte: u8) -> bool
-    ensures { result ≡ is_char byte }
-{
-    0x20 <= byte && byte <= 0x7e && byte != 0x22
-}
-
-/// Whether all characters may stand in a descriptor.
-fn are_chars(chars: &[u8]) -> bool
-    ensures { result ≡ list_all is_char chars.now }
-{
-    chars.iter().all(|byte| is_char(*byte))
 }
 
 /// The text of a descriptor that a line tells.
 fn text_of(line: &Line, word: Word) -> Option<Text>
     ensures { MatchOption result ((t : TextValue) → quoted_line word t.chars.items ≡ line.now → ⊥) (λ t. quoted_line word t.chars.items ≡ line.now) }
 {
-    let Some(text) = quoted_of(line, word) else {
+    let Some(chars) = quoted_of(line, word) else {
         return None;
     };
-    if text.len() > 13 || !are_chars(text) {
-        return None;
-    }
-    let mut chars = ArrayVec::new();
-    let _ = chars.try_extend_from_slice(text);
-    Some(Text { chars })
+    Text::new(chars)
 }
 
 /// The N bytes of a list.

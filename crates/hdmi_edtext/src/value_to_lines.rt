@@ -1,11 +1,11 @@
 //! The lines of an EDID's text.
 ghost use Rattle.std.specs.Prelude.{◌≡◌, ◌≤◌, ◌<◌, ◌+◌, ◌∷◌, [], Option, Some, None, length, take, slice_get, flat_map};
-ghost use Rattle.hdmi_edtext.specs.Lines.{letters_line, numbers_line, bytes_line, quoted_line, revision_letters, standard_line, timing_line, descriptor_line, head_lines, base_lines, kind_word, is_hdmi, block_line, trimmed, tail_line, cta_lines, bare_lines, ext_lines, edid_lines};
+ghost use Rattle.hdmi_edtext.specs.Lines.{letters_line, numbers_line, bytes_line, quoted_line, revision_letters, standard_line, timing_line, descriptor_line, head_lines, base_lines, kind_word, block_line, trimmed, tail_line, cta_lines, bare_lines, ext_lines, edid_lines};
 
 use arrayvec::ArrayVec;
 use hdmi_blocks::Edid;
 use hdmi_core::Phys;
-use hdmi_cta::{Bare, Block, BlockKind, Cta, Ext};
+use hdmi_cta::{Bare, Block, BlockKind, Cta, Ext, has_identifier};
 use hdmi_edid::{Base, Descriptor, Revision, Standard, Text, Timing};
 use hdmi_lines::{Fields, Line, Word};
 
@@ -83,19 +83,7 @@ fn head_line(base: &Base, number: usize) -> Line
         6 => numbers_line(Word::Size, &[u32::from(base.width), u32::from(base.height)]),
         7 => numbers_line(Word::Gamma, &[u32::from(base.gamma)]),
         8 => bytes_line(Word::Features, &[base.features]),
-        9 => numbers_line(
-            Word::Chroma,
-            &[
-                u32::from(base.chroma.red.x),
-                u32::from(base.chroma.red.y),
-                u32::from(base.chroma.green.x),
-                u32::from(base.chroma.green.y),
-                u32::from(base.chroma.blue.x),
-                u32::from(base.chroma.blue.y),
-                u32::from(base.chroma.white.x),
-                u32::from(base.chroma.white.y),
-            ],
-        ),
+        9 => numbers_line(Word::Chroma, &base.chroma.numbers()),
         _ => bytes_line(Word::Established, &base.established),
     }
 }
@@ -105,14 +93,7 @@ fn standard_line(standard: Option<Standard>) -> Line
 {
     match standard {
         None => letters_line(Word::Standard, b"unused"),
-        Some(timing) => numbers_line(
-            Word::Standard,
-            &[
-                u32::from(timing.width),
-                u32::from(timing.aspect),
-                u32::from(timing.rate),
-            ],
-        ),
+        Some(timing) => numbers_line(Word::Standard, &timing.numbers()),
     }
 }
 
@@ -120,21 +101,7 @@ fn timing_line(timing: &Timing) -> Line
     ensures { result ≡ timing_line timing.now }
 {
     let mut numbers = ArrayVec::new();
-    let _ = numbers.try_extend_from_slice(&[
-        u32::from(timing.clock),
-        u32::from(timing.horizontal_active),
-        u32::from(timing.horizontal_blanking),
-        u32::from(timing.vertical_active),
-        u32::from(timing.vertical_blanking),
-        u32::from(timing.horizontal_sync_offset),
-        u32::from(timing.horizontal_sync_width),
-        u32::from(timing.vertical_sync_offset),
-        u32::from(timing.vertical_sync_width),
-        u32::from(timing.width),
-        u32::from(timing.height),
-        u32::from(timing.horizontal_border),
-        u32::from(timing.vertical_border),
-    ]);
+    let _ = numbers.try_extend_from_slice(&timing.numbers());
     Line {
         word: Word::Timing,
         fields: Fields::Timed(numbers, timing.flags),
@@ -187,17 +154,11 @@ fn kind_word(kind: BlockKind) -> Word
     }
 }
 
-pub fn is_hdmi(payload: &[u8]) -> bool
-    ensures { result ≡ is_hdmi payload.now }
-{
-    payload.len() >= 5 && payload[0] == 0x03 && payload[1] == 0x0c && payload[2] == 0x00
-}
-
 fn block_line(block: &Block) -> Line
     ensures { result ≡ block_line block.now }
 {
     let payload = block.payload.as_slice();
-    if block.kind != BlockKind::Vendor || !is_hdmi(payload) {
+    if block.kind != BlockKind::Vendor || !has_identifier(payload) {
         return bytes_line(kind_word(block.kind), payload);
     }
     let mut field = ArrayVec::new();

@@ -85,81 +85,78 @@ pub struct Line {
     pub fields: Fields,
 }
 
-/// All words, in the order of their declaration.
-pub const WORDS: [Word; 32] = [
-    Word::Edid,
-    Word::Maker,
-    Word::Product,
-    Word::Serial,
-    Word::Made,
-    Word::Input,
-    Word::Size,
-    Word::Gamma,
-    Word::Features,
-    Word::Chroma,
-    Word::Established,
-    Word::Standard,
-    Word::Timing,
-    Word::Name,
-    Word::Text,
-    Word::SerialText,
-    Word::Range,
-    Word::Dummy,
-    Word::Raw,
-    Word::Cta,
-    Word::CtaNone,
-    Word::Tag0,
-    Word::Audio,
-    Word::Video,
-    Word::Vendor,
-    Word::Speakers,
-    Word::Tag5,
-    Word::Tag6,
-    Word::Extended,
-    Word::Hdmi,
-    Word::Tail,
-    Word::Ext,
-];
+// The words, a row each, in the order of their declaration: how a word stands in a text, and what stands behind it.
+macro_rules! words {
+    ($make:ident, $word:expr) => {
+        $make! {
+            $word,
+            Edid "edid" Three;
+            Maker "maker" Three;
+            Product "product" One;
+            Serial "serial" One;
+            Made "made" Two;
+            Input "input" Hex;
+            Size "size" Two;
+            Gamma "gamma" One;
+            Features "features" Hex;
+            Chroma "chroma" Eight;
+            Established "established" Hex;
+            Standard "standard" Unused;
+            Timing "timing" Timing;
+            Name "name" Quoted;
+            Text "text" Quoted;
+            SerialText "serial-text" Quoted;
+            Range "range" Hex;
+            Dummy "dummy" Empty;
+            Raw "raw" Hex;
+            Cta "cta" Hex;
+            CtaNone "cta-none" Hex;
+            Tag0 "tag0" Hex;
+            Audio "audio" Hex;
+            Video "video" Hex;
+            Vendor "vendor" Hex;
+            Speakers "speakers" Hex;
+            Tag5 "tag5" Hex;
+            Tag6 "tag6" Hex;
+            Extended "extended" Hex;
+            Hdmi "hdmi" Address;
+            Tail "tail" Hex;
+            Ext "ext" Hex;
+        }
+    };
+}
+
+macro_rules! listed {
+    ($unused:expr, $($word:ident $text:literal $form:ident;)*) => {
+        [$(Word::$word,)*]
+    };
+}
+
+macro_rules! form_match {
+    ($at:expr, $($word:ident $text:literal $form:ident;)*) => {
+        match $at {
+            $(Word::$word => Form::$form,)*
+        }
+    };
+}
+
+macro_rules! text_match {
+    ($at:expr, $($word:ident $text:literal $form:ident;)*) => {
+        match $at {
+            $(Word::$word => $text,)*
+        }
+    };
+}
+
+/// All words.
+pub const WORDS: [Word; 32] = words!(listed, 0);
 
 impl Word {
     /// What stands behind the word.
     pub fn form(self) -> Form
         ensures { result ≡ form_of self }
     {
-        match self {
-            Word::Edid => Form::Three,
-            Word::Maker => Form::Three,
-            Word::Product => Form::One,
-            Word::Serial => Form::One,
-            Word::Made => Form::Two,
-            Word::Input => Form::Hex,
-            Word::Size => Form::Two,
-            Word::Gamma => Form::One,
-            Word::Features => Form::Hex,
-            Word::Chroma => Form::Eight,
-            Word::Established => Form::Hex,
-            Word::Standard => Form::Unused,
-            Word::Timing => Form::Timing,
-            Word::Name => Form::Quoted,
-            Word::Text => Form::Quoted,
-            Word::SerialText => Form::Quoted,
-            Word::Range => Form::Hex,
-            Word::Dummy => Form::Empty,
-            Word::Raw => Form::Hex,
-            Word::Cta => Form::Hex,
-            Word::CtaNone => Form::Hex,
-            Word::Tag0 => Form::Hex,
-            Word::Audio => Form::Hex,
-            Word::Video => Form::Hex,
-            Word::Vendor => Form::Hex,
-            Word::Speakers => Form::Hex,
-            Word::Tag5 => Form::Hex,
-            Word::Tag6 => Form::Hex,
-            Word::Extended => Form::Hex,
-            Word::Hdmi => Form::Address,
-            Word::Tail => Form::Hex,
-            Word::Ext => Form::Hex,
-        }
+        words!(form_match, self)
     }
 
     /// The word as it stands in a text.
@@ -167,39 +164,6 @@ impl Word {
         ensures value { result.now ≡ word_text self }
         ensures short { length result.now ≤ 11 }
     {
-        match self {
-            Word::Edid => "edid",
-            Word::Maker => "maker",
-            Word::Product => "product",
-            Word::Serial => "serial",
-            Word::Made => "made",
-            Word::Input => "input",
-            Word::Size => "size",
-            Word::Gamma => "gamma",
-            Word::Features => "features",
-            Word::Chroma => "chroma",
-            Word::Established => "established",
-            Word::Standard => "standard",
-            Word::Timing => "timing",
-            Word::Name => "name",
-            Word::Text => "text",
-            Word::SerialText => "serial-text",
-            Word::Range => "range",
-            Word::Dummy => "dummy",
-            Word::Raw => "raw",
-            Word::Cta => "cta",
-            Word::CtaNone => "cta-none",
-            Word::Tag0 => "tag0",
-            Word::Audio => "audio",
-            Word::Video => "video",
-            Word::Vendor => "vendor",
-            Word::Speakers => "speakers",
-            Word::Tag5 => "tag5",
-            Word::Tag6 => "tag6",
-            Word::Extended => "extended",
-            Word::Hdmi => "hdmi",
-            Word::Tail => "tail",
-            Word::Ext => "ext",
-        }
+        words!(text_match, self)
     }
 }

@@ -2,21 +2,11 @@
 ghost use Rattle.std.specs.Prelude.{◌≡◌, ◌≤◌, ◌<◌, ◌+◌, ◌*◌, ◌++◌, ◌∷◌, [], length, flat_map};
 ghost use Rattle.arrayvec.specs.ArrayVec.{array_vec_len};
 ghost use Rattle.hex.specs.Hex.{encode_lower};
-ghost use Rattle.hdmi_core.specs.Piece.{phys_text};
 ghost use Rattle.hdmi_lines.specs.Text.{number_text, hex_word, fields_text, line_text};
 
 use crate::line::{Fields, Line};
 use arrayvec::ArrayVec;
-use hdmi_core::{Phys, hex_digit};
-
-/// Appends bytes for which there is room.
-fn append(text: &mut ArrayVec<u8, 300>, bytes: &[u8])
-    requires { array_vec_len text.old + length bytes.now ≤ 300 }
-    ensures items { text.new.items ≡ text.old.items ++ bytes.now }
-    ensures len { array_vec_len text.new ≡ array_vec_len text.old + length bytes.now }
-{
-    let _ = text.try_extend_from_slice(bytes);
-}
+use hdmi_edid::append;
 
 /// Appends a space and a number.
 fn append_number(text: &mut ArrayVec<u8, 300>, number: u32)
@@ -68,20 +58,6 @@ fn append_bytes(text: &mut ArrayVec<u8, 300>, bytes: &[u8])
     }
 }
 
-fn phys_bytes(phys: Phys) -> [u8; 7]
-    ensures { result ≡ phys_text phys }
-{
-    [
-        hex_digit(phys.high / 16),
-        b'.',
-        hex_digit(phys.high % 16),
-        b'.',
-        hex_digit(phys.low / 16),
-        b'.',
-        hex_digit(phys.low % 16),
-    ]
-}
-
 /// Appends the fields of a line.
 fn append_fields(text: &mut ArrayVec<u8, 300>, fields: &Fields)
     requires { array_vec_len text.old ≤ 11 }
@@ -103,7 +79,7 @@ fn append_fields(text: &mut ArrayVec<u8, 300>, fields: &Fields)
         Fields::Bytes(bytes) => append_bytes(text, bytes.as_slice()),
         Fields::Address(phys, bytes) => {
             append(text, b" ");
-            append(text, &phys_bytes(*phys));
+            append(text, &phys.text());
             append_bytes(text, bytes.as_slice());
         }
         Fields::Quoted(chars) => {

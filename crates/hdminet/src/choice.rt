@@ -2,7 +2,7 @@
 use crate::help;
 use clap::error::ErrorKind;
 use clap::{Arg, ArgAction, ArgMatches, Command, Error};
-use hdminet_help::Input;
+use hdminet_help::{Input, frame_forms};
 use std::alloc::{AllocError, Global};
 
 /// What the words of a command line ask for.
@@ -74,10 +74,27 @@ fn run_command<'a>(alloc: Global) -> Result<Command<'a>, AllocError> {
         .arg(edges)
 }
 
-fn command<'a>(alloc: Global) -> Result<Command<'a>, AllocError> {
+// What follows the help of `asm`: with the forms of frames from the tables, where help is asked for.
+fn asm_help(alloc: Global, words: &[String]) -> Result<String, AllocError> {
+    if !words
+        .iter()
+        .any(|word| word.as_str() == "--help" || word.as_str() == "-h")
+    {
+        return String::from_str(alloc, help::ASM_HELP);
+    }
+    let forms = frame_forms(alloc)?;
+    format!(in alloc;
+        "{}\n\n{}\n{}",
+        help::ASM_HELP,
+        help::ASM_FORMS,
+        forms.trim_end()
+    )
+}
+
+fn command<'a>(alloc: Global, asm_help: &'a str) -> Result<Command<'a>, AllocError> {
     let asm = Command::new(alloc, "asm")
         .about(help::ASM_ABOUT)
-        .after_help(help::ASM_HELP);
+        .after_help(asm_help);
     let mon = Command::new(alloc, "mon")
         .about(help::MON_ABOUT)
         .after_help(help::MON_HELP);
@@ -112,7 +129,8 @@ fn choice_of(matches: &ArgMatches<'_>) -> Choice {
 
 /// Reads a command line. With no word after the program's name it is `run`.
 pub fn choose(alloc: Global, words: &[String]) -> Result<Asked, Error> {
-    let matches = command(alloc)?.try_get_matches_from(words)?;
+    let asm_help = asm_help(alloc, words)?;
+    let matches = command(alloc, asm_help.as_str())?.try_get_matches_from(words)?;
     Ok(Asked {
         choice: choice_of(&matches),
         explains: matches.get_flag("explain"),

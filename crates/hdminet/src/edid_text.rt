@@ -69,6 +69,8 @@ impl From<TextError> for TextToHexError {
 ///
 /// `Edid` with the first reason why they spell none: then nothing was written. `Write` where the sink takes no more:
 /// then the front of the text was written, as long as it tells.
+// An EDID and its text are large: the frame of the caller is kept free of them.
+#[inline(never)]
 pub fn edid_to_text<S: Sink>(bytes: &[u8], out: &mut S) -> Result<(), EdidToTextError>
     ensures answers { TextAnswers (S.contents out.old) (S.contents out.new) (S.is_stuck out.old) (S.is_stuck out.new) bytes.now result }
     ensures write { S.is_stuck out.old ≡ false → (IsTrue (is_text_cut result) ↔ IsTrue (S.is_stuck out.new)) }
@@ -94,6 +96,8 @@ fn write_hex_line<S: Sink>(bytes: &[u8], out: &mut S) -> Result<u128, WriteFault
 /// `Syntax` or `Field` with the first line that no EDID's text has there: then nothing was written. `Write` where the
 /// sink takes no more: then the front of the line was written, as long as it tells. Nothing takes memory today, so
 /// `Memory` does not come.
+// An EDID and its text are large: the frame of the caller is kept free of them.
+#[inline(never)]
 pub fn text_to_hex<S: Sink>(alloc: Global, text: &[u8], out: &mut S) -> Result<(), TextToHexError>
     ensures answers { HexAnswers (S.contents out.old) (S.contents out.new) (S.is_stuck out.old) (S.is_stuck out.new) text.now result }
     ensures write { S.is_stuck out.old ≡ false → (IsTrue (is_hex_cut result) ↔ IsTrue (S.is_stuck out.new)) }

@@ -53,7 +53,7 @@ The input has two parts, parted by a line `script`. Lines that are empty or begi
 skipped. Words stand one space apart. Times are microseconds.
 
 The topology declares the devices and how they are plugged together at the start:
-  device NAME KIND PORTS        KIND is tv, amp, player, recorder or switch; PORTS is 0 to 15
+  device NAME KIND PORTS        KIND is tv, amp, player, recorder, switch or combo; PORTS is 0 to 15
   plug CHILD PARENT PORT        into a port of a device declared above, counted from 1
   edid HEX                      the television's EDID, once at most; its ports pass it on
 
@@ -68,7 +68,7 @@ The script says what happens, in the order of its times, and when the run ends:
   end T                         the last line
 
 Keys, by the kinds that have them:
-  play, stop, eject, load, menu                     player, recorder
+  play, stop, eject, load, menu                     player, recorder, combo
   power                                             all
   watch PA, audio on, audio off, language LLL       tv
   remote D CODE                 D is 1 to e         tv
@@ -184,6 +184,11 @@ is the first of these that applies:
 
 Exit status: 0 done; 1 input refused; 2 command line refused; 3 a read or write fault, or input
 past 1048576 bytes; 4 no memory.";
+
+/// What the list of the forms of frames begins with.
+pub const ASM_FORMS: &str = "\
+The frames of each opcode that has a name, by its hex digits, behind `I>D` and a space; what stands in
+brackets may be left out:";
 
 pub const MON_ABOUT: &str = "Prints what was read on a captured line";
 

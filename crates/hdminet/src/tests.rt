@@ -11,6 +11,7 @@ mod edids;
 mod example_lines;
 mod examples;
 mod explained;
+mod frame_help;
 mod frames;
 mod hostile;
 mod limits;
@@ -214,6 +215,15 @@ fn cuts_everywhere(
         writes_front(rt, alloc, texts, input, front)?;
     }
     Ok(())
+}
+
+/// The words of a command line, one space apart.
+fn parted<'a>(alloc: Global, line: &'a str) -> Result<Vec<&'a str>, Fail> {
+    let mut texts = Vec::new(alloc);
+    for word in line.split(' ') {
+        texts.push(word)?;
+    }
+    Ok(texts)
 }
 
 /// A text with a line feed for each `;`.

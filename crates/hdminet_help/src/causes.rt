@@ -7,7 +7,7 @@ type Row = (&'static str, &'static str);
 const TOPOLOGY: [Row; 11] = [
     (
         "word",
-        "KIND is tv, amp, player, recorder or switch; words stand one space apart; `edid` comes once",
+        "KIND is tv, amp, player, recorder, switch or combo; words stand one space apart; `edid` comes once",
     ),
     (
         "number",
@@ -102,7 +102,7 @@ const LINES: [Row; 7] = [
     ),
     (
         "line",
-        "a line is `T 0` for a fall or `T 1` for a rise, and the last one `T end`, T decimal microseconds",
+        "a line is `T 0` for a fall or `T 1` for a rise, and the last one `T end`, T decimal microseconds, 0 to 2000000000000",
     ),
     (
         "order",

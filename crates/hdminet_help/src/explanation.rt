@@ -1,9 +1,12 @@
 //! What follows the line of a fault.
 use crate::causes::right;
+use crate::edges::in_edges;
 use crate::fault::{Fault, Part, read_fault};
+use crate::frames::add_frame;
 use crate::grammar::{EDID_WORDS, KEYS, KEYWORDS, KINDS, SCRIPT, TOPOLOGY, fitting, most_fitting};
 use crate::hints::{is_shown, of_edid, of_line, of_text};
 use crate::marks::{Mark, marked};
+use crate::order::order;
 use crate::words::{Word, is_near, words_of};
 use cec_opcode::name;
 use std::alloc::{AllocError, Global};
@@ -266,7 +269,10 @@ fn add_place(
     } else {
         "\n"
     })?;
-    let mark = marked(fault, &words, &names);
+    let mark = match (fault.part, fault.cause) {
+        (Part::Lines, "line" | "order") => in_edges(fault.cause, input, place.number, &words),
+        _ => marked(fault, &words, &names),
+    };
     if let Some(mark) = mark {
         add_mark(text, head.len(), &words, mark)?;
     }
@@ -274,6 +280,12 @@ fn add_place(
     match (fault.part, fault.cause) {
         (Part::Topology, "word") => add_forms(text, TOPOLOGY.as_slice(), &words)?,
         (Part::Script, "word") => add_forms(text, SCRIPT.as_slice(), &words)?,
+        (Part::Script, "order") => add_order(text, alloc, input, place)?,
+        _ => {}
+    }
+    match (fault.part, fault.cause.strip_prefix("frame ")) {
+        (Part::Script, Some(cause)) => add_frame(text, alloc, cause, &words, 4)?,
+        (Part::Lines, _) => add_frame(text, alloc, fault.cause, &words, 0)?,
         _ => {}
     }
     if let Some(mark) = mark {
@@ -284,11 +296,29 @@ fn add_place(
     Ok(())
 }
 
-// How long an input is that is no EDID by its length.
+// Which line of a script is earlier than which.
+fn add_order(
+    text: &mut String,
+    alloc: Global,
+    input: &[u8],
+    place: Place<'_>,
+) -> Result<(), AllocError> {
+    let script = lines_before(Part::Script, input);
+    match order(alloc, input, script, place.number, place.line)? {
+        Some(said) => add_line(text, said.as_str()),
+        None => Ok(()),
+    }
+}
+
+// How long an input is that is no EDID by its length: whole blocks and more, or a count of bytes that is none's.
 fn add_length(text: &mut String, alloc: Global, length: usize) -> Result<(), AllocError> {
     let more = length % 128;
     let blocks = length.saturating_sub(more);
-    let line = format!(in alloc; "the input has {blocks} bytes and {more} more")?;
+    let line = if blocks == 0 || more == 0 {
+        format!(in alloc; "the input has {length} bytes; an EDID has 128, 256, 384 or 512")?
+    } else {
+        format!(in alloc; "the input has {blocks} bytes and {more} more")?
+    };
     add_line(text, line.as_str())
 }
 

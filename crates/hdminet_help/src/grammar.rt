@@ -20,7 +20,7 @@ pub const SCRIPT: [&str; 7] = [
 ];
 
 /// The words that stand for a KIND.
-pub const KINDS: [&str; 5] = ["tv", "amp", "player", "recorder", "switch"];
+pub const KINDS: [&str; 6] = ["tv", "amp", "player", "recorder", "switch", "combo"];
 
 /// The words that a KEY is, or begins with.
 pub const KEYS: [&str; 15] = [

@@ -4,13 +4,17 @@
 #![tactic(auto)]
 
 mod causes;
+mod edges;
 mod explanation;
 mod fault;
+mod frames;
 mod grammar;
 mod hints;
 mod marks;
+mod order;
 #[cfg(test)]
 mod tests;
 mod words;
 
 pub use explanation::{Input, counts, explain};
+pub use frames::frame_forms;

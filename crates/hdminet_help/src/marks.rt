@@ -13,29 +13,31 @@ pub struct Mark {
 /// The greatest instant of a script, in microseconds.
 const LAST_INSTANT: u64 = 1_000_000_000_000;
 
-fn one(word: usize) -> Option<Mark> {
+/// One word.
+pub fn one(word: usize) -> Option<Mark> {
     Some(Mark {
         first: word,
         last: word,
     })
 }
 
-// All words from one on.
-fn from(word: usize) -> Option<Mark> {
+/// All words from one on.
+pub fn from(word: usize) -> Option<Mark> {
     Some(Mark {
         first: word,
         last: usize::MAX,
     })
 }
 
-// Whether a word is an instant's number.
-fn is_instant(word: &str) -> bool {
+/// Whether a word is a decimal number up to a limit, with no zero before it.
+pub fn is_number(word: &str, limit: u64) -> bool {
     let is_plain = word.bytes().all(|byte| byte.is_ascii_digit());
     let is_short = word == "0" || !word.starts_with("0");
-    is_plain && is_short && matches!(word.parse::<u64>(), Ok(instant) if instant <= LAST_INSTANT)
+    is_plain && is_short && matches!(word.parse::<u64>(), Ok(number) if number <= limit)
 }
 
-fn is_word(words: &[Word<'_>], index: usize, text: &str) -> bool {
+/// Whether a line has this word there.
+pub fn is_word(words: &[Word<'_>], index: usize, text: &str) -> bool {
     match words.get(index) {
         Some(word) => word.text == text,
         None => false,
@@ -73,7 +75,7 @@ fn in_topology(cause: &str, words: &[Word<'_>], declared: &[&str]) -> Option<Mar
 // The number of a script's line that is none, or else the last word.
 fn number_in_script(words: &[Word<'_>]) -> Option<Mark> {
     match words.get(1) {
-        Some(word) if is_instant(word.text) => from(words.len().saturating_sub(1)),
+        Some(word) if is_number(word.text, LAST_INSTANT) => from(words.len().saturating_sub(1)),
         _ => one(1),
     }
 }
@@ -107,7 +109,6 @@ pub fn marked(fault: Fault<'_>, words: &[Word<'_>], declared: &[&str]) -> Option
             Some(cause) => in_frame(cause, 4),
             None => in_script(fault.cause, words, declared),
         },
-        Part::Lines if fault.cause == "line" || fault.cause == "order" => one(0),
         Part::Lines => in_frame(fault.cause, 0),
         Part::EdidText if fault.cause.starts_with("field") => from(1),
         Part::EdidText | Part::Steps => one(0),

@@ -7,7 +7,7 @@ use std::test::Fail;
 /// An input, the fault that it is refused with, and the lines that explain it.
 type Case = (&'static [u8], &'static str, &'static str);
 
-const NETWORKS: [Case; 12] = [
+const NETWORKS: [Case; 15] = [
     (
         b"device tv tv 4\ndevice p1 playr 0\nscript\nend 5\n",
         "topology line 2: word",
@@ -15,7 +15,7 @@ const NETWORKS: [Case; 12] = [
                     ^^^^^
   a line here reads `device NAME KIND PORTS`
   `playr`: did you mean `player`?
-  KIND is tv, amp, player, recorder or switch; words stand one space apart; `edid` comes once
+  KIND is tv, amp, player, recorder, switch or combo; words stand one space apart; `edid` comes once
 ",
     ),
     (
@@ -25,7 +25,7 @@ const NETWORKS: [Case; 12] = [
           ^^^^^^
   a line here reads `device NAME KIND PORTS`, `plug CHILD PARENT PORT`, `edid HEX`
   `DEVICE`: did you mean `device`?
-  KIND is tv, amp, player, recorder or switch; words stand one space apart; `edid` comes once
+  KIND is tv, amp, player, recorder, switch or combo; words stand one space apart; `edid` comes once
 ",
     ),
     (
@@ -35,7 +35,7 @@ const NETWORKS: [Case; 12] = [
           ^^^^^^^^^
   this line has bytes that are no printable text; `.` stands for each
   a line here reads `device NAME KIND PORTS`, `plug CHILD PARENT PORT`, `edid HEX`
-  KIND is tv, amp, player, recorder or switch; words stand one space apart; `edid` comes once
+  KIND is tv, amp, player, recorder, switch or combo; words stand one space apart; `edid` comes once
   the input begins with a byte order mark, ef bb bf, which is no part of the text
 ",
     ),
@@ -106,6 +106,34 @@ const NETWORKS: [Case; 12] = [
 ",
     ),
     (
+        b"device tv tv 4\nscript\nat 9 press tv power\n# later\nat 5 press tv power\nend 10\n",
+        "script line 3: order",
+        "  line 5: at 5 press tv power
+             ^
+  the time of line 5, 5, is before that of line 3, 9
+  times do not go back: each T is that of the line before it or later, and a pulse begins after the end of the last one
+",
+    ),
+    (
+        b"device tv tv 4\nscript\npulse 1000 500\npulse 1400 9\nend 9000\n",
+        "script line 2: order",
+        "  line 4: pulse 1400 9
+                ^^^^
+  the pulse of line 4 begins at 1400, before that of line 3 ends, at 1500
+  times do not go back: each T is that of the line before it or later, and a pulse begins after the end of the last one
+",
+    ),
+    (
+        b"device tv tv 4\nscript\nat 5 send tv 0>f set-menu-language english\nend 9\n",
+        "script line 1: frame operand",
+        "  line 3: at 5 send tv 0>f set-menu-language english
+                                             ^^^^^^^
+  a frame here reads `I>D set-menu-language LANG`
+  LANG is three letters, a to z
+  operands are the opcode's words, as docs/formats.md has them; as hex, `:` and two lower-case digits a byte, where no word says them
+",
+    ),
+    (
         b"device tv tv 4\nedid 00ff\nscript\nend 9\n",
         "edid: length",
         "  line 2: edid 00ff
@@ -115,7 +143,7 @@ const NETWORKS: [Case; 12] = [
     ),
 ];
 
-const FRAMES: [Case; 5] = [
+const FRAMES: [Case; 12] = [
     (
         b"4>4\n4>0 pley forward\n",
         "line 2: name",
@@ -148,7 +176,68 @@ const FRAMES: [Case; 5] = [
         "line 1: operand",
         "  line 1: 4>0 play FORWARD x
                    ^^^^^^^^^
+  a frame here reads `I>D play MODE`
+  MODE is forward, still, ff-min, ff-mid, ff-max, fr-min, fr-mid, fr-max
   operands are the opcode's words, as docs/formats.md has them; as hex, `:` and two lower-case digits a byte, where no word says them
+",
+    ),
+    (
+        b"4>f op-82 1.0.0.0\n",
+        "line 1: name",
+        "  line 1: 4>f op-82 1.0.0.0
+              ^^^^^
+  the opcode 82 has a name, `active-source`, which stands in place of `op-82`
+  after `I>D` and one space comes an opcode's name, or `op-XX` for an opcode that has none
+",
+    ),
+    (
+        b"4>0 op-E5 :\n",
+        "line 1: name",
+        "  line 1: 4>0 op-E5 :
+              ^^^^^
+  the opcode e5 has no name; `op-e5` stands for it
+  after `I>D` and one space comes an opcode's name, or `op-XX` for an opcode that has none
+",
+    ),
+    (
+        b"4>0 give-osd-name 5\n",
+        "line 1: count",
+        "  line 1: 4>0 give-osd-name 5
+                            ^
+  a frame here reads `I>D give-osd-name`
+  the opcode takes another number of words; words stand one space apart
+",
+    ),
+    (
+        b"10 0\n20 0\n",
+        "line 2: order",
+        "  line 2: 20 0
+             ^
+  falls and rises take turns, from a fall on, each later than the one before; `end` is not before the last
+",
+    ),
+    (
+        b"10 0\n# a rise\n5 1\n",
+        "line 3: order",
+        "  line 3: 5 1
+          ^
+  falls and rises take turns, from a fall on, each later than the one before; `end` is not before the last
+",
+    ),
+    (
+        b"10 0\n20 2\n",
+        "line 2: line",
+        "  line 2: 20 2
+             ^
+  a line is `T 0` for a fall or `T 1` for a rise, and the last one `T end`, T decimal microseconds, 0 to 2000000000000
+",
+    ),
+    (
+        b"10 0\n2000000000001 1\n",
+        "line 2: line",
+        "  line 2: 2000000000001 1
+          ^^^^^^^^^^^^^
+  a line is `T 0` for a fall or `T 1` for a rise, and the last one `T end`, T decimal microseconds, 0 to 2000000000000
 ",
     ),
     (
@@ -168,7 +257,7 @@ const EDIDS: [Case; 5] = [
         "edid: length",
         "  an EDID has 128, 256, 384 or 512 bytes: a base block and up to three extensions of 128 bytes each
   this looks like a hex dump; `xxd -r -p` makes bytes of it
-  the input has 0 bytes and 22 more
+  the input has 22 bytes; an EDID has 128, 256, 384 or 512
 ",
     ),
     (
@@ -176,7 +265,7 @@ const EDIDS: [Case; 5] = [
         "edid: length",
         "  an EDID has 128, 256, 384 or 512 bytes: a base block and up to three extensions of 128 bytes each
   this looks like a hex dump; `xxd -r` makes bytes of one that `xxd` made
-  the input has 0 bytes and 34 more
+  the input has 34 bytes; an EDID has 128, 256, 384 or 512
 ",
     ),
     (
@@ -184,7 +273,7 @@ const EDIDS: [Case; 5] = [
         "edid: length",
         "  an EDID has 128, 256, 384 or 512 bytes: a base block and up to three extensions of 128 bytes each
   the input is empty
-  the input has 0 bytes and 0 more
+  the input has 0 bytes; an EDID has 128, 256, 384 or 512
 ",
     ),
     (
@@ -192,7 +281,7 @@ const EDIDS: [Case; 5] = [
         "edid: length",
         "  an EDID has 128, 256, 384 or 512 bytes: a base block and up to three extensions of 128 bytes each
   this looks like the text of an EDID, which `edid --text` reads
-  the input has 0 bytes and 19 more
+  the input has 19 bytes; an EDID has 128, 256, 384 or 512
 ",
     ),
     (

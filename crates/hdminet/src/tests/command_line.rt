@@ -44,25 +44,34 @@ fn explains_itself(rt: HostRuntime) -> Result<(), Fail> {
     shows(&rt, alloc, ["--version"].as_slice(), "hdminet 0.1.0\n")
 }
 
+/// Words that are no command line.
+const REFUSED: &str = "\
+frob
+--frob
+--edges
+run --edges --edges
+run tv.net
+asm --text
+edid --hex
+edid --text --text
+mon --edges
+step
+";
+
+/// The program refuses these words.
+fn is_refused(rt: &impl Abort, alloc: Global, texts: &[&str]) -> Result<(), Fail> {
+    let told = answer_to(alloc, texts, &mut "".as_bytes())?;
+    assert_eq!(rt; told.status, 2);
+    assert_eq!(rt; told.out.len(), 0);
+    assert!(rt; !told.err.is_empty());
+    Ok(())
+}
+
 #[test]
 fn refuses_other_command_lines(rt: HostRuntime) -> Result<(), Fail> {
     let alloc = rt.alloc();
-    for texts in [
-        ["frob"].as_slice(),
-        ["--frob"].as_slice(),
-        ["--edges"].as_slice(),
-        ["run", "--edges", "--edges"].as_slice(),
-        ["run", "tv.net"].as_slice(),
-        ["asm", "--text"].as_slice(),
-        ["edid", "--hex"].as_slice(),
-        ["edid", "--text", "--text"].as_slice(),
-        ["mon", "--edges"].as_slice(),
-        ["step"].as_slice(),
-    ] {
-        let told = answer_to(alloc, texts, &mut "".as_bytes())?;
-        assert_eq!(rt; told.status, 2);
-        assert_eq!(rt; told.out.len(), 0);
-        assert!(rt; !told.err.is_empty());
+    for line in REFUSED.lines() {
+        is_refused(&rt, alloc, &parted(alloc, line)?)?;
     }
     Ok(())
 }
@@ -80,24 +89,27 @@ fn tells_that_help_was_not_written(rt: HostRuntime) -> Result<(), Fail> {
     Ok(())
 }
 
+/// The program tells of a fault so, and ends with this status.
+fn tells(
+    rt: &impl Abort,
+    alloc: Global,
+    fault: &Fault,
+    text: &str,
+    status: u8,
+) -> Result<(), Fail> {
+    let mut err = Vec::new(alloc);
+    assert_eq!(rt; tell(fault, &mut Writes::new(&mut err)), status);
+    assert_eq!(rt; err.as_slice(), text.as_bytes());
+    Ok(())
+}
+
 #[test]
 fn tells_why_it_has_no_words_or_no_memory(rt: HostRuntime) -> Result<(), Fail> {
-    for (fault, text, status) in [
-        (Fault::Memory(AllocError), "hdminet: no memory\n", 4),
-        (
-            Fault::of_words(io::Error::from(ErrorKind::OutOfMemory)),
-            "hdminet: no memory\n",
-            4,
-        ),
-        (
-            Fault::of_words(io::Error::from(ErrorKind::InvalidData)),
-            "hdminet: an argument is not UTF-8\n",
-            2,
-        ),
-    ] {
-        let mut err = Vec::new(rt.alloc());
-        assert_eq!(rt; tell(&fault, &mut Writes::new(&mut err)), status);
-        assert_eq!(rt; err.as_slice(), text.as_bytes());
-    }
-    Ok(())
+    let alloc = rt.alloc();
+    let no_memory = "hdminet: no memory\n";
+    tells(&rt, alloc, &Fault::Memory(AllocError), no_memory, 4)?;
+    let fault = Fault::of_words(io::Error::from(ErrorKind::OutOfMemory));
+    tells(&rt, alloc, &fault, no_memory, 4)?;
+    let fault = Fault::of_words(io::Error::from(ErrorKind::InvalidData));
+    tells(&rt, alloc, &fault, "hdminet: an argument is not UTF-8\n", 2)
 }

@@ -4,10 +4,10 @@ use super::*;
 const RUN: [&str; 2] = ["run", "--edges"];
 
 /// A television polls address 0, and the script ends before the round has closed.
-const POLL: &str = "device tv tv 1\nscript\nend 20000\n";
+pub(super) const POLL: &str = "device tv tv 1\nscript\nend 20000\n";
 
 /// The start bit, eight bits 0, and EOM and ACK 1.
-const POLL_EDGES: &str = "\
+pub(super) const POLL_EDGES: &str = "\
 12000 0
 15700 1
 16500 0
@@ -111,6 +111,48 @@ fn a_pulse_breaks_a_round(rt: HostRuntime) -> Result<(), Fail> {
     assert!(&rt; length > 0);
     assert!(&rt; edges.windows(length).any(|part| part == broken));
     let readings = format!(in alloc; "{TWO_READINGS}{BROKEN_READINGS}")?;
+    gives(&rt, alloc, ["mon"].as_slice(), &edges, readings.as_bytes())
+}
+
+/// A wide pulse at a lone television that polls, and the readings of the run's edges, with `;` for each line feed.
+const WIDE: &str = "\
+pulse 5000 3700 => 5000 9701 bad-start -;20704 47854 complete 0>0 nack;
+pulse 5000 10000 => 5000 8901 bad-start -;27008 54158 complete 0>0 nack;
+pulse 12100 3800 => 12000 39150 complete 0>0 nack;
+pulse 12100 3801 => 12000 15901 bad-start -;23104 50254 complete 0>0 nack;
+";
+
+#[test]
+fn the_edges_of_wide_pulses_are_read(rt: HostRuntime) -> Result<(), Fail> {
+    let alloc = rt.alloc();
+    for case in WIDE.lines() {
+        let (pulse, readings) = case.split_once(" => ").ok_or("no case")?;
+        let input = format!(in alloc; "device tv tv 1\nscript\n{pulse}\nend 28000\n")?;
+        let told = answer_to(alloc, RUN.as_slice(), &mut input.as_bytes())?;
+        let readings = with_lines(alloc, readings)?;
+        gives(
+            &rt,
+            alloc,
+            ["mon"].as_slice(),
+            &told.out,
+            readings.as_bytes(),
+        )?;
+    }
+    Ok(())
+}
+
+const WIDE_BREAK: &str = "at 1000000 send p1 4>0 image-view-on\npulse 1004500 10000\nend 1300000\n";
+
+const WIDE_BREAK_READINGS: &str = "\
+1000000 1007251 silent 0
+1021700 1072850 complete 4>0 image-view-on ack
+";
+
+#[test]
+fn the_edges_of_a_wide_break_are_read(rt: HostRuntime) -> Result<(), Fail> {
+    let alloc = rt.alloc();
+    let edges = edges_of_two(&rt, alloc, WIDE_BREAK)?;
+    let readings = format!(in alloc; "{TWO_READINGS}{WIDE_BREAK_READINGS}")?;
     gives(&rt, alloc, ["mon"].as_slice(), &edges, readings.as_bytes())
 }
 

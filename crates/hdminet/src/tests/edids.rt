@@ -97,67 +97,84 @@ fn writes_an_edid_both_ways(rt: HostRuntime) -> Result<(), Fail> {
     goes_both_ways(&rt, alloc, digits.as_str(), text.as_bytes())
 }
 
+/// An extension up to its zeros, its checksum, and its text with `;` for each line feed: neither data blocks nor timings;
+/// no data blocks, and a tail of zeros; two HDMI blocks.
+const EXTENSIONS: &str = "\
+020300f1 0a cta-none f1;tail -;
+020304f1 06 cta f1;tail -;
+020310f165030c00100065030c002000 e2 cta f1;hdmi 1.0.0.0 -;hdmi 2.0.0.0 -;tail -;
+";
+
+/// Timings up to a tail of 15 bytes.
+fn full_of_timings(rt: &impl Abort, alloc: Global) -> Result<(), Fail> {
+    let timings = TIMING.repeat(alloc, 6)?;
+    let lines = TIMING_LINE.repeat(alloc, 6)?;
+    let front = format!(in alloc; "020304f1{timings}0102030405060708090a0b0c0d0e0f")?;
+    let text = format!(in alloc; "cta f1\n{lines}tail 0102030405060708090a0b0c0d0e0f\n")?;
+    extends_both_ways(rt, alloc, front.as_str(), "e6", text.as_str())
+}
+
+/// An EDID with this extension has this text of it, both ways.
+fn extends_both_ways(
+    rt: &impl Abort,
+    alloc: Global,
+    front: &str,
+    check: &str,
+    text: &str,
+) -> Result<(), Fail> {
+    let digits = blocks(alloc, front, check)?;
+    let text = behind_base(alloc, text)?;
+    goes_both_ways(rt, alloc, digits.as_str(), text.as_bytes())
+}
+
 #[test]
 fn writes_extensions_both_ways(rt: HostRuntime) -> Result<(), Fail> {
     let alloc = rt.alloc();
-    let timings = TIMING.repeat(alloc, 6)?;
-    let timing_lines = TIMING_LINE.repeat(alloc, 6)?;
-    let full = format!(in alloc; "020304f1{timings}0102030405060708090a0b0c0d0e0f")?;
-    let full_text = format!(in alloc;
-        "cta f1\n{timing_lines}tail 0102030405060708090a0b0c0d0e0f\n"
-    )?;
-    for (front, check, text) in [
-        // Neither data blocks nor timings.
-        ("020300f1", "0a", "cta-none f1\ntail -\n"),
-        // No data blocks, and a tail of zeros.
-        ("020304f1", "06", "cta f1\ntail -\n"),
-        // Timings up to a tail of 15 bytes.
-        (full.as_str(), "e6", full_text.as_str()),
-        // Two HDMI blocks.
-        (
-            "020310f165030c00100065030c002000",
-            "e2",
-            "cta f1\nhdmi 1.0.0.0 -\nhdmi 2.0.0.0 -\ntail -\n",
-        ),
-    ] {
-        let digits = blocks(alloc, front, check)?;
-        let text = behind_base(alloc, text)?;
-        goes_both_ways(&rt, alloc, digits.as_str(), text.as_bytes())?;
+    full_of_timings(&rt, alloc)?;
+    for case in EXTENSIONS.lines() {
+        let (front, rest) = case.split_once(' ').ok_or("no case")?;
+        let (check, text) = rest.split_once(' ').ok_or("no case")?;
+        let text = with_lines(alloc, text)?;
+        extends_both_ways(&rt, alloc, front, check, text.as_str())?;
     }
     Ok(())
 }
+
+/// An extension and its checksum: a data block that runs past the timings, and a place of the timings behind the block.
+const FORMLESS: &str = "\
+020306f14390 31
+020390f1 7a
+";
 
 #[test]
 fn keeps_extensions_that_fit_no_form(rt: HostRuntime) -> Result<(), Fail> {
     let alloc = rt.alloc();
-    // A data block that runs past the timings, and a place of the timings behind the block.
-    for (front, check) in [("020306f14390", "31"), ("020390f1", "7a")] {
+    for case in FORMLESS.lines() {
+        let (front, check) = case.split_once(' ').ok_or("no case")?;
         let digits = blocks(alloc, front, check)?;
         let block = digits.as_str().get(256..).ok_or("no extension")?;
-        let text = format!(in alloc; "{BASE_TEXT}ext {block}\n")?;
-        goes_both_ways(&rt, alloc, digits.as_str(), text.as_bytes())?;
+        let text = format!(in alloc; "ext {block}\n")?;
+        extends_both_ways(&rt, alloc, front, check, text.as_str())?;
     }
     Ok(())
 }
 
+/// A part of the base block, what stands in its place, the checksum, a part of the text, and what stands in its place: a
+/// clock whose low byte is 0; thirteen characters that end in spaces; twelve characters.
+const DESCRIPTORS: &str = "\
+023a80 => 003a80 => 53 => timing 14850 => timing 14848
+4c4f554e4745205456203030310 => 4c4f554e4745205456202020200 => 82 => \"LOUNGE TV 001\" => \"LOUNGE TV    \"
+4c4f554e4745205456203030310 => 4c4f554e47452054562030310a0 => 77 => \"LOUNGE TV 001\" => \"LOUNGE TV 01\"
+";
+
 #[test]
 fn writes_descriptors_both_ways(rt: HostRuntime) -> Result<(), Fail> {
     let alloc = rt.alloc();
-    let name = "4c4f554e4745205456203030310";
-    for (from, to, check, line, changed_line) in [
-        // A clock whose low byte is 0.
-        ("023a80", "003a80", "53", "timing 14850 ", "timing 14848 "),
-        // Thirteen characters that end in spaces.
-        (
-            name,
-            "4c4f554e4745205456202020200",
-            "82",
-            "TV 001",
-            "TV    ",
-        ),
-        // Twelve characters.
-        (name, "4c4f554e47452054562030310a0", "77", "TV 001", "TV 01"),
-    ] {
+    for case in DESCRIPTORS.lines() {
+        let (from, rest) = case.split_once(" => ").ok_or("no case")?;
+        let (to, rest) = rest.split_once(" => ").ok_or("no case")?;
+        let (check, rest) = rest.split_once(" => ").ok_or("no case")?;
+        let (line, changed_line) = rest.split_once(" => ").ok_or("no case")?;
         let digits = changed(alloc, from, to, check)?;
         let text = changed_text(alloc, line, changed_line)?;
         goes_both_ways(&rt, alloc, digits.as_str(), text.as_bytes())?;

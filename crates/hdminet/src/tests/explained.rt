@@ -52,10 +52,7 @@ fn faults_are_followed_by_their_explanation(rt: HostRuntime) -> Result<(), Fail>
         };
         let (text, second) = rest.split_once(" => ").ok_or("no case")?;
         let text = with_lines(alloc, text)?;
-        let mut texts = Vec::new(alloc);
-        for word in words.split(' ') {
-            texts.push(word)?;
-        }
+        let texts = parted(alloc, words)?;
         is_explained(&rt, alloc, &texts, text.as_bytes(), second)?;
     }
     Ok(())

@@ -58,16 +58,6 @@ fn names_the_first_line_that_tells_no_frame(rt: HostRuntime) -> Result<(), Fail>
     refuses_each(&rt, rt.alloc(), ASM.as_slice(), frame, REFUSED)
 }
 
-#[test]
-fn writes_the_front_of_hex_lines(rt: HostRuntime) -> Result<(), Fail> {
-    let alloc = rt.alloc();
-    let texts = b"4>f active-source 1.0.0.0\n4>4\n";
-    for room in [0, 1, 8, 9, 11] {
-        cuts(&rt, alloc, ASM.as_slice(), texts, b"4f821000\n44\n", room)?;
-    }
-    Ok(())
-}
-
 /// The opcodes that have a name.
 const NAMED: [u8; 68] = [
     0x00, 0x04, 0x05, 0x06, 0x07, 0x08, 0x09, 0x0a, 0x0b, 0x0d, 0x0f, 0x1a, 0x1b, 0x32, 0x33, 0x34,

@@ -1,9 +1,15 @@
+use super::edge_files::{POLL, POLL_EDGES};
 use super::*;
 
 const PAIR: &str =
     "device tv tv 4\ndevice p1 player 0\nplug p1 tv 1\nscript\nat 1000000 press p1 play\nend 1300000\n";
 
 const FRAMES: &str = "4>f active-source 1.0.0.0\n4>0 play forward\n4>4\n";
+
+/// A start bit and a bit 1, after which the line stays high.
+const EDGES: &str = "1000 0\n4700 1\n5500 0\n6100 1\n20000 end\n";
+
+const LINE: [&str; 2] = ["run", "--edges"];
 
 #[test]
 fn each_front_of_an_input(rt: HostRuntime) -> Result<(), Fail> {
@@ -22,4 +28,25 @@ fn a_writer_that_fails_at_each_byte(rt: HostRuntime) -> Result<(), Fail> {
     let alloc = rt.alloc();
     cuts_everywhere(&rt, alloc, ["run"].as_slice(), PAIR.as_bytes())?;
     cuts_everywhere(&rt, alloc, ["asm"].as_slice(), FRAMES.as_bytes())
+}
+
+#[test]
+fn each_front_of_a_line(rt: HostRuntime) -> Result<(), Fail> {
+    let alloc = rt.alloc();
+    // An edge file is whole with its last line, and with the line feed behind it.
+    let fronts = accepted_fronts(&rt, alloc, ["mon"].as_slice(), EDGES.as_bytes())?;
+    assert_eq!(&rt; fronts, 2);
+    // The line of a run, which takes what the run takes.
+    let fronts = accepted_fronts(&rt, alloc, LINE.as_slice(), PAIR.as_bytes())?;
+    assert_eq!(&rt; fronts, 2);
+    let fronts = accepted_fronts(&rt, alloc, ["mon"].as_slice(), POLL_EDGES.as_bytes())?;
+    assert_eq!(&rt; fronts, 2);
+    Ok(())
+}
+
+#[test]
+fn a_writer_of_a_line_that_fails_at_each_byte(rt: HostRuntime) -> Result<(), Fail> {
+    let alloc = rt.alloc();
+    cuts_everywhere(&rt, alloc, ["mon"].as_slice(), EDGES.as_bytes())?;
+    cuts_everywhere(&rt, alloc, LINE.as_slice(), POLL.as_bytes())
 }

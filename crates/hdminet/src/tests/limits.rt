@@ -69,24 +69,31 @@ fn reads_what_is_not_too_long(rt: HostRuntime) -> Result<(), Fail> {
     gives(&rt, alloc, ["asm"].as_slice(), &input, b"")
 }
 
+/// The program reads nothing of an input, for this reason.
+fn reads_nothing(rt: &impl Abort, told: &Answer, why: &[u8]) {
+    assert_eq!(rt; told.err.as_slice(), why);
+    assert_eq!(rt; told.out.len(), 0);
+    assert_eq!(rt; told.status, 3);
+}
+
+/// Each command that reads.
+const COMMANDS: &str = "\
+run
+run --edges
+asm
+mon
+edid
+edid --text
+";
+
 #[test]
 fn refuses_what_is_too_long(rt: HostRuntime) -> Result<(), Fail> {
     let alloc = rt.alloc();
     let input = behind_comment(alloc, LIMIT + 1, TELEVISION)?;
-    for texts in [
-        ["run"].as_slice(),
-        ["asm"].as_slice(),
-        ["edid"].as_slice(),
-        ["edid", "--text"].as_slice(),
-    ] {
+    for line in COMMANDS.lines() {
         let mut rest = input.as_slice();
-        let told = answer_to(alloc, texts, &mut rest)?;
-        assert_eq!(rt;
-            told.err.as_slice(),
-            b"hdminet: input too long\n".as_slice()
-        );
-        assert_eq!(rt; told.out.len(), 0);
-        assert_eq!(rt; told.status, 3);
+        let told = answer_to(alloc, &parted(alloc, line)?, &mut rest)?;
+        reads_nothing(&rt, &told, b"hdminet: input too long\n");
     }
     Ok(())
 }
@@ -98,15 +105,10 @@ fn tells_a_read_fault(rt: HostRuntime) -> Result<(), Fail> {
         rest: b"4>4\n",
         fails: true,
     };
-    let (first, second) = (
-        answer_to(alloc, ["run"].as_slice(), &mut Broken)?,
-        answer_to(alloc, ["asm"].as_slice(), &mut slow)?,
-    );
-    for told in [first, second] {
-        assert_eq!(rt; told.err.as_slice(), b"hdminet: read fault\n".as_slice());
-        assert_eq!(rt; told.out.len(), 0);
-        assert_eq!(rt; told.status, 3);
-    }
+    let told = answer_to(alloc, ["run"].as_slice(), &mut Broken)?;
+    reads_nothing(&rt, &told, b"hdminet: read fault\n");
+    let told = answer_to(alloc, ["asm"].as_slice(), &mut slow)?;
+    reads_nothing(&rt, &told, b"hdminet: read fault\n");
     Ok(())
 }
 

@@ -134,39 +134,25 @@ fn takes_fifteen_devices(rt: HostRuntime) -> Result<(), Fail> {
     refuses(&rt, alloc, run, input.as_bytes(), "topology line 16: name")
 }
 
-#[test]
-fn wants_a_script_line(rt: HostRuntime) -> Result<(), Fail> {
-    let alloc = rt.alloc();
-    for input in ["", "device tv tv 1", "frob\nscript \n", " script\n"] {
-        refuses(
-            &rt,
-            alloc,
-            ["run"].as_slice(),
-            input.as_bytes(),
-            "no script line",
-        )?;
-    }
-    // An empty topology has no root behind its last line, which is none.
-    let input = b"script\nend 1\n";
-    refuses(
-        &rt,
-        alloc,
-        ["run"].as_slice(),
-        input,
-        "topology line 1: no-root",
-    )?;
-    // The first line `script` ends the topology.
-    let input = b"device tv tv 1\nscript\nscript\nend 5\n";
-    refuses(&rt, alloc, ["run"].as_slice(), input, "script line 1: word")
-}
+/// Inputs without a line `script`, and with `;` for each line feed. The second is empty. An empty topology has no root behind
+/// its last line, which is none. The first line `script` ends the topology. An EDID is judged after the script.
+const WHOLE: &str = "\
+device tv tv 1 => no script line
+ => no script line
+frob;script ; => no script line
+ script; => no script line
+script;end 1; => topology line 1: no-root
+device tv tv 1;script;script;end 5; => script line 1: word
+device tv tv 1;edid 00fF;script;frob; => script line 1: word
+device tv tv 1;edid 00fF;script;end 5; => edid: length
+";
 
 #[test]
-fn judges_an_edid_after_the_script(rt: HostRuntime) -> Result<(), Fail> {
-    let alloc = rt.alloc();
-    let run = ["run"].as_slice();
-    for (script, fault) in [("frob", "script line 1: word"), ("end 5", "edid: length")] {
-        let input = format!(in alloc; "device tv tv 1\nedid 00fF\nscript\n{script}\n")?;
-        refuses(&rt, alloc, run, input.as_bytes(), fault)?;
-    }
-    Ok(())
+fn wants_a_script_line(rt: HostRuntime) -> Result<(), Fail> {
+    let frame = Frame {
+        before: "",
+        after: "",
+        fault: "",
+    };
+    refuses_each(&rt, rt.alloc(), ["run"].as_slice(), frame, WHOLE)
 }

@@ -1,4 +1,4 @@
-use Rattle.cec_device.proofs.CleanLemmas.{keeps_clean}
+use Rattle.cec_device.proofs.KeptLemmas.{keeps_clean}
 use Rattle.cec_device.proofs.once.queues_go_elsewhere.Goals as goal
 
 pub returns : goal.returns

@@ -1,4 +1,4 @@
-use Rattle.std.proofs.Common.{◌∷◌, [], ◌++◌, ap, ◌∙◌, arith, ◌≡◌, length}
+use Rattle.std.proofs.Common.{◌∷◌, [], ◌++◌, ap, ◌∙◌, arith}
 use Rattle.cec_mon.specs.EdgeFile.{file_left, with_edges}
 use Rattle.cec_mon.proofs.Files.{edge_read, end_read_so, edges_more, edges_fault, edges_ok}
 use Rattle.cec_mon.proofs.watching.check_file.Goals as goal

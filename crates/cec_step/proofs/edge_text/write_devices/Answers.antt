@@ -1,7 +1,7 @@
 use Rattle.std.proofs.Common.{rules, ◌≡◌, get_or, ◌∙◌}
 use Rattle.hdmi_core.proofs.CutShort.{Appends-trans}
 use Rattle.cec_bits.specs.Follows.{shown}
-use Rattle.cec_text.proofs.Cutting.{cut_text_part, more_parts, more_told}
+use Rattle.cec_words.proofs.Cutting.{cut_text_part, more_parts, more_told}
 use Rattle.cec_step.specs.EdgeText.{device_text}
 use Rattle.cec_step.proofs.edge_text.write_devices.Goals as goal
 

@@ -2,7 +2,7 @@ use Rattle.std.proofs.Common.{◌≡◌, length, take}
 use Rattle.std.specs.List.{flat_map}
 use Rattle.std.specs.Io.KnownBytes.{Appends}
 use Rattle.cec_bits.specs.Follows.{shown}
-use Rattle.cec_text.specs.Cut.{told_count}
+use Rattle.cec_words.specs.Cut.{told_count}
 use Rattle.cec_step.specs.EdgeText.{device_text}
 use Rattle.cec_step.proofs.edge_text.write_devices.Given as goal
 

@@ -3,7 +3,7 @@ use Rattle.cec_step.specs.EdgeText.{device_text, edge_line, level_text, name_tex
 use Rattle.cec_bits.specs.Follows.{shown}
 use Rattle.std.specs.List.{flat_map}
 use Rattle.cec_text.specs.ReadingText.{bit_digit, bits_text}
-use Rattle.cec_text.proofs.Cutting.{cut_part}
+use Rattle.cec_words.proofs.Cutting.{cut_part}
 use Rattle.cec_step.proofs.edge_text.write_digits.Goals as goal
 
 pub returns-in-Err : goal.returns-in-Err

@@ -2,8 +2,8 @@ use Rattle.std.proofs.Common.{rules, ◌≡◌, ◌∙◌, ◌+◌, ◌++◌, �
 use Rattle.cec_step.specs.EdgeText.{device_text, edge_line, level_text, name_text, slot_text, standing_text}
 use Rattle.cec_bits.specs.Follows.{shown}
 use Rattle.std.specs.List.{flat_map}
-use Rattle.cec_text.specs.Cut.{WrittenText}
-use Rattle.cec_text.proofs.Cutting.{cut_front}
+use Rattle.cec_words.specs.Cut.{WrittenText}
+use Rattle.cec_words.proofs.Cutting.{cut_front}
 use Rattle.cec_step.proofs.edge_text.write_plugged.Goals as goal
 
 pub returns-in-Ok : goal.returns-in-Ok

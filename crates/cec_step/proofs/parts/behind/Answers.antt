@@ -1,6 +1,6 @@
 use Rattle.std.proofs.Common.{rules, ◌≡◌, ◌∙◌, ◌++◌, ◌∷◌, [], ℕ, List, Bool, Ok, Err, codes, false, get_or, slice_index_or, length, drop, take, ap, sym, subst, refl, arith}
-use Rattle.cec_text.specs.Cut.{WrittenText}
-use Rattle.cec_text.proofs.Cutting.{cut_behind}
+use Rattle.cec_words.specs.Cut.{WrittenText}
+use Rattle.cec_words.proofs.Cutting.{cut_behind}
 use Rattle.cec_step.proofs.parts.behind.Goals as goal
 
 pub returns-in-Err : goal.returns-in-Err

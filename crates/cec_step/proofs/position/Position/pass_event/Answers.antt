@@ -5,7 +5,7 @@ use Rattle.cec_asm.specs.declared.script.TimedEvent.{TimedEvent}
 use Rattle.cec_run.specs.declared.run.Turn.TheVariants.{Apply, Round, Stop}
 use Rattle.cec_run.specs.Run.{event_text}
 use Rattle.cec_net.specs.Apply.{applied}
-use Rattle.cec_text.specs.Cut.{WrittenText, CutOff, told_count}
+use Rattle.cec_words.specs.Cut.{WrittenText, CutOff, told_count}
 use Rattle.std.specs.Io.KnownBytes.{Appends}
 use Rattle.cec_step.proofs.Passing.{drop_next, ready_event}
 use Rattle.cec_step.proofs.position.Position.pass_event.Goals as goal

@@ -5,7 +5,7 @@ use Rattle.cec_asm.specs.declared.script.TimedEvent.{TimedEvent}
 use Rattle.cec_run.specs.declared.run.Turn.TheVariants.{Apply, Round, Stop}
 use Rattle.cec_run.specs.Run.{event_text}
 use Rattle.cec_net.specs.Apply.{applied}
-use Rattle.cec_text.specs.Cut.{WrittenText, CutOff, told_count}
+use Rattle.cec_words.specs.Cut.{WrittenText, CutOff, told_count}
 use Rattle.std.specs.Io.KnownBytes.{Appends}
 use Rattle.cec_net.specs.State.{next_start}
 use Rattle.cec_run.specs.Run.{first_time}

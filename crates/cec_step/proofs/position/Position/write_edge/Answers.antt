@@ -8,7 +8,7 @@ use Rattle.cec_step.specs.Steps.{IsOver, IsRoundStep, passed, passed_text, start
 use Rattle.cec_asm.specs.declared.script.TimedEvent.{TimedEvent}
 use Rattle.cec_run.specs.declared.run.Turn.TheVariants.{Apply, Round, Stop}
 use Rattle.cec_net.specs.Apply.{applied}
-use Rattle.cec_text.specs.Cut.{WrittenText}
+use Rattle.cec_words.specs.Cut.{WrittenText}
 use Rattle.cec_step.proofs.position.Position.write_edge.Goals as goal
 
 pub returns : goal.returns

@@ -5,10 +5,10 @@ use Rattle.cec_asm.specs.declared.script.TimedEvent.{TimedEvent}
 use Rattle.cec_run.specs.declared.run.Turn.TheVariants.{Apply, Round, Stop}
 use Rattle.cec_run.specs.Run.{event_text}
 use Rattle.cec_net.specs.Apply.{applied}
-use Rattle.cec_text.specs.Cut.{WrittenText, CutOff, told_count}
+use Rattle.cec_words.specs.Cut.{WrittenText, CutOff, told_count}
 use Rattle.std.specs.Io.KnownBytes.{Appends}
 use Rattle.hdmi_core.proofs.CutShort.{Appends-trans}
-use Rattle.cec_text.proofs.Cutting.{cut_again, told_parts}
+use Rattle.cec_words.proofs.Cutting.{cut_again, told_parts}
 use Rattle.cec_step.proofs.Passing.{passed_round_text, passed_stop_text}
 use Rattle.cec_step.proofs.Rounds.{text_more}
 use Rattle.cec_step.proofs.position.Position.write_events.Goals as goal

@@ -2,7 +2,7 @@ use Rattle.std.proofs.Common.{rules, ◌≡◌, ◌∙◌, ◌+◌, ◌++◌, �
 use Rattle.cec_step.specs.Ready.{IsReady, point_of, run_of}
 use Rattle.cec_step.specs.Steps.{Point, Run, IsOver, IsRoundStep, Skips, stops, passed, passed_text, start_text, step_text, turn_at, shown_net, as_written}
 use Rattle.cec_step.specs.declared.position.Position.{Position}
-use Rattle.cec_text.specs.Cut.{WrittenText, CutOff, told_count}
+use Rattle.cec_words.specs.Cut.{WrittenText, CutOff, told_count}
 use Rattle.hdmi_core.specs.Written.{WrittenLine}
 use Rattle.cec_device.specs.State.{State}
 use Rattle.cec_net.specs.State.{NetState}

@@ -1,0 +1,13 @@
+//! Laws of edge files.
+ghost use Rattle.cec_capture.specs.Capture.{EdgeFilesAreReadBack, FilesOfRunsHaveTheirReadings};
+
+/// The edges of a line that is high from the end on, written as a run writes them, are read as they were, and tell that
+/// line.
+pub fn edge_files_are_read_back()
+    ensures { EdgeFilesAreReadBack }
+{}
+
+/// The edge file of a run is read as a file whose readings are those of the run's rounds, in order, each once.
+pub fn files_of_runs_have_their_readings()
+    ensures { FilesOfRunsHaveTheirReadings }
+{}

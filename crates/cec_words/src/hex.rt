@@ -1,0 +1,46 @@
+//! Hex numbers. Each reader takes any text; where the text has hex digits, it finds their value.
+ghost use Rattle.std.specs.Prelude.{◌≡◌, ◌≤◌, ◌<◌, ◌+◌, ◌-◌, ◌*◌, ◌%◌, ◌∷◌, [], ◌++◌, length};
+ghost use Rattle.arrayvec.specs.ArrayVec.{array_vec_len};
+ghost use Rattle.cec_words.specs.Hex.{digit_value, hex_at, hex_bytes, is_hex_digit};
+
+use crate::parts::byte_at;
+use arrayvec::ArrayVec;
+
+/// Whether a byte is a lower-case hex digit.
+pub fn is_hex_digit(byte: u8) -> bool
+    ensures { result ≡ is_hex_digit byte }
+{
+    matches!(byte, b'0'..=b'9' | b'a'..=b'f')
+}
+
+fn digit_value(byte: u8) -> u8
+    ensures value { result ≡ digit_value byte }
+    ensures in_range { result < 16 }
+{
+    if byte < b'a' {
+        byte.saturating_sub(b'0') % 16
+    } else {
+        (byte - 87) % 16
+    }
+}
+
+/// The byte whose hex digits stand at these places.
+pub fn hex_at(text: &[u8], high: usize, low: usize) -> u8
+    ensures { result ≡ hex_at text.now high low }
+{
+    digit_value(byte_at(text, high)) * 16 + digit_value(byte_at(text, low))
+}
+
+/// The bytes of at most 28 hex digits.
+pub fn hex_bytes(digits: &[u8]) -> ArrayVec<u8, 16>
+    requires { length digits.now ≤ 28 }
+    ensures { result.items ≡ hex_bytes digits.now }
+{
+    let mut items = ArrayVec::new();
+    let mut rest = digits;
+    while let [high, low, more @ ..] = rest {
+        items.push(digit_value(*high) * 16 + digit_value(*low));
+        rest = more;
+    }
+    items
+}

@@ -1,0 +1,75 @@
+//! Which line of a script is earlier than which.
+use std::alloc::{AllocError, Global};
+
+/// A line of a script with its number, and the instant that the next line of its kind may not be before.
+#[derive(Clone, Copy, Debug)]
+struct Earlier {
+    number: usize,
+    instant: u64,
+}
+
+// The first two words behind a line's first word, as numbers; a second one that is none counts as 0.
+fn numbers_behind(line: &[u8], word: &str) -> Option<(u64, u64)> {
+    let rest = str::from_utf8(line).ok()?.strip_prefix(word)?;
+    let mut numbers = rest.split(' ');
+    let first = numbers.next()?.parse().ok()?;
+    let second = match numbers.next() {
+        Some(number) => number.parse().unwrap_or(0),
+        None => 0,
+    };
+    Some((first, second))
+}
+
+// The last line before one of this number, behind the line `script`, that begins with a word; and its end.
+fn last_before(input: &[u8], script: usize, number: usize, word: &str) -> Option<Earlier> {
+    let mut last = None;
+    let mut at = 0usize;
+    for line in input
+        .split(|byte| *byte == b'\n')
+        .take(number.saturating_sub(1))
+    {
+        at = at.saturating_add(1);
+        if at > script {
+            if let Some((instant, width)) = numbers_behind(line, word) {
+                let more = if word == "pulse " { width } else { 0 };
+                last = Some(Earlier {
+                    number: at,
+                    instant: instant.saturating_add(more),
+                });
+            }
+        }
+    }
+    last
+}
+
+/// Says which line's time is earlier than which, of a line of a script that is out of order. `script` is the number of
+/// the line `script`.
+pub fn order(
+    alloc: Global,
+    input: &[u8],
+    script: usize,
+    number: usize,
+    line: &[u8],
+) -> Result<Option<String>, AllocError> {
+    if let (Some((instant, _)), Some(last)) = (
+        numbers_behind(line, "at "),
+        last_before(input, script, number, "at "),
+    ) {
+        let said = format!(in alloc;
+            "the time of line {number}, {instant}, is before that of line {}, {}",
+            last.number, last.instant
+        )?;
+        return Ok(Some(said));
+    }
+    if let (Some((instant, _)), Some(last)) = (
+        numbers_behind(line, "pulse "),
+        last_before(input, script, number, "pulse "),
+    ) {
+        let said = format!(in alloc;
+            "the pulse of line {number} begins at {instant}, before that of line {} ends, at {}",
+            last.number, last.instant
+        )?;
+        return Ok(Some(said));
+    }
+    Ok(None)
+}
