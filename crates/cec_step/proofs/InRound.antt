@@ -1,0 +1,137 @@
+-- A round that is told edge by edge: its first edge, one behind another, and its end.
+use Rattle.std.proofs.Common.{◌≡◌, ℕ, ◌+◌, ◌<◌, Bool, true, false, List, [], ◌∷◌, length, drop, ◌⊎◌, inl, inr, IfSome, IsSome, Option, Some, None, Result, Ok, Err, ap, ◌∙◌, sym, refl, subst, arith}
+use Rattle.cec_wave.specs.declared.Edge.{Edge}
+use Rattle.cec_wave.specs.Line.{IsWave}
+use Rattle.cec_wire.specs.declared.Outcome.{Outcome}
+use Rattle.cec_wire.specs.Edges.{IsNextEdge}
+use Rattle.hdmi_core.specs.declared.sink.WriteFault.{WriteFault}
+use Rattle.cec_words.specs.Cut.{WrittenText}
+use Rattle.cec_net.specs.State.{NetState, next_start}
+use Rattle.cec_net.specs.Apply.{applied}
+use Rattle.cec_net.specs.Step.{IsNextRound}
+use Rattle.cec_net.specs.Progress.{IsProgress}
+use Rattle.cec_net.specs.Underway.{OfRound, standing_told}
+use Rattle.cec_asm.specs.declared.script.TimedEvent.{TimedEvent}
+use Rattle.cec_run.specs.declared.run.Turn.{Turn}
+use Rattle.cec_run.specs.declared.run.Turn.TheVariants.{Stop, Apply, Round}
+use Rattle.cec_run.specs.Run.{turn_of, first_time}
+use Rattle.cec_run.proofs.Advance.{round_begins, same_begin}
+use Rattle.cec_step.specs.declared.position.Position.{Position}
+use Rattle.cec_step.specs.declared.position.Course.{Course}
+use Rattle.cec_step.specs.declared.stepper.StepError.{StepError}
+use Rattle.cec_step.specs.declared.stepper.StepError.TheVariants.{Write}
+use Rattle.cec_step.specs.EdgeText.{edge_line}
+use Rattle.cec_step.specs.Steps.{Point, Run, Steps, IsEdge, IsEdgeBehind, IsEdgeStep, IsEdgeStepBy, IsFirstEdge, IsFirstStep, IsNoEdge, IsNoEdgeBy, IsOver, IsRoundStep, IsTaken, in_round, passed, passed_by, passed_from, turn_at}
+use Rattle.cec_step.specs.Ready.{Begins, InsideIf, IsInside, IsReady, begun_in, point_of, run_of}
+use Rattle.cec_step.proofs.Passing.{ready_event}
+use Rattle.cec_step.proofs.Rounds.{ready_round}
+use Rattle.cec_step.proofs.Taken.{taken_as}
+
+ready_from : (end : ℕ) (s : NetState) (es : List TimedEvent) (first : Bool) → IsReady end (record { net = s; events = es; is_first = first }) → IsReady end (passed_from end s es first)
+unfolding passed_from
+ready_from end s [] first r = r
+ready_from end s (e ∷ es) first r =
+    by (turn_of end s (Some e.at)) (λ at. passed_from end (applied at e.event s) es first)
+    (λ at. ready_from end (applied at e.event s) es first (ready_event end at (record { net = s; events = e ∷ es; is_first = first }) (applied at e.event s) first e es refl refl r))
+  where
+    by : (t : Turn) (on : ℕ → Point) → ((at : ℕ) → IsReady end (on at)) → IsReady end (passed_by t (record { net = s; events = e ∷ es; is_first = first }) on)
+    by (Apply at) on h = h at
+    by Stop on h = r
+    by (Round begin) on h = r
+
+-- a run is ready behind its events
+pub ready_passed : (end : ℕ) (p : Point) → IsReady end p → IsReady end (passed end p)
+ready_passed end p r = ready_from end p.net p.events p.is_first r
+
+-- a round has a device still
+pub some_inside : (end : ℕ) (p q : Point) → IsReady end p → IsInside end p q → 0 < length q.net.tree
+some_inside end p q r i = subst (λ n. 0 < n) (sym (ap (λ (x : Point). length x.net.tree) i.told)) (ready_passed end p r).some
+
+-- ---- its first edge
+
+pub begun_inside : (end : ℕ) (p q : Point) (e : Edge) → Begins end p e q → IsInside end p q
+begun_inside end p q e b = record { begin = b.begin; heard = e.at + 1; turn = b.turn; told = b.told }
+
+-- a text tells an edge
+abbrev pub Tells : NetState → Edge → List ℕ → Type 0
+Tells net e text = OfRound net (λ begin heard low. text ≡ edge_line net.devices e (standing_told low begin heard))
+
+pub first_gives : (end : ℕ) (p q : Point) (e : Edge) (text : List ℕ) → Begins end p e q → Tells q.net e text → IsFirstEdge end p text q.net
+first_gives end p q e text b line =
+    record { begin = b.begin; turn = b.turn; edge = record { edge = e; next = b.first; told = ap (λ (x : Point). x.net) b.told; line = line } }
+
+-- ---- what was written of an edge
+
+pub edge_told : (Gives : List ℕ → Steps → Type 0) (Over : Type 0) (s t : Steps) (net : NetState) (e : Edge) (old new : Option (List ℕ)) (was is : Bool) (n : ℕ)
+    → ((text : List ℕ) → Tells net e text → Gives text t) → (text : List ℕ) × Tells net e text × WrittenText old new was is text (Ok n) → IsTaken Gives Over s t old new (Ok n)
+edge_told Gives Over s t net e old new was is n gives (text, line, (counted, wrote, flag)) = (text, gives text line, counted, wrote)
+
+pub edge_cut : (Gives : List ℕ → Steps → Type 0) (Over : Type 0) (s t : Steps) (net : NetState) (e : Edge) (old new : Option (List ℕ)) (was is : Bool) (fault : WriteFault) (error : StepError)
+    → error ≡ Write fault.count → ((text : List ℕ) → Tells net e text → Gives text t) → (text : List ℕ) × Tells net e text × WrittenText old new was is text (Err fault)
+    → IsTaken Gives Over s s old new (Err error)
+edge_cut Gives Over s t net e old new was is fault error same gives (text, line, ((count, short, told, wrote), flag)) =
+    let here : IsTaken Gives Over s s old new (Err (Write fault.count)) = (refl, text, t, gives text line, count, short, told, wrote) in
+    subst (λ x. IsTaken Gives Over s s old new (Err x)) (sym same) here
+
+-- ---- in a round
+
+abbrev pub steps : Run → Point → Option NetState → Steps
+steps run last begun = record { run = run; last = last; begun = begun }
+
+-- a stepper stands in a round
+pub record IsIn (s : Steps) (inside : Position) : Type 0 where
+  pub net : s.begun ≡ Some inside.net
+  pub ready : IsReady s.run.end s.last
+  pub round : IsInside s.run.end s.last (point_of s.run.events inside)
+
+pub is_in : (course : Course) (last inside : Position) (b : Bool) → IsSome (begun_in b (point_of course.events.items inside)) → IsReady course.end (point_of course.events.items last)
+    → InsideIf b course.end (point_of course.events.items last) (point_of course.events.items inside)
+    → IsIn (steps (run_of course) (point_of course.events.items last) (begun_in b (point_of course.events.items inside))) inside
+is_in course last inside true some r i = record { net = refl; ready = r; round = i }
+is_in course last inside false some r i = cc
+
+-- it goes on to another instant of the round
+pub still_in : (run : Run) (last q next : Point) (b : Bool) → IsSome (begun_in b q)
+    → steps run last (begun_in b next) ≡ in_round (steps run last (begun_in b q)) last next.net
+still_in run last q next true some = refl
+still_in run last q next false some = cc
+
+pub edge_gives : (s t : Steps) (net after : NetState) (e : Edge) (h : ℕ) (text : List ℕ) → s.begun ≡ Some net → OfRound net (λ begin heard low. IsNextEdge low heard (Some e))
+    → after ≡ record net { heard = Some h } → e.at + 1 ≡ h → Tells after e text → t ≡ in_round s s.last after → IsEdgeStep s text t
+edge_gives s t net after e h text is next told at line stands =
+    subst (λ x. IsEdgeStepBy s x text t) (sym is)
+    (inl (after, record { edge = e; next = next; told = told ∙ ap (λ (k : ℕ). record net { heard = Some k }) (sym at); line = line }, stands))
+
+-- ---- its end
+
+plain_round : (s t : NetState) (h b : ℕ) (o : Outcome) → IsNextRound (record s { heard = Some h }) b o t → IsNextRound s b o t
+plain_round s t h b o next = record { round = next.round; after_is = next.after_is }
+
+plain_progress : (s t : NetState) (h b : ℕ) → IsProgress (record s { heard = Some h }) b t → IsProgress s b t
+plain_progress s t h b x = record { apart = x.apart; kept = x.kept; later = x.later; low = x.low; closed = x.closed }
+
+pub ends : (end : ℕ) (p i : Point) (n t : NetState) (h b : ℕ) (o : Outcome) → IsReady end p → IsInside end p i → n ≡ record i.net { heard = Some h } → IsWave o.wave
+    → next_start n ≡ Some b → IsNextRound n b o t → IsProgress n b t
+    → IsRoundStep end p o (record { net = t; events = i.events; is_first = false }) × IsReady end (record { net = t; events = i.events; is_first = false })
+ends end p i n t h b o r inside told wave begins next progress =
+    let s = (passed end p).net in
+    let there : n ≡ record s { heard = Some h } = told ∙ ap (λ (x : Point). record x.net { heard = Some h }) inside.told in
+    let round : IsNextRound s b o t = plain_round s t h b o (subst (λ (m : NetState). IsNextRound m b o t) there next) in
+    let later : IsProgress s b t = plain_progress s t h b (subst (λ (m : NetState). IsProgress m b t) there progress) in
+    let events : i.events ≡ (passed end p).events = ap (λ (x : Point). x.events) inside.told in
+    let first = round_begins end s (first_time (passed end p).events) inside.begin inside.turn in
+    let begin : next_start s ≡ Some b = subst (λ (m : NetState). next_start m ≡ Some b) there begins in
+    let same : b ≡ inside.begin = same_begin (sym begin ∙ first.0) in
+    let ready = ready_round end b (passed end p) o t (ready_passed end p r) (omega (arith, same, first.1)) round later in (
+      record { begin = inside.begin; turn = inside.turn; wave = wave; next = subst (λ x. IsNextRound s x o t) same round; left = events; later = refl },
+      subst (λ es. IsReady end (record { net = t; events = es; is_first = false })) (sym events) ready,
+    )
+
+-- the first edge behind it
+pub taken_behind : (s t : Steps) (net : NetState) (o : Outcome) (q : Point) (old new : Option (List ℕ)) (r : Result ℕ StepError) → s.begun ≡ Some net
+    → OfRound net (λ begin heard low. IsNextEdge low heard None) → IsRoundStep s.run.end s.last o q
+    → IsTaken (IsFirstStep s q) (IsOver s.run.end q) s t old new r → IsTaken (IsEdgeStep s) (IsNoEdge s) s t old new r
+taken_behind s t net o q old new r is silent step taken =
+    taken_as (IsFirstStep s q) (IsEdgeStep s) (IsOver s.run.end q) (IsNoEdge s) s t old new r
+    (λ text u first. subst (λ x. IsEdgeStepBy s x text u) (sym is) (inr (record { silent = silent; outcome = o; last = q; step = step; first = first })))
+    (λ over. subst (λ x. IsNoEdgeBy s x) (sym is) (silent, o, q, step, over)) taken
