@@ -2,3 +2,5 @@ pub mod Passing
 pub mod Edges
 pub mod Rounds
 pub mod Taken
+pub mod InRound
+pub mod Started
