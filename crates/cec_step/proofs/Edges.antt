@@ -29,4 +29,3 @@ has_edge s begin low next sparse line none =
   where
     clash : (a b : Bool) → a ≡ true → b ≡ false → a ≡ b → ⊥
     clash a b x y e = cc
-

@@ -10,8 +10,8 @@ ghost use Rattle.cec_step.specs.EdgeText.{device_text, edge_line, level_text, na
 use crate::parts::{behind, whole};
 use cec_bits::Standing;
 use cec_device::Device;
-use cec_words::{counted, cut_at};
 use cec_wave::Edge;
+use cec_words::{counted, cut_at};
 use hdmi_core::{Piece, Sink, WriteFault, write_line};
 
 fn write_level_line<S: Sink>(out: &mut S, edge: Edge) -> Result<u128, WriteFault>

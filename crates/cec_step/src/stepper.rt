@@ -82,10 +82,7 @@ fn write_step<S: Sink>(
 {
     let mut before = before;
     match before.write_before(course, out) {
-        Ok(count) => behind(
-            count,
-            whole(write_round(out, after.net.devices(), outcome)),
-        ),
+        Ok(count) => behind(count, whole(write_round(out, after.net.devices(), outcome))),
         Err(fault) => Err(fault),
     }
 }
@@ -142,7 +139,7 @@ impl Stepper {
         requires after { IsReady self.old.run.end (point_of self.old.run.events after) }
         ensures step { IsTaken
             (λ text t. (text ≡ step_text self.old.run (point_of self.old.run.events before) outcome.now (point_of self.old.run.events after))
-                × (t ≡ after_round self.old (point_of self.old.run.events after)))
+            × (t ≡ after_round self.old (point_of self.old.run.events after)))
             ⊥ self.old self.new (S.contents out.old) (S.contents out.new) result }
         ensures flag { S.is_stuck out.new ≡ (is_write result || S.is_stuck out.old) }
     {

@@ -132,6 +132,11 @@ fn refuses_the_first_line_at_fault(rt: HostRuntime) -> Result<(), Fail> {
         b"edges\n",
         &mut Writes::new(&mut out),
     );
-    assert!(&rt; matches!(answer, Err(StepRunError::Run(EmulateError::Script { line: 1, .. }))));
+    assert!(&rt;
+        matches!(
+            answer,
+            Err(StepRunError::Run(EmulateError::Script { line: 1, .. }))
+        )
+    );
     Ok(())
 }
