@@ -55,7 +55,7 @@ asm --text
 edid --hex
 edid --text --text
 mon --edges
-step
+step tv.steps
 ";
 
 /// The program refuses these words.
