@@ -43,7 +43,13 @@ fn take_command<S: Sink>(
         Command::Edge => stepper.edge(out),
         Command::Round => stepper.round(out),
         Command::Until(at) => stepper.until(at, out),
-        Command::Show(device) => stepper.show(device, out),
+        Command::Show(device) => {
+            if device < stepper.device_count() {
+                stepper.show(device, out)
+            } else {
+                Err(StepError::Ended)
+            }
+        }
     };
     told(step, out)
 }
@@ -78,9 +84,18 @@ pub fn step_run<S: Sink>(
     steps: &[u8],
     out: &mut S,
 ) -> Result<(), StepRunError> {
-    let topology = parse_topology(alloc, topology).map_err(EmulateError::from)?;
-    let script = parse_script(alloc, &topology, script).map_err(EmulateError::from)?;
-    root_of(&topology.edid).map_err(EmulateError::Edid)?;
+    let topology = match parse_topology(alloc, topology) {
+        Ok(topology) => topology,
+        Err(fault) => return Err(StepRunError::Run(fault.into())),
+    };
+    let script = match parse_script(alloc, &topology, script) {
+        Ok(script) => script,
+        Err(fault) => return Err(StepRunError::Run(fault.into())),
+    };
+    let _edid = match root_of(&topology.edid) {
+        Ok(edid) => edid,
+        Err(cause) => return Err(StepRunError::Run(EmulateError::Edid(cause))),
+    };
     let commands = match parse_commands(alloc, &topology.tree, steps) {
         Ok(commands) => commands,
         Err(CommandsError::Line(line)) => return Err(StepRunError::Steps(line)),

@@ -277,6 +277,13 @@ impl Stepper {
         }
     }
 
+    // How many devices the network has.
+    pub(crate) fn device_count(&self) -> usize
+        ensures { result ≡ length (shown_net self.now).tree }
+    {
+        self.shown().tree().count()
+    }
+
     /// Writes the state line of a device, whose number is below the count: in a round that was begun its state in
     /// that round, and else that after the last round.
     ///
