@@ -9,8 +9,8 @@ ghost use Rattle.cec_run.specs.EdgeText.{edge_lines, stretch_lines};
 
 use crate::line::{PARTS, add};
 use arrayvec::ArrayVec;
-use cec_words::{counted, cut_at};
 use cec_wave::Stretch;
+use cec_words::{counted, cut_at};
 use hdmi_core::{Piece, Sink, WriteFault, write_line};
 
 /// The most stretches whose lines go out in one `put`. A fall and a rise of 13 digits each take 32 bytes.

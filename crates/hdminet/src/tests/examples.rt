@@ -231,6 +231,58 @@ fn ports(rt: HostRuntime) -> Result<(), Fail> {
     gives(&rt, rt.alloc(), words.as_slice(), input, output)
 }
 
+const RECORDER_AND_PLAYER_NET: &str = "\
+# A recorder and a player in one box, beside a player that takes the first address of its kind.
+# The box has two logical addresses, and each of its units says what it is.
+device tv tv 2
+device p player 0
+device box combo 0
+plug p tv 1
+plug box tv 2
+script
+at 1500000 send tv 0>1 give-osd-name
+at 1500000 send tv 0>8 give-physical-address
+at 2000000 press box play
+at 2500000 send box 8>1 give-osd-name
+at 2500000 send box 4>0 image-view-on
+end 3000000
+";
+
+const RECORDER_AND_PLAYER_TRACE: &str = "\
+12000 39150 complete 0>0 nack by tv out -
+50705 77855 complete 4>4 nack by p out -
+89405 212555 complete 0>f report-physical-address 0.0.0.0 tv ok by tv out -
+224105 347255 complete 4>f report-physical-address 1.0.0.0 playback ok by p out -
+358818 385968 complete 1>1 nack by box out -
+402322 429472 complete 4>4 ack by box out -
+446722 473872 complete 8>8 nack by box out -
+490222 613372 complete 1>f report-physical-address 2.0.0.0 recorder ok by box out -
+629722 752872 complete 8>f report-physical-address 2.0.0.0 playback ok by box out -
+1500000 event 1 ok
+1500000 event 2 ok
+1500000 1551150 complete 0>1 give-osd-name ack by tv out -
+1563600 1686750 complete 1>0 set-osd-name \"box\" ack by box out -
+1699200 1750350 complete 0>8 give-physical-address ack by tv out -
+1762800 1885950 complete 8>f report-physical-address 2.0.0.0 playback ok by box out -
+2000000 event 3 ok
+2000000 2051150 complete 8>0 image-view-on ack by box out -
+2068400 2167550 complete 8>f active-source 2.0.0.0 ok by box out -
+2500000 event 4 refused own-address
+2500000 event 5 refused no-address
+state tv tv 0 0.0.0.0 on active=2.0.0.0 path=2.0.0.0 deck=1a menu=off audio=off volume=20 mute=off arc=off sel=- lang=656e67 osd=- held=- heard=8:84:20 sub=- queue=0 dropped=0
+state p player 4 1.0.0.0 on active=2.0.0.0 path=2.0.0.0 deck=1a menu=off audio=off volume=20 mute=off arc=off sel=- lang=656e67 osd=- held=- heard=8:84:20 sub=- queue=0 dropped=0
+state box combo 1+8 2.0.0.0 on active=2.0.0.0 path=2.0.0.0 deck=11 menu=off audio=off volume=20 mute=off arc=off sel=- lang=656e67 osd=- held=- heard=4:84:10 sub=- queue=0 dropped=0
+3000000 end
+";
+
+#[test]
+fn recorder_and_player(rt: HostRuntime) -> Result<(), Fail> {
+    let words = ["run"];
+    let input = RECORDER_AND_PLAYER_NET.as_bytes();
+    let output = RECORDER_AND_PLAYER_TRACE.as_bytes();
+    gives(&rt, rt.alloc(), words.as_slice(), input, output)
+}
+
 const ARBITRATION_STEPS: &str = "\
 # Two devices send at once, and the one with the lower address goes on: an arbitration edge by edge.
 device tv tv 4
@@ -295,58 +347,6 @@ fn arbitration(rt: HostRuntime) -> Result<(), Fail> {
     let words = ["step"];
     let input = ARBITRATION_STEPS.as_bytes();
     let output = ARBITRATION_STEPPED.as_bytes();
-    gives(&rt, rt.alloc(), words.as_slice(), input, output)
-}
-
-const RECORDER_AND_PLAYER_NET: &str = "\
-# A recorder and a player in one box, beside a player that takes the first address of its kind.
-# The box has two logical addresses, and each of its units says what it is.
-device tv tv 2
-device p player 0
-device box combo 0
-plug p tv 1
-plug box tv 2
-script
-at 1500000 send tv 0>1 give-osd-name
-at 1500000 send tv 0>8 give-physical-address
-at 2000000 press box play
-at 2500000 send box 8>1 give-osd-name
-at 2500000 send box 4>0 image-view-on
-end 3000000
-";
-
-const RECORDER_AND_PLAYER_TRACE: &str = "\
-12000 39150 complete 0>0 nack by tv out -
-50705 77855 complete 4>4 nack by p out -
-89405 212555 complete 0>f report-physical-address 0.0.0.0 tv ok by tv out -
-224105 347255 complete 4>f report-physical-address 1.0.0.0 playback ok by p out -
-358818 385968 complete 1>1 nack by box out -
-402322 429472 complete 4>4 ack by box out -
-446722 473872 complete 8>8 nack by box out -
-490222 613372 complete 1>f report-physical-address 2.0.0.0 recorder ok by box out -
-629722 752872 complete 8>f report-physical-address 2.0.0.0 playback ok by box out -
-1500000 event 1 ok
-1500000 event 2 ok
-1500000 1551150 complete 0>1 give-osd-name ack by tv out -
-1563600 1686750 complete 1>0 set-osd-name \"box\" ack by box out -
-1699200 1750350 complete 0>8 give-physical-address ack by tv out -
-1762800 1885950 complete 8>f report-physical-address 2.0.0.0 playback ok by box out -
-2000000 event 3 ok
-2000000 2051150 complete 8>0 image-view-on ack by box out -
-2068400 2167550 complete 8>f active-source 2.0.0.0 ok by box out -
-2500000 event 4 refused own-address
-2500000 event 5 refused no-address
-state tv tv 0 0.0.0.0 on active=2.0.0.0 path=2.0.0.0 deck=1a menu=off audio=off volume=20 mute=off arc=off sel=- lang=656e67 osd=- held=- heard=8:84:20 sub=- queue=0 dropped=0
-state p player 4 1.0.0.0 on active=2.0.0.0 path=2.0.0.0 deck=1a menu=off audio=off volume=20 mute=off arc=off sel=- lang=656e67 osd=- held=- heard=8:84:20 sub=- queue=0 dropped=0
-state box combo 1+8 2.0.0.0 on active=2.0.0.0 path=2.0.0.0 deck=11 menu=off audio=off volume=20 mute=off arc=off sel=- lang=656e67 osd=- held=- heard=4:84:10 sub=- queue=0 dropped=0
-3000000 end
-";
-
-#[test]
-fn recorder_and_player(rt: HostRuntime) -> Result<(), Fail> {
-    let words = ["run"];
-    let input = RECORDER_AND_PLAYER_NET.as_bytes();
-    let output = RECORDER_AND_PLAYER_TRACE.as_bytes();
     gives(&rt, rt.alloc(), words.as_slice(), input, output)
 }
 
