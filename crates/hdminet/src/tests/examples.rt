@@ -350,6 +350,58 @@ fn arbitration(rt: HostRuntime) -> Result<(), Fail> {
     gives(&rt, rt.alloc(), words.as_slice(), input, output)
 }
 
+const TWO_ADDRESSES_STEPS: &str = "\
+# A recorder and a player in one box look for their addresses, one after the other: both allocations step by step.
+device tv tv 1
+device box combo 0
+plug box tv 1
+script
+end 600000
+steps
+# the recorder polls 1, and nobody acknowledges: from then on the box holds 1, and its player is still looking
+until device box
+show box
+# the television reports, and then the player polls 4: its start bit and its first slot, edge by edge
+until opcode 84
+edge
+edge
+edge
+edge
+# the rest of that poll: now the box has settled, and has a report for each of its two addresses to send
+round
+show box
+# the recorder's report and the player's, each from its own address
+until device box
+until device box
+show box
+# nothing more comes
+until break
+";
+
+const TWO_ADDRESSES_STEPPED: &str = "\
+50705 77855 complete 1>1 nack by box out -
+state box combo 1+- 1.0.0.0 on active=- path=- deck=1a menu=off audio=off volume=20 mute=off arc=off sel=- lang=656e67 osd=- held=- heard=- sub=- queue=0 dropped=0
+89405 212555 complete 0>f report-physical-address 0.0.0.0 tv ok by tv out -
+224113 low tv=start-low box=start-low
+227813 high tv=start-high box=start-high
+228613 low tv=slot:1:- box=slot:1:-
+230113 high tv=slot:1:0 box=slot:1:0
+224113 251263 complete 4>4 nack by box out -
+state box combo 1+4 1.0.0.0 on active=- path=- deck=1a menu=off audio=off volume=20 mute=off arc=off sel=- lang=656e67 osd=- held=- heard=0:84:00 sub=- queue=2 dropped=0
+267613 390763 complete 1>f report-physical-address 1.0.0.0 recorder ok by box out -
+407113 530263 complete 4>f report-physical-address 1.0.0.0 playback ok by box out -
+state box combo 1+4 1.0.0.0 on active=- path=- deck=1a menu=off audio=off volume=20 mute=off arc=off sel=- lang=656e67 osd=- held=- heard=0:84:00 sub=- queue=0 dropped=0
+ended
+";
+
+#[test]
+fn two_addresses(rt: HostRuntime) -> Result<(), Fail> {
+    let words = ["step"];
+    let input = TWO_ADDRESSES_STEPS.as_bytes();
+    let output = TWO_ADDRESSES_STEPPED.as_bytes();
+    gives(&rt, rt.alloc(), words.as_slice(), input, output)
+}
+
 const FRAMES_TXT: &str = "\
 # What a television, an amplifier and a player say to each other.
 
