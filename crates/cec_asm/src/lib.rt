@@ -2,15 +2,15 @@
 #![tactic(auto)]
 
 mod keys;
+mod laws;
 mod script;
 mod topology;
 mod words;
 
 pub use cec_opcode::WordSet;
 pub use cec_text::{AssembleError, assemble, frame_text, write_frame};
-pub use script::{
-    Script, ScriptCause, ScriptError, TimedEvent, one_script, parse_script, scripts_are_sound,
-};
+pub use laws::{one_script, scripts_are_sound};
+pub use script::{Script, ScriptCause, ScriptError, TimedEvent, parse_script};
 pub use topology::{Topology, TopologyCause, TopologyError, parse_topology};
 
 #[cfg(test)]

@@ -3,15 +3,14 @@ ghost use Rattle.std.specs.Prelude.{◌≡◌, ℕ, ◌+◌, ◌<◌, ◌≤◌,
 ghost use Rattle.std.specs.Option.{option_copied};
 ghost use Rattle.cec_wave.specs.Pulses.{pulses_fault};
 ghost use Rattle.cec_words.specs.Words.{words_behind, one_of, two_of, three_of};
-ghost use Rattle.cec_asm.specs.Script.{Notes, notes_of, course_of, time_of, last_time, last_end, scheduled, plug_words, unplug_words, key_words, event_words, send_read, pulse_cause, pulsed, pulse_words, end_words, other_words, error_at, IsFrameOf, IsSendRead, IsEventRead, IsLineRead, GivesNotes, Gives, GivesScript, IsScript, OneScript, ScriptsAreSound};
+ghost use Rattle.cec_asm.specs.Script.{Notes, notes_of, course_of, time_of, last_time, last_end, scheduled, plug_words, unplug_words, key_words, event_words, send_read, pulse_cause, pulsed, pulse_words, end_words, other_words, error_at, IsFrameOf, IsSendRead, IsEventRead, IsLineRead, GivesNotes, Gives, GivesScript, IsScript};
 
 use crate::keys::key_in;
 use crate::topology::Topology;
 use cec_frame::Frame;
 use cec_net::Event;
 use cec_text::{AssembleError, assemble, frames_are_whole};
-use cec_wave::pulses::{self, Pulses, stretch_fault};
-use cec_wave::{PulsesError, Stretch};
+use cec_wave::{MOST_PULSES, Pulses, PulsesError, Stretch, stretch_fault};
 use cec_words::{first_line, first_word, is_skipped, number_in, one_word, three_words, two_words};
 use hdmi_topo::Tree;
 use std::alloc::{AllocFailed, Global};
@@ -339,7 +338,7 @@ fn add_pulse(draft: &mut Draft, pulse: Stretch) -> Result<(), LineError>
     if let Some(fault) = stretch_fault(last_end(&draft.pulses), pulse) {
         return Err(LineError::Cause(pulse_cause(fault)));
     }
-    if draft.pulses.len() >= pulses::MOST {
+    if draft.pulses.len() >= MOST_PULSES {
         return Err(LineError::Cause(ScriptCause::TooMany));
     }
     if draft.end.is_some() {
@@ -524,14 +523,3 @@ pub fn parse_script(alloc: Global, topology: &Topology, text: &[u8]) -> Result<S
         end,
     })
 }
-
-/// Every text of a script gives events in the order of their times, of devices that are there and of frames that are
-/// not empty, and sparse pulses.
-pub fn scripts_are_sound()
-    ensures { ScriptsAreSound }
-{}
-
-/// A text that is read as a script is read in no other way.
-pub fn one_script()
-    ensures { OneScript }
-{}

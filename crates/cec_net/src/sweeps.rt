@@ -2,8 +2,7 @@
 //! rules of the wire: a pulse breaks a frame, acknowledges one falsely or refuses one, and never makes another of it.
 use crate::{Event, Net};
 use cec_frame::{Addr, Ending, Frame};
-use cec_wave::Stretch;
-use cec_wave::pulses::Pulses;
+use cec_wave::{Pulses, Stretch};
 use cec_wire::EdgeWire;
 use hdmi_core::Kind;
 use hdmi_topo::Tree;

@@ -9,8 +9,7 @@ use crate::senders::out_slot;
 use crate::{Fate, Loser, Outcome, Seat};
 use arrayvec::ArrayVec;
 use cec_frame::{Ending, Reading};
-use cec_wave::Stretch;
-use cec_wave::wave::Wave;
+use cec_wave::{Stretch, Wave};
 
 const ACK_EVERY: usize = 10;
 

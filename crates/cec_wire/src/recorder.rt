@@ -1,8 +1,7 @@
 //! The wave of a line, recorded microsecond by microsecond.
 ghost use Rattle.std.specs.Prelude.{◌≡◌, ◌<◌, ◌≤◌, length, None, is_some, []};
 
-use cec_wave::Stretch;
-use cec_wave::wave::Wave;
+use cec_wave::{Stretch, Wave};
 
 /// The stretches that are over, and since when the line is low now.
 #[derive(Debug, Drop)]

@@ -1,0 +1,15 @@
+//! Laws of frames.
+ghost use Rattle.cec_frame.specs.Arbitration.{AcksDecideNothing, SameWinners};
+ghost use Rattle.cec_frame.specs.Blocks.{FramesAreRead, OwnBitsAreRead};
+
+/// Acknowledge slots decide nothing: with them left out, frames come in the same order, and the same ones win.
+pub fn acknowledge_slots_decide_nothing()
+    ensures order { AcksDecideNothing }
+    ensures winners { SameWinners }
+{}
+
+/// The bytes of a frame's bits are that frame, whatever its acknowledge slots were read as.
+pub fn frames_are_read()
+    ensures own { OwnBitsAreRead }
+    ensures read { FramesAreRead }
+{}

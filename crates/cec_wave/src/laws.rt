@@ -1,0 +1,13 @@
+//! Laws of pulses and of what a sender pulls.
+ghost use Rattle.cec_wave.specs.Pulses.{FaultlessAreSparse};
+ghost use Rattle.cec_wave.specs.Times.{TimesOfSenders};
+
+/// No fault is found in a list of stretches exactly where they are sparse pulses.
+pub fn faultless_are_sparse()
+    ensures { FaultlessAreSparse }
+{}
+
+/// A sender has a stretch for the start and one for each slot, each at its nominal time (CEC 5.2).
+pub fn times_of_senders()
+    ensures { TimesOfSenders }
+{}
