@@ -10,7 +10,7 @@ use cec_bits::{Receiver, Sender, Standing};
 use cec_wave::pulses::Pulses;
 use cec_wave::{Edge, Stretch};
 use cec_wire::{
-    Outcome, Place, Recorder, Seat, Wire, ending, held_until, is_pulsed, next_wake, outcome,
+    Outcome, Place, Recorder, Seat, Wire, ending, held_until, is_pulsed, next_wake, outcome_of,
     pulls_on, pulses_until, senders_until, sending_after, sending_first,
 };
 use std::mem;
@@ -466,7 +466,7 @@ impl EdgeWire {
         let seats = self.seats;
         let bits = self.bits;
         let wave = self.recorder.wave;
-        outcome(seats.as_slice(), begin, bits, ended, wave)
+        outcome_of(seats.as_slice(), begin, bits, ended, wave)
     }
 
     /// What the round gave, once `next_edge` has answered that no edge comes any more. The wire is then as new.

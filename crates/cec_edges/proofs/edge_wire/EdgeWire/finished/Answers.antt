@@ -10,14 +10,14 @@ returns c =
     let w = c.args.self in
     let whole = is_all c.ending-ended.result.ending in
     record {
-      round = finds_round w c.ending-ended.result c.outcome.result c.requires.begun c.requires.silent c.ending-ended.ensures c.outcome.ensures.wave
+      round = finds_round w c.ending-ended.result c.outcome_of.result c.requires.begun c.requires.silent c.ending-ended.ensures c.outcome_of.ensures.wave
           (record {
-            begin_is = c.outcome.ensures.begin;
-            at_is = c.outcome.ensures.at;
-            ending_is = c.outcome.ensures.ending;
-            bits_is = c.outcome.ensures.bits;
-            survivors_is = c.outcome.ensures.survivors ∙ ap (λ (ss : List Seat). survivors_by w.bits.items whole 0 ss) c.as_slice.ensures.value;
-            losers_is = c.outcome.ensures.losers ∙ ap (λ (ss : List Seat). losers_by w.bits.items whole 0 ss) c.as_slice.ensures.value;
-            rest_is = c.outcome.ensures.rest ∙ ap (rest_of c.ending-ended.result.until) (sym c.outcome.ensures.wave);
+            begin_is = c.outcome_of.ensures.begin;
+            at_is = c.outcome_of.ensures.at;
+            ending_is = c.outcome_of.ensures.ending;
+            bits_is = c.outcome_of.ensures.bits;
+            survivors_is = c.outcome_of.ensures.survivors ∙ ap (λ (ss : List Seat). survivors_by w.bits.items whole 0 ss) c.as_slice.ensures.value;
+            losers_is = c.outcome_of.ensures.losers ∙ ap (λ (ss : List Seat). losers_by w.bits.items whole 0 ss) c.as_slice.ensures.value;
+            rest_is = c.outcome_of.ensures.rest ∙ ap (rest_of c.ending-ended.result.until) (sym c.outcome_of.ensures.wave);
           });
     }
