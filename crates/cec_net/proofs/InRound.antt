@@ -11,12 +11,12 @@ use Rattle.cec_bits.specs.Phase.{Standing, at_rest, standing_of}
 use Rattle.cec_bits.specs.Reading.{start_of}
 use Rattle.cec_wire.specs.declared.Seat.{Seat}
 use Rattle.cec_wire.specs.declared.Outcome.{Outcome}
-use Rattle.cec_wire.specs.declared.edge_wire.EdgeWire.{EdgeWire}
+use Rattle.cec_edges.specs.declared.edge_wire.EdgeWire.{EdgeWire}
 use Rattle.cec_wire.specs.Round.{IsRound, IsRoundLine}
 use Rattle.cec_wire.specs.Edges.{IsNextEdge}
 use Rattle.cec_wire.specs.Lasting.{is_begun}
-use Rattle.cec_wire.specs.Wired.{EachOf, IsBegun, IsKept, Listens, IsNext, SameRound, Leaves, NextEdges, Follow, IsRoundOf, is_silent_in}
-use Rattle.cec_wire.proofs.Rounding.{Rests, first, rest, rests_first, rests_next, rests_more, rests_begin, round_of}
+use Rattle.cec_edges.specs.Wired.{EachOf, IsBegun, IsKept, Listens, IsNext, SameRound, Leaves, NextEdges, Follow, IsRoundOf, is_silent_in}
+use Rattle.cec_edges.proofs.Rounding.{Rests, first, rest, rests_first, rests_next, rests_more, rests_begin, round_of}
 use Rattle.cec_wire.proofs.Lasting.{begun_by, contended, low_at_begin}
 use Rattle.cec_device.specs.State.{State}
 use Rattle.hdmi_topo.specs.Node.{Node}

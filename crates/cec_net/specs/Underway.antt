@@ -4,9 +4,9 @@ use Rattle.std.specs.Option.{ForSome}
 use Rattle.cec_wave.specs.declared.Stretch.{Stretch}
 use Rattle.cec_wave.specs.Line.{Line}
 use Rattle.cec_bits.specs.Phase.{Standing, at_rest, standing_of}
-use Rattle.cec_wire.specs.declared.edge_wire.EdgeWire.{EdgeWire}
+use Rattle.cec_edges.specs.declared.edge_wire.EdgeWire.{EdgeWire}
 use Rattle.cec_wire.specs.Round.{IsRoundLine}
-use Rattle.cec_wire.specs.Wired.{IsBegun, IsKept, Listens}
+use Rattle.cec_edges.specs.Wired.{IsBegun, IsKept, Listens}
 use Rattle.cec_net.specs.State.{NetState, next_start}
 use Rattle.cec_net.specs.Step.{seats_of}
 

@@ -3,9 +3,9 @@ ghost use Rattle.std.specs.Prelude.{◌≡◌, ◌≤◌, ◌<◌, length, IsSom
 
 use crate::{Event, Net};
 use cec_bits::Standing;
+use cec_edges::EdgeWire;
 use cec_frame::{Ending, Frame};
 use cec_wave::{Edge, Pulses, Stretch};
-use cec_wire::EdgeWire;
 use hdmi_core::Kind;
 use hdmi_topo::Tree;
 use std::process::Abort;

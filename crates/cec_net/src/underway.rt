@@ -3,7 +3,7 @@ ghost use Rattle.std.specs.Prelude.{◌≡◌, ◌+◌, ◌≤◌, ◌<◌, leng
 ghost use Rattle.cec_wave.specs.Pulses.{AreSparse};
 ghost use Rattle.cec_wire.specs.Edges.{IsNextEdge};
 ghost use Rattle.cec_wire.specs.Round.{IsRound, IsRoundLine};
-ghost use Rattle.cec_wire.specs.Wired.{IsBegun, is_silent_in, SameRound};
+ghost use Rattle.cec_edges.specs.Wired.{IsBegun, is_silent_in, SameRound};
 ghost use Rattle.cec_net.specs.Underway.{Takes};
 
 use crate::net::Net;
@@ -12,8 +12,9 @@ use crate::wiring::DEVICES;
 use arrayvec::ArrayVec;
 use cec_bits::Standing;
 use cec_device::Device;
+use cec_edges::EdgeWire;
 use cec_wave::{Edge, Stretch};
-use cec_wire::{EdgeWire, Outcome};
+use cec_wire::Outcome;
 
 // The first of the pulses that has not begun.
 fn next_of(wire: &EdgeWire, pulses: &[Stretch]) -> Option<Stretch>

@@ -7,8 +7,8 @@ use crate::emulate::EmulateError;
 use crate::root::root_of;
 use crate::run::{Telling, Totals, run};
 use cec_asm::{parse_script, parse_topology};
+use cec_edges::EdgeWire;
 use cec_net::Net;
-use cec_wire::EdgeWire;
 use hdmi_core::Sink;
 use std::alloc::Global;
 

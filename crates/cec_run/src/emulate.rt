@@ -8,8 +8,8 @@ use crate::run::{Telling, Totals, run};
 use cec_asm::{
     ScriptCause, ScriptError, TopologyCause, TopologyError, parse_script, parse_topology,
 };
+use cec_edges::EdgeWire;
 use cec_net::Net;
-use cec_wire::EdgeWire;
 use hdmi_core::Sink;
 use std::alloc::Global;
 use thiserror::Error;

@@ -11,10 +11,10 @@ ghost use Rattle.cec_step.specs.Steps.{IsOver, IsRoundStep, passed, passed_text,
 use crate::edge_text::write_edge;
 use crate::parts::behind;
 use cec_asm::TimedEvent;
+use cec_edges::EdgeWire;
 use cec_net::{Net, RoundReport};
 use cec_run::{Totals, Turn, apply_event, first_time, next_turn, write_ports};
 use cec_wave::Edge;
-use cec_wire::EdgeWire;
 use cec_words::{counted, cut_at};
 use hdmi_blocks::Edid;
 use hdmi_core::{Sink, WriteFault};

@@ -100,7 +100,7 @@ pub fn ending(place: Place) -> Ended
 }
 
 // What a round gave that ended so, with these bits read and this wave carried.
-pub fn outcome(
+pub fn outcome_of(
     seats: &[Seat],
     begin: u64,
     bits: ArrayVec<bool, 160>,

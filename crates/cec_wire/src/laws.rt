@@ -7,7 +7,6 @@ ghost use Rattle.cec_wire.specs.Lasting.{RoundsLast};
 ghost use Rattle.cec_wire.specs.OneOutcome.{OneOutcome};
 ghost use Rattle.cec_wire.specs.Polls.{FreeIsRead, HoldersAreHeard};
 ghost use Rattle.cec_wire.specs.Round.{FatesTold, OneLine};
-ghost use Rattle.cec_wire.specs.Standings.{ReceiversStand};
 ghost use Rattle.cec_wire.specs.Winning.{CompleteIsRead};
 
 // ---- the line
@@ -96,7 +95,7 @@ pub fn rounds_are_lone()
     ensures { RoundsAreLone }
 {}
 
-/// A round's reading ends at most 444,861 microseconds after its begin, and its last low stretch at most 451,461
+/// A round's reading ends at most 444,861 microseconds after its begin, and its last low stretch at most 458,461
 /// after it. That stretch begins by the reading's last microsecond, and at most 19 pulses begin in all that time.
 pub fn rounds_are_short()
     ensures { RoundsAreShort }
@@ -124,11 +123,4 @@ pub fn free_is_read()
 /// address, whatever pulses there were.
 pub fn holders_are_heard()
     ensures { HoldersAreHeard }
-{}
-
-// ---- receivers
-
-/// Where the wire says that the receivers of its line stand, they stand by that line's readings.
-pub fn receivers_stand()
-    ensures { ReceiversStand }
 {}

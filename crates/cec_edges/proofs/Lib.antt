@@ -1,0 +1,9 @@
+pub mod Meets
+pub mod Wiring
+pub mod Searching
+pub mod Stood
+pub mod Finding
+pub mod Receivers
+pub mod Rounding
+pub mod Listening
+pub mod Listened

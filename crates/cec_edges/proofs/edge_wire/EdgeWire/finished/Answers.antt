@@ -1,0 +1,23 @@
+use Rattle.std.proofs.Common.{◌∙◌, ap, sym, List}
+use Rattle.cec_wire.specs.declared.Seat.{Seat}
+use Rattle.cec_wire.specs.Round.{rest_of}
+use Rattle.cec_wire.specs.Machine.{is_all, survivors_by, losers_by}
+use Rattle.cec_edges.proofs.Finding.{finds_round}
+use Rattle.cec_edges.proofs.edge_wire.EdgeWire.finished.Goals as goal
+
+pub returns : goal.returns
+returns c =
+    let w = c.args.self in
+    let whole = is_all c.ending-ended.result.ending in
+    record {
+      round = finds_round w c.ending-ended.result c.outcome_of.result c.requires.begun c.requires.silent c.ending-ended.ensures c.outcome_of.ensures.wave
+          (record {
+            begin_is = c.outcome_of.ensures.begin;
+            at_is = c.outcome_of.ensures.at;
+            ending_is = c.outcome_of.ensures.ending;
+            bits_is = c.outcome_of.ensures.bits;
+            survivors_is = c.outcome_of.ensures.survivors ∙ ap (λ (ss : List Seat). survivors_by w.bits.items whole 0 ss) c.as_slice.ensures.value;
+            losers_is = c.outcome_of.ensures.losers ∙ ap (λ (ss : List Seat). losers_by w.bits.items whole 0 ss) c.as_slice.ensures.value;
+            rest_is = c.outcome_of.ensures.rest ∙ ap (rest_of c.ending-ended.result.until) (sym c.outcome_of.ensures.wave);
+          });
+    }

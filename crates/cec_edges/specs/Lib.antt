@@ -1,0 +1,3 @@
+pub mod Listening
+pub mod Wired
+pub mod Standings

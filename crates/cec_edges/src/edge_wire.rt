@@ -1,0 +1,522 @@
+//! A line that goes from edge to edge.
+ghost use Rattle.std.specs.Prelude.{◌≡◌, ◌+◌, ◌<◌, ◌≤◌, ◌++◌, ◌&&◌, not, true, false, length, [], All, take, slice_get, IfSome};
+ghost use Rattle.std.specs.List.{list_any};
+ghost use Rattle.cec_wire.specs.Edges.{sends_on, IsTimely};
+ghost use Rattle.cec_wire.specs.Machine.{next_place, bit_told, held_after, recorded, low_since, samples, AreSentWell, IsEarly, IsReady, IsSentWell};
+
+use crate::listeners::{Listeners, sender_at};
+use arrayvec::ArrayVec;
+use cec_bits::{Receiver, Sender, Standing};
+use cec_wave::{Edge, Pulses, Stretch};
+use cec_wire::{
+    Outcome, Place, Recorder, Seat, Wire, ending, held_until, is_pulsed, next_wake, outcome_of,
+    pulls_on, pulses_until, senders_until, sending_after, sending_first,
+};
+use std::mem;
+
+/// A round as far as it was heard: everything before `time`.
+#[derive(Debug, Drop)]
+pub struct EdgeWire {
+    pub(crate) seats: ArrayVec<Seat, 15>,
+    begin: u64,
+    pub(crate) pulses: ArrayVec<Stretch, 24>,
+    pub(crate) time: u64,
+    pub(crate) bits: ArrayVec<bool, 160>,
+    /// Which seats go on sending, by these bits.
+    sending: ArrayVec<bool, 15>,
+    place: Place,
+    held: u64,
+    recorder: Recorder,
+    listeners: Listeners,
+}
+
+// The same seat again. What it sends has 1 to 16 blocks (CEC 6).
+fn copied(seat: &Seat) -> Seat
+    ensures same { result ≡ seat.now }
+    ensures sends { IsSentWell result.sends }
+{
+    Seat {
+        plugged: seat.plugged,
+        holds: [seat.holds[0], seat.holds[1]],
+        sends: match &seat.sends {
+            None => None,
+            Some(frame) => Some(frame.copy()),
+        },
+    }
+}
+
+fn copied_seats(seats: &[Seat]) -> ArrayVec<Seat, 15>
+    requires { length seats.now ≤ 15 }
+    ensures same { result.items ≡ seats.now }
+    ensures sends { AreSentWell result.items }
+{
+    let mut kept = ArrayVec::new();
+    for seat in seats {
+        kept.push(copied(seat));
+    }
+    kept
+}
+
+fn copied_pulses(pulses: &[Stretch]) -> ArrayVec<Stretch, 24>
+    requires { length pulses.now ≤ 24 }
+    ensures { result.items ≡ pulses.now }
+{
+    match ArrayVec::try_from(pulses) {
+        Ok(kept) => kept,
+        Err(_) => unreachable!(),
+    }
+}
+
+fn copied_bits(bits: &[bool]) -> ArrayVec<bool, 160>
+    requires { length bits.now ≤ 160 }
+    ensures { result.items ≡ bits.now }
+{
+    match ArrayVec::try_from(bits) {
+        Ok(kept) => kept,
+        Err(_) => unreachable!(),
+    }
+}
+
+fn copied_sending(sending: &[bool]) -> ArrayVec<bool, 15>
+    requires { length sending.now ≤ 15 }
+    ensures { result.items ≡ sending.now }
+{
+    match ArrayVec::try_from(sending) {
+        Ok(kept) => kept,
+        Err(_) => unreachable!(),
+    }
+}
+
+impl EdgeWire {
+    ghost use Rattle.std.specs.Prelude.{IfSome, MatchOption, ℕ, ◌-◌};
+    ghost use Rattle.std.specs.Option.{option_to_list};
+    ghost use Rattle.cec_bits.specs.Follows.{shown};
+    ghost use Rattle.cec_bits.specs.Phase.{at_rest, standing_of};
+    ghost use Rattle.cec_wire.specs.Edges.{IsNextEdge};
+    ghost use Rattle.cec_edges.specs.Wired.{IsKept, heard_by, is_low_in, pulls_in, EachOf, IsBegun, IsNext, SameRound, EdgeAt, is_silent_in, wake_in, NextEdges, IsRoundOf, Leaves, Grows, Passes, Listens, IsReceiverIn, IsSenderIn, SendsNothing};
+
+    // A round that begins at `start`.
+    fn started(seats: &[Seat], start: u64) -> Self
+        requires few { length seats.now ≤ 15 }
+        requires early { start ≤ 2000000100000 }
+        ensures begun { IsBegun result }
+        ensures kept { IsKept result }
+        ensures listens { Listens result }
+        ensures seats { result.seats.items ≡ seats.now }
+        ensures begin { result.begin ≡ start }
+        ensures time { result.time ≡ start }
+        ensures pulses { result.pulses.items ≡ [] }
+    {
+        EdgeWire {
+            seats: copied_seats(seats),
+            begin: start,
+            pulses: ArrayVec::new(),
+            time: start,
+            bits: ArrayVec::new(),
+            sending: sending_first(seats),
+            place: Place::StartLow,
+            held: 0,
+            recorder: Recorder::new(),
+            listeners: Listeners::new(seats, start),
+        }
+    }
+
+    /// A wire on which nobody sends, before its first round.
+    pub fn new() -> Self
+        ensures begun { IsBegun result }
+        ensures kept { IsKept result }
+        ensures listens { Listens result }
+    {
+        EdgeWire::started(&[], 0)
+    }
+
+    /// The same wire again, which stands where this one does.
+    pub fn copy(&self) -> Self
+        ensures { result ≡ self.now }
+    {
+        EdgeWire {
+            seats: copied_seats(self.seats.as_slice()),
+            begin: self.begin,
+            pulses: copied_pulses(self.pulses.as_slice()),
+            time: self.time,
+            bits: copied_bits(self.bits.as_slice()),
+            sending: copied_sending(self.sending.as_slice()),
+            place: self.place,
+            held: self.held,
+            recorder: self.recorder.copy(),
+            listeners: self.listeners.copy(),
+        }
+    }
+
+    /// When the round began.
+    pub fn begun_at(&self) -> u64
+        ensures { result ≡ self.now.begin }
+    {
+        self.begin
+    }
+
+    /// How many pulses have begun in the round.
+    pub fn pulses_begun(&self) -> usize
+        ensures { result ≡ length self.now.pulses.items }
+    {
+        self.pulses.len()
+    }
+
+    /// Begins a round of at most 15 seats at `start`. A round that was begun before is given up.
+    pub fn begin(&mut self, seats: &[Seat], start: u64)
+        requires few { length seats.now ≤ 15 }
+        requires early { start ≤ 2000000100000 }
+        ensures begun { IsBegun self.new }
+        ensures kept { IsKept self.new }
+        ensures listens { Listens self.new }
+        ensures seats { self.new.seats.items ≡ seats.now }
+        ensures begin { self.new.begin ≡ start }
+        ensures time { self.new.time ≡ start }
+        ensures pulses { self.new.pulses.items ≡ [] }
+    {
+        *self = EdgeWire::started(seats, start);
+    }
+
+    // Somebody pulls in the next microsecond who sends on until an instant.
+    fn anybody_sends(&self, until: u64) -> bool
+        requires kept { IsKept self.now }
+        ensures { result ≡ list_any (λ s. sends_on self.now.begin self.now.bits.items until self.now.time s.sends) self.now.seats.items }
+    {
+        for place in 0..self.seats.len() {
+            if pulls_on(
+                &self.seats[place],
+                self.sending[place],
+                self.begin,
+                until,
+                self.time,
+            ) {
+                return true;
+            }
+        }
+        false
+    }
+
+    // Whether the line is low in the next microsecond.
+    fn is_pulled(&self) -> bool
+        requires kept { IsKept self.now }
+        ensures { result ≡ pulls_in self.now }
+    {
+        let was = self.recorder.was_low();
+        is_pulsed(
+            self.pulses.as_slice(),
+            self.begin,
+            pulses_until(self.place, self.time),
+            was,
+            self.time,
+        ) || (self.anybody_sends(senders_until(self.place, self.time)) || self.time < self.held)
+    }
+
+    // The next instant at which the line or the reading may change.
+    fn wake(&self, next: Option<Stretch>) -> u64
+        requires kept { IsKept self.now }
+        requires early { self.now.begin ≤ 2000000100000 }
+        requires time { self.now.time ≤ 3000000000000 }
+        requires timely { IsTimely self.now.place }
+        ensures { result ≡ wake_in self.now next }
+    {
+        if self.is_pulled() != self.recorder.was_low() {
+            return self.time;
+        }
+        next_wake(
+            self.begin,
+            self.pulses.as_slice(),
+            next,
+            self.place,
+            self.held,
+            self.time,
+        )
+    }
+
+    // Goes to the next instant at which the line or the reading may change.
+    fn wait(&mut self, next: Option<Stretch>)
+        requires kept { IsKept self.old }
+        requires begun { IsBegun self.old }
+        requires time { self.old.time < self.old.begin + 464000 }
+        requires next { IsNext self.old.pulses.items self.old.time next }
+        ensures kept { IsKept self.new }
+        ensures begun { IsBegun self.new }
+        ensures next { IsNext self.new.pulses.items self.new.time next }
+        ensures round { SameRound self.old self.new }
+        ensures pulses { self.new.pulses.items ≡ self.old.pulses.items }
+        ensures low { is_low_in self.new ≡ is_low_in self.old }
+        ensures place { self.new.place ≡ self.old.place }
+        ensures listeners { self.new.listeners ≡ self.old.listeners }
+        ensures later { self.old.time ≤ self.new.time }
+        ensures near { self.new.time ≤ self.old.time + 4500 }
+        ensures calm { EachOf self.new
+            (λ low. (u : ℕ) → self.old.time ≤ u → u < self.new.time → low u ≡ is_low_in self.old) }
+    {
+        self.time = self.wake(next);
+    }
+
+    // Takes the next pulse, if it begins now.
+    fn take(&mut self, next: Option<Stretch>) -> Option<Stretch>
+        requires kept { IsKept self.old }
+        requires begun { IsBegun self.old }
+        requires near { self.old.time < self.old.begin + 470000 }
+        requires next { IsNext self.old.pulses.items self.old.time next }
+        ensures kept { IsKept self.new }
+        ensures begun { IsBegun self.new }
+        ensures next { IsNext self.new.pulses.items (self.old.time + 1) result }
+        ensures round { SameRound self.old self.new }
+        ensures pulses { self.new.pulses.items ++ option_to_list result ≡ self.old.pulses.items ++ option_to_list next }
+        ensures low { is_low_in self.new ≡ is_low_in self.old }
+        ensures grows { Grows self.old self.new }
+        ensures place { self.new.place ≡ self.old.place }
+        ensures time { self.new.time ≡ self.old.time }
+        ensures listeners { self.new.listeners ≡ self.old.listeners }
+    {
+        match next {
+            Some(pulse) if pulse.from == self.time => {
+                self.pulses.push(pulse);
+                None
+            }
+            _ => next,
+        }
+    }
+
+    // Hears that the line is low or not in the next microsecond, and was low or not just before.
+    fn step(&mut self, was: bool, is_low: bool)
+        requires kept { IsKept self.old }
+        requires begin { self.old.begin ≤ 2000000100000 }
+        requires early { IsEarly self.old.place }
+        requires time { self.old.time ≤ 3000000000000 }
+        requires bits { samples self.old.place self.old.time (is_low && not was) ≡ true → length self.old.bits.items < 160 }
+        requires room { length self.old.recorder.wave < 192 }
+        requires ready { IsReady self.old.recorder.wave self.old.recorder.low_since self.old.time }
+        ensures kept { IsKept self.new }
+        ensures place { self.new.place ≡ next_place self.old.begin self.old.bits.items self.old.place self.old.time (is_low && not was) (not is_low && was) }
+        ensures bits { self.new.bits.items ≡ self.old.bits.items ++ bit_told self.old.place self.old.time (is_low && not was) is_low }
+        ensures held { self.new.held ≡ held_after self.old.seats.items self.new.bits.items self.new.place self.old.time self.old.held }
+        ensures wave { self.new.recorder.wave ≡ recorded self.old.recorder.wave self.old.recorder.low_since self.old.time is_low }
+        ensures since { self.new.recorder.low_since ≡ low_since self.old.recorder.low_since self.old.time is_low }
+        ensures time { self.new.time ≡ self.old.time + 1 }
+        ensures round { SameRound self.old self.new }
+        ensures pulses { self.new.pulses.items ≡ self.old.pulses.items }
+        ensures listeners { self.new.listeners ≡ self.old.listeners }
+    {
+        let falls = is_low && !was;
+        let rises = !is_low && was;
+        let place = self
+            .place
+            .after(self.begin, self.bits.as_slice(), self.time, falls, rises);
+        if self.place.samples(self.time, falls) {
+            self.bits.push(!is_low);
+            self.sending = sending_after(
+                self.seats.as_slice(),
+                self.sending.as_slice(),
+                self.bits.as_slice(),
+            );
+        }
+        self.held = held_until(
+            self.seats.as_slice(),
+            self.bits.as_slice(),
+            place,
+            self.time,
+            self.held,
+        );
+        self.place = place;
+        self.recorder.hear(self.time, is_low);
+        self.time += 1;
+    }
+
+    // Hears the next microsecond. Answers whether the line falls or rises in it.
+    fn hear(&mut self) -> Option<Edge>
+        requires kept { IsKept self.old }
+        requires begun { IsBegun self.old }
+        requires near { self.old.time < self.old.begin + 470000 }
+        ensures kept { IsKept self.new }
+        ensures begun { IsBegun self.new }
+        ensures time { self.new.time ≡ self.old.time + 1 }
+        ensures round { SameRound self.old self.new }
+        ensures pulses { self.new.pulses.items ≡ self.old.pulses.items }
+        ensures listeners { self.new.listeners ≡ self.old.listeners }
+        ensures low { MatchOption result (is_low_in self.new ≡ is_low_in self.old) (λ edge. is_low_in self.new ≡ edge.low) }
+        ensures edge { EachOf self.new (λ low. EdgeAt low self.old.time (is_low_in self.old) result) }
+        ensures at { IfSome result (λ edge. edge.at ≡ self.old.time) }
+        ensures place { MatchOption result (self.new.place ≡ next_place self.old.begin self.old.bits.items self.old.place self.old.time false false) (λ edge. Unit {0}) }
+    {
+        let was = self.recorder.was_low();
+        let is_low = self.is_pulled();
+        let at = self.time;
+        self.step(was, is_low);
+        if is_low == was {
+            None
+        } else {
+            Some(Edge { at, low: is_low })
+        }
+    }
+
+    // The reading has ended, and nobody pulls any more.
+    fn is_silent(&self) -> bool
+        requires kept { IsKept self.now }
+        ensures { result ≡ is_silent_in self.now }
+    {
+        match self.place {
+            Place::Over(ended) => {
+                ended.at < self.time && (!self.recorder.was_low() && !self.is_pulled())
+            }
+            _ => false,
+        }
+    }
+
+    // Looks for the next edge of the line.
+    fn search(&mut self, next: Option<Stretch>) -> Option<Edge>
+        requires kept { IsKept self.old }
+        requires begun { IsBegun self.old }
+        requires next { IsNext self.old.pulses.items self.old.time next }
+        ensures kept { IsKept self.new }
+        ensures begun { IsBegun self.new }
+        ensures round { SameRound self.old self.new }
+        ensures soon { self.new.time ≤ self.old.time + 23000 }
+        ensures near { IfSome result (λ edge. self.new.time ≤ self.new.begin + 470000) }
+        ensures goes { MatchOption result (is_silent_in self.new ≡ true) (λ edge. self.old.time < self.new.time) }
+        ensures left { Leaves self.old next self.new }
+        ensures edge { NextEdges self.old next result }
+        ensures listeners { self.new.listeners ≡ self.old.listeners }
+        ensures later { self.old.time ≤ self.new.time }
+        ensures bound { self.old.time ≤ self.old.begin + 470000 → self.new.time ≤ self.new.begin + 470000 }
+        ensures at { IfSome result (λ edge. edge.at + 1 ≡ self.new.time) }
+        ensures grows { Grows self.old self.new }
+        ensures passes { EachOf self.new (Passes self.old.time (is_low_in self.old) self.new.time result) }
+    {
+        let mut next = next;
+        'wakes: while !self.is_silent() {
+            self.wait(next);
+            next = self.take(next);
+            if let Some(edge) = self.hear() {
+                return Some(edge);
+            }
+        }
+        None
+    }
+
+    /// The next edge of the line, if there is one. `next` is the next pulse that begins, if there is one. The
+    /// receiver and the senders hear the line through that edge; where there is none, until nothing changes any more.
+    pub fn next_edge(&mut self, next: Option<Stretch>) -> Option<Edge>
+        requires kept { IsKept self.old }
+        requires begun { IsBegun self.old }
+        requires listens { Listens self.old }
+        requires next { IsNext self.old.pulses.items self.old.time next }
+        ensures kept { IsKept self.new }
+        ensures begun { IsBegun self.new }
+        ensures listens { Listens self.new }
+        ensures round { SameRound self.old self.new }
+        ensures soon { self.new.time ≤ self.old.time + 23000 }
+        ensures near { IfSome result (λ edge. self.new.time ≤ self.new.begin + 470000) }
+        ensures goes { MatchOption result (is_silent_in self.new ≡ true) (λ edge. self.old.time < self.new.time) }
+        ensures at { IfSome result (λ edge. edge.at + 1 ≡ self.new.time) }
+        ensures left { Leaves self.old next self.new }
+        ensures edge { NextEdges self.old next result }
+    {
+        let found = self.search(next);
+        match found {
+            Some(edge) => self.listeners.hear(edge),
+            None => self.listeners.hear_until(self.time),
+        }
+        found
+    }
+
+    /// The receiver of a seat, whose number is below the count. All seats hear one line, and share one receiver.
+    pub fn receiver_of(&self, _seat: usize) -> &Receiver
+        requires known { _seat < length self.now.seats.items }
+        requires listens { Listens self.now }
+        ensures { IsReceiverIn self.now result.now }
+    {
+        &self.listeners.receiver
+    }
+
+    /// The sender of a seat, whose number is below the count, if it sends in the round.
+    pub fn sender_of(&self, seat: usize) -> Option<&Sender>
+        requires known { seat < length self.now.seats.items }
+        requires listens { Listens self.now }
+        ensures { MatchOption result (SendsNothing self.now seat) (λ sender. IsSenderIn self.now seat sender.now) }
+    {
+        sender_at(self.listeners.senders.as_slice(), seat)
+    }
+
+    /// Where the receiver of a seat stands, whose number is below the count: by the readings of the line through the
+    /// last edge, or to the end of the round where no edge is left. Before the first edge it is idle.
+    pub fn standing_of(&self, seat: usize) -> Standing<'_>
+        requires known { seat < length self.now.seats.items }
+        requires listens { Listens self.now }
+        ensures before { self.now.time ≡ self.now.begin → shown result ≡ at_rest false }
+        ensures stands { self.now.begin < self.now.time → EachOf self.now (λ low. low self.now.begin ≡ true → shown result ≡ standing_of low (self.now.time - 1)) }
+    {
+        if self.time <= self.begin {
+            return Standing::Idle;
+        }
+        self.receiver_of(seat).standing()
+    }
+
+    // What the round gave, where no edge comes any more.
+    fn finished(self) -> Outcome
+        requires begun { IsBegun self }
+        requires silent { is_silent_in self ≡ true }
+        ensures round { IsRoundOf self result }
+    {
+        let ended = ending(self.place);
+        let begin = self.begin;
+        let seats = self.seats;
+        let bits = self.bits;
+        let wave = self.recorder.wave;
+        outcome_of(seats.as_slice(), begin, bits, ended, wave)
+    }
+
+    /// What the round gave, once `next_edge` has answered that no edge comes any more. The wire is then as new.
+    pub fn finish(&mut self) -> Outcome
+        requires begun { IsBegun self.old }
+        requires silent { is_silent_in self.old ≡ true }
+        ensures begun { IsBegun self.new }
+        ensures kept { IsKept self.new }
+        ensures listens { Listens self.new }
+        ensures round { IsRoundOf self.old result }
+    {
+        let done = mem::replace(self, EdgeWire::new());
+        done.finished()
+    }
+}
+
+// How many pulses begin before the round.
+fn skipped(stretches: &[Stretch], start: u64) -> usize
+    ensures few { result ≤ length stretches.now }
+    ensures before { All (λ p. p.from < start) (take result stretches.now) }
+    ensures late { IfSome (slice_get stretches.now result) (λ p. start ≤ p.from) }
+{
+    let mut skipped = 0;
+    for stretch in stretches {
+        if stretch.from >= start {
+            return skipped;
+        }
+        skipped += 1;
+    }
+    skipped
+}
+
+impl EdgeWire {
+    // The first of the stretches that is none of the skipped and has not begun.
+    fn next_of(&self, stretches: &[Stretch], skipped: usize) -> Option<Stretch>
+        requires { skipped ≤ length stretches.now }
+        ensures { result ≡ slice_get stretches.now (skipped + length self.now.pulses.items) }
+    {
+        stretches.get(skipped + self.pulses.len()).copied()
+    }
+}
+
+impl Wire for EdgeWire {
+    fn round(&mut self, seats: &[Seat], start: u64, pulses: &Pulses) -> Outcome {
+        let stretches = pulses.as_slice();
+        let skipped = skipped(stretches, start);
+        let mut wire = EdgeWire::started(seats, start);
+        let mut next = wire.next_of(stretches, skipped);
+        'edges: while wire.search(next).is_some() {
+            next = wire.next_of(stretches, skipped);
+        }
+        wire.finished()
+    }
+}

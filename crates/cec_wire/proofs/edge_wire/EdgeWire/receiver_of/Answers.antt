@@ -1,5 +1,0 @@
-use Rattle.cec_wire.proofs.Listened.{receiver_stands}
-use Rattle.cec_wire.proofs.edge_wire.EdgeWire.receiver_of.Goals as goal
-
-pub returns : goal.returns
-returns c = receiver_stands c.args.self.now c.requires.listens

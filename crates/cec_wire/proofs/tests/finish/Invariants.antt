@@ -1,5 +1,0 @@
-use Rattle.cec_wire.specs.Wired.{IsBegun, IsKept, Listens}
-use Rattle.cec_wire.proofs.tests.finish.Given as goal
-
-abbrev pub invariant-edges : goal.invariant-edges
-invariant-edges g l = record { begun : IsBegun l.wire; kept : IsKept l.wire; listens : Listens l.wire }
