@@ -9,4 +9,8 @@ pub use monitor::Monitor;
 pub use watching::{WatchError, watch};
 
 #[cfg(test)]
+mod plain_readings;
+#[cfg(test)]
+mod random_files;
+#[cfg(test)]
 mod tests;
