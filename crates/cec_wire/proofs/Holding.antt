@@ -7,7 +7,8 @@ use Rattle.cec_frame.specs.declared.Ending.{Ending}
 use Rattle.cec_frame.specs.declared.Ending.TheVariants.{Complete, Short, Silent, BadStart, Long, Open}
 use Rattle.cec_bits.specs.Reading.{Slot, End, Known, known, reading_of}
 use Rattle.cec_wire.specs.declared.Seat.{Seat}
-use Rattle.cec_wire.specs.Round.{acknowledges, known_bits, is_acknowledged, is_broken, is_whole, sends_in}
+use Rattle.cec_bits.specs.Sending.{known_bits, is_whole}
+use Rattle.cec_wire.specs.Round.{acknowledges, is_acknowledged, is_broken, sends_in}
 use Rattle.cec_wire.specs.Machine.{acks_after, acks_until, breaks_after, is_short}
 use Rattle.cec_wire.proofs.Early.{AreDone, no_acks}
 use Rattle.cec_wire.proofs.Walk.{Reached, AreOver}

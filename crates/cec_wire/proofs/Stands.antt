@@ -16,7 +16,8 @@ use Rattle.cec_wire.specs.declared.Seat.{Seat}
 use Rattle.cec_wire.specs.declared.hearing.Ended.{Ended}
 use Rattle.cec_wire.specs.declared.hearing.Place.{Place}
 use Rattle.cec_wire.specs.declared.hearing.Place.TheVariants.{StartLow, StartHigh, InSlot, Over}
-use Rattle.cec_wire.specs.Round.{is_acknowledged, is_broken, known_bits}
+use Rattle.cec_bits.specs.Sending.{known_bits}
+use Rattle.cec_wire.specs.Round.{is_acknowledged, is_broken}
 use Rattle.cec_wire.specs.Machine.{acks_after, over, next_place, after_start_low, after_start_high, after_last_slot, after_other_slot, bit_told, acks_until, held_after, breaks_after, is_short}
 use Rattle.cec_wire.proofs.Walk.{Reached, reach_next, told_more, quiet_sample}
 use Rattle.cec_wire.proofs.Inside.{known_here}

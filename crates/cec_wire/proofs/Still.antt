@@ -12,7 +12,8 @@ use Rattle.cec_bits.specs.Reading.{End, Known, known, reading_of}
 use Rattle.cec_bits.proofs.Causes.{known_start_low, nothing}
 use Rattle.cec_wire.specs.declared.Seat.{Seat}
 use Rattle.cec_wire.specs.declared.hearing.Ended.{Ended}
-use Rattle.cec_wire.specs.Round.{goes_on, out_slot, sender_pulls, winning_frames, pulse_pulls, is_acknowledged, is_broken, pulled, IsRoundLine}
+use Rattle.cec_bits.specs.Sending.{goes_on, out_slot, sender_pulls}
+use Rattle.cec_wire.specs.Round.{winning_frames, pulse_pulls, is_acknowledged, is_broken, pulled, IsRoundLine}
 use Rattle.cec_wire.proofs.Differ.{In, in_any}
 use Rattle.cec_wire.proofs.Lows.{far_apart}
 use Rattle.cec_wire.proofs.Lays.{before_start}

@@ -6,7 +6,8 @@ use Rattle.cec_frame.specs.declared.Ending.{Ending}
 use Rattle.cec_bits.specs.Reading.{Read, reading_of, bits_of}
 use Rattle.cec_wire.specs.declared.Seat.{Seat}
 use Rattle.cec_wire.specs.declared.Loser.{Loser}
-use Rattle.cec_wire.specs.Round.{destination, lost_at, out_of, losers_from, fate_by, out_in, FatesTold}
+use Rattle.cec_bits.specs.Sending.{destination}
+use Rattle.cec_wire.specs.Round.{lost_at, out_of, losers_from, fate_by, out_in, FatesTold}
 
 -- no destination is read, so it is not 15
 pub short_direct : (bits : List Bool) → length bits < 8 → (destination bits == 15) ≡ false

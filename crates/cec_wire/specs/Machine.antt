@@ -1,19 +1,19 @@
 -- The parts of a wire that goes from microsecond to microsecond: where the reading has come, who goes on
 -- sending, and how long those who follow hold the line low. (own)
-use Rattle.std.specs.Prelude.{ℕ, ◌+◌, ◌-◌, ◌%◌, ◌==◌, ◌<◌, ◌≤◌, Bool, true, false, not, nat_lt, nat_le, ◌&&◌, ◌||◌, if◌then◌else◌, List, [], ◌∷◌, ◌++◌, length, slice_index_or, Option, Some, None, is_none, All}
-use Rattle.std.specs.List.{list_any, find, range_with_len}
-use mathlib.Core.Bool.{beq}
+use Rattle.std.specs.Prelude.{ℕ, ◌+◌, ◌%◌, ◌==◌, ◌<◌, ◌≤◌, Bool, true, false, not, nat_lt, nat_le, ◌&&◌, ◌||◌, if◌then◌else◌, List, [], ◌∷◌, ◌++◌, length, Option, Some, None, is_none, All}
+use Rattle.std.specs.List.{list_any}
 use Rattle.cec_wave.specs.declared.Stretch.{Stretch}
 use Rattle.cec_wave.specs.Line.{covers, line_of, IsWave}
 use Rattle.cec_wave.specs.Sender.{sender_stretches}
 use Rattle.cec_frame.specs.Bits.{frame_bits}
 use Rattle.cec_frame.specs.declared.Ending.{Ending}
-use Rattle.cec_frame.specs.declared.Ending.TheVariants.{Complete, Short, Silent, BadStart, Long}
+use Rattle.cec_frame.specs.declared.Ending.TheVariants.{Short, Silent, BadStart}
 use Rattle.cec_bits.specs.Reading.{last_ending}
+use Rattle.cec_bits.specs.Sending.{destination, out_by}
 use Rattle.cec_wire.specs.declared.Seat.{Seat}
 use Rattle.cec_wire.specs.declared.hearing.Place.{Place}
 use Rattle.cec_wire.specs.declared.hearing.Place.TheVariants.{StartLow, StartHigh, InSlot, Over}
-use Rattle.cec_wire.specs.Round.{bit_read, destination, is_held, is_not_before, lost_at}
+use Rattle.cec_wire.specs.Round.{is_held, is_not_before, lost_at}
 use Rattle.cec_wire.specs.declared.Loser.{Loser}
 
 -- ---- where the reading comes with microsecond t
@@ -61,16 +61,6 @@ abbrev pub bit_told : Place → ℕ → Bool → Bool → List Bool
 bit_told place t falls is_low = if samples place t falls then not is_low ∷ [] else []
 
 -- ---- who goes on, by the bits that were read
-
--- the first slot that tells a sender of these bits to stop; `whole` where the last one ends the reading
-abbrev pub is_out_by : List Bool → Bool → List Bool → ℕ → Bool
-is_out_by bits whole sent n =
-    if n % 10 == 0
-    then not (whole && (n == length bits)) && not (beq (bit_read bits n) (destination bits == 15))
-    else not (beq (bit_read bits n) (slice_index_or sent (n - 1) false))
-
-abbrev pub out_by : List Bool → Bool → List Bool → Option ℕ
-out_by bits whole sent = find (is_out_by bits whole sent) (range_with_len 1 (length bits))
 
 -- a seat is still sending after these bits, which did not end the reading
 abbrev pub sends_after : List Bool → Option (List ℕ) → Bool
@@ -155,11 +145,6 @@ IsReady wave None t = Unit {0}
 IsReady wave (Some from) t = IsWave (wave ++ record { from = from; to = t } ∷ [])
 
 -- ---- the end
-
-abbrev pub is_all : Ending → Bool
-is_all Complete = true
-is_all Long = true
-is_all _ = false
 
 abbrev pub survives : List Bool → Bool → Option (List ℕ) → Bool
 survives bits whole None = false

@@ -1,6 +1,7 @@
 //! What a round gave: who was still sending and who was out, what becomes of them, the rest and the close.
 ghost use Rattle.std.specs.Prelude.{◌≡◌, ◌≤◌, ◌==◌, length};
-ghost use Rattle.cec_wire.specs.Machine.{survives, survivors_by, out_after, losers_by, is_all, IsOver};
+ghost use Rattle.cec_bits.specs.Sending.{has_all};
+ghost use Rattle.cec_wire.specs.Machine.{survives, survivors_by, out_after, losers_by, IsOver};
 ghost use Rattle.cec_wire.specs.Round.{is_taken_up, fate_at_end, fate_by, out_in, rest_of};
 
 use crate::header::is_broadcast;
@@ -19,7 +20,7 @@ const INITIATOR_SLOTS: usize = 4;
 
 // The ending has all the blocks of a frame.
 fn is_whole(ending: Ending) -> bool
-    ensures { result ≡ is_all ending }
+    ensures { result ≡ has_all ending }
 {
     match ending {
         Ending::Complete | Ending::Long => true,
@@ -112,8 +113,8 @@ pub fn outcome_of(
     ensures at { result.reading.at ≡ ended.at }
     ensures ending { result.reading.ending ≡ ended.ending }
     ensures bits { result.reading.bits.items ≡ bits.items }
-    ensures survivors { result.survivors.items ≡ survivors_by bits.items (is_all ended.ending) 0 seats.now }
-    ensures losers { result.losers.items ≡ losers_by bits.items (is_all ended.ending) 0 seats.now }
+    ensures survivors { result.survivors.items ≡ survivors_by bits.items (has_all ended.ending) 0 seats.now }
+    ensures losers { result.losers.items ≡ losers_by bits.items (has_all ended.ending) 0 seats.now }
     ensures rest { result.rest ≡ rest_of ended.until wave }
     ensures wave { result.wave ≡ wave }
 {

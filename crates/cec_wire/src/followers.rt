@@ -1,7 +1,8 @@
 //! Who follows: who acknowledges a block, who pulls after a fall too early, and for how long.
 ghost use Rattle.std.specs.Prelude.{◌≡◌, ◌+◌, ◌%◌, ◌==◌, ◌<◌, ◌≤◌, ◌&&◌, not, length, if◌then◌else◌};
 ghost use Rattle.std.specs.List.{list_any};
-ghost use Rattle.cec_wire.specs.Round.{destination, holds_address, is_held};
+ghost use Rattle.cec_bits.specs.Sending.{destination};
+ghost use Rattle.cec_wire.specs.Round.{holds_address, is_held};
 ghost use Rattle.cec_wire.specs.Machine.{acks_after, breaks_after, acks_until, held_after, is_short};
 
 use crate::Seat;

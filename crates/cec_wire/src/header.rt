@@ -1,6 +1,6 @@
 //! The destination of a frame, as its header was read.
 ghost use Rattle.std.specs.Prelude.{◌≡◌, ◌==◌, ◌≤◌, length};
-ghost use Rattle.cec_wire.specs.Round.{destination};
+ghost use Rattle.cec_bits.specs.Sending.{destination};
 
 use cec_frame::Addr;
 

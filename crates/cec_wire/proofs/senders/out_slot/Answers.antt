@@ -1,7 +1,7 @@
 use Rattle.std.proofs.Common.{◌≡◌, ℕ, suc, ◌+◌, ◌-◌, Bool, true, false, if◌then◌else◌, Some, length, ap, ◌∙◌, sym, refl, arith}
 use Rattle.std.specs.List.{find, range_with_len}
 use Rattle.cec_frame.specs.Bits.{frame_bits}
-use Rattle.cec_wire.specs.Machine.{is_out_by}
+use Rattle.cec_bits.specs.Sending.{is_out_by}
 use Rattle.cec_wire.proofs.senders.out_slot.Goals as goal
 
 step : (p : ℕ → Bool) (a b n m : ℕ) → n ≡ suc m → b ≡ a + 1 → find p (range_with_len a n) ≡ (if p a then Some a else find p (range_with_len b m))

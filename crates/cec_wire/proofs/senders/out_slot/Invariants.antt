@@ -1,7 +1,7 @@
 use Rattle.std.proofs.Common.{◌≡◌, ◌+◌, ◌-◌, length}
 use Rattle.std.specs.List.{find, range_with_len}
 use Rattle.cec_frame.specs.Bits.{frame_bits}
-use Rattle.cec_wire.specs.Machine.{is_out_by, out_by}
+use Rattle.cec_bits.specs.Sending.{is_out_by, out_by}
 use Rattle.cec_wire.proofs.senders.out_slot.Given as goal
 
 -- the slots so far tell nobody to stop

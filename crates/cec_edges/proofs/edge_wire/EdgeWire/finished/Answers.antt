@@ -1,14 +1,15 @@
 use Rattle.std.proofs.Common.{◌∙◌, ap, sym, List}
 use Rattle.cec_wire.specs.declared.Seat.{Seat}
 use Rattle.cec_wire.specs.Round.{rest_of}
-use Rattle.cec_wire.specs.Machine.{is_all, survivors_by, losers_by}
+use Rattle.cec_bits.specs.Sending.{has_all}
+use Rattle.cec_wire.specs.Machine.{survivors_by, losers_by}
 use Rattle.cec_edges.proofs.Finding.{finds_round}
 use Rattle.cec_edges.proofs.edge_wire.EdgeWire.finished.Goals as goal
 
 pub returns : goal.returns
 returns c =
     let w = c.args.self in
-    let whole = is_all c.ending-ended.result.ending in
+    let whole = has_all c.ending-ended.result.ending in
     record {
       round = finds_round w c.ending-ended.result c.outcome_of.result c.requires.begun c.requires.silent c.ending-ended.ensures c.outcome_of.ensures.wave
           (record {
