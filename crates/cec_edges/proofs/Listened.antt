@@ -1,15 +1,18 @@
 -- A wire whose receiver and senders have heard the line so far.
-use Rattle.std.proofs.Common.{◌≡◌, ℕ, zero, suc, ◌+◌, ◌-◌, ◌<◌, ◌≤◌, Bool, true, List, [], ◌∷◌, ◌++◌, length, append-nil, slice_get, Option, Some, None, MatchOption, refl, arith, ap, ◌∙◌, sym, subst}
+use Rattle.std.proofs.Common.{◌≡◌, ℕ, zero, suc, ◌+◌, ◌-◌, ◌<◌, ◌≤◌, Bool, true, false, not, ◌&&◌, nat_lt, List, [], ◌∷◌, ◌++◌, length, append-nil, slice_get, Option, Some, None, MatchOption, refl, arith, ap, ◌∙◌, sym, subst}
+use Rattle.std.proofs.lemmas.Bool.Decides.{nat_tests}
 use Rattle.cec_wave.specs.declared.Edge.{Edge}
 use Rattle.cec_wave.specs.Line.{Line, was_low}
 use Rattle.cec_wave.specs.Pulses.{AreSparse}
 use Rattle.cec_bits.specs.declared.sender.Sender.{Sender}
-use Rattle.cec_bits.specs.Hears.{heard_by}
-use Rattle.cec_bits.specs.Kept.{kept_before}
+use Rattle.cec_bits.specs.Hears.{heard_by, rest}
+use Rattle.cec_bits.specs.Kept.{kept_by, kept_before}
 use Rattle.cec_bits.specs.Follows.{StandsOn}
 use Rattle.cec_bits.specs.Sending.{SenderStood}
 use Rattle.cec_bits.proofs.Ends.{at_by}
 use Rattle.cec_bits.proofs.Stood.{was_now}
+use Rattle.cec_bits.proofs.Keeping.{none_runs}
+use Rattle.cec_bits.proofs.Following.{empty_kept}
 use Rattle.cec_wire.specs.declared.Seat.{Seat}
 use Rattle.cec_edges.specs.declared.listeners.Listeners.{Listeners}
 use Rattle.cec_edges.specs.declared.edge_wire.EdgeWire.{EdgeWire}
@@ -115,8 +118,31 @@ listens_begin seats w b e s level senders h = record {
 
 -- ---- what they show
 
-pub receiver_stands : (w : EdgeWire) → Listens w → IsReceiverIn w w.listeners.receiver
-receiver_stands w l after later low sparse late line first = record {
+-- before a line's first low nothing is kept of it
+rests_before : (low : Line) (n : ℕ) → ((u : ℕ) → u < n → low u ≡ false) → (kept_before low n ≡ rest) × (was_low low n ≡ false)
+rests_before low zero h = (refl, let x : nat_lt 0 zero ≡ false = grind (arith, nat_tests) in ap (λ b. b && low (zero - 1)) x)
+rests_before low (suc n) h = (
+  ap (kept_by low n) (none_runs low n (n + 1) 0 (λ v a b. ap (λ x. x && not (was_low low v)) (h v (omega (arith, b))))),
+  ap (was_low low) (let x : suc n ≡ n + 1 = omega arith in x) ∙ was_now low n ∙ h n (omega arith),
+)
+
+stands_before : (w : EdgeWire) → Listens w → w.time ≡ w.begin → EachOf w (λ low. low w.begin ≡ true → StandsOn w.listeners.receiver (λ u. false) w.begin)
+stands_before w l e later low sparse late line first = record {
+  keeps = s.receiver.keeps ∙ ap (kept_before low) e ∙ r.0 ∙ empty_kept w.begin;
+  level = (was, l.level ∙ was);
+}
+  where
+    s : AreStanding w.listeners low w.begin w.time
+    s = l.stands later low sparse late line first
+
+    r : (kept_before low w.begin ≡ rest) × (was_low low w.begin ≡ false)
+    r = rests_before low w.begin (high_before w.seats.items w.begin (w.pulses.items ++ later) low line)
+
+    was : w.listeners.receiver.was_low ≡ false
+    was = s.receiver.level ∙ ap (was_low low) e ∙ r.1
+
+stands_after : (w : EdgeWire) → Listens w → w.begin < w.time → EachOf w (λ low. low w.begin ≡ true → StandsOn w.listeners.receiver low (w.time - 1))
+stands_after w l after later low sparse late line first = record {
   keeps = s.receiver.keeps ∙ ap (kept_before low) (let x : w.time ≡ suc (w.time - 1) = omega arith in x);
   level = (was, l.level ∙ was);
 }
@@ -126,6 +152,9 @@ receiver_stands w l after later low sparse late line first = record {
 
     was : w.listeners.receiver.was_low ≡ low (w.time - 1)
     was = s.receiver.level ∙ ap (was_low low) (let x : w.time ≡ w.time - 1 + 1 = omega arith in x) ∙ was_now low (w.time - 1)
+
+pub receiver_stands : (w : EdgeWire) → Listens w → IsReceiverIn w w.listeners.receiver
+receiver_stands w l = record { before = stands_before w l; stands = stands_after w l }
 
 senders_count : (seats : List Seat) (begin : ℕ) (os : List (Option Sender)) → AreSenders seats begin os → length os ≡ length seats
 senders_count [] begin [] h = refl

@@ -115,9 +115,11 @@ pub record Listens (w : EdgeWire) : Type 0 where
   pub senders : AreSenders w.seats.items w.begin w.listeners.senders.items
   pub stands : EachOf w (λ low. low w.begin ≡ true → AreStanding w.listeners low w.begin w.time)
 
--- Once the line is heard, a receiver stands on it by the end of the last microsecond that was heard.
-abbrev pub IsReceiverIn : EdgeWire → Receiver → Type 0
-IsReceiverIn w r = w.begin < w.time → EachOf w (λ low. low w.begin ≡ true → StandsOn r low (w.time - 1))
+-- Before the first edge a receiver stands on the line that is never low; once the line is heard, on it by the end of the
+-- last microsecond that was heard.
+pub record IsReceiverIn (w : EdgeWire) (r : Receiver) : Type 0 where
+  pub before : w.time ≡ w.begin → EachOf w (λ low. low w.begin ≡ true → StandsOn r (λ u. false) w.begin)
+  pub stands : w.begin < w.time → EachOf w (λ low. low w.begin ≡ true → StandsOn r low (w.time - 1))
 
 -- A seat's sender sends the seat's frame, and goes on, is out or has stopped by what the line told so far.
 pub record IsSenderIn (w : EdgeWire) (seat : ℕ) (x : Sender) : Type 0 where

@@ -6,7 +6,7 @@ ghost use Rattle.cec_wire.specs.Machine.{next_place, bit_told, held_after, recor
 
 use crate::listeners::{Listeners, sender_at};
 use arrayvec::ArrayVec;
-use cec_bits::{Receiver, Sender, Standing};
+use cec_bits::{Receiver, Sender};
 use cec_wave::{Edge, Pulses, Stretch};
 use cec_wire::{
     Outcome, Place, Recorder, Seat, Wire, ending, held_until, is_pulsed, next_wake, outcome_of,
@@ -90,8 +90,6 @@ fn copied_sending(sending: &[bool]) -> ArrayVec<bool, 15>
 impl EdgeWire {
     ghost use Rattle.std.specs.Prelude.{IfSome, MatchOption, ℕ, ◌-◌};
     ghost use Rattle.std.specs.Option.{option_to_list};
-    ghost use Rattle.cec_bits.specs.Follows.{shown};
-    ghost use Rattle.cec_bits.specs.Phase.{at_rest, standing_of};
     ghost use Rattle.cec_wire.specs.Edges.{IsNextEdge};
     ghost use Rattle.cec_edges.specs.Wired.{IsKept, heard_by, is_low_in, pulls_in, EachOf, IsBegun, IsNext, SameRound, EdgeAt, is_silent_in, wake_in, NextEdges, IsRoundOf, Leaves, Grows, Passes, Listens, IsReceiverIn, IsSenderIn, SendsNothing};
 
@@ -422,7 +420,8 @@ impl EdgeWire {
         found
     }
 
-    /// The receiver of a seat, whose number is below the count. All seats hear one line, and share one receiver.
+    /// The receiver of a seat, whose number is below the count. It has heard the line through the last edge, or to the
+    /// end of the round where no edge is left. All seats hear one line, and share one receiver.
     pub fn receiver_of(&self, _seat: usize) -> &Receiver
         requires known { _seat < length self.now.seats.items }
         requires listens { Listens self.now }
@@ -438,20 +437,6 @@ impl EdgeWire {
         ensures { MatchOption result (SendsNothing self.now seat) (λ sender. IsSenderIn self.now seat sender.now) }
     {
         sender_at(self.listeners.senders.as_slice(), seat)
-    }
-
-    /// Where the receiver of a seat stands, whose number is below the count: by the readings of the line through the
-    /// last edge, or to the end of the round where no edge is left. Before the first edge it is idle.
-    pub fn standing_of(&self, seat: usize) -> Standing<'_>
-        requires known { seat < length self.now.seats.items }
-        requires listens { Listens self.now }
-        ensures before { self.now.time ≡ self.now.begin → shown result ≡ at_rest false }
-        ensures stands { self.now.begin < self.now.time → EachOf self.now (λ low. low self.now.begin ≡ true → shown result ≡ standing_of low (self.now.time - 1)) }
-    {
-        if self.time <= self.begin {
-            return Standing::Idle;
-        }
-        self.receiver_of(seat).standing()
     }
 
     // What the round gave, where no edge comes any more.

@@ -8,14 +8,19 @@ use Rattle.cec_wave.specs.declared.Edge.{Edge}
 use Rattle.cec_wave.specs.Line.{Line}
 use Rattle.cec_wave.specs.Pulses.{AreSparse}
 use Rattle.cec_bits.specs.Phase.{Standing, at_rest, standing_of}
+use Rattle.cec_bits.specs.declared.receiver.Receiver.{Receiver}
 use Rattle.cec_bits.specs.Reading.{start_of}
+use Rattle.cec_bits.specs.Kept.{standing_by}
+use Rattle.cec_bits.specs.Follows.{ShowsStanding}
+use Rattle.cec_bits.proofs.Keeping.{standings_are_kept}
+use Rattle.cec_bits.proofs.Following.{empty_kept}
 use Rattle.cec_wire.specs.declared.Seat.{Seat}
 use Rattle.cec_wire.specs.declared.Outcome.{Outcome}
 use Rattle.cec_edges.specs.declared.edge_wire.EdgeWire.{EdgeWire}
 use Rattle.cec_wire.specs.Round.{IsRound, IsRoundLine}
 use Rattle.cec_wire.specs.Edges.{IsNextEdge}
 use Rattle.cec_wire.specs.Lasting.{is_begun}
-use Rattle.cec_edges.specs.Wired.{EachOf, IsBegun, IsKept, Listens, IsNext, SameRound, Leaves, NextEdges, Follow, IsRoundOf, is_silent_in}
+use Rattle.cec_edges.specs.Wired.{EachOf, IsBegun, IsKept, Listens, IsNext, SameRound, Leaves, NextEdges, Follow, IsRoundOf, IsReceiverIn, is_silent_in}
 use Rattle.cec_edges.proofs.Rounding.{Rests, first, rest, rests_first, rests_next, rests_more, rests_begin, round_of}
 use Rattle.cec_wire.proofs.Lasting.{begun_by, contended, low_at_begin}
 use Rattle.cec_device.specs.State.{State}
@@ -140,7 +145,7 @@ edge_told s t w edge e told h step =
     (λ begin heard low n k line. subst (λ x. IsNextEdge low x edge) (same_number w.time heard (sym told ∙ k)) (step low (line_on s w begin low h n line)))
 
 stand_at : (s : NetState) (w : EdgeWire) (low : Line) (standing : Standing) → AreSparse s.pulses → IsNextOn (idle s) w → IsRoundLine w.seats.items w.begin s.pulses low
-    → (w.time ≡ w.begin → standing ≡ at_rest false)
+    → (w.time ≡ w.begin → EachOf w (λ l. l w.begin ≡ true → standing ≡ at_rest false))
     → (w.begin < w.time → EachOf w (λ l. l w.begin ≡ true → standing ≡ standing_of l (w.time - 1)))
     → standing ≡ standing_told low w.begin w.time
 stand_at s w low standing sparse h line before after = by_time (nat_lt w.begin w.time) refl
@@ -155,10 +160,20 @@ stand_at s w low standing sparse h line before after = by_time (nat_lt w.begin w
 
     by_time : (b : Bool) → nat_lt w.begin w.time ≡ b → standing ≡ (if b then standing_of low (w.time - 1) else at_rest false)
     by_time true e = after (grind (arith, nat_tests)) h.takes.left low (subst AreSparse h.takes.parts sparse) h.takes.late (subst (λ ps. IsRoundLine w.seats.items w.begin ps low) h.takes.parts line) falls
-    by_time false e = before (let l : w.begin ≤ w.time = h.takes.stands.from in grind (arith, nat_tests))
+    by_time false e =
+        before (let l : w.begin ≤ w.time = h.takes.stands.from in grind (arith, nat_tests)) h.takes.left low (subst AreSparse h.takes.parts sparse) h.takes.late
+        (subst (λ ps. IsRoundLine w.seats.items w.begin ps low) h.takes.parts line) falls
+
+-- what a receiver shows before its first edge, and by the last instant that was heard
+pub shows_before : (w : EdgeWire) (r : Receiver) (standing : Standing) → IsReceiverIn w r → ShowsStanding r standing → w.time ≡ w.begin → EachOf w (λ low. low w.begin ≡ true → standing ≡ at_rest false)
+shows_before w r standing h shows e later low sparse late line first =
+    shows (λ u. false) w.begin (h.before e later low sparse late line first) ∙ sym (standings_are_kept (λ u. false) w.begin) ∙ ap (λ k. standing_by k false) (sym (empty_kept w.begin))
+
+pub shows_after : (w : EdgeWire) (r : Receiver) (standing : Standing) → IsReceiverIn w r → ShowsStanding r standing → w.begin < w.time → EachOf w (λ low. low w.begin ≡ true → standing ≡ standing_of low (w.time - 1))
+shows_after w r standing h shows l later low sparse late line first = shows low (w.time - 1) (h.stands l later low sparse late line first)
 
 pub stand_told : (s t : NetState) (w : EdgeWire) (standing : Standing) → s ≡ t → s.heard ≡ Some w.time → AreSparse s.pulses → IsNextOn (idle s) w
-    → (w.time ≡ w.begin → standing ≡ at_rest false)
+    → (w.time ≡ w.begin → EachOf w (λ low. low w.begin ≡ true → standing ≡ at_rest false))
     → (w.begin < w.time → EachOf w (λ low. low w.begin ≡ true → standing ≡ standing_of low (w.time - 1)))
     → OfRound t (λ begin heard low. standing ≡ standing_told low begin heard)
 stand_told s t w standing e told sparse h before after =

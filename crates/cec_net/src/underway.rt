@@ -136,7 +136,7 @@ impl Net<EdgeWire> {
         let _pulses = self.pulses.as_slice();
         match &self.begun {
             None => unreachable!(),
-            Some(wire) => wire.standing_of(number),
+            Some(wire) => wire.receiver_of(number).standing(),
         }
     }
 

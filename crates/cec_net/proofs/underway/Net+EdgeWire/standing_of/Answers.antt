@@ -5,14 +5,14 @@ use Rattle.cec_edges.specs.declared.edge_wire.EdgeWire.{EdgeWire}
 use Rattle.cec_wave.specs.Pulses.{AreSparse}
 use Rattle.cec_bits.specs.Follows.{shown}
 use Rattle.cec_net.specs.State.{NetState}
-use Rattle.cec_net.proofs.InRound.{seat_known, stand_told}
+use Rattle.cec_net.proofs.InRound.{seat_known, shows_before, shows_after, stand_told}
 use Rattle.cec_net.proofs.underway.Net+EdgeWire.standing_of.Goals as goal
 
-pub standing_of-requires-clause-listens : goal.standing_of-requires-clause-listens
-standing_of-requires-clause-listens c = (c.self.invariant.1 c.in-Some.wire c.in-Some.is).takes.listens
+pub receiver_of-requires-clause-listens : goal.receiver_of-requires-clause-listens
+receiver_of-requires-clause-listens c = (c.self.invariant.1 c.in-Some.wire c.in-Some.is).takes.listens
 
-pub standing_of-requires-clause-known : goal.standing_of-requires-clause-known
-standing_of-requires-clause-known c =
+pub receiver_of-requires-clause-known : goal.receiver_of-requires-clause-known
+receiver_of-requires-clause-known c =
     let s : NetState = (record { tree = c.self.inside.tree; devices = c.self.inside.devices.items; pulses = c.self.inside.pulses; close = c.self.inside.close; rest = c.self.inside.rest; heard = None }) in
     let Known : NetState → Type 0 = λ t. c.args.number < length t.tree in
     seat_known s c.in-Some.wire c.args.number c.self.invariant.0 (c.self.invariant.1 c.in-Some.wire c.in-Some.is) (subst Known (sym c.self.view_is) c.requires.known)
@@ -22,5 +22,5 @@ returns c =
     let s : NetState = (record { tree = c.self.inside.tree; devices = c.self.inside.devices.items; pulses = c.self.inside.pulses; close = c.self.inside.close; rest = c.self.inside.rest; heard = option_map (λ (w : EdgeWire). w.time) c.self.inside.begun }) in
     let w = c.in-Some.wire in
     let Sparse : List Stretch → Type 0 = AreSparse in
-    stand_told s c.args.self.now w (shown c.standing_of.result) c.self.view_is (ap (λ (o : Option EdgeWire). option_map (λ (x : EdgeWire). x.time) o) c.in-Some.is) (subst Sparse c.as_slice-pulses.ensures.pulses c.as_slice-pulses.ensures.sparse)
-    (c.self.invariant.1 w c.in-Some.is) c.standing_of.ensures.before c.standing_of.ensures.stands
+    stand_told s c.args.self.now w (shown c.standing.result) c.self.view_is (ap (λ (o : Option EdgeWire). option_map (λ (x : EdgeWire). x.time) o) c.in-Some.is) (subst Sparse c.as_slice-pulses.ensures.pulses c.as_slice-pulses.ensures.sparse)
+    (c.self.invariant.1 w c.in-Some.is) (shows_before w c.receiver_of.result.now (shown c.standing.result) c.receiver_of.ensures c.standing.ensures) (shows_after w c.receiver_of.result.now (shown c.standing.result) c.receiver_of.ensures c.standing.ensures)
