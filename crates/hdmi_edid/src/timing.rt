@@ -128,9 +128,10 @@ impl Timing {
     pub fn write(&self) -> [u8; 18]
         ensures { result ≡ timing_bytes self.now }
     {
+        let [clock_low, clock_high] = self.clock.to_le_bytes();
         [
-            (self.clock % 256) as u8,
-            (self.clock / 256) as u8,
+            clock_low,
+            clock_high,
             (self.horizontal_active % 256) as u8,
             (self.horizontal_blanking % 256) as u8,
             (self.horizontal_active / 256 * 16 + self.horizontal_blanking / 256) as u8,

@@ -1,6 +1,6 @@
 //! The words of frames, from the tables of opcodes.
 use crate::words::Word;
-use cec_opcode::{Operand, Operands, WordSet, name, operands_of};
+use cec_opcode::{Operand, Operands, WordSet, code_named, name, operands_of};
 use cec_shape::{frame_shape, set_label};
 use std::alloc::{AllocError, Global};
 
@@ -94,16 +94,6 @@ fn add_operands(text: &mut String, operands: Operands) -> Result<(), AllocError>
     }
 }
 
-// The opcode that has this name.
-fn code_named(word: &str) -> Option<u8> {
-    for code in 0..=u8::MAX {
-        if name(code) == Some(word) {
-            return Some(code);
-        }
-    }
-    None
-}
-
 // The opcode whose two hex digits stand behind `op-`.
 fn code_in_digits(word: &str) -> Option<u8> {
     let digits = word.strip_prefix("op-")?;
@@ -153,7 +143,7 @@ pub fn add_frame(
     };
     match cause {
         "name" => add_name(text, alloc, word.text),
-        "count" | "operand" => match code_named(word.text) {
+        "count" | "operand" => match code_named(word.text.as_bytes()) {
             Some(code) => add_shape(text, code),
             None => add_line(text, RAW),
         },
