@@ -1,5 +1,5 @@
 -- A round that is told edge by edge: its first edge, one behind another, and its end.
-use Rattle.std.proofs.Common.{◌≡◌, ℕ, ◌+◌, ◌<◌, Bool, true, false, List, [], ◌∷◌, length, drop, ◌⊎◌, inl, inr, IfSome, IsSome, Option, Some, None, Result, Ok, Err, ap, ◌∙◌, sym, refl, subst, arith}
+use Rattle.std.proofs.Common.{◌≡◌, ℕ, ◌+◌, ◌<◌, Bool, true, false, List, [], ◌∷◌, length, inl, inr, IsSome, Option, Some, None, Result, Ok, Err, ap, ◌∙◌, sym, refl, subst, arith}
 use Rattle.cec_wave.specs.declared.Edge.{Edge}
 use Rattle.cec_wave.specs.Line.{IsWave}
 use Rattle.cec_wire.specs.declared.Outcome.{Outcome}
@@ -21,7 +21,7 @@ use Rattle.cec_step.specs.declared.position.Course.{Course}
 use Rattle.cec_step.specs.declared.stepper.StepError.{StepError}
 use Rattle.cec_step.specs.declared.stepper.StepError.TheVariants.{Write}
 use Rattle.cec_step.specs.EdgeText.{edge_line}
-use Rattle.cec_step.specs.Steps.{Point, Run, Steps, IsEdge, IsEdgeBehind, IsEdgeStep, IsEdgeStepBy, IsFirstEdge, IsFirstStep, IsNoEdge, IsNoEdgeBy, IsOver, IsRoundStep, IsTaken, in_round, passed, passed_by, passed_from, turn_at}
+use Rattle.cec_step.specs.Steps.{Point, Run, Steps, IsEdgeStep, IsEdgeStepBy, IsFirstEdge, IsFirstStep, IsNoEdge, IsNoEdgeBy, IsOver, IsRoundStep, IsTaken, in_round, passed, passed_by, passed_from}
 use Rattle.cec_step.specs.Ready.{Begins, InsideIf, IsInside, IsReady, begun_in, point_of, run_of}
 use Rattle.cec_step.proofs.Passing.{ready_event}
 use Rattle.cec_step.proofs.Rounds.{ready_round}

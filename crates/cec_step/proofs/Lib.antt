@@ -4,3 +4,5 @@ pub mod Rounds
 pub mod Taken
 pub mod InRound
 pub mod Started
+pub mod Due
+pub mod TraceRounds

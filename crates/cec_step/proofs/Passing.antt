@@ -1,15 +1,13 @@
 -- The events before a round, one by one.
-use Rattle.std.proofs.Common.{◌≡◌, ℕ, suc, ◌+◌, ◌-◌, ◌<◌, ◌≤◌, Bool, List, [], ◌∷◌, ◌++◌, length, drop, get_or, drop-cons, length-drop, Option, Some, ap, ◌∙◌, sym, refl, subst, arith}
+use Rattle.std.proofs.Common.{◌≡◌, ℕ, suc, ◌+◌, ◌-◌, ◌<◌, Bool, List, [], ◌∷◌, ◌++◌, length, drop, get_or, drop-cons, length-drop, Option, Some, ap, ◌∙◌, sym, refl, subst, arith}
 use Rattle.cec_asm.specs.declared.script.TimedEvent.{TimedEvent}
-use Rattle.cec_asm.specs.Script.{IsSchedule}
 use Rattle.cec_net.specs.State.{NetState}
 use Rattle.cec_net.specs.Apply.{applied}
 use Rattle.hdmi_blocks.specs.declared.edid.Edid.{Edid}
-use Rattle.cec_run.specs.declared.run.Turn.{Turn}
 use Rattle.cec_run.specs.declared.run.Turn.TheVariants.{Stop, Apply, Round}
 use Rattle.cec_run.specs.Run.{turn_of, first_time, event_text}
 use Rattle.cec_run.proofs.Advance.{event_keeps, next_schedule}
-use Rattle.cec_step.specs.Steps.{Point, turn_at, passed, passed_from, passed_by, passed_text, passed_text_from, text_by}
+use Rattle.cec_step.specs.Steps.{Point, passed_from, passed_by, passed_text_from, text_by}
 use Rattle.cec_step.specs.Ready.{IsReady}
 
 come : (end at : ℕ) (s : NetState) (es : List TimedEvent) (e : TimedEvent) (others : List TimedEvent) → es ≡ e ∷ others → turn_of end s (first_time es) ≡ Apply at → turn_of end s (Some e.at) ≡ Apply at

@@ -1,5 +1,5 @@
 -- What events, a round and its first edge make of where a run stands.
-use Rattle.std.proofs.Common.{◌≡◌, ℕ, ◌+◌, ◌<◌, ◌≤◌, Bool, true, false, nat_lt, List, [], ◌∷◌, ◌++◌, length, drop, MatchOption, IfSome, Option, Some, None, ap, ◌∙◌, sym, refl, subst, arith}
+use Rattle.std.proofs.Common.{◌≡◌, ℕ, ◌+◌, ◌<◌, false, nat_lt, List, ◌++◌, drop, MatchOption, IfSome, Option, Some, None, ap, ◌∙◌, sym, refl, subst, arith}
 use Rattle.std.specs.List.{filter}
 use Rattle.cec_wave.specs.declared.Edge.{Edge}
 use Rattle.cec_wave.specs.declared.Stretch.{Stretch}
@@ -8,16 +8,14 @@ use Rattle.cec_wave.proofs.Kept.{sparse-filter}
 use Rattle.cec_wire.specs.declared.Outcome.{Outcome}
 use Rattle.cec_wire.specs.Edges.{IsNextEdge}
 use Rattle.cec_wire.proofs.Exists.{has_line}
-use Rattle.hdmi_topo.specs.Node.{Node}
 use Rattle.cec_net.specs.State.{NetState, next_start}
-use Rattle.cec_net.specs.Apply.{applied}
-use Rattle.cec_net.specs.Step.{IsNextRound, after_round, seats_of}
+use Rattle.cec_net.specs.Step.{IsNextRound, seats_of}
 use Rattle.cec_net.specs.Progress.{IsProgress}
 use Rattle.cec_net.specs.Underway.{OfRound}
 use Rattle.cec_asm.specs.declared.script.TimedEvent.{TimedEvent}
 use Rattle.hdmi_blocks.specs.declared.edid.Edid.{Edid}
 use Rattle.cec_run.specs.declared.run.Turn.TheVariants.{Stop, Apply, Round}
-use Rattle.cec_run.specs.Run.{turn_of, first_time}
+use Rattle.cec_run.specs.Run.{first_time}
 use Rattle.cec_run.proofs.Advance.{event_keeps, round_begins}
 use Rattle.cec_step.specs.declared.position.Position.{Position}
 use Rattle.cec_step.specs.Steps.{Point, IsOver, turn_at, passed, passed_from, passed_text}

@@ -1,10 +1,14 @@
 -- What a step has done, told of its own text as of that of a round.
-use Rattle.std.proofs.Common.{◌≡◌, ℕ, true, List, Option, Result, Ok, Err, ap, ◌∙◌, sym, refl, subst}
+use Rattle.std.proofs.Common.{◌≡◌, ℕ, Bool, true, List, slice_get, Option, Some, Result, Ok, Err, ap, ◌∙◌, sym, refl, subst}
 use Rattle.cec_wire.specs.declared.Outcome.{Outcome}
+use Rattle.hdmi_core.specs.declared.sink.WriteFault.{WriteFault}
+use Rattle.cec_words.specs.Cut.{WrittenText}
+use Rattle.cec_device.specs.State.{State}
+use Rattle.cec_run.specs.StateText.{state_line}
 use Rattle.cec_step.specs.declared.break_at.Break.{Break}
 use Rattle.cec_step.specs.declared.stepper.StepError.{StepError}
 use Rattle.cec_step.specs.declared.stepper.StepError.TheVariants.{Ended, Write}
-use Rattle.cec_step.specs.Steps.{Point, Steps, IsNever, IsOver, IsRound, IsRoundStep, IsTaken, IsUntil, Skips, after_round, step_text, stops}
+use Rattle.cec_step.specs.Steps.{Point, Steps, IsNever, IsOver, IsRound, IsRoundStep, IsShown, IsTaken, IsUntil, Skips, after_round, shown_net, step_text, stops}
 
 -- a step that gives what another gives
 pub taken_as : (Gives Other : List ℕ → Steps → Type 0) (Over More : Type 0) (s t : Steps) (old new : Option (List ℕ)) (r : Result ℕ StepError)
@@ -27,3 +31,14 @@ pub taken_until : (s t : Steps) (at : Break) (rounds : ℕ) (before after : Poin
 taken_until s t at rounds before after o old new r skips step stop taken =
     taken_as (λ text u. (text ≡ step_text s.run before o after) × (u ≡ after_round s after)) (IsUntil s at) ⊥ (IsNever s at) s t old new r
     (λ text u given. record { rounds = rounds; before = before; after = after; outcome = o; skips = skips; step = step; stop = stop; told = given.0; stands = given.1 }) (λ none. absurd none) taken
+
+-- a state line was written, or cut off
+pub shown_told : (s : Steps) (device : ℕ) (d : State) (old new : Option (List ℕ)) (was is : Bool) (n : ℕ) → slice_get (shown_net s).devices device ≡ Some d
+    → WrittenText old new was is (state_line d) (Ok n) → IsTaken (IsShown s device) ⊥ s s old new (Ok n)
+shown_told s device d old new was is n found (counted, wrote, flag) = (state_line d, (d, found, refl, refl), counted, wrote)
+
+pub shown_cut : (s : Steps) (device : ℕ) (d : State) (old new : Option (List ℕ)) (was is : Bool) (fault : WriteFault) (error : StepError) → slice_get (shown_net s).devices device ≡ Some d
+    → error ≡ Write fault.count → WrittenText old new was is (state_line d) (Err fault) → IsTaken (IsShown s device) ⊥ s s old new (Err error)
+shown_cut s device d old new was is fault error found same ((count, short, told, wrote), flag) =
+    let here : IsTaken (IsShown s device) ⊥ s s old new (Err (Write fault.count)) = (refl, state_line d, s, (d, found, refl, refl), count, short, told, wrote) in
+    subst (λ x. IsTaken (IsShown s device) ⊥ s s old new (Err x)) (sym same) here

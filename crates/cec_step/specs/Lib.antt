@@ -2,3 +2,5 @@ pub mod EdgeText
 pub mod Steps
 pub mod Ready
 pub mod Commands
+pub mod StepRun
+pub mod Trace

@@ -1,5 +1,5 @@
 -- A run taken step by step, and what each step writes (own).
-use Rattle.std.specs.Prelude.{◌≡◌, ℕ, zero, suc, ◌+◌, ◌<◌, ◌==◌, ◌||◌, ◌⊎◌, not, Bool, true, false, if◌then◌else◌, List, [], ◌∷◌, ◌++◌, length, take, slice_get, Option, Some, None, Result, Ok, Err}
+use Rattle.std.specs.Prelude.{◌≡◌, ℕ, zero, suc, ◌+◌, ◌<◌, ◌==◌, ◌||◌, ◌⊎◌, not, Bool, true, false, List, [], ◌∷◌, ◌++◌, length, take, slice_get, Option, Some, None, Result, Ok, Err}
 use Rattle.std.specs.Io.KnownBytes.{Appends}
 use Rattle.std.specs.List.{list_any}
 use Rattle.cec_wave.specs.Line.{IsWave}
@@ -7,13 +7,13 @@ use Rattle.cec_wave.specs.declared.Edge.{Edge}
 use Rattle.cec_frame.specs.Blocks.{frame_in}
 use Rattle.cec_wire.specs.declared.Outcome.{Outcome}
 use Rattle.cec_wire.specs.Edges.{IsNextEdge}
+use Rattle.cec_device.specs.State.{State}
 use Rattle.cec_net.specs.State.{NetState}
 use Rattle.cec_net.specs.Apply.{applied}
 use Rattle.cec_net.specs.Step.{IsNextRound, is_among}
 use Rattle.cec_net.specs.Underway.{OfRound, standing_told}
 use Rattle.cec_asm.specs.declared.script.TimedEvent.{TimedEvent}
 use Rattle.cec_asm.specs.Script.{Course}
-use Rattle.hdmi_core.specs.declared.sink.WriteFault.{WriteFault}
 use Rattle.hdmi_blocks.specs.declared.edid.Edid.{Edid}
 use Rattle.cec_words.specs.Cut.{told_count}
 use Rattle.cec_text.specs.ReadingText.{is_complete}
@@ -22,6 +22,7 @@ use Rattle.cec_run.specs.declared.run.Turn.TheVariants.{Stop, Apply, Round}
 use Rattle.cec_run.specs.Run.{turn_of, first_time, event_text}
 use Rattle.cec_run.specs.PortText.{port_lines}
 use Rattle.cec_run.specs.TraceText.{round_line}
+use Rattle.cec_run.specs.StateText.{state_line}
 use Rattle.cec_step.specs.declared.break_at.Break.{Break}
 use Rattle.cec_step.specs.declared.break_at.Break.TheVariants.{Opcode, Device, AnyBreak}
 use Rattle.cec_step.specs.declared.stepper.StepError.{StepError}
@@ -120,6 +121,10 @@ net_by (Some net) last = net
 abbrev pub shown_net : Steps → NetState
 shown_net s = net_by s.begun s.last.net
 
+-- how many devices there are; no step changes that
+abbrev pub device_count : Steps → ℕ
+device_count s = length s.last.net.tree
+
 -- What a step does: which text it gives and where the stepper then stands (`Gives`), or that there is no such step
 -- (`Over`). A step counts once its text was written; else the stepper stands where it stood, and of the text as much was
 -- written as is told.
@@ -133,12 +138,6 @@ abbrev pub is_write : Result ℕ StepError → Bool
 is_write (Ok told) = false
 is_write (Err Ended) = false
 is_write (Err (Write told)) = true
-
--- what a step has returned of its text
-abbrev pub as_written : Result ℕ StepError → Result ℕ WriteFault
-as_written (Ok told) = Ok told
-as_written (Err Ended) = Ok 0
-as_written (Err (Write told)) = Err (record { count = told })
 
 -- a stepper at the start of a run
 abbrev pub begun_at : Option Edid → Course → NetState → Steps
@@ -245,3 +244,9 @@ IsNoEdgeBy s (Some net) = IsSilent net × (o : Outcome) × (q : Point) × IsRoun
 
 abbrev pub IsNoEdge : Steps → Type 0
 IsNoEdge s = IsNoEdgeBy s s.begun
+
+-- ---- `show`
+
+-- the state line of the device of this number; the stepper stands where it stood
+abbrev pub IsShown : Steps → ℕ → List ℕ → Steps → Type 0
+IsShown s device text t = (shown : State) × (slice_get (shown_net s).devices device ≡ Some shown) × (text ≡ state_line shown) × (t ≡ s)

@@ -4,12 +4,14 @@
 mod break_at;
 mod commands;
 mod edge_text;
+mod laws;
 mod parts;
 mod position;
 pub mod step_run;
 mod stepper;
 
 pub use break_at::Break;
+pub use laws::rounds_are_the_trace;
 pub use stepper::{StepError, Stepper};
 
 #[cfg(test)]

@@ -1,5 +1,12 @@
 //! The steps of a text, taken on the run of a topology and a script.
+ghost use Rattle.std.specs.Prelude.{◌≡◌, ◌||◌, ◌↔◌, ℕ, List, All, IfOk, IfErr, OnOk, OnErr, IsTrue, true, false, codes};
+ghost use Rattle.std.specs.Io.KnownBytes.{Appends};
+ghost use Rattle.hdmi_core.specs.Written.{WrittenLine};
+ghost use Rattle.cec_step.specs.Steps.{IsTaken, device_count, is_write as step_fails};
+ghost use Rattle.cec_step.specs.StepRun.{AreCut, AreDue, AreRefused, AreStepsOf, IsCommandTaken, IsCutBy, IsNoStep, IsStep, NamesDevice, is_write};
+
 use crate::commands::{Command, CommandsError, parse_commands};
+use crate::parts::whole;
 use crate::stepper::{StepError, Stepper};
 use cec_asm::{parse_script, parse_topology};
 use cec_run::emulate::EmulateError;
@@ -21,44 +28,60 @@ pub enum StepRunError {
 }
 
 // Writes that the run has no such step any more.
-fn write_ended<S: Sink>(out: &mut S) -> Result<u128, WriteFault> {
+fn write_ended<S: Sink>(out: &mut S) -> Result<u128, WriteFault>
+    ensures { WrittenLine (S.contents out.old) (S.contents out.new) (S.is_stuck out.old) (S.is_stuck out.new) (codes "ended\n") result }
+{
     write_line(out, &[Piece::Text("ended\n")])
 }
 
-// What a step has written, or that there is none.
-fn told<S: Sink>(step: Result<u128, StepError>, out: &mut S) -> Result<u128, WriteFault> {
-    match step {
-        Ok(count) => Ok(count),
-        Err(StepError::Write(count)) => Err(WriteFault { count }),
-        Err(StepError::Ended) => write_ended(out),
+// Takes the step that a command asks for.
+fn take_step<S: Sink>(
+    stepper: &mut Stepper,
+    command: Command,
+    out: &mut S,
+) -> Result<u128, StepError>
+    requires { NamesDevice (device_count stepper.old) command }
+    ensures step { IsTaken (IsStep command stepper.old) (IsNoStep command stepper.old) stepper.old stepper.new (S.contents out.old) (S.contents out.new) result }
+    ensures flag { S.is_stuck out.new ≡ (step_fails result || S.is_stuck out.old) }
+{
+    match command {
+        Command::Edge => stepper.edge(out),
+        Command::Round => stepper.round(out),
+        Command::Until(at) => stepper.until(at, out),
+        Command::Show(device) => stepper.show(device, out),
     }
 }
 
+// Takes a command. Where the run has no such step any more, that is written.
 fn take_command<S: Sink>(
     stepper: &mut Stepper,
     command: Command,
     out: &mut S,
-) -> Result<u128, WriteFault> {
-    let step = match command {
-        Command::Edge => stepper.edge(out),
-        Command::Round => stepper.round(out),
-        Command::Until(at) => stepper.until(at, out),
-        Command::Show(device) => {
-            if device < stepper.device_count() {
-                stepper.show(device, out)
-            } else {
-                Err(StepError::Ended)
-            }
-        }
-    };
-    told(step, out)
+) -> Result<u128, WriteFault>
+    requires { NamesDevice (device_count stepper.old) command }
+    ensures { IsCommandTaken command stepper.old stepper.new (S.contents out.old) (S.contents out.new) (S.is_stuck out.old) (S.is_stuck out.new) result }
+{
+    match take_step(stepper, command, out) {
+        Ok(count) => Ok(count),
+        Err(error) => match error {
+            StepError::Write(count) => Err(WriteFault { count }),
+            StepError::Ended => whole(write_ended(out)),
+        },
+    }
 }
 
+// Takes commands one after another.
 fn take_commands<S: Sink>(
     stepper: &mut Stepper,
     commands: &[Command],
     out: &mut S,
-) -> Result<u128, WriteFault> {
+) -> Result<u128, WriteFault>
+    requires { All (NamesDevice (device_count stepper.old)) commands.now }
+    ensures ok { IfOk result (λ _. (text : List ℕ) × AreDue commands.now stepper.old text stepper.new × Appends (S.contents out.old) (S.contents out.new) text) }
+    ensures cut { IfErr result (AreCut commands.now stepper.old (S.contents out.old) (S.contents out.new)) }
+    ensures same { OnOk result (S.is_stuck out.new ≡ S.is_stuck out.old) }
+    ensures stuck { OnErr result (S.is_stuck out.new ≡ true) }
+{
     let mut written = 0;
     for command in commands {
         match take_command(stepper, *command, out) {
@@ -83,7 +106,12 @@ pub fn step_run<S: Sink>(
     script: &[u8],
     steps: &[u8],
     out: &mut S,
-) -> Result<(), StepRunError> {
+) -> Result<(), StepRunError>
+    ensures ok { OnOk result ((text : List ℕ) × AreStepsOf topology.now script.now steps.now text × Appends (S.contents out.old) (S.contents out.new) text) }
+    ensures told { IfErr result (AreRefused topology.now script.now steps.now) }
+    ensures write { S.is_stuck out.old ≡ false → (IsTrue (is_write result) ↔ IsTrue (S.is_stuck out.new)) }
+    ensures cut { IfErr result (IsCutBy topology.now script.now steps.now (S.contents out.old) (S.contents out.new)) }
+{
     let topology = match parse_topology(alloc, topology) {
         Ok(topology) => topology,
         Err(fault) => return Err(StepRunError::Run(fault.into())),

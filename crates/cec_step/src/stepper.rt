@@ -94,11 +94,9 @@ impl Stepper {
     ghost use Rattle.cec_asm.specs.Script.{IsScript, course_of};
     ghost use Rattle.hdmi_blocks.specs.declared.edid.Edid.{Edid};
     ghost use Rattle.cec_run.specs.Root.{IsRoot as IsRootOf};
-    ghost use Rattle.cec_run.specs.StateText.{state_line};
     ghost use Rattle.cec_net.specs.State.{started};
-    ghost use Rattle.cec_device.specs.State.{State};
     ghost use Rattle.cec_step.specs.Ready.{IsFound, IsInside};
-    ghost use Rattle.cec_step.specs.Steps.{IsEdgeStep, IsNever, IsNoEdge, IsOver, IsRound, IsRoundStep, IsTaken, IsUntil, IsFirstStep, after_round, as_written, begun_at, in_round, is_write, shown_net};
+    ghost use Rattle.cec_step.specs.Steps.{IsEdgeStep, IsNever, IsNoEdge, IsOver, IsRound, IsRoundStep, IsTaken, IsUntil, IsFirstStep, IsShown, after_round, begun_at, device_count, in_round, is_write, shown_net};
 
     // Stands after a round.
     fn stand_after(&mut self, after: Position)
@@ -269,20 +267,14 @@ impl Stepper {
 
     // The network that is shown: in the round that was begun, and else after the last one.
     fn shown(&self) -> &Net<EdgeWire>
-        ensures { result.now ≡ shown_net self.now }
+        ensures net { result.now ≡ shown_net self.now }
+        ensures count { length result.now.tree ≡ device_count self.now }
     {
         if self.is_begun {
             &self.inside.net
         } else {
             &self.last.net
         }
-    }
-
-    // How many devices the network has.
-    pub(crate) fn device_count(&self) -> usize
-        ensures { result ≡ length (shown_net self.now).tree }
-    {
-        self.shown().tree().count()
     }
 
     /// Writes the state line of a device, whose number is below the count: in a round that was begun its state in
@@ -292,9 +284,9 @@ impl Stepper {
     ///
     /// A `put` took none.
     pub fn show<S: Sink>(&self, device: usize, out: &mut S) -> Result<u128, StepError>
-        requires { device < length (shown_net self.now).tree }
-        ensures { (shown : State) × (slice_get (shown_net self.now).devices device ≡ Some shown)
-            × WrittenText (S.contents out.old) (S.contents out.new) (S.is_stuck out.old) (S.is_stuck out.new) (state_line shown) (as_written result) }
+        requires { device < device_count self.now }
+        ensures step { IsTaken (IsShown self.now device) ⊥ self.now self.now (S.contents out.old) (S.contents out.new) result }
+        ensures flag { S.is_stuck out.new ≡ (is_write result || S.is_stuck out.old) }
     {
         match whole(write_state(out, self.shown().device(device))) {
             Err(fault) => Err(step_error(fault)),

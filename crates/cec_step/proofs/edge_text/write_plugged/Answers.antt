@@ -1,7 +1,6 @@
-use Rattle.std.proofs.Common.{rules, ◌≡◌, ◌∙◌, ◌+◌, ◌++◌, ◌∷◌, [], ℕ, List, Bool, true, Option, Ok, Err, Some, codes, false, get_or, slice_index_or, length, drop, take, ap, sym, subst, refl, arith, append_assoc, append-nil, MatchBool}
-use Rattle.cec_step.specs.EdgeText.{device_text, edge_line, level_text, name_text, slot_text, standing_text}
+use Rattle.std.proofs.Common.{ℕ, List, Ok, Err, subst}
+use Rattle.cec_step.specs.EdgeText.{name_text, standing_text}
 use Rattle.cec_bits.specs.Follows.{shown}
-use Rattle.std.specs.List.{flat_map}
 use Rattle.cec_words.specs.Cut.{WrittenText}
 use Rattle.cec_words.proofs.Cutting.{cut_front}
 use Rattle.cec_step.proofs.edge_text.write_plugged.Goals as goal

@@ -1,4 +1,4 @@
-use Rattle.std.proofs.Common.{rules, ◌≡◌, ◌∙◌, ◌++◌, ◌∷◌, [], ℕ, List, Bool, Ok, Err, codes, false, get_or, slice_index_or, length, drop, take, ap, sym, subst, refl, arith}
+use Rattle.std.proofs.Common.{Err, subst}
 use Rattle.cec_words.specs.Cut.{WrittenText}
 use Rattle.cec_words.proofs.Cutting.{cut_behind}
 use Rattle.cec_step.proofs.parts.behind.Goals as goal

@@ -1,12 +1,6 @@
-use Rattle.std.proofs.Common.{rules, ◌≡◌, ◌∙◌, ◌+◌, ◌++◌, ◌∷◌, [], ℕ, List, Bool, true, Option, Ok, Err, Some, codes, false, get_or, slice_index_or, length, drop, take, ap, sym, subst, refl, arith, append_assoc, append-nil, MatchBool}
-use Rattle.cec_step.specs.Ready.{Begins, Brings, IsReady, Passes, first_text, point_of}
-use Rattle.cec_step.specs.Steps.{IsOver, IsRoundStep, passed, passed_text, start_text, turn_at}
-use Rattle.cec_asm.specs.declared.script.TimedEvent.{TimedEvent}
-use Rattle.cec_run.specs.declared.run.Turn.TheVariants.{Apply, Round, Stop}
-use Rattle.cec_run.specs.Run.{event_text}
-use Rattle.cec_net.specs.Apply.{applied}
-use Rattle.cec_words.specs.Cut.{WrittenText, CutOff, told_count}
-use Rattle.std.specs.Io.KnownBytes.{Appends}
+use Rattle.std.proofs.Common.{◌≡◌, ◌∙◌, ap, sym, arith}
+use Rattle.cec_step.specs.Ready.{point_of}
+use Rattle.cec_step.specs.Steps.{passed}
 use Rattle.cec_net.specs.State.{next_start}
 use Rattle.cec_run.specs.Run.{first_time}
 use Rattle.cec_run.proofs.Advance.{round_begins, same_begin}

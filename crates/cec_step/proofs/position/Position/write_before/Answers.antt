@@ -1,10 +1,5 @@
-use Rattle.std.proofs.Common.{rules, ◌≡◌, ◌∙◌, ◌+◌, ◌++◌, ◌∷◌, [], ℕ, List, Bool, Ok, Err, codes, false, get_or, slice_index_or, length, drop, take, ap, sym, subst, refl, arith}
-use Rattle.cec_step.specs.Ready.{Begins, Brings, IsReady, point_of}
-use Rattle.cec_step.specs.Steps.{IsOver, IsRoundStep, passed, passed_text, start_text, turn_at}
-use Rattle.cec_asm.specs.declared.script.TimedEvent.{TimedEvent}
-use Rattle.cec_run.specs.declared.run.Turn.TheVariants.{Apply, Round, Stop}
-use Rattle.cec_net.specs.Apply.{applied}
-use Rattle.cec_words.specs.Cut.{WrittenText}
+use Rattle.cec_step.specs.Ready.{point_of}
+use Rattle.cec_step.specs.Steps.{passed_text, start_text}
 use Rattle.cec_step.proofs.position.Position.write_before.Goals as goal
 
 pub returns-in-Ok : goal.returns-in-Ok

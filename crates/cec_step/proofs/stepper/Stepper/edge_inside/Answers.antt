@@ -1,8 +1,8 @@
-use Rattle.std.proofs.Common.{rules, ◌≡◌, ◌∙◌, ℕ, ◌<◌, List, length, Option, IsSome, Ok, Err, Some, false, ap, sym, subst, refl}
+use Rattle.std.proofs.Common.{◌≡◌, ◌∙◌, ◌<◌, length, IsSome, false, ap, sym, subst, refl}
 use Rattle.cec_wave.specs.Line.{IsWave}
 use Rattle.cec_net.specs.State.{NetState}
-use Rattle.cec_step.specs.Ready.{IsReady, begun_in, point_of, run_of}
-use Rattle.cec_step.specs.Steps.{Point, Run, Steps, IsEdgeStep, IsNoEdge, in_round}
+use Rattle.cec_step.specs.Ready.{begun_in, point_of, run_of}
+use Rattle.cec_step.specs.Steps.{Steps, IsEdgeStep, IsNoEdge, in_round}
 use Rattle.cec_step.specs.declared.position.Position.{Position}
 use Rattle.cec_step.proofs.InRound.{IsIn, edge_cut, edge_gives, edge_told, ends, is_in, some_inside, steps, still_in, taken_behind}
 use Rattle.cec_step.proofs.stepper.Stepper.edge_inside.Goals as goal

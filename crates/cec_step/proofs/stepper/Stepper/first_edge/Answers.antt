@@ -1,6 +1,6 @@
-use Rattle.std.proofs.Common.{rules, ◌≡◌, ◌∙◌, ℕ, List, Option, Ok, Err, Some, ap, sym, subst, refl}
-use Rattle.cec_step.specs.Ready.{Begins, IsReady, point_of, run_of}
-use Rattle.cec_step.specs.Steps.{Point, Run, IsFirstStep, IsOver}
+use Rattle.std.proofs.Common.{rules, ◌≡◌, Some, subst, refl}
+use Rattle.cec_step.specs.Ready.{Begins, point_of, run_of}
+use Rattle.cec_step.specs.Steps.{Run, IsFirstStep, IsOver}
 use Rattle.cec_step.specs.declared.position.Position.{Position}
 use Rattle.cec_step.proofs.InRound.{begun_inside, edge_cut, edge_told, first_gives, some_inside}
 use Rattle.cec_step.proofs.stepper.Stepper.first_edge.Goals as goal

@@ -1,11 +1,9 @@
-use Rattle.std.proofs.Common.{rules, ◌≡◌, ◌∙◌, ℕ, List, Option, None, true, ap, sym, subst, Vec, Global}
+use Rattle.std.proofs.Common.{◌≡◌, ◌∙◌, ℕ, List, Option, true, ap, sym, subst, Vec, Global}
 use Rattle.std.specs.Option.{option_map}
 use Rattle.hdmi_blocks.specs.declared.edid.Edid.{Edid}
 use Rattle.cec_asm.specs.Script.{course_of}
-use Rattle.cec_net.specs.State.{NetState, started}
 use Rattle.cec_run.specs.Root.{IsRoot}
 use Rattle.cec_step.specs.Ready.{IsReady, point_of}
-use Rattle.cec_step.specs.Steps.{Point, Steps}
 use Rattle.cec_step.specs.declared.position.Position.{Position}
 use Rattle.cec_step.proofs.Started.{begins_with, has_address, no_root_refused, ready_start, stepper_at}
 use Rattle.cec_step.proofs.stepper.Stepper.new.Goals as goal

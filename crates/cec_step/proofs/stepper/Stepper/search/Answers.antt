@@ -1,13 +1,7 @@
-use Rattle.std.proofs.Common.{rules, ◌≡◌, ◌∙◌, ◌+◌, ◌++◌, ◌∷◌, [], ℕ, suc, List, Bool, true, Option, Ok, Err, Some, codes, false, length, drop, take, ap, sym, subst, refl, arith, slice_get}
+use Rattle.std.proofs.Common.{rules, ◌≡◌, ◌∙◌, suc, sym, subst}
 use Rattle.cec_step.specs.Ready.{IsReady, point_of, run_of}
-use Rattle.cec_step.specs.Steps.{Point, Run, IsOver, IsRoundStep, Skips, stops, passed, passed_text, start_text, step_text, turn_at, shown_net, as_written}
+use Rattle.cec_step.specs.Steps.{Run, IsRoundStep}
 use Rattle.cec_step.specs.declared.position.Position.{Position}
-use Rattle.cec_words.specs.Cut.{WrittenText, CutOff, told_count}
-use Rattle.hdmi_core.specs.Written.{WrittenLine}
-use Rattle.cec_device.specs.State.{State}
-use Rattle.cec_net.specs.State.{NetState}
-use Rattle.cec_run.specs.TraceText.{round_line}
-use Rattle.cec_run.specs.StateText.{state_line}
 use Rattle.cec_step.proofs.stepper.Stepper.search.Goals as goal
 
 pub rounds-preserved : goal.rounds-preserved

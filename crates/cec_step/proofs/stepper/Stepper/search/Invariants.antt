@@ -1,4 +1,4 @@
-use Rattle.std.proofs.Common.{◌≡◌, ℕ, ◌-◌}
+use Rattle.std.proofs.Common.{ℕ, ◌-◌}
 use Rattle.cec_step.specs.Ready.{IsReady, point_of}
 use Rattle.cec_step.specs.Steps.{Skips}
 use Rattle.cec_step.proofs.stepper.Stepper.search.Given as goal

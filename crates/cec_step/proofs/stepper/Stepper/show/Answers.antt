@@ -1,28 +1,35 @@
-use Rattle.std.proofs.Common.{rules, ◌≡◌, ◌∙◌, ◌+◌, ◌++◌, ◌∷◌, [], ℕ, suc, List, Bool, true, Option, Ok, Err, Some, codes, false, length, drop, take, ap, sym, subst, refl, arith, slice_get}
-use Rattle.cec_step.specs.Ready.{IsReady, point_of, run_of}
-use Rattle.cec_step.specs.Steps.{Point, Run, IsOver, IsRoundStep, Skips, stops, passed, passed_text, start_text, step_text, turn_at, shown_net, as_written}
-use Rattle.cec_step.specs.declared.position.Position.{Position}
-use Rattle.cec_words.specs.Cut.{WrittenText, CutOff, told_count}
-use Rattle.hdmi_core.specs.Written.{WrittenLine}
-use Rattle.cec_device.specs.State.{State}
-use Rattle.cec_net.specs.State.{NetState}
-use Rattle.cec_run.specs.TraceText.{round_line}
-use Rattle.cec_run.specs.StateText.{state_line}
+use Rattle.std.proofs.Common.{◌∙◌, ◌||◌, Err, ap, sym, slice_get}
+use Rattle.cec_step.specs.Steps.{is_write}
 use Rattle.cec_step.specs.declared.stepper.StepError.{StepError}
+use Rattle.cec_net.specs.State.{NetState}
+use Rattle.cec_run.specs.StateText.{state_line}
+use Rattle.cec_step.proofs.Taken.{shown_cut, shown_told}
 use Rattle.cec_step.proofs.stepper.Stepper.show.Goals as goal
 
-pub returns-in-Err : goal.returns-in-Err
-returns-in-Err g c =
+pub returns-in-Err-clause-step : goal.returns-in-Err-clause-step
+returns-in-Err-clause-step g c =
     let d = c.device.result.now in
-    let found = sym (ap (λ (n : NetState). slice_get n.devices c.args.device) c.shown.ensures) ∙ c.device.ensures in
-    let told = c.in-Err.ensures (g.S.Sink.contents c.args.out.now) (g.S.Sink.contents c.write_state.new.out) (g.S.Sink.is_stuck c.args.out.now) (g.S.Sink.is_stuck c.write_state.new.out) (state_line d) c.write_state.ensures in (
-      d,
-      found,
-      subst (λ (e : StepError). WrittenText (g.S.Sink.contents c.args.out.now) (g.S.Sink.contents c.write_state.new.out) (g.S.Sink.is_stuck c.args.out.now) (g.S.Sink.is_stuck c.write_state.new.out) (state_line d) (as_written (Err e))) (sym c.step_error.ensures) told,
-    )
+    let found = sym (ap (λ (n : NetState). slice_get n.devices c.args.device) c.shown.ensures.net) ∙ c.device.ensures in
+    let told = c.in-Err.ensures (g.S.Sink.contents c.args.out.now) (g.S.Sink.contents c.write_state.new.out) (g.S.Sink.is_stuck c.args.out.now) (g.S.Sink.is_stuck c.write_state.new.out) (state_line d) c.write_state.ensures in
+    shown_cut c.args.self.now c.args.device d (g.S.Sink.contents c.args.out.now) (g.S.Sink.contents c.write_state.new.out) (g.S.Sink.is_stuck c.args.out.now) (g.S.Sink.is_stuck c.write_state.new.out)
+    c.in-Err.fault c.step_error.result found c.step_error.ensures told
 
-pub returns-in-Ok : goal.returns-in-Ok
-returns-in-Ok g c =
+pub returns-in-Ok-clause-step : goal.returns-in-Ok-clause-step
+returns-in-Ok-clause-step g c =
     let d = c.device.result.now in
-    let found = sym (ap (λ (n : NetState). slice_get n.devices c.args.device) c.shown.ensures) ∙ c.device.ensures in
-    (d, found, c.in-Ok.ensures (g.S.Sink.contents c.args.out.now) (g.S.Sink.contents c.write_state.new.out) (g.S.Sink.is_stuck c.args.out.now) (g.S.Sink.is_stuck c.write_state.new.out) (state_line d) c.write_state.ensures)
+    let found = sym (ap (λ (n : NetState). slice_get n.devices c.args.device) c.shown.ensures.net) ∙ c.device.ensures in
+    let told = c.in-Ok.ensures (g.S.Sink.contents c.args.out.now) (g.S.Sink.contents c.write_state.new.out) (g.S.Sink.is_stuck c.args.out.now) (g.S.Sink.is_stuck c.write_state.new.out) (state_line d) c.write_state.ensures in
+    shown_told c.args.self.now c.args.device d (g.S.Sink.contents c.args.out.now) (g.S.Sink.contents c.write_state.new.out) (g.S.Sink.is_stuck c.args.out.now) (g.S.Sink.is_stuck c.write_state.new.out)
+    c.in-Ok.count found told
+
+pub returns-in-Err-clause-flag : goal.returns-in-Err-clause-flag
+returns-in-Err-clause-flag g c =
+    let d = c.device.result.now in
+    let told = c.in-Err.ensures (g.S.Sink.contents c.args.out.now) (g.S.Sink.contents c.write_state.new.out) (g.S.Sink.is_stuck c.args.out.now) (g.S.Sink.is_stuck c.write_state.new.out) (state_line d) c.write_state.ensures in
+    told.1 ∙ sym (ap (λ (e : StepError). is_write (Err e) || g.S.Sink.is_stuck c.args.out.now) c.step_error.ensures)
+
+pub returns-in-Ok-clause-flag : goal.returns-in-Ok-clause-flag
+returns-in-Ok-clause-flag g c =
+    let d = c.device.result.now in
+    let told = c.in-Ok.ensures (g.S.Sink.contents c.args.out.now) (g.S.Sink.contents c.write_state.new.out) (g.S.Sink.is_stuck c.args.out.now) (g.S.Sink.is_stuck c.write_state.new.out) (state_line d) c.write_state.ensures in
+    told.2
