@@ -121,9 +121,10 @@ listens_begin seats w b e s level senders h = record {
 -- before a line's first low nothing is kept of it
 rests_before : (low : Line) (n : ℕ) → ((u : ℕ) → u < n → low u ≡ false) → (kept_before low n ≡ rest) × (was_low low n ≡ false)
 rests_before low zero h = (refl, let x : nat_lt 0 zero ≡ false = grind (arith, nat_tests) in ap (λ b. b && low (zero - 1)) x)
-rests_before low (suc n) h =
-    (ap (kept_by low n) (none_runs low n (n + 1) 0 (λ v a b. ap (λ x. x && not (was_low low v)) (h v (omega (arith, b))))),
-    ap (was_low low) (let x : suc n ≡ n + 1 = omega arith in x) ∙ was_now low n ∙ h n (omega arith))
+rests_before low (suc n) h = (
+  ap (kept_by low n) (none_runs low n (n + 1) 0 (λ v a b. ap (λ x. x && not (was_low low v)) (h v (omega (arith, b))))),
+  ap (was_low low) (let x : suc n ≡ n + 1 = omega arith in x) ∙ was_now low n ∙ h n (omega arith),
+)
 
 stands_before : (w : EdgeWire) → Listens w → w.time ≡ w.begin → EachOf w (λ low. low w.begin ≡ true → StandsOn w.listeners.receiver (λ u. false) w.begin)
 stands_before w l e later low sparse late line first = record {
