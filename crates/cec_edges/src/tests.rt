@@ -13,6 +13,7 @@ use cec_wire::{Fate, Loser, Outcome, Seat, Wire};
 use std::process::Abort;
 use std::test::Fail;
 
+mod plainly;
 mod standing;
 
 const ONE: bool = true;
