@@ -17,6 +17,35 @@ edid =>  =>   an EDID has 128, 256, 384 or 512 bytes: a base block and up to thr
 edid => 00ffffffffffff00; =>   an EDID has 128, 256, 384 or 512 bytes: a base block and up to three extensions of 128 bytes each
 edid --text => edid 1.3;maker sam; =>   line 2: maker sam
 edid --text =>  =>   line 1: 
+run => \u{feff}device tv tv 4;script;end 9; =>   line 1: ...device tv tv 4
+run => 00 ff ff; =>   a line `script`, and nothing else on it, parts the topology from the script
+asm => \u{feff}4>4; =>   line 1: ...4>4
+asm => 4>F play; =>   line 1: 4>F play
+asm => 4f 82 10 00; =>   line 1: 4f 82 10 00
+asm => a\u{80}\u{1}; =>   line 1: a...
+edid --text => \u{feff}edid 1.3; =>   line 1: ...edid 1.3
+edid --text => edid 1.3\r; =>   line 1: edid 1.3.
+edid --text => edid\t1.3; =>   line 1: edid.1.3
+edid --text => EDID 1.3; =>   line 1: EDID 1.3
+edid --text => edid 1.3 ; =>   line 1: edid 1.3 
+edid --text => 00ffffff; =>   line 1: 00ffffff
+mon => \u{feff}1000 0; =>   line 1: ...1000 0
+mon => 1000 0\r;4700 1;9000 end; =>   line 1: 1000 0.
+mon => 1000\t0;4700 1;9000 end; =>   line 1: 1000.0
+mon => 1000 0;4700 1;9000 END; =>   line 3: 9000 END
+mon => 1000 0 ;9000 end; =>   line 1: 1000 0 
+mon => 00ff; =>   line 1: 00ff
+mon => a\u{80}\u{1}; =>   line 1: a...
+mon =>  =>   line 1: 
+step => \u{feff}device tv tv 4;script;end 9;steps; =>   line 1: ...device tv tv 4
+step => device tv tv 4;script;end 9;steps;round\r; =>   line 5: round.
+step => device tv tv 4;script;end 9;steps;edge;until\tbreak; =>   line 6: until.break
+step => device tv tv 4;script;end 9;steps;ROUND; =>   line 5: ROUND
+step => device tv tv 4;script;end 9;steps;round ; =>   line 5: round 
+step => device tv tv 4;script;end 9;steps;show p1; =>   line 5: show p1
+step => device tv tv 4;script;end 9; =>   a line `steps`, and nothing else on it, parts the script from the commands
+step => 00ff; =>   a line `script`, and nothing else on it, parts the topology from the script
+step =>  =>   a line `script`, and nothing else on it, parts the topology from the script
 ";
 
 /// The program refuses an input with one line, and with `--explain` the same line and this one follow.
