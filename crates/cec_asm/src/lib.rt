@@ -12,6 +12,3 @@ pub use script::{
     Script, ScriptCause, ScriptError, TimedEvent, one_script, parse_script, scripts_are_sound,
 };
 pub use topology::{Topology, TopologyCause, TopologyError, parse_topology};
-
-#[cfg(test)]
-mod tests;

@@ -1,8 +1,8 @@
 //! A television's two blocks, read over DDC.
-use crate::{Ddc, DdcError, learn_address};
 use hdmi_blocks::{EdidError, edid_from_bytes};
 use hdmi_core::{Kind, Phys};
 use hdmi_cta::ExtError;
+use hdmi_ddc::{Ddc, DdcError, learn_address};
 use hdmi_topo::Tree;
 use std::test::Fail;
 

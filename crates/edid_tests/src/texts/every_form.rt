@@ -1,8 +1,8 @@
 //! Every form of a line, and each bit of an EDID at its own place.
 use super::{both_blocks, text_and_back};
-use crate::write_text;
 use hdmi_blocks::edid_from_bytes;
 use hdmi_core::Writes;
+use hdmi_edtext::write_text;
 use std::test::Fail;
 
 /// An EDID with every form of a line but `name`, `dummy`, `raw`, `cta-none` and `ext`.

@@ -1,5 +1,5 @@
 //! A display's base block, and what may be wrong with one.
-use crate::{BaseError, Descriptor, Text, Timing, read_base, write_base};
+use hdmi_edid::{BaseError, Descriptor, Text, Timing, read_base, write_base};
 use std::test::Fail;
 
 /// The base block of a television of Samsung, of revision 3, with one extension.

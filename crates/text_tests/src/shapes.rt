@@ -1,5 +1,5 @@
 //! Shapes, written by hand from the standard's table of opcodes.
-use crate::frame_shape;
+use cec_shape::frame_shape;
 use std::process::Abort;
 
 #[test]

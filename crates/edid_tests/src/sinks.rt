@@ -1,5 +1,5 @@
 //! How lines reach a writer: how often it is called, and what a failed write leaves.
-use crate::{Piece, Sink, WriteFault, Writes, write_line};
+use hdmi_core::{Piece, Sink, WriteFault, Writes, write_line};
 use std::io::{self, ErrorKind, Write};
 use std::test::Fail;
 

@@ -1,4 +1,4 @@
-use crate::{AudioFrom, EdidError, edid_from_bytes, edid_to_bytes};
+use hdmi_blocks::{AudioFrom, EdidError, edid_from_bytes, edid_to_bytes};
 use hdmi_core::Phys;
 use hdmi_cta::{ExtError, NoHdmiBlock};
 use hdmi_edid::BaseError;

@@ -1,6 +1,6 @@
 //! An amplifier's audio in place of the television's.
-use crate::{read_ext, with_address, with_audio, write_ext};
 use hdmi_core::Phys;
+use hdmi_cta::{read_ext, with_address, with_audio, write_ext};
 use std::test::Fail;
 
 /// A block: its front, zeros, three bytes and the checksum.

@@ -1,6 +1,6 @@
-use crate::{AddError, PlugError, PortEdidError, Tree, UnplugError};
 use hdmi_blocks::{Edid, edid_from_bytes, edid_to_bytes};
 use hdmi_core::{Kind, Phys};
+use hdmi_topo::{AddError, PlugError, PortEdidError, Tree, UnplugError};
 use std::test::Fail;
 
 /// The base block of a television of Samsung, with one extension to follow.

@@ -1,5 +1,5 @@
 //! What a topology and a script say, and why one is refused.
-use super::*;
+use cec_asm::{Script, ScriptError, Topology, TopologyError, parse_script, parse_topology};
 use cec_device::{Key, VolumeKey};
 use cec_net::Event;
 use cec_opcode::UserControl;

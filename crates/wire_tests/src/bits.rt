@@ -1,5 +1,5 @@
 //! Readings, receivers and senders at worked lines.
-use crate::{Receiver, Sender, SenderState, Standing, Told, read_line};
+use cec_bits::{Receiver, Sender, SenderState, Standing, Told, read_line};
 use cec_frame::{Ending, Frame};
 use cec_wave::{Edge, Stretch, lay};
 use std::test::Fail;

@@ -1,8 +1,9 @@
+//! The texts of EDIDs: each form there and back, and the line at fault.
 mod every_form;
 
-use crate::{TextError, parse_text, write_text};
 use hdmi_blocks::{edid_from_bytes, edid_to_bytes};
 use hdmi_core::Writes;
+use hdmi_edtext::{TextError, parse_text, write_text};
 use std::test::Fail;
 
 /// A base block with one extension to follow.
