@@ -16,10 +16,6 @@ const EXTENSION: &str = "020316f143900403230907078301000065030c000000";
 const TEXT: &str =
     "edid 1.3\nmaker SAM\nproduct 258\nserial 1\nmade 10 2011\ninput 80\nsize 52 29\ngamma 120\nfeatures 0a\nchroma 655 338 307 614 154 61 320 337\nestablished 000000\nstandard unused\nstandard unused\nstandard unused\nstandard unused\nstandard unused\nstandard unused\nstandard unused\nstandard unused\ntiming 14850 1920 280 1080 45 88 44 4 5 520 290 0 0 1e\nname \"LOUNGE TV 001\"\ndummy\ndummy\ncta f1\nvideo 900403\naudio 090707\nspeakers 010000\nhdmi 0.0.0.0 -\ntail -\n";
 
-/// The last two descriptors of a base block and its end: one of tag F7, and a dummy.
-const RAW_AND_DUMMY: &str =
-    "000000f7000a0000000000000000000000000000001000000000000000000000000000000160";
-
 /// The bytes of the base block and of an extension with this front and checksum.
 fn with_extension(rt: &HostRuntime, front: &str, check: u8) -> Result<Vec<u8>, Fail> {
     let mut bytes = hex::decode(rt.alloc(), BLOCK)?;
@@ -59,10 +55,64 @@ fn changed(rt: &HostRuntime, from: &str, to: &str) -> Result<Vec<u8>, Fail> {
     Ok(text)
 }
 
-/// Why such a text is refused.
-fn refusal_of(rt: &HostRuntime, from: &str, to: &str) -> Result<Option<TextError>, Fail> {
-    let text = changed(rt, from, to)?;
-    Ok(parse_text(rt.alloc(), &text).err())
+/// A part of the example's text, what stands in its place, with `;` for each line feed, and why the text is refused then.
+const CHANGES: &str = "\
+made 10 2011 => made 10 2300 => field 5
+made 10 2011 => made 10 2011 0 => syntax 5
+made 10 2011; =>  => syntax 5
+features 0a => features 0A => field 9
+standard unused => standard 256 0 61 => field 12
+edid 1.3 => edid 1.5 => field 1
+edid 1.3 => Edid 1.3 => syntax 1
+made 10 2011 => made 010 2011 => field 5
+standard unused => standard 640 0 => syntax 12
+standard unused => standard 640 4 60 => field 12
+name \"LOUNGE TV 001\" => name \"A\" B\" => field 21
+name \"LOUNGE TV 001\" => name A B => syntax 21
+name \"LOUNGE TV 001\" => dummy - => syntax 21
+cta f1 => cta f1f1 => field 24
+cta f1 => tail - => syntax 24
+name \"LOUNGE TV 001\" => raw 000000fc004c4f554e474520545620303031 => field 21
+hdmi 0.0.0.0 - => vendor 030c000000 => field 28
+tail - => tail 00 => field 29
+tail -; => tail - => syntax 29
+tail -; => tail -;cta f1; => syntax 31
+tail -; =>  => syntax 29
+tail -; => tail -;cta-none f1;tail -; => none
+tail -; => tail -;cta-none f1;tail -;cta f1;tail -; => none
+tail -; => tail -;cta-none f1;tail -;cta f1;tail -;cta f1; => syntax 34
+tail -; => tail -;cta-none f1; => syntax 31
+tail -; => tail -;cta-none f1;tail 00; => field 31
+";
+
+/// A text with a line feed for each `;`.
+fn with_lines(rt: &HostRuntime, text: &str) -> Result<String, Fail> {
+    let mut lines = String::new(rt.alloc());
+    for character in text.chars() {
+        lines.push(if character == ';' { '\n' } else { character })?;
+    }
+    Ok(lines)
+}
+
+/// Why the example's text is refused with one part changed.
+fn refusal_of(rt: &HostRuntime, from: &str, to: &str) -> Result<String, Fail> {
+    let (from, to) = (with_lines(rt, from)?, with_lines(rt, to)?);
+    let text = changed(rt, from.as_str(), to.as_str())?;
+    match parse_text(rt.alloc(), &text) {
+        Ok(_) => Ok(String::from_str(rt.alloc(), "none")?),
+        Err(error) => Ok(format!(in rt.alloc(); "{error}")?),
+    }
+}
+
+#[test]
+fn names_the_line_at_fault(rt: HostRuntime) -> Result<(), Fail> {
+    for case in CHANGES.lines() {
+        let (from, rest) = case.split_once(" => ").ok_or("no part")?;
+        let (to, fault) = rest.split_once(" => ").ok_or("no fault")?;
+        let told = refusal_of(&rt, from, to)?;
+        assert_eq!(rt; told.as_str(), fault, "{case}");
+    }
+    Ok(())
 }
 
 #[test]
@@ -71,75 +121,6 @@ fn reads_the_text_again(rt: HostRuntime) -> Result<(), Fail> {
     assert_eq!(rt;
         edid_to_bytes(&edid).as_slice(),
         both_blocks(&rt)?.as_slice()
-    );
-    Ok(())
-}
-
-#[test]
-fn names_the_line_at_fault(rt: HostRuntime) -> Result<(), Fail> {
-    let field = Some(TextError::Field(5));
-    let syntax = Some(TextError::Syntax(5));
-    assert_eq!(rt; refusal_of(&rt, "made 10 2011", "made 10 2300")?, field);
-    assert_eq!(rt; refusal_of(&rt, "made 10 2011", "made 10 2011 0")?, syntax);
-    assert_eq!(rt; refusal_of(&rt, "made 10 2011\n", "")?, syntax);
-    assert_eq!(rt;
-        refusal_of(&rt, "features 0a", "features 0A")?,
-        Some(TextError::Field(9))
-    );
-    assert_eq!(rt;
-        refusal_of(&rt, "standard unused", "standard 256 0 61")?,
-        Some(TextError::Field(12))
-    );
-    Ok(())
-}
-
-#[test]
-fn tells_wrong_fields_from_wrong_lines(rt: HostRuntime) -> Result<(), Fail> {
-    let name = "name \"LOUNGE TV 001\"";
-    let changes = [
-        ("edid 1.3", "edid 1.5", TextError::Field(1)),
-        ("edid 1.3", "Edid 1.3", TextError::Syntax(1)),
-        ("made 10 2011", "made 010 2011", TextError::Field(5)),
-        ("standard unused", "standard 640 0", TextError::Syntax(12)),
-        ("standard unused", "standard 640 4 60", TextError::Field(12)),
-        (name, "name \"A\" B\"", TextError::Field(21)),
-        (name, "name A B", TextError::Syntax(21)),
-        (name, "dummy -", TextError::Syntax(21)),
-        ("cta f1", "cta f1f1", TextError::Field(24)),
-        ("cta f1", "tail -", TextError::Syntax(24)),
-    ];
-    for (from, to, fault) in changes {
-        assert_eq!(rt; refusal_of(&rt, from, to)?, Some(fault));
-    }
-    Ok(())
-}
-
-#[test]
-fn names_the_block_line_at_fault(rt: HostRuntime) -> Result<(), Fail> {
-    let raw = "raw 000000fc004c4f554e474520545620303031";
-    assert_eq!(rt;
-        refusal_of(&rt, "name \"LOUNGE TV 001\"", raw)?,
-        Some(TextError::Field(21))
-    );
-    assert_eq!(rt;
-        refusal_of(&rt, "hdmi 0.0.0.0 -", "vendor 030c000000")?,
-        Some(TextError::Field(28))
-    );
-    assert_eq!(rt;
-        refusal_of(&rt, "tail -", "tail 00")?,
-        Some(TextError::Field(29))
-    );
-    assert_eq!(rt;
-        refusal_of(&rt, "tail -\n", "tail -")?,
-        Some(TextError::Syntax(29))
-    );
-    assert_eq!(rt;
-        refusal_of(&rt, "tail -\n", "tail -\ncta f1\n")?,
-        Some(TextError::Syntax(31))
-    );
-    assert_eq!(rt;
-        refusal_of(&rt, "tail -\n", "")?,
-        Some(TextError::Syntax(29))
     );
     Ok(())
 }
@@ -155,12 +136,24 @@ fn text_and_back(rt: &HostRuntime, bytes: &[u8]) -> Result<Vec<u8>, Fail> {
     Ok(text)
 }
 
+/// The front and the checksum of an extension, and how its text ends, with `;` for each line feed.
+const ENDS: &str = "\
+020300f1 0a ;cta-none f1;tail -;
+020304f1 06 ;cta f1;tail -;
+020300f101 09 ;cta-none f1;tail 01;
+020310f165030c00100065030c002000 e2 ;cta f1;hdmi 1.0.0.0 -;hdmi 2.0.0.0 -;tail -;
+";
+
 #[test]
-fn returns_extensions_without_blocks(rt: HostRuntime) -> Result<(), Fail> {
-    let bare = text_and_back(&rt, &with_extension(&rt, "020300f1", 0x0a)?)?;
-    assert!(rt; bare.as_slice().ends_with(b"\ncta-none f1\ntail -\n"));
-    let empty = text_and_back(&rt, &with_extension(&rt, "020304f1", 0x06)?)?;
-    assert!(rt; empty.as_slice().ends_with(b"\ncta f1\ntail -\n"));
+fn returns_extensions(rt: HostRuntime) -> Result<(), Fail> {
+    for case in ENDS.lines() {
+        let (front, rest) = case.split_once(' ').ok_or("no front")?;
+        let (check, end) = rest.split_once(' ').ok_or("no checksum")?;
+        let check = u8::from_str_radix(check, 16)?;
+        let text = text_and_back(&rt, &with_extension(&rt, front, check)?)?;
+        let end = with_lines(&rt, end)?;
+        assert!(rt; text.as_slice().ends_with(end.as_bytes()), "{case}");
+    }
     Ok(())
 }
 
@@ -177,42 +170,6 @@ fn returns_a_block_that_runs_past_its_end(rt: HostRuntime) -> Result<(), Fail> {
 }
 
 #[test]
-fn returns_a_lone_tail_that_begins_as_a_timing(rt: HostRuntime) -> Result<(), Fail> {
-    let text = text_and_back(&rt, &with_extension(&rt, "020300f101", 0x09)?)?;
-    assert!(rt; text.as_slice().ends_with(b"\ncta-none f1\ntail 01\n"));
-    Ok(())
-}
-
-#[test]
-fn returns_two_hdmi_blocks(rt: HostRuntime) -> Result<(), Fail> {
-    let front = "020310f165030c00100065030c002000";
-    let text = text_and_back(&rt, &with_extension(&rt, front, 0xe2)?)?;
-    assert!(rt;
-        text.as_slice()
-            .ends_with(b"\ncta f1\nhdmi 1.0.0.0 -\nhdmi 2.0.0.0 -\ntail -\n")
-    );
-    Ok(())
-}
-
-#[test]
-fn returns_a_name_that_ends_in_spaces(rt: HostRuntime) -> Result<(), Fail> {
-    let (front, behind) = BLOCK
-        .split_once("4c4f554e474520545620303031")
-        .ok_or("no name")?;
-    let behind = behind.strip_suffix("51").ok_or("no checksum")?;
-    let mut bytes = hex::decode(rt.alloc(), front)?;
-    bytes.extend_from_slice(b"AB           ")?;
-    bytes.extend_from_slice(&hex::decode(rt.alloc(), behind)?)?;
-    bytes.push(0xb3)?;
-    let whole = both_blocks(&rt)?;
-    bytes.extend_from_slice(whole.as_slice().get(128..).ok_or("no extension")?)?;
-    let text = text_and_back(&rt, &bytes)?;
-    let text = str::from_utf8(&text)?;
-    assert!(rt; text.contains("\nname \"AB           \"\ndummy\n"));
-    Ok(())
-}
-
-#[test]
 fn tells_a_refusal_in_words(rt: HostRuntime) -> Result<(), Fail> {
     let syntax = format!(in rt.alloc(); "{}", TextError::Syntax(5))?;
     assert_eq!(rt; syntax.as_str(), "syntax 5");
@@ -221,16 +178,25 @@ fn tells_a_refusal_in_words(rt: HostRuntime) -> Result<(), Fail> {
     Ok(())
 }
 
+/// Base blocks with one extension to follow, and what their texts have, with `;` for each line feed: a name that ends in
+/// spaces, and a descriptor of no form.
+const BASES: &str = "\
+00ffffffffffff004c2d0201010000000a15010380341d780aee91a3544c99260f505400000001010101010101010101010101010101023a801871382d40582c450008222100001e000000fc004142202020202020202020202000000010000000000000000000000000000000000010000000000000000000000000000001b3 ;name \"AB           \";dummy;
+00ffffffffffff004c2d0201010000000a15010380341d780aee91a3544c99260f505400000001010101010101010101010101010101023a801871382d40582c450008222100001e000000fc004c4f554e474520545620303031000000f7000a0000000000000000000000000000001000000000000000000000000000000160 \";raw 000000f7000a000000000000000000000000;dummy;cta f1;
+";
+
 #[test]
-fn returns_a_descriptor_of_no_form(rt: HostRuntime) -> Result<(), Fail> {
-    let (front, _) = BLOCK.split_once("0000001000").ok_or("no descriptor")?;
-    let mut bytes = hex::decode(rt.alloc(), front)?;
-    bytes.extend_from_slice(&hex::decode(rt.alloc(), RAW_AND_DUMMY)?)?;
+fn returns_base_blocks(rt: HostRuntime) -> Result<(), Fail> {
     let whole = both_blocks(&rt)?;
-    bytes.extend_from_slice(whole.as_slice().get(128..).ok_or("no extension")?)?;
-    let text = text_and_back(&rt, &bytes)?;
-    let text = str::from_utf8(&text)?;
-    assert!(rt; text.contains("\"\nraw 000000f7000a000000000000000000000000\ndummy\ncta f1\n"));
+    let extension = whole.as_slice().get(128..).ok_or("no extension")?;
+    for case in BASES.lines() {
+        let (base, part) = case.split_once(' ').ok_or("no base")?;
+        let mut bytes = hex::decode(rt.alloc(), base)?;
+        bytes.extend_from_slice(extension)?;
+        let text = text_and_back(&rt, &bytes)?;
+        let part = with_lines(&rt, part)?;
+        assert!(rt; str::from_utf8(&text)?.contains(part.as_str()), "{case}");
+    }
     Ok(())
 }
 
@@ -264,30 +230,6 @@ fn returns_four_blocks(rt: HostRuntime) -> Result<(), Fail> {
     assert_eq!(rt;
         rest,
         "cta f1\nvideo 900403\naudio 090707\nspeakers 010000\nhdmi 0.0.0.0 -\ntail -\ncta f1\ntail -\n"
-    );
-    Ok(())
-}
-
-#[test]
-fn takes_three_extensions_at_most(rt: HostRuntime) -> Result<(), Fail> {
-    let two = "tail -\ncta-none f1\ntail -\n";
-    let three = "tail -\ncta-none f1\ntail -\ncta f1\ntail -\n";
-    let four = "tail -\ncta-none f1\ntail -\ncta f1\ntail -\ncta f1\n";
-    assert_eq!(rt; refusal_of(&rt, "tail -\n", two)?, None);
-    assert_eq!(rt; refusal_of(&rt, "tail -\n", three)?, None);
-    assert_eq!(rt;
-        refusal_of(&rt, "tail -\n", four)?,
-        Some(TextError::Syntax(34))
-    );
-    let cut = "tail -\ncta-none f1\n";
-    assert_eq!(rt;
-        refusal_of(&rt, "tail -\n", cut)?,
-        Some(TextError::Syntax(31))
-    );
-    let wrong = "tail -\ncta-none f1\ntail 00\n";
-    assert_eq!(rt;
-        refusal_of(&rt, "tail -\n", wrong)?,
-        Some(TextError::Field(31))
     );
     Ok(())
 }

@@ -2,7 +2,7 @@
 use cec_asm::{Script, ScriptError, Topology, TopologyError, parse_script, parse_topology};
 use cec_device::{Key, VolumeKey};
 use cec_net::Event;
-use cec_opcode::UserControl;
+use cec_opcode::{Triple, UserControl};
 use std::alloc::Global;
 use std::process::Abort;
 use std::test::Fail;
@@ -124,11 +124,7 @@ fn with_lines(alloc: Global, text: &str) -> Result<String, Fail> {
 fn refuses(rt: &impl Abort, alloc: Global, case: &str) -> Result<(), Fail> {
     let (text, told) = case.rsplit_once(" => ").ok_or("no case")?;
     let text = with_lines(alloc, text)?;
-    let error = match read(alloc, text.as_str())? {
-        Ok(_) => return Err(Fail::from("a script")),
-        Err(error) => error,
-    };
-    let error = format!(in alloc; "{error}")?;
+    let error = refusal(alloc, text.as_str())?;
     assert_eq!(rt; error.as_str(), told, "{text}");
     Ok(())
 }
@@ -206,101 +202,112 @@ fn reads_each_event(rt: HostRuntime) -> Result<(), Fail> {
     Ok(())
 }
 
-fn key(rt: &impl Abort, alloc: Global, words: &str) -> Result<Key, Fail> {
+// A key as a text of its words.
+fn key_text(alloc: Global, key: &Key) -> Result<String, Fail> {
+    let text = match key {
+        Key::Play => String::from_str(alloc, "play")?,
+        Key::Stop => String::from_str(alloc, "stop")?,
+        Key::Eject => String::from_str(alloc, "eject")?,
+        Key::Load => String::from_str(alloc, "load")?,
+        Key::Menu => String::from_str(alloc, "menu")?,
+        Key::Power => String::from_str(alloc, "power")?,
+        Key::Volume(VolumeKey::Up) => String::from_str(alloc, "up")?,
+        Key::Volume(VolumeKey::Down) => String::from_str(alloc, "down")?,
+        Key::Volume(VolumeKey::Mute) => String::from_str(alloc, "mute")?,
+        Key::Audio { on } => format!(in alloc; "audio {on}")?,
+        Key::Arc { on } => format!(in alloc; "arc {on}")?,
+        Key::Port(port) => format!(in alloc; "port {port}")?,
+        Key::Watch(phys) => format!(in alloc; "watch {:02x}{:02x}", phys.high, phys.low)?,
+        Key::Language(letters) => language_text(alloc, letters)?,
+        Key::Remote { to, code } => remote_text(alloc, to.value(), code)?,
+    };
+    Ok(text)
+}
+
+fn language_text(alloc: Global, letters: &Triple) -> Result<String, Fail> {
+    let text = format!(in alloc;
+        "language {} {} {}",
+        letters.first,
+        letters.second,
+        letters.third
+    )?;
+    Ok(text)
+}
+
+fn remote_text(alloc: Global, to: u8, code: &UserControl) -> Result<String, Fail> {
+    if matches!(code, UserControl::Other(_)) {
+        return Err(Fail::from("a code without a word"));
+    }
+    Ok(format!(in alloc; "remote {to} {:02x}", code.byte())?)
+}
+
+// The words of keys, and the keys: bytes in hex, letters and addresses in decimal.
+const KEYS: &str = "\
+play => play
+stop => stop
+eject => eject
+load => load
+menu => menu
+power => power
+volume-up => up
+volume-down => down
+mute => mute
+audio on => audio true
+audio off => audio false
+arc on => arc true
+arc off => arc false
+port 0 => port 0
+port 15 => port 15
+port 256 => port 255
+watch 1.2.3.f => watch 123f
+language eng => language 101 110 103
+remote 1 up => remote 1 01
+remote e select => remote 14 00
+remote e up => remote 14 01
+remote e down => remote 14 02
+remote e left => remote 14 03
+remote e right => remote 14 04
+remote e root-menu => remote 14 09
+remote e exit => remote 14 0d
+remote e digit-0 => remote 14 20
+remote e digit-1 => remote 14 21
+remote e digit-2 => remote 14 22
+remote e digit-3 => remote 14 23
+remote e digit-4 => remote 14 24
+remote e digit-5 => remote 14 25
+remote e digit-6 => remote 14 26
+remote e digit-7 => remote 14 27
+remote e digit-8 => remote 14 28
+remote e digit-9 => remote 14 29
+remote e power => remote 14 40
+remote e volume-up => remote 14 41
+remote e volume-down => remote 14 42
+remote e mute => remote 14 43
+remote e play => remote 14 44
+remote e stop => remote 14 45
+remote e pause => remote 14 46
+remote e power-off => remote 14 6c
+remote e power-on => remote 14 6d
+";
+
+// The event of a line is that key, pressed at the television.
+fn reads_key(rt: &impl Abort, alloc: Global, words: &str, want: &str) -> Result<(), Fail> {
     let line = format!(in alloc; "press tv {words}")?;
     match event(rt, alloc, line.as_str())? {
-        Event::Key { key, .. } => Ok(key),
+        Event::Key { key, .. } => {
+            let told = key_text(alloc, &key)?;
+            assert_eq!(rt; told.as_str(), want);
+            Ok(())
+        }
         _ => Err(Fail::from("no key")),
     }
 }
 
 #[test]
 fn reads_each_key(rt: HostRuntime) -> Result<(), Fail> {
-    let alloc = rt.alloc();
-    assert!(rt; matches!(&key(&rt, alloc, "play")?, Key::Play));
-    assert!(rt; matches!(&key(&rt, alloc, "stop")?, Key::Stop));
-    assert!(rt; matches!(&key(&rt, alloc, "eject")?, Key::Eject));
-    assert!(rt; matches!(&key(&rt, alloc, "load")?, Key::Load));
-    assert!(rt; matches!(&key(&rt, alloc, "menu")?, Key::Menu));
-    assert!(rt; matches!(&key(&rt, alloc, "power")?, Key::Power));
-    assert!(rt; matches!(&key(&rt, alloc, "volume-up")?, Key::Volume(VolumeKey::Up)));
-    assert!(rt;
-        matches!(
-            &key(&rt, alloc, "volume-down")?,
-            Key::Volume(VolumeKey::Down)
-        )
-    );
-    assert!(rt; matches!(&key(&rt, alloc, "mute")?, Key::Volume(VolumeKey::Mute)));
-    assert!(rt; matches!(&key(&rt, alloc, "audio on")?, Key::Audio { on: true }));
-    assert!(rt; matches!(&key(&rt, alloc, "audio off")?, Key::Audio { on: false }));
-    assert!(rt; matches!(&key(&rt, alloc, "arc on")?, Key::Arc { on: true }));
-    assert!(rt; matches!(&key(&rt, alloc, "arc off")?, Key::Arc { on: false }));
-    assert!(rt; matches!(&key(&rt, alloc, "port 0")?, Key::Port(0)));
-    assert!(rt; matches!(&key(&rt, alloc, "port 15")?, Key::Port(15)));
-    assert!(rt; matches!(&key(&rt, alloc, "port 256")?, Key::Port(255)));
-    match key(&rt, alloc, "watch 1.2.3.f")? {
-        Key::Watch(phys) => assert_eq!(rt; (phys.high, phys.low), (0x12, 0x3f)),
-        _ => assert!(rt; false, "watch"),
-    }
-    match key(&rt, alloc, "language eng")? {
-        Key::Language(language) => {
-            assert_eq!(rt;
-                (language.first, language.second, language.third),
-                (b'e', b'n', b'g')
-            );
-        }
-        _ => assert!(rt; false, "language"),
-    }
-    Ok(())
-}
-
-// The words of user control codes, and their codes.
-const CODES: [(&str, u8); 26] = [
-    ("select", 0x00),
-    ("up", 0x01),
-    ("down", 0x02),
-    ("left", 0x03),
-    ("right", 0x04),
-    ("root-menu", 0x09),
-    ("exit", 0x0d),
-    ("digit-0", 0x20),
-    ("digit-1", 0x21),
-    ("digit-2", 0x22),
-    ("digit-3", 0x23),
-    ("digit-4", 0x24),
-    ("digit-5", 0x25),
-    ("digit-6", 0x26),
-    ("digit-7", 0x27),
-    ("digit-8", 0x28),
-    ("digit-9", 0x29),
-    ("power", 0x40),
-    ("volume-up", 0x41),
-    ("volume-down", 0x42),
-    ("mute", 0x43),
-    ("play", 0x44),
-    ("stop", 0x45),
-    ("pause", 0x46),
-    ("power-off", 0x6c),
-    ("power-on", 0x6d),
-];
-
-#[test]
-fn reads_each_code_of_a_remote_control(rt: HostRuntime) -> Result<(), Fail> {
-    let alloc = rt.alloc();
-    for (word, byte) in CODES {
-        let words = format!(in alloc; "remote e {word}")?;
-        match key(&rt, alloc, words.as_str())? {
-            Key::Remote { to, code } => {
-                assert_eq!(rt; to.value(), 14, "{word}");
-                assert_eq!(rt; code.byte(), byte, "{word}");
-                assert!(rt; !matches!(&code, UserControl::Other(_)), "{word}");
-            }
-            _ => assert!(rt; false, "{word}"),
-        }
-    }
-    match key(&rt, alloc, "remote 1 up")? {
-        Key::Remote { to, .. } => assert_eq!(rt; to.value(), 1),
-        _ => assert!(rt; false, "remote"),
+    for case in KEYS.lines() {
+        let (words, want) = case.split_once(" => ").ok_or("no case")?;
+        reads_key(&rt, rt.alloc(), words, want)?;
     }
     Ok(())
 }
@@ -316,18 +323,22 @@ fn pulses(alloc: Global, count: u64) -> Result<String, Fail> {
     Ok(text)
 }
 
-// With one line more before its end, a script is refused as the case says.
-fn refuses_behind(rt: &impl Abort, alloc: Global, text: &str, case: &str) -> Result<(), Fail> {
-    let (line, told) = case.rsplit_once(" => ").ok_or("no case")?;
-    let more = format!(in alloc; "{text}{line}\nend 20\n")?;
-    let error = match read(alloc, more.as_str())? {
-        Ok(_) => return Err(Fail::from("a script")),
-        Err(error) => error,
-    };
-    let error = format!(in alloc; "{error}")?;
-    assert_eq!(rt; error.as_str(), told);
-    Ok(())
+// Why a script is refused.
+fn refusal(alloc: Global, text: &str) -> Result<String, Fail> {
+    match read(alloc, text)? {
+        Ok(_) => Err(Fail::from("a script")),
+        Err(error) => Ok(format!(in alloc; "{error}")?),
+    }
 }
+
+// Pulses that a script of 4,096 pulses is refused with, one more before its end: it is too many, unless it is at fault
+// otherwise.
+const ONE_MORE: &str = "\
+pulse 104038400 400 => line 4097: too-many
+pulse 104038400 0 => line 4097: width
+pulse 104038399 400 => line 4097: close
+pulse 0 400 => line 4097: order
+";
 
 #[test]
 fn reads_pulses(rt: HostRuntime) -> Result<(), Fail> {
@@ -335,64 +346,64 @@ fn reads_pulses(rt: HostRuntime) -> Result<(), Fail> {
     let text = pulses(alloc, 4096)?;
     let full = format!(in alloc; "{text}end 20\n")?;
     let script = read(alloc, full.as_str())?.expect(&rt, "4,096 pulses");
-    let pulses = script.pulses.as_slice();
-    assert_eq!(rt; pulses.len(), 4096);
-    assert_eq!(rt; (pulses[0].from, pulses[0].to), (0, 400));
-    assert_eq!(rt;
-        (pulses[4095].from, pulses[4095].to),
-        (104_013_000, 104_013_400)
-    );
+    assert_eq!(rt; script.pulses.as_slice().len(), 4096);
+    let first = script.pulses.as_slice().first().ok_or("no pulse")?;
+    assert_eq!(rt; (first.from, first.to), (0, 400));
+    let last = script.pulses.as_slice().last().ok_or("no pulse")?;
+    assert_eq!(rt; (last.from, last.to), (104_013_000, 104_013_400));
     assert_eq!(rt; script.end, 20);
-    // One more is too many, unless it is at fault otherwise.
-    refuses_behind(
-        &rt,
-        alloc,
-        text.as_str(),
-        "pulse 104038400 400 => line 4097: too-many",
-    )?;
-    refuses_behind(
-        &rt,
-        alloc,
-        text.as_str(),
-        "pulse 104038400 0 => line 4097: width",
-    )?;
-    refuses_behind(
-        &rt,
-        alloc,
-        text.as_str(),
-        "pulse 104038399 400 => line 4097: close",
-    )?;
-    refuses_behind(&rt, alloc, text.as_str(), "pulse 0 400 => line 4097: order")
+    Ok(())
+}
+
+#[test]
+fn refuses_one_more_pulse(rt: HostRuntime) -> Result<(), Fail> {
+    let alloc = rt.alloc();
+    let text = pulses(alloc, 4096)?;
+    for case in ONE_MORE.lines() {
+        let (line, told) = case.split_once(" => ").ok_or("no case")?;
+        let more = format!(in alloc; "{text}{line}\nend 20\n")?;
+        assert_eq!(rt; refusal(alloc, more.as_str())?.as_str(), told);
+    }
+    Ok(())
+}
+
+// One of four thousand lines at their times.
+fn numbered(alloc: Global, number: u32) -> Result<String, Fail> {
+    let line = match number % 4 {
+        0 => format!(in alloc; "at {number} press p1 play\n")?,
+        1 => format!(in alloc; "at {number} release tv volume-up\n")?,
+        2 => format!(in alloc; "# {number}\n")?,
+        _ => format!(in alloc; "at {number} send p1 4>0 set-osd-name \"player\"\n")?,
+    };
+    Ok(line)
+}
+
+fn four_thousand(alloc: Global) -> Result<String, Fail> {
+    let mut text = String::new(alloc);
+    for number in 0..4000 {
+        text.push_str(numbered(alloc, number)?.as_str())?;
+    }
+    Ok(text)
 }
 
 #[test]
 fn reads_four_thousand_lines(rt: HostRuntime) -> Result<(), Fail> {
     let alloc = rt.alloc();
-    let mut text = String::new(alloc);
-    for number in 0..4000 {
-        let line = match number % 4 {
-            0 => format!(in alloc; "at {number} press p1 play\n")?,
-            1 => format!(in alloc; "at {number} release tv volume-up\n")?,
-            2 => format!(in alloc; "# {number}\n")?,
-            _ => format!(in alloc; "at {number} send p1 4>0 set-osd-name \"player\"\n")?,
-        };
-        text.push_str(line.as_str())?;
-    }
+    let text = four_thousand(alloc)?;
     let whole = format!(in alloc; "{text}end 4000")?;
     let script = read(alloc, whole.as_str())?.expect(&rt, "4,000 lines");
     assert_eq!(rt; script.events.len(), 3000);
-    assert_eq!(rt;
-        (script.events[2999].line, script.events[2999].at),
-        (4000, 3999)
-    );
+    let last = script.events.last().ok_or("no event")?;
+    assert_eq!(rt; (last.line, last.at), (4000, 3999));
+    Ok(())
+}
+
+#[test]
+fn refuses_a_line_behind_four_thousand(rt: HostRuntime) -> Result<(), Fail> {
+    let alloc = rt.alloc();
+    let text = four_thousand(alloc)?;
     let early = format!(in alloc; "{text}at 3998 unplug p1\nend 4000")?;
-    match read(alloc, early.as_str())? {
-        Ok(_) => assert!(rt; false, "a time that goes back is taken"),
-        Err(error) => {
-            let error = format!(in alloc; "{error}")?;
-            assert_eq!(rt; error.as_str(), "line 4001: order");
-        }
-    }
+    assert_eq!(rt; refusal(alloc, early.as_str())?.as_str(), "line 4001: order");
     Ok(())
 }
 

@@ -1,5 +1,5 @@
 //! Why the program did not do what it was asked.
-use crate::edid_text::{EdidToTextError, TextToHexError};
+use hdmi_convert::{EdidToTextError, TextToHexError};
 use cec_mon::WatchError;
 use cec_run::emulate::EmulateError;
 use cec_step::step_run::StepRunError;

@@ -1,6 +1,6 @@
 //! The program over a reader and two sinks.
 use crate::choice::{Asked, Choice, choose, is_memory};
-use crate::edid_text::{edid_to_text, text_to_hex};
+use hdmi_convert::{edid_to_text, text_to_hex};
 use crate::fault::Fault;
 use crate::help::EXPLAINED;
 use arrayvec::ArrayString;

@@ -1,8 +1,8 @@
 use Rattle.std.proofs.Common.{rules, ◌≡◌, subst}
 use Rattle.std.specs.Io.KnownBytes.{Appends}
 use Rattle.hdmi_blocks.specs.Bytes.{edid_bytes}
-use Rattle.hdminet.specs.EdidText.{IsCutAt, hex_line}
-use Rattle.hdminet.proofs.edid_text.text_to_hex.Goals as goal
+use Rattle.hdmi_convert.specs.EdidText.{IsCutAt, hex_line}
+use Rattle.hdmi_convert.proofs.edid_text.text_to_hex.Goals as goal
 
 pub returns-in-Ok-clause-answers : goal.returns-in-Ok-clause-answers
 returns-in-Ok-clause-answers g c =

@@ -1,5 +1,5 @@
 use Rattle.std.proofs.Common.{◌≤◌, length}
-use Rattle.hdminet.proofs.program.parted.Given as goal
+use Rattle.hdminet_program.proofs.program.parted.Given as goal
 
 abbrev pub invariant-loop-line : goal.invariant-loop-line
 invariant-loop-line l = length l.rest ≤ length l.text

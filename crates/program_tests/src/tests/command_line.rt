@@ -1,6 +1,6 @@
 use super::*;
-use crate::fault::Fault;
-use crate::program::tell;
+use hdminet_program::Fault;
+use hdminet_program::program::tell;
 use std::alloc::AllocError;
 
 /// The program shows a text on standard output that has this part.

@@ -1,5 +1,6 @@
 //! What the program does, over readers and writers that it is handed.
-use super::*;
+use hdmi_core::Writes;
+use hdminet_program::program::program;
 use std::alloc::Global;
 use std::io::{self, ErrorKind, Read, Write};
 use std::process::Abort;

@@ -10,10 +10,10 @@ use Rattle.hdmi_edtext.specs.Refusal.{IsRefusal}
 use Rattle.hdmi_blocks.specs.declared.edid.Edid.{Edid as EdidValue}
 use Rattle.hdmi_edtext.specs.declared.parse.TextError.{TextError}
 use Rattle.hdmi_edtext.specs.declared.parse.TextError.TheVariants as texts
-use Rattle.hdminet.specs.declared.edid_text.EdidToTextError.{EdidToTextError}
-use Rattle.hdminet.specs.declared.edid_text.EdidToTextError.TheVariants.{Edid, Write}
-use Rattle.hdminet.specs.declared.edid_text.TextToHexError.{TextToHexError}
-use Rattle.hdminet.specs.declared.edid_text.TextToHexError.TheVariants as hex
+use Rattle.hdmi_convert.specs.declared.edid_text.EdidToTextError.{EdidToTextError}
+use Rattle.hdmi_convert.specs.declared.edid_text.EdidToTextError.TheVariants.{Edid, Write}
+use Rattle.hdmi_convert.specs.declared.edid_text.TextToHexError.{TextToHexError}
+use Rattle.hdmi_convert.specs.declared.edid_text.TextToHexError.TheVariants as hex
 
 -- the front of a text was written, as long as a count tells, and then the sink took none
 abbrev pub IsCutAt : Option (List ℕ) → Option (List ℕ) → Bool → List ℕ → ℕ → Type 0

@@ -1,6 +1,6 @@
 //! EDIDs from bytes to text, and from text to bytes in hex.
 ghost use Rattle.std.specs.Prelude.{◌≡◌, ◌↔◌, false, IsTrue};
-ghost use Rattle.hdminet.specs.EdidText.{HexAnswers, TextAnswers, hex_line, is_hex_cut, is_text_cut};
+ghost use Rattle.hdmi_convert.specs.EdidText.{HexAnswers, TextAnswers, hex_line, is_hex_cut, is_text_cut};
 ghost use Rattle.hdmi_core.specs.Written.{WrittenLine};
 
 use hdmi_blocks::{EdidError, edid_from_bytes, edid_to_bytes};
@@ -39,7 +39,7 @@ pub enum TextToHexError {
 
 impl From<EdidError> for EdidToTextError {
     ghost use Rattle.std.specs.Prelude.{◌≡◌};
-    ghost use Rattle.hdminet.specs.declared.edid_text.EdidToTextError.{EdidToTextError};
+    ghost use Rattle.hdmi_convert.specs.declared.edid_text.EdidToTextError.{EdidToTextError};
 
     ghost from_gives = { λ cause e. e ≡ EdidToTextError.Edid cause };
 
@@ -50,7 +50,7 @@ impl From<EdidError> for EdidToTextError {
 
 impl From<TextError> for TextToHexError {
     ghost use Rattle.std.specs.Prelude.{◌≡◌};
-    ghost use Rattle.hdminet.specs.EdidText.{text_told};
+    ghost use Rattle.hdmi_convert.specs.EdidText.{text_told};
 
     ghost from_gives = { λ t e. e ≡ text_told t };
 
