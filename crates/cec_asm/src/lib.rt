@@ -12,6 +12,3 @@ pub use cec_text::{AssembleError, assemble, frame_text, write_frame};
 pub use laws::{one_script, scripts_are_sound};
 pub use script::{Script, ScriptCause, ScriptError, TimedEvent, parse_script};
 pub use topology::{Topology, TopologyCause, TopologyError, parse_topology};
-
-#[cfg(test)]
-mod tests;

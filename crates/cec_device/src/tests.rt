@@ -1,10 +1,18 @@
 //! Worked rows of single devices.
 use crate::cases::{check, says, settled};
-use crate::{Device, Fate, FreeTime, Key, KeyError, SubmitError};
+use crate::{Device, Fate, FreeTime, Key, KeyError, Port, Record, SubmitError};
 use cec_frame::{Addr, Frame};
 use hdmi_core::{Kind, Phys};
 use std::process::Abort;
 use std::test::Fail;
+
+#[test]
+fn a_new_record_is_on(rt: HostRuntime) -> Result<(), Fail> {
+    let record = Record::new(Kind::Switch, Port::new(3));
+    assert!(rt; record.power);
+    assert_eq!(rt; record.deck.byte(), 0x1a);
+    Ok(())
+}
 
 fn follow(device: &mut Device<16>, bytes: &[u8]) -> Result<(), Fail> {
     let frame = Frame::new(bytes)?;

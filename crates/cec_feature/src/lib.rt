@@ -17,6 +17,3 @@ pub use messages::report_of;
 pub use record::{Heard, Note, Port, Record, Volume};
 pub use say::{DataBlocks, Say, Says, refuse};
 pub use ways::{NOWHERE, is_nowhere};
-
-#[cfg(test)]
-mod tests;

@@ -4,6 +4,3 @@
 mod shape;
 
 pub use shape::{frame_shape, set_label};
-
-#[cfg(test)]
-mod tests;

@@ -6,8 +6,6 @@ mod address;
 mod bytes;
 mod edid;
 mod passing;
-#[cfg(test)]
-mod tests;
 
 pub use bytes::{EdidError, edid_from_bytes, edid_to_bytes};
 pub use edid::Edid;

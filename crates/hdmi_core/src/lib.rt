@@ -6,8 +6,6 @@ mod kind;
 mod phys;
 mod piece;
 mod sink;
-#[cfg(test)]
-mod tests;
 
 pub use kind::Kind;
 pub use phys::Phys;

@@ -8,8 +8,6 @@ mod ext;
 mod hdmi;
 mod raw;
 mod reading;
-#[cfg(test)]
-mod tests;
 
 pub use audio::with_audio;
 pub use block::{Block, BlockKind};

@@ -5,8 +5,6 @@ mod ddc;
 mod error;
 mod laws;
 mod learn;
-#[cfg(test)]
-mod tests;
 
 pub use ddc::Ddc;
 pub use error::DdcError;

@@ -15,6 +15,3 @@ pub use name::is_name;
 pub use plug::{AddError, Plug, PlugError, UnplugError};
 pub use port::PortEdidError;
 pub use tree::Tree;
-
-#[cfg(test)]
-mod tests;

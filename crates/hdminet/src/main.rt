@@ -2,17 +2,9 @@
 //! wire; writes frames and EDIDs as texts and bytes.
 #![tactic(auto)]
 
-mod choice;
-mod edid_text;
-mod fault;
-mod help;
-mod program;
-#[cfg(test)]
-mod tests;
-
-use fault::Fault;
 use hdmi_core::Writes;
-use program::{program, tell};
+use hdminet_program::Fault;
+use hdminet_program::program::{program, tell};
 use std::env;
 use std::process::ExitCode;
 

@@ -1,0 +1,17 @@
+//! Tests of the crates of EDIDs, of the tree and of DDC: worked values that no contract names.
+#![tactic(auto)]
+
+#[cfg(test)]
+mod bases;
+#[cfg(test)]
+mod blocks;
+#[cfg(test)]
+mod ddc;
+#[cfg(test)]
+mod extensions;
+#[cfg(test)]
+mod sinks;
+#[cfg(test)]
+mod texts;
+#[cfg(test)]
+mod trees;

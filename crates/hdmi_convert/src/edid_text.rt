@@ -1,0 +1,111 @@
+//! EDIDs from bytes to text, and from text to bytes in hex.
+ghost use Rattle.std.specs.Prelude.{◌≡◌, ◌↔◌, false, IsTrue};
+ghost use Rattle.hdmi_convert.specs.EdidText.{HexAnswers, TextAnswers, hex_line, is_hex_cut, is_text_cut};
+ghost use Rattle.hdmi_core.specs.Written.{WrittenLine};
+
+use hdmi_blocks::{EdidError, edid_from_bytes, edid_to_bytes};
+use hdmi_core::{Piece, Sink, WriteFault, write_line};
+use hdmi_edtext::{TextError, parse_text, write_text};
+use std::alloc::Global;
+use thiserror::Error;
+
+/// Why an EDID's text is not written.
+#[derive(Clone, Copy, Debug, Drop, Error, PartialEq, Eq)]
+pub enum EdidToTextError {
+    /// The bytes are no EDID. Nothing was written.
+    #[error("edid: {0}")]
+    Edid(EdidError),
+    /// A `put` took none. So many bytes of the text were written.
+    #[error("write fault after {0} bytes")]
+    Write(u128),
+}
+
+/// Why the bytes of an EDID's text are not written in hex.
+#[derive(Clone, Copy, Debug, Drop, Error, PartialEq, Eq)]
+pub enum TextToHexError {
+    /// On this line, from 1, another line would have to stand. Nothing was written.
+    #[error("text: syntax {0}")]
+    Syntax(usize),
+    /// A field of this line, from 1, is at fault. Nothing was written.
+    #[error("text: field {0}")]
+    Field(usize),
+    /// A `put` took none. So many digits were written.
+    #[error("write fault after {0} bytes")]
+    Write(u128),
+    /// Nothing was written.
+    #[error("no memory")]
+    Memory,
+}
+
+impl From<EdidError> for EdidToTextError {
+    ghost use Rattle.std.specs.Prelude.{◌≡◌};
+    ghost use Rattle.hdmi_convert.specs.declared.edid_text.EdidToTextError.{EdidToTextError};
+
+    ghost from_gives = { λ cause e. e ≡ EdidToTextError.Edid cause };
+
+    fn from(cause: EdidError) -> EdidToTextError {
+        EdidToTextError::Edid(cause)
+    }
+}
+
+impl From<TextError> for TextToHexError {
+    ghost use Rattle.std.specs.Prelude.{◌≡◌};
+    ghost use Rattle.hdmi_convert.specs.EdidText.{text_told};
+
+    ghost from_gives = { λ t e. e ≡ text_told t };
+
+    fn from(error: TextError) -> TextToHexError {
+        match error {
+            TextError::Syntax(line) => TextToHexError::Syntax(line),
+            TextError::Field(line) => TextToHexError::Field(line),
+            TextError::Memory => TextToHexError::Memory,
+        }
+    }
+}
+
+/// Writes the text of the EDID that some bytes spell.
+///
+/// # Errors
+///
+/// `Edid` with the first reason why they spell none: then nothing was written. `Write` where the sink takes no more:
+/// then the front of the text was written, as long as it tells.
+// An EDID and its text are large: the frame of the caller is kept free of them.
+#[inline(never)]
+pub fn edid_to_text<S: Sink>(bytes: &[u8], out: &mut S) -> Result<(), EdidToTextError>
+    ensures answers { TextAnswers (S.contents out.old) (S.contents out.new) (S.is_stuck out.old) (S.is_stuck out.new) bytes.now result }
+    ensures write { S.is_stuck out.old ≡ false → (IsTrue (is_text_cut result) ↔ IsTrue (S.is_stuck out.new)) }
+{
+    let edid = edid_from_bytes(bytes)?;
+    match write_text(&edid, out) {
+        Ok(()) => Ok(()),
+        Err(fault) => Err(EdidToTextError::Write(fault.count)),
+    }
+}
+
+// Writes bytes as one line of hex, and answers its length.
+fn write_hex_line<S: Sink>(bytes: &[u8], out: &mut S) -> Result<u128, WriteFault>
+    ensures { WrittenLine (S.contents out.old) (S.contents out.new) (S.is_stuck out.old) (S.is_stuck out.new) (hex_line bytes.now) result }
+{
+    write_line(out, &[Piece::Hex(bytes), Piece::Text("\n")])
+}
+
+/// Writes the bytes of the EDID that a text tells, as one line of lower-case hex.
+///
+/// # Errors
+///
+/// `Syntax` or `Field` with the first line that no EDID's text has there: then nothing was written. `Write` where the
+/// sink takes no more: then the front of the line was written, as long as it tells. Nothing takes memory today, so
+/// `Memory` does not come.
+// An EDID and its text are large: the frame of the caller is kept free of them.
+#[inline(never)]
+pub fn text_to_hex<S: Sink>(alloc: Global, text: &[u8], out: &mut S) -> Result<(), TextToHexError>
+    ensures answers { HexAnswers (S.contents out.old) (S.contents out.new) (S.is_stuck out.old) (S.is_stuck out.new) text.now result }
+    ensures write { S.is_stuck out.old ≡ false → (IsTrue (is_hex_cut result) ↔ IsTrue (S.is_stuck out.new)) }
+{
+    let edid = parse_text(alloc, text)?;
+    let bytes = edid_to_bytes(&edid);
+    match write_hex_line(&bytes, out) {
+        Ok(_) => Ok(()),
+        Err(fault) => Err(TextToHexError::Write(fault.count)),
+    }
+}

@@ -1,0 +1,96 @@
+//! Why the program did not do what it was asked.
+use hdmi_convert::{EdidToTextError, TextToHexError};
+use cec_mon::WatchError;
+use cec_run::emulate::EmulateError;
+use cec_step::step_run::StepRunError;
+use cec_text::{AssembleError, FrameLinesError};
+use std::alloc::AllocError;
+use std::io::{self, ErrorKind};
+use thiserror::Error;
+
+#[derive(Debug, Drop, Error)]
+pub enum Fault {
+    #[error("an argument is not UTF-8")]
+    NotUtf8,
+    #[error("input too long")]
+    TooLong,
+    #[error("read fault")]
+    Read,
+    #[error("no script line")]
+    NoScriptLine,
+    #[error("no steps line")]
+    NoStepsLine,
+    #[error(transparent)]
+    Emulate(#[from] EmulateError),
+    #[error("steps line {0}")]
+    Steps(u64),
+    #[error("line {line}: {cause}")]
+    Line { line: u64, cause: AssembleError },
+    #[error(transparent)]
+    Watch(#[from] WatchError),
+    #[error(transparent)]
+    EdidToText(#[from] EdidToTextError),
+    #[error(transparent)]
+    TextToHex(#[from] TextToHexError),
+    #[error("write fault after {0} bytes")]
+    Write(u128),
+    #[error("no memory")]
+    Memory(#[from(alloc)] AllocError),
+}
+
+impl From<FrameLinesError> for Fault {
+    fn from(error: FrameLinesError) -> Fault {
+        match error {
+            FrameLinesError::Line(fault) => Fault::Line {
+                line: fault.line,
+                cause: fault.cause,
+            },
+            FrameLinesError::Write(fault) => Fault::Write(fault.count),
+        }
+    }
+}
+
+impl From<StepRunError> for Fault {
+    fn from(error: StepRunError) -> Fault {
+        match error {
+            StepRunError::Run(error) => Fault::Emulate(error),
+            StepRunError::Steps(line) => Fault::Steps(line),
+        }
+    }
+}
+
+impl Fault {
+    /// Why the words of the command line were not to be had.
+    pub fn of_words(error: io::Error) -> Fault {
+        match error.kind() {
+            ErrorKind::OutOfMemory => Fault::Memory(AllocError),
+            _ => Fault::NotUtf8,
+        }
+    }
+
+    /// The exit status.
+    pub fn status(&self) -> u8 {
+        match self {
+            Fault::NotUtf8 => 2,
+            Fault::TooLong
+            | Fault::Read
+            | Fault::Write(_)
+            | Fault::Emulate(EmulateError::Write(_))
+            | Fault::Watch(WatchError::Write(_))
+            | Fault::EdidToText(EdidToTextError::Write(_))
+            | Fault::TextToHex(TextToHexError::Write(_)) => 3,
+            Fault::Memory(_)
+            | Fault::Emulate(EmulateError::Memory)
+            | Fault::Watch(WatchError::Memory)
+            | Fault::TextToHex(TextToHexError::Memory) => 4,
+            Fault::NoScriptLine
+            | Fault::NoStepsLine
+            | Fault::Steps(_)
+            | Fault::Emulate(_)
+            | Fault::Line { .. }
+            | Fault::Watch(_)
+            | Fault::EdidToText(_)
+            | Fault::TextToHex(_) => 1,
+        }
+    }
+}

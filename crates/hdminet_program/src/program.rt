@@ -1,0 +1,187 @@
+//! The program over a reader and two sinks.
+use crate::choice::{Asked, Choice, choose, is_memory};
+use hdmi_convert::{edid_to_text, text_to_hex};
+use crate::fault::Fault;
+use crate::help::EXPLAINED;
+use arrayvec::ArrayString;
+use cec_mon::watch;
+use cec_run::Totals;
+use cec_run::edges::emulate_edges;
+use cec_run::emulate::emulate;
+use cec_step::step_run::step_run;
+use cec_text::asm_lines;
+use cec_words::first_line;
+use clap::Error as CommandLineError;
+use hdmi_core::{Sink, put_all};
+use hdminet_help::{counts, explain};
+use std::alloc::{AllocError, Global};
+use std::fmt::Write;
+use std::io::Read;
+
+/// The longest input, in bytes.
+const LIMIT: usize = 1_048_576;
+
+// Reads all there is, up to the limit.
+fn read_input<R: Read>(alloc: Global, input: &mut R) -> Result<Vec<u8>, Fault> {
+    let mut bytes = Vec::new(alloc);
+    let mut buffer = [0u8; 4096];
+    for _ in 0..=LIMIT {
+        match input.read(&mut buffer) {
+            Ok(0) => return Ok(bytes),
+            Ok(count) => bytes.extend_from_slice(&buffer[..count])?,
+            Err(_) => return Err(Fault::Read),
+        }
+        if bytes.len() > LIMIT {
+            return Err(Fault::TooLong);
+        }
+    }
+    Err(Fault::TooLong)
+}
+
+// The text before the first line that reads so, and the text after it.
+fn parted<'a>(text: &'a [u8], mark: &[u8]) -> Option<(&'a [u8], &'a [u8])> {
+    let mut rest = text;
+    while let Some((line, after)) = first_line(rest) {
+        if line == mark {
+            return Some((&text[..text.len() - rest.len()], after));
+        }
+        rest = after;
+    }
+    None
+}
+
+// The text before the first line `script`, and the text after it.
+fn parts(text: &[u8]) -> Result<(&[u8], &[u8]), Fault> {
+    parted(text, b"script").ok_or(Fault::NoScriptLine)
+}
+
+// Does what is asked for. Of a run the result has the counts.
+fn perform<W: Sink>(
+    alloc: Global,
+    choice: Choice,
+    input: &[u8],
+    out: &mut W,
+) -> Result<Option<Totals>, Fault> {
+    match choice {
+        Choice::Run => {
+            let (topology, script) = parts(input)?;
+            return Ok(Some(emulate(alloc, topology, script, out)?));
+        }
+        Choice::Edges => {
+            let (topology, script) = parts(input)?;
+            return Ok(Some(emulate_edges(alloc, topology, script, out)?));
+        }
+        Choice::Step => {
+            let (topology, rest) = parts(input)?;
+            let (script, steps) = parted(rest, b"steps").ok_or(Fault::NoStepsLine)?;
+            step_run(alloc, topology, script, steps, out)?;
+        }
+        Choice::Asm => asm_lines(input, out)?,
+        Choice::Mon => watch(alloc, input, out)?,
+        Choice::EdidToText => edid_to_text(input, out)?,
+        Choice::TextToHex => text_to_hex(alloc, input, out)?,
+    }
+    Ok(None)
+}
+
+/// Writes the line of a fault, and returns its exit status.
+pub fn tell<E: Sink>(fault: &Fault, err: &mut E) -> u8 {
+    let mut text = ArrayString::<256>::new();
+    let _ = writeln!(text, "hdminet: {fault}");
+    let _ = put_all(err, text.as_bytes());
+    fault.status()
+}
+
+// What follows the line of a fault with `--explain`.
+fn explanation(
+    alloc: Global,
+    choice: Choice,
+    fault: &Fault,
+    input: &[u8],
+) -> Result<String, AllocError> {
+    let line = format!(in alloc; "{fault}")?;
+    explain(alloc, choice.input(), line.as_str(), input)
+}
+
+// Writes lines that only help. Where memory runs out there are none.
+fn add_help<E: Sink>(text: Result<String, AllocError>, err: &mut E) {
+    if let Ok(text) = text {
+        let _ = put_all(err, text.as_bytes());
+    }
+}
+
+// Writes the line of a fault, and what follows it.
+fn report<E: Sink>(alloc: Global, asked: Asked, fault: &Fault, input: &[u8], err: &mut E) -> u8 {
+    let status = tell(fault, err);
+    if asked.explains {
+        add_help(explanation(alloc, asked.choice, fault, input), err);
+    }
+    status
+}
+
+// Shows why a command line is refused, or the help that it asks for. Answers the exit status.
+fn show_refused<W: Sink, E: Sink>(
+    alloc: Global,
+    refused: &CommandLineError,
+    out: &mut W,
+    err: &mut E,
+) -> u8 {
+    if is_memory(refused) {
+        return tell(&Fault::Memory(AllocError), err);
+    }
+    let Ok(text) = format!(in alloc; "{refused}") else {
+        return tell(&Fault::Memory(AllocError), err);
+    };
+    if refused.use_stderr() {
+        let _ = put_all(err, text.as_bytes());
+        return 2;
+    }
+    match put_all(out, text.as_bytes()) {
+        Ok(()) => 0,
+        Err(fault) => tell(&Fault::Write(fault.count), err),
+    }
+}
+
+// Whether `--explain` is one of the words of a refused command line.
+fn has_explain(words: &[String]) -> bool {
+    for word in words {
+        if word.as_str() == "--explain" {
+            return true;
+        }
+    }
+    false
+}
+
+/// The whole program. `words` has the program's name first. It returns the exit status: 0 done, 1 input
+/// refused, 2 command line refused, 3 a read or write fault or input past its limit, 4 no memory.
+pub fn program<R: Read, W: Sink, E: Sink>(
+    alloc: Global,
+    words: Vec<String>,
+    input: &mut R,
+    out: &mut W,
+    err: &mut E,
+) -> u8 {
+    let asked = match choose(alloc, &words) {
+        Ok(asked) => asked,
+        Err(refused) => {
+            let status = show_refused(alloc, &refused, out, err);
+            if status == 2 && has_explain(&words) {
+                let _ = put_all(err, EXPLAINED.as_bytes());
+            }
+            return status;
+        }
+    };
+    let input = match read_input(alloc, input) {
+        Ok(input) => input,
+        Err(fault) => return report(alloc, asked, &fault, b"", err),
+    };
+    match perform(alloc, asked.choice, &input, out) {
+        Ok(Some(totals)) if asked.explains => {
+            let line = counts(alloc, totals.rounds, totals.complete, totals.refused);
+            add_help(line, err);
+            0
+        }
+        Ok(_) => 0,
+        Err(fault) => report(alloc, asked, &fault, &input, err),
+    }
+}

@@ -1,0 +1,9 @@
+//! Tests of the texts of frames, topologies and scripts: texts and bytes, written by hand from the standard's tables.
+#![tactic(auto)]
+
+#[cfg(test)]
+mod scripts;
+#[cfg(test)]
+mod shapes;
+#[cfg(test)]
+mod texts;
