@@ -16,3 +16,5 @@ pub use stepper::{StepError, Stepper};
 
 #[cfg(test)]
 mod tests;
+#[cfg(test)]
+mod writer_tests;

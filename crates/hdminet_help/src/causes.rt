@@ -76,7 +76,7 @@ const SCRIPT: [Row; 8] = [
 
 const STEPS: [Row; 1] = [(
     "",
-    "a line is `edge`, `round`, `until opcode XX`, `until device NAME`, `until break` or `show NAME`",
+    "XX is an opcode, two hex digits in lower case; NAME has a `device` line in the topology; words stand one space apart",
 )];
 
 const LINES: [Row; 7] = [

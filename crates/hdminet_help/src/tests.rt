@@ -322,6 +322,75 @@ const EDID_TEXTS: [Case; 3] = [
     ),
 ];
 
+const STEPS: [Case; 7] = [
+    (
+        b"device lounge tv 4\nscript\nend 5\nsteps\nedge\nedges\n",
+        "steps line 2",
+        "  line 6: edges
+          ^^^^^
+  a line here reads `edge`, `round`, `until opcode XX`, `until device NAME`, `until break`, `show NAME`
+  `edges`: did you mean `edge`?
+  XX is an opcode, two hex digits in lower case; NAME has a `device` line in the topology; words stand one space apart
+",
+    ),
+    (
+        b"device lounge tv 4\nscript\nend 5\nsteps\nuntil opcode 8F\n",
+        "steps line 1",
+        "  line 5: until opcode 8F
+                       ^^
+  a line here reads `until opcode XX`
+  XX is an opcode, two hex digits in lower case; NAME has a `device` line in the topology; words stand one space apart
+",
+    ),
+    (
+        b"device lounge tv 4\nscript\nend 5\nsteps\nuntil devise lounge\n",
+        "steps line 1",
+        "  line 5: until devise lounge
+                ^^^^^^
+  a line here reads `until opcode XX`, `until device NAME`, `until break`
+  `devise`: did you mean `device`?
+  XX is an opcode, two hex digits in lower case; NAME has a `device` line in the topology; words stand one space apart
+",
+    ),
+    (
+        b"device lounge tv 4\nscript\nend 5\nsteps\nuntil device lonuge\n",
+        "steps line 1",
+        "  line 5: until device lonuge
+                       ^^^^^^
+  a line here reads `until device NAME`
+  `lonuge`: did you mean `lounge`?
+  XX is an opcode, two hex digits in lower case; NAME has a `device` line in the topology; words stand one space apart
+",
+    ),
+    (
+        b"device lounge tv 4\nscript\nend 5\nsteps\nshow lounge2\n",
+        "steps line 1",
+        "  line 5: show lounge2
+               ^^^^^^^
+  a line here reads `show NAME`
+  `lounge2`: did you mean `lounge`?
+  XX is an opcode, two hex digits in lower case; NAME has a `device` line in the topology; words stand one space apart
+",
+    ),
+    (
+        b"device lounge tv 4\nscript\nend 5\nsteps\nround 2\n",
+        "steps line 1",
+        "  line 5: round 2
+                ^
+  a line here reads `round`
+  XX is an opcode, two hex digits in lower case; NAME has a `device` line in the topology; words stand one space apart
+",
+    ),
+    (
+        b"device lounge tv 4\nscript\nend 5\nsteps\nuntil\n",
+        "steps line 1",
+        "  line 5: until
+  a line here reads `until opcode XX`, `until device NAME`, `until break`
+  XX is an opcode, two hex digits in lower case; NAME has a `device` line in the topology; words stand one space apart
+",
+    ),
+];
+
 fn are_explained(rt: &impl Abort, alloc: Global, what: Input, cases: &[Case]) -> Result<(), Fail> {
     for (input, fault, want) in cases {
         let text = explain(alloc, what, fault, input)?;
@@ -334,6 +403,7 @@ fn are_explained(rt: &impl Abort, alloc: Global, what: Input, cases: &[Case]) ->
 fn faults_are_explained(rt: HostRuntime) -> Result<(), Fail> {
     let alloc = rt.alloc();
     are_explained(&rt, alloc, Input::Network, NETWORKS.as_slice())?;
+    are_explained(&rt, alloc, Input::Network, STEPS.as_slice())?;
     are_explained(&rt, alloc, Input::Lines, FRAMES.as_slice())?;
     are_explained(&rt, alloc, Input::EdidBytes, EDIDS.as_slice())?;
     are_explained(&rt, alloc, Input::EdidText, EDID_TEXTS.as_slice())
