@@ -485,6 +485,39 @@ fn a_long_line_is_cut(rt: HostRuntime) -> Result<(), Fail> {
     Ok(())
 }
 
+/// Lines of the words of topologies and scripts, written by hand from the table of keys and the lists of causes.
+const WORDS: &str = "  play           player recorder combo
+  stop           player recorder combo
+  eject          player recorder combo
+  load           player recorder combo
+  menu           player recorder combo
+  power          tv amp player recorder switch combo
+  volume-up      tv amp
+  volume-down    tv amp
+  mute           tv amp
+  port N         switch
+  watch PA       tv
+  language LLL   tv
+  audio on       tv
+  audio off      tv
+  arc on         tv amp
+  arc off        tv amp
+  remote D CODE  tv
+  CODE           select up down left right root-menu exit digit-0 digit-1 digit-2 digit-3 digit-4
+                 digit-5 digit-6 digit-7 digit-8 digit-9 power volume-up volume-down mute play stop
+                 pause power-off power-on
+and the causes of faults
+  of a topology  word number name full second-root no-root port-range port-taken not-loose loop hex
+  of a script    word number name width order close too-many end
+";
+
+#[test]
+fn the_words_of_scripts_are_listed(rt: HostRuntime) -> Result<(), Fail> {
+    let text = run_words(rt.alloc())?;
+    assert_eq!(rt; text.as_str(), WORDS);
+    Ok(())
+}
+
 #[test]
 fn counts_are_said(rt: HostRuntime) -> Result<(), Fail> {
     let line = counts(rt.alloc(), 4, 3, 1)?;
