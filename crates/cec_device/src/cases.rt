@@ -6,6 +6,7 @@ use cec_feature::Record;
 use cec_frame::{Addr, Frame};
 use cec_opcode::{DeckInfo, Triple, UserControl};
 use hdmi_core::{Kind, Phys};
+use std::alloc::{AllocError, Global};
 use std::process::Abort;
 use std::test::Fail;
 
@@ -171,27 +172,6 @@ fn set_all(record: &mut Record, words: &str) -> Result<(), Fail> {
     Ok(())
 }
 
-fn phys_bytes(address: Option<Phys>) -> [u8; 3] {
-    match address {
-        None => [0; 3],
-        Some(address) => [1, address.high, address.low],
-    }
-}
-
-fn byte_or_none(byte: Option<u8>) -> [u8; 2] {
-    match byte {
-        None => [0; 2],
-        Some(byte) => [1, byte],
-    }
-}
-
-fn note_bytes(note: Option<Note>) -> [u8; 4] {
-    match note {
-        None => [0; 4],
-        Some(note) => [1, note.from.value(), note.opcode, note.first],
-    }
-}
-
 fn switches(record: &Record) -> [bool; 5] {
     [
         record.power,
@@ -202,51 +182,64 @@ fn switches(record: &Record) -> [bool; 5] {
     ]
 }
 
-fn compare(rt: &impl Abort, record: &Record, wanted: &Record, case: &str) {
-    assert_eq!(rt; switches(record), switches(wanted), "{case}");
-    assert_eq!(rt;
-        phys_bytes(record.active),
-        phys_bytes(wanted.active),
-        "active: {case}"
-    );
-    assert_eq!(rt;
-        phys_bytes(record.path),
-        phys_bytes(wanted.path),
-        "path: {case}"
-    );
-    assert_eq!(rt; record.deck.byte(), wanted.deck.byte(), "deck: {case}");
-    assert_eq!(rt;
-        record.volume.value(),
-        wanted.volume.value(),
-        "volume: {case}"
-    );
-    assert_eq!(rt;
-        record.selected.map(|port| port.value()),
-        wanted.selected.map(|port| port.value()),
-        "sel: {case}"
-    );
-    assert!(rt;
-        record.language.first == wanted.language.first
-            && record.language.second == wanted.language.second
-            && record.language.third == wanted.language.third,
-        "lang: {case}"
-    );
-    assert_eq!(rt; record.osd.as_slice(), wanted.osd.as_slice(), "osd: {case}");
-    assert_eq!(rt;
-        byte_or_none(record.held),
-        byte_or_none(wanted.held),
-        "held: {case}"
-    );
-    assert_eq!(rt;
-        note_bytes(record.heard),
-        note_bytes(wanted.heard),
-        "heard: {case}"
-    );
-    assert_eq!(rt;
-        record.sub.map(|address| address.value()),
-        wanted.sub.map(|address| address.value()),
-        "sub: {case}"
-    );
+fn note_bytes(note: Option<Note>) -> Option<[u8; 3]> {
+    match note {
+        None => None,
+        Some(note) => Some([note.from.value(), note.opcode, note.first]),
+    }
+}
+
+fn selected(record: &Record) -> Option<u8> {
+    record.selected.map(|port| port.value())
+}
+
+fn sub(record: &Record) -> Option<u8> {
+    record.sub.map(|address| address.value())
+}
+
+fn sources(alloc: Global, record: &Record) -> Result<String, AllocError> {
+    format!(in alloc;
+        "active {:?} path {:?} sel {:?}",
+        record.active,
+        record.path,
+        selected(record)
+    )
+}
+
+fn playing(alloc: Global, record: &Record) -> Result<String, AllocError> {
+    let (deck, volume) = (record.deck.byte(), record.volume.value());
+    format!(in alloc;
+        "deck {deck} volume {volume} osd {:?}",
+        record.osd.as_slice()
+    )
+}
+
+fn language(alloc: Global, record: &Record) -> Result<String, AllocError> {
+    let Triple {
+        first,
+        second,
+        third,
+    } = record.language;
+    format!(in alloc; "lang {first} {second} {third}")
+}
+
+fn heard(alloc: Global, record: &Record) -> Result<String, AllocError> {
+    let heard = note_bytes(record.heard);
+    format!(in alloc;
+        "held {:?} heard {heard:?} sub {:?}",
+        record.held,
+        sub(record)
+    )
+}
+
+// All fields of a record.
+fn record_text(alloc: Global, record: &Record) -> Result<String, AllocError> {
+    let (sources, playing) = (sources(alloc, record)?, playing(alloc, record)?);
+    let (language, heard) = (language(alloc, record)?, heard(alloc, record)?);
+    format!(in alloc;
+        "{:?} {sources} {playing} {language} {heard}",
+        switches(record)
+    )
 }
 
 fn key_of(words: &str) -> Result<Key, Fail> {
@@ -312,37 +305,56 @@ pub(crate) fn says(
     Ok(())
 }
 
+// What a case says of a kind: the record before, what is done, and what has changed after it.
+#[derive(Clone, Copy)]
+struct Case<'a> {
+    before: &'a str,
+    doing: &'a str,
+    after: &'a str,
+    frames: &'a str,
+}
+
+fn case_of(line: &str) -> Option<(&str, Case<'_>)> {
+    let (kinds, rest) = line.split_once(" | ")?;
+    let (before, rest) = rest.split_once(" | ")?;
+    let (doing, rest) = rest.split_once(" | ")?;
+    let (after, frames) = rest.split_once(" | ")?;
+    let case = Case {
+        before,
+        doing,
+        after,
+        frames,
+    };
+    Some((kinds, case))
+}
+
 fn check_kind(
     rt: &impl Abort,
+    alloc: Global,
     kind: Kind,
-    before: &str,
-    doing: &str,
-    after: &str,
-    frames: &str,
-    case: &str,
+    case: Case<'_>,
+    line: &str,
 ) -> Result<(), Fail> {
     let own = own_address(kind);
     let mut device = settled(kind);
-    set_all(&mut device.record, before)?;
+    set_all(&mut device.record, case.before)?;
     let mut wanted = device.record.copy();
-    let is_refused = after == "refused";
+    let is_refused = case.after == "refused";
     if !is_refused {
-        set_all(&mut wanted, after)?;
+        set_all(&mut wanted, case.after)?;
     }
-    assert_eq!(rt; act(&mut device, doing, own)?, !is_refused, "{case}");
-    compare(rt, &device.record, &wanted, case);
-    says(rt, &mut device, frames, own, case)
+    assert_eq!(rt; act(&mut device, case.doing, own)?, !is_refused, "{line}");
+    let told = record_text(alloc, &device.record)?;
+    assert_eq!(rt; told, record_text(alloc, &wanted)?, "{line}");
+    says(rt, &mut device, case.frames, own, line)
 }
 
 /// Each line is a case that holds for each of its kinds.
-pub(crate) fn check(rt: &impl Abort, cases: &str) -> Result<(), Fail> {
-    for case in cases.lines() {
-        let (kinds, rest) = case.split_once(" | ").ok_or("no kinds")?;
-        let (before, rest) = rest.split_once(" | ").ok_or("nothing before")?;
-        let (doing, rest) = rest.split_once(" | ").ok_or("nothing done")?;
-        let (after, frames) = rest.split_once(" | ").ok_or("nothing after")?;
+pub(crate) fn check(rt: &impl Abort, alloc: Global, cases: &str) -> Result<(), Fail> {
+    for line in cases.lines() {
+        let (kinds, case) = case_of(line).ok_or("no case")?;
         for kind in kinds.split('+') {
-            check_kind(rt, kind_of(kind)?, before, doing, after, frames, case)?;
+            check_kind(rt, alloc, kind_of(kind)?, case, line)?;
         }
     }
     Ok(())

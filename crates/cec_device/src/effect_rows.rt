@@ -292,7 +292,7 @@ tv+amp+player+recorder+combo | - | 3@ 01 02 | - | @3 00 01 00";
 #[test]
 fn each_message_has_its_effect(rt: HostRuntime) -> Result<(), Fail> {
     for cases in [DIRECT, PRESSED, BROADCAST, IGNORED, BOX, UNKNOWN] {
-        check(&rt, cases)?;
+        check(&rt, rt.alloc(), cases)?;
     }
     Ok(())
 }

@@ -100,7 +100,7 @@ amp+player+recorder+combo+switch | - | release remote 4 44 | refused | -";
 #[test]
 fn each_key_does_what_it_says(rt: HostRuntime) -> Result<(), Fail> {
     for cases in [PRESSES, RELEASES, REFUSED] {
-        check(&rt, cases)?;
+        check(&rt, rt.alloc(), cases)?;
     }
     Ok(())
 }

@@ -49,40 +49,68 @@ player | - | 04 00 41 00 | - | -";
 
 #[test]
 fn devices_answer(rt: HostRuntime) -> Result<(), Fail> {
-    check(&rt, ROWS)
+    check(&rt, rt.alloc(), ROWS)
 }
 
-#[test]
-fn a_queue_fills(rt: HostRuntime) -> Result<(), Fail> {
+// The front frame has this fate.
+fn end(device: &mut Device<16>, fate: Fate) -> Result<(), Fail> {
+    if device.queue_front().is_none() {
+        return Err(Fail::from("nothing queued"));
+    }
+    device.sent(fate, 0);
+    Ok(())
+}
+
+fn submit(device: &mut Device<16>, bytes: &[u8], at: u64) -> Result<Option<SubmitError>, Fail> {
+    Ok(device.submit(Frame::new(bytes)?, at).err())
+}
+
+// A player that was asked for its name once more than its queue holds.
+fn filled() -> Result<Device<16>, Fail> {
     let mut player = settled(Kind::Player);
     for _ in 0..17 {
         follow(&mut player, &[0x04, 0x46])?;
     }
+    Ok(player)
+}
+
+#[test]
+fn a_queue_fills(rt: HostRuntime) -> Result<(), Fail> {
+    let mut player = filled()?;
     assert_eq!(rt; player.queue_len(), 16);
     assert_eq!(rt; player.dropped(), 1);
     let front = player.queue_front().ok_or("nothing queued")?;
     assert_eq!(rt; front.bytes(), [0x40, 0x47, b'p', b'1'].as_slice());
     assert_eq!(rt; player.submit(front, 0), Err(SubmitError::QueueFull));
-    end_front(&rt, &mut player);
-    let copy = player.copy();
-    assert_eq!(rt; copy.queue_len(), 15);
+    Ok(())
+}
+
+#[test]
+fn a_full_queue_empties(rt: HostRuntime) -> Result<(), Fail> {
+    let mut player = filled()?;
+    end(&mut player, Fate::Delivered)?;
+    assert_eq!(rt; player.copy().queue_len(), 15);
     player.key(Key::Play, true, 0)?;
     assert_eq!(rt; player.queue_len(), 16);
     assert_eq!(rt; player.dropped(), 2);
     for _ in 0..15 {
-        end_front(&rt, &mut player);
+        end(&mut player, Fate::Delivered)?;
     }
     says(&rt, &mut player, "40 04", 4, "the last one")
 }
 
-// The front frame is delivered.
-fn end_front(rt: &impl Abort, device: &mut Device<16>) {
-    assert!(rt; device.queue_front().is_some());
-    device.sent(Fate::Delivered, 0);
+// The device polls so, and the poll is acknowledged.
+fn finds_taken(rt: &impl Abort, device: &mut Device<16>, poll: u8) -> Result<(), Fail> {
+    assert!(rt; device.held() == [None, None]);
+    assert_eq!(rt; device.ready_at(), Some(500));
+    let front = device.queue_front().ok_or("no poll")?;
+    assert_eq!(rt; front.bytes(), [poll].as_slice());
+    device.sent(Fate::Delivered, 500);
+    Ok(())
 }
 
 #[test]
-fn fates_are_told(rt: HostRuntime) -> Result<(), Fail> {
+fn a_player_finds_no_address(rt: HostRuntime) -> Result<(), Fail> {
     let mut player: Device<16> = Device::new(Kind::Player, b"p1", 0);
     player.join(
         3,
@@ -92,62 +120,63 @@ fn fates_are_told(rt: HostRuntime) -> Result<(), Fail> {
         },
         500,
     );
-    for address in [4, 8, 11] {
-        assert!(rt; player.held() == [None, None]);
-        assert_eq!(rt; player.ready_at(), Some(500));
-        let Some(poll) = player.queue_front() else {
-            panic!(rt; "no poll")
-        };
-        assert_eq!(rt; poll.bytes(), [address * 17].as_slice());
-        player.sent(Fate::Delivered, 500);
-    }
+    finds_taken(&rt, &mut player, 0x44)?;
+    finds_taken(&rt, &mut player, 0x88)?;
+    finds_taken(&rt, &mut player, 0xbb)?;
     assert!(rt; player.held() == [Some(Addr::new(15)), None]);
     assert!(rt; player.queue_front().is_none());
+    Ok(())
+}
+
+#[test]
+fn a_settled_player(rt: HostRuntime) -> Result<(), Fail> {
     let mut player = settled(Kind::Player);
     assert!(rt; player.holds(Addr::new(4)));
     assert!(rt; player.is_on_wire() && !player.is_allocating());
     assert!(rt; player.class() == FreeTime::PresentInitiator);
-    assert_eq!(rt;
-        player.submit(Frame::new(&[0x84, 0x04])?, 0),
-        Err(SubmitError::NoAddress)
-    );
-    assert_eq!(rt;
-        player.submit(Frame::new(&[0x44, 0x04])?, 0),
-        Err(SubmitError::OwnAddress)
-    );
-    player.submit(Frame::new(&[0x48, 0x46])?, 900)?;
+    let refused = submit(&mut player, &[0x84, 0x04], 0)?;
+    assert_eq!(rt; refused, Some(SubmitError::NoAddress));
+    let refused = submit(&mut player, &[0x44, 0x04], 0)?;
+    assert_eq!(rt; refused, Some(SubmitError::OwnAddress));
+    Ok(())
+}
+
+// The front frame loses once, which is no attempt, and then fails once.
+fn tries(rt: &impl Abort, device: &mut Device<16>) -> Result<(), Fail> {
+    assert_eq!(rt; device.ready_at(), Some(900));
+    end(device, Fate::Lost)?;
+    assert_eq!(rt; device.class().micros(), 12_000);
+    end(device, Fate::Broken)
+}
+
+#[test]
+fn a_frame_has_six_attempts(rt: HostRuntime) -> Result<(), Fail> {
+    let mut player = settled(Kind::Player);
+    assert_eq!(rt; submit(&mut player, &[0x48, 0x46], 900)?, None);
     for _ in 0..6 {
-        assert_eq!(rt; player.ready_at(), Some(900));
-        assert!(rt; player.queue_front().is_some());
-        player.sent(Fate::Lost, 0);
-        assert_eq!(rt; player.class().micros(), 12_000);
-        assert!(rt; player.queue_front().is_some());
-        player.sent(Fate::Broken, 0);
+        tries(&rt, &mut player)?;
     }
     assert!(rt; player.queue_front().is_none());
     assert_eq!(rt; player.dropped(), 0);
     player.waited();
     assert_eq!(rt; player.class().micros(), 12_000);
+    Ok(())
+}
+
+#[test]
+fn a_player_that_has_left(rt: HostRuntime) -> Result<(), Fail> {
+    let mut player = settled(Kind::Player);
     player.leave();
     assert!(rt; !player.is_on_wire() && player.held() == [None, None]);
-    assert_eq!(rt;
-        player.submit(Frame::new(&[0x48, 0x46])?, 0),
-        Err(SubmitError::OffWire)
-    );
+    let refused = submit(&mut player, &[0x48, 0x46], 0)?;
+    assert_eq!(rt; refused, Some(SubmitError::OffWire));
     assert_eq!(rt; player.key(Key::Play, true, 0), Err(KeyError::OffWire));
     assert_eq!(rt; player.key(Key::Menu, false, 0), Err(KeyError::OffWire));
     assert_eq!(rt; player.name(), b"p1".as_slice());
-    assert_eq!(rt;
-        (player.kind(), player.ports(), player.number()),
-        (Kind::Player, 3, 0)
-    );
-    assert_eq!(rt;
-        player.phys(),
-        Phys {
-            high: 0xff,
-            low: 0xff
-        }
-    );
+    assert_eq!(rt; player.kind(), Kind::Player);
+    assert_eq!(rt; (player.ports(), player.number()), (3, 0));
+    let phys = player.phys();
+    assert_eq!(rt; (phys.high, phys.low), (0xff, 0xff));
     Ok(())
 }
 
@@ -174,36 +203,51 @@ const FREE: Fate = Fate::Unacked;
 
 const TAKEN: Fate = Fate::Delivered;
 
+fn holds(rt: &impl Abort, device: &Device<16>, first: u8, second: Option<u8>) {
+    let [one, other] = device.held();
+    assert_eq!(rt; one.map(|address| address.value()), Some(first));
+    assert_eq!(rt; other.map(|address| address.value()), second);
+}
+
 #[test]
-fn a_box_takes_two_addresses(rt: HostRuntime) -> Result<(), Fail> {
-    let one = Some(Addr::new(1));
-    let four = Some(Addr::new(4));
-    let none = Some(Addr::new(15));
-    let frame = Frame::new(&[0x34, 0x46])?;
+fn a_box_with_one_address(rt: HostRuntime) -> Result<(), Fail> {
     let mut half = box_after(&[FREE]);
-    assert!(rt; half.held() == [one, None] && half.is_allocating());
+    holds(&rt, &half, 1, None);
+    assert!(rt; half.is_allocating());
     assert!(rt; half.holds(Addr::new(1)) && !half.holds(Addr::new(4)));
-    assert_eq!(rt; half.submit(frame.copy(), 0), Err(SubmitError::NoAddress));
+    let refused = submit(&mut half, &[0x34, 0x46], 0)?;
+    assert_eq!(rt; refused, Some(SubmitError::NoAddress));
     follow(&mut half, &[0x31, 0x46])?;
     assert_eq!(rt; half.queue_len(), 0);
+    Ok(())
+}
+
+#[test]
+fn a_box_with_two_addresses(rt: HostRuntime) -> Result<(), Fail> {
     let mut whole = box_after(&[FREE, FREE]);
-    assert!(rt; whole.held() == [one, four] && !whole.is_allocating());
-    assert_eq!(rt; whole.submit(frame.copy(), 0), Err(SubmitError::NoAddress));
-    assert_eq!(rt;
-        whole.submit(Frame::new(&[0x14, 0x46])?, 0),
-        Err(SubmitError::OwnAddress)
-    );
-    assert_eq!(rt;
-        whole.submit(Frame::new(&[0x41, 0x46])?, 0),
-        Err(SubmitError::OwnAddress)
-    );
-    says(&rt, &mut whole, "1f 84 10 00 01, 4f 84 10 00 04", 4, "both")?;
+    holds(&rt, &whole, 1, Some(4));
+    assert!(rt; !whole.is_allocating());
+    let refused = submit(&mut whole, &[0x34, 0x46], 0)?;
+    assert_eq!(rt; refused, Some(SubmitError::NoAddress));
+    let refused = submit(&mut whole, &[0x14, 0x46], 0)?;
+    assert_eq!(rt; refused, Some(SubmitError::OwnAddress));
+    let refused = submit(&mut whole, &[0x41, 0x46], 0)?;
+    assert_eq!(rt; refused, Some(SubmitError::OwnAddress));
+    says(&rt, &mut whole, "1f 84 10 00 01, 4f 84 10 00 04", 4, "both")
+}
+
+#[test]
+fn a_box_whose_player_has_an_address(rt: HostRuntime) -> Result<(), Fail> {
     let mut player = box_after(&[TAKEN, TAKEN, TAKEN, TAKEN, FREE]);
-    assert!(rt; player.held() == [none, Some(Addr::new(8))]);
-    player.submit(Frame::new(&[0xf0, 0x46])?, 0)?;
-    says(&rt, &mut player, "8f 84 10 00 04, f0 46", 8, "the player")?;
+    holds(&rt, &player, 15, Some(8));
+    assert_eq!(rt; submit(&mut player, &[0xf0, 0x46], 0)?, None);
+    says(&rt, &mut player, "8f 84 10 00 04, f0 46", 8, "the player")
+}
+
+#[test]
+fn a_box_whose_recorder_has_an_address(rt: HostRuntime) -> Result<(), Fail> {
     let mut recorder = box_after(&[TAKEN, FREE, TAKEN, TAKEN, TAKEN]);
-    assert!(rt; recorder.held() == [Some(Addr::new(2)), none]);
+    holds(&rt, &recorder, 2, Some(15));
     recorder.key(Key::Eject, true, 0)?;
     recorder.key(Key::Menu, true, 0)?;
     says(
@@ -212,11 +256,20 @@ fn a_box_takes_two_addresses(rt: HostRuntime) -> Result<(), Fail> {
         "2f 84 10 00 01, 20 8e 00",
         2,
         "the recorder",
-    )?;
+    )
+}
+
+#[test]
+fn a_box_without_an_address(rt: HostRuntime) -> Result<(), Fail> {
     let mut neither = box_after(&[TAKEN; 6]);
-    assert!(rt; neither.held() == [none, none]);
+    holds(&rt, &neither, 15, Some(15));
     neither.key(Key::Menu, true, 0)?;
     assert_eq!(rt; neither.queue_len(), 0);
+    Ok(())
+}
+
+#[test]
+fn a_box_too_far_below(rt: HostRuntime) {
     let mut below: Device<16> = Device::new(Kind::Combo, b"b", 0);
     below.join(
         1,
@@ -226,7 +279,6 @@ fn a_box_takes_two_addresses(rt: HostRuntime) -> Result<(), Fail> {
         },
         0,
     );
-    assert!(rt; below.held() == [none, none]);
+    holds(&rt, &below, 15, Some(15));
     assert_eq!(rt; below.queue_len(), 0);
-    Ok(())
 }

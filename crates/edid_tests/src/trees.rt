@@ -1,6 +1,10 @@
+//! Trees: what is refused and in which order, addresses, what ports pass on.
 use hdmi_blocks::{Edid, edid_from_bytes, edid_to_bytes};
 use hdmi_core::{Kind, Phys};
-use hdmi_topo::{AddError, PlugError, PortEdidError, Tree, UnplugError};
+use hdmi_topo::{AddError, PortEdidError, Tree};
+use std::alloc::Global;
+use std::fmt::Debug;
+use std::process::Abort;
 use std::test::Fail;
 
 /// The base block of a television of Samsung, with one extension to follow.
@@ -30,70 +34,130 @@ fn both_blocks() -> [u8; 256] {
     bytes
 }
 
+/// What is done with a tree or asked of it, a line each, and what comes of it; `-` where it is done.
+const REFUSALS: &str = "\
+add tv tv 4 => -
+add tv2 tv 1 => SecondRoot
+add tv tv 1 => Name
+add 2nd player 0 => Name
+add p1 player 0 => -
+add p2 player 0 => -
+add a switch 2 => -
+add b switch 2 => -
+plug 1 0 5 => PortRange
+plug 1 0 0 => PortRange
+plug 1 0 1 => -
+plug 2 0 1 => PortTaken
+plug 1 0 2 => NotLoose
+plug 0 3 1 => NotLoose
+plug 3 4 1 => -
+plug 4 3 1 => Loop
+plug 4 4 2 => Loop
+unplug 2 => NotPlugged
+address 3 => None
+unplug 1 => -
+wire 1 => false
+";
+
+const CHAIN: &str = "\
+add tv tv 1 => -
+add s1 switch 1 => -
+add s2 switch 1 => -
+add s3 switch 1 => -
+add s4 switch 1 => -
+add p1 player 0 => -
+plug 1 0 1 => -
+plug 2 1 1 => -
+plug 3 2 1 => -
+plug 4 3 1 => -
+plug 5 4 1 => -
+address 0 => Some(Phys { high: 0, low: 0 })
+address 1 => Some(Phys { high: 16, low: 0 })
+address 4 => Some(Phys { high: 17, low: 17 })
+address 5 => Some(Phys { high: 255, low: 255 })
+wire 5 => true
+";
+
+fn kind_of(word: &str) -> Result<Kind, Fail> {
+    match word {
+        "tv" => Ok(Kind::Tv),
+        "player" => Ok(Kind::Player),
+        "switch" => Ok(Kind::Switch),
+        _ => Err(Fail::from("no kind")),
+    }
+}
+
+fn number(word: Option<&str>) -> Result<u8, Fail> {
+    Ok(u8::from_str_radix(word.ok_or("no number")?, 10)?)
+}
+
+fn done<E: Debug + Drop>(alloc: Global, answer: Result<(), E>) -> Result<String, Fail> {
+    match answer {
+        Ok(()) => Ok(String::from_str(alloc, "-")?),
+        Err(error) => Ok(format!(in alloc; "{error:?}")?),
+    }
+}
+
+fn add(tree: &mut Tree<15>, name: &str, kind: Kind, ports: u8) -> Result<(), AddError> {
+    tree.add(name.as_bytes(), kind, ports.min(15))
+}
+
+// One step or question, and what comes of it.
+fn take(alloc: Global, tree: &mut Tree<15>, line: &str) -> Result<String, Fail> {
+    let mut words = line.split(' ');
+    let verb = words.next().ok_or("no verb")?;
+    if verb == "add" {
+        let name = words.next().ok_or("no name")?;
+        let kind = kind_of(words.next().ok_or("no kind")?)?;
+        let ports = number(words.next())?;
+        return done(alloc, add(tree, name, kind, ports));
+    }
+    let device = usize::from(number(words.next())?);
+    if device >= tree.count() {
+        return Err(Fail::from("no device"));
+    }
+    match verb {
+        "plug" => {
+            let parent = usize::from(number(words.next())?);
+            let port = number(words.next())?;
+            if parent >= tree.count() {
+                return Err(Fail::from("no parent"));
+            }
+            done(alloc, tree.plug(device, parent, port))
+        }
+        "unplug" => done(alloc, tree.unplug(device)),
+        "address" => Ok(format!(in alloc; "{:?}", tree.address_of(device))?),
+        "wire" => Ok(format!(in alloc; "{}", tree.on_wire(device))?),
+        _ => Err(Fail::from("no verb")),
+    }
+}
+
+// The tree after such lines, each of which had this answer.
+fn grown(rt: &impl Abort, alloc: Global, steps: &str) -> Result<Tree<15>, Fail> {
+    let mut tree = Tree::new();
+    for step in steps.lines() {
+        let (line, want) = step.split_once(" => ").ok_or("no answer")?;
+        let told = take(alloc, &mut tree, line)?;
+        assert_eq!(rt; told.as_str(), want, "{step}");
+    }
+    Ok(tree)
+}
+
 #[test]
 fn refuses_in_order(rt: HostRuntime) -> Result<(), Fail> {
-    let mut tree: Tree<15> = Tree::new();
-    tree.add(b"tv", Kind::Tv, 4)?;
-    assert_eq!(rt; tree.add(b"tv2", Kind::Tv, 1), Err(AddError::SecondRoot));
-    assert_eq!(rt; tree.add(b"tv", Kind::Tv, 1), Err(AddError::Name));
-    assert_eq!(rt; tree.add(b"2nd", Kind::Player, 0), Err(AddError::Name));
-    tree.add(b"p1", Kind::Player, 0)?;
-    tree.add(b"p2", Kind::Player, 0)?;
-    tree.add(b"a", Kind::Switch, 2)?;
-    tree.add(b"b", Kind::Switch, 2)?;
+    let tree = grown(&rt, rt.alloc(), REFUSALS)?;
     assert_eq!(rt; tree.count(), 5);
     assert_eq!(rt; tree.name(1), b"p1".as_slice());
     assert_eq!(rt; tree.kind(3), Kind::Switch);
     assert_eq!(rt; tree.ports(0), 4);
     assert_eq!(rt; tree.device_named(b"b"), Some(4));
-    assert_eq!(rt; tree.plug(1, 0, 5), Err(PlugError::PortRange));
-    assert_eq!(rt; tree.plug(1, 0, 0), Err(PlugError::PortRange));
-    tree.plug(1, 0, 1)?;
-    assert_eq!(rt; tree.plug(2, 0, 1), Err(PlugError::PortTaken));
-    assert_eq!(rt; tree.plug(1, 0, 2), Err(PlugError::NotLoose));
-    assert_eq!(rt; tree.plug(0, 3, 1), Err(PlugError::NotLoose));
-    tree.plug(3, 4, 1)?;
-    assert_eq!(rt; tree.plug(4, 3, 1), Err(PlugError::Loop));
-    assert_eq!(rt; tree.plug(4, 4, 2), Err(PlugError::Loop));
-    assert_eq!(rt; tree.unplug(2), Err(UnplugError::NotPlugged));
-    assert_eq!(rt; tree.address_of(3), None);
-    tree.unplug(1)?;
-    assert_eq!(rt; tree.on_wire(1), false);
     Ok(())
 }
 
 #[test]
 fn a_chain_of_switches(rt: HostRuntime) -> Result<(), Fail> {
-    let mut tree: Tree<15> = Tree::new();
-    tree.add(b"tv", Kind::Tv, 1)?;
-    tree.add(b"s1", Kind::Switch, 1)?;
-    tree.add(b"s2", Kind::Switch, 1)?;
-    tree.add(b"s3", Kind::Switch, 1)?;
-    tree.add(b"s4", Kind::Switch, 1)?;
-    tree.add(b"p1", Kind::Player, 0)?;
+    let tree = grown(&rt, rt.alloc(), CHAIN)?;
     assert_eq!(rt; tree.count(), 6);
-    tree.plug(1, 0, 1)?;
-    tree.plug(2, 1, 1)?;
-    tree.plug(3, 2, 1)?;
-    tree.plug(4, 3, 1)?;
-    tree.plug(5, 4, 1)?;
-    assert_eq!(rt; tree.address_of(0), Some(Phys { high: 0, low: 0 }));
-    assert_eq!(rt; tree.address_of(1), Some(Phys { high: 0x10, low: 0 }));
-    assert_eq!(rt;
-        tree.address_of(4),
-        Some(Phys {
-            high: 0x11,
-            low: 0x11
-        })
-    );
-    assert_eq!(rt;
-        tree.address_of(5),
-        Some(Phys {
-            high: 0xff,
-            low: 0xff
-        })
-    );
-    assert_eq!(rt; tree.on_wire(5), true);
     Ok(())
 }
 
@@ -168,21 +232,35 @@ fn heard(address: [u8; 2], checksum: u8) -> [u8; 128] {
     bytes
 }
 
+/// What a port passes on, where there is the device.
+fn passed(tree: &Tree<15>, root: &Edid, device: usize) -> Option<Edid> {
+    if device >= tree.count() {
+        return None;
+    }
+    tree.port_edid(root, device, 1).ok()
+}
+
+#[test]
+fn ports_beside_an_amplifier_pass_on_their_addresses(rt: HostRuntime) -> Result<(), Fail> {
+    let root = edid_from_bytes(&both_blocks()).map_err(|_| "no EDID")?;
+    let tree = tree_with_an_amplifier()?;
+    let above = passed(&tree, &root, 0).ok_or("nothing passed on")?;
+    assert_eq!(rt; address_and_checksum(&above), Some([0x10, 0x00, 0xd8]));
+    let beside = passed(&tree, &root, 3).ok_or("nothing passed on")?;
+    assert_eq!(rt; address_and_checksum(&beside), Some([0x21, 0x00, 0xc7]));
+    Ok(())
+}
+
 #[test]
 fn ports_below_an_amplifier_pass_on_its_audio(rt: HostRuntime) -> Result<(), Fail> {
     let root = edid_from_bytes(&both_blocks()).map_err(|_| "no EDID")?;
     let tree = tree_with_an_amplifier()?;
-    assert_eq!(rt; tree.count(), 4);
-    let above = tree.port_edid(&root, 0, 1)?;
-    assert_eq!(rt; address_and_checksum(&above), Some([0x10, 0x00, 0xd8]));
-    let amp = edid_to_bytes(&tree.port_edid(&root, 1, 1)?);
+    let amp = edid_to_bytes(&passed(&tree, &root, 1).ok_or("nothing passed on")?);
     assert_eq!(rt; amp.as_slice().get(..128), Some(LOUNGE.as_slice()));
     let wanted = heard([0x11, 0x00], 0xe7);
     assert_eq!(rt; amp.as_slice().get(128..), Some(wanted.as_slice()));
-    let below = edid_to_bytes(&tree.port_edid(&root, 2, 1)?);
+    let below = edid_to_bytes(&passed(&tree, &root, 2).ok_or("nothing passed on")?);
     let wanted = heard([0x11, 0x10], 0xd7);
     assert_eq!(rt; below.as_slice().get(128..), Some(wanted.as_slice()));
-    let beside = tree.port_edid(&root, 3, 1)?;
-    assert_eq!(rt; address_and_checksum(&beside), Some([0x21, 0x00, 0xc7]));
     Ok(())
 }
