@@ -12,8 +12,6 @@ mod grammar;
 mod hints;
 mod marks;
 mod order;
-#[cfg(test)]
-mod tests;
 mod words;
 
 pub use explanation::{Input, counts, explain};

@@ -1,5 +1,5 @@
 //! Steps worked out by hand from the standard's times, to the byte.
-use crate::step_run::{StepRunError, step_run};
+use cec_step::step_run::{StepRunError, step_run};
 use cec_run::emulate::EmulateError;
 use hdmi_core::Writes;
 use std::alloc::Global;

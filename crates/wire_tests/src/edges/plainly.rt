@@ -4,7 +4,7 @@ ghost use Rattle.std.specs.Prelude.{◌≡◌, ◌<◌, length};
 ghost use Rattle.cec_edges.specs.Wired.{IsBegun, IsKept, Listens};
 
 use super::is_next;
-use crate::EdgeWire;
+use cec_edges::EdgeWire;
 use arrayvec::ArrayVec;
 use cec_frame::{Addr, Ending, Frame};
 use cec_wave::{Edge, Stretch};
