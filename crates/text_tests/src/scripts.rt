@@ -227,9 +227,7 @@ fn key_text(alloc: Global, key: &Key) -> Result<String, Fail> {
 fn language_text(alloc: Global, letters: &Triple) -> Result<String, Fail> {
     let text = format!(in alloc;
         "language {} {} {}",
-        letters.first,
-        letters.second,
-        letters.third
+        letters.first, letters.second, letters.third
     )?;
     Ok(text)
 }
@@ -403,7 +401,10 @@ fn refuses_a_line_behind_four_thousand(rt: HostRuntime) -> Result<(), Fail> {
     let alloc = rt.alloc();
     let text = four_thousand(alloc)?;
     let early = format!(in alloc; "{text}at 3998 unplug p1\nend 4000")?;
-    assert_eq!(rt; refusal(alloc, early.as_str())?.as_str(), "line 4001: order");
+    assert_eq!(rt;
+        refusal(alloc, early.as_str())?.as_str(),
+        "line 4001: order"
+    );
     Ok(())
 }
 
