@@ -14,7 +14,7 @@ use Rattle.cec_wire.specs.declared.Seat.{Seat}
 use Rattle.cec_wire.specs.declared.Outcome.{Outcome}
 use Rattle.cec_edges.specs.declared.edge_wire.EdgeWire.{EdgeWire}
 use Rattle.cec_wire.specs.Round.{IsRound, pulled, pulse_pulls}
-use Rattle.cec_edges.specs.Wired.{IsKept, IsBegun, IsNext, SameRound, Leaves, IsRoundOf, is_silent_in}
+use Rattle.cec_edges.specs.Wired.{IsBegun, IsNext, SameRound, Leaves, IsRoundOf, is_silent_in}
 use Rattle.cec_wire.proofs.Lows.{all_head, all_tail}
 use Rattle.cec_edges.proofs.Wiring.{no_later}
 use Rattle.cec_edges.proofs.Searching.{same_pulses, all_late, all_after, far_end, narrow_end}
@@ -86,7 +86,6 @@ pub record Rests (seats : List Seat) (start : ℕ) (all before left : List Stret
   pub all_of : all ≡ before ++ (w.pulses.items ++ left)
   pub late : All (λ p. w.time ≤ p.from) left
   pub begun : IsBegun w
-  pub kept : IsKept w
   pub same_seats : w.seats.items ≡ seats
   pub same_begin : w.begin ≡ start
 
@@ -127,9 +126,9 @@ late_rest t t2 ps (p ∷ left) s h l =
 abbrev pub More : List Seat → ℕ → List Stretch → List Stretch → EdgeWire → Type 0
 More seats start all before w = (left : List Stretch) × Rests seats start all before left w
 
-pub rests_more : (seats : List Seat) (start : ℕ) (all before left : List Stretch) (old new : EdgeWire) → AreSparse all → Rests seats start all before left old → IsBegun new → IsKept new → SameRound old new
+pub rests_more : (seats : List Seat) (start : ℕ) (all before left : List Stretch) (old new : EdgeWire) → AreSparse all → Rests seats start all before left old → IsBegun new → SameRound old new
     → new.time ≤ old.time + 23000 → Leaves old (first left) new → More seats start all before new
-rests_more seats start all before left old new s r b kept same soon l = (
+rests_more seats start all before left old new s r b same soon l = (
   option_to_list l.0 ++ rest left,
   record {
     all_of = r.all_of ∙ ap (λ (ps : List Stretch). before ++ (old.pulses.items ++ ps)) (split left)
@@ -137,7 +136,6 @@ rests_more seats start all before left old new s r b kept same soon l = (
     late = all_late new.pulses.items new.time new.time l.0 (rest left) l.2 (omega arith)
         (late_rest old.time new.time old.pulses.items left (sparse_end before (old.pulses.items ++ left) (subst AreSparse r.all_of s)) r.late soon);
     begun = b;
-    kept = kept;
     same_seats = same.seats ∙ r.same_seats;
     same_begin = same.begin ∙ r.same_begin;
   },
@@ -168,15 +166,14 @@ left_late start zero (p ∷ ps) s h = here
     here (suc k) d m = all_after start p ps s.far s.narrow (omega (arith, h)) k d (omega (arith, m))
 left_late start (suc n) (p ∷ ps) s h = left_late start n ps (sparse_end (p ∷ []) ps s) h
 
-pub rests_begin : (seats : List Seat) (start n : ℕ) (all : List Stretch) (w : EdgeWire) → AreSparse all → IsLate start (slice_get all n) → IsBegun w → IsKept w → w.seats.items ≡ seats → w.begin ≡ start → w.time ≡ start → w.pulses.items ≡ []
+pub rests_begin : (seats : List Seat) (start n : ℕ) (all : List Stretch) (w : EdgeWire) → AreSparse all → IsLate start (slice_get all n) → IsBegun w → w.seats.items ≡ seats → w.begin ≡ start → w.time ≡ start → w.pulses.items ≡ []
     → More seats start all (take n all) w
-rests_begin seats start n all w s h b kept e f g k = (
+rests_begin seats start n all w s h b e f g k = (
   drop n all,
   record {
     all_of = sym (take-append-drop n all) ∙ ap (λ (ps : List Stretch). take n all ++ (ps ++ drop n all)) (sym k);
     late = subst (λ t. All (λ (p : Stretch). t ≤ p.from) (drop n all)) (sym g) (left_late start n all s h);
     begun = b;
-    kept = kept;
     same_seats = e;
     same_begin = f;
   },
@@ -196,20 +193,20 @@ late_told : (start : ℕ) (o : Option Stretch) → IfSome o (λ p. start ≤ p.f
 late_told start None h = tt
 late_told start (Some p) h = h
 
-pub goes_begin : (seats : List Seat) (start n : ℕ) (all : List Stretch) (w : EdgeWire) (next : Option Stretch) → AreSparse all → n ≤ length all → IfSome (slice_get all n) (λ p. start ≤ p.from) → IsBegun w → IsKept w
+pub goes_begin : (seats : List Seat) (start n : ℕ) (all : List Stretch) (w : EdgeWire) (next : Option Stretch) → AreSparse all → n ≤ length all → IfSome (slice_get all n) (λ p. start ≤ p.from) → IsBegun w
     → w.seats.items ≡ seats → w.begin ≡ start → w.time ≡ start → w.pulses.items ≡ [] → next ≡ slice_get all (n + length w.pulses.items) → Goes seats start all (take n all) w next
-goes_begin seats start n all w next s l h b kept e f g k x = next_told seats start n all w next l x (rests_begin seats start n all w s (late_told start (slice_get all n) h) b kept e f g k)
+goes_begin seats start n all w next s l h b e f g k x = next_told seats start n all w next l x (rests_begin seats start n all w s (late_told start (slice_get all n) h) b e f g k)
 
 pub goes_next : (seats : List Seat) (start : ℕ) (all before : List Stretch) (w : EdgeWire) (next : Option Stretch) → AreSparse all → Goes seats start all before w next → IsNext w.pulses.items w.time next
 goes_next seats start all before w next s g = subst (λ o. IsNext w.pulses.items w.time o) (sym g.2) (rests_next seats start all before g.0 w s g.1)
 
-goes_on : (seats : List Seat) (start : ℕ) (all before : List Stretch) (old new : EdgeWire) (next : Option Stretch) → AreSparse all → Goes seats start all before old next → IsBegun new → IsKept new → SameRound old new
+goes_on : (seats : List Seat) (start : ℕ) (all before : List Stretch) (old new : EdgeWire) (next : Option Stretch) → AreSparse all → Goes seats start all before old next → IsBegun new → SameRound old new
     → new.time ≤ old.time + 23000 → Leaves old next new → More seats start all before new
-goes_on seats start all before old new next s g b kept same soon l = rests_more seats start all before g.0 old new s g.1 b kept same soon (subst (λ o. Leaves old o new) g.2 l)
+goes_on seats start all before old new next s g b same soon l = rests_more seats start all before g.0 old new s g.1 b same soon (subst (λ o. Leaves old o new) g.2 l)
 
-pub goes_more : (seats : List Seat) (start n : ℕ) (all : List Stretch) (old new : EdgeWire) (next next2 : Option Stretch) → AreSparse all → n ≤ length all → Goes seats start all (take n all) old next → IsBegun new → IsKept new
+pub goes_more : (seats : List Seat) (start n : ℕ) (all : List Stretch) (old new : EdgeWire) (next next2 : Option Stretch) → AreSparse all → n ≤ length all → Goes seats start all (take n all) old next → IsBegun new
     → SameRound old new → new.time ≤ old.time + 23000 → Leaves old next new → next2 ≡ slice_get all (n + length new.pulses.items) → Goes seats start all (take n all) new next2
-goes_more seats start n all old new next next2 s m g b kept same soon l e = next_told seats start n all new next2 m e (goes_on seats start all (take n all) old new next s g b kept same soon l)
+goes_more seats start n all old new next next2 s m g b same soon l e = next_told seats start n all new next2 m e (goes_on seats start all (take n all) old new next s g b same soon l)
 
 pub goes_near : (edge : Option Edge) (old new : EdgeWire) → is_some edge ≡ true → IfSome edge (λ e. new.time ≤ new.begin + 470000) → MatchOption edge (is_silent_in new ≡ true) (λ e. old.time < new.time)
     → (new.time ≤ new.begin + 470000) × (old.time < new.time)
@@ -217,9 +214,9 @@ goes_near None old new e n g = cc
 goes_near (Some edge) old new e n g = (n, g)
 
 pub goes_round : (seats : List Seat) (start n : ℕ) (all : List Stretch) (old new : EdgeWire) (next : Option Stretch) (o : Outcome) → AreSparse all → All (λ p. p.from < start) (take n all)
-    → Goes seats start all (take n all) old next → IsBegun new → IsKept new → SameRound old new → new.time ≤ old.time + 23000 → Leaves old next new → IsRoundOf new o → IsRound seats start all o
-goes_round seats start n all old new next o s early g b kept same soon l h =
-    let m = goes_on seats start all (take n all) old new next s g b kept same soon l in
+    → Goes seats start all (take n all) old next → IsBegun new → SameRound old new → new.time ≤ old.time + 23000 → Leaves old next new → IsRoundOf new o → IsRound seats start all o
+goes_round seats start n all old new next o s early g b same soon l h =
+    let m = goes_on seats start all (take n all) old new next s g b same soon l in
     round_of seats start all (take n all) m.0 new o s early m.1 h
 
 -- ---- counting those before the round

@@ -17,7 +17,7 @@ use Rattle.cec_edges.specs.declared.edge_wire.EdgeWire.{EdgeWire}
 use Rattle.cec_wire.specs.Round.{IsRoundLine}
 use Rattle.cec_wire.specs.Machine.{next_place, over}
 use Rattle.cec_wire.specs.Edges.{Heard, pulls, EachLine, IsNextEdge}
-use Rattle.cec_edges.specs.Wired.{IsKept, heard_by, is_low_in, silent_by, is_silent_in, EachOf, IsHeard, IsBegun, IsNext, SameRound, EdgeAt, NextEdges, Leaves, Grows, Passes}
+use Rattle.cec_edges.specs.Wired.{heard_by, is_low_in, silent_by, is_silent_in, EachOf, IsHeard, IsBegun, IsNext, SameRound, EdgeAt, NextEdges, Leaves, Grows, Passes}
 use Rattle.cec_wire.proofs.Exists.{made_round}
 use Rattle.cec_wire.proofs.Still.{high_after}
 use Rattle.cec_wire.proofs.Early.{and_left, and_right}
@@ -143,14 +143,13 @@ pub record Searches (old : EdgeWire) (next0 : Option Stretch) (w : EdgeWire) (ne
   pub calm : Lines old next0 w.time (λ low. (u : ℕ) → old.time ≤ u → u < w.time → low u ≡ is_low_in old)
   pub place : IsSoon old.time w.place
   pub soon : w.time ≤ old.time + 23000
-  pub kept : IsKept w
   pub near : old.time ≤ old.begin + 470000 → w.time ≤ w.begin + 470000
   pub grows : Grows old w
   pub passes : EachOf w (Passes old.time (is_low_in old) w.time None)
   pub listens : w.listeners ≡ old.listeners
 
-pub search_begins : (w : EdgeWire) (next : Option Stretch) → IsBegun w → IsNext w.pulses.items w.time next → IsKept w → Searches w next w next
-search_begins w next b n k = record {
+pub search_begins : (w : EdgeWire) (next : Option Stretch) → IsBegun w → IsNext w.pulses.items w.time next → Searches w next w next
+search_begins w next b n = record {
   begun = b;
   comes = n;
   seats = refl;
@@ -161,7 +160,6 @@ search_begins w next b n k = record {
   calm = λ later low sparse late line u x y. absurd (omega arith);
   place = soon_first w.seats.items (line_in w.seats.items w.begin w.pulses.items) w.begin w.time w.bits.items w.held w.place (stands_in w.seats.items w.begin w.pulses.items w.time (heard_by w) b).stands;
   soon = omega arith;
-  kept = k;
   near = λ n. n;
   grows = grows_none w w refl;
   passes = λ later low sparse late line u x y. absurd (omega arith);
@@ -187,7 +185,6 @@ pub record Turns (w : EdgeWire) (next : Option Stretch) (v x y : EdgeWire) (rest
   pub hears_pulses : y.pulses.items ≡ x.pulses.items
   pub hears_time : y.time ≡ x.time + 1
   pub hears_begun : IsBegun y
-  pub hears_kept : IsKept y
   pub hears_edge : EachOf y (λ low. EdgeAt low x.time (is_low_in x) edge)
 
 abbrev After : EdgeWire → ℕ → Option Edge → (ℕ → Bool) → Type 0
@@ -284,7 +281,6 @@ pub search_goes : (old w v x y : EdgeWire) (next0 next rest : Option Stretch) �
 search_goes old w v x y next0 next rest b s r same place soon near = record {
   place = subst (λ p. IsSoon old.time p) (sym place) (soon_next old.time w.begin x.time x.bits.items w.place (omega (arith, s.begin, b.from)) s.place);
   soon = soon;
-  kept = r.hears_kept;
   near = λ n. near;
   grows = turned_grows old w v x y next0 next rest None s r;
   passes = passes_on old w v x y next0 next rest s r;

@@ -18,7 +18,7 @@ use Rattle.cec_wire.specs.declared.Outcome.{Outcome}
 use Rattle.cec_wire.specs.Round.{IsRoundLine, IsRound}
 use Rattle.cec_wire.specs.Machine.{AreSentWell}
 use Rattle.cec_edges.specs.Listening.{IsLevel, AreSenders, AreStanding}
-use Rattle.cec_wire.specs.Edges.{Heard, heard_of, pulls, EachLine, IsNextEdge, next_wake, sending_by}
+use Rattle.cec_wire.specs.Edges.{Heard, heard_of, pulls, EachLine, IsNextEdge, next_wake}
 
 abbrev pub heard_by : EdgeWire → Heard
 heard_by w = record { place = w.place; bits = w.bits.items; held = w.held; wave = w.recorder.wave; since = w.recorder.low_since }
@@ -46,10 +46,6 @@ pub record IsHeard (seats : List Seat) (begin : ℕ) (pulses : List Stretch) (t 
 
 abbrev pub IsBegun : EdgeWire → Type 0
 IsBegun w = IsHeard w.seats.items w.begin w.pulses.items w.time (heard_by w)
-
--- it knows who goes on sending
-abbrev pub IsKept : EdgeWire → Type 0
-IsKept w = w.sending.items ≡ sending_by w.bits.items w.seats.items
 
 -- the next instant at which the line or the reading may change: at once, where the line changes
 abbrev pub wake_in : EdgeWire → Option Stretch → ℕ

@@ -1,7 +1,7 @@
 //! A line that goes from edge to edge.
 ghost use Rattle.std.specs.Prelude.{◌≡◌, ◌+◌, ◌<◌, ◌≤◌, ◌++◌, ◌&&◌, not, true, false, length, [], All, take, slice_get, IfSome};
 ghost use Rattle.std.specs.List.{list_any};
-ghost use Rattle.cec_wire.specs.Edges.{sends_on, IsTimely};
+ghost use Rattle.cec_wire.specs.Edges.{sends_on, sending_by, IsTimely};
 ghost use Rattle.cec_wire.specs.Machine.{next_place, bit_told, held_after, recorded, low_since, samples, AreSentWell, IsEarly, IsReady, IsSentWell};
 
 use crate::listeners::{Listeners, sender_at};
@@ -28,6 +28,7 @@ pub struct EdgeWire {
     held: u64,
     recorder: Recorder,
     listeners: Listeners,
+    ghost kept: { sending.items ≡ sending_by bits.items seats.items },
 }
 
 // The same seat again. What it sends has 1 to 16 blocks (CEC 6).
@@ -91,14 +92,13 @@ impl EdgeWire {
     ghost use Rattle.std.specs.Prelude.{IfSome, MatchOption, ℕ, ◌-◌};
     ghost use Rattle.std.specs.Option.{option_to_list};
     ghost use Rattle.cec_wire.specs.Edges.{IsNextEdge};
-    ghost use Rattle.cec_edges.specs.Wired.{IsKept, heard_by, is_low_in, pulls_in, EachOf, IsBegun, IsNext, SameRound, EdgeAt, is_silent_in, wake_in, NextEdges, IsRoundOf, Leaves, Grows, Passes, Listens, IsReceiverIn, IsSenderIn, SendsNothing};
+    ghost use Rattle.cec_edges.specs.Wired.{heard_by, is_low_in, pulls_in, EachOf, IsBegun, IsNext, SameRound, EdgeAt, is_silent_in, wake_in, NextEdges, IsRoundOf, Leaves, Grows, Passes, Listens, IsReceiverIn, IsSenderIn, SendsNothing};
 
     // A round that begins at `start`.
     fn started(seats: &[Seat], start: u64) -> Self
         requires few { length seats.now ≤ 15 }
         requires early { start ≤ 2000000100000 }
         ensures begun { IsBegun result }
-        ensures kept { IsKept result }
         ensures listens { Listens result }
         ensures seats { result.seats.items ≡ seats.now }
         ensures begin { result.begin ≡ start }
@@ -122,7 +122,6 @@ impl EdgeWire {
     /// A wire on which nobody sends, before its first round.
     pub fn new() -> Self
         ensures begun { IsBegun result }
-        ensures kept { IsKept result }
         ensures listens { Listens result }
     {
         EdgeWire::started(&[], 0)
@@ -165,7 +164,6 @@ impl EdgeWire {
         requires few { length seats.now ≤ 15 }
         requires early { start ≤ 2000000100000 }
         ensures begun { IsBegun self.new }
-        ensures kept { IsKept self.new }
         ensures listens { Listens self.new }
         ensures seats { self.new.seats.items ≡ seats.now }
         ensures begin { self.new.begin ≡ start }
@@ -177,7 +175,6 @@ impl EdgeWire {
 
     // Somebody pulls in the next microsecond who sends on until an instant.
     fn anybody_sends(&self, until: u64) -> bool
-        requires kept { IsKept self.now }
         ensures { result ≡ list_any (λ s. sends_on self.now.begin self.now.bits.items until self.now.time s.sends) self.now.seats.items }
     {
         for place in 0..self.seats.len() {
@@ -196,7 +193,6 @@ impl EdgeWire {
 
     // Whether the line is low in the next microsecond.
     fn is_pulled(&self) -> bool
-        requires kept { IsKept self.now }
         ensures { result ≡ pulls_in self.now }
     {
         let was = self.recorder.was_low();
@@ -211,7 +207,6 @@ impl EdgeWire {
 
     // The next instant at which the line or the reading may change.
     fn wake(&self, next: Option<Stretch>) -> u64
-        requires kept { IsKept self.now }
         requires early { self.now.begin ≤ 2000000100000 }
         requires time { self.now.time ≤ 3000000000000 }
         requires timely { IsTimely self.now.place }
@@ -232,11 +227,9 @@ impl EdgeWire {
 
     // Goes to the next instant at which the line or the reading may change.
     fn wait(&mut self, next: Option<Stretch>)
-        requires kept { IsKept self.old }
         requires begun { IsBegun self.old }
         requires time { self.old.time < self.old.begin + 464000 }
         requires next { IsNext self.old.pulses.items self.old.time next }
-        ensures kept { IsKept self.new }
         ensures begun { IsBegun self.new }
         ensures next { IsNext self.new.pulses.items self.new.time next }
         ensures round { SameRound self.old self.new }
@@ -254,11 +247,9 @@ impl EdgeWire {
 
     // Takes the next pulse, if it begins now.
     fn take(&mut self, next: Option<Stretch>) -> Option<Stretch>
-        requires kept { IsKept self.old }
         requires begun { IsBegun self.old }
         requires near { self.old.time < self.old.begin + 470000 }
         requires next { IsNext self.old.pulses.items self.old.time next }
-        ensures kept { IsKept self.new }
         ensures begun { IsBegun self.new }
         ensures next { IsNext self.new.pulses.items (self.old.time + 1) result }
         ensures round { SameRound self.old self.new }
@@ -280,14 +271,12 @@ impl EdgeWire {
 
     // Hears that the line is low or not in the next microsecond, and was low or not just before.
     fn step(&mut self, was: bool, is_low: bool)
-        requires kept { IsKept self.old }
         requires begin { self.old.begin ≤ 2000000100000 }
         requires early { IsEarly self.old.place }
         requires time { self.old.time ≤ 3000000000000 }
         requires bits { samples self.old.place self.old.time (is_low && not was) ≡ true → length self.old.bits.items < 160 }
         requires room { length self.old.recorder.wave < 192 }
         requires ready { IsReady self.old.recorder.wave self.old.recorder.low_since self.old.time }
-        ensures kept { IsKept self.new }
         ensures place { self.new.place ≡ next_place self.old.begin self.old.bits.items self.old.place self.old.time (is_low && not was) (not is_low && was) }
         ensures bits { self.new.bits.items ≡ self.old.bits.items ++ bit_told self.old.place self.old.time (is_low && not was) is_low }
         ensures held { self.new.held ≡ held_after self.old.seats.items self.new.bits.items self.new.place self.old.time self.old.held }
@@ -325,10 +314,8 @@ impl EdgeWire {
 
     // Hears the next microsecond. Answers whether the line falls or rises in it.
     fn hear(&mut self) -> Option<Edge>
-        requires kept { IsKept self.old }
         requires begun { IsBegun self.old }
         requires near { self.old.time < self.old.begin + 470000 }
-        ensures kept { IsKept self.new }
         ensures begun { IsBegun self.new }
         ensures time { self.new.time ≡ self.old.time + 1 }
         ensures round { SameRound self.old self.new }
@@ -352,7 +339,6 @@ impl EdgeWire {
 
     // The reading has ended, and nobody pulls any more.
     fn is_silent(&self) -> bool
-        requires kept { IsKept self.now }
         ensures { result ≡ is_silent_in self.now }
     {
         match self.place {
@@ -365,10 +351,8 @@ impl EdgeWire {
 
     // Looks for the next edge of the line.
     fn search(&mut self, next: Option<Stretch>) -> Option<Edge>
-        requires kept { IsKept self.old }
         requires begun { IsBegun self.old }
         requires next { IsNext self.old.pulses.items self.old.time next }
-        ensures kept { IsKept self.new }
         ensures begun { IsBegun self.new }
         ensures round { SameRound self.old self.new }
         ensures soon { self.new.time ≤ self.old.time + 23000 }
@@ -397,11 +381,9 @@ impl EdgeWire {
     /// The next edge of the line, if there is one. `next` is the next pulse that begins, if there is one. The
     /// receiver and the senders hear the line through that edge; where there is none, until nothing changes any more.
     pub fn next_edge(&mut self, next: Option<Stretch>) -> Option<Edge>
-        requires kept { IsKept self.old }
         requires begun { IsBegun self.old }
         requires listens { Listens self.old }
         requires next { IsNext self.old.pulses.items self.old.time next }
-        ensures kept { IsKept self.new }
         ensures begun { IsBegun self.new }
         ensures listens { Listens self.new }
         ensures round { SameRound self.old self.new }
@@ -458,7 +440,6 @@ impl EdgeWire {
         requires begun { IsBegun self.old }
         requires silent { is_silent_in self.old ≡ true }
         ensures begun { IsBegun self.new }
-        ensures kept { IsKept self.new }
         ensures listens { Listens self.new }
         ensures round { IsRoundOf self.old result }
     {

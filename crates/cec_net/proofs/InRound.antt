@@ -20,7 +20,7 @@ use Rattle.cec_edges.specs.declared.edge_wire.EdgeWire.{EdgeWire}
 use Rattle.cec_wire.specs.Round.{IsRound, IsRoundLine}
 use Rattle.cec_wire.specs.Edges.{IsNextEdge}
 use Rattle.cec_wire.specs.Lasting.{is_begun}
-use Rattle.cec_edges.specs.Wired.{EachOf, IsBegun, IsKept, Listens, IsNext, SameRound, Leaves, NextEdges, Follow, IsRoundOf, IsReceiverIn, is_silent_in}
+use Rattle.cec_edges.specs.Wired.{EachOf, IsBegun, Listens, IsNext, SameRound, Leaves, NextEdges, Follow, IsRoundOf, IsReceiverIn, is_silent_in}
 use Rattle.cec_edges.proofs.Rounding.{Rests, first, rest, rests_first, rests_next, rests_more, rests_begin, round_of}
 use Rattle.cec_wire.proofs.Lasting.{begun_by, contended, low_at_begin}
 use Rattle.cec_device.specs.State.{State}
@@ -35,10 +35,10 @@ use Rattle.cec_net.proofs.Lines.{begun, late_start}
 -- ---- the pulses
 
 rests_of : (ps : List Stretch) (w : EdgeWire) (h : Takes ps w) → Rests w.seats.items w.begin ps [] h.left w
-rests_of ps w h = record { all_of = h.parts; late = h.late; begun = h.stands; kept = h.kept; same_seats = refl; same_begin = refl }
+rests_of ps w h = record { all_of = h.parts; late = h.late; begun = h.stands; same_seats = refl; same_begin = refl }
 
 takes_of : (seats : List Seat) (begin : ℕ) (ps left : List Stretch) (w : EdgeWire) → Listens w → Rests seats begin ps [] left w → Takes ps w
-takes_of seats begin ps left w l r = record { stands = r.begun; kept = r.kept; listens = l; left = left; parts = r.all_of; late = r.late }
+takes_of seats begin ps left w l r = record { stands = r.begun; listens = l; left = left; parts = r.all_of; late = r.late }
 
 next_is : (ps : List Stretch) (w : EdgeWire) (next : Option Stretch) (h : Takes ps w) → next ≡ slice_get ps (length w.pulses.items) → next ≡ first h.left
 next_is ps w next h e = e ∙ rests_first w.seats.items w.begin ps [] h.left w (length w.pulses.items) (rests_of ps w h) (omega arith)
@@ -46,10 +46,10 @@ next_is ps w next h e = e ∙ rests_first w.seats.items w.begin ps [] h.left w (
 pub next_pulse : (ps : List Stretch) (w : EdgeWire) (next : Option Stretch) → AreSparse ps → Takes ps w → next ≡ slice_get ps (length w.pulses.items) → IsNext w.pulses.items w.time next
 next_pulse ps w next s h e = subst (λ o. IsNext w.pulses.items w.time o) (sym (next_is ps w next h e)) (rests_next w.seats.items w.begin ps [] h.left w s (rests_of ps w h))
 
-pub takes_on : (ps : List Stretch) (old new : EdgeWire) (next : Option Stretch) → AreSparse ps → Takes ps old → next ≡ slice_get ps (length old.pulses.items) → IsBegun new → IsKept new → Listens new → SameRound old new
+pub takes_on : (ps : List Stretch) (old new : EdgeWire) (next : Option Stretch) → AreSparse ps → Takes ps old → next ≡ slice_get ps (length old.pulses.items) → IsBegun new → Listens new → SameRound old new
     → new.time ≤ old.time + 23000 → Leaves old next new → Takes ps new
-takes_on ps old new next s h e b kept hears same soon l =
-    let m = rests_more old.seats.items old.begin ps [] h.left old new s (rests_of ps old h) b kept same soon (subst (λ o. Leaves old o new) (next_is ps old next h e) l) in
+takes_on ps old new next s h e b hears same soon l =
+    let m = rests_more old.seats.items old.begin ps [] h.left old new s (rests_of ps old h) b same soon (subst (λ o. Leaves old o new) (next_is ps old next h e) l) in
     takes_of old.seats.items old.begin ps m.0 new hears m.1
 
 parted : (left : List Stretch) → left ≡ option_to_list (first left) ++ rest left
@@ -82,9 +82,9 @@ none_before start i d m = absurd (omega (arith, m))
 pub round_on : (ps : List Stretch) (w : EdgeWire) (o : Outcome) → AreSparse ps → Takes ps w → IsRoundOf w o → IsRound w.seats.items w.begin ps o
 round_on ps w o s h r = round_of w.seats.items w.begin ps [] h.left w o s (none_before w.begin) (rests_of ps w h) r
 
-pub takes_first : (s : NetState) (begin : ℕ) (w : EdgeWire) → AreSparse s.pulses → next_start s ≡ Some begin → IsBegun w → IsKept w → Listens w → w.seats.items ≡ seats_of s begin → w.begin ≡ begin → w.time ≡ begin → w.pulses.items ≡ [] → Takes s.pulses w
-takes_first s begin w sparse next b kept hears seats begins time ps =
-    let m = rests_begin (seats_of s begin) begin 0 s.pulses w sparse (late_start s begin next) b kept seats begins time ps in
+pub takes_first : (s : NetState) (begin : ℕ) (w : EdgeWire) → AreSparse s.pulses → next_start s ≡ Some begin → IsBegun w → Listens w → w.seats.items ≡ seats_of s begin → w.begin ≡ begin → w.time ≡ begin → w.pulses.items ≡ [] → Takes s.pulses w
+takes_first s begin w sparse next b hears seats begins time ps =
+    let m = rests_begin (seats_of s begin) begin 0 s.pulses w sparse (late_start s begin next) b seats begins time ps in
     takes_of (seats_of s begin) begin s.pulses m.0 w hears m.1
 
 -- ---- the round of a network
@@ -102,13 +102,13 @@ no_wire s w f = cc
 pub underway_along : (s t : NetState) (o : Option EdgeWire) → s ≡ t → IsUnderway (idle s) o → IsUnderway (idle t) o
 underway_along s t o e h = subst (λ x. IsUnderway (idle x) o) e h
 
-pub is_next : (s : NetState) (begin : ℕ) (w : EdgeWire) → s.close ≤ 2000000000000 → AreSparse s.pulses → next_start s ≡ Some begin → IsBegun w → IsKept w → Listens w → w.seats.items ≡ seats_of s begin → w.begin ≡ begin
+pub is_next : (s : NetState) (begin : ℕ) (w : EdgeWire) → s.close ≤ 2000000000000 → AreSparse s.pulses → next_start s ≡ Some begin → IsBegun w → Listens w → w.seats.items ≡ seats_of s begin → w.begin ≡ begin
     → w.time ≡ begin → w.pulses.items ≡ [] → IsNextOn s w
-is_next s begin w early sparse next b kept hears seats begins time ps = record {
+is_next s begin w early sparse next b hears seats begins time ps = record {
   begins = next ∙ ap Some (sym begins);
   early = early;
   seats = seats ∙ ap (seats_of s) (sym begins);
-  takes = takes_first s begin w sparse next b kept hears seats begins time ps;
+  takes = takes_first s begin w sparse next b hears seats begins time ps;
 }
 
 pub next_on : (s : NetState) (old new : EdgeWire) → IsNextOn s old → SameRound old new → Takes s.pulses new → IsNextOn s new

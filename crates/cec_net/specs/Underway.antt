@@ -6,7 +6,7 @@ use Rattle.cec_wave.specs.Line.{Line}
 use Rattle.cec_bits.specs.Phase.{Standing, at_rest, standing_of}
 use Rattle.cec_edges.specs.declared.edge_wire.EdgeWire.{EdgeWire}
 use Rattle.cec_wire.specs.Round.{IsRoundLine}
-use Rattle.cec_edges.specs.Wired.{IsBegun, IsKept, Listens}
+use Rattle.cec_edges.specs.Wired.{IsBegun, Listens}
 use Rattle.cec_net.specs.State.{NetState, next_start}
 use Rattle.cec_net.specs.Step.{seats_of}
 
@@ -28,7 +28,6 @@ idle s = record s { heard = None }
 -- A wire stands in a round, and has taken those of these pulses that have begun.
 pub record Takes (pulses : List Stretch) (w : EdgeWire) : Type 0 where
   pub stands : IsBegun w
-  pub kept : IsKept w
   pub listens : Listens w
   pub left : List Stretch
   pub parts : pulses ≡ w.pulses.items ++ left

@@ -3,7 +3,7 @@ ghost use Rattle.std.specs.Prelude.{◌≡◌, ◌==◌, ◌<◌, ◌≤◌, ◌
 ghost use Rattle.std.specs.List.{list_any};
 ghost use Rattle.cec_wave.specs.Pulses.{AreSparse};
 ghost use Rattle.cec_wire.specs.Lasting.{is_begun};
-ghost use Rattle.cec_edges.specs.Wired.{IsBegun, IsKept, IsNext, Listens};
+ghost use Rattle.cec_edges.specs.Wired.{IsBegun, IsNext, Listens};
 
 use arrayvec::ArrayVec;
 use cec_edges::EdgeWire;
@@ -103,10 +103,8 @@ fn is_next(wire: &EdgeWire, next: Option<Stretch>) -> bool
 // The next edge of a wire, which is handed the next pulse.
 fn edge(rt: &impl Abort, wire: &mut EdgeWire, next: Option<Stretch>) -> Option<Edge>
     requires begun { IsBegun wire.old }
-    requires kept { IsKept wire.old }
     requires listens { Listens wire.old }
     ensures begun { IsBegun wire.new }
-    ensures kept { IsKept wire.new }
     ensures listens { Listens wire.new }
 {
     assert!(rt; is_next(wire, next));
@@ -274,7 +272,6 @@ fn two_units_acknowledge(rt: HostRuntime) -> Result<(), Fail> {
 // The other edges of a round, which is handed a pulse until that has begun, and what it gave.
 fn finish(rt: &impl Abort, wire: &mut EdgeWire, pulse: Option<Stretch>) -> Outcome
     requires begun { IsBegun wire.old }
-    requires kept { IsKept wire.old }
     requires listens { Listens wire.old }
 {
     'edges: for _edge in 0..400 {

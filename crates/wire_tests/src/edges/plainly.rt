@@ -1,7 +1,7 @@
 //! Rounds from a generator against their definition computed plainly: a line is a set of stretches, all of it is laid
 //! out by what was read of it, and read again, until it stays as it is. Times count from the round's begin.
 ghost use Rattle.std.specs.Prelude.{◌≡◌, ◌<◌, length};
-ghost use Rattle.cec_edges.specs.Wired.{IsBegun, IsKept, Listens};
+ghost use Rattle.cec_edges.specs.Wired.{IsBegun, Listens};
 
 use super::is_next;
 use arrayvec::ArrayVec;
@@ -492,7 +492,6 @@ fn run(
     pulses: &[Stretch],
 ) -> Result<(Vec<Edge>, Outcome), Fail>
     requires begun { IsBegun wire.old }
-    requires kept { IsKept wire.old }
     requires listens { Listens wire.old }
 {
     let mut edges = Vec::new(alloc);

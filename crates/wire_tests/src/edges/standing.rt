@@ -1,6 +1,6 @@
 //! Where the receivers of a round stand after each of its edges, and how far its senders have come.
 ghost use Rattle.std.specs.Prelude.{◌≡◌, length};
-ghost use Rattle.cec_edges.specs.Wired.{IsBegun, IsKept, Listens};
+ghost use Rattle.cec_edges.specs.Wired.{IsBegun, Listens};
 
 use super::{edge, frame, seat, view};
 use cec_bits::{SenderState, Standing};
@@ -43,10 +43,8 @@ fn row(
     next: Option<Stretch>,
 ) -> Result<String, Fail>
     requires begun { IsBegun wire.old }
-    requires kept { IsKept wire.old }
     requires listens { Listens wire.old }
     ensures begun { IsBegun wire.new }
-    ensures kept { IsKept wire.new }
     ensures listens { Listens wire.new }
 {
     let next = next.filter(|pulse| wire.time <= pulse.from);
@@ -69,10 +67,8 @@ fn goes(
     rows: &str,
 ) -> Result<(), Fail>
     requires begun { IsBegun wire.old }
-    requires kept { IsKept wire.old }
     requires listens { Listens wire.old }
     ensures begun { IsBegun wire.new }
-    ensures kept { IsKept wire.new }
     ensures listens { Listens wire.new }
 {
     for expected in rows.lines() {

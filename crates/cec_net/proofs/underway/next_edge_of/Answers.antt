@@ -1,9 +1,6 @@
 use Rattle.cec_net.proofs.InRound.{next_pulse, takes_on, edge_on}
 use Rattle.cec_net.proofs.underway.next_edge_of.Goals as goal
 
-pub next_edge-requires-clause-kept : goal.next_edge-requires-clause-kept
-next_edge-requires-clause-kept c = c.requires.takes.kept
-
 pub next_edge-requires-clause-begun : goal.next_edge-requires-clause-begun
 next_edge-requires-clause-begun c = c.requires.takes.stands
 
@@ -13,7 +10,7 @@ next_edge-requires-clause-next c = next_pulse c.args.pulses.now c.args.wire.now 
 pub returns-clause-takes : goal.returns-clause-takes
 returns-clause-takes c =
     let e = c.next_edge.ensures in
-    takes_on c.args.pulses.now c.args.wire.now c.next_edge.new.self c.next_of-next.result c.requires.sparse c.requires.takes c.next_of-next.ensures e.begun e.kept e.listens e.round e.soon e.left
+    takes_on c.args.pulses.now c.args.wire.now c.next_edge.new.self c.next_of-next.result c.requires.sparse c.requires.takes c.next_of-next.ensures e.begun e.listens e.round e.soon e.left
 
 pub returns-clause-edge : goal.returns-clause-edge
 returns-clause-edge c = edge_on c.args.pulses.now c.args.wire.now c.next_of-next.result c.next_edge.result c.requires.sparse c.requires.takes c.next_of-next.ensures c.next_edge.ensures.edge

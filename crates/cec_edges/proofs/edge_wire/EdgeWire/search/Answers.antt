@@ -15,7 +15,7 @@ hear-requires-clause-near c =
     omega (arith, l.0, l.1, c.wait.ensures.near, c.take-next.ensures.time, c.wait.ensures.round.begin, c.take-next.ensures.round.begin)
 
 pub wakes-init : goal.wakes-init
-wakes-init c = search_begins c.args.self.now c.args.next c.requires.begun c.requires.next c.requires.kept
+wakes-init c = search_begins c.args.self.now c.args.next c.requires.begun c.requires.next
 
 pub returns-in-Some-clause-edge : goal.returns-in-Some-clause-edge
 returns-in-Some-clause-edge c =
@@ -44,7 +44,6 @@ returns-in-Some-clause-edge c =
       hears_pulses = h.pulses;
       hears_time = h.time;
       hears_begun = h.begun;
-      hears_kept = h.kept;
       hears_edge = h.edge;
     }))
 
@@ -80,7 +79,6 @@ wakes-preserved c =
       hears_pulses = h.pulses;
       hears_time = h.time;
       hears_begun = h.begun;
-      hears_kept = h.kept;
       hears_edge = h.edge;
     }) h.low
     (h.place ∙ ap (λ n. next_place n c.take-next.new.self.bits.items c.take-next.new.self.place c.take-next.new.self.time false false) (b.round.begin ∙ a.round.begin)
@@ -128,7 +126,6 @@ returns-in-Some-clause-left c =
       hears_pulses = h.pulses;
       hears_time = h.time;
       hears_begun = h.begun;
-      hears_kept = h.kept;
       hears_edge = h.edge;
     })
 
@@ -156,7 +153,6 @@ returns-in-Some-clause-goes c =
       hears_pulses = h.pulses;
       hears_time = h.time;
       hears_begun = h.begun;
-      hears_kept = h.kept;
       hears_edge = h.edge;
     })
 
@@ -199,7 +195,6 @@ returns-in-Some-clause-grows c =
       hears_pulses = h.pulses;
       hears_time = h.time;
       hears_begun = h.begun;
-      hears_kept = h.kept;
       hears_edge = h.edge;
     })
 
@@ -227,7 +222,6 @@ returns-in-Some-clause-passes c =
       hears_pulses = h.pulses;
       hears_time = h.time;
       hears_begun = h.begun;
-      hears_kept = h.kept;
       hears_edge = h.edge;
     })
 

@@ -8,7 +8,7 @@ pub edges-init : goal.edges-init
 edges-init c =
     let e = c.started-wire.ensures in
     goes_begin c.args.seats.now c.args.start c.skipped-skipped.result c.as_slice-stretches.result.now c.started-wire.result c.next_of-next.result c.as_slice-stretches.ensures.sparse c.skipped-skipped.ensures.few
-    c.skipped-skipped.ensures.late e.begun e.kept e.seats e.begin e.time e.pulses c.next_of-next.ensures
+    c.skipped-skipped.ensures.late e.begun e.seats e.begin e.time e.pulses c.next_of-next.ensures
 
 pub search-requires-clause-begun : goal.search-requires-clause-begun
 search-requires-clause-begun c = c.edges.invariant.1.begun
@@ -27,11 +27,11 @@ pub edges-preserved : goal.edges-preserved
 edges-preserved c =
     let e = c.search.ensures in
     goes_more c.args.seats.now c.args.start c.skipped-skipped.result c.as_slice-stretches.result.now c.edges.wire c.search.new.self c.edges.next c.next_of-next-in-edges.result c.as_slice-stretches.ensures.sparse
-    c.skipped-skipped.ensures.few c.edges.invariant e.begun e.kept e.round e.soon e.left c.next_of-next-in-edges.ensures
+    c.skipped-skipped.ensures.few c.edges.invariant e.begun e.round e.soon e.left c.next_of-next-in-edges.ensures
 
 pub returns : goal.returns
 returns c =
     let e = c.search.ensures in
     subst (λ (ps : List Stretch). IsRound c.args.seats.now c.args.start ps c.finished.result) c.as_slice-stretches.ensures.pulses
     (goes_round c.args.seats.now c.args.start c.skipped-skipped.result c.as_slice-stretches.result.now c.edges.wire c.search.new.self c.edges.next c.finished.result c.as_slice-stretches.ensures.sparse
-    c.skipped-skipped.ensures.before c.edges.invariant e.begun e.kept e.round e.soon e.left c.finished.ensures.round)
+    c.skipped-skipped.ensures.before c.edges.invariant e.begun e.round e.soon e.left c.finished.ensures.round)
