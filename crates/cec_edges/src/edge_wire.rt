@@ -2,15 +2,15 @@
 ghost use Rattle.std.specs.Prelude.{◌≡◌, ◌+◌, ◌<◌, ◌≤◌, ◌++◌, ◌&&◌, not, true, false, length, [], All, take, slice_get, IfSome};
 ghost use Rattle.std.specs.List.{list_any};
 ghost use Rattle.cec_wire.specs.Edges.{sends_on, sending_by, IsTimely};
-ghost use Rattle.cec_wire.specs.Machine.{next_place, bit_told, held_after, recorded, low_since, samples, AreSentWell, IsEarly, IsReady, IsSentWell};
+ghost use Rattle.cec_wire.specs.Machine.{next_place, bit_told, held_after, recorded, low_since, samples, AreSentWell, IsEarly, IsReady};
 
 use crate::listeners::{Listeners, sender_at};
 use arrayvec::ArrayVec;
 use cec_bits::{Receiver, Sender};
 use cec_wave::{Edge, Pulses, Stretch};
 use cec_wire::{
-    Outcome, Place, Recorder, Seat, Wire, ending, held_until, is_pulsed, next_wake, outcome_of,
-    pulls_on, pulses_until, senders_until, sending_after, sending_first,
+    Outcome, Place, Recorder, Seat, Wire, ending, held_until, is_pulsed, is_sent, leave_out,
+    next_wake, outcome_of, pulses_until, senders_until, sending_first,
 };
 use std::mem;
 
@@ -22,28 +22,13 @@ pub struct EdgeWire {
     pub(crate) pulses: ArrayVec<Stretch, 24>,
     pub(crate) time: u64,
     pub(crate) bits: ArrayVec<bool, 160>,
-    /// Which seats go on sending, by these bits.
-    sending: ArrayVec<bool, 15>,
+    /// The seats that go on sending, by these bits: they alone are asked who pulls.
+    sending: ArrayVec<Seat, 15>,
     place: Place,
     held: u64,
     recorder: Recorder,
     listeners: Listeners,
     ghost kept: { sending.items ≡ sending_by bits.items seats.items },
-}
-
-// The same seat again. What it sends has 1 to 16 blocks (CEC 6).
-fn copied(seat: &Seat) -> Seat
-    ensures same { result ≡ seat.now }
-    ensures sends { IsSentWell result.sends }
-{
-    Seat {
-        plugged: seat.plugged,
-        holds: [seat.holds[0], seat.holds[1]],
-        sends: match &seat.sends {
-            None => None,
-            Some(frame) => Some(frame.copy()),
-        },
-    }
 }
 
 fn copied_seats(seats: &[Seat]) -> ArrayVec<Seat, 15>
@@ -53,7 +38,7 @@ fn copied_seats(seats: &[Seat]) -> ArrayVec<Seat, 15>
 {
     let mut kept = ArrayVec::new();
     for seat in seats {
-        kept.push(copied(seat));
+        kept.push(seat.copy());
     }
     kept
 }
@@ -73,16 +58,6 @@ fn copied_bits(bits: &[bool]) -> ArrayVec<bool, 160>
     ensures { result.items ≡ bits.now }
 {
     match ArrayVec::try_from(bits) {
-        Ok(kept) => kept,
-        Err(_) => unreachable!(),
-    }
-}
-
-fn copied_sending(sending: &[bool]) -> ArrayVec<bool, 15>
-    requires { length sending.now ≤ 15 }
-    ensures { result.items ≡ sending.now }
-{
-    match ArrayVec::try_from(sending) {
         Ok(kept) => kept,
         Err(_) => unreachable!(),
     }
@@ -137,7 +112,7 @@ impl EdgeWire {
             pulses: copied_pulses(self.pulses.as_slice()),
             time: self.time,
             bits: copied_bits(self.bits.as_slice()),
-            sending: copied_sending(self.sending.as_slice()),
+            sending: copied_seats(self.sending.as_slice()),
             place: self.place,
             held: self.held,
             recorder: self.recorder.copy(),
@@ -177,18 +152,7 @@ impl EdgeWire {
     fn anybody_sends(&self, until: u64) -> bool
         ensures { result ≡ list_any (λ s. sends_on self.now.begin self.now.bits.items until self.now.time s.sends) self.now.seats.items }
     {
-        for place in 0..self.seats.len() {
-            if pulls_on(
-                &self.seats[place],
-                self.sending[place],
-                self.begin,
-                until,
-                self.time,
-            ) {
-                return true;
-            }
-        }
-        false
+        is_sent(self.sending.as_slice(), self.begin, until, self.time)
     }
 
     // Whether the line is low in the next microsecond.
@@ -294,11 +258,7 @@ impl EdgeWire {
             .after(self.begin, self.bits.as_slice(), self.time, falls, rises);
         if self.place.samples(self.time, falls) {
             self.bits.push(!is_low);
-            self.sending = sending_after(
-                self.seats.as_slice(),
-                self.sending.as_slice(),
-                self.bits.as_slice(),
-            );
+            leave_out(&mut self.sending, self.bits.as_slice());
         }
         self.held = held_until(
             self.seats.as_slice(),

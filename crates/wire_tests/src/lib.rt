@@ -1,10 +1,8 @@
-//! Tests of the crates of the wire: worked lines, frames, pulses and rounds.
+//! Tests of the crates of the wire: worked lines, frames and pulses.
 #![tactic(auto)]
 
 #[cfg(test)]
 mod bits;
-#[cfg(test)]
-mod edges;
 #[cfg(test)]
 mod frames;
 #[cfg(test)]

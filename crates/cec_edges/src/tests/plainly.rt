@@ -4,8 +4,8 @@ ghost use Rattle.std.specs.Prelude.{◌≡◌, ◌<◌, length};
 ghost use Rattle.cec_edges.specs.Wired.{IsBegun, Listens};
 
 use super::is_next;
+use crate::EdgeWire;
 use arrayvec::ArrayVec;
-use cec_edges::EdgeWire;
 use cec_frame::{Addr, Ending, Frame};
 use cec_wave::{Edge, Stretch};
 use cec_wire::{Loser, Outcome, Seat};

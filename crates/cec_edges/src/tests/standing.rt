@@ -3,8 +3,8 @@ ghost use Rattle.std.specs.Prelude.{◌≡◌, length};
 ghost use Rattle.cec_edges.specs.Wired.{IsBegun, Listens};
 
 use super::{edge, frame, seat, view};
+use crate::EdgeWire;
 use cec_bits::{SenderState, Standing};
-use cec_edges::EdgeWire;
 use cec_wave::Stretch;
 use std::alloc::Global;
 use std::process::Abort;

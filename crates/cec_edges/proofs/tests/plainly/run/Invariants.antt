@@ -1,5 +1,5 @@
 use Rattle.cec_edges.specs.Wired.{IsBegun, Listens}
-use Rattle.wire_tests.proofs.edges.plainly.run.Given as goal
+use Rattle.cec_edges.proofs.tests.plainly.run.Given as goal
 
 abbrev pub invariant-edges : goal.invariant-edges
 invariant-edges g l = record { begun : IsBegun l.wire; listens : Listens l.wire }

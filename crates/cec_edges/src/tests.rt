@@ -5,8 +5,8 @@ ghost use Rattle.cec_wave.specs.Pulses.{AreSparse};
 ghost use Rattle.cec_wire.specs.Lasting.{is_begun};
 ghost use Rattle.cec_edges.specs.Wired.{IsBegun, IsNext, Listens};
 
+use crate::EdgeWire;
 use arrayvec::ArrayVec;
-use cec_edges::EdgeWire;
 use cec_frame::{Addr, Ending, Frame};
 use cec_wave::{Edge, Pulses, Stretch};
 use cec_wire::{Fate, Loser, Outcome, Seat, Wire};
