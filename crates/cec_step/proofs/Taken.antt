@@ -1,5 +1,5 @@
 -- What a step has done, told of its own text as of that of a round.
-use Rattle.std.proofs.Common.{◌≡◌, ℕ, Bool, true, List, slice_get, Option, Some, Result, Ok, Err, ap, ◌∙◌, sym, refl, subst}
+use Rattle.std.proofs.Common.{◌≡◌, ℕ, zero, suc, ◌<◌, ◌⊎◌, inl, inr, Bool, true, List, slice_get, Option, Some, Result, Ok, Err, ap, ◌∙◌, sym, refl, subst, arith}
 use Rattle.cec_wire.specs.declared.Outcome.{Outcome}
 use Rattle.hdmi_core.specs.declared.sink.WriteFault.{WriteFault}
 use Rattle.cec_words.specs.Cut.{WrittenText}
@@ -8,6 +8,7 @@ use Rattle.cec_run.specs.StateText.{state_line}
 use Rattle.cec_step.specs.declared.break_at.Break.{Break}
 use Rattle.cec_step.specs.declared.stepper.StepError.{StepError}
 use Rattle.cec_step.specs.declared.stepper.StepError.TheVariants.{Ended, Write}
+use Rattle.cec_step.specs.Ready.{Brings}
 use Rattle.cec_step.specs.Steps.{Point, Steps, IsNever, IsOver, IsRound, IsRoundStep, IsShown, IsTaken, IsUntil, Skips, after_round, shown_net, step_text, stops}
 
 -- a step that gives what another gives
@@ -42,3 +43,15 @@ pub shown_cut : (s : Steps) (device : ℕ) (d : State) (old new : Option (List �
 shown_cut s device d old new was is fault error found same ((count, short, told, wrote), flag) =
     let here : IsTaken (IsShown s device) ⊥ s s old new (Err (Write fault.count)) = (refl, state_line d, s, (d, found, refl, refl), count, short, told, wrote) in
     subst (λ x. IsTaken (IsShown s device) ⊥ s s old new (Err x)) (sym same) here
+
+-- rounds behind others, none of which stops a search
+pub skips_then : (end : ℕ) (at : Break) (n m : ℕ) (p mid q : Point) → Skips end at n p mid → Skips end at m mid q → (rounds : ℕ) × Skips end at rounds p q
+skips_then end at n zero p mid q h k = (n, subst (λ x. Skips end at n p x) (sym k) h)
+skips_then end at n (suc m) p mid q h (next, o, skips, step, other) =
+    let before = skips_then end at n m p mid next h skips in
+    (suc before.0, (next, o, before.1, step, other))
+
+-- a round brings the rest on, and so do others before it, if any
+pub brings_then : (end counter : ℕ) (p mid q : Point) → ((counter ≡ 0) × (mid ≡ p)) ⊎ Brings end p mid → Brings end mid q → Brings end p q
+brings_then end counter p mid q (inl (none, same)) k = subst (λ x. Brings end x q) same k
+brings_then end counter p mid q (inr h) k = record { before = h.before; later = omega (arith, h.later, k.later) }

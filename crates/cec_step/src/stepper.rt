@@ -19,6 +19,9 @@ use std::alloc::{AllocError, Global};
 use std::marker::Model;
 use thiserror::Error;
 
+/// How many rounds a search leaps over at once.
+const LEAP: u32 = 64;
+
 /// Why a step was not taken.
 #[derive(Clone, Copy, Debug, Drop, PartialEq, Eq, Error)]
 pub enum StepError {
@@ -89,14 +92,14 @@ fn write_step<S: Sink>(
 }
 
 impl Stepper {
-    ghost use Rattle.std.specs.Prelude.{◌||◌, ◌<◌, IfOk, MatchOption, slice_get};
+    ghost use Rattle.std.specs.Prelude.{◌||◌, ◌<◌, IfOk, IsTrue, MatchOption, slice_get};
     ghost use Rattle.std.specs.Option.{option_map};
     ghost use Rattle.cec_asm.specs.Script.{IsScript, course_of};
     ghost use Rattle.hdmi_blocks.specs.declared.edid.Edid.{Edid};
     ghost use Rattle.cec_run.specs.Root.{IsRoot as IsRootOf};
     ghost use Rattle.cec_net.specs.State.{started};
-    ghost use Rattle.cec_step.specs.Ready.{IsFound, IsInside};
-    ghost use Rattle.cec_step.specs.Steps.{IsEdgeStep, IsNever, IsNoEdge, IsOver, IsRound, IsRoundStep, IsTaken, IsUntil, IsFirstStep, IsShown, after_round, begun_at, device_count, in_round, is_write, shown_net};
+    ghost use Rattle.cec_step.specs.Ready.{Brings, IsFound, IsInside};
+    ghost use Rattle.cec_step.specs.Steps.{IsEdgeStep, IsNever, IsNoEdge, IsOver, IsRound, IsRoundStep, IsTaken, IsUntil, IsFirstStep, IsShown, Skips, after_round, begun_at, device_count, in_round, is_write, shown_net};
 
     // Stands after a round.
     fn stand_after(&mut self, after: Position)
@@ -169,11 +172,33 @@ impl Stepper {
         self.take(last, next, &report.outcome, out)
     }
 
-    // Goes on to the first round that is looked for. Returns the positions before and after it, and its outcome.
+    // Goes on over as many rounds as are leapt over at once, where none of them is looked for. Returns whether it went on.
+    fn leap(&self, at: Break, here: &mut Position) -> bool
+        requires { IsReady self.now.run.end (point_of self.now.run.events here.old) }
+        ensures skips { (rounds : ℕ) × Skips self.now.run.end at rounds (point_of self.now.run.events here.old) (point_of self.now.run.events here.new) }
+        ensures ready { IsReady self.now.run.end (point_of self.now.run.events here.new) }
+        ensures goes { IsTrue result → Brings self.now.run.end (point_of self.now.run.events here.old) (point_of self.now.run.events here.new) }
+    {
+        let mut ahead = here.copy();
+        'rounds: for _ in 0..LEAP {
+            let Some(report) = ahead.pass_round(&self.course) else {
+                return false;
+            };
+            if stops(at, &report.outcome) {
+                return false;
+            }
+        }
+        *here = ahead;
+        true
+    }
+
+    // Goes on to the first round that is looked for. Returns the positions before and after it, and its outcome. A position
+    // is large: it is copied before each round only where the one that is looked for is near.
     fn search(&self, at: Break) -> Option<Found>
         ensures { MatchOption result (IsNever self.now at) (λ found. IsFound self.now at found) }
     {
         let mut before = self.copied_last();
+        'leaps: while self.leap(at, &mut before) {}
         'rounds: loop {
             let mut after = before.copy();
             let Some(report) = after.pass_round(&self.course) else {

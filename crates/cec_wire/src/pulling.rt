@@ -57,12 +57,24 @@ fn sender_pulls(sends: &Option<Frame>, start: u64, t: u64) -> bool
     }
 }
 
-/// Whether a seat's sender pulls in microsecond `t`, where it `sends` on until an instant.
-pub fn pulls_on(seat: &Seat, sends: bool, begin: u64, until: u64, t: u64) -> bool
-    ensures { result ≡ (sent_low begin seat.now.sends t && (sends && nat_le t until)) }
+// Whether one of these seats, which all go on sending, pulls in microsecond `t`.
+fn is_any_low(sending: &[Seat], begin: u64, t: u64) -> bool
+    ensures { result ≡ list_any (λ s. sent_low begin s.sends t) sending.now }
 {
-    if sends && t <= until {
-        sender_pulls(&seat.sends, begin, t)
+    for seat in sending {
+        if sender_pulls(&seat.sends, begin, t) {
+            return true;
+        }
+    }
+    false
+}
+
+/// Whether one of these seats, which send on until an instant, pulls in microsecond `t`.
+pub fn is_sent(sending: &[Seat], begin: u64, until: u64, t: u64) -> bool
+    ensures { result ≡ (nat_le t until && list_any (λ s. sent_low begin s.sends t) sending.now) }
+{
+    if t <= until {
+        is_any_low(sending, begin, t)
     } else {
         false
     }

@@ -2,9 +2,10 @@
 use crate::fault::{Fault, Part};
 
 /// What a cause begins with, and what would be right.
-type Row = (&'static str, &'static str);
+pub type Row = (&'static str, &'static str);
 
-const TOPOLOGY: [Row; 11] = [
+/// The causes of a topology.
+pub const TOPOLOGY: [Row; 11] = [
     (
         "word",
         "KIND is tv, amp, player, recorder, switch or combo; words stand one space apart; `edid` comes once",
@@ -45,7 +46,8 @@ const TOPOLOGY: [Row; 11] = [
     ),
 ];
 
-const SCRIPT: [Row; 8] = [
+/// The causes of a script, but for `frame` and the cause of a frame.
+pub const SCRIPT: [Row; 8] = [
     (
         "word",
         "words stand one space apart, and nothing follows the last one",
@@ -76,7 +78,7 @@ const SCRIPT: [Row; 8] = [
 
 const STEPS: [Row; 1] = [(
     "",
-    "a line is `edge`, `round`, `until opcode XX`, `until device NAME`, `until break` or `show NAME`",
+    "XX is an opcode, two hex digits in lower case; NAME has a `device` line in the topology; words stand one space apart",
 )];
 
 const LINES: [Row; 7] = [

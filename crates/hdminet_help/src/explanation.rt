@@ -3,7 +3,9 @@ use crate::causes::right;
 use crate::edges::in_edges;
 use crate::fault::{Fault, Part, read_fault};
 use crate::frames::add_frame;
-use crate::grammar::{EDID_WORDS, KEYS, KEYWORDS, KINDS, SCRIPT, TOPOLOGY, fitting, most_fitting};
+use crate::grammar::{
+    EDID_WORDS, KEYS, KEYWORDS, KINDS, SCRIPT, STEP_WORDS, STEPS, TOPOLOGY, fitting, most_fitting,
+};
 use crate::hints::{is_shown, of_edid, of_line, of_text};
 use crate::marks::{Mark, marked};
 use crate::order::order;
@@ -228,6 +230,19 @@ fn add_nearest_word(text: &mut String, alloc: Global, word: &str) -> Result<bool
     add_nearest(text, alloc, KEYS.as_slice(), word)
 }
 
+// The word of a step, or the name of a device, that a word may have been meant for.
+fn add_nearest_step(
+    text: &mut String,
+    alloc: Global,
+    word: &str,
+    declared: &[&str],
+) -> Result<bool, AllocError> {
+    if add_nearest(text, alloc, STEP_WORDS.as_slice(), word)? {
+        return Ok(true);
+    }
+    add_nearest(text, alloc, declared, word)
+}
+
 // What the word at fault may have been meant for.
 fn add_suggestion(
     text: &mut String,
@@ -246,7 +261,8 @@ fn add_suggestion(
         Part::Topology | Part::Script => add_nearest_word(text, alloc, word),
         Part::EdidText => add_nearest(text, alloc, EDID_WORDS.as_slice(), word),
         Part::Lines => add_nearest_opcode(text, alloc, word),
-        Part::Steps | Part::Edid | Part::Program => Ok(false),
+        Part::Steps => add_nearest_step(text, alloc, word, declared),
+        Part::Edid | Part::Program => Ok(false),
     }
 }
 
@@ -280,6 +296,7 @@ fn add_place(
     match (fault.part, fault.cause) {
         (Part::Topology, "word") => add_forms(text, TOPOLOGY.as_slice(), &words)?,
         (Part::Script, "word") => add_forms(text, SCRIPT.as_slice(), &words)?,
+        (Part::Steps, _) => add_forms(text, STEPS.as_slice(), &words)?,
         (Part::Script, "order") => add_order(text, alloc, input, place)?,
         _ => {}
     }

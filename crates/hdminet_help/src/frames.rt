@@ -1,4 +1,5 @@
 //! The words of frames, from the tables of opcodes.
+use crate::list::List;
 use crate::words::Word;
 use cec_opcode::{Operand, Operands, WordSet, code_named, name, operands_of};
 use cec_shape::{frame_shape, set_label};
@@ -20,12 +21,6 @@ const SETS: [WordSet; 13] = [
     WordSet::Version,
     WordSet::UserControl,
 ];
-
-/// Lines of help are this long at most.
-const COLUMNS: usize = 100;
-
-/// The words that a list continues behind stand so far to the right.
-const INDENT: &str = "           ";
 
 const BYTE: &str = "BYTE is two lower-case hex digits";
 
@@ -153,23 +148,9 @@ pub fn add_frame(
 
 // The label and the words of a set, in lines of some columns.
 fn list_set(text: &mut String, set: WordSet) -> Result<(), AllocError> {
-    let label = set_label(set);
-    text.push_str("  ")?;
-    text.push_str(label)?;
-    for _ in label.len()..8 {
-        text.push(' ')?;
-    }
-    let mut column = 10usize;
+    let mut list = List::begin(text, set_label(set), 8)?;
     for word in set.words() {
-        column = column.saturating_add(word.text.len()).saturating_add(1);
-        if column > COLUMNS {
-            text.push('\n')?;
-            text.push_str(INDENT)?;
-            column = INDENT.len().saturating_add(word.text.len());
-        } else {
-            text.push(' ')?;
-        }
-        text.push_str(word.text)?;
+        list.add(text, word.text)?;
     }
     text.push('\n')
 }

@@ -1,4 +1,4 @@
-//! The forms of the lines of topologies and scripts. A word in capitals stands for a value.
+//! The forms of the lines of topologies, scripts and steps. A word in capitals stands for a value.
 use crate::words::Word;
 
 /// The lines of a topology.
@@ -17,6 +17,21 @@ pub const SCRIPT: [&str; 7] = [
     "at T send NAME FRAME",
     "pulse T WIDTH",
     "end T",
+];
+
+/// The steps.
+pub const STEPS: [&str; 6] = [
+    "edge",
+    "round",
+    "until opcode XX",
+    "until device NAME",
+    "until break",
+    "show NAME",
+];
+
+/// The words of steps that stand for themselves.
+pub const STEP_WORDS: [&str; 7] = [
+    "edge", "round", "until", "opcode", "device", "break", "show",
 ];
 
 /// The words that stand for a KIND.
@@ -90,12 +105,24 @@ fn is_value(wanted: &str) -> bool {
     }
 }
 
+// Whether a byte is a hex digit as opcodes are written.
+fn is_digit(byte: u8) -> bool {
+    byte.is_ascii_digit() || (b'a'..=b'f').contains(&byte)
+}
+
+// Whether a word is an opcode: two hex digits in lower case.
+fn is_opcode(word: &str) -> bool {
+    word.len() == 2 && word.bytes().all(is_digit)
+}
+
 // Whether a word may stand where a form has another.
 fn fits(wanted: &str, word: &str) -> bool {
     if wanted == "KIND" {
         KINDS.contains(&word)
     } else if wanted == "KEY" {
         KEYS.contains(&word)
+    } else if wanted == "XX" {
+        is_opcode(word)
     } else {
         is_value(wanted) || wanted == word
     }

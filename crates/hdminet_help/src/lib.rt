@@ -10,9 +10,12 @@ mod fault;
 mod frames;
 mod grammar;
 mod hints;
+mod list;
 mod marks;
 mod order;
+mod script_words;
 mod words;
 
 pub use explanation::{Input, counts, explain};
 pub use frames::frame_forms;
+pub use script_words::run_words;

@@ -1,6 +1,6 @@
 //! Which words of a line are at fault.
 use crate::fault::{Fault, Part};
-use crate::grammar::{SCRIPT, TOPOLOGY, most_fitting};
+use crate::grammar::{SCRIPT, STEPS, TOPOLOGY, most_fitting};
 use crate::words::Word;
 
 /// Words side by side in a line, by their numbers from 0.
@@ -92,6 +92,16 @@ fn in_script(cause: &str, words: &[Word<'_>], declared: &[&str]) -> Option<Mark>
     }
 }
 
+// The first word that no step has there, or else a name that no device has.
+fn in_steps(words: &[Word<'_>], declared: &[&str]) -> Option<Mark> {
+    let name = if is_word(words, 0, "show") { 1 } else { 2 };
+    match unfit(STEPS.as_slice(), words) {
+        Some(mark) => Some(mark),
+        None if name < words.len() && !is_declared(words, name, declared) => one(name),
+        None => None,
+    }
+}
+
 // A frame's text that begins at a word.
 fn in_frame(cause: &str, at: usize) -> Option<Mark> {
     match cause {
@@ -111,7 +121,8 @@ pub fn marked(fault: Fault<'_>, words: &[Word<'_>], declared: &[&str]) -> Option
         },
         Part::Lines => in_frame(fault.cause, 0),
         Part::EdidText if fault.cause.starts_with("field") => from(1),
-        Part::EdidText | Part::Steps => one(0),
+        Part::EdidText => one(0),
+        Part::Steps => in_steps(words, declared),
         Part::Edid => from(1),
         Part::Program => None,
     }

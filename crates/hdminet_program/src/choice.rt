@@ -2,7 +2,7 @@
 use crate::help;
 use clap::error::ErrorKind;
 use clap::{Arg, ArgAction, ArgMatches, Command, Error};
-use hdminet_help::{Input, frame_forms};
+use hdminet_help::{Input, frame_forms, run_words};
 use std::alloc::{AllocError, Global};
 
 /// What the words of a command line ask for.
@@ -63,23 +63,27 @@ fn edid_command<'a>(alloc: Global) -> Result<Command<'a>, AllocError> {
         .arg(text)
 }
 
-fn run_command<'a>(alloc: Global) -> Result<Command<'a>, AllocError> {
+fn run_command<'a>(alloc: Global, run_help: &'a str) -> Result<Command<'a>, AllocError> {
     let edges = Arg::new(alloc, "edges")
         .long("edges")
         .help(help::EDGES_FLAG)
         .action(ArgAction::SetTrue);
     Command::new(alloc, "run")
         .about(help::RUN_ABOUT)
-        .after_help(help::RUN_HELP)
+        .after_help(run_help)
         .arg(edges)
+}
+
+// Whether help is asked for.
+fn asks_help(words: &[String]) -> bool {
+    words
+        .iter()
+        .any(|word| word.as_str() == "--help" || word.as_str() == "-h")
 }
 
 // What follows the help of `asm`: with the forms of frames from the tables, where help is asked for.
 fn asm_help(alloc: Global, words: &[String]) -> Result<String, AllocError> {
-    if !words
-        .iter()
-        .any(|word| word.as_str() == "--help" || word.as_str() == "-h")
-    {
+    if !asks_help(words) {
         return String::from_str(alloc, help::ASM_HELP);
     }
     let forms = frame_forms(alloc)?;
@@ -91,7 +95,25 @@ fn asm_help(alloc: Global, words: &[String]) -> Result<String, AllocError> {
     )
 }
 
-fn command<'a>(alloc: Global, asm_help: &'a str) -> Result<Command<'a>, AllocError> {
+// What follows the help of `run`: with keys, codes and causes from the tables, where help is asked for.
+fn run_help(alloc: Global, words: &[String]) -> Result<String, AllocError> {
+    if !asks_help(words) {
+        return String::from_str(alloc, help::RUN_HELP);
+    }
+    let lists = run_words(alloc)?;
+    format!(in alloc;
+        "{}\n\n{}\n{}",
+        help::RUN_HELP,
+        help::RUN_WORDS,
+        lists.trim_end()
+    )
+}
+
+fn command<'a>(
+    alloc: Global,
+    run_help: &'a str,
+    asm_help: &'a str,
+) -> Result<Command<'a>, AllocError> {
     let asm = Command::new(alloc, "asm")
         .about(help::ASM_ABOUT)
         .after_help(asm_help);
@@ -107,7 +129,7 @@ fn command<'a>(alloc: Global, asm_help: &'a str) -> Result<Command<'a>, AllocErr
         .after_help(help::OVERVIEW)
         .disable_help_subcommand(true)
         .arg(explain_flag(alloc))?
-        .subcommand(run_command(alloc)?)?
+        .subcommand(run_command(alloc, run_help)?)?
         .subcommand(step)?
         .subcommand(asm)?
         .subcommand(mon)?
@@ -129,8 +151,10 @@ fn choice_of(matches: &ArgMatches<'_>) -> Choice {
 
 /// Reads a command line. With no word after the program's name it is `run`.
 pub fn choose(alloc: Global, words: &[String]) -> Result<Asked, Error> {
+    let run_help = run_help(alloc, words)?;
     let asm_help = asm_help(alloc, words)?;
-    let matches = command(alloc, asm_help.as_str())?.try_get_matches_from(words)?;
+    let command = command(alloc, run_help.as_str(), asm_help.as_str())?;
+    let matches = command.try_get_matches_from(words)?;
     Ok(Asked {
         choice: choice_of(&matches),
         explains: matches.get_flag("explain"),

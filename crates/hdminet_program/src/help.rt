@@ -67,15 +67,8 @@ The script says what happens, in the order of its times, and when the run ends:
                                 at least 25000 after the end of the one above, at most 4096
   end T                         the last line
 
-Keys, by the kinds that have them:
-  play, stop, eject, load, menu                     player, recorder, combo
-  power                                             all
-  watch PA, audio on, audio off, language LLL       tv
-  remote D CODE                 D is 1 to e         tv
-  arc on, arc off, volume-up, volume-down, mute     tv, amp
-  port N                                            switch
-CODE: select up down left right root-menu exit digit-0 .. digit-9 power volume-up volume-down mute
-play stop pause power-off power-on. PA is an address as 1.0.0.0, LLL a language as eng.
+The keys, and the kinds that have them, are listed below. PA is an address as 1.0.0.0, LLL a language as
+eng, D the logical address of a device, 1 to e, and CODE a key of the remote control.
 
 An example:
   device tv tv 4
@@ -105,16 +98,18 @@ An event is refused, and the run goes on, with one of
   send      off-wire, no-address, own-address, queue-full
 
 Faults: `topology line N: CAUSE`, `script line N: CAUSE`, `edid: CAUSE`, `no script line`. N counts
-from the first line of its part, and nothing is written to standard output then. CAUSE is
-  of a topology   word, number, name, full, second-root, port-range, port-taken, not-loose, loop, hex,
-                  no-root
-  of a script     word, number, name, frame and the cause of `hdminet asm`, width, order, close,
-                  too-many, end
-  of an EDID      length, count, base header, base checksum, base revision, base maker,
-                  ext 1 checksum, no-hdmi-block
+from the first line of its part, and nothing is written to standard output then. The causes of
+topologies and scripts are listed below; of a script there is also `frame` and the cause of
+`hdminet asm`. CAUSE of an EDID is length, count, base header, base checksum, base revision, base maker,
+ext 1 checksum or no-hdmi-block.
 
 Exit status: 0 done; 1 input refused; 2 command line refused; 3 a read or write fault, or input
 past 1048576 bytes; 4 no memory.";
+
+/// What the list of the words of topologies and scripts begins with.
+pub const RUN_WORDS: &str = "\
+The keys, each with the kinds that have it, and the codes of a remote control; port N is a key of a switch
+with so many ports:";
 
 pub const STEP_ABOUT: &str = "Takes a run step by step, edge by edge or round by round";
 

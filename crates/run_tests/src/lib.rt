@@ -16,6 +16,8 @@ mod random_files;
 #[cfg(test)]
 mod runs;
 #[cfg(test)]
+mod step_writers;
+#[cfg(test)]
 mod steps;
 #[cfg(test)]
 mod sweeps;

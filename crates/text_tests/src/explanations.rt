@@ -1,5 +1,5 @@
 //! What is said of faults. Each input is as a user gives it, with the line of its fault.
-use hdminet_help::{Input, counts, explain};
+use hdminet_help::{Input, counts, explain, run_words};
 use std::alloc::Global;
 use std::process::Abort;
 use std::test::Fail;
@@ -322,6 +322,75 @@ const EDID_TEXTS: [Case; 3] = [
     ),
 ];
 
+const STEPS: [Case; 7] = [
+    (
+        b"device lounge tv 4\nscript\nend 5\nsteps\nedge\nedges\n",
+        "steps line 2",
+        "  line 6: edges
+          ^^^^^
+  a line here reads `edge`, `round`, `until opcode XX`, `until device NAME`, `until break`, `show NAME`
+  `edges`: did you mean `edge`?
+  XX is an opcode, two hex digits in lower case; NAME has a `device` line in the topology; words stand one space apart
+",
+    ),
+    (
+        b"device lounge tv 4\nscript\nend 5\nsteps\nuntil opcode 8F\n",
+        "steps line 1",
+        "  line 5: until opcode 8F
+                       ^^
+  a line here reads `until opcode XX`
+  XX is an opcode, two hex digits in lower case; NAME has a `device` line in the topology; words stand one space apart
+",
+    ),
+    (
+        b"device lounge tv 4\nscript\nend 5\nsteps\nuntil devise lounge\n",
+        "steps line 1",
+        "  line 5: until devise lounge
+                ^^^^^^
+  a line here reads `until opcode XX`, `until device NAME`, `until break`
+  `devise`: did you mean `device`?
+  XX is an opcode, two hex digits in lower case; NAME has a `device` line in the topology; words stand one space apart
+",
+    ),
+    (
+        b"device lounge tv 4\nscript\nend 5\nsteps\nuntil device lonuge\n",
+        "steps line 1",
+        "  line 5: until device lonuge
+                       ^^^^^^
+  a line here reads `until device NAME`
+  `lonuge`: did you mean `lounge`?
+  XX is an opcode, two hex digits in lower case; NAME has a `device` line in the topology; words stand one space apart
+",
+    ),
+    (
+        b"device lounge tv 4\nscript\nend 5\nsteps\nshow lounge2\n",
+        "steps line 1",
+        "  line 5: show lounge2
+               ^^^^^^^
+  a line here reads `show NAME`
+  `lounge2`: did you mean `lounge`?
+  XX is an opcode, two hex digits in lower case; NAME has a `device` line in the topology; words stand one space apart
+",
+    ),
+    (
+        b"device lounge tv 4\nscript\nend 5\nsteps\nround 2\n",
+        "steps line 1",
+        "  line 5: round 2
+                ^
+  a line here reads `round`
+  XX is an opcode, two hex digits in lower case; NAME has a `device` line in the topology; words stand one space apart
+",
+    ),
+    (
+        b"device lounge tv 4\nscript\nend 5\nsteps\nuntil\n",
+        "steps line 1",
+        "  line 5: until
+  a line here reads `until opcode XX`, `until device NAME`, `until break`
+  XX is an opcode, two hex digits in lower case; NAME has a `device` line in the topology; words stand one space apart
+",
+    ),
+];
+
 fn are_explained(rt: &impl Abort, alloc: Global, what: Input, cases: &[Case]) -> Result<(), Fail> {
     for (input, fault, want) in cases {
         let text = explain(alloc, what, fault, input)?;
@@ -334,6 +403,7 @@ fn are_explained(rt: &impl Abort, alloc: Global, what: Input, cases: &[Case]) ->
 fn faults_are_explained(rt: HostRuntime) -> Result<(), Fail> {
     let alloc = rt.alloc();
     are_explained(&rt, alloc, Input::Network, NETWORKS.as_slice())?;
+    are_explained(&rt, alloc, Input::Network, STEPS.as_slice())?;
     are_explained(&rt, alloc, Input::Lines, FRAMES.as_slice())?;
     are_explained(&rt, alloc, Input::EdidBytes, EDIDS.as_slice())?;
     are_explained(&rt, alloc, Input::EdidText, EDID_TEXTS.as_slice())
@@ -412,6 +482,39 @@ fn a_long_line_is_cut(rt: HostRuntime) -> Result<(), Fail> {
     let marks = "^".repeat(rt.alloc(), 160)?;
     let front = format!(in rt.alloc(); "  line 1: {shown} ..\n          {marks}\n")?;
     assert!(rt; text.starts_with(front.as_str()));
+    Ok(())
+}
+
+/// Lines of the words of topologies and scripts, written by hand from the table of keys and the lists of causes.
+const WORDS: &str = "  play           player recorder combo
+  stop           player recorder combo
+  eject          player recorder combo
+  load           player recorder combo
+  menu           player recorder combo
+  power          tv amp player recorder switch combo
+  volume-up      tv amp
+  volume-down    tv amp
+  mute           tv amp
+  port N         switch
+  watch PA       tv
+  language LLL   tv
+  audio on       tv
+  audio off      tv
+  arc on         tv amp
+  arc off        tv amp
+  remote D CODE  tv
+  CODE           select up down left right root-menu exit digit-0 digit-1 digit-2 digit-3 digit-4
+                 digit-5 digit-6 digit-7 digit-8 digit-9 power volume-up volume-down mute play stop
+                 pause power-off power-on
+and the causes of faults
+  of a topology  word number name full second-root no-root port-range port-taken not-loose loop hex
+  of a script    word number name width order close too-many end
+";
+
+#[test]
+fn the_words_of_scripts_are_listed(rt: HostRuntime) -> Result<(), Fail> {
+    let text = run_words(rt.alloc())?;
+    assert_eq!(rt; text.as_str(), WORDS);
     Ok(())
 }
 

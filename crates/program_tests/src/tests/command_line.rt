@@ -17,6 +17,7 @@ fn shows(rt: &impl Abort, alloc: Global, texts: &[&str], part: &str) -> Result<(
 const HELP: &str = "\
 run =>   at 1000000 press p1 play
 run => --edges
+run =>   watch PA       tv
 asm => 4f821000
 edid =>   made 10 2011 
 edid => --text

@@ -11,6 +11,12 @@ const EDGES: &str = "1000 0\n4700 1\n5500 0\n6100 1\n20000 end\n";
 
 const LINE: [&str; 2] = ["run", "--edges"];
 
+const STILL_PAIR: &str =
+    "device tv tv 4\ndevice p1 player 0\nplug p1 tv 1\nscript\nend 400000\n";
+
+const STEPS: &str =
+    "device tv tv 1\nscript\nend 200000\nsteps\nedge\nedge\nedge\nround\nuntil break\n";
+
 #[test]
 fn each_front_of_an_input(rt: HostRuntime) -> Result<(), Fail> {
     let alloc = rt.alloc();
@@ -49,4 +55,21 @@ fn a_writer_of_a_line_that_fails_at_each_byte(rt: HostRuntime) -> Result<(), Fai
     let alloc = rt.alloc();
     cuts_everywhere(&rt, alloc, ["mon"].as_slice(), EDGES.as_bytes())?;
     cuts_everywhere(&rt, alloc, LINE.as_slice(), POLL.as_bytes())
+}
+
+#[test]
+fn each_front_of_a_run_without_events(rt: HostRuntime) -> Result<(), Fail> {
+    // The last line is one with each digit of its time, and with the line feed behind it.
+    let fronts = accepted_fronts(&rt, rt.alloc(), ["run"].as_slice(), STILL_PAIR.as_bytes())?;
+    assert_eq!(&rt; fronts, 7);
+    Ok(())
+}
+
+#[test]
+fn steps_cut_short(rt: HostRuntime) -> Result<(), Fail> {
+    let alloc = rt.alloc();
+    // The steps are whole after the line `steps`, and after each of the five, with its line feed and without.
+    let fronts = accepted_fronts(&rt, alloc, ["step"].as_slice(), STEPS.as_bytes())?;
+    assert_eq!(&rt; fronts, 12);
+    cuts_everywhere(&rt, alloc, ["step"].as_slice(), STEPS.as_bytes())
 }

@@ -2,6 +2,7 @@ use Rattle.std.proofs.Common.{rules, ◌≡◌, ◌∙◌, suc, sym, subst}
 use Rattle.cec_step.specs.Ready.{IsReady, point_of, run_of}
 use Rattle.cec_step.specs.Steps.{Run, IsRoundStep}
 use Rattle.cec_step.specs.declared.position.Position.{Position}
+use Rattle.cec_step.proofs.Taken.{skips_then}
 use Rattle.cec_step.proofs.stepper.Stepper.search.Goals as goal
 
 pub rounds-preserved : goal.rounds-preserved
@@ -17,4 +18,24 @@ rounds-preserved c =
     record {
       skips = (suc inv.skips.0, (point_of run.events c.rounds.before, outcome, inv.skips.1, step, sym c.stops.ensures ∙ c.if-stops.false));
       ready = subst (λ (r : Run). IsReady r.end (point_of r.events c.pass_round.new.self)) viewed e.ready;
+    }
+
+pub leaps-preserved : goal.leaps-preserved
+leaps-preserved c =
+    let run = c.args.self.now.run in
+    let inv = c.leaps.invariant in
+    let e = c.leap.ensures in
+    record {
+      skips = skips_then run.end c.args.at inv.skips.0 e.skips.0 c.args.self.now.last (point_of run.events c.leaps.before) (point_of run.events c.leap.new.here) inv.skips.1 e.skips.1;
+      ready = e.ready;
+    }
+
+pub rounds-init : goal.rounds-init
+rounds-init c =
+    let run = c.args.self.now.run in
+    let inv = c.leaps.invariant in
+    let e = c.leap.ensures in
+    record {
+      skips = skips_then run.end c.args.at inv.skips.0 e.skips.0 c.args.self.now.last (point_of run.events c.leaps.before) (point_of run.events c.leap.new.here) inv.skips.1 e.skips.1;
+      ready = e.ready;
     }

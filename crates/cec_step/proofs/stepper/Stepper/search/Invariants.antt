@@ -12,3 +12,13 @@ invariant-rounds l = record {
 
 abbrev pub decreases-rounds : goal.decreases-rounds
 decreases-rounds l = 2000000000000 - l.before.net.rest
+
+-- nor of those that were leapt over
+abbrev pub invariant-leaps : goal.invariant-leaps
+invariant-leaps l = record {
+  skips : (rounds : ℕ) × Skips l.self.run.end l.at rounds l.self.last (point_of l.self.run.events l.before);
+  ready : IsReady l.self.run.end (point_of l.self.run.events l.before);
+}
+
+abbrev pub decreases-leaps : goal.decreases-leaps
+decreases-leaps l = 2000000000000 - l.before.net.rest

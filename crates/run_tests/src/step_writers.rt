@@ -1,0 +1,149 @@
+//! Writers that take one byte a call, and that fail: what a step has written then, and where the stepper stands.
+use cec_asm::{parse_script, parse_topology};
+use cec_run::emulate::EmulateError;
+use cec_run::root_of;
+use cec_step::step_run::{StepRunError, step_run};
+use cec_step::{Break, StepError, Stepper};
+use hdmi_core::Writes;
+use std::alloc::Global;
+use std::io::{self, ErrorKind, Write};
+use std::process::Abort;
+use std::test::Fail;
+
+/// A television, and a player in its first port.
+const TWO: &str = "device tv tv 4\ndevice p1 player 0\nplug p1 tv 1\n";
+
+const SCRIPT: &str = "end 400000\n";
+
+/// What `until device p1` writes: the player's poll. The television's poll comes before it.
+const POLL: &str = "50705 77855 complete 4>4 nack by p1 out -\n";
+
+/// The round behind it.
+const REPORT: &str =
+    "89405 212555 complete 0>f report-physical-address 0.0.0.0 tv ok by tv out -\n";
+
+/// The number of the player.
+const PLAYER: usize = 1;
+
+/// Each step, and `ended` twice.
+const STEPS: &str =
+    "edge\nedge\nedge\nuntil device p1\nshow p1\nuntil opcode 84\nuntil break\nround\nround\n";
+
+const STEPPED: &str = "\
+12000 low tv=start-low p1=start-low
+15700 high tv=start-high p1=start-high
+16500 low tv=slot:1:- p1=slot:1:-
+50705 77855 complete 4>4 nack by p1 out -
+state p1 player 4 1.0.0.0 on active=- path=- deck=1a menu=off audio=off volume=20 mute=off arc=off sel=- lang=656e67 osd=- held=- heard=- sub=- queue=1 dropped=0
+89405 212555 complete 0>f report-physical-address 0.0.0.0 tv ok by tv out -
+ended
+224105 347255 complete 4>f report-physical-address 1.0.0.0 playback ok by p1 out -
+ended
+";
+
+/// A writer that takes one byte at a time, and fails once it holds `room`.
+#[derive(Drop)]
+struct Stingy {
+    held: Vec<u8>,
+    room: usize,
+}
+
+impl Write for Stingy {
+    fn write(&mut self, bytes: &[u8]) -> io::Result<usize> {
+        if self.held.len() >= self.room {
+            return Err(io::Error::from(ErrorKind::Other));
+        }
+        match bytes.first() {
+            None => Ok(0),
+            Some(byte) => {
+                self.held.push(*byte)?;
+                Ok(1)
+            }
+        }
+    }
+
+    fn flush(&mut self) -> io::Result<()> {
+        Ok(())
+    }
+}
+
+fn with_room(alloc: Global, room: usize) -> Stingy {
+    Stingy {
+        held: Vec::new(alloc),
+        room,
+    }
+}
+
+/// A stepper at the start of the run.
+fn at_start(rt: &impl Abort, alloc: Global) -> Result<Stepper, Fail> {
+    let topology = parse_topology(alloc, TWO.as_bytes())?;
+    let script = parse_script(alloc, &topology, SCRIPT.as_bytes())?;
+    let _edid = root_of(&topology.edid)?;
+    assert!(rt; topology.tree.count() == 2);
+    Ok(Stepper::new(alloc, topology, script)?)
+}
+
+fn until_poll(stepper: &mut Stepper, out: &mut Stingy) -> Result<u128, StepError> {
+    stepper.until(Break::Device(PLAYER), &mut Writes::new(out))
+}
+
+fn round(stepper: &mut Stepper, out: &mut Stingy) -> Result<u128, StepError> {
+    stepper.round(&mut Writes::new(out))
+}
+
+/// `until` into a writer that fails there: the front of its text was written.
+fn is_cut(rt: &impl Abort, alloc: Global, stepper: &mut Stepper, room: usize) -> Result<(), Fail> {
+    let mut out = with_room(alloc, room);
+    let told = until_poll(stepper, &mut out);
+    let front = POLL.as_bytes().get(..room).ok_or("too long")?;
+    assert_eq!(rt; told, Err(StepError::Write(room as u128)));
+    assert_eq!(rt; out.held.as_slice(), front);
+    Ok(())
+}
+
+/// Where the writer fails, the stepper stands where it stood. So the same `until` into one that does not fail writes the
+/// round, and the next round is the one behind it.
+#[test]
+fn until_is_taken_once_its_text_is_written(rt: HostRuntime) -> Result<(), Fail> {
+    let alloc = rt.alloc();
+    let mut stepper = at_start(&rt, alloc)?;
+    for room in 0..POLL.len() {
+        is_cut(&rt, alloc, &mut stepper, room)?;
+    }
+    let mut out = with_room(alloc, 1_000);
+    assert_eq!(&rt; until_poll(&mut stepper, &mut out), Ok(POLL.len() as u128));
+    assert_eq!(&rt; round(&mut stepper, &mut out), Ok(REPORT.len() as u128));
+    let both = format!(in alloc; "{POLL}{REPORT}")?;
+    assert_eq!(&rt; out.held.as_slice(), both.as_bytes());
+    Ok(())
+}
+
+/// Takes the steps into a writer that has so much room.
+fn stepped(alloc: Global, out: &mut Stingy) -> Result<(), StepRunError> {
+    step_run(
+        alloc,
+        TWO.as_bytes(),
+        SCRIPT.as_bytes(),
+        STEPS.as_bytes(),
+        &mut Writes::new(out),
+    )
+}
+
+/// Each step fails at each of its bytes.
+#[test]
+fn steps_are_cut_at_each_byte(rt: HostRuntime) -> Result<(), Fail> {
+    let alloc = rt.alloc();
+    for room in 0..STEPPED.len() {
+        let mut out = with_room(alloc, room);
+        let told = stepped(alloc, &mut out);
+        let front = STEPPED.as_bytes().get(..room).ok_or("too long")?;
+        assert!(&rt;
+            matches!(told, Err(StepRunError::Run(EmulateError::Write(count))) if count == room as u128)
+        );
+        assert_eq!(&rt; out.held.as_slice(), front);
+    }
+    let mut out = with_room(alloc, STEPPED.len());
+    assert!(&rt; stepped(alloc, &mut out).is_ok());
+    assert_eq!(&rt; out.held.as_slice(), STEPPED.as_bytes());
+    Ok(())
+}
