@@ -1,9 +1,9 @@
 //! Why the program did not do what it was asked.
-use hdmi_convert::{EdidToTextError, TextToHexError};
 use cec_mon::WatchError;
 use cec_run::emulate::EmulateError;
 use cec_step::step_run::StepRunError;
 use cec_text::{AssembleError, FrameLinesError};
+use hdmi_convert::{EdidToTextError, TextToHexError};
 use std::alloc::AllocError;
 use std::io::{self, ErrorKind};
 use thiserror::Error;

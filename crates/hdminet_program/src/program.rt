@@ -1,6 +1,5 @@
 //! The program over a reader and two sinks.
 use crate::choice::{Asked, Choice, choose, is_memory};
-use hdmi_convert::{edid_to_text, text_to_hex};
 use crate::fault::Fault;
 use crate::help::EXPLAINED;
 use arrayvec::ArrayString;
@@ -12,6 +11,7 @@ use cec_step::step_run::step_run;
 use cec_text::asm_lines;
 use cec_words::first_line;
 use clap::Error as CommandLineError;
+use hdmi_convert::{edid_to_text, text_to_hex};
 use hdmi_core::{Sink, put_all};
 use hdminet_help::{counts, explain};
 use std::alloc::{AllocError, Global};

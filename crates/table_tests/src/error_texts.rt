@@ -22,9 +22,24 @@ fn prints<E: Display>(rt: &impl Abort, alloc: Global, error: E, text: &str) -> R
 #[test]
 fn frames_and_pulses(rt: HostRuntime) -> Result<(), Fail> {
     let alloc = rt.alloc();
-    prints(&rt, alloc, FrameError::Empty, "a frame has at least one block")?;
-    prints(&rt, alloc, FrameError::TooLong, "a frame has at most 16 blocks")?;
-    prints(&rt, alloc, PulsesError::Width, "a pulse is 1 to 10,000 microseconds wide")?;
+    prints(
+        &rt,
+        alloc,
+        FrameError::Empty,
+        "a frame has at least one block",
+    )?;
+    prints(
+        &rt,
+        alloc,
+        FrameError::TooLong,
+        "a frame has at most 16 blocks",
+    )?;
+    prints(
+        &rt,
+        alloc,
+        PulsesError::Width,
+        "a pulse is 1 to 10,000 microseconds wide",
+    )?;
     prints(
         &rt,
         alloc,
@@ -37,22 +52,42 @@ fn frames_and_pulses(rt: HostRuntime) -> Result<(), Fail> {
         PulsesError::Order,
         "a pulse begins after the end of the one before",
     )?;
-    prints(&rt, alloc, PulsesError::TooMany, "there are at most 4,096 pulses")
+    prints(
+        &rt,
+        alloc,
+        PulsesError::TooMany,
+        "there are at most 4,096 pulses",
+    )
 }
 
 #[test]
 fn devices(rt: HostRuntime) -> Result<(), Fail> {
     let alloc = rt.alloc();
     prints(&rt, alloc, SubmitError::QueueFull, "the queue is full")?;
-    prints(&rt, alloc, SubmitError::OwnAddress, "the frame goes to the device itself")?;
+    prints(
+        &rt,
+        alloc,
+        SubmitError::OwnAddress,
+        "the frame goes to the device itself",
+    )?;
     prints(
         &rt,
         alloc,
         SubmitError::NoAddress,
         "the frame's initiator is not the device's address",
     )?;
-    prints(&rt, alloc, SubmitError::OffWire, "the device is off the wire")?;
-    prints(&rt, alloc, KeyError::NotForKind, "the device has no such key")?;
+    prints(
+        &rt,
+        alloc,
+        SubmitError::OffWire,
+        "the device is off the wire",
+    )?;
+    prints(
+        &rt,
+        alloc,
+        KeyError::NotForKind,
+        "the device has no such key",
+    )?;
     prints(&rt, alloc, KeyError::OffWire, "the device is off the wire")
 }
 
@@ -60,9 +95,24 @@ fn devices(rt: HostRuntime) -> Result<(), Fail> {
 fn trees(rt: HostRuntime) -> Result<(), Fail> {
     let alloc = rt.alloc();
     prints(&rt, alloc, AddError::Full, "the tree is full")?;
-    prints(&rt, alloc, AddError::Name, "the name is ill-formed or taken")?;
-    prints(&rt, alloc, AddError::SecondRoot, "there is a television already")?;
-    prints(&rt, alloc, PlugError::PortRange, "the device above has no such port")?;
+    prints(
+        &rt,
+        alloc,
+        AddError::Name,
+        "the name is ill-formed or taken",
+    )?;
+    prints(
+        &rt,
+        alloc,
+        AddError::SecondRoot,
+        "there is a television already",
+    )?;
+    prints(
+        &rt,
+        alloc,
+        PlugError::PortRange,
+        "the device above has no such port",
+    )?;
     prints(&rt, alloc, PlugError::PortTaken, "the port is taken")?;
     prints(
         &rt,
@@ -70,10 +120,30 @@ fn trees(rt: HostRuntime) -> Result<(), Fail> {
         PlugError::NotLoose,
         "the device is plugged in already, or is the television",
     )?;
-    prints(&rt, alloc, PlugError::Loop, "the device above hangs below the device")?;
-    prints(&rt, alloc, UnplugError::NotPlugged, "the device is not plugged in")?;
-    prints(&rt, alloc, PortEdidError::NoHdmiBlock, "the EDID has no HDMI block")?;
-    prints(&rt, alloc, PortEdidError::PortRange, "the device has no such port")
+    prints(
+        &rt,
+        alloc,
+        PlugError::Loop,
+        "the device above hangs below the device",
+    )?;
+    prints(
+        &rt,
+        alloc,
+        UnplugError::NotPlugged,
+        "the device is not plugged in",
+    )?;
+    prints(
+        &rt,
+        alloc,
+        PortEdidError::NoHdmiBlock,
+        "the EDID has no HDMI block",
+    )?;
+    prints(
+        &rt,
+        alloc,
+        PortEdidError::PortRange,
+        "the device has no such port",
+    )
 }
 
 #[test]

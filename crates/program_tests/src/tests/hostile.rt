@@ -11,8 +11,7 @@ const EDGES: &str = "1000 0\n4700 1\n5500 0\n6100 1\n20000 end\n";
 
 const LINE: [&str; 2] = ["run", "--edges"];
 
-const STILL_PAIR: &str =
-    "device tv tv 4\ndevice p1 player 0\nplug p1 tv 1\nscript\nend 400000\n";
+const STILL_PAIR: &str = "device tv tv 4\ndevice p1 player 0\nplug p1 tv 1\nscript\nend 400000\n";
 
 const STEPS: &str =
     "device tv tv 1\nscript\nend 200000\nsteps\nedge\nedge\nedge\nround\nuntil break\n";
