@@ -7,10 +7,3 @@ mod watching;
 
 pub use monitor::Monitor;
 pub use watching::{WatchError, watch};
-
-#[cfg(test)]
-mod plain_readings;
-#[cfg(test)]
-mod random_files;
-#[cfg(test)]
-mod tests;

@@ -22,6 +22,3 @@ pub use root::{EdidCause, root_of};
 pub use round_text::write_round;
 pub use run::{Totals, Turn, apply_event, first_time, next_turn};
 pub use state_text::write_state;
-
-#[cfg(test)]
-mod tests;

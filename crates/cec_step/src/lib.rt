@@ -13,8 +13,3 @@ mod stepper;
 pub use break_at::Break;
 pub use laws::rounds_are_the_trace;
 pub use stepper::{StepError, Stepper};
-
-#[cfg(test)]
-mod tests;
-#[cfg(test)]
-mod writer_tests;

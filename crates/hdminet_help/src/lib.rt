@@ -14,8 +14,6 @@ mod list;
 mod marks;
 mod order;
 mod script_words;
-#[cfg(test)]
-mod tests;
 mod words;
 
 pub use explanation::{Input, counts, explain};

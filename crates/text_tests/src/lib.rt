@@ -2,6 +2,10 @@
 #![tactic(auto)]
 
 #[cfg(test)]
+mod explanations;
+#[cfg(test)]
+mod messages;
+#[cfg(test)]
 mod scripts;
 #[cfg(test)]
 mod shapes;

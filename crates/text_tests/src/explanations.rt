@@ -1,5 +1,5 @@
 //! What is said of faults. Each input is as a user gives it, with the line of its fault.
-use super::*;
+use hdminet_help::{Input, counts, explain, run_words};
 use std::alloc::Global;
 use std::process::Abort;
 use std::test::Fail;

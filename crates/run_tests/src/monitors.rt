@@ -1,7 +1,7 @@
 //! Edge files and what is read of them, worked out by hand. A file stands on one line here, with a comma for each of
 //! its line ends.
-use crate::{Monitor, WatchError, watch};
 use cec_frame::Ending;
+use cec_mon::{Monitor, WatchError, watch};
 use cec_wave::Edge;
 use hdmi_core::Writes;
 use std::alloc::Global;

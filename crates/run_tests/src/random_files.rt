@@ -2,8 +2,8 @@
 //! They are frames with their times around the nominal ones, frames with some of their times at the borders of the
 //! windows and with pulses in their slots, and edges without any order. Times are microseconds.
 use crate::plain_readings::readings_of;
-use crate::watch;
 use cec_frame::Ending;
+use cec_mon::watch;
 use cec_text::write_reading;
 use cec_wave::Edge;
 use hdmi_core::Writes;

@@ -1,6 +1,6 @@
 //! Runs worked out by hand from the standard's times, to the byte.
-use crate::edges::emulate_edges;
-use crate::emulate::emulate;
+use cec_run::edges::emulate_edges;
+use cec_run::emulate::emulate;
 use hdmi_core::Writes;
 use std::alloc::Global;
 use std::process::Abort;

@@ -130,7 +130,7 @@ fn next_begin(reading: &Reading) -> u64 {
 }
 
 /// The readings of these edges, in a file with this end.
-pub fn readings_of(alloc: Global, edges: &[Edge], end: u64) -> Result<Vec<Reading>, Fail> {
+pub(crate) fn readings_of(alloc: Global, edges: &[Edge], end: u64) -> Result<Vec<Reading>, Fail> {
     let mut readings = Vec::new(alloc);
     let mut from = 0;
     for edge in edges {

@@ -1,10 +1,10 @@
 //! Rounds taken edge by edge, worked out by hand.
 ghost use Rattle.std.specs.Prelude.{◌≡◌, ◌≤◌, ◌<◌, length, IsSome};
 
-use crate::{Event, Net};
 use cec_bits::Standing;
 use cec_edges::EdgeWire;
 use cec_frame::{Ending, Frame};
+use cec_net::{Event, Net};
 use cec_wave::{Edge, Pulses, Stretch};
 use hdmi_core::Kind;
 use hdmi_topo::Tree;

@@ -1,9 +1,9 @@
 //! Writers that take one byte a call, and that fail: what a step has written then, and where the stepper stands.
-use crate::step_run::{StepRunError, step_run};
-use crate::{Break, StepError, Stepper};
 use cec_asm::{parse_script, parse_topology};
 use cec_run::emulate::EmulateError;
 use cec_run::root_of;
+use cec_step::step_run::{StepRunError, step_run};
+use cec_step::{Break, StepError, Stepper};
 use hdmi_core::Writes;
 use std::alloc::Global;
 use std::io::{self, ErrorKind, Write};

@@ -1,8 +1,8 @@
 //! A pulse at each microsecond of a poll, and at each one of a frame. What has to come out was worked out from the
 //! rules of the wire: a pulse breaks a frame, acknowledges one falsely or refuses one, and never makes another of it.
-use crate::{Event, Net};
 use cec_edges::EdgeWire;
 use cec_frame::{Addr, Ending, Frame};
+use cec_net::{Event, Net};
 use cec_wave::{Pulses, Stretch};
 use hdmi_core::Kind;
 use hdmi_topo::Tree;
