@@ -1,5 +1,5 @@
 //! A run of the network, and what it writes.
-ghost use Rattle.std.specs.Prelude.{◌≡◌, ℕ, ◌+◌, ◌++◌, ◌<◌, ◌≤◌, List, length, true, false, Some, IsSome, IfOk, IfErr, OnOk, OnErr, All, Bool, Option};
+ghost use Rattle.std.specs.Prelude.{◌≡◌, ℕ, ◌+◌, ◌++◌, ◌<◌, ◌≤◌, List, length, true, false, Some, IfOk, IfErr, OnOk, OnErr, All, Bool, Option};
 ghost use Rattle.std.specs.List.{flat_map};
 ghost use Rattle.std.specs.Io.KnownBytes.{Appends};
 ghost use Rattle.hdmi_core.specs.Written.{WrittenLine};
@@ -244,22 +244,21 @@ fn write_round_told<S: Sink>(
     }
 }
 
-/// Runs the next round, and writes what is told of it.
+// Runs the next round, which begins at `begin`, and writes what is told of it.
 fn run_round<S: Sink, W: Wire>(
     out: &mut S,
     net: &mut Net<W>,
     telling: &Telling,
     totals: &mut Totals,
+    begin: u64,
 ) -> Result<u128, WriteFault>
-    requires starts { IsSome (next_start net.old) }
+    requires starts { next_start net.old ≡ Some begin }
     requires early { net.old.close ≤ 2000000000000 }
     requires room { totals.old.rounds < 18446744073709551615 }
     requires less { totals.old.complete ≤ totals.old.rounds }
     ensures { RoundWritten telling.now net.old net.new totals.old totals.new (S.contents out.old) (S.contents out.new) (S.is_stuck out.old) (S.is_stuck out.new) result }
 {
-    let Some(report) = net.round() else {
-        unreachable!();
-    };
+    let report = net.round_at(begin);
     *totals = counted_round(*totals, report.outcome.reading.ending);
     let _stretches = report.outcome.wave.as_slice();
     write_round_told(out, telling, net.devices(), &report.outcome)
@@ -358,7 +357,7 @@ fn run_turns<S: Sink, W: Wire>(
                 }
                 rest = others;
             }
-            Turn::Round(_) => match run_round(out, net, telling, &mut totals) {
+            Turn::Round(begin) => match run_round(out, net, telling, &mut totals, begin) {
                 Ok(count) => written = counted(written, count),
                 Err(fault) => return Err(cut_at(written, fault)),
             },

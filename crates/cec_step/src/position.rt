@@ -1,5 +1,5 @@
 //! Where a run stands, and its next round.
-ghost use Rattle.std.specs.Prelude.{◌≡◌, ℕ, ◌+◌, ◌++◌, ◌<◌, ◌≤◌, List, drop, length, MatchBool, MatchOption, IfSome, IsSome, true, false};
+ghost use Rattle.std.specs.Prelude.{◌≡◌, ℕ, ◌+◌, ◌++◌, ◌<◌, ◌≤◌, List, drop, length, MatchOption, IfSome, IsSome};
 ghost use Rattle.cec_net.specs.Underway.{OfRound, standing_told};
 ghost use Rattle.cec_step.specs.EdgeText.{edge_line};
 ghost use Rattle.cec_words.specs.Cut.{WrittenText};
@@ -85,21 +85,21 @@ impl Position {
         self.applied += 1;
     }
 
-    // Applies the events that come before the next round. Returns whether a round comes then.
-    fn pass_events(&mut self, course: &Course) -> bool
+    // Applies the events that come before the next round. Returns when that round begins; None where no round comes.
+    fn pass_events(&mut self, course: &Course) -> Option<u64>
         requires { IsReady course.now.end (point_of course.now.events.items self.old) }
         ensures point { point_of course.now.events.items self.new ≡ passed course.now.end (point_of course.now.events.items self.old) }
-        ensures comes { MatchBool result
-            ((begin : ℕ) × (turn_at course.now.end (passed course.now.end (point_of course.now.events.items self.old)) ≡ Round begin))
-            (IsOver course.now.end (point_of course.now.events.items self.old)) }
+        ensures comes { MatchOption result
+            (IsOver course.now.end (point_of course.now.events.items self.old))
+            (λ begin. turn_at course.now.end (passed course.now.end (point_of course.now.events.items self.old)) ≡ Round begin) }
         ensures rest { self.new.net.rest ≡ self.old.net.rest }
         ensures ready { IsReady course.now.end (point_of course.now.events.items self.new) }
     {
         'events: loop {
             match self.turn(course) {
                 Turn::Apply(at) => self.pass_event(course, at),
-                Turn::Round(_) => return true,
-                Turn::Stop => return false,
+                Turn::Round(begin) => return Some(begin),
+                Turn::Stop => return None,
             }
         }
     }
@@ -113,12 +113,8 @@ impl Position {
         ensures brings { IfSome result (λ _. Brings course.now.end (point_of course.now.events.items self.old) (point_of course.now.events.items self.new)) }
         ensures ready { IfSome result (λ _. IsReady course.now.end (point_of course.now.events.items self.new)) }
     {
-        if !self.pass_events(course) {
-            return None;
-        }
-        let Some(report) = self.net.round() else {
-            unreachable!();
-        };
+        let begin = self.pass_events(course)?;
+        let report = self.net.round_at(begin);
         let _stretches = report.outcome.wave.as_slice();
         self.is_first = false;
         Some(report)
@@ -132,9 +128,7 @@ impl Position {
             (IsOver course.now.end (point_of course.now.events.items self.old))
             (λ edge. Begins course.now.end (point_of course.now.events.items self.old) edge (point_of course.now.events.items self.new)) }
     {
-        if !self.pass_events(course) {
-            return None;
-        }
+        let _begin = self.pass_events(course)?;
         if !self.net.begin() {
             unreachable!();
         }

@@ -35,18 +35,18 @@ turns-preserved-in-Apply g c =
 
 pub turns-smaller : goal.turns-smaller
 turns-smaller g c =
-    let turn : turn_of c.args.end c.turns.net (first_time c.turns.rest.now) ≡ Round c.in-Round.field-0 = rw (← c.first_time.ensures) (sym c.in-Round.ensures) in
-    let begins = round_begins c.args.end c.turns.net (first_time c.turns.rest.now) c.in-Round.field-0 turn in
-    let same : c.run_round.ensures.begin ≡ c.in-Round.field-0 = same_begin (sym c.run_round.ensures.begins ∙ begins.0) in
+    let turn : turn_of c.args.end c.turns.net (first_time c.turns.rest.now) ≡ Round c.in-Round.begin = rw (← c.first_time.ensures) (sym c.in-Round.ensures) in
+    let begins = round_begins c.args.end c.turns.net (first_time c.turns.rest.now) c.in-Round.begin turn in
+    let same : c.run_round.ensures.begin ≡ c.in-Round.begin = same_begin (sym c.run_round.ensures.begins ∙ begins.0) in
     let brought = round_brings c.args.telling.now c.args.end c.run_round.ensures.begin c.turns.net c.run_round.new.net c.turns.totals c.run_round.new.totals c.run_round.ensures.text
     c.run_round.ensures.progress (omega (arith, begins.1)) c.run_round.ensures.turn in
     smaller (length c.turns.rest.now) c.turns.net.rest c.run_round.new.net.rest brought.sooner (omega (arith, brought.before, c.requires.early))
 
 pub turns-preserved : goal.turns-preserved
 turns-preserved g c =
-    let turn : turn_of c.args.end c.turns.net (first_time c.turns.rest.now) ≡ Round c.in-Round.field-0 = rw (← c.first_time.ensures) (sym c.in-Round.ensures) in
-    let begins = round_begins c.args.end c.turns.net (first_time c.turns.rest.now) c.in-Round.field-0 turn in
-    let same : c.run_round.ensures.begin ≡ c.in-Round.field-0 = same_begin (sym c.run_round.ensures.begins ∙ begins.0) in
+    let turn : turn_of c.args.end c.turns.net (first_time c.turns.rest.now) ≡ Round c.in-Round.begin = rw (← c.first_time.ensures) (sym c.in-Round.ensures) in
+    let begins = round_begins c.args.end c.turns.net (first_time c.turns.rest.now) c.in-Round.begin turn in
+    let same : c.run_round.ensures.begin ≡ c.in-Round.begin = same_begin (sym c.run_round.ensures.begins ∙ begins.0) in
     let brought = round_brings c.args.telling.now c.args.end c.run_round.ensures.begin c.turns.net c.run_round.new.net c.turns.totals c.run_round.new.totals c.run_round.ensures.text
     c.run_round.ensures.progress (omega (arith, begins.1)) c.run_round.ensures.turn in
     let line : WrittenText (g.S.Sink.contents c.turns.out) (g.S.Sink.contents c.run_round.new.out) (g.S.Sink.is_stuck c.turns.out) (g.S.Sink.is_stuck c.run_round.new.out)
@@ -54,7 +54,7 @@ turns-preserved g c =
     subst (WrittenText _ _ _ _ c.run_round.ensures.text) c.in-Ok-run_round.is c.run_round.ensures.written in
     let counts = counts_brought c.turns.totals c.run_round.new.totals _ c.run_round.ensures.turn.totals in
     record {
-      reached = after_turn c.args.telling.now c.args.end c.run_round.ensures.begin c.in-Round.field-0 c.turns.net c.run_round.new.net c.turns.rest.now c.turns.totals c.run_round.new.totals
+      reached = after_turn c.args.telling.now c.args.end c.run_round.ensures.begin c.in-Round.begin c.turns.net c.run_round.new.net c.turns.rest.now c.turns.totals c.run_round.new.totals
           c.run_round.ensures.text (start c.args.net.now c.args.events.now) _ _ _ c.turns.written c.in-Ok-run_round.count c.counted-written-in-Ok-run_round.result
           turn same c.run_round.ensures.turn c.turns.invariant.reached line.0 line.1 c.counted-written-in-Ok-run_round.ensures;
       flag = line.2 ∙ c.turns.invariant.flag;
@@ -68,13 +68,13 @@ turns-preserved g c =
 
 pub returns-in-Err-run_round-clause-cut : goal.returns-in-Err-run_round-clause-cut
 returns-in-Err-run_round-clause-cut g c =
-    let turn : turn_of c.args.end c.turns.net (first_time c.turns.rest.now) ≡ Round c.in-Round.field-0 = rw (← c.first_time.ensures) (sym c.in-Round.ensures) in
-    let begins = round_begins c.args.end c.turns.net (first_time c.turns.rest.now) c.in-Round.field-0 turn in
-    let same : c.run_round.ensures.begin ≡ c.in-Round.field-0 = same_begin (sym c.run_round.ensures.begins ∙ begins.0) in
+    let turn : turn_of c.args.end c.turns.net (first_time c.turns.rest.now) ≡ Round c.in-Round.begin = rw (← c.first_time.ensures) (sym c.in-Round.ensures) in
+    let begins = round_begins c.args.end c.turns.net (first_time c.turns.rest.now) c.in-Round.begin turn in
+    let same : c.run_round.ensures.begin ≡ c.in-Round.begin = same_begin (sym c.run_round.ensures.begins ∙ begins.0) in
     let line : WrittenText (g.S.Sink.contents c.turns.out) (g.S.Sink.contents c.run_round.new.out) (g.S.Sink.is_stuck c.turns.out) (g.S.Sink.is_stuck c.run_round.new.out)
     c.run_round.ensures.text (Err c.in-Err-run_round.fault) =
     subst (WrittenText _ _ _ _ c.run_round.ensures.text) c.in-Err-run_round.is c.run_round.ensures.written in
-    cut_turn c.args.telling.now c.args.end c.run_round.ensures.begin c.in-Round.field-0 c.turns.net c.run_round.new.net c.turns.rest.now c.turns.totals c.run_round.new.totals
+    cut_turn c.args.telling.now c.args.end c.run_round.ensures.begin c.in-Round.begin c.turns.net c.run_round.new.net c.turns.rest.now c.turns.totals c.run_round.new.totals
     c.run_round.ensures.text (start c.args.net.now c.args.events.now) _ _ _ c.turns.written c.in-Err-run_round.fault c.cut_at-in-Err-run_round.result
     turn same c.run_round.ensures.turn c.turns.invariant.reached line.0 c.cut_at-in-Err-run_round.ensures
 

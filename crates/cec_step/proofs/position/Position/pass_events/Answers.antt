@@ -15,12 +15,12 @@ events-preserved c =
 
 pub returns-in-Round-clause-point : goal.returns-in-Round-clause-point
 returns-in-Round-clause-point c =
-    over_round c.args.course.now.end c.in-Round.field-0 c.args.course.now.events.items c.events.self (sym c.in-Round.ensures) ∙ c.events.invariant.point
+    over_round c.args.course.now.end c.in-Round.begin c.args.course.now.events.items c.events.self (sym c.in-Round.ensures) ∙ c.events.invariant.point
 
 pub returns-in-Round-clause-comes : goal.returns-in-Round-clause-comes
 returns-in-Round-clause-comes c =
-    let there = over_round c.args.course.now.end c.in-Round.field-0 c.args.course.now.events.items c.events.self (sym c.in-Round.ensures) ∙ c.events.invariant.point in
-    (c.in-Round.field-0, ap (turn_at c.args.course.now.end) (sym there) ∙ sym c.in-Round.ensures)
+    let there = over_round c.args.course.now.end c.in-Round.begin c.args.course.now.events.items c.events.self (sym c.in-Round.ensures) ∙ c.events.invariant.point in
+    ap (turn_at c.args.course.now.end) (sym there) ∙ sym c.in-Round.ensures
 
 pub returns-in-Stop-clause-point : goal.returns-in-Stop-clause-point
 returns-in-Stop-clause-point c =

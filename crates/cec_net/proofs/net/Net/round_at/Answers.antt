@@ -1,0 +1,25 @@
+use Rattle.std.proofs.Common.{◌≡◌, ◌≤◌, ◌∙◌, ap, sym, subst, arith, true, Some, None, List, map}
+use Rattle.cec_wire.specs.declared.Seat.{Seat}
+use Rattle.cec_wire.specs.Lasting.{is_begun}
+use Rattle.cec_net.specs.State.{NetState, next_start}
+use Rattle.cec_net.specs.Step.{seat_of, seats_of}
+use Rattle.cec_net.proofs.Soundness.{next-soon}
+use Rattle.cec_net.proofs.Lines.{begun}
+use Rattle.cec_net.proofs.net.Net.round_at.Goals as goal
+
+pub round-outcome-requires-clause-early : goal.round-outcome-requires-clause-early
+round-outcome-requires-clause-early g c =
+    let s : NetState = (record { tree = c.self.inside.tree; devices = c.self.inside.devices.items; pulses = c.self.inside.pulses; close = c.self.inside.close; rest = c.self.inside.rest; heard = None }) in
+    let Early : NetState → Type 0 = λ t. t.close ≤ 2000000000000 in
+    let Begins : NetState → Type 0 = λ t. next_start t ≡ Some c.args.begin in
+    let soon = next-soon s c.args.begin c.self.invariant.0 (subst Early (sym c.self.view_is) c.requires.early) (subst Begins (sym c.self.view_is) c.requires.begins) in
+    omega arith
+
+pub round-outcome-requires-clause-begun : goal.round-outcome-requires-clause-begun
+round-outcome-requires-clause-begun g c =
+    let s : NetState = (record { tree = c.self.inside.tree; devices = c.self.inside.devices.items; pulses = c.self.inside.pulses; close = c.self.inside.close; rest = c.self.inside.rest; heard = None }) in
+    let Begun : List Seat → Type 0 = λ ss. is_begun ss c.args.begin s.pulses ≡ true in
+    let Begins : NetState → Type 0 = λ t. next_start t ≡ Some c.args.begin in
+    let seats : c.deref-2.result.now ≡ seats_of s c.args.begin =
+    c.deref-2.ensures.0 ∙ c.seats_of-seats.ensures ∙ ap (map (seat_of c.self.inside.rest c.args.begin)) c.deref.ensures.0 in
+    subst Begun (sym seats) (begun s c.args.begin (subst Begins (sym c.self.view_is) c.requires.begins))
