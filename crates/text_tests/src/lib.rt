@@ -11,3 +11,5 @@ mod scripts;
 mod shapes;
 #[cfg(test)]
 mod texts;
+#[cfg(test)]
+mod writers;
