@@ -12,7 +12,7 @@ use Rattle.cec_feature.specs.declared.keys.Key.{Key}
 use Rattle.cec_feature.specs.declared.keys.Key.TheVariants.{Play, Stop, Eject, Load, Menu, Power, Watch, Port, Audio, Arc, Volume, Language, Remote}
 use Rattle.cec_feature.specs.declared.keys.VolumeKey.TheVariants.{Up, Down, Mute}
 use Rattle.cec_words.specs.Words.{one_of, two_of, three_of}
-use Rattle.cec_asm.specs.Words.{is_nibble, nibble_of, phys_of}
+use Rattle.hdmi_core.specs.Phys.{digit_value, is_hex_digit, phys_of}
 use Rattle.cec_words.specs.Number.{number_of}
 use Rattle.cec_asm.specs.declared.script.ScriptCause.{ScriptCause}
 use Rattle.cec_asm.specs.declared.script.ScriptCause.TheVariants.{Word, Number}
@@ -43,10 +43,10 @@ language_of word =
 
 -- a logical address of another device than the television: 1 to e
 abbrev pub is_destination : List ℕ → Bool
-is_destination word = (length word == 1) && is_nibble (slice_index word 0) && nat_lt 48 (slice_index word 0) && nat_lt (slice_index word 0) 102
+is_destination word = (length word == 1) && is_hex_digit (slice_index word 0) && nat_lt 48 (slice_index word 0) && nat_lt (slice_index word 0) 102
 
 abbrev pub destination_of : List ℕ → Option ℕ
-destination_of word = if is_destination word then Some (nibble_of (slice_index word 0)) else None
+destination_of word = if is_destination word then Some (digit_value (slice_index word 0)) else None
 
 -- the byte that a word stands for, in a set of words
 abbrev pub byte_in : List OperandWord → List ℕ → Option ℕ

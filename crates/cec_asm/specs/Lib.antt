@@ -1,4 +1,3 @@
-pub mod Words
 pub mod Keys
 pub mod Topology
 pub mod Script

@@ -8,11 +8,11 @@ ghost use Rattle.cec_words.specs.Words.{words_behind};
 ghost use Rattle.cec_asm.specs.Keys.{plain_key, switch_of, language_of, destination_of, code_of, control_of, known, port_key, key_with, remote_by, remote_key, key_of};
 
 use crate::script::ScriptCause;
-use crate::words::{is_nibble, nibble_of, phys_in};
 use cec_device::{Key, VolumeKey};
 use cec_frame::Addr;
 use cec_opcode::{Triple, UserControl, WordSet};
 use cec_words::{number_in, one_word, three_words, two_words};
+use hdmi_core::{Phys, digit_value, is_hex_digit};
 
 fn plain_key(word: &[u8]) -> Option<Key>
     ensures { result ≡ plain_key word.now }
@@ -75,10 +75,10 @@ fn language_in(word: &[u8]) -> Option<Triple>
 fn destination_in(word: &[u8]) -> Option<Addr>
     ensures { result ≡ destination_of word.now }
 {
-    if word.len() != 1 || !is_nibble(word[0]) || word[0] <= b'0' || word[0] >= b'f' {
+    if word.len() != 1 || !is_hex_digit(word[0]) || word[0] <= b'0' || word[0] >= b'f' {
         return None;
     }
-    Some(Addr::new(nibble_of(word[0])))
+    Some(Addr::new(digit_value(word[0])))
 }
 
 fn code_in(word: &[u8]) -> Option<u8>
@@ -112,7 +112,7 @@ fn key_with(word: &[u8], value: &[u8]) -> Result<Key, ScriptCause>
     ensures { result ≡ key_with word.now value.now }
 {
     if word == b"watch".as_slice() {
-        known(phys_in(value).map(Key::Watch))
+        known(Phys::read(value).map(Key::Watch))
     } else if word == b"port".as_slice() {
         port_key(value)
     } else if word == b"audio".as_slice() {

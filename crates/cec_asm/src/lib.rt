@@ -5,7 +5,6 @@ mod keys;
 mod laws;
 mod script;
 mod topology;
-mod words;
 
 pub use cec_opcode::WordSet;
 pub use cec_text::{AssembleError, assemble, frame_text, write_frame};

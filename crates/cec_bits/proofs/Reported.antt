@@ -1,12 +1,12 @@
 -- The readings of a line are those that a receiver of it reports.
-use Rattle.std.proofs.Common.{◌≡◌, ◌≢◌, ℕ, zero, suc, ◌+◌, ◌-◌, ◌==◌, ◌<◌, ◌≤◌, Bool, true, false, not, nat_lt, nat_le, if◌then◌else◌, List, [], ◌∷◌, ◌++◌, map, append_assoc, append-nil, inl, inr, Option, Some, None, option_map, Result, Ok, Err, refl, arith, ap, ◌∙◌, sym, subst}
+use Rattle.std.proofs.Common.{◌≡◌, ◌≢◌, ℕ, zero, suc, ◌+◌, ◌-◌, ◌==◌, ◌<◌, ◌≤◌, Bool, true, false, nat_lt, nat_le, if◌then◌else◌, List, [], ◌∷◌, ◌++◌, map, append_assoc, append-nil, inl, inr, Option, Some, None, Result, Ok, Err, refl, arith, ap, ◌∙◌, sym, subst}
 use Rattle.std.specs.List.{filter, filter_map, cons_option}
 use Rattle.std.specs.Option.{option_to_list}
 use Rattle.std.proofs.lemmas.Bool.{cases_lt}
 use Rattle.std.proofs.lemmas.Bool.Decides.{nat_tests}
 use Rattle.cec_wave.specs.Line.{Line, was_low, is_fall}
 use Rattle.cec_frame.specs.declared.Ending.{Ending}
-use Rattle.cec_frame.specs.declared.Ending.TheVariants.{Short, Silent, Open}
+use Rattle.cec_frame.specs.declared.Ending.TheVariants.{Short, Open}
 use Rattle.cec_bits.specs.declared.After.{After}
 use Rattle.cec_bits.specs.declared.After.TheVariants.{Next, Ends}
 use Rattle.cec_bits.specs.declared.receiver.Place.{Place}
@@ -14,11 +14,10 @@ use Rattle.cec_bits.specs.declared.receiver.Place.TheVariants.{Rest, StartLow, S
 use Rattle.cec_bits.specs.declared.receiver.Told.{Told}
 use Rattle.cec_bits.specs.declared.receiver.Told.TheVariants.{Nothing, Bit, Last, Ended}
 use Rattle.cec_bits.specs.Reading.{first_in, next_fall, Read, Slot, known, known_slot, known_slots, reading_of, read_start, read_slots, read_on, after_slot, after_fall, after_last, last_ending, sample, sampled, start_of, bits_of, told_of}
-use Rattle.cec_bits.specs.Reading as reading
 use Rattle.cec_bits.specs.Readings.{Listed, listed, listed_on, readings_from, readings_of, IsFirstFall}
 use Rattle.cec_bits.specs.Ended.{has_ended, ended_by}
 use Rattle.cec_bits.specs.Hears.{Hears, Heard, hear_in, hears, wake_of}
-use Rattle.cec_bits.specs.Kept.{Sample, sample_in, told_with, told_in, told_at, kept_of, kept_before, running_of}
+use Rattle.cec_bits.specs.Kept.{Sample, sample_in, told_with, told_in, told_at, kept_of, kept_before}
 use Rattle.cec_bits.specs.Sending.{known_bits}
 use Rattle.cec_bits.specs.Reports.{ends_with, running_by, ended_of, ended_before, EndingsAreTold, RunningIsKept}
 use Rattle.cec_bits.proofs.Search.{first_in_none, first_in_some, found_first, found_none}
@@ -26,9 +25,9 @@ use Rattle.cec_bits.proofs.Causes.{not_over}
 use Rattle.cec_bits.proofs.Ends.{at_by, begin_by, ends_after, slots_until}
 use Rattle.cec_bits.proofs.Lists.{none_left}
 use Rattle.cec_bits.proofs.OneByOne.{same_told, keep_all}
-use Rattle.cec_bits.proofs.Stood.{ArePast, past_later, past_more, HasBegun, AtRest, StandsIn, runs_in, Knows, KnowsEnd, step, stands_at, was_now}
+use Rattle.cec_bits.proofs.Stood.{ArePast, past_later, past_more, HasBegun, AtRest, StandsIn, runs_in, KnowsEnd, step, stands_at, was_now}
 use Rattle.cec_bits.proofs.Following.{heard_same, calm_to, wakes_now}
-use Rattle.cec_bits.proofs.Keeping.{kept_heard, before_heard, told_heard, runs_so, running_knows}
+use Rattle.cec_bits.proofs.Keeping.{kept_heard, before_heard, told_heard, running_knows}
 
 -- ---- all bits of a reading that is over are known
 

@@ -1,5 +1,5 @@
 -- What a receiver reports of a line's readings: the one that an instant ends, and the one that still runs (own).
-use Rattle.std.specs.Prelude.{◌≡◌, ℕ, zero, suc, ◌+◌, Bool, List, [], ◌∷◌, ◌++◌, Option, Some, None, option_map}
+use Rattle.std.specs.Prelude.{◌≡◌, ℕ, zero, suc, Bool, List, [], ◌∷◌, ◌++◌, Option, Some, None, option_map}
 use Rattle.std.specs.Option.{option_to_list}
 use Rattle.cec_wave.specs.Line.{Line}
 use Rattle.cec_frame.specs.declared.Ending.{Ending}

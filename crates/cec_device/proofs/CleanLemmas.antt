@@ -7,9 +7,9 @@ use Rattle.hdmi_core.specs.declared.kind.Kind.{Kind}
 use Rattle.hdmi_core.specs.declared.phys.Phys.{Phys}
 use Rattle.cec_device.specs.declared.place.Place.{Place}
 use Rattle.cec_device.specs.declared.place.Place.TheVariants.{Off, Polls, Settled}
-use Rattle.cec_device.specs.declared.sending.Fate.{Fate}
-use Rattle.cec_device.specs.declared.sending.Fate.TheVariants.{Delivered, Unacked, Lost, Broken}
-use Rattle.cec_device.specs.declared.sending.FreeTime.TheVariants.{Retry}
+use Rattle.cec_frame.specs.declared.Fate.{Fate}
+use Rattle.cec_frame.specs.declared.Fate.TheVariants.{Delivered, Unacked, Lost, Broken}
+use Rattle.cec_device.specs.declared.free_time.FreeTime.TheVariants.{Retry}
 use Rattle.cec_device.specs.declared.device.Queued.{Queued}
 use Rattle.cec_device.specs.State.{State, held, holds, queued, speaks, may_speak, source, frame_of, one_more}
 use Rattle.cec_feature.specs.Kinds.{is_switch, type_of}

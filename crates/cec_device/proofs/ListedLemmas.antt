@@ -7,8 +7,8 @@ use Rattle.hdmi_core.specs.declared.kind.Kind.TheVariants.{Tv, Amp, Player, Reco
 use Rattle.hdmi_core.specs.declared.phys.Phys.{Phys}
 use Rattle.cec_device.specs.declared.place.Place.{Place}
 use Rattle.cec_device.specs.declared.place.Place.TheVariants.{Off, Polls, Settled}
-use Rattle.cec_device.specs.declared.sending.Fate.{Fate}
-use Rattle.cec_device.specs.declared.sending.Fate.TheVariants.{Delivered, Unacked, Lost, Broken}
+use Rattle.cec_frame.specs.declared.Fate.{Fate}
+use Rattle.cec_frame.specs.declared.Fate.TheVariants.{Delivered, Unacked, Lost, Broken}
 use Rattle.cec_device.specs.State.{State, held, holds, is_held}
 use Rattle.cec_feature.specs.Kinds.{addresses, is_in, is_nowhere, players, recorders, second_addresses}
 use Rattle.cec_device.specs.Place.{begins, joined, list_of, polled_at, sent, settles, start_place, stepped, submit_fault, submitted, tries, tries_after, unplaced}

@@ -5,7 +5,7 @@ use Rattle.cec_opcode.specs.declared.user_control.UserControl.TheVariants.{Play 
 use Rattle.hdmi_core.specs.declared.kind.Kind.{Kind}
 use Rattle.hdmi_core.specs.declared.kind.Kind.TheVariants.{Tv, Amp, Player, Switch}
 use Rattle.cec_device.specs.declared.place.Place.TheVariants.{Settled}
-use Rattle.cec_device.specs.declared.sending.Fate.TheVariants.{Delivered, Broken}
+use Rattle.cec_frame.specs.declared.Fate.TheVariants.{Delivered, Broken}
 use Rattle.cec_feature.specs.declared.keys.Key.{Key}
 use Rattle.cec_feature.specs.declared.keys.Key.TheVariants.{Play, Power, Watch, Port, Audio, Volume, Remote}
 use Rattle.cec_feature.specs.declared.keys.VolumeKey.TheVariants.{Mute}

@@ -1,7 +1,7 @@
 -- How long the line has to have been free before a device starts (CEC 9.1), in microseconds.
 use Rattle.std.specs.Prelude.{ℕ}
-use Rattle.cec_device.specs.declared.sending.FreeTime.{FreeTime}
-use Rattle.cec_device.specs.declared.sending.FreeTime.TheVariants.{Retry, NewInitiator, PresentInitiator}
+use Rattle.cec_device.specs.declared.free_time.FreeTime.{FreeTime}
+use Rattle.cec_device.specs.declared.free_time.FreeTime.TheVariants.{Retry, NewInitiator, PresentInitiator}
 
 -- three, five and seven bit periods of 2,400
 abbrev pub free_time_of : FreeTime → ℕ

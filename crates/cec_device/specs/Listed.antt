@@ -4,7 +4,7 @@ use Rattle.hdmi_core.specs.declared.kind.Kind.{Kind}
 use Rattle.hdmi_core.specs.declared.phys.Phys.{Phys}
 use Rattle.cec_device.specs.declared.place.Place.{Place}
 use Rattle.cec_device.specs.declared.place.Place.TheVariants.{Off, Polls, Settled}
-use Rattle.cec_device.specs.declared.sending.Fate.{Fate}
+use Rattle.cec_frame.specs.declared.Fate.{Fate}
 use Rattle.cec_feature.specs.declared.keys.Key.{Key}
 use Rattle.cec_feature.specs.Kinds.{addresses, is_in, second_addresses}
 use Rattle.cec_device.specs.State.{State, held, holds}

@@ -5,10 +5,10 @@ use Rattle.hdmi_core.specs.declared.kind.Kind.{Kind}
 use Rattle.hdmi_core.specs.declared.phys.Phys.{Phys}
 use Rattle.cec_device.specs.declared.place.Place.{Place}
 use Rattle.cec_device.specs.declared.place.Place.TheVariants.{Off, Polls, Settled}
-use Rattle.cec_device.specs.declared.sending.Fate.{Fate}
-use Rattle.cec_device.specs.declared.sending.Fate.TheVariants.{Delivered, Unacked, Lost, Broken}
-use Rattle.cec_device.specs.declared.sending.FreeTime.{FreeTime}
-use Rattle.cec_device.specs.declared.sending.FreeTime.TheVariants.{Retry, NewInitiator, PresentInitiator}
+use Rattle.cec_frame.specs.declared.Fate.{Fate}
+use Rattle.cec_frame.specs.declared.Fate.TheVariants.{Delivered, Unacked, Lost, Broken}
+use Rattle.cec_device.specs.declared.free_time.FreeTime.{FreeTime}
+use Rattle.cec_device.specs.declared.free_time.FreeTime.TheVariants.{Retry, NewInitiator, PresentInitiator}
 use Rattle.cec_device.specs.declared.device.Queued.{Queued}
 use Rattle.cec_device.specs.declared.device.SubmitError.{SubmitError}
 use Rattle.cec_device.specs.declared.device.SubmitError.TheVariants.{QueueFull, OwnAddress, NoAddress, OffWire}

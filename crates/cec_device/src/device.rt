@@ -4,7 +4,7 @@ ghost use Rattle.cec_device.specs.State.{queued, speaks, holds, is_held, frame_o
 ghost use Rattle.cec_device.specs.Say.{say, say_all};
 
 use crate::place::Place;
-use crate::sending::FreeTime;
+use crate::free_time::FreeTime;
 use arrayvec::ArrayVec;
 use cec_feature::{DataBlocks, Heard, Port, Record, Say, is_nowhere};
 use cec_frame::{Addr, Frame, FrameError};

@@ -6,12 +6,12 @@ ghost use Rattle.cec_feature.specs.Kinds.{addresses, second_addresses};
 ghost use Rattle.cec_device.specs.Place.{begins, settles, tries, tries_after, list_of, stepped, class_of_poll, unplaced, polled_at, settled_at, start_place, fresh, reported, reported_from, joined, left, ended, failed, frame_sent, front_is_poll, sent, poll_sent, waited, submit_fault, submitted, front_of, ready_of, is_allocating, is_on_wire};
 
 use crate::device::{Device, Queued, SubmitError};
-use crate::sending::{Fate, FreeTime};
+use crate::free_time::FreeTime;
 use arrayvec::ArrayVec;
 use cec_feature::{
     DataBlocks, NOWHERE, Port, Record, addresses, is_nowhere, report_of, second_addresses,
 };
-use cec_frame::{Addr, Frame};
+use cec_frame::{Addr, Fate, Frame};
 use hdmi_core::{Kind, Phys};
 
 /// Where a device stands on the wire. A box has a second unit, which begins once the first one has settled; any

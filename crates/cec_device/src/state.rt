@@ -5,7 +5,7 @@ ghost use Rattle.cec_device.specs.Place.{front_of, ready_of, is_allocating, is_o
 
 use crate::device::{Device, Queued, framed};
 use crate::place::{Place, short};
-use crate::sending::FreeTime;
+use crate::free_time::FreeTime;
 use arrayvec::ArrayVec;
 use cec_feature::Record;
 use cec_frame::{Addr, Frame};

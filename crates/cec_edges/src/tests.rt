@@ -7,9 +7,9 @@ ghost use Rattle.cec_edges.specs.Wired.{IsBegun, IsNext, Listens};
 
 use crate::EdgeWire;
 use arrayvec::ArrayVec;
-use cec_frame::{Addr, Ending, Frame};
+use cec_frame::{Addr, Ending, Fate, Frame};
 use cec_wave::{Edge, Pulses, Stretch};
-use cec_wire::{Fate, Loser, Outcome, Seat, Wire};
+use cec_wire::{Loser, Outcome, Seat, Wire};
 use std::process::Abort;
 use std::test::Fail;
 

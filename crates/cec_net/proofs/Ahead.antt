@@ -12,9 +12,9 @@ use Rattle.cec_device.specs.declared.place.Place.{Place}
 use Rattle.cec_device.specs.declared.place.Place.TheVariants.{Off, Polls, Settled}
 use Rattle.cec_feature.specs.declared.keys.Key.{Key}
 use Rattle.cec_device.specs.declared.keys.KeyError.{KeyError}
-use Rattle.cec_device.specs.declared.sending.Fate.{Fate}
-use Rattle.cec_device.specs.declared.sending.Fate.TheVariants.{Delivered, Unacked, Lost, Broken}
-use Rattle.cec_device.specs.declared.sending.FreeTime.TheVariants.{Retry, NewInitiator}
+use Rattle.cec_frame.specs.declared.Fate.{Fate}
+use Rattle.cec_frame.specs.declared.Fate.TheVariants.{Delivered, Unacked, Lost, Broken}
+use Rattle.cec_device.specs.declared.free_time.FreeTime.TheVariants.{Retry, NewInitiator}
 use Rattle.cec_device.specs.declared.device.Queued.{Queued}
 use Rattle.cec_device.specs.declared.device.SubmitError.{SubmitError}
 use Rattle.cec_device.specs.State.{State, queued, speaks, holds, frame_of, source, one_more}

@@ -3,14 +3,12 @@ use Rattle.std.specs.Prelude.{◌≡◌, ℕ, ◌==◌, ◌%◌, nat_lt, nat_le,
 use Rattle.std.specs.List.{list_any, find}
 use Rattle.cec_frame.specs.Blocks.{frame_in}
 use Rattle.cec_wire.specs.declared.Seat.{Seat}
-use Rattle.cec_wire.specs.declared.Fate as wire_fate
-use Rattle.cec_wire.specs.declared.Fate.TheVariants as in_round
 use Rattle.cec_wire.specs.declared.Outcome.{Outcome}
 use Rattle.cec_wire.specs.Round.{IsRound, fate_in, close_in}
 use Rattle.cec_wire.specs.OneOutcome.{SameOutcome}
 use Rattle.cec_wave.specs.Line.{IsWave}
-use Rattle.cec_device.specs.declared.sending.Fate.{Fate}
-use Rattle.cec_device.specs.declared.sending.Fate.TheVariants.{Delivered, Unacked, Lost, Broken}
+use Rattle.cec_frame.specs.declared.Fate.{Fate}
+use Rattle.cec_frame.specs.declared.Fate.TheVariants.{Delivered, Unacked, Lost, Broken}
 use Rattle.cec_device.specs.State.{State, held}
 use Rattle.cec_device.specs.Place.{front_of, is_on_wire, sent, waited}
 use Rattle.cec_device.specs.Effects.{followed}
@@ -30,13 +28,6 @@ abbrev pub seats_of : NetState → ℕ → List Seat
 seats_of s begin = map (seat_of s.rest begin) s.devices
 
 -- ---- what a round does to a device
-
--- a sender's fate, as its device is told
-abbrev pub fate_told : wire_fate.Fate → Fate
-fate_told in_round.Delivered = Delivered
-fate_told in_round.Unacked = Unacked
-fate_told in_round.Lost = Lost
-fate_told in_round.Broken = Broken
 
 abbrev pub is_among : List ℕ → ℕ → Bool
 is_among seats seat = list_any (λ other. other == seat) seats
@@ -59,7 +50,7 @@ told false false fate at d = d
 -- `own` where the device contends, `any` where some device does
 abbrev pub device_after : Bool → Bool → Outcome → ℕ → State → State
 device_after own any o number d =
-    if is_on_wire d then told own any (fate_told (fate_in o number)) (close_in o) (followed_in o number d) else d
+    if is_on_wire d then told own any (fate_in o number) (close_in o) (followed_in o number d) else d
 
 -- some device starts at `begin`
 abbrev pub is_contended : ℕ → ℕ → List State → Bool

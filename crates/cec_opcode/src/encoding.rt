@@ -10,12 +10,19 @@ use crate::rows::rows;
 use crate::word_set::{Word, WordSet, byte_in, text_in};
 use arrayvec::ArrayVec;
 use cec_frame::{Addr, Frame};
+use thiserror::Error;
 
 /// Why a message is not sent.
-#[derive(Clone, Copy, Debug, PartialEq, Eq)]
+#[derive(Clone, Copy, Debug, PartialEq, Eq, Error)]
 pub enum EncodeError {
+    /// A text is too short or too long for its operand, or the opcode has another message.
+    #[error("the message has an operand that its opcode has not")]
     Operand,
+    /// The opcode is sent to everybody alone, and the frame is for one, or the other way round (CEC 15).
+    #[error("the message does not go to this destination")]
     Addressing,
+    /// The opcode and its operands take more than fifteen blocks.
+    #[error("a frame has at most 16 blocks")]
     TooLong,
 }
 

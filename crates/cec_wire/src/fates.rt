@@ -7,9 +7,9 @@ ghost use Rattle.cec_wire.specs.Round.{is_taken_up, fate_at_end, fate_by, out_in
 use crate::header::is_broadcast;
 use crate::hearing::{Ended, Place};
 use crate::senders::out_slot;
-use crate::{Fate, Loser, Outcome, Seat};
+use crate::{Loser, Outcome, Seat};
 use arrayvec::ArrayVec;
-use cec_frame::{Ending, Reading};
+use cec_frame::{Ending, Fate, Reading};
 use cec_wave::{Stretch, Wave};
 
 const ACK_EVERY: usize = 10;

@@ -3,7 +3,7 @@ ghost use Rattle.std.specs.Prelude.{◌≡◌, ◌+◌, ◌<◌, ◌≤◌, ◌+
 ghost use Rattle.cec_bits.specs.Reading.{last_ending};
 
 use arrayvec::ArrayVec;
-use cec_bits::reading::ending_of;
+use cec_bits::ending_of;
 use cec_frame::Ending;
 
 /// How a reading ended: `until` is the last microsecond that belongs to it.

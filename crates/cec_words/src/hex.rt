@@ -1,28 +1,11 @@
 //! Hex numbers. Each reader takes any text; where the text has hex digits, it finds their value.
-ghost use Rattle.std.specs.Prelude.{◌≡◌, ◌≤◌, ◌<◌, ◌+◌, ◌-◌, ◌*◌, ◌%◌, ◌∷◌, [], ◌++◌, length};
+ghost use Rattle.std.specs.Prelude.{◌≡◌, ◌≤◌, ◌+◌, ◌*◌, ◌∷◌, [], ◌++◌, length};
 ghost use Rattle.arrayvec.specs.ArrayVec.{array_vec_len};
-ghost use Rattle.cec_words.specs.Hex.{digit_value, hex_at, hex_bytes, is_hex_digit};
+ghost use Rattle.cec_words.specs.Hex.{hex_at, hex_bytes};
 
 use crate::parts::byte_at;
 use arrayvec::ArrayVec;
-
-/// Whether a byte is a lower-case hex digit.
-pub fn is_hex_digit(byte: u8) -> bool
-    ensures { result ≡ is_hex_digit byte }
-{
-    matches!(byte, b'0'..=b'9' | b'a'..=b'f')
-}
-
-fn digit_value(byte: u8) -> u8
-    ensures value { result ≡ digit_value byte }
-    ensures in_range { result < 16 }
-{
-    if byte < b'a' {
-        byte.saturating_sub(b'0') % 16
-    } else {
-        (byte - 87) % 16
-    }
-}
+use hdmi_core::digit_value;
 
 /// The byte whose hex digits stand at these places.
 pub fn hex_at(text: &[u8], high: usize, low: usize) -> u8

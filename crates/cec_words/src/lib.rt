@@ -8,7 +8,7 @@ mod parts;
 mod words;
 mod written;
 
-pub use hex::{hex_at, hex_bytes, is_hex_digit};
+pub use hex::{hex_at, hex_bytes};
 pub use lines::{first_line, is_skipped};
 pub use number::{number_in, small_number};
 pub use parts::{before, behind, byte_at, joined, len_before};

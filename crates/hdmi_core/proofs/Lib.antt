@@ -1,2 +1,3 @@
 pub mod CutShort
 pub mod SinkLemmas
+pub mod PhysTexts

@@ -1,3 +1,4 @@
 pub mod Sink
 pub mod Piece
 pub mod Written
+pub mod Phys

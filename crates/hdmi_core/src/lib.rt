@@ -8,6 +8,6 @@ mod piece;
 mod sink;
 
 pub use kind::Kind;
-pub use phys::Phys;
+pub use phys::{Phys, digit_value, is_hex_digit};
 pub use piece::{Piece, hex_digit, write_line, write_pieces};
 pub use sink::{Sink, WriteFault, Writes, put_all};

@@ -58,7 +58,7 @@ impl<W: io::Write> Sink for Writes<W> {
 
 /// A `put` took none. `count` bytes had been written by then.
 #[derive(Clone, Copy, Debug, PartialEq, Eq, Error)]
-#[error("the writer took no more after {count} bytes")]
+#[error("write fault after {count} bytes")]
 pub struct WriteFault {
     pub count: u128,
 }

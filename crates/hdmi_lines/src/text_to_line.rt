@@ -93,29 +93,6 @@ fn read_hex(digits: &[u8]) -> Option<ArrayVec<u8, 128>>
     Some(bytes)
 }
 
-/// The value of a hex digit in lower case.
-fn nibble_value(digit: u8) -> u8
-    ensures value { (n : ℕ) → n < 16 → nibble_text n ≡ digit ∷ [] → result ≡ n }
-    ensures small { result < 16 }
-{
-    match digit {
-        b'0'..=b'9' => digit - b'0',
-        b'a'..=b'f' => digit - b'a' + 10,
-        _ => 0,
-    }
-}
-
-/// The physical address that seven characters may spell.
-fn read_phys(text: &[u8]) -> Phys
-    requires { length text.now ≡ 7 }
-    ensures { (p : PhysValue) → p.high < 256 → p.low < 256 → phys_text p ≡ text.now → result ≡ p }
-{
-    Phys {
-        high: nibble_value(text[0]) * 16 + nibble_value(text[2]),
-        low: nibble_value(text[4]) * 16 + nibble_value(text[6]),
-    }
-}
-
 /// Letters behind a space.
 fn letters_field(text: &[u8]) -> Option<Fields>
     ensures { (xs : List ℕ) → length xs ≤ 8 → 32 ∷ xs ≡ text.now → result ≡ Some (Fields.Letters (record { items = xs })) }
@@ -178,7 +155,7 @@ fn address_field(text: &[u8]) -> Option<Fields>
     if text.len() < 9 {
         return None;
     }
-    let phys = read_phys(&text[1..8]);
+    let phys = Phys::read(&text[1..8])?;
     let bytes = read_hex(&text[9..])?;
     let mut field = ArrayVec::new();
     if field.try_extend_from_slice(bytes.as_slice()).is_err() {

@@ -2,8 +2,9 @@
 use cec_mon::WatchError;
 use cec_run::emulate::EmulateError;
 use cec_step::step_run::StepRunError;
-use cec_text::{AssembleError, FrameLinesError};
+use cec_text::FrameLinesError;
 use hdmi_convert::{EdidToTextError, TextToHexError};
+use hdmi_core::WriteFault;
 use std::alloc::AllocError;
 use std::io::{self, ErrorKind};
 use thiserror::Error;
@@ -24,30 +25,18 @@ pub enum Fault {
     Emulate(#[from] EmulateError),
     #[error("steps line {0}")]
     Steps(u64),
-    #[error("line {line}: {cause}")]
-    Line { line: u64, cause: AssembleError },
+    #[error(transparent)]
+    Frames(#[from] FrameLinesError),
     #[error(transparent)]
     Watch(#[from] WatchError),
     #[error(transparent)]
     EdidToText(#[from] EdidToTextError),
     #[error(transparent)]
     TextToHex(#[from] TextToHexError),
-    #[error("write fault after {0} bytes")]
-    Write(u128),
+    #[error(transparent)]
+    Write(#[from] WriteFault),
     #[error("no memory")]
     Memory(#[from(alloc)] AllocError),
-}
-
-impl From<FrameLinesError> for Fault {
-    fn from(error: FrameLinesError) -> Fault {
-        match error {
-            FrameLinesError::Line(fault) => Fault::Line {
-                line: fault.line,
-                cause: fault.cause,
-            },
-            FrameLinesError::Write(fault) => Fault::Write(fault.count),
-        }
-    }
 }
 
 impl From<StepRunError> for Fault {
@@ -76,6 +65,7 @@ impl Fault {
             | Fault::Read
             | Fault::Write(_)
             | Fault::Emulate(EmulateError::Write(_))
+            | Fault::Frames(FrameLinesError::Write(_))
             | Fault::Watch(WatchError::Write(_))
             | Fault::EdidToText(EdidToTextError::Write(_))
             | Fault::TextToHex(TextToHexError::Write(_)) => 3,
@@ -87,7 +77,7 @@ impl Fault {
             | Fault::NoStepsLine
             | Fault::Steps(_)
             | Fault::Emulate(_)
-            | Fault::Line { .. }
+            | Fault::Frames(FrameLinesError::Line(_))
             | Fault::Watch(_)
             | Fault::EdidToText(_)
             | Fault::TextToHex(_) => 1,

@@ -55,6 +55,46 @@ fn parts(text: &[u8]) -> Result<(&[u8], &[u8]), Fault> {
     parted(text, b"script").ok_or(Fault::NoScriptLine)
 }
 
+// Each of these takes its memory on the stack where it is asked for, and not in every start.
+#[inline(never)]
+fn run<W: Sink>(alloc: Global, input: &[u8], out: &mut W) -> Result<Totals, Fault> {
+    let (topology, script) = parts(input)?;
+    Ok(emulate(alloc, topology, script, out)?)
+}
+
+#[inline(never)]
+fn run_to_edges<W: Sink>(alloc: Global, input: &[u8], out: &mut W) -> Result<Totals, Fault> {
+    let (topology, script) = parts(input)?;
+    Ok(emulate_edges(alloc, topology, script, out)?)
+}
+
+#[inline(never)]
+fn step<W: Sink>(alloc: Global, input: &[u8], out: &mut W) -> Result<(), Fault> {
+    let (topology, rest) = parts(input)?;
+    let (script, steps) = parted(rest, b"steps").ok_or(Fault::NoStepsLine)?;
+    Ok(step_run(alloc, topology, script, steps, out)?)
+}
+
+#[inline(never)]
+fn monitor<W: Sink>(alloc: Global, input: &[u8], out: &mut W) -> Result<(), Fault> {
+    Ok(watch(alloc, input, out)?)
+}
+
+#[inline(never)]
+fn assemble<W: Sink>(input: &[u8], out: &mut W) -> Result<(), Fault> {
+    Ok(asm_lines(input, out)?)
+}
+
+#[inline(never)]
+fn write_edid<W: Sink>(alloc: Global, input: &[u8], out: &mut W) -> Result<(), Fault> {
+    Ok(text_to_hex(alloc, input, out)?)
+}
+
+#[inline(never)]
+fn read_edid<W: Sink>(input: &[u8], out: &mut W) -> Result<(), Fault> {
+    Ok(edid_to_text(input, out)?)
+}
+
 // Does what is asked for. Of a run the result has the counts.
 fn perform<W: Sink>(
     alloc: Global,
@@ -63,23 +103,13 @@ fn perform<W: Sink>(
     out: &mut W,
 ) -> Result<Option<Totals>, Fault> {
     match choice {
-        Choice::Run => {
-            let (topology, script) = parts(input)?;
-            return Ok(Some(emulate(alloc, topology, script, out)?));
-        }
-        Choice::Edges => {
-            let (topology, script) = parts(input)?;
-            return Ok(Some(emulate_edges(alloc, topology, script, out)?));
-        }
-        Choice::Step => {
-            let (topology, rest) = parts(input)?;
-            let (script, steps) = parted(rest, b"steps").ok_or(Fault::NoStepsLine)?;
-            step_run(alloc, topology, script, steps, out)?;
-        }
-        Choice::Asm => asm_lines(input, out)?,
-        Choice::Mon => watch(alloc, input, out)?,
-        Choice::EdidToText => edid_to_text(input, out)?,
-        Choice::TextToHex => text_to_hex(alloc, input, out)?,
+        Choice::Run => return Ok(Some(run(alloc, input, out)?)),
+        Choice::Edges => return Ok(Some(run_to_edges(alloc, input, out)?)),
+        Choice::Step => step(alloc, input, out)?,
+        Choice::Asm => assemble(input, out)?,
+        Choice::Mon => monitor(alloc, input, out)?,
+        Choice::EdidToText => read_edid(input, out)?,
+        Choice::TextToHex => write_edid(alloc, input, out)?,
     }
     Ok(None)
 }
@@ -93,6 +123,7 @@ pub fn tell<E: Sink>(fault: &Fault, err: &mut E) -> u8 {
 }
 
 // What follows the line of a fault with `--explain`.
+#[inline(never)]
 fn explanation(
     alloc: Global,
     choice: Choice,
@@ -138,7 +169,7 @@ fn show_refused<W: Sink, E: Sink>(
     }
     match put_all(out, text.as_bytes()) {
         Ok(()) => 0,
-        Err(fault) => tell(&Fault::Write(fault.count), err),
+        Err(fault) => tell(&Fault::Write(fault), err),
     }
 }
 

@@ -1,6 +1,8 @@
 //! The text of each error, written by hand.
 use cec_device::{KeyError, SubmitError};
 use cec_frame::FrameError;
+use cec_opcode::EncodeError;
+use cec_text::{AssembleError, FrameLinesError, LineFault};
 use cec_wave::PulsesError;
 use hdmi_core::WriteFault;
 use hdmi_cta::{ExtError, NoHdmiBlock};
@@ -167,6 +169,44 @@ fn blocks(rt: HostRuntime) -> Result<(), Fail> {
         &rt,
         alloc,
         &WriteFault { count: 12 },
-        "the writer took no more after 12 bytes",
+        "write fault after 12 bytes",
+    )
+}
+
+#[test]
+fn messages_and_texts_of_frames(rt: HostRuntime) -> Result<(), Fail> {
+    let alloc = rt.alloc();
+    prints(
+        &rt,
+        alloc,
+        &EncodeError::Operand,
+        "the message has an operand that its opcode has not",
+    )?;
+    prints(
+        &rt,
+        alloc,
+        &EncodeError::Addressing,
+        "the message does not go to this destination",
+    )?;
+    prints(
+        &rt,
+        alloc,
+        &EncodeError::TooLong,
+        "a frame has at most 16 blocks",
+    )?;
+    prints(
+        &rt,
+        alloc,
+        &FrameLinesError::Line(LineFault {
+            line: 7,
+            cause: AssembleError::TooLong,
+        }),
+        "line 7: too-long",
+    )?;
+    prints(
+        &rt,
+        alloc,
+        &FrameLinesError::Write(WriteFault { count: 0 }),
+        "write fault after 0 bytes",
     )
 }

@@ -1,5 +1,5 @@
 use Rattle.cec_bits.proofs.Keeping as Keeping
-use Rattle.cec_bits.proofs.standings_are_kept.Goals as goal
+use Rattle.cec_bits.proofs.laws.standings_are_kept.Goals as goal
 
 pub returns : goal.returns
 returns c = Keeping.standings_are_kept

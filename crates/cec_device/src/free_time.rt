@@ -1,19 +1,6 @@
-//! What becomes of the frames that a device sends.
+//! How long a device waits before it sends.
 ghost use Rattle.std.specs.Prelude.{◌≡◌};
 ghost use Rattle.cec_device.specs.FreeTime.{free_time_of};
-
-/// What became of a frame that was sent.
-#[derive(Clone, Copy, PartialEq, Eq)]
-pub enum Fate {
-    /// It was sent whole, and was acknowledged, or refused by nobody where it went to all.
-    Delivered,
-    /// It was not acknowledged, or somebody refused it.
-    Unacked,
-    /// Another device's frame won the line.
-    Lost,
-    /// It was broken off.
-    Broken,
-}
 
 /// How long the line has to have been free before a device starts (CEC 9.1).
 #[derive(Clone, Copy, PartialEq, Eq)]

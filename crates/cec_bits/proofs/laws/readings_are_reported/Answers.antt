@@ -1,5 +1,5 @@
 use Rattle.cec_bits.proofs.Reported.{endings_are_told, running_is_kept}
-use Rattle.cec_bits.proofs.readings_are_reported.Goals as goal
+use Rattle.cec_bits.proofs.laws.readings_are_reported.Goals as goal
 
 pub returns-clause-endings : goal.returns-clause-endings
 returns-clause-endings c = endings_are_told
