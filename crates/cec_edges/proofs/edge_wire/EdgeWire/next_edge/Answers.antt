@@ -15,7 +15,7 @@ returns-in-Some-clause-listens c =
     let e = c.search-found.ensures in
     let s = c.in-Some.ensures in
     let w = c.search-found.new.self in
-    listens_edge c.args.self.now w (record w { listeners = c.hear.new.self; kept = c.self-1.given.0 }) c.in-Some.edge
+    listens_edge c.args.self.now w _ c.in-Some.edge
     (record { begun = c.requires.begun; listens = c.requires.listens; same = e.round; grows = e.grows; later = e.later; listeners = e.listeners; now = e.begun })
     (record { seats = refl; begin = refl; pulses = refl; time = refl }) (e.bound c.requires.listens.near) s.goes s.passes c.hear.ensures.level c.hear.ensures.senders c.hear.ensures.stands
 
@@ -23,6 +23,6 @@ pub returns-in-None-clause-listens : goal.returns-in-None-clause-listens
 returns-in-None-clause-listens c =
     let e = c.search-found.ensures in
     let w = c.search-found.new.self in
-    listens_none c.args.self.now w (record w { listeners = c.hear_until.new.self; kept = c.self-in-None-1.given.0 })
+    listens_none c.args.self.now w _
     (record { begun = c.requires.begun; listens = c.requires.listens; same = e.round; grows = e.grows; later = e.later; listeners = e.listeners; now = e.begun })
     (record { seats = refl; begin = refl; pulses = refl; time = refl }) (e.bound c.requires.listens.near) c.in-None.ensures.passes c.hear_until.ensures.level c.hear_until.ensures.senders c.hear_until.ensures.stands
