@@ -388,11 +388,14 @@ impl EdgeWire {
         ensures round { IsRoundOf self result }
     {
         let ended = ending(self.place);
-        let begin = self.begin;
         let seats = self.seats;
-        let bits = self.bits;
-        let wave = self.recorder.wave;
-        outcome_of(seats.as_slice(), begin, bits, ended, wave)
+        outcome_of(
+            seats.as_slice(),
+            self.begin,
+            self.bits,
+            ended,
+            self.recorder.wave,
+        )
     }
 
     /// What the round gave, once `next_edge` has answered that no edge comes any more. The wire is then as new.

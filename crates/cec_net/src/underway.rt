@@ -153,6 +153,7 @@ impl Net<EdgeWire> {
         };
         let begin = wire.begun_at();
         let outcome = outcome_of(wire, self.pulses.as_slice());
-        self.end(begin, outcome)
+        self.end(begin, &outcome);
+        RoundReport { begin, outcome }
     }
 }

@@ -1,5 +1,5 @@
 //! Who pulls the line low in a microsecond.
-ghost use Rattle.std.specs.Prelude.{◌≡◌, ◌&&◌, if◌then◌else◌, nat_le};
+ghost use Rattle.std.specs.Prelude.{◌≡◌, ◌≤◌, ◌-◌, ◌&&◌, false, if◌then◌else◌, length, nat_le, nat_lt, slice_index_or};
 ghost use Rattle.std.specs.List.{list_any};
 ghost use Rattle.cec_wave.specs.Line.{line_of};
 ghost use Rattle.cec_wave.specs.Sender.{sender_stretches};
@@ -21,11 +21,19 @@ const LOW_OF_1: u64 = 600;
 
 const LOW_OF_0: u64 = 1500;
 
-// How long a sender pulls for a bit.
-fn low_of(bit: bool) -> u64
-    ensures { result ≡ (if bit then 600 else 1500) }
+// Whether a sender pulls so long after the fall of a slot that it sends, counted from 1. Its bit is asked only where
+// it decides.
+fn is_low_within(frame: &Frame, slot: usize, within: u64) -> bool
+    requires { (1 ≤ slot) × (slot ≤ length (frame_bits frame.now)) }
+    ensures { result ≡ nat_lt within (if slice_index_or (frame_bits frame.now) (slot - 1) false then 600 else 1500) }
 {
-    if bit { LOW_OF_1 } else { LOW_OF_0 }
+    if within < LOW_OF_1 {
+        true
+    } else if within < LOW_OF_0 {
+        !frame.bit(slot)
+    } else {
+        false
+    }
 }
 
 // Whether a sender that starts at `start` and goes on pulls in microsecond `t`.
@@ -44,7 +52,7 @@ fn is_sent_low(frame: &Frame, start: u64, t: u64) -> bool
     if place >= frame.slots() as u64 {
         return false;
     }
-    within < low_of(frame.bit(place as usize + 1))
+    is_low_within(frame, place as usize + 1, within)
 }
 
 // Whether a sender, if there is one, that starts at `start` and goes on pulls in microsecond `t`.

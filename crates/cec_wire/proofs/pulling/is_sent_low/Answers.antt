@@ -1,4 +1,4 @@
-use Rattle.std.proofs.Common.{◌≡◌, ◌+◌, ◌-◌, ◌/◌, ◌%◌, false, nat_lt, if◌then◌else◌, slice_get, arith, ap, ◌∙◌, sym}
+use Rattle.std.proofs.Common.{◌≡◌, ◌+◌, ◌-◌, ◌/◌, ◌%◌, false, nat_lt, if◌then◌else◌, slice_index_or, slice_get, arith, ap, ◌∙◌, sym}
 use Rattle.std.proofs.lemmas.Option.{get_or_from_slice_get}
 use Rattle.cec_frame.specs.Bits.{frame_bits}
 use Rattle.cec_wire.proofs.Lays.{slot_at, slots_over, start_at, before_start, after_start}
@@ -19,6 +19,8 @@ pub returns : goal.returns
 returns c =
     let q = (c.args.t - c.args.start - 4500) / 2400 in
     let r = (c.args.t - c.args.start - 4500) % 2400 in
-    ap (λ n. nat_lt r n) (c.low_of.ensures ∙ ap (λ b. if b then 600 else 1500) (sym (get_or_from_slice_get (frame_bits c.args.frame.now) q c.bit.result false (ap (λ k. slice_get (frame_bits c.args.frame.now) k) (let e : q ≡ q + 1 - 1 = omega arith in e) ∙ c.bit.ensures))))
+    let e : q + 1 - 1 ≡ q = omega arith in
+    c.is_low_within.ensures
+    ∙ ap (λ k. nat_lt r (if slice_index_or (frame_bits c.args.frame.now) k false then 600 else 1500)) e
     ∙ sym (after_start (frame_bits c.args.frame.now) c.args.start c.args.t (omega arith)
     ∙ slot_at (frame_bits c.args.frame.now) (c.args.start + 4500) q r c.args.t (omega arith) (omega arith) (omega arith))

@@ -26,4 +26,4 @@ end-requires-clause-round c =
 
 pub returns-clause-begins : goal.returns-clause-begins
 returns-clause-begins c =
-    sym (ap next_start c.self.view_is) ∙ (c.self.invariant.1 c.in-Some.wire (sym c.in-Some.ensures.value)).begins ∙ ap Some (sym c.begun_at-begin.ensures) ∙ ap Some (sym c.end.ensures.begin)
+    sym (ap next_start c.self.view_is) ∙ (c.self.invariant.1 c.in-Some.wire (sym c.in-Some.ensures.value)).begins ∙ ap Some (sym c.begun_at-begin.ensures)
