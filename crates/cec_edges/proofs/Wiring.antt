@@ -1,17 +1,18 @@
 -- A wire that stands in a round, and goes on.
-use Rattle.std.proofs.Common.{◌≡◌, ℕ, zero, suc, ◌+◌, ◌-◌, ◌%◌, ◌<◌, ◌≤◌, Bool, true, false, not, ◌&&◌, nat_lt, nat_le, if◌then◌else◌, List, [], ◌∷◌, ◌++◌, length, append-nil, Option, Some, None, is_some, refl, arith, ap, ◌∙◌, sym, subst}
-use Rattle.std.specs.List.{All}
+use Rattle.std.proofs.Common.{◌≡◌, ℕ, zero, suc, ◌+◌, ◌-◌, ◌/◌, ◌%◌, ◌<◌, ◌≤◌, Bool, true, false, not, ◌&&◌, nat_lt, nat_le, if◌then◌else◌, List, [], ◌∷◌, ◌++◌, length, append-nil, slice_index_or, Option, Some, None, is_some, refl, arith, ap, ◌∙◌, sym, subst}
+use Rattle.std.specs.List.{All, fold}
 use mathlib.Core.Bool.{beq}
 use Rattle.std.proofs.lemmas.Bool.Decides.{nat_tests}
 use Rattle.cec_wave.specs.declared.Stretch.{Stretch}
 use Rattle.cec_wave.specs.Line.{Line, was_low}
 use Rattle.cec_wave.specs.Pulses.{AreSparse}
+use Rattle.cec_frame.specs.Bits.{frame_bits}
 use Rattle.cec_wire.specs.declared.Seat.{Seat}
 use Rattle.cec_wire.specs.declared.hearing.Place.{Place}
 use Rattle.cec_wire.specs.declared.hearing.Place.TheVariants.{StartLow, StartHigh, InSlot, Over}
 use Rattle.cec_wire.specs.Round.{IsRoundLine}
 use Rattle.cec_wire.specs.Machine.{AreSentWell, IsEarly, IsReady, samples, next_place, bit_told, held_after, recorded, low_since}
-use Rattle.cec_wire.specs.Edges.{Heard, first_heard, hear_in, heard_of, pulls, next_part, next_due, next_wake, part_left, sooner, if_later, first_end, begin_of, IsTimely, EachLine}
+use Rattle.cec_wire.specs.Edges.{Heard, first_heard, hear_in, heard_of, pulls, sending_by, part_of, sender_part, next_part, next_due, next_wake, part_left, sooner, if_later, first_end, begin_of, IsTimely, EachLine}
 use Rattle.cec_edges.specs.Wired.{IsHeard, IsNext}
 use Rattle.cec_wire.proofs.Exists.{made_line, made_round}
 use Rattle.cec_wire.proofs.Records.{has_room, is_ready}
@@ -94,7 +95,7 @@ all_later a b ps l h i d m = let x = h i d m in omega (arith, x)
 abbrev Goes : List Seat → ℕ → List Stretch → ℕ → ℕ → Heard → Type 0
 Goes seats begin pulses t w h = IsHeard seats begin pulses w h × EachLine seats begin pulses w (λ low. (u : ℕ) → t ≤ u → u < w → low u ≡ is_some h.since)
 
-pub waited : (seats : List Seat) (begin : ℕ) (pulses : List Stretch) (t w : ℕ) (next : Option Stretch) (h : Heard) → IsHeard seats begin pulses t h → t ≤ w → StaysTo begin pulses next h.place h.held t w
+pub waited : (seats : List Seat) (begin : ℕ) (pulses : List Stretch) (t w : ℕ) (next : Option Stretch) (h : Heard) → IsHeard seats begin pulses t h → t ≤ w → StaysTo begin (sending_by h.bits seats) pulses next h.place h.held t w
     → pulls seats begin pulses h.place h.bits h.held (is_some h.since) t ≡ is_some h.since → Goes seats begin pulses t w h
 waited seats begin pulses t w next h i l stays quiet = (
   record {
@@ -115,7 +116,7 @@ waited seats begin pulses t w next h i l stays quiet = (
     waits : (later : List Stretch) (low : ℕ → Bool) → AreSparse (pulses ++ later) → All (λ p. w ≤ p.from) later → IsRoundLine seats begin (pulses ++ later) low → Waits seats low begin (t - begin) (w - t) h
     waits later low sparse late line =
         between seats begin pulses later low next h (t - begin) w (are_frames seats i.sent) sparse line late (subst (λ n. All (λ p. p.from ≤ n) pulses) (sym here) i.begun)
-        (subst (λ n. StaysTo begin pulses next h.place h.held n w) (sym here) stays) (i.heard later low sparse (all_sooner t w later l late) line)
+        (subst (λ n. StaysTo begin (sending_by h.bits seats) pulses next h.place h.held n w) (sym here) stays) (i.heard later low sparse (all_sooner t w later l late) line)
         (ap (λ n. pulls seats begin pulses h.place h.bits h.held (is_some h.since) n) here ∙ quiet) (w - t) (let f = i.from in omega arith)
 
 pub stayed : (seats : List Seat) (begin : ℕ) (pulses : List Stretch) (t : ℕ) (h : Heard) → IsHeard seats begin pulses t h → Goes seats begin pulses t t h
@@ -216,31 +217,28 @@ end_after : (t wake : ℕ) (ps : List Stretch) → t ≤ wake → t ≤ first_en
 end_after t wake [] l = l
 end_after t wake (p ∷ ps) l = end_after t (sooner wake (if_later t p.to)) ps (sooner_after t wake (if_later t p.to) l (later_after t p.to))
 
-part_small : (a : ℕ) → a < 2400 → part_left a ≤ 2400
-part_small a l = by_small (nat_lt a 600)
+-- a sender changes its pull no sooner than now
+sender_after : (begin : ℕ) (bits : List Bool) (t : ℕ) → begin ≤ t → t ≤ sender_part begin bits t
+sender_after begin bits t l = by_start (nat_lt t (begin + 3700)) refl
   where
-    by_mid : (b : Bool) → (if b then 1500 - a else 2400 - a) ≤ 2400
-    by_mid true = omega arith
-    by_mid false = omega arith
+    left : ℕ
+    left = part_left (slice_index_or bits ((t - (begin + 4500)) / 2400) false) ((t - (begin + 4500)) % 2400)
 
-    by_small : (b : Bool) → (if b then 600 - a else if nat_lt a 1500 then 1500 - a else 2400 - a) ≤ 2400
-    by_small true = omega arith
-    by_small false = by_mid (nat_lt a 1500)
+    by_high : (b : Bool) → nat_lt t (begin + 4500) ≡ b → t ≤ (if b then begin + 4500 else t + left)
+    by_high true e = let x : t < begin + 4500 = grind (arith, nat_tests) in omega arith
+    by_high false e = omega arith
 
-part_after : (begin t : ℕ) → begin ≤ t → (t ≤ next_part begin t) × (next_part begin t ≤ t + 4500)
-part_after begin t l = by_start (nat_lt t (begin + 3700)) refl
-  where
-    by_high : (b : Bool) → nat_lt t (begin + 4500) ≡ b → (t ≤ (if b then begin + 4500 else t + part_left ((t - (begin + 4500)) % 2400))) × ((if b then begin + 4500 else t + part_left ((t - (begin + 4500)) % 2400)) ≤ t + 4500)
-    by_high true e = let x : t < begin + 4500 = grind (arith, nat_tests) in (omega arith, omega arith)
-    by_high false e =
-        let s : (t - (begin + 4500)) % 2400 < 2400 = omega arith in
-        let p = part_small ((t - (begin + 4500)) % 2400) s in
-        (omega arith, omega (arith, p))
-
-    by_start : (b : Bool) → nat_lt t (begin + 3700) ≡ b → (t ≤ (if b then begin + 3700 else if nat_lt t (begin + 4500) then begin + 4500 else t + part_left ((t - (begin + 4500)) % 2400)))
-        × ((if b then begin + 3700 else if nat_lt t (begin + 4500) then begin + 4500 else t + part_left ((t - (begin + 4500)) % 2400)) ≤ t + 4500)
-    by_start true e = let x : t < begin + 3700 = grind (arith, nat_tests) in (omega arith, omega arith)
+    by_start : (b : Bool) → nat_lt t (begin + 3700) ≡ b → t ≤ (if b then begin + 3700 else if nat_lt t (begin + 4500) then begin + 4500 else t + left)
+    by_start true e = let x : t < begin + 3700 = grind (arith, nat_tests) in omega arith
     by_start false e = by_high (nat_lt t (begin + 4500)) refl
+
+part_of_after : (begin : ℕ) (o : Option (List ℕ)) (t : ℕ) → begin ≤ t → (d : ℕ) → part_of begin o t ≡ Some d → t ≤ d
+part_of_after begin None t l d e = cc
+part_of_after begin (Some f) t l d e = let x : sender_part begin (frame_bits f) t ≡ d = cc in omega (arith, x, sender_after begin (frame_bits f) t l)
+
+part_after : (begin t wake : ℕ) (ss : List Seat) → begin ≤ t → t ≤ wake → t ≤ fold (λ w s. sooner w (part_of begin s.sends t)) wake ss
+part_after begin t wake [] l m = m
+part_after begin t wake (s ∷ ss) l m = part_after begin t (sooner wake (part_of begin s.sends t)) ss l (sooner_after t wake (part_of begin s.sends t) m (part_of_after begin s.sends t l))
 
 due_after : (seats : List Seat) (low : Line) (begin t : ℕ) (bits : List Bool) (held : ℕ) (place : Place) → StandsAt seats low begin t bits held place → (d : ℕ) → next_due begin place t ≡ Some d → t ≤ d
 unfolding StandsAt
@@ -266,34 +264,34 @@ pub record Woken (seats : List Seat) (begin : ℕ) (pulses : List Stretch) (t : 
   pub calm : EachLine seats begin pulses w (λ low. (u : ℕ) → t ≤ u → u < w → low u ≡ is_some h.since)
 
 pub woken : (seats : List Seat) (begin : ℕ) (pulses : List Stretch) (t : ℕ) (next : Option Stretch) (h : Heard) (w : ℕ) → IsHeard seats begin pulses t h → ((p : Stretch) → next ≡ Some p → t ≤ p.from)
-    → w ≡ (if not (beq (pulls seats begin pulses h.place h.bits h.held (is_some h.since) t) (is_some h.since)) then t else next_wake begin pulses next h.place h.held t) → Woken seats begin pulses t next h w
+    → w ≡ (if not (beq (pulls seats begin pulses h.place h.bits h.held (is_some h.since) t) (is_some h.since)) then t else next_wake begin (sending_by h.bits seats) pulses next h.place h.held t) → Woken seats begin pulses t next h w
 woken seats begin pulses t next h w i after e = subst (λ n. Woken seats begin pulses t next h n) (sym e) (by_same (beq (pulls seats begin pulses h.place h.bits h.held (is_some h.since) t) (is_some h.since)) refl)
   where
-    part : (t ≤ next_part begin t) × (next_part begin t ≤ t + 4500)
-    part = part_after begin t i.from
+    part : t ≤ next_part begin (sending_by h.bits seats) t
+    part = part_after begin t (t + 4500) (sending_by h.bits seats) i.from (omega arith)
 
-    stays : StaysTo begin pulses next h.place h.held t (next_wake begin pulses next h.place h.held t)
-    stays = wake_stays begin pulses next h.place h.held t
+    stays : StaysTo begin (sending_by h.bits seats) pulses next h.place h.held t (next_wake begin (sending_by h.bits seats) pulses next h.place h.held t)
+    stays = wake_stays begin (sending_by h.bits seats) pulses next h.place h.held t
 
     begins : (o : Option Stretch) → ((p : Stretch) → o ≡ Some p → t ≤ p.from) → (d : ℕ) → begin_of o ≡ Some d → t ≤ d
     begins None k d x = cc
     begins (Some p) k d x = let y : p.from ≡ d = cc in omega (arith, y, k p refl)
 
-    after_t : t ≤ next_wake begin pulses next h.place h.held t
+    after_t : t ≤ next_wake begin (sending_by h.bits seats) pulses next h.place h.held t
     after_t =
-        end_after t (sooner (sooner (sooner (next_part begin t) (next_due begin h.place t)) (if_later t h.held)) (begin_of next)) pulses
-        (sooner_after t (sooner (sooner (next_part begin t) (next_due begin h.place t)) (if_later t h.held)) (begin_of next)
-        (sooner_after t (sooner (next_part begin t) (next_due begin h.place t)) (if_later t h.held)
-        (sooner_after t (next_part begin t) (next_due begin h.place t) part.0
+        end_after t (sooner (sooner (sooner (next_part begin (sending_by h.bits seats) t) (next_due begin h.place t)) (if_later t h.held)) (begin_of next)) pulses
+        (sooner_after t (sooner (sooner (next_part begin (sending_by h.bits seats) t) (next_due begin h.place t)) (if_later t h.held)) (begin_of next)
+        (sooner_after t (sooner (next_part begin (sending_by h.bits seats) t) (next_due begin h.place t)) (if_later t h.held)
+        (sooner_after t (next_part begin (sending_by h.bits seats) t) (next_due begin h.place t) part
         (due_after seats (line_in seats begin pulses) begin t h.bits h.held h.place (stands_in seats begin pulses t h i).stands)) (later_after t h.held)) (begins next after))
 
-    by_same : (b : Bool) → beq (pulls seats begin pulses h.place h.bits h.held (is_some h.since) t) (is_some h.since) ≡ b → Woken seats begin pulses t next h (if not b then t else next_wake begin pulses next h.place h.held t)
+    by_same : (b : Bool) → beq (pulls seats begin pulses h.place h.bits h.held (is_some h.since) t) (is_some h.since) ≡ b → Woken seats begin pulses t next h (if not b then t else next_wake begin (sending_by h.bits seats) pulses next h.place h.held t)
     by_same false f =
         let g = stayed seats begin pulses t h i in
         record { later = omega arith; near = omega arith; comes = after; heard = g.0; calm = g.1 }
     by_same true f =
-        let g = waited seats begin pulses t (next_wake begin pulses next h.place h.held t) next h i after_t stays (is_same (pulls seats begin pulses h.place h.bits h.held (is_some h.since) t) (is_some h.since) f) in
-        record { later = after_t; near = omega (arith, stays.part, part.1); comes = stays.comes; heard = g.0; calm = g.1 }
+        let g = waited seats begin pulses t (next_wake begin (sending_by h.bits seats) pulses next h.place h.held t) next h i after_t stays (is_same (pulls seats begin pulses h.place h.bits h.held (is_some h.since) t) (is_some h.since) f) in
+        record { later = after_t; near = stays.near; comes = stays.comes; heard = g.0; calm = g.1 }
 
 pub next_from : (pulses : List Stretch) (t : ℕ) (next : Option Stretch) → IsNext pulses t next → (p : Stretch) → next ≡ Some p → t ≤ p.from
 next_from pulses t None h p e = cc

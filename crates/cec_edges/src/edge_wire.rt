@@ -181,6 +181,7 @@ impl EdgeWire {
         }
         next_wake(
             self.begin,
+            self.sending.as_slice(),
             self.pulses.as_slice(),
             next,
             self.place,

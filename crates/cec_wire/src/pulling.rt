@@ -11,15 +11,22 @@ use crate::hearing::Place;
 use cec_frame::Frame;
 use cec_wave::Stretch;
 
-const START_LOW: u64 = 3700;
+pub(crate) const START_LOW: u64 = 3700;
 
-const FIRST_SLOT: u64 = 4500;
+pub(crate) const FIRST_SLOT: u64 = 4500;
 
-const SLOT: u64 = 2400;
+pub(crate) const SLOT: u64 = 2400;
 
 const LOW_OF_1: u64 = 600;
 
 const LOW_OF_0: u64 = 1500;
+
+// How long a sender pulls for a bit.
+pub(crate) fn low_of(bit: bool) -> u64
+    ensures { result ≡ (if bit then 600 else 1500) }
+{
+    if bit { LOW_OF_1 } else { LOW_OF_0 }
+}
 
 // Whether a sender pulls so long after the fall of a slot that it sends, counted from 1. Its bit is asked only where
 // it decides.

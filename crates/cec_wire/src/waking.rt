@@ -1,37 +1,68 @@
 //! Until when nothing changes: neither who pulls nor where the reading stands.
 ghost use Rattle.std.specs.Prelude.{◌≡◌, ◌<◌, ◌≤◌};
-ghost use Rattle.cec_wire.specs.Edges.{part_left, next_part, next_due, sooner, if_later, first_end, begin_of, next_wake, IsTimely};
+ghost use Rattle.cec_frame.specs.Bits.{frame_bits};
+ghost use Rattle.cec_wire.specs.Edges.{part_left, sender_part, part_of, next_part, next_due, sooner, if_later, first_end, begin_of, next_wake, IsTimely};
 
+use crate::Seat;
 use crate::hearing::Place;
+use crate::pulling::{FIRST_SLOT, SLOT, START_LOW, low_of};
+use crate::senders::sent_bit;
+use cec_frame::Frame;
 use cec_wave::Stretch;
 
-// How much is left of the part of a slot in which `within` is.
-fn part_left(within: u64) -> u64
+// How much is left of the part of a slot of this bit in which `within` is.
+fn part_left(bit: bool, within: u64) -> u64
     requires { within < 2400 }
-    ensures { result ≡ part_left within }
+    ensures { result ≡ part_left bit within }
 {
-    if within < 600 {
-        600 - within
-    } else if within < 1500 {
-        1500 - within
+    let low = low_of(bit);
+    if within < low {
+        low - within
     } else {
-        2400 - within
+        SLOT - within
     }
 }
 
-// The next instant after `t` at which some sender can change its pull.
-fn next_part(begin: u64, t: u64) -> u64
+// The next instant after `t` at which a frame's sender can change its pull.
+fn sender_part(frame: &Frame, begin: u64, t: u64) -> u64
     requires early { begin ≤ 2000000100000 }
     requires time { t ≤ 3000000000000 }
-    ensures { result ≡ next_part begin t }
+    ensures { result ≡ sender_part begin (frame_bits frame.now) t }
 {
-    if t < begin + 3700 {
-        begin + 3700
-    } else if t < begin + 4500 {
-        begin + 4500
+    if t < begin + START_LOW {
+        begin + START_LOW
+    } else if t < begin + FIRST_SLOT {
+        begin + FIRST_SLOT
     } else {
-        t + part_left((t - (begin + 4500)) % 2400)
+        let since = t - (begin + FIRST_SLOT);
+        let bit = sent_bit(frame, (since / SLOT) as usize + 1);
+        t + part_left(bit, since % SLOT)
     }
+}
+
+// The same of a sender, if there is one.
+fn part_of(sends: &Option<Frame>, begin: u64, t: u64) -> Option<u64>
+    requires early { begin ≤ 2000000100000 }
+    requires time { t ≤ 3000000000000 }
+    ensures { result ≡ part_of begin sends.now t }
+{
+    match sends {
+        None => None,
+        Some(frame) => Some(sender_part(frame, begin, t)),
+    }
+}
+
+// The next instant after `t` at which one of these seats can change its pull, at most a start bit later.
+fn next_part(sending: &[Seat], begin: u64, t: u64) -> u64
+    requires early { begin ≤ 2000000100000 }
+    requires time { t ≤ 3000000000000 }
+    ensures { result ≡ next_part begin sending.now t }
+{
+    let mut first = t + FIRST_SLOT;
+    for seat in sending {
+        first = sooner(first, part_of(&seat.sends, begin, t));
+    }
+    first
 }
 
 // The next instant at which the reading goes on with no edge.
@@ -97,9 +128,11 @@ fn first_end(t: u64, wake: u64, pulses: &[Stretch]) -> u64
     first
 }
 
-/// The next instant at which who pulls or the reading may change, where everybody pulls at `t` as just before.
+/// The next instant at which who pulls or the reading may change, where everybody pulls at `t` as just before, and these
+/// seats go on sending.
 pub fn next_wake(
     begin: u64,
+    sending: &[Seat],
     pulses: &[Stretch],
     next: Option<Stretch>,
     place: Place,
@@ -109,9 +142,9 @@ pub fn next_wake(
     requires early { begin ≤ 2000000100000 }
     requires time { t ≤ 3000000000000 }
     requires timely { IsTimely place }
-    ensures { result ≡ next_wake begin pulses.now next place held t }
+    ensures { result ≡ next_wake begin sending.now pulses.now next place held t }
 {
-    let part = next_part(begin, t);
+    let part = next_part(sending, begin, t);
     let due = sooner(part, next_due(begin, place, t));
     let free = sooner(due, if_later(t, held));
     let comes = sooner(free, begin_of(next));

@@ -1,5 +1,4 @@
-use Rattle.std.proofs.Common.{◌≡◌, ◌+◌, ◌-◌, ◌/◌, ◌%◌, false, nat_lt, if◌then◌else◌, slice_index_or, slice_get, arith, ap, ◌∙◌, sym}
-use Rattle.std.proofs.lemmas.Option.{get_or_from_slice_get}
+use Rattle.std.proofs.Common.{◌≡◌, ◌+◌, ◌-◌, ◌/◌, ◌%◌, false, nat_lt, if◌then◌else◌, slice_index_or, arith, ap, ◌∙◌, sym}
 use Rattle.cec_frame.specs.Bits.{frame_bits}
 use Rattle.cec_wire.proofs.Lays.{slot_at, slots_over, start_at, before_start, after_start}
 use Rattle.cec_wire.proofs.pulling.is_sent_low.Goals as goal
