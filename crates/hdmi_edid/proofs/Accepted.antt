@@ -1,5 +1,5 @@
 -- A written block is not refused.
-use Rattle.std.proofs.Common.{◌≡◌, ℕ, ◌+◌, ◌-◌, ◌*◌, ◌/◌, ◌%◌, ◌≤◌, ◌<◌, ◌==◌, Bool, true, false, ◌&&◌, not, nat_le, nat_lt, cond, Option, Some, None, List, [], ◌∷◌, ◌++◌, sum, arith, refl, sym, ◌∙◌, ap, eq-eqb}
+use Rattle.std.proofs.Common.{◌≡◌, ℕ, ◌+◌, ◌-◌, ◌*◌, ◌/◌, ◌%◌, ◌≤◌, ◌<◌, Bool, true, ◌&&◌, not, nat_le, nat_lt, cond, Some, None, List, [], ◌∷◌, ◌++◌, sum, arith, refl, eq-eqb}
 use borrow.Author.Tests.{tests}
 use Rattle.hdmi_edid.proofs.OneMaker.{bounds}
 use Rattle.hdmi_edid.proofs.PartLemmas.{both, sum_with}

@@ -1,9 +1,8 @@
 -- The parts of a descriptor's bytes.
-use Rattle.std.proofs.Common.{◌≡◌, ℕ, ◌<◌, ◌≤◌, ◌+◌, List, [], ◌∷◌, length, get_or, drop, take, replicate, Bool, true, false, ◌==◌, ◌&&◌, Option, Some, None, MatchOption, arith, refl, sym, ◌∙◌, drop-cons, length-drop, eq-eqb}
+use Rattle.std.proofs.Common.{◌≡◌, ℕ, ◌<◌, ◌≤◌, ◌+◌, List, [], ◌∷◌, length, get_or, drop, take, replicate, Bool, true, false, ◌==◌, ◌&&◌, Option, Some, None, MatchOption, arith, refl, sym, drop-cons, length-drop, eq-eqb}
 use Rattle.std.proofs.lemmas.List.{take_all}
 use Rattle.std.specs.List.{list_all}
 use Rattle.std.proofs.lemmas.Bool.{eqb-true}
-use borrow.Author.Tests.{tests}
 use Rattle.hdmi_edid.specs.Chars.{text_bytes, is_text_form}
 use Rattle.hdmi_edid.specs.Forms.{has_text}
 use Rattle.hdmi_edid.specs.Descriptor.{tagged}

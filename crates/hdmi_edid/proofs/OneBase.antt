@@ -1,5 +1,5 @@
 -- 128 bytes spell one base block at most.
-use Rattle.std.proofs.Common.{◌≡◌, ℕ, zero, suc, ◌+◌, ◌-◌, ◌*◌, ◌/◌, ◌%◌, ◌^◌, ◌≤◌, ◌<◌, Option, Some, None, List, [], ◌∷◌, ◌++◌, length, get_or, drop, flat_map, ap, arith, refl, sym, ◌∙◌, append_assoc, length-append}
+use Rattle.std.proofs.Common.{◌≡◌, ℕ, zero, suc, ◌-◌, ◌*◌, ◌^◌, ◌≤◌, ◌<◌, Option, Some, None, List, [], ◌∷◌, ◌++◌, length, get_or, drop, flat_map, ap, arith, refl, sym, ◌∙◌, append_assoc, length-append}
 use Rattle.std.proofs.Math.Nat.{ℕ_set}
 use Rattle.std.specs.Coded.{le_prop}
 use Rattle.std.specs.Int.{w16, w32, to_le_bytes, from_le_bytes}
@@ -17,7 +17,7 @@ use Rattle.hdmi_edid.specs.declared.text.Text.{Text}
 use Rattle.hdmi_edid.specs.declared.descriptor.Descriptor.TheVariants.{Timing as OfTiming, Name, Text as OfText, SerialText, Range, Dummy, Raw}
 use Rattle.hdmi_edid.specs.Base.{base_bytes, front_bytes}
 use Rattle.hdmi_edid.specs.Header.{header}
-use Rattle.std.proofs.Common.{IsTrue, true}
+use Rattle.std.proofs.Common.{IsTrue}
 use Rattle.std.proofs.Math.Bool.{Bool-set}
 use Rattle.hdmi_edid.specs.Bytes.{are_bytes}
 use Rattle.hdmi_edid.specs.Check.{check_of}

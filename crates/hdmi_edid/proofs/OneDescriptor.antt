@@ -1,5 +1,5 @@
 -- 18 bytes spell one descriptor at most.
-use Rattle.std.proofs.Common.{◌≡◌, ℕ, zero, suc, ◌+◌, ◌-◌, ◌%◌, ◌/◌, ◌≤◌, ◌<◌, Bool, true, false, ◌&&◌, ◌||◌, ◌==◌, not, nat_lt, cond, IsTrue, List, [], ◌∷◌, ◌++◌, length, drop, take, replicate, slice_index, ap, arith, refl, sym, ◌∙◌, one-add}
+use Rattle.std.proofs.Common.{◌≡◌, ℕ, zero, suc, ◌+◌, ◌-◌, ◌<◌, Bool, true, false, ◌&&◌, ◌==◌, not, nat_lt, cond, IsTrue, List, [], ◌∷◌, ◌++◌, length, drop, replicate, slice_index, ap, arith, refl, sym, ◌∙◌, one-add}
 use Rattle.std.proofs.Math.Bool.{Bool-set}
 use Rattle.std.proofs.Math.Nat.{ℕ_set}
 use borrow.Author.Tests.{tests}
@@ -12,10 +12,9 @@ use Rattle.hdmi_edid.proofs.OneTiming.{one_timing}
 use Rattle.hdmi_edid.specs.Bytes.{are_bytes}
 use Rattle.hdmi_edid.specs.Chars.{is_char, is_text, is_padding, is_text_form, padding, text_bytes}
 use Rattle.hdmi_edid.specs.Forms.{is_timing, is_labelled, fits_no_form}
-use Rattle.hdmi_edid.specs.Timing.{timing_bytes, low, high}
-use Rattle.hdmi_edid.specs.Descriptor.{descriptor_bytes, tagged}
+use Rattle.hdmi_edid.specs.Timing.{low, high}
+use Rattle.hdmi_edid.specs.Descriptor.{descriptor_bytes}
 use Rattle.hdmi_edid.specs.declared.text.Text.{Text}
-use Rattle.hdmi_edid.specs.declared.timing.Timing.{Timing}
 use Rattle.hdmi_edid.specs.declared.descriptor.RawDescriptor.{RawDescriptor}
 use Rattle.hdmi_edid.specs.declared.descriptor.RangeLimits.{RangeLimits}
 use Rattle.hdmi_edid.specs.declared.descriptor.Descriptor.{Descriptor}

@@ -1,5 +1,5 @@
 -- Two bytes spell one standard timing at most, ten bytes one set of chromaticities.
-use Rattle.std.proofs.Common.{◌≡◌, ℕ, ◌+◌, ◌-◌, ◌*◌, ◌/◌, ◌%◌, ◌≤◌, ◌<◌, ◌==◌, Bool, true, false, ◌&&◌, not, IsTrue, Option, Some, None, List, [], ◌∷◌, get_or, ap, arith, refl, sym, eq-eqb}
+use Rattle.std.proofs.Common.{◌≡◌, ℕ, ◌+◌, ◌-◌, ◌*◌, ◌/◌, ◌%◌, ◌≤◌, ◌<◌, ◌==◌, ◌&&◌, not, IsTrue, Option, Some, None, [], ◌∷◌, get_or, ap, arith, refl, sym, eq-eqb}
 use Rattle.std.proofs.Math.Bool.{Bool-set}
 use Rattle.std.proofs.Math.Nat.{ℕ_set}
 use Rattle.std.specs.Coded.{le_prop}

@@ -1,11 +1,8 @@
 -- 13 bytes spell one text at most.
-use Rattle.std.proofs.Common.{◌≡◌, ℕ, zero, suc, ◌+◌, ◌-◌, ◌≤◌, ◌<◌, Bool, true, false, ◌&&◌, ◌==◌, nat_le, cond, IsTrue, List, [], ◌∷◌, ◌++◌, length, take, replicate, ap, arith, refl, sym, ◌∙◌, one-add}
-use Rattle.std.proofs.Math.Bool.{Bool-set}
-use borrow.Author.Tests.{tests}
+use Rattle.std.proofs.Common.{◌≡◌, ℕ, zero, suc, ◌-◌, true, List, [], ◌∷◌, ◌++◌, length, take, ap, refl, sym, ◌∙◌, one-add}
 use Rattle.std.specs.List.{prefix_len, list_all}
-use Rattle.hdmi_edid.proofs.Same.{same}
 use Rattle.hdmi_edid.proofs.PartLemmas.{both}
-use Rattle.hdmi_edid.specs.Chars.{is_char, is_text, padding, text_bytes}
+use Rattle.hdmi_edid.specs.Chars.{is_char, padding, text_bytes}
 
 -- the front of characters of a text and its padding is the text
 pub front_again : (xs : List ℕ) (n : ℕ) → list_all is_char xs ≡ true → take (prefix_len is_char (xs ++ padding n)) (xs ++ padding n) ≡ xs

@@ -1,6 +1,6 @@
 -- 18 bytes spell one timing at most.
-use Rattle.std.proofs.Common.{◌≡◌, ℕ, ◌+◌, ◌*◌, ◌/◌, ◌%◌, ◌^◌, ◌<◌, ◌≤◌, List, [], ◌∷◌, arith, refl, ap, get_or}
-use Rattle.std.specs.Coded.{×_prop, le_prop}
+use Rattle.std.proofs.Common.{◌≡◌, ℕ, ◌+◌, ◌*◌, ◌/◌, ◌%◌, ◌^◌, ◌<◌, List, [], ◌∷◌, arith, ap, get_or}
+use Rattle.std.specs.Coded.{le_prop}
 use Rattle.hdmi_edid.proofs.Same.{same}
 use Rattle.hdmi_edid.specs.Timing.{timing_bytes, low, high, nibbles}
 use Rattle.hdmi_edid.specs.declared.timing.Timing.{Timing}

@@ -1,5 +1,5 @@
 -- What a base block spells is read as that block.
-use Rattle.std.proofs.Common.{◌≡◌, List, ℕ, Result, Ok, Err, Option, Some, None, IfOk, IfErr, ap, sym, ◌∙◌}
+use Rattle.std.proofs.Common.{◌≡◌, List, ℕ, Result, Ok, Err, Some, IfOk, IfErr, ap, ◌∙◌}
 use Rattle.hdmi_edid.proofs.Accepted.{accepted}
 use Rattle.hdmi_edid.proofs.OneBase.{one_base}
 use Rattle.hdmi_edid.specs.Base.{base_bytes}

@@ -1,5 +1,5 @@
 -- Pairs of bits put together by shifts.
-use Rattle.std.proofs.Common.{◌≡◌, ℕ, ◌<◌, ◌+◌, ◌*◌, ◌%◌, ◌^◌, bit_and, bit_or, arith, ◌∙◌, sym}
+use Rattle.std.proofs.Common.{◌≡◌, ℕ, ◌<◌, ◌+◌, ◌*◌, ◌%◌, bit_and, bit_or, arith}
 use Rattle.std.proofs.lemmas.Nat.{and_mask, or_shifted}
 use Rattle.hdmi_edid.specs.Pairs.{low_pairs}
 

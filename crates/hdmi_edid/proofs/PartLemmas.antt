@@ -1,7 +1,7 @@
 -- A block is its parts, one behind another.
-use Rattle.std.proofs.Common.{◌≡◌, ℕ, suc, ◌<◌, ◌≤◌, ◌+◌, ◌-◌, ◌%◌, List, [], ◌∷◌, ◌++◌, length, get_or, drop, take, sum, Bool, true, ◌&&◌, arith, refl, sym, ◌∙◌, ap, drop-cons, drop-drop, take-append-drop, append_assoc, add-one, length-drop}
+use Rattle.std.proofs.Common.{◌≡◌, ℕ, suc, ◌<◌, ◌≤◌, ◌+◌, ◌%◌, List, [], ◌∷◌, ◌++◌, length, get_or, drop, take, sum, Bool, true, ◌&&◌, arith, refl, sym, ◌∙◌, ap, drop-cons, drop-drop, take-append-drop, append_assoc, length-drop}
 use Rattle.std.proofs.lemmas.List.{take_all}
-use Rattle.std.proofs.Common.{cond, not, Option, Some, None, ◌==◌, false}
+use Rattle.std.proofs.Common.{cond, not, Option, Some, None, false}
 use Rattle.std.proofs.Common.{◌*◌, ◌/◌, rules}
 use Rattle.std.specs.Int.{w16, w32, to_le_bytes, from_le_bytes}
 use Rattle.std.proofs.lemmas.Nat.{le_bytes_4}

@@ -1,5 +1,5 @@
 -- The bytes of a timing are those that it was read from.
-use Rattle.std.proofs.Common.{◌≡◌, ℕ, ◌<◌, ◌+◌, ◌*◌, ◌/◌, ◌%◌, List, [], ◌∷◌, ap, arith}
+use Rattle.std.proofs.Common.{◌≡◌, ℕ, ◌<◌, ◌+◌, ◌*◌, ◌/◌, ◌%◌, [], ◌∷◌, arith}
 use Rattle.hdmi_edid.specs.Timing.{low, high, nibbles}
 
 low_of : (a n : ℕ) → a < 256 → low (a + n * 256) ≡ a

@@ -1,5 +1,5 @@
 -- The 128 bytes of a base block (E-EDID Release A, section 3.1).
-use Rattle.std.specs.Prelude.{ℕ, ◌+◌, ◌-◌, ◌%◌, List, [], ◌∷◌, ◌++◌, sum, flat_map}
+use Rattle.std.specs.Prelude.{ℕ, ◌-◌, List, [], ◌∷◌, ◌++◌, flat_map}
 use Rattle.std.specs.Int.{w16, w32, to_le_bytes}
 use Rattle.hdmi_edid.specs.Check.{summed}
 use Rattle.hdmi_edid.specs.Chroma.{chroma_bytes}

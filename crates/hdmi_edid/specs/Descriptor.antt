@@ -1,5 +1,5 @@
 -- The 18 bytes of a descriptor (E-EDID Release A, sections 3.10.2 and 3.10.3). That what fits no form is kept raw is own.
-use Rattle.std.specs.Prelude.{ℕ, List, [], ◌∷◌, replicate}
+use Rattle.std.specs.Prelude.{ℕ, List, ◌∷◌, replicate}
 use Rattle.hdmi_edid.specs.Chars.{text_bytes}
 use Rattle.hdmi_edid.specs.Timing.{timing_bytes}
 use Rattle.hdmi_edid.specs.declared.descriptor.Descriptor.{Descriptor}

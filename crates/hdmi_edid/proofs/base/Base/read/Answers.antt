@@ -3,7 +3,6 @@ use Rattle.std.specs.Int.{w16, w32, to_le_bytes}
 use Rattle.hdmi_edid.proofs.PartLemmas.{block_is, header_is, accepted_header, accepted_sum, two_bytes, four_bytes}
 use Rattle.hdmi_edid.proofs.Bytes.{are_bytes-cells, are_bytes-cell, are_bytes-take, are_bytes-drop}
 use Rattle.hdmi_edid.specs.Bytes.{are_bytes}
-use Rattle.hdmi_edid.specs.Base.{base_bytes, front_bytes}
 use Rattle.hdmi_edid.specs.Chroma.{chroma_bytes}
 use Rattle.hdmi_edid.specs.Descriptor.{descriptor_bytes}
 use Rattle.hdmi_edid.specs.Maker.{maker_bytes}

@@ -1,5 +1,4 @@
-use Rattle.std.proofs.Common.{◌≡◌, ◌∷◌, [], ap, drop, take, length, length-drop, arith, sym, ◌∙◌, true, replicate}
-use Rattle.std.specs.List.{list_all}
+use Rattle.std.proofs.Common.{◌≡◌, ap, drop, take, length, length-drop, arith, sym, ◌∙◌, replicate}
 use Rattle.hdmi_edid.proofs.Bytes.{are_bytes-cells, are_bytes-drop, are_bytes-take}
 use Rattle.hdmi_edid.specs.Bytes.{are_bytes}
 use Rattle.hdmi_edid.proofs.FormLemmas.{tagged_is, tail_of, zeros_are}

@@ -1,9 +1,9 @@
-use Rattle.std.proofs.Common.{◌≡◌, ℕ, ◌≤◌, length, true, false, IsTrue, arith, rules, take, drop, nat_le, List, length-take, sym, ◌∙◌}
+use Rattle.std.proofs.Common.{◌≡◌, ℕ, ◌≤◌, length, true, arith, take, drop, nat_le, List, length-take}
 use Rattle.std.specs.List.{prefix_len}
 use Rattle.std.proofs.lemmas.List.Sums.{prefix_len-le-length}
 use Rattle.std.proofs.lemmas.Grind.{common_steps}
 use borrow.Author.Tests.{tests}
-use Rattle.hdmi_edid.specs.Chars.{is_char, is_text, is_padding, is_text_form, text_bytes}
+use Rattle.hdmi_edid.specs.Chars.{is_char, is_text, is_padding}
 use Rattle.hdmi_edid.proofs.TextLemmas.{text_again, list_all-front}
 use Rattle.hdmi_edid.proofs.text.Text.read.Goals as goal
 
