@@ -32,7 +32,7 @@ use Rattle.cec_device.specs.Effects.{by_decoded, followed, is_for}
 use Rattle.cec_feature.specs.Effects.{effect_of, refuses, heard_of}
 use Rattle.cec_device.specs.Keys.{own_doing, keyed_by, key_fault}
 use Rattle.cec_feature.specs.Keys.{pressing, releasing}
-use Rattle.cec_device.specs.Place.{submitted_by, submit_fault, settled_at, is_off, front_by}
+use Rattle.cec_device.specs.Place.{submitted_by, submit_fault, settled_at, front_by}
 use Rattle.cec_device.proofs.OnceLemmas.{frame_sent-place, queued-place}
 use Rattle.cec_device.specs.Clean.{is_none_queued, clean_at, KeepsPlace}
 

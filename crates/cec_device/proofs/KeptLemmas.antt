@@ -1,14 +1,13 @@
 -- What each call keeps: what is queued goes to others, and polls and addresses are of the kind's lists.
-use Rattle.std.proofs.Common.{◌≡◌, ℕ, ◌==◌, ◌+◌, ◌*◌, ◌%◌, ◌/◌, Bool, true, false, not, ◌&&◌, ◌||◌, nat_lt, List, [], ◌∷◌, length, slice_index, Option, Some, None, ◌⊎◌, inl, inr, refl, sym, ap, subst, ◌∙◌, arith}
+use Rattle.std.proofs.Common.{◌≡◌, ℕ, ◌+◌, ◌*◌, ◌%◌, ◌/◌, Bool, true, false, not, ◌||◌, nat_lt, [], ◌∷◌, length, slice_index, Option, Some, None, ◌⊎◌, inl, inr, refl, sym, subst, ◌∙◌, arith}
 use Rattle.std.proofs.lemmas.Bool.Decides.{nat_tests}
 use Rattle.hdmi_core.specs.declared.kind.Kind.{Kind}
 use Rattle.hdmi_core.specs.declared.kind.Kind.TheVariants.{Tv, Amp, Player, Recorder, Switch, Combo}
-use Rattle.hdmi_core.specs.declared.phys.Phys.{Phys}
 use Rattle.cec_device.specs.declared.place.Place.{Place}
-use Rattle.cec_device.specs.declared.place.Place.TheVariants.{Off, Polls, Settled}
-use Rattle.cec_feature.specs.Kinds.{addresses, is_in, players, recorders, second_addresses}
+use Rattle.cec_device.specs.declared.place.Place.TheVariants.{Polls}
+use Rattle.cec_feature.specs.Kinds.{addresses, is_in, recorders, second_addresses}
 use Rattle.cec_device.specs.State.{State, holds, is_held}
-use Rattle.cec_device.specs.Place.{fresh, is_off, settled_at, start_place}
+use Rattle.cec_device.specs.Place.{is_off, settled_at, start_place}
 use Rattle.cec_device.specs.Keys.{key_fault}
 use Rattle.cec_device.specs.Once.{goes_elsewhere}
 use Rattle.cec_device.specs.Listed.{is_listed, listed_at, may_take}

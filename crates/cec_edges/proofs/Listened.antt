@@ -3,9 +3,8 @@ use Rattle.std.proofs.Common.{◌≡◌, ℕ, zero, suc, ◌+◌, ◌-◌, ◌<�
 use Rattle.std.proofs.lemmas.Bool.Decides.{nat_tests}
 use Rattle.cec_wave.specs.declared.Edge.{Edge}
 use Rattle.cec_wave.specs.Line.{Line, was_low}
-use Rattle.cec_wave.specs.Pulses.{AreSparse}
 use Rattle.cec_bits.specs.declared.sender.Sender.{Sender}
-use Rattle.cec_bits.specs.Hears.{heard_by, rest}
+use Rattle.cec_bits.specs.Hears.{rest}
 use Rattle.cec_bits.specs.Kept.{kept_by, kept_before}
 use Rattle.cec_bits.specs.Follows.{StandsOn}
 use Rattle.cec_bits.specs.Sending.{SenderStood}
@@ -14,7 +13,6 @@ use Rattle.cec_bits.proofs.Stood.{was_now}
 use Rattle.cec_bits.proofs.Keeping.{none_runs}
 use Rattle.cec_bits.proofs.Following.{empty_kept}
 use Rattle.cec_wire.specs.declared.Seat.{Seat}
-use Rattle.cec_edges.specs.declared.listeners.Listeners.{Listeners}
 use Rattle.cec_edges.specs.declared.edge_wire.EdgeWire.{EdgeWire}
 use Rattle.cec_edges.specs.Listening.{IsReadOnce, SendsFor, AreSenders, IsSending, AreSending, AreStanding, KeepsSenders, IsLevel, Reaches, ReachesEdge}
 use Rattle.cec_edges.specs.Wired.{EachOf, IsBegun, SameRound, is_low_in, Grows, Passes, Listens, IsReceiverIn, IsSenderIn, SendsNothing}

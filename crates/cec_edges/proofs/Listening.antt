@@ -7,20 +7,19 @@ use Rattle.std.proofs.lemmas.Bool.Decides.{nat_tests}
 use Rattle.cec_wave.specs.declared.Edge.{Edge}
 use Rattle.cec_wave.specs.Line.{Line, was_low, is_fall}
 use Rattle.cec_frame.specs.Bits.{frame_bits}
-use Rattle.cec_bits.specs.declared.receiver.Receiver.{Receiver}
 use Rattle.cec_bits.specs.declared.receiver.Told.{Told}
 use Rattle.cec_bits.specs.declared.receiver.Told.TheVariants.{Nothing, Bit, Last, Ended}
 use Rattle.cec_bits.specs.declared.sender.Sender.{Sender}
 use Rattle.cec_bits.specs.declared.sender.SenderState.{SenderState}
 use Rattle.cec_bits.specs.declared.sender.SenderState.TheVariants.{Sending, Out, Stopped}
-use Rattle.cec_bits.specs.Reading.{first_in, End, known, reading_of, bits_of}
+use Rattle.cec_bits.specs.Reading.{known, reading_of, bits_of}
 use Rattle.cec_bits.specs.Hears.{heard_by, rest, wake_of}
 use Rattle.cec_bits.specs.Kept.{kept_before, running_from, running_of, runs_on, told_in, told_at}
 use Rattle.cec_bits.specs.Follows.{StoodBefore, StandsOn, GoesOn}
 use Rattle.cec_bits.specs.Sends.{after_told}
-use Rattle.cec_bits.specs.Sending.{is_whole, known_bits, out_by, state_by, state_before, IsBefore, SenderStood, Hears}
+use Rattle.cec_bits.specs.Sending.{is_whole, out_by, state_by, state_before, IsBefore, SenderStood}
 use Rattle.cec_bits.proofs.Search.{first_in_some}
-use Rattle.cec_bits.proofs.Ends.{at_by, until_by}
+use Rattle.cec_bits.proofs.Ends.{until_by}
 use Rattle.cec_bits.proofs.Stood.{was_now}
 use Rattle.cec_bits.proofs.Keeping.{none_runs, one_runs}
 use Rattle.cec_bits.proofs.Sent.{tells_state, stays_same}

@@ -1,20 +1,18 @@
 -- What a device does between its rounds keeps its front frame, and queues nothing that is ready later than the call.
 use Rattle.cec_opcode.specs.Words.{reason_byte}
 use Rattle.cec_opcode.specs.declared.words.Reason.TheVariants.{Unrecognized}
-use Rattle.std.proofs.Common.{◌≡◌, ℕ, suc, ◌+◌, ◌<◌, ◌≤◌, ◌%◌, ◌/◌, ◌==◌, Bool, true, false, not, ◌&&◌, ◌||◌, nat_lt, if◌then◌else◌, List, [], ◌∷◌, ◌++◌, length, slice_index, Option, Some, None, IsSome, refl, sym, ap, ◌∙◌, subst, arith, length-append}
+use Rattle.std.proofs.Common.{◌≡◌, ℕ, suc, ◌+◌, ◌≤◌, ◌%◌, ◌==◌, Bool, true, false, not, ◌&&◌, ◌||◌, nat_lt, if◌then◌else◌, List, [], ◌∷◌, ◌++◌, length, Option, Some, None, IsSome, refl, sym, ap, ◌∙◌, subst, arith, length-append}
 use Rattle.std.specs.List.{All}
 use Rattle.std.proofs.lemmas.List.Elements.{All-nil, All-cons, All-append}
 use Rattle.cec_opcode.specs.declared.message.Decoded.{Decoded}
 use Rattle.cec_opcode.specs.declared.message.Decoded.TheVariants.{Known, Poll, Short, Unknown as NoName}
 use Rattle.cec_opcode.specs.Table.{decoded_of}
 use Rattle.cec_feature.specs.declared.record.Heard.{Heard}
-use Rattle.cec_device.specs.declared.place.Place.{Place}
-use Rattle.cec_device.specs.declared.place.Place.TheVariants.{Off, Polls, Settled}
 use Rattle.cec_feature.specs.declared.keys.Key.{Key}
 use Rattle.cec_device.specs.declared.keys.KeyError.{KeyError}
 use Rattle.cec_frame.specs.declared.Fate.{Fate}
 use Rattle.cec_frame.specs.declared.Fate.TheVariants.{Delivered, Unacked, Lost, Broken}
-use Rattle.cec_device.specs.declared.free_time.FreeTime.TheVariants.{Retry, NewInitiator}
+use Rattle.cec_device.specs.declared.free_time.FreeTime.TheVariants.{Retry}
 use Rattle.cec_device.specs.declared.device.Queued.{Queued}
 use Rattle.cec_device.specs.declared.device.SubmitError.{SubmitError}
 use Rattle.cec_device.specs.State.{State, queued, speaks, holds, frame_of, source, one_more}

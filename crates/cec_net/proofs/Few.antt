@@ -1,18 +1,16 @@
 -- Each round begins well after the one before, or takes a pulse.
-use Rattle.std.proofs.Common.{◌≡◌, ℕ, ◌+◌, ◌*◌, ◌<◌, ◌≤◌, max, nat_lt, List, [], ◌∷◌, length, inl, inr, sym, ap, subst, arith}
-use Rattle.std.specs.List.{All, filter}
+use Rattle.std.proofs.Common.{◌≡◌, ℕ, nat_lt, List, [], ◌∷◌, length, inl, inr, sym, ap, subst, arith}
+use Rattle.std.specs.List.{filter}
 use Rattle.std.proofs.lemmas.List.Elements.{filter_passes}
 use Rattle.std.proofs.lemmas.Bool.Decides.{nat_tests}
 use Rattle.cec_wave.specs.declared.Stretch.{Stretch}
-use Rattle.cec_wave.specs.Pulses.{AreSparse}
 use Rattle.cec_wave.proofs.Kept.{sparse-filter}
-use Rattle.cec_wire.specs.declared.Outcome.{Outcome}
 use Rattle.cec_net.specs.declared.event.Event.{Event}
 use Rattle.cec_net.specs.State.{NetState}
 use Rattle.cec_net.specs.Apply.{applied}
 use Rattle.cec_net.specs.Step.{after_round}
-use Rattle.cec_net.specs.Line.{Move, Happens, Goes, Moves, rounds_of}
-use Rattle.cec_net.specs.Few.{BeginBefore, RunsAreShort}
+use Rattle.cec_net.specs.Line.{Happens, Goes}
+use Rattle.cec_net.specs.Few.{RunsAreShort}
 use Rattle.cec_net.proofs.Lines.{kept, sparse_kept}
 use Rattle.cec_net.proofs.Progress.{ComeLater, progress}
 

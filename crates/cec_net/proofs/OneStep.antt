@@ -1,9 +1,8 @@
 -- A round leads to one state.
-use Rattle.std.proofs.Common.{◌≡◌, ℕ, List, sym, ap, ◌∙◌}
+use Rattle.std.proofs.Common.{◌≡◌, sym, ap, ◌∙◌}
 use Rattle.cec_wire.specs.declared.Outcome.{Outcome}
 use Rattle.cec_wire.specs.OneOutcome.{SameOutcome}
 use Rattle.cec_wire.proofs.OneOutcome.{one_outcome}
-use Rattle.cec_net.specs.State.{NetState}
 use Rattle.cec_net.specs.Step.{seats_of, after_round, OneStep}
 
 -- outcomes that tell the same are one

@@ -1,18 +1,13 @@
 -- What a device has to send was ready by the latest time that its calls were handed.
-use Rattle.std.proofs.Common.{◌≡◌, ℕ, suc, ◌+◌, ◌*◌, ◌<◌, ◌≤◌, ◌==◌, Bool, true, false, not, ◌&&◌, ◌||◌, nat_lt, if◌then◌else◌, List, [], ◌∷◌, ◌++◌, length, Option, Some, None, refl, sym, ap, ◌∙◌, subst, arith, max, slice_index_or}
+use Rattle.std.proofs.Common.{ℕ, suc, ◌+◌, ◌≤◌, Bool, true, false, not, ◌||◌, nat_lt, if◌then◌else◌, List, [], ◌∷◌, ◌++◌, length, Option, Some, None, arith}
 use Rattle.std.specs.List.{All}
 use Rattle.std.proofs.lemmas.List.Elements.{All-nil, All-cons, All-append}
 use Rattle.hdmi_core.specs.declared.phys.Phys.{Phys}
 use Rattle.hdmi_core.specs.declared.kind.Kind.{Kind}
-use Rattle.cec_device.specs.declared.place.Place.{Place}
-use Rattle.cec_device.specs.declared.place.Place.TheVariants.{Off, Polls, Settled}
-use Rattle.cec_feature.specs.declared.record.Heard.{Heard}
-use Rattle.cec_frame.specs.declared.Fate.{Fate}
-use Rattle.cec_frame.specs.declared.Fate.TheVariants.{Delivered, Unacked, Lost, Broken}
 use Rattle.cec_device.specs.declared.device.Queued.{Queued}
 use Rattle.cec_device.specs.State.{State, held, queued, speaks, holds, frame_of, one_more}
 use Rattle.cec_feature.specs.Kinds.{is_switch, type_of}
-use Rattle.cec_device.specs.Place.{is_on_wire, is_off, fresh, start_place, reported, reported_by, reported_from, joined, left}
+use Rattle.cec_device.specs.Place.{is_on_wire, fresh, start_place, reported, reported_by, reported_from, joined, left}
 use Rattle.hdmi_topo.specs.Node.{Node}
 use Rattle.hdmi_topo.specs.Path.{address_of}
 use Rattle.cec_net.specs.State.{each_from, moved, moved_by, loose}

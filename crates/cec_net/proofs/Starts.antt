@@ -1,10 +1,10 @@
 -- A start instant is the first at which the device may start.
-use Rattle.std.proofs.Common.{◌≡◌, ℕ, ◌+◌, ◌-◌, ◌%◌, ◌≤◌, ◌<◌, Bool, true, false, if◌then◌else◌, max, Option, Some, None, refl, sym, ap, ◌∙◌, subst, arith}
+use Rattle.std.proofs.Common.{◌≡◌, ℕ, ◌+◌, ◌%◌, ◌≤◌, ◌<◌, Bool, true, false, if◌then◌else◌, max, Option, Some, None, refl, sym, ◌∙◌, subst, arith}
 use Rattle.std.specs.Prelude.{IsSomeAnd, MatchOption}
 use Rattle.cec_device.specs.State.{State}
 use Rattle.cec_device.specs.Place.{ready_of, is_allocating, is_on_wire}
 use Rattle.cec_device.specs.FreeTime.{free_time_of}
-use Rattle.cec_net.specs.Start.{MayStart, IsStart, StartIsLeast, next_turn, start_by, start_of}
+use Rattle.cec_net.specs.Start.{MayStart, IsStart, StartIsLeast, next_turn, start_by}
 
 turn-aligned : (n t : ℕ) → n < 16 → next_turn n t % 16 ≡ n
 turn-aligned n t h = omega arith

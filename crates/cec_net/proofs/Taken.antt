@@ -1,15 +1,14 @@
 -- Why a round's pulses are those that it drops.
-use Rattle.std.proofs.Common.{◌≡◌, ℕ, zero, suc, ◌+◌, ◌-◌, ◌<◌, ◌≤◌, Bool, true, false, ◌||◌, ◌&&◌, nat_lt, nat_le, if◌then◌else◌, List, [], ◌∷◌, ◌⊎◌, inl, inr, Some, None, refl, sym, ap, ◌∙◌, subst, arith}
-use Rattle.std.specs.List.{All, list_any, fold}
+use Rattle.std.proofs.Common.{◌≡◌, ℕ, zero, suc, ◌+◌, ◌-◌, ◌<◌, ◌≤◌, Bool, true, false, ◌||◌, nat_lt, nat_le, if◌then◌else◌, List, [], ◌∷◌, ◌⊎◌, inl, inr, Some, None, refl, sym, ap, ◌∙◌, subst, arith}
+use Rattle.std.specs.List.{fold}
 use Rattle.std.proofs.lemmas.Bool.{cases_lt}
 use Rattle.std.proofs.lemmas.Bool.Decides.{nat_tests}
 use Rattle.cec_wave.specs.declared.Stretch.{Stretch}
-use Rattle.cec_wave.specs.Line.{Line, line_of, covers, was_low, IsWave}
-use Rattle.cec_wave.specs.Pulses.{IsNarrow, AreSparse}
+use Rattle.cec_wave.specs.Line.{line_of, covers, was_low}
+use Rattle.cec_wave.specs.Pulses.{AreSparse}
 use Rattle.cec_bits.specs.Reading.{known, reading_of}
 use Rattle.cec_wire.specs.declared.Outcome.{Outcome}
-use Rattle.cec_wire.specs.Round.{is_within, pulse_pulls, rest_of}
-use Rattle.cec_wire.specs.Alone.{part_of}
+use Rattle.cec_wire.specs.Round.{is_within, pulse_pulls}
 use Rattle.cec_wire.proofs.Alone.{rounds_are_lone, in_all}
 use Rattle.cec_wire.proofs.Differ.{In, any_in}
 use Rattle.cec_wire.proofs.OneOutcome.{covers_own}

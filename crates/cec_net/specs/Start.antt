@@ -2,7 +2,7 @@
 use Rattle.std.specs.Prelude.{◌≡◌, ℕ, ◌+◌, ◌-◌, ◌%◌, ◌==◌, ◌≤◌, ◌<◌, Bool, true, false, min, max, if◌then◌else◌, List, [], ◌∷◌, Option, Some, None, IsSomeAnd, MatchOption}
 use Rattle.cec_wave.specs.declared.Stretch.{Stretch}
 use Rattle.cec_device.specs.State.{State}
-use Rattle.cec_device.specs.Place.{front_of, ready_of, is_allocating, is_on_wire}
+use Rattle.cec_device.specs.Place.{ready_of, is_allocating, is_on_wire}
 use Rattle.cec_device.specs.FreeTime.{free_time_of}
 
 -- Where the line is high since `rest`, a device may start at t: it is on the wire, what it has to send is

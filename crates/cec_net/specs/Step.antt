@@ -1,6 +1,6 @@
 -- What a round does.
-use Rattle.std.specs.Prelude.{◌≡◌, ℕ, ◌==◌, ◌%◌, nat_lt, nat_le, Bool, true, false, if◌then◌else◌, max, List, [], ◌∷◌, length, map, filter, slice_index, Option, Some, None, option_map}
-use Rattle.std.specs.List.{list_any, find}
+use Rattle.std.specs.Prelude.{◌≡◌, ℕ, ◌==◌, nat_lt, Bool, true, false, if◌then◌else◌, List, map, filter, Option, Some, None}
+use Rattle.std.specs.List.{list_any}
 use Rattle.cec_frame.specs.Blocks.{frame_in}
 use Rattle.cec_wire.specs.declared.Seat.{Seat}
 use Rattle.cec_wire.specs.declared.Outcome.{Outcome}
@@ -8,7 +8,6 @@ use Rattle.cec_wire.specs.Round.{IsRound, fate_in, close_in}
 use Rattle.cec_wire.specs.OneOutcome.{SameOutcome}
 use Rattle.cec_wave.specs.Line.{IsWave}
 use Rattle.cec_frame.specs.declared.Fate.{Fate}
-use Rattle.cec_frame.specs.declared.Fate.TheVariants.{Delivered, Unacked, Lost, Broken}
 use Rattle.cec_device.specs.State.{State, held}
 use Rattle.cec_device.specs.Place.{front_of, is_on_wire, sent, waited}
 use Rattle.cec_device.specs.Effects.{followed}

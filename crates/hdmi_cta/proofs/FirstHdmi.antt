@@ -1,5 +1,5 @@
 -- Data blocks, cut at the first HDMI block.
-use Rattle.std.proofs.Common.{◌≡◌, ℕ, suc, ◌+◌, ◌<◌, ◌≤◌, ◌==◌, Bool, true, false, ◌&&◌, cond, not, nat_lt, nat_le, lit≤, get_or, Option, Some, None, IsSome, List, [], ◌∷◌, ◌++◌, ◌⊎◌, inl, inr, length, take, flat_map, ap, arith, refl, sym, ◌∙◌, length-append, one-add}
+use Rattle.std.proofs.Common.{◌≡◌, ℕ, suc, ◌+◌, ◌≤◌, ◌==◌, Bool, true, false, ◌&&◌, nat_lt, nat_le, lit≤, get_or, Some, None, IsSome, List, [], ◌∷◌, ◌++◌, ◌⊎◌, inl, inr, length, take, flat_map, ap, arith, refl, sym, ◌∙◌, length-append, one-add}
 use Rattle.std.proofs.lemmas.Grind.{flat_map-append}
 use Rattle.std.proofs.lemmas.Bool.{leb-true, eqb-true}
 use borrow.Author.Tests.{tests}

@@ -1,5 +1,5 @@
 -- Data blocks whose first audio block is the amplifier's.
-use Rattle.std.proofs.Common.{◌≡◌, ℕ, zero, suc, ◌+◌, ◌-◌, ◌<◌, ◌≤◌, Bool, true, false, ◌&&◌, not, cond, nat_le, nat_lt, get_or, set, Option, Some, None, List, [], ◌∷◌, ◌++◌, length, take, replicate, flat_map, ap, arith, refl, sym, ◌∙◌, length-append, one-add}
+use Rattle.std.proofs.Common.{◌≡◌, ℕ, zero, suc, ◌+◌, ◌-◌, ◌<◌, ◌≤◌, Bool, true, false, ◌&&◌, not, cond, nat_le, nat_lt, get_or, set, Some, None, List, [], ◌∷◌, ◌++◌, length, take, replicate, flat_map, ap, arith, refl, sym, ◌∙◌, length-append, one-add}
 use Rattle.std.proofs.Math.Seq.{take-length}
 use Rattle.std.proofs.lemmas.List.{append-nil, length-take-le, length-replicate, take-replicate}
 use Rattle.std.proofs.lemmas.Bool.{leb-true, ltb-false}
@@ -12,7 +12,7 @@ use Rattle.hdmi_edid.specs.Timing.{timing_bytes}
 use Rattle.hdmi_cta.specs.Audio.{is_audio_kind, is_audio, amplifier_audio, heard, growth, shrinkage, ends_in_zeros, fitted, has_room, moved, IsHeard, IsUnheard}
 use Rattle.hdmi_cta.specs.Whole.{cta_bytes}
 use Rattle.hdmi_cta.specs.Block.{block_bytes}
-use Rattle.hdmi_cta.specs.Hdmi.{has_identifier, is_vendor, is_hdmi, address_place}
+use Rattle.hdmi_cta.specs.Hdmi.{is_vendor, is_hdmi, address_place}
 use Rattle.hdmi_cta.specs.declared.cta.Cta.{Cta}
 use Rattle.hdmi_cta.specs.declared.block.Block.{Block}
 use Rattle.hdmi_cta.specs.declared.block.BlockKind.{BlockKind}

@@ -1,5 +1,5 @@
 -- Bytes spell one list of data blocks at most, and a list begins as its bytes do.
-use Rattle.std.proofs.Common.{◌≡◌, ℕ, suc, zero, ◌+◌, ◌*◌, ◌<◌, ◌≤◌, ◌==◌, cond, true, IsTrue, List, [], ◌∷◌, ◌++◌, length, drop, get_or, flat_map, ap, arith, refl, sym, ◌∙◌, append_assoc, length-append}
+use Rattle.std.proofs.Common.{◌≡◌, ℕ, ◌+◌, ◌*◌, ◌<◌, ◌==◌, cond, IsTrue, List, [], ◌∷◌, ◌++◌, length, drop, get_or, flat_map, ap, arith, refl, sym, ◌∙◌, append_assoc}
 use Rattle.std.proofs.Math.Bool.{Bool-set}
 use Rattle.std.specs.Coded.{le_prop}
 use Rattle.arrayvec.specs.ArrayVec.{ArrayVec}

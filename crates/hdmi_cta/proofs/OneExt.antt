@@ -1,5 +1,5 @@
 -- 128 bytes spell one extension at most.
-use Rattle.std.proofs.Common.{◌∷◌, ◌≡◌, ℕ, ◌+◌, ◌%◌, true, IsTrue, List, ◌++◌, length, get_or, drop, sum, flat_map, ap, arith, sym, ◌∙◌, length-append}
+use Rattle.std.proofs.Common.{◌∷◌, ◌≡◌, ℕ, ◌+◌, ◌%◌, IsTrue, List, ◌++◌, length, get_or, drop, sum, flat_map, ap, arith, sym, ◌∙◌, length-append}
 use Rattle.std.proofs.Math.Bool.{Bool-set}
 use Rattle.std.proofs.Math.Nat.{ℕ_set}
 use Rattle.arrayvec.specs.ArrayVec.{ArrayVec}

@@ -1,19 +1,17 @@
 -- An extension with another address is an extension: the one with that address.
-use Rattle.std.proofs.Common.{◌≡◌, ℕ, suc, ◌+◌, ◌-◌, ◌*◌, ◌<◌, ◌≤◌, ◌==◌, ◌/◌, ◌%◌, Bool, true, ◌&&◌, nat_lt, nat_le, IsTrue, IsSome, Option, Some, None, ◌⊎◌, inl, inr, List, [], ◌∷◌, ◌++◌, length, get_or, set, take, drop, sum, flat_map, ap, arith, refl, sym, ◌∙◌, append_assoc, length-append, length-drop, drop-cons, drop-drop, take-append-drop, add-one}
-use Rattle.std.proofs.lemmas.Bool.{leb-true}
+use Rattle.std.proofs.Common.{◌≡◌, ℕ, suc, ◌+◌, ◌*◌, ◌<◌, ◌≤◌, ◌/◌, ◌%◌, true, nat_le, IsSome, Some, None, ◌⊎◌, inl, inr, List, [], ◌∷◌, ◌++◌, length, get_or, set, take, drop, flat_map, ap, arith, refl, sym, ◌∙◌, append_assoc, length-append, length-drop, drop-cons, drop-drop, take-append-drop}
 use Rattle.std.proofs.lemmas.Grind.{flat_map-append}
 use Rattle.std.proofs.lemmas.List.{set_at, take_at, length-take-le, take_all}
 use Rattle.std.specs.List.{find}
 use Rattle.std.specs.Option.{option_map, is_some}
 use borrow.Author.Tests.{tests}
 use borrow.Rule.Slice.PartMut.{put_mid}
-use Rattle.hdmi_edid.proofs.Bytes.{are_bytes-cons, are_bytes-drop, are_bytes-append}
+use Rattle.hdmi_edid.proofs.Bytes.{are_bytes-cons, are_bytes-drop}
 use Rattle.hdmi_edid.specs.Bytes.{are_bytes}
 use Rattle.hdmi_edid.specs.Timing.{timing_bytes}
 use Rattle.hdmi_cta.proofs.FirstHdmi.{IsCut, HasNone, cut, both, identified, IsIdentified}
 use Rattle.hdmi_cta.specs.Block.{block_bytes, kind_number}
 use Rattle.hdmi_edid.specs.Check.{check_of, summed}
-use Rattle.hdmi_cta.specs.Cta.{cta_front}
 use Rattle.hdmi_cta.specs.Ext.{ext_bytes}
 use Rattle.hdmi_cta.specs.Hdmi.{has_identifier, is_vendor, is_hdmi, phys_at, blocks_of, address_of, address_place, readdressed}
 use Rattle.hdmi_cta.specs.Whole.{cta_bytes}

@@ -1,5 +1,5 @@
 -- The bytes of a CTA block.
-use Rattle.std.specs.Prelude.{ℕ, ◌+◌, Bool, ◌||◌, not, nat_lt, List, [], ◌∷◌, ◌++◌, length, flat_map}
+use Rattle.std.specs.Prelude.{ℕ, ◌+◌, Bool, ◌||◌, not, nat_lt, List, ◌∷◌, ◌++◌, length, flat_map}
 use Rattle.hdmi_edid.specs.Forms.{is_timing}
 use Rattle.hdmi_edid.specs.Timing.{timing_bytes}
 use Rattle.hdmi_edid.specs.declared.timing.Timing.{Timing}

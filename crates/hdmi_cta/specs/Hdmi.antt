@@ -1,5 +1,5 @@
 -- The HDMI data block, and the physical address in it (HDMI 1.4, sections 8.3.2 and 8.7.2).
-use Rattle.std.specs.Prelude.{ℕ, ◌+◌, ◌==◌, Bool, true, false, ◌&&◌, nat_le, Option, option_map, List, [], ◌++◌, length, slice_index, slice_set, take, flat_map, find}
+use Rattle.std.specs.Prelude.{ℕ, ◌+◌, ◌==◌, Bool, true, false, ◌&&◌, nat_le, Option, option_map, List, [], length, slice_index, slice_set, take, flat_map, find}
 use Rattle.std.specs.List.{before_first}
 use Rattle.hdmi_cta.specs.Block.{block_bytes}
 use Rattle.hdmi_edid.specs.Check.{summed}

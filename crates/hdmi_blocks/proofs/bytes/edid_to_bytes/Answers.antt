@@ -1,4 +1,4 @@
-use Rattle.std.proofs.Common.{◌≡◌, ◌<◌, ℕ, length, get_or, ap, sym, arith, ◌∙◌}
+use Rattle.std.proofs.Common.{◌≡◌, ◌<◌, length, get_or, ap, arith, ◌∙◌}
 use Rattle.hdmi_edid.specs.Base.{base_bytes}
 use Rattle.hdmi_blocks.proofs.Reading.{room, written_more}
 use Rattle.hdmi_blocks.proofs.bytes.edid_to_bytes.Goals as goal

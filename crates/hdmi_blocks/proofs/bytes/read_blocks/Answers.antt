@@ -1,4 +1,4 @@
-use Rattle.std.proofs.Common.{rules, ◌≡◌, ◌+◌, ◌*◌, take, drop, length, ap, sym, arith, ◌∙◌}
+use Rattle.std.proofs.Common.{rules, ◌≡◌, take, drop, ap, sym, arith, ◌∙◌}
 use Rattle.hdmi_edid.proofs.Accepted.{accepted}
 use Rattle.hdmi_edid.specs.Base.{base_bytes}
 use Rattle.hdmi_edid.specs.Refusals.{refusal}

@@ -1,4 +1,4 @@
-use Rattle.std.proofs.Common.{◌≡◌, ◌+◌, ◌-◌, ◌*◌, ◌≤◌, ℕ, [], ◌∷◌, length, take, drop, flat_map, ap, sym, arith, ◌∙◌, length-append}
+use Rattle.std.proofs.Common.{◌≡◌, ◌+◌, ◌-◌, ◌*◌, ◌≤◌, ℕ, [], ◌∷◌, length, take, drop, flat_map, ap, arith, ◌∙◌, length-append}
 use Rattle.hdmi_cta.specs.Ext.{ext_bytes}
 use Rattle.hdmi_blocks.proofs.Lengths.{counted}
 use Rattle.hdmi_blocks.proofs.Reading.{one_more, sums_so, all_read}

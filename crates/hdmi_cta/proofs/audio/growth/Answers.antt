@@ -1,4 +1,4 @@
-use Rattle.std.proofs.Common.{◌≡◌, length, arith, ap, sym, ◌∙◌}
+use Rattle.std.proofs.Common.{length, arith, ap}
 use Rattle.hdmi_cta.specs.declared.block.Block.{Block}
 use Rattle.hdmi_cta.proofs.Hearing.{audio_at, longer}
 use Rattle.hdmi_cta.proofs.audio.growth.Goals as goal

@@ -1,4 +1,4 @@
-use Rattle.std.proofs.Common.{◌≡◌, set, ap, sym, ◌∙◌}
+use Rattle.std.proofs.Common.{set, ap, ◌∙◌}
 use Rattle.std.specs.List.{find, before_first}
 use Rattle.std.specs.List.{flat_map}
 use Rattle.hdmi_cta.specs.Block.{block_bytes}

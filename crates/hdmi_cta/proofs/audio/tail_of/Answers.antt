@@ -1,4 +1,4 @@
-use Rattle.std.proofs.Common.{◌≡◌, [], ◌++◌, ap, ◌∙◌}
+use Rattle.std.proofs.Common.{◌++◌, ap, ◌∙◌}
 use Rattle.std.proofs.Math.Facts.{Fits-lt-pow}
 use Rattle.hdmi_edid.proofs.Bytes.{are_bytes-cells}
 use Rattle.hdmi_edid.specs.Bytes.{are_bytes}

@@ -1,4 +1,4 @@
-use Rattle.std.proofs.Common.{◌≡◌, ◌+◌, ◌-◌, ◌++◌, length, get_or, take, drop, refl, sym, ap, ◌∙◌, flat_map}
+use Rattle.std.proofs.Common.{◌≡◌, ◌+◌, ◌-◌, ◌++◌, length, get_or, drop, refl, sym, ap, ◌∙◌, flat_map}
 use Rattle.hdmi_edid.specs.Timing.{timing_bytes}
 use Rattle.hdmi_edid.proofs.Bytes.{are_bytes-cells, are_bytes-cell, are_bytes-drop, are_bytes-take, are_bytes-behind}
 use Rattle.hdmi_edid.specs.Bytes.{are_bytes}

@@ -1,5 +1,5 @@
 use Rattle.std.proofs.Common.{refl, arith}
-use Rattle.cec_edges.proofs.Listened.{Found, SameWire, listens_edge, listens_none}
+use Rattle.cec_edges.proofs.Listened.{listens_edge, listens_none}
 use Rattle.cec_edges.proofs.edge_wire.EdgeWire.next_edge.Goals as goal
 
 pub hear-requires-clause-early : goal.hear-requires-clause-early

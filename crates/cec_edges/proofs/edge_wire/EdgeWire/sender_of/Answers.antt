@@ -1,4 +1,4 @@
-use Rattle.std.proofs.Common.{◌<◌, length, sym, ap, subst, List, Option}
+use Rattle.std.proofs.Common.{◌<◌, length, sym, subst, List, Option}
 use Rattle.cec_bits.specs.declared.sender.Sender.{Sender}
 use Rattle.cec_edges.proofs.Listened.{senders_within, sender_shown}
 use Rattle.cec_edges.proofs.edge_wire.EdgeWire.sender_of.Goals as goal

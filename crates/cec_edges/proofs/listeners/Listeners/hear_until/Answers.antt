@@ -1,4 +1,4 @@
-use Rattle.std.proofs.Common.{subst, sym}
+use Rattle.std.proofs.Common.{subst}
 use Rattle.cec_edges.proofs.Listening.{Wakes, wakes_more, wakes_end}
 use Rattle.cec_edges.proofs.listeners.Listeners.hear_until.Goals as goal
 

@@ -1,4 +1,4 @@
-use Rattle.std.proofs.Common.{None, ◌≡◌, ◌∙◌, ap, arith}
+use Rattle.std.proofs.Common.{None, ◌∙◌, ap}
 use Rattle.cec_net.specs.State.{NetState, each_from, moved_by}
 use Rattle.cec_net.proofs.InRound.{none_underway}
 use Rattle.cec_net.proofs.Soundness.{sound-rewritten}

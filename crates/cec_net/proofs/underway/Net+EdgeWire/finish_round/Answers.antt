@@ -1,10 +1,7 @@
-use Rattle.std.proofs.Common.{◌≡◌, ◌∙◌, ap, sym, subst, Some, None, List, Option}
-use Rattle.std.specs.Option.{option_map}
+use Rattle.std.proofs.Common.{◌∙◌, ap, sym, subst, Some, None, List}
 use Rattle.cec_wave.specs.declared.Stretch.{Stretch}
-use Rattle.cec_edges.specs.declared.edge_wire.EdgeWire.{EdgeWire}
-use Rattle.cec_wire.specs.Round.{IsRound}
 use Rattle.cec_net.specs.State.{NetState, next_start}
-use Rattle.cec_net.specs.Underway.{Takes, IsNextOn}
+use Rattle.cec_net.specs.Underway.{Takes}
 use Rattle.cec_net.proofs.InRound.{round_is}
 use Rattle.cec_net.proofs.underway.Net+EdgeWire.finish_round.Goals as goal
 

@@ -1,4 +1,4 @@
-use Rattle.std.proofs.Common.{◌≡◌, ◌∙◌, ap, sym, subst, Some, None, List, Option}
+use Rattle.std.proofs.Common.{ap, sym, subst, Some, None, List, Option}
 use Rattle.std.specs.Option.{option_map}
 use Rattle.cec_wave.specs.declared.Stretch.{Stretch}
 use Rattle.cec_edges.specs.declared.edge_wire.EdgeWire.{EdgeWire}

@@ -1,4 +1,4 @@
-use Rattle.std.proofs.Common.{◌≡◌, List, ap, ◌∙◌}
+use Rattle.std.proofs.Common.{List, ap, ◌∙◌}
 use Rattle.cec_opcode.specs.Naming.{byte_of}
 use Rattle.cec_opcode.specs.WordSets.{Word, words_of}
 use Rattle.cec_opcode.proofs.NamingLemmas.{found_if, none_if, sets_own}
