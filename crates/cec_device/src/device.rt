@@ -3,8 +3,8 @@ ghost use Rattle.std.specs.Prelude.{◌≡◌, ◌≢◌, ◌<◌, ◌≤◌, �
 ghost use Rattle.cec_device.specs.State.{queued, speaks, holds, is_held, frame_of, main_of, source, one_more};
 ghost use Rattle.cec_device.specs.Say.{say, say_all};
 
-use crate::place::Place;
 use crate::free_time::FreeTime;
+use crate::place::Place;
 use arrayvec::ArrayVec;
 use cec_feature::{DataBlocks, Heard, Port, Record, Say, is_nowhere};
 use cec_frame::{Addr, Frame, FrameError};

@@ -4,8 +4,8 @@ ghost use Rattle.cec_device.specs.State.{held};
 ghost use Rattle.cec_device.specs.Place.{front_of, ready_of, is_allocating, is_on_wire};
 
 use crate::device::{Device, Queued, framed};
-use crate::place::{Place, short};
 use crate::free_time::FreeTime;
+use crate::place::{Place, short};
 use arrayvec::ArrayVec;
 use cec_feature::Record;
 use cec_frame::{Addr, Frame};
