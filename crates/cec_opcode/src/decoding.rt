@@ -3,6 +3,7 @@ ghost use Rattle.std.specs.Prelude.{◌≡◌, ◌≤◌, ◌+◌, length};
 ghost use Rattle.cec_opcode.specs.Table.{decoded, decoded_of, row_of};
 
 use crate::deck_words::{DeckControlMode, DeckInfo, PlayMode, StatusRequest};
+use crate::encoding::is_raw;
 use crate::message::{Address, Decoded, Message, Triple};
 use crate::rows::rows;
 use crate::screen_words::{Display, MenuRequestType, MenuState};
@@ -122,8 +123,13 @@ macro_rules! decode_match {
     ($code:expr, $operands:ident, { $($op:literal $name:literal $to:ident $message:ident $fields:tt;)* } { $($raw:literal $raw_name:literal;)* }) => {
         match $code {
             $($op => read_row!($op, $operands, $message $fields),)*
-            $($raw => Decoded::Known(Message::Raw { opcode: $raw, operands: list($operands) }),)*
-            _ => Decoded::Unknown($code),
+            _ => {
+                if is_raw($code) {
+                    Decoded::Known(Message::Raw { opcode: $code, operands: list($operands) })
+                } else {
+                    Decoded::Unknown($code)
+                }
+            }
         }
     };
 }

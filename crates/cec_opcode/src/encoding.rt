@@ -289,7 +289,7 @@ pub fn spell(message: &Message) -> ArrayVec<u8, 24>
 }
 
 /// Whether an opcode's operands are kept as they are.
-fn is_raw(code: u8) -> bool
+pub(crate) fn is_raw(code: u8) -> bool
     ensures { result ≡ is_raw_opcode code }
 {
     rows!(raw_match, code, code)

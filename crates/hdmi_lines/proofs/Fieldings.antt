@@ -1,12 +1,15 @@
 -- What some forms have.
-use Rattle.std.proofs.Common.{◌≡◌, ℕ, ◌<◌, ◌≤◌, ◌==◌, true, List, [], ◌∷◌, ◌++◌, length, drop, flat_map, Option, Some, ap, subst, arith, refl, sym, ◌∙◌, length-append, codes}
+use Rattle.std.proofs.Common.{◌≡◌, ℕ, ◌-◌, ◌<◌, ◌≤◌, ◌==◌, true, List, [], ◌∷◌, ◌++◌, length, take, drop, flat_map, Option, Some, None, ap, subst, arith, refl, sym, ◌∙◌, length-append, codes}
 use Rattle.std.specs.Fmt.{decimal}
 use Rattle.std.specs.List.{position_or_len}
 use Rattle.std.proofs.lemmas.Bool.{ltb-true}
+use Rattle.std.proofs.lemmas.List.{take_rest}
 use Rattle.std.proofs.Common.{nat_lt, ◌^◌}
 use Rattle.hex.specs.Hex.{encode_lower}
 use Rattle.hdmi_edid.proofs.PartLemmas.{both}
-use Rattle.hdmi_lines.specs.Text.{number_text, fields_text}
+use Rattle.hdmi_core.specs.Piece.{phys_text}
+use Rattle.hdmi_core.specs.declared.phys.Phys.{Phys}
+use Rattle.hdmi_lines.specs.Text.{number_text, hex_word, fields_text}
 use Rattle.hdmi_lines.specs.Formed.{FormedFields, are_numbers, BeginsSpaced}
 use Rattle.hdmi_lines.specs.declared.line.Fields.{Fields}
 use Rattle.hdmi_lines.specs.declared.line.Fields.TheVariants.{Nothing, Letters, Numbers, Timed, Bytes, Address, Quoted}
@@ -73,3 +76,19 @@ as_unused form f text r is same clause formed e = at f (subst (λ x. FormedField
 
 pub same_timed : (a : ArrayVec ℕ) (ns : List ℕ) (x y : ℕ) → a.items ≡ ns → x ≡ y → Path (Option Fields) (Some (Timed a x)) (Some (Timed (record { items = ns }) y))
 same_timed a ns x y e f = ap (λ xs. Some (Timed (record { items = xs }) x)) e ∙ ap (λ k. Some (Timed (record { items = ns }) k)) f
+
+-- where the parts of an address and bytes stand
+pub address_long : (p : Phys) (bs text : List ℕ) → 32 ∷ (phys_text p ++ (32 ∷ hex_word bs)) ≡ text → length text < 9 → ⊥
+address_long p bs text e h = let len = ap length e in omega (arith, len, h)
+
+pub address_first : (p : Phys) (bs text : List ℕ) → 32 ∷ (phys_text p ++ (32 ∷ hex_word bs)) ≡ text → phys_text p ≡ take 7 (drop 1 text)
+address_first p bs text e = ap (λ t. take 7 (drop 1 t)) e
+
+pub address_rest : (p : Phys) (bs text : List ℕ) → 32 ∷ (phys_text p ++ (32 ∷ hex_word bs)) ≡ text → hex_word bs ≡ take (length text - 9) (drop 9 text)
+address_rest p bs text e = ap (drop 9) e ∙ sym (take_rest text 9)
+
+pub no_phys : (p : Phys) → None ≡ Some p → ⊥
+no_phys p e = cc
+
+pub same_address : (p q : Phys) (bs : List ℕ) (bytes : ArrayVec ℕ) → Some q ≡ Some p → bytes.items ≡ bs → Some (Address q bytes) ≡ Some (Address p (record { items = bs }))
+same_address p q bs bytes e f = let g : q ≡ p = cc in rw g (ap (λ xs. Some (Address p (record { items = xs }))) f)

@@ -147,6 +147,18 @@ fn bytes_field(text: &[u8]) -> Option<Fields>
     Some(Fields::Bytes(bytes))
 }
 
+/// At most 26 bytes that hex digits may spell.
+fn read_payload(digits: &[u8]) -> Option<ArrayVec<u8, 26>>
+    ensures { (bs : List ℕ) → are_bytes bs ≡ true → length bs ≤ 26 → hex_word bs ≡ digits.now → IsSomeAnd result (λ r. r.items ≡ bs) }
+{
+    let bytes = read_hex(digits)?;
+    let mut payload = ArrayVec::new();
+    if payload.try_extend_from_slice(bytes.as_slice()).is_err() {
+        return None;
+    }
+    Some(payload)
+}
+
 /// A physical address and bytes.
 fn address_field(text: &[u8]) -> Option<Fields>
     ensures { (p : PhysValue) (bs : List ℕ) → p.high < 256 → p.low < 256 → are_bytes bs ≡ true → length bs ≤ 26 → 32 ∷ (phys_text p ++ (32 ∷ hex_word bs)) ≡ text.now
@@ -156,12 +168,8 @@ fn address_field(text: &[u8]) -> Option<Fields>
         return None;
     }
     let phys = Phys::read(&text[1..8])?;
-    let bytes = read_hex(&text[9..])?;
-    let mut field = ArrayVec::new();
-    if field.try_extend_from_slice(bytes.as_slice()).is_err() {
-        return None;
-    }
-    Some(Fields::Address(phys, field))
+    let bytes = read_payload(&text[9..])?;
+    Some(Fields::Address(phys, bytes))
 }
 
 /// Characters in quotes.
