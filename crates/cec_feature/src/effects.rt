@@ -34,6 +34,17 @@ macro_rules! rows {
         $make! {
             $me, $message;
             [] (Message::FeatureAbort { .. }) { silence() };
+            [] (
+                Message::DeckStatus { .. }
+                | Message::SetOsdName { .. }
+                | Message::ReportAudioStatus { .. }
+                | Message::SystemAudioModeStatus { .. }
+                | Message::ReportPhysicalAddress { .. }
+                | Message::DeviceVendorId { .. }
+                | Message::MenuStatus { .. }
+                | Message::ReportPowerStatus { .. }
+                | Message::CecVersion { .. }
+            ) { $record.note($heard) };
             [Tv] (Message::ImageViewOn) {
                 $record.power = true;
                 silence()
@@ -44,7 +55,6 @@ macro_rules! rows {
                 silence()
             };
             [Player Recorder Combo] (Message::GiveDeckStatus { request }) { $record.ask_deck($heard, *request) };
-            [] (Message::DeckStatus { .. }) { $record.note($heard) };
             [Player Recorder Combo Amp] (Message::SetMenuLanguage { language }) {
                 if $heard.from.value() == 0 {
                     $record.language = *language;
@@ -63,7 +73,6 @@ macro_rules! rows {
                 silence()
             };
             [] (Message::GiveOsdName) { osd_name($name) };
-            [] (Message::SetOsdName { .. }) { $record.note($heard) };
             [Tv] (Message::SetOsdString { display, text }) { $record.show(*display, text) };
             [Amp] (Message::SystemAudioModeRequest { address }) {
                 if address.is_some() {
@@ -77,9 +86,7 @@ macro_rules! rows {
             };
             [Amp] (Message::GiveAudioStatus) { reply(&report_audio_status($record.audio_status())) };
             [Tv] (Message::SetSystemAudioMode { audio }) { $record.set_audio(*audio) };
-            [] (Message::ReportAudioStatus { .. }) { $record.note($heard) };
             [Amp] (Message::GiveSystemAudioModeStatus) { reply(&system_audio_mode_status($record.audio)) };
-            [] (Message::SystemAudioModeStatus { .. }) { $record.note($heard) };
             [] (Message::RoutingChange { to, .. }) { $record.route($me, phys(to)) };
             [] (Message::RoutingInformation { address }) { $record.route($me, phys(address)) };
             [] (Message::ActiveSource { address }) {
@@ -89,7 +96,6 @@ macro_rules! rows {
                 silence()
             };
             [] (Message::GivePhysicalAddress) { cast(&report_of($me.kind, $me.phys, $heard.to)) };
-            [] (Message::ReportPhysicalAddress { .. }) { $record.note($heard) };
             [] (Message::RequestActiveSource) {
                 if $record.power && $record.active == Some($me.phys) {
                     cast(&active_source($me.phys))
@@ -98,12 +104,9 @@ macro_rules! rows {
                 }
             };
             [] (Message::SetStreamPath { address }) { $record.stream($me, phys(address)) };
-            [] (Message::DeviceVendorId { .. }) { $record.note($heard) };
             [] (Message::GiveDeviceVendorId) { cast(&Message::DeviceVendorId { vendor: VENDOR }) };
             [Player Recorder Combo] (Message::MenuRequest { request }) { $record.ask_menu(*request) };
-            [] (Message::MenuStatus { .. }) { $record.note($heard) };
             [] (Message::GiveDevicePowerStatus) { reply(&report_power_status($record.power)) };
-            [] (Message::ReportPowerStatus { .. }) { $record.note($heard) };
             [Tv] (Message::GetMenuLanguage) { cast(&Message::SetMenuLanguage { language: $record.language }) };
             [Tv] (Message::InactiveSource { address }) {
                 if $record.active == Some(phys(address)) {
@@ -111,7 +114,6 @@ macro_rules! rows {
                 }
                 silence()
             };
-            [] (Message::CecVersion { .. }) { $record.note($heard) };
             [] (Message::GetCecVersion) { reply(&Message::CecVersion { version: Version::OnePointFour }) };
             [Tv] (Message::InitiateArc) {
                 if $record.power {
@@ -135,9 +137,7 @@ macro_rules! rows {
                 $record.arc = false;
                 reply(&Message::ReportArcTerminated)
             };
-            [] (Message::Abort) { refuse(Reason::Unrecognized) };
-            [] (Message::Raw { .. }) { refuse(Reason::Unrecognized) };
-            [] (Message::Unknown { .. }) { refuse(Reason::Unrecognized) };
+            [] (Message::Abort | Message::Raw { .. } | Message::Unknown { .. }) { refuse(Reason::Unrecognized) };
         }
     };
 }

@@ -5,7 +5,7 @@ use crate::fault::{Fault, Part};
 pub type Row = (&'static str, &'static str);
 
 /// The causes of a topology.
-pub const TOPOLOGY: [Row; 11] = [
+pub const TOPOLOGY: &[Row] = &[
     (
         "word",
         "KIND is tv, amp, player, recorder, switch or combo; words stand one space apart; `edid` comes once",
@@ -47,7 +47,7 @@ pub const TOPOLOGY: [Row; 11] = [
 ];
 
 /// The causes of a script, but for `frame` and the cause of a frame.
-pub const SCRIPT: [Row; 8] = [
+pub const SCRIPT: &[Row] = &[
     (
         "word",
         "words stand one space apart, and nothing follows the last one",
@@ -76,12 +76,12 @@ pub const SCRIPT: [Row; 8] = [
     ),
 ];
 
-const STEPS: [Row; 1] = [(
+const STEPS: &[Row] = &[(
     "",
     "XX is an opcode, two hex digits in lower case; NAME has a `device` line in the topology; words stand one space apart",
 )];
 
-const LINES: [Row; 7] = [
+const LINES: &[Row] = &[
     (
         "address",
         "a line begins with `I>D`, the hex digits of initiator and destination in lower case, as `4>0`",
@@ -112,7 +112,7 @@ const LINES: [Row; 7] = [
     ),
 ];
 
-const EDID: [Row; 8] = [
+const EDID: &[Row] = &[
     (
         "length",
         "an EDID has 128, 256, 384 or 512 bytes: a base block and up to three extensions of 128 bytes each",
@@ -147,7 +147,7 @@ const EDID: [Row; 8] = [
     ),
 ];
 
-const EDID_TEXT: [Row; 3] = [
+const EDID_TEXT: &[Row] = &[
     (
         "syntax",
         "here another line has to stand: `edid --help` shows the lines in their order; each has its word and all its fields, and ends with a line feed",
@@ -159,7 +159,7 @@ const EDID_TEXT: [Row; 3] = [
     ("", "`edid --help` shows a text, line by line"),
 ];
 
-const PROGRAM: [Row; 8] = [
+const PROGRAM: &[Row] = &[
     (
         "no script line",
         "a line `script`, and nothing else on it, parts the topology from the script",
@@ -197,15 +197,15 @@ fn right_in(rows: &[Row], cause: &str) -> Option<&'static str> {
 /// What would be right in place of a fault.
 pub fn right(fault: Fault<'_>) -> Option<&'static str> {
     match fault.part {
-        Part::Topology => right_in(TOPOLOGY.as_slice(), fault.cause),
+        Part::Topology => right_in(TOPOLOGY, fault.cause),
         Part::Script => match fault.cause.strip_prefix("frame ") {
-            Some(cause) => right_in(LINES.as_slice(), cause),
-            None => right_in(SCRIPT.as_slice(), fault.cause),
+            Some(cause) => right_in(LINES, cause),
+            None => right_in(SCRIPT, fault.cause),
         },
-        Part::Steps => right_in(STEPS.as_slice(), fault.cause),
-        Part::Lines => right_in(LINES.as_slice(), fault.cause),
-        Part::Edid => right_in(EDID.as_slice(), fault.cause),
-        Part::EdidText => right_in(EDID_TEXT.as_slice(), fault.cause),
-        Part::Program => right_in(PROGRAM.as_slice(), fault.cause),
+        Part::Steps => right_in(STEPS, fault.cause),
+        Part::Lines => right_in(LINES, fault.cause),
+        Part::Edid => right_in(EDID, fault.cause),
+        Part::EdidText => right_in(EDID_TEXT, fault.cause),
+        Part::Program => right_in(PROGRAM, fault.cause),
     }
 }

@@ -221,13 +221,13 @@ fn add_nearest_opcode(text: &mut String, alloc: Global, word: &str) -> Result<bo
 
 // The word of a topology or a script that a word may have been meant for.
 fn add_nearest_word(text: &mut String, alloc: Global, word: &str) -> Result<bool, AllocError> {
-    if add_nearest(text, alloc, KEYWORDS.as_slice(), word)? {
+    if add_nearest(text, alloc, KEYWORDS, word)? {
         return Ok(true);
     }
-    if add_nearest(text, alloc, KINDS.as_slice(), word)? {
+    if add_nearest(text, alloc, KINDS, word)? {
         return Ok(true);
     }
-    add_nearest(text, alloc, KEYS.as_slice(), word)
+    add_nearest(text, alloc, KEYS, word)
 }
 
 // The word of a step, or the name of a device, that a word may have been meant for.
@@ -237,7 +237,7 @@ fn add_nearest_step(
     word: &str,
     declared: &[&str],
 ) -> Result<bool, AllocError> {
-    if add_nearest(text, alloc, STEP_WORDS.as_slice(), word)? {
+    if add_nearest(text, alloc, STEP_WORDS, word)? {
         return Ok(true);
     }
     add_nearest(text, alloc, declared, word)
@@ -259,11 +259,110 @@ fn add_suggestion(
             add_nearest_opcode(text, alloc, word)
         }
         Part::Topology | Part::Script => add_nearest_word(text, alloc, word),
-        Part::EdidText => add_nearest(text, alloc, EDID_WORDS.as_slice(), word),
+        Part::EdidText => add_nearest(text, alloc, EDID_WORDS, word),
         Part::Lines => add_nearest_opcode(text, alloc, word),
         Part::Steps => add_nearest_step(text, alloc, word, declared),
         Part::Edid | Part::Program => Ok(false),
     }
+}
+
+// What stands before a line. Returns its length.
+fn add_head(text: &mut String, alloc: Global, number: usize) -> Result<usize, AllocError> {
+    let head = format!(in alloc; "  line {number}: ")?;
+    text.push_str(head.as_str())?;
+    Ok(head.len())
+}
+
+// The number and the text of a line, and the mark below its words.
+fn add_shown(
+    text: &mut String,
+    alloc: Global,
+    place: Place<'_>,
+    line: &str,
+    words: &[Word<'_>],
+    mark: Option<Mark>,
+) -> Result<(), AllocError> {
+    let before = add_head(text, alloc, place.number)?;
+    text.push_str(line)?;
+    text.push_str(if place.line.len() > COLUMNS {
+        " ..\n"
+    } else {
+        "\n"
+    })?;
+    match mark {
+        Some(mark) => add_mark(text, before, words, mark),
+        None => Ok(()),
+    }
+}
+
+// The words at fault.
+fn mark_of(
+    input: &[u8],
+    place: Place<'_>,
+    fault: Fault<'_>,
+    words: &[Word<'_>],
+    names: &[&str],
+) -> Option<Mark> {
+    match (fault.part, fault.cause) {
+        (Part::Lines, "line" | "order") => in_edges(fault.cause, input, place.number, words),
+        _ => marked(fault, words, names),
+    }
+}
+
+// The forms that the line could have, or the line that it should not stand behind.
+fn add_right_forms(
+    text: &mut String,
+    alloc: Global,
+    input: &[u8],
+    place: Place<'_>,
+    fault: Fault<'_>,
+    words: &[Word<'_>],
+) -> Result<(), AllocError> {
+    match (fault.part, fault.cause) {
+        (Part::Topology, "word") => add_forms(text, TOPOLOGY, words),
+        (Part::Script, "word") => add_forms(text, SCRIPT, words),
+        (Part::Steps, _) => add_forms(text, STEPS, words),
+        (Part::Script, "order") => add_order(text, alloc, input, place),
+        _ => Ok(()),
+    }
+}
+
+// What the frame of a line could be.
+fn add_right_frame(
+    text: &mut String,
+    alloc: Global,
+    fault: Fault<'_>,
+    words: &[Word<'_>],
+) -> Result<(), AllocError> {
+    match (fault.part, fault.cause.strip_prefix("frame ")) {
+        (Part::Script, Some(cause)) => add_frame(text, alloc, cause, words, 4),
+        (Part::Lines, _) => add_frame(text, alloc, fault.cause, words, 0),
+        _ => Ok(()),
+    }
+}
+
+// A line with its mark, and what is odd about it.
+fn add_marked(
+    text: &mut String,
+    alloc: Global,
+    input: &[u8],
+    place: Place<'_>,
+    fault: Fault<'_>,
+    line: &str,
+    words: &[Word<'_>],
+    names: &[&str],
+) -> Result<(), AllocError> {
+    let mark = mark_of(input, place, fault, words, names);
+    add_shown(text, alloc, place, line, words, mark)?;
+    add_hints(text, of_line(place.line, line).as_slice())?;
+    add_right_forms(text, alloc, input, place, fault, words)?;
+    add_right_frame(text, alloc, fault, words)?;
+    if let Some(mark) = mark {
+        if let Some(word) = words.get(mark.first) {
+            add_suggestion(text, alloc, fault, word.text, names)?;
+        }
+    }
+    Ok(())
 }
 
 // The line of a fault, its mark, and what is odd about it.
@@ -277,40 +376,17 @@ fn add_place(
     let line = shown(alloc, place.line)?;
     let words = words_of(alloc, line.as_str())?;
     let names = declared(alloc, input, place.number.saturating_sub(1))?;
-    let head = format!(in alloc; "  line {}: ", place.number)?;
-    text.push_str(head.as_str())?;
-    text.push_str(line.as_str())?;
-    text.push_str(if place.line.len() > COLUMNS {
-        " ..\n"
-    } else {
-        "\n"
-    })?;
-    let mark = match (fault.part, fault.cause) {
-        (Part::Lines, "line" | "order") => in_edges(fault.cause, input, place.number, &words),
-        _ => marked(fault, &words, &names),
-    };
-    if let Some(mark) = mark {
-        add_mark(text, head.len(), &words, mark)?;
-    }
-    add_hints(text, of_line(place.line, line.as_str()).as_slice())?;
-    match (fault.part, fault.cause) {
-        (Part::Topology, "word") => add_forms(text, TOPOLOGY.as_slice(), &words)?,
-        (Part::Script, "word") => add_forms(text, SCRIPT.as_slice(), &words)?,
-        (Part::Steps, _) => add_forms(text, STEPS.as_slice(), &words)?,
-        (Part::Script, "order") => add_order(text, alloc, input, place)?,
-        _ => {}
-    }
-    match (fault.part, fault.cause.strip_prefix("frame ")) {
-        (Part::Script, Some(cause)) => add_frame(text, alloc, cause, &words, 4)?,
-        (Part::Lines, _) => add_frame(text, alloc, fault.cause, &words, 0)?,
-        _ => {}
-    }
-    if let Some(mark) = mark {
-        if let Some(word) = words.get(mark.first) {
-            add_suggestion(text, alloc, fault, word.text, &names)?;
-        }
-    }
-    Ok(())
+    let (words, names) = (words.as_slice(), names.as_slice());
+    add_marked(
+        text,
+        alloc,
+        input,
+        place,
+        fault,
+        line.as_str(),
+        words,
+        names,
+    )
 }
 
 // Which line of a script is earlier than which.

@@ -2,14 +2,14 @@
 use crate::words::Word;
 
 /// The lines of a topology.
-pub const TOPOLOGY: [&str; 3] = [
+pub const TOPOLOGY: &[&str] = &[
     "device NAME KIND PORTS",
     "plug CHILD PARENT PORT",
     "edid HEX",
 ];
 
 /// The lines of a script.
-pub const SCRIPT: [&str; 7] = [
+pub const SCRIPT: &[&str] = &[
     "at T press NAME KEY",
     "at T release NAME KEY",
     "at T plug CHILD PARENT PORT",
@@ -20,7 +20,7 @@ pub const SCRIPT: [&str; 7] = [
 ];
 
 /// The steps.
-pub const STEPS: [&str; 6] = [
+pub const STEPS: &[&str] = &[
     "edge",
     "round",
     "until opcode XX",
@@ -30,15 +30,15 @@ pub const STEPS: [&str; 6] = [
 ];
 
 /// The words of steps that stand for themselves.
-pub const STEP_WORDS: [&str; 7] = [
+pub const STEP_WORDS: &[&str] = &[
     "edge", "round", "until", "opcode", "device", "break", "show",
 ];
 
 /// The words that stand for a KIND.
-pub const KINDS: [&str; 6] = ["tv", "amp", "player", "recorder", "switch", "combo"];
+pub const KINDS: &[&str] = &["tv", "amp", "player", "recorder", "switch", "combo"];
 
 /// The words that a KEY is, or begins with.
-pub const KEYS: [&str; 15] = [
+pub const KEYS: &[&str] = &[
     "play",
     "stop",
     "eject",
@@ -57,12 +57,12 @@ pub const KEYS: [&str; 15] = [
 ];
 
 /// The words that stand for themselves.
-pub const KEYWORDS: [&str; 11] = [
+pub const KEYWORDS: &[&str] = &[
     "device", "plug", "edid", "script", "at", "press", "release", "send", "unplug", "pulse", "end",
 ];
 
 /// The words that the lines of an EDID's text begin with.
-pub const EDID_WORDS: [&str; 32] = [
+pub const EDID_WORDS: &[&str] = &[
     "edid",
     "maker",
     "product",

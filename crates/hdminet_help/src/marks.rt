@@ -63,7 +63,7 @@ fn unfit(forms: &[&str], words: &[Word<'_>]) -> Option<Mark> {
 
 fn in_topology(cause: &str, words: &[Word<'_>], declared: &[&str]) -> Option<Mark> {
     match cause {
-        "word" => unfit(TOPOLOGY.as_slice(), words),
+        "word" => unfit(TOPOLOGY, words),
         "number" | "port-range" | "port-taken" => one(3),
         "name" if is_word(words, 0, "plug") && is_declared(words, 1, declared) => one(2),
         "name" | "not-loose" | "hex" => one(1),
@@ -82,7 +82,7 @@ fn number_in_script(words: &[Word<'_>]) -> Option<Mark> {
 
 fn in_script(cause: &str, words: &[Word<'_>], declared: &[&str]) -> Option<Mark> {
     match cause {
-        "word" => unfit(SCRIPT.as_slice(), words),
+        "word" => unfit(SCRIPT, words),
         "number" => number_in_script(words),
         "name" if is_declared(words, 3, declared) => one(4),
         "name" => one(3),
@@ -95,7 +95,7 @@ fn in_script(cause: &str, words: &[Word<'_>], declared: &[&str]) -> Option<Mark>
 // The first word that no step has there, or else a name that no device has.
 fn in_steps(words: &[Word<'_>], declared: &[&str]) -> Option<Mark> {
     let name = if is_word(words, 0, "show") { 1 } else { 2 };
-    match unfit(STEPS.as_slice(), words) {
+    match unfit(STEPS, words) {
         Some(mark) => Some(mark),
         None if name < words.len() && !is_declared(words, name, declared) => one(name),
         None => None,

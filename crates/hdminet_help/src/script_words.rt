@@ -100,7 +100,7 @@ pub fn run_words(alloc: Global) -> Result<String, AllocError> {
     add_other_keys(&mut text)?;
     add_codes(&mut text)?;
     text.push_str("and the causes of faults\n")?;
-    add_causes(&mut text, "of a topology", TOPOLOGY.as_slice())?;
-    add_causes(&mut text, "of a script", SCRIPT.as_slice())?;
+    add_causes(&mut text, "of a topology", TOPOLOGY)?;
+    add_causes(&mut text, "of a script", SCRIPT)?;
     Ok(text)
 }
