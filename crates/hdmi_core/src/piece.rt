@@ -111,22 +111,19 @@ fn put_piece<S: Sink>(out: &mut S, piece: &Piece) -> Result<u64, WriteFault>
     match *piece {
         Piece::Text(text) => put_bytes(out, text.as_bytes()),
         Piece::Bytes(bytes) => put_bytes(out, bytes),
-        Piece::Decimal(number) => put_decimal(out, number),
-        Piece::Nibble(nibble) => put_bytes(out, &[hex_digit(nibble % 16)]),
-        Piece::HexByte(byte) => put_hex_byte(out, byte),
-        Piece::Hex(bytes) => put_hex(out, bytes),
-        Piece::HexOrDash([]) => put_bytes(out, b"-"),
-        Piece::HexOrDash(bytes) => put_hex(out, bytes),
-        Piece::Phys(phys) => put_bytes(out, &phys.text()),
+        Piece::Decimal(number) | Piece::DecimalOrDash(Some(number)) => put_decimal(out, number),
+        Piece::Nibble(nibble) | Piece::NibbleOrDash(Some(nibble)) => {
+            put_bytes(out, &[hex_digit(nibble % 16)])
+        }
+        Piece::HexByte(byte) | Piece::HexByteOrDash(Some(byte)) => put_hex_byte(out, byte),
+        Piece::Phys(phys) | Piece::PhysOrDash(Some(phys)) => put_bytes(out, &phys.text()),
         Piece::Switch(is_on) => put_bytes(out, switch_word(is_on).as_bytes()),
-        Piece::PhysOrDash(Some(phys)) => put_bytes(out, &phys.text()),
-        Piece::DecimalOrDash(Some(number)) => put_decimal(out, number),
-        Piece::NibbleOrDash(Some(nibble)) => put_bytes(out, &[hex_digit(nibble % 16)]),
-        Piece::HexByteOrDash(Some(byte)) => put_hex_byte(out, byte),
-        Piece::PhysOrDash(None) => put_bytes(out, b"-"),
-        Piece::DecimalOrDash(None) => put_bytes(out, b"-"),
-        Piece::NibbleOrDash(None) => put_bytes(out, b"-"),
-        Piece::HexByteOrDash(None) => put_bytes(out, b"-"),
+        Piece::HexOrDash([])
+        | Piece::PhysOrDash(None)
+        | Piece::DecimalOrDash(None)
+        | Piece::NibbleOrDash(None)
+        | Piece::HexByteOrDash(None) => put_bytes(out, b"-"),
+        Piece::Hex(bytes) | Piece::HexOrDash(bytes) => put_hex(out, bytes),
     }
 }
 
