@@ -2,15 +2,15 @@
 ghost use Rattle.std.specs.Prelude.{◌≡◌, ◌+◌, ◌<◌, ◌≤◌, ◌++◌, ◌&&◌, not, true, false, length, [], All, take, slice_get, IfSome};
 ghost use Rattle.std.specs.List.{list_any};
 ghost use Rattle.cec_wire.specs.Edges.{sends_on, sending_by, IsTimely};
-ghost use Rattle.cec_wire.specs.Machine.{next_place, bit_told, held_after, recorded, low_since, samples, AreSentWell, IsEarly, IsReady};
+ghost use Rattle.cec_wire.specs.Machine.{next_place, bit_told, held_after, recorded, low_since, samples, sends_until, sent_low, AreSentWell, IsEarly, IsReady};
 
 use crate::listeners::{Listeners, sender_at};
 use arrayvec::ArrayVec;
 use cec_bits::{Receiver, Sender};
 use cec_wave::{Edge, Pulses, Stretch};
 use cec_wire::{
-    Outcome, Place, Recorder, Seat, Wire, ending, held_until, is_pulsed, is_sent, leave_out,
-    next_wake, outcome_of, pulses_until, senders_until, sending_first,
+    Outcome, Place, Recorder, Seat, Wire, ending, held_until, is_any_low, is_pulsed, leave_out,
+    next_wake, outcome_of, pull_at, pulses_until, senders_until, sending_first,
 };
 use std::mem;
 
@@ -148,15 +148,17 @@ impl EdgeWire {
         *self = EdgeWire::started(seats, start);
     }
 
-    // Somebody pulls in the next microsecond who sends on until an instant.
-    fn anybody_sends(&self, until: u64) -> bool
-        ensures { result ≡ list_any (λ s. sends_on self.now.begin self.now.bits.items until self.now.time s.sends) self.now.seats.items }
+    // Somebody pulls in the next microsecond who sends on, where one of those who go on sending pulls or none.
+    fn anybody_sends(&self, is_low: bool) -> bool
+        requires { is_low ≡ list_any (λ s. sent_low self.now.begin s.sends self.now.time) self.now.sending.items }
+        ensures { result ≡ list_any (λ s. sends_on self.now.begin self.now.bits.items (sends_until self.now.place self.now.time) self.now.time s.sends) self.now.seats.items }
     {
-        is_sent(self.sending.as_slice(), self.begin, until, self.time)
+        self.time <= senders_until(self.place, self.time) && is_low
     }
 
-    // Whether the line is low in the next microsecond.
-    fn is_pulled(&self) -> bool
+    // Whether the line is low in the next microsecond, where one of those who go on sending pulls or none.
+    fn is_pulled_beside(&self, is_low: bool) -> bool
+        requires { is_low ≡ list_any (λ s. sent_low self.now.begin s.sends self.now.time) self.now.sending.items }
         ensures { result ≡ pulls_in self.now }
     {
         let was = self.recorder.was_low();
@@ -166,7 +168,14 @@ impl EdgeWire {
             pulses_until(self.place, self.time),
             was,
             self.time,
-        ) || (self.anybody_sends(senders_until(self.place, self.time)) || self.time < self.held)
+        ) || (self.anybody_sends(is_low) || self.time < self.held)
+    }
+
+    // Whether the line is low in the next microsecond.
+    fn is_pulled(&self) -> bool
+        ensures { result ≡ pulls_in self.now }
+    {
+        self.is_pulled_beside(is_any_low(self.sending.as_slice(), self.begin, self.time))
     }
 
     // The next instant at which the line or the reading may change.
@@ -176,12 +185,13 @@ impl EdgeWire {
         requires timely { IsTimely self.now.place }
         ensures { result ≡ wake_in self.now next }
     {
-        if self.is_pulled() != self.recorder.was_low() {
+        let pull = pull_at(self.sending.as_slice(), self.begin, self.time);
+        if self.is_pulled_beside(pull.is_low) != self.recorder.was_low() {
             return self.time;
         }
         next_wake(
             self.begin,
-            self.sending.as_slice(),
+            pull.until,
             self.pulses.as_slice(),
             next,
             self.place,

@@ -1,5 +1,5 @@
 //! Who pulls the line low in a microsecond.
-ghost use Rattle.std.specs.Prelude.{◌≡◌, ◌≤◌, ◌-◌, ◌&&◌, false, if◌then◌else◌, length, nat_le, nat_lt, slice_index_or};
+ghost use Rattle.std.specs.Prelude.{◌≡◌, ◌≤◌, ◌-◌, false, if◌then◌else◌, length, nat_lt, slice_index_or};
 ghost use Rattle.std.specs.List.{list_any};
 ghost use Rattle.cec_wave.specs.Line.{line_of};
 ghost use Rattle.cec_wave.specs.Sender.{sender_stretches};
@@ -63,7 +63,7 @@ fn is_sent_low(frame: &Frame, start: u64, t: u64) -> bool
 }
 
 // Whether a sender, if there is one, that starts at `start` and goes on pulls in microsecond `t`.
-fn sender_pulls(sends: &Option<Frame>, start: u64, t: u64) -> bool
+pub(crate) fn sender_pulls(sends: &Option<Frame>, start: u64, t: u64) -> bool
     ensures { result ≡ sent_low start sends.now t }
 {
     match sends {
@@ -72,8 +72,8 @@ fn sender_pulls(sends: &Option<Frame>, start: u64, t: u64) -> bool
     }
 }
 
-// Whether one of these seats, which all go on sending, pulls in microsecond `t`.
-fn is_any_low(sending: &[Seat], begin: u64, t: u64) -> bool
+/// Whether one of these seats, which all go on sending, pulls in microsecond `t`.
+pub fn is_any_low(sending: &[Seat], begin: u64, t: u64) -> bool
     ensures { result ≡ list_any (λ s. sent_low begin s.sends t) sending.now }
 {
     for seat in sending {
@@ -82,17 +82,6 @@ fn is_any_low(sending: &[Seat], begin: u64, t: u64) -> bool
         }
     }
     false
-}
-
-/// Whether one of these seats, which send on until an instant, pulls in microsecond `t`.
-pub fn is_sent(sending: &[Seat], begin: u64, until: u64, t: u64) -> bool
-    ensures { result ≡ (nat_le t until && list_any (λ s. sent_low begin s.sends t) sending.now) }
-{
-    if t <= until {
-        is_any_low(sending, begin, t)
-    } else {
-        false
-    }
 }
 
 /// Whether a pulse pulls in microsecond `t` that the round takes: one that begins from `start` to

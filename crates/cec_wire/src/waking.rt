@@ -1,11 +1,13 @@
-//! Until when nothing changes: neither who pulls nor where the reading stands.
+//! Who sends a low line, and until when nothing changes: neither who pulls nor where the reading stands.
 ghost use Rattle.std.specs.Prelude.{◌≡◌, ◌<◌, ◌≤◌};
+ghost use Rattle.std.specs.List.{list_any};
 ghost use Rattle.cec_frame.specs.Bits.{frame_bits};
-ghost use Rattle.cec_wire.specs.Edges.{part_left, sender_part, part_of, next_part, next_due, sooner, if_later, first_end, begin_of, next_wake, IsTimely};
+ghost use Rattle.cec_wire.specs.Edges.{part_left, sender_part, part_of, next_part, next_due, sooner, if_later, first_end, begin_of, wake_after, IsTimely};
+ghost use Rattle.cec_wire.specs.Machine.{sent_low};
 
 use crate::Seat;
 use crate::hearing::Place;
-use crate::pulling::{FIRST_SLOT, SLOT, START_LOW, low_of};
+use crate::pulling::{FIRST_SLOT, SLOT, START_LOW, low_of, sender_pulls};
 use crate::senders::sent_bit;
 use cec_frame::Frame;
 use cec_wave::Stretch;
@@ -52,17 +54,30 @@ fn part_of(sends: &Option<Frame>, begin: u64, t: u64) -> Option<u64>
     }
 }
 
-// The next instant after `t` at which one of these seats can change its pull, at most a start bit later.
-fn next_part(sending: &[Seat], begin: u64, t: u64) -> u64
+/// What those who send do in a microsecond.
+#[derive(Clone, Copy, Debug, PartialEq, Eq)]
+pub struct Pull {
+    /// One of them pulls.
+    pub is_low: bool,
+    /// The next instant at which one of them can change its pull, at most a start bit later.
+    pub until: u64,
+}
+
+/// What these seats, which all go on sending, do in microsecond `t`. Both are found at once, since both go by the
+/// slot in which a sender is and by its bit.
+pub fn pull_at(sending: &[Seat], begin: u64, t: u64) -> Pull
     requires early { begin ≤ 2000000100000 }
     requires time { t ≤ 3000000000000 }
-    ensures { result ≡ next_part begin sending.now t }
+    ensures low { result.is_low ≡ list_any (λ s. sent_low begin s.sends t) sending.now }
+    ensures until { result.until ≡ next_part begin sending.now t }
 {
-    let mut first = t + FIRST_SLOT;
+    let mut is_low = false;
+    let mut until = t + FIRST_SLOT;
     for seat in sending {
-        first = sooner(first, part_of(&seat.sends, begin, t));
+        is_low = is_low || sender_pulls(&seat.sends, begin, t);
+        until = sooner(until, part_of(&seat.sends, begin, t));
     }
-    first
+    Pull { is_low, until }
 }
 
 // The next instant at which the reading goes on with no edge.
@@ -128,11 +143,11 @@ fn first_end(t: u64, wake: u64, pulses: &[Stretch]) -> u64
     first
 }
 
-/// The next instant at which who pulls or the reading may change, where everybody pulls at `t` as just before, and these
-/// seats go on sending.
+/// The next instant at which who pulls or the reading may change, where everybody pulls at `t` as just before, and those
+/// who send do so until `part`.
 pub fn next_wake(
     begin: u64,
-    sending: &[Seat],
+    part: u64,
     pulses: &[Stretch],
     next: Option<Stretch>,
     place: Place,
@@ -140,11 +155,9 @@ pub fn next_wake(
     t: u64,
 ) -> u64
     requires early { begin ≤ 2000000100000 }
-    requires time { t ≤ 3000000000000 }
     requires timely { IsTimely place }
-    ensures { result ≡ next_wake begin sending.now pulses.now next place held t }
+    ensures { result ≡ wake_after begin part pulses.now next place held t }
 {
-    let part = next_part(sending, begin, t);
     let due = sooner(part, next_due(begin, place, t));
     let free = sooner(due, if_later(t, held));
     let comes = sooner(free, begin_of(next));

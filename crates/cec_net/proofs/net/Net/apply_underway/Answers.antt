@@ -2,7 +2,7 @@ use Rattle.std.proofs.Common.{◌∙◌, sym, subst, None}
 use Rattle.cec_net.specs.State.{NetState}
 use Rattle.cec_net.specs.Underway.{IsUnderway}
 use Rattle.cec_net.proofs.InRound.{underway_along}
-use Rattle.cec_net.proofs.net.Net.apply.Goals as goal
+use Rattle.cec_net.proofs.net.Net.apply_underway.Goals as goal
 
 pub invariant_of-self-in-Err : goal.invariant_of-self-in-Err
 invariant_of-self-in-Err g c =
