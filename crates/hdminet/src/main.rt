@@ -3,7 +3,7 @@
 #![tactic(auto)]
 
 use hdmi_core::Writes;
-use hdminet_program::Fault;
+use hdminet_program::{Buffered, Fault};
 use hdminet_program::program::{program, tell};
 use std::env;
 use std::process::ExitCode;
@@ -15,7 +15,7 @@ fn words(rt: &HostRuntime) -> Result<Vec<String>, Fault> {
 
 fn main(rt: HostRuntime) -> ExitCode {
     let mut input = rt.stdin();
-    let mut out = Writes::new(rt.stdout());
+    let mut out = Buffered::new(Writes::new(rt.stdout()));
     let mut err = Writes::new(rt.stderr());
     let status = match words(&rt) {
         Ok(words) => program(rt.alloc(), words, &mut input, &mut out, &mut err),

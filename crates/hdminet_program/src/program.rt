@@ -1,4 +1,5 @@
 //! The program over a reader and two sinks.
+use crate::buffered::Buffered;
 use crate::choice::{Asked, Choice, choose, is_memory};
 use crate::fault::Fault;
 use crate::help::EXPLAINED;
@@ -114,6 +115,15 @@ fn perform<W: Sink>(
     Ok(None)
 }
 
+// What was done, once all that was written is handed on. Where it can't be, that is the first fault.
+fn handed_on<W: Sink>(
+    done: Result<Option<Totals>, Fault>,
+    out: &mut Buffered<W>,
+) -> Result<Option<Totals>, Fault> {
+    out.flush()?;
+    done
+}
+
 /// Writes the line of a fault, and returns its exit status.
 pub fn tell<E: Sink>(fault: &Fault, err: &mut E) -> u8 {
     let mut text = ArrayString::<256>::new();
@@ -154,7 +164,7 @@ fn report<E: Sink>(alloc: Global, asked: Asked, fault: &Fault, input: &[u8], err
 fn show_refused<W: Sink, E: Sink>(
     alloc: Global,
     refused: &CommandLineError,
-    out: &mut W,
+    out: &mut Buffered<W>,
     err: &mut E,
 ) -> u8 {
     if is_memory(refused) {
@@ -167,7 +177,8 @@ fn show_refused<W: Sink, E: Sink>(
         let _ = put_all(err, text.as_bytes());
         return 2;
     }
-    match put_all(out, text.as_bytes()) {
+    let _ = put_all(out, text.as_bytes());
+    match out.flush() {
         Ok(()) => 0,
         Err(fault) => tell(&Fault::Write(fault), err),
     }
@@ -189,7 +200,7 @@ pub fn program<R: Read, W: Sink, E: Sink>(
     alloc: Global,
     words: Vec<String>,
     input: &mut R,
-    out: &mut W,
+    out: &mut Buffered<W>,
     err: &mut E,
 ) -> u8 {
     let asked = match choose(alloc, &words) {
@@ -206,7 +217,8 @@ pub fn program<R: Read, W: Sink, E: Sink>(
         Ok(input) => input,
         Err(fault) => return report(alloc, asked, &fault, b"", err),
     };
-    match perform(alloc, asked.choice, &input, out) {
+    let done = perform(alloc, asked.choice, &input, out);
+    match handed_on(done, out) {
         Ok(Some(totals)) if asked.explains => {
             let line = counts(alloc, totals.rounds, totals.complete, totals.refused);
             add_help(line, err);

@@ -1,5 +1,6 @@
 //! What the program does, over readers and writers that it is handed.
 use hdmi_core::Writes;
+use hdminet_program::Buffered;
 use hdminet_program::program::program;
 use std::alloc::Global;
 use std::io::{self, ErrorKind, Read, Write};
@@ -71,7 +72,7 @@ fn answer_to<R: Read>(alloc: Global, texts: &[&str], input: &mut R) -> Result<An
         alloc,
         words(alloc, texts)?,
         input,
-        &mut Writes::new(&mut out),
+        &mut Buffered::new(Writes::new(&mut out)),
         &mut Writes::new(&mut err),
     );
     Ok(Answer { status, out, err })
@@ -89,7 +90,7 @@ fn stingy_answer(alloc: Global, texts: &[&str], input: &[u8], room: usize) -> Re
         alloc,
         words(alloc, texts)?,
         &mut rest,
-        &mut Writes::new(&mut stingy),
+        &mut Buffered::new(Writes::new(&mut stingy)),
         &mut Writes::new(&mut err),
     );
     Ok(Answer {
