@@ -1,5 +1,5 @@
 //! The bytes of a whole EDID.
-ghost use Rattle.std.specs.Prelude.{◌≡◌, ◌++◌, ◌+◌, ◌*◌, ◌≤◌, IfOk, IfErr, flat_map, length, drop};
+ghost use Rattle.std.specs.Prelude.{◌≡◌, ◌++◌, ◌+◌, ◌*◌, ◌≤◌, IfOk, IfErr, OnOk, [], flat_map, length, drop};
 ghost use Rattle.arrayvec.specs.ArrayVec.{array_vec_len};
 ghost use Rattle.hdmi_cta.specs.Ext.{ext_bytes};
 ghost use Rattle.hdmi_blocks.specs.Bytes.{HasLength, IsRefused, IsUnsummed, block_at, edid_bytes, has_length};
@@ -69,21 +69,23 @@ fn has_length(bytes: &[u8]) -> bool
     matches!(bytes.len(), 128 | 256 | 384 | 512)
 }
 
-/// The extensions behind the base block, or the first that is at fault.
-fn read_extensions(bytes: &[u8]) -> Result<ArrayVec<Ext, 3>, EdidError>
-    requires { HasLength bytes.now }
-    ensures found { IfOk result (λ es. flat_map ext_bytes es.items ≡ drop 128 bytes.now) }
-    ensures count { IfOk result (λ es. 128 * length es.items + 128 ≡ length bytes.now) }
+/// Adds the extensions behind the base block, or finds the first that is at fault.
+// They are large, and read where they stand.
+#[inline(never)]
+fn read_extensions(bytes: &[u8], extensions: &mut ArrayVec<Ext, 3>) -> Result<(), EdidError>
+    requires fresh { extensions.old.items ≡ [] }
+    requires length { HasLength bytes.now }
+    ensures found { OnOk result (flat_map ext_bytes extensions.new.items ≡ drop 128 bytes.now) }
+    ensures count { OnOk result (128 * length extensions.new.items + 128 ≡ length bytes.now) }
     ensures refused { IfErr result (λ e. IsUnsummed bytes.now e) }
 {
-    let mut extensions = ArrayVec::new();
     for number in 1..bytes.len() / 128 {
         match read_ext(&block_at(bytes, number)) {
             Err(cause) => return Err(EdidError::Ext(number as u8, cause)),
             Ok(extension) => extensions.push(extension),
         }
     }
-    Ok(extensions)
+    Ok(())
 }
 
 /// Reads the blocks.
@@ -101,9 +103,10 @@ fn read_blocks(bytes: &[u8]) -> Result<Edid, EdidError>
     if usize::from(bytes[126]) * 128 + 128 != bytes.len() {
         return Err(EdidError::Count);
     }
-    match read_extensions(bytes) {
+    let mut extensions = ArrayVec::new();
+    match read_extensions(bytes, &mut extensions) {
         Err(error) => Err(error),
-        Ok(extensions) => Ok(Edid { base, extensions }),
+        Ok(()) => Ok(Edid { base, extensions }),
     }
 }
 

@@ -75,10 +75,13 @@ pub fn edid_to_text<S: Sink>(bytes: &[u8], out: &mut S) -> Result<(), EdidToText
     ensures answers { TextAnswers (S.contents out.old) (S.contents out.new) (S.is_stuck out.old) (S.is_stuck out.new) bytes.now result }
     ensures write { S.is_stuck out.old ≡ false → (IsTrue (is_text_cut result) ↔ IsTrue (S.is_stuck out.new)) }
 {
-    let edid = edid_from_bytes(bytes)?;
-    match write_text(&edid, out) {
-        Ok(()) => Ok(()),
-        Err(fault) => Err(EdidToTextError::Write(fault.count)),
+    // It is lent where it stands, since an EDID is large.
+    match &edid_from_bytes(bytes) {
+        Err(cause) => Err(EdidToTextError::Edid(*cause)),
+        Ok(edid) => match write_text(edid, out) {
+            Ok(()) => Ok(()),
+            Err(fault) => Err(EdidToTextError::Write(fault.count)),
+        },
     }
 }
 
