@@ -98,23 +98,30 @@ fn phys_of(value: &str) -> Result<Option<Phys>, Fail> {
     }))
 }
 
+fn three_bytes(words: [&str; 3]) -> Result<[u8; 3], Fail> {
+    let [first, second, third] = words;
+    Ok([byte_of(first, 0)?, byte_of(second, 0)?, byte_of(third, 0)?])
+}
+
 fn language_of(value: &str) -> Result<Triple, Fail> {
     let (first, rest) = value.split_at_checked(2).ok_or("no language")?;
     let (second, third) = rest.split_at_checked(2).ok_or("no language")?;
+    let [first, second, third] = three_bytes([first, second, third])?;
     Ok(Triple {
-        first: byte_of(first, 0)?,
-        second: byte_of(second, 0)?,
-        third: byte_of(third, 0)?,
+        first,
+        second,
+        third,
     })
 }
 
 fn note_of(value: &str) -> Result<Note, Fail> {
     let (from, rest) = value.split_once(':').ok_or("no report")?;
     let (opcode, first) = rest.split_once(':').ok_or("no report")?;
+    let [from, opcode, first] = three_bytes([from, opcode, first])?;
     Ok(Note {
-        from: Addr::new(byte_of(from, 0)? % 16),
-        opcode: byte_of(opcode, 0)?,
-        first: byte_of(first, 0)?,
+        from: Addr::new(from % 16),
+        opcode,
+        first,
     })
 }
 
@@ -139,28 +146,52 @@ fn text_of(value: &str) -> Result<ArrayVec<u8, 16>, Fail> {
     Ok(text)
 }
 
-// Sets a field of a record.
-fn set(record: &mut Record, word: &str) -> Result<(), Fail> {
-    let (field, value) = word.split_once('=').ok_or("no field")?;
+// Sets a field that is on or off, if this is one.
+fn set_switch(record: &mut Record, field: &str, on: bool) -> bool {
     match field {
-        "power" => record.power = value == "on",
-        "menu" => record.menu = value == "on",
-        "audio" => record.audio = value == "on",
-        "mute" => record.mute = value == "on",
-        "arc" => record.arc = value == "on",
+        "power" => record.power = on,
+        "menu" => record.menu = on,
+        "audio" => record.audio = on,
+        "mute" => record.mute = on,
+        "arc" => record.arc = on,
+        _ => return false,
+    }
+    true
+}
+
+// Sets a field that is an address or a port, if this is one.
+fn set_place(record: &mut Record, field: &str, value: &str) -> Result<bool, Fail> {
+    match field {
         "active" => record.active = phys_of(value)?,
         "path" => record.path = phys_of(value)?,
+        "sel" => record.selected = optional(value)?.map(|port| Port::new(port % 16)),
+        "sub" => record.sub = optional(value)?.map(|address| Addr::new(address % 16)),
+        _ => return Ok(false),
+    }
+    Ok(true)
+}
+
+// Sets any other field.
+fn set_other(record: &mut Record, field: &str, value: &str) -> Result<(), Fail> {
+    match field {
         "deck" => record.deck = DeckInfo::from_byte(byte_of(value, 0)?),
         "volume" => record.volume = volume_of(value.parse()?),
-        "sel" => record.selected = optional(value)?.map(|port| Port::new(port % 16)),
         "lang" => record.language = language_of(value)?,
         "osd" => record.osd = text_of(value)?,
         "held" => record.held = optional(value)?,
         "heard" => record.heard = Some(note_of(value)?),
-        "sub" => record.sub = optional(value)?.map(|address| Addr::new(address % 16)),
         _ => return Err("no such field".into()),
     }
     Ok(())
+}
+
+// Sets a field of a record.
+fn set(record: &mut Record, word: &str) -> Result<(), Fail> {
+    let (field, value) = word.split_once('=').ok_or("no field")?;
+    if set_switch(record, field, value == "on") || set_place(record, field, value)? {
+        return Ok(());
+    }
+    set_other(record, field, value)
 }
 
 fn set_all(record: &mut Record, words: &str) -> Result<(), Fail> {
@@ -242,31 +273,44 @@ fn record_text(alloc: Global, record: &Record) -> Result<String, AllocError> {
     )
 }
 
+// A key that is one word.
+fn plain_key(name: &str) -> Option<Key> {
+    let key = match name {
+        "play" => Key::Play,
+        "stop" => Key::Stop,
+        "eject" => Key::Eject,
+        "load" => Key::Load,
+        "menu" => Key::Menu,
+        "power" => Key::Power,
+        "volume-up" => Key::Volume(VolumeKey::Up),
+        "volume-down" => Key::Volume(VolumeKey::Down),
+        "mute" => Key::Volume(VolumeKey::Mute),
+        _ => return None,
+    };
+    Some(key)
+}
+
+fn remote_key(operand: &str) -> Result<Key, Fail> {
+    let (to, code) = operand.split_once(' ').ok_or("no code")?;
+    Ok(Key::Remote {
+        to: Addr::new(byte_of(to, 0)? % 16),
+        code: UserControl::from_byte(byte_of(code, 0)?),
+    })
+}
+
 fn key_of(words: &str) -> Result<Key, Fail> {
-    let (name, operand) = words.split_once(' ').unwrap_or((words, ""));
+    if let Some(key) = plain_key(words) {
+        return Ok(key);
+    }
+    let (name, operand) = words.split_once(' ').ok_or("no operand")?;
     let on = operand == "on";
     match name {
-        "play" => Ok(Key::Play),
-        "stop" => Ok(Key::Stop),
-        "eject" => Ok(Key::Eject),
-        "load" => Ok(Key::Load),
-        "menu" => Ok(Key::Menu),
-        "power" => Ok(Key::Power),
         "watch" => Ok(Key::Watch(phys_of(operand)?.ok_or("no address")?)),
         "port" => Ok(Key::Port(byte_of(operand, 0)?)),
         "audio" => Ok(Key::Audio { on }),
         "arc" => Ok(Key::Arc { on }),
-        "volume-up" => Ok(Key::Volume(VolumeKey::Up)),
-        "volume-down" => Ok(Key::Volume(VolumeKey::Down)),
-        "mute" => Ok(Key::Volume(VolumeKey::Mute)),
         "language" => Ok(Key::Language(language_of(operand)?)),
-        "remote" => {
-            let (to, code) = operand.split_once(' ').ok_or("no code")?;
-            Ok(Key::Remote {
-                to: Addr::new(byte_of(to, 0)? % 16),
-                code: UserControl::from_byte(byte_of(code, 0)?),
-            })
-        }
+        "remote" => remote_key(operand),
         _ => Err("no key".into()),
     }
 }
@@ -284,6 +328,15 @@ fn act(device: &mut Device<16>, doing: &str, own: u8) -> Result<bool, Fail> {
     Ok(answer != Err(KeyError::NotForKind))
 }
 
+// What it has queued first is this frame, which it sends.
+fn says_first(rt: &impl Abort, device: &mut Device<16>, bytes: &[u8], case: &str) {
+    let Some(front) = device.queue_front() else {
+        panic!(rt; "nothing queued: {case}")
+    };
+    assert_eq!(rt; front.bytes(), bytes, "{case}");
+    device.sent(Fate::Delivered, 0);
+}
+
 /// What it has queued are these frames, and no more.
 pub(crate) fn says(
     rt: &impl Abort,
@@ -294,11 +347,7 @@ pub(crate) fn says(
 ) -> Result<(), Fail> {
     if frames != "-" {
         for words in frames.split(", ") {
-            let Some(front) = device.queue_front() else {
-                panic!(rt; "nothing queued: {case}")
-            };
-            assert_eq!(rt; front.bytes(), bytes_of(words, own)?.as_slice(), "{case}");
-            device.sent(Fate::Delivered, 0);
+            says_first(rt, device, &bytes_of(words, own)?, case);
         }
     }
     assert_eq!(rt; device.queue_len(), 0, "{case}");
@@ -308,6 +357,7 @@ pub(crate) fn says(
 // What a case says of a kind: the record before, what is done, and what has changed after it.
 #[derive(Clone, Copy)]
 struct Case<'a> {
+    line: &'a str,
     before: &'a str,
     doing: &'a str,
     after: &'a str,
@@ -320,6 +370,7 @@ fn case_of(line: &str) -> Option<(&str, Case<'_>)> {
     let (doing, rest) = rest.split_once(" | ")?;
     let (after, frames) = rest.split_once(" | ")?;
     let case = Case {
+        line,
         before,
         doing,
         after,
@@ -328,25 +379,48 @@ fn case_of(line: &str) -> Option<(&str, Case<'_>)> {
     Some((kinds, case))
 }
 
-fn check_kind(
+// The text of the record that is wanted after a case: as it is before, but for what has changed.
+fn wanted_text(alloc: Global, before: &Record, after: &str) -> Result<String, Fail> {
+    let mut wanted = before.copy();
+    if after != "refused" {
+        set_all(&mut wanted, after)?;
+    }
+    Ok(record_text(alloc, &wanted)?)
+}
+
+// A device of this kind with the record that a case has before.
+fn device_before(kind: Kind, before: &str) -> Result<Device<16>, Fail> {
+    let mut device = settled(kind);
+    set_all(&mut device.record, before)?;
+    Ok(device)
+}
+
+// The case holds for a device that stands as before it.
+fn check_device(
     rt: &impl Abort,
     alloc: Global,
-    kind: Kind,
+    device: &mut Device<16>,
     case: Case<'_>,
-    line: &str,
+    own: u8,
 ) -> Result<(), Fail> {
-    let own = own_address(kind);
-    let mut device = settled(kind);
-    set_all(&mut device.record, case.before)?;
-    let mut wanted = device.record.copy();
-    let is_refused = case.after == "refused";
-    if !is_refused {
-        set_all(&mut wanted, case.after)?;
-    }
-    assert_eq!(rt; act(&mut device, case.doing, own)?, !is_refused, "{line}");
+    let line = case.line;
+    let wanted = wanted_text(alloc, &device.record, case.after)?;
+    assert_eq!(rt;
+        act(device, case.doing, own)?,
+        case.after != "refused",
+        "{line}"
+    );
     let told = record_text(alloc, &device.record)?;
-    assert_eq!(rt; told, record_text(alloc, &wanted)?, "{line}");
-    says(rt, &mut device, case.frames, own, line)
+    assert_eq!(rt; told, wanted, "{line}");
+    Ok(())
+}
+
+fn check_kind(rt: &impl Abort, alloc: Global, kind: &str, case: Case<'_>) -> Result<(), Fail> {
+    let kind = kind_of(kind)?;
+    let own = own_address(kind);
+    let mut device = device_before(kind, case.before)?;
+    check_device(rt, alloc, &mut device, case, own)?;
+    says(rt, &mut device, case.frames, own, case.line)
 }
 
 /// Each line is a case that holds for each of its kinds.
@@ -354,7 +428,7 @@ pub(crate) fn check(rt: &impl Abort, alloc: Global, cases: &str) -> Result<(), F
     for line in cases.lines() {
         let (kinds, case) = case_of(line).ok_or("no case")?;
         for kind in kinds.split('+') {
-            check_kind(rt, alloc, kind_of(kind)?, case, line)?;
+            check_kind(rt, alloc, kind, case)?;
         }
     }
     Ok(())

@@ -53,16 +53,58 @@ fn devices_answer(rt: HostRuntime) -> Result<(), Fail> {
 }
 
 // The front frame has this fate.
-fn end(device: &mut Device<16>, fate: Fate) -> Result<(), Fail> {
+fn end(device: &mut Device<16>, fate: Fate, at: u64) -> Result<(), Fail> {
     if device.queue_front().is_none() {
         return Err(Fail::from("nothing queued"));
     }
-    device.sent(fate, 0);
+    device.sent(fate, at);
     Ok(())
+}
+
+// The front frame has these bytes.
+fn has_front(rt: &impl Abort, device: &Device<16>, bytes: &[u8]) -> Result<(), Fail> {
+    let front = device.queue_front().ok_or("nothing queued")?;
+    assert_eq!(rt; front.bytes(), bytes);
+    Ok(())
+}
+
+fn has_no_front(rt: &impl Abort, device: &Device<16>) {
+    assert!(rt; device.queue_front().is_none());
+}
+
+// So many frames are queued, and so many were dropped.
+fn has_queued(rt: &impl Abort, device: &Device<16>, queued: usize, dropped: u64) {
+    assert_eq!(rt; (device.queue_len(), device.dropped()), (queued, dropped));
+}
+
+// The device waits for this free time.
+fn waits(rt: &impl Abort, device: &Device<16>, micros: u64) {
+    assert_eq!(rt; device.class().micros(), micros);
+}
+
+fn is_ready(rt: &impl Abort, device: &Device<16>, at: u64) {
+    assert_eq!(rt; device.ready_at(), Some(at));
 }
 
 fn submit(device: &mut Device<16>, bytes: &[u8], at: u64) -> Result<Option<SubmitError>, Fail> {
     Ok(device.submit(Frame::new(bytes)?, at).err())
+}
+
+// The frame is queued.
+fn takes(rt: &impl Abort, device: &mut Device<16>, bytes: &[u8], at: u64) -> Result<(), Fail> {
+    assert_eq!(rt; submit(device, bytes, at)?, None);
+    Ok(())
+}
+
+// The frame is not queued, for this reason.
+fn refuses(
+    rt: &impl Abort,
+    device: &mut Device<16>,
+    bytes: &[u8],
+    error: SubmitError,
+) -> Result<(), Fail> {
+    assert_eq!(rt; submit(device, bytes, 0)?, Some(error));
+    Ok(())
 }
 
 // A player that was asked for its name once more than its queue holds.
@@ -77,24 +119,21 @@ fn filled() -> Result<Device<16>, Fail> {
 #[test]
 fn a_queue_fills(rt: HostRuntime) -> Result<(), Fail> {
     let mut player = filled()?;
-    assert_eq!(rt; player.queue_len(), 16);
-    assert_eq!(rt; player.dropped(), 1);
-    let front = player.queue_front().ok_or("nothing queued")?;
-    assert_eq!(rt; front.bytes(), [0x40, 0x47, b'p', b'1'].as_slice());
-    assert_eq!(rt; player.submit(front, 0), Err(SubmitError::QueueFull));
-    Ok(())
+    let bytes = [0x40, 0x47, b'p', b'1'];
+    has_queued(&rt, &player, 16, 1);
+    has_front(&rt, &player, &bytes)?;
+    refuses(&rt, &mut player, &bytes, SubmitError::QueueFull)
 }
 
 #[test]
 fn a_full_queue_empties(rt: HostRuntime) -> Result<(), Fail> {
     let mut player = filled()?;
-    end(&mut player, Fate::Delivered)?;
-    assert_eq!(rt; player.copy().queue_len(), 15);
+    end(&mut player, Fate::Delivered, 0)?;
+    has_queued(&rt, &player.copy(), 15, 1);
     player.key(Key::Play, true, 0)?;
-    assert_eq!(rt; player.queue_len(), 16);
-    assert_eq!(rt; player.dropped(), 2);
+    has_queued(&rt, &player, 16, 2);
     for _ in 0..15 {
-        end(&mut player, Fate::Delivered)?;
+        end(&mut player, Fate::Delivered, 0)?;
     }
     says(&rt, &mut player, "40 04", 4, "the last one")
 }
@@ -102,11 +141,9 @@ fn a_full_queue_empties(rt: HostRuntime) -> Result<(), Fail> {
 // The device polls so, and the poll is acknowledged.
 fn finds_taken(rt: &impl Abort, device: &mut Device<16>, poll: u8) -> Result<(), Fail> {
     assert!(rt; device.held() == [None, None]);
-    assert_eq!(rt; device.ready_at(), Some(500));
-    let front = device.queue_front().ok_or("no poll")?;
-    assert_eq!(rt; front.bytes(), [poll].as_slice());
-    device.sent(Fate::Delivered, 500);
-    Ok(())
+    is_ready(rt, device, 500);
+    has_front(rt, device, &[poll])?;
+    end(device, Fate::Delivered, 500)
 }
 
 #[test]
@@ -124,7 +161,7 @@ fn a_player_finds_no_address(rt: HostRuntime) -> Result<(), Fail> {
     finds_taken(&rt, &mut player, 0x88)?;
     finds_taken(&rt, &mut player, 0xbb)?;
     assert!(rt; player.held() == [Some(Addr::new(15)), None]);
-    assert!(rt; player.queue_front().is_none());
+    has_no_front(&rt, &player);
     Ok(())
 }
 
@@ -134,33 +171,46 @@ fn a_settled_player(rt: HostRuntime) -> Result<(), Fail> {
     assert!(rt; player.holds(Addr::new(4)));
     assert!(rt; player.is_on_wire() && !player.is_allocating());
     assert!(rt; player.class() == FreeTime::PresentInitiator);
-    let refused = submit(&mut player, &[0x84, 0x04], 0)?;
-    assert_eq!(rt; refused, Some(SubmitError::NoAddress));
-    let refused = submit(&mut player, &[0x44, 0x04], 0)?;
-    assert_eq!(rt; refused, Some(SubmitError::OwnAddress));
-    Ok(())
+    refuses(&rt, &mut player, &[0x84, 0x04], SubmitError::NoAddress)?;
+    refuses(&rt, &mut player, &[0x44, 0x04], SubmitError::OwnAddress)
 }
 
 // The front frame loses once, which is no attempt, and then fails once.
 fn tries(rt: &impl Abort, device: &mut Device<16>) -> Result<(), Fail> {
-    assert_eq!(rt; device.ready_at(), Some(900));
-    end(device, Fate::Lost)?;
-    assert_eq!(rt; device.class().micros(), 12_000);
-    end(device, Fate::Broken)
+    is_ready(rt, device, 900);
+    end(device, Fate::Lost, 0)?;
+    waits(rt, device, 12_000);
+    end(device, Fate::Broken, 0)
 }
 
 #[test]
 fn a_frame_has_six_attempts(rt: HostRuntime) -> Result<(), Fail> {
     let mut player = settled(Kind::Player);
-    assert_eq!(rt; submit(&mut player, &[0x48, 0x46], 900)?, None);
+    takes(&rt, &mut player, &[0x48, 0x46], 900)?;
     for _ in 0..6 {
         tries(&rt, &mut player)?;
     }
-    assert!(rt; player.queue_front().is_none());
-    assert_eq!(rt; player.dropped(), 0);
+    has_no_front(&rt, &player);
+    has_queued(&rt, &player, 0, 0);
     player.waited();
-    assert_eq!(rt; player.class().micros(), 12_000);
+    waits(&rt, &player, 12_000);
     Ok(())
+}
+
+// A key does nothing off the wire.
+fn has_lost_key(rt: &impl Abort, device: &mut Device<16>, key: Key, press: bool) {
+    assert_eq!(rt; device.key(key, press, 0), Err(KeyError::OffWire));
+}
+
+// The device is the player `p1` with three ports.
+fn is_p1(rt: &impl Abort, device: &Device<16>) {
+    assert_eq!(rt; device.name(), b"p1".as_slice());
+    assert_eq!(rt; (device.kind(), device.ports()), (Kind::Player, 3));
+}
+
+fn is_nowhere(rt: &impl Abort, device: &Device<16>) {
+    let phys = device.phys();
+    assert_eq!(rt; (device.number(), phys.high, phys.low), (0, 0xff, 0xff));
 }
 
 #[test]
@@ -168,15 +218,11 @@ fn a_player_that_has_left(rt: HostRuntime) -> Result<(), Fail> {
     let mut player = settled(Kind::Player);
     player.leave();
     assert!(rt; !player.is_on_wire() && player.held() == [None, None]);
-    let refused = submit(&mut player, &[0x48, 0x46], 0)?;
-    assert_eq!(rt; refused, Some(SubmitError::OffWire));
-    assert_eq!(rt; player.key(Key::Play, true, 0), Err(KeyError::OffWire));
-    assert_eq!(rt; player.key(Key::Menu, false, 0), Err(KeyError::OffWire));
-    assert_eq!(rt; player.name(), b"p1".as_slice());
-    assert_eq!(rt; player.kind(), Kind::Player);
-    assert_eq!(rt; (player.ports(), player.number()), (3, 0));
-    let phys = player.phys();
-    assert_eq!(rt; (phys.high, phys.low), (0xff, 0xff));
+    refuses(&rt, &mut player, &[0x48, 0x46], SubmitError::OffWire)?;
+    has_lost_key(&rt, &mut player, Key::Play, true);
+    has_lost_key(&rt, &mut player, Key::Menu, false);
+    is_p1(&rt, &player);
+    is_nowhere(&rt, &player);
     Ok(())
 }
 
@@ -215,11 +261,9 @@ fn a_box_with_one_address(rt: HostRuntime) -> Result<(), Fail> {
     holds(&rt, &half, 1, None);
     assert!(rt; half.is_allocating());
     assert!(rt; half.holds(Addr::new(1)) && !half.holds(Addr::new(4)));
-    let refused = submit(&mut half, &[0x34, 0x46], 0)?;
-    assert_eq!(rt; refused, Some(SubmitError::NoAddress));
+    refuses(&rt, &mut half, &[0x34, 0x46], SubmitError::NoAddress)?;
     follow(&mut half, &[0x31, 0x46])?;
-    assert_eq!(rt; half.queue_len(), 0);
-    Ok(())
+    says(&rt, &mut half, "-", 1, "nothing yet")
 }
 
 #[test]
@@ -227,12 +271,9 @@ fn a_box_with_two_addresses(rt: HostRuntime) -> Result<(), Fail> {
     let mut whole = box_after(&[FREE, FREE]);
     holds(&rt, &whole, 1, Some(4));
     assert!(rt; !whole.is_allocating());
-    let refused = submit(&mut whole, &[0x34, 0x46], 0)?;
-    assert_eq!(rt; refused, Some(SubmitError::NoAddress));
-    let refused = submit(&mut whole, &[0x14, 0x46], 0)?;
-    assert_eq!(rt; refused, Some(SubmitError::OwnAddress));
-    let refused = submit(&mut whole, &[0x41, 0x46], 0)?;
-    assert_eq!(rt; refused, Some(SubmitError::OwnAddress));
+    refuses(&rt, &mut whole, &[0x34, 0x46], SubmitError::NoAddress)?;
+    refuses(&rt, &mut whole, &[0x14, 0x46], SubmitError::OwnAddress)?;
+    refuses(&rt, &mut whole, &[0x41, 0x46], SubmitError::OwnAddress)?;
     says(&rt, &mut whole, "1f 84 10 00 01, 4f 84 10 00 04", 4, "both")
 }
 
@@ -240,7 +281,7 @@ fn a_box_with_two_addresses(rt: HostRuntime) -> Result<(), Fail> {
 fn a_box_whose_player_has_an_address(rt: HostRuntime) -> Result<(), Fail> {
     let mut player = box_after(&[TAKEN, TAKEN, TAKEN, TAKEN, FREE]);
     holds(&rt, &player, 15, Some(8));
-    assert_eq!(rt; submit(&mut player, &[0xf0, 0x46], 0)?, None);
+    takes(&rt, &mut player, &[0xf0, 0x46], 0)?;
     says(&rt, &mut player, "8f 84 10 00 04, f0 46", 8, "the player")
 }
 
@@ -264,8 +305,7 @@ fn a_box_without_an_address(rt: HostRuntime) -> Result<(), Fail> {
     let mut neither = box_after(&[TAKEN; 6]);
     holds(&rt, &neither, 15, Some(15));
     neither.key(Key::Menu, true, 0)?;
-    assert_eq!(rt; neither.queue_len(), 0);
-    Ok(())
+    says(&rt, &mut neither, "-", 15, "neither")
 }
 
 #[test]
