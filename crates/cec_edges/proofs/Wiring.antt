@@ -12,13 +12,14 @@ use Rattle.cec_wire.specs.declared.hearing.Place.{Place}
 use Rattle.cec_wire.specs.declared.hearing.Place.TheVariants.{StartLow, StartHigh, InSlot, Over}
 use Rattle.cec_wire.specs.Round.{IsRoundLine}
 use Rattle.cec_wire.specs.Machine.{AreSentWell, IsEarly, IsReady, samples, next_place, bit_told, held_after, recorded, low_since}
-use Rattle.cec_wire.specs.Edges.{Heard, first_heard, hear_in, heard_of, pulls, sending_by, part_of, sender_part, next_part, next_due, next_wake, part_left, sooner, if_later, first_end, begin_of, IsTimely, EachLine}
+use Rattle.cec_wire.specs.Edges.{Heard, first_heard, hear_in, heard_of, pulls, sending_by, next_due, wake_after, sends_low, sooner, IsPull, if_later, first_end, begin_of, IsTimely, EachLine}
 use Rattle.cec_edges.specs.Wired.{IsHeard, IsNext}
 use Rattle.cec_wire.proofs.Exists.{made_line, made_round}
 use Rattle.cec_wire.proofs.Records.{has_room, is_ready}
 use Rattle.cec_wire.proofs.Stands.{StandsAt}
 use Rattle.cec_edges.proofs.Meets.{are_frames, are_short, is_early, has_space}
-use Rattle.cec_wire.proofs.Wakes.{StaysTo, wake_stays}
+use Rattle.cec_wire.specs.declared.waking.Pull.{Pull}
+use Rattle.cec_wire.proofs.Wakes.{StaysTo, sooner_after, wake_stays}
 use Rattle.cec_wire.proofs.Everyone.{line_found}
 use Rattle.cec_wire.proofs.Between.{StandsOn, heard_stands, Waits, between}
 
@@ -198,14 +199,6 @@ is_other false true h = refl
 
 -- ---- when it wakes
 
-sooner_after : (t wake : ℕ) (o : Option ℕ) → t ≤ wake → ((d : ℕ) → o ≡ Some d → t ≤ d) → t ≤ sooner wake o
-sooner_after t wake None l h = l
-sooner_after t wake (Some d) l h = by_test (nat_lt d wake) (h d refl)
-  where
-    by_test : (b : Bool) → t ≤ d → t ≤ (if b then d else wake)
-    by_test true m = m
-    by_test false m = l
-
 later_after : (t bound : ℕ) (d : ℕ) → if_later t bound ≡ Some d → t ≤ d
 later_after t bound d h = by_test (nat_lt t bound) refl h
   where
@@ -216,29 +209,6 @@ later_after t bound d h = by_test (nat_lt t bound) refl h
 end_after : (t wake : ℕ) (ps : List Stretch) → t ≤ wake → t ≤ first_end t wake ps
 end_after t wake [] l = l
 end_after t wake (p ∷ ps) l = end_after t (sooner wake (if_later t p.to)) ps (sooner_after t wake (if_later t p.to) l (later_after t p.to))
-
--- a sender changes its pull no sooner than now
-sender_after : (begin : ℕ) (bits : List Bool) (t : ℕ) → begin ≤ t → t ≤ sender_part begin bits t
-sender_after begin bits t l = by_start (nat_lt t (begin + 3700)) refl
-  where
-    left : ℕ
-    left = part_left (slice_index_or bits ((t - (begin + 4500)) / 2400) false) ((t - (begin + 4500)) % 2400)
-
-    by_high : (b : Bool) → nat_lt t (begin + 4500) ≡ b → t ≤ (if b then begin + 4500 else t + left)
-    by_high true e = let x : t < begin + 4500 = grind (arith, nat_tests) in omega arith
-    by_high false e = omega arith
-
-    by_start : (b : Bool) → nat_lt t (begin + 3700) ≡ b → t ≤ (if b then begin + 3700 else if nat_lt t (begin + 4500) then begin + 4500 else t + left)
-    by_start true e = let x : t < begin + 3700 = grind (arith, nat_tests) in omega arith
-    by_start false e = by_high (nat_lt t (begin + 4500)) refl
-
-part_of_after : (begin : ℕ) (o : Option (List ℕ)) (t : ℕ) → begin ≤ t → (d : ℕ) → part_of begin o t ≡ Some d → t ≤ d
-part_of_after begin None t l d e = cc
-part_of_after begin (Some f) t l d e = let x : sender_part begin (frame_bits f) t ≡ d = cc in omega (arith, x, sender_after begin (frame_bits f) t l)
-
-part_after : (begin t wake : ℕ) (ss : List Seat) → begin ≤ t → t ≤ wake → t ≤ fold (λ w s. sooner w (part_of begin s.sends t)) wake ss
-part_after begin t wake [] l m = m
-part_after begin t wake (s ∷ ss) l m = part_after begin t (sooner wake (part_of begin s.sends t)) ss l (sooner_after t wake (part_of begin s.sends t) m (part_of_after begin s.sends t l))
 
 due_after : (seats : List Seat) (low : Line) (begin t : ℕ) (bits : List Bool) (held : ℕ) (place : Place) → StandsAt seats low begin t bits held place → (d : ℕ) → next_due begin place t ≡ Some d → t ≤ d
 unfolding StandsAt
@@ -263,34 +233,37 @@ pub record Woken (seats : List Seat) (begin : ℕ) (pulses : List Stretch) (t : 
   pub heard : IsHeard seats begin pulses w h
   pub calm : EachLine seats begin pulses w (λ low. (u : ℕ) → t ≤ u → u < w → low u ≡ is_some h.since)
 
-pub woken : (seats : List Seat) (begin : ℕ) (pulses : List Stretch) (t : ℕ) (next : Option Stretch) (h : Heard) (w : ℕ) → IsHeard seats begin pulses t h → ((p : Stretch) → next ≡ Some p → t ≤ p.from)
-    → w ≡ (if not (beq (pulls seats begin pulses h.place h.bits h.held (is_some h.since) t) (is_some h.since)) then t else next_wake begin (sending_by h.bits seats) pulses next h.place h.held t) → Woken seats begin pulses t next h w
-woken seats begin pulses t next h w i after e = subst (λ n. Woken seats begin pulses t next h n) (sym e) (by_same (beq (pulls seats begin pulses h.place h.bits h.held (is_some h.since) t) (is_some h.since)) refl)
-  where
-    part : t ≤ next_part begin (sending_by h.bits seats) t
-    part = part_after begin t (t + 4500) (sending_by h.bits seats) i.from (omega arith)
+-- those who go on sending do the same from t on
+pub pull_same : (begin : ℕ) (sending kept : List Seat) (p : Pull) (t : ℕ) → sending ≡ kept → IsPull begin sending p → p.from ≤ t → p.is_low ≡ sends_low begin sending t
+    → (u : ℕ) → t ≤ u → u < p.until → sends_low begin kept u ≡ sends_low begin kept t
+pull_same begin sending kept p t e is from low u l m = subst (λ (ss : List Seat). sends_low begin ss u ≡ sends_low begin ss t) e (is.same u (omega (arith, from, l)) m ∙ low)
 
-    stays : StaysTo begin (sending_by h.bits seats) pulses next h.place h.held t (next_wake begin (sending_by h.bits seats) pulses next h.place h.held t)
-    stays = wake_stays begin (sending_by h.bits seats) pulses next h.place h.held t
+pub woken : (seats : List Seat) (begin : ℕ) (pulses : List Stretch) (t : ℕ) (next : Option Stretch) (until : ℕ) (h : Heard) (w : ℕ) → IsHeard seats begin pulses t h → ((p : Stretch) → next ≡ Some p → t ≤ p.from)
+    → t ≤ until → until ≤ t + 4500 → ((u : ℕ) → t ≤ u → u < until → sends_low begin (sending_by h.bits seats) u ≡ sends_low begin (sending_by h.bits seats) t)
+    → w ≡ (if not (beq (pulls seats begin pulses h.place h.bits h.held (is_some h.since) t) (is_some h.since)) then t else wake_after begin until pulses next h.place h.held t) → Woken seats begin pulses t next h w
+woken seats begin pulses t next until h w i after later near same e = subst (λ n. Woken seats begin pulses t next h n) (sym e) (by_same (beq (pulls seats begin pulses h.place h.bits h.held (is_some h.since) t) (is_some h.since)) refl)
+  where
+    stays : StaysTo begin (sending_by h.bits seats) pulses next h.place h.held t (wake_after begin until pulses next h.place h.held t)
+    stays = wake_stays begin (sending_by h.bits seats) pulses next h.place h.held t until near same
 
     begins : (o : Option Stretch) → ((p : Stretch) → o ≡ Some p → t ≤ p.from) → (d : ℕ) → begin_of o ≡ Some d → t ≤ d
     begins None k d x = cc
     begins (Some p) k d x = let y : p.from ≡ d = cc in omega (arith, y, k p refl)
 
-    after_t : t ≤ next_wake begin (sending_by h.bits seats) pulses next h.place h.held t
+    after_t : t ≤ wake_after begin until pulses next h.place h.held t
     after_t =
-        end_after t (sooner (sooner (sooner (next_part begin (sending_by h.bits seats) t) (next_due begin h.place t)) (if_later t h.held)) (begin_of next)) pulses
-        (sooner_after t (sooner (sooner (next_part begin (sending_by h.bits seats) t) (next_due begin h.place t)) (if_later t h.held)) (begin_of next)
-        (sooner_after t (sooner (next_part begin (sending_by h.bits seats) t) (next_due begin h.place t)) (if_later t h.held)
-        (sooner_after t (next_part begin (sending_by h.bits seats) t) (next_due begin h.place t) part
+        end_after t (sooner (sooner (sooner (until) (next_due begin h.place t)) (if_later t h.held)) (begin_of next)) pulses
+        (sooner_after t (sooner (sooner (until) (next_due begin h.place t)) (if_later t h.held)) (begin_of next)
+        (sooner_after t (sooner (until) (next_due begin h.place t)) (if_later t h.held)
+        (sooner_after t (until) (next_due begin h.place t) later
         (due_after seats (line_in seats begin pulses) begin t h.bits h.held h.place (stands_in seats begin pulses t h i).stands)) (later_after t h.held)) (begins next after))
 
-    by_same : (b : Bool) → beq (pulls seats begin pulses h.place h.bits h.held (is_some h.since) t) (is_some h.since) ≡ b → Woken seats begin pulses t next h (if not b then t else next_wake begin (sending_by h.bits seats) pulses next h.place h.held t)
+    by_same : (b : Bool) → beq (pulls seats begin pulses h.place h.bits h.held (is_some h.since) t) (is_some h.since) ≡ b → Woken seats begin pulses t next h (if not b then t else wake_after begin until pulses next h.place h.held t)
     by_same false f =
         let g = stayed seats begin pulses t h i in
         record { later = omega arith; near = omega arith; comes = after; heard = g.0; calm = g.1 }
     by_same true f =
-        let g = waited seats begin pulses t (next_wake begin (sending_by h.bits seats) pulses next h.place h.held t) next h i after_t stays (is_same (pulls seats begin pulses h.place h.bits h.held (is_some h.since) t) (is_some h.since) f) in
+        let g = waited seats begin pulses t (wake_after begin until pulses next h.place h.held t) next h i after_t stays (is_same (pulls seats begin pulses h.place h.bits h.held (is_some h.since) t) (is_some h.since) f) in
         record { later = after_t; near = stays.near; comes = stays.comes; heard = g.0; calm = g.1 }
 
 pub next_from : (pulses : List Stretch) (t : ℕ) (next : Option Stretch) → IsNext pulses t next → (p : Stretch) → next ≡ Some p → t ≤ p.from

@@ -18,7 +18,7 @@ use Rattle.cec_wire.specs.declared.Outcome.{Outcome}
 use Rattle.cec_wire.specs.Round.{IsRoundLine, IsRound}
 use Rattle.cec_wire.specs.Machine.{AreSentWell}
 use Rattle.cec_edges.specs.Listening.{IsLevel, AreSenders, AreStanding}
-use Rattle.cec_wire.specs.Edges.{Heard, heard_of, pulls, EachLine, IsNextEdge, next_wake, sending_by}
+use Rattle.cec_wire.specs.Edges.{Heard, heard_of, pulls, EachLine, IsNextEdge, wake_after}
 
 abbrev pub heard_by : EdgeWire → Heard
 heard_by w = record { place = w.place; bits = w.bits.items; held = w.held; wave = w.recorder.wave; since = w.recorder.low_since }
@@ -47,9 +47,10 @@ pub record IsHeard (seats : List Seat) (begin : ℕ) (pulses : List Stretch) (t 
 abbrev pub IsBegun : EdgeWire → Type 0
 IsBegun w = IsHeard w.seats.items w.begin w.pulses.items w.time (heard_by w)
 
--- the next instant at which the line or the reading may change: at once, where the line changes
-abbrev pub wake_in : EdgeWire → Option Stretch → ℕ
-wake_in w next = if not (beq (pulls_in w) (is_low_in w)) then w.time else next_wake w.begin (sending_by w.bits.items w.seats.items) w.pulses.items next w.place w.held w.time
+-- the next instant at which the line or the reading may change, where those who send do the same until an instant: at
+-- once, where the line changes
+abbrev pub wake_in : EdgeWire → ℕ → Option Stretch → ℕ
+wake_in w until next = if not (beq (pulls_in w) (is_low_in w)) then w.time else wake_after w.begin until w.pulses.items next w.place w.held w.time
 
 -- the next pulse begins at an instant or later, far enough from those before
 abbrev pub IsNext : List Stretch → ℕ → Option Stretch → Type 0

@@ -1,15 +1,15 @@
 //! A line that goes from edge to edge.
 ghost use Rattle.std.specs.Prelude.{◌≡◌, ◌+◌, ◌<◌, ◌≤◌, ◌++◌, ◌&&◌, not, true, false, length, [], All, take, slice_get, IfSome};
 ghost use Rattle.std.specs.List.{list_any};
-ghost use Rattle.cec_wire.specs.Edges.{sends_on, sending_by, IsTimely};
-ghost use Rattle.cec_wire.specs.Machine.{next_place, bit_told, held_after, recorded, low_since, samples, sends_until, sent_low, AreSentWell, IsEarly, IsReady};
+ghost use Rattle.cec_wire.specs.Edges.{sends_low, sends_on, sending_by, IsPull, IsTimely};
+ghost use Rattle.cec_wire.specs.Machine.{next_place, bit_told, held_after, recorded, low_since, samples, sends_until, AreSentWell, IsEarly, IsReady};
 
 use crate::listeners::{Listeners, sender_at};
 use arrayvec::ArrayVec;
 use cec_bits::{Receiver, Sender};
 use cec_wave::{Edge, Pulses, Stretch};
 use cec_wire::{
-    Outcome, Place, Recorder, Seat, Wire, ending, held_until, is_any_low, is_pulsed, leave_out,
+    Outcome, Place, Pull, Recorder, Seat, Wire, ending, held_until, is_any_low, is_pulsed, leave_out,
     next_wake, outcome_of, pull_at, pulses_until, senders_until, sending_first,
 };
 use std::mem;
@@ -24,11 +24,14 @@ pub struct EdgeWire {
     pub(crate) bits: ArrayVec<bool, 160>,
     /// The seats that go on sending, by these bits: they alone are asked who pulls.
     sending: ArrayVec<Seat, 15>,
+    /// What they do, for as long as that lasts.
+    pull: Pull,
     place: Place,
     held: u64,
     recorder: Recorder,
     listeners: Listeners,
     ghost kept: { sending.items ≡ sending_by bits.items seats.items },
+    ghost pulled: { IsPull begin sending.items pull },
 }
 
 fn copied_seats(seats: &[Seat]) -> ArrayVec<Seat, 15>
@@ -63,6 +66,21 @@ fn copied_bits(bits: &[bool]) -> ArrayVec<bool, 160>
     }
 }
 
+// What those who go on sending do, once some of them may have been left out.
+fn pull_after(sending: &[Seat], begin: u64, t: u64, is_out: bool, pull: Pull) -> Pull
+    requires early { begin ≤ 2000000100000 }
+    requires begun { begin ≤ t }
+    requires time { t ≤ 3000000000000 }
+    requires pull { is_out ≡ false → IsPull begin sending.now pull }
+    ensures { IsPull begin sending.now result }
+{
+    if is_out {
+        pull_at(sending, begin, t)
+    } else {
+        pull
+    }
+}
+
 impl EdgeWire {
     ghost use Rattle.std.specs.Prelude.{IfSome, MatchOption, ℕ, ◌-◌};
     ghost use Rattle.std.specs.Option.{option_to_list};
@@ -80,13 +98,16 @@ impl EdgeWire {
         ensures time { result.time ≡ start }
         ensures pulses { result.pulses.items ≡ [] }
     {
+        let sending = sending_first(seats);
+        let pull = pull_at(sending.as_slice(), start, start);
         EdgeWire {
             seats: copied_seats(seats),
             begin: start,
             pulses: ArrayVec::new(),
             time: start,
             bits: ArrayVec::new(),
-            sending: sending_first(seats),
+            sending,
+            pull,
             place: Place::StartLow,
             held: 0,
             recorder: Recorder::new(),
@@ -113,6 +134,7 @@ impl EdgeWire {
             time: self.time,
             bits: copied_bits(self.bits.as_slice()),
             sending: copied_seats(self.sending.as_slice()),
+            pull: self.pull,
             place: self.place,
             held: self.held,
             recorder: self.recorder.copy(),
@@ -148,9 +170,26 @@ impl EdgeWire {
         *self = EdgeWire::started(seats, start);
     }
 
+    // What those who go on sending do from the next microsecond on.
+    fn pull_now(&self) -> Pull
+        requires early { self.now.begin ≤ 2000000100000 }
+        requires begun { self.now.begin ≤ self.now.time }
+        requires time { self.now.time ≤ 3000000000000 }
+        ensures pull { IsPull self.now.begin self.now.sending.items result }
+        ensures from { result.from ≤ self.now.time }
+        ensures later { self.now.time ≤ result.until }
+        ensures low { result.is_low ≡ sends_low self.now.begin self.now.sending.items self.now.time }
+    {
+        if self.pull.from <= self.time && self.time < self.pull.until {
+            self.pull
+        } else {
+            pull_at(self.sending.as_slice(), self.begin, self.time)
+        }
+    }
+
     // Somebody pulls in the next microsecond who sends on, where one of those who go on sending pulls or none.
     fn anybody_sends(&self, is_low: bool) -> bool
-        requires { is_low ≡ list_any (λ s. sent_low self.now.begin s.sends self.now.time) self.now.sending.items }
+        requires { is_low ≡ sends_low self.now.begin self.now.sending.items self.now.time }
         ensures { result ≡ list_any (λ s. sends_on self.now.begin self.now.bits.items (sends_until self.now.place self.now.time) self.now.time s.sends) self.now.seats.items }
     {
         self.time <= senders_until(self.place, self.time) && is_low
@@ -158,7 +197,7 @@ impl EdgeWire {
 
     // Whether the line is low in the next microsecond, where one of those who go on sending pulls or none.
     fn is_pulled_beside(&self, is_low: bool) -> bool
-        requires { is_low ≡ list_any (λ s. sent_low self.now.begin s.sends self.now.time) self.now.sending.items }
+        requires { is_low ≡ sends_low self.now.begin self.now.sending.items self.now.time }
         ensures { result ≡ pulls_in self.now }
     {
         let was = self.recorder.was_low();
@@ -179,13 +218,12 @@ impl EdgeWire {
     }
 
     // The next instant at which the line or the reading may change.
-    fn wake(&self, next: Option<Stretch>) -> u64
+    fn wake(&self, pull: Pull, next: Option<Stretch>) -> u64
         requires early { self.now.begin ≤ 2000000100000 }
-        requires time { self.now.time ≤ 3000000000000 }
         requires timely { IsTimely self.now.place }
-        ensures { result ≡ wake_in self.now next }
+        requires low { pull.is_low ≡ sends_low self.now.begin self.now.sending.items self.now.time }
+        ensures { result ≡ wake_in self.now pull.until next }
     {
-        let pull = pull_at(self.sending.as_slice(), self.begin, self.time);
         if self.is_pulled_beside(pull.is_low) != self.recorder.was_low() {
             return self.time;
         }
@@ -217,7 +255,7 @@ impl EdgeWire {
         ensures calm { EachOf self.new
             (λ low. (u : ℕ) → self.old.time ≤ u → u < self.new.time → low u ≡ is_low_in self.old) }
     {
-        self.time = self.wake(next);
+        self.time = self.wake(self.pull_now(), next);
     }
 
     // Takes the next pulse, if it begins now.
@@ -245,8 +283,10 @@ impl EdgeWire {
     }
 
     // Hears that the line is low or not in the next microsecond, and was low or not just before.
-    fn step(&mut self, was: bool, is_low: bool)
+    fn step(&mut self, was: bool, is_low: bool, pull: Pull)
         requires begin { self.old.begin ≤ 2000000100000 }
+        requires from { self.old.begin ≤ self.old.time }
+        requires pull { IsPull self.old.begin self.old.sending.items pull }
         requires early { IsEarly self.old.place }
         requires time { self.old.time ≤ 3000000000000 }
         requires bits { samples self.old.place self.old.time (is_low && not was) ≡ true → length self.old.bits.items < 160 }
@@ -267,10 +307,18 @@ impl EdgeWire {
         let place = self
             .place
             .after(self.begin, self.bits.as_slice(), self.time, falls, rises);
+        let mut is_out = false;
         if self.place.samples(self.time, falls) {
             self.bits.push(!is_low);
-            leave_out(&mut self.sending, self.bits.as_slice());
+            is_out = leave_out(&mut self.sending, self.bits.as_slice());
         }
+        self.pull = pull_after(
+            self.sending.as_slice(),
+            self.begin,
+            self.time,
+            is_out,
+            pull,
+        );
         self.held = held_until(
             self.seats.as_slice(),
             self.bits.as_slice(),
@@ -298,9 +346,10 @@ impl EdgeWire {
         ensures place { MatchOption result (self.new.place ≡ next_place self.old.begin self.old.bits.items self.old.place self.old.time false false) (λ edge. Unit {0}) }
     {
         let was = self.recorder.was_low();
-        let is_low = self.is_pulled();
+        let pull = self.pull_now();
+        let is_low = self.is_pulled_beside(pull.is_low);
         let at = self.time;
-        self.step(was, is_low);
+        self.step(was, is_low, pull);
         if is_low == was {
             None
         } else {

@@ -1,9 +1,7 @@
 //! Who sends a low line, and until when nothing changes: neither who pulls nor where the reading stands.
 ghost use Rattle.std.specs.Prelude.{◌≡◌, ◌<◌, ◌≤◌};
-ghost use Rattle.std.specs.List.{list_any};
 ghost use Rattle.cec_frame.specs.Bits.{frame_bits};
-ghost use Rattle.cec_wire.specs.Edges.{part_left, sender_part, part_of, next_part, next_due, sooner, if_later, first_end, begin_of, wake_after, IsTimely};
-ghost use Rattle.cec_wire.specs.Machine.{sent_low};
+ghost use Rattle.cec_wire.specs.Edges.{part_left, sender_part, part_of, next_part, next_due, sooner, if_later, first_end, begin_of, wake_after, sends_low, IsPull, IsTimely};
 
 use crate::Seat;
 use crate::hearing::Place;
@@ -54,22 +52,24 @@ fn part_of(sends: &Option<Frame>, begin: u64, t: u64) -> Option<u64>
     }
 }
 
-/// What those who send do in a microsecond.
+/// What those who send do from an instant on, up to another: one of them pulls, or none.
 #[derive(Clone, Copy, Debug, PartialEq, Eq)]
 pub struct Pull {
-    /// One of them pulls.
-    pub is_low: bool,
-    /// The next instant at which one of them can change its pull, at most a start bit later.
+    pub from: u64,
     pub until: u64,
+    pub is_low: bool,
 }
 
-/// What these seats, which all go on sending, do in microsecond `t`. Both are found at once, since both go by the
-/// slot in which a sender is and by its bit.
+/// What these seats, which all go on sending, do from microsecond `t` on, up to the next instant at which one of them
+/// can change its pull, at most a start bit later.
 pub fn pull_at(sending: &[Seat], begin: u64, t: u64) -> Pull
     requires early { begin ≤ 2000000100000 }
+    requires begun { begin ≤ t }
     requires time { t ≤ 3000000000000 }
-    ensures low { result.is_low ≡ list_any (λ s. sent_low begin s.sends t) sending.now }
-    ensures until { result.until ≡ next_part begin sending.now t }
+    ensures from { result.from ≡ t }
+    ensures later { t ≤ result.until }
+    ensures low { result.is_low ≡ sends_low begin sending.now t }
+    ensures pull { IsPull begin sending.now result }
 {
     let mut is_low = false;
     let mut until = t + FIRST_SLOT;
@@ -77,7 +77,11 @@ pub fn pull_at(sending: &[Seat], begin: u64, t: u64) -> Pull
         is_low = is_low || sender_pulls(&seat.sends, begin, t);
         until = sooner(until, part_of(&seat.sends, begin, t));
     }
-    Pull { is_low, until }
+    Pull {
+        from: t,
+        until,
+        is_low,
+    }
 }
 
 // The next instant at which the reading goes on with no edge.

@@ -21,8 +21,8 @@ returns-then-is_low-was-clause-begun c =
     let v = c.step.new.self in
     let e = c.step.ensures in
     moved w.seats.items v.seats.items w.begin v.begin w.pulses.items v.pulses.items (w.time + 1) v.time _ (heard_by v) e.round.seats e.round.begin e.pulses e.time
-    (heard_made w.seats.items w.begin w.time c.was_low-was.result c.is_pulled-is_low.result (heard_by w) v.place v.bits.items v.held v.recorder.wave v.recorder.low_since e.place e.bits e.held e.wave e.since c.was_low-was.ensures)
-    (heard_next w.seats.items w.begin w.pulses.items w.time (heard_by w) c.is_pulled-is_low.result c.requires.begun c.is_pulled-is_low.ensures).0
+    (heard_made w.seats.items w.begin w.time c.was_low-was.result c.is_pulled_beside-is_low.result (heard_by w) v.place v.bits.items v.held v.recorder.wave v.recorder.low_since e.place e.bits e.held e.wave e.since c.was_low-was.ensures)
+    (heard_next w.seats.items w.begin w.pulses.items w.time (heard_by w) c.is_pulled_beside-is_low.result c.requires.begun c.is_pulled_beside-is_low.ensures).0
 
 pub returns-then-is_low-was-clause-edge : goal.returns-then-is_low-was-clause-edge
 returns-then-is_low-was-clause-edge c =
@@ -30,8 +30,8 @@ returns-then-is_low-was-clause-edge c =
     let v = c.step.new.self in
     let e = c.step.ensures in
     let g = each_moved w.seats.items v.seats.items w.begin v.begin w.pulses.items v.pulses.items (w.time + 1) v.time _ e.round.seats e.round.begin e.pulses e.time
-    (heard_next w.seats.items w.begin w.pulses.items w.time (heard_by w) c.is_pulled-is_low.result c.requires.begun c.is_pulled-is_low.ensures).1 in
-    λ later low sparse late line. g later low sparse late line ∙ is_same c.is_pulled-is_low.result c.was_low-was.result c.if-is_low-was.true ∙ c.was_low-was.ensures
+    (heard_next w.seats.items w.begin w.pulses.items w.time (heard_by w) c.is_pulled_beside-is_low.result c.requires.begun c.is_pulled_beside-is_low.ensures).1 in
+    λ later low sparse late line. g later low sparse late line ∙ is_same c.is_pulled_beside-is_low.result c.was_low-was.result c.if-is_low-was.true ∙ c.was_low-was.ensures
 
 pub returns-else-is_low-was-clause-begun : goal.returns-else-is_low-was-clause-begun
 returns-else-is_low-was-clause-begun c =
@@ -39,8 +39,8 @@ returns-else-is_low-was-clause-begun c =
     let v = c.step.new.self in
     let e = c.step.ensures in
     moved w.seats.items v.seats.items w.begin v.begin w.pulses.items v.pulses.items (w.time + 1) v.time _ (heard_by v) e.round.seats e.round.begin e.pulses e.time
-    (heard_made w.seats.items w.begin w.time c.was_low-was.result c.is_pulled-is_low.result (heard_by w) v.place v.bits.items v.held v.recorder.wave v.recorder.low_since e.place e.bits e.held e.wave e.since c.was_low-was.ensures)
-    (heard_next w.seats.items w.begin w.pulses.items w.time (heard_by w) c.is_pulled-is_low.result c.requires.begun c.is_pulled-is_low.ensures).0
+    (heard_made w.seats.items w.begin w.time c.was_low-was.result c.is_pulled_beside-is_low.result (heard_by w) v.place v.bits.items v.held v.recorder.wave v.recorder.low_since e.place e.bits e.held e.wave e.since c.was_low-was.ensures)
+    (heard_next w.seats.items w.begin w.pulses.items w.time (heard_by w) c.is_pulled_beside-is_low.result c.requires.begun c.is_pulled_beside-is_low.ensures).0
 
 pub returns-else-is_low-was-clause-edge : goal.returns-else-is_low-was-clause-edge
 returns-else-is_low-was-clause-edge c =
@@ -48,10 +48,10 @@ returns-else-is_low-was-clause-edge c =
     let v = c.step.new.self in
     let e = c.step.ensures in
     let g = each_moved w.seats.items v.seats.items w.begin v.begin w.pulses.items v.pulses.items (w.time + 1) v.time _ e.round.seats e.round.begin e.pulses e.time
-    (heard_next w.seats.items w.begin w.pulses.items w.time (heard_by w) c.is_pulled-is_low.result c.requires.begun c.is_pulled-is_low.ensures).1 in
-    λ later low sparse late line. (refl, g later low sparse late line, sym c.was_low-was.ensures ∙ is_other c.is_pulled-is_low.result c.was_low-was.result c.if-is_low-was.false)
+    (heard_next w.seats.items w.begin w.pulses.items w.time (heard_by w) c.is_pulled_beside-is_low.result c.requires.begun c.is_pulled_beside-is_low.ensures).1 in
+    λ later low sparse late line. (refl, g later low sparse late line, sym c.was_low-was.ensures ∙ is_other c.is_pulled_beside-is_low.result c.was_low-was.result c.if-is_low-was.false)
 
 pub returns-then-is_low-was-clause-place : goal.returns-then-is_low-was-clause-place
 returns-then-is_low-was-clause-place c =
     let w = c.args.self.now in
-    c.step.ensures.place ∙ place_of_same w.begin w.bits.items w.place w.time c.is_pulled-is_low.result c.was_low-was.result (is_same c.is_pulled-is_low.result c.was_low-was.result c.if-is_low-was.true)
+    c.step.ensures.place ∙ place_of_same w.begin w.bits.items w.place w.time c.is_pulled_beside-is_low.result c.was_low-was.result (is_same c.is_pulled_beside-is_low.result c.was_low-was.result c.if-is_low-was.true)
