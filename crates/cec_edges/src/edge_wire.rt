@@ -9,8 +9,8 @@ use arrayvec::ArrayVec;
 use cec_bits::{Receiver, Sender};
 use cec_wave::{Edge, Pulses, Stretch};
 use cec_wire::{
-    Outcome, Place, Pull, Recorder, Seat, Wire, ending, held_until, is_any_low, is_pulsed, leave_out,
-    next_wake, outcome_of, pull_at, pulses_until, senders_until, sending_first,
+    Outcome, Place, Pull, Recorder, Seat, Wire, ending, held_until, is_any_low, is_pulsed,
+    leave_out, next_wake, outcome_of, pull_at, pulses_until, senders_until, sending_first,
 };
 use std::mem;
 
@@ -312,13 +312,7 @@ impl EdgeWire {
             self.bits.push(!is_low);
             is_out = leave_out(&mut self.sending, self.bits.as_slice());
         }
-        self.pull = pull_after(
-            self.sending.as_slice(),
-            self.begin,
-            self.time,
-            is_out,
-            pull,
-        );
+        self.pull = pull_after(self.sending.as_slice(), self.begin, self.time, is_out, pull);
         self.held = held_until(
             self.seats.as_slice(),
             self.bits.as_slice(),

@@ -34,7 +34,7 @@ fn sender_part(frame: &Frame, begin: u64, t: u64) -> u64
     } else if t < begin + FIRST_SLOT {
         begin + FIRST_SLOT
     } else {
-        let since = t - (begin + FIRST_SLOT);
+        let since = t - begin - FIRST_SLOT;
         let bit = sent_bit(frame, (since / SLOT) as usize + 1);
         t + part_left(bit, since % SLOT)
     }
