@@ -88,9 +88,11 @@ fn read_extensions(bytes: &[u8], extensions: &mut ArrayVec<Ext, 3>) -> Result<()
     Ok(())
 }
 
-/// Reads the blocks.
-fn read_blocks(bytes: &[u8]) -> Result<Edid, EdidError>
+/// The EDID that 128, 256, 384 or 512 bytes spell, or the first reason why they spell none: their length, the base
+/// block, the number of extensions, the first extension at fault (E-EDID Release A, section 2.2.1).
+pub fn edid_from_bytes(bytes: &[u8]) -> Result<Edid, EdidError>
     ensures found { IfOk result (λ e. edid_bytes e ≡ bytes.now) }
+    ensures only { (e : EdidValue) → bytes.now ≡ edid_bytes e → result ≡ Ok e }
     ensures refused { IfErr result (λ e. IsRefused bytes.now e) }
 {
     if !has_length(bytes) {
@@ -108,16 +110,6 @@ fn read_blocks(bytes: &[u8]) -> Result<Edid, EdidError>
         Err(error) => Err(error),
         Ok(()) => Ok(Edid { base, extensions }),
     }
-}
-
-/// The EDID that 128, 256, 384 or 512 bytes spell, or the first reason why they spell none: their length, the base
-/// block, the number of extensions, the first extension at fault (E-EDID Release A, section 2.2.1).
-pub fn edid_from_bytes(bytes: &[u8]) -> Result<Edid, EdidError>
-    ensures found { IfOk result (λ e. edid_bytes e ≡ bytes.now) }
-    ensures only { (e : EdidValue) → bytes.now ≡ edid_bytes e → result ≡ Ok e }
-    ensures refused { IfErr result (λ e. IsRefused bytes.now e) }
-{
-    read_blocks(bytes)
 }
 
 /// The bytes of an EDID: 128, and 128 more for each extension.
