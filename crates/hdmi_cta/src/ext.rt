@@ -38,7 +38,8 @@ fn read_cta(bytes: &[u8; 128]) -> Option<Cta>
     if end < 4 || end > 127 {
         return None;
     }
-    let blocks = read_blocks(&bytes[4..end])?;
+    let mut blocks = ArrayVec::new();
+    read_blocks(&bytes[4..end], &mut blocks)?;
     let (timings, rest) = read_timings(&bytes[end..127]);
     let mut tail = ArrayVec::new();
     append(&mut tail, rest);

@@ -26,13 +26,14 @@ fn first_block(bytes: &[u8]) -> Option<(Block, &[u8])>
     Some((Block { kind, payload }, &rest[len..]))
 }
 
-/// The data blocks that fill these bytes.
-pub fn read_blocks(bytes: &[u8]) -> Option<ArrayVec<Block, 123>>
-    requires { length bytes.now ≤ 123 }
-    ensures found { IfSome result (λ bs. flat_map block_bytes bs.items ≡ bytes.now) }
+/// Puts the data blocks that fill these bytes into an empty list, where there are some. They are large, and so read
+/// where they stand.
+pub fn read_blocks(bytes: &[u8], blocks: &mut ArrayVec<Block, 123>) -> Option<()>
+    requires few { length bytes.now ≤ 123 }
+    requires fresh { blocks.old.items ≡ [] }
+    ensures found { IfSome result (λ _. flat_map block_bytes blocks.new.items ≡ bytes.now) }
     ensures none { IfNone result ((bs : List BlockValue) → flat_map block_bytes bs ≡ bytes.now → ⊥) }
 {
-    let mut blocks: ArrayVec<Block, 123> = ArrayVec::new();
     let mut rest = bytes;
     while !rest.is_empty() {
         match first_block(rest) {
@@ -43,7 +44,7 @@ pub fn read_blocks(bytes: &[u8]) -> Option<ArrayVec<Block, 123>>
             }
         }
     }
-    Some(blocks)
+    Some(())
 }
 
 /// The timings in front, up to six, and the bytes behind them.

@@ -1,8 +1,7 @@
-use Rattle.std.proofs.Common.{◌≡◌, ◌+◌, ◌-◌, ◌++◌, length, get_or, drop, refl, sym, ap, ◌∙◌, flat_map}
+use Rattle.std.proofs.Common.{◌-◌, ◌++◌, get_or, drop, refl, sym, ap, ◌∙◌, flat_map}
 use Rattle.hdmi_edid.specs.Timing.{timing_bytes}
 use Rattle.hdmi_edid.proofs.Bytes.{are_bytes-cells, are_bytes-cell, are_bytes-drop, are_bytes-take, are_bytes-behind}
 use Rattle.hdmi_edid.specs.Bytes.{are_bytes}
-use Rattle.hdmi_cta.specs.Block.{block_bytes}
 use Rattle.hdmi_cta.proofs.WholeLemmas.{whole_is, body_is, length_between}
 use Rattle.hdmi_cta.proofs.ext.read_cta.Goals as goal
 
@@ -11,15 +10,13 @@ returns-clause-found c =
     let bytes = c.args.bytes.now in
     let least = c.if-end-lt4.false in
     let most = c.if-end-gt127.false in
-    let front = flat_map block_bytes c.in_ok-blocks.blocks.items in
     let timings = flat_map timing_bytes c.read_timings-timings.result.0.items in
-    let spelled = c.in_ok-blocks.ensures.found in
+    let spelled = c.in_ok-read_blocks.ensures.found in
     let rest = c.read_timings-timings.ensures.found in
     let tail = c.append.ensures.items ∙ ap (λ xs. xs ++ c.read_timings-timings.result.1.now) c.new-tail.ensures in
-    let len : length front + 4 ≡ get_or bytes 2 0 =
-    length_between bytes (get_or bytes 2 0) front c.told-bytes least most spelled in
-    whole_is bytes 2 3 (length front + 4) _ (front ++ (timings ++ c.append.new.block.items)) c.told-bytes (sym c.if-bytes-ne2.false) (sym c.if-bytes-ne3.false) len refl
-    (body_is bytes (get_or bytes 2 0) front (timings ++ c.append.new.block.items) least most spelled (ap (λ xs. timings ++ xs) tail ∙ rest)) (c.fits-bytes 127) c.requires
+    let len = length_between bytes (get_or bytes 2 0) _ c.told-bytes least most spelled in
+    whole_is bytes 2 3 _ _ _ c.told-bytes (sym c.if-bytes-ne2.false) (sym c.if-bytes-ne3.false) len refl
+    (body_is bytes (get_or bytes 2 0) _ (timings ++ c.append.new.block.items) least most spelled (ap (λ xs. timings ++ xs) tail ∙ rest)) (c.fits-bytes 127) c.requires
 
 pub invariant_of-result-clause-bytes_fit : goal.invariant_of-result-clause-bytes_fit
 invariant_of-result-clause-bytes_fit c =

@@ -8,4 +8,4 @@ returns-in-None-clause-none c =
     let test = c.loop-rest-test.true in
     let empty = c.is_empty.ensures in
     let some : 0 < length c.loop-rest.rest.now = grind (arith, common_steps) in
-    λ bs e. none_behind c.loop-rest.blocks.items c.loop-rest.rest.now some c.in-None.ensures bs (e ∙ sym c.loop-rest.invariant.read)
+    λ bs e. none_behind _ c.loop-rest.rest.now some c.in-None.ensures bs (e ∙ sym c.loop-rest.invariant.read)
