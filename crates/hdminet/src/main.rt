@@ -3,8 +3,8 @@
 #![tactic(auto)]
 
 use hdmi_core::Writes;
-use hdminet_program::{Buffered, Fault};
 use hdminet_program::program::{program, tell};
+use hdminet_program::{Buffered, Fault};
 use std::env;
 use std::process::ExitCode;
 
