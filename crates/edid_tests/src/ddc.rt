@@ -1,185 +1,197 @@
-//! A television's two blocks, read over DDC.
-use hdmi_blocks::{EdidError, edid_from_bytes};
-use hdmi_core::{Kind, Phys};
-use hdmi_cta::ExtError;
+//! A television's blocks, read over DDC.
+use crate::samples::{bytes_of, first_bytes_of, holds, number, parted};
+use crate::trees::{grown, port_edid};
+use hdmi_blocks::{Edid, edid_from_bytes};
 use hdmi_ddc::{Ddc, DdcError, learn_address};
-use hdmi_topo::Tree;
+use std::alloc::Global;
+use std::process::Abort;
 use std::test::Fail;
 
-/// The base block of a television of Samsung, with one extension to follow.
-const LOUNGE: [u8; 128] = [
-    0x00, 0xff, 0xff, 0xff, 0xff, 0xff, 0xff, 0x00, 0x4c, 0x2d, 0x02, 0x01, 0x01, 0x00, 0x00, 0x00,
-    0x0a, 0x15, 0x01, 0x03, 0x80, 0x34, 0x1d, 0x78, 0x0a, 0xee, 0x91, 0xa3, 0x54, 0x4c, 0x99, 0x26,
-    0x0f, 0x50, 0x54, 0x00, 0x00, 0x00, 0x01, 0x01, 0x01, 0x01, 0x01, 0x01, 0x01, 0x01, 0x01, 0x01,
-    0x01, 0x01, 0x01, 0x01, 0x01, 0x01, 0x02, 0x3a, 0x80, 0x18, 0x71, 0x38, 0x2d, 0x40, 0x58, 0x2c,
-    0x45, 0x00, 0x08, 0x22, 0x21, 0x00, 0x00, 0x1e, 0x00, 0x00, 0x00, 0xfc, 0x00, 0x4c, 0x4f, 0x55,
-    0x4e, 0x47, 0x45, 0x20, 0x54, 0x56, 0x20, 0x30, 0x30, 0x31, 0x00, 0x00, 0x00, 0x10, 0x00, 0x00,
-    0x00, 0x00, 0x00, 0x00, 0x00, 0x00, 0x00, 0x00, 0x00, 0x00, 0x00, 0x00, 0x00, 0x00, 0x00, 0x10,
-    0x00, 0x00, 0x00, 0x00, 0x00, 0x00, 0x00, 0x00, 0x00, 0x00, 0x00, 0x00, 0x00, 0x00, 0x01, 0x51,
-];
+/// The bytes that are read next, in hex.
+fn read(alloc: Global, ddc: &mut Ddc, count: u8) -> Result<String, Fail> {
+    let mut seats = [0; 16];
+    let read = seats.get_mut(..usize::from(count)).ok_or("too many")?;
+    ddc.read(read);
+    Ok(hex::encode(alloc, &*read)?)
+}
 
-/// The front of an extension whose HDMI block has the address 0.0.0.0, up to its zeros.
-const EXTENSION: [u8; 22] = [
-    0x02, 0x03, 0x16, 0xf1, 0x43, 0x90, 0x04, 0x03, 0x23, 0x09, 0x07, 0x07, 0x83, 0x01, 0x00, 0x00,
-    0x65, 0x03, 0x0c, 0x00, 0x00, 0x00,
-];
+fn done(alloc: Global) -> Result<String, Fail> {
+    Ok(String::from_str(alloc, "-")?)
+}
 
-/// The base block and the extension.
-fn both_blocks() -> [u8; 256] {
-    let mut bytes = [0; 256];
-    bytes[..128].copy_from_slice(&LOUNGE);
-    bytes[128..150].copy_from_slice(&EXTENSION);
-    bytes[255] = 0xe8;
-    bytes
+fn take_number(alloc: Global, ddc: &mut Ddc, verb: &str, number: u8) -> Result<String, Fail> {
+    match verb {
+        "segment" => Ok(format!(in alloc; "{:?}", ddc.segment(number))?),
+        "read" => read(alloc, ddc, number),
+        "offset" => {
+            ddc.offset(number);
+            done(alloc)
+        }
+        _ => Err(Fail::from("no verb")),
+    }
+}
+
+/// The address that is learnt, or why none is.
+fn learnt(alloc: Global, ddc: &mut Ddc) -> Result<String, Fail> {
+    Ok(format!(in alloc; "{:?}", learn_address(ddc))?)
+}
+
+/// One step, and what comes of it.
+fn take(alloc: Global, ddc: &mut Ddc, step: &str) -> Result<String, Fail> {
+    match step.split_once(' ') {
+        Some((verb, word)) => take_number(alloc, ddc, verb, number(word)?),
+        None if step == "learn" => learnt(alloc, ddc),
+        None => {
+            ddc.stop();
+            done(alloc)
+        }
+    }
+}
+
+/// Asserts what comes of each step.
+fn takes(rt: &impl Abort, alloc: Global, ddc: &mut Ddc, steps: &str) -> Result<(), Fail> {
+    for case in steps.lines() {
+        let (step, want) = parted(case)?;
+        holds(rt, take(alloc, ddc, step)?.as_str() == want, case);
+    }
+    Ok(())
+}
+
+/// Asserts what comes of steps over such bytes.
+fn takes_over(rt: &impl Abort, alloc: Global, words: &str, steps: &str) -> Result<(), Fail> {
+    let mut ddc = Ddc::over(&bytes_of(alloc, words)?)?;
+    takes(rt, alloc, &mut ddc, steps)
+}
+
+fn edid_of(alloc: Global, words: &str) -> Result<Edid, Fail> {
+    Ok(edid_from_bytes(&bytes_of(alloc, words)?)?)
+}
+
+/// The same over an EDID.
+fn takes_of_edid(rt: &impl Abort, alloc: Global, words: &str, steps: &str) -> Result<(), Fail> {
+    let mut ddc = Ddc::new(&edid_of(alloc, words)?);
+    takes(rt, alloc, &mut ddc, steps)
 }
 
 #[test]
 fn acknowledges_segments_with_a_block(rt: HostRuntime) -> Result<(), Fail> {
-    let edid = edid_from_bytes(&both_blocks()).map_err(|_| "no EDID")?;
-    let mut ddc = Ddc::new(&edid);
-    assert_eq!(rt; ddc.segment(1), Err(DdcError::NoAck));
-    assert_eq!(rt; ddc.segment(0), Ok(()));
-    Ok(())
+    let steps = "segment 1 => Err(NoAck)\nsegment 0 => Ok(())\n";
+    takes_of_edid(&rt, rt.alloc(), "tv..0151 speaking..e8", steps)?;
+    takes_over(&rt, rt.alloc(), ".. .. .. ..", "segment 1 => Ok(())\n")
 }
+
+const AROUND: &str = "\
+offset 250 => -
+read 10 => 0000000000e800ffffff
+stop => -
+read 1 => ff
+";
 
 #[test]
 fn reads_on_at_the_begin_of_the_segment(rt: HostRuntime) -> Result<(), Fail> {
-    let mut ddc = Ddc::over(&both_blocks())?;
-    ddc.offset(250);
-    let mut read = [0; 10];
-    ddc.read(&mut read);
-    let expected = [0x00, 0x00, 0x00, 0x00, 0x00, 0xe8, 0x00, 0xff, 0xff, 0xff];
-    assert_eq!(rt; read.as_slice(), expected.as_slice());
-    let mut more = [0; 1];
-    ddc.stop();
-    ddc.read(&mut more);
-    assert_eq!(rt; more.as_slice(), [0xff].as_slice());
-    Ok(())
+    takes_over(&rt, rt.alloc(), "tv..0151 speaking..e8", AROUND)
+}
+
+/// Bytes, and the address that is learnt of them. An extension that is missing is read as FF.
+const LEARNT: &str = "\
+tv..0151 speaking..c7 148=21 149=00 => Ok(Phys { high: 33, low: 0 })
+tv..0151 => Err(Edid(Ext(1, Checksum)))
+tv..034f speaking..e8 => Err(NoAck)
+tv..044e speaking..e8 => Err(Edid(Length))
+";
+
+fn learnt_over(alloc: Global, words: &str) -> Result<String, Fail> {
+    let mut ddc = Ddc::over(&bytes_of(alloc, words)?)?;
+    learnt(alloc, &mut ddc)
 }
 
 #[test]
-fn learns_an_address(rt: HostRuntime) -> Result<(), Fail> {
-    let mut bytes = both_blocks();
-    bytes[148] = 0x21;
-    bytes[149] = 0x00;
-    bytes[255] = 0xc7;
-    let mut ddc = Ddc::over(&bytes)?;
-    assert_eq!(rt; learn_address(&mut ddc), Ok(Phys { high: 0x21, low: 0 }));
+fn learns_addresses_but_of_blocks_that_are_missing(rt: HostRuntime) -> Result<(), Fail> {
+    for case in LEARNT.lines() {
+        let (words, want) = parted(case)?;
+        holds(&rt, learnt_over(rt.alloc(), words)?.as_str() == want, case);
+    }
     Ok(())
 }
 
-#[test]
-fn learns_its_place_from_a_port(rt: HostRuntime) -> Result<(), Fail> {
-    let root = edid_from_bytes(&both_blocks()).map_err(|_| "no EDID")?;
-    let mut tree: Tree<15> = Tree::new();
-    tree.add(b"tv", Kind::Tv, 4)?;
-    tree.add(b"amp", Kind::Amp, 3)?;
-    assert_eq!(rt; tree.count(), 2);
-    tree.plug(1, 0, 2)?;
-    let passed = tree.port_edid(&root, 1, 3)?;
-    let mut ddc = Ddc::new(&passed);
-    assert_eq!(rt; learn_address(&mut ddc), Ok(Phys { high: 0x23, low: 0 }));
-    Ok(())
-}
+/// Numbers of bytes that no display has.
+const WRONG_LENGTHS: &str = "\
+0 ..
+129 .. ..
+640 .. .. .. .. ..
+";
 
-#[test]
-fn learns_no_address_of_a_block_that_is_missing(rt: HostRuntime) -> Result<(), Fail> {
-    let mut ddc = Ddc::over(&LOUNGE)?;
-    // the extension is read as FF
-    let unread = DdcError::Edid(EdidError::Ext(1, ExtError::Checksum));
-    assert_eq!(rt; learn_address(&mut ddc), Err(unread));
-    let mut bytes = both_blocks();
-    bytes[126] = 0x03;
-    bytes[127] = 0x4f;
-    let mut ddc = Ddc::over(&bytes)?;
-    assert_eq!(rt; learn_address(&mut ddc), Err(DdcError::NoAck));
-    bytes[126] = 0x04;
-    bytes[127] = 0x4e;
-    let mut ddc = Ddc::over(&bytes)?;
-    assert_eq!(rt;
-        learn_address(&mut ddc),
-        Err(DdcError::Edid(EdidError::Length))
-    );
-    Ok(())
+fn has_wrong_length(bytes: &[u8]) -> bool {
+    matches!(Ddc::over(bytes), Err(DdcError::Length))
 }
 
 #[test]
 fn takes_one_block_to_four(rt: HostRuntime) -> Result<(), Fail> {
-    assert!(rt; matches!(Ddc::over(&[]), Err(DdcError::Length)));
-    assert!(rt; matches!(Ddc::over(&[0; 129]), Err(DdcError::Length)));
-    assert!(rt; matches!(Ddc::over(&[0; 640]), Err(DdcError::Length)));
-    let mut ddc = Ddc::over(&[0; 512])?;
-    assert_eq!(rt; ddc.segment(1), Ok(()));
+    for case in WRONG_LENGTHS.lines() {
+        holds(
+            &rt,
+            has_wrong_length(&first_bytes_of(rt.alloc(), case)?),
+            case,
+        );
+    }
     Ok(())
 }
 
 /// Four blocks: the television's with three extensions to follow, a block map, one with an HDMI block, an empty one.
-fn four_blocks() -> [u8; 512] {
-    let mut bytes = [0; 512];
-    bytes[..128].copy_from_slice(&LOUNGE);
-    bytes[256..278].copy_from_slice(&EXTENSION);
-    bytes[126] = 0x03;
-    bytes[127] = 0x4f;
-    bytes[128] = 0xf0;
-    bytes[129] = 0x02;
-    bytes[130] = 0x02;
-    bytes[255] = 0x0c;
-    bytes[383] = 0xe8;
-    bytes[384] = 0x02;
-    bytes[385] = 0x03;
-    bytes[386] = 0x04;
-    bytes[387] = 0xf1;
-    bytes[511] = 0x06;
-    bytes
-}
+const FOUR_BLOCKS: &str = "tv..034f map..0c speaking..e8 empty..06";
+
+const TWO_SEGMENTS: &str = "\
+segment 1 => Ok(())
+offset 0 => -
+read 4 => 020316f1
+offset 254 => -
+read 4 => 00060203
+segment 2 => Err(NoAck)
+";
+
+const SECOND_SEGMENT: &str = "\
+segment 1 => Ok(())
+segment 2 => Err(NoAck)
+learn => Ok(Phys { high: 0, low: 0 })
+";
 
 #[test]
 fn reads_four_blocks_in_two_segments(rt: HostRuntime) -> Result<(), Fail> {
-    let bytes = four_blocks();
-    let edid = edid_from_bytes(&bytes).map_err(|_| "no EDID")?;
-    let mut ddc = Ddc::new(&edid);
-    assert_eq!(rt; ddc.segment(1), Ok(()));
-    let mut read = [0; 4];
-    ddc.offset(0);
-    ddc.read(&mut read);
-    assert_eq!(rt; read.as_slice(), [0x02, 0x03, 0x16, 0xf1].as_slice());
-    ddc.offset(254);
-    ddc.read(&mut read);
-    assert_eq!(rt; read.as_slice(), [0x00, 0x06, 0x02, 0x03].as_slice());
-    assert_eq!(rt; ddc.segment(2), Err(DdcError::NoAck));
-    let mut ddc = Ddc::over(&bytes)?;
-    assert_eq!(rt; ddc.segment(1), Ok(()));
-    assert_eq!(rt; ddc.segment(2), Err(DdcError::NoAck));
-    assert_eq!(rt; learn_address(&mut ddc), Ok(Phys { high: 0, low: 0 }));
-    Ok(())
+    takes_of_edid(&rt, rt.alloc(), FOUR_BLOCKS, TWO_SEGMENTS)?;
+    takes_over(&rt, rt.alloc(), FOUR_BLOCKS, SECOND_SEGMENT)
 }
+
+const MISSING: &str = "\
+segment 1 => Ok(())
+offset 126 => -
+read 4 => 00e8ffff
+learn => Ok(Phys { high: 0, low: 0 })
+";
 
 #[test]
 fn reads_a_missing_fourth_block_as_ff(rt: HostRuntime) -> Result<(), Fail> {
-    let mut bytes = four_blocks();
-    bytes[126] = 0x02;
-    bytes[127] = 0x50;
-    let front = bytes.as_slice().get(..384).ok_or("no bytes")?;
-    let mut ddc = Ddc::over(front)?;
-    assert_eq!(rt; ddc.segment(1), Ok(()));
-    ddc.offset(126);
-    let mut read = [0; 4];
-    ddc.read(&mut read);
-    assert_eq!(rt; read.as_slice(), [0x00, 0xe8, 0xff, 0xff].as_slice());
-    assert_eq!(rt; learn_address(&mut ddc), Ok(Phys { high: 0, low: 0 }));
-    Ok(())
+    takes_over(&rt, rt.alloc(), "tv..0250 map..0c speaking..e8", MISSING)
+}
+
+/// A television, and an amplifier in its second port.
+const TREE: &str = "\
+add tv tv 4 => -
+add amp amp 3 => -
+plug 1 0 2 => -
+";
+
+/// What a device in the amplifier's third port learns, below such a television.
+fn learnt_below(rt: &impl Abort, alloc: Global, words: &str) -> Result<String, Fail> {
+    let tree = grown(rt, alloc, TREE)?;
+    let passed = port_edid(&tree, &edid_of(alloc, words)?, "1 3")??;
+    learnt(alloc, &mut Ddc::new(&passed))
 }
 
 #[test]
-fn learns_its_place_below_an_amplifier(rt: HostRuntime) -> Result<(), Fail> {
-    let root = edid_from_bytes(&four_blocks()).map_err(|_| "no EDID")?;
-    let mut tree: Tree<15> = Tree::new();
-    tree.add(b"tv", Kind::Tv, 4)?;
-    tree.add(b"amp", Kind::Amp, 3)?;
-    assert_eq!(rt; tree.count(), 2);
-    tree.plug(1, 0, 2)?;
-    let passed = tree.port_edid(&root, 1, 3)?;
-    let mut ddc = Ddc::new(&passed);
-    assert_eq!(rt; learn_address(&mut ddc), Ok(Phys { high: 0x23, low: 0 }));
+fn learns_its_place_from_an_amplifiers_port(rt: HostRuntime) -> Result<(), Fail> {
+    for words in ["tv..0151 speaking..e8", FOUR_BLOCKS] {
+        let told = learnt_below(&rt, rt.alloc(), words)?;
+        holds(&rt, told.as_str() == "Ok(Phys { high: 35, low: 0 })", words);
+    }
     Ok(())
 }

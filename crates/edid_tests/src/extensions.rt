@@ -1,96 +1,66 @@
 //! An amplifier's audio in place of the television's.
+use crate::samples::{bytes_of, holds, parted};
 use hdmi_core::Phys;
-use hdmi_cta::{read_ext, with_address, with_audio, write_ext};
+use hdmi_cta::{Ext, read_ext, with_address, with_audio, write_ext};
+use std::alloc::Global;
+use std::process::Abort;
 use std::test::Fail;
 
-/// A block: its front, zeros, three bytes and the checksum.
-fn block(rt: &HostRuntime, front: &[u8], end: [u8; 4]) -> Result<Vec<u8>, Fail> {
-    let mut bytes = Vec::new(rt.alloc());
-    bytes.extend_from_slice(front)?;
-    for _ in front.len()..124 {
-        bytes.push(0)?;
-    }
-    bytes.extend_from_slice(&end)?;
-    Ok(bytes)
+/// An extension that hears an amplifier.
+fn heard(bytes: &[u8]) -> Option<Ext> {
+    let block = <[u8; 128]>::try_from(bytes).ok()?;
+    let ext = read_ext(&block).ok()?;
+    Some(with_audio(&ext))
 }
 
 /// The bytes that an amplifier passes on in place of these, for a device with this address, if any.
 fn passed_on(bytes: &[u8], address: Option<Phys>) -> Option<[u8; 128]> {
-    let bytes = <[u8; 128]>::try_from(bytes).ok()?;
-    let heard = with_audio(&read_ext(&bytes).ok()?);
+    let heard = heard(bytes)?;
     match address {
         None => Some(write_ext(&heard)),
         Some(address) => Some(write_ext(&with_address(&heard, address).ok()?)),
     }
 }
 
-#[test]
-fn passes_on_the_amplifiers_audio(rt: HostRuntime) -> Result<(), Fail> {
-    let front = [
-        0x02, 0x03, 0x16, 0xf1, 0x43, 0x90, 0x04, 0x03, 0x23, 0x09, 0x07, 0x07, 0x83, 0x01, 0x00,
-        0x00, 0x65, 0x03, 0x0c, 0x00, 0x00, 0x00,
-    ];
-    let bytes = block(&rt, &front, [0, 0, 0, 0xe8])?;
-    let front = [
-        0x02, 0x03, 0x19, 0xf1, 0x43, 0x90, 0x04, 0x03, 0x26, 0x0f, 0x7f, 0x07, 0x15, 0x07, 0x50,
-        0x83, 0x01, 0x00, 0x00, 0x65, 0x03, 0x0c, 0x00, 0x11, 0x00,
-    ];
-    let wanted = block(&rt, &front, [0, 0, 0, 0xe7])?;
-    let address = Some(Phys {
-        high: 0x11,
-        low: 0x00,
-    });
-    let passed = passed_on(&bytes, address).ok_or("no extension")?;
-    assert_eq!(rt; passed.as_slice(), wanted.as_slice());
+/// Asserts what an amplifier passes on, for a device with this address, if any.
+fn are_passed_on(
+    rt: &impl Abort,
+    alloc: Global,
+    address: Option<Phys>,
+    cases: &str,
+) -> Result<(), Fail> {
+    for case in cases.lines() {
+        let (from, to) = parted(case)?;
+        holds(rt, is_passed_on(alloc, address, from, to)?, case);
+    }
     Ok(())
 }
 
+fn is_passed_on(alloc: Global, address: Option<Phys>, from: &str, to: &str) -> Result<bool, Fail> {
+    let passed = passed_on(&bytes_of(alloc, from)?, address).ok_or("no extension")?;
+    Ok(passed.as_slice() == bytes_of(alloc, to)?.as_slice())
+}
+
+/// An extension, and what an amplifier passes on for a device with the address 1.1.0.0.
+const ADDRESSED: &str = "\
+speaking..e8 => 020319f143900403260f7f071507508301000065030c001100..e7
+";
+
+/// Extensions, and what an amplifier passes on: one whose end is not zeros as it is.
+const ENDS: &str = "\
+020308f123090707..c8 => 02030bf1260f7f07150750..d8
+020308f123090707..01c7 => 020308f123090707..01c7
+020308f123090707..010000c7 => 020308f123090707..010000c7
+02030ef1290907070f7f07150750..bb => 02030bf1260f7f07150750..d8
+020304f1..06 => 020304f1..06
+";
+
 #[test]
-fn mends_the_end(rt: HostRuntime) -> Result<(), Fail> {
-    let short = [0x02, 0x03, 0x08, 0xf1, 0x23, 0x09, 0x07, 0x07];
-    let long = [
-        0x02, 0x03, 0x0e, 0xf1, 0x29, 0x09, 0x07, 0x07, 0x0f, 0x7f, 0x07, 0x15, 0x07, 0x50,
-    ];
-    let heard = [
-        0x02, 0x03, 0x0b, 0xf1, 0x26, 0x0f, 0x7f, 0x07, 0x15, 0x07, 0x50,
-    ];
-    let none = [0x02, 0x03, 0x04, 0xf1];
-    let changes = [
-        (
-            short.as_slice(),
-            [0, 0, 0, 0xc8],
-            heard.as_slice(),
-            [0, 0, 0, 0xd8],
-        ),
-        (
-            short.as_slice(),
-            [0, 0, 1, 0xc7],
-            short.as_slice(),
-            [0, 0, 1, 0xc7],
-        ),
-        (
-            short.as_slice(),
-            [1, 0, 0, 0xc7],
-            short.as_slice(),
-            [1, 0, 0, 0xc7],
-        ),
-        (
-            long.as_slice(),
-            [0, 0, 0, 0xbb],
-            heard.as_slice(),
-            [0, 0, 0, 0xd8],
-        ),
-        (
-            none.as_slice(),
-            [0, 0, 0, 0x06],
-            none.as_slice(),
-            [0, 0, 0, 0x06],
-        ),
-    ];
-    for (front, end, wanted_front, wanted_end) in changes {
-        let passed = passed_on(&block(&rt, front, end)?, None).ok_or("no extension")?;
-        let wanted = block(&rt, wanted_front, wanted_end)?;
-        assert_eq!(rt; passed.as_slice(), wanted.as_slice());
-    }
-    Ok(())
+fn passes_on_the_amplifiers_audio_and_mends_the_end(rt: HostRuntime) -> Result<(), Fail> {
+    let address = Phys {
+        high: 0x11,
+        low: 0x00,
+    };
+    are_passed_on(&rt, rt.alloc(), Some(address), ADDRESSED)?;
+    are_passed_on(&rt, rt.alloc(), None, ENDS)
 }

@@ -10,6 +10,8 @@ mod ddc;
 #[cfg(test)]
 mod extensions;
 #[cfg(test)]
+mod samples;
+#[cfg(test)]
 mod sinks;
 #[cfg(test)]
 mod texts;

@@ -49,31 +49,6 @@ fn line(bytes: &[u8; 252]) -> [Piece<'_>; 4] {
     ]
 }
 
-#[test]
-fn calls_the_writer_once_a_line(rt: HostRuntime) {
-    let mut writer = Counted::new(9, 10_000);
-    let mut out = Writes::new(&mut writer);
-    assert_eq!(rt; write_line(&mut out, &line(&[0; 252])), Ok(512));
-    assert_eq!(rt; write_line(&mut out, &line(&[0; 252])), Ok(512));
-    assert_eq!(rt; writer.calls, 2);
-    assert_eq!(rt; writer.taken, 1_024);
-}
-
-#[test]
-fn tells_what_was_written_at_each_fault(rt: HostRuntime) {
-    for fails_at in 1..7u32 {
-        let mut writer = Counted::new(fails_at, 100);
-        let mut out = Writes::new(&mut writer);
-        let count = u128::from(fails_at - 1) * 100;
-        assert_eq!(rt;
-            write_line(&mut out, &line(&[0; 252])),
-            Err(WriteFault { count })
-        );
-        assert_eq!(rt; out.put(b"more"), 0);
-        assert_eq!(rt; writer.calls, fails_at + 1);
-    }
-}
-
 /// The longest line of a port: 512 bytes in hex.
 fn port_line(bytes: &[u8; 512]) -> [Piece<'_>; 8] {
     [
@@ -88,30 +63,75 @@ fn port_line(bytes: &[u8; 512]) -> [Piece<'_>; 8] {
     ]
 }
 
-#[test]
-fn calls_the_writer_once_for_the_longest_port_line(rt: HostRuntime) {
+/// What is told of one line after another, and the writer's calls and bytes.
+fn both_written(first: &[Piece], second: &[Piece]) -> Result<[u128; 4], WriteFault> {
     let mut writer = Counted::new(9, 10_000);
     let mut out = Writes::new(&mut writer);
-    assert_eq!(rt; write_line(&mut out, &port_line(&[0; 512])), Ok(1_062));
-    assert_eq!(rt; write_line(&mut out, &port_line(&[0xff; 512])), Ok(1_062));
-    assert_eq!(rt; writer.calls, 2);
-    assert_eq!(rt; writer.taken, 2_124);
+    let first = write_line(&mut out, first)?;
+    let second = write_line(&mut out, second)?;
+    Ok([
+        first,
+        second,
+        u128::from(writer.calls),
+        writer.taken as u128,
+    ])
+}
+
+#[test]
+fn calls_the_writer_once_a_line(rt: HostRuntime) {
+    let short = both_written(&line(&[0; 252]), &line(&[0; 252]));
+    assert!(rt; short == Ok([512, 512, 2, 1_024]));
+}
+
+#[test]
+fn calls_the_writer_once_for_the_longest_port_line(rt: HostRuntime) {
+    let long = both_written(&port_line(&[0; 512]), &port_line(&[0xff; 512]));
+    assert!(rt; long == Ok([1_062, 1_062, 2, 2_124]));
+}
+
+/// What is told of a line that is written in hundreds of bytes, one call of which fails, and how often the writer is called.
+fn written(line: &[Piece], fails_at: u32) -> (Result<u128, WriteFault>, u32) {
+    let mut writer = Counted::new(fails_at, 100);
+    let told = write_line(&mut Writes::new(&mut writer), line);
+    (told, writer.calls)
+}
+
+/// The fault after so many hundreds of bytes.
+fn fault_after(hundreds: u32) -> Result<u128, WriteFault> {
+    let count = u128::from(hundreds) * 100;
+    Err(WriteFault { count })
+}
+
+/// How many bytes are put after a line that was not written, and how often the writer is called.
+fn put_after(line: &[Piece], fails_at: u32) -> (usize, u32) {
+    let mut writer = Counted::new(fails_at, 100);
+    let mut out = Writes::new(&mut writer);
+    let _ = write_line(&mut out, line);
+    let count = out.put(b"more");
+    (count, writer.calls)
+}
+
+/// Whether each fault is told, with the bytes before it, and the writer not called again.
+fn tells_fault(line: &[Piece], fails_at: u32) -> bool {
+    written(line, fails_at) == (fault_after(fails_at.saturating_sub(1)), fails_at)
+}
+
+#[test]
+fn tells_what_was_written_at_each_fault(rt: HostRuntime) {
+    for fails_at in 1..7u32 {
+        let line = line(&[0; 252]);
+        assert!(rt; tells_fault(&line, fails_at), "{fails_at}");
+        assert!(rt;
+            put_after(&line, fails_at) == (0, fails_at + 1),
+            "{fails_at}"
+        );
+    }
 }
 
 #[test]
 fn says_how_much_of_a_port_line_was_written(rt: HostRuntime) {
     for fails_at in 1..12u32 {
-        let mut writer = Counted::new(fails_at, 100);
-        let mut out = Writes::new(&mut writer);
-        let count = u128::from(fails_at - 1) * 100;
-        assert_eq!(rt;
-            write_line(&mut out, &port_line(&[0; 512])),
-            Err(WriteFault { count })
-        );
-        assert_eq!(rt; writer.calls, fails_at);
+        assert!(rt; tells_fault(&port_line(&[0; 512]), fails_at), "{fails_at}");
     }
-    let mut writer = Counted::new(12, 100);
-    let mut out = Writes::new(&mut writer);
-    assert_eq!(rt; write_line(&mut out, &port_line(&[0; 512])), Ok(1_062));
-    assert_eq!(rt; writer.calls, 11);
+    assert!(rt; written(&port_line(&[0; 512]), 12) == (Ok(1_062), 11));
 }

@@ -1,38 +1,12 @@
 //! Trees: what is refused and in which order, addresses, what ports pass on.
-use hdmi_blocks::{Edid, edid_from_bytes, edid_to_bytes};
-use hdmi_core::{Kind, Phys};
-use hdmi_topo::{AddError, PortEdidError, Tree};
+use crate::samples::{bytes_of, has_bytes, holds, number, parted, two_numbers};
+use hdmi_blocks::{Edid, edid_from_bytes};
+use hdmi_core::Kind;
+use hdmi_topo::{PortEdidError, Tree};
 use std::alloc::Global;
 use std::fmt::Debug;
 use std::process::Abort;
 use std::test::Fail;
-
-/// The base block of a television of Samsung, with one extension to follow.
-const LOUNGE: [u8; 128] = [
-    0x00, 0xff, 0xff, 0xff, 0xff, 0xff, 0xff, 0x00, 0x4c, 0x2d, 0x02, 0x01, 0x01, 0x00, 0x00, 0x00,
-    0x0a, 0x15, 0x01, 0x03, 0x80, 0x34, 0x1d, 0x78, 0x0a, 0xee, 0x91, 0xa3, 0x54, 0x4c, 0x99, 0x26,
-    0x0f, 0x50, 0x54, 0x00, 0x00, 0x00, 0x01, 0x01, 0x01, 0x01, 0x01, 0x01, 0x01, 0x01, 0x01, 0x01,
-    0x01, 0x01, 0x01, 0x01, 0x01, 0x01, 0x02, 0x3a, 0x80, 0x18, 0x71, 0x38, 0x2d, 0x40, 0x58, 0x2c,
-    0x45, 0x00, 0x08, 0x22, 0x21, 0x00, 0x00, 0x1e, 0x00, 0x00, 0x00, 0xfc, 0x00, 0x4c, 0x4f, 0x55,
-    0x4e, 0x47, 0x45, 0x20, 0x54, 0x56, 0x20, 0x30, 0x30, 0x31, 0x00, 0x00, 0x00, 0x10, 0x00, 0x00,
-    0x00, 0x00, 0x00, 0x00, 0x00, 0x00, 0x00, 0x00, 0x00, 0x00, 0x00, 0x00, 0x00, 0x00, 0x00, 0x10,
-    0x00, 0x00, 0x00, 0x00, 0x00, 0x00, 0x00, 0x00, 0x00, 0x00, 0x00, 0x00, 0x00, 0x00, 0x01, 0x51,
-];
-
-/// The front of an extension whose HDMI block has the address 0.0.0.0, up to its zeros.
-const EXTENSION: [u8; 22] = [
-    0x02, 0x03, 0x16, 0xf1, 0x43, 0x90, 0x04, 0x03, 0x23, 0x09, 0x07, 0x07, 0x83, 0x01, 0x00, 0x00,
-    0x65, 0x03, 0x0c, 0x00, 0x00, 0x00,
-];
-
-/// The base block and the extension.
-fn both_blocks() -> [u8; 256] {
-    let mut bytes = [0; 256];
-    bytes[..128].copy_from_slice(&LOUNGE);
-    bytes[128..150].copy_from_slice(&EXTENSION);
-    bytes[255] = 0xe8;
-    bytes
-}
 
 /// What is done with a tree or asked of it, a line each, and what comes of it; `-` where it is done.
 const REFUSALS: &str = "\
@@ -57,6 +31,10 @@ unplug 2 => NotPlugged
 address 3 => None
 unplug 1 => -
 wire 1 => false
+device 0 => tv Tv 4
+device 1 => p1 Player 0
+device 3 => a Switch 2
+number b => Some(4)
 ";
 
 const CHAIN: &str = "\
@@ -81,14 +59,11 @@ wire 5 => true
 fn kind_of(word: &str) -> Result<Kind, Fail> {
     match word {
         "tv" => Ok(Kind::Tv),
+        "amp" => Ok(Kind::Amp),
         "player" => Ok(Kind::Player),
         "switch" => Ok(Kind::Switch),
         _ => Err(Fail::from("no kind")),
     }
-}
-
-fn number(word: Option<&str>) -> Result<u8, Fail> {
-    Ok(u8::from_str_radix(word.ok_or("no number")?, 10)?)
 }
 
 fn done<E: Debug + Drop>(alloc: Global, answer: Result<(), E>) -> Result<String, Fail> {
@@ -98,47 +73,77 @@ fn done<E: Debug + Drop>(alloc: Global, answer: Result<(), E>) -> Result<String,
     }
 }
 
-fn add(tree: &mut Tree<15>, name: &str, kind: Kind, ports: u8) -> Result<(), AddError> {
-    tree.add(name.as_bytes(), kind, ports.min(15))
+fn add(alloc: Global, tree: &mut Tree<15>, words: &str) -> Result<String, Fail> {
+    let (name, words) = words.split_once(' ').ok_or("no kind")?;
+    let (kind, ports) = words.split_once(' ').ok_or("no ports")?;
+    let (kind, ports) = (kind_of(kind)?, number(ports)?.min(15));
+    done(alloc, tree.add(name.as_bytes(), kind, ports))
 }
 
-// One step or question, and what comes of it.
-fn take(alloc: Global, tree: &mut Tree<15>, line: &str) -> Result<String, Fail> {
-    let mut words = line.split(' ');
-    let verb = words.next().ok_or("no verb")?;
-    if verb == "add" {
-        let name = words.next().ok_or("no name")?;
-        let kind = kind_of(words.next().ok_or("no kind")?)?;
-        let ports = number(words.next())?;
-        return done(alloc, add(tree, name, kind, ports));
+fn plug(alloc: Global, tree: &mut Tree<15>, words: &str) -> Result<String, Fail> {
+    let (device, words) = words.split_once(' ').ok_or("no parent")?;
+    let (parent, port) = two_numbers(words)?;
+    let (device, parent) = (usize::from(number(device)?), usize::from(parent));
+    if device >= tree.count() || parent >= tree.count() {
+        return Err(Fail::from("no device"));
     }
-    let device = usize::from(number(words.next())?);
+    done(alloc, tree.plug(device, parent, port))
+}
+
+fn told(alloc: Global, name: &[u8], kind: Kind, ports: u8) -> Result<String, Fail> {
+    let name = str::from_utf8(name)?;
+    Ok(format!(in alloc; "{name} {kind:?} {ports}")?)
+}
+
+/// What is asked of a device.
+fn ask(alloc: Global, tree: &Tree<15>, verb: &str, word: &str) -> Result<String, Fail> {
+    let device = usize::from(number(word)?);
     if device >= tree.count() {
         return Err(Fail::from("no device"));
     }
     match verb {
-        "plug" => {
-            let parent = usize::from(number(words.next())?);
-            let port = number(words.next())?;
-            if parent >= tree.count() {
-                return Err(Fail::from("no parent"));
-            }
-            done(alloc, tree.plug(device, parent, port))
-        }
-        "unplug" => done(alloc, tree.unplug(device)),
         "address" => Ok(format!(in alloc; "{:?}", tree.address_of(device))?),
         "wire" => Ok(format!(in alloc; "{}", tree.on_wire(device))?),
+        "device" => told(
+            alloc,
+            tree.name(device),
+            tree.kind(device),
+            tree.ports(device),
+        ),
         _ => Err(Fail::from("no verb")),
     }
 }
 
-// The tree after such lines, each of which had this answer.
-fn grown(rt: &impl Abort, alloc: Global, steps: &str) -> Result<Tree<15>, Fail> {
+fn unplug(alloc: Global, tree: &mut Tree<15>, word: &str) -> Result<String, Fail> {
+    let device = usize::from(number(word)?);
+    if device >= tree.count() {
+        return Err(Fail::from("no device"));
+    }
+    done(alloc, tree.unplug(device))
+}
+
+fn number_of(alloc: Global, tree: &Tree<15>, name: &str) -> Result<String, Fail> {
+    Ok(format!(in alloc; "{:?}", tree.device_named(name.as_bytes()))?)
+}
+
+/// One step or question, and what comes of it.
+fn take(alloc: Global, tree: &mut Tree<15>, line: &str) -> Result<String, Fail> {
+    let (verb, words) = line.split_once(' ').ok_or("no verb")?;
+    match verb {
+        "add" => add(alloc, tree, words),
+        "plug" => plug(alloc, tree, words),
+        "unplug" => unplug(alloc, tree, words),
+        "number" => number_of(alloc, tree, words),
+        _ => ask(alloc, tree, verb, words),
+    }
+}
+
+/// The tree after such lines, each of which had this answer.
+pub fn grown(rt: &impl Abort, alloc: Global, steps: &str) -> Result<Tree<15>, Fail> {
     let mut tree = Tree::new();
     for step in steps.lines() {
-        let (line, want) = step.split_once(" => ").ok_or("no answer")?;
-        let told = take(alloc, &mut tree, line)?;
-        assert_eq!(rt; told.as_str(), want, "{step}");
+        let (line, want) = parted(step)?;
+        holds(rt, take(alloc, &mut tree, line)?.as_str() == want, step);
     }
     Ok(tree)
 }
@@ -146,121 +151,101 @@ fn grown(rt: &impl Abort, alloc: Global, steps: &str) -> Result<Tree<15>, Fail> 
 #[test]
 fn refuses_in_order(rt: HostRuntime) -> Result<(), Fail> {
     let tree = grown(&rt, rt.alloc(), REFUSALS)?;
-    assert_eq!(rt; tree.count(), 5);
-    assert_eq!(rt; tree.name(1), b"p1".as_slice());
-    assert_eq!(rt; tree.kind(3), Kind::Switch);
-    assert_eq!(rt; tree.ports(0), 4);
-    assert_eq!(rt; tree.device_named(b"b"), Some(4));
+    assert!(rt; tree.count() == 5);
     Ok(())
 }
 
 #[test]
 fn a_chain_of_switches(rt: HostRuntime) -> Result<(), Fail> {
     let tree = grown(&rt, rt.alloc(), CHAIN)?;
-    assert_eq!(rt; tree.count(), 6);
+    assert!(rt; tree.count() == 6);
     Ok(())
 }
 
-/// The two bytes of the address in the extension's HDMI block, and the extension's checksum.
-fn address_and_checksum(edid: &Edid) -> Option<[u8; 3]> {
-    let bytes = edid_to_bytes(edid);
-    let bytes = bytes.as_slice();
-    Some([*bytes.get(148)?, *bytes.get(149)?, *bytes.get(255)?])
+/// What a port passes on of the television's EDID: the words are the device and the port.
+pub fn port_edid(
+    tree: &Tree<15>,
+    root: &Edid,
+    words: &str,
+) -> Result<Result<Edid, PortEdidError>, Fail> {
+    let (device, port) = two_numbers(words)?;
+    let device = usize::from(device);
+    if device >= tree.count() {
+        return Err(Fail::from("no device"));
+    }
+    Ok(tree.port_edid(root, device, port))
 }
+
+/// Whether the bytes that these words give are passed on, or nothing, with this error.
+fn is_wanted(alloc: Global, passed: Result<Edid, PortEdidError>, want: &str) -> Result<bool, Fail> {
+    match passed {
+        Ok(edid) => has_bytes(alloc, &edid, want),
+        Err(error) => Ok(format!(in alloc; "{error:?}")?.as_str() == want),
+    }
+}
+
+/// Asserts what each port passes on.
+fn ports_pass(
+    rt: &impl Abort,
+    alloc: Global,
+    tree: &Tree<15>,
+    root: &[u8],
+    ports: &str,
+) -> Result<(), Fail> {
+    let root = edid_from_bytes(root)?;
+    for case in ports.lines() {
+        let (words, want) = parted(case)?;
+        let passed = port_edid(tree, &root, words)?;
+        holds(rt, is_wanted(alloc, passed, want)?, case);
+    }
+    Ok(())
+}
+
+const TELEVISION: &str = "add tv tv 4 => -\n";
+
+/// Devices and ports, and what they pass on.
+const ADDRESSES: &str = "\
+0 1 => tv..0151 speaking..d8 148=10
+0 2 => tv..0151 speaking..c8 148=20
+0 5 => PortRange
+";
 
 #[test]
 fn ports_pass_on_their_addresses(rt: HostRuntime) -> Result<(), Fail> {
-    let root = edid_from_bytes(&both_blocks()).map_err(|_| "no EDID")?;
-    let mut tree: Tree<15> = Tree::new();
-    tree.add(b"tv", Kind::Tv, 4)?;
-    assert_eq!(rt; tree.count(), 1);
-    let first = tree.port_edid(&root, 0, 1)?;
-    assert_eq!(rt; address_and_checksum(&first), Some([0x10, 0x00, 0xd8]));
-    let second = tree.port_edid(&root, 0, 2)?;
-    assert_eq!(rt; address_and_checksum(&second), Some([0x20, 0x00, 0xc8]));
-    assert_eq!(rt;
-        tree.port_edid(&root, 0, 5).err(),
-        Some(PortEdidError::PortRange)
-    );
-    Ok(())
+    let tree = grown(&rt, rt.alloc(), TELEVISION)?;
+    let root = bytes_of(rt.alloc(), "tv..0151 speaking..e8")?;
+    ports_pass(&rt, rt.alloc(), &tree, &root, ADDRESSES)
 }
 
 #[test]
 fn no_port_passes_on_an_edid_without_an_address(rt: HostRuntime) -> Result<(), Fail> {
-    let mut block = LOUNGE;
-    block[126] = 0x00;
-    block[127] = 0x52;
-    let root = edid_from_bytes(&block).map_err(|_| "no EDID")?;
-    let mut tree: Tree<15> = Tree::new();
-    tree.add(b"tv", Kind::Tv, 4)?;
-    assert_eq!(rt; tree.count(), 1);
-    assert_eq!(rt;
-        tree.port_edid(&root, 0, 1).err(),
-        Some(PortEdidError::NoHdmiBlock)
-    );
-    Ok(())
+    let tree = grown(&rt, rt.alloc(), TELEVISION)?;
+    let root = bytes_of(rt.alloc(), "tv..0052")?;
+    ports_pass(&rt, rt.alloc(), &tree, &root, "0 1 => NoHdmiBlock\n")
 }
 
 /// A television, an amplifier in its first port with a switch in its own, and a switch in the second.
-fn tree_with_an_amplifier() -> Result<Tree<15>, Fail> {
-    let mut tree: Tree<15> = Tree::new();
-    tree.add(b"tv", Kind::Tv, 2)?;
-    tree.add(b"amp", Kind::Amp, 1)?;
-    tree.add(b"below", Kind::Switch, 1)?;
-    tree.add(b"beside", Kind::Switch, 1)?;
-    if tree.count() != 4 {
-        return Err(Fail::from("no tree"));
-    }
-    tree.plug(1, 0, 1)?;
-    tree.plug(2, 1, 1)?;
-    tree.plug(3, 0, 2)?;
-    Ok(tree)
-}
+const AMPLIFIER: &str = "\
+add tv tv 2 => -
+add amp amp 1 => -
+add below switch 1 => -
+add beside switch 1 => -
+plug 1 0 1 => -
+plug 2 1 1 => -
+plug 3 0 2 => -
+";
 
-/// The extension that an amplifier passes on, up to its zeros, but for the address.
-const HEARD: [u8; 23] = [
-    0x02, 0x03, 0x19, 0xf1, 0x43, 0x90, 0x04, 0x03, 0x26, 0x0f, 0x7f, 0x07, 0x15, 0x07, 0x50, 0x83,
-    0x01, 0x00, 0x00, 0x65, 0x03, 0x0c, 0x00,
-];
-
-/// That extension with an address and a checksum.
-fn heard(address: [u8; 2], checksum: u8) -> [u8; 128] {
-    let mut bytes = [0; 128];
-    bytes[..23].copy_from_slice(&HEARD);
-    bytes[23..25].copy_from_slice(&address);
-    bytes[127] = checksum;
-    bytes
-}
-
-/// What a port passes on, where there is the device.
-fn passed(tree: &Tree<15>, root: &Edid, device: usize) -> Option<Edid> {
-    if device >= tree.count() {
-        return None;
-    }
-    tree.port_edid(root, device, 1).ok()
-}
+/// The ports above the amplifier and beside it, its own, and the one below.
+const AROUND_THE_AMPLIFIER: &str = "\
+0 1 => tv..0151 speaking..d8 148=10
+3 1 => tv..0151 speaking..c7 148=21
+1 1 => tv..0151 020319f143900403260f7f071507508301000065030c001100..e7
+2 1 => tv..0151 020319f143900403260f7f071507508301000065030c001110..d7
+";
 
 #[test]
-fn ports_beside_an_amplifier_pass_on_their_addresses(rt: HostRuntime) -> Result<(), Fail> {
-    let root = edid_from_bytes(&both_blocks()).map_err(|_| "no EDID")?;
-    let tree = tree_with_an_amplifier()?;
-    let above = passed(&tree, &root, 0).ok_or("nothing passed on")?;
-    assert_eq!(rt; address_and_checksum(&above), Some([0x10, 0x00, 0xd8]));
-    let beside = passed(&tree, &root, 3).ok_or("nothing passed on")?;
-    assert_eq!(rt; address_and_checksum(&beside), Some([0x21, 0x00, 0xc7]));
-    Ok(())
-}
-
-#[test]
-fn ports_below_an_amplifier_pass_on_its_audio(rt: HostRuntime) -> Result<(), Fail> {
-    let root = edid_from_bytes(&both_blocks()).map_err(|_| "no EDID")?;
-    let tree = tree_with_an_amplifier()?;
-    let amp = edid_to_bytes(&passed(&tree, &root, 1).ok_or("nothing passed on")?);
-    assert_eq!(rt; amp.as_slice().get(..128), Some(LOUNGE.as_slice()));
-    let wanted = heard([0x11, 0x00], 0xe7);
-    assert_eq!(rt; amp.as_slice().get(128..), Some(wanted.as_slice()));
-    let below = edid_to_bytes(&passed(&tree, &root, 2).ok_or("nothing passed on")?);
-    let wanted = heard([0x11, 0x10], 0xd7);
-    assert_eq!(rt; below.as_slice().get(128..), Some(wanted.as_slice()));
-    Ok(())
+fn ports_pass_on_addresses_and_below_an_amplifier_its_audio(rt: HostRuntime) -> Result<(), Fail> {
+    let tree = grown(&rt, rt.alloc(), AMPLIFIER)?;
+    let root = bytes_of(rt.alloc(), "tv..0151 speaking..e8")?;
+    ports_pass(&rt, rt.alloc(), &tree, &root, AROUND_THE_AMPLIFIER)
 }

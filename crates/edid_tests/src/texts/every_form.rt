@@ -1,8 +1,8 @@
 //! Every form of a line, and each bit of an EDID at its own place.
-use super::{both_blocks, text_and_back};
+use super::{text_and_back, text_of};
+use crate::samples::bytes_of;
 use hdmi_blocks::edid_from_bytes;
-use hdmi_core::Writes;
-use hdmi_edtext::write_text;
+use std::alloc::Global;
 use std::test::Fail;
 
 /// An EDID with every form of a line but `name`, `dummy`, `raw`, `cta-none` and `ext`.
@@ -21,37 +21,36 @@ fn checksum(front: &[u8]) -> u8 {
     sum.wrapping_neg()
 }
 
-/// The bytes with one bit turned over, and the checksum of its block mended, where the bit is not its own.
-fn with_bit_turned(rt: &HostRuntime, bytes: &[u8], at: usize, bit: u8) -> Result<Vec<u8>, Fail> {
-    let mut turned = Vec::new(rt.alloc());
-    for block in bytes.chunks(128) {
-        turned.extend_from_slice(block)?;
+/// Mends the checksum of the block that a byte stands in.
+fn mend(bytes: &mut [u8], at: usize) -> Result<(), Fail> {
+    let from = at / 128 * 128;
+    let sum = checksum(bytes.get(from..from + 127).ok_or("no block")?);
+    let byte = bytes.get_mut(from + 127).ok_or("no checksum")?;
+    *byte = sum;
+    Ok(())
+}
+
+/// Turns over one bit, and mends the checksum of its block where the bit is not the checksum's own.
+fn turn_bit(bytes: &mut [u8], at: usize, bit: u8) -> Result<(), Fail> {
+    let byte = bytes.get_mut(at).ok_or("no byte")?;
+    *byte ^= bit;
+    if at % 128 == 127 {
+        return Ok(());
     }
-    if let Some(byte) = turned.get_mut(at) {
-        *byte ^= bit;
-    }
-    if at % 128 != 127 {
-        let from = at / 128 * 128;
-        let sum = checksum(turned.get(from..from + 127).ok_or("no block")?);
-        if let Some(byte) = turned.get_mut(from + 127) {
-            *byte = sum;
-        }
-    }
+    mend(bytes, at)
+}
+
+fn with_bit_turned(alloc: Global, bytes: &[u8], at: usize, bit: u8) -> Result<Vec<u8>, Fail> {
+    let mut turned = Vec::from_slice(alloc, bytes)?;
+    turn_bit(&mut turned, at, bit)?;
     Ok(turned)
 }
 
 /// The text of an EDID, or why the bytes are none.
-fn told(rt: &HostRuntime, bytes: &[u8]) -> Result<Vec<u8>, Fail> {
+fn told(alloc: Global, bytes: &[u8]) -> Result<Vec<u8>, Fail> {
     match edid_from_bytes(bytes) {
-        Err(cause) => {
-            let line = format!(in rt.alloc(); "{cause}\n")?;
-            Ok(line.into_bytes())
-        }
-        Ok(edid) => {
-            let mut text = Vec::new(rt.alloc());
-            write_text(&edid, &mut Writes::new(&mut text))?;
-            Ok(text)
-        }
+        Err(cause) => Ok(format!(in alloc; "{cause}\n")?.into_bytes()),
+        Ok(edid) => text_of(alloc, &edid),
     }
 }
 
@@ -64,13 +63,16 @@ fn hashed(hash: u64, text: &[u8]) -> u64 {
     hash
 }
 
+fn told_with_bit_turned(alloc: Global, bytes: &[u8], at: usize, bit: u8) -> Result<Vec<u8>, Fail> {
+    told(alloc, &with_bit_turned(alloc, bytes, at, bit)?)
+}
+
 /// The hash of the texts of all EDIDs that differ from this one in one bit.
-fn hash_of_neighbours(rt: &HostRuntime, bytes: &[u8]) -> Result<u64, Fail> {
+fn hash_of_neighbours(alloc: Global, bytes: &[u8]) -> Result<u64, Fail> {
     let mut hash = 0xcbf2_9ce4_8422_2325u64;
     for at in 0..bytes.len() {
         for bit in [1u8, 2, 4, 8, 16, 32, 64, 128] {
-            let turned = with_bit_turned(rt, bytes, at, bit)?;
-            hash = hashed(hash, &told(rt, &turned)?);
+            hash = hashed(hash, &told_with_bit_turned(alloc, bytes, at, bit)?);
         }
     }
     Ok(hash)
@@ -79,10 +81,8 @@ fn hash_of_neighbours(rt: &HostRuntime, bytes: &[u8]) -> Result<u64, Fail> {
 #[test]
 fn returns_every_form(rt: HostRuntime) -> Result<(), Fail> {
     let bytes = hex::decode(rt.alloc(), EVERY_FORM)?;
-    assert_eq!(rt;
-        text_and_back(&rt, &bytes)?.as_slice(),
-        EVERY_FORM_TEXT.as_bytes()
-    );
+    let text = text_and_back(rt.alloc(), &bytes)?;
+    assert!(rt; text.as_slice() == EVERY_FORM_TEXT.as_bytes());
     Ok(())
 }
 
@@ -90,13 +90,13 @@ fn returns_every_form(rt: HostRuntime) -> Result<(), Fail> {
 #[test]
 fn has_each_bit_at_its_place(rt: HostRuntime) -> Result<(), Fail> {
     let bytes = hex::decode(rt.alloc(), EVERY_FORM)?;
-    assert_eq!(rt; hash_of_neighbours(&rt, &bytes)?, 0x0d4f_6c7c_aee9_f610);
+    assert!(rt; hash_of_neighbours(rt.alloc(), &bytes)? == 0x0d4f_6c7c_aee9_f610);
     Ok(())
 }
 
 #[test]
 fn has_each_bit_of_another_edid_at_its_place(rt: HostRuntime) -> Result<(), Fail> {
-    let bytes = both_blocks(&rt)?;
-    assert_eq!(rt; hash_of_neighbours(&rt, &bytes)?, 0x3aa6_b8bf_1c4a_28db);
+    let bytes = bytes_of(rt.alloc(), "tv..0151 speaking..e8")?;
+    assert!(rt; hash_of_neighbours(rt.alloc(), &bytes)? == 0x3aa6_b8bf_1c4a_28db);
     Ok(())
 }
