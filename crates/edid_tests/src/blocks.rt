@@ -30,7 +30,7 @@ const ANSWERS: &str = "\
 /// The address of an EDID that returns these bytes.
 fn address_text(alloc: Global, edid: &Edid, bytes: &[u8]) -> Result<String, Fail> {
     if edid_to_bytes(edid).as_slice() != bytes {
-        return Err(Fail::from("other bytes"));
+        return Ok(String::from_str(alloc, "other bytes")?);
     }
     Ok(format!(in alloc; "{:?}", edid.address())?)
 }

@@ -67,7 +67,7 @@ fn edid_of(alloc: Global, words: &str) -> Result<Edid, Fail> {
     Ok(edid_from_bytes(&bytes_of(alloc, words)?)?)
 }
 
-/// The same over an EDID.
+/// Asserts what comes of steps over such an EDID.
 fn takes_of_edid(rt: &impl Abort, alloc: Global, words: &str, steps: &str) -> Result<(), Fail> {
     let mut ddc = Ddc::new(&edid_of(alloc, words)?);
     takes(rt, alloc, &mut ddc, steps)
