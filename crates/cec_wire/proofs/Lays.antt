@@ -1,5 +1,6 @@
 -- Where a sender pulls, by the slot of a microsecond and the place in it.
-use Rattle.std.proofs.Common.{◌≡◌, ℕ, zero, suc, ◌+◌, ◌-◌, ◌*◌, ◌<◌, ◌≤◌, Bool, true, false, ◌||◌, nat_lt, if◌then◌else◌, List, [], ◌∷◌, length, slice_index_or, refl, arith, ap, ◌∙◌}
+use Rattle.std.proofs.Common.{◌≡◌, ℕ, zero, suc, ◌+◌, ◌-◌, ◌*◌, ◌<◌, ◌≤◌, Bool, true, false, ◌&&◌, ◌||◌, nat_lt, if◌then◌else◌, List, [], ◌∷◌, length, slice_index_or, inl, inr, refl, arith, ap, ◌∙◌, sym}
+use Rattle.std.proofs.lemmas.Bool.{cases_lt}
 use Rattle.std.proofs.lemmas.Bool.Decides.{nat_tests}
 use Rattle.cec_wave.specs.Line.{line_of, covers}
 use Rattle.cec_wave.specs.Sender.{slot_stretches, sender_stretches}
@@ -30,6 +31,14 @@ slots_over (b ∷ bits) n t l = ap (λ c. c || line_of (slot_stretches (n + 2400
     past : (b : Bool) → covers (record { from = n; to = n + (if b then 600 else 1500) }) t ≡ false
     past true = grind (arith, nat_tests)
     past false = grind (arith, nat_tests)
+
+-- in a slot, or after the last one
+pub slot_or_none : (bits : List Bool) (n q within t : ℕ) → t ≡ n + 2400 * q + within → within < 2400
+    → (nat_lt q (length bits) && nat_lt within (if slice_index_or bits q false then 600 else 1500)) ≡ line_of (slot_stretches n bits) t
+slot_or_none bits n q within t e w = elim (cases_lt q (length bits)) [
+  | inl lt ↦ let k : nat_lt q (length bits) ≡ true = grind (arith, nat_tests) in ap (λ c. c && nat_lt within (if slice_index_or bits q false then 600 else 1500)) k ∙ sym (slot_at bits n q within t e w lt)
+  | inr ge ↦ let k : nat_lt q (length bits) ≡ false = grind (arith, nat_tests) in ap (λ c. c && nat_lt within (if slice_index_or bits q false then 600 else 1500)) k ∙ sym (slots_over bits n t (omega (arith, e, ge)))
+]
 
 -- in the start bit
 pub start_at : (bits : List Bool) (begin t : ℕ) → begin ≤ t → t < begin + 4500 → line_of (sender_stretches begin bits) t ≡ nat_lt (t - begin) 3700

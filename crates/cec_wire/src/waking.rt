@@ -1,54 +1,68 @@
 //! Who sends a low line, and until when nothing changes: neither who pulls nor where the reading stands.
-ghost use Rattle.std.specs.Prelude.{◌≡◌, ◌<◌, ◌≤◌};
+ghost use Rattle.std.specs.Prelude.{◌≡◌, ◌+◌, ◌<◌, ◌≤◌, ◌&&◌, false, if◌then◌else◌, length, nat_lt, slice_index_or};
+ghost use Rattle.cec_wave.specs.Line.{line_of};
+ghost use Rattle.cec_wave.specs.Sender.{sender_stretches};
 ghost use Rattle.cec_frame.specs.Bits.{frame_bits};
 ghost use Rattle.cec_wire.specs.Edges.{part_left, sender_part, part_of, next_part, next_due, sooner, if_later, first_end, begin_of, wake_after, sends_low, IsPull, IsTimely};
 
 use crate::Seat;
 use crate::hearing::Place;
-use crate::pulling::{FIRST_SLOT, SLOT, START_LOW, low_of, sender_pulls};
+use crate::pulling::{FIRST_SLOT, SLOT, START_LOW, low_of};
 use crate::senders::sent_bit;
 use cec_frame::Frame;
 use cec_wave::Stretch;
 
-// How much is left of the part of a slot of this bit in which `within` is.
-fn part_left(bit: bool, within: u64) -> u64
-    requires { within < 2400 }
-    ensures { result ≡ part_left bit within }
+// A part of what a sender does: whether it pulls, and until when that lasts.
+#[derive(Clone, Copy)]
+struct Part {
+    is_low: bool,
+    until: u64,
+}
+
+// What a frame's sender does in a slot, counted from 0, so long after the slot's fall at `t`.
+fn part_of_slot(frame: &Frame, slot: usize, within: u64, t: u64) -> Part
+    requires slot { slot ≤ 3000000000000 }
+    requires within { within < 2400 }
+    requires time { t ≤ 3000000000000 }
+    ensures low { result.is_low ≡ (nat_lt slot (length (frame_bits frame.now)) && nat_lt within (if slice_index_or (frame_bits frame.now) slot false then 600 else 1500)) }
+    ensures until { result.until ≡ t + part_left (slice_index_or (frame_bits frame.now) slot false) within }
 {
-    let low = low_of(bit);
+    let low = low_of(sent_bit(frame, slot + 1));
     if within < low {
-        low - within
+        Part {
+            is_low: slot < frame.slots(),
+            until: t + (low - within),
+        }
     } else {
-        SLOT - within
+        Part {
+            is_low: false,
+            until: t + (SLOT - within),
+        }
     }
 }
 
-// The next instant after `t` at which a frame's sender can change its pull.
-fn sender_part(frame: &Frame, begin: u64, t: u64) -> u64
+// What a frame's sender does at `t`, and the next instant after `t` at which it can do otherwise.
+fn sender_part(frame: &Frame, begin: u64, t: u64) -> Part
     requires early { begin ≤ 2000000100000 }
+    requires begun { begin ≤ t }
     requires time { t ≤ 3000000000000 }
-    ensures { result ≡ sender_part begin (frame_bits frame.now) t }
+    ensures low { result.is_low ≡ line_of (sender_stretches begin (frame_bits frame.now)) t }
+    ensures until { result.until ≡ sender_part begin (frame_bits frame.now) t }
 {
-    if t < begin + START_LOW {
-        begin + START_LOW
-    } else if t < begin + FIRST_SLOT {
-        begin + FIRST_SLOT
+    let since = t - begin;
+    if since < START_LOW {
+        Part {
+            is_low: true,
+            until: begin + START_LOW,
+        }
+    } else if since < FIRST_SLOT {
+        Part {
+            is_low: false,
+            until: begin + FIRST_SLOT,
+        }
     } else {
-        let since = t - begin - FIRST_SLOT;
-        let bit = sent_bit(frame, (since / SLOT) as usize + 1);
-        t + part_left(bit, since % SLOT)
-    }
-}
-
-// The same of a sender, if there is one.
-fn part_of(sends: &Option<Frame>, begin: u64, t: u64) -> Option<u64>
-    requires early { begin ≤ 2000000100000 }
-    requires time { t ≤ 3000000000000 }
-    ensures { result ≡ part_of begin sends.now t }
-{
-    match sends {
-        None => None,
-        Some(frame) => Some(sender_part(frame, begin, t)),
+        let slots = since - FIRST_SLOT;
+        part_of_slot(frame, (slots / SLOT) as usize, slots % SLOT, t)
     }
 }
 
@@ -74,8 +88,11 @@ pub fn pull_at(sending: &[Seat], begin: u64, t: u64) -> Pull
     let mut is_low = false;
     let mut until = t + FIRST_SLOT;
     for seat in sending {
-        is_low = is_low || sender_pulls(&seat.sends, begin, t);
-        until = sooner(until, part_of(&seat.sends, begin, t));
+        if let Some(frame) = &seat.sends {
+            let part = sender_part(frame, begin, t);
+            is_low = is_low || part.is_low;
+            until = until.min(part.until);
+        }
     }
     Pull {
         from: t,
