@@ -35,8 +35,14 @@ pub fn emulate_edges<S: Sink>(
     let topology = parse_topology(alloc, topology)?;
     let script = parse_script(alloc, &topology, script)?;
     let _edid = root_of(&topology.edid)?;
-    let mut net = Net::new(topology.tree, EdgeWire::new(), script.pulses);
-    match run(out, &mut net, &Telling::Edges, &script.events, script.end) {
+    // The network is lent as it is made, as for the trace.
+    match run(
+        out,
+        &mut Net::new(topology.tree, EdgeWire::new(), script.pulses),
+        &Telling::Edges,
+        &script.events,
+        script.end,
+    ) {
         Ok(totals) => Ok(totals),
         Err(fault) => Err(EmulateError::Write(fault.count)),
     }

@@ -95,10 +95,10 @@ pub fn emulate<S: Sink>(
     let topology = parse_topology(alloc, topology)?;
     let script = parse_script(alloc, &topology, script)?;
     let edid = root_of(&topology.edid)?;
-    let mut net = Net::new(topology.tree, EdgeWire::new(), script.pulses);
+    // The network is lent as it is made: a name of its own would be a second place for it.
     match run(
         out,
-        &mut net,
+        &mut Net::new(topology.tree, EdgeWire::new(), script.pulses),
         &Telling::Trace(edid),
         &script.events,
         script.end,
