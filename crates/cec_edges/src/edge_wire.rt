@@ -12,7 +12,6 @@ use cec_wire::{
     Outcome, Place, Pull, Recorder, Seat, Wire, ending, held_until, is_any_low, is_pulsed,
     leave_out, next_wake, outcome_of, pull_at, pulses_until, senders_until, sending_first,
 };
-use std::mem;
 
 /// A round as far as it was heard: everything before `time`.
 #[derive(Debug, Drop)]
@@ -435,20 +434,18 @@ impl EdgeWire {
         sender_at(self.listeners.senders.as_slice(), seat)
     }
 
-    // What the round gave, where no edge comes any more.
-    fn finished(self) -> Outcome
-        requires begun { IsBegun self }
-        requires silent { is_silent_in self ≡ true }
-        ensures round { IsRoundOf self result }
+    // What the round gave, where no edge comes any more. It is copied: a wire is large, and little of it was used.
+    fn finished(&self) -> Outcome
+        requires begun { IsBegun self.now }
+        requires silent { is_silent_in self.now ≡ true }
+        ensures round { IsRoundOf self.now result }
     {
-        let ended = ending(self.place);
-        let seats = self.seats;
         outcome_of(
-            seats.as_slice(),
+            self.seats.as_slice(),
             self.begin,
-            self.bits,
-            ended,
-            self.recorder.wave,
+            copied_bits(self.bits.as_slice()),
+            ending(self.place),
+            self.recorder.wave.copy(),
         )
     }
 
@@ -460,8 +457,9 @@ impl EdgeWire {
         ensures listens { Listens self.new }
         ensures round { IsRoundOf self.old result }
     {
-        let done = mem::replace(self, EdgeWire::new());
-        done.finished()
+        let outcome = self.finished();
+        *self = EdgeWire::new();
+        outcome
     }
 }
 

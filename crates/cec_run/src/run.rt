@@ -258,10 +258,10 @@ fn run_round<S: Sink, W: Wire>(
     requires less { totals.old.complete ≤ totals.old.rounds }
     ensures { RoundWritten telling.now net.old net.new totals.old totals.new (S.contents out.old) (S.contents out.new) (S.is_stuck out.old) (S.is_stuck out.new) result }
 {
-    let report = net.round_at(begin);
-    *totals = counted_round(*totals, report.outcome.reading.ending);
-    let _stretches = report.outcome.wave.as_slice();
-    write_round_told(out, telling, net.devices(), &report.outcome)
+    let outcome = net.round_at(begin);
+    *totals = counted_round(*totals, outcome.reading.ending);
+    let _stretches = outcome.wave.as_slice();
+    write_round_told(out, telling, net.devices(), &outcome)
 }
 
 /// Writes the state lines of the devices.

@@ -114,10 +114,10 @@ impl Position {
         ensures ready { IfSome result (λ _. IsReady course.now.end (point_of course.now.events.items self.new)) }
     {
         let begin = self.pass_events(course)?;
-        let report = self.net.round_at(begin);
-        let _stretches = report.outcome.wave.as_slice();
+        let outcome = self.net.round_at(begin);
+        let _stretches = outcome.wave.as_slice();
         self.is_first = false;
-        Some(report)
+        Some(RoundReport { begin, outcome })
     }
 
     /// Begins the round that comes next, with the events before it. Returns the first edge of its line; None where no

@@ -5,13 +5,13 @@ use Rattle.cec_run.proofs.run.run_round.Goals as goal
 
 pub returns : goal.returns
 returns g c =
-    let round = c.round_at-report in
+    let round = c.round_at-outcome in
     record {
       begin = c.args.begin;
-      text = round_told c.args.telling.now round.new.self.devices round.result.outcome;
+      text = round_told c.args.telling.now round.new.self.devices round.result;
       begins = c.requires.starts;
       turn = record {
-        outcome = round.result.outcome;
+        outcome = round.result;
         wave = subst IsWave c.as_slice-stretches.ensures.stretches c.as_slice-stretches.ensures.wave;
         next = round.ensures.step;
         told = refl;

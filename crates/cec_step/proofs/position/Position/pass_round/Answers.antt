@@ -13,7 +13,7 @@ returns-clause-brings c =
     let p = passed end (point_of es c.args.self.now) in
     let begins = round_begins end p.net (first_time p.events) c.in_ok-begin.begin c.in_ok-begin.ensures.comes in
     let rest = c.pass_events.ensures.rest in
-    let progress = c.round_at-report.ensures.progress in
+    let progress = c.round_at-outcome.ensures.progress in
     record { before = omega (arith, rest, progress.later, begins.1); later = omega (arith, rest, progress.later, progress.low) }
 
 pub returns-clause-ready : goal.returns-clause-ready
@@ -22,5 +22,5 @@ returns-clause-ready c =
     let es = c.args.course.now.events.items in
     let p = passed end (point_of es c.args.self.now) in
     let begins = round_begins end p.net (first_time p.events) c.in_ok-begin.begin c.in_ok-begin.ensures.comes in
-    let round = c.round_at-report in
-    ready_round end c.in_ok-begin.begin (point_of es c.pass_events.new.self) round.result.outcome round.new.self c.pass_events.ensures.ready begins.1 round.ensures.step round.ensures.progress
+    let round = c.round_at-outcome in
+    ready_round end c.in_ok-begin.begin (point_of es c.pass_events.new.self) round.result round.new.self c.pass_events.ensures.ready begins.1 round.ensures.step round.ensures.progress
