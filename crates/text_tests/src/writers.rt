@@ -1,19 +1,19 @@
 //! Writers that take one byte a call, and that fail: what a frame's text has then.
+use arrayvec::ArrayVec;
 use cec_frame::Frame;
 use cec_text::write_frame;
 use hdmi_core::{WriteFault, Writes};
-use std::alloc::Global;
 use std::io::{self, ErrorKind, Write};
-use std::test::Fail;
+use std::process::Abort;
 
 const PLAY: [u8; 3] = [0x40, 0x41, 0x24];
 
-const PLAY_TEXT: &str = "4>0 play forward";
+const PLAY_TEXT: &[u8] = b"4>0 play forward";
 
 /// A writer that takes one byte at a time, and fails once it holds `room`.
 #[derive(Drop)]
 struct Stingy {
-    held: Vec<u8>,
+    held: ArrayVec<u8, 32>,
     room: usize,
 }
 
@@ -25,7 +25,7 @@ impl Write for Stingy {
         match bytes.first() {
             None => Ok(0),
             Some(byte) => {
-                self.held.push(*byte)?;
+                let _ = self.held.try_push(*byte);
                 Ok(1)
             }
         }
@@ -36,28 +36,30 @@ impl Write for Stingy {
     }
 }
 
-/// Writes the frame into a writer that has so much room.
-fn written(alloc: Global, room: usize) -> Result<(Vec<u8>, Result<(), WriteFault>), Fail> {
-    let frame = Frame::new(&PLAY)?;
+/// A writer with room for the whole text is told of no fault, one with less is told how many bytes were written.
+fn is_right(told: Result<(), WriteFault>, room: usize) -> bool {
+    match told {
+        Ok(()) => room == PLAY_TEXT.len(),
+        Err(fault) => room < PLAY_TEXT.len() && fault.count == room as u128,
+    }
+}
+
+/// A writer that has so much room holds so much of the text.
+fn is_cut_at(room: usize) -> bool {
+    let Ok(frame) = Frame::new(&PLAY) else {
+        return false;
+    };
     let mut out = Stingy {
-        held: Vec::new(alloc),
+        held: ArrayVec::new(),
         room,
     };
     let told = write_frame(&frame, &mut Writes::new(&mut out));
-    Ok((out.held, told))
+    is_right(told, room) && PLAY_TEXT.get(..room) == Some(out.held.as_slice())
 }
 
 #[test]
-fn a_frame_is_cut_at_each_byte(rt: HostRuntime) -> Result<(), Fail> {
-    let alloc = rt.alloc();
-    for room in 0..PLAY_TEXT.len() {
-        let (held, told) = written(alloc, room)?;
-        let front = PLAY_TEXT.as_bytes().get(..room).ok_or("too long")?;
-        assert!(rt; told.is_err_and(|fault| fault.count == room as u128));
-        assert_eq!(rt; held.as_slice(), front);
+fn a_frame_is_cut_at_each_byte(rt: HostRuntime) {
+    for room in 0..=PLAY_TEXT.len() {
+        assert!(rt; is_cut_at(room), "{room}");
     }
-    let (held, told) = written(alloc, PLAY_TEXT.len())?;
-    assert!(rt; told.is_ok());
-    assert_eq!(rt; held.as_slice(), PLAY_TEXT.as_bytes());
-    Ok(())
 }
