@@ -1,4 +1,5 @@
 //! What is said of faults. Each input is as a user gives it, with the line of its fault.
+use crate::cases::case_holds;
 use hdminet_help::{Input, counts, explain, run_words};
 use std::alloc::{AllocError, Global};
 use std::process::Abort;
@@ -400,7 +401,7 @@ fn is_said(said: Result<String, AllocError>, want: &str) -> bool {
 
 fn are_explained(rt: &impl Abort, alloc: Global, what: Input, cases: &[Case]) {
     for (input, fault, want) in cases {
-        assert!(rt; is_said(explain(alloc, what, fault, input), want), "{want}");
+        case_holds(rt, is_said(explain(alloc, what, fault, input), want), want);
     }
 }
 
@@ -480,7 +481,7 @@ fn has_explanation(alloc: Global, fault: &str) -> bool {
 #[test]
 fn each_fault_has_its_explanation(rt: HostRuntime) {
     for fault in FAULTS {
-        assert!(rt; has_explanation(rt.alloc(), fault), "{fault}");
+        case_holds(&rt, has_explanation(rt.alloc(), fault), fault);
     }
 }
 

@@ -1,4 +1,5 @@
 //! What a topology and a script say, and why one is refused.
+use crate::cases::case_holds;
 use cec_asm::{Script, ScriptError, TimedEvent, Topology, parse_script, parse_topology};
 use cec_device::{Key, VolumeKey};
 use cec_net::Event;
@@ -136,7 +137,7 @@ fn is_refused(alloc: Global, text: &str, told: &str) -> bool {
 #[test]
 fn names_the_first_line_at_fault_and_its_cause(rt: HostRuntime) {
     for (text, told) in REFUSED {
-        assert!(rt; is_refused(rt.alloc(), text, told), "{told}: {text}");
+        case_holds(&rt, is_refused(rt.alloc(), text, told), text);
     }
 }
 
@@ -204,7 +205,7 @@ fn is_event(alloc: Global, line: &str, name: &str) -> bool {
 #[test]
 fn reads_each_event(rt: HostRuntime) {
     for (line, name) in EVENTS {
-        assert!(rt; is_event(rt.alloc(), line, name), "{line}");
+        case_holds(&rt, is_event(rt.alloc(), line, name), line);
     }
 }
 
@@ -308,7 +309,7 @@ fn is_key(alloc: Global, words: &str, word: &str, bytes: &[u8]) -> bool {
 #[test]
 fn reads_each_key(rt: HostRuntime) {
     for (words, word, bytes) in KEYS {
-        assert!(rt; is_key(rt.alloc(), words, word, bytes), "{words}");
+        case_holds(&rt, is_key(rt.alloc(), words, word, bytes), words);
     }
 }
 
@@ -384,10 +385,8 @@ const ONE_MORE: &[(&str, &str)] = &[
 #[test]
 fn refuses_one_more_pulse(rt: HostRuntime) {
     for (behind, told) in ONE_MORE {
-        assert!(rt;
-            refuses(rt.alloc(), pulses(rt.alloc(), behind), told),
-            "{told}"
-        );
+        let text = pulses(rt.alloc(), behind);
+        case_holds(&rt, refuses(rt.alloc(), text, told), behind);
     }
 }
 

@@ -1,4 +1,5 @@
 //! Shapes, written by hand from the standard's table of opcodes.
+use crate::cases::case_holds;
 use cec_shape::frame_shape;
 use std::process::Abort;
 
@@ -25,7 +26,7 @@ fn is_shape_of(code: u8, shape: &str) -> bool {
 #[test]
 fn shapes(rt: HostRuntime) {
     for (code, shape) in SHAPES {
-        assert!(rt; is_shape_of(*code, shape), "{shape}");
+        case_holds(&rt, is_shape_of(*code, shape), shape);
     }
     assert!(rt; frame_shape(0xe5).is_none());
 }
