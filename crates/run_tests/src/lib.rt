@@ -14,6 +14,8 @@ mod plain_readings;
 #[cfg(test)]
 mod random_files;
 #[cfg(test)]
+mod rooms;
+#[cfg(test)]
 mod runs;
 #[cfg(test)]
 mod step_writers;

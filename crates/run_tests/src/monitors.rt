@@ -1,39 +1,24 @@
 //! Edge files and what is read of them, worked out by hand. A file stands on one line here, with a comma for each of
 //! its line ends.
-use cec_frame::Ending;
+use cec_frame::{Ending, Reading};
 use cec_mon::{Monitor, WatchError, watch};
 use cec_wave::Edge;
 use hdmi_core::Writes;
 use std::alloc::Global;
-use std::process::Abort;
 use std::test::Fail;
-
-// The bytes of a text with a line end for each comma.
-fn lines_of(alloc: Global, text: &str) -> Result<Vec<u8>, Fail> {
-    let mut bytes = Vec::new(alloc);
-    for byte in text.as_bytes() {
-        bytes.push(if *byte == b',' { b'\n' } else { *byte })?;
-    }
-    Ok(bytes)
-}
 
 // What is written of a file.
 fn readings(alloc: Global, file: &str) -> Result<Vec<u8>, Fail> {
     let mut out = Vec::new(alloc);
-    watch(alloc, &lines_of(alloc, file)?, &mut Writes::new(&mut out))?;
+    watch(alloc, file.as_bytes(), &mut Writes::new(&mut out))?;
     Ok(out)
 }
 
-// Each file has the readings behind its arrow.
-fn are_read(rt: &impl Abort, alloc: Global, cases: &str) -> Result<(), Fail> {
-    for case in cases.lines() {
-        if let Some((file, wanted)) = case.rsplit_once(" => ") {
-            let out = readings(alloc, file)?;
-            let wanted = lines_of(alloc, wanted)?;
-            assert!(rt; out.as_slice() == wanted.as_slice(), "{case}");
-        }
-    }
-    Ok(())
+// The file has the readings behind the arrow.
+fn is_read(alloc: Global, case: &str) -> Result<bool, Fail> {
+    let case = case.replace(alloc, ",", "\n")?;
+    let (file, wanted) = case.rsplit_once(" => ").ok_or("no case")?;
+    Ok(readings(alloc, file)?.as_slice() == wanted.as_bytes())
 }
 
 // The rise of the start bit, and the fall after it, at each border of their windows and one beside it.
@@ -49,11 +34,6 @@ const STARTS: &str = "\
 1000 0,4700 1,5701 0,20000 end => 1000 5701 bad-start -,5701 9602 bad-start -,
 ";
 
-#[test]
-fn start_bits(rt: HostRuntime) -> Result<(), Fail> {
-    are_read(&rt, rt.alloc(), STARTS)
-}
-
 // The next slot's fall, and the sample.
 const SLOTS: &str = "\
 1000 0,4700 1,5500 0,6100 1,20000 end => 1000 8251 silent 1,
@@ -66,11 +46,6 @@ const SLOTS: &str = "\
 1000 0,4700 1,5500 0,6100 1,6550 0,20000 end => 1000 6550 short -,
 1000 0,4700 1,5500 0,6100 1,6551 0,20000 end => 1000 6551 short 1,
 ";
-
-#[test]
-fn slots(rt: HostRuntime) -> Result<(), Fail> {
-    are_read(&rt, rt.alloc(), SLOTS)
-}
 
 // The file ends where the receiver stands in each of its places, and at an ending.
 const ENDS: &str = "\
@@ -86,11 +61,6 @@ const ENDS: &str = "\
 # a comment,,1000 0,4700 1,,20000 end,# and another,, => 1000 5701 bad-start -,
 ";
 
-#[test]
-fn ends(rt: HostRuntime) -> Result<(), Fail> {
-    are_read(&rt, rt.alloc(), ENDS)
-}
-
 // A poll that nobody acknowledges, a frame that is acknowledged, a broadcast that is taken and one that is refused,
 // and sixteen blocks none of which is the last.
 const FRAMES: &str = "\
@@ -102,14 +72,20 @@ const FRAMES: &str = "\
 ";
 
 #[test]
-fn frames(rt: HostRuntime) -> Result<(), Fail> {
-    are_read(&rt, rt.alloc(), FRAMES)
+fn start_bits_slots_ends_and_frames_are_read(rt: HostRuntime) -> Result<(), Fail> {
+    let alloc = rt.alloc();
+    for cases in &[STARTS, SLOTS, ENDS, FRAMES] {
+        for case in cases.lines() {
+            assert!(&rt; is_read(alloc, case)?, "{case}");
+        }
+    }
+    Ok(())
 }
 
 // Files with a line at fault, its number and its cause.
 const FAULTS: &str = "\
- => line 1: line
 1000 0,4700 1 => line 3: line
+ => line 1: line
 1000 2,20000 end => line 1: line
 01000 0,20000 end => line 1: line
 1000  0,20000 end => line 1: line
@@ -128,93 +104,86 @@ const FAULTS: &str = "\
 1000 0,2000 1,1999 end,frob => line 3: order
 ";
 
+// A writer with room for ten bytes, of which none is written for a file at fault.
+fn answer_of(alloc: Global, file: &[u8]) -> (Result<(), WatchError>, [u8; 10]) {
+    let mut room = [0; 10];
+    let answer = watch(alloc, file, &mut Writes::new(room.as_mut_slice()));
+    (answer, room)
+}
+
+// What a file at fault is refused with, where nothing is written of it.
+fn refusal(alloc: Global, file: &[u8]) -> Option<WatchError> {
+    match answer_of(alloc, file) {
+        (Err(error), room) if room == [0; 10] => Some(error),
+        _ => None,
+    }
+}
+
+fn says(alloc: Global, error: Option<WatchError>, wanted: &str) -> Result<bool, Fail> {
+    match error {
+        Some(error) => Ok(format!(in alloc; "{error}")?.as_str() == wanted),
+        None => Ok(false),
+    }
+}
+
+// The file is refused with the text behind the arrow.
+fn is_refused(alloc: Global, case: &str) -> Result<bool, Fail> {
+    let case = case.replace(alloc, ",", "\n")?;
+    let (file, wanted) = case.rsplit_once(" => ").ok_or("no case")?;
+    says(alloc, refusal(alloc, file.as_bytes()), wanted)
+}
+
 #[test]
 fn faults(rt: HostRuntime) -> Result<(), Fail> {
-    let alloc = rt.alloc();
     for case in FAULTS.lines() {
-        if let Some((file, wanted)) = case.rsplit_once(" => ") {
-            let mut out = Vec::new(alloc);
-            let bytes = lines_of(alloc, file)?;
-            match watch(alloc, &bytes, &mut Writes::new(&mut out)) {
-                Ok(()) => assert!(rt; false, "{case}"),
-                Err(error) => assert!(rt;
-                    format!(in alloc; "{error}")?.as_str() == wanted,
-                    "{case}"
-                ),
-            }
-            assert!(rt; out.is_empty(), "{case}");
-        }
+        assert!(&rt; is_refused(rt.alloc(), case)?, "{case}");
     }
     Ok(())
 }
 
-// A writer with room for so many bytes.
 #[test]
-fn writes_that_fail(rt: HostRuntime) -> Result<(), Fail> {
-    let alloc = rt.alloc();
-    let file = lines_of(alloc, "1000 0,4700 1,20000 end")?;
-    let mut room = [0; 10];
-    let watched = watch(alloc, &file, &mut Writes::new(room.as_mut_slice()));
-    assert!(rt; watched == Err(WatchError::Write(10)));
-    assert!(rt; room.as_slice() == b"1000 5701 ".as_slice());
-    Ok(())
+fn writes_that_fail(rt: HostRuntime) {
+    let (answer, room) = answer_of(rt.alloc(), b"1000 0\n4700 1\n20000 end");
+    assert!(&rt; answer == Err(WatchError::Write(10)));
+    assert!(&rt; room == *b"1000 5701 ");
+}
+
+// Edges of one reading.
+const EDGES: &[(u32, bool)] = &[(1000, true), (4700, false), (5500, true), (6100, false)];
+
+fn is_reading(
+    reading: Option<Reading>,
+    begin: u64,
+    at: u64,
+    ending: Ending,
+    bits: &[bool],
+) -> bool {
+    match reading {
+        None => false,
+        Some(reading) => {
+            reading.begin == begin
+                && reading.at == at
+                && reading.ending == ending
+                && reading.bits.as_slice() == bits
+        }
+    }
 }
 
 // The monitor itself, edge by edge.
 #[test]
-fn edge_by_edge(rt: HostRuntime) -> Result<(), Fail> {
+fn edge_by_edge(rt: HostRuntime) {
     let mut monitor = Monitor::new();
-    assert!(rt;
-        monitor
-            .edge(Edge {
-                at: 1000,
-                low: true
-            })
-            .is_none()
-    );
-    assert!(rt;
-        monitor
-            .edge(Edge {
-                at: 4700,
-                low: false
-            })
-            .is_none()
-    );
-    assert!(rt;
-        monitor
-            .edge(Edge {
-                at: 5500,
-                low: true
-            })
-            .is_none()
-    );
-    assert!(rt;
-        monitor
-            .edge(Edge {
-                at: 6100,
-                low: false
-            })
-            .is_none()
-    );
-    match monitor.edge(Edge {
+    for (at, low) in EDGES {
+        let edge = Edge {
+            at: u64::from(*at),
+            low: *low,
+        };
+        assert!(&rt; monitor.edge(edge).is_none());
+    }
+    let next = monitor.edge(Edge {
         at: 9000,
         low: true,
-    }) {
-        None => assert!(rt; false),
-        Some(reading) => {
-            assert!(rt; reading.begin == 1000);
-            assert!(rt; reading.at == 8251);
-            assert!(rt; reading.ending == Ending::Silent);
-            assert!(rt; reading.bits.as_slice() == [true].as_slice());
-        }
-    }
-    match monitor.finish(9500) {
-        None => assert!(rt; false),
-        Some(reading) => {
-            assert!(rt; reading.begin == 9000);
-            assert!(rt; reading.at == 9500);
-            assert!(rt; reading.ending == Ending::Open);
-        }
-    }
-    Ok(())
+    });
+    assert!(&rt; is_reading(next, 1000, 8251, Ending::Silent, &[true]));
+    assert!(&rt; is_reading(monitor.finish(9500), 9000, 9500, Ending::Open, &[]));
 }

@@ -2,7 +2,7 @@
 //! They are frames with their times around the nominal ones, frames with some of their times at the borders of the
 //! windows and with pulses in their slots, and edges without any order. Times are microseconds.
 use crate::plain_readings::readings_of;
-use cec_frame::Ending;
+use cec_frame::{Ending, Reading};
 use cec_mon::watch;
 use cec_text::write_reading;
 use cec_wave::Edge;
@@ -124,7 +124,27 @@ impl Drawing {
         self.slot(pulse, period.saturating_sub(high))
     }
 
-    // A frame: a time in `rarity` is at a border, and a slot in `rarity` has a pulse in it.
+    // A slot: a time in `rarity` is at a border, and a slot in `rarity` has a pulse in it.
+    fn any_slot(&mut self, dice: &mut Dice, bit: bool, rarity: u64) -> Result<(), Fail> {
+        let nominal = if bit { ONE_LOW } else { ZERO_LOW };
+        let low = dice.time(nominal, SLOT_LOW_BORDERS, rarity);
+        let period = dice.time(SLOT_PERIOD, SLOT_PERIOD_BORDERS, rarity);
+        if dice.one_in(rarity) {
+            self.broken_slot(dice, low, period)
+        } else {
+            self.slot(low, period)
+        }
+    }
+
+    fn block(&mut self, dice: &mut Dice, is_last: bool, rarity: u64) -> Result<(), Fail> {
+        for place in 1..=10 {
+            let bit = if place == 9 { is_last } else { dice.one_in(2) };
+            self.any_slot(dice, bit, rarity)?;
+        }
+        Ok(())
+    }
+
+    // A frame: of sixteen blocks none is the last.
     fn frame(&mut self, dice: &mut Dice, blocks: u64, rarity: u64) -> Result<(), Fail> {
         if self.is_low {
             self.turn(ONE_LOW)?;
@@ -133,21 +153,7 @@ impl Drawing {
         let period = dice.time(START_PERIOD, START_PERIOD_BORDERS, rarity);
         self.slot(low, period)?;
         for block in 1..=blocks {
-            for place in 1..=10 {
-                let bit = if place == 9 {
-                    block == blocks && blocks < 16
-                } else {
-                    dice.one_in(2)
-                };
-                let nominal = if bit { ONE_LOW } else { ZERO_LOW };
-                let low = dice.time(nominal, SLOT_LOW_BORDERS, rarity);
-                let period = dice.time(SLOT_PERIOD, SLOT_PERIOD_BORDERS, rarity);
-                if dice.one_in(rarity) {
-                    self.broken_slot(dice, low, period)?;
-                } else {
-                    self.slot(low, period)?;
-                }
-            }
+            self.block(dice, block == blocks && blocks < 16, rarity)?;
         }
         self.at = self.at.saturating_add(dice.below(5000));
         Ok(())
@@ -159,6 +165,22 @@ impl Drawing {
             self.turn(gap)?;
         }
         Ok(())
+    }
+
+    // Edges without order, a frame near its nominal times, or one with times at the borders.
+    fn any_part(&mut self, dice: &mut Dice) -> Result<(), Fail> {
+        match dice.below(4) {
+            0 => self.any_edges(dice),
+            1 => {
+                let blocks = dice.below(4).saturating_add(1);
+                self.frame(dice, blocks, 1_000_000)
+            }
+            _ => {
+                let blocks = dice.below(3).saturating_add(1);
+                let rarity = dice.below(30).saturating_add(6);
+                self.frame(dice, blocks, rarity)
+            }
+        }
     }
 
     // The end of the file. Every other file stops at one of its edges, which may be in the middle of a reading.
@@ -183,34 +205,59 @@ fn drawn(alloc: Global, number: u64) -> Result<(Vec<Edge>, u64), Fail> {
         drawing.frame(&mut dice, 16, 1_000_000)?;
     }
     for _ in 0..dice.below(5) {
-        match dice.below(4) {
-            0 => drawing.any_edges(&mut dice)?,
-            1 => {
-                let blocks = dice.below(4).saturating_add(1);
-                drawing.frame(&mut dice, blocks, 1_000_000)?;
-            }
-            _ => {
-                let blocks = dice.below(3).saturating_add(1);
-                let rarity = dice.below(30).saturating_add(6);
-                drawing.frame(&mut dice, blocks, rarity)?;
-            }
-        }
+        drawing.any_part(&mut dice)?;
     }
     let end = drawing.end(&mut dice);
     Ok((drawing.edges, end))
+}
+
+fn put_line(text: &mut Vec<u8>, alloc: Global, at: u64, word: &str) -> Result<(), Fail> {
+    let line = format!(in alloc; "{at} {word}\n")?;
+    text.extend_from_slice(line.as_bytes())?;
+    Ok(())
 }
 
 // The text of the file.
 fn text_of(alloc: Global, edges: &[Edge], end: u64) -> Result<Vec<u8>, Fail> {
     let mut text = Vec::new(alloc);
     for edge in edges {
-        let level = if edge.low { 0 } else { 1 };
-        let line = format!(in alloc; "{} {level}\n", edge.at)?;
-        text.extend_from_slice(line.as_bytes())?;
+        put_line(&mut text, alloc, edge.at, if edge.low { "0" } else { "1" })?;
     }
-    let line = format!(in alloc; "{end} end\n")?;
-    text.extend_from_slice(line.as_bytes())?;
+    put_line(&mut text, alloc, end, "end")?;
     Ok(text)
+}
+
+// What is read of a text.
+fn read_of(alloc: Global, text: &[u8]) -> Result<Vec<u8>, Fail> {
+    let mut out = Vec::new(alloc);
+    watch(alloc, text, &mut Writes::new(&mut out))?;
+    Ok(out)
+}
+
+// The lines of these readings. Their endings are kept.
+fn lines_of(
+    alloc: Global,
+    readings: &[Reading],
+    endings: &mut Vec<Ending>,
+) -> Result<Vec<u8>, Fail> {
+    let mut lines = Vec::new(alloc);
+    for reading in readings {
+        endings.push(reading.ending)?;
+        write_reading(reading, &mut Writes::new(&mut lines))?;
+    }
+    Ok(lines)
+}
+
+// A file is read as it is in the plainest way. The endings of its readings are kept.
+fn is_read(
+    alloc: Global,
+    edges: &[Edge],
+    end: u64,
+    endings: &mut Vec<Ending>,
+) -> Result<bool, Fail> {
+    let wanted = lines_of(alloc, &readings_of(alloc, edges, end)?, endings)?;
+    let out = read_of(alloc, &text_of(alloc, edges, end)?)?;
+    Ok(out.as_slice() == wanted.as_slice())
 }
 
 fn count_of(endings: &[Ending], wanted: Ending) -> usize {
@@ -223,31 +270,31 @@ fn count_of(endings: &[Ending], wanted: Ending) -> usize {
     count
 }
 
+// How many readings end so, at least.
+const LEAST_COUNTS: &[(Ending, usize)] = &[
+    (Ending::Complete, 200),
+    (Ending::Short, 200),
+    (Ending::Silent, 200),
+    (Ending::BadStart, 200),
+    (Ending::Open, 200),
+    (Ending::Long, 10),
+];
+
+// The same for the file of this number.
+fn is_file_read(alloc: Global, number: u64, endings: &mut Vec<Ending>) -> Result<bool, Fail> {
+    let (edges, end) = drawn(alloc, number)?;
+    is_read(alloc, &edges, end, endings)
+}
+
 #[test]
 fn random_files(rt: HostRuntime) -> Result<(), Fail> {
     let alloc = rt.alloc();
     let mut endings = Vec::new(alloc);
     for number in 0..FILES {
-        let (edges, end) = drawn(alloc, number)?;
-        let mut wanted = Vec::new(alloc);
-        for reading in readings_of(alloc, &edges, end)? {
-            endings.push(reading.ending)?;
-            write_reading(&reading, &mut Writes::new(&mut wanted))?;
-        }
-        let mut out = Vec::new(alloc);
-        let text = text_of(alloc, &edges, end)?;
-        watch(alloc, &text, &mut Writes::new(&mut out))?;
-        assert!(rt; out.as_slice() == wanted.as_slice(), "file {number}");
+        assert!(&rt; is_file_read(alloc, number, &mut endings)?, "file {number}");
     }
-    for ending in &[
-        Ending::Complete,
-        Ending::Short,
-        Ending::Silent,
-        Ending::BadStart,
-        Ending::Open,
-    ] {
-        assert!(rt; count_of(&endings, *ending) >= 200, "{ending:?}");
+    for (ending, least) in LEAST_COUNTS {
+        assert!(&rt; count_of(&endings, *ending) >= *least, "{ending:?}");
     }
-    assert!(rt; count_of(&endings, Ending::Long) >= 10);
     Ok(())
 }

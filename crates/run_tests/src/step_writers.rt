@@ -1,5 +1,8 @@
 //! Writers that take one byte a call, and that fail: what a step has written then, and where the stepper stands.
-use cec_asm::{parse_script, parse_topology};
+ghost use Rattle.std.specs.Prelude.{◌≡◌, length, IfOk};
+ghost use Rattle.cec_asm.specs.Script.{IsScript, course_of};
+
+use cec_asm::{Script, Topology, parse_script, parse_topology};
 use cec_run::emulate::EmulateError;
 use cec_run::root_of;
 use cec_step::step_run::{StepRunError, step_run};
@@ -74,10 +77,17 @@ fn with_room(alloc: Global, room: usize) -> Stingy {
     }
 }
 
-/// A stepper at the start of the run.
-fn at_start(rt: &impl Abort, alloc: Global) -> Result<Stepper, Fail> {
+fn parsed(alloc: Global) -> Result<(Topology, Script), Fail>
+    ensures { IfOk result (λ parsed. IsScript (length parsed.0.tree) (course_of parsed.1)) }
+{
     let topology = parse_topology(alloc, TWO.as_bytes())?;
     let script = parse_script(alloc, &topology, SCRIPT.as_bytes())?;
+    Ok((topology, script))
+}
+
+/// A stepper at the start of the run.
+fn at_start(rt: &impl Abort, alloc: Global) -> Result<Stepper, Fail> {
+    let (topology, script) = parsed(alloc)?;
     let _edid = root_of(&topology.edid)?;
     assert!(rt; topology.tree.count() == 2);
     Ok(Stepper::new(alloc, topology, script)?)
@@ -91,14 +101,25 @@ fn round(stepper: &mut Stepper, out: &mut Stingy) -> Result<u128, StepError> {
     stepper.round(&mut Writes::new(out))
 }
 
+/// Whether the front of a text was written, as far as there was room.
+fn holds_front(out: &Stingy, text: &str) -> bool {
+    text.as_bytes().get(..out.room) == Some(out.held.as_slice())
+}
+
 /// `until` into a writer that fails there: the front of its text was written.
-fn is_cut(rt: &impl Abort, alloc: Global, stepper: &mut Stepper, room: usize) -> Result<(), Fail> {
+fn is_cut(alloc: Global, stepper: &mut Stepper, room: usize) -> bool {
     let mut out = with_room(alloc, room);
     let told = until_poll(stepper, &mut out);
-    let front = POLL.as_bytes().get(..room).ok_or("too long")?;
-    assert_eq!(rt; told, Err(StepError::Write(room as u128)));
-    assert_eq!(rt; out.held.as_slice(), front);
-    Ok(())
+    told == Err(StepError::Write(room as u128)) && holds_front(&out, POLL)
+}
+
+/// `until` and the next round, into a writer that does not fail.
+fn are_written(alloc: Global, stepper: &mut Stepper) -> bool {
+    let mut out = with_room(alloc, POLL.len() + REPORT.len());
+    until_poll(stepper, &mut out) == Ok(POLL.len() as u128)
+        && round(stepper, &mut out) == Ok(REPORT.len() as u128)
+        && out.held.get(..POLL.len()) == Some(POLL.as_bytes())
+        && out.held.get(POLL.len()..) == Some(REPORT.as_bytes())
 }
 
 /// Where the writer fails, the stepper stands where it stood. So the same `until` into one that does not fail writes the
@@ -108,13 +129,9 @@ fn until_is_taken_once_its_text_is_written(rt: HostRuntime) -> Result<(), Fail> 
     let alloc = rt.alloc();
     let mut stepper = at_start(&rt, alloc)?;
     for room in 0..POLL.len() {
-        is_cut(&rt, alloc, &mut stepper, room)?;
+        assert!(&rt; is_cut(alloc, &mut stepper, room), "{room}");
     }
-    let mut out = with_room(alloc, 1_000);
-    assert_eq!(&rt; until_poll(&mut stepper, &mut out), Ok(POLL.len() as u128));
-    assert_eq!(&rt; round(&mut stepper, &mut out), Ok(REPORT.len() as u128));
-    let both = format!(in alloc; "{POLL}{REPORT}")?;
-    assert_eq!(&rt; out.held.as_slice(), both.as_bytes());
+    assert!(&rt; are_written(alloc, &mut stepper));
     Ok(())
 }
 
@@ -129,21 +146,24 @@ fn stepped(alloc: Global, out: &mut Stingy) -> Result<(), StepRunError> {
     )
 }
 
+/// The steps into a writer that fails there.
+fn are_cut(alloc: Global, room: usize) -> bool {
+    let mut out = with_room(alloc, room);
+    match stepped(alloc, &mut out) {
+        Err(StepRunError::Run(EmulateError::Write(count))) => {
+            count == room as u128 && holds_front(&out, STEPPED)
+        }
+        _ => false,
+    }
+}
+
 /// Each step fails at each of its bytes.
 #[test]
-fn steps_are_cut_at_each_byte(rt: HostRuntime) -> Result<(), Fail> {
+fn steps_are_cut_at_each_byte(rt: HostRuntime) {
     let alloc = rt.alloc();
     for room in 0..STEPPED.len() {
-        let mut out = with_room(alloc, room);
-        let told = stepped(alloc, &mut out);
-        let front = STEPPED.as_bytes().get(..room).ok_or("too long")?;
-        assert!(&rt;
-            matches!(told, Err(StepRunError::Run(EmulateError::Write(count))) if count == room as u128)
-        );
-        assert_eq!(&rt; out.held.as_slice(), front);
+        assert!(&rt; are_cut(alloc, room), "{room}");
     }
     let mut out = with_room(alloc, STEPPED.len());
-    assert!(&rt; stepped(alloc, &mut out).is_ok());
-    assert_eq!(&rt; out.held.as_slice(), STEPPED.as_bytes());
-    Ok(())
+    assert!(&rt; stepped(alloc, &mut out).is_ok() && holds_front(&out, STEPPED));
 }

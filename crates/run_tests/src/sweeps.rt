@@ -1,15 +1,12 @@
 //! A pulse at each microsecond of a poll, and at each one of a frame. What has to come out was worked out from the
 //! rules of the wire: a pulse breaks a frame, acknowledges one falsely or refuses one, and never makes another of it.
+use crate::rooms::{LATEST, room, round_before};
 use cec_edges::EdgeWire;
-use cec_frame::{Addr, Ending, Frame};
+use cec_frame::{Addr, Ending, Frame, Reading};
 use cec_net::{Event, Net};
-use cec_wave::{Pulses, Stretch};
+use cec_wave::Stretch;
 use hdmi_core::Kind;
-use hdmi_topo::Tree;
 use std::process::Abort;
-use std::test::Fail;
-
-const LATEST: u64 = 2_000_000_000_000;
 
 /// How wide the pulses are, in microseconds.
 const POLL_WIDTHS: [u64; 5] = [1, 400, 3_000, 3_700, 10_000];
@@ -30,44 +27,24 @@ const FRAME_BEGIN: u64 = 1_000_000;
 
 const FRAME_COMPLETE: u64 = 1_051_150;
 
-// One pulse.
-fn pulse(rt: &impl Abort, from: u64, width: u64) -> Pulses {
+// A television of four ports, these devices in the first of them, and one pulse.
+fn room_under(rt: &impl Abort, kinds: &[Kind], from: u64, width: u64) -> Net<EdgeWire> {
     let to = u64::saturating_add(from, width);
-    let pulses = Pulses::new(&[Stretch { from, to }]).expect(rt, "a pulse");
-    assert!(rt; pulses.as_slice().iter().all(|pulse| pulse.from <= LATEST));
-    pulses
-}
-
-// A television, alone or with a player in its first port.
-fn room(rt: &impl Abort, with_player: bool, pulses: Pulses) -> Net<EdgeWire> {
-    let mut tree = Tree::new();
-    tree.add(b"tv", Kind::Tv, 4).expect(rt, "a television");
-    if with_player {
-        let number = tree.count();
-        tree.add(b"p1", Kind::Player, 0).expect(rt, "a player");
-        assert!(rt; number < tree.count() && 0 < number);
-        tree.plug(number, 0, 1).expect(rt, "a free port");
-    }
-    assert!(rt; 0 < tree.count());
-    assert!(rt; pulses.as_slice().iter().all(|pulse| pulse.from <= LATEST));
-    Net::new(tree, EdgeWire::new(), pulses)
+    room(rt, 4, kinds, &[Stretch { from, to }])
 }
 
 // The address that the television holds in the end, where a pulse falls into its poll.
 fn polled_under(rt: &impl Abort, from: u64, width: u64) -> [Option<Addr>; 2] {
-    let mut net = room(rt, false, pulse(rt, from, width));
+    let mut net = room_under(rt, &[], from, width);
     for _round in 0..20 {
-        if net.next_start().is_some_and(|start| start < 200_000) {
-            assert!(rt; net.close() <= LATEST);
-            net.round();
-        }
+        let _ = round_before(rt, &mut net, 200_000);
     }
     assert!(rt; 0 < net.tree().count());
     net.device(0).held()
 }
 
 #[test]
-fn a_poll_under_each_pulse(rt: HostRuntime) -> Result<(), Fail> {
+fn a_poll_under_each_pulse(rt: HostRuntime) {
     for width in POLL_WIDTHS {
         for from in POLL_BEGIN..POLL_COMPLETE + 1 {
             let is_false = width >= 3_000 && FIRST_FALSE <= from && from <= LAST_FALSE;
@@ -75,47 +52,53 @@ fn a_poll_under_each_pulse(rt: HostRuntime) -> Result<(), Fail> {
             assert!(&rt; polled_under(&rt, from, width) == [Some(Addr::new(address)), None]);
         }
     }
-    Ok(())
+}
+
+// A television and a player that have their addresses, and the player's frame to send at 1,000,000.
+fn sending_under(rt: &impl Abort, from: u64, width: u64) -> Net<EdgeWire> {
+    let mut net = room_under(rt, &[Kind::Player], from, width);
+    for _round in 0..4 {
+        let _ = round_before(rt, &mut net, LATEST);
+    }
+    assert!(rt; net.close() == 347_255 && 1 < net.tree().count());
+    let frame = Frame::new(&[0x40, 0x04]).expect(rt, "a frame");
+    let event = Event::Send { device: 1, frame };
+    assert!(rt; net.apply(FRAME_BEGIN, event).is_ok());
+    net
+}
+
+// It is the player's frame, acknowledged.
+fn is_acknowledged(reading: &Reading) -> bool {
+    match reading.frame() {
+        Some(frame) => frame.bytes() == [0x40, 0x04].as_slice()
+            && reading.bits.last() == Some(&false),
+        None => false,
+    }
 }
 
 // The player sends image-view-on at 1,000,000, and a pulse falls into it: one reading is complete, and it is that frame
 // with its acknowledgement. Nothing is left to send.
 fn sends_once_under(rt: &impl Abort, from: u64, width: u64) {
-    let mut net = room(rt, true, pulse(rt, from, width));
-    for _round in 0..4 {
-        assert!(rt; net.close() <= LATEST);
-        net.round();
-    }
-    assert!(rt; net.close() == 347_255);
-    let frame = Frame::new(&[0x40, 0x04]).expect(rt, "a frame");
-    assert!(rt; 1 < net.tree().count());
-    let event = Event::Send { device: 1, frame };
-    assert!(rt; net.apply(FRAME_BEGIN, event).is_ok());
-    let mut complete = 0u8;
+    let mut net = sending_under(rt, from, width);
+    let mut complete = 0;
     for _round in 0..12 {
-        if net.next_start().is_some_and(|start| start < 1_300_000) {
-            assert!(rt; net.close() <= LATEST);
-            let report = net.round().expect(rt, "a round");
+        if let Some(report) = round_before(rt, &mut net, 1_300_000) {
             let reading = &report.outcome.reading;
             if reading.ending == Ending::Complete {
                 complete = u8::saturating_add(complete, 1);
-                let frame = reading.frame().expect(rt, "a frame");
-                assert!(rt; frame.bytes() == [0x40, 0x04].as_slice());
-                assert!(rt; reading.bits.last() == Some(&false));
+                assert!(rt; is_acknowledged(reading));
             }
         }
     }
-    assert!(rt; complete == 1);
-    assert!(rt; 1 < net.tree().count());
+    assert!(rt; complete == 1 && 1 < net.tree().count());
     assert!(rt; net.device(1).queue_len() == 0);
 }
 
 #[test]
-fn a_frame_under_each_pulse(rt: HostRuntime) -> Result<(), Fail> {
+fn a_frame_under_each_pulse(rt: HostRuntime) {
     for width in FRAME_WIDTHS {
         for from in FRAME_BEGIN..FRAME_COMPLETE + 1 {
             sends_once_under(&rt, from, width);
         }
     }
-    Ok(())
 }
