@@ -4,45 +4,74 @@ use hdminet_program::program::tell;
 use std::alloc::AllocError;
 
 /// The program shows a text on standard output that has this part.
-fn shows(rt: &impl Abort, alloc: Global, texts: &[&str], part: &str) -> Result<(), Fail> {
-    let told = answer_to(alloc, texts, &mut "".as_bytes())?;
-    let shown = String::from_utf8(told.out)?;
-    assert!(rt; shown.contains(part));
-    assert_eq!(rt; told.err.len(), 0);
-    assert_eq!(rt; told.status, 0);
+fn shows(rt: &impl Abort, alloc: Global, line: &str, part: &str) -> Result<(), Fail> {
+    let text = written(rt, alloc, line, b"")?;
+    expect(rt, text.as_str().contains(part), line, part);
     Ok(())
 }
 
-/// A subcommand, and a part of what its help says.
+/// A command line, and a part of what it shows, with `;` for a line feed.
 const HELP: &str = "\
-run =>   at 1000000 press p1 play
-run => --edges
-run =>   watch PA       tv
-asm => 4f821000
-edid =>   made 10 2011 
-edid => --text
-edid => --explain
+run --help =>   at 1000000 press p1 play
+run --help => --edges
+run --help =>   watch PA       tv
+asm --help => 4f821000
+edid --help =>   made 10 2011 
+edid --help => --text
+edid --help => --explain
+--help => With --explain a fault is followed by
+--help =>       device tv tv 4
+--help => `4>f active-source 1.0.0.0`
+--help => ./hdminet edid --text < 
+--version => hdminet 0.1.0;
 ";
 
-/// Parts of what the help of the program says.
-const OVERVIEW: &str = "\
-With --explain a fault is followed by
-      device tv tv 4
-`4>f active-source 1.0.0.0`
-./hdminet edid --text < 
+/// Lines that `asm --help` shows, written by hand from the table of opcodes.
+const FRAMES: &str = "  00 feature-abort BYTE REASON
+  04 image-view-on
+  05 tuner-step-increment :HEX
+  1a give-deck-status STATUS
+  32 set-menu-language LANG
+  41 play MODE
+  44 user-control-pressed CODE
+  47 set-osd-name TEXT
+  64 set-osd-string DISPLAY [TEXT]
+  70 system-audio-mode-request [PA]
+  72 set-system-audio-mode SYS
+  7a report-audio-status VOLUME
+  80 routing-change PA PA
+  82 active-source PA
+  84 report-physical-address PA TYPE
+  87 device-vendor-id ID
+  9e cec-version VERSION
+  a2 set-external-timer :HEX
+  ff abort
+  REASON   unrecognized wrong-mode no-source invalid-operand refused
+  POWER    on standby
+  SYS      off on
+  TYPE     tv recorder tuner playback audio switch
+  STATUS   on off once
+  DECK     play still fast-forward fast-reverse no-media stop skip-forward skip-reverse
+  MODE     forward still ff-min ff-mid ff-max fr-min fr-mid fr-max
+  CONTROL  skip-forward skip-reverse stop eject
+  DISPLAY  default hold clear
+  MENU     activate deactivate query
+  MSTATE   activated deactivated
+  VERSION  1.4
 ";
 
 #[test]
-fn explains_itself(rt: HostRuntime) -> Result<(), Fail> {
+fn explains_itself_and_lists_the_frames(rt: HostRuntime) -> Result<(), Fail> {
     let alloc = rt.alloc();
     for case in HELP.lines() {
-        let (command, part) = case.split_once(" => ").ok_or("no case")?;
-        shows(&rt, alloc, [command, "--help"].as_slice(), part)?;
+        let (line, part) = two_parts(case)?;
+        shows(&rt, alloc, line, with_lines(alloc, part)?.as_str())?;
     }
-    for part in OVERVIEW.lines() {
-        shows(&rt, alloc, ["--help"].as_slice(), part)?;
+    for frame in FRAMES.lines() {
+        let whole = format!(in alloc; "\n{frame}\n")?;
+        shows(&rt, alloc, "asm --help", whole.as_str())?;
     }
-    shows(&rt, alloc, ["--version"].as_slice(), "hdminet 0.1.0\n")
+    Ok(())
 }
 
 /// Words that are no command line.
@@ -60,34 +89,24 @@ step tv.steps
 ";
 
 /// The program refuses these words.
-fn is_refused(rt: &impl Abort, alloc: Global, texts: &[&str]) -> Result<(), Fail> {
-    let told = answer_to(alloc, texts, &mut "".as_bytes())?;
-    assert_eq!(rt; told.status, 2);
-    assert_eq!(rt; told.out.len(), 0);
-    assert!(rt; !told.err.is_empty());
+fn refuses_line(rt: &impl Abort, alloc: Global, line: &str) -> Result<(), Fail> {
+    let told = answer_to(alloc, line, b"".as_slice())?;
+    let refused = told.status == 2 && told.out.is_empty() && !told.err.is_empty();
+    expect(rt, refused, line, "refused");
     Ok(())
 }
 
 #[test]
 fn refuses_other_command_lines(rt: HostRuntime) -> Result<(), Fail> {
-    let alloc = rt.alloc();
     for line in REFUSED.lines() {
-        is_refused(&rt, alloc, &parted(alloc, line)?)?;
+        refuses_line(&rt, rt.alloc(), line)?;
     }
     Ok(())
 }
 
 #[test]
 fn tells_that_help_was_not_written(rt: HostRuntime) -> Result<(), Fail> {
-    let alloc = rt.alloc();
-    let told = stingy_answer(alloc, ["--help"].as_slice(), b"", 9)?;
-    assert_eq!(rt; told.out.as_slice(), b"Emulates ".as_slice());
-    assert_eq!(rt;
-        told.err.as_slice(),
-        b"hdminet: write fault after 9 bytes\n".as_slice()
-    );
-    assert_eq!(rt; told.status, 3);
-    Ok(())
+    writes_front(&rt, rt.alloc(), "--help", b"", b"Emulates ")
 }
 
 /// The program tells of a fault so, and ends with this status.
@@ -99,9 +118,21 @@ fn tells(
     status: u8,
 ) -> Result<(), Fail> {
     let mut err = Vec::new(alloc);
-    assert_eq!(rt; tell(fault, &mut Writes::new(&mut err)), status);
-    assert_eq!(rt; err.as_slice(), text.as_bytes());
+    let told = tell(fault, &mut Writes::new(&mut err)) == status;
+    expect(rt, told && err.as_slice() == text.as_bytes(), "", text);
     Ok(())
+}
+
+/// The program was not handed its words, for this reason.
+fn tells_of_words(
+    rt: &impl Abort,
+    alloc: Global,
+    reason: ErrorKind,
+    text: &str,
+    status: u8,
+) -> Result<(), Fail> {
+    let fault = Fault::of_words(io::Error::from(reason));
+    tells(rt, alloc, &fault, text, status)
 }
 
 #[test]
@@ -109,8 +140,7 @@ fn tells_why_it_has_no_words_or_no_memory(rt: HostRuntime) -> Result<(), Fail> {
     let alloc = rt.alloc();
     let no_memory = "hdminet: no memory\n";
     tells(&rt, alloc, &Fault::Memory(AllocError), no_memory, 4)?;
-    let fault = Fault::of_words(io::Error::from(ErrorKind::OutOfMemory));
-    tells(&rt, alloc, &fault, no_memory, 4)?;
-    let fault = Fault::of_words(io::Error::from(ErrorKind::InvalidData));
-    tells(&rt, alloc, &fault, "hdminet: an argument is not UTF-8\n", 2)
+    tells_of_words(&rt, alloc, ErrorKind::OutOfMemory, no_memory, 4)?;
+    let not_text = "hdminet: an argument is not UTF-8\n";
+    tells_of_words(&rt, alloc, ErrorKind::InvalidData, not_text, 2)
 }

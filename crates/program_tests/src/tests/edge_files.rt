@@ -1,8 +1,6 @@
 //! Runs, and the edges of their lines, worked out by hand from the times of a sender.
 use super::*;
 
-const RUN: [&str; 2] = ["run", "--edges"];
-
 /// A television polls address 0, and the script ends before the round has closed.
 pub(super) const POLL: &str = "device tv tv 1\nscript\nend 20000\n";
 
@@ -33,33 +31,49 @@ pub(super) const POLL_EDGES: &str = "\
 39150 end
 ";
 
+/// The edges of two runs: the poll's, and those of a line on which nothing happens.
+const RUNS: &[Case<'static>] = &[
+    Case {
+        name: "a poll",
+        line: "run --edges",
+        input: POLL,
+        want: POLL_EDGES,
+    },
+    Case {
+        name: "nothing happens",
+        line: "run --edges",
+        input: "device tv tv 1\nscript\nat 10 press tv play\nend 12000\n",
+        want: "12000 end\n",
+    },
+];
+
 #[test]
-fn a_poll_has_its_edges(rt: HostRuntime) -> Result<(), Fail> {
+fn a_run_has_its_edges(rt: HostRuntime) -> Result<(), Fail> {
     let alloc = rt.alloc();
     let (input, edges) = (POLL.as_bytes(), POLL_EDGES.as_bytes());
-    gives(&rt, alloc, RUN.as_slice(), input, edges)?;
-    cuts(&rt, alloc, RUN.as_slice(), input, edges, 30)?;
-    cuts(&rt, alloc, RUN.as_slice(), input, edges, 0)
+    gives_each(&rt, alloc, RUNS)?;
+    cuts(&rt, alloc, "run --edges", input, edges, &[30, 0])
 }
 
-#[test]
-fn nothing_happens_on_the_line(rt: HostRuntime) -> Result<(), Fail> {
-    let input = b"device tv tv 1\nscript\nat 10 press tv play\nend 12000\n";
-    let alloc = rt.alloc();
-    gives(&rt, alloc, RUN.as_slice(), input, b"12000 end\n")
-}
-
-/// A television and a player in its first port.
-const TWO: &str = "device tv tv 4\ndevice p1 player 0\nplug p1 tv 1\nscript\n";
-
-/// The edge file of the two with a script.
-fn edges_of_two(rt: &impl Abort, alloc: Global, script: &str) -> Result<Vec<u8>, Fail> {
-    let input = format!(in alloc; "{TWO}{script}")?;
-    let mut rest = input.as_bytes();
-    let told = answer_to(alloc, RUN.as_slice(), &mut rest)?;
-    assert_eq!(rt; told.err.len(), 0);
-    assert_eq!(rt; told.status, 0);
-    Ok(told.out)
+/// The edge file of a run has this part, and is read so.
+fn is_read(
+    rt: &impl Abort,
+    alloc: Global,
+    input: &str,
+    part: &str,
+    readings: &str,
+) -> Result<(), Fail> {
+    let edges = written(rt, alloc, "run --edges", input.as_bytes())?;
+    let edges = edges.as_str();
+    let right = edges.contains(part) && edges.ends_with(" end\n");
+    expect(rt, right, "run --edges", input);
+    let read = Case {
+        name: input,
+        line: "mon",
+        input: edges,
+        want: readings,
+    };
+    gives(rt, alloc, &read)
 }
 
 const TWO_READINGS: &str = "\
@@ -69,23 +83,8 @@ const TWO_READINGS: &str = "\
 224105 347255 complete 4>f report-physical-address 1.0.0.0 playback ok
 ";
 
-#[test]
-fn the_line_of_a_run_is_read_as_its_rounds(rt: HostRuntime) -> Result<(), Fail> {
-    let alloc = rt.alloc();
-    let edges = edges_of_two(&rt, alloc, "end 400000\n")?;
-    assert!(&rt; edges.ends_with(b"\n400000 end\n"));
-    gives(
-        &rt,
-        alloc,
-        ["mon"].as_slice(),
-        &edges,
-        TWO_READINGS.as_bytes(),
-    )
-}
-
-/// A player's frame, broken by a pulse in its second slot; a follower pulls low from there, and the frame comes again.
-const BROKEN: &str = "at 1000000 send p1 4>0 image-view-on\npulse 1006500 100\nend 1300000\n";
-
+/// The edges of a player's frame that a pulse breaks in its second slot; a follower pulls low from there, and the frame comes
+/// again.
 const BROKEN_EDGES: &str = "\
 1000000 0
 1003700 1
@@ -98,20 +97,49 @@ const BROKEN_EDGES: &str = "\
 ";
 
 const BROKEN_READINGS: &str = "\
+12000 39150 complete 0>0 nack
+50705 77855 complete 4>4 nack
+89405 212555 complete 0>f report-physical-address 0.0.0.0 tv ok
+224105 347255 complete 4>f report-physical-address 1.0.0.0 playback ok
 1000000 1006500 short 0
 1017300 1068450 complete 4>0 image-view-on ack
 ";
 
+const WIDE_BREAK_READINGS: &str = "\
+12000 39150 complete 0>0 nack
+50705 77855 complete 4>4 nack
+89405 212555 complete 0>f report-physical-address 0.0.0.0 tv ok
+224105 347255 complete 4>f report-physical-address 1.0.0.0 playback ok
+1000000 1007251 silent 0
+1021700 1072850 complete 4>0 image-view-on ack
+";
+
+/// A script over a television and a player in its first port, a part of its edge file, and how that is read.
+const SCRIPTS: &[(&str, &str, &str)] = &[
+    ("end 400000\n", "\n400000 end\n", TWO_READINGS),
+    (
+        "at 1000000 send p1 4>0 image-view-on\npulse 1006500 100\nend 1300000\n",
+        BROKEN_EDGES,
+        BROKEN_READINGS,
+    ),
+    (
+        "at 1000000 send p1 4>0 image-view-on\npulse 1004500 10000\nend 1300000\n",
+        "",
+        WIDE_BREAK_READINGS,
+    ),
+];
+
 #[test]
-fn a_pulse_breaks_a_round(rt: HostRuntime) -> Result<(), Fail> {
+fn the_line_of_a_run_is_read_as_its_rounds(rt: HostRuntime) -> Result<(), Fail> {
     let alloc = rt.alloc();
-    let edges = edges_of_two(&rt, alloc, BROKEN)?;
-    let broken = BROKEN_EDGES.as_bytes();
-    let length = broken.len();
-    assert!(&rt; length > 0);
-    assert!(&rt; edges.windows(length).any(|part| part == broken));
-    let readings = format!(in alloc; "{TWO_READINGS}{BROKEN_READINGS}")?;
-    gives(&rt, alloc, ["mon"].as_slice(), &edges, readings.as_bytes())
+    for row in SCRIPTS {
+        let (script, part, readings) = *row;
+        let input = format!(in alloc;
+            "device tv tv 4\ndevice p1 player 0\nplug p1 tv 1\nscript\n{script}"
+        )?;
+        is_read(&rt, alloc, input.as_str(), part, readings)?;
+    }
+    Ok(())
 }
 
 /// A wide pulse at a lone television that polls, and the readings of the run's edges, with `;` for each line feed.
@@ -122,53 +150,18 @@ pulse 12100 3800 => 12000 39150 complete 0>0 nack;
 pulse 12100 3801 => 12000 15901 bad-start -;23104 50254 complete 0>0 nack;
 ";
 
+/// The edges of a television with this pulse are read so.
+fn is_read_with(rt: &impl Abort, alloc: Global, pulse: &str, readings: &str) -> Result<(), Fail> {
+    let input = format!(in alloc; "device tv tv 1\nscript\n{pulse}\nend 28000\n")?;
+    let readings = with_lines(alloc, readings)?;
+    is_read(rt, alloc, input.as_str(), "", readings.as_str())
+}
+
 #[test]
 fn the_edges_of_wide_pulses_are_read(rt: HostRuntime) -> Result<(), Fail> {
-    let alloc = rt.alloc();
     for case in WIDE.lines() {
-        let (pulse, readings) = case.split_once(" => ").ok_or("no case")?;
-        let input = format!(in alloc; "device tv tv 1\nscript\n{pulse}\nend 28000\n")?;
-        let told = answer_to(alloc, RUN.as_slice(), &mut input.as_bytes())?;
-        let readings = with_lines(alloc, readings)?;
-        gives(
-            &rt,
-            alloc,
-            ["mon"].as_slice(),
-            &told.out,
-            readings.as_bytes(),
-        )?;
+        let (pulse, readings) = two_parts(case)?;
+        is_read_with(&rt, rt.alloc(), pulse, readings)?;
     }
     Ok(())
-}
-
-const WIDE_BREAK: &str = "at 1000000 send p1 4>0 image-view-on\npulse 1004500 10000\nend 1300000\n";
-
-const WIDE_BREAK_READINGS: &str = "\
-1000000 1007251 silent 0
-1021700 1072850 complete 4>0 image-view-on ack
-";
-
-#[test]
-fn the_edges_of_a_wide_break_are_read(rt: HostRuntime) -> Result<(), Fail> {
-    let alloc = rt.alloc();
-    let edges = edges_of_two(&rt, alloc, WIDE_BREAK)?;
-    let readings = format!(in alloc; "{TWO_READINGS}{WIDE_BREAK_READINGS}")?;
-    gives(&rt, alloc, ["mon"].as_slice(), &edges, readings.as_bytes())
-}
-
-/// Inputs with `;` for each line feed, and their faults.
-const REFUSED: &str = "\
-device tv tv 1;end 5; => no script line
-devise tv tv 1;script;stop 5; => topology line 1: word
-device tv tv 1;script;stop 5; => script line 1: word
-";
-
-#[test]
-fn refuses_what_a_run_refuses(rt: HostRuntime) -> Result<(), Fail> {
-    let frame = Frame {
-        before: "",
-        after: "",
-        fault: "",
-    };
-    refuses_each(&rt, rt.alloc(), RUN.as_slice(), frame, REFUSED)
 }

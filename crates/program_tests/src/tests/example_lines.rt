@@ -1,17 +1,6 @@
-//! The networks of examples/ that have the edge file of their line. tools/example-tests writes this file.
-use super::*;
+//! The edge files of those networks of examples/ that have one. tools/example-tests writes this file.
 
-const FIRST_PATH_NET: &str = "\
-# A television with four ports, and a player in its first port.
-device tv tv 4
-device p1 player 0
-plug p1 tv 1
-script
-at 1000000 press p1 play
-end 1500000
-";
-
-const FIRST_PATH_LINE: &str = "\
+pub(super) const FIRST_PATH_LINE: &str = "\
 12000 0
 15700 1
 16500 0
@@ -386,11 +375,3 @@ const FIRST_PATH_LINE: &str = "\
 1167100 1
 1500000 end
 ";
-
-#[test]
-fn line_of_first_path(rt: HostRuntime) -> Result<(), Fail> {
-    let words = ["run", "--edges"];
-    let input = FIRST_PATH_NET.as_bytes();
-    let output = FIRST_PATH_LINE.as_bytes();
-    gives(&rt, rt.alloc(), words.as_slice(), input, output)
-}

@@ -1,4 +1,5 @@
 //! The files of examples/, each with its output. tools/example-tests writes this file.
+use super::example_lines::FIRST_PATH_LINE;
 use super::*;
 
 const FIRST_PATH_NET: &str = "\
@@ -23,14 +24,6 @@ state tv tv 0 0.0.0.0 on active=1.0.0.0 path=1.0.0.0 deck=1a menu=off audio=off 
 state p1 player 4 1.0.0.0 on active=1.0.0.0 path=1.0.0.0 deck=11 menu=off audio=off volume=20 mute=off arc=off sel=- lang=656e67 osd=- held=- heard=0:84:00 sub=- queue=0 dropped=0
 1500000 end
 ";
-
-#[test]
-fn first_path(rt: HostRuntime) -> Result<(), Fail> {
-    let words = ["run"];
-    let input = FIRST_PATH_NET.as_bytes();
-    let output = FIRST_PATH_TRACE.as_bytes();
-    gives(&rt, rt.alloc(), words.as_slice(), input, output)
-}
 
 const FOUR_PLAYERS_NET: &str = "\
 # Four players on one television. Players share three addresses, so the last one finds none.
@@ -69,14 +62,6 @@ state p3 player b 3.0.0.0 on active=- path=- deck=1a menu=off audio=off volume=2
 state p4 player f 4.0.0.0 on active=- path=- deck=1a menu=off audio=off volume=20 mute=off arc=off sel=- lang=656e67 osd=- held=- heard=b:84:30 sub=- queue=0 dropped=0
 1500000 end
 ";
-
-#[test]
-fn four_players(rt: HostRuntime) -> Result<(), Fail> {
-    let words = ["run"];
-    let input = FOUR_PLAYERS_NET.as_bytes();
-    let output = FOUR_PLAYERS_TRACE.as_bytes();
-    gives(&rt, rt.alloc(), words.as_slice(), input, output)
-}
 
 const LIVING_ROOM_EVENING_NET: &str = "\
 # A television; an amplifier in its first port, with a player below it; a switch in its second port, with a
@@ -178,14 +163,6 @@ state p2 player 8 3.0.0.0 standby active=2.2.0.0 path=2.2.0.0 deck=1a menu=off a
 14000000 end
 ";
 
-#[test]
-fn living_room_evening(rt: HostRuntime) -> Result<(), Fail> {
-    let words = ["run"];
-    let input = LIVING_ROOM_EVENING_NET.as_bytes();
-    let output = LIVING_ROOM_EVENING_TRACE.as_bytes();
-    gives(&rt, rt.alloc(), words.as_slice(), input, output)
-}
-
 const PORTS_NET: &str = "\
 # A television with an EDID. An amplifier, and a player below it, move from its first port to its second.
 device tv tv 2
@@ -222,14 +199,6 @@ state amp amp 5 2.0.0.0 on active=- path=- deck=1a menu=off audio=off volume=20 
 state p1 player 4 2.1.0.0 on active=- path=- deck=1a menu=off audio=off volume=20 mute=off arc=off sel=- lang=656e67 osd=- held=- heard=5:84:20 sub=- queue=0 dropped=0
 2000000 end
 ";
-
-#[test]
-fn ports(rt: HostRuntime) -> Result<(), Fail> {
-    let words = ["run"];
-    let input = PORTS_NET.as_bytes();
-    let output = PORTS_TRACE.as_bytes();
-    gives(&rt, rt.alloc(), words.as_slice(), input, output)
-}
 
 const RECORDER_AND_PLAYER_NET: &str = "\
 # A recorder and a player in one box, beside a player that takes the first address of its kind.
@@ -274,14 +243,6 @@ state p player 4 1.0.0.0 on active=2.0.0.0 path=2.0.0.0 deck=1a menu=off audio=o
 state box combo 1+8 2.0.0.0 on active=2.0.0.0 path=2.0.0.0 deck=11 menu=off audio=off volume=20 mute=off arc=off sel=- lang=656e67 osd=- held=- heard=4:84:10 sub=- queue=0 dropped=0
 3000000 end
 ";
-
-#[test]
-fn recorder_and_player(rt: HostRuntime) -> Result<(), Fail> {
-    let words = ["run"];
-    let input = RECORDER_AND_PLAYER_NET.as_bytes();
-    let output = RECORDER_AND_PLAYER_TRACE.as_bytes();
-    gives(&rt, rt.alloc(), words.as_slice(), input, output)
-}
 
 const ARBITRATION_STEPS: &str = "\
 # Two devices send at once, and the one with the lower address goes on: an arbitration edge by edge.
@@ -342,14 +303,6 @@ const ARBITRATION_STEPPED: &str = "\
 ended
 ";
 
-#[test]
-fn arbitration(rt: HostRuntime) -> Result<(), Fail> {
-    let words = ["step"];
-    let input = ARBITRATION_STEPS.as_bytes();
-    let output = ARBITRATION_STEPPED.as_bytes();
-    gives(&rt, rt.alloc(), words.as_slice(), input, output)
-}
-
 const TWO_ADDRESSES_STEPS: &str = "\
 # A recorder and a player in one box look for their addresses, one after the other: both allocations step by step.
 device tv tv 1
@@ -394,14 +347,6 @@ state box combo 1+4 1.0.0.0 on active=- path=- deck=1a menu=off audio=off volume
 ended
 ";
 
-#[test]
-fn two_addresses(rt: HostRuntime) -> Result<(), Fail> {
-    let words = ["step"];
-    let input = TWO_ADDRESSES_STEPS.as_bytes();
-    let output = TWO_ADDRESSES_STEPPED.as_bytes();
-    gives(&rt, rt.alloc(), words.as_slice(), input, output)
-}
-
 const FRAMES_TXT: &str = "\
 # What a television, an amplifier and a player say to each other.
 
@@ -442,14 +387,6 @@ const FRAMES_HEX: &str = "\
 507a15
 0f36
 ";
-
-#[test]
-fn frames(rt: HostRuntime) -> Result<(), Fail> {
-    let words = ["asm"];
-    let input = FRAMES_TXT.as_bytes();
-    let output = FRAMES_HEX.as_bytes();
-    gives(&rt, rt.alloc(), words.as_slice(), input, output)
-}
 
 const CAPTURE_EDGES: &str = "\
 # The line of a television that comes up: its poll, which nobody acknowledges, and its report.
@@ -595,14 +532,6 @@ const CAPTURE_READINGS: &str = "\
 400000 407251 silent 1
 ";
 
-#[test]
-fn capture(rt: HostRuntime) -> Result<(), Fail> {
-    let words = ["mon"];
-    let input = CAPTURE_EDGES.as_bytes();
-    let output = CAPTURE_READINGS.as_bytes();
-    gives(&rt, rt.alloc(), words.as_slice(), input, output)
-}
-
 const LIVING_ROOM_EDID: &str =
     "00ffffffffffff004c2d0201010000000a15010380341d780eee91a3544c99260f505420000001010101010101010101010101010101023a801871382d40582c450008222100001e011d007251d01e206e28550008222100001e000000fc004c4f554e47452054560a202020000000fd00173d0f440f000a20202020202001d402031af14490040301230907078301000065030c000000e2004f0000000000000000000000000000000000000000000000000000000000000000000000000000000000000000000000000000000000000000000000000000000000000000000000000000000000000000000000000000000000000000000000000000000000b1\n";
 
@@ -638,22 +567,6 @@ hdmi 0.0.0.0 -
 extended 004f
 tail -
 ";
-
-#[test]
-fn living_room_as_text(rt: HostRuntime) -> Result<(), Fail> {
-    let words = ["edid"];
-    let input = hex::decode(rt.alloc(), LIVING_ROOM_EDID.trim_end())?;
-    let output = LIVING_ROOM_EDID_TXT.as_bytes();
-    gives(&rt, rt.alloc(), words.as_slice(), &input, output)
-}
-
-#[test]
-fn living_room_as_bytes(rt: HostRuntime) -> Result<(), Fail> {
-    let words = ["edid", "--text"];
-    let input = LIVING_ROOM_EDID_TXT.as_bytes();
-    let output = LIVING_ROOM_EDID.as_bytes();
-    gives(&rt, rt.alloc(), words.as_slice(), input, output)
-}
 
 const MONITOR_1_4_EDID: &str =
     "00ffffffffffff0010ac0041000000000c1e0104a53c22783eee91a3544c99260f5054a54b008180a9c0d1c001010101010101010101023a801871382d40582c450056502100001e000000ff00434656394e303132330a202020000000fc004445534b204d4f4e49544f520a000000fd00314b1e5311010a202020202020018f020315f14590040302012309070783010000e200ca011d007251d01e206e28550056502100001e00000000000000000000000000000000000000000000000000000000000000000000000000000000000000000000000000000000000000000000000000000000000000000000000000000000000000000000000000000000ed\n";
@@ -691,18 +604,106 @@ timing 7425 1280 370 720 30 110 40 5 5 598 336 0 0 1e
 tail -
 ";
 
-#[test]
-fn monitor_1_4_as_text(rt: HostRuntime) -> Result<(), Fail> {
-    let words = ["edid"];
-    let input = hex::decode(rt.alloc(), MONITOR_1_4_EDID.trim_end())?;
-    let output = MONITOR_1_4_EDID_TXT.as_bytes();
-    gives(&rt, rt.alloc(), words.as_slice(), &input, output)
-}
+const EXAMPLES: &[Case<'static>] = &[
+    Case {
+        name: "first-path",
+        line: "run",
+        input: FIRST_PATH_NET,
+        want: FIRST_PATH_TRACE,
+    },
+    Case {
+        name: "four-players",
+        line: "run",
+        input: FOUR_PLAYERS_NET,
+        want: FOUR_PLAYERS_TRACE,
+    },
+    Case {
+        name: "living-room-evening",
+        line: "run",
+        input: LIVING_ROOM_EVENING_NET,
+        want: LIVING_ROOM_EVENING_TRACE,
+    },
+    Case {
+        name: "ports",
+        line: "run",
+        input: PORTS_NET,
+        want: PORTS_TRACE,
+    },
+    Case {
+        name: "recorder-and-player",
+        line: "run",
+        input: RECORDER_AND_PLAYER_NET,
+        want: RECORDER_AND_PLAYER_TRACE,
+    },
+    Case {
+        name: "line of first-path",
+        line: "run --edges",
+        input: FIRST_PATH_NET,
+        want: FIRST_PATH_LINE,
+    },
+    Case {
+        name: "arbitration",
+        line: "step",
+        input: ARBITRATION_STEPS,
+        want: ARBITRATION_STEPPED,
+    },
+    Case {
+        name: "two-addresses",
+        line: "step",
+        input: TWO_ADDRESSES_STEPS,
+        want: TWO_ADDRESSES_STEPPED,
+    },
+    Case {
+        name: "frames",
+        line: "asm",
+        input: FRAMES_TXT,
+        want: FRAMES_HEX,
+    },
+    Case {
+        name: "capture",
+        line: "mon",
+        input: CAPTURE_EDGES,
+        want: CAPTURE_READINGS,
+    },
+    Case {
+        name: "living-room as bytes",
+        line: "edid --text",
+        input: LIVING_ROOM_EDID_TXT,
+        want: LIVING_ROOM_EDID,
+    },
+    Case {
+        name: "monitor-1.4 as bytes",
+        line: "edid --text",
+        input: MONITOR_1_4_EDID_TXT,
+        want: MONITOR_1_4_EDID,
+    },
+];
 
 #[test]
-fn monitor_1_4_as_bytes(rt: HostRuntime) -> Result<(), Fail> {
-    let words = ["edid", "--text"];
-    let input = MONITOR_1_4_EDID_TXT.as_bytes();
-    let output = MONITOR_1_4_EDID.as_bytes();
-    gives(&rt, rt.alloc(), words.as_slice(), input, output)
+fn each_example_gives_its_output(rt: HostRuntime) -> Result<(), Fail> {
+    gives_each(&rt, rt.alloc(), EXAMPLES)
+}
+
+/// Those whose input is an EDID, in hex.
+const EDIDS: &[Case<'static>] = &[
+    Case {
+        name: "living-room as text",
+        line: "edid",
+        input: LIVING_ROOM_EDID,
+        want: LIVING_ROOM_EDID_TXT,
+    },
+    Case {
+        name: "monitor-1.4 as text",
+        line: "edid",
+        input: MONITOR_1_4_EDID,
+        want: MONITOR_1_4_EDID_TXT,
+    },
+];
+
+#[test]
+fn each_edid_gives_its_text(rt: HostRuntime) -> Result<(), Fail> {
+    for case in EDIDS {
+        gives_for_bytes(&rt, rt.alloc(), case)?;
+    }
+    Ok(())
 }

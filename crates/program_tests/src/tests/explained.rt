@@ -48,82 +48,74 @@ step => 00ff; =>   a line `script`, and nothing else on it, parts the topology f
 step =>  =>   a line `script`, and nothing else on it, parts the topology from the script
 ";
 
+/// The answer is the plain one, whose fault ends here, with more behind it; neither has any output.
+fn adds_to(told: &Answer, plain: &Answer) -> bool {
+    told.status == plain.status
+        && told.err.starts_with(&plain.err)
+        && told.out.is_empty()
+        && plain.out.is_empty()
+}
+
 /// The program refuses an input with one line, and with `--explain` the same line and this one follow.
 fn is_explained(
     rt: &impl Abort,
     alloc: Global,
-    texts: &[&str],
+    line: &str,
     input: &[u8],
     second: &str,
 ) -> Result<(), Fail> {
-    let (mut rest, mut again) = (input, input);
-    let plain = answer_to(alloc, texts, &mut rest)?;
-    let mut more = Vec::new(alloc);
-    more.extend_from_slice(texts)?;
-    more.push("--explain")?;
-    let told = answer_to(alloc, &more, &mut again)?;
-    let mut front = plain.err;
-    front.extend_from_slice(second.as_bytes())?;
-    front.push(b'\n')?;
-    assert!(rt; told.err.starts_with(&front), "{second}");
-    assert_eq!(rt; told.out.len(), 0);
-    assert_eq!(rt; plain.out.len(), 0);
-    assert_eq!(rt; told.status, plain.status);
+    let explained = format!(in alloc; "{line} --explain")?;
+    let second_line = format!(in alloc; "{second}\n")?;
+    let told = answer_to(alloc, explained.as_str(), input)?;
+    let mut plain = answer_to(alloc, line, input)?;
+    plain.err.extend_from_slice(second_line.as_bytes())?;
+    expect(rt, adds_to(&told, &plain), line, second);
     Ok(())
 }
 
 #[test]
 fn faults_are_followed_by_their_explanation(rt: HostRuntime) -> Result<(), Fail> {
     let alloc = rt.alloc();
-    for case in CASES.split('\n') {
-        let Some((words, rest)) = case.split_once(" => ") else {
-            continue;
-        };
-        let (text, second) = rest.split_once(" => ").ok_or("no case")?;
-        let text = with_lines(alloc, text)?;
-        let texts = parted(alloc, words)?;
-        is_explained(&rt, alloc, &texts, text.as_bytes(), second)?;
+    for case in CASES.lines() {
+        let (line, text, second) = three_parts(case)?;
+        let input = with_lines(alloc, text)?;
+        is_explained(&rt, alloc, line, input.as_bytes(), second)?;
     }
     Ok(())
 }
 
+/// What is told where a writer fails after one byte.
+const WRITE_FAULT: &[u8] = b"hdminet: write fault after 1 bytes
+  standard output takes no more: is the disk full, or the reader gone? What was written before is the front of the output
+";
+
 #[test]
 fn a_write_fault_is_explained(rt: HostRuntime) -> Result<(), Fail> {
-    let alloc = rt.alloc();
-    let told = stingy_answer(alloc, ["asm", "--explain"].as_slice(), b"4>4\n", 1)?;
-    assert_eq!(rt; told.out.as_slice(), b"4".as_slice());
-    assert_eq!(rt;
-        told.err.as_slice(),
-        b"hdminet: write fault after 1 bytes
-  standard output takes no more: is the disk full, or the reader gone? What was written before is the front of the output
-"
-            .as_slice()
-    );
-    assert_eq!(rt; told.status, 3);
+    let told = stingy_answer(rt.alloc(), "asm --explain", b"4>4\n", 1)?;
+    expect(&rt, told.is(3, b"4", WRITE_FAULT), "asm", "a write fault");
     Ok(())
 }
 
+/// The flag changes nothing of what is done.
+const DONE: Case<'static> = Case {
+    name: "as without the flag",
+    line: "--explain asm",
+    input: "4>4\n",
+    want: "44\n",
+};
+
 #[test]
 fn what_is_done_is_as_without_the_flag(rt: HostRuntime) -> Result<(), Fail> {
-    let alloc = rt.alloc();
-    gives(
-        &rt,
-        alloc,
-        ["--explain", "asm"].as_slice(),
-        b"4>4\n",
-        b"44\n",
-    )
+    gives(&rt, rt.alloc(), &DONE)
 }
 
 #[test]
 fn a_file_name_is_explained(rt: HostRuntime) -> Result<(), Fail> {
-    let alloc = rt.alloc();
-    let words = ["run", "tv.net", "--explain"].as_slice();
-    let told = answer_to(alloc, words, &mut b"".as_slice())?;
+    let told = answer_to(rt.alloc(), "run tv.net --explain", b"".as_slice())?;
+    let refused = told.status == 2 && told.out.is_empty();
     let said = String::from_utf8(told.err)?;
-    assert!(rt; said.contains("tv.net"));
-    assert!(rt; said.ends_with("as `hdminet run < FILE`\n"));
-    assert_eq!(rt; told.out.len(), 0);
-    assert_eq!(rt; told.status, 2);
+    let said = said.as_str();
+    let explained = said.contains("tv.net") && said.ends_with("as `hdminet run < FILE`\n");
+    expect(&rt, refused && explained, "run", said);
     Ok(())
 }

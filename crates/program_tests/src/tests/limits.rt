@@ -1,3 +1,4 @@
+//! How long an input may be, and readers that are slow or fail.
 use super::*;
 
 /// The longest input, in bytes.
@@ -8,30 +9,20 @@ const TELEVISION: &str = "\ndevice tv tv 1\nscript\nend 5\n";
 const TELEVISION_TRACE: &str =
     "state tv tv - 0.0.0.0 on active=- path=- deck=1a menu=off audio=off volume=20 mute=off arc=off sel=- lang=656e67 osd=- held=- heard=- sub=- queue=0 dropped=0\n5 end\n";
 
-/// A reader that fails.
-#[derive(Drop)]
-struct Broken;
-
-impl Read for Broken {
-    fn read(&mut self, _buf: &mut [u8]) -> io::Result<usize> {
-        Err(io::Error::from(ErrorKind::Interrupted))
-    }
-}
-
-/// A reader that gives one byte at a time, and then fails or ends.
+/// A reader that gives one byte at a time, and then fails so or ends.
 #[derive(Drop)]
 struct Slow<'a> {
     rest: &'a [u8],
-    fails: bool,
+    fault: Option<ErrorKind>,
 }
 
 impl<'a> Read for Slow<'a> {
     fn read(&mut self, buf: &mut [u8]) -> io::Result<usize> {
         let Some((first, rest)) = self.rest.split_first() else {
-            if self.fails {
-                return Err(io::Error::from(ErrorKind::Other));
-            }
-            return Ok(0);
+            return match self.fault {
+                Some(kind) => Err(io::Error::from(kind)),
+                None => Ok(0),
+            };
         };
         match buf.first_mut() {
             None => Ok(0),
@@ -45,55 +36,54 @@ impl<'a> Read for Slow<'a> {
 }
 
 /// A comment and a text behind it, so many bytes together.
-fn behind_comment(alloc: Global, length: usize, text: &str) -> Result<Vec<u8>, Fail> {
-    let mut bytes = Vec::new(alloc);
-    for _ in text.len()..length {
-        bytes.push(b'#')?;
-    }
-    bytes.extend_from_slice(text.as_bytes())?;
-    Ok(bytes)
+fn behind_comment(alloc: Global, length: usize, text: &str) -> Result<String, Fail> {
+    let mut input = "#".repeat(alloc, length.saturating_sub(text.len()))?;
+    input.push_str(text)?;
+    Ok(input)
 }
+
+/// A command line, what stands behind a comment in its input, and what it writes.
+const LONGEST: &[(&str, &str, &str)] = &[("", TELEVISION, TELEVISION_TRACE), ("asm", "", "")];
 
 #[test]
 fn reads_what_is_not_too_long(rt: HostRuntime) -> Result<(), Fail> {
-    let alloc = rt.alloc();
-    let input = behind_comment(alloc, LIMIT, TELEVISION)?;
-    gives(
-        &rt,
-        alloc,
-        [].as_slice(),
-        &input,
-        TELEVISION_TRACE.as_bytes(),
-    )?;
-    let input = behind_comment(alloc, LIMIT, "")?;
-    gives(&rt, alloc, ["asm"].as_slice(), &input, b"")
+    for row in LONGEST {
+        let (line, text, want) = *row;
+        let input = behind_comment(rt.alloc(), LIMIT, text)?;
+        let case = Case {
+            name: "the longest input",
+            line,
+            input: input.as_str(),
+            want,
+        };
+        gives(&rt, rt.alloc(), &case)?;
+    }
+    Ok(())
 }
 
 /// The program reads nothing of an input, for this reason.
-fn reads_nothing(rt: &impl Abort, told: &Answer, why: &[u8]) {
-    assert_eq!(rt; told.err.as_slice(), why);
-    assert_eq!(rt; told.out.len(), 0);
-    assert_eq!(rt; told.status, 3);
+fn reads_nothing<R: Read + Drop>(
+    rt: &impl Abort,
+    alloc: Global,
+    line: &str,
+    input: R,
+    why: &str,
+) -> Result<(), Fail> {
+    let told = answer_to(alloc, line, input)?;
+    expect(rt, told.is(3, b"", why.as_bytes()), line, why);
+    Ok(())
 }
 
 /// Each command that reads.
-const COMMANDS: &str = "\
-run
-run --edges
-asm
-mon
-edid
-edid --text
-";
+const COMMANDS: &[&str] = &["run", "run --edges", "asm", "mon", "edid", "edid --text"];
 
 #[test]
 fn refuses_what_is_too_long(rt: HostRuntime) -> Result<(), Fail> {
     let alloc = rt.alloc();
     let input = behind_comment(alloc, LIMIT + 1, TELEVISION)?;
-    for line in COMMANDS.lines() {
-        let mut rest = input.as_slice();
-        let told = answer_to(alloc, &parted(alloc, line)?, &mut rest)?;
-        reads_nothing(&rt, &told, b"hdminet: input too long\n");
+    for line in COMMANDS {
+        let input = input.as_bytes();
+        reads_nothing(&rt, alloc, line, input, "hdminet: input too long\n")?;
     }
     Ok(())
 }
@@ -101,26 +91,26 @@ fn refuses_what_is_too_long(rt: HostRuntime) -> Result<(), Fail> {
 #[test]
 fn tells_a_read_fault(rt: HostRuntime) -> Result<(), Fail> {
     let alloc = rt.alloc();
-    let mut slow = Slow {
-        rest: b"4>4\n",
-        fails: true,
+    let broken = Slow {
+        rest: b"",
+        fault: Some(ErrorKind::Interrupted),
     };
-    let told = answer_to(alloc, ["run"].as_slice(), &mut Broken)?;
-    reads_nothing(&rt, &told, b"hdminet: read fault\n");
-    let told = answer_to(alloc, ["asm"].as_slice(), &mut slow)?;
-    reads_nothing(&rt, &told, b"hdminet: read fault\n");
-    Ok(())
+    let slow = Slow {
+        rest: b"4>4\n",
+        fault: Some(ErrorKind::Other),
+    };
+    reads_nothing(&rt, alloc, "run", broken, "hdminet: read fault\n")?;
+    reads_nothing(&rt, alloc, "asm", slow, "hdminet: read fault\n")
 }
 
 #[test]
 fn reads_byte_by_byte(rt: HostRuntime) -> Result<(), Fail> {
-    let alloc = rt.alloc();
-    let mut slow = Slow {
+    let slow = Slow {
         rest: b"4>4\n4>f active-source 1.0.0.0",
-        fails: false,
+        fault: None,
     };
-    let told = answer_to(alloc, ["asm"].as_slice(), &mut slow)?;
-    assert_eq!(rt; told.out.as_slice(), b"44\n4f821000\n".as_slice());
-    assert_eq!(rt; told.status, 0);
+    let told = answer_to(rt.alloc(), "asm", slow)?;
+    let right = told.is(0, b"44\n4f821000\n", b"");
+    expect(&rt, right, "asm", "byte by byte");
     Ok(())
 }

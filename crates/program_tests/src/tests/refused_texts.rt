@@ -1,3 +1,4 @@
+//! Texts that the commands refuse, and the line and cause that each is refused with.
 use super::*;
 
 /// A topology, and the line and cause that it is refused with.
@@ -92,47 +93,31 @@ end 10;at 20 press p1 play => 2: end
 at 10 press p1 play;end 10 => 2: end
 ";
 
-#[test]
-fn names_the_line_of_a_topology(rt: HostRuntime) -> Result<(), Fail> {
-    let frame = Frame {
-        before: "",
-        after: "\nscript\nfrob\n",
-        fault: "topology line ",
-    };
-    refuses_each(&rt, rt.alloc(), ["run"].as_slice(), frame, TOPOLOGIES)
-}
+/// A television and 14 players, the most that there may be.
+const FIFTEEN: &str = "\
+device tv tv 1
+device p1 player 0
+device p2 player 0
+device p3 player 0
+device p4 player 0
+device p5 player 0
+device p6 player 0
+device p7 player 0
+device p8 player 0
+device p9 player 0
+device p10 player 0
+device p11 player 0
+device p12 player 0
+device p13 player 0
+device p14 player 0
+";
 
-#[test]
-fn names_the_line_of_a_script(rt: HostRuntime) -> Result<(), Fail> {
-    let frame = Frame {
-        before: "device tv tv 4\ndevice p1 player 0\nplug p1 tv 1\nscript\n",
-        after: "",
-        fault: "script line ",
-    };
-    refuses_each(&rt, rt.alloc(), ["run"].as_slice(), frame, SCRIPTS)
-}
-
-/// A television and 14 players.
-fn full_tree(alloc: Global) -> Result<String, Fail> {
-    let mut text = String::from_str(alloc, "device tv tv 1\n")?;
-    for number in 1..15 {
-        text.push_str(format!(in alloc; "device p{number} player 0\n")?.as_str())?;
-    }
-    Ok(text)
-}
-
-#[test]
-fn takes_fifteen_devices(rt: HostRuntime) -> Result<(), Fail> {
-    let alloc = rt.alloc();
-    let full = full_tree(alloc)?;
-    let run = ["run"].as_slice();
-    let input = format!(in alloc; "{full}script\n")?;
-    refuses(&rt, alloc, run, input.as_bytes(), "script line 1: end")?;
-    let input = format!(in alloc; "{full}device more player 0\nscript\n")?;
-    refuses(&rt, alloc, run, input.as_bytes(), "topology line 16: full")?;
-    let input = format!(in alloc; "{full}device p14 player 0\nscript\n")?;
-    refuses(&rt, alloc, run, input.as_bytes(), "topology line 16: name")
-}
+/// What stands behind the fifteen, and how that is refused: a sixteenth device, a second with the same name, and nothing.
+const SIXTEENTH: &str = "\
+device more player 0; => topology line 16: full
+device p14 player 0; => topology line 16: name
+ => script line 1: end
+";
 
 /// Inputs without a line `script`, and with `;` for each line feed. The second is empty. An empty topology has no root behind
 /// its last line, which is none. The first line `script` ends the topology. An EDID is judged after the script.
@@ -147,12 +132,112 @@ device tv tv 1;edid 00fF;script;frob; => script line 1: word
 device tv tv 1;edid 00fF;script;end 5; => edid: length
 ";
 
-#[test]
-fn wants_a_script_line(rt: HostRuntime) -> Result<(), Fail> {
-    let frame = Frame {
+/// Inputs of which no edges are written, with `;` for each line feed, and their faults.
+const LINES: &str = "\
+device tv tv 1;end 5; => no script line
+devise tv tv 1;script;stop 5; => topology line 1: word
+device tv tv 1;script;stop 5; => script line 1: word
+";
+
+/// Texts that spell no frame.
+const FRAMES: &str = "\
+4>f active-source 1.0.0.0;4>4;4>0 play; => line 3: count
+4>0 frob => line 1: name
+4>0  => line 1: name
+4>0 play :24 => line 1: operand
+4>0 play FORWARD => line 1: operand
+4>0 play :9A => line 1: operand
+5>0 set-osd-name \"ABCDEFGHIJKLMNO\" => line 1: operand
+5>0 set-osd-name A\"B C => line 1: operand
+4>f  active-source 1.0.0.0 => line 1: name
+4>f active-source  1.0.0.0 => line 1: count
+4>0 give-osd-name  => line 1: count
+4>g => line 1: address
+4>F => line 1: address
+  => line 1: address
+4>4\r; => line 1: address
+4>0 op-e5 :000102030405060708090a0b0c0d0e => line 1: too-long
+4>0 op-e5 :000102030405060708090a0b0c0d0 => line 1: too-long
+# polls;;4>4;4>4 ;4>g; => line 4: name
+";
+
+/// Cases, one a line: an input with `;` for each line feed, ` => `, and how the command refuses it; and the text before and
+/// after each input, and what each fault begins with.
+#[derive(Clone, Copy)]
+struct Table {
+    line: &'static str,
+    before: &'static str,
+    after: &'static str,
+    fault: &'static str,
+    cases: &'static str,
+}
+
+const REFUSALS: &[Table] = &[
+    Table {
+        line: "run",
+        before: "",
+        after: "\nscript\nfrob\n",
+        fault: "topology line ",
+        cases: TOPOLOGIES,
+    },
+    Table {
+        line: "run",
+        before: "device tv tv 4\ndevice p1 player 0\nplug p1 tv 1\nscript\n",
+        after: "",
+        fault: "script line ",
+        cases: SCRIPTS,
+    },
+    Table {
+        line: "run",
+        before: FIFTEEN,
+        after: "script\n",
+        fault: "",
+        cases: SIXTEENTH,
+    },
+    Table {
+        line: "run",
         before: "",
         after: "",
         fault: "",
+        cases: WHOLE,
+    },
+    Table {
+        line: "run --edges",
+        before: "",
+        after: "",
+        fault: "",
+        cases: LINES,
+    },
+    Table {
+        line: "asm",
+        before: "",
+        after: "",
+        fault: "",
+        cases: FRAMES,
+    },
+];
+
+/// The command refuses this case of a table.
+fn is_refused(rt: &impl Abort, alloc: Global, table: &Table, name: &str) -> Result<(), Fail> {
+    let (text, cause) = two_parts(name)?;
+    let text = with_lines(alloc, text)?;
+    let input = format!(in alloc; "{}{text}{}", table.before, table.after)?;
+    let fault = format!(in alloc; "{}{cause}", table.fault)?;
+    let case = Case {
+        name,
+        line: table.line,
+        input: input.as_str(),
+        want: fault.as_str(),
     };
-    refuses_each(&rt, rt.alloc(), ["run"].as_slice(), frame, WHOLE)
+    refuses(rt, alloc, &case)
+}
+
+#[test]
+fn names_the_line_of_what_is_refused(rt: HostRuntime) -> Result<(), Fail> {
+    for table in REFUSALS {
+        for case in table.cases.lines() {
+            is_refused(&rt, rt.alloc(), table, case)?;
+        }
+    }
+    Ok(())
 }

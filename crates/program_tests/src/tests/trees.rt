@@ -1,24 +1,6 @@
 //! Trees, plugs and ports. The traces were worked out by hand from the rules of the wire and of the devices.
+use super::edids::{EXTENSION, blocks};
 use super::*;
-
-/// A topology and a script write this trace, with these counts.
-fn traces(
-    rt: &impl Abort,
-    alloc: Global,
-    topology: &str,
-    script: &str,
-    trace: &str,
-    counted: &str,
-) -> Result<(), Fail> {
-    let input = format!(in alloc; "{topology}script\n{script}")?;
-    let mut rest = input.as_bytes();
-    let told = answer_to(alloc, ["run", "--explain"].as_slice(), &mut rest)?;
-    let counted = format!(in alloc; "  {counted}\n")?;
-    assert_eq!(rt; told.err.as_slice(), counted.as_bytes());
-    assert_eq!(rt; told.out.as_slice(), trace.as_bytes());
-    assert_eq!(rt; told.status, 0);
-    Ok(())
-}
 
 /// Four players on one television.
 const FOUR_PLAYERS: &str = "\
@@ -56,19 +38,6 @@ state p4 player f 4.0.0.0 on active=- path=- deck=1a menu=off audio=off volume=2
 1500000 end
 ";
 
-#[test]
-fn four_players_find_three_addresses(rt: HostRuntime) -> Result<(), Fail> {
-    let counted = "rounds 14, complete rounds 14, refused events 0";
-    traces(
-        &rt,
-        rt.alloc(),
-        FOUR_PLAYERS,
-        "end 1500000\n",
-        FOUR_PLAYERS_TRACE,
-        counted,
-    )
-}
-
 /// A television and a player in its first port.
 const PAIR: &str = "\
 device tv tv 4
@@ -96,12 +65,6 @@ state p1 player 4 3.0.0.0 on active=- path=- deck=1a menu=off audio=off volume=2
 1500000 end
 ";
 
-#[test]
-fn an_unplug_and_a_plug_at_one_instant(rt: HostRuntime) -> Result<(), Fail> {
-    let counted = "rounds 6, complete rounds 6, refused events 0";
-    traces(&rt, rt.alloc(), PAIR, PAIR_SCRIPT, PAIR_TRACE, counted)
-}
-
 /// A television and a switch.
 const SWITCH: &str = "\
 device tv tv 4
@@ -117,19 +80,6 @@ state tv tv 0 0.0.0.0 on active=- path=- deck=1a menu=off audio=off volume=20 mu
 state sw switch f 1.0.0.0 on active=- path=- deck=1a menu=off audio=off volume=20 mute=off arc=off sel=1 lang=656e67 osd=- held=- heard=0:84:00 sub=- queue=0 dropped=0
 500000 end
 ";
-
-#[test]
-fn a_switch_reports_where_it_is(rt: HostRuntime) -> Result<(), Fail> {
-    let counted = "rounds 3, complete rounds 3, refused events 0";
-    traces(
-        &rt,
-        rt.alloc(),
-        SWITCH,
-        "end 500000\n",
-        SWITCH_TRACE,
-        counted,
-    )
-}
 
 /// A chain of four switches, and a player below the last of them.
 const CHAIN: &str = "\
@@ -161,19 +111,6 @@ state s4 switch f 1.1.1.1 on active=- path=- deck=1a menu=off audio=off volume=2
 state p1 player f f.f.f.f on active=- path=- deck=1a menu=off audio=off volume=20 mute=off arc=off sel=- lang=656e67 osd=- held=- heard=0:84:00 sub=- queue=0 dropped=0
 1000000 end
 ";
-
-#[test]
-fn a_player_below_four_switches_has_no_address(rt: HostRuntime) -> Result<(), Fail> {
-    let counted = "rounds 6, complete rounds 6, refused events 0";
-    traces(
-        &rt,
-        rt.alloc(),
-        CHAIN,
-        "end 1000000\n",
-        CHAIN_TRACE,
-        counted,
-    )
-}
 
 /// Devices that are all loose.
 const LOOSE: &str = "\
@@ -218,12 +155,6 @@ state a switch - - on active=- path=- deck=1a menu=off audio=off volume=20 mute=
 state b switch - - on active=- path=- deck=1a menu=off audio=off volume=20 mute=off arc=off sel=1 lang=656e67 osd=- held=- heard=- sub=- queue=0 dropped=0
 1000 end
 ";
-
-#[test]
-fn refused_events_are_traced(rt: HostRuntime) -> Result<(), Fail> {
-    let counted = "rounds 0, complete rounds 0, refused events 9";
-    traces(&rt, rt.alloc(), LOOSE, LOOSE_SCRIPT, LOOSE_TRACE, counted)
-}
 
 /// Every kind of device, five levels deep.
 const TREE: &str = "\
@@ -327,79 +258,120 @@ state r4 recorder 1 2.2.0.0 on active=- path=- deck=1a menu=off audio=off volume
 5000000 end
 ";
 
+/// A run: a topology and a script over it, what it traces, and what it counts.
+#[derive(Clone, Copy)]
+struct Traced<'a> {
+    name: &'a str,
+    topology: &'a str,
+    script: &'a str,
+    trace: &'a str,
+    counted: &'a str,
+}
+
+const TREES: &[Traced<'static>] = &[
+    Traced {
+        name: "four players find three addresses",
+        topology: FOUR_PLAYERS,
+        script: "end 1500000\n",
+        trace: FOUR_PLAYERS_TRACE,
+        counted: "rounds 14, complete rounds 14, refused events 0",
+    },
+    Traced {
+        name: "an unplug and a plug at one instant",
+        topology: PAIR,
+        script: PAIR_SCRIPT,
+        trace: PAIR_TRACE,
+        counted: "rounds 6, complete rounds 6, refused events 0",
+    },
+    Traced {
+        name: "a switch reports where it is",
+        topology: SWITCH,
+        script: "end 500000\n",
+        trace: SWITCH_TRACE,
+        counted: "rounds 3, complete rounds 3, refused events 0",
+    },
+    Traced {
+        name: "a player below four switches has no address",
+        topology: CHAIN,
+        script: "end 1000000\n",
+        trace: CHAIN_TRACE,
+        counted: "rounds 6, complete rounds 6, refused events 0",
+    },
+    Traced {
+        name: "refused events are traced",
+        topology: LOOSE,
+        script: LOOSE_SCRIPT,
+        trace: LOOSE_TRACE,
+        counted: "rounds 0, complete rounds 0, refused events 9",
+    },
+    Traced {
+        name: "a deep tree is unplugged while it allocates",
+        topology: TREE,
+        script: TREE_SCRIPT,
+        trace: TREE_TRACE,
+        counted: "rounds 39, complete rounds 39, refused events 0",
+    },
+];
+
+/// A run traces and counts what it should.
+fn is_traced(rt: &impl Abort, alloc: Global, run: &Traced<'_>) -> Result<(), Fail> {
+    let input = format!(in alloc; "{}script\n{}", run.topology, run.script)?;
+    let counted = format!(in alloc; "  {}\n", run.counted)?;
+    let told = answer_to(alloc, "run --explain", input.as_bytes())?;
+    let right = told.is(0, run.trace.as_bytes(), counted.as_bytes());
+    expect(rt, right, "run --explain", run.name);
+    Ok(())
+}
+
 #[test]
-fn a_deep_tree_is_unplugged_while_it_allocates(rt: HostRuntime) -> Result<(), Fail> {
-    let counted = "rounds 39, complete rounds 39, refused events 0";
-    traces(&rt, rt.alloc(), TREE, TREE_SCRIPT, TREE_TRACE, counted)
-}
-
-/// The base block of a television's EDID, in hex, from its header, maker, revision, and its last two bytes:
-/// the number of extensions and the checksum.
-fn block(
-    alloc: Global,
-    header: &str,
-    maker: &str,
-    revision: &str,
-    last: &str,
-) -> Result<String, Fail> {
-    let rest =
-        "80341d780aee91a3544c99260f505400000001010101010101010101010101010101023a801871382d40582c450008222100001e000000fc004c4f554e474520545620303031000000100000000000000000000000000000000000100000000000000000000000000000";
-    Ok(format!(in alloc; "{header}{maker}0201010000000a1501{revision}{rest}{last}")?)
-}
-
-/// The television's extension up to its address.
-const OWN: &str = "020316f143900403230907078301000065030c00";
-
-/// The same with an amplifier's audio.
-const AMPLIFIED: &str = "020319f143900403260f7f071507508301000065030c00";
-
-/// The base block and an extension with this address in its HDMI block, and this checksum, in hex.
-fn edid(alloc: Global, front: &str, address: &str, check: &str) -> Result<String, Fail> {
-    let mut text = block(alloc, "00ffffffffffff00", "4c2d", "03", "0151")?;
-    text.push_str(front)?;
-    text.push_str(address)?;
-    for _ in (front.len() / 2)..125 {
-        text.push_str("00")?;
+fn trees_of_devices_are_traced(rt: HostRuntime) -> Result<(), Fail> {
+    for run in TREES {
+        is_traced(&rt, rt.alloc(), run)?;
     }
-    text.push_str(check)?;
-    Ok(text)
+    Ok(())
 }
 
-/// The parts of a base block, and how an EDID of it is refused.
-const BLOCKS: &str = "\
-00ffffffffffff00 4c2d 03 0151 count
-01ffffffffffff00 4c2d 03 0151 base header
-00ffffffffffff00 4c2d 03 0152 base checksum
-00ffffffffffff00 4c2d 02 0152 base revision
-00ffffffffffff00 6c2d 03 0131 base maker
-00ffffffffffff00 4c2d 03 0052 no-hdmi-block
+/// What stands between the first 20 bytes of a television's EDID and the last two of its base block, in hex.
+const REST: &str =
+    "80341d780aee91a3544c99260f505400000001010101010101010101010101010101023a801871382d40582c450008222100001e000000fc004c4f554e474520545620303031000000100000000000000000000000000000000000100000000000000000000000000000";
+
+/// The first 20 bytes of a base block, its number of extensions and its checksum, and how an EDID of it is refused.
+const BASES: &str = "\
+00ffffffffffff004c2d0201010000000a150103 => 0151 => count
+01ffffffffffff004c2d0201010000000a150103 => 0151 => base header
+00ffffffffffff004c2d0201010000000a150103 => 0152 => base checksum
+00ffffffffffff004c2d0201010000000a150102 => 0152 => base revision
+00ffffffffffff006c2d0201010000000a150103 => 0131 => base maker
+00ffffffffffff004c2d0201010000000a150103 => 0052 => no-hdmi-block
 ";
 
 /// A television with an EDID of these digits is refused so.
 fn refuses_edid(rt: &impl Abort, alloc: Global, digits: &str, cause: &str) -> Result<(), Fail> {
     let input = format!(in alloc; "device tv tv 1\nedid {digits}\nscript\nend 5\n")?;
     let fault = format!(in alloc; "edid: {cause}")?;
-    refuses(
-        rt,
-        alloc,
-        ["run"].as_slice(),
-        input.as_bytes(),
-        fault.as_str(),
-    )
+    let case = Case {
+        name: cause,
+        line: "run",
+        input: input.as_str(),
+        want: fault.as_str(),
+    };
+    refuses(rt, alloc, &case)
+}
+
+/// An EDID of this base block is refused so.
+fn refuses_block(rt: &impl Abort, alloc: Global, case: &str) -> Result<(), Fail> {
+    let (front, last, cause) = three_parts(case)?;
+    let digits = format!(in alloc; "{front}{REST}{last}")?;
+    refuses_edid(rt, alloc, digits.as_str(), cause)
 }
 
 #[test]
 fn tells_why_an_edid_is_refused(rt: HostRuntime) -> Result<(), Fail> {
     let alloc = rt.alloc();
-    for case in BLOCKS.lines() {
-        let (header, rest) = case.split_once(' ').ok_or("no case")?;
-        let (maker, rest) = rest.split_once(' ').ok_or("no case")?;
-        let (revision, rest) = rest.split_once(' ').ok_or("no case")?;
-        let (last, cause) = rest.split_once(' ').ok_or("no case")?;
-        let digits = block(alloc, header, maker, revision, last)?;
-        refuses_edid(&rt, alloc, digits.as_str(), cause)?;
+    for case in BASES.lines() {
+        refuses_block(&rt, alloc, case)?;
     }
-    let digits = edid(alloc, OWN, "0000", "e9")?;
+    let digits = blocks(alloc, EXTENSION, "e9")?;
     refuses_edid(&rt, alloc, digits.as_str(), "ext 1 checksum")?;
     refuses_edid(&rt, alloc, "00", "length")
 }
@@ -429,57 +401,53 @@ state a amp - 1.0.0.0 on active=- path=- deck=1a menu=off audio=off volume=20 mu
 8 end
 ";
 
-/// What is traced before, and of a port's EDID the address, the checksum, and whether the audio is an amplifier's.
+/// What is traced before, and of a port's EDID the extension up to its zeros and the checksum. An amplifier's has audio of its own.
 const PARTS_TRACE: &str = "\
-0 port tv 1 => 1000 d8
-0 port tv 2 => 2000 c8
+0 port tv 1 => 020316f143900403230907078301000065030c001000 => d8
+0 port tv 2 => 020316f143900403230907078301000065030c002000 => c8
 5 event 1 ok
-5 port sw 1 => 2100 c7
-5 port sw 2 => 2200 c6
-5 port a 1 => 2110 c7 amplifier
+5 port sw 1 => 020316f143900403230907078301000065030c002100 => c7
+5 port sw 2 => 020316f143900403230907078301000065030c002200 => c6
+5 port a 1 => 020319f143900403260f7f071507508301000065030c002110 => c7
 5 event 2 refused not-plugged
 6 event 3 refused not-loose
 6 event 4 ok
 7 event 5 ok
-7 port a 1 => 1100 e7 amplifier
+7 port a 1 => 020319f143900403260f7f071507508301000065030c001100 => e7
 ";
 
-/// The lines of a trace, with each port's EDID whole.
-fn with_edids(alloc: Global, lines: &str) -> Result<String, Fail> {
-    let mut text = String::new(alloc);
-    for line in lines.lines() {
-        match line.split_once(" => ") {
-            None => text.push_str(line)?,
-            Some((front, rest)) => {
-                let (address, check) = rest.split_once(' ').ok_or("no checksum")?;
-                text.push_str(front)?;
-                text.push_str(" ")?;
-                let (check, front) = match check.split_once(' ') {
-                    None => (check, OWN),
-                    Some((check, _)) => (check, AMPLIFIED),
-                };
-                text.push_str(edid(alloc, front, address, check)?.as_str())?;
-            }
-        }
-        text.push_str("\n")?;
+/// A line of a trace, with a port's EDID whole.
+fn with_edid(alloc: Global, line: &str) -> Result<String, Fail> {
+    if !line.contains(" => ") {
+        return Ok(format!(in alloc; "{line}\n")?);
     }
-    Ok(text)
+    let (port, front, check) = three_parts(line)?;
+    let digits = blocks(alloc, front, check)?;
+    Ok(format!(in alloc; "{port} {digits}\n")?)
+}
+
+/// All that is traced.
+fn whole_trace(alloc: Global) -> Result<String, Fail> {
+    let mut trace = String::new(alloc);
+    for line in PARTS_TRACE.lines() {
+        trace.push_str(with_edid(alloc, line)?.as_str())?;
+    }
+    trace.push_str(PARTS_STATES)?;
+    Ok(trace)
 }
 
 #[test]
 fn traces_ports_of_what_comes_onto_the_wire(rt: HostRuntime) -> Result<(), Fail> {
     let alloc = rt.alloc();
-    let root = edid(alloc, OWN, "0000", "e8")?;
-    let topology = format!(in alloc; "{PARTS}edid {root}\n")?;
-    let mut trace = with_edids(alloc, PARTS_TRACE)?;
-    trace.push_str(PARTS_STATES)?;
-    let counted = "rounds 0, complete rounds 0, refused events 2";
-    traces(
-        &rt,
-        alloc,
-        topology.as_str(),
-        PARTS_SCRIPT,
-        trace.as_str(),
-        counted,
-    )
+    let edid = blocks(alloc, EXTENSION, "e8")?;
+    let topology = format!(in alloc; "{PARTS}edid {edid}\n")?;
+    let trace = whole_trace(alloc)?;
+    let run = Traced {
+        name: "ports",
+        topology: topology.as_str(),
+        script: PARTS_SCRIPT,
+        trace: trace.as_str(),
+        counted: "rounds 0, complete rounds 0, refused events 2",
+    };
+    is_traced(&rt, alloc, &run)
 }
