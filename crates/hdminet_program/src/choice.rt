@@ -109,28 +109,36 @@ fn run_help(alloc: Global, words: &[String]) -> Result<String, AllocError> {
     )
 }
 
-fn command<'a>(
-    alloc: Global,
-    run_help: &'a str,
-    asm_help: &'a str,
-) -> Result<Command<'a>, AllocError> {
-    let asm = Command::new(alloc, "asm")
-        .about(help::ASM_ABOUT)
-        .after_help(asm_help);
-    let mon = Command::new(alloc, "mon")
-        .about(help::MON_ABOUT)
-        .after_help(help::MON_HELP);
-    let step = Command::new(alloc, "step")
-        .about(help::STEP_ABOUT)
-        .after_help(help::STEP_HELP);
+// The program itself, before its commands.
+fn program_command<'a>(alloc: Global) -> Result<Command<'a>, AllocError> {
     Command::new(alloc, "hdminet")
         .about(help::ABOUT)
         .version("0.1.0")
         .after_help(help::OVERVIEW)
         .disable_help_subcommand(true)
-        .arg(explain_flag(alloc))?
+        .arg(explain_flag(alloc))
+}
+
+// A command without flags of its own.
+fn plain_command<'a>(alloc: Global, name: &'a str, about: &'a str, help: &'a str) -> Command<'a> {
+    Command::new(alloc, name).about(about).after_help(help)
+}
+
+// The program with the commands that run a network.
+fn network_commands<'a>(alloc: Global, run_help: &'a str) -> Result<Command<'a>, AllocError> {
+    program_command(alloc)?
         .subcommand(run_command(alloc, run_help)?)?
-        .subcommand(step)?
+        .subcommand(plain_command(alloc, "step", help::STEP_ABOUT, help::STEP_HELP))
+}
+
+fn command<'a>(
+    alloc: Global,
+    run_help: &'a str,
+    asm_help: &'a str,
+) -> Result<Command<'a>, AllocError> {
+    let asm = plain_command(alloc, "asm", help::ASM_ABOUT, asm_help);
+    let mon = plain_command(alloc, "mon", help::MON_ABOUT, help::MON_HELP);
+    network_commands(alloc, run_help)?
         .subcommand(asm)?
         .subcommand(mon)?
         .subcommand(edid_command(alloc)?)
