@@ -11,7 +11,7 @@ use Rattle.cec_wire.specs.declared.hearing.Place.{Place}
 use Rattle.cec_wire.specs.declared.hearing.Place.TheVariants.{StartLow, StartHigh, InSlot, Over}
 use Rattle.cec_wire.specs.Round.{IsRoundLine}
 use Rattle.cec_wire.specs.Machine.{AreSentWell, IsEarly, IsReady, samples, next_place, bit_told, held_after, recorded, low_since}
-use Rattle.cec_wire.specs.Edges.{Heard, first_heard, hear_in, heard_of, pulls, sending_by, next_due, wake_after, sends_low, sooner, IsPull, if_later, first_end, begin_of, IsTimely, EachLine}
+use Rattle.cec_wire.specs.Edges.{Heard, first_heard, hear_in, heard_of, pulls, sending_by, next_due, wake_after, sends_low, is_pulling, sooner, IsPull, if_later, first_end, begin_of, IsTimely, EachLine}
 use Rattle.cec_edges.specs.Wired.{IsHeard, IsNext}
 use Rattle.cec_wire.proofs.Exists.{made_line, made_round}
 use Rattle.cec_wire.proofs.Records.{has_room, is_ready}
@@ -233,7 +233,7 @@ pub record Woken (seats : List Seat) (begin : ℕ) (pulses : List Stretch) (t : 
   pub calm : EachLine seats begin pulses w (λ low. (u : ℕ) → t ≤ u → u < w → low u ≡ is_some h.since)
 
 -- those who go on sending do the same from t on
-pub pull_same : (begin : ℕ) (sending kept : List Seat) (p : Pull) (t : ℕ) → sending ≡ kept → IsPull begin sending p → p.from ≤ t → p.is_low ≡ sends_low begin sending t
+pub pull_same : (begin : ℕ) (sending kept : List Seat) (p : Pull) (t : ℕ) → sending ≡ kept → IsPull begin sending p → p.from ≤ t → is_pulling p ≡ sends_low begin sending t
     → (u : ℕ) → t ≤ u → u < p.until → sends_low begin kept u ≡ sends_low begin kept t
 pull_same begin sending kept p t e is from low u l m = subst (λ (ss : List Seat). sends_low begin ss u ≡ sends_low begin ss t) e (is.same u (omega (arith, from, l)) m ∙ low)
 

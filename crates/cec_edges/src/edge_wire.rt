@@ -1,7 +1,7 @@
 //! A line that goes from edge to edge.
 ghost use Rattle.std.specs.Prelude.{◌≡◌, ◌+◌, ◌<◌, ◌≤◌, ◌++◌, ◌&&◌, not, true, false, length, [], All, take, slice_get, IfSome};
 ghost use Rattle.std.specs.List.{list_any};
-ghost use Rattle.cec_wire.specs.Edges.{sends_low, sends_on, sending_by, IsPull, IsTimely};
+ghost use Rattle.cec_wire.specs.Edges.{sends_low, sends_on, sending_by, is_pulling, IsPull, IsTimely};
 ghost use Rattle.cec_wire.specs.Machine.{next_place, bit_told, held_after, recorded, low_since, samples, sends_until, AreSentWell, IsEarly, IsReady};
 
 use crate::listeners::{Listeners, sender_at};
@@ -177,7 +177,7 @@ impl EdgeWire {
         ensures pull { IsPull self.now.begin self.now.sending.items result }
         ensures from { result.from ≤ self.now.time }
         ensures later { self.now.time ≤ result.until }
-        ensures low { result.is_low ≡ sends_low self.now.begin self.now.sending.items self.now.time }
+        ensures low { is_pulling result ≡ sends_low self.now.begin self.now.sending.items self.now.time }
     {
         if self.pull.from <= self.time && self.time < self.pull.until {
             self.pull
@@ -220,10 +220,10 @@ impl EdgeWire {
     fn wake(&self, pull: Pull, next: Option<Stretch>) -> u64
         requires early { self.now.begin ≤ 2000000100000 }
         requires timely { IsTimely self.now.place }
-        requires low { pull.is_low ≡ sends_low self.now.begin self.now.sending.items self.now.time }
+        requires low { is_pulling pull ≡ sends_low self.now.begin self.now.sending.items self.now.time }
         ensures { result ≡ wake_in self.now pull.until next }
     {
-        if self.is_pulled_beside(pull.is_low) != self.recorder.was_low() {
+        if self.is_pulled_beside(pull.is_low()) != self.recorder.was_low() {
             return self.time;
         }
         next_wake(
@@ -340,7 +340,7 @@ impl EdgeWire {
     {
         let was = self.recorder.was_low();
         let pull = self.pull_now();
-        let is_low = self.is_pulled_beside(pull.is_low);
+        let is_low = self.is_pulled_beside(pull.is_low());
         let at = self.time;
         self.step(was, is_low, pull);
         if is_low == was {

@@ -3,7 +3,7 @@ ghost use Rattle.std.specs.Prelude.{◌≡◌, ◌+◌, ◌<◌, ◌≤◌, ◌&
 ghost use Rattle.cec_wave.specs.Line.{line_of};
 ghost use Rattle.cec_wave.specs.Sender.{sender_stretches};
 ghost use Rattle.cec_frame.specs.Bits.{frame_bits};
-ghost use Rattle.cec_wire.specs.Edges.{part_left, sender_part, part_of, next_part, next_due, sooner, if_later, first_end, begin_of, wake_after, sends_low, IsPull, IsTimely};
+ghost use Rattle.cec_wire.specs.Edges.{part_left, sender_part, part_of, next_part, next_due, sooner, if_later, first_end, begin_of, wake_after, sends_low, is_pulling, IsPull, IsTimely};
 
 use crate::Seat;
 use crate::hearing::Place;
@@ -66,12 +66,22 @@ fn sender_part(frame: &Frame, begin: u64, t: u64) -> Part
     }
 }
 
-/// What those who send do from an instant on, up to another: one of them pulls, or none.
+/// What those who send do from an instant on, up to another: so many of them pull. It is copied at each turn, so it has
+/// no byte that says nothing.
 #[derive(Clone, Copy, Debug, PartialEq, Eq)]
 pub struct Pull {
     pub from: u64,
     pub until: u64,
-    pub is_low: bool,
+    pub senders: usize,
+}
+
+impl Pull {
+    /// Whether one of them pulls.
+    pub fn is_low(self) -> bool
+        ensures { result ≡ is_pulling self }
+    {
+        self.senders > 0
+    }
 }
 
 /// What these seats, which all go on sending, do from microsecond `t` on, up to the next instant at which one of them
@@ -82,22 +92,24 @@ pub fn pull_at(sending: &[Seat], begin: u64, t: u64) -> Pull
     requires time { t ≤ 3000000000000 }
     ensures from { result.from ≡ t }
     ensures later { t ≤ result.until }
-    ensures low { result.is_low ≡ sends_low begin sending.now t }
+    ensures low { is_pulling result ≡ sends_low begin sending.now t }
     ensures pull { IsPull begin sending.now result }
 {
-    let mut is_low = false;
+    let mut senders = 0;
     let mut until = t + FIRST_SLOT;
     for seat in sending {
         if let Some(frame) = &seat.sends {
             let part = sender_part(frame, begin, t);
-            is_low = is_low || part.is_low;
+            if part.is_low {
+                senders += 1;
+            }
             until = until.min(part.until);
         }
     }
     Pull {
         from: t,
         until,
-        is_low,
+        senders,
     }
 }
 
