@@ -53,7 +53,7 @@ fn take_word(alloc: Global, bytes: &mut Vec<u8>, word: &str) -> Result<(), Fail>
 
 /// The bytes that such words give: `map..0c` is a block, its front, zeros, and its end in hex; `148=21` changes the byte at a
 /// place.
-pub fn bytes_of(alloc: Global, words: &str) -> Result<Vec<u8>, Fail> {
+pub(crate) fn bytes_of(alloc: Global, words: &str) -> Result<Vec<u8>, Fail> {
     let mut bytes = Vec::new(alloc);
     for word in words.split(' ') {
         take_word(alloc, &mut bytes, word)?;
@@ -62,7 +62,7 @@ pub fn bytes_of(alloc: Global, words: &str) -> Result<Vec<u8>, Fail> {
 }
 
 /// So many bytes, the first word, of the blocks that the other words give.
-pub fn first_bytes_of(alloc: Global, words: &str) -> Result<Vec<u8>, Fail> {
+pub(crate) fn first_bytes_of(alloc: Global, words: &str) -> Result<Vec<u8>, Fail> {
     let (count, blocks) = words.split_once(' ').ok_or("no count")?;
     let count = usize::from_str_radix(count, 10)?;
     let mut bytes = bytes_of(alloc, blocks)?;
@@ -71,25 +71,25 @@ pub fn first_bytes_of(alloc: Global, words: &str) -> Result<Vec<u8>, Fail> {
 }
 
 /// Whether these words give the bytes of an EDID.
-pub fn has_bytes(alloc: Global, edid: &Edid, words: &str) -> Result<bool, Fail> {
+pub(crate) fn has_bytes(alloc: Global, edid: &Edid, words: &str) -> Result<bool, Fail> {
     Ok(edid_to_bytes(edid).as_slice() == bytes_of(alloc, words)?.as_slice())
 }
 
 /// Asserts that a case came out as its text says.
-pub fn holds(rt: &impl Abort, is_right: bool, case: &str) {
+pub(crate) fn holds(rt: &impl Abort, is_right: bool, case: &str) {
     assert!(rt; is_right, "{case}");
 }
 
 /// A case and what comes of it.
-pub fn parted(case: &str) -> Result<(&str, &str), Fail> {
+pub(crate) fn parted(case: &str) -> Result<(&str, &str), Fail> {
     Ok(case.split_once(" => ").ok_or("no answer")?)
 }
 
-pub fn two_numbers(words: &str) -> Result<(u8, u8), Fail> {
+pub(crate) fn two_numbers(words: &str) -> Result<(u8, u8), Fail> {
     let (first, second) = words.split_once(' ').ok_or("no second number")?;
     Ok((number(first)?, number(second)?))
 }
 
-pub fn number(word: &str) -> Result<u8, Fail> {
+pub(crate) fn number(word: &str) -> Result<u8, Fail> {
     Ok(u8::from_str_radix(word, 10)?)
 }

@@ -139,7 +139,7 @@ fn take(alloc: Global, tree: &mut Tree<15>, line: &str) -> Result<String, Fail> 
 }
 
 /// The tree after such lines, each of which had this answer.
-pub fn grown(rt: &impl Abort, alloc: Global, steps: &str) -> Result<Tree<15>, Fail> {
+pub(crate) fn grown(rt: &impl Abort, alloc: Global, steps: &str) -> Result<Tree<15>, Fail> {
     let mut tree = Tree::new();
     for step in steps.lines() {
         let (line, want) = parted(step)?;
@@ -163,7 +163,7 @@ fn a_chain_of_switches(rt: HostRuntime) -> Result<(), Fail> {
 }
 
 /// What a port passes on of the television's EDID: the words are the device and the port.
-pub fn port_edid(
+pub(crate) fn port_edid(
     tree: &Tree<15>,
     root: &Edid,
     words: &str,

@@ -2,6 +2,6 @@
 use std::process::Abort;
 
 /// The case holds; otherwise the test ends with the text of the case.
-pub fn case_holds(rt: &impl Abort, holds: bool, case: &str) {
+pub(crate) fn case_holds(rt: &impl Abort, holds: bool, case: &str) {
     assert!(rt; holds, "{case}");
 }
