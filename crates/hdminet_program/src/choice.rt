@@ -157,8 +157,35 @@ fn choice_of(matches: &ArgMatches<'_>) -> Choice {
     }
 }
 
+// What a command without flags asks for. The table of commands and flags takes as long to build as an EDID to read, so
+// where nothing of it is needed it is left alone.
+fn plain_choice(words: &[String]) -> Option<Choice> {
+    let [_, command] = words else {
+        return None;
+    };
+    match command.as_str() {
+        "run" => Some(Choice::Run),
+        "step" => Some(Choice::Step),
+        "asm" => Some(Choice::Asm),
+        "mon" => Some(Choice::Mon),
+        "edid" => Some(Choice::EdidToText),
+        _ => None,
+    }
+}
+
 /// Reads a command line. With no word after the program's name it is `run`.
 pub fn choose(alloc: Global, words: &[String]) -> Result<Asked, Error> {
+    match plain_choice(words) {
+        Some(choice) => Ok(Asked {
+            choice,
+            explains: false,
+        }),
+        None => choose_by_table(alloc, words),
+    }
+}
+
+// Reads a command line by the table of commands and flags.
+fn choose_by_table(alloc: Global, words: &[String]) -> Result<Asked, Error> {
     let run_help = run_help(alloc, words)?;
     let asm_help = asm_help(alloc, words)?;
     let command = command(alloc, run_help.as_str(), asm_help.as_str())?;
