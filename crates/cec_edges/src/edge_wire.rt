@@ -86,16 +86,16 @@ impl EdgeWire {
     ghost use Rattle.cec_wire.specs.Edges.{IsNextEdge};
     ghost use Rattle.cec_edges.specs.Wired.{heard_by, is_low_in, pulls_in, EachOf, IsBegun, IsNext, SameRound, EdgeAt, is_silent_in, wake_in, NextEdges, IsRoundOf, Leaves, Grows, Passes, Listens, IsReceiverIn, IsSenderIn, SendsNothing};
 
-    // A round that begins at `start`.
-    fn started(seats: &[Seat], start: u64) -> Self
+    // A round that begins at `start`, to which nobody listens: its receiver and senders are not asked.
+    fn unheard(seats: &[Seat], start: u64) -> Self
         requires few { length seats.now ≤ 15 }
         requires early { start ≤ 2000000100000 }
         ensures begun { IsBegun result }
-        ensures listens { Listens result }
         ensures seats { result.seats.items ≡ seats.now }
         ensures begin { result.begin ≡ start }
         ensures time { result.time ≡ start }
         ensures pulses { result.pulses.items ≡ [] }
+        ensures sends { AreSentWell result.seats.items }
     {
         let sending = sending_first(seats);
         let pull = pull_at(sending.as_slice(), start, start);
@@ -110,8 +110,24 @@ impl EdgeWire {
             place: Place::StartLow,
             held: 0,
             recorder: Recorder::new(),
-            listeners: Listeners::new(seats, start),
+            listeners: Listeners::none(),
         }
+    }
+
+    // A round that begins at `start`.
+    fn started(seats: &[Seat], start: u64) -> Self
+        requires few { length seats.now ≤ 15 }
+        requires early { start ≤ 2000000100000 }
+        ensures begun { IsBegun result }
+        ensures listens { Listens result }
+        ensures seats { result.seats.items ≡ seats.now }
+        ensures begin { result.begin ≡ start }
+        ensures time { result.time ≡ start }
+        ensures pulses { result.pulses.items ≡ [] }
+    {
+        let mut wire = EdgeWire::unheard(seats, start);
+        wire.listeners = Listeners::new(seats, start);
+        wire
     }
 
     /// A wire on which nobody sends, before its first round.
@@ -493,7 +509,7 @@ impl Wire for EdgeWire {
     fn round(&mut self, seats: &[Seat], start: u64, pulses: &Pulses) -> Outcome {
         let stretches = pulses.as_slice();
         let skipped = skipped(stretches, start);
-        let mut wire = EdgeWire::started(seats, start);
+        let mut wire = EdgeWire::unheard(seats, start);
         let mut next = wire.next_of(stretches, skipped);
         'edges: while wire.search(next).is_some() {
             next = wire.next_of(stretches, skipped);

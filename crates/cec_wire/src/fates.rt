@@ -1,5 +1,5 @@
 //! What a round gave: who was still sending and who was out, what becomes of them, the rest and the close.
-ghost use Rattle.std.specs.Prelude.{◌≡◌, ◌≤◌, ◌==◌, length};
+ghost use Rattle.std.specs.Prelude.{◌≡◌, ◌≤◌, ◌==◌, Bool, List, length};
 ghost use Rattle.cec_bits.specs.Sending.{has_all};
 ghost use Rattle.cec_wire.specs.Machine.{survives, survivors_by, out_after, losers_by, IsOver};
 ghost use Rattle.cec_wire.specs.Round.{is_taken_up, fate_at_end, fate_by, out_in, rest_of};
@@ -28,31 +28,7 @@ fn is_whole(ending: Ending) -> bool
     }
 }
 
-fn survives(bits: &[bool], whole: bool, seat: &Seat) -> bool
-    ensures { result ≡ survives bits.now whole seat.now.sends }
-{
-    match &seat.sends {
-        None => false,
-        Some(frame) => match out_slot(bits, whole, frame) {
-            None => true,
-            Some(slot) => bits.len() < slot,
-        },
-    }
-}
-
-fn survivors(bits: &[bool], whole: bool, seats: &[Seat]) -> ArrayVec<usize, 15>
-    requires { length seats.now ≤ 15 }
-    ensures { result.items ≡ survivors_by bits.now whole 0 seats.now }
-{
-    let mut survivors = ArrayVec::new();
-    for (place, seat) in seats.iter().enumerate() {
-        if survives(bits, whole, seat) {
-            survivors.push(place);
-        }
-    }
-    survivors
-}
-
+// The slot that tells a seat's sender to stop, if there is one.
 fn out_after(bits: &[bool], whole: bool, seat: &Seat) -> Option<usize>
     ensures { result ≡ out_after bits.now whole seat.now.sends }
 {
@@ -62,17 +38,35 @@ fn out_after(bits: &[bool], whole: bool, seat: &Seat) -> Option<usize>
     }
 }
 
-fn losers(bits: &[bool], whole: bool, seats: &[Seat]) -> ArrayVec<Loser, 15>
-    requires { length seats.now ≤ 15 }
-    ensures { result.items ≡ losers_by bits.now whole 0 seats.now }
+// A seat that is told to stop at `out`, if at all, is still sending after `count` bits.
+fn survives(count: usize, seat: &Seat, out: Option<usize>) -> bool
+    ensures { (bits : List Bool) (whole : Bool) → length bits ≡ count → out ≡ out_after bits whole seat.now.sends → result ≡ survives bits whole seat.now.sends }
 {
+    seat.sends.is_some()
+        && match out {
+            None => true,
+            Some(slot) => count < slot,
+        }
+}
+
+// Who is still sending, and who was out at which slot. Each is asked once.
+fn parted(bits: &[bool], whole: bool, seats: &[Seat]) -> (ArrayVec<usize, 15>, ArrayVec<Loser, 15>)
+    requires { length seats.now ≤ 15 }
+    ensures survivors { result.0.items ≡ survivors_by bits.now whole 0 seats.now }
+    ensures losers { result.1.items ≡ losers_by bits.now whole 0 seats.now }
+{
+    let mut survivors = ArrayVec::new();
     let mut losers = ArrayVec::new();
     for (place, seat) in seats.iter().enumerate() {
-        if let Some(slot) = out_after(bits, whole, seat) {
+        let out = out_after(bits, whole, seat);
+        if survives(bits.len(), seat, out) {
+            survivors.push(place);
+        }
+        if let Some(slot) = out {
             losers.push(Loser { seat: place, slot });
         }
     }
-    losers
+    (survivors, losers)
 }
 
 // The end of the last stretch that begins by `until`.
@@ -119,8 +113,7 @@ pub fn outcome_of(
     ensures wave { result.wave ≡ wave }
 {
     let whole = is_whole(ended.ending);
-    let survivors = survivors(bits.as_slice(), whole, seats);
-    let losers = losers(bits.as_slice(), whole, seats);
+    let (survivors, losers) = parted(bits.as_slice(), whole, seats);
     let rest = rest(wave.as_slice(), ended.until);
     let reading = Reading {
         begin,

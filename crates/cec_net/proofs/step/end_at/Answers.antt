@@ -8,4 +8,4 @@ use Rattle.cec_net.proofs.step.end_at.Goals as goal
 pub tell-requires : goal.tell-requires
 tell-requires c own =
     let Has : State → Type 0 = λ d. IsSome (front_of d) in
-    subst Has (sym c.follow.ensures) (front-followed_unless c.is_among.result c.frame.result c.close-close.result c.args.device.now (c.requires own))
+    subst Has (sym c.follow.ensures) (front-followed_unless c.is_among-sends.result c.args.frame.now c.close-close.result c.args.device.now (c.requires.contends own))

@@ -6,8 +6,8 @@ use Rattle.cec_edges.proofs.edge_wire.EdgeWireWire.round.Goals as goal
 
 pub edges-init : goal.edges-init
 edges-init c =
-    let e = c.started-wire.ensures in
-    goes_begin c.args.seats.now c.args.start c.skipped-skipped.result c.as_slice-stretches.result.now c.started-wire.result c.next_of-next.result c.as_slice-stretches.ensures.sparse c.skipped-skipped.ensures.few
+    let e = c.unheard-wire.ensures in
+    goes_begin c.args.seats.now c.args.start c.skipped-skipped.result c.as_slice-stretches.result.now c.unheard-wire.result c.next_of-next.result c.as_slice-stretches.ensures.sparse c.skipped-skipped.ensures.few
     c.skipped-skipped.ensures.late e.begun e.seats e.begin e.time e.pulses c.next_of-next.ensures
 
 pub search-requires-clause-begun : goal.search-requires-clause-begun
