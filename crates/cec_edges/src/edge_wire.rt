@@ -86,16 +86,16 @@ impl EdgeWire {
     ghost use Rattle.cec_wire.specs.Edges.{IsNextEdge};
     ghost use Rattle.cec_edges.specs.Wired.{heard_by, is_low_in, pulls_in, EachOf, IsBegun, IsNext, SameRound, EdgeAt, is_silent_in, wake_in, NextEdges, IsRoundOf, Leaves, Grows, Passes, Listens, IsReceiverIn, IsSenderIn, SendsNothing};
 
-    // A round that begins at `start`, to which nobody listens: its receiver and senders are not asked.
-    fn unheard(seats: &[Seat], start: u64) -> Self
+    // A round that begins at `start`.
+    fn started(seats: &[Seat], start: u64) -> Self
         requires few { length seats.now ≤ 15 }
         requires early { start ≤ 2000000100000 }
         ensures begun { IsBegun result }
+        ensures listens { Listens result }
         ensures seats { result.seats.items ≡ seats.now }
         ensures begin { result.begin ≡ start }
         ensures time { result.time ≡ start }
         ensures pulses { result.pulses.items ≡ [] }
-        ensures sends { AreSentWell result.seats.items }
     {
         let sending = sending_first(seats);
         let pull = pull_at(sending.as_slice(), start, start);
@@ -110,24 +110,8 @@ impl EdgeWire {
             place: Place::StartLow,
             held: 0,
             recorder: Recorder::new(),
-            listeners: Listeners::none(),
+            listeners: Listeners::new(seats, start),
         }
-    }
-
-    // A round that begins at `start`.
-    fn started(seats: &[Seat], start: u64) -> Self
-        requires few { length seats.now ≤ 15 }
-        requires early { start ≤ 2000000100000 }
-        ensures begun { IsBegun result }
-        ensures listens { Listens result }
-        ensures seats { result.seats.items ≡ seats.now }
-        ensures begin { result.begin ≡ start }
-        ensures time { result.time ≡ start }
-        ensures pulses { result.pulses.items ≡ [] }
-    {
-        let mut wire = EdgeWire::unheard(seats, start);
-        wire.listeners = Listeners::new(seats, start);
-        wire
     }
 
     /// A wire on which nobody sends, before its first round.
@@ -183,6 +167,29 @@ impl EdgeWire {
         ensures pulses { self.new.pulses.items ≡ [] }
     {
         *self = EdgeWire::started(seats, start);
+    }
+
+    // Begins a round to which nobody listens: the receiver and the senders are not asked, and stay as they are. The
+    // wire is large, and each part is set where it stands.
+    fn begin_alone(&mut self, seats: &[Seat], start: u64)
+        requires few { length seats.now ≤ 15 }
+        requires early { start ≤ 2000000100000 }
+        ensures begun { IsBegun self.new }
+        ensures seats { self.new.seats.items ≡ seats.now }
+        ensures begin { self.new.begin ≡ start }
+        ensures time { self.new.time ≡ start }
+        ensures pulses { self.new.pulses.items ≡ [] }
+    {
+        self.seats = copied_seats(seats);
+        self.begin = start;
+        self.pulses.clear();
+        self.time = start;
+        self.bits.clear();
+        self.sending = sending_first(seats);
+        self.pull = pull_at(self.sending.as_slice(), start, start);
+        self.place = Place::StartLow;
+        self.held = 0;
+        self.recorder.clear();
     }
 
     // What those who go on sending do from the next microsecond on.
@@ -450,7 +457,7 @@ impl EdgeWire {
         sender_at(self.listeners.senders.as_slice(), seat)
     }
 
-    // What the round gave, where no edge comes any more. It is copied: a wire is large, and little of it was used.
+    // What the round gave, where no edge comes any more.
     fn finished(&self) -> Outcome
         requires begun { IsBegun self.now }
         requires silent { is_silent_in self.now ≡ true }
@@ -459,9 +466,9 @@ impl EdgeWire {
         outcome_of(
             self.seats.as_slice(),
             self.begin,
-            copied_bits(self.bits.as_slice()),
+            self.bits.as_slice(),
             ending(self.place),
-            self.recorder.wave.copy(),
+            &self.recorder.wave,
         )
     }
 
@@ -509,11 +516,11 @@ impl Wire for EdgeWire {
     fn round(&mut self, seats: &[Seat], start: u64, pulses: &Pulses) -> Outcome {
         let stretches = pulses.as_slice();
         let skipped = skipped(stretches, start);
-        let mut wire = EdgeWire::unheard(seats, start);
-        let mut next = wire.next_of(stretches, skipped);
-        'edges: while wire.search(next).is_some() {
-            next = wire.next_of(stretches, skipped);
+        self.begin_alone(seats, start);
+        let mut next = self.next_of(stretches, skipped);
+        'edges: while self.search(next).is_some() {
+            next = self.next_of(stretches, skipped);
         }
-        wire.finished()
+        self.finished()
     }
 }

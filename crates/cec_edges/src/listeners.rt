@@ -1,6 +1,6 @@
 //! Who hears a round's line: one receiver for all seats, since all hear the same line, and the sender of each seat
 //! that sends. They go from edge to edge, and between two edges from wake to wake.
-ghost use Rattle.std.specs.Prelude.{◌≡◌, ◌<◌, ◌≤◌, ℕ, Bool, [], length, slice_get, Some, None, MatchOption};
+ghost use Rattle.std.specs.Prelude.{◌≡◌, ◌<◌, ◌≤◌, ℕ, Bool, length, slice_get, Some, None, MatchOption};
 ghost use Rattle.cec_bits.specs.Follows.{WakesFewer};
 ghost use Rattle.cec_bits.specs.Hears.{heard_by, wake_of};
 ghost use Rattle.cec_edges.specs.Listening.{AllHeard, AreBegun, AreSenders, AreStanding, HeardOne, IsLevel, IsReadOnce, IsSenderOf, KeepsSenders, Reaches, ReachesEdge, Ticks, sooner_wake, tells};
@@ -108,16 +108,6 @@ impl Listeners {
         Listeners {
             receiver: self.receiver.copy(),
             senders: copied_senders(self.senders.as_slice()),
-        }
-    }
-
-    /// A receiver that has heard nothing, and no sender.
-    pub fn none() -> Self
-        ensures { result.senders.items ≡ [] }
-    {
-        Listeners {
-            receiver: Receiver::new(),
-            senders: ArrayVec::new(),
         }
     }
 

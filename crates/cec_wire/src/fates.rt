@@ -94,39 +94,46 @@ pub fn ending(place: Place) -> Ended
     }
 }
 
-// What a round gave that ended so, with these bits read and this wave carried.
+fn copied_bits(bits: &[bool]) -> ArrayVec<bool, 160>
+    requires { length bits.now ≤ 160 }
+    ensures { result.items ≡ bits.now }
+{
+    let mut copy = ArrayVec::new();
+    let _ = copy.try_extend_from_slice(bits);
+    copy
+}
+
+// What a round gave that ended so, with these bits read and this wave carried. They are copied where they stay.
 pub fn outcome_of(
     seats: &[Seat],
     begin: u64,
-    bits: ArrayVec<bool, 160>,
+    bits: &[bool],
     ended: Ended,
-    wave: Wave<192>,
+    wave: &Wave<192>,
 ) -> Outcome
-    requires { length seats.now ≤ 15 }
+    requires few { length seats.now ≤ 15 }
+    requires bits { length bits.now ≤ 160 }
     ensures begin { result.reading.begin ≡ begin }
     ensures at { result.reading.at ≡ ended.at }
     ensures ending { result.reading.ending ≡ ended.ending }
-    ensures bits { result.reading.bits.items ≡ bits.items }
-    ensures survivors { result.survivors.items ≡ survivors_by bits.items (has_all ended.ending) 0 seats.now }
-    ensures losers { result.losers.items ≡ losers_by bits.items (has_all ended.ending) 0 seats.now }
-    ensures rest { result.rest ≡ rest_of ended.until wave }
-    ensures wave { result.wave ≡ wave }
+    ensures bits { result.reading.bits.items ≡ bits.now }
+    ensures survivors { result.survivors.items ≡ survivors_by bits.now (has_all ended.ending) 0 seats.now }
+    ensures losers { result.losers.items ≡ losers_by bits.now (has_all ended.ending) 0 seats.now }
+    ensures rest { result.rest ≡ rest_of ended.until wave.now }
+    ensures wave { result.wave ≡ wave.now }
 {
-    let whole = is_whole(ended.ending);
-    let (survivors, losers) = parted(bits.as_slice(), whole, seats);
-    let rest = rest(wave.as_slice(), ended.until);
-    let reading = Reading {
-        begin,
-        at: ended.at,
-        ending: ended.ending,
-        bits,
-    };
+    let (survivors, losers) = parted(bits, is_whole(ended.ending), seats);
     Outcome {
-        reading,
+        reading: Reading {
+            begin,
+            at: ended.at,
+            ending: ended.ending,
+            bits: copied_bits(bits),
+        },
         survivors,
         losers,
-        rest,
-        wave,
+        rest: rest(wave.as_slice(), ended.until),
+        wave: wave.copy(),
     }
 }
 

@@ -24,6 +24,15 @@ impl Recorder {
         }
     }
 
+    /// Nothing was low so far, as when it was new.
+    pub fn clear(&mut self)
+        ensures wave { self.new.wave ≡ [] }
+        ensures high { self.new.low_since ≡ None }
+    {
+        self.wave.clear();
+        self.low_since = None;
+    }
+
     /// The same record again.
     pub fn copy(&self) -> Self
         ensures { result ≡ self.now }

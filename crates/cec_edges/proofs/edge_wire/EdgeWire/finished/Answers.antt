@@ -10,10 +10,10 @@ pub returns : goal.returns
 returns c =
     let w = c.args.self.now in
     let whole = has_all c.ending.result.ending in
-    let bits : c.copied_bits.result.items ≡ w.bits.items = c.copied_bits.ensures ∙ c.as_slice-2.ensures.value in
+    let bits : c.as_slice-2.result.now ≡ w.bits.items = c.as_slice-2.ensures.value in
     let seats : c.as_slice.result.now ≡ w.seats.items = c.as_slice.ensures.value in
     record {
-      round = finds_round w c.ending.result c.outcome_of.result c.requires.begun c.requires.silent c.ending.ensures (c.outcome_of.ensures.wave ∙ c.copy.ensures)
+      round = finds_round w c.ending.result c.outcome_of.result c.requires.begun c.requires.silent c.ending.ensures c.outcome_of.ensures.wave
           (record {
             begin_is = c.outcome_of.ensures.begin;
             at_is = c.outcome_of.ensures.at;
