@@ -1,7 +1,6 @@
 -- How a line is read, part by part.
-use Rattle.std.proofs.Common.{◌≡◌, ℕ, ◌+◌, ◌<◌, List, [], ◌∷◌, length, Option, Some, Result, Ok, Err, refl, sym, ap, subst, ◌∙◌, arith}
+use Rattle.std.proofs.Common.{◌≡◌, ℕ, ◌+◌, ◌<◌, List, [], ◌∷◌, length, Option, Some, Result, Ok, Err, refl, sym, ap, subst, arith}
 use Rattle.std.proofs.lemmas.List.Splits.{join_with_byte-slice_split}
-use Rattle.cec_wave.specs.declared.Stretch.{Stretch}
 use Rattle.hdmi_topo.specs.Node.{Node}
 use Rattle.hdmi_topo.specs.Tree.{device_named}
 use Rattle.cec_text.specs.declared.assembler.AssembleError.{AssembleError}
@@ -44,11 +43,10 @@ line_read tree texts after text line notes next read split first rest =
     let P : List (List ℕ) → Type 0 = λ t. AreLinesRead tree t line notes read in subst P (sym split) (Ok next, first, rest)
 
 -- behind the last line
-pub last_line : (tree : List Node) (texts : List (List ℕ)) (line : ℕ) (notes : Notes) (pulses : List Stretch) (time : ℕ) → texts ≡ [] → pulses ≡ notes.pulses → notes.end ≡ Some time
-    → AreLinesRead tree texts line notes (Ok (record { events = notes.events; pulses = pulses; end = time }))
-last_line tree texts line notes pulses time none same end =
-    let course : Course = record { events = notes.events; pulses = pulses; end = time } in
-    let course_is : course ≡ record { events = notes.events; pulses = notes.pulses; end = time } = ap (λ (ps : List Stretch). record { events = notes.events; pulses = ps; end = time }) same in
-    let read : Ok course ≡ ended notes line notes.end = ap Ok course_is ∙ sym (ap (ended notes line) end) in
+pub last_line : (tree : List Node) (texts : List (List ℕ)) (line : ℕ) (notes : Notes) (time : ℕ) → texts ≡ [] → notes.end ≡ Some time
+    → AreLinesRead tree texts line notes (Ok (record { events = notes.events; pulses = notes.pulses; end = time }))
+last_line tree texts line notes time none end =
+    let course : Course = record { events = notes.events; pulses = notes.pulses; end = time } in
+    let read : Ok course ≡ ended notes line notes.end = sym (ap (ended notes line) end) in
     let P : List (List ℕ) → Type 0 = λ t. AreLinesRead tree t line notes (Ok course) in
     subst P (sym none) read

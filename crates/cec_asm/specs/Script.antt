@@ -23,7 +23,7 @@ use Rattle.cec_net.specs.declared.event.Event.{Event}
 use Rattle.cec_net.specs.declared.event.Event.TheVariants.{Plug, Unplug, Key, Send}
 use Rattle.cec_asm.specs.declared.script.TimedEvent.{TimedEvent}
 use Rattle.cec_asm.specs.declared.script.Draft.{Draft}
-use Rattle.cec_asm.specs.declared.script.Script.{Script}
+use Rattle.cec_asm.specs.declared.course.Script.{Script}
 use Rattle.cec_asm.specs.declared.script.ScriptCause.{ScriptCause}
 use Rattle.cec_asm.specs.declared.script.ScriptCause.TheVariants.{Word, Number, Name, Frame, Width, Order, Close, TooMany, End}
 use Rattle.cec_asm.specs.declared.script.ScriptError.{ScriptError}
@@ -50,7 +50,7 @@ pub record Course : Type 0 where
   pub end : ℕ
 
 abbrev pub course_of : Script → Course
-course_of script = record { events = script.events.items; pulses = script.pulses; end = script.end }
+course_of script = record { events = script.events.items; pulses = script.pulses.items; end = script.end }
 
 -- what the lines so far say
 pub record Notes : Type 0 where

@@ -1,6 +1,7 @@
 //! The texts that a network is described by: frames, topologies and scripts.
 #![tactic(auto)]
 
+mod course;
 mod keys;
 mod laws;
 mod script;
@@ -8,6 +9,7 @@ mod topology;
 
 pub use cec_opcode::WordSet;
 pub use cec_text::{AssembleError, assemble, frame_text, write_frame};
+pub use course::Script;
 pub use laws::{one_script, scripts_are_sound};
-pub use script::{Script, ScriptCause, ScriptError, TimedEvent, parse_script};
+pub use script::{ScriptCause, ScriptError, TimedEvent, parse_script};
 pub use topology::{Topology, TopologyCause, TopologyError, parse_topology};

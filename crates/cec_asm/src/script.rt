@@ -1,16 +1,16 @@
-//! Scripts and their texts.
+//! The texts of scripts.
 ghost use Rattle.std.specs.Prelude.{◌≡◌, ℕ, ◌+◌, ◌<◌, ◌≤◌, List, [], ◌∷◌, ◌++◌, length, Result, Ok, Err, Some, None, IfOk, IfSome, OnOk};
 ghost use Rattle.std.specs.Option.{option_copied};
-ghost use Rattle.cec_wave.specs.Pulses.{pulses_fault};
 ghost use Rattle.cec_words.specs.Words.{words_behind, one_of, two_of, three_of};
 ghost use Rattle.cec_asm.specs.Script.{Notes, notes_of, course_of, time_of, last_time, last_end, scheduled, plug_words, unplug_words, key_words, event_words, send_read, pulse_cause, pulsed, pulse_words, end_words, other_words, error_at, IsFrameOf, IsSendRead, IsEventRead, IsLineRead, GivesNotes, Gives, GivesScript, IsScript};
 
+use crate::course::Script;
 use crate::keys::key_in;
 use crate::topology::Topology;
 use cec_frame::Frame;
 use cec_net::Event;
 use cec_text::{AssembleError, assemble, frames_are_whole};
-use cec_wave::{MOST_PULSES, Pulses, PulsesError, Stretch, stretch_fault};
+use cec_wave::{MOST_PULSES, PulsesError, Stretch, stretch_fault};
 use cec_words::{first_line, first_word, is_skipped, number_in, one_word, three_words, two_words};
 use hdmi_topo::Tree;
 use std::alloc::{AllocFailed, Global};
@@ -112,14 +112,6 @@ pub struct TimedEvent {
     pub line: u64,
     pub at: u64,
     pub event: Event,
-}
-
-/// What happens to a network: events in the order of their times, pulses, and the end of the run.
-#[derive(Drop)]
-pub struct Script {
-    pub events: Vec<TimedEvent>,
-    pub pulses: Pulses,
-    pub end: u64,
 }
 
 /// What the lines so far say.
@@ -470,17 +462,6 @@ fn error_at(line: u64, error: LineError) -> ScriptError
     }
 }
 
-/// Pulses without a fault.
-fn pulses_of(stretches: &[Stretch]) -> Pulses
-    requires { pulses_fault stretches.now ≡ None }
-    ensures { result ≡ stretches.now }
-{
-    match Pulses::new(stretches) {
-        Ok(pulses) => pulses,
-        Err(_) => unreachable!(),
-    }
-}
-
 /// Reads a script for the devices of a topology: lines `at T EVENT`, `pulse T WIDTH` and last `end T`, where EVENT is
 /// `plug CHILD PARENT PORT`, `unplug CHILD`, `press NAME KEY`, `release NAME KEY` or `send NAME FRAME`; empty lines
 /// and lines that begin with `#` are skipped. Times are microseconds. Those of events do not go back and are before
@@ -516,10 +497,9 @@ pub fn parse_script(alloc: Global, topology: &Topology, text: &[u8]) -> Result<S
             cause: ScriptCause::End,
         });
     };
-    let pulses = pulses_of(&draft.pulses);
     Ok(Script {
         events: draft.events,
-        pulses,
+        pulses: draft.pulses,
         end,
     })
 }

@@ -38,7 +38,7 @@ pub fn emulate_edges<S: Sink>(
     // The network is lent as it is made, as for the trace.
     match run(
         out,
-        &mut Net::new(topology.tree, EdgeWire::new(), script.pulses),
+        &mut Net::new(topology.tree, EdgeWire::new(), script.to_pulses()),
         &Telling::Edges,
         &script.events,
         script.end,

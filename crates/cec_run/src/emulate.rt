@@ -98,7 +98,7 @@ pub fn emulate<S: Sink>(
     // The network is lent as it is made: a name of its own would be a second place for it.
     match run(
         out,
-        &mut Net::new(topology.tree, EdgeWire::new(), script.pulses),
+        &mut Net::new(topology.tree, EdgeWire::new(), script.to_pulses()),
         &Telling::Trace(edid),
         &script.events,
         script.end,

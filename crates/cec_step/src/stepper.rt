@@ -330,14 +330,14 @@ impl Stepper {
         requires script { IsScript (length topology.tree) (course_of script) }
         requires root { (edid : Option Edid) × IsRootOf (option_map (λ bytes. bytes.items) topology.edid) edid }
         ensures { IfOk result (λ stepper. (edid : Option Edid) × IsRootOf (option_map (λ bytes. bytes.items) topology.edid) edid
-            × (stepper ≡ begun_at edid (course_of script) (started topology.tree script.pulses))) }
+            × (stepper ≡ begun_at edid (course_of script) (started topology.tree script.pulses.items))) }
     {
         let edid = match root_of(&topology.edid) {
             Ok(edid) => edid,
             Err(_) => None,
         };
         let last = Position {
-            net: Net::new(topology.tree, EdgeWire::new(), script.pulses),
+            net: Net::new(topology.tree, EdgeWire::new(), script.to_pulses()),
             applied: 0,
             is_first: true,
         };

@@ -1,4 +1,4 @@
-use Rattle.std.proofs.Common.{◌∙◌, arith}
+use Rattle.std.proofs.Common.{arith}
 use Rattle.cec_words.specs.Lines.{lines_of}
 use Rattle.cec_asm.specs.Script.{notes_of}
 use Rattle.cec_asm.proofs.Reading.{line_read, last_line}
@@ -23,6 +23,5 @@ pub returns-clause-script : goal.returns-clause-script
 returns-clause-script c =
     let tree = c.args.topology.now.tree in
     let notes = notes_of c.loop-line.draft in
-    let pulses = c.pulses_of-pulses.ensures ∙ c.deref.ensures.value in
-    let last = last_line tree (lines_of c.loop-line.rest.now) c.loop-line.number notes c.pulses_of-pulses.result c.in-Some-end.end c.in_default.ensures.lines pulses c.in-Some-end.is in
+    let last = last_line tree (lines_of c.loop-line.rest.now) c.loop-line.number notes c.in-Some-end.end c.in_default.ensures.lines c.in-Some-end.is in
     scripts_are_sound tree c.args.text.now _ (c.loop-line.invariant.reads _ last)

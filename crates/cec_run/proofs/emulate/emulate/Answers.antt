@@ -10,11 +10,11 @@ new-requires-2-clause-some g c =
     has_device c.args.topology.now (plan_of c.in_ok-topology.topology) plan
 
 pub new-requires-2-clause-early : goal.new-requires-2-clause-early
-new-requires-2-clause-early g c = early c.in_ok-script.script.pulses c.in_ok-script.ensures.script.early
+new-requires-2-clause-early g c = rw c.to_pulses.ensures (early c.in_ok-script.script.pulses.items c.in_ok-script.ensures.script.early)
 
 pub returns-clause-cut : goal.returns-clause-cut
 returns-clause-cut g c text totals trace =
     let plan : topology_of c.args.topology.now ≡ Ok (plan_of c.in_ok-topology.topology) = search rules in
     let course : IsScriptRead c.in_ok-topology.topology.tree c.args.script.now (Ok (course_of c.in_ok-script.script)) = c.in_ok-script.ensures.gives in
-    c.in-Err.ensures.cut text totals (rw (c.new-2.ensures, c.deref.ensures.value)
+    c.in-Err.ensures.cut text totals (rw (c.new-2.ensures, c.to_pulses.ensures, c.deref.ensures.value)
     (one_trace_of c.args.topology.now c.args.script.now text totals (plan_of c.in_ok-topology.topology) (course_of c.in_ok-script.script) c.in_ok-edid.edid plan course c.in_ok-edid.ensures.read trace))
