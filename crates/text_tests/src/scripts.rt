@@ -373,6 +373,28 @@ fn reads_pulses(rt: HostRuntime) {
     assert!(rt; reads_all_pulses(rt.alloc()));
 }
 
+// A run has the pulses of its script.
+fn hands_on_two_pulses(alloc: Global) -> bool {
+    match read(alloc, "pulse 100000 400\npulse 200000 10000\nend 20\n") {
+        Ok(script) => {
+            let pulses = script.to_pulses();
+            match pulses.as_slice() {
+                [first, last] => {
+                    (first.from, first.to) == (100_000, 100_400)
+                        && (last.from, last.to) == (200_000, 210_000)
+                }
+                _ => false,
+            }
+        }
+        Err(_) => false,
+    }
+}
+
+#[test]
+fn makes_the_pulses_of_a_run(rt: HostRuntime) {
+    assert!(rt; hands_on_two_pulses(rt.alloc()));
+}
+
 // Pulses that a script of 4,096 pulses is refused with, one more before its end: it is too many, unless it is at fault
 // otherwise.
 const ONE_MORE: &[(&str, &str)] = &[
