@@ -1,8 +1,10 @@
 //! Reading and writing a whole extension block.
-ghost use Rattle.std.specs.Prelude.{◌≡◌, ◌≢◌, ◌%◌, ◌+◌, ◌≤◌, ◌++◌, IfOk, OnErr, IfSome, IfNone, sum, length, flat_map};
+ghost use Rattle.std.specs.Prelude.{◌≡◌, ◌≢◌, ◌%◌, ◌+◌, ◌≤◌, ◌++◌, ◌∷◌, [], IfOk, OnErr, IfSome, IfNone, IsTrue, sum, length, flat_map, slice_index};
 ghost use Rattle.arrayvec.specs.ArrayVec.{array_vec_len};
+ghost use Rattle.hdmi_edid.specs.Bytes.{are_bytes};
 ghost use Rattle.hdmi_edid.specs.Timing.{timing_bytes};
 ghost use Rattle.hdmi_cta.specs.Block.{block_bytes};
+ghost use Rattle.hdmi_cta.specs.Cta.{cta_front, is_tail};
 ghost use Rattle.hdmi_cta.specs.Whole.{cta_bytes, bare_bytes};
 ghost use Rattle.hdmi_cta.specs.Ext.{ext_bytes};
 ghost use Rattle.hdmi_edid.specs.Check.{summed};
@@ -26,9 +28,18 @@ pub enum ExtError {
     Checksum,
 }
 
-fn read_cta(bytes: &[u8; 128]) -> Option<Cta>
-    requires { sum bytes.now % 256 ≡ 0 }
-    ensures found { IfSome result (λ c. cta_bytes c ≡ bytes.now) }
+/// The timings and the tail of the CTA block that 128 bytes spell; its data blocks are put into an empty list. They are
+/// large, and so read where they stand.
+fn read_cta(
+    bytes: &[u8; 128],
+    blocks: &mut ArrayVec<Block, 123>,
+) -> Option<(ArrayVec<Timing, 6>, ArrayVec<u8, 123>)>
+    requires summed { sum bytes.now % 256 ≡ 0 }
+    requires fresh { blocks.old.items ≡ [] }
+    ensures found { IfSome result (λ r. summed (cta_front (slice_index bytes.now 3) blocks.new.items r.0.items r.1.items) ≡ bytes.now) }
+    ensures whole { IfSome result (λ r. length (flat_map block_bytes blocks.new.items) + length (flat_map timing_bytes r.0.items) + length r.1.items ≡ 123) }
+    ensures ended { IfSome result (λ r. IsTrue (is_tail r.1.items)) }
+    ensures bytes_fit { IfSome result (λ r. IsTrue (are_bytes (slice_index bytes.now 3 ∷ r.1.items))) }
     ensures none { IfNone result ((c : CtaValue) → cta_bytes c ≡ bytes.now → ⊥) }
 {
     if bytes[0] != 2 || bytes[1] != 3 {
@@ -38,17 +49,11 @@ fn read_cta(bytes: &[u8; 128]) -> Option<Cta>
     if end < 4 || end > 127 {
         return None;
     }
-    let mut blocks = ArrayVec::new();
-    read_blocks(&bytes[4..end], &mut blocks)?;
+    read_blocks(&bytes[4..end], blocks)?;
     let (timings, rest) = read_timings(&bytes[end..127]);
     let mut tail = ArrayVec::new();
     append(&mut tail, rest);
-    Some(Cta {
-        flags: bytes[3],
-        blocks,
-        timings,
-        tail,
-    })
+    Some((timings, tail))
 }
 
 fn read_bare(bytes: &[u8; 128]) -> Option<Bare>
@@ -74,8 +79,14 @@ pub fn read_ext(bytes: &[u8; 128]) -> Result<Ext, ExtError>
     if !is_summed(bytes) {
         return Err(ExtError::Checksum);
     }
-    if let Some(cta) = read_cta(bytes) {
-        return Ok(Ext::Cta(cta));
+    let mut blocks = ArrayVec::new();
+    if let Some((timings, tail)) = read_cta(bytes, &mut blocks) {
+        return Ok(Ext::Cta(Cta {
+            flags: bytes[3],
+            blocks,
+            timings,
+            tail,
+        }));
     }
     if let Some(bare) = read_bare(bytes) {
         return Ok(Ext::Bare(bare));

@@ -16,10 +16,10 @@ returns-clause-found c =
     let tail = c.append.ensures.items ∙ ap (λ xs. xs ++ c.read_timings-timings.result.1.now) c.new-tail.ensures in
     let len = length_between bytes (get_or bytes 2 0) _ c.told-bytes least most spelled in
     whole_is bytes 2 3 _ _ _ c.told-bytes (sym c.if-bytes-ne2.false) (sym c.if-bytes-ne3.false) len refl
-    (body_is bytes (get_or bytes 2 0) _ (timings ++ c.append.new.block.items) least most spelled (ap (λ xs. timings ++ xs) tail ∙ rest)) (c.fits-bytes 127) c.requires
+    (body_is bytes (get_or bytes 2 0) _ (timings ++ c.append.new.block.items) least most spelled (ap (λ xs. timings ++ xs) tail ∙ rest)) (c.fits-bytes 127) c.requires.summed
 
-pub invariant_of-result-clause-bytes_fit : goal.invariant_of-result-clause-bytes_fit
-invariant_of-result-clause-bytes_fit c =
+pub returns-clause-bytes_fit : goal.returns-clause-bytes_fit
+returns-clause-bytes_fit c =
     let bytes = c.args.bytes.now in
     let end = get_or bytes 2 0 in
     let timings = flat_map timing_bytes c.read_timings-timings.result.0.items in

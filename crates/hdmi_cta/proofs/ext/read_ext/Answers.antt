@@ -5,7 +5,7 @@ use Rattle.hdmi_cta.proofs.OneExt.{one_ext}
 use Rattle.hdmi_cta.proofs.ext.read_ext.Goals as goal
 
 pub returns-in-Some-clause-only : goal.returns-in-Some-clause-only
-returns-in-Some-clause-only c = λ e h. ap Ok (one_ext (Cta c.in-Some.cta) e (c.in-Some.ensures.found ∙ h))
+returns-in-Some-clause-only c = λ e h. ap Ok (one_ext (Cta (record { flags = _; blocks = _; timings = _; tail = _; whole = _; ended = _; bytes_fit = _ })) e (c.in-Some.ensures.found ∙ h))
 
 pub returns-in-Some-read_bare-clause-only : goal.returns-in-Some-read_bare-clause-only
 returns-in-Some-read_bare-clause-only c = λ e h. ap Ok (one_ext (Bare c.in-Some-read_bare.bare) e (c.in-Some-read_bare.ensures.found ∙ h))
@@ -13,5 +13,5 @@ returns-in-Some-read_bare-clause-only c = λ e h. ap Ok (one_ext (Bare c.in-Some
 pub returns-clause-only : goal.returns-clause-only
 returns-clause-only c = λ e h. ap Ok (one_ext (Raw (record { bytes = c.args.bytes.now; whole = _; bytes_fit = _; checked = _; no_cta = _; no_bare = _ })) e h)
 
-pub invariant_of-result-clause-bytes_fit : goal.invariant_of-result-clause-bytes_fit
-invariant_of-result-clause-bytes_fit c = are_bytes-cells c.args.bytes.now c.fits-bytes
+pub invariant_of-result-2-clause-bytes_fit : goal.invariant_of-result-2-clause-bytes_fit
+invariant_of-result-2-clause-bytes_fit c = are_bytes-cells c.args.bytes.now c.fits-bytes
