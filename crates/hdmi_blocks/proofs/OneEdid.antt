@@ -133,10 +133,21 @@ not_refused e Count h = h.2 (count_fits e)
 not_refused e (OfBase cause) h = let none = ap refusal (take_base e) ∙ accepted e.base in let some = h.1 in cc
 not_refused e (OfExt i cause) h = let first = h.3 in first.wrong (block_sum e i first.least first.there)
 
+-- bytes that are refused are no EDID's
+pub none_spells : (bytes : List ℕ) (c : EdidError) → IsRefused bytes c → (e : Edid) → bytes ≡ edid_bytes e → ⊥
+none_spells bytes c refused e h = not_refused e c (subst (λ xs. IsRefused xs c) h refused)
+
 pub only : (bytes : List ℕ) (r : Result Edid EdidError) → IfOk r (λ e. edid_bytes e ≡ bytes) → IfErr r (λ c. IsRefused bytes c)
     → (e : Edid) → bytes ≡ edid_bytes e → r ≡ Ok e
 only bytes (Ok a) found refused e h = ap (λ x. Ok x) (one_edid a e (found ∙ h))
-only bytes (Err c) found refused e h = absurd (not_refused e c (subst (λ xs. IsRefused xs c) h refused))
+only bytes (Err c) found refused e h = absurd (none_spells bytes c refused e h)
+
+-- parts that were read are those of each EDID with these bytes
+pub only_parts : (bytes : List ℕ) (b : Base) (xs : ArrayVec AnyExt) → base_bytes b ++ flat_map ext_bytes xs.items ≡ bytes → b.extensions ≡ length xs.items → length xs.items ≤ 3
+    → (e : Edid) → bytes ≡ edid_bytes e → (b ≡ e.base) × (xs.items ≡ e.extensions.items)
+only_parts bytes b xs found counted few e h =
+    let same : record { base = b; extensions = xs; counted = counted; few = few } ≡ e = one_edid (record { base = b; extensions = xs; counted = counted; few = few }) e (found ∙ h) in
+    (ap (λ a. a.base) same, ap (λ a. a.extensions.items) same)
 
 -- a block that was read in front has the number
 pub count_read : (b : Base) (bytes : List ℕ) → base_bytes b ≡ take 128 (drop 0 bytes) → get_or bytes 126 0 ≡ b.extensions

@@ -1,6 +1,7 @@
 //! The bytes of a whole EDID.
-ghost use Rattle.std.specs.Prelude.{◌≡◌, ◌++◌, ◌+◌, ◌*◌, ◌≤◌, IfOk, IfErr, OnOk, [], flat_map, length, drop};
+ghost use Rattle.std.specs.Prelude.{◌≡◌, ◌++◌, ◌+◌, ◌*◌, ◌≤◌, IfOk, IfErr, OnOk, OnErr, [], flat_map, length, drop};
 ghost use Rattle.arrayvec.specs.ArrayVec.{array_vec_len};
+ghost use Rattle.hdmi_edid.specs.Base.{base_bytes};
 ghost use Rattle.hdmi_cta.specs.Ext.{ext_bytes};
 ghost use Rattle.hdmi_blocks.specs.Bytes.{HasLength, IsRefused, IsUnsummed, block_at, edid_bytes, has_length};
 ghost use Rattle.hdmi_blocks.specs.declared.edid.Edid.{Edid as EdidValue};
@@ -8,7 +9,7 @@ ghost use Rattle.hdmi_blocks.specs.declared.edid.Edid.{Edid as EdidValue};
 use crate::edid::Edid;
 use arrayvec::ArrayVec;
 use hdmi_cta::{Ext, ExtError, read_ext, write_ext};
-use hdmi_edid::{BaseError, part, read_base, write_base};
+use hdmi_edid::{Base, BaseError, part, read_base, write_base};
 use std::error::Error;
 use std::fmt::{self, Write};
 
@@ -88,12 +89,23 @@ fn read_extensions(bytes: &[u8], extensions: &mut ArrayVec<Ext, 3>) -> Result<()
     Ok(())
 }
 
-/// The EDID that 128, 256, 384 or 512 bytes spell, or the first reason why they spell none: their length, the base
-/// block, the number of extensions, the first extension at fault (E-EDID Release A, section 2.2.1).
-pub fn edid_from_bytes(bytes: &[u8]) -> Result<Edid, EdidError>
-    ensures found { IfOk result (λ e. edid_bytes e ≡ bytes.now) }
-    ensures only { (e : EdidValue) → bytes.now ≡ edid_bytes e → result ≡ Ok e }
+/// The base block of the EDID that 128, 256, 384 or 512 bytes spell; its extensions are put into an empty list of the
+/// caller's (E-EDID Release A, section 2.2.1). An EDID is large as one value, and is read in parts where it is not kept.
+///
+/// # Errors
+///
+/// The first reason why the bytes spell no EDID: their length, the base block, the number of extensions, the first
+/// extension at fault. The list is then as empty as it was.
+#[inline(never)]
+pub fn read_parts(bytes: &[u8], extensions: &mut ArrayVec<Ext, 3>) -> Result<Base, EdidError>
+    requires fresh { extensions.old.items ≡ [] }
+    ensures found { IfOk result (λ base. base_bytes base ++ flat_map ext_bytes extensions.new.items ≡ bytes.now) }
+    ensures counted { IfOk result (λ base. base.extensions ≡ length extensions.new.items) }
+    ensures few { length extensions.new.items ≤ 3 }
+    ensures only { (e : EdidValue) → bytes.now ≡ edid_bytes e → result ≡ Ok e.base }
+    ensures listed { (e : EdidValue) → bytes.now ≡ edid_bytes e → extensions.new.items ≡ e.extensions.items }
     ensures refused { IfErr result (λ e. IsRefused bytes.now e) }
+    ensures kept { OnErr result (extensions.new.items ≡ []) }
 {
     if !has_length(bytes) {
         return Err(EdidError::Length);
@@ -105,10 +117,26 @@ pub fn edid_from_bytes(bytes: &[u8]) -> Result<Edid, EdidError>
     if usize::from(bytes[126]) * 128 + 128 != bytes.len() {
         return Err(EdidError::Count);
     }
+    match read_extensions(bytes, extensions) {
+        Err(error) => {
+            extensions.clear();
+            Err(error)
+        }
+        Ok(()) => Ok(base),
+    }
+}
+
+/// The EDID that 128, 256, 384 or 512 bytes spell, or the first reason why they spell none: their length, the base
+/// block, the number of extensions, the first extension at fault (E-EDID Release A, section 2.2.1).
+pub fn edid_from_bytes(bytes: &[u8]) -> Result<Edid, EdidError>
+    ensures found { IfOk result (λ e. edid_bytes e ≡ bytes.now) }
+    ensures only { (e : EdidValue) → bytes.now ≡ edid_bytes e → result ≡ Ok e }
+    ensures refused { IfErr result (λ e. IsRefused bytes.now e) }
+{
     let mut extensions = ArrayVec::new();
-    match read_extensions(bytes, &mut extensions) {
+    match read_parts(bytes, &mut extensions) {
         Err(error) => Err(error),
-        Ok(()) => Ok(Edid { base, extensions }),
+        Ok(base) => Ok(Edid { base, extensions }),
     }
 }
 

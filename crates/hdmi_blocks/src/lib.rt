@@ -7,6 +7,6 @@ mod bytes;
 mod edid;
 mod passing;
 
-pub use bytes::{EdidError, edid_from_bytes, edid_to_bytes};
+pub use bytes::{EdidError, edid_from_bytes, edid_to_bytes, read_parts};
 pub use edid::Edid;
 pub use passing::AudioFrom;

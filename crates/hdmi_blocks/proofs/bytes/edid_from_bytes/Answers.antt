@@ -1,61 +1,11 @@
-use Rattle.std.proofs.Common.{rules, ◌≡◌, take, drop, ap, sym, arith, ◌∙◌, Ok, Err}
-use Rattle.hdmi_edid.proofs.Accepted.{accepted}
-use Rattle.hdmi_edid.specs.Base.{base_bytes}
-use Rattle.hdmi_edid.specs.Refusals.{refusal}
-use Rattle.hdmi_blocks.specs.Bytes.{HasLength, HasCount, IsRefused}
-use Rattle.hdmi_blocks.proofs.Lengths.{counted}
-use Rattle.hdmi_blocks.proofs.OneEdid.{count_read, only}
-use Rattle.hdmi_blocks.specs.declared.bytes.EdidError.TheVariants.{Length, Count, Base}
-use Rattle.hdmi_blocks.proofs.Reading.{refused_so, whole_bytes}
+use Rattle.std.proofs.Common.{Ok, Err}
+use Rattle.hdmi_blocks.proofs.OneEdid.{only}
 use Rattle.hdmi_blocks.proofs.bytes.edid_from_bytes.Goals as goal
-
-pub returns-then-from-bytes-clause-refused : goal.returns-then-from-bytes-clause-refused
-returns-then-from-bytes-clause-refused c =
-    let has : HasLength c.args.bytes.now = search rules in
-    let front : base_bytes c.in-Ok.base ≡ take 128 (drop 0 c.args.bytes.now) = c.in-Ok.ensures.found ∙ c.block_at.ensures in
-    let test = c.if-from-bytes.true in
-    let from = c.from.ensures in
-    (has, sym (ap refusal front) ∙ accepted c.in-Ok.base, λ (h : HasCount c.args.bytes.now). omega (arith, test, from, h))
-
-pub invariant_of-result : goal.invariant_of-result
-invariant_of-result c =
-    let has : HasLength c.args.bytes.now = search rules in
-    let front : base_bytes c.in-Ok.base ≡ take 128 (drop 0 c.args.bytes.now) = c.in-Ok.ensures.found ∙ c.block_at.ensures in
-    let count = count_read c.in-Ok.base c.args.bytes.now front in
-    let blocks = counted c.args.bytes.now has in
-    let len = blocks.len in
-    let most = blocks.most in
-    let test = c.if-from-bytes.false in
-    let from = c.from.ensures in
-    let there = c.in-Ok-read_extensions.ensures.count in
-    record { counted = omega (arith, count, test, from, there); few = omega (arith, there, len, most) }
-
-pub returns-in-Err-read_extensions-clause-refused : goal.returns-in-Err-read_extensions-clause-refused
-returns-in-Err-read_extensions-clause-refused c =
-    let has : HasLength c.args.bytes.now = search rules in
-    let front : base_bytes c.in-Ok.base ≡ take 128 (drop 0 c.args.bytes.now) = c.in-Ok.ensures.found ∙ c.block_at.ensures in
-    let test = c.if-from-bytes.false in
-    let from = c.from.ensures in
-    let count : HasCount c.args.bytes.now = omega (arith, test, from) in
-    refused_so c.args.bytes.now c.in-Err-read_extensions.error has (sym (ap refusal front) ∙ accepted c.in-Ok.base) count c.in-Err-read_extensions.ensures.refused
-
-pub returns-in-Ok-read_extensions-clause-found : goal.returns-in-Ok-read_extensions-clause-found
-returns-in-Ok-read_extensions-clause-found c =
-    whole_bytes (base_bytes c.in-Ok.base) c.args.bytes.now _ (c.in-Ok.ensures.found ∙ c.block_at.ensures) c.in-Ok-read_extensions.ensures.found
 
 -- no other EDID has these bytes, and none where they are refused
 
-pub returns-then-not-has_length-clause-only : goal.returns-then-not-has_length-clause-only
-returns-then-not-has_length-clause-only c = let refused : IsRefused c.args.bytes.now Length = search rules in λ e h. only c.args.bytes.now (Err Length) tt refused e h
-
 pub returns-in-Err-clause-only : goal.returns-in-Err-clause-only
-returns-in-Err-clause-only c = let refused : IsRefused c.args.bytes.now (Base c.in-Err.cause) = search rules in λ e h. only c.args.bytes.now (Err (Base c.in-Err.cause)) tt refused e h
+returns-in-Err-clause-only c = λ e h. only c.args.bytes.now (Err c.in-Err.error) tt c.in-Err.ensures.refused e h
 
-pub returns-then-from-bytes-clause-only : goal.returns-then-from-bytes-clause-only
-returns-then-from-bytes-clause-only c = λ e h. only c.args.bytes.now (Err Count) tt (returns-then-from-bytes-clause-refused c) e h
-
-pub returns-in-Err-read_extensions-clause-only : goal.returns-in-Err-read_extensions-clause-only
-returns-in-Err-read_extensions-clause-only c = λ e h. only c.args.bytes.now (Err c.in-Err-read_extensions.error) tt (returns-in-Err-read_extensions-clause-refused c) e h
-
-pub returns-in-Ok-read_extensions-clause-only : goal.returns-in-Ok-read_extensions-clause-only
-returns-in-Ok-read_extensions-clause-only c = λ e h. only c.args.bytes.now (Ok _) (returns-in-Ok-read_extensions-clause-found c) tt e h
+pub returns-in-Ok-clause-only : goal.returns-in-Ok-clause-only
+returns-in-Ok-clause-only c = λ e h. only c.args.bytes.now (Ok _) c.in-Ok.ensures.found tt e h
