@@ -11,7 +11,7 @@ use Rattle.hdmi_edtext.specs.declared.draft.Draft.{Draft}
 use Rattle.hdmi_blocks.specs.declared.edid.Edid.{Edid}
 use Rattle.hdmi_lines.specs.declared.line.Line.{Line}
 use Rattle.hdmi_edtext.proofs.CutTexts.{joined, joined_lines, lines_again}
-use Rattle.hdmi_edtext.proofs.Gets.{few_lines}
+use Rattle.hdmi_edtext.proofs.Gets.{few_parts}
 use Rattle.hdmi_edtext.proofs.Good.{EachGood, edid_good, good_at}
 use Rattle.hdmi_edtext.proofs.Live.{live}
 use Rattle.hdmi_edtext.proofs.OneLines.{one_lines}
@@ -82,7 +82,7 @@ pub few_told : (d : Draft) → length (draft_lines d) ≤ 398
 few_told d =
     let l = live d in
     let same = ap length l.1.1 in
-    omega (arith, same, few_lines l.0, length-append (draft_lines d) l.1.0)
+    omega (arith, same, few_parts l.0.base l.0.extensions.items l.0.few, length-append (draft_lines d) l.1.0)
 
 pub some_begins : (d : Draft) → SomeBegins (map line_text (draft_lines d))
 some_begins d = let l = live d in (l.0, (map line_text l.1.0, ap (map line_text) l.1.1 ∙ map-append line_text (draft_lines d) l.1.0))

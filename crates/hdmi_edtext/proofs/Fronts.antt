@@ -37,7 +37,7 @@ other_lines l ls ms m e = ap (λ t. drop 1 t) e
 pub begun_next : (b : Base) (n : ℕ) (l : Line) → n < 23 → Follows (take n (base_lines b)) l → (a : Base) × (slice_get (base_lines a) n ≡ Some l)
 begun_next b n l h f =
     let len : length (take n (base_lines b)) ≡ n = length-take-le n (base_lines b) (omega (arith, h, base_count b)) in
-    (f.0.base, sym (in_base f.0 n h) ∙ ap (λ ls. slice_get ls n) f.1.1 ∙ get_right (take n (base_lines b)) (l ∷ f.1.0) n 0 (omega (arith, len)))
+    (f.0.base, sym (in_base f.0.base f.0.extensions.items n h) ∙ ap (λ ls. slice_get ls n) f.1.1 ∙ get_right (take n (base_lines b)) (l ∷ f.1.0) n 0 (omega (arith, len)))
 
 -- the lines of a CTA block behind its first, and more
 abbrev pub body_lines : List Block → List DetailedTiming → List ℕ → List Line → List Line

@@ -12,9 +12,8 @@ use Rattle.hdmi_cta.specs.declared.block.Block.{Block}
 use Rattle.hdmi_cta.specs.declared.cta.Cta.{Cta}
 use Rattle.hdmi_cta.specs.declared.raw.Ext.{Ext}
 use Rattle.hdmi_cta.specs.declared.raw.Ext.TheVariants.{Cta as OfCta, Bare, Raw}
-use Rattle.hdmi_edtext.specs.Lines.{head_lines, base_lines, standard_line, descriptor_line, block_line, timing_line, tail_line, cta_lines, ext_lines, edid_lines}
+use Rattle.hdmi_edtext.specs.Lines.{head_lines, base_lines, standard_line, descriptor_line, block_line, timing_line, tail_line, cta_lines, ext_lines, part_lines}
 use Rattle.hdmi_lines.specs.declared.line.Line.{Line}
-use Rattle.hdmi_blocks.specs.declared.edid.Edid.{Edid}
 
 pub get_left : {X : Type 0} (xs ys : List X) (i : ℕ) → i < length xs → slice_get (xs ++ ys) i ≡ slice_get xs i
 get_left [] ys i h = absurd (omega arith)
@@ -73,11 +72,11 @@ pub none_at : (c : Cta) (n i : ℕ) → n ≡ 1 + (length c.blocks.items + i) �
 none_at c n i h k =
     behind_blocks c n i h ∙ get_right (map timing_line c.timings.items) (tail_line c.tail.items ∷ []) i (suc (i - length c.timings.items - 1)) (omega (arith, length-map c.timings.items timing_line, k))
 
-pub in_base : (e : Edid) (n : ℕ) → n < 23 → slice_get (edid_lines e) n ≡ slice_get (base_lines e.base) n
-in_base e n h = get_left (base_lines e.base) _ n (omega (arith, base_count e.base, h))
+pub in_base : (b : Base) (xs : List Ext) (n : ℕ) → n < 23 → slice_get (part_lines b xs) n ≡ slice_get (base_lines b) n
+in_base b xs n h = get_left (base_lines b) _ n (omega (arith, base_count b, h))
 
-pub in_ext : (e : Edid) (n i : ℕ) → n ≡ 23 + i → slice_get (edid_lines e) n ≡ slice_get (flat_map ext_lines e.extensions.items) i
-in_ext e n i h = get_right (base_lines e.base) _ n i (omega (arith, base_count e.base, h))
+pub in_ext : (b : Base) (xs : List Ext) (n i : ℕ) → n ≡ 23 + i → slice_get (part_lines b xs) n ≡ slice_get (flat_map ext_lines xs) i
+in_ext b xs n i h = get_right (base_lines b) _ n i (omega (arith, base_count b, h))
 
 -- a line of the first of some extensions, and one behind it
 pub in_first : (x : Ext) (xs : List Ext) (n : ℕ) → n < length (ext_lines x) → slice_get (flat_map ext_lines (x ∷ xs)) n ≡ slice_get (ext_lines x) n
@@ -117,6 +116,6 @@ exts_few : (xs : List Ext) → length (flat_map ext_lines xs) ≤ 125 * length x
 exts_few [] = omega arith
 exts_few (x ∷ xs) = omega (arith, length-append (ext_lines x) (flat_map ext_lines xs), ext_few x, exts_few xs)
 
--- an EDID has few lines
-pub few_lines : (e : Edid) → length (edid_lines e) ≤ 398
-few_lines e = omega (arith, length-append (base_lines e.base) (flat_map ext_lines e.extensions.items), base_count e.base, exts_few e.extensions.items, e.few)
+-- a base block and up to three extensions have few lines
+pub few_parts : (b : Base) (xs : List Ext) → length xs ≤ 3 → length (part_lines b xs) ≤ 398
+few_parts b xs few = omega (arith, length-append (base_lines b) (flat_map ext_lines xs), base_count b, exts_few xs, few)

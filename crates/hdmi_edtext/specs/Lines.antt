@@ -8,7 +8,6 @@ use Rattle.hdmi_cta.specs.Hdmi.{has_identifier}
 use Rattle.hdmi_edid.specs.declared.base.Base.{Base}
 use Rattle.hdmi_edid.specs.declared.base.Revision.{Revision}
 use Rattle.hdmi_edid.specs.declared.base.Revision.TheVariants.{Three, Four}
-use Rattle.hdmi_edid.specs.declared.chroma.Chroma.{Chroma as Chromaticities}
 use Rattle.hdmi_edid.specs.declared.descriptor.Descriptor.{Descriptor}
 use Rattle.hdmi_edid.specs.declared.descriptor.Descriptor.TheVariants.{Timing as OfTiming, Name as OfName, Text as OfText, SerialText as OfSerialText, Range as OfRange, Dummy as OfDummy, Raw as OfRaw}
 use Rattle.hdmi_edid.specs.declared.standard.Standard.{Standard as StandardTiming}
@@ -120,8 +119,15 @@ ext_lines (OfCta c) = cta_lines c
 ext_lines (OfBare b) = bare_lines b
 ext_lines (OfRawExt r) = bytes_line Ext r.bytes ∷ []
 
+-- the lines of a base block and of the extensions behind it
+abbrev pub part_lines : Base → List Extension → List Line
+part_lines base extensions = base_lines base ++ flat_map ext_lines extensions
+
+abbrev pub part_text : Base → List Extension → List ℕ
+part_text base extensions = flat_map line_text (part_lines base extensions)
+
 abbrev pub edid_lines : WholeEdid → List Line
-edid_lines e = base_lines e.base ++ flat_map ext_lines e.extensions.items
+edid_lines e = part_lines e.base e.extensions.items
 
 -- the whole text
 abbrev pub edid_text : WholeEdid → List ℕ

@@ -1,9 +1,8 @@
 //! The lines of an EDID's text.
 ghost use Rattle.std.specs.Prelude.{◌≡◌, ◌≤◌, ◌<◌, ◌+◌, ◌∷◌, [], Option, Some, None, length, take, slice_get, flat_map};
-ghost use Rattle.hdmi_edtext.specs.Lines.{letters_line, numbers_line, bytes_line, quoted_line, revision_letters, standard_line, timing_line, descriptor_line, head_lines, base_lines, kind_word, block_line, trimmed, tail_line, cta_lines, bare_lines, ext_lines, edid_lines};
+ghost use Rattle.hdmi_edtext.specs.Lines.{letters_line, numbers_line, bytes_line, quoted_line, revision_letters, standard_line, timing_line, descriptor_line, head_lines, base_lines, kind_word, block_line, trimmed, tail_line, cta_lines, bare_lines, ext_lines, part_lines};
 
 use arrayvec::ArrayVec;
-use hdmi_blocks::Edid;
 use hdmi_core::Phys;
 use hdmi_cta::{Bare, Block, BlockKind, Cta, Ext, has_identifier};
 use hdmi_edid::{Base, Descriptor, Revision, Standard, Text, Timing};
@@ -263,12 +262,12 @@ fn line_in(extensions: &[Ext], number: usize) -> Option<Line>
     None
 }
 
-/// The line with this number, from 0, of an EDID's text.
-pub fn line_at(edid: &Edid, number: usize) -> Option<Line>
-    ensures { slice_get (edid_lines edid.now) number ≡ result }
+/// The line with this number, from 0, of the text of a base block and the extensions behind it.
+pub fn line_at(base: &Base, extensions: &[Ext], number: usize) -> Option<Line>
+    ensures { slice_get (part_lines base.now extensions.now) number ≡ result }
 {
     if number < 23 {
-        return Some(base_line(&edid.base, number));
+        return Some(base_line(base, number));
     }
-    line_in(edid.extensions.as_slice(), number - 23)
+    line_in(extensions, number - 23)
 }
