@@ -3,9 +3,10 @@ ghost use Rattle.std.specs.Prelude.{◌≡◌, ◌↔◌, false, IsTrue};
 ghost use Rattle.hdmi_convert.specs.EdidText.{HexAnswers, TextAnswers, hex_line, is_hex_cut, is_text_cut};
 ghost use Rattle.hdmi_core.specs.Written.{WrittenLine};
 
-use hdmi_blocks::{EdidError, edid_from_bytes, edid_to_bytes};
+use arrayvec::ArrayVec;
+use hdmi_blocks::{EdidError, edid_to_bytes, read_parts};
 use hdmi_core::{Piece, Sink, WriteFault, write_line};
-use hdmi_edtext::{TextError, parse_text, write_text};
+use hdmi_edtext::{TextError, parse_text, write_parts};
 use std::alloc::Global;
 use thiserror::Error;
 
@@ -75,10 +76,11 @@ pub fn edid_to_text<S: Sink>(bytes: &[u8], out: &mut S) -> Result<(), EdidToText
     ensures answers { TextAnswers (S.contents out.old) (S.contents out.new) (S.is_stuck out.old) (S.is_stuck out.new) bytes.now result }
     ensures write { S.is_stuck out.old ≡ false → (IsTrue (is_text_cut result) ↔ IsTrue (S.is_stuck out.new)) }
 {
-    // It is lent where it stands, since an EDID is large.
-    match &edid_from_bytes(bytes) {
+    // The parts stay where they are read, since an EDID is large.
+    let mut extensions = ArrayVec::new();
+    match &read_parts(bytes, &mut extensions) {
         Err(cause) => Err(EdidToTextError::Edid(*cause)),
-        Ok(edid) => match write_text(edid, out) {
+        Ok(base) => match write_parts(base, &extensions, out) {
             Ok(()) => Ok(()),
             Err(fault) => Err(EdidToTextError::Write(fault.count)),
         },
