@@ -1,7 +1,10 @@
 //! EDIDs of several blocks: which bytes are refused and why, and what is passed on.
 use crate::samples::{bytes_of, first_bytes_of, has_bytes, holds, parted};
-use hdmi_blocks::{AudioFrom, Edid, edid_from_bytes, edid_to_bytes};
+use arrayvec::ArrayVec;
+use hdmi_blocks::{AudioFrom, Edid, edid_from_bytes, edid_to_bytes, read_parts};
 use hdmi_core::Phys;
+use hdmi_cta::{Ext, write_ext};
+use hdmi_edid::{Base, write_base};
 use std::alloc::Global;
 use std::process::Abort;
 use std::test::Fail;
@@ -53,6 +56,54 @@ fn returns_the_bytes_or_tells_the_first_fault(rt: HostRuntime) -> Result<(), Fai
     for case in ANSWERS.lines() {
         let (words, want) = parted(case)?;
         holds(&rt, is_told(rt.alloc(), words, want)?, case);
+    }
+    Ok(())
+}
+
+/// How many bytes of which blocks, and what is told of their parts: how many bytes the parts have, which are the same, or why
+/// they are refused and how many extensions are left then.
+const PARTS: &str = "\
+128 tv..0052 => 128 bytes
+256 tv..0151 speaking..e8 => 256 bytes
+512 tv..034f map..0c speaking..e8 empty..06 => 512 bytes
+127 tv..0151 speaking..e8 => length, 0 left
+128 tv..0151 speaking..e8 => count, 0 left
+128 tv..0151 0=01 => base header, 0 left
+512 tv..034f map..0c empty..06 speaking..e9 => ext 3 checksum, 0 left
+";
+
+/// The bytes of a base block and of the extensions behind it.
+fn bytes_of_parts(alloc: Global, base: &Base, extensions: &[Ext]) -> Result<Vec<u8>, Fail> {
+    let mut bytes = Vec::new(alloc);
+    bytes.extend_from_slice(&write_base(base))?;
+    for ext in extensions {
+        bytes.extend_from_slice(&write_ext(ext))?;
+    }
+    Ok(bytes)
+}
+
+fn parts_told(alloc: Global, bytes: &[u8]) -> Result<String, Fail> {
+    let mut extensions = ArrayVec::new();
+    match read_parts(bytes, &mut extensions) {
+        Err(error) => Ok(format!(in alloc; "{error}, {} left", extensions.len())?),
+        Ok(base) if bytes_of_parts(alloc, &base, extensions.as_slice())?.as_slice() == bytes => {
+            Ok(format!(in alloc; "{} bytes", bytes.len())?)
+        }
+        Ok(_) => Ok(String::from_str(alloc, "other bytes")?),
+    }
+}
+
+/// Whether this is told of the parts of the bytes that these words give.
+fn are_told(alloc: Global, words: &str, want: &str) -> Result<bool, Fail> {
+    let bytes = first_bytes_of(alloc, words)?;
+    Ok(parts_told(alloc, &bytes)?.as_str() == want)
+}
+
+#[test]
+fn reads_the_parts_or_tells_the_first_fault(rt: HostRuntime) -> Result<(), Fail> {
+    for case in PARTS.lines() {
+        let (words, want) = parted(case)?;
+        holds(&rt, are_told(rt.alloc(), words, want)?, case);
     }
     Ok(())
 }

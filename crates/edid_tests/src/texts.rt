@@ -2,9 +2,10 @@
 mod every_form;
 
 use crate::samples::{bytes_of, holds, parted};
-use hdmi_blocks::{Edid, edid_from_bytes, edid_to_bytes};
+use arrayvec::ArrayVec;
+use hdmi_blocks::{Edid, edid_from_bytes, edid_to_bytes, read_parts};
 use hdmi_core::Writes;
-use hdmi_edtext::{TextError, parse_text, write_text};
+use hdmi_edtext::{TextError, parse_text, write_parts, write_text};
 use std::alloc::Global;
 use std::test::Fail;
 
@@ -131,6 +132,31 @@ fn returns_extensions(rt: HostRuntime) -> Result<(), Fail> {
     for case in RETURNED.lines() {
         let (words, end) = parted(case)?;
         holds(&rt, goes_on(rt.alloc(), words, end)?, case);
+    }
+    Ok(())
+}
+
+/// The text of the parts that some bytes spell.
+fn text_of_parts(alloc: Global, bytes: &[u8]) -> Result<Vec<u8>, Fail> {
+    let mut extensions = ArrayVec::new();
+    let base = read_parts(bytes, &mut extensions)?;
+    let mut text = Vec::new(alloc);
+    write_parts(&base, &extensions, &mut Writes::new(&mut text))?;
+    Ok(text)
+}
+
+/// Whether the text of the parts of such blocks is the base block's with this behind it.
+fn parts_go_on(alloc: Global, words: &str, end: &str) -> Result<bool, Fail> {
+    let text = text_of_parts(alloc, &bytes_of(alloc, words)?)?;
+    let end = with_lines(alloc, end)?;
+    Ok(str::from_utf8(&text)?.strip_prefix(BASE_TEXT) == Some(end.as_str()))
+}
+
+#[test]
+fn writes_parts(rt: HostRuntime) -> Result<(), Fail> {
+    for case in RETURNED.lines() {
+        let (words, end) = parted(case)?;
+        holds(&rt, parts_go_on(rt.alloc(), words, end)?, case);
     }
     Ok(())
 }
