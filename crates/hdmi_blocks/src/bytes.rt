@@ -96,6 +96,7 @@ fn read_extensions(bytes: &[u8], extensions: &mut ArrayVec<Ext, 3>) -> Result<()
 ///
 /// The first reason why the bytes spell no EDID: their length, the base block, the number of extensions, the first
 /// extension at fault. The list is then as empty as it was.
+// The frame of the caller is kept free of what is read on the way.
 #[inline(never)]
 pub fn read_parts(bytes: &[u8], extensions: &mut ArrayVec<Ext, 3>) -> Result<Base, EdidError>
     requires fresh { extensions.old.items ≡ [] }
