@@ -18,6 +18,8 @@ pub struct Script {
 impl Script {
     /// The pulses of a run of this script: the stretches of [`pulses`](Script::pulses), in order. They have room for
     /// 4,096 stretches, 64 KB, however few there are.
+    // They are large: the frame of the caller is kept free of what is made on the way.
+    #[inline(never)]
     pub fn to_pulses(&self) -> Pulses
         ensures { result ≡ self.now.pulses.items }
     {
