@@ -1,5 +1,6 @@
 //! Which word of an edge file's line is at fault.
 use crate::marks::{Mark, from, is_number, is_word, one};
+use crate::place::is_line_end;
 use crate::words::Word;
 
 /// The greatest time of an edge file, in microseconds.
@@ -21,10 +22,7 @@ fn is_low_after(is_low: bool, line: &[u8]) -> bool {
 // Whether the line of the bus is low before a line of this number.
 fn is_low_before(input: &[u8], number: usize) -> bool {
     let mut is_low = false;
-    for line in input
-        .split(|byte| *byte == b'\n')
-        .take(number.saturating_sub(1))
-    {
+    for line in input.split(is_line_end).take(number.saturating_sub(1)) {
         is_low = is_low_after(is_low, line);
     }
     is_low

@@ -4,11 +4,13 @@ use crate::edges::in_edges;
 use crate::fault::{Fault, Part, read_fault};
 use crate::frames::add_frame;
 use crate::grammar::{
-    EDID_WORDS, KEYS, KEYWORDS, KINDS, SCRIPT, STEP_WORDS, STEPS, TOPOLOGY, fitting, most_fitting,
+    EDID_WORDS, NETWORK_WORDS, SCRIPT, STEP_WORDS, STEPS, TOPOLOGY, fitting, most_fitting,
 };
 use crate::hints::{is_shown, of_edid, of_line, of_text};
 use crate::marks::{Mark, marked};
 use crate::order::order;
+use crate::pieces::{add_all, add_line, add_times};
+use crate::place::{Place, is_line_end, lines_before, place_of};
 use crate::words::{Word, is_near, words_of};
 use cec_opcode::name;
 use std::alloc::{AllocError, Global};
@@ -29,81 +31,6 @@ pub enum Input {
 /// A line is shown up to so many columns.
 const COLUMNS: usize = 160;
 
-/// A line of an input, with its number from 1.
-#[derive(Clone, Copy, Debug)]
-struct Place<'a> {
-    number: usize,
-    line: &'a [u8],
-}
-
-// The line of this number, from 1.
-fn line_of(input: &[u8], number: usize) -> Option<Place<'_>> {
-    let line = input
-        .split(|byte| *byte == b'\n')
-        .nth(number.checked_sub(1)?)?;
-    Some(Place { number, line })
-}
-
-// The first line after some others that reads so.
-fn find_line<'a>(input: &'a [u8], after: usize, text: &str) -> Option<Place<'a>> {
-    let mut number = 0usize;
-    for line in input.split(|byte| *byte == b'\n') {
-        number = number.saturating_add(1);
-        if number > after && line == text.as_bytes() {
-            return Some(Place { number, line });
-        }
-    }
-    None
-}
-
-// The first line that begins so, blanks and case aside.
-fn find_like<'a>(input: &'a [u8], text: &str) -> Option<Place<'a>> {
-    let mut number = 0usize;
-    for line in input.split(|byte| *byte == b'\n') {
-        number = number.saturating_add(1);
-        let bare = line.trim_ascii();
-        if bare.len() >= text.len() && is_like(bare, text) {
-            return Some(Place { number, line });
-        }
-    }
-    None
-}
-
-fn is_like(line: &[u8], text: &str) -> bool {
-    match line.split_at_checked(text.len()) {
-        Some((front, _)) => front.eq_ignore_ascii_case(text.as_bytes()),
-        None => false,
-    }
-}
-
-// How many lines stand before the lines of a part, `script` or `steps` among them.
-fn lines_before(part: Part, input: &[u8]) -> usize {
-    let script = find_line(input, 0, "script").map_or(0, |place| place.number);
-    match part {
-        Part::Script => script,
-        Part::Steps => find_line(input, script, "steps").map_or(0, |place| place.number),
-        _ => 0,
-    }
-}
-
-// Where a fault stands in a whole input.
-fn place_of<'a>(input: &'a [u8], what: Input, fault: Fault<'_>) -> Option<Place<'a>> {
-    if fault.part == Part::Topology && fault.cause == "no-root" {
-        return None;
-    }
-    if let Some(line) = fault.line {
-        return line_of(input, lines_before(fault.part, input).saturating_add(line));
-    }
-    if fault.part == Part::Edid && what == Input::Network {
-        return find_like(input, "edid ");
-    }
-    match fault.cause {
-        "no script line" => find_like(input, "script"),
-        "no steps line" => find_like(input, "steps"),
-        _ => None,
-    }
-}
-
 // A line as it is shown: `.` for what is not printable, and cut after so many columns.
 fn shown(alloc: Global, line: &[u8]) -> Result<String, AllocError> {
     let mut text = String::new(alloc);
@@ -120,7 +47,7 @@ fn shown(alloc: Global, line: &[u8]) -> Result<String, AllocError> {
 // The names of the devices that lines before this one declare.
 fn declared<'a>(alloc: Global, input: &'a [u8], before: usize) -> Result<Vec<&'a str>, AllocError> {
     let mut names = Vec::new(alloc);
-    for line in input.split(|byte| *byte == b'\n').take(before) {
+    for line in input.split(is_line_end).take(before) {
         if let Some(name) = declared_by(line) {
             names.push(name)?;
         }
@@ -146,18 +73,8 @@ fn add_mark(
     };
     let last = words.get(mark.last).or(words.last()).unwrap_or(first);
     let end = last.column.saturating_add(last.text.len().max(1));
-    for _ in 0..before.saturating_add(first.column) {
-        text.push(' ')?;
-    }
-    for _ in first.column..end {
-        text.push('^')?;
-    }
-    text.push('\n')
-}
-
-fn add_line(text: &mut String, line: &str) -> Result<(), AllocError> {
-    text.push_str("  ")?;
-    text.push_str(line)?;
+    add_times(text, before.saturating_add(first.column), ' ')?;
+    add_times(text, end.saturating_sub(first.column), '^')?;
     text.push('\n')
 }
 
@@ -176,8 +93,7 @@ fn add_forms(text: &mut String, forms: &[&str], words: &[Word<'_>]) -> Result<()
     let mut before = "  a line here reads `";
     for form in forms {
         if fitting(form, words) == most {
-            text.push_str(before)?;
-            text.push_str(form)?;
+            add_all(text, &[before, form])?;
             before = "`, `";
         }
     }
@@ -185,9 +101,8 @@ fn add_forms(text: &mut String, forms: &[&str], words: &[Word<'_>]) -> Result<()
 }
 
 // A word that may have been meant.
-fn add_meant(text: &mut String, alloc: Global, word: &str, near: &str) -> Result<(), AllocError> {
-    let line = format!(in alloc; "`{word}`: did you mean `{near}`?")?;
-    add_line(text, line.as_str())
+fn add_meant(text: &mut String, word: &str, near: &str) -> Result<(), AllocError> {
+    add_all(text, &["  `", word, "`: did you mean `", near, "`?\n"])
 }
 
 // The first of some known words that a word may have been meant for. Returns whether there is one.
@@ -199,7 +114,7 @@ fn add_nearest(
 ) -> Result<bool, AllocError> {
     for near in known {
         if is_near(alloc, near, word)? {
-            add_meant(text, alloc, word, near)?;
+            add_meant(text, word, near)?;
             return Ok(true);
         }
     }
@@ -207,40 +122,38 @@ fn add_nearest(
 }
 
 // The first name of an opcode that a word may have been meant for.
-fn add_nearest_opcode(text: &mut String, alloc: Global, word: &str) -> Result<bool, AllocError> {
+fn add_nearest_opcode(text: &mut String, alloc: Global, word: &str) -> Result<(), AllocError> {
     for code in 0..=u8::MAX {
         if let Some(near) = name(code) {
             if is_near(alloc, near, word)? {
-                add_meant(text, alloc, word, near)?;
-                return Ok(true);
+                return add_meant(text, word, near);
             }
         }
     }
-    Ok(false)
+    Ok(())
 }
 
 // The word of a topology or a script that a word may have been meant for.
-fn add_nearest_word(text: &mut String, alloc: Global, word: &str) -> Result<bool, AllocError> {
-    if add_nearest(text, alloc, KEYWORDS, word)? {
-        return Ok(true);
+fn add_nearest_word(text: &mut String, alloc: Global, word: &str) -> Result<(), AllocError> {
+    for known in NETWORK_WORDS {
+        if add_nearest(text, alloc, known, word)? {
+            return Ok(());
+        }
     }
-    if add_nearest(text, alloc, KINDS, word)? {
-        return Ok(true);
-    }
-    add_nearest(text, alloc, KEYS, word)
+    Ok(())
 }
 
-// The word of a step, or the name of a device, that a word may have been meant for.
+// The word of a step, or else one of the names, that a word may have been meant for.
 fn add_nearest_step(
     text: &mut String,
     alloc: Global,
     word: &str,
-    declared: &[&str],
-) -> Result<bool, AllocError> {
-    if add_nearest(text, alloc, STEP_WORDS, word)? {
-        return Ok(true);
+    names: &[&str],
+) -> Result<(), AllocError> {
+    if !add_nearest(text, alloc, STEP_WORDS, word)? {
+        add_nearest(text, alloc, names, word)?;
     }
-    add_nearest(text, alloc, declared, word)
+    Ok(())
 }
 
 // What the word at fault may have been meant for.
@@ -249,21 +162,24 @@ fn add_suggestion(
     alloc: Global,
     fault: Fault<'_>,
     word: &str,
-    declared: &[&str],
-) -> Result<bool, AllocError> {
+    names: &[&str],
+) -> Result<(), AllocError> {
     match fault.part {
         Part::Topology | Part::Script if fault.cause == "name" => {
-            add_nearest(text, alloc, declared, word)
+            add_nearest(text, alloc, names, word)?;
         }
         Part::Script if fault.cause.starts_with("frame ") => {
-            add_nearest_opcode(text, alloc, word)
+            add_nearest_opcode(text, alloc, word)?;
         }
-        Part::Topology | Part::Script => add_nearest_word(text, alloc, word),
-        Part::EdidText => add_nearest(text, alloc, EDID_WORDS, word),
-        Part::Lines => add_nearest_opcode(text, alloc, word),
-        Part::Steps => add_nearest_step(text, alloc, word, declared),
-        Part::Edid | Part::Program => Ok(false),
+        Part::Topology | Part::Script => add_nearest_word(text, alloc, word)?,
+        Part::EdidText => {
+            add_nearest(text, alloc, EDID_WORDS, word)?;
+        }
+        Part::Lines => add_nearest_opcode(text, alloc, word)?,
+        Part::Steps => add_nearest_step(text, alloc, word, names)?,
+        Part::Edid | Part::Program => {}
     }
+    Ok(())
 }
 
 // What stands before a line. Returns its length.
@@ -283,12 +199,12 @@ fn add_shown(
     mark: Option<Mark>,
 ) -> Result<(), AllocError> {
     let before = add_head(text, alloc, place.number)?;
-    text.push_str(line)?;
-    text.push_str(if place.line.len() > COLUMNS {
+    let end = if place.line.len() > COLUMNS {
         " ..\n"
     } else {
         "\n"
-    })?;
+    };
+    add_all(text, &[line, end])?;
     match mark {
         Some(mark) => add_mark(text, before, words, mark),
         None => Ok(()),

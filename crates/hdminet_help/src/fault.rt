@@ -1,7 +1,7 @@
 //! A fault's line, taken apart.
 
 /// The part of an input that a fault speaks of.
-#[derive(Clone, Copy, Debug, PartialEq, Eq)]
+#[derive(Clone, Copy, PartialEq, Eq)]
 pub enum Part {
     /// The topology, up to the line `script`.
     Topology,
@@ -20,7 +20,7 @@ pub enum Part {
 }
 
 /// What the line of a fault says.
-#[derive(Clone, Copy, Debug)]
+#[derive(Clone, Copy)]
 pub struct Fault<'a> {
     pub part: Part,
     /// The line, from 1, counted in its part.

@@ -1,12 +1,13 @@
 //! The words of frames, from the tables of opcodes.
-use crate::list::List;
+use crate::list::list_set;
+use crate::pieces::{add_all, add_line};
 use crate::words::Word;
 use cec_opcode::{Operand, Operands, WordSet, code_named, name, operands_of};
 use cec_shape::{frame_shape, set_label};
 use std::alloc::{AllocError, Global};
 
 /// The sets of words, in the order in which help lists them.
-const SETS: [WordSet; 13] = [
+const SETS: &[WordSet] = &[
     WordSet::Reason,
     WordSet::Power,
     WordSet::OnOff,
@@ -39,20 +40,18 @@ const SHORT_TEXT: &str =
 
 const RAW: &str = "HEX is two lower-case digits for each operand, of which there are 14 at most";
 
-fn add_line(text: &mut String, line: &str) -> Result<(), AllocError> {
-    text.push_str("  ")?;
-    text.push_str(line)?;
-    text.push('\n')
-}
+/// What stands for a value, in the order in which help lists it.
+const VALUES: &[&str] = &[BYTE, LANGUAGE, VENDOR, ADDRESS, VOLUME, LONG_TEXT, RAW];
+
+/// How many columns the labels of sets take.
+const LABELS: usize = 8;
 
 // The words of a set, on one line.
 fn add_set(text: &mut String, set: WordSet) -> Result<(), AllocError> {
-    text.push_str("  ")?;
-    text.push_str(set_label(set))?;
+    add_all(text, &["  ", set_label(set)])?;
     let mut before = " is ";
     for word in set.words() {
-        text.push_str(before)?;
-        text.push_str(word.text)?;
+        add_all(text, &[before, word.text])?;
         before = ", ";
     }
     text.push('\n')
@@ -98,15 +97,33 @@ fn code_in_digits(word: &str) -> Option<u8> {
     u8::from_str_radix(digits, 16).ok()
 }
 
+// The form of an opcode's frames, as a text.
+fn text_of(shape: &[u8]) -> &str {
+    str::from_utf8(shape).unwrap_or("")
+}
+
 // How the frames of an opcode look, and what its operands are.
 fn add_shape(text: &mut String, code: u8) -> Result<(), AllocError> {
     let Some(shape) = frame_shape(code) else {
         return Ok(());
     };
-    text.push_str("  a frame here reads `I>D ")?;
-    text.push_str(str::from_utf8(&shape).unwrap_or(""))?;
-    text.push_str("`\n")?;
+    add_all(
+        text,
+        &["  a frame here reads `I>D ", text_of(&shape), "`\n"],
+    )?;
     add_operands(text, operands_of(code))
+}
+
+// What is said of an opcode that was written by its digits.
+fn name_said(alloc: Global, code: u8, word: &str) -> Result<String, AllocError> {
+    match name(code) {
+        Some(name) => format!(in alloc;
+            "the opcode {code:02x} has a name, `{name}`, which stands in place of `{word}`"
+        ),
+        None => format!(in alloc;
+            "the opcode {code:02x} has no name; `op-{code:02x}` stands for it"
+        ),
+    }
 }
 
 // What stands for an opcode that was written by its digits.
@@ -114,15 +131,8 @@ fn add_name(text: &mut String, alloc: Global, word: &str) -> Result<(), AllocErr
     let Some(code) = code_in_digits(word) else {
         return Ok(());
     };
-    let line = match name(code) {
-        Some(name) => format!(in alloc;
-            "the opcode {code:02x} has a name, `{name}`, which stands in place of `{word}`"
-        )?,
-        None => format!(in alloc;
-            "the opcode {code:02x} has no name; `op-{code:02x}` stands for it"
-        )?,
-    };
-    add_line(text, line.as_str())
+    let said = name_said(alloc, code, word)?;
+    add_line(text, said.as_str())
 }
 
 /// What the frame of a line would be, whose text begins at a word and is refused for a cause.
@@ -146,13 +156,34 @@ pub fn add_frame(
     }
 }
 
-// The label and the words of a set, in lines of some columns.
-fn list_set(text: &mut String, set: WordSet) -> Result<(), AllocError> {
-    let mut list = List::begin(text, set_label(set), 8)?;
-    for word in set.words() {
-        list.add(text, word.text)?;
+// The digits of an opcode that has a name, and the form of its frames.
+fn add_form(text: &mut String, alloc: Global, code: u8) -> Result<(), AllocError> {
+    let Some(shape) = frame_shape(code) else {
+        return Ok(());
+    };
+    let digits = format!(in alloc; "{code:02x}")?;
+    add_all(text, &["  ", digits.as_str(), " ", text_of(&shape), "\n"])
+}
+
+// A line for each opcode that has a name.
+fn add_forms(text: &mut String, alloc: Global) -> Result<(), AllocError> {
+    for code in 0..=u8::MAX {
+        add_form(text, alloc, code)?;
     }
-    text.push('\n')
+    Ok(())
+}
+
+// The words of each set, and what the other words in capitals are.
+fn add_values(text: &mut String) -> Result<(), AllocError> {
+    text.push_str("where these words stand for a byte:\n")?;
+    for set in SETS {
+        list_set(text, set_label(*set), LABELS, *set)?;
+    }
+    text.push_str("and\n")?;
+    for line in VALUES {
+        add_line(text, line)?;
+    }
+    Ok(())
 }
 
 /// A line for each opcode that has a name, with the form of its frames, and a line for each set of words.
@@ -162,21 +193,7 @@ fn list_set(text: &mut String, set: WordSet) -> Result<(), AllocError> {
 /// Where memory runs out.
 pub fn frame_forms(alloc: Global) -> Result<String, AllocError> {
     let mut text = String::new(alloc);
-    for code in 0..=u8::MAX {
-        if let Some(shape) = frame_shape(code) {
-            let digits = format!(in alloc; "  {code:02x} ")?;
-            text.push_str(digits.as_str())?;
-            text.push_str(str::from_utf8(&shape).unwrap_or(""))?;
-            text.push('\n')?;
-        }
-    }
-    text.push_str("where these words stand for a byte:\n")?;
-    for set in SETS {
-        list_set(&mut text, set)?;
-    }
-    text.push_str("and\n")?;
-    for line in [BYTE, LANGUAGE, VENDOR, ADDRESS, VOLUME, LONG_TEXT, RAW] {
-        add_line(&mut text, line)?;
-    }
+    add_forms(&mut text, alloc)?;
+    add_values(&mut text)?;
     Ok(text)
 }

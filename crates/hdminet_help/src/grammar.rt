@@ -35,10 +35,10 @@ pub const STEP_WORDS: &[&str] = &[
 ];
 
 /// The words that stand for a KIND.
-pub const KINDS: &[&str] = &["tv", "amp", "player", "recorder", "switch", "combo"];
+const KINDS: &[&str] = &["tv", "amp", "player", "recorder", "switch", "combo"];
 
 /// The words that a KEY is, or begins with.
-pub const KEYS: &[&str] = &[
+const KEYS: &[&str] = &[
     "play",
     "stop",
     "eject",
@@ -57,9 +57,12 @@ pub const KEYS: &[&str] = &[
 ];
 
 /// The words that stand for themselves.
-pub const KEYWORDS: &[&str] = &[
+const KEYWORDS: &[&str] = &[
     "device", "plug", "edid", "script", "at", "press", "release", "send", "unplug", "pulse", "end",
 ];
+
+/// The words of topologies and scripts.
+pub const NETWORK_WORDS: &[&[&str]] = &[KEYWORDS, KINDS, KEYS];
 
 /// The words that the lines of an EDID's text begin with.
 pub const EDID_WORDS: &[&str] = &[

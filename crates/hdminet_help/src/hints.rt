@@ -16,16 +16,13 @@ fn is_blank(byte: u8) -> bool {
     byte == b'\t' || byte == b'\r'
 }
 
-fn has_tab(line: &[u8]) -> bool {
-    line.contains(&b'\t')
+// Whether a byte is no part of a text.
+fn is_odd(byte: &u8) -> bool {
+    !is_shown(*byte) && !is_blank(*byte)
 }
 
 fn is_no_text(line: &[u8]) -> bool {
-    line.iter().any(|byte| !is_shown(*byte) && !is_blank(*byte))
-}
-
-fn has_two_spaces(line: &str) -> bool {
-    line.contains("  ")
+    line.iter().any(is_odd)
 }
 
 /// What is odd about a line: its bytes, and the text that is shown of it.
@@ -33,12 +30,15 @@ pub fn of_line(line: &[u8], shown: &str) -> [Option<&'static str>; 6] {
     [
         line.ends_with(b"\r")
             .then_some("lines end with LF; this one has a CR before it"),
-        has_tab(line).then_some("this line has a tab; words stand one space apart"),
+        line.contains(&b'\t')
+            .then_some("this line has a tab; words stand one space apart"),
         line.ends_with(b" ")
             .then_some("this line ends with a space"),
         line.starts_with(b" ")
             .then_some("this line begins with a space"),
-        has_two_spaces(shown).then_some("two spaces stand side by side here"),
+        shown
+            .contains("  ")
+            .then_some("two spaces stand side by side here"),
         is_no_text(line).then_some(
             "this line has bytes that are no printable text; `.` stands for each",
         ),
@@ -61,17 +61,20 @@ pub fn of_text(input: &[u8]) -> [Option<&'static str>; 4] {
     ]
 }
 
+fn is_digit_or_blank(byte: &u8) -> bool {
+    byte.is_ascii_hexdigit() || byte.is_ascii_whitespace()
+}
+
 // Whether some bytes are hex digits and blanks.
 fn is_hex_text(input: &[u8]) -> bool {
-    !input.is_empty()
-        && input.iter().all(|byte| byte.is_ascii_hexdigit() || byte.is_ascii_whitespace())
+    !input.is_empty() && input.iter().all(is_digit_or_blank)
 }
 
 // Whether some bytes begin as `xxd` and `hexdump -C` print them: eight digits and a colon or a space.
 fn is_numbered_dump(input: &[u8]) -> bool {
     match input.split_at_checked(8) {
         Some((digits, rest)) => {
-            digits.iter().all(|byte| byte.is_ascii_hexdigit())
+            digits.iter().all(u8::is_ascii_hexdigit)
                 && (rest.starts_with(b":") || rest.starts_with(b" "))
         }
         None => false,

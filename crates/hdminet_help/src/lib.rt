@@ -13,6 +13,8 @@ mod hints;
 mod list;
 mod marks;
 mod order;
+mod pieces;
+mod place;
 mod script_words;
 mod words;
 

@@ -4,7 +4,7 @@ use crate::grammar::{SCRIPT, STEPS, TOPOLOGY, most_fitting};
 use crate::words::Word;
 
 /// Words side by side in a line, by their numbers from 0.
-#[derive(Clone, Copy, Debug)]
+#[derive(Clone, Copy)]
 pub struct Mark {
     pub first: usize,
     pub last: usize,
@@ -31,7 +31,7 @@ pub fn from(word: usize) -> Option<Mark> {
 
 /// Whether a word is a decimal number up to a limit, with no zero before it.
 pub fn is_number(word: &str, limit: u64) -> bool {
-    let is_plain = word.bytes().all(|byte| byte.is_ascii_digit());
+    let is_plain = word.as_bytes().iter().all(u8::is_ascii_digit);
     let is_short = word == "0" || !word.starts_with("0");
     is_plain && is_short && matches!(word.parse::<u64>(), Ok(number) if number <= limit)
 }

@@ -1,8 +1,9 @@
 //! Which line of a script is earlier than which.
+use crate::place::is_line_end;
 use std::alloc::{AllocError, Global};
 
 /// A line of a script with its number, and the instant that the next line of its kind may not be before.
-#[derive(Clone, Copy, Debug)]
+#[derive(Clone, Copy)]
 struct Earlier {
     number: usize,
     instant: u64,
@@ -24,10 +25,7 @@ fn numbers_behind(line: &[u8], word: &str) -> Option<(u64, u64)> {
 fn last_before(input: &[u8], script: usize, number: usize, word: &str) -> Option<Earlier> {
     let mut last = None;
     let mut at = 0usize;
-    for line in input
-        .split(|byte| *byte == b'\n')
-        .take(number.saturating_sub(1))
-    {
+    for line in input.split(is_line_end).take(number.saturating_sub(1)) {
         at = at.saturating_add(1);
         if at > script {
             if let Some((instant, width)) = numbers_behind(line, word) {

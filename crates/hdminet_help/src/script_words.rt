@@ -1,7 +1,6 @@
 //! The words of topologies and scripts, from the tables of keys, of user control codes and of causes.
 use crate::causes::{Row, SCRIPT, TOPOLOGY};
-use crate::grammar::KINDS;
-use crate::list::List;
+use crate::list::{List, list_set};
 use cec_feature::{Key, Port, VolumeKey, has_key};
 use cec_frame::Addr;
 use cec_opcode::{Triple, UserControl, WordSet};
@@ -11,14 +10,14 @@ use std::alloc::{AllocError, Global};
 /// How many columns the forms of keys and the labels of lists take.
 const LABELS: usize = 14;
 
-/// The kinds, in the order of their words.
-const ALL_KINDS: [Kind; 6] = [
-    Kind::Tv,
-    Kind::Amp,
-    Kind::Player,
-    Kind::Recorder,
-    Kind::Switch,
-    Kind::Combo,
+/// The kinds with their words.
+const KINDS: &[(&str, Kind)] = &[
+    ("tv", Kind::Tv),
+    ("amp", Kind::Amp),
+    ("player", Kind::Player),
+    ("recorder", Kind::Recorder),
+    ("switch", Kind::Switch),
+    ("combo", Kind::Combo),
 ];
 
 const ADDRESS: Phys = Phys {
@@ -35,7 +34,7 @@ const ENGLISH: Triple = Triple {
 // The kinds that have a key, which is written so. A switch with a port stands for all switches.
 fn add_key(text: &mut String, form: &str, key: &Key) -> Result<(), AllocError> {
     let mut list = List::begin(text, form, LABELS)?;
-    for (word, kind) in KINDS.iter().zip(ALL_KINDS.iter()) {
+    for (word, kind) in KINDS {
         if has_key(*kind, Port::new(1), key) {
             list.add(text, word)?;
         }
@@ -43,40 +42,45 @@ fn add_key(text: &mut String, form: &str, key: &Key) -> Result<(), AllocError> {
     text.push('\n')
 }
 
+// Some keys, each with the form that it is written in.
+fn add_keys(text: &mut String, keys: &[(&str, Key)]) -> Result<(), AllocError> {
+    for (form, key) in keys {
+        add_key(text, form, key)?;
+    }
+    Ok(())
+}
+
 // The keys of one word.
 fn add_plain_keys(text: &mut String) -> Result<(), AllocError> {
-    add_key(text, "play", &Key::Play)?;
-    add_key(text, "stop", &Key::Stop)?;
-    add_key(text, "eject", &Key::Eject)?;
-    add_key(text, "load", &Key::Load)?;
-    add_key(text, "menu", &Key::Menu)?;
-    add_key(text, "power", &Key::Power)?;
-    add_key(text, "volume-up", &Key::Volume(VolumeKey::Up))?;
-    add_key(text, "volume-down", &Key::Volume(VolumeKey::Down))?;
-    add_key(text, "mute", &Key::Volume(VolumeKey::Mute))
+    let keys = [
+        ("play", Key::Play),
+        ("stop", Key::Stop),
+        ("eject", Key::Eject),
+        ("load", Key::Load),
+        ("menu", Key::Menu),
+        ("power", Key::Power),
+        ("volume-up", Key::Volume(VolumeKey::Up)),
+        ("volume-down", Key::Volume(VolumeKey::Down)),
+        ("mute", Key::Volume(VolumeKey::Mute)),
+    ];
+    add_keys(text, keys.as_slice())
 }
 
 // The keys of a word and what it takes.
 fn add_other_keys(text: &mut String) -> Result<(), AllocError> {
-    add_key(text, "port N", &Key::Port(1))?;
-    add_key(text, "watch PA", &Key::Watch(ADDRESS))?;
-    add_key(text, "language LLL", &Key::Language(ENGLISH))?;
-    add_key(text, "audio on", &Key::Audio { on: true })?;
-    add_key(text, "audio off", &Key::Audio { on: false })?;
-    add_key(text, "arc on", &Key::Arc { on: true })?;
-    add_key(text, "arc off", &Key::Arc { on: false })?;
     let code = UserControl::Play;
     let to = Addr::new(4);
-    add_key(text, "remote D CODE", &Key::Remote { to, code })
-}
-
-// The codes of a remote control.
-fn add_codes(text: &mut String) -> Result<(), AllocError> {
-    let mut list = List::begin(text, "CODE", LABELS)?;
-    for word in WordSet::UserControl.words() {
-        list.add(text, word.text)?;
-    }
-    text.push('\n')
+    let keys = [
+        ("port N", Key::Port(1)),
+        ("watch PA", Key::Watch(ADDRESS)),
+        ("language LLL", Key::Language(ENGLISH)),
+        ("audio on", Key::Audio { on: true }),
+        ("audio off", Key::Audio { on: false }),
+        ("arc on", Key::Arc { on: true }),
+        ("arc off", Key::Arc { on: false }),
+        ("remote D CODE", Key::Remote { to, code }),
+    ];
+    add_keys(text, keys.as_slice())
 }
 
 // The causes of the faults of a part.
@@ -98,7 +102,7 @@ pub fn run_words(alloc: Global) -> Result<String, AllocError> {
     let mut text = String::new(alloc);
     add_plain_keys(&mut text)?;
     add_other_keys(&mut text)?;
-    add_codes(&mut text)?;
+    list_set(&mut text, "CODE", LABELS, WordSet::UserControl)?;
     text.push_str("and the causes of faults\n")?;
     add_causes(&mut text, "of a topology", TOPOLOGY)?;
     add_causes(&mut text, "of a script", SCRIPT)?;

@@ -3,7 +3,7 @@ use std::alloc::{AllocError, Global};
 use strsim::osa_distance;
 
 /// A word of a line.
-#[derive(Clone, Copy, Debug)]
+#[derive(Clone, Copy)]
 pub struct Word<'a> {
     pub text: &'a str,
     /// The column that it begins in, from 0.
