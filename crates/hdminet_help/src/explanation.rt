@@ -122,38 +122,39 @@ fn add_nearest(
 }
 
 // The first name of an opcode that a word may have been meant for.
-fn add_nearest_opcode(text: &mut String, alloc: Global, word: &str) -> Result<(), AllocError> {
+fn add_nearest_opcode(text: &mut String, alloc: Global, word: &str) -> Result<bool, AllocError> {
     for code in 0..=u8::MAX {
         if let Some(near) = name(code) {
             if is_near(alloc, near, word)? {
-                return add_meant(text, word, near);
+                add_meant(text, word, near)?;
+                return Ok(true);
             }
         }
     }
-    Ok(())
+    Ok(false)
 }
 
 // The word of a topology or a script that a word may have been meant for.
-fn add_nearest_word(text: &mut String, alloc: Global, word: &str) -> Result<(), AllocError> {
+fn add_nearest_word(text: &mut String, alloc: Global, word: &str) -> Result<bool, AllocError> {
     for known in NETWORK_WORDS {
         if add_nearest(text, alloc, known, word)? {
-            return Ok(());
+            return Ok(true);
         }
     }
-    Ok(())
+    Ok(false)
 }
 
-// The word of a step, or else one of the names, that a word may have been meant for.
+// The word of a step, or the name of a device, that a word may have been meant for.
 fn add_nearest_step(
     text: &mut String,
     alloc: Global,
     word: &str,
-    names: &[&str],
-) -> Result<(), AllocError> {
-    if !add_nearest(text, alloc, STEP_WORDS, word)? {
-        add_nearest(text, alloc, names, word)?;
+    declared: &[&str],
+) -> Result<bool, AllocError> {
+    if add_nearest(text, alloc, STEP_WORDS, word)? {
+        return Ok(true);
     }
-    Ok(())
+    add_nearest(text, alloc, declared, word)
 }
 
 // What the word at fault may have been meant for.
@@ -162,24 +163,21 @@ fn add_suggestion(
     alloc: Global,
     fault: Fault<'_>,
     word: &str,
-    names: &[&str],
-) -> Result<(), AllocError> {
+    declared: &[&str],
+) -> Result<bool, AllocError> {
     match fault.part {
         Part::Topology | Part::Script if fault.cause == "name" => {
-            add_nearest(text, alloc, names, word)?;
+            add_nearest(text, alloc, declared, word)
         }
         Part::Script if fault.cause.starts_with("frame ") => {
-            add_nearest_opcode(text, alloc, word)?;
+            add_nearest_opcode(text, alloc, word)
         }
-        Part::Topology | Part::Script => add_nearest_word(text, alloc, word)?,
-        Part::EdidText => {
-            add_nearest(text, alloc, EDID_WORDS, word)?;
-        }
-        Part::Lines => add_nearest_opcode(text, alloc, word)?,
-        Part::Steps => add_nearest_step(text, alloc, word, names)?,
-        Part::Edid | Part::Program => {}
+        Part::Topology | Part::Script => add_nearest_word(text, alloc, word),
+        Part::EdidText => add_nearest(text, alloc, EDID_WORDS, word),
+        Part::Lines => add_nearest_opcode(text, alloc, word),
+        Part::Steps => add_nearest_step(text, alloc, word, declared),
+        Part::Edid | Part::Program => Ok(false),
     }
-    Ok(())
 }
 
 // What stands before a line. Returns its length.
@@ -331,6 +329,33 @@ fn add_length(text: &mut String, alloc: Global, length: usize) -> Result<(), All
     add_line(text, line.as_str())
 }
 
+// The line of a fault, what would be right, and what is odd about the input.
+fn add_explanation(
+    text: &mut String,
+    alloc: Global,
+    what: Input,
+    fault: Fault<'_>,
+    input: &[u8],
+) -> Result<(), AllocError> {
+    if let Some(place) = place_of(input, what, fault) {
+        add_place(text, alloc, input, place, fault)?;
+    }
+    if let Some(right) = right(fault) {
+        add_line(text, right)?;
+    }
+    match (what, fault.part) {
+        (_, Part::Program) if fault.cause != "no script line" => Ok(()),
+        (Input::EdidBytes, _) => {
+            add_hints(text, of_edid(input).as_slice())?;
+            if fault.cause == "length" {
+                add_length(text, alloc, input.len())?;
+            }
+            Ok(())
+        }
+        _ => add_hints(text, of_text(input).as_slice()),
+    }
+}
+
 /// The indented lines that follow the line of a fault, which is without `hdminet: ` here: the line of the input with its
 /// number, the word marked, what would be right, and what often goes wrong so.
 ///
@@ -344,23 +369,7 @@ pub fn explain(
     input: &[u8],
 ) -> Result<String, AllocError> {
     let mut text = String::new(alloc);
-    let fault = read_fault(fault);
-    if let Some(place) = place_of(input, what, fault) {
-        add_place(&mut text, alloc, input, place, fault)?;
-    }
-    if let Some(right) = right(fault) {
-        add_line(&mut text, right)?;
-    }
-    match (what, fault.part) {
-        (_, Part::Program) if fault.cause != "no script line" => {}
-        (Input::EdidBytes, _) => {
-            add_hints(&mut text, of_edid(input).as_slice())?;
-            if fault.cause == "length" {
-                add_length(&mut text, alloc, input.len())?;
-            }
-        }
-        _ => add_hints(&mut text, of_text(input).as_slice())?,
-    }
+    add_explanation(&mut text, alloc, what, read_fault(fault), input)?;
     Ok(text)
 }
 

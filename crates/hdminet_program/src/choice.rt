@@ -74,11 +74,13 @@ fn run_command<'a>(alloc: Global, run_help: &'a str) -> Result<Command<'a>, Allo
         .arg(edges)
 }
 
+fn is_help_flag(word: &String) -> bool {
+    word.as_str() == "--help" || word.as_str() == "-h"
+}
+
 // Whether help is asked for.
 fn asks_help(words: &[String]) -> bool {
-    words
-        .iter()
-        .any(|word| word.as_str() == "--help" || word.as_str() == "-h")
+    words.iter().any(is_help_flag)
 }
 
 // What follows the help of `asm`: with the forms of frames from the tables, where help is asked for.
@@ -124,35 +126,67 @@ fn plain_command<'a>(alloc: Global, name: &'a str, about: &'a str, help: &'a str
     Command::new(alloc, name).about(about).after_help(help)
 }
 
-// The program with the commands that run a network.
-fn network_commands<'a>(alloc: Global, run_help: &'a str) -> Result<Command<'a>, AllocError> {
-    program_command(alloc)?
-        .subcommand(run_command(alloc, run_help)?)?
-        .subcommand(plain_command(alloc, "step", help::STEP_ABOUT, help::STEP_HELP))
+// Adds the command that runs a network.
+fn add_run<'a>(
+    alloc: Global,
+    program: Command<'a>,
+    run_help: &'a str,
+) -> Result<Command<'a>, AllocError> {
+    let run = run_command(alloc, run_help)?;
+    program.subcommand(run)
 }
 
+// Adds the command that steps through a run.
+fn add_step<'a>(alloc: Global, program: Command<'a>) -> Result<Command<'a>, AllocError> {
+    program.subcommand(plain_command(alloc, "step", help::STEP_ABOUT, help::STEP_HELP))
+}
+
+// Adds the command that reads texts of frames.
+fn add_asm<'a>(
+    alloc: Global,
+    program: Command<'a>,
+    asm_help: &'a str,
+) -> Result<Command<'a>, AllocError> {
+    program.subcommand(plain_command(alloc, "asm", help::ASM_ABOUT, asm_help))
+}
+
+// Adds the command that reads edge files.
+fn add_mon<'a>(alloc: Global, program: Command<'a>) -> Result<Command<'a>, AllocError> {
+    program.subcommand(plain_command(alloc, "mon", help::MON_ABOUT, help::MON_HELP))
+}
+
+// Adds the command that reads EDIDs.
+fn add_edid<'a>(alloc: Global, program: Command<'a>) -> Result<Command<'a>, AllocError> {
+    let edid = edid_command(alloc)?;
+    program.subcommand(edid)
+}
+
+// The program with its commands, in the order in which help lists them.
 fn command<'a>(
     alloc: Global,
     run_help: &'a str,
     asm_help: &'a str,
 ) -> Result<Command<'a>, AllocError> {
-    let asm = plain_command(alloc, "asm", help::ASM_ABOUT, asm_help);
-    let mon = plain_command(alloc, "mon", help::MON_ABOUT, help::MON_HELP);
-    network_commands(alloc, run_help)?
-        .subcommand(asm)?
-        .subcommand(mon)?
-        .subcommand(edid_command(alloc)?)
+    let program = program_command(alloc)?;
+    let program = add_run(alloc, program, run_help)?;
+    let program = add_step(alloc, program)?;
+    let program = add_asm(alloc, program, asm_help)?;
+    let program = add_mon(alloc, program)?;
+    add_edid(alloc, program)
 }
 
 // What the words after the flags ask for.
 fn choice_of(matches: &ArgMatches<'_>) -> Choice {
-    match matches.subcommand() {
-        Some(("run", run)) if run.get_flag("edges") => Choice::Edges,
-        Some(("step", _)) => Choice::Step,
-        Some(("asm", _)) => Choice::Asm,
-        Some(("mon", _)) => Choice::Mon,
-        Some(("edid", edid)) if edid.get_flag("text") => Choice::TextToHex,
-        Some(("edid", _)) => Choice::EdidToText,
+    let Some((command, flags)) = matches.subcommand() else {
+        return Choice::Run;
+    };
+    match command {
+        "run" if flags.get_flag("edges") => Choice::Edges,
+        "step" => Choice::Step,
+        "asm" => Choice::Asm,
+        "mon" => Choice::Mon,
+        "edid" if flags.get_flag("text") => Choice::TextToHex,
+        "edid" => Choice::EdidToText,
         _ => Choice::Run,
     }
 }
@@ -180,20 +214,35 @@ pub fn choose(alloc: Global, words: &[String]) -> Result<Asked, Error> {
             choice,
             explains: false,
         }),
-        None => choose_by_table(alloc, words),
+        None => choose_with_help(alloc, words),
+    }
+}
+
+// What the matches of a command line ask for.
+fn asked_by(matches: &ArgMatches<'_>) -> Asked {
+    Asked {
+        choice: choice_of(matches),
+        explains: matches.get_flag("explain"),
     }
 }
 
 // Reads a command line by the table of commands and flags.
-fn choose_by_table(alloc: Global, words: &[String]) -> Result<Asked, Error> {
+fn choose_by_table(
+    alloc: Global,
+    words: &[String],
+    run_help: &str,
+    asm_help: &str,
+) -> Result<Asked, Error> {
+    let command = command(alloc, run_help, asm_help)?;
+    let matches = command.try_get_matches_from(words)?;
+    Ok(asked_by(&matches))
+}
+
+// Reads a command line with the helps of its commands.
+fn choose_with_help(alloc: Global, words: &[String]) -> Result<Asked, Error> {
     let run_help = run_help(alloc, words)?;
     let asm_help = asm_help(alloc, words)?;
-    let command = command(alloc, run_help.as_str(), asm_help.as_str())?;
-    let matches = command.try_get_matches_from(words)?;
-    Ok(Asked {
-        choice: choice_of(&matches),
-        explains: matches.get_flag("explain"),
-    })
+    choose_by_table(alloc, words, run_help.as_str(), asm_help.as_str())
 }
 
 /// Whether it is want of memory that refused a command line.

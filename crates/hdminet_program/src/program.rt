@@ -56,44 +56,54 @@ fn parts(text: &[u8]) -> Result<(&[u8], &[u8]), Fault> {
     parted(text, b"script").ok_or(Fault::NoScriptLine)
 }
 
-// Each of these takes its memory on the stack where it is asked for, and not in every start.
+// Each of these takes its memory on the stack where it is asked for, and not in every start. Of a run the result has the
+// counts.
 #[inline(never)]
-fn run<W: Sink>(alloc: Global, input: &[u8], out: &mut W) -> Result<Totals, Fault> {
+fn run<W: Sink>(alloc: Global, input: &[u8], out: &mut W) -> Result<Option<Totals>, Fault> {
     let (topology, script) = parts(input)?;
-    Ok(emulate(alloc, topology, script, out)?)
+    Ok(Some(emulate(alloc, topology, script, out)?))
 }
 
 #[inline(never)]
-fn run_to_edges<W: Sink>(alloc: Global, input: &[u8], out: &mut W) -> Result<Totals, Fault> {
+fn run_to_edges<W: Sink>(
+    alloc: Global,
+    input: &[u8],
+    out: &mut W,
+) -> Result<Option<Totals>, Fault> {
     let (topology, script) = parts(input)?;
-    Ok(emulate_edges(alloc, topology, script, out)?)
+    Ok(Some(emulate_edges(alloc, topology, script, out)?))
 }
 
 #[inline(never)]
-fn step<W: Sink>(alloc: Global, input: &[u8], out: &mut W) -> Result<(), Fault> {
+fn step<W: Sink>(alloc: Global, input: &[u8], out: &mut W) -> Result<Option<Totals>, Fault> {
     let (topology, rest) = parts(input)?;
     let (script, steps) = parted(rest, b"steps").ok_or(Fault::NoStepsLine)?;
-    Ok(step_run(alloc, topology, script, steps, out)?)
+    step_run(alloc, topology, script, steps, out)?;
+    Ok(None)
 }
 
 #[inline(never)]
-fn monitor<W: Sink>(alloc: Global, input: &[u8], out: &mut W) -> Result<(), Fault> {
-    Ok(watch(alloc, input, out)?)
+fn monitor<W: Sink>(alloc: Global, input: &[u8], out: &mut W) -> Result<Option<Totals>, Fault> {
+    watch(alloc, input, out)?;
+    Ok(None)
 }
 
 #[inline(never)]
-fn assemble<W: Sink>(input: &[u8], out: &mut W) -> Result<(), Fault> {
-    Ok(asm_lines(input, out)?)
+fn assemble<W: Sink>(input: &[u8], out: &mut W) -> Result<Option<Totals>, Fault> {
+    asm_lines(input, out)?;
+    Ok(None)
 }
 
 #[inline(never)]
-fn write_edid<W: Sink>(alloc: Global, input: &[u8], out: &mut W) -> Result<(), Fault> {
-    Ok(text_to_hex(alloc, input, out)?)
+fn write_edid<W: Sink>(alloc: Global, input: &[u8], out: &mut W) -> Result<Option<Totals>, Fault> {
+    text_to_hex(alloc, input, out)?;
+    Ok(None)
 }
 
 #[inline(never)]
-fn read_edid<W: Sink>(input: &[u8], out: &mut W) -> Result<(), Fault> {
-    Ok(edid_to_text(input, out)?)
+fn read_edid<W: Sink>(input: &[u8], out: &mut W) -> Result<Option<Totals>, Fault> {
+    edid_to_text(input, out)?;
+    Ok(None)
 }
 
 // Does what is asked for. Of a run the result has the counts.
@@ -104,15 +114,14 @@ fn perform<W: Sink>(
     out: &mut W,
 ) -> Result<Option<Totals>, Fault> {
     match choice {
-        Choice::Run => return Ok(Some(run(alloc, input, out)?)),
-        Choice::Edges => return Ok(Some(run_to_edges(alloc, input, out)?)),
-        Choice::Step => step(alloc, input, out)?,
-        Choice::Asm => assemble(input, out)?,
-        Choice::Mon => monitor(alloc, input, out)?,
-        Choice::EdidToText => read_edid(input, out)?,
-        Choice::TextToHex => write_edid(alloc, input, out)?,
+        Choice::Run => run(alloc, input, out),
+        Choice::Edges => run_to_edges(alloc, input, out),
+        Choice::Step => step(alloc, input, out),
+        Choice::Asm => assemble(input, out),
+        Choice::Mon => monitor(alloc, input, out),
+        Choice::EdidToText => read_edid(input, out),
+        Choice::TextToHex => write_edid(alloc, input, out),
     }
-    Ok(None)
 }
 
 // What was done, once all that was written is handed on. Where it can't be, that is the first fault.
@@ -194,6 +203,55 @@ fn has_explain(words: &[String]) -> bool {
     false
 }
 
+// Shows why a command line is refused, and with `--explain` what follows. Answers the exit status.
+fn refuse<W: Sink, E: Sink>(
+    alloc: Global,
+    refused: &CommandLineError,
+    words: &[String],
+    out: &mut Buffered<W>,
+    err: &mut E,
+) -> u8 {
+    let status = show_refused(alloc, refused, out, err);
+    if status == 2 && has_explain(words) {
+        let _ = put_all(err, EXPLAINED.as_bytes());
+    }
+    status
+}
+
+// Does what is asked for with an input, and tells how it went. Answers the exit status.
+fn answer<W: Sink, E: Sink>(
+    alloc: Global,
+    asked: Asked,
+    input: &[u8],
+    out: &mut Buffered<W>,
+    err: &mut E,
+) -> u8 {
+    let done = perform(alloc, asked.choice, input, out);
+    match handed_on(done, out) {
+        Ok(Some(totals)) if asked.explains => {
+            let line = counts(alloc, totals.rounds, totals.complete, totals.refused);
+            add_help(line, err);
+            0
+        }
+        Ok(_) => 0,
+        Err(fault) => report(alloc, asked, &fault, input, err),
+    }
+}
+
+// Does what is asked for with what there is to read. Answers the exit status.
+fn serve<R: Read, W: Sink, E: Sink>(
+    alloc: Global,
+    asked: Asked,
+    input: &mut R,
+    out: &mut Buffered<W>,
+    err: &mut E,
+) -> u8 {
+    match read_input(alloc, input) {
+        Ok(input) => answer(alloc, asked, &input, out, err),
+        Err(fault) => report(alloc, asked, &fault, b"", err),
+    }
+}
+
 /// The whole program. `words` has the program's name first. It returns the exit status: 0 done, 1 input
 /// refused, 2 command line refused, 3 a read or write fault or input past its limit, 4 no memory.
 pub fn program<R: Read, W: Sink, E: Sink>(
@@ -203,28 +261,8 @@ pub fn program<R: Read, W: Sink, E: Sink>(
     out: &mut Buffered<W>,
     err: &mut E,
 ) -> u8 {
-    let asked = match choose(alloc, &words) {
-        Ok(asked) => asked,
-        Err(refused) => {
-            let status = show_refused(alloc, &refused, out, err);
-            if status == 2 && has_explain(&words) {
-                let _ = put_all(err, EXPLAINED.as_bytes());
-            }
-            return status;
-        }
-    };
-    let input = match read_input(alloc, input) {
-        Ok(input) => input,
-        Err(fault) => return report(alloc, asked, &fault, b"", err),
-    };
-    let done = perform(alloc, asked.choice, &input, out);
-    match handed_on(done, out) {
-        Ok(Some(totals)) if asked.explains => {
-            let line = counts(alloc, totals.rounds, totals.complete, totals.refused);
-            add_help(line, err);
-            0
-        }
-        Ok(_) => 0,
-        Err(fault) => report(alloc, asked, &fault, &input, err),
+    match choose(alloc, &words) {
+        Ok(asked) => serve(alloc, asked, input, out, err),
+        Err(refused) => refuse(alloc, &refused, &words, out, err),
     }
 }
