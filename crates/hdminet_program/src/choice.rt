@@ -74,13 +74,14 @@ fn run_command<'a>(alloc: Global, run_help: &'a str) -> Result<Command<'a>, Allo
         .arg(edges)
 }
 
-fn is_help_flag(word: &String) -> bool {
-    word.as_str() == "--help" || word.as_str() == "-h"
-}
-
 // Whether help is asked for.
 fn asks_help(words: &[String]) -> bool {
-    words.iter().any(is_help_flag)
+    for word in words {
+        if word.as_str() == "--help" || word.as_str() == "-h" {
+            return true;
+        }
+    }
+    false
 }
 
 // What follows the help of `asm`: with the forms of frames from the tables, where help is asked for.
