@@ -1,5 +1,5 @@
 //! Rounds whose outcome was worked out by hand.
-ghost use Rattle.std.specs.Prelude.{◌≡◌, ◌==◌, ◌<◌, ◌≤◌, ◌+◌, ◌^◌, length, is_some, IsTrue};
+ghost use Rattle.std.specs.Prelude.{◌≡◌, ◌==◌, ◌≤◌, length, is_some, IsTrue};
 ghost use Rattle.std.specs.List.{list_any};
 ghost use Rattle.cec_wave.specs.Pulses.{AreSparse};
 ghost use Rattle.cec_wire.specs.Lasting.{is_begun};
@@ -7,42 +7,159 @@ ghost use Rattle.cec_edges.specs.Wired.{IsBegun, IsNext, Listens};
 
 use crate::EdgeWire;
 use arrayvec::ArrayVec;
-use cec_frame::{Addr, Ending, Fate, Frame};
+use cec_frame::{Addr, Frame};
 use cec_wave::{Edge, Pulses, Stretch};
 use cec_wire::{Loser, Outcome, Seat, Wire};
+use std::alloc::Global;
 use std::process::Abort;
 use std::test::Fail;
 
 mod plainly;
 mod standing;
 
-const ONE: bool = true;
+// ---- seats, pulses and outcomes as texts
 
-const ZERO: bool = false;
-
-fn seat(holds: u8, sends: Option<Frame>) -> Seat
-    requires { holds < 16 }
-{
-    Seat {
-        plugged: true,
-        holds: [Some(Addr::new(holds)), None],
-        sends,
+fn digit(character: u8) -> u8 {
+    match character {
+        b'0'..=b'9' => character - b'0',
+        b'a'..=b'f' => character - b'a' + 10,
+        _ => 0,
     }
 }
 
-fn frame(rt: &impl Abort, bytes: &[u8]) -> Option<Frame> {
-    Some(Frame::new(bytes).expect(rt, "a frame"))
+fn address_of(word: &str) -> Option<Addr> {
+    match word.as_bytes() {
+        [character] => Some(Addr::new(digit(*character) % 16)),
+        _ => None,
+    }
 }
 
-fn pulse(rt: &impl Abort, from: u64, width: u64) -> Pulses
-    requires { from + width < 2 ^ 64 }
-{
-    let stretches = [Stretch {
-        from,
-        to: from + width,
-    }];
-    Pulses::new(&stretches).expect(rt, "a narrow pulse")
+fn byte_of(word: &str) -> Result<u8, Fail> {
+    match word.as_bytes() {
+        [high, low] => Ok(digit(*high).saturating_mul(16).saturating_add(digit(*low))),
+        _ => Err("no byte".into()),
+    }
 }
+
+// The bytes of a frame, with commas between.
+fn frame_of(words: &str) -> Result<Frame, Fail> {
+    let mut bytes: ArrayVec<u8, 16> = ArrayVec::new();
+    for word in words.split(',') {
+        let _ = bytes.try_push(byte_of(word)?);
+    }
+    Ok(Frame::new(&bytes)?)
+}
+
+// A seat that is plugged: the addresses that it holds, with a plus between, and what it sends behind a colon.
+fn seat_of(word: &str) -> Result<Seat, Fail> {
+    let (held, sends) = match word.split_once(':') {
+        None => (word, None),
+        Some((held, bytes)) => (held, Some(frame_of(bytes)?)),
+    };
+    let (first, second) = held.split_once('+').unwrap_or((held, ""));
+    Ok(Seat {
+        plugged: true,
+        holds: [address_of(first), address_of(second)],
+        sends,
+    })
+}
+
+fn seats_of(words: &str) -> Result<ArrayVec<Seat, 15>, Fail> {
+    let mut seats = ArrayVec::new();
+    for word in words.split(' ') {
+        let _ = seats.try_push(seat_of(word)?);
+    }
+    Ok(seats)
+}
+
+// One pulse: where it begins, and how wide it is.
+fn pulse_of(text: &str) -> Result<Stretch, Fail> {
+    let (from, width) = text.split_once('+').ok_or("no pulse")?;
+    let from: u64 = from.parse()?;
+    let width: u64 = width.parse()?;
+    Ok(Stretch {
+        from,
+        to: from.saturating_add(width),
+    })
+}
+
+// The bits read so far, or a dash.
+fn bits_text(alloc: Global, bits: &[bool]) -> Result<String, Fail> {
+    let mut text = String::new(alloc);
+    for bit in bits {
+        text.push_str(if *bit { "1" } else { "0" })?;
+    }
+    if bits.is_empty() {
+        text.push_str("-")?;
+    }
+    Ok(text)
+}
+
+fn survivors_text(alloc: Global, survivors: &[usize]) -> Result<String, Fail> {
+    let mut text = String::new(alloc);
+    for seat in survivors {
+        let one = format!(in alloc; " {seat}")?;
+        text.push_str(one.as_str())?;
+    }
+    if survivors.is_empty() {
+        text.push_str(" -")?;
+    }
+    Ok(text)
+}
+
+fn losers_text(alloc: Global, losers: &[Loser]) -> Result<String, Fail> {
+    let mut text = String::new(alloc);
+    for loser in losers {
+        let one = format!(in alloc; " {}@{}", loser.seat, loser.slot)?;
+        text.push_str(one.as_str())?;
+    }
+    if losers.is_empty() {
+        text.push_str(" -")?;
+    }
+    Ok(text)
+}
+
+fn reading_text(alloc: Global, outcome: &Outcome) -> Result<String, Fail> {
+    let bits = bits_text(alloc, &outcome.reading.bits)?;
+    let (ending, at) = (outcome.reading.ending, outcome.reading.at);
+    Ok(format!(in alloc; "{ending:?} {at} bits {bits}")?)
+}
+
+// How its reading ended, when, and with which bits, when the line was high again and the round over, who still sent,
+// and who had stopped at which slot.
+fn outcome_text(alloc: Global, outcome: &Outcome) -> Result<String, Fail> {
+    let reading = reading_text(alloc, outcome)?;
+    let survivors = survivors_text(alloc, outcome.survivors.as_slice())?;
+    let losers = losers_text(alloc, outcome.losers.as_slice())?;
+    let (rest, close) = (outcome.rest, outcome.close());
+    Ok(format!(in alloc; "{reading} rest {rest} close {close} by{survivors} out{losers}")?)
+}
+
+// What became of a seat's frame, and the slot at which it stopped.
+fn fate_text(alloc: Global, outcome: &Outcome, seat: usize) -> Result<String, Fail> {
+    let fate = outcome.fate(seat);
+    match outcome.out_at(seat) {
+        None => Ok(format!(in alloc; "{fate:?}")?),
+        Some(slot) => Ok(format!(in alloc; "{fate:?}@{slot}")?),
+    }
+}
+
+// The stretches in which the line was low.
+fn wave_text(alloc: Global, stretches: &[Stretch]) -> Result<String, Fail> {
+    let mut text = String::new(alloc);
+    for stretch in stretches {
+        let one = format!(in alloc; "{}-{}\n", stretch.from, stretch.to)?;
+        text.push_str(one.as_str())?;
+    }
+    Ok(text)
+}
+
+// A case comes out as it is wanted.
+fn is_told(rt: &impl Abort, told: &str, wanted: &str, case: &str) {
+    assert!(rt; told == wanted, "{case}: {told}");
+}
+
+// ---- rounds
 
 fn anybody_sends(seats: &[Seat]) -> bool
     ensures { result ≡ list_any (λ s. is_some s.sends) seats.now }
@@ -65,11 +182,121 @@ fn is_begun(seats: &[Seat], start: u64, pulses: &Pulses) -> bool
 
 fn round(rt: &impl Abort, seats: &[Seat], start: u64, pulses: &Pulses) -> Outcome
     requires few { length seats.now ≤ 15 }
-    requires early { start ≤ 2000000100000 }
 {
-    assert!(rt; is_begun(seats, start, pulses));
+    assert!(rt; start <= 2_000_000_100_000 && is_begun(seats, start, pulses));
     EdgeWire::new().round(seats, start, pulses)
 }
+
+// The round of some seats that begins at an instant, with a pulse.
+fn round_of(rt: &impl Abort, text: &str) -> Result<Outcome, Fail> {
+    let (seats, rest) = text.split_once(" | ").ok_or("no seats")?;
+    let (start, pulse) = rest.split_once(" | ").ok_or("no pulse")?;
+    let seats = seats_of(seats)?;
+    let pulses = Pulses::new(&[pulse_of(pulse)?])?;
+    let start: u64 = start.parse()?;
+    Ok(round(rt, &seats, start, &pulses))
+}
+
+// A player at 4 sends image-view-on to a television at 0. A pulse breaks the second slot; the next slot's fall comes
+// early, too early twice, and just in time. The sender goes by what is read, not by a clock of its own: a bit is
+// turned into a 0, and it stops.
+const VIEW: &str = "\
+0 4:40,04 | 1000000 | 1006500+100 => Short 1006500 bits 0 rest 1010100 close 1010100 by 1 out -
+0 4:40,04 | 1000000 | 1006600+400 => Complete 1051150 bits 01000000000000010010 rest 1051600 close 1051600 by 1 out -
+0 4:40,04 | 1000000 | 1006560+100 => Short 1006900 bits 0 rest 1010500 close 1010500 by 1 out -
+0 4:40,04 | 1000000 | 1006549+400 => Short 1006549 bits 0 rest 1010149 close 1010149 by 1 out -
+0 4:40,04 | 1000000 | 1006550+400 => Complete 1051150 bits 01000000000000010010 rest 1051600 close 1051600 by 1 out -
+0 4:40,04 | 1000000 | 1006600+1200 => Silent 1009351 bits 00 rest 1007800 close 1009351 by - out 1@2";
+
+// A player asks an address that nobody holds; with a pulse at the silence, which is a round of its own, and one just
+// before it.
+const UNACKNOWLEDGED: &str = "\
+0 4:48,46 | 1000000 | 1028851+1 => Silent 1028851 bits 0100100001 rest 1026700 close 1028851 by - out 1@10
+0 4 | 1028851 | 1028851+1 => BadStart 1028852 bits - rest 1028852 close 1028852 by - out -
+0 4:48,46 | 1000000 | 1028800+100 => Silent 1031551 bits 01001000011 rest 1028900 close 1031551 by - out 1@10";
+
+// A television asks all for the active source, and a pulse refuses its last block.
+const REFUSED: &str = "\
+0:0f,85 4 | 2000000 | 2050500+700 => Complete 2051150 bits 00001111011000010110 rest 2051200 close 2051200 by 0 out -";
+
+// A pulse alone, and one that holds a poll's start bit low too long, and just not.
+const BAD_STARTS: &str = "\
+f | 5000 | 5000+3000 => BadStart 8000 bits - rest 8000 close 8000 by - out -
+f:00 | 12000 | 12901+3000 => BadStart 15901 bits - rest 15901 close 15901 by 0 out -
+f:00 | 12000 | 12900+3000 => Complete 39150 bits 0000000011 rest 38700 close 39150 by 0 out -";
+
+// An amplifier at 5 and a player at 4 send to the television at once: the lower initiator wins.
+const ARBITRATED: &str = "\
+0 5:50,8f 4:40,04 | 2000000 | 3000000+1 => Complete 2051150 bits 01000000000000010010 rest 2051600 close 2051600 by 2 out 1@4
+0 5:50,8f 4:48 | 2000000 | 3000000+1 => Complete 2027150 bits 0100100011 rest 2026700 close 2027150 by 2 out 1@4";
+
+#[test]
+fn rounds_come_out(rt: HostRuntime) -> Result<(), Fail> {
+    for rows in [VIEW, UNACKNOWLEDGED, REFUSED, BAD_STARTS, ARBITRATED] {
+        for row in rows.lines() {
+            let (given, wanted) = row.split_once(" => ").ok_or("no row")?;
+            let outcome = round_of(&rt, given)?;
+            let told = outcome_text(rt.alloc(), &outcome)?;
+            is_told(&rt, told.as_str(), wanted, given);
+        }
+    }
+    Ok(())
+}
+
+// What becomes of what one seat sends. A recorder at 1 and a player at 4 in one box acknowledge what goes to either,
+// also where the other of the two has found no address or has not settled yet. Of a broadcast they say nothing.
+const FATES: &str = "\
+0 4:40,04 | 1000000 | 1006600+400 => 1 Delivered
+0 4:40,04 | 1000000 | 1006500+100 => 1 Broken
+0 5:50,8f 4:48 | 2000000 | 3000000+1 => 1 Lost@4
+0 5:50,8f 4:48 | 2000000 | 3000000+1 => 2 Unacked
+0:01 1+4 | 1000000 | 3000000+1 => 0 Delivered
+0:04 1+4 | 1000000 | 3000000+1 => 0 Delivered
+0:05 1+4 | 1000000 | 3000000+1 => 0 Unacked
+0:0f 1+4 | 1000000 | 3000000+1 => 0 Delivered
+0:01 f+4 | 1000000 | 3000000+1 => 0 Unacked
+0:04 f+4 | 1000000 | 3000000+1 => 0 Delivered
+0:0f f+4 | 1000000 | 3000000+1 => 0 Delivered
+0:01 1 | 1000000 | 3000000+1 => 0 Delivered
+0:04 1 | 1000000 | 3000000+1 => 0 Unacked";
+
+#[test]
+fn frames_have_fates(rt: HostRuntime) -> Result<(), Fail> {
+    for row in FATES.lines() {
+        let (given, wanted) = row.split_once(" => ").ok_or("no row")?;
+        let (seat, wanted) = wanted.split_once(' ').ok_or("no seat")?;
+        let seat: usize = seat.parse()?;
+        let outcome = round_of(&rt, given)?;
+        let told = fate_text(rt.alloc(), &outcome, seat)?;
+        is_told(&rt, told.as_str(), wanted, given);
+    }
+    Ok(())
+}
+
+// The line of a poll of 8 by the player, over whom the amplifier loses at the fourth slot.
+const LINE: &str = "\
+2000000-2003700
+2004500-2006000
+2006900-2007500
+2009300-2010800
+2011700-2013200
+2014100-2014700
+2016500-2018000
+2018900-2020400
+2021300-2022800
+2023700-2024300
+2026100-2026700
+";
+
+#[test]
+fn rounds_have_lines(rt: HostRuntime) -> Result<(), Fail> {
+    let outcome = round_of(&rt, "0 5:50,8f 4:48 | 2000000 | 3000000+1")?;
+    let told = wave_text(rt.alloc(), outcome.wave.as_slice())?;
+    is_told(&rt, told.as_str(), LINE, "a poll");
+    Ok(())
+}
+
+// ---- from edge to edge
 
 // The stretches are sparse.
 fn are_sparse(stretches: &[Stretch]) -> bool
@@ -111,268 +338,16 @@ fn edge(rt: &impl Abort, wire: &mut EdgeWire, next: Option<Stretch>) -> Option<E
     wire.next_edge(next)
 }
 
-fn ends(
-    rt: &impl Abort,
-    outcome: &Outcome,
-    ending: Ending,
-    at: u64,
-    rest: u64,
-) -> Result<(), Fail> {
-    assert_eq!(rt; outcome.reading.ending, ending);
-    assert_eq!(rt; outcome.reading.at, at);
-    assert_eq!(rt; outcome.rest, rest);
-    Ok(())
-}
-
-// A television at 0 and a player at 4, which sends image-view-on to it.
-fn view(rt: &impl Abort) -> [Seat; 2] {
-    [seat(0, None), seat(4, frame(rt, &[0x40, 0x04]))]
-}
-
-#[test]
-fn breaks_a_slot(rt: HostRuntime) -> Result<(), Fail> {
-    let outcome = round(&rt, &view(&rt), 1_000_000, &pulse(&rt, 1_006_500, 100));
-    ends(&rt, &outcome, Ending::Short, 1_006_500, 1_010_100)?;
-    assert_eq!(rt; outcome.reading.bits.as_slice(), [ZERO].as_slice());
-    assert_eq!(rt; outcome.survivors.as_slice(), [1].as_slice());
-    assert!(rt; outcome.losers.is_empty());
-    Ok(())
-}
-
-// The next slot's fall comes early; too early; and just in time.
-#[test]
-fn moves_a_slot(rt: HostRuntime) -> Result<(), Fail> {
-    let outcome = round(&rt, &view(&rt), 1_000_000, &pulse(&rt, 1_006_600, 400));
-    ends(&rt, &outcome, Ending::Complete, 1_051_150, 1_051_600)?;
-    assert_eq!(rt; outcome.survivors.as_slice(), [1].as_slice());
-    let outcome = round(&rt, &view(&rt), 1_000_000, &pulse(&rt, 1_006_560, 100));
-    ends(&rt, &outcome, Ending::Short, 1_006_900, 1_010_500)?;
-    assert_eq!(rt; outcome.reading.bits.as_slice(), [ZERO].as_slice());
-    let outcome = round(&rt, &view(&rt), 1_000_000, &pulse(&rt, 1_006_549, 400));
-    ends(&rt, &outcome, Ending::Short, 1_006_549, 1_010_149)?;
-    let outcome = round(&rt, &view(&rt), 1_000_000, &pulse(&rt, 1_006_550, 400));
-    ends(&rt, &outcome, Ending::Complete, 1_051_150, 1_051_600)
-}
-
-// The sender goes by what is read, not by a clock of its own: a bit is turned into a 0, and it stops.
-#[test]
-fn puts_a_sender_out(rt: HostRuntime) -> Result<(), Fail> {
-    let outcome = round(&rt, &view(&rt), 1_000_000, &pulse(&rt, 1_006_600, 1200));
-    assert_eq!(rt; outcome.reading.ending, Ending::Silent);
-    assert_eq!(rt; outcome.reading.at, 1_009_351);
-    assert_eq!(rt; outcome.reading.bits.as_slice(), [ZERO, ZERO].as_slice());
-    assert!(rt; outcome.survivors.is_empty());
-    assert_eq!(rt;
-        outcome.losers.as_slice(),
-        [Loser { seat: 1, slot: 2 }].as_slice()
-    );
-    Ok(())
-}
-
-// A player asks an address that nobody holds; with a pulse at the silence, and one just before it.
-#[test]
-fn stops_unacknowledged(rt: HostRuntime) -> Result<(), Fail> {
-    let header = [ZERO, ONE, ZERO, ZERO, ONE, ZERO, ZERO, ZERO, ZERO, ONE];
-    let seats = [seat(0, None), seat(4, frame(&rt, &[0x48, 0x46]))];
-    let outcome = round(&rt, &seats, 1_000_000, &pulse(&rt, 1_028_851, 1));
-    ends(&rt, &outcome, Ending::Silent, 1_028_851, 1_026_700)?;
-    assert_eq!(rt; outcome.reading.bits.as_slice(), header.as_slice());
-    assert!(rt; outcome.survivors.is_empty());
-    assert_eq!(rt;
-        outcome.losers.as_slice(),
-        [Loser { seat: 1, slot: 10 }].as_slice()
-    );
-    let alone = [seat(0, None), seat(4, None)];
-    let outcome = round(&rt, &alone, 1_028_851, &pulse(&rt, 1_028_851, 1));
-    ends(&rt, &outcome, Ending::BadStart, 1_028_852, 1_028_852)?;
-    let outcome = round(&rt, &seats, 1_000_000, &pulse(&rt, 1_028_800, 100));
-    ends(&rt, &outcome, Ending::Silent, 1_031_551, 1_028_900)?;
-    assert_eq!(rt; outcome.reading.bits.len(), 11);
-    assert_eq!(rt;
-        outcome.losers.as_slice(),
-        [Loser { seat: 1, slot: 10 }].as_slice()
-    );
-    Ok(())
-}
-
-// A television asks all for the active source, and a pulse refuses its last block.
-#[test]
-fn refuses_a_broadcast(rt: HostRuntime) -> Result<(), Fail> {
-    let seats = [seat(0, frame(&rt, &[0x0f, 0x85])), seat(4, None)];
-    let outcome = round(&rt, &seats, 2_000_000, &pulse(&rt, 2_050_500, 700));
-    ends(&rt, &outcome, Ending::Complete, 2_051_150, 2_051_200)?;
-    assert_eq!(rt; outcome.reading.bits.as_slice().last(), Some(&ZERO));
-    assert_eq!(rt; outcome.survivors.as_slice(), [0].as_slice());
-    Ok(())
-}
-
-// A pulse alone, and one that holds a poll's start bit low too long, and just not.
-#[test]
-fn reads_bad_starts(rt: HostRuntime) -> Result<(), Fail> {
-    let alone = [seat(15, None)];
-    let outcome = round(&rt, &alone, 5000, &pulse(&rt, 5000, 3000));
-    ends(&rt, &outcome, Ending::BadStart, 8000, 8000)?;
-    assert!(rt; outcome.reading.bits.is_empty());
-    let seats = [seat(15, frame(&rt, &[0x00]))];
-    let outcome = round(&rt, &seats, 12_000, &pulse(&rt, 12_901, 3000));
-    ends(&rt, &outcome, Ending::BadStart, 15_901, 15_901)?;
-    assert_eq!(rt; outcome.survivors.as_slice(), [0].as_slice());
-    let outcome = round(&rt, &seats, 12_000, &pulse(&rt, 12_900, 3000));
-    ends(&rt, &outcome, Ending::Complete, 39_150, 38_700)
-}
-
-// An amplifier at 5 and a player at 4 send to the television at once.
-#[test]
-fn lets_the_lower_initiator_win(rt: HostRuntime) -> Result<(), Fail> {
-    let seats = [
-        seat(0, None),
-        seat(5, frame(&rt, &[0x50, 0x8f])),
-        seat(4, frame(&rt, &[0x40, 0x04])),
-    ];
-    let outcome = round(&rt, &seats, 2_000_000, &pulse(&rt, 3_000_000, 1));
-    ends(&rt, &outcome, Ending::Complete, 2_051_150, 2_051_600)?;
-    assert_eq!(rt; outcome.survivors.as_slice(), [2].as_slice());
-    assert_eq!(rt;
-        outcome.losers.as_slice(),
-        [Loser { seat: 1, slot: 4 }].as_slice()
-    );
-    Ok(())
-}
-
-// What becomes of a television's poll of an address, where a device holds these.
-fn answer(rt: &impl Abort, held: &[Option<Addr>; 2], address: u8) -> Fate {
-    let device = Seat {
-        plugged: true,
-        holds: [held[0], held[1]],
-        sends: None,
-    };
-    let seats = [seat(0, frame(rt, &[address])), device];
-    round(rt, &seats, 1_000_000, &pulse(rt, 3_000_000, 1)).fate(0)
-}
-
-// A recorder at 1 and a player at 4 in one box acknowledge what goes to either, also where the other of the two has
-// found no address or has not settled yet. Of a broadcast they say nothing.
-#[test]
-fn two_units_acknowledge(rt: HostRuntime) -> Result<(), Fail> {
-    let both = [Some(Addr::new(1)), Some(Addr::new(4))];
-    assert_eq!(rt; answer(&rt, &both, 1), Fate::Delivered);
-    assert_eq!(rt; answer(&rt, &both, 4), Fate::Delivered);
-    assert_eq!(rt; answer(&rt, &both, 5), Fate::Unacked);
-    assert_eq!(rt; answer(&rt, &both, 15), Fate::Delivered);
-    let player = [Some(Addr::new(15)), Some(Addr::new(4))];
-    assert_eq!(rt; answer(&rt, &player, 1), Fate::Unacked);
-    assert_eq!(rt; answer(&rt, &player, 4), Fate::Delivered);
-    assert_eq!(rt; answer(&rt, &player, 15), Fate::Delivered);
-    let recorder = [Some(Addr::new(1)), None];
-    assert_eq!(rt; answer(&rt, &recorder, 1), Fate::Delivered);
-    assert_eq!(rt; answer(&rt, &recorder, 4), Fate::Unacked);
-    Ok(())
-}
-
-// The other edges of a round, which is handed a pulse until that has begun, and what it gave.
-fn finish(rt: &impl Abort, wire: &mut EdgeWire, pulse: Option<Stretch>) -> Outcome
+// The end of a round, which is handed no pulse any more, and what it gave.
+fn finish(rt: &impl Abort, wire: &mut EdgeWire) -> Outcome
     requires begun { IsBegun wire.old }
     requires listens { Listens wire.old }
 {
     'edges: for _edge in 0..400 {
-        let next = pulse.filter(|pulse| wire.time <= pulse.from);
-        assert!(rt; is_next(wire, next));
-        if wire.next_edge(next).is_none() {
+        assert!(rt; is_next(wire, None));
+        if wire.next_edge(None).is_none() {
             return wire.finish();
         }
     }
     panic!(rt; "no end")
-}
-
-// The edges of the row, one by one; the pulse is handed in until it has begun.
-#[test]
-fn goes_from_edge_to_edge(rt: HostRuntime) -> Result<(), Fail> {
-    let pulse = Some(Stretch {
-        from: 1_006_600,
-        to: 1_007_000,
-    });
-    let mut wire = EdgeWire::new();
-    wire.begin(&view(&rt), 1_000_000);
-    let low = |at| Some(Edge { at, low: true });
-    let high = |at| Some(Edge { at, low: false });
-    assert_eq!(rt; edge(&rt, &mut wire, pulse), low(1_000_000));
-    assert_eq!(rt; edge(&rt, &mut wire, pulse), high(1_003_700));
-    assert_eq!(rt; edge(&rt, &mut wire, pulse), low(1_004_500));
-    assert_eq!(rt; edge(&rt, &mut wire, pulse), high(1_006_000));
-    assert_eq!(rt; edge(&rt, &mut wire, pulse), low(1_006_600));
-    assert_eq!(rt; wire.bits.as_slice(), [ZERO].as_slice());
-    assert_eq!(rt; edge(&rt, &mut wire, None), high(1_007_500));
-    assert_eq!(rt; edge(&rt, &mut wire, None), low(1_009_300));
-    assert_eq!(rt; wire.bits.as_slice(), [ZERO, ONE].as_slice());
-    Ok(())
-}
-
-// Two wires go alike until a pulse is handed to one of them.
-#[test]
-fn goes_by_the_pulses_handed_in(rt: HostRuntime) -> Result<(), Fail> {
-    let first = Some(Stretch {
-        from: 1_000_000,
-        to: 1_000_100,
-    });
-    let later = Some(Stretch {
-        from: 1_028_000,
-        to: 1_028_100,
-    });
-    let mut broken = EdgeWire::new();
-    broken.begin(&view(&rt), 1_000_000);
-    let mut whole = EdgeWire::new();
-    whole.begin(&view(&rt), 1_000_000);
-    let low = Some(Edge {
-        at: 1_000_000,
-        low: true,
-    });
-    assert_eq!(rt; edge(&rt, &mut broken, first), low);
-    assert_eq!(rt; edge(&rt, &mut whole, first), low);
-    let outcome = finish(&rt, &mut broken, later);
-    ends(&rt, &outcome, Ending::Short, 1_028_000, 1_031_600)?;
-    let bits = [ZERO, ONE, ZERO, ZERO, ZERO, ZERO, ZERO, ZERO, ZERO, ZERO];
-    assert_eq!(rt; outcome.reading.bits.as_slice(), bits.as_slice());
-    let outcome = finish(&rt, &mut whole, None);
-    ends(&rt, &outcome, Ending::Complete, 1_051_150, 1_051_600)
-}
-
-// What a round tells of its senders, its close and its line.
-#[test]
-fn tells_fates(rt: HostRuntime) -> Result<(), Fail> {
-    let seats = [
-        seat(0, None),
-        seat(5, frame(&rt, &[0x50, 0x8f])),
-        seat(4, frame(&rt, &[0x48])),
-    ];
-    let outcome = round(&rt, &seats, 2_000_000, &pulse(&rt, 3_000_000, 1));
-    ends(&rt, &outcome, Ending::Complete, 2_027_150, 2_026_700)?;
-    assert_eq!(rt; outcome.close(), 2_027_150);
-    assert_eq!(rt; outcome.out_at(1), Some(4));
-    assert_eq!(rt; outcome.out_at(2), None);
-    assert_eq!(rt; outcome.fate(1), Fate::Lost);
-    assert_eq!(rt; outcome.fate(2), Fate::Unacked);
-    let start = [
-        Stretch {
-            from: 2_000_000,
-            to: 2_003_700,
-        },
-        Stretch {
-            from: 2_004_500,
-            to: 2_006_000,
-        },
-        Stretch {
-            from: 2_006_900,
-            to: 2_007_500,
-        },
-    ];
-    assert_eq!(rt; outcome.wave.as_slice().len(), 11);
-    assert_eq!(rt; outcome.wave.as_slice().first(), start.first());
-    assert_eq!(rt; outcome.wave.as_slice().get(1), start.get(1));
-    assert_eq!(rt; outcome.wave.as_slice().get(2), start.get(2));
-    let outcome = round(&rt, &view(&rt), 1_000_000, &pulse(&rt, 1_006_600, 400));
-    assert_eq!(rt; outcome.close(), 1_051_600);
-    assert_eq!(rt; outcome.fate(1), Fate::Delivered);
-    let outcome = round(&rt, &view(&rt), 1_000_000, &pulse(&rt, 1_006_500, 100));
-    assert_eq!(rt; outcome.fate(1), Fate::Broken);
-    Ok(())
 }

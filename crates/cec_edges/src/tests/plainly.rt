@@ -548,33 +548,71 @@ fn rest(edges: &[Edge], until: u64) -> u64 {
     rest
 }
 
-// What was told of the seats is what was read.
-fn check_seats(
-    rt: &impl Abort,
-    devices: &[Device],
-    seen: &Read,
-    outcome: &Outcome,
-) -> Result<(), Fail> {
-    let mut survivors: ArrayVec<usize, 15> = ArrayVec::new();
-    let mut losers: ArrayVec<Loser, 15> = ArrayVec::new();
+// Who still sends, and who has stopped, by what was read.
+fn senders(devices: &[Device], seen: &Read) -> (ArrayVec<usize, 15>, ArrayVec<Loser, 15>) {
+    let mut survivors = ArrayVec::new();
+    let mut losers = ArrayVec::new();
     for seat in 0..devices.len() {
         let device = &devices[seat];
-        match seen.out_at(&device.sent()) {
-            Some(place) if !device.bytes.is_empty() => {
-                let _ = losers.try_push(Loser {
-                    seat,
-                    slot: place.saturating_add(1),
-                });
+        if !device.bytes.is_empty() {
+            match seen.out_at(&device.sent()) {
+                None => {
+                    let _ = survivors.try_push(seat);
+                }
+                Some(place) => {
+                    let slot = place.saturating_add(1);
+                    let _ = losers.try_push(Loser { seat, slot });
+                }
             }
-            None if !device.bytes.is_empty() => {
-                let _ = survivors.try_push(seat);
-            }
-            _ => {}
         }
     }
-    assert_eq!(rt; outcome.survivors.as_slice(), survivors.as_slice());
-    assert_eq!(rt; outcome.losers.as_slice(), losers.as_slice());
-    Ok(())
+    (survivors, losers)
+}
+
+// What was told of the seats is what was read.
+fn has_senders(outcome: &Outcome, devices: &[Device], seen: &Read) -> bool {
+    let (survivors, losers) = senders(devices, seen);
+    outcome.survivors.as_slice() == survivors.as_slice()
+        && outcome.losers.as_slice() == losers.as_slice()
+}
+
+// What was told of the reading is what was read.
+fn has_reading(outcome: &Outcome, seen: &Read) -> bool {
+    outcome.reading.begin == BEGIN
+        && outcome.reading.at == on_wire(seen.end.at)
+        && outcome.reading.ending == seen.end.ending
+        && outcome.reading.bits.as_slice() == seen.bits.as_slice()
+}
+
+fn seats_of(rt: &impl Abort, devices: &[Device]) -> ArrayVec<Seat, 15> {
+    let mut seats = ArrayVec::new();
+    for device in devices {
+        let _ = seats.try_push(seat(rt, device));
+    }
+    seats
+}
+
+fn handed(pulses: &[Stretch]) -> ArrayVec<Stretch, 3> {
+    let mut handed = ArrayVec::new();
+    for pulse in pulses {
+        let _ = handed.try_push(Stretch {
+            from: on_wire(pulse.from),
+            to: on_wire(pulse.to),
+        });
+    }
+    handed
+}
+
+// A round on the wire, from edge to edge.
+fn driven(
+    rt: &impl Abort,
+    alloc: Global,
+    devices: &[Device],
+    pulses: &[Stretch],
+) -> Result<(Vec<Edge>, Outcome), Fail> {
+    let mut wire = EdgeWire::new();
+    wire.begin(&seats_of(rt, devices), BEGIN);
+    run(rt, alloc, &mut wire, &handed(pulses))
 }
 
 // One round on the wire is as it is plainly. Answers how it ended.
@@ -584,30 +622,20 @@ fn check_round(
     devices: &[Device],
     pulses: &[Stretch],
 ) -> Result<Ending, Fail> {
-    let mut seats: ArrayVec<Seat, 15> = ArrayVec::new();
-    for device in devices {
-        let _ = seats.try_push(seat(rt, device));
-    }
-    let mut handed: ArrayVec<Stretch, 3> = ArrayVec::new();
-    for pulse in pulses {
-        let _ = handed.try_push(Stretch {
-            from: BEGIN.wrapping_add(pulse.from),
-            to: BEGIN.wrapping_add(pulse.to),
-        });
-    }
-    let mut wire = EdgeWire::new();
-    wire.begin(&seats, BEGIN);
-    let (edges, outcome) = run(rt, alloc, &mut wire, &handed)?;
+    let (edges, outcome) = driven(rt, alloc, devices, pulses)?;
     let (line, seen) = fixed(rt, devices, pulses);
     let expected = edges_of(alloc, &line)?;
-    assert_eq!(rt; edges.as_slice(), expected.as_slice());
-    assert_eq!(rt; outcome.reading.begin, BEGIN);
-    assert_eq!(rt; outcome.reading.at, on_wire(seen.end.at));
-    assert_eq!(rt; outcome.reading.ending, seen.end.ending);
-    assert_eq!(rt; outcome.reading.bits.as_slice(), seen.bits.as_slice());
-    assert_eq!(rt; outcome.rest, rest(&expected, on_wire(seen.end.until)));
-    check_seats(rt, devices, &seen, &outcome)?;
+    let rest = rest(&expected, on_wire(seen.end.until));
+    expect(rt, edges.as_slice() == expected.as_slice(), "edges");
+    expect(rt, has_reading(&outcome, &seen), "reading");
+    expect(rt, outcome.rest == rest, "rest");
+    expect(rt, has_senders(&outcome, devices, &seen), "senders");
     Ok(seen.end.ending)
+}
+
+// What was told is right.
+fn expect(rt: &impl Abort, right: bool, what: &str) {
+    assert!(rt; right, "{what}");
 }
 
 #[test]

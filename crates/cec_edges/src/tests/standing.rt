@@ -2,25 +2,13 @@
 ghost use Rattle.std.specs.Prelude.{◌≡◌, length};
 ghost use Rattle.cec_edges.specs.Wired.{IsBegun, Listens};
 
-use super::{edge, frame, seat, view};
+use super::{bits_text, edge, finish, is_told, outcome_text, seats_of};
 use crate::EdgeWire;
 use cec_bits::{SenderState, Standing};
 use cec_wave::Stretch;
 use std::alloc::Global;
 use std::process::Abort;
 use std::test::Fail;
-
-// The bits read so far, or a dash.
-fn bits_text(alloc: Global, bits: &[bool]) -> Result<String, Fail> {
-    let mut text = String::new(alloc);
-    for bit in bits {
-        text.push_str(if *bit { "1" } else { "0" })?;
-    }
-    if bits.is_empty() {
-        text.push_str("-")?;
-    }
-    Ok(text)
-}
 
 fn standing_text(alloc: Global, standing: Standing<'_>) -> Result<String, Fail> {
     Ok(match standing {
@@ -73,8 +61,19 @@ fn goes(
 {
     for expected in rows.lines() {
         let found = row(rt, alloc, wire, next)?;
-        assert_eq!(rt; found.as_str(), expected);
+        is_told(rt, found.as_str(), expected, "an edge");
     }
+    Ok(())
+}
+
+// The round gives this.
+fn gives(rt: &impl Abort, alloc: Global, wire: &mut EdgeWire, wanted: &str) -> Result<(), Fail>
+    requires begun { IsBegun wire.old }
+    requires listens { Listens wire.old }
+{
+    let outcome = finish(rt, wire);
+    let told = outcome_text(alloc, &outcome)?;
+    is_told(rt, told.as_str(), wanted, "a round");
     Ok(())
 }
 
@@ -139,7 +138,7 @@ fn stands_after_each_edge(rt: HostRuntime) -> Result<(), Fail> {
         to: 1_007_000,
     });
     let mut wire = EdgeWire::new();
-    wire.begin(&view(&rt), 1_000_000);
+    wire.begin(&seats_of("0 4:40,04")?, 1_000_000);
     assert_eq!(rt; state(&rt, &wire, 0), None);
     goes(&rt, rt.alloc(), &mut wire, pulse, MOVED)?;
     assert_eq!(rt; state(&rt, &wire, 1), Some(SenderState::Stopped));
@@ -209,15 +208,27 @@ fn stands_by_the_pulses_handed_in(rt: HostRuntime) -> Result<(), Fail> {
         to: 1_028_100,
     });
     let mut broken = EdgeWire::new();
-    broken.begin(&view(&rt), 1_000_000);
+    broken.begin(&seats_of("0 4:40,04")?, 1_000_000);
     goes(&rt, rt.alloc(), &mut broken, first, "1000000 low start-low")?;
     goes(&rt, rt.alloc(), &mut broken, later, ALIKE)?;
     goes(&rt, rt.alloc(), &mut broken, later, BROKEN)?;
+    gives(
+        &rt,
+        rt.alloc(),
+        &mut broken,
+        "Short 1028000 bits 0100000000 rest 1031600 close 1031600 by 1 out -",
+    )?;
     let mut whole = EdgeWire::new();
-    whole.begin(&view(&rt), 1_000_000);
+    whole.begin(&seats_of("0 4:40,04")?, 1_000_000);
     goes(&rt, rt.alloc(), &mut whole, first, "1000000 low start-low")?;
     goes(&rt, rt.alloc(), &mut whole, None, ALIKE)?;
-    goes(&rt, rt.alloc(), &mut whole, None, WHOLE)
+    goes(&rt, rt.alloc(), &mut whole, None, WHOLE)?;
+    gives(
+        &rt,
+        rt.alloc(),
+        &mut whole,
+        "Complete 1051150 bits 01000000000000010010 rest 1051600 close 1051600 by 1 out -",
+    )
 }
 
 // An amplifier at 5 and a player at 4 send at once; the amplifier loses at slot 4, and a pulse after that slot is
@@ -236,17 +247,12 @@ const LOST_AND_BROKEN: &str = "\
 
 #[test]
 fn two_senders_stop(rt: HostRuntime) -> Result<(), Fail> {
-    let seats = [
-        seat(0, None),
-        seat(5, frame(&rt, &[0x50, 0x8f])),
-        seat(4, frame(&rt, &[0x40, 0x04])),
-    ];
     let pulse = Some(Stretch {
         from: 2_013_500,
         to: 2_013_600,
     });
     let mut wire = EdgeWire::new();
-    wire.begin(&seats, 2_000_000);
+    wire.begin(&seats_of("0 5:50,8f 4:40,04")?, 2_000_000);
     goes(&rt, rt.alloc(), &mut wire, pulse, LOST_AND_BROKEN)?;
     assert_eq!(rt; state(&rt, &wire, 1), Some(SenderState::Out(4)));
     assert_eq!(rt; state(&rt, &wire, 2), Some(SenderState::Sending));
@@ -271,7 +277,7 @@ fn stands_after_bad_starts(rt: HostRuntime) -> Result<(), Fail> {
         to: 8000,
     });
     let mut wire = EdgeWire::new();
-    wire.begin(&[seat(15, None)], 5000);
+    wire.begin(&seats_of("f")?, 5000);
     goes(
         &rt,
         rt.alloc(),
@@ -283,7 +289,7 @@ fn stands_after_bad_starts(rt: HostRuntime) -> Result<(), Fail> {
         from: 12_901,
         to: 15_901,
     });
-    wire.begin(&[seat(15, frame(&rt, &[0x00]))], 12_000);
+    wire.begin(&seats_of("f:00")?, 12_000);
     goes(
         &rt,
         rt.alloc(),
