@@ -88,7 +88,8 @@ fn optional(value: &str) -> Result<Option<u8>, Fail> {
     }
 }
 
-fn phys_of(value: &str) -> Result<Option<Phys>, Fail> {
+/// The physical address of four digits, if there are four.
+pub(crate) fn phys_of(value: &str) -> Result<Option<Phys>, Fail> {
     let Some((high, low)) = value.split_at_checked(2) else {
         return Ok(None);
     };
@@ -298,7 +299,8 @@ fn remote_key(operand: &str) -> Result<Key, Fail> {
     })
 }
 
-fn key_of(words: &str) -> Result<Key, Fail> {
+/// The key of some words.
+pub(crate) fn key_of(words: &str) -> Result<Key, Fail> {
     if let Some(key) = plain_key(words) {
         return Ok(key);
     }
@@ -337,8 +339,8 @@ fn says_first(rt: &impl Abort, device: &mut Device<16>, bytes: &[u8], case: &str
     device.sent(Fate::Delivered, 0);
 }
 
-/// What it has queued are these frames, and no more.
-pub(crate) fn says(
+// What it has queued are these frames, and no more.
+fn says(
     rt: &impl Abort,
     device: &mut Device<16>,
     frames: &str,

@@ -1,8 +1,9 @@
 //! Worked rows of single devices.
-use crate::cases::{check, says, settled};
-use crate::{Device, Fate, FreeTime, Key, KeyError, Port, Record, SubmitError};
+use crate::cases::{bytes_of, check, key_of, phys_of, settled};
+use crate::{Device, Fate, Port, Record};
 use cec_frame::{Addr, Frame};
-use hdmi_core::{Kind, Phys};
+use hdmi_core::Kind;
+use std::alloc::Global;
 use std::process::Abort;
 use std::test::Fail;
 
@@ -11,12 +12,6 @@ fn a_new_record_is_on(rt: HostRuntime) -> Result<(), Fail> {
     let record = Record::new(Kind::Switch, Port::new(3));
     assert!(rt; record.power);
     assert_eq!(rt; record.deck.byte(), 0x1a);
-    Ok(())
-}
-
-fn follow(device: &mut Device<16>, bytes: &[u8]) -> Result<(), Fail> {
-    let frame = Frame::new(bytes)?;
-    device.follow(&frame, 0);
     Ok(())
 }
 
@@ -52,273 +47,368 @@ fn devices_answer(rt: HostRuntime) -> Result<(), Fail> {
     check(&rt, rt.alloc(), ROWS)
 }
 
+// ---- what is done with a device
+
+fn join(device: &mut Device<16>, words: &str) -> Result<(), Fail> {
+    let (place, at) = words.split_once(' ').ok_or("no time")?;
+    let at: u64 = at.parse()?;
+    device.join(3, phys_of(place)?.ok_or("no address")?, at);
+    Ok(())
+}
+
+fn follow(device: &mut Device<16>, words: &str) -> Result<(), Fail> {
+    let frame = Frame::new(&bytes_of(words, 0)?)?;
+    device.follow(&frame, 0);
+    Ok(())
+}
+
+fn fate_of(word: &str) -> Result<Fate, Fail> {
+    match word {
+        "delivered" => Ok(Fate::Delivered),
+        "unacked" => Ok(Fate::Unacked),
+        "lost" => Ok(Fate::Lost),
+        "broken" => Ok(Fate::Broken),
+        _ => Err("no fate".into()),
+    }
+}
+
 // The front frame has this fate.
-fn end(device: &mut Device<16>, fate: Fate, at: u64) -> Result<(), Fail> {
+fn sent(device: &mut Device<16>, fate: &str) -> Result<(), Fail> {
+    let fate = fate_of(fate)?;
     if device.queue_front().is_none() {
-        return Err(Fail::from("nothing queued"));
+        return Err("nothing queued".into());
     }
-    device.sent(fate, at);
+    device.sent(fate, 500);
     Ok(())
 }
 
-// The front frame has these bytes.
-fn has_front(rt: &impl Abort, device: &Device<16>, bytes: &[u8]) -> Result<(), Fail> {
-    let front = device.queue_front().ok_or("nothing queued")?;
-    assert_eq!(rt; front.bytes(), bytes);
+// Does what tells nothing, if this is that.
+fn does(device: &mut Device<16>, doing: &str, words: &str) -> Result<bool, Fail> {
+    match doing {
+        "join" => join(device, words)?,
+        "leave" => device.leave(),
+        "waited" => device.waited(),
+        "copy" => *device = device.copy(),
+        "follow" => follow(device, words)?,
+        "sent" => sent(device, words)?,
+        _ => return Ok(false),
+    }
+    Ok(true)
+}
+
+// ---- what it tells
+
+fn submit(alloc: Global, device: &mut Device<16>, words: &str) -> Result<String, Fail> {
+    let frame = Frame::new(&bytes_of(words, 0)?)?;
+    match device.submit(frame, 900) {
+        Ok(()) => Ok(format!(in alloc; "queued")?),
+        Err(error) => Ok(format!(in alloc; "{error:?}")?),
+    }
+}
+
+fn key(alloc: Global, device: &mut Device<16>, words: &str, press: bool) -> Result<String, Fail> {
+    match device.key(key_of(words)?, press, 0) {
+        Ok(()) => Ok(format!(in alloc; "done")?),
+        Err(error) => Ok(format!(in alloc; "{error:?}")?),
+    }
+}
+
+fn front(alloc: Global, device: &Device<16>) -> Result<String, Fail> {
+    let Some(frame) = device.queue_front() else {
+        return Ok(format!(in alloc; "-")?);
+    };
+    let mut text = String::new(alloc);
+    for byte in frame.bytes() {
+        let word = format!(in alloc; " {byte:02x}")?;
+        text.push_str(word.as_str())?;
+    }
+    Ok(text)
+}
+
+fn value_of(address: Option<Addr>) -> Option<u8> {
+    match address {
+        None => None,
+        Some(address) => Some(address.value()),
+    }
+}
+
+fn held(alloc: Global, device: &Device<16>) -> Result<String, Fail> {
+    let [first, second] = device.held();
+    let (first, second) = (value_of(first), value_of(second));
+    Ok(format!(in alloc; "{first:?} {second:?}")?)
+}
+
+fn holds(alloc: Global, device: &Device<16>, words: &str) -> Result<String, Fail> {
+    let address: u8 = words.parse()?;
+    let holds = device.holds(Addr::new(address % 16));
+    Ok(format!(in alloc; "{holds}")?)
+}
+
+fn stands(alloc: Global, device: &Device<16>) -> Result<String, Fail> {
+    let wire = if device.is_on_wire() { "on" } else { "off" };
+    let place = if device.is_allocating() {
+        "allocating"
+    } else {
+        "settled"
+    };
+    Ok(format!(in alloc; "{wire} {place}")?)
+}
+
+// How many frames are queued, and how many were dropped.
+fn queue(alloc: Global, device: &Device<16>) -> Result<String, Fail> {
+    let (queued, dropped) = (device.queue_len(), device.dropped());
+    Ok(format!(in alloc; "{queued} {dropped}")?)
+}
+
+fn is_p1(device: &Device<16>) -> bool {
+    device.name() == b"p1".as_slice() && device.kind() == Kind::Player && device.ports() == 3
+}
+
+// Its number, and its physical address.
+fn place(alloc: Global, device: &Device<16>) -> Result<String, Fail> {
+    let (number, phys) = (device.number(), device.phys());
+    Ok(format!(in alloc; "{number} {:02x}{:02x}", phys.high, phys.low)?)
+}
+
+fn told(alloc: Global, device: &Device<16>, doing: &str, words: &str) -> Result<String, Fail> {
+    match doing {
+        "front" => front(alloc, device),
+        "held" => held(alloc, device),
+        "holds" => holds(alloc, device, words),
+        "stands" => stands(alloc, device),
+        "queue" => queue(alloc, device),
+        "place" => place(alloc, device),
+        "class" => Ok(format!(in alloc; "{}", device.class().micros())?),
+        "ready" => Ok(format!(in alloc; "{:?}", device.ready_at())?),
+        "is-p1" => Ok(format!(in alloc; "{}", is_p1(device))?),
+        _ => Err("no such step".into()),
+    }
+}
+
+fn told_after(alloc: Global, device: &mut Device<16>, line: &str) -> Result<String, Fail> {
+    let (doing, words) = line.split_once(' ').unwrap_or((line, ""));
+    if does(device, doing, words)? {
+        return Ok(String::new(alloc));
+    }
+    match doing {
+        "submit" => submit(alloc, device, words),
+        "press" => key(alloc, device, words, true),
+        "release" => key(alloc, device, words, false),
+        _ => told(alloc, device, doing, words),
+    }
+}
+
+// A line for each thing that is done, and behind an arrow what is told then.
+fn goes(rt: &impl Abort, alloc: Global, device: &mut Device<16>, lines: &str) -> Result<(), Fail> {
+    for line in lines.lines() {
+        let (doing, wanted) = line.split_once(" => ").unwrap_or((line, ""));
+        let told = told_after(alloc, device, doing)?;
+        assert!(rt; told.as_str().trim_start() == wanted, "{line}: {told}");
+    }
     Ok(())
 }
 
-fn has_no_front(rt: &impl Abort, device: &Device<16>) {
-    assert!(rt; device.queue_front().is_none());
-}
-
-// So many frames are queued, and so many were dropped.
-fn has_queued(rt: &impl Abort, device: &Device<16>, queued: usize, dropped: u64) {
-    assert_eq!(rt; (device.queue_len(), device.dropped()), (queued, dropped));
-}
-
-// The device waits for this free time.
-fn waits(rt: &impl Abort, device: &Device<16>, micros: u64) {
-    assert_eq!(rt; device.class().micros(), micros);
-}
-
-fn is_ready(rt: &impl Abort, device: &Device<16>, at: u64) {
-    assert_eq!(rt; device.ready_at(), Some(at));
-}
-
-fn submit(device: &mut Device<16>, bytes: &[u8], at: u64) -> Result<Option<SubmitError>, Fail> {
-    Ok(device.submit(Frame::new(bytes)?, at).err())
-}
-
-// The frame is queued.
-fn takes(rt: &impl Abort, device: &mut Device<16>, bytes: &[u8], at: u64) -> Result<(), Fail> {
-    assert_eq!(rt; submit(device, bytes, at)?, None);
-    Ok(())
-}
-
-// The frame is not queued, for this reason.
-fn refuses(
+fn goes_often(
     rt: &impl Abort,
+    alloc: Global,
     device: &mut Device<16>,
-    bytes: &[u8],
-    error: SubmitError,
+    lines: &str,
+    times: usize,
 ) -> Result<(), Fail> {
-    assert_eq!(rt; submit(device, bytes, 0)?, Some(error));
+    for _ in 0..times {
+        goes(rt, alloc, device, lines)?;
+    }
     Ok(())
 }
 
-// A player that was asked for its name once more than its queue holds.
-fn filled() -> Result<Device<16>, Fail> {
+// ---- what one device does
+
+#[test]
+fn a_queue_fills_and_empties(rt: HostRuntime) -> Result<(), Fail> {
     let mut player = settled(Kind::Player);
-    for _ in 0..17 {
-        follow(&mut player, &[0x04, 0x46])?;
-    }
-    Ok(player)
+    goes_often(&rt, rt.alloc(), &mut player, "follow 04 46", 17)?;
+    let full = "\
+queue => 16 1
+front => 40 47 70 31
+submit 40 47 70 31 => QueueFull
+sent delivered
+copy
+queue => 15 1
+press play => done
+queue => 16 2";
+    goes(&rt, rt.alloc(), &mut player, full)?;
+    goes_often(&rt, rt.alloc(), &mut player, "sent delivered", 15)?;
+    let last = "\
+front => 40 04
+sent delivered
+queue => 0 2";
+    goes(&rt, rt.alloc(), &mut player, last)
 }
 
-#[test]
-fn a_queue_fills(rt: HostRuntime) -> Result<(), Fail> {
-    let mut player = filled()?;
-    let bytes = [0x40, 0x47, b'p', b'1'];
-    has_queued(&rt, &player, 16, 1);
-    has_front(&rt, &player, &bytes)?;
-    refuses(&rt, &mut player, &bytes, SubmitError::QueueFull)
-}
-
-#[test]
-fn a_full_queue_empties(rt: HostRuntime) -> Result<(), Fail> {
-    let mut player = filled()?;
-    end(&mut player, Fate::Delivered, 0)?;
-    has_queued(&rt, &player.copy(), 15, 1);
-    player.key(Key::Play, true, 0)?;
-    has_queued(&rt, &player, 16, 2);
-    for _ in 0..15 {
-        end(&mut player, Fate::Delivered, 0)?;
-    }
-    says(&rt, &mut player, "40 04", 4, "the last one")
-}
-
-// The device polls so, and the poll is acknowledged.
-fn finds_taken(rt: &impl Abort, device: &mut Device<16>, poll: u8) -> Result<(), Fail> {
-    assert!(rt; device.held() == [None, None]);
-    is_ready(rt, device, 500);
-    has_front(rt, device, &[poll])?;
-    end(device, Fate::Delivered, 500)
-}
+const NO_ADDRESS: &str = "\
+join 1000 500
+stands => on allocating
+held => None None
+ready => Some(500)
+front => 44
+sent delivered
+held => None None
+ready => Some(500)
+front => 88
+sent delivered
+held => None None
+ready => Some(500)
+front => bb
+sent delivered
+held => Some(15) None
+front => -";
 
 #[test]
 fn a_player_finds_no_address(rt: HostRuntime) -> Result<(), Fail> {
     let mut player: Device<16> = Device::new(Kind::Player, b"p1", 0);
-    player.join(
-        3,
-        Phys {
-            high: 0x10,
-            low: 0x00,
-        },
-        500,
-    );
-    finds_taken(&rt, &mut player, 0x44)?;
-    finds_taken(&rt, &mut player, 0x88)?;
-    finds_taken(&rt, &mut player, 0xbb)?;
-    assert!(rt; player.held() == [Some(Addr::new(15)), None]);
-    has_no_front(&rt, &player);
-    Ok(())
+    goes(&rt, rt.alloc(), &mut player, NO_ADDRESS)
 }
+
+const SETTLED: &str = "\
+holds 4 => true
+holds 8 => false
+stands => on settled
+class => 16800
+submit 84 04 => NoAddress
+submit 44 04 => OwnAddress";
 
 #[test]
 fn a_settled_player(rt: HostRuntime) -> Result<(), Fail> {
     let mut player = settled(Kind::Player);
-    assert!(rt; player.holds(Addr::new(4)));
-    assert!(rt; player.is_on_wire() && !player.is_allocating());
-    assert!(rt; player.class() == FreeTime::PresentInitiator);
-    refuses(&rt, &mut player, &[0x84, 0x04], SubmitError::NoAddress)?;
-    refuses(&rt, &mut player, &[0x44, 0x04], SubmitError::OwnAddress)
+    goes(&rt, rt.alloc(), &mut player, SETTLED)
 }
 
 // The front frame loses once, which is no attempt, and then fails once.
-fn tries(rt: &impl Abort, device: &mut Device<16>) -> Result<(), Fail> {
-    is_ready(rt, device, 900);
-    end(device, Fate::Lost, 0)?;
-    waits(rt, device, 12_000);
-    end(device, Fate::Broken, 0)
-}
+const ATTEMPT: &str = "\
+ready => Some(900)
+sent lost
+class => 12000
+sent broken";
+
+const AFTER_SIX: &str = "\
+front => -
+queue => 0 0
+waited
+class => 12000";
 
 #[test]
 fn a_frame_has_six_attempts(rt: HostRuntime) -> Result<(), Fail> {
     let mut player = settled(Kind::Player);
-    takes(&rt, &mut player, &[0x48, 0x46], 900)?;
-    for _ in 0..6 {
-        tries(&rt, &mut player)?;
-    }
-    has_no_front(&rt, &player);
-    has_queued(&rt, &player, 0, 0);
-    player.waited();
-    waits(&rt, &player, 12_000);
-    Ok(())
+    goes(&rt, rt.alloc(), &mut player, "submit 48 46 => queued")?;
+    goes_often(&rt, rt.alloc(), &mut player, ATTEMPT, 6)?;
+    goes(&rt, rt.alloc(), &mut player, AFTER_SIX)
 }
 
-// A key does nothing off the wire.
-fn has_lost_key(rt: &impl Abort, device: &mut Device<16>, key: Key, press: bool) {
-    assert_eq!(rt; device.key(key, press, 0), Err(KeyError::OffWire));
-}
-
-// The device is the player `p1` with three ports.
-fn is_p1(rt: &impl Abort, device: &Device<16>) {
-    assert_eq!(rt; device.name(), b"p1".as_slice());
-    assert_eq!(rt; (device.kind(), device.ports()), (Kind::Player, 3));
-}
-
-fn is_nowhere(rt: &impl Abort, device: &Device<16>) {
-    let phys = device.phys();
-    assert_eq!(rt; (device.number(), phys.high, phys.low), (0, 0xff, 0xff));
-}
+const LEFT: &str = "\
+place => 1 1000
+leave
+stands => off settled
+held => None None
+submit 48 46 => OffWire
+press play => OffWire
+release menu => OffWire
+is-p1 => true
+place => 0 ffff";
 
 #[test]
 fn a_player_that_has_left(rt: HostRuntime) -> Result<(), Fail> {
     let mut player = settled(Kind::Player);
-    player.leave();
-    assert!(rt; !player.is_on_wire() && player.held() == [None, None]);
-    refuses(&rt, &mut player, &[0x48, 0x46], SubmitError::OffWire)?;
-    has_lost_key(&rt, &mut player, Key::Play, true);
-    has_lost_key(&rt, &mut player, Key::Menu, false);
-    is_p1(&rt, &player);
-    is_nowhere(&rt, &player);
-    Ok(())
+    goes(&rt, rt.alloc(), &mut player, LEFT)
 }
 
-// A box at 1.0.0.0 whose polls have had these fates.
-fn box_after(fates: &[Fate]) -> Device<16> {
-    let mut device = Device::new(Kind::Combo, b"b", 0);
-    device.join(
-        1,
-        Phys {
-            high: 0x10,
-            low: 0x00,
-        },
-        0,
-    );
-    for fate in fates {
-        if device.queue_front().is_some() {
-            device.sent(*fate, 0);
-        }
+// ---- boxes, whose polls are acknowledged or not
+
+const RECORDER_SETTLED: &str = "\
+join 1000 0
+sent unacked
+held => Some(1) None
+stands => on allocating
+holds 1 => true
+holds 4 => false
+submit 34 46 => NoAddress
+follow 31 46
+queue => 0 0";
+
+const BOTH_SETTLED: &str = "\
+join 1000 0
+sent unacked
+sent unacked
+held => Some(1) Some(4)
+stands => on settled
+submit 34 46 => NoAddress
+submit 14 46 => OwnAddress
+submit 41 46 => OwnAddress
+front => 1f 84 10 00 01
+sent delivered
+front => 4f 84 10 00 04
+sent delivered
+queue => 0 0";
+
+const PLAYER_ALONE: &str = "\
+join 1000 0
+sent delivered
+sent delivered
+sent delivered
+sent delivered
+sent unacked
+held => Some(15) Some(8)
+submit f0 46 => queued
+front => 8f 84 10 00 04
+sent delivered
+front => f0 46
+sent delivered
+queue => 0 0";
+
+const RECORDER_ALONE: &str = "\
+join 1000 0
+sent delivered
+sent unacked
+sent delivered
+sent delivered
+sent delivered
+held => Some(2) Some(15)
+press eject => done
+press menu => done
+front => 2f 84 10 00 01
+sent delivered
+front => 20 8e 00
+sent delivered
+queue => 0 0";
+
+const NEITHER: &str = "\
+join 1000 0
+sent delivered
+sent delivered
+sent delivered
+sent delivered
+sent delivered
+sent delivered
+held => Some(15) Some(15)
+press menu => done
+queue => 0 0";
+
+const TOO_FAR_BELOW: &str = "\
+join ffff 0
+held => Some(15) Some(15)
+queue => 0 0";
+
+#[test]
+fn boxes_have_two_addresses(rt: HostRuntime) -> Result<(), Fail> {
+    for lines in [
+        RECORDER_SETTLED,
+        BOTH_SETTLED,
+        PLAYER_ALONE,
+        RECORDER_ALONE,
+        NEITHER,
+        TOO_FAR_BELOW,
+    ] {
+        let mut device: Device<16> = Device::new(Kind::Combo, b"b", 0);
+        goes(&rt, rt.alloc(), &mut device, lines)?;
     }
-    device
-}
-
-const FREE: Fate = Fate::Unacked;
-
-const TAKEN: Fate = Fate::Delivered;
-
-fn holds(rt: &impl Abort, device: &Device<16>, first: u8, second: Option<u8>) {
-    let [one, other] = device.held();
-    assert_eq!(rt; one.map(|address| address.value()), Some(first));
-    assert_eq!(rt; other.map(|address| address.value()), second);
-}
-
-#[test]
-fn a_box_with_one_address(rt: HostRuntime) -> Result<(), Fail> {
-    let mut half = box_after(&[FREE]);
-    holds(&rt, &half, 1, None);
-    assert!(rt; half.is_allocating());
-    assert!(rt; half.holds(Addr::new(1)) && !half.holds(Addr::new(4)));
-    refuses(&rt, &mut half, &[0x34, 0x46], SubmitError::NoAddress)?;
-    follow(&mut half, &[0x31, 0x46])?;
-    says(&rt, &mut half, "-", 1, "nothing yet")
-}
-
-#[test]
-fn a_box_with_two_addresses(rt: HostRuntime) -> Result<(), Fail> {
-    let mut whole = box_after(&[FREE, FREE]);
-    holds(&rt, &whole, 1, Some(4));
-    assert!(rt; !whole.is_allocating());
-    refuses(&rt, &mut whole, &[0x34, 0x46], SubmitError::NoAddress)?;
-    refuses(&rt, &mut whole, &[0x14, 0x46], SubmitError::OwnAddress)?;
-    refuses(&rt, &mut whole, &[0x41, 0x46], SubmitError::OwnAddress)?;
-    says(&rt, &mut whole, "1f 84 10 00 01, 4f 84 10 00 04", 4, "both")
-}
-
-#[test]
-fn a_box_whose_player_has_an_address(rt: HostRuntime) -> Result<(), Fail> {
-    let mut player = box_after(&[TAKEN, TAKEN, TAKEN, TAKEN, FREE]);
-    holds(&rt, &player, 15, Some(8));
-    takes(&rt, &mut player, &[0xf0, 0x46], 0)?;
-    says(&rt, &mut player, "8f 84 10 00 04, f0 46", 8, "the player")
-}
-
-#[test]
-fn a_box_whose_recorder_has_an_address(rt: HostRuntime) -> Result<(), Fail> {
-    let mut recorder = box_after(&[TAKEN, FREE, TAKEN, TAKEN, TAKEN]);
-    holds(&rt, &recorder, 2, Some(15));
-    recorder.key(Key::Eject, true, 0)?;
-    recorder.key(Key::Menu, true, 0)?;
-    says(
-        &rt,
-        &mut recorder,
-        "2f 84 10 00 01, 20 8e 00",
-        2,
-        "the recorder",
-    )
-}
-
-#[test]
-fn a_box_without_an_address(rt: HostRuntime) -> Result<(), Fail> {
-    let mut neither = box_after(&[TAKEN; 6]);
-    holds(&rt, &neither, 15, Some(15));
-    neither.key(Key::Menu, true, 0)?;
-    says(&rt, &mut neither, "-", 15, "neither")
-}
-
-#[test]
-fn a_box_too_far_below(rt: HostRuntime) {
-    let mut below: Device<16> = Device::new(Kind::Combo, b"b", 0);
-    below.join(
-        1,
-        Phys {
-            high: 0xff,
-            low: 0xff,
-        },
-        0,
-    );
-    holds(&rt, &below, 15, Some(15));
-    assert_eq!(rt; below.queue_len(), 0);
+    Ok(())
 }
