@@ -273,7 +273,7 @@ fn frames_have_fates(rt: HostRuntime) -> Result<(), Fail> {
     Ok(())
 }
 
-// The line of a poll of 8 by the player, over whom the amplifier loses at the fourth slot.
+// The line of a poll of 8 by the player, to whom the amplifier loses at the fourth slot.
 const LINE: &str = "\
 2000000-2003700
 2004500-2006000
