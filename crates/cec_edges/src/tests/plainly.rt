@@ -20,7 +20,7 @@ const BEGIN: u64 = 1_000_000;
 // ---- who takes part
 
 // A device on the wire or not: its addresses, and the bytes that it sends, if any.
-#[derive(Debug, Default, Drop)]
+#[derive(Default, Drop)]
 struct Device {
     plugged: bool,
     held: ArrayVec<u8, 2>,
@@ -104,7 +104,7 @@ fn first_high(line: &[Stretch], from: u64, to: u64) -> Option<u64> {
 }
 
 // How a reading ended, and the last microsecond that belongs to it.
-#[derive(Debug, Drop)]
+#[derive(Drop)]
 struct End {
     ending: Ending,
     at: u64,
@@ -129,7 +129,7 @@ fn waited(ending: Ending, at: u64) -> End {
     }
 }
 
-#[derive(Debug, Drop)]
+#[derive(Drop)]
 struct Read {
     falls: ArrayVec<u64, 160>,
     bits: ArrayVec<bool, 160>,
@@ -378,7 +378,7 @@ fn fixed(rt: &impl Abort, devices: &[Device], pulses: &[Stretch]) -> (Line, Read
 // ---- rounds from a generator
 
 // A linear congruential generator.
-#[derive(Debug, Drop)]
+#[derive(Drop)]
 struct Generator {
     state: u64,
 }
