@@ -85,6 +85,13 @@ fn state(rt: &impl Abort, wire: &EdgeWire, seat: usize) -> Option<SenderState>
     wire.sender_of(seat).map(|sender| sender.state())
 }
 
+// The sender of a seat has come this far.
+fn is_at(rt: &impl Abort, wire: &EdgeWire, seat: usize, wanted: Option<SenderState>)
+    requires listens { Listens wire.now }
+{
+    assert_eq!(rt; state(rt, wire, seat), wanted);
+}
+
 // Image-view-on from the player to the television, in which a pulse moves the second slot.
 const MOVED: &str = "\
 1000000 low start-low
@@ -139,9 +146,9 @@ fn stands_after_each_edge(rt: HostRuntime) -> Result<(), Fail> {
     });
     let mut wire = EdgeWire::new();
     wire.begin(&seats_of("0 4:40,04")?, 1_000_000);
-    assert_eq!(rt; state(&rt, &wire, 0), None);
+    is_at(&rt, &wire, 0, None);
     goes(&rt, rt.alloc(), &mut wire, pulse, MOVED)?;
-    assert_eq!(rt; state(&rt, &wire, 1), Some(SenderState::Stopped));
+    is_at(&rt, &wire, 1, Some(SenderState::Stopped));
     Ok(())
 }
 
@@ -197,36 +204,53 @@ const WHOLE: &str = "\
 1051600 high idle
 none";
 
+const FIRST: Stretch = Stretch {
+    from: 1_000_000,
+    to: 1_000_100,
+};
+
 #[test]
 fn stands_by_the_pulses_handed_in(rt: HostRuntime) -> Result<(), Fail> {
-    let first = Some(Stretch {
-        from: 1_000_000,
-        to: 1_000_100,
-    });
     let later = Some(Stretch {
         from: 1_028_000,
         to: 1_028_100,
     });
-    let mut broken = EdgeWire::new();
-    broken.begin(&seats_of("0 4:40,04")?, 1_000_000);
-    goes(&rt, rt.alloc(), &mut broken, first, "1000000 low start-low")?;
-    goes(&rt, rt.alloc(), &mut broken, later, ALIKE)?;
-    goes(&rt, rt.alloc(), &mut broken, later, BROKEN)?;
-    gives(
+    let mut wire = EdgeWire::new();
+    wire.begin(&seats_of("0 4:40,04")?, 1_000_000);
+    goes(
         &rt,
         rt.alloc(),
-        &mut broken,
-        "Short 1028000 bits 0100000000 rest 1031600 close 1031600 by 1 out -",
+        &mut wire,
+        Some(FIRST),
+        "1000000 low start-low",
     )?;
-    let mut whole = EdgeWire::new();
-    whole.begin(&seats_of("0 4:40,04")?, 1_000_000);
-    goes(&rt, rt.alloc(), &mut whole, first, "1000000 low start-low")?;
-    goes(&rt, rt.alloc(), &mut whole, None, ALIKE)?;
-    goes(&rt, rt.alloc(), &mut whole, None, WHOLE)?;
+    goes(&rt, rt.alloc(), &mut wire, later, ALIKE)?;
+    goes(&rt, rt.alloc(), &mut wire, later, BROKEN)?;
     gives(
         &rt,
         rt.alloc(),
-        &mut whole,
+        &mut wire,
+        "Short 1028000 bits 0100000000 rest 1031600 close 1031600 by 1 out -",
+    )
+}
+
+#[test]
+fn stands_where_no_later_pulse_is_handed_in(rt: HostRuntime) -> Result<(), Fail> {
+    let mut wire = EdgeWire::new();
+    wire.begin(&seats_of("0 4:40,04")?, 1_000_000);
+    goes(
+        &rt,
+        rt.alloc(),
+        &mut wire,
+        Some(FIRST),
+        "1000000 low start-low",
+    )?;
+    goes(&rt, rt.alloc(), &mut wire, None, ALIKE)?;
+    goes(&rt, rt.alloc(), &mut wire, None, WHOLE)?;
+    gives(
+        &rt,
+        rt.alloc(),
+        &mut wire,
         "Complete 1051150 bits 01000000000000010010 rest 1051600 close 1051600 by 1 out -",
     )
 }
@@ -254,8 +278,8 @@ fn two_senders_stop(rt: HostRuntime) -> Result<(), Fail> {
     let mut wire = EdgeWire::new();
     wire.begin(&seats_of("0 5:50,8f 4:40,04")?, 2_000_000);
     goes(&rt, rt.alloc(), &mut wire, pulse, LOST_AND_BROKEN)?;
-    assert_eq!(rt; state(&rt, &wire, 1), Some(SenderState::Out(4)));
-    assert_eq!(rt; state(&rt, &wire, 2), Some(SenderState::Sending));
+    is_at(&rt, &wire, 1, Some(SenderState::Out(4)));
+    is_at(&rt, &wire, 2, Some(SenderState::Sending));
     goes(
         &rt,
         rt.alloc(),
@@ -263,9 +287,9 @@ fn two_senders_stop(rt: HostRuntime) -> Result<(), Fail> {
         pulse,
         "2013500 low wait-high\n2017100 high idle\nnone",
     )?;
-    assert_eq!(rt; state(&rt, &wire, 0), None);
-    assert_eq!(rt; state(&rt, &wire, 1), Some(SenderState::Out(4)));
-    assert_eq!(rt; state(&rt, &wire, 2), Some(SenderState::Stopped));
+    is_at(&rt, &wire, 0, None);
+    is_at(&rt, &wire, 1, Some(SenderState::Out(4)));
+    is_at(&rt, &wire, 2, Some(SenderState::Stopped));
     Ok(())
 }
 
@@ -297,6 +321,6 @@ fn stands_after_bad_starts(rt: HostRuntime) -> Result<(), Fail> {
         long,
         "12000 low start-low\n15901 high idle\nnone",
     )?;
-    assert_eq!(rt; state(&rt, &wire, 0), Some(SenderState::Stopped));
+    is_at(&rt, &wire, 0, Some(SenderState::Stopped));
     Ok(())
 }
