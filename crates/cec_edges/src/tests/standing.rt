@@ -204,6 +204,7 @@ const WHOLE: &str = "\
 1051600 high idle
 none";
 
+// It begins with the round.
 const FIRST: Stretch = Stretch {
     from: 1_000_000,
     to: 1_000_100,
