@@ -15,10 +15,11 @@ cat > "$room/bin/rt" << 'RT'
 echo "$1 $2" >> "$CALLS"
 case "$1 $2" in
   "all check")
-    [ -f slow ] && sleep "$(cat slow)"
+    [ -f ../../slow ] && sleep "$(cat ../../slow)"
+    [ "$(basename "$PWD")" = hdminet ] || exit 1
     for crate in low hdminet; do
       echo "== $crate"
-      if grep -q broken "crates/$crate"/src/*; then
+      if grep -q broken "../$crate"/src/*; then
         echo "error: the sources of $crate are broken"
         exit 1
       fi
@@ -39,13 +40,14 @@ chmod +x "$room/bin/rt"
 export CALLS="$room/calls"
 PATH="$room/bin:$PATH"
 
-# A new checkout of two crates, whose program prints 'one'.
+# A new checkout of a program that prints 'one', a crate below it, and a crate of tests.
 checkout() {
   rm -rf "$room/checkout" "$CALLS"
-  mkdir -p "$room/checkout/crates/low/src" "$room/checkout/crates/hdminet/src"
+  mkdir -p "$room/checkout/crates/low/src" "$room/checkout/crates/hdminet/src" "$room/checkout/crates/low_tests/src"
   cp "$top/hdminet" "$room/checkout/hdminet"
-  printf 'low:\nhdminet: low\n' > "$room/checkout/crates.txt"
+  printf '# a comment\nlow: arrayvec\nlow_tests: low\nhdminet: low arrayvec\n' > "$room/checkout/crates.txt"
   echo law > "$room/checkout/crates/low/src/lib.rt"
+  echo test > "$room/checkout/crates/low_tests/src/lib.rt"
   source_is one
 }
 
@@ -100,6 +102,12 @@ rm "$room/checkout/crates/low/src/lib.rt"
 echo law > "$room/checkout/crates/low/src/other.rt"
 start "$room/checkout/hdminet"
 check "so is one under another name" [ "$(calls)" = 6 ]
+
+sleep 0.02
+echo broken > "$room/checkout/crates/low_tests/src/lib.rt"
+start "$room/checkout/hdminet" x
+check "a changed test is none of the program's sources" wrote "two x"
+check "and builds nothing" [ "$(calls)" = 6 ]
 
 source_is "broken"
 start "$room/checkout/hdminet"
