@@ -20,13 +20,13 @@ use Rattle.cec_text.specs.declared.assembler.AssembleError.{AssembleError}
 use Rattle.cec_words.specs.Words.{words_of, text_of, one_of, two_of, three_of}
 use Rattle.cec_words.specs.Number.{number_of}
 use Rattle.cec_asm.specs.Keys.{key_of}
-use Rattle.cec_net.specs.Framed.{IsFramedEvent}
-use Rattle.cec_net.specs.declared.event.Event.{Event}
-use Rattle.cec_net.specs.declared.event.Event.TheVariants.{Plug, Unplug, Key, Send}
+use Rattle.cec_event.specs.Events.{NamesDevices, IsFramedEvent}
+use Rattle.cec_event.specs.declared.event.Event.{Event}
+use Rattle.cec_event.specs.declared.event.Event.TheVariants.{Plug, Unplug, Key, Send}
 use Rattle.cec_asm.specs.declared.script.TimedEvent.{TimedEvent}
 use Rattle.cec_asm.specs.declared.script.ScriptCause.{ScriptCause}
 use Rattle.cec_asm.specs.declared.script.ScriptCause.TheVariants.{Word, Number, Name, Frame, Order, TooMany, End}
-use Rattle.cec_asm.specs.Script.{Course, Notes, within_limit, time_of, last_time, last_end, scheduled, plug_read, plug_words, unplug_read, unplug_words, key_read, key_words, send_read, event_words, pulse_cause, unless_fault, pulsed, pulse_read, pulse_words, end_read, end_words, other_words, ended, no_notes, IsFrameOf, IsSendRead, IsEventRead, IsWordsRead, IsLineRead, IsAmong, IsSchedule, AreFramedEvents, IsScript, Onward, AreLinesRead, ScriptsAreSound}
+use Rattle.cec_asm.specs.Script.{Course, Notes, within_limit, time_of, last_time, last_end, scheduled, plug_read, plug_words, unplug_read, unplug_words, key_read, key_words, send_read, event_words, pulse_cause, unless_fault, pulsed, pulse_read, pulse_words, end_read, end_words, other_words, ended, no_notes, IsFrameOf, IsSendRead, IsEventRead, IsWordsRead, IsLineRead, IsSchedule, AreFramedEvents, IsScript, Onward, AreLinesRead, ScriptsAreSound}
 
 -- ---- times
 
@@ -58,7 +58,7 @@ IsSchedule-later : (count end later from : ℕ) (events : List TimedEvent) → e
 IsSchedule-later count end later from [] h s = tt
 IsSchedule-later count end later from (event ∷ events) h s = (s.0, omega (arith, s.1), s.2, IsSchedule-later count end later event.at events h s.3)
 
-IsSchedule-append : (count end from : ℕ) (events : List TimedEvent) (event : TimedEvent) → IsSchedule count end from events → last_from from events ≤ event.at → event.at < end → IsAmong count event.event →
+IsSchedule-append : (count end from : ℕ) (events : List TimedEvent) (event : TimedEvent) → IsSchedule count end from events → last_from from events ≤ event.at → event.at < end → NamesDevices count event.event →
     IsSchedule count end from (events ++ event ∷ [])
 unfolding last_from
 IsSchedule-append count end from [] event s after before known = (after, before, known, tt)
@@ -165,7 +165,7 @@ keeps_ok : (count : ℕ) (notes : Notes) → AreSound count notes → Keeps coun
 unfolding Keeps
 keeps_ok count notes s next h = let e : notes ≡ next = cc in let P : Notes → Type 0 = λ n. AreSound count n in subst P e s
 
-scheduled-keeps : (count : ℕ) (notes : Notes) (line time : ℕ) (event : Event) → AreSound count notes → IsAmong count event → IsFramedEvent event → Keeps count (scheduled notes line time event)
+scheduled-keeps : (count : ℕ) (notes : Notes) (line time : ℕ) (event : Event) → AreSound count notes → NamesDevices count event → IsFramedEvent event → Keeps count (scheduled notes line time event)
 scheduled-keeps count notes line time event s known framed =
     keeps_if count (nat_lt time (last_time notes.events)) _ _ (λ e. keeps_err count Order)
     (λ on_time. keeps_if count (is_some notes.end) _ _ (λ e. keeps_err count End) (λ unended. keeps_ok count _ (sound_more on_time unended)))

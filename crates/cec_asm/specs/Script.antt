@@ -18,9 +18,9 @@ use Rattle.cec_text.specs.declared.assembler.AssembleError.{AssembleError}
 use Rattle.cec_words.specs.Words.{words_of, text_of, one_of, two_of, three_of}
 use Rattle.cec_words.specs.Number.{number_of}
 use Rattle.cec_asm.specs.Keys.{key_of}
-use Rattle.cec_net.specs.Framed.{IsFramedEvent}
-use Rattle.cec_net.specs.declared.event.Event.{Event}
-use Rattle.cec_net.specs.declared.event.Event.TheVariants.{Plug, Unplug, Key, Send}
+use Rattle.cec_event.specs.Events.{NamesDevices, IsFramedEvent}
+use Rattle.cec_event.specs.declared.event.Event.{Event}
+use Rattle.cec_event.specs.declared.event.Event.TheVariants.{Plug, Unplug, Key, Send}
 use Rattle.cec_asm.specs.declared.script.TimedEvent.{TimedEvent}
 use Rattle.cec_asm.specs.declared.script.Draft.{Draft}
 use Rattle.cec_asm.specs.declared.course.Script.{Script}
@@ -273,17 +273,10 @@ error_at line (Cause cause) = errors.At line cause
 
 -- ---- what holds of every script
 
--- the devices that an event names are among so many
-abbrev pub IsAmong : ℕ → Event → Type 0
-IsAmong count (Plug child parent port) = (child < count) × (parent < count)
-IsAmong count (Unplug child) = child < count
-IsAmong count (Key device key press) = device < count
-IsAmong count (Send device frame) = device < count
-
 -- times that do not go back from here and lie before an end, and devices among so many
 abbrev pub IsSchedule : ℕ → ℕ → ℕ → List TimedEvent → Type 0
 IsSchedule count end from [] = Unit {0}
-IsSchedule count end from (event ∷ events) = (from ≤ event.at) × (event.at < end) × IsAmong count event.event × IsSchedule count end event.at events
+IsSchedule count end from (event ∷ events) = (from ≤ event.at) × (event.at < end) × NamesDevices count event.event × IsSchedule count end event.at events
 
 -- no frame that is handed in is empty
 abbrev pub AreFramedEvents : List TimedEvent → Type 0

@@ -7,8 +7,8 @@ ghost use Rattle.cec_asm.specs.Script.{Notes, notes_of, course_of, time_of, last
 use crate::course::Script;
 use crate::keys::key_in;
 use crate::topology::Topology;
+use cec_event::Event;
 use cec_frame::Frame;
-use cec_net::Event;
 use cec_text::{AssembleError, assemble, frames_are_whole};
 use cec_wave::{MOST_PULSES, PulsesError, Stretch, stretch_fault};
 use cec_words::{first_line, first_word, is_skipped, number_in, one_word, three_words, two_words};

@@ -9,8 +9,8 @@ use Rattle.cec_wave.specs.declared.Edge.{Edge}
 use Rattle.cec_wave.specs.Line.{covers, line_of, IsWave, IsWaveFrom}
 use Rattle.cec_bits.specs.Readings.{readings_of}
 use Rattle.cec_words.specs.Lines.{lines_of}
-use Rattle.cec_run.specs.EdgeText.{edge_lines}
-use Rattle.cec_run.specs.TraceText.{end_line}
+use Rattle.cec_trace.specs.EdgeText.{edge_lines}
+use Rattle.cec_trace.specs.TraceText.{end_line}
 use Rattle.cec_run.proofs.WholeLine as runs
 use Rattle.cec_mon.specs.EdgeFile.{EdgeFile, edge_line_of, edges_read, end_read, file_of, level_at, line_of_edges, read_line, with_edge}
 use Rattle.cec_mon.specs.declared.edge_file.EdgeFault.{EdgeFault}

@@ -11,8 +11,8 @@ use Rattle.cec_asm.specs.Script.{AreFramedEvents}
 use Rattle.cec_asm.specs.declared.script.TimedEvent.{TimedEvent}
 use Rattle.cec_run.specs.declared.run.Telling.TheVariants.{Edges}
 use Rattle.cec_run.specs.declared.run.Totals.{Totals}
-use Rattle.cec_run.specs.EdgeText.{edge_lines}
-use Rattle.cec_run.specs.TraceText.{end_line}
+use Rattle.cec_trace.specs.EdgeText.{edge_lines}
+use Rattle.cec_trace.specs.TraceText.{end_line}
 use Rattle.cec_run.specs.Run.{start, IsRunText}
 use Rattle.cec_run.specs.RunLine.{rounds_in}
 use Rattle.cec_mon.specs.EdgeFile.{EdgeFile, file_of, line_of_edges}

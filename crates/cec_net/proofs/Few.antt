@@ -5,7 +5,7 @@ use Rattle.std.proofs.lemmas.List.Elements.{filter_passes}
 use Rattle.std.proofs.lemmas.Bool.Decides.{nat_tests}
 use Rattle.cec_wave.specs.declared.Stretch.{Stretch}
 use Rattle.cec_wave.proofs.Kept.{sparse-filter}
-use Rattle.cec_net.specs.declared.event.Event.{Event}
+use Rattle.cec_event.specs.declared.event.Event.{Event}
 use Rattle.cec_net.specs.State.{NetState}
 use Rattle.cec_net.specs.Apply.{applied}
 use Rattle.cec_net.specs.Step.{after_round}

@@ -1,21 +1,14 @@
 -- What an event does (own).
-use Rattle.std.specs.Prelude.{ℕ, suc, zero, ◌<◌, List, [], ◌∷◌, slice_get, Option, Some, None, option_and_then, option_map}
+use Rattle.std.specs.Prelude.{ℕ, suc, zero, List, [], ◌∷◌, slice_get, Option, Some, None, option_and_then, option_map}
 use Rattle.hdmi_topo.specs.Tree.{plug_fault, plugged, unplug_fault, unplugged}
 use Rattle.cec_device.specs.State.{State}
 use Rattle.cec_device.specs.Place.{submit_fault, submitted}
 use Rattle.cec_device.specs.Keys.{key_fault, keyed}
-use Rattle.cec_net.specs.declared.event.Event.{Event}
-use Rattle.cec_net.specs.declared.event.Event.TheVariants.{Plug, Unplug, Key, Send}
-use Rattle.cec_net.specs.declared.event.EventError.{EventError}
-use Rattle.cec_net.specs.declared.event.EventError.TheVariants as refused
+use Rattle.cec_event.specs.declared.event.Event.{Event}
+use Rattle.cec_event.specs.declared.event.Event.TheVariants.{Plug, Unplug, Key, Send}
+use Rattle.cec_event.specs.declared.event.EventError.{EventError}
+use Rattle.cec_event.specs.declared.event.EventError.TheVariants as refused
 use Rattle.cec_net.specs.State.{NetState, rewired}
-
--- the devices that an event names are among so many
-abbrev pub NamesDevices : ℕ → Event → Type 0
-NamesDevices count (Plug child parent port) = (child < count) × (parent < count)
-NamesDevices count (Unplug child) = child < count
-NamesDevices count (Key device key press) = device < count
-NamesDevices count (Send device frame) = device < count
 
 -- why an event is refused: as the tree or the device refuses it
 abbrev pub event_fault : NetState → Event → Option EventError

@@ -14,7 +14,7 @@ use Rattle.cec_net.specs.State.{started}
 use Rattle.cec_run.specs.declared.run.Totals.{Totals}
 use Rattle.hdmi_blocks.specs.declared.edid.Edid.{Edid}
 use Rattle.hdmi_blocks.proofs.OneEdid.{one_edid}
-use Rattle.cec_run.specs.Root.{IsRoot}
+use Rattle.cec_trace.specs.Root.{IsRoot}
 use Rattle.cec_run.specs.declared.run.Telling.{Telling}
 use Rattle.cec_run.specs.declared.run.Telling.TheVariants.{Trace, Edges}
 use Rattle.cec_run.specs.Run.{start, IsTrace, IsRunText}

@@ -5,9 +5,9 @@ use Rattle.cec_wire.specs.declared.Outcome.{Outcome}
 use Rattle.cec_wire.specs.Round.{close_in}
 use Rattle.cec_asm.specs.declared.script.TimedEvent.{TimedEvent}
 use Rattle.cec_asm.specs.Script.{IsSchedule}
-use Rattle.cec_net.specs.declared.event.Event.{Event}
-use Rattle.cec_net.specs.declared.event.Event.TheVariants.{Plug, Unplug, Key, Send}
-use Rattle.cec_net.specs.declared.event.EventError.{EventError}
+use Rattle.cec_event.specs.declared.event.Event.{Event}
+use Rattle.cec_event.specs.declared.event.Event.TheVariants.{Plug, Unplug, Key, Send}
+use Rattle.cec_event.specs.declared.event.EventError.{EventError}
 use Rattle.cec_net.specs.State.{NetState, next_start}
 use Rattle.cec_net.specs.Apply.{applied, applied_unless, event_fault}
 use Rattle.cec_net.specs.Progress.{IsProgress}

@@ -1,6 +1,6 @@
 -- Why a run has few rounds.
 use Rattle.std.proofs.Common.{◌≡◌, ℕ, zero, suc, ◌+◌, Bool, true, false, List, [], ◌∷◌, length, Option, Some, None, refl, sym, ap, ◌∙◌, subst, arith}
-use Rattle.cec_net.specs.declared.event.EventError.{EventError}
+use Rattle.cec_event.specs.declared.event.EventError.{EventError}
 use Rattle.cec_net.specs.State.{NetState, started}
 use Rattle.cec_net.specs.Line.{Move, Happens, Goes, Moves, rounds_of}
 use Rattle.cec_net.specs.Few.{BeginBefore}

@@ -8,8 +8,8 @@ use Rattle.cec_asm.specs.declared.script.TimedEvent.{TimedEvent}
 use Rattle.cec_run.specs.declared.run.Telling.TheVariants.{Edges}
 use Rattle.cec_run.specs.declared.run.Turn.{Turn}
 use Rattle.cec_run.specs.declared.run.Turn.TheVariants.{Stop, Apply, Round}
-use Rattle.cec_run.specs.EdgeText.{stretch_lines, edge_lines}
-use Rattle.cec_run.specs.TraceText.{end_line}
+use Rattle.cec_trace.specs.EdgeText.{stretch_lines, edge_lines}
+use Rattle.cec_trace.specs.TraceText.{end_line}
 use Rattle.cec_run.specs.Run.{Config, start, turn_at, IsEventTurn, IsTurnBy, Leads}
 use Rattle.cec_run.specs.RunLine.{rounds_by, rounds_in, EdgesAreTheLine}
 use Rattle.cec_run.proofs.Lines.{runs_read}

@@ -13,7 +13,7 @@ use Rattle.cec_run.specs.declared.emulate.EmulateError.{EmulateError}
 use Rattle.cec_run.specs.declared.emulate.EmulateError.TheVariants.{Topology, Script, Edid, Write, Memory}
 use Rattle.cec_run.specs.declared.run.Totals.{Totals}
 use Rattle.cec_words.specs.Cut.{told_count}
-use Rattle.cec_run.specs.Root.{IsRoot, IsNoRoot}
+use Rattle.cec_trace.specs.Root.{IsRoot, IsNoRoot}
 use Rattle.cec_run.specs.declared.run.Telling.TheVariants.{Edges}
 use Rattle.cec_run.specs.Run.{start, IsRunText, IsTrace}
 

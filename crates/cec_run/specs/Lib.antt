@@ -1,8 +1,3 @@
-pub mod StateText
-pub mod TraceText
-pub mod PortText
-pub mod EdgeText
-pub mod Root
 pub mod Run
 pub mod Emulate
 pub mod RunLine

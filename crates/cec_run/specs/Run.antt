@@ -8,7 +8,7 @@ use Rattle.cec_net.specs.State.{NetState, next_start}
 use Rattle.cec_net.specs.Apply.{applied, event_fault}
 use Rattle.cec_net.specs.Step.{IsNextRound}
 use Rattle.cec_net.specs.Progress.{IsProgress}
-use Rattle.cec_net.specs.declared.event.EventError.{EventError}
+use Rattle.cec_event.specs.declared.event.EventError.{EventError}
 use Rattle.hdmi_core.specs.declared.sink.WriteFault.{WriteFault}
 use Rattle.cec_asm.specs.declared.script.TimedEvent.{TimedEvent}
 use Rattle.cec_run.specs.declared.run.Totals.{Totals}
@@ -18,14 +18,14 @@ use Rattle.cec_run.specs.declared.run.Turn.{Turn}
 use Rattle.cec_run.specs.declared.run.Turn.TheVariants.{Stop, Apply, Round}
 use Rattle.hdmi_blocks.specs.declared.edid.Edid.{Edid}
 use Rattle.hdmi_topo.specs.Path.{is_on_wire}
-use Rattle.cec_run.specs.StateText.{state_line}
-use Rattle.cec_run.specs.PortText.{port_lines}
+use Rattle.cec_trace.specs.StateText.{state_line}
+use Rattle.cec_trace.specs.PortText.{port_lines}
 use Rattle.cec_device.specs.State.{State}
 use Rattle.cec_words.specs.Cut.{WrittenText}
 use Rattle.cec_text.specs.ReadingText.{is_complete}
-use Rattle.cec_run.specs.TraceText.{event_line, round_line, end_line}
-use Rattle.cec_run.specs.EdgeText.{edge_lines}
-use Rattle.cec_run.specs.Root.{HasAddress}
+use Rattle.cec_trace.specs.TraceText.{event_line, round_line, end_line}
+use Rattle.cec_trace.specs.EdgeText.{edge_lines}
+use Rattle.cec_trace.specs.Root.{HasAddress}
 
 -- where a run stands: the network, the events that are left, and what is counted so far
 pub record Config : Type 0 where

@@ -15,8 +15,8 @@ use Rattle.cec_run.specs.declared.run.Turn.{Turn}
 use Rattle.cec_run.specs.declared.run.Turn.TheVariants.{Stop, Apply, Round}
 use Rattle.cec_run.specs.declared.run.Telling.{Telling}
 use Rattle.cec_run.specs.declared.run.Telling.TheVariants.{Edges}
-use Rattle.cec_run.specs.EdgeText.{edge_lines}
-use Rattle.cec_run.specs.TraceText.{end_line}
+use Rattle.cec_trace.specs.EdgeText.{edge_lines}
+use Rattle.cec_trace.specs.TraceText.{end_line}
 use Rattle.cec_run.specs.declared.run.Totals.{Totals}
 use Rattle.cec_run.specs.Run.{Config, start, turn_at, IsTurnBy, Leads, IsRunText}
 

@@ -4,11 +4,11 @@ ghost use Rattle.std.specs.Io.KnownBytes.{Appends};
 ghost use Rattle.cec_run.specs.Emulate.{IsEdgeTraceOf, IsTold, IsEdgeCut, is_write};
 
 use crate::emulate::EmulateError;
-use crate::root::root_of;
 use crate::run::{Telling, Totals, run};
 use cec_asm::{parse_script, parse_topology};
 use cec_edges::EdgeWire;
 use cec_net::Net;
+use cec_trace::root_of;
 use hdmi_core::Sink;
 use std::alloc::Global;
 

@@ -3,13 +3,13 @@ ghost use Rattle.std.specs.Prelude.{◌≡◌, ℕ, List, ◌↔◌, true, false
 ghost use Rattle.std.specs.Io.KnownBytes.{Appends};
 ghost use Rattle.cec_run.specs.Emulate.{IsTraceOf, IsTold, IsCut, is_write};
 
-use crate::root::{EdidCause, root_of};
 use crate::run::{Telling, Totals, run};
 use cec_asm::{
     ScriptCause, ScriptError, TopologyCause, TopologyError, parse_script, parse_topology,
 };
 use cec_edges::EdgeWire;
 use cec_net::Net;
+use cec_trace::{EdidCause, root_of};
 use hdmi_core::Sink;
 use std::alloc::Global;
 use thiserror::Error;

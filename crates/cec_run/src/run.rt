@@ -6,23 +6,23 @@ ghost use Rattle.hdmi_core.specs.Written.{WrittenLine};
 ghost use Rattle.cec_asm.specs.Script.{IsSchedule};
 ghost use Rattle.cec_net.specs.State.{next_start};
 ghost use Rattle.cec_run.specs.declared.run.Totals.{Totals as TotalsRecord};
-ghost use Rattle.cec_net.specs.Apply.{NamesDevices, applied, event_fault};
+ghost use Rattle.cec_event.specs.Events.{NamesDevices};
+ghost use Rattle.cec_net.specs.Apply.{applied, event_fault};
 ghost use Rattle.cec_words.specs.Cut.{CutOff, WrittenText, told_count};
-ghost use Rattle.cec_run.specs.StateText.{state_line};
+ghost use Rattle.cec_trace.specs.StateText.{state_line};
 ghost use Rattle.cec_text.specs.ReadingText.{is_complete};
-ghost use Rattle.cec_run.specs.TraceText.{event_line, end_line};
-ghost use Rattle.cec_run.specs.Root.{HasAddress};
+ghost use Rattle.cec_trace.specs.TraceText.{event_line, end_line};
+ghost use Rattle.cec_trace.specs.Root.{HasAddress};
 ghost use Rattle.cec_run.specs.Run.{HasAddressTold, IsRunText, IsRunTextFrom, RoundWritten, counted_event, counted_round, end_told, event_text, event_told, event_turn, first_time, round_told, round_turn, start, start_told, turn_of};
 
-use crate::edge_text::write_edges;
-use crate::port_text::{on_wire, write_ports};
-use crate::round_text::write_round;
-use crate::state_text::write_state;
-use crate::trace_text::{write_end, write_event};
 use cec_asm::TimedEvent;
 use cec_device::Device;
+use cec_event::EventError;
 use cec_frame::Ending;
-use cec_net::{EventError, Net};
+use cec_net::Net;
+use cec_trace::{
+    on_wire, write_edges, write_end, write_event, write_ports, write_round, write_state,
+};
 use cec_wire::{Outcome, Wire};
 use cec_words::{counted, cut_at};
 use hdmi_blocks::Edid;

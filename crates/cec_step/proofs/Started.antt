@@ -8,9 +8,9 @@ use Rattle.hdmi_blocks.specs.Address.{edid_address}
 use Rattle.hdmi_blocks.specs.Bytes.{edid_bytes, IsRefused}
 use Rattle.hdmi_blocks.specs.declared.edid.Edid.{Edid}
 use Rattle.hdmi_blocks.proofs.OneEdid.{not_refused, one_edid}
-use Rattle.cec_run.specs.Root.{HasAddress, IsNoRoot, IsRoot}
-use Rattle.cec_run.specs.declared.root.EdidCause.{EdidCause}
-use Rattle.cec_run.specs.declared.root.EdidCause.TheVariants.{Edid as OfEdid, NoHdmiBlock}
+use Rattle.cec_trace.specs.Root.{HasAddress, IsNoRoot, IsRoot}
+use Rattle.cec_trace.specs.declared.root.EdidCause.{EdidCause}
+use Rattle.cec_trace.specs.declared.root.EdidCause.TheVariants.{Edid as OfEdid, NoHdmiBlock}
 use Rattle.cec_asm.specs.declared.script.TimedEvent.{TimedEvent}
 use Rattle.cec_step.specs.Steps.{Point, Run, Steps}
 use Rattle.cec_step.specs.Ready.{IsReady}

@@ -4,7 +4,7 @@ use Rattle.cec_wire.specs.declared.Outcome.{Outcome}
 use Rattle.hdmi_core.specs.declared.sink.WriteFault.{WriteFault}
 use Rattle.cec_words.specs.Cut.{WrittenText}
 use Rattle.cec_device.specs.State.{State}
-use Rattle.cec_run.specs.StateText.{state_line}
+use Rattle.cec_trace.specs.StateText.{state_line}
 use Rattle.cec_step.specs.declared.break_at.Break.{Break}
 use Rattle.cec_step.specs.declared.stepper.StepError.{StepError}
 use Rattle.cec_step.specs.declared.stepper.StepError.TheVariants.{Ended, Write}

@@ -4,7 +4,7 @@ use Rattle.cec_wire.specs.declared.Outcome.{Outcome}
 use Rattle.cec_asm.specs.declared.script.TimedEvent.{TimedEvent}
 use Rattle.cec_net.specs.State.{NetState}
 use Rattle.cec_net.specs.Apply.{applied, event_fault}
-use Rattle.cec_net.specs.declared.event.EventError.{EventError}
+use Rattle.cec_event.specs.declared.event.EventError.{EventError}
 use Rattle.cec_text.specs.ReadingText.{is_complete}
 use Rattle.hdmi_blocks.specs.declared.edid.Edid.{Edid}
 use Rattle.cec_run.specs.declared.run.Telling.{Telling}
@@ -13,7 +13,7 @@ use Rattle.cec_run.specs.declared.run.Totals.{Totals}
 use Rattle.cec_run.specs.declared.run.Turn.{Turn}
 use Rattle.cec_run.specs.declared.run.Turn.TheVariants.{Stop, Apply, Round}
 use Rattle.cec_run.specs.Run.{Config, IsRunTextFrom, IsTrace, IsTurn, Leads, counted_event, counted_round, end_told, event_text, start, start_told, turn_of}
-use Rattle.cec_run.specs.TraceText.{round_line}
+use Rattle.cec_trace.specs.TraceText.{round_line}
 use Rattle.cec_run.proofs.Turns.{front_of_text}
 use Rattle.cec_run.proofs.Running.{event_turn_is, round_turn_is}
 use Rattle.cec_step.specs.Steps.{IsOver, IsRoundStep, Point, Run, passed, passed_by, passed_from, passed_text, passed_text_from, start_by, start_text, step_text, text_by}

@@ -7,7 +7,7 @@ use Rattle.hdmi_core.specs.declared.sink.WriteFault.{WriteFault}
 use Rattle.hdmi_blocks.specs.declared.edid.Edid.{Edid as EdidValue}
 use Rattle.cec_words.specs.Cut.{CutOff, WrittenText}
 use Rattle.cec_run.specs.Emulate.{IsAccepted, IsTold, is_write as is_run_write}
-use Rattle.cec_run.specs.Root.{IsRoot}
+use Rattle.cec_trace.specs.Root.{IsRoot}
 use Rattle.cec_run.specs.declared.emulate.EmulateError.TheVariants as faults
 use Rattle.cec_step.specs.declared.commands.Command.{Command}
 use Rattle.cec_step.specs.declared.commands.Command.TheVariants.{Edge, Round, Until, Show}

@@ -20,9 +20,9 @@ use Rattle.cec_text.specs.ReadingText.{is_complete}
 use Rattle.cec_run.specs.declared.run.Turn.{Turn}
 use Rattle.cec_run.specs.declared.run.Turn.TheVariants.{Stop, Apply, Round}
 use Rattle.cec_run.specs.Run.{turn_of, first_time, event_text}
-use Rattle.cec_run.specs.PortText.{port_lines}
-use Rattle.cec_run.specs.TraceText.{round_line}
-use Rattle.cec_run.specs.StateText.{state_line}
+use Rattle.cec_trace.specs.PortText.{port_lines}
+use Rattle.cec_trace.specs.TraceText.{round_line}
+use Rattle.cec_trace.specs.StateText.{state_line}
 use Rattle.cec_step.specs.declared.break_at.Break.{Break}
 use Rattle.cec_step.specs.declared.break_at.Break.TheVariants.{Opcode, Device, AnyBreak}
 use Rattle.cec_step.specs.declared.stepper.StepError.{StepError}

@@ -4,7 +4,7 @@ ghost use Rattle.cec_net.specs.Underway.{OfRound, standing_told};
 ghost use Rattle.cec_step.specs.EdgeText.{edge_line};
 ghost use Rattle.cec_words.specs.Cut.{WrittenText};
 ghost use Rattle.cec_run.specs.declared.run.Turn.TheVariants.{Apply, Round, Stop};
-ghost use Rattle.cec_run.specs.Root.{HasAddress};
+ghost use Rattle.cec_trace.specs.Root.{HasAddress};
 ghost use Rattle.cec_step.specs.Ready.{Begins, Brings, IsReady, Passes, first_text, point_of};
 ghost use Rattle.cec_step.specs.Steps.{IsOver, IsRoundStep, passed, passed_text, start_text, turn_at};
 
@@ -13,7 +13,8 @@ use crate::parts::behind;
 use cec_asm::TimedEvent;
 use cec_edges::EdgeWire;
 use cec_net::{Net, RoundReport};
-use cec_run::{Totals, Turn, apply_event, first_time, next_turn, write_ports};
+use cec_run::{Totals, Turn, apply_event, first_time, next_turn};
+use cec_trace::write_ports;
 use cec_wave::Edge;
 use cec_words::{counted, cut_at};
 use hdmi_blocks::Edid;

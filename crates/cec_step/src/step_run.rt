@@ -10,7 +10,7 @@ use crate::parts::whole;
 use crate::stepper::{StepError, Stepper};
 use cec_asm::{parse_script, parse_topology};
 use cec_run::emulate::EmulateError;
-use cec_run::root_of;
+use cec_trace::root_of;
 use cec_words::{counted, cut_at};
 use hdmi_core::{Piece, Sink, WriteFault, write_line};
 use std::alloc::Global;

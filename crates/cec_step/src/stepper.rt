@@ -1,7 +1,7 @@
 //! The stepper.
 ghost use Rattle.std.specs.Prelude.{◌≡◌, ℕ, ◌++◌, Bool, List, Option, Result, Some, IsSome, length};
 ghost use Rattle.cec_words.specs.Cut.{WrittenText};
-ghost use Rattle.cec_run.specs.Root.{HasAddress};
+ghost use Rattle.cec_trace.specs.Root.{HasAddress};
 ghost use Rattle.cec_step.specs.Ready.{IsReady, point_of, run_of};
 ghost use Rattle.cec_step.specs.Steps.{step_text};
 ghost use Rattle.cec_step.specs.declared.stepper.StepError.TheVariants.{Write};
@@ -12,7 +12,7 @@ use crate::position::{Course, Position};
 use cec_asm::{Script, Topology};
 use cec_edges::EdgeWire;
 use cec_net::Net;
-use cec_run::{root_of, write_round, write_state};
+use cec_trace::{root_of, write_round, write_state};
 use cec_wire::Outcome;
 use hdmi_core::{Sink, WriteFault};
 use std::alloc::{AllocError, Global};
@@ -53,7 +53,7 @@ struct Found {
 }
 
 impl Model for Stepper {
-    ghost use Rattle.cec_run.specs.Root.{HasAddress};
+    ghost use Rattle.cec_trace.specs.Root.{HasAddress};
     ghost use Rattle.cec_step.specs.Ready.{InsideIf, IsReady, begun_in, point_of, run_of};
     ghost use Rattle.cec_step.specs.Steps.{Steps};
 
@@ -96,7 +96,7 @@ impl Stepper {
     ghost use Rattle.std.specs.Option.{option_map};
     ghost use Rattle.cec_asm.specs.Script.{IsScript, course_of};
     ghost use Rattle.hdmi_blocks.specs.declared.edid.Edid.{Edid};
-    ghost use Rattle.cec_run.specs.Root.{IsRoot as IsRootOf};
+    ghost use Rattle.cec_trace.specs.Root.{IsRoot as IsRootOf};
     ghost use Rattle.cec_net.specs.State.{started};
     ghost use Rattle.cec_step.specs.Ready.{Brings, IsFound, IsInside};
     ghost use Rattle.cec_step.specs.Steps.{IsEdgeStep, IsNever, IsNoEdge, IsOver, IsRound, IsRoundStep, IsTaken, IsUntil, IsFirstStep, IsShown, Skips, after_round, begun_at, device_count, in_round, is_write, shown_net};

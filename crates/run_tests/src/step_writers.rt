@@ -4,9 +4,9 @@ ghost use Rattle.cec_asm.specs.Script.{IsScript, course_of};
 
 use cec_asm::{Script, Topology, parse_script, parse_topology};
 use cec_run::emulate::EmulateError;
-use cec_run::root_of;
 use cec_step::step_run::{StepRunError, step_run};
 use cec_step::{Break, StepError, Stepper};
+use cec_trace::root_of;
 use hdmi_core::Writes;
 use std::alloc::Global;
 use std::io::{self, ErrorKind, Write};

@@ -1,5 +1,5 @@
 use Rattle.std.proofs.Common.{◌≡◌, max, rules}
-use Rattle.cec_run.specs.TraceText.{end_line}
+use Rattle.cec_trace.specs.TraceText.{end_line}
 use Rattle.cec_run.proofs.run.write_end_told.Goals as goal
 
 pub returns-in-Edges : goal.returns-in-Edges

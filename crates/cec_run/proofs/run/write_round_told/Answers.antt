@@ -1,4 +1,4 @@
-use Rattle.cec_run.specs.TraceText.{round_line}
+use Rattle.cec_trace.specs.TraceText.{round_line}
 use Rattle.cec_run.proofs.run.write_round_told.Goals as goal
 
 pub returns-in-Trace : goal.returns-in-Trace

@@ -1,7 +1,7 @@
 use Rattle.std.proofs.Common.{rules, ◌≡◌, get_or, ◌∙◌}
 use Rattle.hdmi_core.proofs.CutShort.{Appends-trans}
 use Rattle.cec_words.proofs.Cutting.{cut_part, more_parts, more_count}
-use Rattle.cec_run.specs.StateText.{state_line}
+use Rattle.cec_trace.specs.StateText.{state_line}
 use Rattle.cec_run.proofs.run.write_states.Goals as goal
 
 pub loop-device-preserved : goal.loop-device-preserved

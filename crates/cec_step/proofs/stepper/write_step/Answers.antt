@@ -3,7 +3,7 @@ use Rattle.cec_step.specs.Ready.{point_of}
 use Rattle.cec_step.specs.Steps.{passed_text, start_text}
 use Rattle.hdmi_core.specs.Written.{WrittenLine}
 use Rattle.cec_device.specs.State.{State}
-use Rattle.cec_run.specs.TraceText.{round_line}
+use Rattle.cec_trace.specs.TraceText.{round_line}
 use Rattle.cec_step.proofs.stepper.write_step.Goals as goal
 
 pub returns-in-Ok : goal.returns-in-Ok

@@ -3,7 +3,7 @@ use Rattle.std.specs.Option.{option_map}
 use Rattle.hdmi_blocks.specs.declared.edid.Edid.{Edid}
 use Rattle.cec_asm.specs.Script.{course_of}
 use Rattle.cec_net.specs.State.{started}
-use Rattle.cec_run.specs.Root.{IsRoot}
+use Rattle.cec_trace.specs.Root.{IsRoot}
 use Rattle.cec_step.specs.Ready.{IsReady, point_of}
 use Rattle.cec_step.specs.declared.position.Position.{Position}
 use Rattle.cec_step.proofs.Started.{begins_with, has_address, no_root_refused, ready_start, stepper_at}

@@ -2,7 +2,7 @@ use Rattle.std.proofs.Common.{◌∙◌, ◌||◌, Err, ap, sym, slice_get}
 use Rattle.cec_step.specs.Steps.{is_write}
 use Rattle.cec_step.specs.declared.stepper.StepError.{StepError}
 use Rattle.cec_net.specs.State.{NetState}
-use Rattle.cec_run.specs.StateText.{state_line}
+use Rattle.cec_trace.specs.StateText.{state_line}
 use Rattle.cec_step.proofs.Taken.{shown_cut, shown_told}
 use Rattle.cec_step.proofs.stepper.Stepper.show.Goals as goal
 

@@ -1,0 +1,16 @@
+-- What holds of an event (own).
+use Rattle.std.specs.Prelude.{ℕ, ◌<◌, length}
+use Rattle.cec_event.specs.declared.event.Event.{Event}
+use Rattle.cec_event.specs.declared.event.Event.TheVariants.{Plug, Unplug, Key, Send}
+
+-- the devices that an event names are among so many
+abbrev pub NamesDevices : ℕ → Event → Type 0
+NamesDevices count (Plug child parent port) = (child < count) × (parent < count)
+NamesDevices count (Unplug child) = child < count
+NamesDevices count (Key device key press) = device < count
+NamesDevices count (Send device frame) = device < count
+
+-- a frame that is handed in has a block at least
+abbrev pub IsFramedEvent : Event → Type 0
+IsFramedEvent (Send device frame) = 0 < length frame
+IsFramedEvent _ = Unit {0}

@@ -1,0 +1,115 @@
+//! What happens to the network from outside.
+use cec_device::{KeyError, SubmitError};
+use cec_feature::Key;
+use cec_frame::Frame;
+use hdmi_topo::{PlugError, UnplugError};
+
+/// An event of a script. Devices go by their numbers.
+#[derive(Drop)]
+pub enum Event {
+    /// A device is plugged into a port of another one.
+    Plug {
+        child: usize,
+        parent: usize,
+        port: u8,
+    },
+    /// A device is unplugged.
+    Unplug {
+        child: usize,
+    },
+    /// A key is pressed or released.
+    Key {
+        device: usize,
+        key: Key,
+        press: bool,
+    },
+    /// A device is given a frame to send.
+    Send {
+        device: usize,
+        frame: Frame,
+    },
+}
+
+impl Event {
+    ghost use Rattle.std.specs.Prelude.{◌≡◌};
+
+    /// The same event again.
+    pub fn copy(&self) -> Self
+        ensures { result ≡ self.now }
+    {
+        match self {
+            Event::Plug {
+                child,
+                parent,
+                port,
+            } => Event::Plug {
+                child: *child,
+                parent: *parent,
+                port: *port,
+            },
+            Event::Unplug { child } => Event::Unplug { child: *child },
+            Event::Key { device, key, press } => Event::Key {
+                device: *device,
+                key: *key,
+                press: *press,
+            },
+            Event::Send { device, frame } => Event::Send {
+                device: *device,
+                frame: frame.copy(),
+            },
+        }
+    }
+}
+
+/// Why an event is refused.
+#[derive(Clone, Copy, PartialEq, Eq)]
+pub enum EventError {
+    Plug(PlugError),
+    Unplug(UnplugError),
+    Key(KeyError),
+    Send(SubmitError),
+}
+
+impl From<PlugError> for EventError {
+    ghost use Rattle.std.specs.Prelude.{◌≡◌};
+    ghost use Rattle.cec_event.specs.declared.event.EventError.TheVariants.{Plug};
+
+    ghost from_gives = { λ error given. given ≡ Plug error };
+
+    fn from(error: PlugError) -> Self {
+        EventError::Plug(error)
+    }
+}
+
+impl From<UnplugError> for EventError {
+    ghost use Rattle.std.specs.Prelude.{◌≡◌};
+    ghost use Rattle.cec_event.specs.declared.event.EventError.TheVariants.{Unplug};
+
+    ghost from_gives = { λ error given. given ≡ Unplug error };
+
+    fn from(error: UnplugError) -> Self {
+        EventError::Unplug(error)
+    }
+}
+
+impl From<KeyError> for EventError {
+    ghost use Rattle.std.specs.Prelude.{◌≡◌};
+    ghost use Rattle.cec_event.specs.declared.event.EventError.TheVariants.{Key};
+
+    ghost from_gives = { λ error given. given ≡ Key error };
+
+    fn from(error: KeyError) -> Self {
+        EventError::Key(error)
+    }
+}
+
+impl From<SubmitError> for EventError {
+    ghost use Rattle.std.specs.Prelude.{◌≡◌};
+    ghost use Rattle.cec_event.specs.declared.event.EventError.TheVariants.{Send};
+
+    ghost from_gives = { λ error given. given ≡ Send error };
+
+    fn from(error: SubmitError) -> Self {
+        EventError::Send(error)
+    }
+}

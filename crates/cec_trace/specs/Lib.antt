@@ -1,0 +1,5 @@
+pub mod StateText
+pub mod TraceText
+pub mod PortText
+pub mod EdgeText
+pub mod Root

@@ -1,0 +1,119 @@
+//! The line of a round.
+ghost use Rattle.std.specs.Prelude.{◌≡◌, ℕ, ◌+◌, ◌*◌, ◌-◌, ◌<◌, ◌≤◌, ◌++◌, length, map};
+ghost use Rattle.std.specs.List.{flat_map};
+ghost use Rattle.arrayvec.specs.ArrayVec.{array_vec_len};
+ghost use Rattle.hdmi_core.specs.Piece.{piece_text};
+ghost use Rattle.hdmi_core.specs.Written.{WrittenLine};
+ghost use Rattle.cec_trace.specs.TraceText.{listed, loser_text, name_at, round_line, round_line_of};
+
+use crate::line::{PARTS, add};
+use arrayvec::ArrayVec;
+use cec_device::Device;
+use cec_text::{ending_word, reading_told, reading_verdict};
+use cec_wire::{Loser, Outcome};
+use hdmi_core::{Piece, Sink, WriteFault, write_line};
+
+// Adds the name of a device.
+fn add_name<'a>(line: &mut ArrayVec<Piece<'a>, PARTS>, devices: &'a [Device<16>], number: usize)
+    requires room { array_vec_len line.old < 128 }
+    ensures text { flat_map piece_text line.new.items ≡ flat_map piece_text line.old.items ++ name_at devices.now number }
+    ensures len { array_vec_len line.new ≡ array_vec_len line.old + 1 }
+{
+    match devices.get(number) {
+        Some(device) => add(line, Piece::Bytes(device.name())),
+        None => add(line, Piece::Text("")),
+    }
+}
+
+// Adds the names of devices.
+fn add_names<'a>(
+    line: &mut ArrayVec<Piece<'a>, PARTS>,
+    devices: &'a [Device<16>],
+    numbers: &[usize],
+)
+    requires room { array_vec_len line.old + 2 * length numbers.now + 1 ≤ 128 }
+    ensures text { flat_map piece_text line.new.items ≡ flat_map piece_text line.old.items ++ listed (map (name_at devices.now) numbers.now) }
+    ensures len { array_vec_len line.new ≤ array_vec_len line.old + 2 * length numbers.now + 1 }
+{
+    let Some((first, others)) = numbers.split_first() else {
+        add(line, Piece::Text("-"));
+        return;
+    };
+    add_name(line, devices, *first);
+    for number in others {
+        add(line, Piece::Text(","));
+        add_name(line, devices, *number);
+    }
+}
+
+// Adds the name of a device, and the slot at which it was out.
+fn add_loser<'a>(line: &mut ArrayVec<Piece<'a>, PARTS>, devices: &'a [Device<16>], loser: Loser)
+    requires room { array_vec_len line.old + 3 ≤ 128 }
+    ensures text { flat_map piece_text line.new.items ≡ flat_map piece_text line.old.items ++ loser_text devices.now loser }
+    ensures len { array_vec_len line.new ≡ array_vec_len line.old + 3 }
+{
+    add_name(line, devices, loser.seat);
+    add(line, Piece::Text("@"));
+    add(line, Piece::Decimal(loser.slot as u64));
+}
+
+// Adds the devices that were out, each with its slot.
+fn add_losers<'a>(
+    line: &mut ArrayVec<Piece<'a>, PARTS>,
+    devices: &'a [Device<16>],
+    losers: &[Loser],
+)
+    requires room { array_vec_len line.old + 4 * length losers.now + 1 ≤ 128 }
+    ensures text { flat_map piece_text line.new.items ≡ flat_map piece_text line.old.items ++ listed (map (loser_text devices.now) losers.now) }
+    ensures len { array_vec_len line.new ≤ array_vec_len line.old + 4 * length losers.now + 1 }
+{
+    let Some((first, others)) = losers.split_first() else {
+        add(line, Piece::Text("-"));
+        return;
+    };
+    add_loser(line, devices, *first);
+    for loser in others {
+        add(line, Piece::Text(","));
+        add_loser(line, devices, *loser);
+    }
+}
+
+// Writes a round's line, from what its reading tells and the verdict.
+fn write_round_of<'a, S: Sink>(
+    out: &mut S,
+    devices: &'a [Device<16>],
+    outcome: &'a Outcome,
+    told: &'a [u8],
+    verdict: &'a str,
+) -> Result<u128, WriteFault>
+    ensures { WrittenLine (S.contents out.old) (S.contents out.new) (S.is_stuck out.old) (S.is_stuck out.new)
+        (round_line_of devices.now outcome.now told.now verdict.now) result }
+{
+    let mut line = ArrayVec::new();
+    add(&mut line, Piece::Decimal(outcome.reading.begin));
+    add(&mut line, Piece::Text(" "));
+    add(&mut line, Piece::Decimal(outcome.reading.at));
+    add(&mut line, Piece::Text(ending_word(outcome.reading.ending)));
+    add(&mut line, Piece::Bytes(told));
+    add(&mut line, Piece::Text(verdict));
+    add(&mut line, Piece::Text(" by "));
+    add_names(&mut line, devices, &outcome.survivors);
+    add(&mut line, Piece::Text(" out "));
+    add_losers(&mut line, devices, &outcome.losers);
+    add(&mut line, Piece::Text("\n"));
+    write_line(out, &line)
+}
+
+/// Writes the line of a round.
+pub fn write_round<S: Sink>(
+    out: &mut S,
+    devices: &[Device<16>],
+    outcome: &Outcome,
+) -> Result<u128, WriteFault>
+    ensures { WrittenLine (S.contents out.old) (S.contents out.new) (S.is_stuck out.old) (S.is_stuck out.new)
+        (round_line devices.now outcome.now) result }
+{
+    let told = reading_told(&outcome.reading);
+    let verdict = reading_verdict(&outcome.reading);
+    write_round_of(out, devices, outcome, &told, verdict)
+}

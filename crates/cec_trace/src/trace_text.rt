@@ -1,0 +1,99 @@
+//! The lines of a trace that tell events, and its last one.
+ghost use Rattle.std.specs.Prelude.{◌≡◌};
+ghost use Rattle.hdmi_core.specs.Written.{WrittenLine};
+ghost use Rattle.cec_trace.specs.TraceText.{end_line, error_word, event_line, key_word, plug_word, submit_word, unplug_word};
+
+use cec_device::{KeyError, SubmitError};
+use cec_event::EventError;
+use hdmi_core::{Piece, Sink, WriteFault, write_line};
+use hdmi_topo::{PlugError, UnplugError};
+
+fn plug_word(error: PlugError) -> &'static str
+    ensures { result.now ≡ plug_word error }
+{
+    match error {
+        PlugError::PortRange => "port-range",
+        PlugError::PortTaken => "port-taken",
+        PlugError::NotLoose => "not-loose",
+        PlugError::Loop => "loop",
+    }
+}
+
+fn unplug_word(error: UnplugError) -> &'static str
+    ensures { result.now ≡ unplug_word error }
+{
+    match error {
+        UnplugError::NotPlugged => "not-plugged",
+    }
+}
+
+fn key_word(error: KeyError) -> &'static str
+    ensures { result.now ≡ key_word error }
+{
+    match error {
+        KeyError::NotForKind => "not-for-kind",
+        KeyError::OffWire => "off-wire",
+    }
+}
+
+fn submit_word(error: SubmitError) -> &'static str
+    ensures { result.now ≡ submit_word error }
+{
+    match error {
+        SubmitError::QueueFull => "queue-full",
+        SubmitError::OwnAddress => "own-address",
+        SubmitError::NoAddress => "no-address",
+        SubmitError::OffWire => "off-wire",
+    }
+}
+
+fn error_word(error: EventError) -> &'static str
+    ensures { result.now ≡ error_word error }
+{
+    match error {
+        EventError::Plug(error) => plug_word(error),
+        EventError::Unplug(error) => unplug_word(error),
+        EventError::Key(error) => key_word(error),
+        EventError::Send(error) => submit_word(error),
+    }
+}
+
+/// Writes the line of an event: when it was applied, its line in the script, and why it was refused.
+pub fn write_event<S: Sink>(
+    out: &mut S,
+    at: u64,
+    line: u64,
+    refused: Option<EventError>,
+) -> Result<u128, WriteFault>
+    ensures { WrittenLine (S.contents out.old) (S.contents out.new) (S.is_stuck out.old) (S.is_stuck out.new) (event_line at line refused) result }
+{
+    match refused {
+        None => write_line(
+            out,
+            &[
+                Piece::Decimal(at),
+                Piece::Text(" event "),
+                Piece::Decimal(line),
+                Piece::Text(" ok\n"),
+            ],
+        ),
+        Some(error) => write_line(
+            out,
+            &[
+                Piece::Decimal(at),
+                Piece::Text(" event "),
+                Piece::Decimal(line),
+                Piece::Text(" refused "),
+                Piece::Text(error_word(error)),
+                Piece::Text("\n"),
+            ],
+        ),
+    }
+}
+
+/// Writes the last line.
+pub fn write_end<S: Sink>(out: &mut S, end: u64) -> Result<u128, WriteFault>
+    ensures { WrittenLine (S.contents out.old) (S.contents out.new) (S.is_stuck out.old) (S.is_stuck out.new) (end_line end) result }
+{
+    write_line(out, &[Piece::Decimal(end), Piece::Text(" end\n")])
+}
