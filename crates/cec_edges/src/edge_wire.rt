@@ -16,11 +16,11 @@ use cec_wire::{
 /// A round as far as it was heard: everything before `time`.
 #[derive(Debug, Drop)]
 pub struct EdgeWire {
-    pub(crate) seats: ArrayVec<Seat, 15>,
+    seats: ArrayVec<Seat, 15>,
     begin: u64,
-    pub(crate) pulses: ArrayVec<Stretch, 24>,
-    pub(crate) time: u64,
-    pub(crate) bits: ArrayVec<bool, 160>,
+    pulses: ArrayVec<Stretch, 24>,
+    time: u64,
+    bits: ArrayVec<bool, 160>,
     /// The seats that go on sending, by these bits: they alone are asked who pulls.
     sending: ArrayVec<Seat, 15>,
     /// What they do, for as long as that lasts.

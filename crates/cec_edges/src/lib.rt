@@ -7,6 +7,3 @@ mod listeners;
 
 pub use edge_wire::EdgeWire;
 pub use laws::receivers_stand;
-
-#[cfg(test)]
-mod tests;

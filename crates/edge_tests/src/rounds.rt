@@ -1,21 +1,16 @@
 //! Rounds whose outcome was worked out by hand.
-ghost use Rattle.std.specs.Prelude.{◌≡◌, ◌==◌, ◌≤◌, length, is_some, IsTrue};
+ghost use Rattle.std.specs.Prelude.{◌≡◌, ◌==◌, ◌≤◌, length, is_some};
 ghost use Rattle.std.specs.List.{list_any};
-ghost use Rattle.cec_wave.specs.Pulses.{AreSparse};
 ghost use Rattle.cec_wire.specs.Lasting.{is_begun};
-ghost use Rattle.cec_edges.specs.Wired.{IsBegun, IsNext, Listens};
 
-use crate::EdgeWire;
 use arrayvec::ArrayVec;
+use cec_edges::EdgeWire;
 use cec_frame::{Addr, Frame};
-use cec_wave::{Edge, Pulses, Stretch};
+use cec_wave::{Pulses, Stretch};
 use cec_wire::{Loser, Outcome, Seat, Wire};
 use std::alloc::Global;
 use std::process::Abort;
 use std::test::Fail;
-
-mod plainly;
-mod standing;
 
 // ---- seats, pulses and outcomes as texts
 
@@ -64,7 +59,7 @@ fn seat_of(word: &str) -> Result<Seat, Fail> {
     })
 }
 
-fn seats_of(words: &str) -> Result<ArrayVec<Seat, 15>, Fail> {
+pub(crate) fn seats_of(words: &str) -> Result<ArrayVec<Seat, 15>, Fail> {
     let mut seats = ArrayVec::new();
     for word in words.split(' ') {
         let _ = seats.try_push(seat_of(word)?);
@@ -84,7 +79,7 @@ fn pulse_of(text: &str) -> Result<Stretch, Fail> {
 }
 
 // The bits read so far, or a dash.
-fn bits_text(alloc: Global, bits: &[bool]) -> Result<String, Fail> {
+pub(crate) fn bits_text(alloc: Global, bits: &[bool]) -> Result<String, Fail> {
     let mut text = String::new(alloc);
     for bit in bits {
         text.push_str(if *bit { "1" } else { "0" })?;
@@ -127,7 +122,7 @@ fn reading_text(alloc: Global, outcome: &Outcome) -> Result<String, Fail> {
 
 // How its reading ended, when, and with which bits, when the line was high again and the round over, who still sent,
 // and who had stopped at which slot.
-fn outcome_text(alloc: Global, outcome: &Outcome) -> Result<String, Fail> {
+pub(crate) fn outcome_text(alloc: Global, outcome: &Outcome) -> Result<String, Fail> {
     let reading = reading_text(alloc, outcome)?;
     let survivors = survivors_text(alloc, outcome.survivors.as_slice())?;
     let losers = losers_text(alloc, outcome.losers.as_slice())?;
@@ -155,7 +150,7 @@ fn wave_text(alloc: Global, stretches: &[Stretch]) -> Result<String, Fail> {
 }
 
 // A case comes out as it is wanted.
-fn is_told(rt: &impl Abort, told: &str, wanted: &str, case: &str) {
+pub(crate) fn is_told(rt: &impl Abort, told: &str, wanted: &str, case: &str) {
     assert!(rt; told == wanted, "{case}: {told}");
 }
 
@@ -294,60 +289,4 @@ fn rounds_have_lines(rt: HostRuntime) -> Result<(), Fail> {
     let told = wave_text(rt.alloc(), outcome.wave.as_slice())?;
     is_told(&rt, told.as_str(), LINE, "a poll");
     Ok(())
-}
-
-// ---- from edge to edge
-
-// The stretches are sparse.
-fn are_sparse(stretches: &[Stretch]) -> bool
-    ensures { IsTrue result → AreSparse stretches.now }
-{
-    match Pulses::new(stretches) {
-        Ok(pulses) => {
-            let _stretches = pulses.as_slice();
-            true
-        }
-        Err(_) => false,
-    }
-}
-
-// A wire may be handed this pulse next.
-fn is_next(wire: &EdgeWire, next: Option<Stretch>) -> bool
-    ensures { IsTrue result → IsNext wire.now.pulses.items wire.now.time next }
-{
-    let Some(pulse) = next else {
-        return true;
-    };
-    let Ok(mut stretches) = ArrayVec::<Stretch, 25>::try_from(wire.pulses.as_slice()) else {
-        return false;
-    };
-    if stretches.try_push(pulse).is_err() {
-        return false;
-    }
-    wire.time <= pulse.from && are_sparse(stretches.as_slice())
-}
-
-// The next edge of a wire, which is handed the next pulse.
-fn edge(rt: &impl Abort, wire: &mut EdgeWire, next: Option<Stretch>) -> Option<Edge>
-    requires begun { IsBegun wire.old }
-    requires listens { Listens wire.old }
-    ensures begun { IsBegun wire.new }
-    ensures listens { Listens wire.new }
-{
-    assert!(rt; is_next(wire, next));
-    wire.next_edge(next)
-}
-
-// The end of a round, which is handed no pulse any more, and what it gave.
-fn finish(rt: &impl Abort, wire: &mut EdgeWire) -> Outcome
-    requires begun { IsBegun wire.old }
-    requires listens { Listens wire.old }
-{
-    'edges: for _edge in 0..400 {
-        assert!(rt; is_next(wire, None));
-        if wire.next_edge(None).is_none() {
-            return wire.finish();
-        }
-    }
-    panic!(rt; "no end")
 }

@@ -1,11 +1,10 @@
 //! Rounds from a generator against their definition computed plainly: a line is a set of stretches, all of it is laid
 //! out by what was read of it, and read again, until it stays as it is. Times count from the round's begin.
-ghost use Rattle.std.specs.Prelude.{◌≡◌, ◌<◌, length};
-ghost use Rattle.cec_edges.specs.Wired.{IsBegun, Listens};
+ghost use Rattle.std.specs.Prelude.{◌<◌, length};
 
-use super::is_next;
-use crate::EdgeWire;
+use crate::driven::Driven;
 use arrayvec::ArrayVec;
+use cec_edges::EdgeWire;
 use cec_frame::{Addr, Ending, Frame};
 use cec_wave::{Edge, Stretch};
 use cec_wire::{Loser, Outcome, Seat};
@@ -488,19 +487,14 @@ fn seat(rt: &impl Abort, device: &Device) -> Seat {
 fn run(
     rt: &impl Abort,
     alloc: Global,
-    wire: &mut EdgeWire,
+    wire: Driven,
     pulses: &[Stretch],
-) -> Result<(Vec<Edge>, Outcome), Fail>
-    requires begun { IsBegun wire.old }
-    requires listens { Listens wire.old }
-{
+) -> Result<(Vec<Edge>, Outcome), Fail> {
+    let mut wire = wire;
     let mut edges = Vec::new(alloc);
-    'edges: for _edge in 0..400 {
-        let time = wire.time;
-        let next = pulses.iter().find(|pulse| time <= pulse.from).copied();
-        assert!(rt; is_next(wire, next));
-        match wire.next_edge(next) {
-            None => return Ok((edges, wire.finish())),
+    for _edge in 0..400 {
+        match wire.edge(rt, pulses) {
+            None => return Ok((edges, wire.finish(rt))),
             Some(edge) => edges.push(edge)?,
         }
     }
@@ -610,9 +604,8 @@ fn driven(
     devices: &[Device],
     pulses: &[Stretch],
 ) -> Result<(Vec<Edge>, Outcome), Fail> {
-    let mut wire = EdgeWire::new();
-    wire.begin(&seats_of(rt, devices), BEGIN);
-    run(rt, alloc, &mut wire, &handed(pulses))
+    let wire = Driven::begin(EdgeWire::new(), &seats_of(rt, devices), BEGIN);
+    run(rt, alloc, wire, &handed(pulses))
 }
 
 // One round on the wire is as it is plainly. Answers how it ended.

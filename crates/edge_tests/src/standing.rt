@@ -1,10 +1,8 @@
 //! Where the receivers of a round stand after each of its edges, and how far its senders have come.
-ghost use Rattle.std.specs.Prelude.{◌≡◌, length};
-ghost use Rattle.cec_edges.specs.Wired.{IsBegun, Listens};
-
-use super::{bits_text, edge, finish, is_told, outcome_text, seats_of};
-use crate::EdgeWire;
+use crate::driven::Driven;
+use crate::rounds::{bits_text, is_told, outcome_text, seats_of};
 use cec_bits::{SenderState, Standing};
+use cec_edges::EdgeWire;
 use cec_wave::Stretch;
 use std::alloc::Global;
 use std::process::Abort;
@@ -27,20 +25,13 @@ fn standing_text(alloc: Global, standing: Standing<'_>) -> Result<String, Fail> 
 fn row(
     rt: &impl Abort,
     alloc: Global,
-    wire: &mut EdgeWire,
-    next: Option<Stretch>,
-) -> Result<String, Fail>
-    requires begun { IsBegun wire.old }
-    requires listens { Listens wire.old }
-    ensures begun { IsBegun wire.new }
-    ensures listens { Listens wire.new }
-{
-    let next = next.filter(|pulse| wire.time <= pulse.from);
-    let Some(edge) = edge(rt, wire, next) else {
+    wire: &mut Driven,
+    pulses: &[Stretch],
+) -> Result<String, Fail> {
+    let Some(edge) = wire.edge(rt, pulses) else {
         return Ok(format!(in alloc; "none")?);
     };
-    assert!(rt; !wire.seats.is_empty());
-    let standing = standing_text(alloc, wire.receiver_of(0).standing())?;
+    let standing = standing_text(alloc, wire.receiver(rt).standing())?;
     let at = edge.at;
     let level = if edge.low { "low" } else { "high" };
     Ok(format!(in alloc; "{at} {level} {standing}")?)
@@ -50,46 +41,29 @@ fn row(
 fn goes(
     rt: &impl Abort,
     alloc: Global,
-    wire: &mut EdgeWire,
-    next: Option<Stretch>,
+    wire: &mut Driven,
+    pulses: &[Stretch],
     rows: &str,
-) -> Result<(), Fail>
-    requires begun { IsBegun wire.old }
-    requires listens { Listens wire.old }
-    ensures begun { IsBegun wire.new }
-    ensures listens { Listens wire.new }
-{
+) -> Result<(), Fail> {
     for expected in rows.lines() {
-        let found = row(rt, alloc, wire, next)?;
+        let found = row(rt, alloc, wire, pulses)?;
         is_told(rt, found.as_str(), expected, "an edge");
     }
     Ok(())
 }
 
 // The round gives this.
-fn gives(rt: &impl Abort, alloc: Global, wire: &mut EdgeWire, wanted: &str) -> Result<(), Fail>
-    requires begun { IsBegun wire.old }
-    requires listens { Listens wire.old }
-{
-    let outcome = finish(rt, wire);
+fn gives(rt: &impl Abort, alloc: Global, wire: Driven, wanted: &str) -> Result<(), Fail> {
+    let outcome = wire.finish(rt);
     let told = outcome_text(alloc, &outcome)?;
     is_told(rt, told.as_str(), wanted, "a round");
     Ok(())
 }
 
-// How far the sender of a seat has come, if it sends.
-fn state(rt: &impl Abort, wire: &EdgeWire, seat: usize) -> Option<SenderState>
-    requires listens { Listens wire.now }
-{
-    assert!(rt; seat < wire.seats.len());
-    wire.sender_of(seat).map(|sender| sender.state())
-}
-
-// The sender of a seat has come this far.
-fn is_at(rt: &impl Abort, wire: &EdgeWire, seat: usize, wanted: Option<SenderState>)
-    requires listens { Listens wire.now }
-{
-    assert_eq!(rt; state(rt, wire, seat), wanted);
+// The sender of a seat has come this far, if it sends.
+fn is_at(rt: &impl Abort, wire: &Driven, seat: usize, wanted: Option<SenderState>) {
+    let state = wire.sender(rt, seat).map(|sender| sender.state());
+    assert_eq!(rt; state, wanted);
 }
 
 // Image-view-on from the player to the television, in which a pulse moves the second slot.
@@ -140,14 +114,13 @@ none";
 
 #[test]
 fn stands_after_each_edge(rt: HostRuntime) -> Result<(), Fail> {
-    let pulse = Some(Stretch {
+    let pulse = [Stretch {
         from: 1_006_600,
         to: 1_007_000,
-    });
-    let mut wire = EdgeWire::new();
-    wire.begin(&seats_of("0 4:40,04")?, 1_000_000);
+    }];
+    let mut wire = Driven::begin(EdgeWire::new(), &seats_of("0 4:40,04")?, 1_000_000);
     is_at(&rt, &wire, 0, None);
-    goes(&rt, rt.alloc(), &mut wire, pulse, MOVED)?;
+    goes(&rt, rt.alloc(), &mut wire, &pulse, MOVED)?;
     is_at(&rt, &wire, 1, Some(SenderState::Stopped));
     Ok(())
 }
@@ -212,46 +185,44 @@ const FIRST: Stretch = Stretch {
 
 #[test]
 fn stands_by_the_pulses_handed_in(rt: HostRuntime) -> Result<(), Fail> {
-    let later = Some(Stretch {
+    let later = [Stretch {
         from: 1_028_000,
         to: 1_028_100,
-    });
-    let mut wire = EdgeWire::new();
-    wire.begin(&seats_of("0 4:40,04")?, 1_000_000);
+    }];
+    let mut wire = Driven::begin(EdgeWire::new(), &seats_of("0 4:40,04")?, 1_000_000);
     goes(
         &rt,
         rt.alloc(),
         &mut wire,
-        Some(FIRST),
+        &[FIRST],
         "1000000 low start-low",
     )?;
-    goes(&rt, rt.alloc(), &mut wire, later, ALIKE)?;
-    goes(&rt, rt.alloc(), &mut wire, later, BROKEN)?;
+    goes(&rt, rt.alloc(), &mut wire, &later, ALIKE)?;
+    goes(&rt, rt.alloc(), &mut wire, &later, BROKEN)?;
     gives(
         &rt,
         rt.alloc(),
-        &mut wire,
+        wire,
         "Short 1028000 bits 0100000000 rest 1031600 close 1031600 by 1 out -",
     )
 }
 
 #[test]
 fn stands_where_no_later_pulse_is_handed_in(rt: HostRuntime) -> Result<(), Fail> {
-    let mut wire = EdgeWire::new();
-    wire.begin(&seats_of("0 4:40,04")?, 1_000_000);
+    let mut wire = Driven::begin(EdgeWire::new(), &seats_of("0 4:40,04")?, 1_000_000);
     goes(
         &rt,
         rt.alloc(),
         &mut wire,
-        Some(FIRST),
+        &[FIRST],
         "1000000 low start-low",
     )?;
-    goes(&rt, rt.alloc(), &mut wire, None, ALIKE)?;
-    goes(&rt, rt.alloc(), &mut wire, None, WHOLE)?;
+    goes(&rt, rt.alloc(), &mut wire, &[], ALIKE)?;
+    goes(&rt, rt.alloc(), &mut wire, &[], WHOLE)?;
     gives(
         &rt,
         rt.alloc(),
-        &mut wire,
+        wire,
         "Complete 1051150 bits 01000000000000010010 rest 1051600 close 1051600 by 1 out -",
     )
 }
@@ -272,20 +243,19 @@ const LOST_AND_BROKEN: &str = "\
 
 #[test]
 fn two_senders_stop(rt: HostRuntime) -> Result<(), Fail> {
-    let pulse = Some(Stretch {
+    let pulse = [Stretch {
         from: 2_013_500,
         to: 2_013_600,
-    });
-    let mut wire = EdgeWire::new();
-    wire.begin(&seats_of("0 5:50,8f 4:40,04")?, 2_000_000);
-    goes(&rt, rt.alloc(), &mut wire, pulse, LOST_AND_BROKEN)?;
+    }];
+    let mut wire = Driven::begin(EdgeWire::new(), &seats_of("0 5:50,8f 4:40,04")?, 2_000_000);
+    goes(&rt, rt.alloc(), &mut wire, &pulse, LOST_AND_BROKEN)?;
     is_at(&rt, &wire, 1, Some(SenderState::Out(4)));
     is_at(&rt, &wire, 2, Some(SenderState::Sending));
     goes(
         &rt,
         rt.alloc(),
         &mut wire,
-        pulse,
+        &pulse,
         "2013500 low wait-high\n2017100 high idle\nnone",
     )?;
     is_at(&rt, &wire, 0, None);
@@ -297,29 +267,28 @@ fn two_senders_stop(rt: HostRuntime) -> Result<(), Fail> {
 // A pulse alone, and one that holds a poll's start bit low until the reading ends.
 #[test]
 fn stands_after_bad_starts(rt: HostRuntime) -> Result<(), Fail> {
-    let alone = Some(Stretch {
+    let alone = [Stretch {
         from: 5000,
         to: 8000,
-    });
-    let mut wire = EdgeWire::new();
-    wire.begin(&seats_of("f")?, 5000);
+    }];
+    let mut wire = Driven::begin(EdgeWire::new(), &seats_of("f")?, 5000);
     goes(
         &rt,
         rt.alloc(),
         &mut wire,
-        alone,
+        &alone,
         "5000 low start-low\n8000 high idle\nnone",
     )?;
-    let long = Some(Stretch {
+    let long = [Stretch {
         from: 12_901,
         to: 15_901,
-    });
-    wire.begin(&seats_of("f:00")?, 12_000);
+    }];
+    let mut wire = Driven::begin(wire.wire, &seats_of("f:00")?, 12_000);
     goes(
         &rt,
         rt.alloc(),
         &mut wire,
-        long,
+        &long,
         "12000 low start-low\n15901 high idle\nnone",
     )?;
     is_at(&rt, &wire, 0, Some(SenderState::Stopped));

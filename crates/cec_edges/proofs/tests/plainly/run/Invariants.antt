@@ -1,5 +1,0 @@
-use Rattle.cec_edges.specs.Wired.{IsBegun, Listens}
-use Rattle.cec_edges.proofs.tests.plainly.run.Given as goal
-
-abbrev pub invariant-edges : goal.invariant-edges
-invariant-edges g l = record { begun : IsBegun l.wire; listens : Listens l.wire }
