@@ -1,16 +1,16 @@
 //! What follows the line of a fault.
 use crate::causes::right;
+use crate::draft::Draft;
 use crate::edges::in_edges;
 use crate::fault::{Fault, Part, read_fault};
 use crate::frames::add_frame;
 use crate::grammar::{
-    EDID_WORDS, NETWORK_WORDS, SCRIPT, STEP_WORDS, STEPS, TOPOLOGY, fitting, most_fitting,
+    EDID_WORDS, KEYS, KEYWORDS, KINDS, SCRIPT, STEP_WORDS, STEPS, TOPOLOGY, fitting, most_fitting,
 };
 use crate::hints::{is_shown, of_edid, of_line, of_text};
 use crate::marks::{Mark, marked};
-use crate::order::order;
-use crate::pieces::{add_all, add_line, add_times};
-use crate::place::{Place, is_line_end, lines_before, place_of};
+use crate::order::add_order;
+use crate::place::{Place, is_line_end, place_of};
 use crate::words::{Word, is_near, words_of};
 use cec_opcode::name;
 use std::alloc::{AllocError, Global};
@@ -33,15 +33,15 @@ const COLUMNS: usize = 160;
 
 // A line as it is shown: `.` for what is not printable, and cut after so many columns.
 fn shown(alloc: Global, line: &[u8]) -> Result<String, AllocError> {
-    let mut text = String::new(alloc);
+    let mut draft = Draft::new(alloc);
     for byte in line.iter().take(COLUMNS) {
-        text.push(if is_shown(*byte) {
+        draft.add_character(if is_shown(*byte) {
             char::from(*byte)
         } else {
             '.'
-        })?;
+        });
     }
-    Ok(text)
+    draft.finish()
 }
 
 // The names of the devices that lines before this one declare.
@@ -62,150 +62,117 @@ fn declared_by(line: &[u8]) -> Option<&str> {
 }
 
 // Blanks, and `^` below the marked words.
-fn add_mark(
-    text: &mut String,
-    before: usize,
-    words: &[Word<'_>],
-    mark: Mark,
-) -> Result<(), AllocError> {
-    let Some(first) = words.get(mark.first) else {
-        return Ok(());
-    };
-    let last = words.get(mark.last).or(words.last()).unwrap_or(first);
-    let end = last.column.saturating_add(last.text.len().max(1));
-    add_times(text, before.saturating_add(first.column), ' ')?;
-    add_times(text, end.saturating_sub(first.column), '^')?;
-    text.push('\n')
+fn add_mark(draft: &mut Draft, before: usize, words: &[Word<'_>], mark: Mark) {
+    if let Some(first) = words.get(mark.first) {
+        let last = words.get(mark.last).or(words.last()).unwrap_or(first);
+        let end = last.column.saturating_add(last.text.len().max(1));
+        draft.add_times(before.saturating_add(first.column), ' ');
+        draft.add_times(end.saturating_sub(first.column), '^');
+        draft.add("\n");
+    }
 }
 
-fn add_hints(text: &mut String, hints: &[Option<&'static str>]) -> Result<(), AllocError> {
+fn add_hints(draft: &mut Draft, hints: &[Option<&'static str>]) {
     for hint in hints {
         if let Some(hint) = hint {
-            add_line(text, hint)?;
+            draft.add_line(hint);
         }
     }
-    Ok(())
 }
 
 // The forms that a line fits as far as any.
-fn add_forms(text: &mut String, forms: &[&str], words: &[Word<'_>]) -> Result<(), AllocError> {
+fn add_forms(draft: &mut Draft, forms: &[&str], words: &[Word<'_>]) {
     let most = most_fitting(forms, words);
     let mut before = "  a line here reads `";
     for form in forms {
         if fitting(form, words) == most {
-            add_all(text, &[before, form])?;
+            draft.add_all(&[before, form]);
             before = "`, `";
         }
     }
-    text.push_str("`\n")
+    draft.add("`\n");
 }
 
-// A word that may have been meant.
-fn add_meant(text: &mut String, word: &str, near: &str) -> Result<(), AllocError> {
-    add_all(text, &["  `", word, "`: did you mean `", near, "`?\n"])
+// A known word, if another may have been meant for it. Returns whether it may.
+fn add_near(draft: &mut Draft, near: &str, word: &str) -> bool {
+    let is_meant = is_near(draft, near, word);
+    if is_meant {
+        draft.add_all(&["  `", word, "`: did you mean `", near, "`?\n"]);
+    }
+    is_meant
 }
 
 // The first of some known words that a word may have been meant for. Returns whether there is one.
-fn add_nearest(
-    text: &mut String,
-    alloc: Global,
-    known: &[&str],
-    word: &str,
-) -> Result<bool, AllocError> {
+fn add_nearest(draft: &mut Draft, known: &[&str], word: &str) -> bool {
     for near in known {
-        if is_near(alloc, near, word)? {
-            add_meant(text, word, near)?;
-            return Ok(true);
+        if add_near(draft, near, word) {
+            return true;
         }
     }
-    Ok(false)
+    false
 }
 
 // The first name of an opcode that a word may have been meant for.
-fn add_nearest_opcode(text: &mut String, alloc: Global, word: &str) -> Result<bool, AllocError> {
+fn add_nearest_opcode(draft: &mut Draft, word: &str) -> bool {
     for code in 0..=u8::MAX {
         if let Some(near) = name(code) {
-            if is_near(alloc, near, word)? {
-                add_meant(text, word, near)?;
-                return Ok(true);
+            if add_near(draft, near, word) {
+                return true;
             }
         }
     }
-    Ok(false)
+    false
 }
 
 // The word of a topology or a script that a word may have been meant for.
-fn add_nearest_word(text: &mut String, alloc: Global, word: &str) -> Result<bool, AllocError> {
-    for known in NETWORK_WORDS {
-        if add_nearest(text, alloc, known, word)? {
-            return Ok(true);
-        }
-    }
-    Ok(false)
+fn add_nearest_word(draft: &mut Draft, word: &str) -> bool {
+    add_nearest(draft, KEYWORDS, word)
+        || add_nearest(draft, KINDS, word)
+        || add_nearest(draft, KEYS, word)
 }
 
 // The word of a step, or the name of a device, that a word may have been meant for.
-fn add_nearest_step(
-    text: &mut String,
-    alloc: Global,
-    word: &str,
-    declared: &[&str],
-) -> Result<bool, AllocError> {
-    if add_nearest(text, alloc, STEP_WORDS, word)? {
-        return Ok(true);
-    }
-    add_nearest(text, alloc, declared, word)
+fn add_nearest_step(draft: &mut Draft, word: &str, names: &[&str]) -> bool {
+    add_nearest(draft, STEP_WORDS, word) || add_nearest(draft, names, word)
 }
 
 // What the word at fault may have been meant for.
-fn add_suggestion(
-    text: &mut String,
-    alloc: Global,
-    fault: Fault<'_>,
-    word: &str,
-    declared: &[&str],
-) -> Result<bool, AllocError> {
+fn add_suggestion(draft: &mut Draft, fault: Fault<'_>, word: &str, names: &[&str]) -> bool {
     match fault.part {
-        Part::Topology | Part::Script if fault.cause == "name" => {
-            add_nearest(text, alloc, declared, word)
-        }
-        Part::Script if fault.cause.starts_with("frame ") => {
-            add_nearest_opcode(text, alloc, word)
-        }
-        Part::Topology | Part::Script => add_nearest_word(text, alloc, word),
-        Part::EdidText => add_nearest(text, alloc, EDID_WORDS, word),
-        Part::Lines => add_nearest_opcode(text, alloc, word),
-        Part::Steps => add_nearest_step(text, alloc, word, declared),
-        Part::Edid | Part::Program => Ok(false),
+        Part::Topology | Part::Script if fault.cause == "name" => add_nearest(draft, names, word),
+        Part::Script if fault.cause.starts_with("frame ") => add_nearest_opcode(draft, word),
+        Part::Topology | Part::Script => add_nearest_word(draft, word),
+        Part::EdidText => add_nearest(draft, EDID_WORDS, word),
+        Part::Lines => add_nearest_opcode(draft, word),
+        Part::Steps => add_nearest_step(draft, word, names),
+        Part::Edid | Part::Program => false,
     }
 }
 
 // What stands before a line. Returns its length.
-fn add_head(text: &mut String, alloc: Global, number: usize) -> Result<usize, AllocError> {
-    let head = format!(in alloc; "  line {number}: ")?;
-    text.push_str(head.as_str())?;
-    Ok(head.len())
+fn add_head(draft: &mut Draft, number: usize) -> usize {
+    let begin = draft.len();
+    write!(draft, "  line {number}: ");
+    draft.len().saturating_sub(begin)
 }
 
 // The number and the text of a line, and the mark below its words.
 fn add_shown(
-    text: &mut String,
-    alloc: Global,
+    draft: &mut Draft,
     place: Place<'_>,
     line: &str,
     words: &[Word<'_>],
     mark: Option<Mark>,
-) -> Result<(), AllocError> {
-    let before = add_head(text, alloc, place.number)?;
+) {
+    let before = add_head(draft, place.number);
     let end = if place.line.len() > COLUMNS {
         " ..\n"
     } else {
         "\n"
     };
-    add_all(text, &[line, end])?;
-    match mark {
-        Some(mark) => add_mark(text, before, words, mark),
-        None => Ok(()),
+    draft.add_all(&[line, end]);
+    if let Some(mark) = mark {
+        add_mark(draft, before, words, mark);
     }
 }
 
@@ -225,134 +192,101 @@ fn mark_of(
 
 // The forms that the line could have, or the line that it should not stand behind.
 fn add_right_forms(
-    text: &mut String,
-    alloc: Global,
+    draft: &mut Draft,
     input: &[u8],
     place: Place<'_>,
     fault: Fault<'_>,
     words: &[Word<'_>],
-) -> Result<(), AllocError> {
+) {
     match (fault.part, fault.cause) {
-        (Part::Topology, "word") => add_forms(text, TOPOLOGY, words),
-        (Part::Script, "word") => add_forms(text, SCRIPT, words),
-        (Part::Steps, _) => add_forms(text, STEPS, words),
-        (Part::Script, "order") => add_order(text, alloc, input, place),
-        _ => Ok(()),
+        (Part::Topology, "word") => add_forms(draft, TOPOLOGY, words),
+        (Part::Script, "word") => add_forms(draft, SCRIPT, words),
+        (Part::Steps, _) => add_forms(draft, STEPS, words),
+        (Part::Script, "order") => add_order(draft, input, place),
+        _ => {}
     }
 }
 
 // What the frame of a line could be.
-fn add_right_frame(
-    text: &mut String,
-    alloc: Global,
-    fault: Fault<'_>,
-    words: &[Word<'_>],
-) -> Result<(), AllocError> {
+fn add_right_frame(draft: &mut Draft, fault: Fault<'_>, words: &[Word<'_>]) {
     match (fault.part, fault.cause.strip_prefix("frame ")) {
-        (Part::Script, Some(cause)) => add_frame(text, alloc, cause, words, 4),
-        (Part::Lines, _) => add_frame(text, alloc, fault.cause, words, 0),
-        _ => Ok(()),
+        (Part::Script, Some(cause)) => add_frame(draft, cause, words, 4),
+        (Part::Lines, _) => add_frame(draft, fault.cause, words, 0),
+        _ => {}
+    }
+}
+
+// What the marked word may have been meant for.
+fn add_meant(draft: &mut Draft, fault: Fault<'_>, words: &[Word<'_>], mark: Mark, names: &[&str]) {
+    if let Some(word) = words.get(mark.first) {
+        add_suggestion(draft, fault, word.text, names);
     }
 }
 
 // A line with its mark, and what is odd about it.
 fn add_marked(
-    text: &mut String,
-    alloc: Global,
+    draft: &mut Draft,
     input: &[u8],
     place: Place<'_>,
     fault: Fault<'_>,
     line: &str,
     words: &[Word<'_>],
     names: &[&str],
-) -> Result<(), AllocError> {
+) {
     let mark = mark_of(input, place, fault, words, names);
-    add_shown(text, alloc, place, line, words, mark)?;
-    add_hints(text, of_line(place.line, line).as_slice())?;
-    add_right_forms(text, alloc, input, place, fault, words)?;
-    add_right_frame(text, alloc, fault, words)?;
+    add_shown(draft, place, line, words, mark);
+    add_hints(draft, of_line(place.line, line).as_slice());
+    add_right_forms(draft, input, place, fault, words);
+    add_right_frame(draft, fault, words);
     if let Some(mark) = mark {
-        if let Some(word) = words.get(mark.first) {
-            add_suggestion(text, alloc, fault, word.text, names)?;
-        }
+        add_meant(draft, fault, words, mark, names);
     }
-    Ok(())
 }
 
 // The line of a fault, its mark, and what is odd about it.
 fn add_place(
-    text: &mut String,
-    alloc: Global,
+    draft: &mut Draft,
     input: &[u8],
     place: Place<'_>,
     fault: Fault<'_>,
 ) -> Result<(), AllocError> {
+    let alloc = draft.alloc();
     let line = shown(alloc, place.line)?;
     let words = words_of(alloc, line.as_str())?;
     let names = declared(alloc, input, place.number.saturating_sub(1))?;
     let (words, names) = (words.as_slice(), names.as_slice());
-    add_marked(
-        text,
-        alloc,
-        input,
-        place,
-        fault,
-        line.as_str(),
-        words,
-        names,
-    )
-}
-
-// Which line of a script is earlier than which.
-fn add_order(
-    text: &mut String,
-    alloc: Global,
-    input: &[u8],
-    place: Place<'_>,
-) -> Result<(), AllocError> {
-    let script = lines_before(Part::Script, input);
-    match order(alloc, input, script, place.number, place.line)? {
-        Some(said) => add_line(text, said.as_str()),
-        None => Ok(()),
-    }
+    add_marked(draft, input, place, fault, line.as_str(), words, names);
+    Ok(())
 }
 
 // How long an input is that is no EDID by its length: whole blocks and more, or a count of bytes that is none's.
-fn add_length(text: &mut String, alloc: Global, length: usize) -> Result<(), AllocError> {
+fn add_length(draft: &mut Draft, length: usize) {
     let more = length % 128;
     let blocks = length.saturating_sub(more);
-    let line = if blocks == 0 || more == 0 {
-        format!(in alloc; "the input has {length} bytes; an EDID has 128, 256, 384 or 512")?
+    if blocks == 0 || more == 0 {
+        writeln!(
+            draft,
+            "  the input has {length} bytes; an EDID has 128, 256, 384 or 512"
+        );
     } else {
-        format!(in alloc; "the input has {blocks} bytes and {more} more")?
-    };
-    add_line(text, line.as_str())
+        writeln!(draft, "  the input has {blocks} bytes and {more} more");
+    }
 }
 
-// The line of a fault, what would be right, and what is odd about the input.
-fn add_explanation(
-    text: &mut String,
-    alloc: Global,
-    what: Input,
-    fault: Fault<'_>,
-    input: &[u8],
-) -> Result<(), AllocError> {
-    if let Some(place) = place_of(input, what, fault) {
-        add_place(text, alloc, input, place, fault)?;
+// What is odd about an input that is to be the bytes of an EDID.
+fn add_edid_hints(draft: &mut Draft, cause: &str, input: &[u8]) {
+    add_hints(draft, of_edid(input).as_slice());
+    if cause == "length" {
+        add_length(draft, input.len());
     }
-    if let Some(right) = right(fault) {
-        add_line(text, right)?;
-    }
+}
+
+// What is odd about the input.
+fn add_input_hints(draft: &mut Draft, what: Input, fault: Fault<'_>, input: &[u8]) {
     match (what, fault.part) {
-        (_, Part::Program) if fault.cause != "no script line" => Ok(()),
-        (Input::EdidBytes, _) => {
-            add_hints(text, of_edid(input).as_slice())?;
-            if fault.cause == "length" {
-                add_length(text, alloc, input.len())?;
-            }
-            Ok(())
-        }
-        _ => add_hints(text, of_text(input).as_slice()),
+        (_, Part::Program) if fault.cause != "no script line" => {}
+        (Input::EdidBytes, _) => add_edid_hints(draft, fault.cause, input),
+        _ => add_hints(draft, of_text(input).as_slice()),
     }
 }
 
@@ -368,9 +302,16 @@ pub fn explain(
     fault: &str,
     input: &[u8],
 ) -> Result<String, AllocError> {
-    let mut text = String::new(alloc);
-    add_explanation(&mut text, alloc, what, read_fault(fault), input)?;
-    Ok(text)
+    let mut draft = Draft::new(alloc);
+    let fault = read_fault(fault);
+    if let Some(place) = place_of(input, what, fault) {
+        add_place(&mut draft, input, place, fault)?;
+    }
+    if let Some(right) = right(fault) {
+        draft.add_line(right);
+    }
+    add_input_hints(&mut draft, what, fault, input);
+    draft.finish()
 }
 
 /// The line that follows a run: its rounds, those of them that were complete, and the events that were refused.

@@ -1,6 +1,6 @@
 //! The words of frames, from the tables of opcodes.
+use crate::draft::Draft;
 use crate::list::list_set;
-use crate::pieces::{add_all, add_line};
 use crate::words::Word;
 use cec_opcode::{Operand, Operands, WordSet, code_named, name, operands_of};
 use cec_shape::{frame_shape, set_label};
@@ -47,43 +47,42 @@ const VALUES: &[&str] = &[BYTE, LANGUAGE, VENDOR, ADDRESS, VOLUME, LONG_TEXT, RA
 const LABELS: usize = 8;
 
 // The words of a set, on one line.
-fn add_set(text: &mut String, set: WordSet) -> Result<(), AllocError> {
-    add_all(text, &["  ", set_label(set)])?;
+fn add_set(draft: &mut Draft, set: WordSet) {
+    draft.add_all(&["  ", set_label(set)]);
     let mut before = " is ";
     for word in set.words() {
-        add_all(text, &[before, word.text])?;
+        draft.add_all(&[before, word.text]);
         before = ", ";
     }
-    text.push('\n')
+    draft.add("\n");
 }
 
-fn add_operand(text: &mut String, operand: Operand) -> Result<(), AllocError> {
+fn add_operand(draft: &mut Draft, operand: Operand) {
     match operand {
-        Operand::Byte => add_line(text, BYTE),
-        Operand::Word(set) => add_set(text, set),
-        Operand::Language => add_line(text, LANGUAGE),
-        Operand::Vendor => add_line(text, VENDOR),
-        Operand::Address => add_line(text, ADDRESS),
+        Operand::Byte => draft.add_line(BYTE),
+        Operand::Word(set) => add_set(draft, set),
+        Operand::Language => draft.add_line(LANGUAGE),
+        Operand::Vendor => draft.add_line(VENDOR),
+        Operand::Address => draft.add_line(ADDRESS),
     }
 }
 
-fn add_operands(text: &mut String, operands: Operands) -> Result<(), AllocError> {
+fn add_operands(draft: &mut Draft, operands: Operands) {
     match operands {
-        Operands::Nothing => Ok(()),
-        Operands::Raw => add_line(text, RAW),
-        Operands::One(operand) | Operands::Optional(operand) => add_operand(text, operand),
+        Operands::Nothing => {}
+        Operands::Raw => draft.add_line(RAW),
+        Operands::One(operand) | Operands::Optional(operand) => add_operand(draft, operand),
         Operands::Two(first, second) => {
-            add_operand(text, first)?;
-            if first == second {
-                return Ok(());
+            add_operand(draft, first);
+            if first != second {
+                add_operand(draft, second);
             }
-            add_operand(text, second)
         }
-        Operands::Volume => add_line(text, VOLUME),
-        Operands::Text => add_line(text, LONG_TEXT),
+        Operands::Volume => draft.add_line(VOLUME),
+        Operands::Text => draft.add_line(LONG_TEXT),
         Operands::WordAndText(set) => {
-            add_set(text, set)?;
-            add_line(text, SHORT_TEXT)
+            add_set(draft, set);
+            draft.add_line(SHORT_TEXT);
         }
     }
 }
@@ -103,87 +102,71 @@ fn text_of(shape: &[u8]) -> &str {
 }
 
 // How the frames of an opcode look, and what its operands are.
-fn add_shape(text: &mut String, code: u8) -> Result<(), AllocError> {
-    let Some(shape) = frame_shape(code) else {
-        return Ok(());
-    };
-    add_all(
-        text,
-        &["  a frame here reads `I>D ", text_of(&shape), "`\n"],
-    )?;
-    add_operands(text, operands_of(code))
-}
-
-// What is said of an opcode that was written by its digits.
-fn name_said(alloc: Global, code: u8, word: &str) -> Result<String, AllocError> {
-    match name(code) {
-        Some(name) => format!(in alloc;
-            "the opcode {code:02x} has a name, `{name}`, which stands in place of `{word}`"
-        ),
-        None => format!(in alloc;
-            "the opcode {code:02x} has no name; `op-{code:02x}` stands for it"
-        ),
+fn add_shape(draft: &mut Draft, code: u8) {
+    if let Some(shape) = frame_shape(code) {
+        draft.add_all(&["  a frame here reads `I>D ", text_of(&shape), "`\n"]);
+        add_operands(draft, operands_of(code));
     }
 }
 
 // What stands for an opcode that was written by its digits.
-fn add_name(text: &mut String, alloc: Global, word: &str) -> Result<(), AllocError> {
-    let Some(code) = code_in_digits(word) else {
-        return Ok(());
-    };
-    let said = name_said(alloc, code, word)?;
-    add_line(text, said.as_str())
+fn add_name(draft: &mut Draft, code: u8, word: &str) {
+    match name(code) {
+        Some(name) => writeln!(
+            draft,
+            "  the opcode {code:02x} has a name, `{name}`, which stands in place of `{word}`"
+        ),
+        None => writeln!(
+            draft,
+            "  the opcode {code:02x} has no name; `op-{code:02x}` stands for it"
+        ),
+    }
+}
+
+// What stands for a word that may be an opcode's digits.
+fn add_named(draft: &mut Draft, word: &str) {
+    if let Some(code) = code_in_digits(word) {
+        add_name(draft, code, word);
+    }
+}
+
+// What the frame of a line would be, whose opcode is this word and which is refused for a cause.
+fn add_frame_of(draft: &mut Draft, cause: &str, word: &str) {
+    match cause {
+        "name" => add_named(draft, word),
+        "count" | "operand" => match code_named(word.as_bytes()) {
+            Some(code) => add_shape(draft, code),
+            None => draft.add_line(RAW),
+        },
+        _ => {}
+    }
 }
 
 /// What the frame of a line would be, whose text begins at a word and is refused for a cause.
-pub fn add_frame(
-    text: &mut String,
-    alloc: Global,
-    cause: &str,
-    words: &[Word<'_>],
-    at: usize,
-) -> Result<(), AllocError> {
-    let Some(word) = words.get(at.saturating_add(1)) else {
-        return Ok(());
-    };
-    match cause {
-        "name" => add_name(text, alloc, word.text),
-        "count" | "operand" => match code_named(word.text.as_bytes()) {
-            Some(code) => add_shape(text, code),
-            None => add_line(text, RAW),
-        },
-        _ => Ok(()),
+pub fn add_frame(draft: &mut Draft, cause: &str, words: &[Word<'_>], at: usize) {
+    if let Some(word) = words.get(at.saturating_add(1)) {
+        add_frame_of(draft, cause, word.text);
     }
 }
 
 // The digits of an opcode that has a name, and the form of its frames.
-fn add_form(text: &mut String, alloc: Global, code: u8) -> Result<(), AllocError> {
-    let Some(shape) = frame_shape(code) else {
-        return Ok(());
-    };
-    let digits = format!(in alloc; "{code:02x}")?;
-    add_all(text, &["  ", digits.as_str(), " ", text_of(&shape), "\n"])
-}
-
-// A line for each opcode that has a name.
-fn add_forms(text: &mut String, alloc: Global) -> Result<(), AllocError> {
-    for code in 0..=u8::MAX {
-        add_form(text, alloc, code)?;
+fn add_form(draft: &mut Draft, code: u8) {
+    if let Some(shape) = frame_shape(code) {
+        let form = text_of(&shape);
+        writeln!(draft, "  {code:02x} {form}");
     }
-    Ok(())
 }
 
 // The words of each set, and what the other words in capitals are.
-fn add_values(text: &mut String) -> Result<(), AllocError> {
-    text.push_str("where these words stand for a byte:\n")?;
+fn add_values(draft: &mut Draft) {
+    draft.add("where these words stand for a byte:\n");
     for set in SETS {
-        list_set(text, set_label(*set), LABELS, *set)?;
+        list_set(draft, set_label(*set), LABELS, *set);
     }
-    text.push_str("and\n")?;
+    draft.add("and\n");
     for line in VALUES {
-        add_line(text, line)?;
+        draft.add_line(line);
     }
-    Ok(())
 }
 
 /// A line for each opcode that has a name, with the form of its frames, and a line for each set of words.
@@ -192,8 +175,10 @@ fn add_values(text: &mut String) -> Result<(), AllocError> {
 ///
 /// Where memory runs out.
 pub fn frame_forms(alloc: Global) -> Result<String, AllocError> {
-    let mut text = String::new(alloc);
-    add_forms(&mut text, alloc)?;
-    add_values(&mut text)?;
-    Ok(text)
+    let mut draft = Draft::new(alloc);
+    for code in 0..=u8::MAX {
+        add_form(&mut draft, code);
+    }
+    add_values(&mut draft);
+    draft.finish()
 }

@@ -35,10 +35,10 @@ pub const STEP_WORDS: &[&str] = &[
 ];
 
 /// The words that stand for a KIND.
-const KINDS: &[&str] = &["tv", "amp", "player", "recorder", "switch", "combo"];
+pub const KINDS: &[&str] = &["tv", "amp", "player", "recorder", "switch", "combo"];
 
 /// The words that a KEY is, or begins with.
-const KEYS: &[&str] = &[
+pub const KEYS: &[&str] = &[
     "play",
     "stop",
     "eject",
@@ -56,13 +56,10 @@ const KEYS: &[&str] = &[
     "remote",
 ];
 
-/// The words that stand for themselves.
-const KEYWORDS: &[&str] = &[
+/// The words of topologies and scripts that stand for themselves.
+pub const KEYWORDS: &[&str] = &[
     "device", "plug", "edid", "script", "at", "press", "release", "send", "unplug", "pulse", "end",
 ];
-
-/// The words of topologies and scripts.
-pub const NETWORK_WORDS: &[&[&str]] = &[KEYWORDS, KINDS, KEYS];
 
 /// The words that the lines of an EDID's text begin with.
 pub const EDID_WORDS: &[&str] = &[

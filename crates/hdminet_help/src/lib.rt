@@ -4,6 +4,7 @@
 #![tactic(auto)]
 
 mod causes;
+mod draft;
 mod edges;
 mod explanation;
 mod fault;
@@ -13,7 +14,6 @@ mod hints;
 mod list;
 mod marks;
 mod order;
-mod pieces;
 mod place;
 mod script_words;
 mod words;

@@ -1,7 +1,6 @@
 //! Lists of words in help: a label, and the words in lines of some columns.
-use crate::pieces::{add_all, add_times};
+use crate::draft::Draft;
 use cec_opcode::WordSet;
-use std::alloc::AllocError;
 
 /// Lines of help are this long at most.
 const COLUMNS: usize = 100;
@@ -17,39 +16,34 @@ pub struct List {
 
 impl List {
     /// A list of which the label stands, in so many columns.
-    pub fn begin(text: &mut String, label: &str, columns: usize) -> Result<List, AllocError> {
-        add_all(text, &["  ", label])?;
-        add_times(text, columns.saturating_sub(label.len()), ' ')?;
+    pub fn begin(draft: &mut Draft, label: &str, columns: usize) -> List {
+        draft.add_all(&["  ", label]);
+        draft.add_times(columns.saturating_sub(label.len()), ' ');
         let indent = columns.max(label.len()).saturating_add(2);
-        Ok(List {
+        List {
             indent,
             column: indent,
-        })
+        }
     }
 
     /// One more word, after a space; on a line of its own where the last one has no room for it.
-    pub fn add(&mut self, text: &mut String, word: &str) -> Result<(), AllocError> {
+    pub fn add(&mut self, draft: &mut Draft, word: &str) {
         let length = word.len().saturating_add(1);
         if self.column.saturating_add(length) > COLUMNS {
-            text.push('\n')?;
-            add_times(text, self.indent, ' ')?;
+            draft.add("\n");
+            draft.add_times(self.indent, ' ');
             self.column = self.indent;
         }
         self.column = self.column.saturating_add(length);
-        add_all(text, &[" ", word])
+        draft.add_all(&[" ", word]);
     }
 }
 
 /// A label, in so many columns, and the words of a set.
-pub fn list_set(
-    text: &mut String,
-    label: &str,
-    columns: usize,
-    set: WordSet,
-) -> Result<(), AllocError> {
-    let mut list = List::begin(text, label, columns)?;
+pub fn list_set(draft: &mut Draft, label: &str, columns: usize, set: WordSet) {
+    let mut list = List::begin(draft, label, columns);
     for word in set.words() {
-        list.add(text, word.text)?;
+        list.add(draft, word.text);
     }
-    text.push('\n')
+    draft.add("\n");
 }

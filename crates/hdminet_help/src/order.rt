@@ -1,6 +1,7 @@
 //! Which line of a script is earlier than which.
-use crate::place::is_line_end;
-use std::alloc::{AllocError, Global};
+use crate::draft::Draft;
+use crate::fault::Part;
+use crate::place::{Place, is_line_end, lines_before};
 
 /// A line of a script with its number, and the instant that the next line of its kind may not be before.
 #[derive(Clone, Copy)]
@@ -40,34 +41,37 @@ fn last_before(input: &[u8], script: usize, number: usize, word: &str) -> Option
     last
 }
 
-/// Says which line's time is earlier than which, of a line of a script that is out of order. `script` is the number of
-/// the line `script`.
-pub fn order(
-    alloc: Global,
-    input: &[u8],
-    script: usize,
-    number: usize,
-    line: &[u8],
-) -> Result<Option<String>, AllocError> {
-    if let (Some((instant, _)), Some(last)) = (
-        numbers_behind(line, "at "),
-        last_before(input, script, number, "at "),
-    ) {
-        let said = format!(in alloc;
-            "the time of line {number}, {instant}, is before that of line {}, {}",
-            last.number, last.instant
-        )?;
-        return Ok(Some(said));
+// The instant of a line that begins with a word, and the last line before it that begins so.
+fn instants(input: &[u8], script: usize, place: Place<'_>, word: &str) -> Option<(u64, Earlier)> {
+    let (instant, _) = numbers_behind(place.line, word)?;
+    let last = last_before(input, script, place.number, word)?;
+    Some((instant, last))
+}
+
+fn add_earlier_time(draft: &mut Draft, number: usize, instant: u64, last: Earlier) {
+    writeln!(
+        draft,
+        "  the time of line {number}, {instant}, is before that of line {}, {}",
+        last.number, last.instant
+    );
+}
+
+fn add_earlier_pulse(draft: &mut Draft, number: usize, instant: u64, last: Earlier) {
+    writeln!(
+        draft,
+        "  the pulse of line {number} begins at {instant}, before that of line {} ends, at {}",
+        last.number, last.instant
+    );
+}
+
+/// Says which line's time is earlier than which, of a line of a script that is out of order.
+pub fn add_order(draft: &mut Draft, input: &[u8], place: Place<'_>) {
+    let script = lines_before(Part::Script, input);
+    let times = instants(input, script, place, "at ");
+    let pulses = instants(input, script, place, "pulse ");
+    match (times, pulses) {
+        (Some((instant, last)), _) => add_earlier_time(draft, place.number, instant, last),
+        (None, Some((instant, last))) => add_earlier_pulse(draft, place.number, instant, last),
+        (None, None) => {}
     }
-    if let (Some((instant, _)), Some(last)) = (
-        numbers_behind(line, "pulse "),
-        last_before(input, script, number, "pulse "),
-    ) {
-        let said = format!(in alloc;
-            "the pulse of line {number} begins at {instant}, before that of line {} ends, at {}",
-            last.number, last.instant
-        )?;
-        return Ok(Some(said));
-    }
-    Ok(None)
 }

@@ -1,5 +1,6 @@
 //! The words of topologies and scripts, from the tables of keys, of user control codes and of causes.
 use crate::causes::{Row, SCRIPT, TOPOLOGY};
+use crate::draft::Draft;
 use crate::list::{List, list_set};
 use cec_feature::{Key, Port, VolumeKey, has_key};
 use cec_frame::Addr;
@@ -32,26 +33,25 @@ const ENGLISH: Triple = Triple {
 };
 
 // The kinds that have a key, which is written so. A switch with a port stands for all switches.
-fn add_key(text: &mut String, form: &str, key: &Key) -> Result<(), AllocError> {
-    let mut list = List::begin(text, form, LABELS)?;
+fn add_key(draft: &mut Draft, form: &str, key: &Key) {
+    let mut list = List::begin(draft, form, LABELS);
     for (word, kind) in KINDS {
         if has_key(*kind, Port::new(1), key) {
-            list.add(text, word)?;
+            list.add(draft, word);
         }
     }
-    text.push('\n')
+    draft.add("\n");
 }
 
 // Some keys, each with the form that it is written in.
-fn add_keys(text: &mut String, keys: &[(&str, Key)]) -> Result<(), AllocError> {
+fn add_keys(draft: &mut Draft, keys: &[(&str, Key)]) {
     for (form, key) in keys {
-        add_key(text, form, key)?;
+        add_key(draft, form, key);
     }
-    Ok(())
 }
 
 // The keys of one word.
-fn add_plain_keys(text: &mut String) -> Result<(), AllocError> {
+fn add_plain_keys(draft: &mut Draft) {
     let keys = [
         ("play", Key::Play),
         ("stop", Key::Stop),
@@ -63,11 +63,11 @@ fn add_plain_keys(text: &mut String) -> Result<(), AllocError> {
         ("volume-down", Key::Volume(VolumeKey::Down)),
         ("mute", Key::Volume(VolumeKey::Mute)),
     ];
-    add_keys(text, keys.as_slice())
+    add_keys(draft, keys.as_slice());
 }
 
 // The keys of a word and what it takes.
-fn add_other_keys(text: &mut String) -> Result<(), AllocError> {
+fn add_other_keys(draft: &mut Draft) {
     let code = UserControl::Play;
     let to = Addr::new(4);
     let keys = [
@@ -80,16 +80,16 @@ fn add_other_keys(text: &mut String) -> Result<(), AllocError> {
         ("arc off", Key::Arc { on: false }),
         ("remote D CODE", Key::Remote { to, code }),
     ];
-    add_keys(text, keys.as_slice())
+    add_keys(draft, keys.as_slice());
 }
 
 // The causes of the faults of a part.
-fn add_causes(text: &mut String, part: &str, rows: &[Row]) -> Result<(), AllocError> {
-    let mut list = List::begin(text, part, LABELS)?;
+fn add_causes(draft: &mut Draft, part: &str, rows: &[Row]) {
+    let mut list = List::begin(draft, part, LABELS);
     for (cause, _) in rows {
-        list.add(text, cause)?;
+        list.add(draft, cause);
     }
-    text.push('\n')
+    draft.add("\n");
 }
 
 /// A line for each key, with the kinds that have it; then the codes of a remote control, and the causes of faults in
@@ -99,12 +99,12 @@ fn add_causes(text: &mut String, part: &str, rows: &[Row]) -> Result<(), AllocEr
 ///
 /// Where memory runs out.
 pub fn run_words(alloc: Global) -> Result<String, AllocError> {
-    let mut text = String::new(alloc);
-    add_plain_keys(&mut text)?;
-    add_other_keys(&mut text)?;
-    list_set(&mut text, "CODE", LABELS, WordSet::UserControl)?;
-    text.push_str("and the causes of faults\n")?;
-    add_causes(&mut text, "of a topology", TOPOLOGY)?;
-    add_causes(&mut text, "of a script", SCRIPT)?;
-    Ok(text)
+    let mut draft = Draft::new(alloc);
+    add_plain_keys(&mut draft);
+    add_other_keys(&mut draft);
+    list_set(&mut draft, "CODE", LABELS, WordSet::UserControl);
+    draft.add("and the causes of faults\n");
+    add_causes(&mut draft, "of a topology", TOPOLOGY);
+    add_causes(&mut draft, "of a script", SCRIPT);
+    draft.finish()
 }

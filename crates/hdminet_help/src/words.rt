@@ -1,4 +1,5 @@
 //! A line's words, and the words that stand near one.
+use crate::draft::Draft;
 use std::alloc::{AllocError, Global};
 use strsim::osa_distance;
 
@@ -21,13 +22,24 @@ pub fn words_of(alloc: Global, line: &str) -> Result<Vec<Word<'_>>, AllocError> 
     Ok(words)
 }
 
+// Whether two words are one edit apart. Where memory runs out the draft has failed.
+fn is_one_edit(draft: &mut Draft, known: &str, word: &str) -> bool {
+    match osa_distance(draft.alloc(), known, word) {
+        Ok(distance) => distance == 1,
+        Err(AllocError) => {
+            draft.fail();
+            false
+        }
+    }
+}
+
 /// Whether a known word is what somebody may have meant by another: the same but for case, or one edit away.
-pub fn is_near(alloc: Global, known: &str, word: &str) -> Result<bool, AllocError> {
+pub fn is_near(draft: &mut Draft, known: &str, word: &str) -> bool {
     if known == word {
-        return Ok(false);
+        return false;
     }
     if known.eq_ignore_ascii_case(word) {
-        return Ok(true);
+        return true;
     }
-    Ok(known.len() > 2 && word.len() < 64 && osa_distance(alloc, known, word)? == 1)
+    known.len() > 2 && word.len() < 64 && is_one_edit(draft, known, word)
 }
