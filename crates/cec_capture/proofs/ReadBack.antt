@@ -1,23 +1,20 @@
 -- A run's edge file is read back.
-use Rattle.std.proofs.Common.{◌≡◌, ℕ, suc, ◌+◌, ◌-◌, ◌^◌, ◌<◌, ◌≤◌, ◌==◌, ◌&&◌, ◌||◌, not, max, Bool, true, false, cond, nat_lt, nat_le, List, [], ◌∷◌, ◌++◌, length, map, Option, Some, None, All, Result, Ok, Err, codes, refl, sym, ap, subst, ◌∙◌, arith, append_assoc}
+use Rattle.std.proofs.Common.{◌≡◌, ℕ, ◌+◌, ◌-◌, ◌<◌, ◌≤◌, ◌==◌, ◌&&◌, ◌||◌, not, max, Bool, true, false, cond, nat_lt, nat_le, List, [], ◌∷◌, ◌++◌, Option, Some, Ok, codes, refl, sym, ap, ◌∙◌, arith, append_assoc}
 use Rattle.std.proofs.Math.Path.{fun_ext}
 use Rattle.std.proofs.lemmas.Bool.{false≢true}
 use Rattle.std.proofs.lemmas.Bool.Decides.{nat_tests}
 use Rattle.std.specs.Fmt.{decimal}
 use Rattle.cec_wave.specs.declared.Stretch.{Stretch}
-use Rattle.cec_wave.specs.declared.Edge.{Edge}
-use Rattle.cec_wave.specs.Line.{covers, line_of, IsWave, IsWaveFrom}
+use Rattle.cec_wave.specs.Line.{covers, line_of, IsWaveFrom}
 use Rattle.cec_bits.specs.Readings.{readings_of}
 use Rattle.cec_words.specs.Lines.{lines_of}
 use Rattle.cec_trace.specs.EdgeText.{edge_lines}
 use Rattle.cec_trace.specs.TraceText.{end_line}
 use Rattle.cec_run.proofs.WholeLine as runs
-use Rattle.cec_mon.specs.EdgeFile.{EdgeFile, edge_line_of, edges_read, end_read, file_of, level_at, line_of_edges, read_line, with_edge}
-use Rattle.cec_mon.specs.declared.edge_file.EdgeFault.{EdgeFault}
+use Rattle.cec_mon.specs.EdgeFile.{edge_line_of, edges_read, end_read, file_of, level_at, read_line, with_edge}
 use Rattle.cec_mon.specs.declared.edge_file.EdgeLine.{EdgeLine}
 use Rattle.cec_mon.specs.declared.edge_file.EdgeLine.TheVariants.{Edge as EdgeLineOf, End}
-use Rattle.cec_mon.specs.Watch.{file_readings}
-use Rattle.cec_capture.specs.Capture.{edges_of, EdgeFilesAreReadBack, FilesOfRunsHaveTheirReadings, IsReadBack}
+use Rattle.cec_capture.specs.Capture.{edges_of, EdgeFilesAreReadBack, FilesOfRunsHaveTheirReadings}
 use Rattle.cec_capture.proofs.Texts.{IsWithout, line_before, more_without, one_without, timed, timed_line, timed_plain, timed_told}
 
 -- ---- the text

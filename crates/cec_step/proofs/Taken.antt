@@ -1,5 +1,5 @@
 -- What a step has done, told of its own text as of that of a round.
-use Rattle.std.proofs.Common.{◌≡◌, ℕ, zero, suc, ◌<◌, ◌⊎◌, inl, inr, Bool, true, List, slice_get, Option, Some, Result, Ok, Err, ap, ◌∙◌, sym, refl, subst, arith}
+use Rattle.std.proofs.Common.{◌≡◌, ℕ, zero, suc, ◌⊎◌, inl, inr, Bool, true, List, slice_get, Option, Some, Result, Ok, Err, ap, ◌∙◌, sym, refl, subst, arith}
 use Rattle.cec_wire.specs.declared.Outcome.{Outcome}
 use Rattle.hdmi_core.specs.declared.sink.WriteFault.{WriteFault}
 use Rattle.cec_words.specs.Cut.{WrittenText}

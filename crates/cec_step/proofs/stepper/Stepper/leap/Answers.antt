@@ -1,4 +1,4 @@
-use Rattle.std.proofs.Common.{rules, ◌≡◌, ◌∙◌, ℕ, suc, inr, sym, subst}
+use Rattle.std.proofs.Common.{rules, ◌≡◌, ◌∙◌, suc, inr, sym, subst}
 use Rattle.cec_step.specs.Ready.{Brings, IsReady, point_of, run_of}
 use Rattle.cec_step.specs.Steps.{IsRoundStep, Run}
 use Rattle.cec_step.proofs.Taken.{brings_then}
