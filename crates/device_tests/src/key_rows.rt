@@ -16,8 +16,9 @@ player+recorder+combo | deck=11 sub=3 | press load | - | -
 player+recorder+combo | - | press menu | menu=on | @0 8e 00
 player+recorder+combo | menu=on | press menu | menu=off | @0 8e 01
 tv+amp+player+recorder+combo+switch | power=off | press power | power=on | -
-tv | menu=on held=44 | press power | power=off menu=off held=- | @f 36
-amp+switch | held=44 | press power | power=off held=- | -
+tv | held=44 | press power | power=off held=- | @f 36
+amp | held=44 | press power | power=off held=- | -
+switch | - | press power | power=off | -
 player+recorder+combo | deck=11 | press power | power=off deck=1a | -
 player+recorder+combo | active=1000 deck=11 sub=3 menu=on held=44 | press power | power=off active=- deck=1a sub=- menu=off held=- | @0 9d 10 00
 player+recorder+combo | active=1100 deck=19 | press power | power=off | -
@@ -76,7 +77,7 @@ tv+amp+switch | - | press play | refused | -
 tv+amp+switch | - | release play | refused | -
 tv+amp+switch | - | press stop | refused | -
 tv+amp+switch | - | press eject | refused | -
-tv+amp+switch | deck=19 | press load | refused | -
+tv+amp+switch | - | press load | refused | -
 tv+amp+switch | - | press menu | refused | -
 tv+amp+switch | - | release menu | refused | -
 amp+player+recorder+combo+switch | - | press watch 1200 | refused | -

@@ -1,6 +1,6 @@
 //! Worked rows of single devices.
-use crate::cases::{bytes_of, check, key_of, phys_of, settled};
-use crate::{Device, Fate, Port, Record};
+use crate::cases::{bytes_of, bytes_text, check, key_of, phys_of, settled};
+use cec_device::{Device, Fate, Port, Record};
 use cec_frame::{Addr, Frame};
 use hdmi_core::Kind;
 use std::alloc::Global;
@@ -22,12 +22,12 @@ amp | - | 05 70 10 00 | audio=on | 5f 72 01
 amp | audio=on | 05 70 | audio=off | 5f 72 00
 amp | - | 05 70 10 | - | -
 amp | audio=on | 05 44 41 | volume=21 held=41 | 50 7a 15
-amp | audio=on volume=21 held=41 | 05 44 43 | mute=on held=43 | 50 7a 95
+amp | audio=on held=41 volume=21 | 05 44 43 | mute=on held=43 | 50 7a 95
 amp | - | 05 c3 | - | 50 c0
 amp | - | 45 c3 | - | 54 00 c3 04
 tv | - | 50 c0 | arc=on | 05 c1
 tv | arc=on | 5f 36 | power=off | -
-tv | power=off arc=on | 50 c0 | - | 05 00 c0 01
+tv | arc=on power=off | 50 c0 | - | 05 00 c0 01
 player | - | 04 42 04 | deck=19 | -
 player | deck=19 | 04 41 24 | - | 40 00 41 01
 player | - | 04 1a 01 | sub=0 | 40 1b 1a
@@ -117,12 +117,7 @@ fn front(alloc: Global, device: &Device<16>) -> Result<String, Fail> {
     let Some(frame) = device.queue_front() else {
         return Ok(format!(in alloc; "-")?);
     };
-    let mut text = String::new(alloc);
-    for byte in frame.bytes() {
-        let word = format!(in alloc; " {byte:02x}")?;
-        text.push_str(word.as_str())?;
-    }
-    Ok(text)
+    bytes_text(alloc, frame.bytes())
 }
 
 fn value_of(address: Option<Addr>) -> Option<u8> {

@@ -8,8 +8,8 @@ const DIRECT: &str = "\
 tv+amp+player+recorder+combo | - | 3@ 00 41 04 | - | -
 tv | power=off | 3@ 04 | power=on | -
 amp+player+recorder+combo | power=off | 3@ 04 | - | @3 00 04 00
-tv | power=off osd=68_69 | 3@ 0d | power=on osd=- | -
-amp+player+recorder+combo | osd=68_69 | 3@ 0d | - | @3 00 0d 00
+tv | osd=68_69 power=off | 3@ 0d | power=on osd=- | -
+amp+player+recorder+combo | - | 3@ 0d | - | @3 00 0d 00
 player+recorder+combo | deck=19 | 3@ 1a 01 | sub=3 | @3 1b 19
 player+recorder+combo | sub=3 | 3@ 1a 02 | sub=- | -
 player+recorder+combo | - | 3@ 1a 03 | - | @3 1b 1a
@@ -17,8 +17,9 @@ player+recorder+combo | - | 3@ 1a 04 | - | @3 00 1a 03
 player+recorder+combo | - | f@ 1a 01 | sub=f | -
 tv+amp | - | 3@ 1a 01 | - | @3 00 1a 00
 tv+amp+player+recorder+combo | - | 3@ 1b 11 | heard=3:1b:11 | -
-tv+amp+player+recorder+combo | menu=on held=44 sub=3 deck=11 | 3@ 36 | power=off menu=off held=- sub=- deck=1a | -
-tv+amp+player+recorder+combo | deck=19 | 3@ 36 | power=off | -
+tv+amp | held=44 | 3@ 36 | power=off held=- | -
+player+recorder+combo | menu=on held=44 sub=3 deck=11 | 3@ 36 | power=off menu=off held=- sub=- deck=1a | -
+player+recorder+combo | deck=19 | 3@ 36 | power=off | -
 player+recorder+combo | power=off | 3@ 41 24 | power=on deck=11 | -
 player+recorder+combo | sub=3 | 3@ 41 25 | deck=14 | @3 1b 14
 player+recorder+combo | - | 3@ 41 05 | deck=17 | -
@@ -55,7 +56,7 @@ tv | power=off | 3@ 64 80 | - | @3 00 64 01
 tv | power=off | 3@ 64 01 68 | - | @3 00 64 03
 amp+player+recorder+combo | - | 3@ 64 00 68 | - | @3 00 64 00
 amp | power=off | 3@ 70 10 00 | power=on audio=on | @f 72 01
-amp | power=off audio=on | 3@ 70 | audio=off | @f 72 00
+amp | audio=on power=off | 3@ 70 | audio=off | @f 72 00
 amp | - | 3@ 70 10 | - | -
 tv+player+recorder+combo | - | 3@ 70 | - | @3 00 70 00
 amp | volume=35 | 3@ 71 | - | @3 7a 23
@@ -100,7 +101,8 @@ amp+player+recorder+combo | - | 3@ c0 | - | @3 00 c0 00
 amp | - | 3@ c1 | arc=on | -
 tv+player+recorder+combo | - | 3@ c1 | - | @3 00 c1 00
 amp | arc=on | 3@ c2 | arc=off | -
-tv+player+recorder+combo | arc=on | 3@ c2 | - | @3 00 c2 00
+tv | arc=on | 3@ c2 | - | @3 00 c2 00
+player+recorder+combo | - | 3@ c2 | - | @3 00 c2 00
 amp | - | 0@ c3 | - | @0 c0
 amp | - | 3@ c3 | - | @3 00 c3 04
 tv+player+recorder+combo | - | 3@ c3 | - | @3 00 c3 00
@@ -108,7 +110,8 @@ amp | - | 0@ c4 | - | @0 c5
 amp | - | 3@ c4 | - | @3 00 c4 04
 tv+player+recorder+combo | - | 3@ c4 | - | @3 00 c4 00
 tv | arc=on | 3@ c5 | arc=off | @3 c2
-amp+player+recorder+combo | arc=on | 3@ c5 | - | @3 00 c5 00
+amp | arc=on | 3@ c5 | - | @3 00 c5 00
+player+recorder+combo | - | 3@ c5 | - | @3 00 c5 00
 tv+amp+player+recorder+combo | - | 3@ ff | - | @3 00 ff 00";
 
 /// Codes of a remote control, which Section 3 of the profile's tables lists.
@@ -117,8 +120,10 @@ tv+amp+player+recorder+combo | power=off | 3@ 44 40 | power=on held=40 | -
 tv+amp+player+recorder+combo | power=off | 3@ 44 6d | power=on held=6d | -
 tv+amp+player+recorder+combo | power=off | 3@ 44 44 | - | -
 tv+amp+player+recorder+combo | power=off | 3@ 44 6c | - | -
-tv+amp+player+recorder+combo | menu=on held=01 sub=3 deck=11 | 3@ 44 40 | power=off menu=off held=- sub=- deck=1a | -
-tv+amp+player+recorder+combo | menu=on held=01 sub=3 deck=11 | 3@ 44 6c | power=off menu=off held=- sub=- deck=1a | -
+tv+amp | held=01 | 3@ 44 40 | power=off held=- | -
+player+recorder+combo | menu=on held=01 sub=3 deck=11 | 3@ 44 40 | power=off menu=off held=- sub=- deck=1a | -
+tv+amp | held=01 | 3@ 44 6c | power=off held=- | -
+player+recorder+combo | menu=on held=01 sub=3 deck=11 | 3@ 44 6c | power=off menu=off held=- sub=- deck=1a | -
 tv+amp+player+recorder+combo | - | 3@ 44 6d | held=6d | -
 tv+amp+player+recorder+combo | - | 3@ 44 00 | held=00 | -
 tv+amp | - | 3@ 44 41 | held=41 volume=21 | -
@@ -146,14 +151,16 @@ player+recorder+combo | menu=on | 3@ 44 09 | held=09 | -
 player+recorder+combo | menu=on | 3@ 44 0d | held=0d menu=off | @0 8e 01
 player+recorder+combo | - | 3@ 44 0d | held=0d | -
 tv+amp | - | 3@ 44 09 | held=09 | -
-tv+amp | menu=on | 3@ 44 0d | held=0d | -";
+tv+amp | - | 3@ 44 0d | held=0d | -";
 
 /// Messages to all. A switch selects by them and says where it leads.
 const BROADCAST: &str = "\
 amp+player+recorder+combo | - | 0f 32 66 72 61 | lang=667261 | -
 amp+player+recorder+combo | - | 3f 32 66 72 61 | - | -
 tv+switch | - | 0f 32 66 72 61 | - | -
-tv+amp+player+recorder+combo+switch | menu=on held=44 sub=3 deck=11 | 3f 36 | power=off menu=off held=- sub=- deck=1a | -
+tv+amp | held=44 | 3f 36 | power=off held=- | -
+switch | - | 3f 36 | power=off | -
+player+recorder+combo | menu=on held=44 sub=3 deck=11 | 3f 36 | power=off menu=off held=- sub=- deck=1a | -
 tv | audio=on | 3f 72 00 | audio=off | -
 tv | - | 3f 72 02 | - | -
 amp+player+recorder+combo+switch | - | 3f 72 01 | - | -
@@ -161,7 +168,6 @@ tv+amp+player+recorder+combo | active=1200 | 3f 80 11 00 12 00 | path=1200 activ
 player | - | 3f 80 20 00 10 00 | path=1000 | -
 switch | - | 3f 80 20 00 10 00 | path=1000 | ff 81 11 00
 switch | sel=2 | 3f 80 20 00 10 00 | path=1000 | ff 81 12 00
-switch | sel=- | 3f 80 20 00 10 00 | path=1000 | -
 switch | active=1100 | 3f 80 10 00 20 00 | path=2000 active=- | -
 tv+amp+player+recorder+combo | active=1200 | 3f 81 12 00 | path=1200 active=- | -
 switch | active=1100 | 3f 81 10 00 | path=1000 active=- | ff 81 11 00

@@ -1,8 +1,7 @@
 //! Cases of the tables as texts. A line has five columns: kinds, what the record has before, a frame or a key, what
 //! of the record has changed after it, and the frames that it queues. `@` stands for the device's own address.
-use crate::{Device, Fate, Key, KeyError, Note, Port, Volume, VolumeKey};
 use arrayvec::ArrayVec;
-use cec_feature::Record;
+use cec_device::{Device, Fate, Key, KeyError, Note, Port, Record, Volume, VolumeKey};
 use cec_frame::{Addr, Frame};
 use cec_opcode::{DeckInfo, Triple, UserControl};
 use hdmi_core::{Kind, Phys};
@@ -10,7 +9,7 @@ use std::alloc::{AllocError, Global};
 use std::process::Abort;
 use std::test::Fail;
 
-fn kind_of(word: &str) -> Result<Kind, Fail> {
+pub(crate) fn kind_of(word: &str) -> Result<Kind, Fail> {
     match word {
         "tv" => Ok(Kind::Tv),
         "amp" => Ok(Kind::Amp),
@@ -23,7 +22,7 @@ fn kind_of(word: &str) -> Result<Kind, Fail> {
 }
 
 // The first address of the kind's list, the player's of a box; 15 for a switch.
-fn own_address(kind: Kind) -> u8 {
+pub(crate) fn own_address(kind: Kind) -> u8 {
     match kind {
         Kind::Tv => 0,
         Kind::Amp => 5,
@@ -33,22 +32,32 @@ fn own_address(kind: Kind) -> u8 {
     }
 }
 
-/// A device with three ports that has settled, with nothing queued: a television at 0.0.0.0, any other at 1.0.0.0.
-pub(crate) fn settled(kind: Kind) -> Device<16> {
+/// A television is at 0.0.0.0, any other device at 1.0.0.0.
+pub(crate) fn phys_at(kind: Kind) -> Phys {
     let high = if kind == Kind::Tv { 0 } else { 0x10 };
+    Phys { high, low: 0 }
+}
+
+/// A device with three ports that has settled, with nothing queued.
+pub(crate) fn settled(kind: Kind) -> Device<16> {
     let mut device = Device::new(kind, b"p1", 3);
-    device.join(1, Phys { high, low: 0 }, 0);
+    device.join(1, phys_at(kind), 0);
     for _ in 0..2 {
         if device.is_allocating() && device.queue_front().is_some() {
             device.sent(Fate::Unacked, 0);
         }
     }
-    for _ in 0..2 {
+    send_all(&mut device);
+    device
+}
+
+// Sends what is queued.
+fn send_all(device: &mut Device<16>) {
+    for _ in 0..16 {
         if device.queue_front().is_some() {
             device.sent(Fate::Delivered, 0);
         }
     }
-    device
 }
 
 fn digit(character: u8, own: u8) -> u8 {
@@ -79,6 +88,16 @@ pub(crate) fn bytes_of(words: &str, own: u8) -> Result<ArrayVec<u8, 16>, Fail> {
         let _ = bytes.try_push(byte_of(word, own)?);
     }
     Ok(bytes)
+}
+
+/// The same words, each after a space.
+pub(crate) fn bytes_text(alloc: Global, bytes: &[u8]) -> Result<String, Fail> {
+    let mut text = String::new(alloc);
+    for byte in bytes {
+        let word = format!(in alloc; " {byte:02x}")?;
+        text.push_str(word.as_str())?;
+    }
+    Ok(text)
 }
 
 fn optional(value: &str) -> Result<Option<u8>, Fail> {
@@ -195,7 +214,7 @@ fn set(record: &mut Record, word: &str) -> Result<(), Fail> {
     set_other(record, field, value)
 }
 
-fn set_all(record: &mut Record, words: &str) -> Result<(), Fail> {
+pub(crate) fn set_all(record: &mut Record, words: &str) -> Result<(), Fail> {
     if words != "-" {
         for word in words.split(' ') {
             set(record, word)?;
@@ -265,7 +284,7 @@ fn heard(alloc: Global, record: &Record) -> Result<String, AllocError> {
 }
 
 // All fields of a record.
-fn record_text(alloc: Global, record: &Record) -> Result<String, AllocError> {
+pub(crate) fn record_text(alloc: Global, record: &Record) -> Result<String, AllocError> {
     let (sources, playing) = (sources(alloc, record)?, playing(alloc, record)?);
     let (language, heard) = (language(alloc, record)?, heard(alloc, record)?);
     format!(in alloc;
@@ -356,17 +375,17 @@ fn says(
     Ok(())
 }
 
-// What a case says of a kind: the record before, what is done, and what has changed after it.
+/// What a case says of a kind: the record before, what is done, and what has changed after it.
 #[derive(Clone, Copy)]
-struct Case<'a> {
-    line: &'a str,
-    before: &'a str,
-    doing: &'a str,
-    after: &'a str,
-    frames: &'a str,
+pub(crate) struct Case<'a> {
+    pub(crate) line: &'a str,
+    pub(crate) before: &'a str,
+    pub(crate) doing: &'a str,
+    pub(crate) after: &'a str,
+    pub(crate) frames: &'a str,
 }
 
-fn case_of(line: &str) -> Option<(&str, Case<'_>)> {
+pub(crate) fn case_of(line: &str) -> Option<(&str, Case<'_>)> {
     let (kinds, rest) = line.split_once(" | ")?;
     let (before, rest) = rest.split_once(" | ")?;
     let (doing, rest) = rest.split_once(" | ")?;
@@ -382,7 +401,7 @@ fn case_of(line: &str) -> Option<(&str, Case<'_>)> {
 }
 
 // The text of the record that is wanted after a case: as it is before, but for what has changed.
-fn wanted_text(alloc: Global, before: &Record, after: &str) -> Result<String, Fail> {
+pub(crate) fn wanted_text(alloc: Global, before: &Record, after: &str) -> Result<String, Fail> {
     let mut wanted = before.copy();
     if after != "refused" {
         set_all(&mut wanted, after)?;
@@ -390,11 +409,88 @@ fn wanted_text(alloc: Global, before: &Record, after: &str) -> Result<String, Fa
     Ok(record_text(alloc, &wanted)?)
 }
 
-// A device of this kind with the record that a case has before.
-fn device_before(kind: Kind, before: &str) -> Result<Device<16>, Fail> {
-    let mut device = settled(kind);
-    set_all(&mut device.record, before)?;
-    Ok(device)
+// How a device comes to a state: frames that it follows and keys that are pressed, once or more often. An active source
+// is the path too, so another path is routed after it.
+const WAYS: &str = "\
+power=off | 3f 36
+active=0000 | 3f 82 00 00, 3f 86 f0 00
+active=1000 | 3f 82 10 00, 3f 86 f0 00
+active=1100 | 3f 82 11 00, 3f 86 f0 00
+active=1200 | 3f 82 12 00, 3f 86 f0 00
+path=1200 | 3f 86 12 00
+deck=11 | 3@ 41 24
+deck=19 | press eject
+menu=on | press menu
+audio=on | 3f 72 01, 3@ 70 10 00
+volume=0 | press volume-down
+volume=21 | press volume-up
+volume=35 | press volume-up
+volume=100 | press volume-up
+mute=on | press mute
+arc=on | 3@ c0, 3@ c1
+sel=2 | press port 2
+sel=3 | press port 3
+lang=667261 | press language 667261
+osd=68_69 | 3@ 64 00 68 69
+held=01 | 3@ 44 01
+held=41 | 3@ 44 41
+held=44 | 3@ 44 44
+sub=0 | 0@ 1a 01
+sub=1 | 14 1a 01
+sub=3 | 3@ 1a 01
+sub=4 | 41 1a 01";
+
+fn way_to(state: &str) -> Result<&'static str, Fail> {
+    for line in WAYS.lines() {
+        match line.split_once(" | ") {
+            Some((name, way)) if name == state => return Ok(way),
+            _ => {}
+        }
+    }
+    Err("no way".into())
+}
+
+// The record has what these words say.
+fn has(alloc: Global, record: &Record, words: &str) -> Result<bool, Fail> {
+    let (told, wanted) = (
+        record_text(alloc, record)?,
+        wanted_text(alloc, record, words)?,
+    );
+    Ok(told == wanted)
+}
+
+// Goes the way to a state until the device has it.
+fn reach(alloc: Global, device: &mut Device<16>, state: &str, own: u8) -> Result<(), Fail> {
+    let way = way_to(state)?;
+    for _ in 0..80 {
+        if has(alloc, device.record(), state)? {
+            return Ok(());
+        }
+        for doing in way.split(", ") {
+            act(device, doing, own)?;
+        }
+    }
+    Ok(())
+}
+
+// Brings a device into the state that a case has before, with nothing queued.
+fn reach_all(
+    rt: &impl Abort,
+    alloc: Global,
+    device: &mut Device<16>,
+    case: Case<'_>,
+    own: u8,
+) -> Result<(), Fail> {
+    let line = case.line;
+    if case.before != "-" {
+        for state in case.before.split(' ') {
+            reach(alloc, device, state, own)?;
+        }
+    }
+    send_all(device);
+    let has = has(alloc, device.record(), case.before)?;
+    assert!(rt; has, "not so before: {line}");
+    Ok(())
 }
 
 // The case holds for a device that stands as before it.
@@ -406,21 +502,21 @@ fn check_device(
     own: u8,
 ) -> Result<(), Fail> {
     let line = case.line;
-    let wanted = wanted_text(alloc, &device.record, case.after)?;
-    assert_eq!(rt;
-        act(device, case.doing, own)?,
-        case.after != "refused",
-        "{line}"
+    let wanted = wanted_text(alloc, device.record(), case.after)?;
+    let is_done = act(device, case.doing, own)?;
+    let told = record_text(alloc, device.record())?;
+    assert!(rt;
+        is_done == (case.after != "refused") && told == wanted,
+        "{line}: {told}"
     );
-    let told = record_text(alloc, &device.record)?;
-    assert_eq!(rt; told, wanted, "{line}");
     Ok(())
 }
 
 fn check_kind(rt: &impl Abort, alloc: Global, kind: &str, case: Case<'_>) -> Result<(), Fail> {
     let kind = kind_of(kind)?;
     let own = own_address(kind);
-    let mut device = device_before(kind, case.before)?;
+    let mut device = settled(kind);
+    reach_all(rt, alloc, &mut device, case, own)?;
     check_device(rt, alloc, &mut device, case, own)?;
     says(rt, &mut device, case.frames, own, case.line)
 }
