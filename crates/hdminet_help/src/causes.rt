@@ -194,18 +194,19 @@ fn right_in(rows: &[Row], cause: &str) -> Option<&'static str> {
     None
 }
 
+fn rows_of(part: Part) -> &'static [Row] {
+    match part {
+        Part::Topology => TOPOLOGY,
+        Part::Script => SCRIPT,
+        Part::Steps => STEPS,
+        Part::Lines | Part::ScriptFrame => LINES,
+        Part::Edid => EDID,
+        Part::EdidText => EDID_TEXT,
+        Part::Program => PROGRAM,
+    }
+}
+
 /// What would be right in place of a fault.
 pub fn right(fault: Fault<'_>) -> Option<&'static str> {
-    match fault.part {
-        Part::Topology => right_in(TOPOLOGY, fault.cause),
-        Part::Script => match fault.cause.strip_prefix("frame ") {
-            Some(cause) => right_in(LINES, cause),
-            None => right_in(SCRIPT, fault.cause),
-        },
-        Part::Steps => right_in(STEPS, fault.cause),
-        Part::Lines => right_in(LINES, fault.cause),
-        Part::Edid => right_in(EDID, fault.cause),
-        Part::EdidText => right_in(EDID_TEXT, fault.cause),
-        Part::Program => right_in(PROGRAM, fault.cause),
-    }
+    right_in(rows_of(fault.part), fault.cause)
 }

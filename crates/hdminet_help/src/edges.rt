@@ -1,7 +1,7 @@
 //! Which word of an edge file's line is at fault.
 use crate::marks::{Mark, from, is_number, is_word, one};
-use crate::place::is_line_end;
-use crate::words::Word;
+use crate::place::{Place, is_line_end};
+use crate::words::{word_at, word_count};
 
 /// The greatest time of an edge file, in microseconds.
 const LAST_TIME: u64 = 2_000_000_000_000;
@@ -19,47 +19,35 @@ fn is_low_after(is_low: bool, line: &[u8]) -> bool {
     }
 }
 
-// Whether the line of the bus is low before a line of this number.
-fn is_low_before(input: &[u8], number: usize) -> bool {
+// Whether the line of the bus is low before a line of the file.
+fn is_low_before(place: Place<'_>) -> bool {
     let mut is_low = false;
-    for line in input.split(is_line_end).take(number.saturating_sub(1)) {
+    let above = place.number.saturating_sub(1);
+    for line in place.input.split(is_line_end).take(above) {
         is_low = is_low_after(is_low, line);
     }
     is_low
 }
 
-// The word of a line that is no line of an edge file. A line with no fault of its own stands behind the end.
-fn in_line(words: &[Word<'_>]) -> Option<Mark> {
-    match words.first() {
-        Some(time) if is_number(time.text, LAST_TIME) => {}
-        _ => return one(0),
+// The word behind a line's time. A line with no fault of its own stands behind the end.
+fn behind_time(line: &str) -> Option<Mark> {
+    match word_at(line, 1) {
+        Some("0" | "1" | "end") => from(if word_count(line) > 2 { 2 } else { 0 }),
+        Some(_) => one(1),
+        None => one(0),
     }
-    if words.len() < 2 {
-        return one(0);
-    }
-    if !(is_word(words, 1, "0") || is_word(words, 1, "1") || is_word(words, 1, "end")) {
-        return one(1);
-    }
-    if words.len() > 2 {
-        return from(2);
-    }
-    from(0)
 }
 
-/// The word of a line of an edge file that is at fault: for the cause `order` the edge where it is not its turn, and
-/// else the time.
-pub fn in_edges(cause: &str, input: &[u8], number: usize, words: &[Word<'_>]) -> Option<Mark> {
-    if cause == "line" {
-        return in_line(words);
+/// The word of a line that is no line of an edge file.
+pub fn in_line(line: &str) -> Option<Mark> {
+    match word_at(line, 0) {
+        Some(time) if is_number(time, LAST_TIME) => behind_time(line),
+        _ => one(0),
     }
-    let turned = if is_low_before(input, number) {
-        "0"
-    } else {
-        "1"
-    };
-    if is_word(words, 1, turned) {
-        one(1)
-    } else {
-        one(0)
-    }
+}
+
+/// The word of a line of an edge file that is out of order: the edge, where it is not its turn, and else the time.
+pub fn out_of_order(place: Place<'_>, line: &str) -> Option<Mark> {
+    let turned = if is_low_before(place) { "0" } else { "1" };
+    one(if is_word(line, 1, turned) { 1 } else { 0 })
 }

@@ -1,7 +1,6 @@
 //! What follows the line of a fault.
 use crate::causes::right;
 use crate::draft::Draft;
-use crate::edges::in_edges;
 use crate::fault::{Fault, Part, read_fault};
 use crate::frames::add_frame;
 use crate::grammar::{
@@ -10,8 +9,8 @@ use crate::grammar::{
 use crate::hints::{is_shown, of_edid, of_line, of_text};
 use crate::marks::{Mark, marked};
 use crate::order::add_order;
-use crate::place::{Place, is_line_end, place_of};
-use crate::words::{Word, is_near, words_of};
+use crate::place::{Place, declared_by, is_line_end, place_of};
+use crate::words::{is_near, span_of, word_at, word_count};
 use cec_opcode::name;
 use std::alloc::{AllocError, Global};
 
@@ -44,30 +43,13 @@ fn shown(alloc: Global, line: &[u8]) -> Result<String, AllocError> {
     draft.finish()
 }
 
-// The names of the devices that lines before this one declare.
-fn declared<'a>(alloc: Global, input: &'a [u8], before: usize) -> Result<Vec<&'a str>, AllocError> {
-    let mut names = Vec::new(alloc);
-    for line in input.split(is_line_end).take(before) {
-        if let Some(name) = declared_by(line) {
-            names.push(name)?;
-        }
-    }
-    Ok(names)
-}
-
-fn declared_by(line: &[u8]) -> Option<&str> {
-    let text = str::from_utf8(line).ok()?;
-    let (name, _) = text.strip_prefix("device ")?.split_once(' ')?;
-    Some(name)
-}
-
 // Blanks, and `^` below the marked words.
-fn add_mark(draft: &mut Draft, before: usize, words: &[Word<'_>], mark: Mark) {
-    if let Some(first) = words.get(mark.first) {
-        let last = words.get(mark.last).or(words.last()).unwrap_or(first);
-        let end = last.column.saturating_add(last.text.len().max(1));
-        draft.add_times(before.saturating_add(first.column), ' ');
-        draft.add_times(end.saturating_sub(first.column), '^');
+fn add_mark(draft: &mut Draft, before: usize, line: &str, mark: Mark) {
+    if mark.first < word_count(line) {
+        let begin = span_of(line, mark.first).begin;
+        let end = span_of(line, mark.last).end;
+        draft.add_times(before.saturating_add(begin), ' ');
+        draft.add_times(end.saturating_sub(begin), '^');
         draft.add("\n");
     }
 }
@@ -81,11 +63,11 @@ fn add_hints(draft: &mut Draft, hints: &[Option<&'static str>]) {
 }
 
 // The forms that a line fits as far as any.
-fn add_forms(draft: &mut Draft, forms: &[&str], words: &[Word<'_>]) {
-    let most = most_fitting(forms, words);
+fn add_forms(draft: &mut Draft, forms: &[&str], line: &str) {
+    let most = most_fitting(forms, line);
     let mut before = "  a line here reads `";
     for form in forms {
-        if fitting(form, words) == most {
+        if fitting(form, line) == most {
             draft.add_all(&[before, form]);
             before = "`, `";
         }
@@ -131,21 +113,30 @@ fn add_nearest_word(draft: &mut Draft, word: &str) -> bool {
         || add_nearest(draft, KEYS, word)
 }
 
-// The word of a step, or the name of a device, that a word may have been meant for.
-fn add_nearest_step(draft: &mut Draft, word: &str, names: &[&str]) -> bool {
-    add_nearest(draft, STEP_WORDS, word) || add_nearest(draft, names, word)
+// The first name of a device that a word may have been meant for.
+fn add_nearest_name(draft: &mut Draft, place: Place<'_>, word: &str) -> bool {
+    let above = place.number.saturating_sub(1);
+    for line in place.input.split(is_line_end).take(above) {
+        if let Some(name) = declared_by(line) {
+            if add_near(draft, name, word) {
+                return true;
+            }
+        }
+    }
+    false
 }
 
-// What the word at fault may have been meant for.
-fn add_suggestion(draft: &mut Draft, fault: Fault<'_>, word: &str, names: &[&str]) -> bool {
-    match fault.part {
-        Part::Topology | Part::Script if fault.cause == "name" => add_nearest(draft, names, word),
-        Part::Script if fault.cause.starts_with("frame ") => add_nearest_opcode(draft, word),
-        Part::Topology | Part::Script => add_nearest_word(draft, word),
-        Part::EdidText => add_nearest(draft, EDID_WORDS, word),
-        Part::Lines => add_nearest_opcode(draft, word),
-        Part::Steps => add_nearest_step(draft, word, names),
-        Part::Edid | Part::Program => false,
+// What the word at fault may have been meant for. Returns whether there is something.
+fn add_suggestion(draft: &mut Draft, place: Place<'_>, fault: Fault<'_>, word: &str) -> bool {
+    match (fault.part, fault.cause) {
+        (Part::Topology | Part::Script, "name") => add_nearest_name(draft, place, word),
+        (Part::Topology | Part::Script, _) => add_nearest_word(draft, word),
+        (Part::Lines | Part::ScriptFrame, _) => add_nearest_opcode(draft, word),
+        (Part::EdidText, _) => add_nearest(draft, EDID_WORDS, word),
+        (Part::Steps, _) => {
+            add_nearest(draft, STEP_WORDS, word) || add_nearest_name(draft, place, word)
+        }
+        (Part::Edid | Part::Program, _) => false,
     }
 }
 
@@ -157,13 +148,7 @@ fn add_head(draft: &mut Draft, number: usize) -> usize {
 }
 
 // The number and the text of a line, and the mark below its words.
-fn add_shown(
-    draft: &mut Draft,
-    place: Place<'_>,
-    line: &str,
-    words: &[Word<'_>],
-    mark: Option<Mark>,
-) {
+fn add_shown(draft: &mut Draft, place: Place<'_>, line: &str, mark: Option<Mark>) {
     let before = add_head(draft, place.number);
     let end = if place.line.len() > COLUMNS {
         " ..\n"
@@ -172,91 +157,47 @@ fn add_shown(
     };
     draft.add_all(&[line, end]);
     if let Some(mark) = mark {
-        add_mark(draft, before, words, mark);
-    }
-}
-
-// The words at fault.
-fn mark_of(
-    input: &[u8],
-    place: Place<'_>,
-    fault: Fault<'_>,
-    words: &[Word<'_>],
-    names: &[&str],
-) -> Option<Mark> {
-    match (fault.part, fault.cause) {
-        (Part::Lines, "line" | "order") => in_edges(fault.cause, input, place.number, words),
-        _ => marked(fault, words, names),
+        add_mark(draft, before, line, mark);
     }
 }
 
 // The forms that the line could have, or the line that it should not stand behind.
-fn add_right_forms(
-    draft: &mut Draft,
-    input: &[u8],
-    place: Place<'_>,
-    fault: Fault<'_>,
-    words: &[Word<'_>],
-) {
+fn add_right_forms(draft: &mut Draft, place: Place<'_>, fault: Fault<'_>, line: &str) {
     match (fault.part, fault.cause) {
-        (Part::Topology, "word") => add_forms(draft, TOPOLOGY, words),
-        (Part::Script, "word") => add_forms(draft, SCRIPT, words),
-        (Part::Steps, _) => add_forms(draft, STEPS, words),
-        (Part::Script, "order") => add_order(draft, input, place),
-        _ => {}
-    }
-}
-
-// What the frame of a line could be.
-fn add_right_frame(draft: &mut Draft, fault: Fault<'_>, words: &[Word<'_>]) {
-    match (fault.part, fault.cause.strip_prefix("frame ")) {
-        (Part::Script, Some(cause)) => add_frame(draft, cause, words, 4),
-        (Part::Lines, _) => add_frame(draft, fault.cause, words, 0),
+        (Part::Topology, "word") => add_forms(draft, TOPOLOGY, line),
+        (Part::Script, "word") => add_forms(draft, SCRIPT, line),
+        (Part::Script, "order") => add_order(draft, place),
+        (Part::Steps, _) => add_forms(draft, STEPS, line),
+        (Part::ScriptFrame, cause) => add_frame(draft, cause, line, 4),
+        (Part::Lines, cause) => add_frame(draft, cause, line, 0),
         _ => {}
     }
 }
 
 // What the marked word may have been meant for.
-fn add_meant(draft: &mut Draft, fault: Fault<'_>, words: &[Word<'_>], mark: Mark, names: &[&str]) {
-    if let Some(word) = words.get(mark.first) {
-        add_suggestion(draft, fault, word.text, names);
+fn add_meant(draft: &mut Draft, place: Place<'_>, fault: Fault<'_>, line: &str, mark: Mark) {
+    if let Some(word) = word_at(line, mark.first) {
+        add_suggestion(draft, place, fault, word);
     }
 }
 
-// A line with its mark, and what is odd about it.
-fn add_marked(
-    draft: &mut Draft,
-    input: &[u8],
-    place: Place<'_>,
-    fault: Fault<'_>,
-    line: &str,
-    words: &[Word<'_>],
-    names: &[&str],
-) {
-    let mark = mark_of(input, place, fault, words, names);
-    add_shown(draft, place, line, words, mark);
+// A line as it is shown, with its mark, and what is odd about it.
+fn add_marked(draft: &mut Draft, place: Place<'_>, fault: Fault<'_>, line: &str) {
+    let mark = marked(fault, place, line);
+    add_shown(draft, place, line, mark);
     add_hints(draft, of_line(place.line, line).as_slice());
-    add_right_forms(draft, input, place, fault, words);
-    add_right_frame(draft, fault, words);
+    add_right_forms(draft, place, fault, line);
     if let Some(mark) = mark {
-        add_meant(draft, fault, words, mark, names);
+        add_meant(draft, place, fault, line, mark);
     }
 }
 
 // The line of a fault, its mark, and what is odd about it.
-fn add_place(
-    draft: &mut Draft,
-    input: &[u8],
-    place: Place<'_>,
-    fault: Fault<'_>,
-) -> Result<(), AllocError> {
-    let alloc = draft.alloc();
-    let line = shown(alloc, place.line)?;
-    let words = words_of(alloc, line.as_str())?;
-    let names = declared(alloc, input, place.number.saturating_sub(1))?;
-    let (words, names) = (words.as_slice(), names.as_slice());
-    add_marked(draft, input, place, fault, line.as_str(), words, names);
-    Ok(())
+fn add_place(draft: &mut Draft, place: Place<'_>, fault: Fault<'_>) {
+    match shown(draft.alloc(), place.line) {
+        Ok(line) => add_marked(draft, place, fault, line.as_str()),
+        Err(AllocError) => draft.fail(),
+    }
 }
 
 // How long an input is that is no EDID by its length: whole blocks and more, or a count of bytes that is none's.
@@ -305,7 +246,7 @@ pub fn explain(
     let mut draft = Draft::new(alloc);
     let fault = read_fault(fault);
     if let Some(place) = place_of(input, what, fault) {
-        add_place(&mut draft, input, place, fault)?;
+        add_place(&mut draft, place, fault);
     }
     if let Some(right) = right(fault) {
         draft.add_line(right);

@@ -7,6 +7,8 @@ pub enum Part {
     Topology,
     /// The script, after the line `script`.
     Script,
+    /// A frame that a line of the script sends.
+    ScriptFrame,
     /// The commands after the line `steps`.
     Steps,
     /// A whole input of lines: frames or edges.
@@ -28,28 +30,37 @@ pub struct Fault<'a> {
     pub cause: &'a str,
 }
 
+/// What a fault's line begins with, and the part that it speaks of.
+const PARTS: &[(&str, Part)] = &[
+    ("topology line ", Part::Topology),
+    ("script line ", Part::Script),
+    ("steps line ", Part::Steps),
+    ("line ", Part::Lines),
+    ("edid", Part::Edid),
+    ("text", Part::EdidText),
+];
+
+fn part_of(head: &str) -> Part {
+    for (begin, part) in PARTS {
+        if head.starts_with(*begin) {
+            return *part;
+        }
+    }
+    Part::Program
+}
+
 // The number after the last space.
 fn last_number(text: &str) -> Option<usize> {
     let (_, digits) = text.rsplit_once(' ')?;
     digits.parse().ok()
 }
 
-// The part that the words before the colon name.
-fn part_of(head: &str) -> Part {
-    if head.starts_with("topology line ") {
-        Part::Topology
-    } else if head.starts_with("script line ") {
-        Part::Script
-    } else if head.starts_with("steps line ") {
-        Part::Steps
-    } else if head.starts_with("line ") {
-        Part::Lines
-    } else if head == "edid" {
-        Part::Edid
-    } else if head == "text" {
-        Part::EdidText
-    } else {
-        Part::Program
+// The line that is named before the colon, or after it.
+fn line_in(part: Part, head: &str, cause: &str) -> Option<usize> {
+    match part {
+        Part::Edid | Part::Program => None,
+        Part::EdidText => last_number(cause),
+        _ => last_number(head),
     }
 }
 
@@ -57,26 +68,18 @@ fn part_of(head: &str) -> Part {
 pub fn read_fault(text: &str) -> Fault<'_> {
     let (head, cause) = text.split_once(": ").unwrap_or((text, ""));
     let part = part_of(head);
-    match part {
-        Part::Program => Fault {
+    let line = line_in(part, head, cause);
+    match (part, cause.strip_prefix("frame ")) {
+        (Part::Script, Some(cause)) => Fault {
+            part: Part::ScriptFrame,
+            line,
+            cause,
+        },
+        (Part::Program, _) => Fault {
             part,
-            line: None,
+            line,
             cause: text,
         },
-        Part::EdidText => Fault {
-            part,
-            line: last_number(cause),
-            cause,
-        },
-        Part::Edid => Fault {
-            part,
-            line: None,
-            cause,
-        },
-        _ => Fault {
-            part,
-            line: last_number(head),
-            cause,
-        },
+        _ => Fault { part, line, cause },
     }
 }

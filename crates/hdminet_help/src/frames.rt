@@ -1,7 +1,7 @@
 //! The words of frames, from the tables of opcodes.
 use crate::draft::Draft;
 use crate::list::list_set;
-use crate::words::Word;
+use crate::words::word_at;
 use cec_opcode::{Operand, Operands, WordSet, code_named, name, operands_of};
 use cec_shape::{frame_shape, set_label};
 use std::alloc::{AllocError, Global};
@@ -143,9 +143,9 @@ fn add_frame_of(draft: &mut Draft, cause: &str, word: &str) {
 }
 
 /// What the frame of a line would be, whose text begins at a word and is refused for a cause.
-pub fn add_frame(draft: &mut Draft, cause: &str, words: &[Word<'_>], at: usize) {
-    if let Some(word) = words.get(at.saturating_add(1)) {
-        add_frame_of(draft, cause, word.text);
+pub fn add_frame(draft: &mut Draft, cause: &str, line: &str, at: usize) {
+    if let Some(word) = word_at(line, at.saturating_add(1)) {
+        add_frame_of(draft, cause, word);
     }
 }
 

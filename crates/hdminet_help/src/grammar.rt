@@ -1,5 +1,4 @@
 //! The forms of the lines of topologies, scripts and steps. A word in capitals stands for a value.
-use crate::words::Word;
 
 /// The lines of a topology.
 pub const TOPOLOGY: &[&str] = &[
@@ -117,23 +116,21 @@ fn is_opcode(word: &str) -> bool {
 
 // Whether a word may stand where a form has another.
 fn fits(wanted: &str, word: &str) -> bool {
-    if wanted == "KIND" {
-        KINDS.contains(&word)
-    } else if wanted == "KEY" {
-        KEYS.contains(&word)
-    } else if wanted == "XX" {
-        is_opcode(word)
-    } else {
-        is_value(wanted) || wanted == word
+    match wanted {
+        "KIND" => KINDS.contains(&word),
+        "KEY" => KEYS.contains(&word),
+        "XX" => is_opcode(word),
+        _ => is_value(wanted) || wanted == word,
     }
 }
 
 /// How many words of a line, from the left, fit a form.
-pub fn fitting(form: &str, words: &[Word<'_>]) -> usize {
+pub fn fitting(form: &str, line: &str) -> usize {
+    let mut words = line.split(' ');
     let mut count = 0usize;
     for wanted in form.split(' ') {
-        match words.get(count) {
-            Some(word) if fits(wanted, word.text) => count = count.saturating_add(1),
+        match words.next() {
+            Some(word) if fits(wanted, word) => count = count.saturating_add(1),
             _ => return count,
         }
     }
@@ -141,10 +138,10 @@ pub fn fitting(form: &str, words: &[Word<'_>]) -> usize {
 }
 
 /// The most words of a line that fit one of the forms: the word after them is the first that fits none.
-pub fn most_fitting(forms: &[&str], words: &[Word<'_>]) -> usize {
+pub fn most_fitting(forms: &[&str], line: &str) -> usize {
     let mut most = 0;
     for form in forms {
-        most = most.max(fitting(form, words));
+        most = most.max(fitting(form, line));
     }
     most
 }

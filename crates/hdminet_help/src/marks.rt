@@ -1,7 +1,9 @@
 //! Which words of a line are at fault.
+use crate::edges::{in_line, out_of_order};
 use crate::fault::{Fault, Part};
 use crate::grammar::{SCRIPT, STEPS, TOPOLOGY, most_fitting};
-use crate::words::Word;
+use crate::place::{Place, is_declared};
+use crate::words::{word_at, word_count};
 
 /// Words side by side in a line, by their numbers from 0.
 #[derive(Clone, Copy)]
@@ -12,6 +14,20 @@ pub struct Mark {
 
 /// The greatest instant of a script, in microseconds.
 const LAST_INSTANT: u64 = 1_000_000_000_000;
+
+/// The word at fault for each further cause of a topology.
+const TOPOLOGY_WORDS: &[(&str, usize)] = &[
+    ("number", 3),
+    ("port-range", 3),
+    ("port-taken", 3),
+    ("not-loose", 1),
+    ("hex", 1),
+    ("second-root", 2),
+    ("loop", 2),
+];
+
+/// The word at fault for each further cause of a script.
+const SCRIPT_WORDS: &[(&str, usize)] = &[("width", 2), ("order", 1), ("end", 1), ("close", 1)];
 
 /// One word.
 pub fn one(word: usize) -> Option<Mark> {
@@ -37,68 +53,89 @@ pub fn is_number(word: &str, limit: u64) -> bool {
 }
 
 /// Whether a line has this word there.
-pub fn is_word(words: &[Word<'_>], index: usize, text: &str) -> bool {
-    match words.get(index) {
-        Some(word) => word.text == text,
+pub fn is_word(line: &str, index: usize, text: &str) -> bool {
+    match word_at(line, index) {
+        Some(word) => word == text,
         None => false,
     }
 }
 
-fn is_declared(words: &[Word<'_>], index: usize, declared: &[&str]) -> bool {
-    match words.get(index) {
-        Some(word) => declared.contains(&word.text),
+// Whether a line has the name of a device there.
+fn is_name(place: Place<'_>, line: &str, index: usize) -> bool {
+    match word_at(line, index) {
+        Some(word) => is_declared(place, word),
         None => false,
     }
 }
 
 // The first word that no form has there.
-fn unfit(forms: &[&str], words: &[Word<'_>]) -> Option<Mark> {
-    let count = most_fitting(forms, words);
-    if count < words.len() {
+fn unfit(forms: &[&str], line: &str) -> Option<Mark> {
+    let count = most_fitting(forms, line);
+    if count < word_count(line) {
         one(count)
     } else {
         None
     }
 }
 
-fn in_topology(cause: &str, words: &[Word<'_>], declared: &[&str]) -> Option<Mark> {
+// The word of a cause that stands in a table.
+fn word_of(rows: &[(&str, usize)], cause: &str) -> Option<Mark> {
+    for (name, word) in rows {
+        if cause == *name {
+            return one(*word);
+        }
+    }
+    None
+}
+
+// The first name of a topology's line that is not right.
+fn name_in_topology(place: Place<'_>, line: &str) -> usize {
+    if is_word(line, 0, "plug") && is_name(place, line, 1) {
+        2
+    } else {
+        1
+    }
+}
+
+fn in_topology(cause: &str, place: Place<'_>, line: &str) -> Option<Mark> {
     match cause {
-        "word" => unfit(TOPOLOGY, words),
-        "number" | "port-range" | "port-taken" => one(3),
-        "name" if is_word(words, 0, "plug") && is_declared(words, 1, declared) => one(2),
-        "name" | "not-loose" | "hex" => one(1),
-        "second-root" | "loop" => one(2),
-        _ => None,
+        "word" => unfit(TOPOLOGY, line),
+        "name" => one(name_in_topology(place, line)),
+        _ => word_of(TOPOLOGY_WORDS, cause),
     }
 }
 
 // The number of a script's line that is none, or else the last word.
-fn number_in_script(words: &[Word<'_>]) -> Option<Mark> {
-    match words.get(1) {
-        Some(word) if is_number(word.text, LAST_INSTANT) => from(words.len().saturating_sub(1)),
+fn number_in_script(line: &str) -> Option<Mark> {
+    match word_at(line, 1) {
+        Some(word) if is_number(word, LAST_INSTANT) => { from(word_count(line).saturating_sub(1)) }
         _ => one(1),
     }
 }
 
-fn in_script(cause: &str, words: &[Word<'_>], declared: &[&str]) -> Option<Mark> {
+fn in_script(cause: &str, place: Place<'_>, line: &str) -> Option<Mark> {
     match cause {
-        "word" => unfit(SCRIPT, words),
-        "number" => number_in_script(words),
-        "name" if is_declared(words, 3, declared) => one(4),
-        "name" => one(3),
-        "width" => one(2),
-        "order" | "end" | "close" => one(1),
+        "word" => unfit(SCRIPT, line),
+        "number" => number_in_script(line),
+        "name" => one(if is_name(place, line, 3) { 4 } else { 3 }),
+        _ => word_of(SCRIPT_WORDS, cause),
+    }
+}
+
+// The name of a step's line that no device has.
+fn name_in_steps(place: Place<'_>, line: &str) -> Option<Mark> {
+    let index = if is_word(line, 0, "show") { 1 } else { 2 };
+    match word_at(line, index) {
+        Some(word) if !is_declared(place, word) => one(index),
         _ => None,
     }
 }
 
 // The first word that no step has there, or else a name that no device has.
-fn in_steps(words: &[Word<'_>], declared: &[&str]) -> Option<Mark> {
-    let name = if is_word(words, 0, "show") { 1 } else { 2 };
-    match unfit(STEPS, words) {
+fn in_steps(place: Place<'_>, line: &str) -> Option<Mark> {
+    match unfit(STEPS, line) {
         Some(mark) => Some(mark),
-        None if name < words.len() && !is_declared(words, name, declared) => one(name),
-        None => None,
+        None => name_in_steps(place, line),
     }
 }
 
@@ -111,19 +148,34 @@ fn in_frame(cause: &str, at: usize) -> Option<Mark> {
     }
 }
 
-/// The words of a fault's line that are at fault. `declared` has the names of the devices above.
-pub fn marked(fault: Fault<'_>, words: &[Word<'_>], declared: &[&str]) -> Option<Mark> {
+// A line of frames or edges.
+fn in_lines(cause: &str, place: Place<'_>, line: &str) -> Option<Mark> {
+    match cause {
+        "line" => in_line(line),
+        "order" => out_of_order(place, line),
+        _ => in_frame(cause, 0),
+    }
+}
+
+// A line of an EDID's text.
+fn in_edid_text(cause: &str) -> Option<Mark> {
+    if cause.starts_with("field") {
+        from(1)
+    } else {
+        one(0)
+    }
+}
+
+/// The words at fault of a fault's line, as it is shown.
+pub fn marked(fault: Fault<'_>, place: Place<'_>, line: &str) -> Option<Mark> {
     match fault.part {
-        Part::Topology => in_topology(fault.cause, words, declared),
-        Part::Script => match fault.cause.strip_prefix("frame ") {
-            Some(cause) => in_frame(cause, 4),
-            None => in_script(fault.cause, words, declared),
-        },
-        Part::Lines => in_frame(fault.cause, 0),
-        Part::EdidText if fault.cause.starts_with("field") => from(1),
-        Part::EdidText => one(0),
-        Part::Steps => in_steps(words, declared),
+        Part::Topology => in_topology(fault.cause, place, line),
+        Part::Script => in_script(fault.cause, place, line),
+        Part::ScriptFrame => in_frame(fault.cause, 4),
+        Part::Steps => in_steps(place, line),
+        Part::Lines => in_lines(fault.cause, place, line),
         Part::Edid => from(1),
+        Part::EdidText => in_edid_text(fault.cause),
         Part::Program => None,
     }
 }

@@ -2,6 +2,13 @@
 use crate::draft::Draft;
 use crate::fault::Part;
 use crate::place::{Place, is_line_end, lines_before};
+use crate::words::word_at;
+
+/// What an event's line begins with.
+const EVENT: &str = "at ";
+
+/// What a pulse's line begins with.
+const PULSE: &str = "pulse ";
 
 /// A line of a script with its number, and the instant that the next line of its kind may not be before.
 #[derive(Clone, Copy)]
@@ -10,68 +17,83 @@ struct Earlier {
     instant: u64,
 }
 
-// The first two words behind a line's first word, as numbers; a second one that is none counts as 0.
-fn numbers_behind(line: &[u8], word: &str) -> Option<(u64, u64)> {
-    let rest = str::from_utf8(line).ok()?.strip_prefix(word)?;
-    let mut numbers = rest.split(' ');
-    let first = numbers.next()?.parse().ok()?;
-    let second = match numbers.next() {
-        Some(number) => number.parse().unwrap_or(0),
-        None => 0,
-    };
-    Some((first, second))
+// The word of this number, from 0, behind a line's first word, as a number.
+fn number_behind(line: &[u8], word: &str, index: usize) -> Option<u64> {
+    let words = str::from_utf8(line).ok()?.strip_prefix(word)?;
+    word_at(words, index)?.parse().ok()
 }
 
-// The last line before one of this number, behind the line `script`, that begins with a word; and its end.
-fn last_before(input: &[u8], script: usize, number: usize, word: &str) -> Option<Earlier> {
+// The instant of a line that begins with a word.
+fn instant_of(line: &[u8], word: &str) -> Option<u64> {
+    number_behind(line, word, 0)
+}
+
+// The instant that the next line of its kind may not be before: of a pulse its end.
+fn end_of(line: &[u8], word: &str) -> Option<u64> {
+    let instant = instant_of(line, word)?;
+    let width = if word == PULSE {
+        number_behind(line, word, 1).unwrap_or(0)
+    } else {
+        0
+    };
+    Some(instant.saturating_add(width))
+}
+
+// The last line of the script before one, that begins with a word.
+fn last_before(place: Place<'_>, word: &str) -> Option<Earlier> {
+    let script = lines_before(Part::Script, place.input);
     let mut last = None;
-    let mut at = 0usize;
-    for line in input.split(is_line_end).take(number.saturating_sub(1)) {
-        at = at.saturating_add(1);
-        if at > script {
-            if let Some((instant, width)) = numbers_behind(line, word) {
-                let more = if word == "pulse " { width } else { 0 };
-                last = Some(Earlier {
-                    number: at,
-                    instant: instant.saturating_add(more),
-                });
+    let mut number = 0usize;
+    for line in place
+        .input
+        .split(is_line_end)
+        .take(place.number.saturating_sub(1))
+    {
+        number = number.saturating_add(1);
+        if number > script {
+            if let Some(instant) = end_of(line, word) {
+                last = Some(Earlier { number, instant });
             }
         }
     }
     last
 }
 
-// The instant of a line that begins with a word, and the last line before it that begins so.
-fn instants(input: &[u8], script: usize, place: Place<'_>, word: &str) -> Option<(u64, Earlier)> {
-    let (instant, _) = numbers_behind(place.line, word)?;
-    let last = last_before(input, script, place.number, word)?;
-    Some((instant, last))
+// Of an event that is earlier than one above.
+fn add_earlier_event(draft: &mut Draft, place: Place<'_>) {
+    let number = place.number;
+    if let (Some(instant), Some(last)) = (
+        instant_of(place.line, EVENT),
+        last_before(place, EVENT),
+    ) {
+        writeln!(
+            draft,
+            "  the time of line {number}, {instant}, is before that of line {}, {}",
+            last.number, last.instant
+        );
+    }
 }
 
-fn add_earlier_time(draft: &mut Draft, number: usize, instant: u64, last: Earlier) {
-    writeln!(
-        draft,
-        "  the time of line {number}, {instant}, is before that of line {}, {}",
-        last.number, last.instant
-    );
-}
-
-fn add_earlier_pulse(draft: &mut Draft, number: usize, instant: u64, last: Earlier) {
-    writeln!(
-        draft,
-        "  the pulse of line {number} begins at {instant}, before that of line {} ends, at {}",
-        last.number, last.instant
-    );
+// Of a pulse that begins before one above ends.
+fn add_earlier_pulse(draft: &mut Draft, place: Place<'_>) {
+    let number = place.number;
+    if let (Some(instant), Some(last)) = (
+        instant_of(place.line, PULSE),
+        last_before(place, PULSE),
+    ) {
+        writeln!(
+            draft,
+            "  the pulse of line {number} begins at {instant}, before that of line {} ends, at {}",
+            last.number, last.instant
+        );
+    }
 }
 
 /// Says which line's time is earlier than which, of a line of a script that is out of order.
-pub fn add_order(draft: &mut Draft, input: &[u8], place: Place<'_>) {
-    let script = lines_before(Part::Script, input);
-    let times = instants(input, script, place, "at ");
-    let pulses = instants(input, script, place, "pulse ");
-    match (times, pulses) {
-        (Some((instant, last)), _) => add_earlier_time(draft, place.number, instant, last),
-        (None, Some((instant, last))) => add_earlier_pulse(draft, place.number, instant, last),
-        (None, None) => {}
+pub fn add_order(draft: &mut Draft, place: Place<'_>) {
+    if place.line.starts_with(PULSE.as_bytes()) {
+        add_earlier_pulse(draft, place);
+    } else {
+        add_earlier_event(draft, place);
     }
 }
