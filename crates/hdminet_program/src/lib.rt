@@ -1,10 +1,8 @@
-//! The program: its command line, its input, its faults, over readers and sinks that it is handed.
+//! The program: its input, its output, its faults, over readers and sinks that it is handed.
 #![tactic(auto)]
 
 mod buffered;
-mod choice;
 mod fault;
-mod help;
 pub mod program;
 
 pub use buffered::Buffered;

@@ -1,8 +1,6 @@
 //! The program over a reader and two sinks.
 use crate::buffered::Buffered;
-use crate::choice::{Asked, Choice, choose, is_memory};
 use crate::fault::Fault;
-use crate::help::EXPLAINED;
 use arrayvec::ArrayString;
 use cec_mon::watch;
 use cec_run::Totals;
@@ -11,9 +9,9 @@ use cec_run::emulate::emulate;
 use cec_step::step_run::step_run;
 use cec_text::asm_lines;
 use cec_words::first_line;
-use clap::Error as CommandLineError;
 use hdmi_convert::{edid_to_text, text_to_hex};
 use hdmi_core::{Sink, put_all};
+use hdminet_command::{Asked, Choice, Refused, choose};
 use hdminet_help::{counts, explain};
 use std::alloc::{AllocError, Global};
 use std::fmt::Write;
@@ -169,53 +167,25 @@ fn report<E: Sink>(alloc: Global, asked: Asked, fault: &Fault, input: &[u8], err
     status
 }
 
-// Shows why a command line is refused, or the help that it asks for. Answers the exit status.
-fn show_refused<W: Sink, E: Sink>(
-    alloc: Global,
-    refused: &CommandLineError,
-    out: &mut Buffered<W>,
-    err: &mut E,
-) -> u8 {
-    if is_memory(refused) {
-        return tell(&Fault::Memory(AllocError), err);
-    }
-    let Ok(text) = format!(in alloc; "{refused}") else {
-        return tell(&Fault::Memory(AllocError), err);
-    };
-    if refused.use_stderr() {
-        let _ = put_all(err, text.as_bytes());
-        return 2;
-    }
-    let _ = put_all(out, text.as_bytes());
+// Writes a help. Answers the exit status.
+fn show<W: Sink, E: Sink>(help: &str, out: &mut Buffered<W>, err: &mut E) -> u8 {
+    let _ = put_all(out, help.as_bytes());
     match out.flush() {
         Ok(()) => 0,
         Err(fault) => tell(&Fault::Write(fault), err),
     }
 }
 
-// Whether `--explain` is one of the words of a refused command line.
-fn has_explain(words: &[String]) -> bool {
-    for word in words {
-        if word.as_str() == "--explain" {
-            return true;
+// Shows why a command line is refused, or the help that it asks for. Answers the exit status.
+fn refuse<W: Sink, E: Sink>(refused: &Refused, out: &mut Buffered<W>, err: &mut E) -> u8 {
+    match refused {
+        Refused::Help(text) => show(text.as_str(), out, err),
+        Refused::Words(text) => {
+            let _ = put_all(err, text.as_bytes());
+            2
         }
+        Refused::Memory => tell(&Fault::Memory(AllocError), err),
     }
-    false
-}
-
-// Shows why a command line is refused, and with `--explain` what follows. Answers the exit status.
-fn refuse<W: Sink, E: Sink>(
-    alloc: Global,
-    refused: &CommandLineError,
-    words: &[String],
-    out: &mut Buffered<W>,
-    err: &mut E,
-) -> u8 {
-    let status = show_refused(alloc, refused, out, err);
-    if status == 2 && has_explain(words) {
-        let _ = put_all(err, EXPLAINED.as_bytes());
-    }
-    status
 }
 
 // Does what is asked for with an input, and tells how it went. Answers the exit status.
@@ -263,6 +233,6 @@ pub fn program<R: Read, W: Sink, E: Sink>(
 ) -> u8 {
     match choose(alloc, &words) {
         Ok(asked) => serve(alloc, asked, input, out, err),
-        Err(refused) => refuse(alloc, &refused, &words, out, err),
+        Err(refused) => refuse(&refused, out, err),
     }
 }

@@ -32,6 +32,17 @@ pub struct Asked {
     pub explains: bool,
 }
 
+/// What is said in place of doing what a command line asks for.
+#[derive(Debug, Drop)]
+pub enum Refused {
+    /// The help that it asks for.
+    Help(String),
+    /// Why its words are refused.
+    Words(String),
+    /// Nothing, as memory ran out.
+    Memory,
+}
+
 impl Choice {
     /// What the input is to be.
     pub fn input(self) -> Input {
@@ -208,17 +219,6 @@ fn plain_choice(words: &[String]) -> Option<Choice> {
     }
 }
 
-/// Reads a command line. With no word after the program's name it is `run`.
-pub fn choose(alloc: Global, words: &[String]) -> Result<Asked, Error> {
-    match plain_choice(words) {
-        Some(choice) => Ok(Asked {
-            choice,
-            explains: false,
-        }),
-        None => choose_with_help(alloc, words),
-    }
-}
-
 // What the matches of a command line ask for.
 fn asked_by(matches: &ArgMatches<'_>) -> Asked {
     Asked {
@@ -246,7 +246,48 @@ fn choose_with_help(alloc: Global, words: &[String]) -> Result<Asked, Error> {
     choose_by_table(alloc, words, run_help.as_str(), asm_help.as_str())
 }
 
-/// Whether it is want of memory that refused a command line.
-pub fn is_memory(error: &Error) -> bool {
-    error.kind() == ErrorKind::OutOfMemory
+// What follows words that are refused: with `--explain` among them, how the program is called.
+fn explanation(words: &[String]) -> &'static str {
+    for word in words {
+        if word.as_str() == "--explain" {
+            return help::EXPLAINED;
+        }
+    }
+    ""
+}
+
+// What is said of a command line that is not to be done.
+fn said(alloc: Global, error: &Error, words: &[String]) -> Result<Refused, AllocError> {
+    if error.use_stderr() {
+        let explanation = explanation(words);
+        let text = format!(in alloc; "{error}{explanation}")?;
+        return Ok(Refused::Words(text));
+    }
+    let text = format!(in alloc; "{error}")?;
+    Ok(Refused::Help(text))
+}
+
+// What becomes of a command line that is not to be done.
+fn refusal(alloc: Global, error: &Error, words: &[String]) -> Refused {
+    if error.kind() == ErrorKind::OutOfMemory {
+        return Refused::Memory;
+    }
+    match said(alloc, error, words) {
+        Ok(refused) => refused,
+        Err(AllocError) => Refused::Memory,
+    }
+}
+
+/// Reads a command line. With no word after the program's name it is `run`.
+pub fn choose(alloc: Global, words: &[String]) -> Result<Asked, Refused> {
+    if let Some(choice) = plain_choice(words) {
+        return Ok(Asked {
+            choice,
+            explains: false,
+        });
+    }
+    match choose_with_help(alloc, words) {
+        Ok(asked) => Ok(asked),
+        Err(error) => Err(refusal(alloc, &error, words)),
+    }
 }

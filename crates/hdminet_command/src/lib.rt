@@ -1,0 +1,7 @@
+//! The words of a command line, and the help that they may ask for.
+#![tactic(auto)]
+
+mod choice;
+mod help;
+
+pub use choice::{Asked, Choice, Refused, choose};
