@@ -68,7 +68,8 @@ fn add_forms(draft: &mut Draft, forms: &[&str], line: &str) {
     let mut before = "  a line here reads `";
     for form in forms {
         if fitting(form, line) == most {
-            draft.add_all(&[before, form]);
+            draft.add(before);
+            draft.add(form);
             before = "`, `";
         }
     }

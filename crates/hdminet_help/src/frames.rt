@@ -51,7 +51,8 @@ fn add_set(draft: &mut Draft, set: WordSet) {
     draft.add_all(&["  ", set_label(set)]);
     let mut before = " is ";
     for word in set.words() {
-        draft.add_all(&[before, word.text]);
+        draft.add(before);
+        draft.add(word.text);
         before = ", ";
     }
     draft.add("\n");

@@ -45,11 +45,10 @@ pub fn from(word: usize) -> Option<Mark> {
     })
 }
 
-/// Whether a word is a decimal number up to a limit, with no zero before it.
+/// Whether a word is a decimal number up to a limit, with no sign and no zero before it.
 pub fn is_number(word: &str, limit: u64) -> bool {
-    let is_plain = word.as_bytes().iter().all(u8::is_ascii_digit);
-    let is_short = word == "0" || !word.starts_with("0");
-    is_plain && is_short && matches!(word.parse::<u64>(), Ok(number) if number <= limit)
+    let is_plain = !word.starts_with("+") && !word.starts_with("0");
+    (is_plain || word == "0") && matches!(word.parse::<u64>(), Ok(number) if number <= limit)
 }
 
 /// Whether a line has this word there.

@@ -23,14 +23,9 @@ fn number_behind(line: &[u8], word: &str, index: usize) -> Option<u64> {
     word_at(words, index)?.parse().ok()
 }
 
-// The instant of a line that begins with a word.
-fn instant_of(line: &[u8], word: &str) -> Option<u64> {
-    number_behind(line, word, 0)
-}
-
 // The instant that the next line of its kind may not be before: of a pulse its end.
 fn end_of(line: &[u8], word: &str) -> Option<u64> {
-    let instant = instant_of(line, word)?;
+    let instant = number_behind(line, word, 0)?;
     let width = if word == PULSE {
         number_behind(line, word, 1).unwrap_or(0)
     } else {
@@ -44,11 +39,8 @@ fn last_before(place: Place<'_>, word: &str) -> Option<Earlier> {
     let script = lines_before(Part::Script, place.input);
     let mut last = None;
     let mut number = 0usize;
-    for line in place
-        .input
-        .split(is_line_end)
-        .take(place.number.saturating_sub(1))
-    {
+    let above = place.number.saturating_sub(1);
+    for line in place.input.split(is_line_end).take(above) {
         number = number.saturating_add(1);
         if number > script {
             if let Some(instant) = end_of(line, word) {
@@ -59,11 +51,11 @@ fn last_before(place: Place<'_>, word: &str) -> Option<Earlier> {
     last
 }
 
-// Of an event that is earlier than one above.
+// Of an event that is earlier than the last one above.
 fn add_earlier_event(draft: &mut Draft, place: Place<'_>) {
     let number = place.number;
     if let (Some(instant), Some(last)) = (
-        instant_of(place.line, EVENT),
+        number_behind(place.line, EVENT, 0),
         last_before(place, EVENT),
     ) {
         writeln!(
@@ -74,11 +66,11 @@ fn add_earlier_event(draft: &mut Draft, place: Place<'_>) {
     }
 }
 
-// Of a pulse that begins before one above ends.
+// Of a pulse that begins before the last one above ends.
 fn add_earlier_pulse(draft: &mut Draft, place: Place<'_>) {
     let number = place.number;
     if let (Some(instant), Some(last)) = (
-        instant_of(place.line, PULSE),
+        number_behind(place.line, PULSE, 0),
         last_before(place, PULSE),
     ) {
         writeln!(

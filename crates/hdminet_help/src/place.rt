@@ -100,10 +100,8 @@ pub fn declared_by(line: &[u8]) -> Option<&str> {
 pub fn is_declared(place: Place<'_>, name: &str) -> bool {
     let above = place.number.saturating_sub(1);
     for line in place.input.split(is_line_end).take(above) {
-        if let Some(declared) = declared_by(line) {
-            if declared == name {
-                return true;
-            }
+        if declared_by(line) == Some(name) {
+            return true;
         }
     }
     false
