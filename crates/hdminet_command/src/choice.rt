@@ -2,7 +2,8 @@
 use crate::help;
 use clap::error::ErrorKind;
 use clap::{Arg, ArgAction, ArgMatches, Command, Error};
-use hdminet_help::{Input, frame_forms, run_words};
+use hdminet_help::Input;
+use hdminet_lists::{frame_forms, run_words};
 use std::alloc::{AllocError, Global};
 
 /// What the words of a command line ask for.

@@ -1,7 +1,7 @@
 //! Which word of an edge file's line is at fault.
 use crate::marks::{Mark, from, is_number, is_word, one};
 use crate::place::{Place, is_line_end};
-use crate::words::{word_at, word_count};
+use hdminet_lists::{word_at, word_count};
 
 /// The greatest time of an edge file, in microseconds.
 const LAST_TIME: u64 = 2_000_000_000_000;

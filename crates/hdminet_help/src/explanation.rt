@@ -1,8 +1,4 @@
 //! What follows the line of a fault.
-use crate::causes::right;
-use crate::draft::Draft;
-use crate::fault::{Fault, Part, read_fault};
-use crate::frames::add_frame;
 use crate::grammar::{
     EDID_WORDS, KEYS, KEYWORDS, KINDS, SCRIPT, STEP_WORDS, STEPS, TOPOLOGY, fitting, most_fitting,
 };
@@ -10,8 +6,10 @@ use crate::hints::{is_shown, of_edid, of_line, of_text};
 use crate::marks::{Mark, marked};
 use crate::order::add_order;
 use crate::place::{Place, declared_by, is_line_end, place_of};
-use crate::words::{is_near, span_of, word_at, word_count};
 use cec_opcode::name;
+use hdminet_lists::{
+    Draft, Fault, Part, add_frame, is_near, read_fault, right, span_of, word_at, word_count,
+};
 use std::alloc::{AllocError, Global};
 
 /// What an input is to be.

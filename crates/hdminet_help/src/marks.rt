@@ -1,9 +1,8 @@
 //! Which words of a line are at fault.
 use crate::edges::{in_line, out_of_order};
-use crate::fault::{Fault, Part};
 use crate::grammar::{SCRIPT, STEPS, TOPOLOGY, most_fitting};
 use crate::place::{Place, is_declared};
-use crate::words::{word_at, word_count};
+use hdminet_lists::{Fault, Part, word_at, word_count};
 
 /// Words side by side in a line, by their numbers from 0.
 #[derive(Clone, Copy)]

@@ -1,8 +1,6 @@
 //! Which line of a script is earlier than which.
-use crate::draft::Draft;
-use crate::fault::Part;
 use crate::place::{Place, is_line_end, lines_before};
-use crate::words::word_at;
+use hdminet_lists::{Draft, Part, word_at};
 
 /// What an event's line begins with.
 const EVENT: &str = "at ";

@@ -1,6 +1,6 @@
 //! Where in an input a fault stands.
 use crate::explanation::Input;
-use crate::fault::{Fault, Part};
+use hdminet_lists::{Fault, Part};
 
 /// A line of an input, with its number from 1.
 #[derive(Clone, Copy)]

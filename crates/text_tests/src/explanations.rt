@@ -1,6 +1,7 @@
 //! What is said of faults. Each input is as a user gives it, with the line of its fault.
 use crate::cases::case_holds;
-use hdminet_help::{Input, counts, explain, run_words};
+use hdminet_help::{Input, counts, explain};
+use hdminet_lists::run_words;
 use std::alloc::{AllocError, Global};
 use std::process::Abort;
 
