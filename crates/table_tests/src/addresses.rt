@@ -2,14 +2,20 @@
 use cec_feature::{addresses, second_addresses};
 use hdmi_core::Kind;
 
+// A kind, the addresses of its unit, and those of its second unit.
+const ROWS: &[(Kind, &[u8], &[u8])] = &[
+    (Kind::Tv, &[0, 14], &[]),
+    (Kind::Recorder, &[1, 2, 9], &[]),
+    (Kind::Player, &[4, 8, 11], &[]),
+    (Kind::Amp, &[5], &[]),
+    (Kind::Switch, &[], &[]),
+    (Kind::Combo, &[1, 2, 9], &[4, 8, 11]),
+];
+
 #[test]
 fn kinds_have_their_addresses(rt: HostRuntime) {
-    assert_eq!(rt; addresses(Kind::Tv), [0, 14].as_slice());
-    assert_eq!(rt; addresses(Kind::Recorder), [1, 2, 9].as_slice());
-    assert_eq!(rt; addresses(Kind::Player), [4, 8, 11].as_slice());
-    assert_eq!(rt; addresses(Kind::Amp), [5].as_slice());
-    assert!(rt; addresses(Kind::Switch).is_empty());
-    assert_eq!(rt; addresses(Kind::Combo), [1, 2, 9].as_slice());
-    assert_eq!(rt; second_addresses(Kind::Combo), [4, 8, 11].as_slice());
-    assert!(rt; second_addresses(Kind::Player).is_empty());
+    for (kind, first, second) in ROWS {
+        assert!(rt; addresses(*kind) == *first, "{kind:?}");
+        assert!(rt; second_addresses(*kind) == *second, "{kind:?}");
+    }
 }

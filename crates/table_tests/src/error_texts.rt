@@ -14,199 +14,155 @@ use std::fmt::Display;
 use std::process::Abort;
 use std::test::Fail;
 
-// The error prints this text.
-fn prints<E: Display>(rt: &impl Abort, alloc: Global, error: &E, text: &str) -> Result<(), Fail> {
-    let printed = format!(in alloc; "{error}")?;
-    assert!(rt; printed.as_str() == text, "{text}");
-    Ok(())
-}
+const FRAMES: &[(FrameError, &str)] = &[
+    (FrameError::Empty, "a frame has at least one block"),
+    (FrameError::TooLong, "a frame has at most 16 blocks"),
+];
 
-#[test]
-fn frames_and_pulses(rt: HostRuntime) -> Result<(), Fail> {
-    let alloc = rt.alloc();
-    prints(
-        &rt,
-        alloc,
-        &FrameError::Empty,
-        "a frame has at least one block",
-    )?;
-    prints(
-        &rt,
-        alloc,
-        &FrameError::TooLong,
-        "a frame has at most 16 blocks",
-    )?;
-    prints(
-        &rt,
-        alloc,
-        &PulsesError::Width,
+const PULSES: &[(PulsesError, &str)] = &[
+    (
+        PulsesError::Width,
         "a pulse is 1 to 10,000 microseconds wide",
-    )?;
-    prints(
-        &rt,
-        alloc,
-        &PulsesError::Close,
+    ),
+    (
+        PulsesError::Close,
         "a pulse begins at least 25,000 microseconds after the end of the one before",
-    )?;
-    prints(
-        &rt,
-        alloc,
-        &PulsesError::Order,
+    ),
+    (
+        PulsesError::Order,
         "a pulse begins after the end of the one before",
-    )?;
-    prints(
-        &rt,
-        alloc,
-        &PulsesError::TooMany,
-        "there are at most 4,096 pulses",
-    )
-}
+    ),
+    (PulsesError::TooMany, "there are at most 4,096 pulses"),
+];
 
-#[test]
-fn devices(rt: HostRuntime) -> Result<(), Fail> {
-    let alloc = rt.alloc();
-    prints(&rt, alloc, &SubmitError::QueueFull, "the queue is full")?;
-    prints(
-        &rt,
-        alloc,
-        &SubmitError::OwnAddress,
+const SUBMITS: &[(SubmitError, &str)] = &[
+    (SubmitError::QueueFull, "the queue is full"),
+    (
+        SubmitError::OwnAddress,
         "the frame goes to the device itself",
-    )?;
-    prints(
-        &rt,
-        alloc,
-        &SubmitError::NoAddress,
+    ),
+    (
+        SubmitError::NoAddress,
         "the frame's initiator is not the device's address",
-    )?;
-    prints(
-        &rt,
-        alloc,
-        &SubmitError::OffWire,
-        "the device is off the wire",
-    )?;
-    prints(
-        &rt,
-        alloc,
-        &KeyError::NotForKind,
-        "the device has no such key",
-    )?;
-    prints(&rt, alloc, &KeyError::OffWire, "the device is off the wire")
-}
+    ),
+    (SubmitError::OffWire, "the device is off the wire"),
+];
 
-#[test]
-fn trees(rt: HostRuntime) -> Result<(), Fail> {
-    let alloc = rt.alloc();
-    prints(&rt, alloc, &AddError::Full, "the tree is full")?;
-    prints(
-        &rt,
-        alloc,
-        &AddError::Name,
-        "the name is ill-formed or taken",
-    )?;
-    prints(
-        &rt,
-        alloc,
-        &AddError::SecondRoot,
-        "there is a television already",
-    )?;
-    prints(
-        &rt,
-        alloc,
-        &PlugError::PortRange,
-        "the device above has no such port",
-    )?;
-    prints(&rt, alloc, &PlugError::PortTaken, "the port is taken")?;
-    prints(
-        &rt,
-        alloc,
-        &PlugError::NotLoose,
+const KEYS: &[(KeyError, &str)] = &[
+    (KeyError::NotForKind, "the device has no such key"),
+    (KeyError::OffWire, "the device is off the wire"),
+];
+
+const ADDS: &[(AddError, &str)] = &[
+    (AddError::Full, "the tree is full"),
+    (AddError::Name, "the name is ill-formed or taken"),
+    (AddError::SecondRoot, "there is a television already"),
+];
+
+const PLUGS: &[(PlugError, &str)] = &[
+    (PlugError::PortRange, "the device above has no such port"),
+    (PlugError::PortTaken, "the port is taken"),
+    (
+        PlugError::NotLoose,
         "the device is plugged in already, or is the television",
-    )?;
-    prints(
-        &rt,
-        alloc,
-        &PlugError::Loop,
-        "the device above hangs below the device",
-    )?;
-    prints(
-        &rt,
-        alloc,
-        &UnplugError::NotPlugged,
-        "the device is not plugged in",
-    )?;
-    prints(
-        &rt,
-        alloc,
-        &PortEdidError::NoHdmiBlock,
-        "the EDID has no HDMI block",
-    )?;
-    prints(
-        &rt,
-        alloc,
-        &PortEdidError::PortRange,
-        "the device has no such port",
-    )
-}
+    ),
+    (PlugError::Loop, "the device above hangs below the device"),
+];
 
-#[test]
-fn blocks(rt: HostRuntime) -> Result<(), Fail> {
-    let alloc = rt.alloc();
-    prints(&rt, alloc, &BaseError::Header, "no header")?;
-    prints(&rt, alloc, &BaseError::Checksum, "a wrong checksum")?;
-    prints(&rt, alloc, &BaseError::Revision, "an unknown revision")?;
-    prints(&rt, alloc, &BaseError::Maker, "no maker")?;
-    prints(&rt, alloc, &ExtError::Checksum, "a wrong checksum")?;
-    prints(&rt, alloc, &NoHdmiBlock, "no HDMI block")?;
-    prints(&rt, alloc, &DdcError::NoAck, "no acknowledgement")?;
-    prints(&rt, alloc, &DdcError::NoHdmiBlock, "no HDMI block")?;
-    prints(
-        &rt,
-        alloc,
-        &DdcError::Length,
+const UNPLUGS: &[(UnplugError, &str)] = &[(
+    UnplugError::NotPlugged,
+    "the device is not plugged in",
+)];
+
+const PORTS: &[(PortEdidError, &str)] = &[
+    (PortEdidError::NoHdmiBlock, "the EDID has no HDMI block"),
+    (PortEdidError::PortRange, "the device has no such port"),
+];
+
+const BASES: &[(BaseError, &str)] = &[
+    (BaseError::Header, "no header"),
+    (BaseError::Checksum, "a wrong checksum"),
+    (BaseError::Revision, "an unknown revision"),
+    (BaseError::Maker, "no maker"),
+];
+
+const EXTENSIONS: &[(ExtError, &str)] = &[(ExtError::Checksum, "a wrong checksum")];
+
+const WITHOUT_HDMI: &[(NoHdmiBlock, &str)] = &[(NoHdmiBlock, "no HDMI block")];
+
+const DDC: &[(DdcError, &str)] = &[
+    (DdcError::NoAck, "no acknowledgement"),
+    (DdcError::NoHdmiBlock, "no HDMI block"),
+    (
+        DdcError::Length,
         "no whole number of blocks from one to four",
-    )?;
-    prints(
-        &rt,
-        alloc,
-        &WriteFault { count: 12 },
-        "write fault after 12 bytes",
-    )
-}
+    ),
+];
 
-#[test]
-fn messages_and_texts_of_frames(rt: HostRuntime) -> Result<(), Fail> {
-    let alloc = rt.alloc();
-    prints(
-        &rt,
-        alloc,
-        &EncodeError::Operand,
+const MESSAGES: &[(EncodeError, &str)] = &[
+    (
+        EncodeError::Operand,
         "the message has an operand that its opcode has not",
-    )?;
-    prints(
-        &rt,
-        alloc,
-        &EncodeError::Addressing,
+    ),
+    (
+        EncodeError::Addressing,
         "the message does not go to this destination",
-    )?;
-    prints(
-        &rt,
-        alloc,
-        &EncodeError::TooLong,
-        "a frame has at most 16 blocks",
-    )?;
-    prints(
-        &rt,
-        alloc,
-        &FrameLinesError::Line(LineFault {
+    ),
+    (EncodeError::TooLong, "a frame has at most 16 blocks"),
+];
+
+const WRITES: &[(WriteFault, &str)] = &[(WriteFault { count: 12 }, "write fault after 12 bytes")];
+
+const FRAME_LINES: &[(FrameLinesError, &str)] = &[
+    (
+        FrameLinesError::Line(LineFault {
             line: 7,
             cause: AssembleError::TooLong,
         }),
         "line 7: too-long",
-    )?;
-    prints(
-        &rt,
-        alloc,
-        &FrameLinesError::Write(WriteFault { count: 0 }),
+    ),
+    (
+        FrameLinesError::Write(WriteFault { count: 0 }),
         "write fault after 0 bytes",
-    )
+    ),
+];
+
+// Each error prints its text.
+fn print<E: Display>(rt: &impl Abort, alloc: Global, rows: &[(E, &str)]) -> Result<(), Fail> {
+    for (error, text) in rows {
+        let printed = format!(in alloc; "{error}")?;
+        assert!(rt; printed.as_str() == *text, "{text}");
+    }
+    Ok(())
+}
+
+#[test]
+fn errors_of_the_wire_and_of_devices(rt: HostRuntime) -> Result<(), Fail> {
+    print(&rt, rt.alloc(), FRAMES)?;
+    print(&rt, rt.alloc(), PULSES)?;
+    print(&rt, rt.alloc(), SUBMITS)?;
+    print(&rt, rt.alloc(), KEYS)
+}
+
+#[test]
+fn errors_of_trees(rt: HostRuntime) -> Result<(), Fail> {
+    print(&rt, rt.alloc(), ADDS)?;
+    print(&rt, rt.alloc(), PLUGS)?;
+    print(&rt, rt.alloc(), UNPLUGS)?;
+    print(&rt, rt.alloc(), PORTS)
+}
+
+#[test]
+fn errors_of_edids(rt: HostRuntime) -> Result<(), Fail> {
+    print(&rt, rt.alloc(), BASES)?;
+    print(&rt, rt.alloc(), EXTENSIONS)?;
+    print(&rt, rt.alloc(), WITHOUT_HDMI)?;
+    print(&rt, rt.alloc(), DDC)
+}
+
+#[test]
+fn errors_of_messages_and_texts(rt: HostRuntime) -> Result<(), Fail> {
+    print(&rt, rt.alloc(), MESSAGES)?;
+    print(&rt, rt.alloc(), WRITES)?;
+    print(&rt, rt.alloc(), FRAME_LINES)
 }
