@@ -2,11 +2,13 @@
 //! written, part by part, to a sink that says how many bytes it took.
 #![tactic(auto)]
 
+mod buffered;
 mod kind;
 mod phys;
 mod piece;
 mod sink;
 
+pub use buffered::Buffered;
 pub use kind::Kind;
 pub use phys::{Phys, digit_value, is_hex_digit};
 pub use piece::{Piece, hex_digit, write_line, write_pieces};

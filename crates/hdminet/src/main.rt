@@ -2,9 +2,9 @@
 //! wire; writes frames and EDIDs as texts and bytes.
 #![tactic(auto)]
 
-use hdmi_core::Writes;
+use hdmi_core::{Buffered, Writes};
 use hdminet_program::program::{program, tell};
-use hdminet_program::{Buffered, Fault};
+use hdminet_program::Fault;
 use std::env;
 use std::process::ExitCode;
 

@@ -1,5 +1,4 @@
 //! The program over a reader and two sinks.
-use crate::buffered::Buffered;
 use crate::fault::Fault;
 use arrayvec::ArrayString;
 use cec_mon::watch;
@@ -10,7 +9,7 @@ use cec_step::step_run::step_run;
 use cec_text::asm_lines;
 use cec_words::first_line;
 use hdmi_convert::{edid_to_text, text_to_hex};
-use hdmi_core::{Sink, put_all};
+use hdmi_core::{Buffered, Sink, put_all};
 use hdminet_command::{Asked, Choice, Refused, choose};
 use hdminet_help::{counts, explain};
 use std::alloc::{AllocError, Global};

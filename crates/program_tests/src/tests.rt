@@ -1,6 +1,5 @@
 //! What the program does, over readers and writers that it is handed.
-use hdmi_core::Writes;
-use hdminet_program::Buffered;
+use hdmi_core::{Buffered, Writes};
 use hdminet_program::program::program;
 use std::alloc::Global;
 use std::io::{self, ErrorKind, Read, Write};
