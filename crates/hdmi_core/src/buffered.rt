@@ -2,8 +2,8 @@
 ghost use Rattle.std.specs.Prelude.{◌≡◌, ◌≤◌, ◌↔◌, [], false, OnOk, IsErr, IsTrue, length, drop};
 ghost use Rattle.std.specs.Io.KnownBytes.{Keeps, append_known};
 
-use arrayvec::ArrayVec;
 use crate::sink::{Sink, WriteFault, put_all};
+use arrayvec::ArrayVec;
 
 /// A `Sink` that hands on what is put to it in pieces of up to 1,024 bytes. A write of a line is a call of the system,
 /// and those would take a tenth of a run's time.

@@ -3,8 +3,8 @@
 #![tactic(auto)]
 
 use hdmi_core::{Buffered, Writes};
-use hdminet_program::program::{program, tell};
 use hdminet_program::Fault;
+use hdminet_program::program::{program, tell};
 use std::env;
 use std::process::ExitCode;
 
