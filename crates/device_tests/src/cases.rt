@@ -5,19 +5,17 @@ use cec_device::{Device, Fate, Key, KeyError, Note, Port, Record, Volume, Volume
 use cec_frame::{Addr, Frame};
 use cec_opcode::{DeckInfo, Triple, UserControl};
 use hdmi_core::{Kind, Phys};
-use std::alloc::{AllocError, Global};
 use std::process::Abort;
-use std::test::Fail;
 
-pub(crate) fn kind_of(word: &str) -> Result<Kind, Fail> {
+pub(crate) fn kind_of(word: &str) -> Option<Kind> {
     match word {
-        "tv" => Ok(Kind::Tv),
-        "amp" => Ok(Kind::Amp),
-        "player" => Ok(Kind::Player),
-        "recorder" => Ok(Kind::Recorder),
-        "switch" => Ok(Kind::Switch),
-        "combo" => Ok(Kind::Combo),
-        _ => Err("no kind".into()),
+        "tv" => Some(Kind::Tv),
+        "amp" => Some(Kind::Amp),
+        "player" => Some(Kind::Player),
+        "recorder" => Some(Kind::Recorder),
+        "switch" => Some(Kind::Switch),
+        "combo" => Some(Kind::Combo),
+        _ => None,
     }
 }
 
@@ -69,80 +67,65 @@ fn digit(character: u8, own: u8) -> u8 {
     }
 }
 
-fn byte_of(word: &str, own: u8) -> Result<u8, Fail> {
+fn byte_of(word: &str, own: u8) -> u8 {
     match word.as_bytes() {
-        [low] => Ok(digit(*low, own)),
-        [high, low] => Ok(
-            digit(*high, own)
-                .saturating_mul(16)
-                .saturating_add(digit(*low, own)),
-        ),
-        _ => Err("no byte".into()),
+        [low] => digit(*low, own),
+        [high, low] => digit(*high, own)
+            .saturating_mul(16)
+            .saturating_add(digit(*low, own)),
+        _ => 0,
     }
+}
+
+fn bytes_between(words: &str, between: char, own: u8) -> ArrayVec<u8, 16> {
+    let mut bytes = ArrayVec::new();
+    for word in words.split(between) {
+        let _ = bytes.try_push(byte_of(word, own));
+    }
+    bytes
 }
 
 /// The bytes of words of two digits.
-pub(crate) fn bytes_of(words: &str, own: u8) -> Result<ArrayVec<u8, 16>, Fail> {
-    let mut bytes = ArrayVec::new();
-    for word in words.split(' ') {
-        let _ = bytes.try_push(byte_of(word, own)?);
-    }
-    Ok(bytes)
+pub(crate) fn bytes_of(words: &str, own: u8) -> ArrayVec<u8, 16> {
+    bytes_between(words, ' ', own)
 }
 
-/// The same words, each after a space.
-pub(crate) fn bytes_text(alloc: Global, bytes: &[u8]) -> Result<String, Fail> {
-    let mut text = String::new(alloc);
-    for byte in bytes {
-        let word = format!(in alloc; " {byte:02x}")?;
-        text.push_str(word.as_str())?;
-    }
-    Ok(text)
-}
-
-fn optional(value: &str) -> Result<Option<u8>, Fail> {
+fn optional(value: &str) -> Option<u8> {
     match value {
-        "-" => Ok(None),
-        _ => Ok(Some(byte_of(value, 0)?)),
+        "-" => None,
+        _ => Some(byte_of(value, 0)),
     }
 }
 
 /// The physical address of four digits, if there are four.
-pub(crate) fn phys_of(value: &str) -> Result<Option<Phys>, Fail> {
-    let Some((high, low)) = value.split_at_checked(2) else {
-        return Ok(None);
-    };
-    Ok(Some(Phys {
-        high: byte_of(high, 0)?,
-        low: byte_of(low, 0)?,
-    }))
-}
-
-fn three_bytes(words: [&str; 3]) -> Result<[u8; 3], Fail> {
-    let [first, second, third] = words;
-    Ok([byte_of(first, 0)?, byte_of(second, 0)?, byte_of(third, 0)?])
-}
-
-fn language_of(value: &str) -> Result<Triple, Fail> {
-    let (first, rest) = value.split_at_checked(2).ok_or("no language")?;
-    let (second, third) = rest.split_at_checked(2).ok_or("no language")?;
-    let [first, second, third] = three_bytes([first, second, third])?;
-    Ok(Triple {
-        first,
-        second,
-        third,
+pub(crate) fn phys_of(value: &str) -> Option<Phys> {
+    let (high, low) = value.split_at_checked(2)?;
+    Some(Phys {
+        high: byte_of(high, 0),
+        low: byte_of(low, 0),
     })
 }
 
-fn note_of(value: &str) -> Result<Note, Fail> {
-    let (from, rest) = value.split_once(':').ok_or("no report")?;
-    let (opcode, first) = rest.split_once(':').ok_or("no report")?;
-    let [from, opcode, first] = three_bytes([from, opcode, first])?;
-    Ok(Note {
-        from: Addr::new(from % 16),
-        opcode,
-        first,
+fn language_of(value: &str) -> Option<Triple> {
+    let (first, rest) = value.split_at_checked(2)?;
+    let (second, third) = rest.split_at_checked(2)?;
+    Some(Triple {
+        first: byte_of(first, 0),
+        second: byte_of(second, 0),
+        third: byte_of(third, 0),
     })
+}
+
+// What was heard: from where, the opcode and the first operand.
+fn note_of(value: &str) -> Option<Note> {
+    match bytes_between(value, ':', 0).as_slice() {
+        [from, opcode, first] => Some(Note {
+            from: Addr::new(*from % 16),
+            opcode: *opcode,
+            first: *first,
+        }),
+        _ => None,
+    }
 }
 
 fn volume_of(level: u8) -> Volume {
@@ -156,14 +139,11 @@ fn volume_of(level: u8) -> Volume {
     volume
 }
 
-fn text_of(value: &str) -> Result<ArrayVec<u8, 16>, Fail> {
-    let mut text = ArrayVec::new();
-    if value != "-" {
-        for byte in value.split('_') {
-            let _ = text.try_push(byte_of(byte, 0)?);
-        }
+fn text_of(value: &str) -> ArrayVec<u8, 16> {
+    match value {
+        "-" => ArrayVec::new(),
+        _ => bytes_between(value, '_', 0),
     }
-    Ok(text)
 }
 
 // Sets a field that is on or off, if this is one.
@@ -179,118 +159,128 @@ fn set_switch(record: &mut Record, field: &str, on: bool) -> bool {
     true
 }
 
-// Sets a field that is an address or a port, if this is one.
-fn set_place(record: &mut Record, field: &str, value: &str) -> Result<bool, Fail> {
-    match field {
-        "active" => record.active = phys_of(value)?,
-        "path" => record.path = phys_of(value)?,
-        "sel" => record.selected = optional(value)?.map(|port| Port::new(port % 16)),
-        "sub" => record.sub = optional(value)?.map(|address| Addr::new(address % 16)),
-        _ => return Ok(false),
+fn port_of(value: &str) -> Option<Port> {
+    match optional(value) {
+        None => None,
+        Some(port) => Some(Port::new(port % 16)),
     }
-    Ok(true)
 }
 
-// Sets any other field.
-fn set_other(record: &mut Record, field: &str, value: &str) -> Result<(), Fail> {
-    match field {
-        "deck" => record.deck = DeckInfo::from_byte(byte_of(value, 0)?),
-        "volume" => record.volume = volume_of(value.parse()?),
-        "lang" => record.language = language_of(value)?,
-        "osd" => record.osd = text_of(value)?,
-        "held" => record.held = optional(value)?,
-        "heard" => record.heard = Some(note_of(value)?),
-        _ => return Err("no such field".into()),
+fn address_of(value: &str) -> Option<Addr> {
+    match optional(value) {
+        None => None,
+        Some(address) => Some(Addr::new(address % 16)),
     }
-    Ok(())
+}
+
+// Sets a field that may be empty, if this is one.
+fn set_place(record: &mut Record, field: &str, value: &str) -> bool {
+    match field {
+        "active" => record.active = phys_of(value),
+        "path" => record.path = phys_of(value),
+        "sel" => record.selected = port_of(value),
+        "sub" => record.sub = address_of(value),
+        "held" => record.held = optional(value),
+        "heard" => record.heard = note_of(value),
+        _ => return false,
+    }
+    true
+}
+
+// Sets any other field, if there is one of this name.
+fn set_other(record: &mut Record, field: &str, value: &str) -> Option<()> {
+    match field {
+        "deck" => record.deck = DeckInfo::from_byte(byte_of(value, 0)),
+        "volume" => record.volume = volume_of(value.parse().ok()?),
+        "lang" => record.language = language_of(value)?,
+        "osd" => record.osd = text_of(value),
+        _ => return None,
+    }
+    Some(())
 }
 
 // Sets a field of a record.
-fn set(record: &mut Record, word: &str) -> Result<(), Fail> {
-    let (field, value) = word.split_once('=').ok_or("no field")?;
-    if set_switch(record, field, value == "on") || set_place(record, field, value)? {
-        return Ok(());
+fn set(record: &mut Record, word: &str) -> Option<()> {
+    let (field, value) = word.split_once('=')?;
+    if set_switch(record, field, value == "on") || set_place(record, field, value) {
+        return Some(());
     }
     set_other(record, field, value)
 }
 
-pub(crate) fn set_all(record: &mut Record, words: &str) -> Result<(), Fail> {
+/// Sets the fields that the words name; none where a word names no field.
+pub(crate) fn set_all(record: &mut Record, words: &str) -> Option<()> {
     if words != "-" {
         for word in words.split(' ') {
             set(record, word)?;
         }
     }
-    Ok(())
+    Some(())
 }
 
-fn switches(record: &Record) -> [bool; 5] {
-    [
-        record.power,
-        record.menu,
-        record.audio,
-        record.mute,
-        record.arc,
-    ]
-}
-
-fn note_bytes(note: Option<Note>) -> Option<[u8; 3]> {
-    match note {
-        None => None,
-        Some(note) => Some([note.from.value(), note.opcode, note.first]),
+fn phys_bytes(phys: Option<Phys>) -> [u8; 3] {
+    match phys {
+        None => [0, 0, 0],
+        Some(phys) => [1, phys.high, phys.low],
     }
 }
 
-fn selected(record: &Record) -> Option<u8> {
-    record.selected.map(|port| port.value())
+fn note_bytes(note: Option<Note>) -> [u8; 4] {
+    match note {
+        None => [0, 0, 0, 0],
+        Some(note) => [1, note.from.value(), note.opcode, note.first],
+    }
 }
 
-fn sub(record: &Record) -> Option<u8> {
-    record.sub.map(|address| address.value())
+fn port_bytes(port: Option<Port>) -> [u8; 2] {
+    match port {
+        None => [0, 0],
+        Some(port) => [1, port.value()],
+    }
 }
 
-fn sources(alloc: Global, record: &Record) -> Result<String, AllocError> {
-    format!(in alloc;
-        "active {:?} path {:?} sel {:?}",
-        record.active,
-        record.path,
-        selected(record)
-    )
+fn address_bytes(address: Option<Addr>) -> [u8; 2] {
+    match address {
+        None => [0, 0],
+        Some(address) => [1, address.value()],
+    }
 }
 
-fn playing(alloc: Global, record: &Record) -> Result<String, AllocError> {
-    let (deck, volume) = (record.deck.byte(), record.volume.value());
-    format!(in alloc;
-        "deck {deck} volume {volume} osd {:?}",
-        record.osd.as_slice()
-    )
+fn held_bytes(held: Option<u8>) -> [u8; 2] {
+    match held {
+        None => [0, 0],
+        Some(code) => [1, code],
+    }
 }
 
-fn language(alloc: Global, record: &Record) -> Result<String, AllocError> {
-    let Triple {
-        first,
-        second,
-        third,
-    } = record.language;
-    format!(in alloc; "lang {first} {second} {third}")
+fn plain_bytes(record: &Record) -> [u8; 10] {
+    let language = record.language;
+    [
+        u8::from(record.power),
+        u8::from(record.menu),
+        u8::from(record.audio),
+        u8::from(record.mute),
+        u8::from(record.arc),
+        record.deck.byte(),
+        record.volume.value(),
+        language.first,
+        language.second,
+        language.third,
+    ]
 }
 
-fn heard(alloc: Global, record: &Record) -> Result<String, AllocError> {
-    let heard = note_bytes(record.heard);
-    format!(in alloc;
-        "held {:?} heard {heard:?} sub {:?}",
-        record.held,
-        sub(record)
-    )
-}
-
-// All fields of a record.
-pub(crate) fn record_text(alloc: Global, record: &Record) -> Result<String, AllocError> {
-    let (sources, playing) = (sources(alloc, record)?, playing(alloc, record)?);
-    let (language, heard) = (language(alloc, record)?, heard(alloc, record)?);
-    format!(in alloc;
-        "{:?} {sources} {playing} {language} {heard}",
-        switches(record)
-    )
+/// All fields of a record as bytes, the text on the screen last.
+pub(crate) fn record_bytes(record: &Record) -> ArrayVec<u8, 64> {
+    let mut bytes = ArrayVec::new();
+    let _ = bytes.try_extend_from_slice(&plain_bytes(record));
+    let _ = bytes.try_extend_from_slice(&phys_bytes(record.active));
+    let _ = bytes.try_extend_from_slice(&phys_bytes(record.path));
+    let _ = bytes.try_extend_from_slice(&port_bytes(record.selected));
+    let _ = bytes.try_extend_from_slice(&address_bytes(record.sub));
+    let _ = bytes.try_extend_from_slice(&held_bytes(record.held));
+    let _ = bytes.try_extend_from_slice(&note_bytes(record.heard));
+    let _ = bytes.try_extend_from_slice(record.osd.as_slice());
+    bytes
 }
 
 // A key that is one word.
@@ -310,43 +300,60 @@ fn plain_key(name: &str) -> Option<Key> {
     Some(key)
 }
 
-fn remote_key(operand: &str) -> Result<Key, Fail> {
-    let (to, code) = operand.split_once(' ').ok_or("no code")?;
-    Ok(Key::Remote {
-        to: Addr::new(byte_of(to, 0)? % 16),
-        code: UserControl::from_byte(byte_of(code, 0)?),
+fn remote_key(operand: &str) -> Option<Key> {
+    let (to, code) = operand.split_once(' ')?;
+    Some(Key::Remote {
+        to: Addr::new(byte_of(to, 0) % 16),
+        code: UserControl::from_byte(byte_of(code, 0)),
     })
 }
 
-/// The key of some words.
-pub(crate) fn key_of(words: &str) -> Result<Key, Fail> {
-    if let Some(key) = plain_key(words) {
-        return Ok(key);
-    }
-    let (name, operand) = words.split_once(' ').ok_or("no operand")?;
+// A key with an operand.
+fn key_with(name: &str, operand: &str) -> Option<Key> {
     let on = operand == "on";
     match name {
-        "watch" => Ok(Key::Watch(phys_of(operand)?.ok_or("no address")?)),
-        "port" => Ok(Key::Port(byte_of(operand, 0)?)),
-        "audio" => Ok(Key::Audio { on }),
-        "arc" => Ok(Key::Arc { on }),
-        "language" => Ok(Key::Language(language_of(operand)?)),
+        "watch" => Some(Key::Watch(phys_of(operand)?)),
+        "port" => Some(Key::Port(byte_of(operand, 0))),
+        "audio" => Some(Key::Audio { on }),
+        "arc" => Some(Key::Arc { on }),
+        "language" => Some(Key::Language(language_of(operand)?)),
         "remote" => remote_key(operand),
-        _ => Err("no key".into()),
+        _ => None,
+    }
+}
+
+/// The key of some words.
+pub(crate) fn key_of(words: &str) -> Option<Key> {
+    match words.split_once(' ') {
+        Some((name, operand)) => key_with(name, operand),
+        None => plain_key(words),
+    }
+}
+
+// Presses or releases a key. Whether the device has that key.
+fn use_key(device: &mut Device<16>, words: &str, press: bool) -> Option<bool> {
+    let key = key_of(words)?;
+    Some(device.key(key, press, 0) != Err(KeyError::NotForKind))
+}
+
+/// Follows the frame of these bytes, if they are one.
+pub(crate) fn follow(device: &mut Device<16>, bytes: &[u8]) -> Option<bool> {
+    match Frame::new(bytes) {
+        Ok(frame) => {
+            device.follow(&frame, 0);
+            Some(true)
+        }
+        Err(_) => None,
     }
 }
 
 // Follows the frame, or presses or releases the key. Whether the device has that key.
-fn act(device: &mut Device<16>, doing: &str, own: u8) -> Result<bool, Fail> {
-    let answer = if let Some(key) = doing.strip_prefix("press ") {
-        device.key(key_of(key)?, true, 0)
-    } else if let Some(key) = doing.strip_prefix("release ") {
-        device.key(key_of(key)?, false, 0)
-    } else {
-        device.follow(&Frame::new(&bytes_of(doing, own)?)?, 0);
-        Ok(())
-    };
-    Ok(answer != Err(KeyError::NotForKind))
+fn act(device: &mut Device<16>, doing: &str, own: u8) -> Option<bool> {
+    match doing.split_once(' ') {
+        Some(("press", key)) => use_key(device, key, true),
+        Some(("release", key)) => use_key(device, key, false),
+        _ => follow(device, &bytes_of(doing, own)),
+    }
 }
 
 // What it has queued first is this frame, which it sends.
@@ -354,25 +361,18 @@ fn says_first(rt: &impl Abort, device: &mut Device<16>, bytes: &[u8], case: &str
     let Some(front) = device.queue_front() else {
         panic!(rt; "nothing queued: {case}")
     };
-    assert_eq!(rt; front.bytes(), bytes, "{case}");
+    assert!(rt; front.bytes() == bytes, "{case}");
     device.sent(Fate::Delivered, 0);
 }
 
 // What it has queued are these frames, and no more.
-fn says(
-    rt: &impl Abort,
-    device: &mut Device<16>,
-    frames: &str,
-    own: u8,
-    case: &str,
-) -> Result<(), Fail> {
+fn says(rt: &impl Abort, device: &mut Device<16>, frames: &str, own: u8, case: &str) {
     if frames != "-" {
         for words in frames.split(", ") {
-            says_first(rt, device, &bytes_of(words, own)?, case);
+            says_first(rt, device, &bytes_of(words, own), case);
         }
     }
-    assert_eq!(rt; device.queue_len(), 0, "{case}");
-    Ok(())
+    assert!(rt; device.queue_len() == 0, "{case}");
 }
 
 /// What a case says of a kind: the record before, what is done, and what has changed after it.
@@ -400,13 +400,13 @@ pub(crate) fn case_of(line: &str) -> Option<(&str, Case<'_>)> {
     Some((kinds, case))
 }
 
-// The text of the record that is wanted after a case: as it is before, but for what has changed.
-pub(crate) fn wanted_text(alloc: Global, before: &Record, after: &str) -> Result<String, Fail> {
+/// The record that is wanted after a case, as bytes: as it is before, but for what has changed.
+pub(crate) fn wanted_bytes(before: &Record, after: &str) -> Option<ArrayVec<u8, 64>> {
     let mut wanted = before.copy();
     if after != "refused" {
         set_all(&mut wanted, after)?;
     }
-    Ok(record_text(alloc, &wanted)?)
+    Some(record_bytes(&wanted))
 }
 
 // How a device comes to a state: frames that it follows and keys that are pressed, once or more often. An active source
@@ -440,94 +440,73 @@ sub=1 | 14 1a 01
 sub=3 | 3@ 1a 01
 sub=4 | 41 1a 01";
 
-fn way_to(state: &str) -> Result<&'static str, Fail> {
+fn way_to(state: &str) -> Option<&'static str> {
     for line in WAYS.lines() {
         match line.split_once(" | ") {
-            Some((name, way)) if name == state => return Ok(way),
+            Some((name, way)) if name == state => return Some(way),
             _ => {}
         }
     }
-    Err("no way".into())
+    None
 }
 
 // The record has what these words say.
-fn has(alloc: Global, record: &Record, words: &str) -> Result<bool, Fail> {
-    let (told, wanted) = (
-        record_text(alloc, record)?,
-        wanted_text(alloc, record, words)?,
-    );
-    Ok(told == wanted)
+fn has(record: &Record, words: &str) -> bool {
+    match wanted_bytes(record, words) {
+        Some(wanted) => record_bytes(record).as_slice() == wanted.as_slice(),
+        None => false,
+    }
 }
 
 // Goes the way to a state until the device has it.
-fn reach(alloc: Global, device: &mut Device<16>, state: &str, own: u8) -> Result<(), Fail> {
-    let way = way_to(state)?;
+fn reach(device: &mut Device<16>, state: &str, own: u8) {
+    let way = way_to(state).unwrap_or("no way");
     for _ in 0..80 {
-        if has(alloc, device.record(), state)? {
-            return Ok(());
+        if has(device.record(), state) {
+            return;
         }
         for doing in way.split(", ") {
-            act(device, doing, own)?;
+            let _ = act(device, doing, own);
         }
     }
-    Ok(())
 }
 
 // Brings a device into the state that a case has before, with nothing queued.
-fn reach_all(
-    rt: &impl Abort,
-    alloc: Global,
-    device: &mut Device<16>,
-    case: Case<'_>,
-    own: u8,
-) -> Result<(), Fail> {
-    let line = case.line;
-    if case.before != "-" {
-        for state in case.before.split(' ') {
-            reach(alloc, device, state, own)?;
+fn reach_all(device: &mut Device<16>, before: &str, own: u8) {
+    if before != "-" {
+        for state in before.split(' ') {
+            reach(device, state, own);
         }
     }
     send_all(device);
-    let has = has(alloc, device.record(), case.before)?;
-    assert!(rt; has, "not so before: {line}");
-    Ok(())
 }
 
-// The case holds for a device that stands as before it.
-fn check_device(
-    rt: &impl Abort,
-    alloc: Global,
-    device: &mut Device<16>,
-    case: Case<'_>,
-    own: u8,
-) -> Result<(), Fail> {
+// What is done has what a case says after it.
+fn does(device: &mut Device<16>, case: Case<'_>, own: u8) -> bool {
+    let Some(wanted) = wanted_bytes(device.record(), case.after) else {
+        return false;
+    };
+    act(device, case.doing, own) == Some(case.after != "refused")
+        && record_bytes(device.record()).as_slice() == wanted.as_slice()
+}
+
+fn check_kind(rt: &impl Abort, kind: &str, case: Case<'_>) {
     let line = case.line;
-    let wanted = wanted_text(alloc, device.record(), case.after)?;
-    let is_done = act(device, case.doing, own)?;
-    let told = record_text(alloc, device.record())?;
-    assert!(rt;
-        is_done == (case.after != "refused") && told == wanted,
-        "{line}: {told}"
-    );
-    Ok(())
-}
-
-fn check_kind(rt: &impl Abort, alloc: Global, kind: &str, case: Case<'_>) -> Result<(), Fail> {
-    let kind = kind_of(kind)?;
+    let kind = kind_of(kind).expect(rt, line);
     let own = own_address(kind);
     let mut device = settled(kind);
-    reach_all(rt, alloc, &mut device, case, own)?;
-    check_device(rt, alloc, &mut device, case, own)?;
-    says(rt, &mut device, case.frames, own, case.line)
+    reach_all(&mut device, case.before, own);
+    assert!(rt; has(device.record(), case.before), "not so before: {line}");
+    assert!(rt; does(&mut device, case, own), "{line}");
+    says(rt, &mut device, case.frames, own, line);
 }
 
 /// Each line is a case that holds for each of its kinds.
-pub(crate) fn check(rt: &impl Abort, alloc: Global, cases: &str) -> Result<(), Fail> {
+pub(crate) fn check(rt: &impl Abort, cases: &str) {
     for line in cases.lines() {
-        let (kinds, case) = case_of(line).ok_or("no case")?;
+        let (kinds, case) = case_of(line).expect(rt, line);
         for kind in kinds.split('+') {
-            check_kind(rt, alloc, kind, case)?;
+            check_kind(rt, kind, case);
         }
     }
-    Ok(())
 }

@@ -1,18 +1,17 @@
 //! Worked rows of single devices.
-use crate::cases::{bytes_of, bytes_text, check, key_of, phys_of, settled};
+use crate::cases::{bytes_of, check, follow, key_of, phys_of, settled};
+use crate::effect_rows::{BOX, BROADCAST, DIRECT, IGNORED, PRESSED, UNKNOWN};
+use crate::key_rows::{PRESSES, REFUSED, RELEASES};
 use cec_device::{Device, Fate, Port, Record};
 use cec_frame::{Addr, Frame};
 use hdmi_core::Kind;
 use std::alloc::Global;
 use std::process::Abort;
-use std::test::Fail;
 
 #[test]
-fn a_new_record_is_on(rt: HostRuntime) -> Result<(), Fail> {
+fn a_new_record_is_on(rt: HostRuntime) {
     let record = Record::new(Kind::Switch, Port::new(3));
-    assert!(rt; record.power);
-    assert_eq!(rt; record.deck.byte(), 0x1a);
-    Ok(())
+    assert!(rt; record.power && record.deck.byte() == 0x1a);
 }
 
 /// Rows of single devices, each from a new record: the frames that are followed one after another, what then stands
@@ -42,82 +41,92 @@ player | - | 04 41 | - | -
 player | - | 04 41 99 | - | 40 00 41 03
 player | - | 04 00 41 00 | - | -";
 
+/// The rows, and the tables of messages and of keys.
+const TABLES: &[&str] = &[
+    ROWS, DIRECT, PRESSED, BROADCAST, IGNORED, BOX, UNKNOWN, PRESSES, RELEASES, REFUSED,
+];
+
 #[test]
-fn devices_answer(rt: HostRuntime) -> Result<(), Fail> {
-    check(&rt, rt.alloc(), ROWS)
+fn devices_do_what_the_tables_say(rt: HostRuntime) {
+    for cases in TABLES {
+        check(&rt, cases);
+    }
 }
 
 // ---- what is done with a device
 
-fn join(device: &mut Device<16>, words: &str) -> Result<(), Fail> {
-    let (place, at) = words.split_once(' ').ok_or("no time")?;
-    let at: u64 = at.parse()?;
-    device.join(3, phys_of(place)?.ok_or("no address")?, at);
-    Ok(())
+fn join(device: &mut Device<16>, words: &str) -> Option<()> {
+    let (place, at) = words.split_once(' ')?;
+    device.join(3, phys_of(place)?, at.parse().ok()?);
+    Some(())
 }
 
-fn follow(device: &mut Device<16>, words: &str) -> Result<(), Fail> {
-    let frame = Frame::new(&bytes_of(words, 0)?)?;
-    device.follow(&frame, 0);
-    Ok(())
-}
-
-fn fate_of(word: &str) -> Result<Fate, Fail> {
+fn fate_of(word: &str) -> Option<Fate> {
     match word {
-        "delivered" => Ok(Fate::Delivered),
-        "unacked" => Ok(Fate::Unacked),
-        "lost" => Ok(Fate::Lost),
-        "broken" => Ok(Fate::Broken),
-        _ => Err("no fate".into()),
+        "delivered" => Some(Fate::Delivered),
+        "unacked" => Some(Fate::Unacked),
+        "lost" => Some(Fate::Lost),
+        "broken" => Some(Fate::Broken),
+        _ => None,
     }
 }
 
 // The front frame has this fate.
-fn sent(device: &mut Device<16>, fate: &str) -> Result<(), Fail> {
+fn sent(device: &mut Device<16>, fate: &str) -> Option<()> {
     let fate = fate_of(fate)?;
     if device.queue_front().is_none() {
-        return Err("nothing queued".into());
+        return None;
     }
     device.sent(fate, 500);
-    Ok(())
+    Some(())
 }
 
-// Does what tells nothing, if this is that.
-fn does(device: &mut Device<16>, doing: &str, words: &str) -> Result<bool, Fail> {
+// Whether this is done, and tells nothing.
+fn is_done(device: &mut Device<16>, doing: &str, words: &str) -> bool {
     match doing {
-        "join" => join(device, words)?,
+        "join" => return join(device, words).is_some(),
         "leave" => device.leave(),
         "waited" => device.waited(),
         "copy" => *device = device.copy(),
-        "follow" => follow(device, words)?,
-        "sent" => sent(device, words)?,
-        _ => return Ok(false),
+        "follow" => return follow(device, &bytes_of(words, 0)).is_some(),
+        "sent" => return sent(device, words).is_some(),
+        _ => return false,
     }
-    Ok(true)
+    true
 }
 
 // ---- what it tells
 
-fn submit(alloc: Global, device: &mut Device<16>, words: &str) -> Result<String, Fail> {
-    let frame = Frame::new(&bytes_of(words, 0)?)?;
+fn submit(alloc: Global, device: &mut Device<16>, words: &str) -> Option<String> {
+    let frame = Frame::new(&bytes_of(words, 0)).ok()?;
     match device.submit(frame, 900) {
-        Ok(()) => Ok(format!(in alloc; "queued")?),
-        Err(error) => Ok(format!(in alloc; "{error:?}")?),
+        Ok(()) => format!(in alloc; "queued").ok(),
+        Err(error) => format!(in alloc; "{error:?}").ok(),
     }
 }
 
-fn key(alloc: Global, device: &mut Device<16>, words: &str, press: bool) -> Result<String, Fail> {
+fn key(alloc: Global, device: &mut Device<16>, words: &str, press: bool) -> Option<String> {
     match device.key(key_of(words)?, press, 0) {
-        Ok(()) => Ok(format!(in alloc; "done")?),
-        Err(error) => Ok(format!(in alloc; "{error:?}")?),
+        Ok(()) => format!(in alloc; "done").ok(),
+        Err(error) => format!(in alloc; "{error:?}").ok(),
     }
 }
 
-fn front(alloc: Global, device: &Device<16>) -> Result<String, Fail> {
-    let Some(frame) = device.queue_front() else {
-        return Ok(format!(in alloc; "-")?);
-    };
-    bytes_text(alloc, frame.bytes())
+// The bytes as two digits each, each after a space.
+fn bytes_text(alloc: Global, bytes: &[u8]) -> Option<String> {
+    let mut text = String::new(alloc);
+    for byte in bytes {
+        let word = format!(in alloc; " {byte:02x}").ok()?;
+        text.push_str(word.as_str()).ok()?;
+    }
+    Some(text)
+}
+
+fn front(alloc: Global, device: &Device<16>) -> Option<String> {
+    match device.queue_front() {
+        Some(frame) => bytes_text(alloc, frame.bytes()),
+        None => format!(in alloc; "-").ok(),
+    }
 }
 
 fn value_of(address: Option<Addr>) -> Option<u8> {
@@ -127,32 +136,32 @@ fn value_of(address: Option<Addr>) -> Option<u8> {
     }
 }
 
-fn held(alloc: Global, device: &Device<16>) -> Result<String, Fail> {
+fn held(alloc: Global, device: &Device<16>) -> Option<String> {
     let [first, second] = device.held();
     let (first, second) = (value_of(first), value_of(second));
-    Ok(format!(in alloc; "{first:?} {second:?}")?)
+    format!(in alloc; "{first:?} {second:?}").ok()
 }
 
-fn holds(alloc: Global, device: &Device<16>, words: &str) -> Result<String, Fail> {
-    let address: u8 = words.parse()?;
+fn holds(alloc: Global, device: &Device<16>, words: &str) -> Option<String> {
+    let address: u8 = words.parse().ok()?;
     let holds = device.holds(Addr::new(address % 16));
-    Ok(format!(in alloc; "{holds}")?)
+    format!(in alloc; "{holds}").ok()
 }
 
-fn stands(alloc: Global, device: &Device<16>) -> Result<String, Fail> {
+fn stands(alloc: Global, device: &Device<16>) -> Option<String> {
     let wire = if device.is_on_wire() { "on" } else { "off" };
     let place = if device.is_allocating() {
         "allocating"
     } else {
         "settled"
     };
-    Ok(format!(in alloc; "{wire} {place}")?)
+    format!(in alloc; "{wire} {place}").ok()
 }
 
 // How many frames are queued, and how many were dropped.
-fn queue(alloc: Global, device: &Device<16>) -> Result<String, Fail> {
+fn queue(alloc: Global, device: &Device<16>) -> Option<String> {
     let (queued, dropped) = (device.queue_len(), device.dropped());
-    Ok(format!(in alloc; "{queued} {dropped}")?)
+    format!(in alloc; "{queued} {dropped}").ok()
 }
 
 fn is_p1(device: &Device<16>) -> bool {
@@ -160,12 +169,12 @@ fn is_p1(device: &Device<16>) -> bool {
 }
 
 // Its number, and its physical address.
-fn place(alloc: Global, device: &Device<16>) -> Result<String, Fail> {
+fn place(alloc: Global, device: &Device<16>) -> Option<String> {
     let (number, phys) = (device.number(), device.phys());
-    Ok(format!(in alloc; "{number} {:02x}{:02x}", phys.high, phys.low)?)
+    format!(in alloc; "{number} {:02x}{:02x}", phys.high, phys.low).ok()
 }
 
-fn told(alloc: Global, device: &Device<16>, doing: &str, words: &str) -> Result<String, Fail> {
+fn told(alloc: Global, device: &Device<16>, doing: &str, words: &str) -> Option<String> {
     match doing {
         "front" => front(alloc, device),
         "held" => held(alloc, device),
@@ -173,17 +182,17 @@ fn told(alloc: Global, device: &Device<16>, doing: &str, words: &str) -> Result<
         "stands" => stands(alloc, device),
         "queue" => queue(alloc, device),
         "place" => place(alloc, device),
-        "class" => Ok(format!(in alloc; "{}", device.class().micros())?),
-        "ready" => Ok(format!(in alloc; "{:?}", device.ready_at())?),
-        "is-p1" => Ok(format!(in alloc; "{}", is_p1(device))?),
-        _ => Err("no such step".into()),
+        "class" => format!(in alloc; "{}", device.class().micros()).ok(),
+        "ready" => format!(in alloc; "{:?}", device.ready_at()).ok(),
+        "is-p1" => format!(in alloc; "{}", is_p1(device)).ok(),
+        _ => None,
     }
 }
 
-fn told_after(alloc: Global, device: &mut Device<16>, line: &str) -> Result<String, Fail> {
+fn told_after(alloc: Global, device: &mut Device<16>, line: &str) -> Option<String> {
     let (doing, words) = line.split_once(' ').unwrap_or((line, ""));
-    if does(device, doing, words)? {
-        return Ok(String::new(alloc));
+    if is_done(device, doing, words) {
+        return Some(String::new(alloc));
     }
     match doing {
         "submit" => submit(alloc, device, words),
@@ -194,35 +203,17 @@ fn told_after(alloc: Global, device: &mut Device<16>, line: &str) -> Result<Stri
 }
 
 // A line for each thing that is done, and behind an arrow what is told then.
-fn goes(rt: &impl Abort, alloc: Global, device: &mut Device<16>, lines: &str) -> Result<(), Fail> {
+fn goes(rt: &impl Abort, alloc: Global, device: &mut Device<16>, lines: &str) {
     for line in lines.lines() {
         let (doing, wanted) = line.split_once(" => ").unwrap_or((line, ""));
-        let told = told_after(alloc, device, doing)?;
+        let told = told_after(alloc, device, doing).expect(rt, line);
         assert!(rt; told.as_str().trim_start() == wanted, "{line}: {told}");
     }
-    Ok(())
-}
-
-fn goes_often(
-    rt: &impl Abort,
-    alloc: Global,
-    device: &mut Device<16>,
-    lines: &str,
-    times: usize,
-) -> Result<(), Fail> {
-    for _ in 0..times {
-        goes(rt, alloc, device, lines)?;
-    }
-    Ok(())
 }
 
 // ---- what one device does
 
-#[test]
-fn a_queue_fills_and_empties(rt: HostRuntime) -> Result<(), Fail> {
-    let mut player = settled(Kind::Player);
-    goes_often(&rt, rt.alloc(), &mut player, "follow 04 46", 17)?;
-    let full = "\
+const FULL: &str = "\
 queue => 16 1
 front => 40 47 70 31
 submit 40 47 70 31 => QueueFull
@@ -231,14 +222,11 @@ copy
 queue => 15 1
 press play => done
 queue => 16 2";
-    goes(&rt, rt.alloc(), &mut player, full)?;
-    goes_often(&rt, rt.alloc(), &mut player, "sent delivered", 15)?;
-    let last = "\
+
+const EMPTIED: &str = "\
 front => 40 04
 sent delivered
 queue => 0 2";
-    goes(&rt, rt.alloc(), &mut player, last)
-}
 
 const NO_ADDRESS: &str = "\
 join 1000 500
@@ -258,12 +246,6 @@ sent delivered
 held => Some(15) None
 front => -";
 
-#[test]
-fn a_player_finds_no_address(rt: HostRuntime) -> Result<(), Fail> {
-    let mut player: Device<16> = Device::new(Kind::Player, b"p1", 0);
-    goes(&rt, rt.alloc(), &mut player, NO_ADDRESS)
-}
-
 const SETTLED: &str = "\
 holds 4 => true
 holds 8 => false
@@ -271,12 +253,6 @@ stands => on settled
 class => 16800
 submit 84 04 => NoAddress
 submit 44 04 => OwnAddress";
-
-#[test]
-fn a_settled_player(rt: HostRuntime) -> Result<(), Fail> {
-    let mut player = settled(Kind::Player);
-    goes(&rt, rt.alloc(), &mut player, SETTLED)
-}
 
 // The front frame loses once, which is no attempt, and then fails once.
 const ATTEMPT: &str = "\
@@ -291,14 +267,6 @@ queue => 0 0
 waited
 class => 12000";
 
-#[test]
-fn a_frame_has_six_attempts(rt: HostRuntime) -> Result<(), Fail> {
-    let mut player = settled(Kind::Player);
-    goes(&rt, rt.alloc(), &mut player, "submit 48 46 => queued")?;
-    goes_often(&rt, rt.alloc(), &mut player, ATTEMPT, 6)?;
-    goes(&rt, rt.alloc(), &mut player, AFTER_SIX)
-}
-
 const LEFT: &str = "\
 place => 1 1000
 leave
@@ -309,12 +277,6 @@ press play => OffWire
 release menu => OffWire
 is-p1 => true
 place => 0 ffff";
-
-#[test]
-fn a_player_that_has_left(rt: HostRuntime) -> Result<(), Fail> {
-    let mut player = settled(Kind::Player);
-    goes(&rt, rt.alloc(), &mut player, LEFT)
-}
 
 // ---- boxes, whose polls are acknowledged or not
 
@@ -392,18 +354,52 @@ join ffff 0
 held => Some(15) Some(15)
 queue => 0 0";
 
-#[test]
-fn boxes_have_two_addresses(rt: HostRuntime) -> Result<(), Fail> {
-    for lines in [
-        RECORDER_SETTLED,
-        BOTH_SETTLED,
-        PLAYER_ALONE,
-        RECORDER_ALONE,
-        NEITHER,
-        TOO_FAR_BELOW,
-    ] {
-        let mut device: Device<16> = Device::new(Kind::Combo, b"b", 0);
-        goes(&rt, rt.alloc(), &mut device, lines)?;
+/// The runs of devices: what a device is, and then how often which lines are gone through.
+const RUNS: &[(&str, &[(usize, &str)])] = &[
+    (
+        "settled player",
+        &[
+            (17, "follow 04 46"),
+            (1, FULL),
+            (15, "sent delivered"),
+            (1, EMPTIED),
+        ],
+    ),
+    ("new player", &[(1, NO_ADDRESS)]),
+    ("settled player", &[(1, SETTLED)]),
+    (
+        "settled player",
+        &[(1, "submit 48 46 => queued"), (6, ATTEMPT), (1, AFTER_SIX)],
+    ),
+    ("settled player", &[(1, LEFT)]),
+    ("new box", &[(1, RECORDER_SETTLED)]),
+    ("new box", &[(1, BOTH_SETTLED)]),
+    ("new box", &[(1, PLAYER_ALONE)]),
+    ("new box", &[(1, RECORDER_ALONE)]),
+    ("new box", &[(1, NEITHER)]),
+    ("new box", &[(1, TOO_FAR_BELOW)]),
+];
+
+fn device_of(words: &str) -> Device<16> {
+    match words {
+        "settled player" => settled(Kind::Player),
+        "new player" => Device::new(Kind::Player, b"p1", 0),
+        _ => Device::new(Kind::Combo, b"b", 0),
     }
-    Ok(())
+}
+
+fn run(rt: &impl Abort, alloc: Global, words: &str, parts: &[(usize, &str)]) {
+    let mut device = device_of(words);
+    for (times, lines) in parts {
+        for _ in 0..*times {
+            goes(rt, alloc, &mut device, lines);
+        }
+    }
+}
+
+#[test]
+fn devices_run_so(rt: HostRuntime) {
+    for (words, parts) in RUNS {
+        run(&rt, rt.alloc(), words, parts);
+    }
 }

@@ -1,8 +1,6 @@
 //! The key table, a line for each key and kind.
-use crate::cases::check;
-use std::test::Fail;
 
-const PRESSES: &str = "\
+pub(crate) const PRESSES: &str = "\
 player+recorder+combo | power=off | press play | power=on deck=11 active=1000 path=1000 | @0 04, @f 82 10 00
 player+recorder+combo | sub=3 | press play | deck=11 active=1000 path=1000 | @0 04, @f 82 10 00, @3 1b 11
 player+recorder+combo | deck=19 sub=3 | press play | active=1000 path=1000 | @0 04, @f 82 10 00
@@ -50,7 +48,7 @@ tv | - | press language 667261 | lang=667261 | @f 32 66 72 61
 tv | - | press remote 4 44 | - | @4 44 44
 tv | - | press remote e 6d | - | @e 44 6d";
 
-const RELEASES: &str = "\
+pub(crate) const RELEASES: &str = "\
 player+recorder+combo | - | release play | - | -
 player+recorder+combo | - | release stop | - | -
 player+recorder+combo | - | release eject | - | -
@@ -72,7 +70,7 @@ amp | audio=on | release mute | - | -
 tv | - | release language 667261 | - | -
 tv | - | release remote 4 44 | - | @4 45";
 
-const REFUSED: &str = "\
+pub(crate) const REFUSED: &str = "\
 tv+amp+switch | - | press play | refused | -
 tv+amp+switch | - | release play | refused | -
 tv+amp+switch | - | press stop | refused | -
@@ -97,11 +95,3 @@ player+recorder+combo+switch | - | release mute | refused | -
 amp+player+recorder+combo+switch | - | press language 667261 | refused | -
 amp+player+recorder+combo+switch | - | press remote 4 44 | refused | -
 amp+player+recorder+combo+switch | - | release remote 4 44 | refused | -";
-
-#[test]
-fn each_key_does_what_it_says(rt: HostRuntime) -> Result<(), Fail> {
-    for cases in [PRESSES, RELEASES, REFUSED] {
-        check(&rt, rt.alloc(), cases)?;
-    }
-    Ok(())
-}

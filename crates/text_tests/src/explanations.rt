@@ -5,243 +5,370 @@ use hdminet_lists::run_words;
 use std::alloc::{AllocError, Global};
 use std::process::Abort;
 
-/// An input, the fault that it is refused with, and the lines that explain it.
-type Case = (&'static [u8], &'static str, &'static str);
-
-const NETWORKS: &[Case] = &[
-    (
-        b"device tv tv 4\ndevice p1 playr 0\nscript\nend 5\n",
-        "topology line 2: word",
-        "  line 2: device p1 playr 0
+// Inputs, each with the fault that it is refused with behind an arrow, and the lines that explain it. `--` parts them.
+const NETWORKS: &str = "\
+device tv tv 4
+device p1 playr 0
+script
+end 5
+=> topology line 2: word
+  line 2: device p1 playr 0
                     ^^^^^
   a line here reads `device NAME KIND PORTS`
   `playr`: did you mean `player`?
   KIND is tv, amp, player, recorder, switch or combo; words stand one space apart; `edid` comes once
-",
-    ),
-    (
-        b"DEVICE tv tv 4\nscript\nend 5\n",
-        "topology line 1: word",
-        "  line 1: DEVICE tv tv 4
+--
+DEVICE tv tv 4
+script
+end 5
+=> topology line 1: word
+  line 1: DEVICE tv tv 4
           ^^^^^^
   a line here reads `device NAME KIND PORTS`, `plug CHILD PARENT PORT`, `edid HEX`
   `DEVICE`: did you mean `device`?
   KIND is tv, amp, player, recorder, switch or combo; words stand one space apart; `edid` comes once
-",
-    ),
-    (
-        b"\xef\xbb\xbfdevice tv tv 4\nscript\nend 5\n",
-        "topology line 1: word",
-        "  line 1: ...device tv tv 4
+--
+\u{feff}device tv tv 4
+script
+end 5
+=> topology line 1: word
+  line 1: ...device tv tv 4
           ^^^^^^^^^
   this line has bytes that are no printable text; `.` stands for each
   a line here reads `device NAME KIND PORTS`, `plug CHILD PARENT PORT`, `edid HEX`
   KIND is tv, amp, player, recorder, switch or combo; words stand one space apart; `edid` comes once
   the input begins with a byte order mark, ef bb bf, which is no part of the text
-",
-    ),
-    (
-        b"device tv tv 4\r\nscript\r\nend 5\r\n",
-        "no script line",
-        "  line 2: script.
+--
+device tv tv 4\r
+script\r
+end 5\r
+=> no script line
+  line 2: script.
   lines end with LF; this one has a CR before it
   a line `script`, and nothing else on it, parts the topology from the script
-",
-    ),
-    (
-        b"",
-        "no script line",
-        "  a line `script`, and nothing else on it, parts the topology from the script
+--
+=> no script line
+  a line `script`, and nothing else on it, parts the topology from the script
   the input is empty
-",
-    ),
-    (
-        b"device tv tv 4\ndevice p1 player 0\nplug p2 tv 1\nscript\nend 5\n",
-        "topology line 3: name",
-        "  line 3: plug p2 tv 1
+--
+device tv tv 4
+device p1 player 0
+plug p2 tv 1
+script
+end 5
+=> topology line 3: name
+  line 3: plug p2 tv 1
                ^^
   NAME is new, of 1 to 14 of a to z, 0 to 9 and `-`, first a letter; CHILD and PARENT have a `device` line above
-",
-    ),
-    (
-        b"device p1 player 0\nscript\nend 5\n",
-        "topology line 2: no-root",
-        "  a network has a device of the kind tv, as `device tv tv 4`\n",
-    ),
-    (
-        b"device tv tv 4\ndevice p1 player 0\nplug p1 tv 1\n# play\nscript\nat 1000000 press p1 plya\nend 5\n",
-        "script line 1: word",
-        "  line 6: at 1000000 press p1 plya
+--
+device p1 player 0
+script
+end 5
+=> topology line 2: no-root
+  a network has a device of the kind tv, as `device tv tv 4`
+--
+device tv tv 4
+device p1 player 0
+plug p1 tv 1
+# play
+script
+at 1000000 press p1 plya
+end 5
+=> script line 1: word
+  line 6: at 1000000 press p1 plya
                               ^^^^
   a line here reads `at T press NAME KEY`
   `plya`: did you mean `play`?
   words stand one space apart, and nothing follows the last one
-",
-    ),
-    (
-        b"device tv tv 4\nscript\nend 1e6\n",
-        "script line 1: number",
-        "  line 3: end 1e6
+--
+device tv tv 4
+script
+end 1e6
+=> script line 1: number
+  line 3: end 1e6
               ^^^
   T is decimal microseconds, 0 to 1000000000000; PORT and WIDTH are decimal numbers; none has a zero before it
-",
-    ),
-    (
-        b"device tv tv 4\ndevice player player 0\nscript\nat 5 press player play\nat 5 press playr play\nend 9\n",
-        "script line 2: name",
-        "  line 5: at 5 press playr play
+--
+device tv tv 4
+device player player 0
+script
+at 5 press player play
+at 5 press playr play
+end 9
+=> script line 2: name
+  line 5: at 5 press playr play
                      ^^^^^
   `playr`: did you mean `player`?
   a NAME, CHILD or PARENT of the script has a `device` line in the topology
-",
-    ),
-    (
-        b"device tv tv 4\nscript\nat 5\tpress tv play \nend 9\n",
-        "script line 1: word",
-        "  line 3: at 5.press tv play 
+--
+device tv tv 4
+script
+at 5\tpress tv play 
+end 9
+=> script line 1: word
+  line 3: at 5.press tv play 
                      ^^
   this line has a tab; words stand one space apart
   this line ends with a space
   a line here reads `at T press NAME KEY`, `at T release NAME KEY`, `at T plug CHILD PARENT PORT`, `at T unplug CHILD`, `at T send NAME FRAME`
   words stand one space apart, and nothing follows the last one
-",
-    ),
-    (
-        b"device tv tv 4\nscript\nat 9 press tv power\n# later\nat 5 press tv power\nend 10\n",
-        "script line 3: order",
-        "  line 5: at 5 press tv power
+--
+device tv tv 4
+script
+at 9 press tv power
+# later
+at 5 press tv power
+end 10
+=> script line 3: order
+  line 5: at 5 press tv power
              ^
   the time of line 5, 5, is before that of line 3, 9
   times do not go back: each T is that of the line before it or later, and a pulse begins after the end of the last one
-",
-    ),
-    (
-        b"device tv tv 4\nscript\npulse 1000 500\npulse 1400 9\nend 9000\n",
-        "script line 2: order",
-        "  line 4: pulse 1400 9
+--
+device tv tv 4
+script
+pulse 1000 500
+pulse 1400 9
+end 9000
+=> script line 2: order
+  line 4: pulse 1400 9
                 ^^^^
   the pulse of line 4 begins at 1400, before that of line 3 ends, at 1500
   times do not go back: each T is that of the line before it or later, and a pulse begins after the end of the last one
-",
-    ),
-    (
-        b"device tv tv 4\nscript\nat 5 send tv 0>f set-menu-language english\nend 9\n",
-        "script line 1: frame operand",
-        "  line 3: at 5 send tv 0>f set-menu-language english
+--
+device tv tv 4
+script
+at 5 send tv 0>f set-menu-language english
+end 9
+=> script line 1: frame operand
+  line 3: at 5 send tv 0>f set-menu-language english
                                              ^^^^^^^
   a frame here reads `I>D set-menu-language LANG`
   LANG is three letters, a to z
   operands are the opcode's words, as docs/formats.md has them; as hex, `:` and two lower-case digits a byte, where no word says them
-",
-    ),
-    (
-        b"device tv tv 4\nedid 00ff\nscript\nend 9\n",
-        "edid: length",
-        "  line 2: edid 00ff
+--
+device tv tv 4
+edid 00ff
+script
+end 9
+=> edid: length
+  line 2: edid 00ff
                ^^^^
   an EDID has 128, 256, 384 or 512 bytes: a base block and up to three extensions of 128 bytes each
-",
-    ),
-];
+";
 
-const FRAMES: &[Case] = &[
-    (
-        b"4>4\n4>0 pley forward\n",
-        "line 2: name",
-        "  line 2: 4>0 pley forward
+const FRAMES: &str = "\
+4>4
+4>0 pley forward
+=> line 2: name
+  line 2: 4>0 pley forward
               ^^^^
   `pley`: did you mean `play`?
   after `I>D` and one space comes an opcode's name, or `op-XX` for an opcode that has none
-",
-    ),
-    (
-        b"4>4\r\n",
-        "line 1: address",
-        "  line 1: 4>4.
+--
+4>4\r
+=> line 1: address
+  line 1: 4>4.
           ^^^^
   lines end with LF; this one has a CR before it
   a line begins with `I>D`, the hex digits of initiator and destination in lower case, as `4>0`
-",
-    ),
-    (
-        b"4>f  active-source 1.0.0.0\n",
-        "line 1: name",
-        "  line 1: 4>f  active-source 1.0.0.0
+--
+4>f  active-source 1.0.0.0
+=> line 1: name
+  line 1: 4>f  active-source 1.0.0.0
               ^
   two spaces stand side by side here
   after `I>D` and one space comes an opcode's name, or `op-XX` for an opcode that has none
-",
-    ),
-    (
-        b"4>0 play FORWARD x\n",
-        "line 1: operand",
-        "  line 1: 4>0 play FORWARD x
+--
+4>0 play FORWARD x
+=> line 1: operand
+  line 1: 4>0 play FORWARD x
                    ^^^^^^^^^
   a frame here reads `I>D play MODE`
   MODE is forward, still, ff-min, ff-mid, ff-max, fr-min, fr-mid, fr-max
   operands are the opcode's words, as docs/formats.md has them; as hex, `:` and two lower-case digits a byte, where no word says them
-",
-    ),
-    (
-        b"4>f op-82 1.0.0.0\n",
-        "line 1: name",
-        "  line 1: 4>f op-82 1.0.0.0
+--
+4>f op-82 1.0.0.0
+=> line 1: name
+  line 1: 4>f op-82 1.0.0.0
               ^^^^^
   the opcode 82 has a name, `active-source`, which stands in place of `op-82`
   after `I>D` and one space comes an opcode's name, or `op-XX` for an opcode that has none
-",
-    ),
-    (
-        b"4>0 op-E5 :\n",
-        "line 1: name",
-        "  line 1: 4>0 op-E5 :
+--
+4>0 op-E5 :
+=> line 1: name
+  line 1: 4>0 op-E5 :
               ^^^^^
   the opcode e5 has no name; `op-e5` stands for it
   after `I>D` and one space comes an opcode's name, or `op-XX` for an opcode that has none
-",
-    ),
-    (
-        b"4>0 give-osd-name 5\n",
-        "line 1: count",
-        "  line 1: 4>0 give-osd-name 5
+--
+4>0 give-osd-name 5
+=> line 1: count
+  line 1: 4>0 give-osd-name 5
                             ^
   a frame here reads `I>D give-osd-name`
   the opcode takes another number of words; words stand one space apart
-",
-    ),
-    (
-        b"10 0\n20 0\n",
-        "line 2: order",
-        "  line 2: 20 0
+--
+10 0
+20 0
+=> line 2: order
+  line 2: 20 0
              ^
   falls and rises take turns, from a fall on, each later than the one before; `end` is not before the last
-",
-    ),
-    (
-        b"10 0\n# a rise\n5 1\n",
-        "line 3: order",
-        "  line 3: 5 1
+--
+10 0
+# a rise
+5 1
+=> line 3: order
+  line 3: 5 1
           ^
   falls and rises take turns, from a fall on, each later than the one before; `end` is not before the last
-",
-    ),
-    (
-        b"10 0\n20 2\n",
-        "line 2: line",
-        "  line 2: 20 2
+--
+10 0
+20 2
+=> line 2: line
+  line 2: 20 2
              ^
   a line is `T 0` for a fall or `T 1` for a rise, and the last one `T end`, T decimal microseconds, 0 to 2000000000000
-",
-    ),
-    (
-        b"10 0\n2000000000001 1\n",
-        "line 2: line",
-        "  line 2: 2000000000001 1
+--
+10 0
+2000000000001 1
+=> line 2: line
+  line 2: 2000000000001 1
           ^^^^^^^^^^^^^
   a line is `T 0` for a fall or `T 1` for a rise, and the last one `T end`, T decimal microseconds, 0 to 2000000000000
-",
-    ),
+";
+
+const EDIDS: &str = "\
+00ffffffffffff00
+4c2d
+=> edid: length
+  an EDID has 128, 256, 384 or 512 bytes: a base block and up to three extensions of 128 bytes each
+  this looks like a hex dump; `xxd -r -p` makes bytes of it
+  the input has 22 bytes; an EDID has 128, 256, 384 or 512
+--
+00000000: 00ff ffff ffff ff00 4c2d=> edid: length
+  an EDID has 128, 256, 384 or 512 bytes: a base block and up to three extensions of 128 bytes each
+  this looks like a hex dump; `xxd -r` makes bytes of one that `xxd` made
+  the input has 34 bytes; an EDID has 128, 256, 384 or 512
+--
+edid 1.3
+maker SAM
+=> edid: length
+  an EDID has 128, 256, 384 or 512 bytes: a base block and up to three extensions of 128 bytes each
+  this looks like the text of an EDID, which `edid --text` reads
+  the input has 19 bytes; an EDID has 128, 256, 384 or 512
+--
+=> edid: length
+  an EDID has 128, 256, 384 or 512 bytes: a base block and up to three extensions of 128 bytes each
+  the input is empty
+  the input has 0 bytes; an EDID has 128, 256, 384 or 512
+";
+
+const EDID_TEXTS: &str = "\
+edid 1.3
+maker sam
+=> text: field 2
+  line 2: maker sam
+                ^^^
+  a field is out of its range or not spelled as it should be: numbers are decimal with no zero before them, hex is lower case
+--
+edid 1.3
+makers SAM
+=> text: syntax 2
+  line 2: makers SAM
+          ^^^^^^
+  `makers`: did you mean `maker`?
+  here another line has to stand: `edid --help` shows the lines in their order; each has its word and all its fields, and ends with a line feed
+";
+
+const STEPS: &str = "\
+device lounge tv 4
+script
+end 5
+steps
+edge
+edges
+=> steps line 2
+  line 6: edges
+          ^^^^^
+  a line here reads `edge`, `round`, `until opcode XX`, `until device NAME`, `until break`, `show NAME`
+  `edges`: did you mean `edge`?
+  XX is an opcode, two hex digits in lower case; NAME has a `device` line in the topology; words stand one space apart
+--
+device lounge tv 4
+script
+end 5
+steps
+until opcode 8F
+=> steps line 1
+  line 5: until opcode 8F
+                       ^^
+  a line here reads `until opcode XX`
+  XX is an opcode, two hex digits in lower case; NAME has a `device` line in the topology; words stand one space apart
+--
+device lounge tv 4
+script
+end 5
+steps
+until devise lounge
+=> steps line 1
+  line 5: until devise lounge
+                ^^^^^^
+  a line here reads `until opcode XX`, `until device NAME`, `until break`
+  `devise`: did you mean `device`?
+  XX is an opcode, two hex digits in lower case; NAME has a `device` line in the topology; words stand one space apart
+--
+device lounge tv 4
+script
+end 5
+steps
+until device lonuge
+=> steps line 1
+  line 5: until device lonuge
+                       ^^^^^^
+  a line here reads `until device NAME`
+  `lonuge`: did you mean `lounge`?
+  XX is an opcode, two hex digits in lower case; NAME has a `device` line in the topology; words stand one space apart
+--
+device lounge tv 4
+script
+end 5
+steps
+show lounge2
+=> steps line 1
+  line 5: show lounge2
+               ^^^^^^^
+  a line here reads `show NAME`
+  `lounge2`: did you mean `lounge`?
+  XX is an opcode, two hex digits in lower case; NAME has a `device` line in the topology; words stand one space apart
+--
+device lounge tv 4
+script
+end 5
+steps
+round 2
+=> steps line 1
+  line 5: round 2
+                ^
+  a line here reads `round`
+  XX is an opcode, two hex digits in lower case; NAME has a `device` line in the topology; words stand one space apart
+--
+device lounge tv 4
+script
+end 5
+steps
+until
+=> steps line 1
+  line 5: until
+  a line here reads `until opcode XX`, `until device NAME`, `until break`
+  XX is an opcode, two hex digits in lower case; NAME has a `device` line in the topology; words stand one space apart
+";
+
+/// Inputs that are no text.
+const BYTES: &[(Input, &[u8], &str, &str)] = &[
     (
+        Input::Lines,
         b"\x80\x81",
         "line 1: address",
         "  line 1: ..
@@ -250,68 +377,15 @@ const FRAMES: &[Case] = &[
   a line begins with `I>D`, the hex digits of initiator and destination in lower case, as `4>0`
 ",
     ),
-];
-
-const EDIDS: &[Case] = &[
     (
-        b"00ffffffffffff00\n4c2d\n",
-        "edid: length",
-        "  an EDID has 128, 256, 384 or 512 bytes: a base block and up to three extensions of 128 bytes each
-  this looks like a hex dump; `xxd -r -p` makes bytes of it
-  the input has 22 bytes; an EDID has 128, 256, 384 or 512
-",
-    ),
-    (
-        b"00000000: 00ff ffff ffff ff00 4c2d",
-        "edid: length",
-        "  an EDID has 128, 256, 384 or 512 bytes: a base block and up to three extensions of 128 bytes each
-  this looks like a hex dump; `xxd -r` makes bytes of one that `xxd` made
-  the input has 34 bytes; an EDID has 128, 256, 384 or 512
-",
-    ),
-    (
-        b"",
-        "edid: length",
-        "  an EDID has 128, 256, 384 or 512 bytes: a base block and up to three extensions of 128 bytes each
-  the input is empty
-  the input has 0 bytes; an EDID has 128, 256, 384 or 512
-",
-    ),
-    (
-        b"edid 1.3\nmaker SAM\n",
-        "edid: length",
-        "  an EDID has 128, 256, 384 or 512 bytes: a base block and up to three extensions of 128 bytes each
-  this looks like the text of an EDID, which `edid --text` reads
-  the input has 19 bytes; an EDID has 128, 256, 384 or 512
-",
-    ),
-    (
+        Input::EdidBytes,
         b"\x00\xff",
         "write fault after 9 bytes",
         "  standard output takes no more: is the disk full, or the reader gone? What was written before is the front of the output
 ",
     ),
-];
-
-const EDID_TEXTS: &[Case] = &[
     (
-        b"edid 1.3\nmaker sam\n",
-        "text: field 2",
-        "  line 2: maker sam
-                ^^^
-  a field is out of its range or not spelled as it should be: numbers are decimal with no zero before them, hex is lower case
-",
-    ),
-    (
-        b"edid 1.3\nmakers SAM\n",
-        "text: syntax 2",
-        "  line 2: makers SAM
-          ^^^^^^
-  `makers`: did you mean `maker`?
-  here another line has to stand: `edid --help` shows the lines in their order; each has its word and all its fields, and ends with a line feed
-",
-    ),
-    (
+        Input::EdidText,
         b"\x00\xff\xff\xff",
         "text: syntax 1",
         "  line 1: ....
@@ -319,75 +393,6 @@ const EDID_TEXTS: &[Case] = &[
   this line has bytes that are no printable text; `.` stands for each
   here another line has to stand: `edid --help` shows the lines in their order; each has its word and all its fields, and ends with a line feed
   this looks like the bytes of an EDID, which `edid` reads without `--text`
-",
-    ),
-];
-
-const STEPS: &[Case] = &[
-    (
-        b"device lounge tv 4\nscript\nend 5\nsteps\nedge\nedges\n",
-        "steps line 2",
-        "  line 6: edges
-          ^^^^^
-  a line here reads `edge`, `round`, `until opcode XX`, `until device NAME`, `until break`, `show NAME`
-  `edges`: did you mean `edge`?
-  XX is an opcode, two hex digits in lower case; NAME has a `device` line in the topology; words stand one space apart
-",
-    ),
-    (
-        b"device lounge tv 4\nscript\nend 5\nsteps\nuntil opcode 8F\n",
-        "steps line 1",
-        "  line 5: until opcode 8F
-                       ^^
-  a line here reads `until opcode XX`
-  XX is an opcode, two hex digits in lower case; NAME has a `device` line in the topology; words stand one space apart
-",
-    ),
-    (
-        b"device lounge tv 4\nscript\nend 5\nsteps\nuntil devise lounge\n",
-        "steps line 1",
-        "  line 5: until devise lounge
-                ^^^^^^
-  a line here reads `until opcode XX`, `until device NAME`, `until break`
-  `devise`: did you mean `device`?
-  XX is an opcode, two hex digits in lower case; NAME has a `device` line in the topology; words stand one space apart
-",
-    ),
-    (
-        b"device lounge tv 4\nscript\nend 5\nsteps\nuntil device lonuge\n",
-        "steps line 1",
-        "  line 5: until device lonuge
-                       ^^^^^^
-  a line here reads `until device NAME`
-  `lonuge`: did you mean `lounge`?
-  XX is an opcode, two hex digits in lower case; NAME has a `device` line in the topology; words stand one space apart
-",
-    ),
-    (
-        b"device lounge tv 4\nscript\nend 5\nsteps\nshow lounge2\n",
-        "steps line 1",
-        "  line 5: show lounge2
-               ^^^^^^^
-  a line here reads `show NAME`
-  `lounge2`: did you mean `lounge`?
-  XX is an opcode, two hex digits in lower case; NAME has a `device` line in the topology; words stand one space apart
-",
-    ),
-    (
-        b"device lounge tv 4\nscript\nend 5\nsteps\nround 2\n",
-        "steps line 1",
-        "  line 5: round 2
-                ^
-  a line here reads `round`
-  XX is an opcode, two hex digits in lower case; NAME has a `device` line in the topology; words stand one space apart
-",
-    ),
-    (
-        b"device lounge tv 4\nscript\nend 5\nsteps\nuntil\n",
-        "steps line 1",
-        "  line 5: until
-  a line here reads `until opcode XX`, `until device NAME`, `until break`
-  XX is an opcode, two hex digits in lower case; NAME has a `device` line in the topology; words stand one space apart
 ",
     ),
 ];
@@ -400,9 +405,15 @@ fn is_said(said: Result<String, AllocError>, want: &str) -> bool {
     }
 }
 
-fn are_explained(rt: &impl Abort, alloc: Global, what: Input, cases: &[Case]) {
-    for (input, fault, want) in cases {
-        case_holds(rt, is_said(explain(alloc, what, fault, input), want), want);
+fn is_explained(alloc: Global, what: Input, case: &str) -> bool {
+    let (input, rest) = case.split_once("=> ").unwrap_or((case, ""));
+    let (fault, want) = rest.split_once('\n').unwrap_or((rest, ""));
+    is_said(explain(alloc, what, fault, input.as_bytes()), want)
+}
+
+fn are_explained(rt: &impl Abort, alloc: Global, what: Input, cases: &str) {
+    for case in cases.split("--\n") {
+        case_holds(rt, is_explained(alloc, what, case), case);
     }
 }
 
@@ -414,55 +425,61 @@ fn faults_are_explained(rt: HostRuntime) {
     are_explained(&rt, alloc, Input::Lines, FRAMES);
     are_explained(&rt, alloc, Input::EdidBytes, EDIDS);
     are_explained(&rt, alloc, Input::EdidText, EDID_TEXTS);
+    for (what, input, fault, want) in BYTES {
+        case_holds(
+            &rt,
+            is_said(explain(alloc, *what, fault, input), want),
+            want,
+        );
+    }
 }
 
 /// Each fault that a subcommand may end with.
-const FAULTS: &[&str] = &[
-    "topology line 1: word",
-    "topology line 1: number",
-    "topology line 1: name",
-    "topology line 1: full",
-    "topology line 1: second-root",
-    "topology line 1: no-root",
-    "topology line 1: port-range",
-    "topology line 1: port-taken",
-    "topology line 1: not-loose",
-    "topology line 1: loop",
-    "topology line 1: hex",
-    "script line 1: word",
-    "script line 1: number",
-    "script line 1: name",
-    "script line 1: frame name",
-    "script line 1: frame operand",
-    "script line 1: width",
-    "script line 1: order",
-    "script line 1: close",
-    "script line 1: too-many",
-    "script line 1: end",
-    "steps line 1",
-    "line 1: address",
-    "line 1: name",
-    "line 1: too-long",
-    "line 1: count",
-    "line 1: operand",
-    "line 1: line",
-    "line 1: order",
-    "edid: length",
-    "edid: count",
-    "edid: base header",
-    "edid: base checksum",
-    "edid: base revision",
-    "edid: base maker",
-    "edid: ext 3 checksum",
-    "edid: no-hdmi-block",
-    "text: syntax 1",
-    "text: field 1",
-    "no script line",
-    "no steps line",
-    "input too long",
-    "read fault",
-    "no memory",
-];
+const FAULTS: &str = "\
+topology line 1: word
+topology line 1: number
+topology line 1: name
+topology line 1: full
+topology line 1: second-root
+topology line 1: no-root
+topology line 1: port-range
+topology line 1: port-taken
+topology line 1: not-loose
+topology line 1: loop
+topology line 1: hex
+script line 1: word
+script line 1: number
+script line 1: name
+script line 1: frame name
+script line 1: frame operand
+script line 1: width
+script line 1: order
+script line 1: close
+script line 1: too-many
+script line 1: end
+steps line 1
+line 1: address
+line 1: name
+line 1: too-long
+line 1: count
+line 1: operand
+line 1: line
+line 1: order
+edid: length
+edid: count
+edid: base header
+edid: base checksum
+edid: base revision
+edid: base maker
+edid: ext 3 checksum
+edid: no-hdmi-block
+text: syntax 1
+text: field 1
+no script line
+no steps line
+input too long
+read fault
+no memory";
 
 /// Whether a text has lines as explanations have, and is not what is said of an unknown fault.
 fn is_explanation(alloc: Global, text: &str) -> bool {
@@ -481,7 +498,7 @@ fn has_explanation(alloc: Global, fault: &str) -> bool {
 
 #[test]
 fn each_fault_has_its_explanation(rt: HostRuntime) {
-    for fault in FAULTS {
+    for fault in FAULTS.lines() {
         case_holds(&rt, has_explanation(rt.alloc(), fault), fault);
     }
 }
@@ -499,11 +516,6 @@ fn is_cut(alloc: Global, line: &[u8]) -> bool {
         Ok(text) => text.starts_with(CUT),
         Err(_) => false,
     }
-}
-
-#[test]
-fn a_long_line_is_cut(rt: HostRuntime) {
-    assert!(rt; is_cut(rt.alloc(), &[b'x'; 300]));
 }
 
 /// Lines of the words of topologies and scripts, written by hand from the table of keys and the lists of causes.
@@ -533,12 +545,11 @@ and the causes of faults
 ";
 
 #[test]
-fn the_words_of_scripts_are_listed(rt: HostRuntime) {
-    assert!(rt; is_said(run_words(rt.alloc()), WORDS));
-}
-
-#[test]
-fn counts_are_said(rt: HostRuntime) {
+fn words_counts_and_a_long_line(rt: HostRuntime) {
+    let alloc = rt.alloc();
+    let said = counts(alloc, 4, 3, 1);
     let want = "  rounds 4, complete rounds 3, refused events 1\n";
-    assert!(rt; is_said(counts(rt.alloc(), 4, 3, 1), want));
+    case_holds(&rt, is_said(said, want), want);
+    case_holds(&rt, is_said(run_words(alloc), WORDS), WORDS);
+    case_holds(&rt, is_cut(alloc, &[b'x'; 300]), CUT);
 }

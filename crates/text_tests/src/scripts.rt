@@ -1,5 +1,5 @@
 //! What a topology and a script say, and why one is refused.
-use crate::cases::case_holds;
+use crate::cases::{bytes_of, case_holds};
 use cec_asm::{Script, ScriptError, TimedEvent, Topology, parse_script, parse_topology};
 use cec_device::{Key, VolumeKey};
 use cec_net::Event;
@@ -10,107 +10,141 @@ use std::process::Abort;
 // A television with four ports, and a player in the first.
 const NETWORK: &str = "device tv tv 4\ndevice p1 player 0\nplug p1 tv 1\n";
 
-// Scripts, and the line and cause that each is refused with.
-const REFUSED: &[(&str, &str)] = &[
-    ("frob", "line 1: word"),
-    (" ", "line 1: word"),
-    ("at", "line 1: word"),
-    ("at 5", "line 1: word"),
-    ("at 5 frob p1", "line 1: word"),
-    ("at 5 plug p1 tv", "line 1: word"),
-    ("at 5 unplug p1 tv", "line 1: word"),
-    ("at 5 press", "line 1: word"),
-    ("at 5 press p1", "line 1: word"),
-    ("at 5 press p1 frob", "line 1: word"),
-    ("at 5 press p1 play again", "line 1: word"),
-    ("at 5 press p1 Play", "line 1: word"),
-    ("at 5 press p1 port", "line 1: word"),
-    ("at 5 press p1 port 1 2", "line 1: word"),
-    ("at 5 press p1 audio", "line 1: word"),
-    ("at 5 press p1 audio up", "line 1: word"),
-    ("at 5 press p1 arc 1", "line 1: word"),
-    ("at 5 press p1 watch", "line 1: word"),
-    ("at 5 press p1 watch 1.0.0", "line 1: word"),
-    ("at 5 press p1 watch 1.0.0.G", "line 1: word"),
-    ("at 5 press p1 watch 1.0.0.F", "line 1: word"),
-    ("at 5 press p1 watch 1000000", "line 1: word"),
-    ("at 5 press p1 watch 1.0.0.00", "line 1: word"),
-    ("at 5 press p1 language en", "line 1: word"),
-    ("at 5 press p1 language engl", "line 1: word"),
-    ("at 5 press p1 language Eng", "line 1: word"),
-    ("at 5 press p1 language e1g", "line 1: word"),
-    ("at 5 press p1 remote 4", "line 1: word"),
-    ("at 5 press p1 remote 0 play", "line 1: word"),
-    ("at 5 press p1 remote f play", "line 1: word"),
-    ("at 5 press p1 remote E play", "line 1: word"),
-    ("at 5 press p1 remote 10 play", "line 1: word"),
-    ("at 5 press p1 remote 4 frob", "line 1: word"),
-    ("at 5 press p1 remote 4 44", "line 1: word"),
-    ("at 5 release p1", "line 1: word"),
-    ("at 5 send", "line 1: word"),
-    ("at 5 send p1", "line 1: word"),
-    ("at x send frob", "line 1: word"),
-    ("pulse", "line 1: word"),
-    ("pulse 5", "line 1: word"),
-    ("pulse 5 6 7", "line 1: word"),
-    ("pulse x y z", "line 1: word"),
-    ("end", "line 1: word"),
-    ("end 5 6", "line 1: word"),
-    ("# a\n\nfrob", "line 3: word"),
-    ("end 10\nfrob", "line 2: word"),
-    ("at x press p2 port x", "line 1: number"),
-    ("at 5 press p2 port 01", "line 1: number"),
-    ("at 5 press p2 port ", "line 1: number"),
-    ("at x send p2 4>g", "line 1: number"),
-    ("at 1000000000001 send p1 4>4", "line 1: number"),
-    ("pulse 05 100", "line 1: number"),
-    ("pulse 5 0x64", "line 1: number"),
-    ("pulse 1000000000001 0", "line 1: number"),
-    ("end 1000000000001", "line 1: number"),
-    ("at 5 press p2 port 1", "line 1: name"),
-    ("at 5 release P1 play", "line 1: name"),
-    ("at 5 send p2 4>g", "line 1: name"),
-    ("at 5 send  4>4", "line 1: name"),
-    ("at 5 send tv ", "line 1: frame address"),
-    ("at 5 send p1 4>g", "line 1: frame address"),
-    ("at 5 send p1 4>0 frob", "line 1: frame name"),
-    ("at 5 send p1 4>0 ", "line 1: frame name"),
-    ("at 5 send p1 4>0 play", "line 1: frame count"),
-    ("at 5 send p1 4>0 play :24", "line 1: frame operand"),
-    (
-        "at 5 send p1 4>0 op-e5 :000102030405060708090a0b0c0d0e",
-        "line 1: frame too-long",
-    ),
-    (
-        "at 9 send p1 4>4\nat 5 send p1 4>g",
-        "line 2: frame address",
-    ),
-    ("pulse 5 0", "line 1: width"),
-    ("pulse 5 10001", "line 1: width"),
-    ("pulse 5 18446744073709551617", "line 1: width"),
-    ("pulse 100000 400\npulse 5 10001", "line 2: width"),
-    ("end 10\npulse 5 0", "line 2: width"),
-    (
-        "at 10 press p1 play\nat 9 press p1 play\nend 20",
-        "line 2: order",
-    ),
-    (
-        "at 10 press p1 play\nend 20\nat 9 press p1 play",
-        "line 3: order",
-    ),
-    ("pulse 100000 400\npulse 100399 1", "line 2: order"),
-    ("pulse 100000 400\nend 20\npulse 100399 1", "line 3: order"),
-    ("pulse 100000 400\npulse 125399 1", "line 2: close"),
-    ("pulse 100000 400\nend 20\npulse 100400 1", "line 3: close"),
-    ("", "line 1: end"),
-    ("at 5 press p1 play\n# no end\n", "line 3: end"),
-    ("end 10\nend 20", "line 2: end"),
-    ("end 10\nat 20 press p1 play", "line 2: end"),
-    ("end 10\npulse 100000 400", "line 2: end"),
-    ("at 10 press p1 play\nend 10", "line 2: end"),
-    ("at 10 send p1 4>4\nend 9", "line 2: end"),
-    ("at 5 unplug p1\nend 6\n\n# more\nend 7", "line 5: end"),
-];
+// Scripts of one line, and the line and cause that each is refused with.
+const REFUSED: &str = "\
+frob => line 1: word
+  => line 1: word
+at => line 1: word
+at 5 => line 1: word
+at 5 frob p1 => line 1: word
+at 5 plug p1 tv => line 1: word
+at 5 unplug p1 tv => line 1: word
+at 5 press => line 1: word
+at 5 press p1 => line 1: word
+at 5 press p1 frob => line 1: word
+at 5 press p1 play again => line 1: word
+at 5 press p1 Play => line 1: word
+at 5 press p1 port => line 1: word
+at 5 press p1 port 1 2 => line 1: word
+at 5 press p1 audio => line 1: word
+at 5 press p1 audio up => line 1: word
+at 5 press p1 arc 1 => line 1: word
+at 5 press p1 watch => line 1: word
+at 5 press p1 watch 1.0.0 => line 1: word
+at 5 press p1 watch 1.0.0.G => line 1: word
+at 5 press p1 watch 1.0.0.F => line 1: word
+at 5 press p1 watch 1000000 => line 1: word
+at 5 press p1 watch 1.0.0.00 => line 1: word
+at 5 press p1 language en => line 1: word
+at 5 press p1 language engl => line 1: word
+at 5 press p1 language Eng => line 1: word
+at 5 press p1 language e1g => line 1: word
+at 5 press p1 remote 4 => line 1: word
+at 5 press p1 remote 0 play => line 1: word
+at 5 press p1 remote f play => line 1: word
+at 5 press p1 remote E play => line 1: word
+at 5 press p1 remote 10 play => line 1: word
+at 5 press p1 remote 4 frob => line 1: word
+at 5 press p1 remote 4 44 => line 1: word
+at 5 release p1 => line 1: word
+at 5 send => line 1: word
+at 5 send p1 => line 1: word
+at x send frob => line 1: word
+pulse => line 1: word
+pulse 5 => line 1: word
+pulse 5 6 7 => line 1: word
+pulse x y z => line 1: word
+end => line 1: word
+end 5 6 => line 1: word
+at x press p2 port x => line 1: number
+at 5 press p2 port 01 => line 1: number
+at 5 press p2 port  => line 1: number
+at x send p2 4>g => line 1: number
+at 1000000000001 send p1 4>4 => line 1: number
+pulse 05 100 => line 1: number
+pulse 5 0x64 => line 1: number
+pulse 1000000000001 0 => line 1: number
+end 1000000000001 => line 1: number
+at 5 press p2 port 1 => line 1: name
+at 5 release P1 play => line 1: name
+at 5 send p2 4>g => line 1: name
+at 5 send  4>4 => line 1: name
+at 5 send tv  => line 1: frame address
+at 5 send p1 4>g => line 1: frame address
+at 5 send p1 4>0 frob => line 1: frame name
+at 5 send p1 4>0  => line 1: frame name
+at 5 send p1 4>0 play => line 1: frame count
+at 5 send p1 4>0 play :24 => line 1: frame operand
+at 5 send p1 4>0 op-e5 :000102030405060708090a0b0c0d0e => line 1: frame too-long
+pulse 5 0 => line 1: width
+pulse 5 10001 => line 1: width
+pulse 5 18446744073709551617 => line 1: width
+ => line 1: end";
+
+// The same for scripts of several lines, parted by `--`.
+const REFUSED_SCRIPTS: &str = "\
+# a
+
+frob => line 3: word
+--
+end 10
+frob => line 2: word
+--
+at 9 send p1 4>4
+at 5 send p1 4>g => line 2: frame address
+--
+pulse 100000 400
+pulse 5 10001 => line 2: width
+--
+end 10
+pulse 5 0 => line 2: width
+--
+at 10 press p1 play
+at 9 press p1 play
+end 20 => line 2: order
+--
+at 10 press p1 play
+end 20
+at 9 press p1 play => line 3: order
+--
+pulse 100000 400
+pulse 100399 1 => line 2: order
+--
+pulse 100000 400
+end 20
+pulse 100399 1 => line 3: order
+--
+pulse 100000 400
+pulse 125399 1 => line 2: close
+--
+pulse 100000 400
+end 20
+pulse 100400 1 => line 3: close
+--
+at 5 press p1 play
+# no end
+ => line 3: end
+--
+end 10
+end 20 => line 2: end
+--
+end 10
+at 20 press p1 play => line 2: end
+--
+end 10
+pulse 100000 400 => line 2: end
+--
+at 10 press p1 play
+end 10 => line 2: end
+--
+at 10 send p1 4>4
+end 9 => line 2: end
+--
+at 5 unplug p1
+end 6
+
+# more
+end 7 => line 5: end";
 
 // The script of a text, over that network.
 fn read(alloc: Global, text: &str) -> Result<Script, ScriptError> {
@@ -134,10 +168,21 @@ fn is_refused(alloc: Global, text: &str, told: &str) -> bool {
     }
 }
 
+// The case is a script, and behind an arrow what it is refused with.
+fn is_refused_so(alloc: Global, case: &str) -> bool {
+    match case.rsplit_once(" => ") {
+        Some((text, told)) => is_refused(alloc, text, told),
+        None => false,
+    }
+}
+
 #[test]
 fn names_the_first_line_at_fault_and_its_cause(rt: HostRuntime) {
-    for (text, told) in REFUSED {
-        case_holds(&rt, is_refused(rt.alloc(), text, told), text);
+    for case in REFUSED.lines() {
+        case_holds(&rt, is_refused_so(rt.alloc(), case), case);
+    }
+    for case in REFUSED_SCRIPTS.split("\n--\n") {
+        case_holds(&rt, is_refused_so(rt.alloc(), case), case);
     }
 }
 
@@ -161,13 +206,12 @@ fn event(alloc: Global, front: &str, rest: &str) -> Option<Event> {
 }
 
 // Lines, and the names of their events.
-const EVENTS: &[(&str, &str)] = &[
-    ("plug p1 tv 300", "plug 1 into port 255 of 0"),
-    ("unplug p1", "unplug 1"),
-    ("press tv menu", "press menu of 0"),
-    ("release p1 menu", "release menu of 1"),
-    ("send p1 4>0 set-osd-name \"a  b\"", "send from 1"),
-];
+const EVENTS: &str = "\
+plug p1 tv 300 => plug 1 into port 255 of 0
+unplug p1 => unplug 1
+press tv menu => press menu of 0
+release p1 menu => release menu of 1
+send p1 4>0 set-osd-name \"a  b\" => send from 1";
 
 // The name of each of the events that are listed.
 fn event_name(event: &Event) -> &'static str {
@@ -204,8 +248,9 @@ fn is_event(alloc: Global, line: &str, name: &str) -> bool {
 
 #[test]
 fn reads_each_event(rt: HostRuntime) {
-    for (line, name) in EVENTS {
-        case_holds(&rt, is_event(rt.alloc(), line, name), line);
+    for case in EVENTS.lines() {
+        let (line, name) = case.split_once(" => ").unwrap_or((case, "no row"));
+        case_holds(&rt, is_event(rt.alloc(), line, name), case);
     }
 }
 
@@ -249,84 +294,99 @@ fn has_bytes(key: &Key, bytes: &[u8]) -> bool {
     }
 }
 
-// The words of keys, and the word and the bytes of each key.
-const KEYS: &[(&str, &str, &[u8])] = &[
-    ("play", "play", &[]),
-    ("stop", "stop", &[]),
-    ("eject", "eject", &[]),
-    ("load", "load", &[]),
-    ("menu", "menu", &[]),
-    ("power", "power", &[]),
-    ("volume-up", "up", &[]),
-    ("volume-down", "down", &[]),
-    ("mute", "mute", &[]),
-    ("audio on", "audio on", &[]),
-    ("audio off", "audio off", &[]),
-    ("arc on", "arc on", &[]),
-    ("arc off", "arc off", &[]),
-    ("port 0", "port", &[0]),
-    ("port 15", "port", &[15]),
-    ("port 256", "port", &[255]),
-    ("watch 1.2.3.f", "watch", &[0x12, 0x3f]),
-    ("language eng", "language", b"eng"),
-    ("remote 1 up", "remote", &[1, 0x01]),
-    ("remote e select", "remote", &[14, 0x00]),
-    ("remote e up", "remote", &[14, 0x01]),
-    ("remote e down", "remote", &[14, 0x02]),
-    ("remote e left", "remote", &[14, 0x03]),
-    ("remote e right", "remote", &[14, 0x04]),
-    ("remote e root-menu", "remote", &[14, 0x09]),
-    ("remote e exit", "remote", &[14, 0x0d]),
-    ("remote e digit-0", "remote", &[14, 0x20]),
-    ("remote e digit-1", "remote", &[14, 0x21]),
-    ("remote e digit-2", "remote", &[14, 0x22]),
-    ("remote e digit-3", "remote", &[14, 0x23]),
-    ("remote e digit-4", "remote", &[14, 0x24]),
-    ("remote e digit-5", "remote", &[14, 0x25]),
-    ("remote e digit-6", "remote", &[14, 0x26]),
-    ("remote e digit-7", "remote", &[14, 0x27]),
-    ("remote e digit-8", "remote", &[14, 0x28]),
-    ("remote e digit-9", "remote", &[14, 0x29]),
-    ("remote e power", "remote", &[14, 0x40]),
-    ("remote e volume-up", "remote", &[14, 0x41]),
-    ("remote e volume-down", "remote", &[14, 0x42]),
-    ("remote e mute", "remote", &[14, 0x43]),
-    ("remote e play", "remote", &[14, 0x44]),
-    ("remote e stop", "remote", &[14, 0x45]),
-    ("remote e pause", "remote", &[14, 0x46]),
-    ("remote e power-off", "remote", &[14, 0x6c]),
-    ("remote e power-on", "remote", &[14, 0x6d]),
-];
+// The words of keys, and behind an arrow the word of each key, and its bytes if it has some.
+const KEYS: &str = "\
+play => play
+stop => stop
+eject => eject
+load => load
+menu => menu
+power => power
+volume-up => up
+volume-down => down
+mute => mute
+audio on => audio on
+audio off => audio off
+arc on => arc on
+arc off => arc off
+port 0 => port: 00
+port 15 => port: 0f
+port 256 => port: ff
+watch 1.2.3.f => watch: 12 3f
+language eng => language: 65 6e 67
+remote 1 up => remote: 01 01
+remote e select => remote: 0e 00
+remote e up => remote: 0e 01
+remote e down => remote: 0e 02
+remote e left => remote: 0e 03
+remote e right => remote: 0e 04
+remote e root-menu => remote: 0e 09
+remote e exit => remote: 0e 0d
+remote e digit-0 => remote: 0e 20
+remote e digit-1 => remote: 0e 21
+remote e digit-2 => remote: 0e 22
+remote e digit-3 => remote: 0e 23
+remote e digit-4 => remote: 0e 24
+remote e digit-5 => remote: 0e 25
+remote e digit-6 => remote: 0e 26
+remote e digit-7 => remote: 0e 27
+remote e digit-8 => remote: 0e 28
+remote e digit-9 => remote: 0e 29
+remote e power => remote: 0e 40
+remote e volume-up => remote: 0e 41
+remote e volume-down => remote: 0e 42
+remote e mute => remote: 0e 43
+remote e play => remote: 0e 44
+remote e stop => remote: 0e 45
+remote e pause => remote: 0e 46
+remote e power-off => remote: 0e 6c
+remote e power-on => remote: 0e 6d";
 
 // The event of a line is that key, pressed at the television.
-fn is_key(alloc: Global, words: &str, word: &str, bytes: &[u8]) -> bool {
+fn is_key(alloc: Global, words: &str, told: &str) -> bool {
+    let (word, bytes) = told.split_once(": ").unwrap_or((told, ""));
     match event(alloc, "press tv ", words) {
-        Some(Event::Key { key, .. }) => key_word(&key) == word && has_bytes(&key, bytes),
+        Some(Event::Key { key, .. }) => key_word(&key) == word && has_bytes(&key, &bytes_of(bytes)),
         _ => false,
     }
 }
 
 #[test]
 fn reads_each_key(rt: HostRuntime) {
-    for (words, word, bytes) in KEYS {
-        case_holds(&rt, is_key(rt.alloc(), words, word, bytes), words);
+    for line in KEYS.lines() {
+        let (words, told) = line.split_once(" => ").unwrap_or((line, "no row"));
+        case_holds(&rt, is_key(rt.alloc(), words, told), line);
     }
 }
 
-// Adds a line, unless there was no memory for it.
-fn add_line(text: &mut String, line: Option<String>) -> Option<()> {
-    match line {
-        Some(line) => text.push_str(line.as_str()).ok(),
-        None => None,
-    }
+// Pulses of 400, each 25,000 after the end of the one before.
+fn pulse(alloc: Global, number: u32) -> Option<String> {
+    let from = u64::from(number).saturating_mul(25_400);
+    format!(in alloc; "pulse {from} 400\n").ok()
 }
 
-// 4,096 pulses of 400, each 25,000 after the end of the one before; and what follows them.
-fn pulses(alloc: Global, behind: &str) -> Option<String> {
+// Lines of all kinds at their times.
+fn numbered(alloc: Global, number: u32) -> Option<String> {
+    let (front, rest) = match number % 4 {
+        0 => ("at", " press p1 play"),
+        1 => ("at", " release tv volume-up"),
+        2 => ("#", ""),
+        _ => ("at", " send p1 4>0 set-osd-name \"player\""),
+    };
+    format!(in alloc; "{front} {number}{rest}\n").ok()
+}
+
+// 4,096 pulses or 4,000 other lines, and what follows them.
+fn long_script(alloc: Global, are_pulses: bool, behind: &str) -> Option<String> {
     let mut text = String::new(alloc);
-    for number in 0..4096u64 {
-        let from = number.saturating_mul(25_400);
-        add_line(&mut text, format!(in alloc; "pulse {from} 400\n").ok())?;
+    let count = if are_pulses { 4096 } else { 4000 };
+    for number in 0..count {
+        let line = if are_pulses {
+            pulse(alloc, number)
+        } else {
+            numbered(alloc, number)
+        };
+        text.push_str(line?.as_str()).ok()?;
     }
     text.push_str(behind).ok()?;
     Some(text)
@@ -362,15 +422,10 @@ fn refuses(alloc: Global, text: Option<String>, told: &str) -> bool {
 }
 
 fn reads_all_pulses(alloc: Global) -> bool {
-    match script_of(alloc, pulses(alloc, "end 20\n")) {
+    match script_of(alloc, long_script(alloc, true, "end 20\n")) {
         Some(script) => has_all_pulses(&script),
         None => false,
     }
-}
-
-#[test]
-fn reads_pulses(rt: HostRuntime) {
-    assert!(rt; reads_all_pulses(rt.alloc()));
 }
 
 // A run has the pulses of its script.
@@ -395,44 +450,6 @@ fn makes_the_pulses_of_a_run(rt: HostRuntime) {
     assert!(rt; hands_on_two_pulses(rt.alloc()));
 }
 
-// Pulses that a script of 4,096 pulses is refused with, one more before its end: it is too many, unless it is at fault
-// otherwise.
-const ONE_MORE: &[(&str, &str)] = &[
-    ("pulse 104038400 400\nend 20\n", "line 4097: too-many"),
-    ("pulse 104038400 0\nend 20\n", "line 4097: width"),
-    ("pulse 104038399 400\nend 20\n", "line 4097: close"),
-    ("pulse 0 400\nend 20\n", "line 4097: order"),
-];
-
-#[test]
-fn refuses_one_more_pulse(rt: HostRuntime) {
-    for (behind, told) in ONE_MORE {
-        let text = pulses(rt.alloc(), behind);
-        case_holds(&rt, refuses(rt.alloc(), text, told), behind);
-    }
-}
-
-// One of four thousand lines at their times.
-fn numbered(alloc: Global, number: u32) -> Option<String> {
-    let (front, rest) = match number % 4 {
-        0 => ("at", " press p1 play"),
-        1 => ("at", " release tv volume-up"),
-        2 => ("#", ""),
-        _ => ("at", " send p1 4>0 set-osd-name \"player\""),
-    };
-    format!(in alloc; "{front} {number}{rest}\n").ok()
-}
-
-// Four thousand lines, and what follows them.
-fn four_thousand(alloc: Global, behind: &str) -> Option<String> {
-    let mut text = String::new(alloc);
-    for number in 0..4000 {
-        add_line(&mut text, numbered(alloc, number))?;
-    }
-    text.push_str(behind).ok()?;
-    Some(text)
-}
-
 fn is_last_of_all(last: Option<&TimedEvent>) -> bool {
     match last {
         Some(last) => (last.line, last.at) == (4000, 3999),
@@ -441,21 +458,34 @@ fn is_last_of_all(last: Option<&TimedEvent>) -> bool {
 }
 
 fn reads_all_lines(alloc: Global) -> bool {
-    match script_of(alloc, four_thousand(alloc, "end 4000")) {
+    match script_of(alloc, long_script(alloc, false, "end 4000")) {
         Some(script) => script.events.len() == 3000 && is_last_of_all(script.events.last()),
         None => false,
     }
 }
 
 #[test]
-fn reads_four_thousand_lines(rt: HostRuntime) {
-    assert!(rt; reads_all_lines(rt.alloc()));
+fn reads_long_scripts(rt: HostRuntime) {
+    case_holds(&rt, reads_all_pulses(rt.alloc()), "4,096 pulses");
+    case_holds(&rt, reads_all_lines(rt.alloc()), "4,000 lines");
 }
 
+// Lines that a long script is refused with before its end, whether that is one of pulses, and why. A pulse behind 4,096
+// is too many, unless it is at fault otherwise.
+const ONE_MORE: &[(bool, &str, &str)] = &[
+    (true, "pulse 104038400 400\nend 20\n", "line 4097: too-many"),
+    (true, "pulse 104038400 0\nend 20\n", "line 4097: width"),
+    (true, "pulse 104038399 400\nend 20\n", "line 4097: close"),
+    (true, "pulse 0 400\nend 20\n", "line 4097: order"),
+    (false, "at 3998 unplug p1\nend 4000", "line 4001: order"),
+];
+
 #[test]
-fn refuses_a_line_behind_four_thousand(rt: HostRuntime) {
-    let text = four_thousand(rt.alloc(), "at 3998 unplug p1\nend 4000");
-    assert!(rt; refuses(rt.alloc(), text, "line 4001: order"));
+fn refuses_a_line_behind_a_long_script(rt: HostRuntime) {
+    for (are_pulses, behind, told) in ONE_MORE {
+        let text = long_script(rt.alloc(), *are_pulses, behind);
+        case_holds(&rt, refuses(rt.alloc(), text, told), behind);
+    }
 }
 
 // The longest line that an input of 1,048,576 bytes has room for, beside a television and an empty script.
