@@ -1,37 +1,29 @@
 //! A display's base block, and what may be wrong with one.
-use crate::samples::{bytes_of, holds, parted};
-use hdmi_edid::{Base, BaseError, Descriptor, Text, Timing, read_base, write_base};
+use crate::samples::{block_of, owned};
+use hdmi_edid::{Base, Descriptor, Text, Timing, read_base, write_base};
 use std::alloc::Global;
 use std::test::Fail;
 
-/// A base block of these bytes.
-fn read(bytes: &[u8]) -> Result<Base, Fail> {
-    let block = <[u8; 128]>::try_from(bytes).ok().ok_or("no block")?;
-    Ok(read_base(&block)?)
-}
-
-/// Why the bytes are refused.
-fn cause(bytes: &[u8]) -> Option<BaseError> {
-    let block = <[u8; 128]>::try_from(bytes).ok()?;
-    match read_base(&block) {
-        Ok(_) => None,
-        Err(error) => Some(error),
-    }
-}
-
-/// Whether the bytes that these words give are refused for this.
-fn is_cause(alloc: Global, words: &str, want: &str) -> Result<bool, Fail> {
-    let cause = cause(&bytes_of(alloc, words)?);
-    Ok(format!(in alloc; "{cause:?}")?.as_str() == want)
-}
-
-/// The number of characters of the text that 13 bytes are.
-fn text_len(bytes: &[u8; 13]) -> Option<usize> {
-    match Text::read(bytes) {
-        Some(text) => Some(text.chars.len()),
-        None => None,
-    }
-}
+/// Base blocks, and what is told of them: why they are refused; or the maker, the product, the serial number, the year, a part
+/// of red and one of white, the count of extensions, and whether a timing and a name come first. The last has a right checksum
+/// over a wrong version.
+///
+/// A timing whose clock's low byte is 0, and its clock. Letters with `;` for a line feed, how many there are, and how many
+/// are the text without its padding.
+pub(crate) const CASES: &str = "\
+base tv..0151 => ['S', 'A', 'M'] [258, 1, 2011, 655, 337, 1] true
+base tv..0152 => Checksum
+base tv..0152 19=02 => Revision
+base tv..0131 8=6c => Maker
+base tv..0151 0=01 => Header
+base tv..0150 18=02 => Revision
+timing 003a00000000000000000000000000000000 => Some(14848)
+letters LOUNGE TV 001 => 13 Some(13)
+letters LOUNGE TV     => 13 Some(13)
+letters LOUNGE TV;    => 13 Some(9)
+letters LOUNGE TV;  x => 13 None
+letters LOUNGE \"TV\" 1 => 13 None
+";
 
 /// The product, the serial number, the year, a part of red and one of white, and the count of extensions.
 fn numbers(base: &Base) -> [u32; 6] {
@@ -45,8 +37,12 @@ fn numbers(base: &Base) -> [u32; 6] {
     ]
 }
 
-fn letters(base: &Base) -> [u8; 3] {
-    [base.maker.first, base.maker.second, base.maker.third]
+fn maker(base: &Base) -> [char; 3] {
+    [
+        char::from(base.maker.first),
+        char::from(base.maker.second),
+        char::from(base.maker.third),
+    ]
 }
 
 fn begins_with_timing_and_name(base: &Base) -> bool {
@@ -54,43 +50,19 @@ fn begins_with_timing_and_name(base: &Base) -> bool {
     matches!(first, Descriptor::Timing(_)) && matches!(second, Descriptor::Name(_))
 }
 
-#[test]
-fn reads_a_base_block(rt: HostRuntime) -> Result<(), Fail> {
-    let base = read(&bytes_of(rt.alloc(), "tv..0151")?)?;
-    assert!(rt; letters(&base) == *b"SAM");
-    assert!(rt; numbers(&base) == [258, 1, 2011, 655, 337, 1]);
-    assert!(rt; begins_with_timing_and_name(&base));
-    Ok(())
+fn values_text(alloc: Global, base: &Base) -> Result<String, Fail> {
+    let (numbers, begins) = (numbers(base), begins_with_timing_and_name(base));
+    Ok(format!(in alloc; "{:?} {numbers:?} {begins}", maker(base))?)
 }
 
-fn written_again(bytes: &[u8]) -> Result<[u8; 128], Fail> {
-    Ok(write_base(&read(bytes)?))
-}
-
-#[test]
-fn writes_a_base_block(rt: HostRuntime) -> Result<(), Fail> {
-    let bytes = bytes_of(rt.alloc(), "tv..0151")?;
-    assert!(rt; written_again(&bytes)?.as_slice() == bytes.as_slice());
-    Ok(())
-}
-
-/// Base blocks, and why each is refused. The last has a right checksum over a wrong version.
-const CAUSES: &str = "\
-tv..0151 => None
-tv..0152 => Some(Checksum)
-tv..0152 19=02 => Some(Revision)
-tv..0131 8=6c => Some(Maker)
-tv..0151 0=01 => Some(Header)
-tv..0150 18=02 => Some(Revision)
-";
-
-#[test]
-fn refuses_in_order(rt: HostRuntime) -> Result<(), Fail> {
-    for case in CAUSES.lines() {
-        let (words, want) = parted(case)?;
-        holds(&rt, is_cause(rt.alloc(), words, want)?, case);
+/// The values of a base block, which is written to the same bytes again, or why it is refused.
+pub(crate) fn base_told(alloc: Global, words: &str) -> Result<String, Fail> {
+    let block = block_of(alloc, words)?;
+    match read_base(&block) {
+        Err(error) => Ok(format!(in alloc; "{error:?}")?),
+        Ok(base) if write_base(&base).as_slice() == block.as_slice() => values_text(alloc, &base),
+        Ok(_) => owned(alloc, "other bytes"),
     }
-    Ok(())
 }
 
 /// The clock of a timing that is written to the same bytes again.
@@ -100,23 +72,23 @@ fn clock_there_and_back(bytes: &[u8; 18]) -> Option<u32> {
     is_same.then_some(u32::from(timing.clock))
 }
 
-#[test]
-fn takes_a_clock_whose_low_byte_is_0(rt: HostRuntime) {
-    let bytes = b"\0\x3a\0\0\0\0\0\0\0\0\0\0\0\0\0\0\0\0";
-    assert!(rt; clock_there_and_back(bytes) == Some(0x3a00));
+pub(crate) fn timing_told(alloc: Global, digits: &str) -> Result<String, Fail> {
+    let bytes = hex::decode(alloc, digits)?;
+    let bytes = <[u8; 18]>::try_from(bytes.as_slice())
+        .ok()
+        .ok_or("no timing")?;
+    Ok(format!(in alloc; "{:?}", clock_there_and_back(&bytes))?)
 }
 
-const LENGTHS: &[(&[u8; 13], Option<usize>)] = &[
-    (b"LOUNGE TV 001", Some(13)),
-    (b"LOUNGE TV    ", Some(13)),
-    (b"LOUNGE TV\n   ", Some(9)),
-    (b"LOUNGE TV\n  x", None),
-    (b"LOUNGE \"TV\" 1", None),
-];
+/// The number of characters of the text that 13 bytes are.
+fn text_len(bytes: &[u8]) -> Option<usize> {
+    let bytes = <[u8; 13]>::try_from(bytes).ok()?;
+    Some(Text::read(&bytes)?.chars.len())
+}
 
-#[test]
-fn parts_texts_from_their_padding(rt: HostRuntime) {
-    for (bytes, want) in LENGTHS {
-        assert!(rt; text_len(bytes) == *want, "{want:?}");
-    }
+/// How many letters there are, and how many of them are the text.
+pub(crate) fn letters_told(alloc: Global, letters: &str) -> Result<String, Fail> {
+    let letters = letters.replace(alloc, ";", "\n")?;
+    let bytes = letters.as_str().as_bytes();
+    Ok(format!(in alloc; "{} {:?}", bytes.len(), text_len(bytes))?)
 }

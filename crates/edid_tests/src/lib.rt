@@ -2,6 +2,8 @@
 #![tactic(auto)]
 
 #[cfg(test)]
+mod answers;
+#[cfg(test)]
 mod bases;
 #[cfg(test)]
 mod blocks;
@@ -9,6 +11,8 @@ mod blocks;
 mod ddc;
 #[cfg(test)]
 mod extensions;
+#[cfg(test)]
+mod neighbours;
 #[cfg(test)]
 mod samples;
 #[cfg(test)]

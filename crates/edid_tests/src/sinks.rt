@@ -1,7 +1,8 @@
 //! How lines reach a writer: how often it is called, and what a failed write leaves.
+use crate::samples::holds;
 use hdmi_core::{Piece, Sink, WriteFault, Writes, write_line};
 use std::io::{self, ErrorKind, Write};
-use std::test::Fail;
+use std::process::Abort;
 
 /// Counts its calls, takes at most so many bytes at each, and fails from one call on.
 #[derive(Drop)]
@@ -80,13 +81,9 @@ fn both_written(first: &[Piece], second: &[Piece]) -> Result<[u128; 4], WriteFau
 #[test]
 fn calls_the_writer_once_a_line(rt: HostRuntime) {
     let short = both_written(&line(&[0; 252]), &line(&[0; 252]));
-    assert!(rt; short == Ok([512, 512, 2, 1_024]));
-}
-
-#[test]
-fn calls_the_writer_once_for_the_longest_port_line(rt: HostRuntime) {
+    holds(&rt, short == Ok([512, 512, 2, 1_024]), "512 bytes");
     let long = both_written(&port_line(&[0; 512]), &port_line(&[0xff; 512]));
-    assert!(rt; long == Ok([1_062, 1_062, 2, 2_124]));
+    holds(&rt, long == Ok([1_062, 1_062, 2, 2_124]), "a port's line");
 }
 
 /// What is told of a line that is written in hundreds of bytes, one call of which fails, and how often the writer is called.
@@ -94,12 +91,6 @@ fn written(line: &[Piece], fails_at: u32) -> (Result<u128, WriteFault>, u32) {
     let mut writer = Counted::new(fails_at, 100);
     let told = write_line(&mut Writes::new(&mut writer), line);
     (told, writer.calls)
-}
-
-/// The fault after so many hundreds of bytes.
-fn fault_after(hundreds: u32) -> Result<u128, WriteFault> {
-    let count = u128::from(hundreds) * 100;
-    Err(WriteFault { count })
 }
 
 /// How many bytes are put after a line that was not written, and how often the writer is called.
@@ -111,27 +102,24 @@ fn put_after(line: &[Piece], fails_at: u32) -> (usize, u32) {
     (count, writer.calls)
 }
 
-/// Whether each fault is told, with the bytes before it, and the writer not called again.
+/// Whether a fault is told, with the bytes before it, and the writer not called again but for what is put then.
 fn tells_fault(line: &[Piece], fails_at: u32) -> bool {
-    written(line, fails_at) == (fault_after(fails_at.saturating_sub(1)), fails_at)
+    let count = u128::from(fails_at.saturating_sub(1)) * 100;
+    written(line, fails_at) == (Err(WriteFault { count }), fails_at)
+        && put_after(line, fails_at) == (0, fails_at.saturating_add(1))
 }
 
-#[test]
-fn tells_what_was_written_at_each_fault(rt: HostRuntime) {
-    for fails_at in 1..7u32 {
-        let line = line(&[0; 252]);
-        assert!(rt; tells_fault(&line, fails_at), "{fails_at}");
-        assert!(rt;
-            put_after(&line, fails_at) == (0, fails_at + 1),
-            "{fails_at}"
-        );
+/// Asserts that each fault at one of the first calls is told.
+fn tells_faults(rt: &impl Abort, line: &[Piece], calls: u32) {
+    for fails_at in 1..=calls {
+        assert!(rt; tells_fault(line, fails_at), "{fails_at}");
     }
 }
 
 #[test]
-fn says_how_much_of_a_port_line_was_written(rt: HostRuntime) {
-    for fails_at in 1..12u32 {
-        assert!(rt; tells_fault(&port_line(&[0; 512]), fails_at), "{fails_at}");
-    }
-    assert!(rt; written(&port_line(&[0; 512]), 12) == (Ok(1_062), 11));
+fn says_how_much_was_written_at_each_fault(rt: HostRuntime) {
+    tells_faults(&rt, &line(&[0; 252]), 6);
+    let long = port_line(&[0; 512]);
+    tells_faults(&rt, &long, 11);
+    holds(&rt, written(&long, 12) == (Ok(1_062), 11), "no fault");
 }

@@ -1,7 +1,5 @@
 //! The texts of EDIDs: each form there and back, and the line at fault.
-mod every_form;
-
-use crate::samples::{bytes_of, holds, parted};
+use crate::samples::{bytes_of, number, owned};
 use arrayvec::ArrayVec;
 use hdmi_blocks::{Edid, edid_from_bytes, edid_to_bytes, read_parts};
 use hdmi_core::Writes;
@@ -17,78 +15,88 @@ const BASE_TEXT: &str =
 const EXTENSION_TEXT: &str =
     "cta f1\nvideo 900403\naudio 090707\nspeakers 010000\nhdmi 0.0.0.0 -\ntail -\n";
 
-/// The text of both blocks with one part changed.
-fn changed(alloc: Global, change: &str) -> Result<String, Fail> {
-    let (from, to) = parted(change)?;
-    let text = format!(in alloc; "{BASE_TEXT}{EXTENSION_TEXT}")?;
-    let (front, behind) = text.as_str().split_once(from).ok_or("no such part")?;
-    Ok(format!(in alloc; "{front}{to}{behind}")?)
-}
-
-/// A part of the example's text, what stands in its place, with `;` for each line feed, and why the text is refused then.
-const CHANGES: &str = "\
-made 10 2011 => made 10 2300 => field 5
-made 10 2011 => made 10 2011 0 => syntax 5
-made 10 2011; =>  => syntax 5
-features 0a => features 0A => field 9
-standard unused => standard 256 0 61 => field 12
-edid 1.3 => edid 1.5 => field 1
-edid 1.3 => Edid 1.3 => syntax 1
-made 10 2011 => made 010 2011 => field 5
-standard unused => standard 640 0 => syntax 12
-standard unused => standard 640 4 60 => field 12
-name \"LOUNGE TV 001\" => name \"A\" B\" => field 21
-name \"LOUNGE TV 001\" => name A B => syntax 21
-name \"LOUNGE TV 001\" => dummy - => syntax 21
-cta f1 => cta f1f1 => field 24
-cta f1 => tail - => syntax 24
-name \"LOUNGE TV 001\" => raw 000000fc004c4f554e474520545620303031 => field 21
-hdmi 0.0.0.0 - => vendor 030c000000 => field 28
-tail - => tail 00 => field 29
-tail -; => tail - => syntax 29
-tail -; => tail -;cta f1; => syntax 31
-tail -; =>  => syntax 29
-tail -; => tail -;cta-none f1;tail -; => none
-tail -; => tail -;cta-none f1;tail -;cta f1;tail -; => none
-tail -; => tail -;cta-none f1;tail -;cta f1;tail -;cta f1; => syntax 34
-tail -; => tail -;cta-none f1; => syntax 31
-tail -; => tail -;cta-none f1;tail 00; => field 31
+/// A part of the example's text, what stands in its place, with `;` for each line feed, and why the text is refused then; and
+/// how the refusals of a line are told.
+pub(crate) const CHANGES: &str = "\
+change made 10 2011 => made 10 2300 => field 5
+change made 10 2011 => made 10 2011 0 => syntax 5
+change made 10 2011; =>  => syntax 5
+change features 0a => features 0A => field 9
+change standard unused => standard 256 0 61 => field 12
+change edid 1.3 => edid 1.5 => field 1
+change edid 1.3 => Edid 1.3 => syntax 1
+change made 10 2011 => made 010 2011 => field 5
+change standard unused => standard 640 0 => syntax 12
+change standard unused => standard 640 4 60 => field 12
+change name \"LOUNGE TV 001\" => name \"A\" B\" => field 21
+change name \"LOUNGE TV 001\" => name A B => syntax 21
+change name \"LOUNGE TV 001\" => dummy - => syntax 21
+change cta f1 => cta f1f1 => field 24
+change cta f1 => tail - => syntax 24
+change name \"LOUNGE TV 001\" => raw 000000fc004c4f554e474520545620303031 => field 21
+change hdmi 0.0.0.0 - => vendor 030c000000 => field 28
+change tail - => tail 00 => field 29
+change tail -; => tail - => syntax 29
+change tail -; => tail -;cta f1; => syntax 31
+change tail -; =>  => syntax 29
+change tail -; => tail -;cta-none f1;tail -; => none
+change tail -; => tail -;cta-none f1;tail -;cta f1;tail -; => none
+change tail -; => tail -;cta-none f1;tail -;cta f1;tail -;cta f1; => syntax 34
+change tail -; => tail -;cta-none f1; => syntax 31
+change tail -; => tail -;cta-none f1;tail 00; => field 31
+refusals 5 => syntax 5, field 5
+refusals 12 => syntax 12, field 12
 ";
 
-/// A text with a line feed for each `;`.
-fn with_lines(alloc: Global, text: &str) -> Result<String, Fail> {
-    let mut lines = String::new(alloc);
-    for character in text.chars() {
-        lines.push(if character == ';' { '\n' } else { character })?;
+/// Blocks, and their text with `;` for each line feed. `tv;` is the text of the television's base block. Two base blocks have
+/// a name that ends in spaces, and a descriptor of no form. The last EDID has every form of a line but `name`, `dummy`,
+/// `raw`, `cta-none` and `ext`.
+pub(crate) const RETURNED: &str = "\
+text tv..0151 speaking..e8 => tv;cta f1;video 900403;audio 090707;speakers 010000;hdmi 0.0.0.0 -;tail -;
+text tv..0151 020300f1..0a => tv;cta-none f1;tail -;
+text tv..0151 020304f1..06 => tv;cta f1;tail -;
+text tv..0151 020300f101..09 => tv;cta-none f1;tail 01;
+text tv..0151 020310f165030c00100065030c002000..e2 => tv;cta f1;hdmi 1.0.0.0 -;hdmi 2.0.0.0 -;tail -;
+text tv..0151 020306f14390..31 => tv;ext 020306f143900000000000000000000000000000000000000000000000000000000000000000000000000000000000000000000000000000000000000000000000000000000000000000000000000000000000000000000000000000000000000000000000000000000000000000000000000000000000000000000000000031;
+text tv..034f map..0c speaking..e8 empty..06 => tv;ext f00202000000000000000000000000000000000000000000000000000000000000000000000000000000000000000000000000000000000000000000000000000000000000000000000000000000000000000000000000000000000000000000000000000000000000000000000000000000000000000000000000000000000c;cta f1;video 900403;audio 090707;speakers 010000;hdmi 0.0.0.0 -;tail -;cta f1;tail -;
+text 00ffffffffffff004c2d0201010000000a15010380341d780aee91a3544c99260f505400000001010101010101010101010101010101023a801871382d40582c450008222100001e000000fc0041422020202020202020202020000000100000000000000000000000000000000000100000000000000000000000000000..01b3 speaking..e8 => edid 1.3;maker SAM;product 258;serial 1;made 10 2011;input 80;size 52 29;gamma 120;features 0a;chroma 655 338 307 614 154 61 320 337;established 000000;standard unused;standard unused;standard unused;standard unused;standard unused;standard unused;standard unused;standard unused;timing 14850 1920 280 1080 45 88 44 4 5 520 290 0 0 1e;name \"AB           \";dummy;dummy;cta f1;video 900403;audio 090707;speakers 010000;hdmi 0.0.0.0 -;tail -;
+text 00ffffffffffff004c2d0201010000000a15010380341d780aee91a3544c99260f505400000001010101010101010101010101010101023a801871382d40582c450008222100001e000000fc004c4f554e474520545620303031000000f7000a000000000000000000000000000000100000000000000000000000000000..0160 speaking..e8 => edid 1.3;maker SAM;product 258;serial 1;made 10 2011;input 80;size 52 29;gamma 120;features 0a;chroma 655 338 307 614 154 61 320 337;established 000000;standard unused;standard unused;standard unused;standard unused;standard unused;standard unused;standard unused;standard unused;timing 14850 1920 280 1080 45 88 44 4 5 520 290 0 0 1e;name \"LOUNGE TV 001\";raw 000000f7000a000000000000000000000000;dummy;cta f1;video 900403;audio 090707;speakers 010000;hdmi 0.0.0.0 -;tail -;
+text every.. => edid 1.4;maker SAM;product 258;serial 1;made 10 2011;input 80;size 52 29;gamma 120;features 0a;chroma 655 338 307 614 154 61 320 337;established 010283;standard 1280 2 60;standard 1920 3 60;standard 800 1 85;standard unused;standard unused;standard unused;standard unused;standard unused;timing 14850 1920 280 1080 45 856 556 20 5 520 290 5 7 1e;text \"CHECK\";serial-text \"SN-0001234567\";range 00324b1e5313000a202020202020;cta f1;tag0 aa;audio 090707;video 90;vendor d85dc4;speakers 010000;tag5 bb;tag6 -;extended 004f;hdmi 1.0.0.0 801e;timing 14850 1920 280 1080 45 856 556 20 5 520 290 5 7 1e;tail 000099;
+";
+
+/// The text of both blocks with one part changed.
+fn with_change(alloc: Global, change: &str) -> Result<String, Fail> {
+    let (from, to) = change.split_once(" => ").ok_or("no change")?;
+    if let Some((front, behind)) = BASE_TEXT.split_once(from) {
+        return Ok(format!(in alloc; "{front}{to}{behind}{EXTENSION_TEXT}")?);
     }
-    Ok(lines)
+    let (front, behind) = EXTENSION_TEXT.split_once(from).ok_or("no such part")?;
+    Ok(format!(in alloc; "{BASE_TEXT}{front}{to}{behind}")?)
 }
 
 /// Why a text is refused.
 fn refusal_of(alloc: Global, text: &[u8]) -> Result<String, Fail> {
     match parse_text(alloc, text) {
-        Ok(_) => Ok(String::from_str(alloc, "none")?),
+        Ok(_) => owned(alloc, "none"),
         Err(error) => Ok(format!(in alloc; "{error}")?),
     }
 }
 
-/// Whether the example's text is refused for this with one part changed.
-fn is_refused(alloc: Global, change: &str, fault: &str) -> Result<bool, Fail> {
-    let change = with_lines(alloc, change)?;
-    let text = changed(alloc, change.as_str())?;
-    Ok(refusal_of(alloc, text.as_str().as_bytes())?.as_str() == fault)
+/// Why the example's text is refused with one part changed.
+pub(crate) fn change_told(alloc: Global, change: &str) -> Result<String, Fail> {
+    let change = change.replace(alloc, ";", "\n")?;
+    let text = with_change(alloc, change.as_str())?;
+    refusal_of(alloc, text.as_str().as_bytes())
 }
 
-#[test]
-fn names_the_line_at_fault(rt: HostRuntime) -> Result<(), Fail> {
-    for case in CHANGES.lines() {
-        let (change, fault) = case.rsplit_once(" => ").ok_or("no fault")?;
-        holds(&rt, is_refused(rt.alloc(), change, fault)?, case);
-    }
-    Ok(())
+/// The refusals of a line, in words.
+pub(crate) fn refusals_told(alloc: Global, line: &str) -> Result<String, Fail> {
+    let line = usize::from(number(line)?);
+    let (syntax, field) = (TextError::Syntax(line), TextError::Field(line));
+    Ok(format!(in alloc; "{syntax}, {field}")?)
 }
 
-fn text_of(alloc: Global, edid: &Edid) -> Result<Vec<u8>, Fail> {
+pub(crate) fn text_of(alloc: Global, edid: &Edid) -> Result<Vec<u8>, Fail> {
     let mut text = Vec::new(alloc);
     write_text(edid, &mut Writes::new(&mut text))?;
     Ok(text)
@@ -100,40 +108,9 @@ fn is_read_as(alloc: Global, text: &[u8], bytes: &[u8]) -> Result<bool, Fail> {
     Ok(edid_to_bytes(&edid).as_slice() == bytes)
 }
 
-/// The text of an EDID, which is read to the same bytes again.
-fn text_and_back(alloc: Global, bytes: &[u8]) -> Result<Vec<u8>, Fail> {
-    let text = text_of(alloc, &edid_from_bytes(bytes)?)?;
-    if !is_read_as(alloc, &text, bytes)? {
-        return Err(Fail::from("other bytes"));
-    }
-    Ok(text)
-}
-
-/// The blocks behind the television's base block, and how its text goes on, with `;` for each line feed.
-const RETURNED: &str = "\
-tv..0151 speaking..e8 => cta f1;video 900403;audio 090707;speakers 010000;hdmi 0.0.0.0 -;tail -;
-tv..0151 020300f1..0a => cta-none f1;tail -;
-tv..0151 020304f1..06 => cta f1;tail -;
-tv..0151 020300f101..09 => cta-none f1;tail 01;
-tv..0151 020310f165030c00100065030c002000..e2 => cta f1;hdmi 1.0.0.0 -;hdmi 2.0.0.0 -;tail -;
-tv..0151 020306f14390..31 => ext 020306f143900000000000000000000000000000000000000000000000000000000000000000000000000000000000000000000000000000000000000000000000000000000000000000000000000000000000000000000000000000000000000000000000000000000000000000000000000000000000000000000000000031;
-tv..034f map..0c speaking..e8 empty..06 => ext f00202000000000000000000000000000000000000000000000000000000000000000000000000000000000000000000000000000000000000000000000000000000000000000000000000000000000000000000000000000000000000000000000000000000000000000000000000000000000000000000000000000000000c;cta f1;video 900403;audio 090707;speakers 010000;hdmi 0.0.0.0 -;tail -;cta f1;tail -;
-";
-
-/// Whether the text of such blocks is the base block's with this behind it.
-fn goes_on(alloc: Global, words: &str, end: &str) -> Result<bool, Fail> {
-    let text = text_and_back(alloc, &bytes_of(alloc, words)?)?;
-    let end = with_lines(alloc, end)?;
-    Ok(str::from_utf8(&text)?.strip_prefix(BASE_TEXT) == Some(end.as_str()))
-}
-
-#[test]
-fn returns_extensions(rt: HostRuntime) -> Result<(), Fail> {
-    for case in RETURNED.lines() {
-        let (words, end) = parted(case)?;
-        holds(&rt, goes_on(rt.alloc(), words, end)?, case);
-    }
-    Ok(())
+/// Whether a text is read as these bytes, and their parts have it too.
+fn is_text_of(alloc: Global, text: &[u8], bytes: &[u8]) -> Result<bool, Fail> {
+    Ok(is_read_as(alloc, text, bytes)? && text_of_parts(alloc, bytes)?.as_slice() == text)
 }
 
 /// The text of the parts that some bytes spell.
@@ -145,53 +122,27 @@ fn text_of_parts(alloc: Global, bytes: &[u8]) -> Result<Vec<u8>, Fail> {
     Ok(text)
 }
 
-/// Whether the text of the parts of such blocks is the base block's with this behind it.
-fn parts_go_on(alloc: Global, words: &str, end: &str) -> Result<bool, Fail> {
-    let text = text_of_parts(alloc, &bytes_of(alloc, words)?)?;
-    let end = with_lines(alloc, end)?;
-    Ok(str::from_utf8(&text)?.strip_prefix(BASE_TEXT) == Some(end.as_str()))
+/// A text on one line.
+fn on_one_line(alloc: Global, text: &str) -> Result<String, Fail> {
+    let line = text.replace(alloc, "\n", ";")?;
+    Ok(line)
 }
 
-#[test]
-fn writes_parts(rt: HostRuntime) -> Result<(), Fail> {
-    for case in RETURNED.lines() {
-        let (words, end) = parted(case)?;
-        holds(&rt, parts_go_on(rt.alloc(), words, end)?, case);
+/// The text of a television, or of another display.
+fn shortened(alloc: Global, text: &str) -> Result<String, Fail> {
+    match text.strip_prefix(BASE_TEXT) {
+        Some(rest) => Ok(format!(in alloc; "tv;{}", on_one_line(alloc, rest)?)?),
+        None => on_one_line(alloc, text),
     }
-    Ok(())
 }
 
-/// Base blocks with one extension to follow, and what their texts have, with `;` for each line feed: a name that ends in
-/// spaces, and a descriptor of no form.
-const BASES: &str = "\
-00ffffffffffff004c2d0201010000000a15010380341d780aee91a3544c99260f505400000001010101010101010101010101010101023a801871382d40582c450008222100001e000000fc0041422020202020202020202020000000100000000000000000000000000000000000100000000000000000000000000000..01b3 speaking..e8 => ;name \"AB           \";dummy;
-00ffffffffffff004c2d0201010000000a15010380341d780aee91a3544c99260f505400000001010101010101010101010101010101023a801871382d40582c450008222100001e000000fc004c4f554e474520545620303031000000f7000a000000000000000000000000000000100000000000000000000000000000..0160 speaking..e8 => \";raw 000000f7000a000000000000000000000000;dummy;cta f1;
-";
-
-/// Whether the text of such blocks has this part.
-fn has_part(alloc: Global, words: &str, part: &str) -> Result<bool, Fail> {
-    let text = text_and_back(alloc, &bytes_of(alloc, words)?)?;
-    let part = with_lines(alloc, part)?;
-    Ok(str::from_utf8(&text)?.contains(part.as_str()))
-}
-
-#[test]
-fn returns_base_blocks(rt: HostRuntime) -> Result<(), Fail> {
-    for case in BASES.lines() {
-        let (words, part) = parted(case)?;
-        holds(&rt, has_part(rt.alloc(), words, part)?, case);
+/// The text of an EDID, which is read to the same bytes again, and which its parts have too.
+pub(crate) fn text_told(alloc: Global, words: &str) -> Result<String, Fail> {
+    let bytes = bytes_of(alloc, words)?;
+    let written = text_of(alloc, &edid_from_bytes(&bytes)?)?;
+    if is_text_of(alloc, &written, &bytes)? {
+        shortened(alloc, str::from_utf8(&written)?)
+    } else {
+        owned(alloc, "other bytes, or another text of the parts")
     }
-    Ok(())
-}
-
-/// Whether a refusal has this text.
-fn is_told(alloc: Global, error: TextError, want: &str) -> Result<bool, Fail> {
-    Ok(format!(in alloc; "{error}")?.as_str() == want)
-}
-
-#[test]
-fn tells_a_refusal_in_words(rt: HostRuntime) -> Result<(), Fail> {
-    assert!(rt; is_told(rt.alloc(), TextError::Syntax(5), "syntax 5")?);
-    assert!(rt; is_told(rt.alloc(), TextError::Field(12), "field 12")?);
-    Ok(())
 }

@@ -1,7 +1,9 @@
 //! Trees: what is refused and in which order, addresses, what ports pass on.
-use crate::samples::{bytes_of, has_bytes, holds, number, parted, two_numbers};
-use hdmi_blocks::{Edid, edid_from_bytes};
+use crate::ddc::learnt;
+use crate::samples::{comes_out, edid_of, hex_of, number, owned, parted, two_numbers};
+use hdmi_blocks::Edid;
 use hdmi_core::Kind;
+use hdmi_ddc::Ddc;
 use hdmi_topo::{PortEdidError, Tree};
 use std::alloc::Global;
 use std::fmt::Debug;
@@ -35,6 +37,7 @@ device 0 => tv Tv 4
 device 1 => p1 Player 0
 device 3 => a Switch 2
 number b => Some(4)
+count devices => 5
 ";
 
 const CHAIN: &str = "\
@@ -54,6 +57,41 @@ address 1 => Some(Phys { high: 16, low: 0 })
 address 4 => Some(Phys { high: 17, low: 17 })
 address 5 => Some(Phys { high: 255, low: 255 })
 wire 5 => true
+count devices => 6
+";
+
+/// Devices and ports, and what they pass on of a television's EDID. Without an address they pass on nothing.
+const TELEVISION: &str = "\
+add tv tv 4 => -
+port 0 1 of tv..0151 speaking..e8 => tv..0151 speaking..d8 148=10
+port 0 2 of tv..0151 speaking..e8 => tv..0151 speaking..c8 148=20
+port 0 5 of tv..0151 speaking..e8 => PortRange
+port 0 1 of tv..0052 => NoHdmiBlock
+";
+
+/// A television, an amplifier in its first port with a switch in its own, and a switch in the second: the ports above the
+/// amplifier and beside it, its own, and the one below.
+const AMPLIFIER: &str = "\
+add tv tv 2 => -
+add amp amp 1 => -
+add below switch 1 => -
+add beside switch 1 => -
+plug 1 0 1 => -
+plug 2 1 1 => -
+plug 3 0 2 => -
+port 0 1 of tv..0151 speaking..e8 => tv..0151 speaking..d8 148=10
+port 3 1 of tv..0151 speaking..e8 => tv..0151 speaking..c7 148=21
+port 1 1 of tv..0151 speaking..e8 => tv..0151 020319f143900403260f7f071507508301000065030c001100..e7
+port 2 1 of tv..0151 speaking..e8 => tv..0151 020319f143900403260f7f071507508301000065030c001110..d7
+";
+
+/// A television, and an amplifier in its second port: what a device in the amplifier's third port learns.
+const LEARNT: &str = "\
+add tv tv 4 => -
+add amp amp 3 => -
+plug 1 0 2 => -
+learn 1 3 of tv..0151 speaking..e8 => Ok(Phys { high: 35, low: 0 })
+learn 1 3 of tv..034f map..0c speaking..e8 empty..06 => Ok(Phys { high: 35, low: 0 })
 ";
 
 fn kind_of(word: &str) -> Result<Kind, Fail> {
@@ -68,7 +106,7 @@ fn kind_of(word: &str) -> Result<Kind, Fail> {
 
 fn done<E: Debug + Drop>(alloc: Global, answer: Result<(), E>) -> Result<String, Fail> {
     match answer {
-        Ok(()) => Ok(String::from_str(alloc, "-")?),
+        Ok(()) => owned(alloc, "-"),
         Err(error) => Ok(format!(in alloc; "{error:?}")?),
     }
 }
@@ -96,7 +134,7 @@ fn told(alloc: Global, name: &[u8], kind: Kind, ports: u8) -> Result<String, Fai
 }
 
 /// What is asked of a device.
-fn ask(alloc: Global, tree: &Tree<15>, verb: &str, word: &str) -> Result<String, Fail> {
+fn ask_device(alloc: Global, tree: &Tree<15>, verb: &str, word: &str) -> Result<String, Fail> {
     let device = usize::from(number(word)?);
     if device >= tree.count() {
         return Err(Fail::from("no device"));
@@ -126,6 +164,45 @@ fn number_of(alloc: Global, tree: &Tree<15>, name: &str) -> Result<String, Fail>
     Ok(format!(in alloc; "{:?}", tree.device_named(name.as_bytes()))?)
 }
 
+/// What a port passes on of a television's EDID: the words are the device and the port, and the television's blocks.
+fn passed_on(
+    alloc: Global,
+    tree: &Tree<15>,
+    words: &str,
+) -> Result<Result<Edid, PortEdidError>, Fail> {
+    let (place, blocks) = words.split_once(" of ").ok_or("no EDID")?;
+    let (device, port) = two_numbers(place)?;
+    let device = usize::from(device);
+    if device >= tree.count() {
+        return Err(Fail::from("no device"));
+    }
+    Ok(tree.port_edid(&edid_of(alloc, blocks)?, device, port))
+}
+
+fn port(alloc: Global, tree: &Tree<15>, words: &str) -> Result<String, Fail> {
+    match passed_on(alloc, tree, words)? {
+        Ok(edid) => hex_of(alloc, &edid),
+        Err(error) => Ok(format!(in alloc; "{error:?}")?),
+    }
+}
+
+/// What a device in a port learns over DDC.
+fn learn(alloc: Global, tree: &Tree<15>, words: &str) -> Result<String, Fail> {
+    let edid = passed_on(alloc, tree, words)??;
+    learnt(alloc, &mut Ddc::new(&edid))
+}
+
+/// What is asked of a tree.
+fn ask(alloc: Global, tree: &Tree<15>, verb: &str, words: &str) -> Result<String, Fail> {
+    match verb {
+        "number" => number_of(alloc, tree, words),
+        "count" => Ok(format!(in alloc; "{}", tree.count())?),
+        "port" => port(alloc, tree, words),
+        "learn" => learn(alloc, tree, words),
+        _ => ask_device(alloc, tree, verb, words),
+    }
+}
+
 /// One step or question, and what comes of it.
 fn take(alloc: Global, tree: &mut Tree<15>, line: &str) -> Result<String, Fail> {
     let (verb, words) = line.split_once(' ').ok_or("no verb")?;
@@ -133,119 +210,25 @@ fn take(alloc: Global, tree: &mut Tree<15>, line: &str) -> Result<String, Fail> 
         "add" => add(alloc, tree, words),
         "plug" => plug(alloc, tree, words),
         "unplug" => unplug(alloc, tree, words),
-        "number" => number_of(alloc, tree, words),
         _ => ask(alloc, tree, verb, words),
     }
 }
 
-/// The tree after such lines, each of which had this answer.
-pub(crate) fn grown(rt: &impl Abort, alloc: Global, steps: &str) -> Result<Tree<15>, Fail> {
+/// Asserts what comes of each step of a tree that grows.
+fn grows(rt: &impl Abort, alloc: Global, steps: &str) -> Result<(), Fail> {
     let mut tree = Tree::new();
-    for step in steps.lines() {
-        let (line, want) = parted(step)?;
-        holds(rt, take(alloc, &mut tree, line)?.as_str() == want, step);
-    }
-    Ok(tree)
-}
-
-#[test]
-fn refuses_in_order(rt: HostRuntime) -> Result<(), Fail> {
-    let tree = grown(&rt, rt.alloc(), REFUSALS)?;
-    assert!(rt; tree.count() == 5);
-    Ok(())
-}
-
-#[test]
-fn a_chain_of_switches(rt: HostRuntime) -> Result<(), Fail> {
-    let tree = grown(&rt, rt.alloc(), CHAIN)?;
-    assert!(rt; tree.count() == 6);
-    Ok(())
-}
-
-/// What a port passes on of the television's EDID: the words are the device and the port.
-pub(crate) fn port_edid(
-    tree: &Tree<15>,
-    root: &Edid,
-    words: &str,
-) -> Result<Result<Edid, PortEdidError>, Fail> {
-    let (device, port) = two_numbers(words)?;
-    let device = usize::from(device);
-    if device >= tree.count() {
-        return Err(Fail::from("no device"));
-    }
-    Ok(tree.port_edid(root, device, port))
-}
-
-/// Whether the bytes that these words give are passed on, or nothing, with this error.
-fn is_wanted(alloc: Global, passed: Result<Edid, PortEdidError>, want: &str) -> Result<bool, Fail> {
-    match passed {
-        Ok(edid) => has_bytes(alloc, &edid, want),
-        Err(error) => Ok(format!(in alloc; "{error:?}")?.as_str() == want),
-    }
-}
-
-/// Asserts what each port passes on.
-fn ports_pass(
-    rt: &impl Abort,
-    alloc: Global,
-    tree: &Tree<15>,
-    root: &[u8],
-    ports: &str,
-) -> Result<(), Fail> {
-    let root = edid_from_bytes(root)?;
-    for case in ports.lines() {
-        let (words, want) = parted(case)?;
-        let passed = port_edid(tree, &root, words)?;
-        holds(rt, is_wanted(alloc, passed, want)?, case);
+    for case in steps.lines() {
+        let (step, want) = parted(case)?;
+        comes_out(rt, alloc, take(alloc, &mut tree, step)?, want, case)?;
     }
     Ok(())
 }
 
-const TELEVISION: &str = "add tv tv 4 => -\n";
-
-/// Devices and ports, and what they pass on.
-const ADDRESSES: &str = "\
-0 1 => tv..0151 speaking..d8 148=10
-0 2 => tv..0151 speaking..c8 148=20
-0 5 => PortRange
-";
-
 #[test]
-fn ports_pass_on_their_addresses(rt: HostRuntime) -> Result<(), Fail> {
-    let tree = grown(&rt, rt.alloc(), TELEVISION)?;
-    let root = bytes_of(rt.alloc(), "tv..0151 speaking..e8")?;
-    ports_pass(&rt, rt.alloc(), &tree, &root, ADDRESSES)
-}
-
-#[test]
-fn no_port_passes_on_an_edid_without_an_address(rt: HostRuntime) -> Result<(), Fail> {
-    let tree = grown(&rt, rt.alloc(), TELEVISION)?;
-    let root = bytes_of(rt.alloc(), "tv..0052")?;
-    ports_pass(&rt, rt.alloc(), &tree, &root, "0 1 => NoHdmiBlock\n")
-}
-
-/// A television, an amplifier in its first port with a switch in its own, and a switch in the second.
-const AMPLIFIER: &str = "\
-add tv tv 2 => -
-add amp amp 1 => -
-add below switch 1 => -
-add beside switch 1 => -
-plug 1 0 1 => -
-plug 2 1 1 => -
-plug 3 0 2 => -
-";
-
-/// The ports above the amplifier and beside it, its own, and the one below.
-const AROUND_THE_AMPLIFIER: &str = "\
-0 1 => tv..0151 speaking..d8 148=10
-3 1 => tv..0151 speaking..c7 148=21
-1 1 => tv..0151 020319f143900403260f7f071507508301000065030c001100..e7
-2 1 => tv..0151 020319f143900403260f7f071507508301000065030c001110..d7
-";
-
-#[test]
-fn ports_pass_on_addresses_and_below_an_amplifier_its_audio(rt: HostRuntime) -> Result<(), Fail> {
-    let tree = grown(&rt, rt.alloc(), AMPLIFIER)?;
-    let root = bytes_of(rt.alloc(), "tv..0151 speaking..e8")?;
-    ports_pass(&rt, rt.alloc(), &tree, &root, AROUND_THE_AMPLIFIER)
+fn trees_grow_and_pass_on_addresses(rt: HostRuntime) -> Result<(), Fail> {
+    grows(&rt, rt.alloc(), REFUSALS)?;
+    grows(&rt, rt.alloc(), CHAIN)?;
+    grows(&rt, rt.alloc(), TELEVISION)?;
+    grows(&rt, rt.alloc(), AMPLIFIER)?;
+    grows(&rt, rt.alloc(), LEARNT)
 }

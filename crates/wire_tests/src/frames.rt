@@ -1,51 +1,66 @@
-//! Worked frames and their bits.
+//! Frames and their bits.
+use crate::words::{bits_of, bits_text, frame_of};
 use arrayvec::ArrayVec;
-use cec_frame::{Addr, Ending, Frame, Reading, winners};
+use cec_frame::{Ending, Frame, Reading, winners};
+use std::alloc::Global;
 use std::test::Fail;
 
-// Image View On from 4 to 0, and Give Device Power Status from 5 to 0, sent together: 4 wins.
-#[test]
-fn lower_initiator_wins(rt: HostRuntime) -> Result<(), Fail> {
-    let view = Frame::new(&[0x40, 0x04]).expect(&rt, "two bytes");
-    let status = Frame::new(&[0x50, 0x8F]).expect(&rt, "two bytes");
-    assert!(rt; view.precedes(&status));
-    assert!(rt; !status.precedes(&view));
-    assert_eq!(rt; winners(&[status, view]).as_slice(), [1].as_slice());
-    Ok(())
+/// Whether the first of two frames goes before the second, and the second before the first, and who wins.
+fn order_of(alloc: Global, first: Frame, second: Frame) -> Result<String, Fail> {
+    let (before, behind) = (first.precedes(&second), second.precedes(&first));
+    let winners = winners(&[first, second]);
+    Ok(format!(in alloc; "{before} {behind} {:?}", winners.as_slice())?)
 }
 
-#[test]
-fn tells_its_parts(rt: HostRuntime) -> Result<(), Fail> {
-    let frame = Frame::new(&[0x4F, 0x82, 0x10, 0x00]).expect(&rt, "four bytes");
-    assert_eq!(rt; frame.initiator(), Addr::new(4));
-    assert_eq!(rt; frame.destination().value(), Addr::BROADCAST);
-    assert!(rt; !frame.is_poll());
-    assert_eq!(rt; frame.slots(), 40);
-    assert_eq!(rt; frame.bit(2), true);
-    assert_eq!(rt; frame.bit(9), false);
-    assert_eq!(rt; frame.bit(39), true);
-    assert_eq!(rt; frame.copy().bytes(), [0x4F, 0x82, 0x10, 0x00].as_slice());
-    Ok(())
+pub(crate) fn order_text(alloc: Global, words: &str) -> Result<String, Fail> {
+    let (first, second) = words.split_once(' ').ok_or("no second frame")?;
+    order_of(alloc, frame_of(first)?, frame_of(second)?)
 }
 
-// 4 to 0, not the last block, acknowledged; Image View On, the last block, acknowledged.
-const IMAGE_VIEW_ON: [u8; 20] = [
-    0, 1, 0, 0, 0, 0, 0, 0, 0, 0, //
-    0, 0, 0, 0, 0, 1, 0, 0, 1, 0,
-];
+/// The bits that a frame sends.
+fn sent_bits(frame: &Frame) -> ArrayVec<bool, 160> {
+    let mut bits = ArrayVec::new();
+    for slot in 0..frame.slots() {
+        let _ = bits.try_push(frame.bit(slot + 1));
+    }
+    bits
+}
 
-#[test]
-fn reads_a_frame(rt: HostRuntime) -> Result<(), Fail> {
-    let bits = IMAGE_VIEW_ON.map(|bit| bit == 1);
-    let mut reading = Reading {
+/// Who sends a frame to whom, whether it is a poll, the bits that it sends, or the bytes of its copy.
+fn part_of(alloc: Global, verb: &str, frame: &Frame) -> Result<String, Fail> {
+    match verb {
+        "from" => Ok(format!(in alloc; "{}", frame.initiator().value())?),
+        "to" => Ok(format!(in alloc; "{}", frame.destination().value())?),
+        "poll" => Ok(format!(in alloc; "{}", frame.is_poll())?),
+        "bits" => bits_text(alloc, &sent_bits(frame)),
+        "bytes" => Ok(format!(in alloc; "{:?}", frame.copy().bytes())?),
+        _ => Err(Fail::from("no verb")),
+    }
+}
+
+pub(crate) fn part_text(alloc: Global, verb: &str, word: &str) -> Result<String, Fail> {
+    part_of(alloc, verb, &frame_of(word)?)
+}
+
+/// A reading that ended complete, or else in silence.
+fn reading_of(ending: &str, bits: &str) -> Reading {
+    Reading {
         begin: 1_000_000,
         at: 1_051_150,
-        ending: Ending::Complete,
-        bits: ArrayVec::try_from(bits.as_slice()).expect(&rt, "twenty bits"),
-    };
-    let read = reading.frame().expect(&rt, "a frame");
-    assert_eq!(rt; read.bytes(), [0x40, 0x04].as_slice());
-    reading.ending = Ending::Silent;
-    assert!(rt; reading.frame().is_none());
-    Ok(())
+        ending: if ending == "Complete" {
+            Ending::Complete
+        } else {
+            Ending::Silent
+        },
+        bits: bits_of(bits),
+    }
+}
+
+/// The bytes of the frame that a reading has, if any.
+pub(crate) fn received_text(alloc: Global, words: &str) -> Result<String, Fail> {
+    let (ending, bits) = words.split_once(' ').ok_or("no bits")?;
+    match reading_of(ending, bits).frame() {
+        Some(frame) => Ok(format!(in alloc; "{:?}", frame.bytes())?),
+        None => Ok(String::from_str(alloc, "none")?),
+    }
 }

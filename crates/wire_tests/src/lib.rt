@@ -2,8 +2,12 @@
 #![tactic(auto)]
 
 #[cfg(test)]
-mod bits;
-#[cfg(test)]
 mod frames;
 #[cfg(test)]
-mod waves;
+mod lines;
+#[cfg(test)]
+mod receivers;
+#[cfg(test)]
+mod senders;
+#[cfg(test)]
+mod words;

@@ -1,0 +1,84 @@
+//! Each bit of an EDID at its own place.
+use crate::samples::bytes_of;
+use crate::texts::text_of;
+use hdmi_blocks::edid_from_bytes;
+use std::alloc::Global;
+use std::test::Fail;
+
+/// EDIDs, and the hashes of the texts of all that differ from them in one bit. The hashes are those of the texts that a
+/// program apart from this one writes, by the layouts of the standards.
+pub(crate) const HASHES: &str = "\
+neighbours every.. => d4f6c7caee9f610
+neighbours tv..0151 speaking..e8 => 3aa6b8bf1c4a28db
+";
+
+/// The byte that makes the sum of a block 0 modulo 256.
+fn checksum(front: &[u8]) -> u8 {
+    let mut sum = 0u8;
+    for byte in front {
+        sum = sum.wrapping_add(*byte);
+    }
+    sum.wrapping_neg()
+}
+
+/// Mends the checksum of the block that a byte stands in.
+fn mend(bytes: &mut [u8], at: usize) -> Result<(), Fail> {
+    let from = at / 128 * 128;
+    let sum = checksum(bytes.get(from..from + 127).ok_or("no block")?);
+    let byte = bytes.get_mut(from + 127).ok_or("no checksum")?;
+    *byte = sum;
+    Ok(())
+}
+
+/// Turns over one bit, and mends the checksum of its block where the bit is not the checksum's own.
+fn turn_bit(bytes: &mut [u8], at: usize, bit: u8) -> Result<(), Fail> {
+    let byte = bytes.get_mut(at).ok_or("no byte")?;
+    *byte ^= bit;
+    if at % 128 == 127 {
+        return Ok(());
+    }
+    mend(bytes, at)
+}
+
+fn with_bit_turned(alloc: Global, bytes: &[u8], at: usize, bit: u8) -> Result<Vec<u8>, Fail> {
+    let mut turned = Vec::from_slice(alloc, bytes)?;
+    turn_bit(&mut turned, at, bit)?;
+    Ok(turned)
+}
+
+/// The text of an EDID, or why the bytes are none.
+fn told(alloc: Global, bytes: &[u8]) -> Result<Vec<u8>, Fail> {
+    match edid_from_bytes(bytes) {
+        Err(cause) => Ok(format!(in alloc; "{cause}\n")?.into_bytes()),
+        Ok(edid) => text_of(alloc, &edid),
+    }
+}
+
+/// Takes a text into a hash (FNV-1a of 64 bits).
+fn hashed(hash: u64, text: &[u8]) -> u64 {
+    let mut hash = hash;
+    for byte in text {
+        hash = (hash ^ u64::from(*byte)).wrapping_mul(0x100_0000_01b3);
+    }
+    hash
+}
+
+fn told_with_bit_turned(alloc: Global, bytes: &[u8], at: usize, bit: u8) -> Result<Vec<u8>, Fail> {
+    told(alloc, &with_bit_turned(alloc, bytes, at, bit)?)
+}
+
+/// The hash of the texts of all EDIDs that differ from this one in one bit.
+fn hash_of_neighbours(alloc: Global, bytes: &[u8]) -> Result<u64, Fail> {
+    let mut hash = 0xcbf2_9ce4_8422_2325u64;
+    for at in 0..bytes.len() {
+        for bit in [1u8, 2, 4, 8, 16, 32, 64, 128] {
+            hash = hashed(hash, &told_with_bit_turned(alloc, bytes, at, bit)?);
+        }
+    }
+    Ok(hash)
+}
+
+pub(crate) fn neighbours_told(alloc: Global, words: &str) -> Result<String, Fail> {
+    let hash = hash_of_neighbours(alloc, &bytes_of(alloc, words)?)?;
+    Ok(format!(in alloc; "{hash:x}")?)
+}

@@ -1,0 +1,112 @@
+//! Receivers that hear a line from edge to edge.
+use crate::lines::laid;
+use crate::words::number;
+use cec_bits::{Receiver, Told};
+use cec_wave::Stretch;
+use std::alloc::Global;
+use std::test::Fail;
+
+/// No line of these tests goes on longer.
+const END: u64 = 1_000_000;
+
+/// A receiver that is told edges, whether the line is low, how often something was told, and what last, and when.
+#[derive(Drop)]
+struct Listener {
+    receiver: Receiver,
+    low: bool,
+    count: u32,
+    at: u64,
+    told: Told,
+}
+
+impl Listener {
+    fn new() -> Self {
+        Listener {
+            receiver: Receiver::new(),
+            low: false,
+            count: 0,
+            at: 0,
+            told: Told::Nothing,
+        }
+    }
+
+    fn tick(&mut self, t: u64) {
+        if t <= END {
+            match self.receiver.tick(t) {
+                Told::Nothing => {}
+                told => {
+                    self.count = self.count.saturating_add(1);
+                    self.at = t;
+                    self.told = told;
+                }
+            }
+        }
+    }
+
+    /// Ticks at each wake before `t`.
+    fn wait(&mut self, t: u64) {
+        for _wake in 0..200 {
+            let Some(wake) = self.receiver.wakes_at() else {
+                return;
+            };
+            if wake >= t {
+                return;
+            }
+            self.tick(wake);
+        }
+    }
+
+    /// The line falls, or rises where it is low.
+    fn hear(&mut self, t: u64) {
+        self.wait(t);
+        if self.low {
+            self.receiver.rise(t);
+        } else {
+            self.receiver.fall(t);
+        }
+        self.low = !self.low;
+        self.tick(t);
+    }
+
+    fn hear_line(&mut self, line: &[Stretch]) {
+        for stretch in line {
+            self.hear(stretch.from);
+            self.hear(stretch.to);
+        }
+    }
+
+    /// An instant at which the line falls or rises, one at which it stays as it is, or what a sender pulls.
+    fn take(&mut self, word: &str) -> Result<(), Fail> {
+        if let Some(at) = word.strip_prefix('.') {
+            self.tick(u64::from(number(at)?));
+        } else if word.contains(':') {
+            self.hear_line(laid(word)?.as_slice());
+        } else {
+            self.hear(u64::from(number(word)?));
+        }
+        Ok(())
+    }
+}
+
+/// A receiver of a line that falls and rises in turn at these instants.
+fn listener_of(words: &str) -> Result<Listener, Fail> {
+    let mut listener = Listener::new();
+    for word in words.split_whitespace() {
+        listener.take(word)?;
+    }
+    Ok(listener)
+}
+
+/// What is told last, and when.
+pub(crate) fn last_text(alloc: Global, words: &str) -> Result<String, Fail> {
+    let mut listener = listener_of(words)?;
+    listener.wait(END);
+    Ok(format!(in alloc; "{} {:?}", listener.at, listener.told)?)
+}
+
+/// Where it stands before it wakes again, when that is, and how often something was told.
+pub(crate) fn standing_text(alloc: Global, words: &str) -> Result<String, Fail> {
+    let listener = listener_of(words)?;
+    let (standing, wake) = (listener.receiver.standing(), listener.receiver.wakes_at());
+    Ok(format!(in alloc; "{standing:?} {wake:?} {}", listener.count)?)
+}
