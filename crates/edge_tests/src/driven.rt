@@ -49,6 +49,16 @@ fn are_sparse(stretches: &[Stretch]) -> bool
     }
 }
 
+// The first pulse that begins at an instant or later.
+fn first_from(pulses: &[Stretch], at: u64) -> Option<Stretch> {
+    for pulse in pulses {
+        if at <= pulse.from {
+            return Some(*pulse);
+        }
+    }
+    None
+}
+
 // Takes the next pulse, if so many have begun with it.
 fn take(rt: &impl Abort, pulses: &mut ArrayVec<Stretch, 24>, next: Option<Stretch>, count: usize)
     ensures count { length pulses.new.items ≡ count }
@@ -101,8 +111,7 @@ impl Driven {
     pub(crate) fn edge(&mut self, rt: &impl Abort, pulses: &[Stretch]) -> Option<Edge>
         ensures { MatchOption result (is_silent_in self.new ≡ true) (λ _. Unit {0}) }
     {
-        let heard = self.heard;
-        let next = pulses.iter().find(|pulse| heard <= pulse.from).copied();
+        let next = first_from(pulses, self.heard);
         assert!(rt; self.is_next(next));
         let edge = self.wire.next_edge(next);
         take(rt, &mut self.pulses, next, self.wire.pulses_begun());

@@ -10,7 +10,6 @@ use cec_wave::{Pulses, Stretch};
 use cec_wire::{Loser, Outcome, Seat, Wire};
 use std::alloc::Global;
 use std::process::Abort;
-use std::test::Fail;
 
 // ---- seats, pulses and outcomes as texts
 
@@ -29,129 +28,140 @@ fn address_of(word: &str) -> Option<Addr> {
     }
 }
 
-fn byte_of(word: &str) -> Result<u8, Fail> {
+fn byte_of(word: &str) -> Option<u8> {
     match word.as_bytes() {
-        [high, low] => Ok(digit(*high).saturating_mul(16).saturating_add(digit(*low))),
-        _ => Err("no byte".into()),
+        [high, low] => Some(digit(*high).saturating_mul(16).saturating_add(digit(*low))),
+        _ => None,
     }
 }
 
 // The bytes of a frame, with commas between.
-fn frame_of(words: &str) -> Result<Frame, Fail> {
+fn frame_of(words: &str) -> Option<Frame> {
     let mut bytes: ArrayVec<u8, 16> = ArrayVec::new();
     for word in words.split(',') {
         let _ = bytes.try_push(byte_of(word)?);
     }
-    Ok(Frame::new(&bytes)?)
+    Frame::new(&bytes).ok()
 }
 
 // A seat that is plugged: the addresses that it holds, with a plus between, and what it sends behind a colon.
-fn seat_of(word: &str) -> Result<Seat, Fail> {
+fn seat_of(word: &str) -> Option<Seat> {
     let (held, sends) = match word.split_once(':') {
         None => (word, None),
         Some((held, bytes)) => (held, Some(frame_of(bytes)?)),
     };
     let (first, second) = held.split_once('+').unwrap_or((held, ""));
-    Ok(Seat {
+    Some(Seat {
         plugged: true,
         holds: [address_of(first), address_of(second)],
         sends,
     })
 }
 
-pub(crate) fn seats_of(words: &str) -> Result<ArrayVec<Seat, 15>, Fail> {
+pub(crate) fn seats_of(words: &str) -> Option<ArrayVec<Seat, 15>> {
     let mut seats = ArrayVec::new();
     for word in words.split(' ') {
         let _ = seats.try_push(seat_of(word)?);
     }
-    Ok(seats)
+    Some(seats)
 }
 
-// One pulse: where it begins, and how wide it is.
-fn pulse_of(text: &str) -> Result<Stretch, Fail> {
-    let (from, width) = text.split_once('+').ok_or("no pulse")?;
-    let from: u64 = from.parse()?;
-    let width: u64 = width.parse()?;
-    Ok(Stretch {
+/// One pulse: where it begins, and how wide it is.
+pub(crate) fn pulse_of(text: &str) -> Option<Stretch> {
+    let (from, width) = text.split_once('+')?;
+    let from: u64 = from.parse().ok()?;
+    let width: u64 = width.parse().ok()?;
+    Some(Stretch {
         from,
         to: from.saturating_add(width),
     })
 }
 
-// The bits read so far, or a dash.
-pub(crate) fn bits_text(alloc: Global, bits: &[bool]) -> Result<String, Fail> {
+// A text that finds no memory for a part goes on without it, and is none that is wanted.
+fn put(text: &mut String, part: Option<String>) {
+    if let Some(part) = part {
+        let _ = text.push_str(part.as_str());
+    }
+}
+
+/// The bits read so far, or a dash.
+pub(crate) fn bits_text(alloc: Global, bits: &[bool]) -> String {
     let mut text = String::new(alloc);
     for bit in bits {
-        text.push_str(if *bit { "1" } else { "0" })?;
+        let _ = text.push_str(if *bit { "1" } else { "0" });
     }
     if bits.is_empty() {
-        text.push_str("-")?;
+        let _ = text.push_str("-");
     }
-    Ok(text)
+    text
 }
 
-fn survivors_text(alloc: Global, survivors: &[usize]) -> Result<String, Fail> {
+fn survivors_text(alloc: Global, survivors: &[usize]) -> String {
     let mut text = String::new(alloc);
     for seat in survivors {
-        let one = format!(in alloc; " {seat}")?;
-        text.push_str(one.as_str())?;
+        put(&mut text, format!(in alloc; " {seat}").ok());
     }
     if survivors.is_empty() {
-        text.push_str(" -")?;
+        let _ = text.push_str(" -");
     }
-    Ok(text)
+    text
 }
 
-fn losers_text(alloc: Global, losers: &[Loser]) -> Result<String, Fail> {
+fn losers_text(alloc: Global, losers: &[Loser]) -> String {
     let mut text = String::new(alloc);
     for loser in losers {
-        let one = format!(in alloc; " {}@{}", loser.seat, loser.slot)?;
-        text.push_str(one.as_str())?;
+        put(
+            &mut text,
+            format!(in alloc; " {}@{}", loser.seat, loser.slot).ok(),
+        );
     }
     if losers.is_empty() {
-        text.push_str(" -")?;
+        let _ = text.push_str(" -");
     }
-    Ok(text)
+    text
 }
 
-fn reading_text(alloc: Global, outcome: &Outcome) -> Result<String, Fail> {
-    let bits = bits_text(alloc, &outcome.reading.bits)?;
+fn reading_text(alloc: Global, outcome: &Outcome) -> Option<String> {
+    let bits = bits_text(alloc, &outcome.reading.bits);
     let (ending, at) = (outcome.reading.ending, outcome.reading.at);
-    Ok(format!(in alloc; "{ending:?} {at} bits {bits}")?)
+    format!(in alloc; "{ending:?} {at} bits {bits}").ok()
 }
 
-// How its reading ended, when, and with which bits, when the line was high again and the round over, who still sent,
-// and who had stopped at which slot.
-pub(crate) fn outcome_text(alloc: Global, outcome: &Outcome) -> Result<String, Fail> {
+/// How its reading ended, when, and with which bits, when the line was high again and the round over, who still sent,
+/// and who had stopped at which slot.
+pub(crate) fn outcome_text(alloc: Global, outcome: &Outcome) -> Option<String> {
     let reading = reading_text(alloc, outcome)?;
-    let survivors = survivors_text(alloc, outcome.survivors.as_slice())?;
-    let losers = losers_text(alloc, outcome.losers.as_slice())?;
+    let survivors = survivors_text(alloc, outcome.survivors.as_slice());
+    let losers = losers_text(alloc, outcome.losers.as_slice());
     let (rest, close) = (outcome.rest, outcome.close());
-    Ok(format!(in alloc; "{reading} rest {rest} close {close} by{survivors} out{losers}")?)
+    format!(in alloc; "{reading} rest {rest} close {close} by{survivors} out{losers}").ok()
 }
 
 // What became of a seat's frame, and the slot at which it stopped.
-fn fate_text(alloc: Global, outcome: &Outcome, seat: usize) -> Result<String, Fail> {
+fn fate_text(alloc: Global, outcome: &Outcome, seat: usize) -> Option<String> {
     let fate = outcome.fate(seat);
     match outcome.out_at(seat) {
-        None => Ok(format!(in alloc; "{fate:?}")?),
-        Some(slot) => Ok(format!(in alloc; "{fate:?}@{slot}")?),
+        None => format!(in alloc; "{fate:?}").ok(),
+        Some(slot) => format!(in alloc; "{fate:?}@{slot}").ok(),
     }
 }
 
 // The stretches in which the line was low.
-fn wave_text(alloc: Global, stretches: &[Stretch]) -> Result<String, Fail> {
+fn wave_text(alloc: Global, stretches: &[Stretch]) -> String {
     let mut text = String::new(alloc);
     for stretch in stretches {
-        let one = format!(in alloc; "{}-{}\n", stretch.from, stretch.to)?;
-        text.push_str(one.as_str())?;
+        put(
+            &mut text,
+            format!(in alloc; "{}-{},", stretch.from, stretch.to).ok(),
+        );
     }
-    Ok(text)
+    text
 }
 
-// A case comes out as it is wanted.
-pub(crate) fn is_told(rt: &impl Abort, told: &str, wanted: &str, case: &str) {
-    assert!(rt; told == wanted, "{case}: {told}");
+/// A case comes out as it is wanted.
+pub(crate) fn is_told(rt: &impl Abort, told: Option<String>, wanted: &str, case: &str) {
+    let told = told.expect(rt, case);
+    assert!(rt; told.as_str() == wanted, "{case}: {told}");
 }
 
 // ---- rounds
@@ -183,13 +193,13 @@ fn round(rt: &impl Abort, seats: &[Seat], start: u64, pulses: &Pulses) -> Outcom
 }
 
 // The round of some seats that begins at an instant, with a pulse.
-fn round_of(rt: &impl Abort, text: &str) -> Result<Outcome, Fail> {
-    let (seats, rest) = text.split_once(" | ").ok_or("no seats")?;
-    let (start, pulse) = rest.split_once(" | ").ok_or("no pulse")?;
+fn round_of(rt: &impl Abort, text: &str) -> Option<Outcome> {
+    let (seats, rest) = text.split_once(" | ")?;
+    let (start, pulse) = rest.split_once(" | ")?;
     let seats = seats_of(seats)?;
-    let pulses = Pulses::new(&[pulse_of(pulse)?])?;
-    let start: u64 = start.parse()?;
-    Ok(round(rt, &seats, start, &pulses))
+    let pulses = Pulses::new(&[pulse_of(pulse)?]).ok()?;
+    let start: u64 = start.parse().ok()?;
+    Some(round(rt, &seats, start, &pulses))
 }
 
 // A player at 4 sends image-view-on to a television at 0. A pulse breaks the second slot; the next slot's fall comes
@@ -225,68 +235,53 @@ const ARBITRATED: &str = "\
 0 5:50,8f 4:40,04 | 2000000 | 3000000+1 => Complete 2051150 bits 01000000000000010010 rest 2051600 close 2051600 by 2 out 1@4
 0 5:50,8f 4:48 | 2000000 | 3000000+1 => Complete 2027150 bits 0100100011 rest 2026700 close 2027150 by 2 out 1@4";
 
-#[test]
-fn rounds_come_out(rt: HostRuntime) -> Result<(), Fail> {
-    for rows in [VIEW, UNACKNOWLEDGED, REFUSED, BAD_STARTS, ARBITRATED] {
-        for row in rows.lines() {
-            let (given, wanted) = row.split_once(" => ").ok_or("no row")?;
-            let outcome = round_of(&rt, given)?;
-            let told = outcome_text(rt.alloc(), &outcome)?;
-            is_told(&rt, told.as_str(), wanted, given);
-        }
-    }
-    Ok(())
-}
-
-// What becomes of what one seat sends. A recorder at 1 and a player at 4 in one box acknowledge what goes to either,
-// also where the other of the two has found no address or has not settled yet. Of a broadcast they say nothing.
+// What becomes of what the seat of a number sends. A recorder at 1 and a player at 4 in one box acknowledge what goes
+// to either, also where the other of the two has found no address or has not settled yet. Of a broadcast they say
+// nothing.
 const FATES: &str = "\
-0 4:40,04 | 1000000 | 1006600+400 => 1 Delivered
-0 4:40,04 | 1000000 | 1006500+100 => 1 Broken
-0 5:50,8f 4:48 | 2000000 | 3000000+1 => 1 Lost@4
-0 5:50,8f 4:48 | 2000000 | 3000000+1 => 2 Unacked
-0:01 1+4 | 1000000 | 3000000+1 => 0 Delivered
-0:04 1+4 | 1000000 | 3000000+1 => 0 Delivered
-0:05 1+4 | 1000000 | 3000000+1 => 0 Unacked
-0:0f 1+4 | 1000000 | 3000000+1 => 0 Delivered
-0:01 f+4 | 1000000 | 3000000+1 => 0 Unacked
-0:04 f+4 | 1000000 | 3000000+1 => 0 Delivered
-0:0f f+4 | 1000000 | 3000000+1 => 0 Delivered
-0:01 1 | 1000000 | 3000000+1 => 0 Delivered
-0:04 1 | 1000000 | 3000000+1 => 0 Unacked";
-
-#[test]
-fn frames_have_fates(rt: HostRuntime) -> Result<(), Fail> {
-    for row in FATES.lines() {
-        let (given, wanted) = row.split_once(" => ").ok_or("no row")?;
-        let (seat, wanted) = wanted.split_once(' ').ok_or("no seat")?;
-        let seat: usize = seat.parse()?;
-        let outcome = round_of(&rt, given)?;
-        let told = fate_text(rt.alloc(), &outcome, seat)?;
-        is_told(&rt, told.as_str(), wanted, given);
-    }
-    Ok(())
-}
+1 of 0 4:40,04 | 1000000 | 1006600+400 => Delivered
+1 of 0 4:40,04 | 1000000 | 1006500+100 => Broken
+1 of 0 5:50,8f 4:48 | 2000000 | 3000000+1 => Lost@4
+2 of 0 5:50,8f 4:48 | 2000000 | 3000000+1 => Unacked
+0 of 0:01 1+4 | 1000000 | 3000000+1 => Delivered
+0 of 0:04 1+4 | 1000000 | 3000000+1 => Delivered
+0 of 0:05 1+4 | 1000000 | 3000000+1 => Unacked
+0 of 0:0f 1+4 | 1000000 | 3000000+1 => Delivered
+0 of 0:01 f+4 | 1000000 | 3000000+1 => Unacked
+0 of 0:04 f+4 | 1000000 | 3000000+1 => Delivered
+0 of 0:0f f+4 | 1000000 | 3000000+1 => Delivered
+0 of 0:01 1 | 1000000 | 3000000+1 => Delivered
+0 of 0:04 1 | 1000000 | 3000000+1 => Unacked";
 
 // The line of a poll of 8 by the player, to whom the amplifier loses at the fourth slot.
 const LINE: &str = "\
-2000000-2003700
-2004500-2006000
-2006900-2007500
-2009300-2010800
-2011700-2013200
-2014100-2014700
-2016500-2018000
-2018900-2020400
-2021300-2022800
-2023700-2024300
-2026100-2026700
-";
+line of 0 5:50,8f 4:48 | 2000000 | 3000000+1 => 2000000-2003700,2004500-2006000,2006900-2007500,2009300-2010800,2011700-2013200,2014100-2014700,2016500-2018000,2018900-2020400,2021300-2022800,2023700-2024300,2026100-2026700,";
+
+// What is asked of a round: the line, what became of the frame of the seat of a number, or how it came out.
+fn answer(rt: &impl Abort, alloc: Global, question: &str) -> Option<String> {
+    let (asked, round) = question.split_once(" of ").unwrap_or(("all", question));
+    let outcome = round_of(rt, round)?;
+    match asked {
+        "all" => outcome_text(alloc, &outcome),
+        "line" => Some(wave_text(alloc, outcome.wave.as_slice())),
+        seat => fate_text(alloc, &outcome, seat.parse().ok()?),
+    }
+}
+
+fn tell(rt: &impl Abort, alloc: Global, rows: &str) {
+    for row in rows.lines() {
+        let (question, wanted) = row.split_once(" => ").unwrap_or((row, ""));
+        is_told(rt, answer(rt, alloc, question), wanted, question);
+    }
+}
 
 #[test]
-fn rounds_have_lines(rt: HostRuntime) -> Result<(), Fail> {
-    let outcome = round_of(&rt, "0 5:50,8f 4:48 | 2000000 | 3000000+1")?;
-    let told = wave_text(rt.alloc(), outcome.wave.as_slice())?;
-    is_told(&rt, told.as_str(), LINE, "a poll");
-    Ok(())
+fn rounds_come_out(rt: HostRuntime) {
+    tell(&rt, rt.alloc(), VIEW);
+    tell(&rt, rt.alloc(), UNACKNOWLEDGED);
+    tell(&rt, rt.alloc(), REFUSED);
+    tell(&rt, rt.alloc(), BAD_STARTS);
+    tell(&rt, rt.alloc(), ARBITRATED);
+    tell(&rt, rt.alloc(), FATES);
+    tell(&rt, rt.alloc(), LINE);
 }

@@ -1,73 +1,89 @@
 //! Where the receivers of a round stand after each of its edges, and how far its senders have come.
 use crate::driven::Driven;
-use crate::rounds::{bits_text, is_told, outcome_text, seats_of};
-use cec_bits::{SenderState, Standing};
+use crate::rounds::{bits_text, is_told, outcome_text, pulse_of, seats_of};
+use arrayvec::ArrayVec;
+use cec_bits::Standing;
 use cec_edges::EdgeWire;
 use cec_wave::Stretch;
 use std::alloc::Global;
 use std::process::Abort;
-use std::test::Fail;
 
-fn standing_text(alloc: Global, standing: Standing<'_>) -> Result<String, Fail> {
-    Ok(match standing {
-        Standing::Idle => format!(in alloc; "idle")?,
-        Standing::StartLow => format!(in alloc; "start-low")?,
-        Standing::StartHigh => format!(in alloc; "start-high")?,
+// ---- edges and senders as texts
+
+fn standing_text(alloc: Global, standing: Standing<'_>) -> Option<String> {
+    let word = match standing {
+        Standing::Idle => "idle",
+        Standing::StartLow => "start-low",
+        Standing::StartHigh => "start-high",
+        Standing::WaitHigh => "wait-high",
         Standing::Slot(slot, bits) => {
-            let bits = bits_text(alloc, bits)?;
-            format!(in alloc; "slot:{slot}:{bits}")?
+            let bits = bits_text(alloc, bits);
+            return format!(in alloc; "slot:{slot}:{bits}").ok();
         }
-        Standing::WaitHigh => format!(in alloc; "wait-high")?,
-    })
+    };
+    format!(in alloc; "{word}").ok()
 }
 
 // The next edge, and where the receivers stand after it.
-fn row(
+fn edge_text(
     rt: &impl Abort,
     alloc: Global,
     wire: &mut Driven,
     pulses: &[Stretch],
-) -> Result<String, Fail> {
+) -> Option<String> {
     let Some(edge) = wire.edge(rt, pulses) else {
-        return Ok(format!(in alloc; "none")?);
+        return format!(in alloc; "none").ok();
     };
     let standing = standing_text(alloc, wire.receiver(rt).standing())?;
     let at = edge.at;
     let level = if edge.low { "low" } else { "high" };
-    Ok(format!(in alloc; "{at} {level} {standing}")?)
+    format!(in alloc; "{at} {level} {standing}").ok()
 }
 
-// The next edges are these, a line each.
-fn goes(
-    rt: &impl Abort,
-    alloc: Global,
-    wire: &mut Driven,
-    pulses: &[Stretch],
-    rows: &str,
-) -> Result<(), Fail> {
-    for expected in rows.lines() {
-        let found = row(rt, alloc, wire, pulses)?;
-        is_told(rt, found.as_str(), expected, "an edge");
+// How far the sender of a seat has come, if it sends.
+fn seat_text(rt: &impl Abort, alloc: Global, wire: &Driven, seat: usize) -> Option<String> {
+    let state = match wire.sender(rt, seat) {
+        None => None,
+        Some(sender) => Some(sender.state()),
+    };
+    format!(in alloc; "seat {seat} {state:?}").ok()
+}
+
+// The seat that a row asks for, if it does.
+fn seat_asked(row: &str) -> Option<usize> {
+    let (seat, _state) = row.strip_prefix("seat ")?.split_once(' ')?;
+    seat.parse().ok()
+}
+
+// The next edges and the senders are these, a line each.
+fn goes(rt: &impl Abort, alloc: Global, wire: &mut Driven, pulse: &str, rows: &str) {
+    let mut pulses: ArrayVec<Stretch, 1> = ArrayVec::new();
+    if let Some(pulse) = pulse_of(pulse) {
+        let _ = pulses.try_push(pulse);
     }
-    Ok(())
+    for row in rows.lines() {
+        let told = match seat_asked(row) {
+            None => edge_text(rt, alloc, wire, &pulses),
+            Some(seat) => seat_text(rt, alloc, wire, seat),
+        };
+        is_told(rt, told, row, row);
+    }
 }
 
-// The round gives this.
-fn gives(rt: &impl Abort, alloc: Global, wire: Driven, wanted: &str) -> Result<(), Fail> {
-    let outcome = wire.finish(rt);
-    let told = outcome_text(alloc, &outcome)?;
-    is_told(rt, told.as_str(), wanted, "a round");
-    Ok(())
-}
+// ---- rounds
 
-// The sender of a seat has come this far, if it sends.
-fn is_at(rt: &impl Abort, wire: &Driven, seat: usize, wanted: Option<SenderState>) {
-    let state = wire.sender(rt, seat).map(|sender| sender.state());
-    assert_eq!(rt; state, wanted);
+// A round: its seats, when it begins, the pulse that is handed in and the rows that come then, and how the round
+// comes out where it is taken to its end.
+struct Round {
+    seats: &'static str,
+    begin: u64,
+    parts: &'static [(&'static str, &'static str)],
+    outcome: &'static str,
 }
 
 // Image-view-on from the player to the television, in which a pulse moves the second slot.
 const MOVED: &str = "\
+seat 0 None
 1000000 low start-low
 1003700 high start-high
 1004500 low slot:1:-
@@ -110,22 +126,12 @@ const MOVED: &str = "\
 1048300 high slot:19:010000000000000100
 1050100 low slot:20:0100000000000001001
 1051600 high idle
-none";
-
-#[test]
-fn stands_after_each_edge(rt: HostRuntime) -> Result<(), Fail> {
-    let pulse = [Stretch {
-        from: 1_006_600,
-        to: 1_007_000,
-    }];
-    let mut wire = Driven::begin(EdgeWire::new(), &seats_of("0 4:40,04")?, 1_000_000);
-    is_at(&rt, &wire, 0, None);
-    goes(&rt, rt.alloc(), &mut wire, &pulse, MOVED)?;
-    is_at(&rt, &wire, 1, Some(SenderState::Stopped));
-    Ok(())
-}
+none
+seat 1 Some(Stopped)";
 
 // Two rounds begin alike; a pulse then breaks one of them after the acknowledge slot.
+const FIRST: &str = "1000000 low start-low";
+
 const ALIKE: &str = "\
 1003700 high start-high
 1004500 low slot:1:-
@@ -177,56 +183,6 @@ const WHOLE: &str = "\
 1051600 high idle
 none";
 
-// It begins with the round.
-const FIRST: Stretch = Stretch {
-    from: 1_000_000,
-    to: 1_000_100,
-};
-
-#[test]
-fn stands_by_the_pulses_handed_in(rt: HostRuntime) -> Result<(), Fail> {
-    let later = [Stretch {
-        from: 1_028_000,
-        to: 1_028_100,
-    }];
-    let mut wire = Driven::begin(EdgeWire::new(), &seats_of("0 4:40,04")?, 1_000_000);
-    goes(
-        &rt,
-        rt.alloc(),
-        &mut wire,
-        &[FIRST],
-        "1000000 low start-low",
-    )?;
-    goes(&rt, rt.alloc(), &mut wire, &later, ALIKE)?;
-    goes(&rt, rt.alloc(), &mut wire, &later, BROKEN)?;
-    gives(
-        &rt,
-        rt.alloc(),
-        wire,
-        "Short 1028000 bits 0100000000 rest 1031600 close 1031600 by 1 out -",
-    )
-}
-
-#[test]
-fn stands_where_no_later_pulse_is_handed_in(rt: HostRuntime) -> Result<(), Fail> {
-    let mut wire = Driven::begin(EdgeWire::new(), &seats_of("0 4:40,04")?, 1_000_000);
-    goes(
-        &rt,
-        rt.alloc(),
-        &mut wire,
-        &[FIRST],
-        "1000000 low start-low",
-    )?;
-    goes(&rt, rt.alloc(), &mut wire, &[], ALIKE)?;
-    goes(&rt, rt.alloc(), &mut wire, &[], WHOLE)?;
-    gives(
-        &rt,
-        rt.alloc(),
-        wire,
-        "Complete 1051150 bits 01000000000000010010 rest 1051600 close 1051600 by 1 out -",
-    )
-}
-
 // An amplifier at 5 and a player at 4 send at once; the amplifier loses at slot 4, and a pulse after that slot is
 // too early.
 const LOST_AND_BROKEN: &str = "\
@@ -239,58 +195,105 @@ const LOST_AND_BROKEN: &str = "\
 2009300 low slot:3:01
 2010800 high slot:3:010
 2011700 low slot:4:010
-2013200 high slot:4:0100";
-
-#[test]
-fn two_senders_stop(rt: HostRuntime) -> Result<(), Fail> {
-    let pulse = [Stretch {
-        from: 2_013_500,
-        to: 2_013_600,
-    }];
-    let mut wire = Driven::begin(EdgeWire::new(), &seats_of("0 5:50,8f 4:40,04")?, 2_000_000);
-    goes(&rt, rt.alloc(), &mut wire, &pulse, LOST_AND_BROKEN)?;
-    is_at(&rt, &wire, 1, Some(SenderState::Out(4)));
-    is_at(&rt, &wire, 2, Some(SenderState::Sending));
-    goes(
-        &rt,
-        rt.alloc(),
-        &mut wire,
-        &pulse,
-        "2013500 low wait-high\n2017100 high idle\nnone",
-    )?;
-    is_at(&rt, &wire, 0, None);
-    is_at(&rt, &wire, 1, Some(SenderState::Out(4)));
-    is_at(&rt, &wire, 2, Some(SenderState::Stopped));
-    Ok(())
-}
+2013200 high slot:4:0100
+seat 1 Some(Out(4))
+seat 2 Some(Sending)
+2013500 low wait-high
+2017100 high idle
+none
+seat 0 None
+seat 1 Some(Out(4))
+seat 2 Some(Stopped)";
 
 // A pulse alone, and one that holds a poll's start bit low until the reading ends.
+const ALONE: &str = "\
+5000 low start-low
+8000 high idle
+none";
+
+const LONG: &str = "\
+12000 low start-low
+15901 high idle
+none
+seat 0 Some(Stopped)";
+
+const ROUNDS: &[Round] = &[
+    Round {
+        seats: "0 4:40,04",
+        begin: 1_000_000,
+        parts: &[("1006600+400", MOVED)],
+        outcome: "",
+    },
+    Round {
+        seats: "0 4:40,04",
+        begin: 1_000_000,
+        parts: &[
+            ("1000000+100", FIRST),
+            ("1028000+100", ALIKE),
+            ("1028000+100", BROKEN),
+        ],
+        outcome: "Short 1028000 bits 0100000000 rest 1031600 close 1031600 by 1 out -",
+    },
+    Round {
+        seats: "0 4:40,04",
+        begin: 1_000_000,
+        parts: &[("1000000+100", FIRST), ("", ALIKE), ("", WHOLE)],
+        outcome: "Complete 1051150 bits 01000000000000010010 rest 1051600 close 1051600 by 1 out -",
+    },
+    Round {
+        seats: "0 5:50,8f 4:40,04",
+        begin: 2_000_000,
+        parts: &[("2013500+100", LOST_AND_BROKEN)],
+        outcome: "",
+    },
+    Round {
+        seats: "f",
+        begin: 5000,
+        parts: &[("5000+3000", ALONE)],
+        outcome: "",
+    },
+    Round {
+        seats: "f:00",
+        begin: 12_000,
+        parts: &[("12901+3000", LONG)],
+        outcome: "",
+    },
+];
+
+fn begun(rt: &impl Abort, wire: EdgeWire, round: &Round) -> Driven {
+    let seats = seats_of(round.seats).expect(rt, round.seats);
+    assert!(rt; round.begin <= 2_000_000_100_000);
+    Driven::begin(wire, &seats, round.begin)
+}
+
+// Takes a round on a wire that has stood in the one before, if that was not taken to its end.
+fn stands(rt: &impl Abort, alloc: Global, wire: EdgeWire, round: &Round) -> EdgeWire {
+    let mut wire = begun(rt, wire, round);
+    for (pulse, rows) in round.parts {
+        goes(rt, alloc, &mut wire, pulse, rows);
+    }
+    if round.outcome.is_empty() {
+        return wire.wire;
+    }
+    let outcome = wire.finish(rt);
+    is_told(
+        rt,
+        outcome_text(alloc, &outcome),
+        round.outcome,
+        round.seats,
+    );
+    EdgeWire::new()
+}
+
+// Takes the rounds one after another on one wire.
+fn stand(rt: &impl Abort, alloc: Global, rounds: &[Round]) {
+    let mut wire = EdgeWire::new();
+    for round in rounds {
+        wire = stands(rt, alloc, wire, round);
+    }
+}
+
 #[test]
-fn stands_after_bad_starts(rt: HostRuntime) -> Result<(), Fail> {
-    let alone = [Stretch {
-        from: 5000,
-        to: 8000,
-    }];
-    let mut wire = Driven::begin(EdgeWire::new(), &seats_of("f")?, 5000);
-    goes(
-        &rt,
-        rt.alloc(),
-        &mut wire,
-        &alone,
-        "5000 low start-low\n8000 high idle\nnone",
-    )?;
-    let long = [Stretch {
-        from: 12_901,
-        to: 15_901,
-    }];
-    let mut wire = Driven::begin(wire.wire, &seats_of("f:00")?, 12_000);
-    goes(
-        &rt,
-        rt.alloc(),
-        &mut wire,
-        &long,
-        "12000 low start-low\n15901 high idle\nnone",
-    )?;
-    is_at(&rt, &wire, 0, Some(SenderState::Stopped));
-    Ok(())
+fn stands_after_each_edge(rt: HostRuntime) {
+    stand(&rt, rt.alloc(), ROUNDS);
 }

@@ -1,11 +1,11 @@
 //! Rounds taken edge by edge, worked out by hand.
 ghost use Rattle.std.specs.Prelude.{◌≡◌, ◌≤◌, ◌<◌, length, IsSome};
 
-use crate::rooms::{LATEST, room, round_before};
+use crate::rooms::{LATEST, room, round_before, send};
 use cec_bits::Standing;
 use cec_edges::EdgeWire;
-use cec_frame::{Ending, Frame};
-use cec_net::{Event, Net, RoundReport};
+use cec_frame::Ending;
+use cec_net::{Net, RoundReport};
 use cec_wave::{Edge, Stretch};
 use hdmi_core::Kind;
 use std::process::Abort;
@@ -21,13 +21,6 @@ fn settled(rt: &impl Abort, from: u64) -> Net<EdgeWire> {
     }
     assert!(rt; net.tree().count() == 3);
     net
-}
-
-// A device sends a frame of two blocks to the television.
-fn sends(rt: &impl Abort, net: &mut Net<EdgeWire>, at: u64, device: usize, bytes: &[u8]) {
-    assert!(rt; at <= LATEST && device < net.tree().count());
-    let frame = Frame::new(bytes).expect(rt, "a frame");
-    assert!(rt; net.apply(at, Event::Send { device, frame }).is_ok());
 }
 
 // Each device stands so.
@@ -65,11 +58,6 @@ fn begins(rt: &impl Abort, net: &mut Net<EdgeWire>)
     assert!(rt; is_begun);
 }
 
-fn ends(report: &RoundReport, ending: Ending, at: u64) -> bool {
-    let reading = &report.outcome.reading;
-    reading.ending == ending && reading.at == at
-}
-
 const BROKEN: &[Told] = &[
     (1_000_000, true, Standing::StartLow),
     (1_003_700, false, Standing::StartHigh),
@@ -78,18 +66,6 @@ const BROKEN: &[Told] = &[
     (1_006_500, true, Standing::WaitHigh),
     (1_010_100, false, Standing::Idle),
 ];
-
-#[test]
-fn a_pulse_breaks_a_slot(rt: HostRuntime) {
-    let mut net = settled(&rt, 1_006_500);
-    sends(&rt, &mut net, 1_000_000, 2, &[0x40, IMAGE_VIEW_ON]);
-    begins(&rt, &mut net);
-    tells(&rt, &mut net, BROKEN);
-    assert!(&rt; net.next_edge().is_none());
-    let report = net.finish_round();
-    assert!(&rt; ends(&report, Ending::Short, 1_006_500));
-    assert!(&rt; report.begin == 1_000_000 && report.outcome.rest == 1_010_100);
-}
 
 // The amplifier's frame loses to the player's in slot 4.
 const CONTENDED: &[Told] = &[
@@ -109,24 +85,85 @@ const CONTENDED: &[Told] = &[
     ),
 ];
 
-// The amplifier alone lost.
-fn is_lost_by_the_amplifier(report: &RoundReport) -> bool {
-    match report.outcome.losers.as_slice() {
-        [loser] => loser.seat == 1 && loser.slot == 4,
-        _ => false,
+// A round: the pulse, what the devices send, the edges, whether they are all, how the round ends, and who loses at
+// which slot.
+struct Round {
+    pulse: u64,
+    begin: u64,
+    frames: &'static [(usize, &'static [u8])],
+    edges: &'static [Told],
+    are_all: bool,
+    ending: Ending,
+    at: u64,
+    rest: u64,
+    losers: &'static [(usize, usize)],
+}
+
+const ROUNDS: &[Round] = &[
+    Round {
+        pulse: 1_006_500,
+        begin: 1_000_000,
+        frames: &[(2, &[0x40, IMAGE_VIEW_ON])],
+        edges: BROKEN,
+        are_all: true,
+        ending: Ending::Short,
+        at: 1_006_500,
+        rest: 1_010_100,
+        losers: &[],
+    },
+    Round {
+        pulse: 5_000_000,
+        begin: 2_000_000,
+        frames: &[(1, &[0x50, 0x8f]), (2, &[0x40, IMAGE_VIEW_ON])],
+        edges: CONTENDED,
+        are_all: false,
+        ending: Ending::Complete,
+        at: 2_051_150,
+        rest: 2_051_600,
+        losers: &[(1, 4)],
+    },
+];
+
+fn has_ended(report: &RoundReport, round: &Round) -> bool {
+    let outcome = &report.outcome;
+    report.begin == round.begin
+        && outcome.reading.ending == round.ending
+        && outcome.reading.at == round.at
+        && outcome.rest == round.rest
+}
+
+// These seats lost, and at these slots.
+fn has_losers(report: &RoundReport, wanted: &[(usize, usize)]) -> bool {
+    let losers = report.outcome.losers.as_slice();
+    for place in 0..losers.len() {
+        let loser = &losers[place];
+        if wanted.get(place) != Some(&(loser.seat, loser.slot)) {
+            return false;
+        }
     }
+    losers.len() == wanted.len()
+}
+
+// Takes the edges of a round and ends it. A copy stays where it was made.
+fn ends(rt: &impl Abort, net: &mut Net<EdgeWire>, round: &Round) -> bool {
+    begins(rt, net);
+    tells(rt, net, round.edges);
+    let is_over = net.next_edge().is_none();
+    let copy = net.copy();
+    let report = net.finish_round();
+    is_over == round.are_all
+        && copy.close() < net.close()
+        && has_ended(&report, round)
+        && has_losers(&report, round.losers)
 }
 
 #[test]
-fn two_senders(rt: HostRuntime) {
-    let mut net = settled(&rt, 5_000_000);
-    sends(&rt, &mut net, 2_000_000, 1, &[0x50, 0x8f]);
-    sends(&rt, &mut net, 2_000_000, 2, &[0x40, IMAGE_VIEW_ON]);
-    begins(&rt, &mut net);
-    tells(&rt, &mut net, CONTENDED);
-    let copy = net.copy();
-    let report = net.finish_round();
-    assert!(&rt; ends(&report, Ending::Complete, 2_051_150));
-    assert!(&rt; is_lost_by_the_amplifier(&report));
-    assert!(&rt; copy.close() < net.close());
+fn rounds_go_edge_by_edge(rt: HostRuntime) {
+    for round in ROUNDS {
+        let mut net = settled(&rt, round.pulse);
+        for (device, bytes) in round.frames {
+            send(&rt, &mut net, round.begin, *device, bytes);
+        }
+        assert!(&rt; ends(&rt, &mut net, round), "{}", round.begin);
+    }
 }

@@ -2,9 +2,10 @@
 //! with the receiver. Times are microseconds.
 use arrayvec::ArrayVec;
 use cec_frame::{Ending, Reading};
+use cec_text::write_reading;
 use cec_wave::Edge;
+use hdmi_core::Writes;
 use std::alloc::Global;
-use std::test::Fail;
 
 // The start bit: its rise, and the fall of slot 1, both after its fall.
 const EARLIEST_RISE: u64 = 3500;
@@ -129,16 +130,22 @@ fn next_begin(reading: &Reading) -> u64 {
     }
 }
 
-/// The readings of these edges, in a file with this end.
-pub(crate) fn readings_of(alloc: Global, edges: &[Edge], end: u64) -> Result<Vec<Reading>, Fail> {
-    let mut readings = Vec::new(alloc);
+/// The lines of the readings of these edges, in a file with this end. How the readings end is kept.
+pub(crate) fn lines_of(
+    alloc: Global,
+    edges: &[Edge],
+    end: u64,
+    endings: &mut Vec<Ending>,
+) -> Vec<u8> {
+    let mut lines = Vec::new(alloc);
     let mut from = 0;
     for edge in edges {
         if edge.low && edge.at >= from {
             let reading = reading_from(edges, edge.at, end);
             from = next_begin(&reading);
-            readings.push(reading)?;
+            let _ = write_reading(&reading, &mut Writes::new(&mut lines));
+            let _ = endings.push(reading.ending);
         }
     }
-    Ok(readings)
+    lines
 }

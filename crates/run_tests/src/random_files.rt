@@ -1,14 +1,12 @@
 //! A thousand edge files that look random, the same in each run, against readings that are found in the plainest way.
 //! They are frames with their times around the nominal ones, frames with some of their times at the borders of the
 //! windows and with pulses in their slots, and edges without any order. Times are microseconds.
-use crate::plain_readings::readings_of;
-use cec_frame::{Ending, Reading};
-use cec_mon::watch;
-use cec_text::write_reading;
+use crate::monitors::is_read;
+use crate::plain_readings::lines_of;
+use cec_frame::Ending;
 use cec_wave::Edge;
-use hdmi_core::Writes;
 use std::alloc::Global;
-use std::test::Fail;
+use std::process::Abort;
 
 const FILES: u64 = 1000;
 
@@ -45,7 +43,7 @@ const ANY_GAPS: &[u64] = &[
 ];
 
 // Numbers that look random: a linear congruential generator.
-#[derive(Clone, Copy)]
+#[derive(Drop)]
 struct Dice {
     state: u64,
 }
@@ -98,87 +96,83 @@ impl Drawing {
         }
     }
 
-    // The line turns, and stays so for this time.
-    fn turn(&mut self, time: u64) -> Result<(), Fail> {
+    // The line turns, and stays so for this time. A file that finds no memory lacks edges, and is then at fault.
+    fn turn(&mut self, time: u64) {
         self.is_low = !self.is_low;
-        self.edges.push(Edge {
+        let _ = self.edges.push(Edge {
             at: self.at,
             low: self.is_low,
-        })?;
+        });
         self.at = self.at.saturating_add(time.max(1));
-        Ok(())
     }
 
     // The line falls, and falls again after the period.
-    fn slot(&mut self, low: u64, period: u64) -> Result<(), Fail> {
-        self.turn(low)?;
-        self.turn(period.saturating_sub(low))
+    fn slot(&mut self, low: u64, period: u64) {
+        self.turn(low);
+        self.turn(period.saturating_sub(low));
     }
 
     // A slot with one more fall in it.
-    fn broken_slot(&mut self, dice: &mut Dice, low: u64, period: u64) -> Result<(), Fail> {
+    fn broken_slot(&mut self, dice: &mut Dice, low: u64, period: u64) {
         let high = dice.below(period);
         let pulse = dice.below(700);
-        self.turn(low)?;
-        self.turn(high)?;
-        self.slot(pulse, period.saturating_sub(high))
+        self.turn(low);
+        self.turn(high);
+        self.slot(pulse, period.saturating_sub(high));
     }
 
     // A slot: a time in `rarity` is at a border, and a slot in `rarity` has a pulse in it.
-    fn any_slot(&mut self, dice: &mut Dice, bit: bool, rarity: u64) -> Result<(), Fail> {
+    fn any_slot(&mut self, dice: &mut Dice, bit: bool, rarity: u64) {
         let nominal = if bit { ONE_LOW } else { ZERO_LOW };
         let low = dice.time(nominal, SLOT_LOW_BORDERS, rarity);
         let period = dice.time(SLOT_PERIOD, SLOT_PERIOD_BORDERS, rarity);
         if dice.one_in(rarity) {
-            self.broken_slot(dice, low, period)
+            self.broken_slot(dice, low, period);
         } else {
-            self.slot(low, period)
+            self.slot(low, period);
         }
     }
 
-    fn block(&mut self, dice: &mut Dice, is_last: bool, rarity: u64) -> Result<(), Fail> {
+    fn block(&mut self, dice: &mut Dice, is_last: bool, rarity: u64) {
         for place in 1..=10 {
             let bit = if place == 9 { is_last } else { dice.one_in(2) };
-            self.any_slot(dice, bit, rarity)?;
+            self.any_slot(dice, bit, rarity);
         }
-        Ok(())
     }
 
     // A frame: of sixteen blocks none is the last.
-    fn frame(&mut self, dice: &mut Dice, blocks: u64, rarity: u64) -> Result<(), Fail> {
+    fn frame(&mut self, dice: &mut Dice, blocks: u64, rarity: u64) {
         if self.is_low {
-            self.turn(ONE_LOW)?;
+            self.turn(ONE_LOW);
         }
         let low = dice.time(START_LOW, START_LOW_BORDERS, rarity);
         let period = dice.time(START_PERIOD, START_PERIOD_BORDERS, rarity);
-        self.slot(low, period)?;
+        self.slot(low, period);
         for block in 1..=blocks {
-            self.block(dice, block == blocks && blocks < 16, rarity)?;
+            self.block(dice, block == blocks && blocks < 16, rarity);
         }
         self.at = self.at.saturating_add(dice.below(5000));
-        Ok(())
     }
 
-    fn any_edges(&mut self, dice: &mut Dice) -> Result<(), Fail> {
+    fn any_edges(&mut self, dice: &mut Dice) {
         for _ in 0..dice.below(60) {
             let gap = dice.one_of(ANY_GAPS);
-            self.turn(gap)?;
+            self.turn(gap);
         }
-        Ok(())
     }
 
     // Edges without order, a frame near its nominal times, or one with times at the borders.
-    fn any_part(&mut self, dice: &mut Dice) -> Result<(), Fail> {
+    fn any_part(&mut self, dice: &mut Dice) {
         match dice.below(4) {
             0 => self.any_edges(dice),
             1 => {
                 let blocks = dice.below(4).saturating_add(1);
-                self.frame(dice, blocks, 1_000_000)
+                self.frame(dice, blocks, 1_000_000);
             }
             _ => {
                 let blocks = dice.below(3).saturating_add(1);
                 let rarity = dice.below(30).saturating_add(6);
-                self.frame(dice, blocks, rarity)
+                self.frame(dice, blocks, rarity);
             }
         }
     }
@@ -189,75 +183,56 @@ impl Drawing {
             let count = dice.below(self.edges.len() as u64) as usize;
             self.edges.truncate(count);
         }
-        let last = self.edges.last().map_or(0, |edge| edge.at);
+        let last = match self.edges.last() {
+            None => 0,
+            Some(edge) => edge.at,
+        };
         last.saturating_add(dice.below(4000))
     }
 }
 
 // The edges of the file of this number, and its end.
-fn drawn(alloc: Global, number: u64) -> Result<(Vec<Edge>, u64), Fail> {
+fn drawn(alloc: Global, number: u64) -> (Vec<Edge>, u64) {
     let mut dice = Dice {
         state: FIRST_STATE.saturating_add(number),
     };
     let at = dice.below(3);
     let mut drawing = Drawing::new(alloc, at);
     if number % FILES_FOR_A_LONG_FRAME == 0 {
-        drawing.frame(&mut dice, 16, 1_000_000)?;
+        drawing.frame(&mut dice, 16, 1_000_000);
     }
     for _ in 0..dice.below(5) {
-        drawing.any_part(&mut dice)?;
+        drawing.any_part(&mut dice);
     }
     let end = drawing.end(&mut dice);
-    Ok((drawing.edges, end))
+    (drawing.edges, end)
 }
 
-fn put_line(text: &mut Vec<u8>, alloc: Global, at: u64, word: &str) -> Result<(), Fail> {
-    let line = format!(in alloc; "{at} {word}\n")?;
-    text.extend_from_slice(line.as_bytes())?;
-    Ok(())
+fn put_line(text: &mut Vec<u8>, alloc: Global, at: u64, word: &str) {
+    if let Ok(line) = format!(in alloc; "{at} {word}\n") {
+        let _ = text.extend_from_slice(line.as_bytes());
+    }
 }
 
 // The text of the file.
-fn text_of(alloc: Global, edges: &[Edge], end: u64) -> Result<Vec<u8>, Fail> {
+fn text_of(alloc: Global, edges: &[Edge], end: u64) -> Vec<u8> {
     let mut text = Vec::new(alloc);
     for edge in edges {
-        put_line(&mut text, alloc, edge.at, if edge.low { "0" } else { "1" })?;
+        put_line(&mut text, alloc, edge.at, if edge.low { "0" } else { "1" });
     }
-    put_line(&mut text, alloc, end, "end")?;
-    Ok(text)
+    put_line(&mut text, alloc, end, "end");
+    text
 }
 
-// What is read of a text.
-fn read_of(alloc: Global, text: &[u8]) -> Result<Vec<u8>, Fail> {
-    let mut out = Vec::new(alloc);
-    watch(alloc, text, &mut Writes::new(&mut out))?;
-    Ok(out)
-}
-
-// The lines of these readings. Their endings are kept.
-fn lines_of(
-    alloc: Global,
-    readings: &[Reading],
-    endings: &mut Vec<Ending>,
-) -> Result<Vec<u8>, Fail> {
-    let mut lines = Vec::new(alloc);
-    for reading in readings {
-        endings.push(reading.ending)?;
-        write_reading(reading, &mut Writes::new(&mut lines))?;
-    }
-    Ok(lines)
-}
-
-// A file is read as it is in the plainest way. The endings of its readings are kept.
-fn is_read(
-    alloc: Global,
-    edges: &[Edge],
-    end: u64,
-    endings: &mut Vec<Ending>,
-) -> Result<bool, Fail> {
-    let wanted = lines_of(alloc, &readings_of(alloc, edges, end)?, endings)?;
-    let out = read_of(alloc, &text_of(alloc, edges, end)?)?;
-    Ok(out.as_slice() == wanted.as_slice())
+// The file of this number is read as it is in the plainest way. The endings of its readings are kept.
+fn check_file(rt: &impl Abort, alloc: Global, number: u64, endings: &mut Vec<Ending>) {
+    let (edges, end) = drawn(alloc, number);
+    let wanted = lines_of(alloc, &edges, end, endings);
+    let text = text_of(alloc, &edges, end);
+    assert!(rt;
+        is_read(alloc, text.as_slice(), wanted.as_slice()),
+        "file {number}"
+    );
 }
 
 fn count_of(endings: &[Ending], wanted: Ending) -> usize {
@@ -280,21 +255,19 @@ const LEAST_COUNTS: &[(Ending, usize)] = &[
     (Ending::Long, 10),
 ];
 
-// The same for the file of this number.
-fn is_file_read(alloc: Global, number: u64, endings: &mut Vec<Ending>) -> Result<bool, Fail> {
-    let (edges, end) = drawn(alloc, number)?;
-    is_read(alloc, &edges, end, endings)
+// Enough readings end so.
+fn check_count(rt: &impl Abort, endings: &[Ending], ending: Ending, least: usize) {
+    assert!(rt; count_of(endings, ending) >= least, "{ending:?}");
 }
 
 #[test]
-fn random_files(rt: HostRuntime) -> Result<(), Fail> {
+fn random_files(rt: HostRuntime) {
     let alloc = rt.alloc();
     let mut endings = Vec::new(alloc);
     for number in 0..FILES {
-        assert!(&rt; is_file_read(alloc, number, &mut endings)?, "file {number}");
+        check_file(&rt, alloc, number, &mut endings);
     }
     for (ending, least) in LEAST_COUNTS {
-        assert!(&rt; count_of(&endings, *ending) >= *least, "{ending:?}");
+        check_count(&rt, &endings, *ending, *least);
     }
-    Ok(())
 }

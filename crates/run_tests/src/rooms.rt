@@ -2,7 +2,8 @@
 ghost use Rattle.std.specs.Prelude.{◌≡◌, ◌≤◌, ◌<◌, All};
 
 use cec_edges::EdgeWire;
-use cec_net::{Net, RoundReport};
+use cec_frame::Frame;
+use cec_net::{Event, Net, RoundReport};
 use cec_wave::{Pulses, Stretch};
 use hdmi_core::Kind;
 use hdmi_topo::Tree;
@@ -63,4 +64,26 @@ pub(crate) fn round_before(
     } else {
         None
     }
+}
+
+/// Unplugs a device at an instant, or plugs it into a port of the television if it is unplugged.
+pub(crate) fn replug(rt: &impl Abort, net: &mut Net<EdgeWire>, at: u64, child: usize, port: u8) {
+    assert!(rt; at <= LATEST && child < net.tree().count() && 0 < net.tree().count());
+    let event = if net.tree().on_wire(child) {
+        Event::Unplug { child }
+    } else {
+        Event::Plug {
+            child,
+            parent: 0,
+            port,
+        }
+    };
+    assert!(rt; net.apply(at, event).is_ok());
+}
+
+/// A device sends a frame at an instant.
+pub(crate) fn send(rt: &impl Abort, net: &mut Net<EdgeWire>, at: u64, device: usize, bytes: &[u8]) {
+    assert!(rt; at <= LATEST && device < net.tree().count());
+    let frame = Frame::new(bytes).expect(rt, "a frame");
+    assert!(rt; net.apply(at, Event::Send { device, frame }).is_ok());
 }

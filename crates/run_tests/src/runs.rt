@@ -4,11 +4,20 @@ use cec_run::emulate::emulate;
 use hdmi_core::Writes;
 use std::alloc::Global;
 use std::process::Abort;
-use std::test::Fail;
+
+// Where a run's lines stand: in its trace one right after another, at the trace's front, as all of the trace, or at
+// the end of the run's edge file.
+enum Place {
+    Within,
+    Front,
+    Whole,
+    EdgesEnd,
+}
 
 // A run, and lines of its trace or of its edge file.
 struct Run {
     what: &'static str,
+    place: Place,
     topology: &'static str,
     script: &'static str,
     lines: &'static str,
@@ -31,21 +40,11 @@ const CROWDED: &str =
     "device tv tv 4\ndevice b combo 0\ndevice r1 recorder 0\ndevice r2 recorder 0\n\
      device r3 recorder 0\nplug r1 tv 1\nplug r2 tv 2\nplug r3 tv 3\n";
 
-fn trace(alloc: Global, topology: &str, script: &str) -> Result<String, Fail> {
-    let mut out = Vec::new(alloc);
-    let _totals = emulate(
-        alloc,
-        topology.as_bytes(),
-        script.as_bytes(),
-        &mut Writes::new(&mut out),
-    )?;
-    Ok(String::from_utf8(out)?)
-}
-
 // What a player's frame meets.
 const SENDS: &[Run] = &[
     Run {
         what: "the lower address wins",
+        place: Place::Within,
         topology: THREE,
         script: "at 2000000 send amp 5>0 give-device-power-status\n\
              at 2000000 send p1 4>0 image-view-on\nend 2300000\n",
@@ -56,6 +55,7 @@ const SENDS: &[Run] = &[
     },
     Run {
         what: "a pulse before the next fall may come",
+        place: Place::Within,
         topology: TWO,
         script: "at 1000000 send p1 4>0 image-view-on\npulse 1006500 100\nend 1300000\n",
         lines: "1000000 event 1 ok\n1000000 1006500 short 0 by p1 out -\n\
@@ -63,12 +63,14 @@ const SENDS: &[Run] = &[
     },
     Run {
         what: "a pulse at the next fall",
+        place: Place::Within,
         topology: TWO,
         script: "at 1000000 send p1 4>0 image-view-on\npulse 1006600 400\nend 1300000\n",
         lines: "1000000 event 1 ok\n1000000 1051150 complete 4>0 image-view-on ack by p1 out -\n",
     },
     Run {
         what: "a pulse that ends before the sender's next fall",
+        place: Place::Within,
         topology: TWO,
         script: "at 1000000 send p1 4>0 image-view-on\npulse 1006560 100\nend 1300000\n",
         lines: "1000000 1006900 short 0 by p1 out -\n\
@@ -76,6 +78,7 @@ const SENDS: &[Run] = &[
     },
     Run {
         what: "a pulse just before the earliest next fall",
+        place: Place::Within,
         topology: TWO,
         script: "at 1000000 send p1 4>0 image-view-on\npulse 1006549 400\nend 1300000\n",
         lines: "1000000 1006549 short 0 by p1 out -\n\
@@ -83,18 +86,21 @@ const SENDS: &[Run] = &[
     },
     Run {
         what: "a pulse at the earliest next fall",
+        place: Place::Within,
         topology: TWO,
         script: "at 1000000 send p1 4>0 image-view-on\npulse 1006550 400\nend 1300000\n",
         lines: "1000000 1051150 complete 4>0 image-view-on ack by p1 out -\n",
     },
     Run {
         what: "a pulse over the next slot's sample",
+        place: Place::Within,
         topology: TWO,
         script: "at 1000000 send p1 4>0 image-view-on\npulse 1006600 1200\nend 1300000\n",
         lines: "1000000 1009351 silent 00 by - out p1@2\n",
     },
     Run {
         what: "a pulse over several slots",
+        place: Place::Within,
         topology: TWO,
         script: "at 1000000 send p1 4>0 image-view-on\npulse 1004500 10000\nend 1300000\n",
         lines: "1000000 1007251 silent 0 by p1 out -\n\
@@ -102,6 +108,7 @@ const SENDS: &[Run] = &[
     },
     Run {
         what: "six attempts",
+        place: Place::Within,
         topology: TWO,
         script: "at 1000000 send p1 4>8 give-osd-name\nend 1300000\n",
         lines: "1000000 1028851 silent 0100100001 by - out p1@10\n\
@@ -114,6 +121,7 @@ const SENDS: &[Run] = &[
     },
     Run {
         what: "a pulse at the end of the first attempt",
+        place: Place::Within,
         topology: TWO,
         script: "at 1000000 send p1 4>8 give-osd-name\npulse 1028851 1\nend 1036100\n",
         lines: "1000000 1028851 silent 0100100001 by - out p1@10\n\
@@ -121,12 +129,14 @@ const SENDS: &[Run] = &[
     },
     Run {
         what: "a pulse before the end of the first attempt",
+        place: Place::Within,
         topology: TWO,
         script: "at 1000000 send p1 4>8 give-osd-name\npulse 1028800 100\nend 1036200\n",
         lines: "1000000 1031551 silent 01001000011 by - out p1@10\n1036100 ",
     },
     Run {
         what: "a refused broadcast is sent again",
+        place: Place::Within,
         topology: TWO,
         script: "at 1000000 press p1 play\nat 2000000 send tv 0>f request-active-source\n\
              pulse 2050500 700\nend 2400000\n",
@@ -139,6 +149,7 @@ const SENDS: &[Run] = &[
     },
     Run {
         what: "off the wire, and before it has an address",
+        place: Place::Within,
         topology: "device tv tv 1\ndevice p1 player 0\n",
         script: "at 5 send p1 4>0 image-view-on\nat 5 press p1 play\nat 5 unplug p1\n\
              at 5 send tv 0>4 standby\nat 100000 send tv 4>0 standby\n\
@@ -148,6 +159,7 @@ const SENDS: &[Run] = &[
     },
     Run {
         what: "from another's address, and to its own",
+        place: Place::Within,
         topology: ALONE,
         script: "at 200000 send tv 4>0 standby\nat 200000 send tv 0>0 standby\nend 200001\n",
         lines: "200000 event 1 refused no-address\n200000 event 2 refused own-address\n",
@@ -158,99 +170,88 @@ const SENDS: &[Run] = &[
 const STATES: &[Run] = &[
     Run {
         what: "a box off the wire",
+        place: Place::Within,
         topology: "device tv tv 1\ndevice b combo 0\n",
         script: "end 5\n",
         lines: "state b combo -+- - on ",
     },
     Run {
         what: "a box without addresses yet",
+        place: Place::Within,
         topology: BOX,
         script: "end 5\n",
         lines: "state b combo -+- 1.0.0.0 on ",
     },
     Run {
         what: "a box whose player has not settled yet",
+        place: Place::Within,
         topology: BOX,
         script: "end 60000\n",
         lines: "state b combo 1+- 1.0.0.0 on ",
     },
     Run {
         what: "a box whose recorder found no address",
+        place: Place::Within,
         topology: CROWDED,
         script: "at 2000000 plug b tv 4\nend 3000000\n",
         lines: "state b combo f+4 4.0.0.0 on ",
     },
 ];
 
-// The lines stand in the trace, one right after another.
-fn tells(alloc: Global, topology: &str, script: &str, lines: &str) -> Result<bool, Fail> {
-    Ok(trace(alloc, topology, script)?.contains(lines))
-}
-
-fn tell(rt: &impl Abort, alloc: Global, runs: &[Run]) -> Result<(), Fail> {
-    for run in runs {
-        let is_told = tells(alloc, run.topology, run.script, run.lines)?;
-        assert!(rt; is_told, "{}", run.what);
-    }
-    Ok(())
-}
-
-#[test]
-fn sends_are_told(rt: HostRuntime) -> Result<(), Fail> {
-    tell(&rt, rt.alloc(), SENDS)
-}
-
-#[test]
-fn a_box_is_told_by_both_its_units(rt: HostRuntime) -> Result<(), Fail> {
-    tell(&rt, rt.alloc(), STATES)
-}
-
 // How traces begin. A television alone polls at 12,000, where no pulse is before.
 const BEGINNINGS: &[Run] = &[
     Run {
         what: "a pulse long before a poll",
+        place: Place::Front,
         topology: ALONE,
         script: "pulse 5000 3000\nend 200000\n",
         lines: "5000 8000 bad-start - by - out -\n20000 47150 complete 0>0 nack by tv out -\n",
     },
     Run {
         what: "a pulse that makes the start bit too long",
+        place: Place::Front,
         topology: ALONE,
         script: "pulse 12901 3000\nend 200000\n",
         lines: "12000 15901 bad-start - by tv out -\n23104 50254 complete 0>0 nack by tv out -\n",
     },
     Run {
         what: "a pulse that makes the start bit as long as may be",
+        place: Place::Front,
         topology: ALONE,
         script: "pulse 12900 3000\nend 200000\n",
         lines: "12000 39150 complete 0>0 nack by tv out -\n",
     },
     Run {
         what: "a pulse like a start bit",
+        place: Place::Front,
         topology: ALONE,
         script: "pulse 5000 3700\nend 200000\n",
         lines: "5000 9701 bad-start - by - out -\n20704 47854 complete 0>0 nack by tv out -\n",
     },
     Run {
         what: "a pulse wider than what a follower pulls",
+        place: Place::Front,
         topology: ALONE,
         script: "pulse 5000 10000\nend 200000\n",
         lines: "5000 8901 bad-start - by - out -\n27008 54158 complete 0>0 nack by tv out -\n",
     },
     Run {
         what: "a wide pulse that makes the start bit as long as may be",
+        place: Place::Front,
         topology: ALONE,
         script: "pulse 12100 3800\nend 200000\n",
         lines: "12000 39150 complete 0>0 nack by tv out -\n",
     },
     Run {
         what: "a wide pulse that makes the start bit too long",
+        place: Place::Front,
         topology: ALONE,
         script: "pulse 12100 3801\nend 200000\n",
         lines: "12000 15901 bad-start - by tv out -\n23104 50254 complete 0>0 nack by tv out -\n",
     },
     Run {
         what: "a switch tells its port",
+        place: Place::Front,
         topology: "device tv tv 4\ndevice sw switch 3\nplug sw tv 1\n",
         script: "at 1000000 press sw port 2\nat 2000000 press sw play\nat 2000000 release sw port 4\n\
              end 2000001\n",
@@ -264,25 +265,27 @@ const BEGINNINGS: &[Run] = &[
     },
 ];
 
-#[test]
-fn traces_begin_so(rt: HostRuntime) -> Result<(), Fail> {
-    let alloc = rt.alloc();
-    for run in BEGINNINGS {
-        let trace = trace(alloc, run.topology, run.script)?;
-        assert!(&rt; trace.starts_with(run.lines), "{}", run.what);
-    }
-    Ok(())
-}
-
-#[test]
-fn a_queue_has_sixteen_places(rt: HostRuntime) -> Result<(), Fail> {
-    let alloc = rt.alloc();
-    let sends = "at 1000000 send p1 4>0 image-view-on\n".repeat(alloc, 17)?;
-    let script = format!(in alloc; "{sends}end 1000001\n")?;
-    let refused = "1000000 event 16 ok\n1000000 event 17 refused queue-full\n";
-    assert!(&rt; tells(alloc, TWO, &script, refused)?);
-    Ok(())
-}
+// One send more than a queue has places.
+const SEVENTEEN_SENDS: &str = "\
+at 1000000 send p1 4>0 image-view-on
+at 1000000 send p1 4>0 image-view-on
+at 1000000 send p1 4>0 image-view-on
+at 1000000 send p1 4>0 image-view-on
+at 1000000 send p1 4>0 image-view-on
+at 1000000 send p1 4>0 image-view-on
+at 1000000 send p1 4>0 image-view-on
+at 1000000 send p1 4>0 image-view-on
+at 1000000 send p1 4>0 image-view-on
+at 1000000 send p1 4>0 image-view-on
+at 1000000 send p1 4>0 image-view-on
+at 1000000 send p1 4>0 image-view-on
+at 1000000 send p1 4>0 image-view-on
+at 1000000 send p1 4>0 image-view-on
+at 1000000 send p1 4>0 image-view-on
+at 1000000 send p1 4>0 image-view-on
+at 1000000 send p1 4>0 image-view-on
+end 1000001
+";
 
 // A box asked by the television, and two sends that it refuses.
 const BOX_SCRIPT: &str =
@@ -304,99 +307,151 @@ const BOX_TRACE: &str = "12000 39150 complete 0>0 nack by tv out -\n\
      state b combo 1+4 1.0.0.0 on active=- path=- deck=1a menu=off audio=off volume=20 mute=off arc=off \
      sel=- lang=656e67 osd=- held=- heard=0:84:00 sub=- queue=0 dropped=0\n2000000 end\n";
 
-#[test]
-fn a_box_has_two_addresses(rt: HostRuntime) -> Result<(), Fail> {
-    assert!(&rt; trace(rt.alloc(), BOX, BOX_SCRIPT)?.as_str() == BOX_TRACE);
-    Ok(())
-}
-
-// 4,096 pulses of 400, each 25,000 after the end of the one before.
-fn most_pulses(alloc: Global) -> Result<String, Fail> {
-    let mut script = String::new(alloc);
-    for number in 0..4096u64 {
-        let line = format!(in alloc; "pulse {} 400\n", number * 25_400)?;
-        script.push_str(line.as_str())?;
-    }
-    script.push_str("end 104100000\n")?;
-    Ok(script)
-}
-
-// Each pulse opens a round or falls into one.
-#[test]
-fn runs_with_the_most_pulses(rt: HostRuntime) -> Result<(), Fail> {
-    let alloc = rt.alloc();
-    let script = most_pulses(alloc)?;
-    let mut out = Vec::new(alloc);
-    let totals = emulate(
-        alloc,
-        ALONE.as_bytes(),
-        script.as_bytes(),
-        &mut Writes::new(&mut out),
-    )?;
-    assert!(&rt; totals.rounds >= 4000 && totals.rounds <= 104_100_000 / 7200 + 4096);
-    assert!(&rt;
-        out.starts_with(b"0 400 bad-start - by - out -\n") && out.ends_with(b"104100000 end\n")
-    );
-    Ok(())
-}
-
-fn edges(alloc: Global, topology: &str, script: &str) -> Result<String, Fail> {
-    let mut out = Vec::new(alloc);
-    let _totals = emulate_edges(
-        alloc,
-        topology.as_bytes(),
-        script.as_bytes(),
-        &mut Writes::new(&mut out),
-    )?;
-    Ok(String::from_utf8(out)?)
-}
+// A queue that is full, and a box that has two addresses.
+const QUEUES_AND_BOXES: &[Run] = &[
+    Run {
+        what: "a queue has sixteen places",
+        place: Place::Within,
+        topology: TWO,
+        script: SEVENTEEN_SENDS,
+        lines: "1000000 event 16 ok\n1000000 event 17 refused queue-full\n",
+    },
+    Run {
+        what: "a box has two addresses",
+        place: Place::Whole,
+        topology: BOX,
+        script: BOX_SCRIPT,
+        lines: BOX_TRACE,
+    },
+];
 
 // The ends of edge files. The poll of a television alone begins at 12,000 and closes at 39,150.
 const EDGE_FILES: &[Run] = &[
     Run {
         what: "the end at the begin of a round",
+        place: Place::EdgesEnd,
         topology: ALONE,
         script: "end 12000\n",
         lines: "12000 end\n",
     },
     Run {
         what: "the end in a round",
+        place: Place::EdgesEnd,
         topology: ALONE,
         script: "end 12001\n",
         lines: "38700 1\n39150 end\n",
     },
     Run {
         what: "the end at the close of a round",
+        place: Place::EdgesEnd,
         topology: ALONE,
         script: "end 39150\n",
         lines: "38700 1\n39150 end\n",
     },
     Run {
         what: "the end behind the close of a round",
+        place: Place::EdgesEnd,
         topology: ALONE,
         script: "end 39151\n",
         lines: "38700 1\n39151 end\n",
     },
     Run {
         what: "a pulse that is no start bit",
+        place: Place::EdgesEnd,
         topology: ALONE,
         script: "pulse 5000 3000\nend 5001\n",
         lines: "5000 0\n8000 1\n8000 end\n",
     },
     Run {
         what: "a pulse breaks a round: the follower pulls low from the offending fall",
+        place: Place::EdgesEnd,
         topology: TWO,
         script: "at 1000000 send p1 4>0 image-view-on\npulse 1006500 100\nend 1010000\n",
         lines: "\n1000000 0\n1003700 1\n1004500 0\n1006000 1\n1006500 0\n1010100 1\n1010100 end\n",
     },
 ];
 
-#[test]
-fn an_edge_file_ends_with_the_end_or_the_last_close(rt: HostRuntime) -> Result<(), Fail> {
-    let alloc = rt.alloc();
-    for run in EDGE_FILES {
-        let edges = edges(alloc, run.topology, run.script)?;
-        assert!(&rt; edges.ends_with(run.lines), "{}", run.what);
+// How many rounds a run has, and its trace.
+fn trace(alloc: Global, topology: &str, script: &str) -> Option<(u64, String)> {
+    let mut out = Vec::new(alloc);
+    let mut sink = Writes::new(&mut out);
+    let totals = emulate(alloc, topology.as_bytes(), script.as_bytes(), &mut sink).ok()?;
+    Some((totals.rounds, String::from_utf8(out).ok()?))
+}
+
+fn edges(alloc: Global, topology: &str, script: &str) -> Option<String> {
+    let mut out = Vec::new(alloc);
+    let mut sink = Writes::new(&mut out);
+    emulate_edges(alloc, topology.as_bytes(), script.as_bytes(), &mut sink).ok()?;
+    String::from_utf8(out).ok()
+}
+
+// What is written of a run.
+fn written(alloc: Global, run: &Run) -> Option<String> {
+    match run.place {
+        Place::EdgesEnd => edges(alloc, run.topology, run.script),
+        _ => match trace(alloc, run.topology, run.script) {
+            Some((_, text)) => Some(text),
+            None => None,
+        },
     }
-    Ok(())
+}
+
+// The run's lines stand where they have to.
+fn stand(run: &Run, text: &str) -> bool {
+    match run.place {
+        Place::Within => text.contains(run.lines),
+        Place::Front => text.starts_with(run.lines),
+        Place::Whole => text == run.lines,
+        Place::EdgesEnd => text.ends_with(run.lines),
+    }
+}
+
+fn is_told(alloc: Global, run: &Run) -> bool {
+    match written(alloc, run) {
+        Some(text) => stand(run, text.as_str()),
+        None => false,
+    }
+}
+
+fn tell(rt: &impl Abort, alloc: Global, runs: &[Run]) {
+    for run in runs {
+        assert!(rt; is_told(alloc, run), "{}", run.what);
+    }
+}
+
+#[test]
+fn runs_are_told(rt: HostRuntime) {
+    tell(&rt, rt.alloc(), SENDS);
+    tell(&rt, rt.alloc(), STATES);
+    tell(&rt, rt.alloc(), BEGINNINGS);
+    tell(&rt, rt.alloc(), QUEUES_AND_BOXES);
+    tell(&rt, rt.alloc(), EDGE_FILES);
+}
+
+// 4,096 pulses of 400, each 25,000 after the end of the one before.
+fn most_pulses(alloc: Global) -> Option<String> {
+    let mut script = String::new(alloc);
+    for number in 0..4096u64 {
+        let line = format!(in alloc; "pulse {} 400\n", number * 25_400).ok()?;
+        script.push_str(line.as_str()).ok()?;
+    }
+    script.push_str("end 104100000\n").ok()?;
+    Some(script)
+}
+
+// Each pulse opens a round or falls into one.
+fn has_rounds(rounds: u64, trace: &str) -> bool {
+    4000 <= rounds
+        && rounds <= 104_100_000 / 7200 + 4096
+        && trace.starts_with("0 400 bad-start - by - out -\n")
+        && trace.ends_with("104100000 end\n")
+}
+
+#[test]
+fn runs_with_the_most_pulses(rt: HostRuntime) {
+    let alloc = rt.alloc();
+    let script = most_pulses(alloc).expect(&rt, "a script");
+    let (rounds, trace) = trace(alloc, ALONE, script.as_str()).expect(&rt, "a run");
+    assert!(&rt; has_rounds(rounds, trace.as_str()));
 }

@@ -1,5 +1,5 @@
 //! Writers that take one byte a call, and that fail: what a step has written then, and where the stepper stands.
-ghost use Rattle.std.specs.Prelude.{◌≡◌, length, IfOk};
+ghost use Rattle.std.specs.Prelude.{◌≡◌, length, IfSome};
 ghost use Rattle.cec_asm.specs.Script.{IsScript, course_of};
 
 use cec_asm::{Script, Topology, parse_script, parse_topology};
@@ -11,7 +11,6 @@ use hdmi_core::Writes;
 use std::alloc::Global;
 use std::io::{self, ErrorKind, Write};
 use std::process::Abort;
-use std::test::Fail;
 
 /// A television, and a player in its first port.
 const TWO: &str = "device tv tv 4\ndevice p1 player 0\nplug p1 tv 1\n";
@@ -77,20 +76,22 @@ fn with_room(alloc: Global, room: usize) -> Stingy {
     }
 }
 
-fn parsed(alloc: Global) -> Result<(Topology, Script), Fail>
-    ensures { IfOk result (λ parsed. IsScript (length parsed.0.tree) (course_of parsed.1)) }
+fn parsed(alloc: Global) -> Option<(Topology, Script)>
+    ensures { IfSome result (λ parsed. IsScript (length parsed.0.tree) (course_of parsed.1)) }
 {
-    let topology = parse_topology(alloc, TWO.as_bytes())?;
-    let script = parse_script(alloc, &topology, SCRIPT.as_bytes())?;
-    Ok((topology, script))
+    let topology = parse_topology(alloc, TWO.as_bytes()).ok()?;
+    let script = parse_script(alloc, &topology, SCRIPT.as_bytes()).ok()?;
+    Some((topology, script))
 }
 
 /// A stepper at the start of the run.
-fn at_start(rt: &impl Abort, alloc: Global) -> Result<Stepper, Fail> {
-    let (topology, script) = parsed(alloc)?;
-    let _edid = root_of(&topology.edid)?;
+fn at_start(rt: &impl Abort, alloc: Global) -> Stepper {
+    let (topology, script) = parsed(alloc).expect(rt, "a run");
+    let _edid = root_of(&topology.edid).ok().expect(rt, "an EDID");
     assert!(rt; topology.tree.count() == 2);
-    Ok(Stepper::new(alloc, topology, script)?)
+    Stepper::new(alloc, topology, script)
+        .ok()
+        .expect(rt, "memory")
 }
 
 fn until_poll(stepper: &mut Stepper, out: &mut Stingy) -> Result<u128, StepError> {
@@ -125,14 +126,13 @@ fn are_written(alloc: Global, stepper: &mut Stepper) -> bool {
 /// Where the writer fails, the stepper stands where it stood. So the same `until` into one that does not fail writes the
 /// round, and the next round is the one behind it.
 #[test]
-fn until_is_taken_once_its_text_is_written(rt: HostRuntime) -> Result<(), Fail> {
+fn until_is_taken_once_its_text_is_written(rt: HostRuntime) {
     let alloc = rt.alloc();
-    let mut stepper = at_start(&rt, alloc)?;
+    let mut stepper = at_start(&rt, alloc);
     for room in 0..POLL.len() {
         assert!(&rt; is_cut(alloc, &mut stepper, room), "{room}");
     }
     assert!(&rt; are_written(alloc, &mut stepper));
-    Ok(())
 }
 
 /// Takes the steps into a writer that has so much room.

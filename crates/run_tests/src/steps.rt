@@ -3,7 +3,6 @@ use cec_run::emulate::EmulateError;
 use cec_step::step_run::{StepRunError, step_run};
 use hdmi_core::Writes;
 use std::alloc::Global;
-use std::test::Fail;
 
 const ALONE: &str = "device tv tv 1\n";
 
@@ -71,25 +70,24 @@ const STEPS: &[Steps] = &[
     },
 ];
 
-fn stepped(alloc: Global, steps: &Steps) -> Result<Vec<u8>, Fail> {
+// The steps write their text.
+fn are_written(alloc: Global, steps: &Steps) -> bool {
     let mut out = Vec::new(alloc);
-    step_run(
+    let answer = step_run(
         alloc,
         steps.topology.as_bytes(),
         steps.script.as_bytes(),
         steps.steps.as_bytes(),
         &mut Writes::new(&mut out),
-    )?;
-    Ok(out)
+    );
+    answer.is_ok() && out.as_slice() == steps.text.as_bytes()
 }
 
 #[test]
-fn steps_write_their_texts(rt: HostRuntime) -> Result<(), Fail> {
+fn steps_write_their_texts(rt: HostRuntime) {
     for steps in STEPS {
-        let out = stepped(rt.alloc(), steps)?;
-        assert!(&rt; out.as_slice() == steps.text.as_bytes(), "{}", steps.what);
+        assert!(&rt; are_written(rt.alloc(), steps), "{}", steps.what);
     }
-    Ok(())
 }
 
 // The second line is at fault.

@@ -1,17 +1,17 @@
 //! A pulse at each microsecond of a poll, and at each one of a frame. What has to come out was worked out from the
 //! rules of the wire: a pulse breaks a frame, acknowledges one falsely or refuses one, and never makes another of it.
-use crate::rooms::{LATEST, room, round_before};
+use crate::rooms::{LATEST, room, round_before, send};
 use cec_edges::EdgeWire;
-use cec_frame::{Addr, Ending, Frame, Reading};
-use cec_net::{Event, Net};
+use cec_frame::{Addr, Ending, Reading};
+use cec_net::Net;
 use cec_wave::Stretch;
 use hdmi_core::Kind;
 use std::process::Abort;
 
 /// How wide the pulses are, in microseconds.
-const POLL_WIDTHS: [u64; 5] = [1, 400, 3_000, 3_700, 10_000];
+const POLL_WIDTHS: &[u64] = &[1, 400, 3_000, 3_700, 10_000];
 
-const FRAME_WIDTHS: [u64; 3] = [1, 400, 3_000];
+const FRAME_WIDTHS: &[u64] = &[1, 400, 3_000];
 
 /// A poll of the television begins at 12,000 and is complete at 39,150.
 const POLL_BEGIN: u64 = 12_000;
@@ -47,9 +47,9 @@ fn polled_under(rt: &impl Abort, from: u64, width: u64) -> [Option<Addr>; 2] {
 fn a_poll_under_each_pulse(rt: HostRuntime) {
     for width in POLL_WIDTHS {
         for from in POLL_BEGIN..POLL_COMPLETE + 1 {
-            let is_false = width >= 3_000 && FIRST_FALSE <= from && from <= LAST_FALSE;
+            let is_false = *width >= 3_000 && FIRST_FALSE <= from && from <= LAST_FALSE;
             let address = if is_false { 14 } else { 0 };
-            assert!(&rt; polled_under(&rt, from, width) == [Some(Addr::new(address)), None]);
+            assert!(&rt; polled_under(&rt, from, *width) == [Some(Addr::new(address)), None]);
         }
     }
 }
@@ -60,10 +60,8 @@ fn sending_under(rt: &impl Abort, from: u64, width: u64) -> Net<EdgeWire> {
     for _round in 0..4 {
         let _ = round_before(rt, &mut net, LATEST);
     }
-    assert!(rt; net.close() == 347_255 && 1 < net.tree().count());
-    let frame = Frame::new(&[0x40, 0x04]).expect(rt, "a frame");
-    let event = Event::Send { device: 1, frame };
-    assert!(rt; net.apply(FRAME_BEGIN, event).is_ok());
+    assert!(rt; net.close() == 347_255);
+    send(rt, &mut net, FRAME_BEGIN, 1, &[0x40, 0x04]);
     net
 }
 
@@ -98,7 +96,7 @@ fn sends_once_under(rt: &impl Abort, from: u64, width: u64) {
 fn a_frame_under_each_pulse(rt: HostRuntime) {
     for width in FRAME_WIDTHS {
         for from in FRAME_BEGIN..FRAME_COMPLETE + 1 {
-            sends_once_under(&rt, from, width);
+            sends_once_under(&rt, from, *width);
         }
     }
 }
