@@ -52,6 +52,8 @@ last 1000:0000000000000000000000000000000000000000000000000000000000000000000000
 # In the acknowledge slot of the last block a fall up to the sample is too early, and a later one begins no slot.
 last 12000:0000000011 => 39150 Last(true, Complete)
 last 12000:0000000011 39150 => 39150 Ended(Short)
+# An acknowledgement that began before the fall at 38,100 would make the early fall that it answers.
+last 12000 15700 16500 18000 18900 20400 21300 22800 23700 25200 26100 27600 28500 30000 30900 32400 33300 34800 35700 36300 37900 39400 => 38950 Last(false, Complete)
 # A receiver stands in each of its states in turn, wakes when the line stays as it is too long, and has told so much.
 stand => Idle None 0
 stand 1000 => StartLow Some(4901) 0
