@@ -3,60 +3,57 @@ use crate::bases::{self, base_told, letters_told, timing_told};
 use crate::blocks::{self, edid_told, parts_told, passed_on_told};
 use crate::extensions::{self, addressed_told, heard_told};
 use crate::neighbours::{self, neighbours_told};
-use crate::samples::{comes_out, parted};
+use crate::samples::{comes_out, owned, parted};
 use crate::texts::{self, change_told, refusals_told, text_told};
 use hdmi_blocks::AudioFrom;
-use std::alloc::Global;
 use std::process::Abort;
-use std::test::Fail;
 
 /// What is told of blocks that are read, or passed on.
-fn blocks_told(alloc: Global, verb: &str, words: &str) -> Result<String, Fail> {
+fn blocks_told(rt: &(impl Abort + AllocGlobal), verb: &str, words: &str) -> String {
     match verb {
-        "base" => base_told(alloc, words),
-        "timing" => timing_told(alloc, words),
-        "letters" => letters_told(alloc, words),
-        "edid" => edid_told(alloc, words),
-        "parts" => parts_told(alloc, words),
-        "television" => passed_on_told(alloc, AudioFrom::Television, words),
-        "amplifier" => passed_on_told(alloc, AudioFrom::Amplifier, words),
-        "heard" => heard_told(alloc, words),
-        "addressed" => addressed_told(alloc, words),
-        _ => Err(Fail::from("no verb")),
+        "base" => base_told(rt, words),
+        "timing" => timing_told(rt, words),
+        "letters" => letters_told(rt, words),
+        "edid" => edid_told(rt, words),
+        "parts" => parts_told(rt, words),
+        "television" => passed_on_told(rt, AudioFrom::Television, words),
+        "amplifier" => passed_on_told(rt, AudioFrom::Amplifier, words),
+        "heard" => heard_told(rt, words),
+        "addressed" => addressed_told(rt, words),
+        _ => owned(rt, "no such verb"),
     }
 }
 
 /// What is told of texts, and otherwise of blocks.
-fn told(alloc: Global, asked: &str) -> Result<String, Fail> {
-    let (verb, words) = asked.split_once(' ').ok_or("no words")?;
+fn told(rt: &(impl Abort + AllocGlobal), asked: &str) -> String {
+    let (verb, words) = asked.split_once(' ').unwrap_or((asked, ""));
     match verb {
-        "change" => change_told(alloc, words),
-        "refusals" => refusals_told(alloc, words),
-        "text" => text_told(alloc, words),
-        "neighbours" => neighbours_told(alloc, words),
-        _ => blocks_told(alloc, verb, words),
+        "change" => change_told(rt, words),
+        "refusals" => refusals_told(rt, words),
+        "text" => text_told(rt, words),
+        "neighbours" => neighbours_told(rt, words),
+        _ => blocks_told(rt, verb, words),
     }
 }
 
 /// Asserts what is told in each case.
-fn are_told(rt: &impl Abort, alloc: Global, cases: &str) -> Result<(), Fail> {
+fn are_told(rt: &(impl Abort + AllocGlobal), cases: &str) {
     for case in cases.lines() {
-        let (asked, want) = parted(case)?;
-        comes_out(rt, alloc, told(alloc, asked)?, want, case)?;
+        let (asked, want) = parted(case);
+        comes_out(rt, told(rt, asked), want, case);
     }
-    Ok(())
 }
 
 #[test]
-fn blocks_are_read_and_passed_on(rt: HostRuntime) -> Result<(), Fail> {
-    are_told(&rt, rt.alloc(), bases::CASES)?;
-    are_told(&rt, rt.alloc(), blocks::CASES)?;
-    are_told(&rt, rt.alloc(), extensions::CASES)
+fn blocks_are_read_and_passed_on(rt: HostRuntime) {
+    are_told(&rt, bases::CASES);
+    are_told(&rt, blocks::CASES);
+    are_told(&rt, extensions::CASES);
 }
 
 #[test]
-fn texts_are_read_and_written(rt: HostRuntime) -> Result<(), Fail> {
-    are_told(&rt, rt.alloc(), texts::CHANGES)?;
-    are_told(&rt, rt.alloc(), texts::RETURNED)?;
-    are_told(&rt, rt.alloc(), neighbours::HASHES)
+fn texts_are_read_and_written(rt: HostRuntime) {
+    are_told(&rt, texts::CHANGES);
+    are_told(&rt, texts::RETURNED);
+    are_told(&rt, neighbours::HASHES);
 }

@@ -1,8 +1,7 @@
 //! A display's base block, and what may be wrong with one.
 use crate::samples::{block_of, owned};
 use hdmi_edid::{Base, Descriptor, Text, Timing, read_base, write_base};
-use std::alloc::Global;
-use std::test::Fail;
+use std::process::Abort;
 
 /// Base blocks, and what is told of them: why they are refused; or the maker, the product, the serial number, the year, a part
 /// of red and one of white, the count of extensions, and whether a timing and a name come first. The last has a right checksum
@@ -50,18 +49,18 @@ fn begins_with_timing_and_name(base: &Base) -> bool {
     matches!(first, Descriptor::Timing(_)) && matches!(second, Descriptor::Name(_))
 }
 
-fn values_text(alloc: Global, base: &Base) -> Result<String, Fail> {
+fn values_text(rt: &(impl Abort + AllocGlobal), base: &Base) -> String {
     let (numbers, begins) = (numbers(base), begins_with_timing_and_name(base));
-    Ok(format!(in alloc; "{:?} {numbers:?} {begins}", maker(base))?)
+    format!(in rt.alloc(); "{:?} {numbers:?} {begins}", maker(base)).expect(rt, "a text")
 }
 
 /// The values of a base block, which is written to the same bytes again, or why it is refused.
-pub(crate) fn base_told(alloc: Global, words: &str) -> Result<String, Fail> {
-    let block = block_of(alloc, words)?;
+pub(crate) fn base_told(rt: &(impl Abort + AllocGlobal), words: &str) -> String {
+    let block = block_of(rt, words);
     match read_base(&block) {
-        Err(error) => Ok(format!(in alloc; "{error:?}")?),
-        Ok(base) if write_base(&base).as_slice() == block.as_slice() => values_text(alloc, &base),
-        Ok(_) => owned(alloc, "other bytes"),
+        Err(error) => format!(in rt.alloc(); "{error:?}").expect(rt, "a text"),
+        Ok(base) if write_base(&base).as_slice() == block.as_slice() => values_text(rt, &base),
+        Ok(_) => owned(rt, "other bytes"),
     }
 }
 
@@ -72,12 +71,10 @@ fn clock_there_and_back(bytes: &[u8; 18]) -> Option<u32> {
     is_same.then_some(u32::from(timing.clock))
 }
 
-pub(crate) fn timing_told(alloc: Global, digits: &str) -> Result<String, Fail> {
-    let bytes = hex::decode(alloc, digits)?;
-    let bytes = <[u8; 18]>::try_from(bytes.as_slice())
-        .ok()
-        .ok_or("no timing")?;
-    Ok(format!(in alloc; "{:?}", clock_there_and_back(&bytes))?)
+pub(crate) fn timing_told(rt: &(impl Abort + AllocGlobal), digits: &str) -> String {
+    let bytes = hex::decode(rt.alloc(), digits).expect(rt, "hex digits");
+    let bytes = <[u8; 18]>::try_from(bytes.as_slice()).expect(rt, "a timing");
+    format!(in rt.alloc(); "{:?}", clock_there_and_back(&bytes)).expect(rt, "a text")
 }
 
 /// The number of characters of the text that 13 bytes are.
@@ -87,8 +84,8 @@ fn text_len(bytes: &[u8]) -> Option<usize> {
 }
 
 /// How many letters there are, and how many of them are the text.
-pub(crate) fn letters_told(alloc: Global, letters: &str) -> Result<String, Fail> {
-    let letters = letters.replace(alloc, ";", "\n")?;
+pub(crate) fn letters_told(rt: &(impl Abort + AllocGlobal), letters: &str) -> String {
+    let letters = letters.replace(rt.alloc(), ";", "\n").expect(rt, "letters");
     let bytes = letters.as_str().as_bytes();
-    Ok(format!(in alloc; "{} {:?}", bytes.len(), text_len(bytes))?)
+    format!(in rt.alloc(); "{} {:?}", bytes.len(), text_len(bytes)).expect(rt, "a text")
 }

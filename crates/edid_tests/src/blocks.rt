@@ -5,8 +5,7 @@ use hdmi_blocks::{AudioFrom, Edid, edid_from_bytes, edid_to_bytes, read_parts};
 use hdmi_core::Phys;
 use hdmi_cta::{Ext, write_ext};
 use hdmi_edid::{Base, write_base};
-use std::alloc::Global;
-use std::test::Fail;
+use std::process::Abort;
 
 /// How many bytes of which blocks, and what is told of them: why they are refused, or the address of an EDID that returns them.
 /// Then what is told of their parts: how many bytes the parts have, which are the same, or why they are refused and how many
@@ -42,56 +41,66 @@ amplifier tv..034f 020308f123090707..c8 speaking..e8 speaking..e8 => tv..034f 02
 ";
 
 /// The address of an EDID that returns these bytes.
-fn address_text(alloc: Global, edid: &Edid, bytes: &[u8]) -> Result<String, Fail> {
+fn address_text(rt: &(impl Abort + AllocGlobal), edid: &Edid, bytes: &[u8]) -> String {
     if edid_to_bytes(edid).as_slice() != bytes {
-        return owned(alloc, "other bytes");
+        return owned(rt, "other bytes");
     }
-    Ok(format!(in alloc; "{:?}", edid.address())?)
+    format!(in rt.alloc(); "{:?}", edid.address()).expect(rt, "a text")
 }
 
-pub(crate) fn edid_told(alloc: Global, words: &str) -> Result<String, Fail> {
-    let bytes = first_bytes_of(alloc, words)?;
+pub(crate) fn edid_told(rt: &(impl Abort + AllocGlobal), words: &str) -> String {
+    let bytes = first_bytes_of(rt, words);
     match edid_from_bytes(&bytes) {
-        Err(error) => Ok(format!(in alloc; "{error}")?),
-        Ok(edid) => address_text(alloc, &edid, &bytes),
+        Err(error) => format!(in rt.alloc(); "{error}").expect(rt, "a text"),
+        Ok(edid) => address_text(rt, &edid, &bytes),
     }
 }
 
 /// The bytes of a base block and of the extensions behind it.
-fn bytes_of_parts(alloc: Global, base: &Base, extensions: &[Ext]) -> Result<Vec<u8>, Fail> {
-    let mut bytes = Vec::new(alloc);
-    bytes.extend_from_slice(&write_base(base))?;
+fn bytes_of_parts(rt: &(impl Abort + AllocGlobal), base: &Base, extensions: &[Ext]) -> Vec<u8> {
+    let mut bytes = Vec::new(rt.alloc());
+    bytes
+        .extend_from_slice(&write_base(base))
+        .expect(rt, "a block");
     for ext in extensions {
-        bytes.extend_from_slice(&write_ext(ext))?;
+        bytes
+            .extend_from_slice(&write_ext(ext))
+            .expect(rt, "a block");
     }
-    Ok(bytes)
+    bytes
 }
 
-fn count_text(alloc: Global, parts: &[u8], bytes: &[u8]) -> Result<String, Fail> {
+fn count_text(rt: &(impl Abort + AllocGlobal), parts: &[u8], bytes: &[u8]) -> String {
     if parts == bytes {
-        Ok(format!(in alloc; "{} bytes", bytes.len())?)
+        format!(in rt.alloc(); "{} bytes", bytes.len()).expect(rt, "a text")
     } else {
-        owned(alloc, "other bytes")
+        owned(rt, "other bytes")
     }
 }
 
-pub(crate) fn parts_told(alloc: Global, words: &str) -> Result<String, Fail> {
-    let bytes = first_bytes_of(alloc, words)?;
+pub(crate) fn parts_told(rt: &(impl Abort + AllocGlobal), words: &str) -> String {
+    let bytes = first_bytes_of(rt, words);
     let mut extensions = ArrayVec::new();
     match read_parts(&bytes, &mut extensions) {
-        Err(error) => Ok(format!(in alloc; "{error}, {} left", extensions.len())?),
-        Ok(base) => count_text(alloc, &bytes_of_parts(alloc, &base, &extensions)?, &bytes),
+        Err(error) => format!(in rt.alloc(); "{error}, {} left", extensions.len()).expect(
+            rt, "a text",
+        ),
+        Ok(base) => count_text(rt, &bytes_of_parts(rt, &base, &extensions), &bytes),
     }
 }
 
 /// What a port with the address 1.0.0.0 passes on; without an HDMI block nothing.
-pub(crate) fn passed_on_told(alloc: Global, audio: AudioFrom, words: &str) -> Result<String, Fail> {
+pub(crate) fn passed_on_told(
+    rt: &(impl Abort + AllocGlobal),
+    audio: AudioFrom,
+    words: &str,
+) -> String {
     let address = Phys {
         high: 0x10,
         low: 0x00,
     };
-    match edid_of(alloc, words)?.passed_on(audio, address) {
-        Ok(passed) => hex_of(alloc, &passed),
-        Err(_) => owned(alloc, "no address"),
+    match edid_of(rt, words).passed_on(audio, address) {
+        Ok(passed) => hex_of(rt, &passed),
+        Err(_) => owned(rt, "no address"),
     }
 }

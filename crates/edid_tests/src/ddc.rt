@@ -1,9 +1,7 @@
 //! A television's blocks, read over DDC.
 use crate::samples::{bytes_of, comes_out, edid_of, first_bytes_of, number, owned, parted};
 use hdmi_ddc::{Ddc, learn_address};
-use std::alloc::Global;
 use std::process::Abort;
-use std::test::Fail;
 
 /// Segments are acknowledged that have a block, and reading goes on at the begin of the segment.
 const SEGMENTS: &str = "\
@@ -60,77 +58,76 @@ learn => Ok(Phys { high: 0, low: 0 })
 ";
 
 /// The bytes that are read next, in hex.
-fn read(alloc: Global, ddc: &mut Ddc, count: u8) -> Result<String, Fail> {
+fn read(rt: &(impl Abort + AllocGlobal), ddc: &mut Ddc, count: u8) -> String {
     let mut seats = [0; 16];
-    let read = seats.get_mut(..usize::from(count)).ok_or("too many")?;
+    let read = seats.get_mut(..usize::from(count)).expect(rt, "few bytes");
     ddc.read(read);
-    Ok(hex::encode(alloc, &*read)?)
+    hex::encode(rt.alloc(), &*read).expect(rt, "hex digits")
 }
 
-fn take_number(alloc: Global, ddc: &mut Ddc, verb: &str, number: u8) -> Result<String, Fail> {
+fn take_number(rt: &(impl Abort + AllocGlobal), ddc: &mut Ddc, verb: &str, number: u8) -> String {
     match verb {
-        "segment" => Ok(format!(in alloc; "{:?}", ddc.segment(number))?),
-        "read" => read(alloc, ddc, number),
+        "segment" => format!(in rt.alloc(); "{:?}", ddc.segment(number)).expect(rt, "a text"),
+        "read" => read(rt, ddc, number),
         "offset" => {
             ddc.offset(number);
-            owned(alloc, "-")
+            owned(rt, "-")
         }
-        _ => Err(Fail::from("no verb")),
+        _ => owned(rt, "no such verb"),
     }
 }
 
 /// The address that is learnt, or why none is.
-pub(crate) fn learnt(alloc: Global, ddc: &mut Ddc) -> Result<String, Fail> {
-    Ok(format!(in alloc; "{:?}", learn_address(ddc))?)
+pub(crate) fn learnt(rt: &(impl Abort + AllocGlobal), ddc: &mut Ddc) -> String {
+    format!(in rt.alloc(); "{:?}", learn_address(ddc)).expect(rt, "a text")
 }
 
 /// Other bytes in place of those that were read, if a display may have so many.
-fn over(alloc: Global, ddc: &mut Ddc, bytes: Vec<u8>) -> Result<String, Fail> {
+fn over(rt: &(impl Abort + AllocGlobal), ddc: &mut Ddc, bytes: Vec<u8>) -> String {
     match Ddc::over(&bytes) {
-        Err(error) => Ok(format!(in alloc; "{error:?}")?),
+        Err(error) => format!(in rt.alloc(); "{error:?}").expect(rt, "a text"),
         Ok(other) => {
             *ddc = other;
-            owned(alloc, "-")
+            owned(rt, "-")
         }
     }
 }
 
 /// The blocks of an EDID in place of those that were read.
-fn read_edid(alloc: Global, ddc: &mut Ddc, words: &str) -> Result<String, Fail> {
-    *ddc = Ddc::new(&edid_of(alloc, words)?);
-    owned(alloc, "-")
+fn read_edid(rt: &(impl Abort + AllocGlobal), ddc: &mut Ddc, words: &str) -> String {
+    *ddc = Ddc::new(&edid_of(rt, words));
+    owned(rt, "-")
 }
 
 /// One step, and what comes of it.
-fn take(alloc: Global, ddc: &mut Ddc, step: &str) -> Result<String, Fail> {
+fn take(rt: &(impl Abort + AllocGlobal), ddc: &mut Ddc, step: &str) -> String {
     let (verb, words) = step.split_once(' ').unwrap_or((step, ""));
     match verb {
-        "over" => over(alloc, ddc, bytes_of(alloc, words)?),
-        "first" => over(alloc, ddc, first_bytes_of(alloc, words)?),
-        "edid" => read_edid(alloc, ddc, words),
-        "learn" => learnt(alloc, ddc),
+        "over" => over(rt, ddc, bytes_of(rt, words)),
+        "first" => over(rt, ddc, first_bytes_of(rt, words)),
+        "edid" => read_edid(rt, ddc, words),
+        "learn" => learnt(rt, ddc),
         "stop" => {
             ddc.stop();
-            owned(alloc, "-")
+            owned(rt, "-")
         }
-        _ => take_number(alloc, ddc, verb, number(words)?),
+        _ => take_number(rt, ddc, verb, number(rt, words)),
     }
 }
 
 /// Asserts what comes of each step.
-fn takes(rt: &impl Abort, alloc: Global, steps: &str) -> Result<(), Fail> {
-    let mut ddc = Ddc::new(&edid_of(alloc, "tv..0151 speaking..e8")?);
+fn takes(rt: &(impl Abort + AllocGlobal), steps: &str) {
+    let mut ddc = Ddc::new(&edid_of(rt, "tv..0151 speaking..e8"));
     for case in steps.lines() {
-        let (step, want) = parted(case)?;
-        comes_out(rt, alloc, take(alloc, &mut ddc, step)?, want, case)?;
+        let (step, want) = parted(case);
+        comes_out(rt, take(rt, &mut ddc, step), want, case);
     }
-    Ok(())
 }
 
 #[test]
-fn blocks_are_read_and_addresses_learnt(rt: HostRuntime) -> Result<(), Fail> {
-    takes(&rt, rt.alloc(), SEGMENTS)?;
-    takes(&rt, rt.alloc(), LEARNT)?;
-    takes(&rt, rt.alloc(), WRONG_LENGTHS)?;
-    takes(&rt, rt.alloc(), TWO_SEGMENTS)
+fn blocks_are_read_and_addresses_learnt(rt: HostRuntime) {
+    takes(&rt, SEGMENTS);
+    takes(&rt, LEARNT);
+    takes(&rt, WRONG_LENGTHS);
+    takes(&rt, TWO_SEGMENTS);
 }

@@ -2,8 +2,7 @@
 use crate::samples::block_of;
 use hdmi_core::Phys;
 use hdmi_cta::{Ext, read_ext, with_address, with_audio, write_ext};
-use std::alloc::Global;
-use std::test::Fail;
+use std::process::Abort;
 
 /// An extension, and what an amplifier passes on for a device with the address 1.1.0.0; and extensions, and what an amplifier
 /// passes on: one whose end is not zeros as it is.
@@ -17,25 +16,21 @@ heard 020304f1..06 => 020304f1..06
 ";
 
 /// An extension that hears an amplifier.
-fn heard(alloc: Global, words: &str) -> Result<Ext, Fail> {
-    let ext = read_ext(&block_of(alloc, words)?)
-        .ok()
-        .ok_or("no extension")?;
-    Ok(with_audio(&ext))
+fn heard(rt: &(impl Abort + AllocGlobal), words: &str) -> Ext {
+    let ext = read_ext(&block_of(rt, words)).expect(rt, "an extension");
+    with_audio(&ext)
 }
 
-pub(crate) fn heard_told(alloc: Global, words: &str) -> Result<String, Fail> {
-    let heard = heard(alloc, words)?;
-    Ok(hex::encode(alloc, write_ext(&heard).as_slice())?)
+pub(crate) fn heard_told(rt: &(impl Abort + AllocGlobal), words: &str) -> String {
+    let heard = heard(rt, words);
+    hex::encode(rt.alloc(), write_ext(&heard).as_slice()).expect(rt, "hex digits")
 }
 
-pub(crate) fn addressed_told(alloc: Global, words: &str) -> Result<String, Fail> {
+pub(crate) fn addressed_told(rt: &(impl Abort + AllocGlobal), words: &str) -> String {
     let address = Phys {
         high: 0x11,
         low: 0x00,
     };
-    let passed = with_address(&heard(alloc, words)?, address)
-        .ok()
-        .ok_or("no address")?;
-    Ok(hex::encode(alloc, write_ext(&passed).as_slice())?)
+    let passed = with_address(&heard(rt, words), address).expect(rt, "an address");
+    hex::encode(rt.alloc(), write_ext(&passed).as_slice()).expect(rt, "hex digits")
 }

@@ -2,8 +2,7 @@
 use crate::samples::bytes_of;
 use crate::texts::text_of;
 use hdmi_blocks::edid_from_bytes;
-use std::alloc::Global;
-use std::test::Fail;
+use std::process::Abort;
 
 /// EDIDs, and the hashes of the texts of all that differ from them in one bit. The hashes are those of the texts that a
 /// program apart from this one writes, by the layouts of the standards.
@@ -22,35 +21,34 @@ fn checksum(front: &[u8]) -> u8 {
 }
 
 /// Mends the checksum of the block that a byte stands in.
-fn mend(bytes: &mut [u8], at: usize) -> Result<(), Fail> {
+fn mend(rt: &impl Abort, bytes: &mut [u8], at: usize) {
     let from = at / 128 * 128;
-    let sum = checksum(bytes.get(from..from + 127).ok_or("no block")?);
-    let byte = bytes.get_mut(from + 127).ok_or("no checksum")?;
-    *byte = sum;
-    Ok(())
+    let sum = checksum(bytes.get(from..from + 127).expect(rt, "a block"));
+    *bytes.get_mut(from + 127).expect(rt, "a checksum") = sum;
 }
 
 /// Turns over one bit, and mends the checksum of its block where the bit is not the checksum's own.
-fn turn_bit(bytes: &mut [u8], at: usize, bit: u8) -> Result<(), Fail> {
-    let byte = bytes.get_mut(at).ok_or("no byte")?;
-    *byte ^= bit;
-    if at % 128 == 127 {
-        return Ok(());
+fn turn_bit(rt: &impl Abort, bytes: &mut [u8], at: usize, bit: u8) {
+    *bytes.get_mut(at).expect(rt, "a byte") ^= bit;
+    if at % 128 != 127 {
+        mend(rt, bytes, at);
     }
-    mend(bytes, at)
 }
 
-fn with_bit_turned(alloc: Global, bytes: &[u8], at: usize, bit: u8) -> Result<Vec<u8>, Fail> {
-    let mut turned = Vec::from_slice(alloc, bytes)?;
-    turn_bit(&mut turned, at, bit)?;
-    Ok(turned)
+fn with_bit_turned(rt: &(impl Abort + AllocGlobal), bytes: &[u8], at: usize, bit: u8) -> Vec<u8> {
+    let mut turned = Vec::from_slice(rt.alloc(), bytes).expect(rt, "bytes");
+    turn_bit(rt, &mut turned, at, bit);
+    turned
 }
 
 /// The text of an EDID, or why the bytes are none.
-fn told(alloc: Global, bytes: &[u8]) -> Result<Vec<u8>, Fail> {
+fn told(rt: &(impl Abort + AllocGlobal), bytes: &[u8]) -> Vec<u8> {
     match edid_from_bytes(bytes) {
-        Err(cause) => Ok(format!(in alloc; "{cause}\n")?.into_bytes()),
-        Ok(edid) => text_of(alloc, &edid),
+        Err(cause) => {
+            let line = format!(in rt.alloc(); "{cause}\n").expect(rt, "a line");
+            line.into_bytes()
+        }
+        Ok(edid) => text_of(rt, &edid),
     }
 }
 
@@ -63,22 +61,27 @@ fn hashed(hash: u64, text: &[u8]) -> u64 {
     hash
 }
 
-fn told_with_bit_turned(alloc: Global, bytes: &[u8], at: usize, bit: u8) -> Result<Vec<u8>, Fail> {
-    told(alloc, &with_bit_turned(alloc, bytes, at, bit)?)
+fn told_with_bit_turned(
+    rt: &(impl Abort + AllocGlobal),
+    bytes: &[u8],
+    at: usize,
+    bit: u8,
+) -> Vec<u8> {
+    told(rt, &with_bit_turned(rt, bytes, at, bit))
 }
 
 /// The hash of the texts of all EDIDs that differ from this one in one bit.
-fn hash_of_neighbours(alloc: Global, bytes: &[u8]) -> Result<u64, Fail> {
+fn hash_of_neighbours(rt: &(impl Abort + AllocGlobal), bytes: &[u8]) -> u64 {
     let mut hash = 0xcbf2_9ce4_8422_2325u64;
     for at in 0..bytes.len() {
         for bit in [1u8, 2, 4, 8, 16, 32, 64, 128] {
-            hash = hashed(hash, &told_with_bit_turned(alloc, bytes, at, bit)?);
+            hash = hashed(hash, &told_with_bit_turned(rt, bytes, at, bit));
         }
     }
-    Ok(hash)
+    hash
 }
 
-pub(crate) fn neighbours_told(alloc: Global, words: &str) -> Result<String, Fail> {
-    let hash = hash_of_neighbours(alloc, &bytes_of(alloc, words)?)?;
-    Ok(format!(in alloc; "{hash:x}")?)
+pub(crate) fn neighbours_told(rt: &(impl Abort + AllocGlobal), words: &str) -> String {
+    let hash = hash_of_neighbours(rt, &bytes_of(rt, words));
+    format!(in rt.alloc(); "{hash:x}").expect(rt, "a text")
 }

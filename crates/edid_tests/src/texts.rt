@@ -4,8 +4,7 @@ use arrayvec::ArrayVec;
 use hdmi_blocks::{Edid, edid_from_bytes, edid_to_bytes, read_parts};
 use hdmi_core::Writes;
 use hdmi_edtext::{TextError, parse_text, write_parts, write_text};
-use std::alloc::Global;
-use std::test::Fail;
+use std::process::Abort;
 
 /// The text of the television's base block.
 const BASE_TEXT: &str =
@@ -65,84 +64,84 @@ text every.. => edid 1.4;maker SAM;product 258;serial 1;made 10 2011;input 80;si
 ";
 
 /// The text of both blocks with one part changed.
-fn with_change(alloc: Global, change: &str) -> Result<String, Fail> {
-    let (from, to) = change.split_once(" => ").ok_or("no change")?;
+fn with_change(rt: &(impl Abort + AllocGlobal), change: &str) -> String {
+    let (from, to) = change.split_once(" => ").expect(rt, "a change");
     if let Some((front, behind)) = BASE_TEXT.split_once(from) {
-        return Ok(format!(in alloc; "{front}{to}{behind}{EXTENSION_TEXT}")?);
+        return format!(in rt.alloc(); "{front}{to}{behind}{EXTENSION_TEXT}").expect(rt, "a text");
     }
-    let (front, behind) = EXTENSION_TEXT.split_once(from).ok_or("no such part")?;
-    Ok(format!(in alloc; "{BASE_TEXT}{front}{to}{behind}")?)
+    let (front, behind) = EXTENSION_TEXT.split_once(from).expect(rt, "such a part");
+    format!(in rt.alloc(); "{BASE_TEXT}{front}{to}{behind}").expect(rt, "a text")
 }
 
 /// Why a text is refused.
-fn refusal_of(alloc: Global, text: &[u8]) -> Result<String, Fail> {
-    match parse_text(alloc, text) {
-        Ok(_) => owned(alloc, "none"),
-        Err(error) => Ok(format!(in alloc; "{error}")?),
+fn refusal_of(rt: &(impl Abort + AllocGlobal), text: &[u8]) -> String {
+    match parse_text(rt.alloc(), text) {
+        Ok(_) => owned(rt, "none"),
+        Err(error) => format!(in rt.alloc(); "{error}").expect(rt, "a text"),
     }
 }
 
 /// Why the example's text is refused with one part changed.
-pub(crate) fn change_told(alloc: Global, change: &str) -> Result<String, Fail> {
-    let change = change.replace(alloc, ";", "\n")?;
-    let text = with_change(alloc, change.as_str())?;
-    refusal_of(alloc, text.as_str().as_bytes())
+pub(crate) fn change_told(rt: &(impl Abort + AllocGlobal), change: &str) -> String {
+    let change = change.replace(rt.alloc(), ";", "\n").expect(rt, "lines");
+    let text = with_change(rt, change.as_str());
+    refusal_of(rt, text.as_str().as_bytes())
 }
 
 /// The refusals of a line, in words.
-pub(crate) fn refusals_told(alloc: Global, line: &str) -> Result<String, Fail> {
-    let line = usize::from(number(line)?);
+pub(crate) fn refusals_told(rt: &(impl Abort + AllocGlobal), line: &str) -> String {
+    let line = usize::from(number(rt, line));
     let (syntax, field) = (TextError::Syntax(line), TextError::Field(line));
-    Ok(format!(in alloc; "{syntax}, {field}")?)
+    format!(in rt.alloc(); "{syntax}, {field}").expect(rt, "a text")
 }
 
-pub(crate) fn text_of(alloc: Global, edid: &Edid) -> Result<Vec<u8>, Fail> {
-    let mut text = Vec::new(alloc);
-    write_text(edid, &mut Writes::new(&mut text))?;
-    Ok(text)
+pub(crate) fn text_of(rt: &(impl Abort + AllocGlobal), edid: &Edid) -> Vec<u8> {
+    let mut text = Vec::new(rt.alloc());
+    write_text(edid, &mut Writes::new(&mut text)).expect(rt, "a text");
+    text
 }
 
 /// Whether a text is read as these bytes.
-fn is_read_as(alloc: Global, text: &[u8], bytes: &[u8]) -> Result<bool, Fail> {
-    let edid = parse_text(alloc, text)?;
-    Ok(edid_to_bytes(&edid).as_slice() == bytes)
+fn is_read_as(rt: &(impl Abort + AllocGlobal), text: &[u8], bytes: &[u8]) -> bool {
+    let edid = parse_text(rt.alloc(), text).expect(rt, "an EDID");
+    edid_to_bytes(&edid).as_slice() == bytes
 }
 
 /// Whether a text is read as these bytes, and their parts have it too.
-fn is_text_of(alloc: Global, text: &[u8], bytes: &[u8]) -> Result<bool, Fail> {
-    Ok(is_read_as(alloc, text, bytes)? && text_of_parts(alloc, bytes)?.as_slice() == text)
+fn is_text_of(rt: &(impl Abort + AllocGlobal), text: &[u8], bytes: &[u8]) -> bool {
+    is_read_as(rt, text, bytes) && text_of_parts(rt, bytes).as_slice() == text
 }
 
 /// The text of the parts that some bytes spell.
-fn text_of_parts(alloc: Global, bytes: &[u8]) -> Result<Vec<u8>, Fail> {
+fn text_of_parts(rt: &(impl Abort + AllocGlobal), bytes: &[u8]) -> Vec<u8> {
     let mut extensions = ArrayVec::new();
-    let base = read_parts(bytes, &mut extensions)?;
-    let mut text = Vec::new(alloc);
-    write_parts(&base, &extensions, &mut Writes::new(&mut text))?;
-    Ok(text)
+    let base = read_parts(bytes, &mut extensions).expect(rt, "parts");
+    let mut text = Vec::new(rt.alloc());
+    write_parts(&base, &extensions, &mut Writes::new(&mut text)).expect(rt, "a text");
+    text
 }
 
 /// A text on one line.
-fn on_one_line(alloc: Global, text: &str) -> Result<String, Fail> {
-    let line = text.replace(alloc, "\n", ";")?;
-    Ok(line)
+fn on_one_line(rt: &(impl Abort + AllocGlobal), text: &str) -> String {
+    text.replace(rt.alloc(), "\n", ";").expect(rt, "a line")
 }
 
 /// The text of a television, or of another display.
-fn shortened(alloc: Global, text: &str) -> Result<String, Fail> {
+fn shortened(rt: &(impl Abort + AllocGlobal), text: &str) -> String {
     match text.strip_prefix(BASE_TEXT) {
-        Some(rest) => Ok(format!(in alloc; "tv;{}", on_one_line(alloc, rest)?)?),
-        None => on_one_line(alloc, text),
+        Some(rest) => format!(in rt.alloc(); "tv;{}", on_one_line(rt, rest)).expect(rt, "a text"),
+        None => on_one_line(rt, text),
     }
 }
 
 /// The text of an EDID, which is read to the same bytes again, and which its parts have too.
-pub(crate) fn text_told(alloc: Global, words: &str) -> Result<String, Fail> {
-    let bytes = bytes_of(alloc, words)?;
-    let written = text_of(alloc, &edid_from_bytes(&bytes)?)?;
-    if is_text_of(alloc, &written, &bytes)? {
-        shortened(alloc, str::from_utf8(&written)?)
+pub(crate) fn text_told(rt: &(impl Abort + AllocGlobal), words: &str) -> String {
+    let bytes = bytes_of(rt, words);
+    let edid = edid_from_bytes(&bytes).expect(rt, "an EDID");
+    let written = text_of(rt, &edid);
+    if is_text_of(rt, &written, &bytes) {
+        shortened(rt, str::from_utf8(&written).expect(rt, "a text"))
     } else {
-        owned(alloc, "other bytes, or another text of the parts")
+        owned(rt, "other bytes, or another text of the parts")
     }
 }

@@ -5,10 +5,8 @@ use hdmi_blocks::Edid;
 use hdmi_core::Kind;
 use hdmi_ddc::Ddc;
 use hdmi_topo::{PortEdidError, Tree};
-use std::alloc::Global;
 use std::fmt::Debug;
 use std::process::Abort;
-use std::test::Fail;
 
 /// What is done with a tree or asked of it, a line each, and what comes of it; `-` where it is done.
 const REFUSALS: &str = "\
@@ -94,141 +92,128 @@ learn 1 3 of tv..0151 speaking..e8 => Ok(Phys { high: 35, low: 0 })
 learn 1 3 of tv..034f map..0c speaking..e8 empty..06 => Ok(Phys { high: 35, low: 0 })
 ";
 
-fn kind_of(word: &str) -> Result<Kind, Fail> {
+fn kind_of(word: &str) -> Option<Kind> {
     match word {
-        "tv" => Ok(Kind::Tv),
-        "amp" => Ok(Kind::Amp),
-        "player" => Ok(Kind::Player),
-        "switch" => Ok(Kind::Switch),
-        _ => Err(Fail::from("no kind")),
+        "tv" => Some(Kind::Tv),
+        "amp" => Some(Kind::Amp),
+        "player" => Some(Kind::Player),
+        "switch" => Some(Kind::Switch),
+        _ => None,
     }
 }
 
-fn done<E: Debug + Drop>(alloc: Global, answer: Result<(), E>) -> Result<String, Fail> {
+fn done<E: Debug + Drop>(rt: &(impl Abort + AllocGlobal), answer: Result<(), E>) -> String {
     match answer {
-        Ok(()) => owned(alloc, "-"),
-        Err(error) => Ok(format!(in alloc; "{error:?}")?),
+        Ok(()) => owned(rt, "-"),
+        Err(error) => format!(in rt.alloc(); "{error:?}").expect(rt, "a text"),
     }
 }
 
-fn add(alloc: Global, tree: &mut Tree<15>, words: &str) -> Result<String, Fail> {
-    let (name, words) = words.split_once(' ').ok_or("no kind")?;
-    let (kind, ports) = words.split_once(' ').ok_or("no ports")?;
-    let (kind, ports) = (kind_of(kind)?, number(ports)?.min(15));
-    done(alloc, tree.add(name.as_bytes(), kind, ports))
+fn add(rt: &(impl Abort + AllocGlobal), tree: &mut Tree<15>, words: &str) -> String {
+    let (name, words) = words.split_once(' ').expect(rt, "a kind");
+    let (kind, ports) = words.split_once(' ').expect(rt, "ports");
+    let kind = kind_of(kind).expect(rt, "a kind");
+    let ports = number(rt, ports).min(15);
+    done(rt, tree.add(name.as_bytes(), kind, ports))
 }
 
-fn plug(alloc: Global, tree: &mut Tree<15>, words: &str) -> Result<String, Fail> {
-    let (device, words) = words.split_once(' ').ok_or("no parent")?;
-    let (parent, port) = two_numbers(words)?;
-    let (device, parent) = (usize::from(number(device)?), usize::from(parent));
-    if device >= tree.count() || parent >= tree.count() {
-        return Err(Fail::from("no device"));
-    }
-    done(alloc, tree.plug(device, parent, port))
+fn plug(rt: &(impl Abort + AllocGlobal), tree: &mut Tree<15>, words: &str) -> String {
+    let (device, words) = words.split_once(' ').expect(rt, "a parent");
+    let (parent, port) = two_numbers(rt, words);
+    let (device, parent) = (usize::from(number(rt, device)), usize::from(parent));
+    assert!(rt; device < tree.count() && parent < tree.count());
+    done(rt, tree.plug(device, parent, port))
 }
 
-fn told(alloc: Global, name: &[u8], kind: Kind, ports: u8) -> Result<String, Fail> {
-    let name = str::from_utf8(name)?;
-    Ok(format!(in alloc; "{name} {kind:?} {ports}")?)
+fn told(rt: &(impl Abort + AllocGlobal), name: &[u8], kind: Kind, ports: u8) -> String {
+    let name = str::from_utf8(name).expect(rt, "a name");
+    format!(in rt.alloc(); "{name} {kind:?} {ports}").expect(rt, "a text")
 }
 
 /// What is asked of a device.
-fn ask_device(alloc: Global, tree: &Tree<15>, verb: &str, word: &str) -> Result<String, Fail> {
-    let device = usize::from(number(word)?);
-    if device >= tree.count() {
-        return Err(Fail::from("no device"));
-    }
+fn ask_device(rt: &(impl Abort + AllocGlobal), tree: &Tree<15>, verb: &str, word: &str) -> String {
+    let device = usize::from(number(rt, word));
+    assert!(rt; device < tree.count());
     match verb {
-        "address" => Ok(format!(in alloc; "{:?}", tree.address_of(device))?),
-        "wire" => Ok(format!(in alloc; "{}", tree.on_wire(device))?),
-        "device" => told(
-            alloc,
-            tree.name(device),
-            tree.kind(device),
-            tree.ports(device),
-        ),
-        _ => Err(Fail::from("no verb")),
+        "address" => format!(in rt.alloc(); "{:?}", tree.address_of(device)).expect(rt, "a text"),
+        "wire" => format!(in rt.alloc(); "{}", tree.on_wire(device)).expect(rt, "a text"),
+        "device" => told(rt, tree.name(device), tree.kind(device), tree.ports(device)),
+        _ => owned(rt, "no such verb"),
     }
 }
 
-fn unplug(alloc: Global, tree: &mut Tree<15>, word: &str) -> Result<String, Fail> {
-    let device = usize::from(number(word)?);
-    if device >= tree.count() {
-        return Err(Fail::from("no device"));
-    }
-    done(alloc, tree.unplug(device))
+fn unplug(rt: &(impl Abort + AllocGlobal), tree: &mut Tree<15>, word: &str) -> String {
+    let device = usize::from(number(rt, word));
+    assert!(rt; device < tree.count());
+    done(rt, tree.unplug(device))
 }
 
-fn number_of(alloc: Global, tree: &Tree<15>, name: &str) -> Result<String, Fail> {
-    Ok(format!(in alloc; "{:?}", tree.device_named(name.as_bytes()))?)
+fn number_of(rt: &(impl Abort + AllocGlobal), tree: &Tree<15>, name: &str) -> String {
+    format!(in rt.alloc(); "{:?}", tree.device_named(name.as_bytes())).expect(rt, "a text")
 }
 
 /// What a port passes on of a television's EDID: the words are the device and the port, and the television's blocks.
 fn passed_on(
-    alloc: Global,
+    rt: &(impl Abort + AllocGlobal),
     tree: &Tree<15>,
     words: &str,
-) -> Result<Result<Edid, PortEdidError>, Fail> {
-    let (place, blocks) = words.split_once(" of ").ok_or("no EDID")?;
-    let (device, port) = two_numbers(place)?;
+) -> Result<Edid, PortEdidError> {
+    let (place, blocks) = words.split_once(" of ").expect(rt, "an EDID");
+    let (device, port) = two_numbers(rt, place);
     let device = usize::from(device);
-    if device >= tree.count() {
-        return Err(Fail::from("no device"));
-    }
-    Ok(tree.port_edid(&edid_of(alloc, blocks)?, device, port))
+    assert!(rt; device < tree.count());
+    tree.port_edid(&edid_of(rt, blocks), device, port)
 }
 
-fn port(alloc: Global, tree: &Tree<15>, words: &str) -> Result<String, Fail> {
-    match passed_on(alloc, tree, words)? {
-        Ok(edid) => hex_of(alloc, &edid),
-        Err(error) => Ok(format!(in alloc; "{error:?}")?),
+fn port(rt: &(impl Abort + AllocGlobal), tree: &Tree<15>, words: &str) -> String {
+    match passed_on(rt, tree, words) {
+        Ok(edid) => hex_of(rt, &edid),
+        Err(error) => format!(in rt.alloc(); "{error:?}").expect(rt, "a text"),
     }
 }
 
 /// What a device in a port learns over DDC.
-fn learn(alloc: Global, tree: &Tree<15>, words: &str) -> Result<String, Fail> {
-    let edid = passed_on(alloc, tree, words)??;
-    learnt(alloc, &mut Ddc::new(&edid))
+fn learn(rt: &(impl Abort + AllocGlobal), tree: &Tree<15>, words: &str) -> String {
+    let edid = passed_on(rt, tree, words).expect(rt, "an EDID");
+    learnt(rt, &mut Ddc::new(&edid))
 }
 
 /// What is asked of a tree.
-fn ask(alloc: Global, tree: &Tree<15>, verb: &str, words: &str) -> Result<String, Fail> {
+fn ask(rt: &(impl Abort + AllocGlobal), tree: &Tree<15>, verb: &str, words: &str) -> String {
     match verb {
-        "number" => number_of(alloc, tree, words),
-        "count" => Ok(format!(in alloc; "{}", tree.count())?),
-        "port" => port(alloc, tree, words),
-        "learn" => learn(alloc, tree, words),
-        _ => ask_device(alloc, tree, verb, words),
+        "number" => number_of(rt, tree, words),
+        "count" => format!(in rt.alloc(); "{}", tree.count()).expect(rt, "a text"),
+        "port" => port(rt, tree, words),
+        "learn" => learn(rt, tree, words),
+        _ => ask_device(rt, tree, verb, words),
     }
 }
 
 /// One step or question, and what comes of it.
-fn take(alloc: Global, tree: &mut Tree<15>, line: &str) -> Result<String, Fail> {
-    let (verb, words) = line.split_once(' ').ok_or("no verb")?;
+fn take(rt: &(impl Abort + AllocGlobal), tree: &mut Tree<15>, line: &str) -> String {
+    let (verb, words) = line.split_once(' ').expect(rt, "a verb");
     match verb {
-        "add" => add(alloc, tree, words),
-        "plug" => plug(alloc, tree, words),
-        "unplug" => unplug(alloc, tree, words),
-        _ => ask(alloc, tree, verb, words),
+        "add" => add(rt, tree, words),
+        "plug" => plug(rt, tree, words),
+        "unplug" => unplug(rt, tree, words),
+        _ => ask(rt, tree, verb, words),
     }
 }
 
 /// Asserts what comes of each step of a tree that grows.
-fn grows(rt: &impl Abort, alloc: Global, steps: &str) -> Result<(), Fail> {
+fn grows(rt: &(impl Abort + AllocGlobal), steps: &str) {
     let mut tree = Tree::new();
     for case in steps.lines() {
-        let (step, want) = parted(case)?;
-        comes_out(rt, alloc, take(alloc, &mut tree, step)?, want, case)?;
+        let (step, want) = parted(case);
+        comes_out(rt, take(rt, &mut tree, step), want, case);
     }
-    Ok(())
 }
 
 #[test]
-fn trees_grow_and_pass_on_addresses(rt: HostRuntime) -> Result<(), Fail> {
-    grows(&rt, rt.alloc(), REFUSALS)?;
-    grows(&rt, rt.alloc(), CHAIN)?;
-    grows(&rt, rt.alloc(), TELEVISION)?;
-    grows(&rt, rt.alloc(), AMPLIFIER)?;
-    grows(&rt, rt.alloc(), LEARNT)
+fn trees_grow_and_pass_on_addresses(rt: HostRuntime) {
+    grows(&rt, REFUSALS);
+    grows(&rt, CHAIN);
+    grows(&rt, TELEVISION);
+    grows(&rt, AMPLIFIER);
+    grows(&rt, LEARNT);
 }

@@ -2,19 +2,18 @@
 use crate::words::{bits_of, bits_text, frame_of};
 use arrayvec::ArrayVec;
 use cec_frame::{Ending, Frame, Reading, winners};
-use std::alloc::Global;
-use std::test::Fail;
+use std::process::Abort;
 
 /// Whether the first of two frames goes before the second, and the second before the first, and who wins.
-fn order_of(alloc: Global, first: Frame, second: Frame) -> Result<String, Fail> {
+fn order_of(rt: &(impl Abort + AllocGlobal), first: Frame, second: Frame) -> String {
     let (before, behind) = (first.precedes(&second), second.precedes(&first));
     let winners = winners(&[first, second]);
-    Ok(format!(in alloc; "{before} {behind} {:?}", winners.as_slice())?)
+    format!(in rt.alloc(); "{before} {behind} {:?}", winners.as_slice()).expect(rt, "a text")
 }
 
-pub(crate) fn order_text(alloc: Global, words: &str) -> Result<String, Fail> {
-    let (first, second) = words.split_once(' ').ok_or("no second frame")?;
-    order_of(alloc, frame_of(first)?, frame_of(second)?)
+pub(crate) fn order_text(rt: &(impl Abort + AllocGlobal), words: &str) -> String {
+    let (first, second) = words.split_once(' ').expect(rt, "two frames");
+    order_of(rt, frame_of(rt, first), frame_of(rt, second))
 }
 
 /// The bits that a frame sends.
@@ -27,19 +26,19 @@ fn sent_bits(frame: &Frame) -> ArrayVec<bool, 160> {
 }
 
 /// Who sends a frame to whom, whether it is a poll, the bits that it sends, or the bytes of its copy.
-fn part_of(alloc: Global, verb: &str, frame: &Frame) -> Result<String, Fail> {
+fn part_of(rt: &(impl Abort + AllocGlobal), verb: &str, frame: &Frame) -> String {
     match verb {
-        "from" => Ok(format!(in alloc; "{}", frame.initiator().value())?),
-        "to" => Ok(format!(in alloc; "{}", frame.destination().value())?),
-        "poll" => Ok(format!(in alloc; "{}", frame.is_poll())?),
-        "bits" => bits_text(alloc, &sent_bits(frame)),
-        "bytes" => Ok(format!(in alloc; "{:?}", frame.copy().bytes())?),
-        _ => Err(Fail::from("no verb")),
+        "from" => format!(in rt.alloc(); "{}", frame.initiator().value()).expect(rt, "a text"),
+        "to" => format!(in rt.alloc(); "{}", frame.destination().value()).expect(rt, "a text"),
+        "poll" => format!(in rt.alloc(); "{}", frame.is_poll()).expect(rt, "a text"),
+        "bits" => bits_text(rt, &sent_bits(frame)),
+        "bytes" => format!(in rt.alloc(); "{:?}", frame.copy().bytes()).expect(rt, "a text"),
+        _ => String::from_str(rt.alloc(), "no such verb").expect(rt, "a text"),
     }
 }
 
-pub(crate) fn part_text(alloc: Global, verb: &str, word: &str) -> Result<String, Fail> {
-    part_of(alloc, verb, &frame_of(word)?)
+pub(crate) fn part_text(rt: &(impl Abort + AllocGlobal), verb: &str, word: &str) -> String {
+    part_of(rt, verb, &frame_of(rt, word))
 }
 
 /// A reading that ended complete, or else in silence.
@@ -57,10 +56,10 @@ fn reading_of(ending: &str, bits: &str) -> Reading {
 }
 
 /// The bytes of the frame that a reading has, if any.
-pub(crate) fn received_text(alloc: Global, words: &str) -> Result<String, Fail> {
-    let (ending, bits) = words.split_once(' ').ok_or("no bits")?;
+pub(crate) fn received_text(rt: &(impl Abort + AllocGlobal), words: &str) -> String {
+    let (ending, bits) = words.split_once(' ').expect(rt, "bits");
     match reading_of(ending, bits).frame() {
-        Some(frame) => Ok(format!(in alloc; "{:?}", frame.bytes())?),
-        None => Ok(String::from_str(alloc, "none")?),
+        Some(frame) => format!(in rt.alloc(); "{:?}", frame.bytes()).expect(rt, "a text"),
+        None => String::from_str(rt.alloc(), "none").expect(rt, "a text"),
     }
 }

@@ -9,9 +9,7 @@ use crate::words::{bits_of, bits_text, is_told, number, stretches_of};
 use cec_bits::read_line;
 use cec_frame::Reading;
 use cec_wave::{Pulses, Stretch, Wave, lay};
-use std::alloc::Global;
 use std::process::Abort;
-use std::test::Fail;
 
 /// What is asked, of which words, and what is told. `12000:01` are a sender's bits from 12,000 on.
 const CASES: &str = "\
@@ -122,72 +120,69 @@ fn reading_of(line: &[Stretch]) -> Option<Reading> {
 }
 
 /// What a sender of such bits pulls, as `12000:01`.
-pub(crate) fn laid(word: &str) -> Result<Wave<161>, Fail> {
-    let (start, bits) = word.split_once(':').ok_or("no bits")?;
-    Ok(lay(&bits_of(bits), u64::from(number(start)?)))
+pub(crate) fn laid(rt: &impl Abort, word: &str) -> Wave<161> {
+    let (start, bits) = word.split_once(':').expect(rt, "bits");
+    lay(&bits_of(bits), u64::from(number(rt, start)))
 }
 
-fn laid_text(alloc: Global, word: &str) -> Result<String, Fail> {
-    Ok(format!(in alloc; "{:?}", laid(word)?.as_slice())?)
+fn laid_text(rt: &(impl Abort + AllocGlobal), word: &str) -> String {
+    format!(in rt.alloc(); "{:?}", laid(rt, word).as_slice()).expect(rt, "a text")
 }
 
-fn pulses_text(alloc: Global, words: &str) -> Result<String, Fail> {
-    let pulses = Pulses::new(&stretches_of(words)?)?;
-    Ok(format!(in alloc; "{:?}", pulses.as_slice())?)
+fn pulses_text(rt: &(impl Abort + AllocGlobal), words: &str) -> String {
+    let pulses = Pulses::new(&stretches_of(rt, words)).expect(rt, "pulses");
+    format!(in rt.alloc(); "{:?}", pulses.as_slice()).expect(rt, "a text")
 }
 
 /// What is read of what a sender pulls.
-fn reading_of_sender(word: &str) -> Result<Reading, Fail> {
-    let (start, _bits) = word.split_once(':').ok_or("no bits")?;
-    let start = u64::from(number(start)?);
-    Ok(read_line(laid(word)?.as_slice(), start))
+fn reading_of_sender(rt: &impl Abort, word: &str) -> Reading {
+    let (start, _bits) = word.split_once(':').expect(rt, "bits");
+    let start = u64::from(number(rt, start));
+    read_line(laid(rt, word).as_slice(), start)
 }
 
-fn reading_of_words(words: &str) -> Result<Reading, Fail> {
+fn reading_of_words(rt: &impl Abort, words: &str) -> Reading {
     if words.contains(':') {
-        return reading_of_sender(words);
+        return reading_of_sender(rt, words);
     }
-    Ok(reading_of(&stretches_of(words)?).ok_or("no line")?)
+    reading_of(&stretches_of(rt, words)).expect(rt, "a line")
 }
 
 /// When and how a reading ends, and its bits.
-fn read_text(alloc: Global, words: &str) -> Result<String, Fail> {
-    let reading = reading_of_words(words)?;
-    let bits = bits_text(alloc, &reading.bits)?;
-    Ok(format!(in alloc; "{} {:?} [{bits}]", reading.at, reading.ending)?)
+fn read_text(rt: &(impl Abort + AllocGlobal), words: &str) -> String {
+    let reading = reading_of_words(rt, words);
+    let bits = bits_text(rt, &reading.bits);
+    format!(in rt.alloc(); "{} {:?} [{bits}]", reading.at, reading.ending).expect(rt, "a text")
 }
 
 /// What is told of what is asked.
-fn told(alloc: Global, asked: &str) -> Result<String, Fail> {
+fn told(rt: &(impl Abort + AllocGlobal), asked: &str) -> String {
     let (verb, words) = asked.split_once(' ').unwrap_or((asked, ""));
     match verb {
-        "lay" => laid_text(alloc, words),
-        "pulses" => pulses_text(alloc, words),
-        "read" => read_text(alloc, words),
-        "last" => last_text(alloc, words),
-        "stand" => standing_text(alloc, words),
-        "order" => order_text(alloc, words),
-        "received" => received_text(alloc, words),
-        "pulls" => pull_text(alloc, words),
-        "state" => state_text(alloc, words),
-        _ => part_text(alloc, verb, words),
+        "lay" => laid_text(rt, words),
+        "pulses" => pulses_text(rt, words),
+        "read" => read_text(rt, words),
+        "last" => last_text(rt, words),
+        "stand" => standing_text(rt, words),
+        "order" => order_text(rt, words),
+        "received" => received_text(rt, words),
+        "pulls" => pull_text(rt, words),
+        "state" => state_text(rt, words),
+        _ => part_text(rt, verb, words),
     }
 }
 
 /// Asserts that a case comes out as it was worked out. A comment is none.
-fn comes_out(rt: &impl Abort, alloc: Global, case: &str) -> Result<(), Fail> {
-    if case.starts_with('#') {
-        return Ok(());
+fn comes_out(rt: &(impl Abort + AllocGlobal), case: &str) {
+    if !case.starts_with('#') {
+        let (asked, want) = case.split_once(" => ").expect(rt, "an answer");
+        is_told(rt, told(rt, asked), want, asked);
     }
-    let (asked, want) = case.split_once(" => ").ok_or("no answer")?;
-    is_told(rt, told(alloc, asked)?, want, asked);
-    Ok(())
 }
 
 #[test]
-fn cases_come_out_as_worked_out(rt: HostRuntime) -> Result<(), Fail> {
+fn cases_come_out_as_worked_out(rt: HostRuntime) {
     for case in CASES.lines() {
-        comes_out(&rt, rt.alloc(), case)?;
+        comes_out(&rt, case);
     }
-    Ok(())
 }

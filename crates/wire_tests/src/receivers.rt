@@ -3,8 +3,7 @@ use crate::lines::laid;
 use crate::words::number;
 use cec_bits::{Receiver, Told};
 use cec_wave::Stretch;
-use std::alloc::Global;
-use std::test::Fail;
+use std::process::Abort;
 
 /// No line of these tests goes on longer.
 const END: u64 = 1_000_000;
@@ -76,37 +75,36 @@ impl Listener {
     }
 
     /// An instant at which the line falls or rises, one at which it stays as it is, or what a sender pulls.
-    fn take(&mut self, word: &str) -> Result<(), Fail> {
+    fn take(&mut self, rt: &impl Abort, word: &str) {
         if let Some(at) = word.strip_prefix('.') {
-            self.tick(u64::from(number(at)?));
+            self.tick(u64::from(number(rt, at)));
         } else if word.contains(':') {
-            self.hear_line(laid(word)?.as_slice());
+            self.hear_line(laid(rt, word).as_slice());
         } else {
-            self.hear(u64::from(number(word)?));
+            self.hear(u64::from(number(rt, word)));
         }
-        Ok(())
     }
 }
 
 /// A receiver of a line that falls and rises in turn at these instants.
-fn listener_of(words: &str) -> Result<Listener, Fail> {
+fn listener_of(rt: &impl Abort, words: &str) -> Listener {
     let mut listener = Listener::new();
     for word in words.split_whitespace() {
-        listener.take(word)?;
+        listener.take(rt, word);
     }
-    Ok(listener)
+    listener
 }
 
 /// What is told last, and when.
-pub(crate) fn last_text(alloc: Global, words: &str) -> Result<String, Fail> {
-    let mut listener = listener_of(words)?;
+pub(crate) fn last_text(rt: &(impl Abort + AllocGlobal), words: &str) -> String {
+    let mut listener = listener_of(rt, words);
     listener.wait(END);
-    Ok(format!(in alloc; "{} {:?}", listener.at, listener.told)?)
+    format!(in rt.alloc(); "{} {:?}", listener.at, listener.told).expect(rt, "a text")
 }
 
 /// Where it stands before it wakes again, when that is, and how often something was told.
-pub(crate) fn standing_text(alloc: Global, words: &str) -> Result<String, Fail> {
-    let listener = listener_of(words)?;
+pub(crate) fn standing_text(rt: &(impl Abort + AllocGlobal), words: &str) -> String {
+    let listener = listener_of(rt, words);
     let (standing, wake) = (listener.receiver.standing(), listener.receiver.wakes_at());
-    Ok(format!(in alloc; "{standing:?} {wake:?} {}", listener.count)?)
+    format!(in rt.alloc(); "{standing:?} {wake:?} {}", listener.count).expect(rt, "a text")
 }

@@ -2,17 +2,15 @@
 use arrayvec::ArrayVec;
 use cec_frame::Frame;
 use cec_wave::Stretch;
-use std::alloc::Global;
 use std::process::Abort;
-use std::test::Fail;
 
 /// Asserts that this is told of a case.
 pub(crate) fn is_told(rt: &impl Abort, told: String, want: &str, case: &str) {
     assert!(rt; told.as_str() == want, "{case}: {told}");
 }
 
-pub(crate) fn number(word: &str) -> Result<u32, Fail> {
-    Ok(word.parse()?)
+pub(crate) fn number(rt: &impl Abort, word: &str) -> u32 {
+    word.parse().expect(rt, "a number")
 }
 
 /// The bits that a word of zeros and ones spells.
@@ -24,36 +22,37 @@ pub(crate) fn bits_of(word: &str) -> ArrayVec<bool, 160> {
     bits
 }
 
-pub(crate) fn bits_text(alloc: Global, bits: &[bool]) -> Result<String, Fail> {
-    let mut text = String::new(alloc);
+pub(crate) fn bits_text(rt: &(impl Abort + AllocGlobal), bits: &[bool]) -> String {
+    let mut text = String::new(rt.alloc());
     for bit in bits {
-        text.push(if *bit { '1' } else { '0' })?;
+        let digit = if *bit { '1' } else { '0' };
+        text.push(digit).expect(rt, "a text");
     }
-    Ok(text)
+    text
 }
 
 /// A stretch, as `1000-4700`.
-fn stretch_of(word: &str) -> Result<Stretch, Fail> {
-    let (from, to) = word.split_once('-').ok_or("no stretch")?;
-    Ok(Stretch {
-        from: u64::from(number(from)?),
-        to: u64::from(number(to)?),
-    })
+fn stretch_of(rt: &impl Abort, word: &str) -> Stretch {
+    let (from, to) = word.split_once('-').expect(rt, "a stretch");
+    Stretch {
+        from: u64::from(number(rt, from)),
+        to: u64::from(number(rt, to)),
+    }
 }
 
-pub(crate) fn stretches_of(words: &str) -> Result<ArrayVec<Stretch, 8>, Fail> {
+pub(crate) fn stretches_of(rt: &impl Abort, words: &str) -> ArrayVec<Stretch, 8> {
     let mut stretches = ArrayVec::new();
     for word in words.split(' ') {
-        let _ = stretches.try_push(stretch_of(word)?);
+        let _ = stretches.try_push(stretch_of(rt, word));
     }
-    Ok(stretches)
+    stretches
 }
 
 /// A frame of bytes in hex, as `40,04`.
-pub(crate) fn frame_of(word: &str) -> Result<Frame, Fail> {
+pub(crate) fn frame_of(rt: &impl Abort, word: &str) -> Frame {
     let mut bytes: ArrayVec<u8, 16> = ArrayVec::new();
     for digits in word.split(',') {
-        let _ = bytes.try_push(u8::from_str_radix(digits, 16)?);
+        let _ = bytes.try_push(u8::from_str_radix(digits, 16).expect(rt, "a byte"));
     }
-    Ok(Frame::new(&bytes)?)
+    Frame::new(&bytes).expect(rt, "a frame")
 }
