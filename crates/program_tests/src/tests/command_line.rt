@@ -2,12 +2,12 @@ use super::*;
 use hdminet_program::Fault;
 use hdminet_program::program::tell;
 use std::alloc::AllocError;
+use std::process::Abort;
 
 /// The program shows a text on standard output that has this part.
-fn shows(rt: &impl Abort, alloc: Global, line: &str, part: &str) -> Result<(), Fail> {
-    let text = written(rt, alloc, line, b"")?;
+fn shows(rt: &(impl Abort + AllocGlobal), line: &str, part: &str) {
+    let text = written(rt, line, b"");
     expect(rt, text.as_str().contains(part), line, part);
-    Ok(())
 }
 
 /// A command line, and a part of what it shows, with `;` for a line feed.
@@ -61,17 +61,15 @@ const FRAMES: &str = "  00 feature-abort BYTE REASON
 ";
 
 #[test]
-fn explains_itself_and_lists_the_frames(rt: HostRuntime) -> Result<(), Fail> {
-    let alloc = rt.alloc();
+fn explains_itself_and_lists_the_frames(rt: HostRuntime) {
     for case in HELP.lines() {
-        let (line, part) = two_parts(case)?;
-        shows(&rt, alloc, line, with_lines(alloc, part)?.as_str())?;
+        let (line, part) = two_parts(case);
+        shows(&rt, line, with_lines(&rt, part).as_str());
     }
     for frame in FRAMES.lines() {
-        let whole = format!(in alloc; "\n{frame}\n")?;
-        shows(&rt, alloc, "asm --help", whole.as_str())?;
+        let whole = format!(in rt.alloc(); "\n{frame}\n").expect(&rt, "a text");
+        shows(&rt, "asm --help", whole.as_str());
     }
-    Ok(())
 }
 
 /// Words that are no command line.
@@ -89,58 +87,41 @@ step tv.steps
 ";
 
 /// The program refuses these words.
-fn refuses_line(rt: &impl Abort, alloc: Global, line: &str) -> Result<(), Fail> {
-    let told = answer_to(alloc, line, b"".as_slice())?;
+fn refuses_line(rt: &(impl Abort + AllocGlobal), line: &str) {
+    let told = told_of(rt, line, b"".as_slice(), AMPLE);
     let refused = told.status == 2 && told.out.is_empty() && !told.err.is_empty();
     expect(rt, refused, line, "refused");
-    Ok(())
 }
 
 #[test]
-fn refuses_other_command_lines(rt: HostRuntime) -> Result<(), Fail> {
+fn refuses_other_command_lines(rt: HostRuntime) {
     for line in REFUSED.lines() {
-        refuses_line(&rt, rt.alloc(), line)?;
+        refuses_line(&rt, line);
     }
-    Ok(())
 }
 
 #[test]
-fn tells_that_help_was_not_written(rt: HostRuntime) -> Result<(), Fail> {
-    writes_front(&rt, rt.alloc(), "--help", b"", b"Emulates ")
+fn tells_that_help_was_not_written(rt: HostRuntime) {
+    writes_front(&rt, "--help", b"", b"Emulates ");
 }
 
 /// The program tells of a fault so, and ends with this status.
-fn tells(
-    rt: &impl Abort,
-    alloc: Global,
-    fault: &Fault,
-    text: &str,
-    status: u8,
-) -> Result<(), Fail> {
-    let mut err = Vec::new(alloc);
-    let told = tell(fault, &mut Writes::new(&mut err)) == status;
+fn tells(rt: &(impl Abort + AllocGlobal), fault: Fault, text: &str, status: u8) {
+    let mut err = Vec::new(rt.alloc());
+    let told = tell(&fault, &mut Writes::new(&mut err)) == status;
     expect(rt, told && err.as_slice() == text.as_bytes(), "", text);
-    Ok(())
 }
 
 /// The program was not handed its words, for this reason.
-fn tells_of_words(
-    rt: &impl Abort,
-    alloc: Global,
-    reason: ErrorKind,
-    text: &str,
-    status: u8,
-) -> Result<(), Fail> {
-    let fault = Fault::of_words(io::Error::from(reason));
-    tells(rt, alloc, &fault, text, status)
+fn of_words(reason: ErrorKind) -> Fault {
+    Fault::of_words(io::Error::from(reason))
 }
 
 #[test]
-fn tells_why_it_has_no_words_or_no_memory(rt: HostRuntime) -> Result<(), Fail> {
-    let alloc = rt.alloc();
+fn tells_why_it_has_no_words_or_no_memory(rt: HostRuntime) {
     let no_memory = "hdminet: no memory\n";
-    tells(&rt, alloc, &Fault::Memory(AllocError), no_memory, 4)?;
-    tells_of_words(&rt, alloc, ErrorKind::OutOfMemory, no_memory, 4)?;
+    tells(&rt, Fault::Memory(AllocError), no_memory, 4);
+    tells(&rt, of_words(ErrorKind::OutOfMemory), no_memory, 4);
     let not_text = "hdminet: an argument is not UTF-8\n";
-    tells_of_words(&rt, alloc, ErrorKind::InvalidData, not_text, 2)
+    tells(&rt, of_words(ErrorKind::InvalidData), not_text, 2);
 }

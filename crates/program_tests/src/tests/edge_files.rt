@@ -1,5 +1,6 @@
 //! Runs, and the edges of their lines, worked out by hand from the times of a sender.
 use super::*;
+use std::process::Abort;
 
 /// A television polls address 0, and the script ends before the round has closed.
 pub(super) const POLL: &str = "device tv tv 1\nscript\nend 20000\n";
@@ -48,33 +49,21 @@ const RUNS: &[Case<'static>] = &[
 ];
 
 #[test]
-fn a_run_has_its_edges(rt: HostRuntime) -> Result<(), Fail> {
-    let alloc = rt.alloc();
-    let (input, edges) = (POLL.as_bytes(), POLL_EDGES.as_bytes());
-    gives_each(&rt, alloc, RUNS)?;
-    cuts(&rt, alloc, "run --edges", input, edges, &[30, 0])
+fn a_run_has_its_edges(rt: HostRuntime) {
+    gives_each(&rt, RUNS);
 }
 
 /// The edge file of a run has this part, and is read so.
-fn is_read(
-    rt: &impl Abort,
-    alloc: Global,
-    input: &str,
-    part: &str,
-    readings: &str,
-) -> Result<(), Fail> {
-    let edges = written(rt, alloc, "run --edges", input.as_bytes())?;
+fn is_read(rt: &(impl Abort + AllocGlobal), input: &str, part: &str, readings: &str) {
+    let edges = written(rt, "run --edges", input.as_bytes());
     let edges = edges.as_str();
     let right = edges.contains(part) && edges.ends_with(" end\n");
     expect(rt, right, "run --edges", input);
-    let read = Case {
-        name: input,
-        line: "mon",
-        input: edges,
-        want: readings,
-    };
-    gives(rt, alloc, &read)
+    gives(rt, "mon", input, edges.as_bytes(), readings);
 }
+
+/// A television and a player in its first port.
+const PAIR: &str = "device tv tv 4\ndevice p1 player 0\nplug p1 tv 1\nscript\n";
 
 const TWO_READINGS: &str = "\
 12000 39150 complete 0>0 nack
@@ -114,7 +103,7 @@ const WIDE_BREAK_READINGS: &str = "\
 1021700 1072850 complete 4>0 image-view-on ack
 ";
 
-/// A script over a television and a player in its first port, a part of its edge file, and how that is read.
+/// A script over the two, a part of its edge file, and how that is read.
 const SCRIPTS: &[(&str, &str, &str)] = &[
     ("end 400000\n", "\n400000 end\n", TWO_READINGS),
     (
@@ -130,16 +119,12 @@ const SCRIPTS: &[(&str, &str, &str)] = &[
 ];
 
 #[test]
-fn the_line_of_a_run_is_read_as_its_rounds(rt: HostRuntime) -> Result<(), Fail> {
-    let alloc = rt.alloc();
+fn the_line_of_a_run_is_read_as_its_rounds(rt: HostRuntime) {
     for row in SCRIPTS {
         let (script, part, readings) = *row;
-        let input = format!(in alloc;
-            "device tv tv 4\ndevice p1 player 0\nplug p1 tv 1\nscript\n{script}"
-        )?;
-        is_read(&rt, alloc, input.as_str(), part, readings)?;
+        let input = format!(in rt.alloc(); "{PAIR}{script}").expect(&rt, "a text");
+        is_read(&rt, input.as_str(), part, readings);
     }
-    Ok(())
 }
 
 /// A wide pulse at a lone television that polls, and the readings of the run's edges, with `;` for each line feed.
@@ -151,17 +136,17 @@ pulse 12100 3801 => 12000 15901 bad-start -;23104 50254 complete 0>0 nack;
 ";
 
 /// The edges of a television with this pulse are read so.
-fn is_read_with(rt: &impl Abort, alloc: Global, pulse: &str, readings: &str) -> Result<(), Fail> {
-    let input = format!(in alloc; "device tv tv 1\nscript\n{pulse}\nend 28000\n")?;
-    let readings = with_lines(alloc, readings)?;
-    is_read(rt, alloc, input.as_str(), "", readings.as_str())
+fn is_read_with(rt: &(impl Abort + AllocGlobal), pulse: &str, readings: &str) {
+    let input = format!(in rt.alloc(); "device tv tv 1\nscript\n{pulse}\nend 28000\n");
+    let input = input.expect(rt, "an input");
+    let readings = with_lines(rt, readings);
+    is_read(rt, input.as_str(), "", readings.as_str());
 }
 
 #[test]
-fn the_edges_of_wide_pulses_are_read(rt: HostRuntime) -> Result<(), Fail> {
+fn the_edges_of_wide_pulses_are_read(rt: HostRuntime) {
     for case in WIDE.lines() {
-        let (pulse, readings) = two_parts(case)?;
-        is_read_with(&rt, rt.alloc(), pulse, readings)?;
+        let (pulse, readings) = two_parts(case);
+        is_read_with(&rt, pulse, readings);
     }
-    Ok(())
 }

@@ -1,4 +1,5 @@
 use super::*;
+use std::process::Abort;
 
 /// A base block with one extension to follow, up to its checksum, which is 51.
 const BASE: &str =
@@ -48,60 +49,53 @@ const TIMING: &str = "023a801871382d40582c450008222100001e";
 const TIMING_LINE: &str = "timing 14850 1920 280 1080 45 88 44 4 5 520 290 0 0 1e\n";
 
 /// Both blocks in hex, of an extension with this front and checksum.
-pub(super) fn blocks(alloc: Global, front: &str, check: &str) -> Result<String, Fail> {
-    Ok(format!(in alloc; "{BASE}51{front:0<254}{check}")?)
+pub(super) fn blocks(rt: &(impl Abort + AllocGlobal), front: &str, check: &str) -> String {
+    format!(in rt.alloc(); "{BASE}51{front:0<254}{check}").expect(rt, "two blocks")
 }
 
 /// Both blocks in hex, with a change of the base block: a part of it, what stands in its place, and the checksum.
-fn changed(alloc: Global, change: &str) -> Result<String, Fail> {
-    let (from, rest) = change.split_once(' ').ok_or("no change")?;
-    let (to, check) = rest.split_once(' ').ok_or("no checksum")?;
-    let (front, rest) = BASE.split_once(from).ok_or("no such part")?;
-    Ok(format!(in alloc; "{front}{to}{rest}{check}{EXTENSION:0<254}e8")?)
+fn changed(rt: &(impl Abort + AllocGlobal), change: &str) -> String {
+    let (from, rest) = change.split_once(' ').expect(rt, "a change");
+    let (to, check) = rest.split_once(' ').expect(rt, "a checksum");
+    let (front, rest) = BASE.split_once(from).expect(rt, "such a part");
+    let digits = format!(in rt.alloc(); "{front}{to}{rest}{check}{EXTENSION:0<254}e8");
+    digits.expect(rt, "two blocks")
 }
 
 /// The text of the base block, and another text behind it.
-fn behind_base(alloc: Global, extension: &str) -> Result<String, Fail> {
-    Ok(format!(in alloc; "{BASE_TEXT}{extension}")?)
+fn behind_base(rt: &(impl Abort + AllocGlobal), extension: &str) -> String {
+    format!(in rt.alloc(); "{BASE_TEXT}{extension}").expect(rt, "a text")
 }
 
 /// The text of both blocks, with another text in place of a part.
-fn changed_text(alloc: Global, from: &str, to: &str) -> Result<String, Fail> {
-    let text = behind_base(alloc, EXTENSION_TEXT)?;
-    let (front, rest) = text.as_str().split_once(from).ok_or("no such part")?;
-    Ok(format!(in alloc; "{front}{to}{rest}")?)
+fn changed_text(rt: &(impl Abort + AllocGlobal), from: &str, to: &str) -> String {
+    let text = behind_base(rt, EXTENSION_TEXT);
+    let (front, rest) = text.as_str().split_once(from).expect(rt, "such a part");
+    format!(in rt.alloc(); "{front}{to}{rest}").expect(rt, "a text")
+}
+
+/// The bytes of these digits.
+fn bytes_of(rt: &(impl Abort + AllocGlobal), digits: &str) -> Vec<u8> {
+    hex::decode(rt.alloc(), digits).expect(rt, "hex digits")
+}
+
+/// The program writes this text for the bytes of these digits.
+pub(super) fn has_text(rt: &(impl Abort + AllocGlobal), name: &str, digits: &str, text: &str) {
+    gives(rt, "edid", name, &bytes_of(rt, digits), text);
 }
 
 /// The bytes of these digits have this text, and the text these digits.
-fn goes_both_ways(rt: &impl Abort, alloc: Global, digits: &str, text: &str) -> Result<(), Fail> {
-    let line = format!(in alloc; "{digits}\n")?;
-    let from_bytes = Case {
-        name: digits,
-        line: "edid",
-        input: digits,
-        want: text,
-    };
-    let from_text = Case {
-        name: text,
-        line: "edid --text",
-        input: text,
-        want: line.as_str(),
-    };
-    gives_for_bytes(rt, alloc, &from_bytes)?;
-    gives(rt, alloc, &from_text)
+fn goes_both_ways(rt: &(impl Abort + AllocGlobal), digits: &str, text: &str) {
+    let line = format!(in rt.alloc(); "{digits}\n").expect(rt, "a line");
+    has_text(rt, digits, digits, text);
+    gives(rt, "edid --text", text, text.as_bytes(), line.as_str());
 }
 
 /// An EDID with this extension has this text of it, both ways.
-fn extends_both_ways(
-    rt: &impl Abort,
-    alloc: Global,
-    front: &str,
-    check: &str,
-    text: &str,
-) -> Result<(), Fail> {
-    let digits = blocks(alloc, front, check)?;
-    let text = behind_base(alloc, text)?;
-    goes_both_ways(rt, alloc, digits.as_str(), text.as_str())
+fn extends_both_ways(rt: &(impl Abort + AllocGlobal), front: &str, check: &str, text: &str) {
+    let digits = blocks(rt, front, check);
+    let text = behind_base(rt, text);
+    goes_both_ways(rt, digits.as_str(), text.as_str());
 }
 
 /// An extension up to its zeros, its checksum, and its text with `;` for each line feed: four data blocks; neither data blocks
@@ -114,12 +108,14 @@ const EXTENSIONS: &str = "\
 ";
 
 /// Timings up to a tail of 15 bytes.
-fn full_of_timings(rt: &impl Abort, alloc: Global) -> Result<(), Fail> {
-    let timings = TIMING.repeat(alloc, 6)?;
-    let lines = TIMING_LINE.repeat(alloc, 6)?;
-    let front = format!(in alloc; "020304f1{timings}0102030405060708090a0b0c0d0e0f")?;
-    let text = format!(in alloc; "cta f1\n{lines}tail 0102030405060708090a0b0c0d0e0f\n")?;
-    extends_both_ways(rt, alloc, front.as_str(), "e6", text.as_str())
+fn full_of_timings(rt: &(impl Abort + AllocGlobal)) {
+    let timings = TIMING.repeat(rt.alloc(), 6).expect(rt, "timings");
+    let lines = TIMING_LINE.repeat(rt.alloc(), 6).expect(rt, "lines");
+    let front = format!(in rt.alloc(); "020304f1{timings}0102030405060708090a0b0c0d0e0f");
+    let front = front.expect(rt, "a front");
+    let text = format!(in rt.alloc(); "cta f1\n{lines}tail 0102030405060708090a0b0c0d0e0f\n");
+    let text = text.expect(rt, "a text");
+    extends_both_ways(rt, front.as_str(), "e6", text.as_str());
 }
 
 /// An extension and its checksum: a data block that runs past the timings, and a place of the timings behind the block.
@@ -129,24 +125,22 @@ const FORMLESS: &str = "\
 ";
 
 /// An extension that fits no form is kept as its digits.
-fn is_kept(rt: &impl Abort, alloc: Global, front: &str, check: &str) -> Result<(), Fail> {
-    let text = format!(in alloc; "ext {front:0<254}{check}\n")?;
-    extends_both_ways(rt, alloc, front, check, text.as_str())
+fn is_kept(rt: &(impl Abort + AllocGlobal), front: &str, check: &str) {
+    let text = format!(in rt.alloc(); "ext {front:0<254}{check}\n").expect(rt, "a text");
+    extends_both_ways(rt, front, check, text.as_str());
 }
 
 #[test]
-fn writes_extensions_both_ways(rt: HostRuntime) -> Result<(), Fail> {
-    let alloc = rt.alloc();
-    full_of_timings(&rt, alloc)?;
+fn writes_extensions_both_ways(rt: HostRuntime) {
+    full_of_timings(&rt);
     for case in EXTENSIONS.lines() {
-        let (front, check, text) = three_parts(case)?;
-        extends_both_ways(&rt, alloc, front, check, with_lines(alloc, text)?.as_str())?;
+        let (front, check, text) = three_parts(case);
+        extends_both_ways(&rt, front, check, with_lines(&rt, text).as_str());
     }
     for case in FORMLESS.lines() {
-        let (front, check) = two_parts(case)?;
-        is_kept(&rt, alloc, front, check)?;
+        let (front, check) = two_parts(case);
+        is_kept(&rt, front, check);
     }
-    Ok(())
 }
 
 /// A change of the base block, a part of the text, and what stands in its place: a clock whose low byte is 0; thirteen
@@ -158,15 +152,13 @@ const DESCRIPTORS: &str = "\
 ";
 
 #[test]
-fn writes_descriptors_both_ways(rt: HostRuntime) -> Result<(), Fail> {
-    let alloc = rt.alloc();
+fn writes_descriptors_both_ways(rt: HostRuntime) {
     for case in DESCRIPTORS.lines() {
-        let (change, from, to) = three_parts(case)?;
-        let digits = changed(alloc, change)?;
-        let text = changed_text(alloc, from, to)?;
-        goes_both_ways(&rt, alloc, digits.as_str(), text.as_str())?;
+        let (change, from, to) = three_parts(case);
+        let digits = changed(&rt, change);
+        let text = changed_text(&rt, from, to);
+        goes_both_ways(&rt, digits.as_str(), text.as_str());
     }
-    Ok(())
 }
 
 /// How many bytes of both blocks are refused, and how.
@@ -188,40 +180,30 @@ const CHANGED: &str = "\
 ";
 
 /// The bytes of these digits are refused as an EDID.
-fn is_no_edid(rt: &impl Abort, alloc: Global, digits: &str, cause: &str) -> Result<(), Fail> {
-    let bytes = hex::decode(alloc, digits)?;
-    let fault = format!(in alloc; "edid: {cause}")?;
-    let case = Case {
-        name: digits,
-        line: "edid",
-        input: digits,
-        want: fault.as_str(),
-    };
-    refuses_bytes(rt, alloc, &case, &bytes)
+fn is_no_edid(rt: &(impl Abort + AllocGlobal), digits: &str, cause: &str) {
+    let fault = format!(in rt.alloc(); "edid: {cause}").expect(rt, "a fault");
+    refuses(rt, "edid", digits, &bytes_of(rt, digits), fault.as_str());
 }
 
 #[test]
-fn refuses_the_front_of_an_edid(rt: HostRuntime) -> Result<(), Fail> {
-    let alloc = rt.alloc();
-    let digits = blocks(alloc, EXTENSION, "e8")?;
+fn refuses_the_front_of_an_edid(rt: HostRuntime) {
+    let digits = blocks(&rt, EXTENSION, "e8");
     let digits = digits.as_str();
     for row in FRONTS {
         let (count, cause) = *row;
-        let front = digits.get(..count.saturating_mul(2)).ok_or("too short")?;
-        is_no_edid(&rt, alloc, front, cause)?;
+        let front = digits.get(..count.saturating_mul(2)).expect(&rt, "a front");
+        is_no_edid(&rt, front, cause);
     }
-    Ok(())
 }
 
 #[test]
-fn tells_why_bytes_are_no_edid(rt: HostRuntime) -> Result<(), Fail> {
-    let alloc = rt.alloc();
+fn tells_why_bytes_are_no_edid(rt: HostRuntime) {
     for case in CHANGED.lines() {
-        let (change, cause) = two_parts(case)?;
-        is_no_edid(&rt, alloc, changed(alloc, change)?.as_str(), cause)?;
+        let (change, cause) = two_parts(case);
+        is_no_edid(&rt, changed(&rt, change).as_str(), cause);
     }
-    let digits = blocks(alloc, EXTENSION, "e9")?;
-    is_no_edid(&rt, alloc, digits.as_str(), "ext 1 checksum")
+    let digits = blocks(&rt, EXTENSION, "e9");
+    is_no_edid(&rt, digits.as_str(), "ext 1 checksum");
 }
 
 /// A part of the text of both blocks, what stands in its place, and how that is refused. `;` stands for a line feed.
@@ -240,54 +222,33 @@ name \"LOUNGE TV 001\" => raw 000000fc004c4f554e474520545620303031 => field 21
 ";
 
 /// The text of both blocks with this change is refused so.
-fn is_no_text(rt: &impl Abort, alloc: Global, name: &str) -> Result<(), Fail> {
-    let (from, to, cause) = three_parts(name)?;
-    let (from, to) = (with_lines(alloc, from)?, with_lines(alloc, to)?);
-    let text = changed_text(alloc, from.as_str(), to.as_str())?;
-    let fault = format!(in alloc; "text: {cause}")?;
-    let case = Case {
-        name,
-        line: "edid --text",
-        input: text.as_str(),
-        want: fault.as_str(),
-    };
-    refuses(rt, alloc, &case)
+fn is_no_text(rt: &(impl Abort + AllocGlobal), name: &str) {
+    let (from, to, cause) = three_parts(name);
+    let (from, to) = (with_lines(rt, from), with_lines(rt, to));
+    let text = changed_text(rt, from.as_str(), to.as_str());
+    let fault = format!(in rt.alloc(); "text: {cause}").expect(rt, "a fault");
+    refuses(rt, "edid --text", name, text.as_bytes(), fault.as_str());
 }
 
-const NO_TEXT: Case<'static> = Case {
-    name: "no text",
-    line: "edid --text",
-    input: "",
-    want: "text: syntax 1",
-};
-
 #[test]
-fn names_the_line_of_a_text(rt: HostRuntime) -> Result<(), Fail> {
+fn names_the_line_of_a_text(rt: HostRuntime) {
     for case in CHANGED_TEXTS.lines() {
-        is_no_text(&rt, rt.alloc(), case)?;
+        is_no_text(&rt, case);
     }
-    refuses(&rt, rt.alloc(), &NO_TEXT)
+    refuses(&rt, "edid --text", "no text", b"", "text: syntax 1");
 }
 
 /// So many fronts of an input are taken, and its output is cut everywhere.
-fn is_cut(
-    rt: &impl Abort,
-    alloc: Global,
-    line: &str,
-    input: &[u8],
-    count: usize,
-) -> Result<(), Fail> {
-    let fronts = accepted_fronts(rt, alloc, line, input)?;
-    expect(rt, fronts == count, line, "fronts");
-    cuts_everywhere(rt, alloc, line, input)
+fn takes_and_writes(rt: &(impl Abort + AllocGlobal), line: &str, input: &[u8], count: usize) {
+    takes_fronts(rt, line, input, count);
+    is_cut(rt, line, input);
 }
 
 #[test]
-fn fronts_of_an_edid_and_of_its_text(rt: HostRuntime) -> Result<(), Fail> {
-    let alloc = rt.alloc();
-    let digits = blocks(alloc, EXTENSION, "e8")?;
-    is_cut(&rt, alloc, "edid", &hex::decode(alloc, digits.as_str())?, 1)?;
+fn fronts_of_an_edid_and_of_its_text(rt: HostRuntime) {
+    let digits = blocks(&rt, EXTENSION, "e8");
+    takes_and_writes(&rt, "edid", &bytes_of(&rt, digits.as_str()), 1);
     // The text of the base block alone is a text too: that of an EDID without an extension.
-    let text = behind_base(alloc, EXTENSION_TEXT)?;
-    is_cut(&rt, alloc, "edid --text", text.as_bytes(), 2)
+    let text = behind_base(&rt, EXTENSION_TEXT);
+    takes_and_writes(&rt, "edid --text", text.as_bytes(), 2);
 }

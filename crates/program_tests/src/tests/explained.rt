@@ -1,5 +1,6 @@
 //! What `--explain` adds, and that it changes nothing else.
 use super::*;
+use std::process::Abort;
 
 /// The words of a command line, an input with `;` for each line feed, and what follows the line of its fault.
 const CASES: &str = "\
@@ -48,40 +49,30 @@ step => 00ff; =>   a line `script`, and nothing else on it, parts the topology f
 step =>  =>   a line `script`, and nothing else on it, parts the topology from the script
 ";
 
-/// The answer is the plain one, whose fault ends here, with more behind it; neither has any output.
-fn adds_to(told: &Answer, plain: &Answer) -> bool {
-    told.status == plain.status
-        && told.err.starts_with(&plain.err)
-        && told.out.is_empty()
-        && plain.out.is_empty()
+/// The answer is the plain one, whose fault ends here, with this line and perhaps more behind it; neither has any output.
+fn adds_to(told: &Answer, plain: &Answer, second: &[u8]) -> bool {
+    let silent = told.out.is_empty() && plain.out.is_empty();
+    let behind = told.err.strip_prefix(plain.err.as_slice());
+    silent && told.status == plain.status && behind.unwrap_or(b"").starts_with(second)
 }
 
 /// The program refuses an input with one line, and with `--explain` the same line and this one follow.
-fn is_explained(
-    rt: &impl Abort,
-    alloc: Global,
-    line: &str,
-    input: &[u8],
-    second: &str,
-) -> Result<(), Fail> {
-    let explained = format!(in alloc; "{line} --explain")?;
-    let second_line = format!(in alloc; "{second}\n")?;
-    let told = answer_to(alloc, explained.as_str(), input)?;
-    let mut plain = answer_to(alloc, line, input)?;
-    plain.err.extend_from_slice(second_line.as_bytes())?;
-    expect(rt, adds_to(&told, &plain), line, second);
-    Ok(())
+fn is_explained(rt: &(impl Abort + AllocGlobal), line: &str, input: &[u8], second: &str) {
+    let explained = format!(in rt.alloc(); "{line} --explain").expect(rt, "a command line");
+    let second_line = format!(in rt.alloc(); "{second}\n").expect(rt, "a line");
+    let told = told_of(rt, explained.as_str(), input, AMPLE);
+    let plain = told_of(rt, line, input, AMPLE);
+    let right = adds_to(&told, &plain, second_line.as_bytes());
+    expect(rt, right, line, second);
 }
 
 #[test]
-fn faults_are_followed_by_their_explanation(rt: HostRuntime) -> Result<(), Fail> {
-    let alloc = rt.alloc();
+fn faults_are_followed_by_their_explanation(rt: HostRuntime) {
     for case in CASES.lines() {
-        let (line, text, second) = three_parts(case)?;
-        let input = with_lines(alloc, text)?;
-        is_explained(&rt, alloc, line, input.as_bytes(), second)?;
+        let (line, text, second) = three_parts(case);
+        let input = with_lines(&rt, text);
+        is_explained(&rt, line, input.as_bytes(), second);
     }
-    Ok(())
 }
 
 /// What is told where a writer fails after one byte.
@@ -89,33 +80,22 @@ const WRITE_FAULT: &[u8] = b"hdminet: write fault after 1 bytes
   standard output takes no more: is the disk full, or the reader gone? What was written before is the front of the output
 ";
 
-#[test]
-fn a_write_fault_is_explained(rt: HostRuntime) -> Result<(), Fail> {
-    let told = stingy_answer(rt.alloc(), "asm --explain", b"4>4\n", 1)?;
-    expect(&rt, told.is(3, b"4", WRITE_FAULT), "asm", "a write fault");
-    Ok(())
-}
-
-/// The flag changes nothing of what is done.
-const DONE: Case<'static> = Case {
-    name: "as without the flag",
-    line: "--explain asm",
-    input: "4>4\n",
-    want: "44\n",
-};
+/// A frame's line, which `asm` writes as `44`.
+const POLL: &[u8] = b"4>4\n";
 
 #[test]
-fn what_is_done_is_as_without_the_flag(rt: HostRuntime) -> Result<(), Fail> {
-    gives(&rt, rt.alloc(), &DONE)
+fn a_write_fault_is_explained_and_what_is_done_is_the_same(rt: HostRuntime) {
+    let told = told_of(&rt, "asm --explain", POLL, 1);
+    ends(&rt, told, 3, b"4", WRITE_FAULT, "asm", "a write fault");
+    gives(&rt, "--explain asm", "what is done", POLL, "44\n");
 }
 
 #[test]
-fn a_file_name_is_explained(rt: HostRuntime) -> Result<(), Fail> {
-    let told = answer_to(rt.alloc(), "run tv.net --explain", b"".as_slice())?;
+fn a_file_name_is_explained(rt: HostRuntime) {
+    let told = told_of(&rt, "run tv.net --explain", b"".as_slice(), AMPLE);
     let refused = told.status == 2 && told.out.is_empty();
-    let said = String::from_utf8(told.err)?;
+    let said = String::from_utf8(told.err).expect(&rt, "a text");
     let said = said.as_str();
     let explained = said.contains("tv.net") && said.ends_with("as `hdminet run < FILE`\n");
     expect(&rt, refused && explained, "run", said);
-    Ok(())
 }

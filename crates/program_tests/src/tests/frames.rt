@@ -1,4 +1,5 @@
 use super::*;
+use std::process::Abort;
 
 /// Texts of frames, with `;` for each line feed, and what is written for them.
 const TEXTS: &str = "\
@@ -15,24 +16,17 @@ const TEXTS: &str = "\
 ";
 
 /// A text of frames is written so.
-fn is_written(rt: &impl Abort, alloc: Global, name: &str) -> Result<(), Fail> {
-    let (text, hex) = two_parts(name)?;
-    let (text, hex) = (with_lines(alloc, text)?, with_lines(alloc, hex)?);
-    let case = Case {
-        name,
-        line: "asm",
-        input: text.as_str(),
-        want: hex.as_str(),
-    };
-    gives(rt, alloc, &case)
+fn is_written(rt: &(impl Abort + AllocGlobal), name: &str) {
+    let (text, hex) = two_parts(name);
+    let (text, hex) = (with_lines(rt, text), with_lines(rt, hex));
+    gives(rt, "asm", name, text.as_bytes(), hex.as_str());
 }
 
 #[test]
-fn writes_frames_in_hex(rt: HostRuntime) -> Result<(), Fail> {
+fn writes_frames_in_hex(rt: HostRuntime) {
     for case in TEXTS.lines() {
-        is_written(&rt, rt.alloc(), case)?;
+        is_written(&rt, case);
     }
-    Ok(())
 }
 
 /// The opcodes that have a name.
@@ -45,23 +39,20 @@ const NAMED: &[u8] = &[
 ];
 
 /// An opcode is spelled in hex where it has no name, and only there.
-fn is_spelled(rt: &impl Abort, alloc: Global, code: u8) -> Result<(), Fail> {
-    let text = format!(in alloc; "0>4 op-{code:02x} :")?;
-    let hex = format!(in alloc; "04{code:02x}\n")?;
-    let told = answer_to(alloc, "asm", text.as_bytes())?;
-    let right = if NAMED.contains(&code) {
-        told.is(1, b"", b"hdminet: line 1: name\n")
+fn is_spelled(rt: &(impl Abort + AllocGlobal), code: u8) {
+    let text = format!(in rt.alloc(); "0>4 op-{code:02x} :").expect(rt, "a line");
+    let text = text.as_str();
+    if NAMED.contains(&code) {
+        refuses(rt, "asm", text, text.as_bytes(), "line 1: name");
     } else {
-        told.is(0, hex.as_bytes(), b"")
-    };
-    expect(rt, right, "asm", text.as_str());
-    Ok(())
+        let hex = format!(in rt.alloc(); "04{code:02x}\n").expect(rt, "a frame");
+        gives(rt, "asm", text, text.as_bytes(), hex.as_str());
+    }
 }
 
 #[test]
-fn spells_opcodes_without_a_name_in_hex(rt: HostRuntime) -> Result<(), Fail> {
+fn spells_opcodes_without_a_name_in_hex(rt: HostRuntime) {
     for code in 0..=u8::MAX {
-        is_spelled(&rt, rt.alloc(), code)?;
+        is_spelled(&rt, code);
     }
-    Ok(())
 }

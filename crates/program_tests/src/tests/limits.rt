@@ -1,5 +1,6 @@
 //! How long an input may be, and readers that are slow or fail.
 use super::*;
+use std::process::Abort;
 
 /// The longest input, in bytes.
 const LIMIT: usize = 1_048_576;
@@ -36,61 +37,45 @@ impl<'a> Read for Slow<'a> {
 }
 
 /// A comment and a text behind it, so many bytes together.
-fn behind_comment(alloc: Global, length: usize, text: &str) -> Result<String, Fail> {
-    let mut input = "#".repeat(alloc, length.saturating_sub(text.len()))?;
-    input.push_str(text)?;
-    Ok(input)
+fn behind_comment(rt: &(impl Abort + AllocGlobal), length: usize, text: &str) -> String {
+    let comment = "#".repeat(rt.alloc(), length.saturating_sub(text.len()));
+    let mut input = comment.expect(rt, "a comment");
+    input.push_str(text).expect(rt, "an input");
+    input
 }
 
 /// A command line, what stands behind a comment in its input, and what it writes.
 const LONGEST: &[(&str, &str, &str)] = &[("", TELEVISION, TELEVISION_TRACE), ("asm", "", "")];
 
 #[test]
-fn reads_what_is_not_too_long(rt: HostRuntime) -> Result<(), Fail> {
+fn reads_what_is_not_too_long(rt: HostRuntime) {
     for row in LONGEST {
         let (line, text, want) = *row;
-        let input = behind_comment(rt.alloc(), LIMIT, text)?;
-        let case = Case {
-            name: "the longest input",
-            line,
-            input: input.as_str(),
-            want,
-        };
-        gives(&rt, rt.alloc(), &case)?;
+        let input = behind_comment(&rt, LIMIT, text);
+        gives(&rt, line, "the longest input", input.as_bytes(), want);
     }
-    Ok(())
 }
 
 /// The program reads nothing of an input, for this reason.
-fn reads_nothing<R: Read + Drop>(
-    rt: &impl Abort,
-    alloc: Global,
-    line: &str,
-    input: R,
-    why: &str,
-) -> Result<(), Fail> {
-    let told = answer_to(alloc, line, input)?;
-    expect(rt, told.is(3, b"", why.as_bytes()), line, why);
-    Ok(())
+fn reads_nothing<R: Read + Drop>(rt: &(impl Abort + AllocGlobal), line: &str, input: R, why: &str) {
+    let told = told_of(rt, line, input, AMPLE);
+    ends(rt, told, 3, b"", why.as_bytes(), line, why);
 }
 
 /// Each command that reads.
 const COMMANDS: &[&str] = &["run", "run --edges", "asm", "mon", "edid", "edid --text"];
 
 #[test]
-fn refuses_what_is_too_long(rt: HostRuntime) -> Result<(), Fail> {
-    let alloc = rt.alloc();
-    let input = behind_comment(alloc, LIMIT + 1, TELEVISION)?;
+fn refuses_what_is_too_long(rt: HostRuntime) {
+    let input = behind_comment(&rt, LIMIT + 1, TELEVISION);
     for line in COMMANDS {
         let input = input.as_bytes();
-        reads_nothing(&rt, alloc, line, input, "hdminet: input too long\n")?;
+        reads_nothing(&rt, line, input, "hdminet: input too long\n");
     }
-    Ok(())
 }
 
 #[test]
-fn tells_a_read_fault(rt: HostRuntime) -> Result<(), Fail> {
-    let alloc = rt.alloc();
+fn tells_a_read_fault(rt: HostRuntime) {
     let broken = Slow {
         rest: b"",
         fault: Some(ErrorKind::Interrupted),
@@ -99,18 +84,16 @@ fn tells_a_read_fault(rt: HostRuntime) -> Result<(), Fail> {
         rest: b"4>4\n",
         fault: Some(ErrorKind::Other),
     };
-    reads_nothing(&rt, alloc, "run", broken, "hdminet: read fault\n")?;
-    reads_nothing(&rt, alloc, "asm", slow, "hdminet: read fault\n")
+    reads_nothing(&rt, "run", broken, "hdminet: read fault\n");
+    reads_nothing(&rt, "asm", slow, "hdminet: read fault\n");
 }
 
 #[test]
-fn reads_byte_by_byte(rt: HostRuntime) -> Result<(), Fail> {
+fn reads_byte_by_byte(rt: HostRuntime) {
     let slow = Slow {
         rest: b"4>4\n4>f active-source 1.0.0.0",
         fault: None,
     };
-    let told = answer_to(rt.alloc(), "asm", slow)?;
-    let right = told.is(0, b"44\n4f821000\n", b"");
-    expect(&rt, right, "asm", "byte by byte");
-    Ok(())
+    let told = told_of(&rt, "asm", slow, AMPLE);
+    ends(&rt, told, 0, b"44\n4f821000\n", b"", "asm", "byte by byte");
 }

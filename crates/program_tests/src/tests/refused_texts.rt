@@ -1,5 +1,6 @@
 //! Texts that the commands refuse, and the line and cause that each is refused with.
 use super::*;
+use std::process::Abort;
 
 /// A topology, and the line and cause that it is refused with.
 const TOPOLOGIES: &str = "\
@@ -163,7 +164,6 @@ const FRAMES: &str = "\
 
 /// Cases, one a line: an input with `;` for each line feed, ` => `, and how the command refuses it; and the text before and
 /// after each input, and what each fault begins with.
-#[derive(Clone, Copy)]
 struct Table {
     line: &'static str,
     before: &'static str,
@@ -218,26 +218,20 @@ const REFUSALS: &[Table] = &[
 ];
 
 /// The command refuses this case of a table.
-fn is_refused(rt: &impl Abort, alloc: Global, table: &Table, name: &str) -> Result<(), Fail> {
-    let (text, cause) = two_parts(name)?;
-    let text = with_lines(alloc, text)?;
-    let input = format!(in alloc; "{}{text}{}", table.before, table.after)?;
-    let fault = format!(in alloc; "{}{cause}", table.fault)?;
-    let case = Case {
-        name,
-        line: table.line,
-        input: input.as_str(),
-        want: fault.as_str(),
-    };
-    refuses(rt, alloc, &case)
+fn is_refused(rt: &(impl Abort + AllocGlobal), table: &Table, name: &str) {
+    let (text, cause) = two_parts(name);
+    let text = with_lines(rt, text);
+    let input = format!(in rt.alloc(); "{}{text}{}", table.before, table.after);
+    let input = input.expect(rt, "an input");
+    let fault = format!(in rt.alloc(); "{}{cause}", table.fault).expect(rt, "a fault");
+    refuses(rt, table.line, name, input.as_bytes(), fault.as_str());
 }
 
 #[test]
-fn names_the_line_of_what_is_refused(rt: HostRuntime) -> Result<(), Fail> {
+fn names_the_line_of_what_is_refused(rt: HostRuntime) {
     for table in REFUSALS {
         for case in table.cases.lines() {
-            is_refused(&rt, rt.alloc(), table, case)?;
+            is_refused(&rt, table, case);
         }
     }
-    Ok(())
 }

@@ -1,8 +1,7 @@
 use super::*;
-use cec_run::Totals;
-use cec_run::emulate::emulate;
+use std::process::Abort;
 
-const TELEVISION: &str = "device tv tv 1\nscript\nend 200000\n";
+pub(super) const TELEVISION: &str = "device tv tv 1\nscript\nend 200000\n";
 
 const TELEVISION_TRACE: &str = "\
 12000 39150 complete 0>0 nack by tv out -
@@ -28,12 +27,29 @@ const TELEVISIONS: &[Case<'static>] = &[
 ];
 
 #[test]
-fn runs_a_television(rt: HostRuntime) -> Result<(), Fail> {
-    let alloc = rt.alloc();
-    let (input, trace) = (TELEVISION.as_bytes(), TELEVISION_TRACE.as_bytes());
-    gives_each(&rt, alloc, TELEVISIONS)?;
-    cuts(&rt, alloc, "run", input, trace, &[12])?;
-    cuts(&rt, alloc, "", input, trace, &[0])
+fn runs_a_television(rt: HostRuntime) {
+    gives_each(&rt, TELEVISIONS);
+}
+
+/// A run: a topology and a script over it, what it traces, and what it counts.
+#[derive(Drop)]
+pub(super) struct Traced<'a> {
+    pub(super) name: &'a str,
+    pub(super) topology: &'a str,
+    pub(super) script: &'a str,
+    pub(super) trace: &'a str,
+    pub(super) counted: &'a str,
+}
+
+/// A run traces and counts what it should.
+pub(super) fn is_traced(rt: &(impl Abort + AllocGlobal), run: &Traced<'_>) {
+    let line = "run --explain";
+    let input = format!(in rt.alloc(); "{}script\n{}", run.topology, run.script);
+    let input = input.expect(rt, "an input");
+    let counted = format!(in rt.alloc(); "  {}\n", run.counted).expect(rt, "a line");
+    let told = told_of(rt, line, input.as_bytes(), AMPLE);
+    let (trace, counted) = (run.trace.as_bytes(), counted.as_bytes());
+    ends(rt, told, 0, trace, counted, line, run.name);
 }
 
 /// A television and a player in its first port.
@@ -66,68 +82,52 @@ state tv tv 0 0.0.0.0 on active=1.0.0.0 path=1.0.0.0 deck=1a menu=off audio=off 
 state p1 player 4 1.0.0.0 on active=1.0.0.0 path=1.0.0.0 deck=11 menu=off audio=off volume=20 mute=off arc=off sel=- lang=656e67 osd=- held=- heard=0:84:00 sub=- queue=0 dropped=0
 ";
 
-/// A script over the two, what is traced once they have their addresses, how they stand, and the last line. An event is counted
-/// by its line.
-const SCRIPTS: &[(&str, &str, &str, &str)] = &[
-    ("end 400000\n", "", TWO_STATES, "400000 end\n"),
+/// A script over the two, what is traced once they have their addresses, how they stand, the last line, and what is counted. An
+/// event is told by its line.
+const SCRIPTS: &[(&str, &str, &str, &str, &str)] = &[
+    (
+        "end 400000\n",
+        "",
+        TWO_STATES,
+        "400000 end\n",
+        "rounds 4, complete rounds 4, refused events 0",
+    ),
     (
         "at 1000000 press p1 play\nend 1500000\n",
         PLAYED,
         PLAYED_STATES,
         "1500000 end\n",
+        "rounds 6, complete rounds 6, refused events 0",
     ),
     (
         "at 1000000 press tv play\nend 1500000\n",
         "1000000 event 1 refused not-for-kind\n",
         TWO_STATES,
         "1500000 end\n",
+        "rounds 4, complete rounds 4, refused events 1",
     ),
     (
         "# play\n\nat 1000000 press tv play\nend 1500000\n# done\n",
         "1000000 event 3 refused not-for-kind\n",
         TWO_STATES,
         "1500000 end\n",
+        "rounds 4, complete rounds 4, refused events 1",
     ),
 ];
 
 #[test]
-fn runs_a_television_and_a_player(rt: HostRuntime) -> Result<(), Fail> {
-    let alloc = rt.alloc();
+fn runs_a_television_and_a_player(rt: HostRuntime) {
     for row in SCRIPTS {
-        let (script, happened, states, last) = *row;
-        let input = format!(in alloc; "{TWO}script\n{script}")?;
-        let trace = format!(in alloc; "{TWO_ROUNDS}{happened}{states}{last}")?;
-        let case = Case {
+        let (script, happened, states, last, counted) = *row;
+        let trace = format!(in rt.alloc(); "{TWO_ROUNDS}{happened}{states}{last}");
+        let trace = trace.expect(&rt, "a trace");
+        let run = Traced {
             name: script,
-            line: "",
-            input: input.as_str(),
-            want: trace.as_str(),
+            topology: TWO,
+            script,
+            trace: trace.as_str(),
+            counted,
         };
-        gives(&rt, alloc, &case)?;
+        is_traced(&rt, &run);
     }
-    Ok(())
-}
-
-#[test]
-fn counts_rounds_and_refused_events(rt: HostRuntime) -> Result<(), Fail> {
-    let alloc = rt.alloc();
-    let mut out = Vec::new(alloc);
-    let totals = emulate(
-        alloc,
-        TWO.as_bytes(),
-        b"at 1000000 press tv play\nend 1500000",
-        &mut Writes::new(&mut out),
-    )?;
-    let Totals {
-        rounds,
-        complete,
-        refused,
-    } = totals;
-    expect(
-        &rt,
-        rounds == 4 && complete == 4 && refused == 1,
-        "",
-        "counts",
-    );
-    Ok(())
 }

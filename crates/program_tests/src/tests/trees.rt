@@ -1,6 +1,8 @@
 //! Trees, plugs and ports. The traces were worked out by hand from the rules of the wire and of the devices.
 use super::edids::{EXTENSION, blocks};
+use super::runs::{Traced, is_traced};
 use super::*;
+use std::process::Abort;
 
 /// Four players on one television.
 const FOUR_PLAYERS: &str = "\
@@ -258,16 +260,6 @@ state r4 recorder 1 2.2.0.0 on active=- path=- deck=1a menu=off audio=off volume
 5000000 end
 ";
 
-/// A run: a topology and a script over it, what it traces, and what it counts.
-#[derive(Clone, Copy)]
-struct Traced<'a> {
-    name: &'a str,
-    topology: &'a str,
-    script: &'a str,
-    trace: &'a str,
-    counted: &'a str,
-}
-
 const TREES: &[Traced<'static>] = &[
     Traced {
         name: "four players find three addresses",
@@ -313,22 +305,11 @@ const TREES: &[Traced<'static>] = &[
     },
 ];
 
-/// A run traces and counts what it should.
-fn is_traced(rt: &impl Abort, alloc: Global, run: &Traced<'_>) -> Result<(), Fail> {
-    let input = format!(in alloc; "{}script\n{}", run.topology, run.script)?;
-    let counted = format!(in alloc; "  {}\n", run.counted)?;
-    let told = answer_to(alloc, "run --explain", input.as_bytes())?;
-    let right = told.is(0, run.trace.as_bytes(), counted.as_bytes());
-    expect(rt, right, "run --explain", run.name);
-    Ok(())
-}
-
 #[test]
-fn trees_of_devices_are_traced(rt: HostRuntime) -> Result<(), Fail> {
+fn trees_of_devices_are_traced(rt: HostRuntime) {
     for run in TREES {
-        is_traced(&rt, rt.alloc(), run)?;
+        is_traced(&rt, run);
     }
-    Ok(())
 }
 
 /// What stands between the first 20 bytes of a television's EDID and the last two of its base block, in hex.
@@ -346,34 +327,28 @@ const BASES: &str = "\
 ";
 
 /// A television with an EDID of these digits is refused so.
-fn refuses_edid(rt: &impl Abort, alloc: Global, digits: &str, cause: &str) -> Result<(), Fail> {
-    let input = format!(in alloc; "device tv tv 1\nedid {digits}\nscript\nend 5\n")?;
-    let fault = format!(in alloc; "edid: {cause}")?;
-    let case = Case {
-        name: cause,
-        line: "run",
-        input: input.as_str(),
-        want: fault.as_str(),
-    };
-    refuses(rt, alloc, &case)
+fn refuses_edid(rt: &(impl Abort + AllocGlobal), digits: &str, cause: &str) {
+    let input = format!(in rt.alloc(); "device tv tv 1\nedid {digits}\nscript\nend 5\n");
+    let input = input.expect(rt, "an input");
+    let fault = format!(in rt.alloc(); "edid: {cause}").expect(rt, "a fault");
+    refuses(rt, "run", cause, input.as_bytes(), fault.as_str());
 }
 
 /// An EDID of this base block is refused so.
-fn refuses_block(rt: &impl Abort, alloc: Global, case: &str) -> Result<(), Fail> {
-    let (front, last, cause) = three_parts(case)?;
-    let digits = format!(in alloc; "{front}{REST}{last}")?;
-    refuses_edid(rt, alloc, digits.as_str(), cause)
+fn refuses_block(rt: &(impl Abort + AllocGlobal), case: &str) {
+    let (front, last, cause) = three_parts(case);
+    let digits = format!(in rt.alloc(); "{front}{REST}{last}").expect(rt, "a block");
+    refuses_edid(rt, digits.as_str(), cause);
 }
 
 #[test]
-fn tells_why_an_edid_is_refused(rt: HostRuntime) -> Result<(), Fail> {
-    let alloc = rt.alloc();
+fn tells_why_an_edid_is_refused(rt: HostRuntime) {
     for case in BASES.lines() {
-        refuses_block(&rt, alloc, case)?;
+        refuses_block(&rt, case);
     }
-    let digits = blocks(alloc, EXTENSION, "e9")?;
-    refuses_edid(&rt, alloc, digits.as_str(), "ext 1 checksum")?;
-    refuses_edid(&rt, alloc, "00", "length")
+    let digits = blocks(&rt, EXTENSION, "e9");
+    refuses_edid(&rt, digits.as_str(), "ext 1 checksum");
+    refuses_edid(&rt, "00", "length");
 }
 
 /// An amplifier in a switch, both still loose.
@@ -417,31 +392,31 @@ const PARTS_TRACE: &str = "\
 ";
 
 /// A line of a trace, with a port's EDID whole.
-fn with_edid(alloc: Global, line: &str) -> Result<String, Fail> {
+fn with_edid(rt: &(impl Abort + AllocGlobal), line: &str) -> String {
     if !line.contains(" => ") {
-        return Ok(format!(in alloc; "{line}\n")?);
+        return format!(in rt.alloc(); "{line}\n").expect(rt, "a line");
     }
-    let (port, front, check) = three_parts(line)?;
-    let digits = blocks(alloc, front, check)?;
-    Ok(format!(in alloc; "{port} {digits}\n")?)
+    let (port, front, check) = three_parts(line);
+    let digits = blocks(rt, front, check);
+    format!(in rt.alloc(); "{port} {digits}\n").expect(rt, "a line")
 }
 
 /// All that is traced.
-fn whole_trace(alloc: Global) -> Result<String, Fail> {
-    let mut trace = String::new(alloc);
+fn whole_trace(rt: &(impl Abort + AllocGlobal)) -> String {
+    let mut trace = String::new(rt.alloc());
     for line in PARTS_TRACE.lines() {
-        trace.push_str(with_edid(alloc, line)?.as_str())?;
+        let line = with_edid(rt, line);
+        trace.push_str(line.as_str()).expect(rt, "a trace");
     }
-    trace.push_str(PARTS_STATES)?;
-    Ok(trace)
+    trace.push_str(PARTS_STATES).expect(rt, "a trace");
+    trace
 }
 
 #[test]
-fn traces_ports_of_what_comes_onto_the_wire(rt: HostRuntime) -> Result<(), Fail> {
-    let alloc = rt.alloc();
-    let edid = blocks(alloc, EXTENSION, "e8")?;
-    let topology = format!(in alloc; "{PARTS}edid {edid}\n")?;
-    let trace = whole_trace(alloc)?;
+fn traces_ports_of_what_comes_onto_the_wire(rt: HostRuntime) {
+    let edid = blocks(&rt, EXTENSION, "e8");
+    let topology = format!(in rt.alloc(); "{PARTS}edid {edid}\n").expect(&rt, "a topology");
+    let trace = whole_trace(&rt);
     let run = Traced {
         name: "ports",
         topology: topology.as_str(),
@@ -449,5 +424,5 @@ fn traces_ports_of_what_comes_onto_the_wire(rt: HostRuntime) -> Result<(), Fail>
         trace: trace.as_str(),
         counted: "rounds 0, complete rounds 0, refused events 2",
     };
-    is_traced(&rt, alloc, &run)
+    is_traced(&rt, &run);
 }
