@@ -1,18 +1,12 @@
-//! Tests of the network, the run, its steps and the monitor: worked traces, and edge files from a generator.
+//! Tests of the network, the run and its steps: worked traces and steps, and sweeps over instants.
 #![tactic(auto)]
 
 #[cfg(test)]
 mod crowds;
 #[cfg(test)]
-mod monitors;
-#[cfg(test)]
 mod network_edges;
 #[cfg(test)]
 mod networks;
-#[cfg(test)]
-mod plain_readings;
-#[cfg(test)]
-mod random_files;
 #[cfg(test)]
 mod rooms;
 #[cfg(test)]

@@ -1,10 +1,16 @@
-//! Tests of the crates of the wire: worked lines, frames and pulses.
+//! Tests of the crates of the wire and of the monitor: worked lines, frames and pulses, and edge files, some of a generator.
 #![tactic(auto)]
 
 #[cfg(test)]
 mod frames;
 #[cfg(test)]
 mod lines;
+#[cfg(test)]
+mod monitors;
+#[cfg(test)]
+mod plain_readings;
+#[cfg(test)]
+mod random_files;
 #[cfg(test)]
 mod receivers;
 #[cfg(test)]
