@@ -26,7 +26,7 @@ fn blocks_told(rt: &(impl Abort + AllocGlobal), verb: &str, words: &str) -> Stri
 
 /// What is told of texts, and otherwise of blocks.
 fn told(rt: &(impl Abort + AllocGlobal), asked: &str) -> String {
-    let (verb, words) = asked.split_once(' ').unwrap_or((asked, ""));
+    let (verb, words) = asked.split_once(' ').expect(rt, asked);
     match verb {
         "change" => change_told(rt, words),
         "refusals" => refusals_told(rt, words),
@@ -39,7 +39,7 @@ fn told(rt: &(impl Abort + AllocGlobal), asked: &str) -> String {
 /// Asserts what is told in each case.
 fn are_told(rt: &(impl Abort + AllocGlobal), cases: &str) {
     for case in cases.lines() {
-        let (asked, want) = parted(case);
+        let (asked, want) = parted(rt, case);
         comes_out(rt, told(rt, asked), want, case);
     }
 }

@@ -119,7 +119,7 @@ fn take(rt: &(impl Abort + AllocGlobal), ddc: &mut Ddc, step: &str) -> String {
 fn takes(rt: &(impl Abort + AllocGlobal), steps: &str) {
     let mut ddc = Ddc::new(&edid_of(rt, "tv..0151 speaking..e8"));
     for case in steps.lines() {
-        let (step, want) = parted(case);
+        let (step, want) = parted(rt, case);
         comes_out(rt, take(rt, &mut ddc, step), want, case);
     }
 }

@@ -113,8 +113,8 @@ pub(crate) fn holds(rt: &impl Abort, is_right: bool, case: &str) {
 }
 
 /// A case and what comes of it.
-pub(crate) fn parted(case: &str) -> (&str, &str) {
-    case.rsplit_once(" => ").unwrap_or((case, ""))
+pub(crate) fn parted<'a>(rt: &impl Abort, case: &'a str) -> (&'a str, &'a str) {
+    case.rsplit_once(" => ").expect(rt, case)
 }
 
 pub(crate) fn two_numbers(rt: &impl Abort, words: &str) -> (u8, u8) {

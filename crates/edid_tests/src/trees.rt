@@ -204,7 +204,7 @@ fn take(rt: &(impl Abort + AllocGlobal), tree: &mut Tree<15>, line: &str) -> Str
 fn grows(rt: &(impl Abort + AllocGlobal), steps: &str) {
     let mut tree = Tree::new();
     for case in steps.lines() {
-        let (step, want) = parted(case);
+        let (step, want) = parted(rt, case);
         comes_out(rt, take(rt, &mut tree, step), want, case);
     }
 }

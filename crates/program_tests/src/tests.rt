@@ -139,9 +139,8 @@ fn written(rt: &(impl Abort + AllocGlobal), line: &str, input: &[u8]) -> String 
 
 /// The program writes the front of a text where a writer fails.
 fn writes_front(rt: &(impl Abort + AllocGlobal), line: &str, input: &[u8], front: &[u8]) {
-    let fault = format!(in rt.alloc(); "hdminet: write fault after {} bytes\n", front.len()).expect(
-        rt, "a fault",
-    );
+    let fault = format!(in rt.alloc(); "hdminet: write fault after {} bytes\n", front.len());
+    let fault = fault.expect(rt, "a fault");
     let told = told_of(rt, line, input, front.len());
     ends(rt, told, 3, front, fault.as_bytes(), line, fault.as_str());
 }
@@ -179,23 +178,18 @@ fn takes_fronts(rt: &(impl Abort + AllocGlobal), line: &str, input: &[u8], count
 }
 
 /// The two parts of a case.
-fn two_parts(case: &str) -> (&str, &str) {
-    case.split_once(" => ").unwrap_or((case, ""))
+fn two_parts<'a>(rt: &impl Abort, case: &'a str) -> (&'a str, &'a str) {
+    case.split_once(" => ").expect(rt, case)
 }
 
 /// The three parts of a case.
-fn three_parts(case: &str) -> (&str, &str, &str) {
-    let (first, rest) = two_parts(case);
-    let (second, third) = two_parts(rest);
+fn three_parts<'a>(rt: &impl Abort, case: &'a str) -> (&'a str, &'a str, &'a str) {
+    let (first, rest) = two_parts(rt, case);
+    let (second, third) = two_parts(rt, rest);
     (first, second, third)
 }
 
 /// A text with a line feed for each `;`.
 fn with_lines(rt: &(impl Abort + AllocGlobal), text: &str) -> String {
-    let mut lines = String::new(rt.alloc());
-    for letter in text.chars() {
-        let letter = if letter == ';' { '\n' } else { letter };
-        lines.push(letter).expect(rt, "a text");
-    }
-    lines
+    text.replace(rt.alloc(), ";", "\n").expect(rt, "a text")
 }

@@ -63,7 +63,7 @@ const FRAMES: &str = "  00 feature-abort BYTE REASON
 #[test]
 fn explains_itself_and_lists_the_frames(rt: HostRuntime) {
     for case in HELP.lines() {
-        let (line, part) = two_parts(case);
+        let (line, part) = two_parts(&rt, case);
         shows(&rt, line, with_lines(&rt, part).as_str());
     }
     for frame in FRAMES.lines() {

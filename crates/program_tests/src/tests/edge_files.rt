@@ -146,7 +146,7 @@ fn is_read_with(rt: &(impl Abort + AllocGlobal), pulse: &str, readings: &str) {
 #[test]
 fn the_edges_of_wide_pulses_are_read(rt: HostRuntime) {
     for case in WIDE.lines() {
-        let (pulse, readings) = two_parts(case);
+        let (pulse, readings) = two_parts(&rt, case);
         is_read_with(&rt, pulse, readings);
     }
 }

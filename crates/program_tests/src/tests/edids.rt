@@ -134,11 +134,11 @@ fn is_kept(rt: &(impl Abort + AllocGlobal), front: &str, check: &str) {
 fn writes_extensions_both_ways(rt: HostRuntime) {
     full_of_timings(&rt);
     for case in EXTENSIONS.lines() {
-        let (front, check, text) = three_parts(case);
+        let (front, check, text) = three_parts(&rt, case);
         extends_both_ways(&rt, front, check, with_lines(&rt, text).as_str());
     }
     for case in FORMLESS.lines() {
-        let (front, check) = two_parts(case);
+        let (front, check) = two_parts(&rt, case);
         is_kept(&rt, front, check);
     }
 }
@@ -154,7 +154,7 @@ const DESCRIPTORS: &str = "\
 #[test]
 fn writes_descriptors_both_ways(rt: HostRuntime) {
     for case in DESCRIPTORS.lines() {
-        let (change, from, to) = three_parts(case);
+        let (change, from, to) = three_parts(&rt, case);
         let digits = changed(&rt, change);
         let text = changed_text(&rt, from, to);
         goes_both_ways(&rt, digits.as_str(), text.as_str());
@@ -199,7 +199,7 @@ fn refuses_the_front_of_an_edid(rt: HostRuntime) {
 #[test]
 fn tells_why_bytes_are_no_edid(rt: HostRuntime) {
     for case in CHANGED.lines() {
-        let (change, cause) = two_parts(case);
+        let (change, cause) = two_parts(&rt, case);
         is_no_edid(&rt, changed(&rt, change).as_str(), cause);
     }
     let digits = blocks(&rt, EXTENSION, "e9");
@@ -223,7 +223,7 @@ name \"LOUNGE TV 001\" => raw 000000fc004c4f554e474520545620303031 => field 21
 
 /// The text of both blocks with this change is refused so.
 fn is_no_text(rt: &(impl Abort + AllocGlobal), name: &str) {
-    let (from, to, cause) = three_parts(name);
+    let (from, to, cause) = three_parts(rt, name);
     let (from, to) = (with_lines(rt, from), with_lines(rt, to));
     let text = changed_text(rt, from.as_str(), to.as_str());
     let fault = format!(in rt.alloc(); "text: {cause}").expect(rt, "a fault");

@@ -69,7 +69,7 @@ fn is_explained(rt: &(impl Abort + AllocGlobal), line: &str, input: &[u8], secon
 #[test]
 fn faults_are_followed_by_their_explanation(rt: HostRuntime) {
     for case in CASES.lines() {
-        let (line, text, second) = three_parts(case);
+        let (line, text, second) = three_parts(&rt, case);
         let input = with_lines(&rt, text);
         is_explained(&rt, line, input.as_bytes(), second);
     }

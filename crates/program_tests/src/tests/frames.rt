@@ -17,7 +17,7 @@ const TEXTS: &str = "\
 
 /// A text of frames is written so.
 fn is_written(rt: &(impl Abort + AllocGlobal), name: &str) {
-    let (text, hex) = two_parts(name);
+    let (text, hex) = two_parts(rt, name);
     let (text, hex) = (with_lines(rt, text), with_lines(rt, hex));
     gives(rt, "asm", name, text.as_bytes(), hex.as_str());
 }

@@ -219,7 +219,7 @@ const REFUSALS: &[Table] = &[
 
 /// The command refuses this case of a table.
 fn is_refused(rt: &(impl Abort + AllocGlobal), table: &Table, name: &str) {
-    let (text, cause) = two_parts(name);
+    let (text, cause) = two_parts(rt, name);
     let text = with_lines(rt, text);
     let input = format!(in rt.alloc(); "{}{text}{}", table.before, table.after);
     let input = input.expect(rt, "an input");

@@ -336,7 +336,7 @@ fn refuses_edid(rt: &(impl Abort + AllocGlobal), digits: &str, cause: &str) {
 
 /// An EDID of this base block is refused so.
 fn refuses_block(rt: &(impl Abort + AllocGlobal), case: &str) {
-    let (front, last, cause) = three_parts(case);
+    let (front, last, cause) = three_parts(rt, case);
     let digits = format!(in rt.alloc(); "{front}{REST}{last}").expect(rt, "a block");
     refuses_edid(rt, digits.as_str(), cause);
 }
@@ -396,7 +396,7 @@ fn with_edid(rt: &(impl Abort + AllocGlobal), line: &str) -> String {
     if !line.contains(" => ") {
         return format!(in rt.alloc(); "{line}\n").expect(rt, "a line");
     }
-    let (port, front, check) = three_parts(line);
+    let (port, front, check) = three_parts(rt, line);
     let digits = blocks(rt, front, check);
     format!(in rt.alloc(); "{port} {digits}\n").expect(rt, "a line")
 }
