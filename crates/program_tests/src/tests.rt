@@ -17,23 +17,22 @@ mod refused_texts;
 mod runs;
 mod trees;
 
-/// As much room as there is, for a writer that takes what it is handed.
-const AMPLE: usize = usize::MAX;
-
-/// A writer that takes so many bytes at a time, and fails once it holds `room`.
+/// A writer that takes what it is handed, or, where its room is bounded, one byte at a time, and fails once that is full.
 #[derive(Drop)]
 struct Held {
     bytes: Vec<u8>,
-    step: usize,
-    room: usize,
+    room: Option<usize>,
 }
 
 impl Write for Held {
     fn write(&mut self, bytes: &[u8]) -> io::Result<usize> {
-        if self.bytes.len() >= self.room {
-            return Err(io::Error::from(ErrorKind::Other));
-        }
-        let taken = bytes.get(..self.step).unwrap_or(bytes);
+        let taken = match self.room {
+            None => bytes,
+            Some(room) if self.bytes.len() >= room => {
+                return Err(io::Error::from(ErrorKind::Other));
+            }
+            Some(_) => bytes.get(..1).unwrap_or(bytes),
+        };
         self.bytes.extend_from_slice(taken)?;
         Ok(taken.len())
     }
@@ -74,19 +73,16 @@ fn words(rt: &(impl Abort + AllocGlobal), line: &str) -> Vec<String> {
     words
 }
 
-/// Runs the program with the words of this line: into a writer with ample room, or into one that takes a byte at a time, as
-/// long as there is room.
+/// Runs the program with the words of this line, into a writer with this room, if it is bounded.
 fn told_of<R: Read + Drop>(
     rt: &(impl Abort + AllocGlobal),
     line: &str,
     mut input: R,
-    room: usize,
+    room: Option<usize>,
 ) -> Answer {
     let alloc = rt.alloc();
-    let step = if room == AMPLE { AMPLE } else { 1 };
     let mut out = Held {
         bytes: Vec::new(alloc),
-        step,
         room,
     };
     let mut err = Vec::new(alloc);
@@ -112,7 +108,7 @@ fn ends(rt: &impl Abort, told: Answer, status: u8, out: &[u8], err: &[u8], line:
 
 /// The program writes this, and nothing else.
 fn gives(rt: &(impl Abort + AllocGlobal), line: &str, name: &str, input: &[u8], want: &str) {
-    let told = told_of(rt, line, input, AMPLE);
+    let told = told_of(rt, line, input, None);
     ends(rt, told, 0, want.as_bytes(), b"", line, name);
 }
 
@@ -126,13 +122,13 @@ fn gives_each(rt: &(impl Abort + AllocGlobal), cases: &[Case<'_>]) {
 /// The program refuses this input with this fault, and writes nothing to standard output.
 fn refuses(rt: &(impl Abort + AllocGlobal), line: &str, name: &str, input: &[u8], cause: &str) {
     let fault = format!(in rt.alloc(); "hdminet: {cause}\n").expect(rt, "a fault");
-    let told = told_of(rt, line, input, AMPLE);
+    let told = told_of(rt, line, input, None);
     ends(rt, told, 1, b"", fault.as_bytes(), line, name);
 }
 
 /// What the program writes to standard output, and nothing else.
 fn written(rt: &(impl Abort + AllocGlobal), line: &str, input: &[u8]) -> String {
-    let told = told_of(rt, line, input, AMPLE);
+    let told = told_of(rt, line, input, None);
     expect(rt, told.status == 0 && told.err.is_empty(), line, "taken");
     String::from_utf8(told.out).expect(rt, "a text")
 }
@@ -141,7 +137,7 @@ fn written(rt: &(impl Abort + AllocGlobal), line: &str, input: &[u8]) -> String 
 fn writes_front(rt: &(impl Abort + AllocGlobal), line: &str, input: &[u8], front: &[u8]) {
     let fault = format!(in rt.alloc(); "hdminet: write fault after {} bytes\n", front.len());
     let fault = fault.expect(rt, "a fault");
-    let told = told_of(rt, line, input, front.len());
+    let told = told_of(rt, line, input, Some(front.len()));
     ends(rt, told, 3, front, fault.as_bytes(), line, fault.as_str());
 }
 
@@ -149,7 +145,7 @@ fn writes_front(rt: &(impl Abort + AllocGlobal), line: &str, input: &[u8], front
 fn is_cut(rt: &(impl Abort + AllocGlobal), line: &str, input: &[u8]) {
     let whole = written(rt, line, input);
     let whole = whole.as_bytes();
-    let told = told_of(rt, line, input, whole.len());
+    let told = told_of(rt, line, input, Some(whole.len()));
     ends(rt, told, 0, whole, b"", line, "byte by byte");
     expect(rt, !whole.is_empty(), line, "something written");
     for room in 0..whole.len() {
@@ -159,7 +155,7 @@ fn is_cut(rt: &(impl Abort + AllocGlobal), line: &str, input: &[u8]) {
 
 /// The program takes an input and tells no fault, or refuses it, says why and writes nothing. Returns which.
 fn is_taken(rt: &(impl Abort + AllocGlobal), line: &str, input: &[u8]) -> bool {
-    let told = told_of(rt, line, input, AMPLE);
+    let told = told_of(rt, line, input, None);
     let taken = told.status == 0 && told.err.is_empty();
     let refused = told.status == 1 && told.out.is_empty() && told.err.starts_with(b"hdminet: ");
     expect(rt, taken || refused, line, "taken or refused");

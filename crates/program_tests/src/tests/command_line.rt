@@ -88,7 +88,7 @@ step tv.steps
 
 /// The program refuses these words.
 fn refuses_line(rt: &(impl Abort + AllocGlobal), line: &str) {
-    let told = told_of(rt, line, b"".as_slice(), AMPLE);
+    let told = told_of(rt, line, b"".as_slice(), None);
     let refused = told.status == 2 && told.out.is_empty() && !told.err.is_empty();
     expect(rt, refused, line, "refused");
 }

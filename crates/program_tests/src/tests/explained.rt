@@ -60,8 +60,8 @@ fn adds_to(told: &Answer, plain: &Answer, second: &[u8]) -> bool {
 fn is_explained(rt: &(impl Abort + AllocGlobal), line: &str, input: &[u8], second: &str) {
     let explained = format!(in rt.alloc(); "{line} --explain").expect(rt, "a command line");
     let second_line = format!(in rt.alloc(); "{second}\n").expect(rt, "a line");
-    let told = told_of(rt, explained.as_str(), input, AMPLE);
-    let plain = told_of(rt, line, input, AMPLE);
+    let told = told_of(rt, explained.as_str(), input, None);
+    let plain = told_of(rt, line, input, None);
     let right = adds_to(&told, &plain, second_line.as_bytes());
     expect(rt, right, line, second);
 }
@@ -85,14 +85,14 @@ const POLL: &[u8] = b"4>4\n";
 
 #[test]
 fn a_write_fault_is_explained_and_what_is_done_is_the_same(rt: HostRuntime) {
-    let told = told_of(&rt, "asm --explain", POLL, 1);
+    let told = told_of(&rt, "asm --explain", POLL, Some(1));
     ends(&rt, told, 3, b"4", WRITE_FAULT, "asm", "a write fault");
     gives(&rt, "--explain asm", "what is done", POLL, "44\n");
 }
 
 #[test]
 fn a_file_name_is_explained(rt: HostRuntime) {
-    let told = told_of(&rt, "run tv.net --explain", b"".as_slice(), AMPLE);
+    let told = told_of(&rt, "run tv.net --explain", b"".as_slice(), None);
     let refused = told.status == 2 && told.out.is_empty();
     let said = String::from_utf8(told.err).expect(&rt, "a text");
     let said = said.as_str();

@@ -58,7 +58,7 @@ fn reads_what_is_not_too_long(rt: HostRuntime) {
 
 /// The program reads nothing of an input, for this reason.
 fn reads_nothing<R: Read + Drop>(rt: &(impl Abort + AllocGlobal), line: &str, input: R, why: &str) {
-    let told = told_of(rt, line, input, AMPLE);
+    let told = told_of(rt, line, input, None);
     ends(rt, told, 3, b"", why.as_bytes(), line, why);
 }
 
@@ -94,6 +94,6 @@ fn reads_byte_by_byte(rt: HostRuntime) {
         rest: b"4>4\n4>f active-source 1.0.0.0",
         fault: None,
     };
-    let told = told_of(&rt, "asm", slow, AMPLE);
+    let told = told_of(&rt, "asm", slow, None);
     ends(&rt, told, 0, b"44\n4f821000\n", b"", "asm", "byte by byte");
 }

@@ -47,7 +47,7 @@ pub(super) fn is_traced(rt: &(impl Abort + AllocGlobal), run: &Traced<'_>) {
     let input = format!(in rt.alloc(); "{}script\n{}", run.topology, run.script);
     let input = input.expect(rt, "an input");
     let counted = format!(in rt.alloc(); "  {}\n", run.counted).expect(rt, "a line");
-    let told = told_of(rt, line, input.as_bytes(), AMPLE);
+    let told = told_of(rt, line, input.as_bytes(), None);
     let (trace, counted) = (run.trace.as_bytes(), counted.as_bytes());
     ends(rt, told, 0, trace, counted, line, run.name);
 }
@@ -84,49 +84,59 @@ state p1 player 4 1.0.0.0 on active=1.0.0.0 path=1.0.0.0 deck=11 menu=off audio=
 
 /// A script over the two, what is traced once they have their addresses, how they stand, the last line, and what is counted. An
 /// event is told by its line.
-const SCRIPTS: &[(&str, &str, &str, &str, &str)] = &[
-    (
-        "end 400000\n",
-        "",
-        TWO_STATES,
-        "400000 end\n",
-        "rounds 4, complete rounds 4, refused events 0",
-    ),
-    (
-        "at 1000000 press p1 play\nend 1500000\n",
-        PLAYED,
-        PLAYED_STATES,
-        "1500000 end\n",
-        "rounds 6, complete rounds 6, refused events 0",
-    ),
-    (
-        "at 1000000 press tv play\nend 1500000\n",
-        "1000000 event 1 refused not-for-kind\n",
-        TWO_STATES,
-        "1500000 end\n",
-        "rounds 4, complete rounds 4, refused events 1",
-    ),
-    (
-        "# play\n\nat 1000000 press tv play\nend 1500000\n# done\n",
-        "1000000 event 3 refused not-for-kind\n",
-        TWO_STATES,
-        "1500000 end\n",
-        "rounds 4, complete rounds 4, refused events 1",
-    ),
+struct Scripted {
+    script: &'static str,
+    happened: &'static str,
+    states: &'static str,
+    last: &'static str,
+    counted: &'static str,
+}
+
+const SCRIPTS: &[Scripted] = &[
+    Scripted {
+        script: "end 400000\n",
+        happened: "",
+        states: TWO_STATES,
+        last: "400000 end\n",
+        counted: "rounds 4, complete rounds 4, refused events 0",
+    },
+    Scripted {
+        script: "at 1000000 press p1 play\nend 1500000\n",
+        happened: PLAYED,
+        states: PLAYED_STATES,
+        last: "1500000 end\n",
+        counted: "rounds 6, complete rounds 6, refused events 0",
+    },
+    Scripted {
+        script: "at 1000000 press tv play\nend 1500000\n",
+        happened: "1000000 event 1 refused not-for-kind\n",
+        states: TWO_STATES,
+        last: "1500000 end\n",
+        counted: "rounds 4, complete rounds 4, refused events 1",
+    },
+    Scripted {
+        script: "# play\n\nat 1000000 press tv play\nend 1500000\n# done\n",
+        happened: "1000000 event 3 refused not-for-kind\n",
+        states: TWO_STATES,
+        last: "1500000 end\n",
+        counted: "rounds 4, complete rounds 4, refused events 1",
+    },
 ];
 
 #[test]
 fn runs_a_television_and_a_player(rt: HostRuntime) {
     for row in SCRIPTS {
-        let (script, happened, states, last, counted) = *row;
-        let trace = format!(in rt.alloc(); "{TWO_ROUNDS}{happened}{states}{last}");
+        let trace = format!(in rt.alloc();
+            "{TWO_ROUNDS}{}{}{}",
+            row.happened, row.states, row.last
+        );
         let trace = trace.expect(&rt, "a trace");
         let run = Traced {
-            name: script,
+            name: row.script,
             topology: TWO,
-            script,
+            script: row.script,
             trace: trace.as_str(),
-            counted,
+            counted: row.counted,
         };
         is_traced(&rt, &run);
     }
