@@ -1,5 +1,5 @@
 -- A run's edge file is read back.
-use Rattle.std.proofs.Common.{◌≡◌, ℕ, ◌+◌, ◌-◌, ◌<◌, ◌≤◌, ◌==◌, ◌&&◌, ◌||◌, not, max, Bool, true, false, cond, nat_lt, nat_le, List, [], ◌∷◌, ◌++◌, Option, Some, Ok, codes, refl, sym, ap, ◌∙◌, arith, append_assoc}
+use Rattle.std.proofs.Common.{◌≡◌, ℕ, ◌+◌, ◌-◌, ◌<◌, ◌≤◌, ◌==◌, ◌&&◌, ◌||◌, not, max, Bool, true, false, cond, nat_lt, nat_le, List, [], ◌∷◌, ◌++◌, map, Option, Some, Ok, codes, refl, sym, ap, ◌∙◌, arith, append_assoc}
 use Rattle.std.proofs.Math.Path.{fun_ext}
 use Rattle.std.proofs.lemmas.Bool.{false≢true}
 use Rattle.std.proofs.lemmas.Bool.Decides.{nat_tests}
@@ -11,10 +11,21 @@ use Rattle.cec_words.specs.Lines.{lines_of}
 use Rattle.cec_trace.specs.EdgeText.{edge_lines}
 use Rattle.cec_trace.specs.TraceText.{end_line}
 use Rattle.cec_run.proofs.WholeLine as runs
+use Rattle.cec_run.proofs.OneRun.{runs_close_soon, texts_have_one_run, traces_have_parts}
+use Rattle.cec_run.specs.OneRun.{rounds_of_edges, Part, OfEvent, OfRound, part_rounds}
+use Rattle.cec_run.specs.Run.{start}
+use Rattle.cec_net.specs.State.{started}
+use Rattle.std.specs.List.{flat_map}
+use Rattle.cec_run.specs.declared.run.Telling.TheVariants.{Edges}
+use Rattle.cec_asm.proofs.Sound.{scripts_are_sound}
+use Rattle.cec_wire.specs.declared.Outcome.{Outcome}
+use Rattle.cec_wire.specs.Alone.{outcome_listed}
+use Rattle.cec_text.specs.ReadingText.{reading_line}
+use Rattle.cec_mon.specs.Watch.{readings_text}
 use Rattle.cec_mon.specs.EdgeFile.{edge_line_of, edges_read, end_read, file_of, level_at, read_line, with_edge}
 use Rattle.cec_mon.specs.declared.edge_file.EdgeLine.{EdgeLine}
 use Rattle.cec_mon.specs.declared.edge_file.EdgeLine.TheVariants.{Edge as EdgeLineOf, End}
-use Rattle.cec_capture.specs.Capture.{edges_of, EdgeFilesAreReadBack, FilesOfRunsHaveTheirReadings}
+use Rattle.cec_capture.specs.Capture.{edges_of, part_monitored, EdgeFilesAreReadBack, FilesOfRunsHaveTheirReadings, MonitorsTellTraces}
 use Rattle.cec_capture.proofs.Texts.{IsWithout, line_before, more_without, one_without, timed, timed_line, timed_plain, timed_told}
 
 -- ---- the text
@@ -148,11 +159,39 @@ edge_files_are_read_back ss end wave over low = record {
 }
 
 pub files_of_runs_have_their_readings : FilesOfRunsHaveTheirReadings
-files_of_runs_have_their_readings tree pulses events end text totals sparse framed told low =
+files_of_runs_have_their_readings tree pulses events end text totals sparse framed told limit =
     let k = runs.edges_are_the_line tree pulses events end text totals sparse framed told in
     let last = max end told.run.last.net.close in
-    let back = edge_files_are_read_back _ last k.read.wave k.read.over low in (
+    let soon : told.run.last.net.close ≤ end + 458461 = runs_close_soon Edges tree pulses events end told.run.turns told.run.body told.run.last sparse told.run.leads in
+    let back = edge_files_are_read_back _ last k.read.wave k.read.over (omega (arith, soon, limit)) in (
       record { edges = edges_of _; end = last },
       ap file_of k.whole ∙ back.file,
       ap (λ line. readings_of line last) (fun_ext back.line) ∙ k.read.readings,
+    )
+
+-- ---- beside the trace
+
+lines_of_rounds : (os : List Outcome) → readings_text (map outcome_listed os) ≡ flat_map (λ (o : Outcome). reading_line o.reading) os
+lines_of_rounds [] = refl
+lines_of_rounds (o ∷ os) = ap (λ text. reading_line o.reading ++ text) (lines_of_rounds os)
+
+lines_of_parts : (parts : List Part) → flat_map (λ (o : Outcome). reading_line o.reading) (flat_map part_rounds parts) ≡ flat_map part_monitored parts
+lines_of_parts [] = refl
+lines_of_parts (OfEvent at e before ∷ parts) = lines_of_parts parts
+lines_of_parts (OfRound devices o ∷ parts) = ap (λ text. reading_line o.reading ++ text) (lines_of_parts parts)
+
+pub monitors_tell_traces : MonitorsTellTraces
+monitors_tell_traces topology script x y s t p q =
+    let sound = scripts_are_sound q.plan.tree script q.course q.accepted.course_is in
+    let file = files_of_runs_have_their_readings q.plan.tree q.course.pulses q.course.events q.course.end y t sound.sparse sound.framed q.edges sound.limit in
+    let one = texts_have_one_run topology script x y s t p q in
+    let made = traces_have_parts p.edid p.course.end (start (started p.plan.tree p.course.pulses) p.course.events) x s p.trace in (
+      file.0,
+      file.1,
+      record {
+        parts = made.parts;
+        trace_is = made.whole;
+        monitored_is = ap readings_text file.2 ∙ lines_of_rounds (rounds_of_edges topology script y t q)
+            ∙ ap (flat_map (λ (o : Outcome). reading_line o.reading)) (sym one.1 ∙ made.rounds) ∙ lines_of_parts made.parts;
+      },
     )

@@ -1,5 +1,5 @@
 //! Laws of edge files.
-ghost use Rattle.cec_capture.specs.Capture.{EdgeFilesAreReadBack, FilesOfRunsHaveTheirReadings};
+ghost use Rattle.cec_capture.specs.Capture.{EdgeFilesAreReadBack, FilesOfRunsHaveTheirReadings, MonitorsTellTraces};
 
 /// The edges of a line that is high from the end on, written as a run writes them, are read as they were, and tell that
 /// line.
@@ -10,4 +10,10 @@ pub fn edge_files_are_read_back()
 /// The edge file of a run is read as a file whose readings are those of the run's rounds, in order, each once.
 pub fn files_of_runs_have_their_readings()
     ensures { FilesOfRunsHaveTheirReadings }
+{}
+
+/// What a monitor writes of the edge file of a topology and a script are the readings of the rounds that their trace
+/// tells, in order, each once.
+pub fn monitors_tell_traces()
+    ensures { MonitorsTellTraces }
 {}

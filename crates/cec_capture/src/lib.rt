@@ -3,4 +3,4 @@
 
 mod laws;
 
-pub use laws::{edge_files_are_read_back, files_of_runs_have_their_readings};
+pub use laws::{edge_files_are_read_back, files_of_runs_have_their_readings, monitors_tell_traces};

@@ -62,8 +62,15 @@ one_root (Some bytes) None b r s = absurd r
 one_root (Some bytes) (Some a) None r s = absurd s
 one_root (Some bytes) (Some a) (Some b) r s = ap Some (one_edid a b (r.0 ∙ sym s.0))
 
-one_plan : (topology : List ℕ) (plan other : Plan) → topology_of topology ≡ Ok plan → topology_of topology ≡ Ok other → other ≡ plan
+pub one_plan : (topology : List ℕ) (plan other : Plan) → topology_of topology ≡ Ok plan → topology_of topology ≡ Ok other → other ≡ plan
 one_plan topology plan other t u = same_plan other plan (topology_of topology) u t
+
+-- and one script
+pub one_course : (topology script : List ℕ) (plan other : Plan) (course otherwise : Course) → IsAccepted topology script plan course → IsAccepted topology script other otherwise → course ≡ otherwise
+one_course topology script plan other course otherwise a b =
+    let p : other ≡ plan = one_plan topology plan other a.plan_is b.plan_is in
+    let read : IsScriptRead plan.tree script (Ok otherwise) = subst (λ (q : Plan). IsScriptRead q.tree script (Ok otherwise)) p b.course_is in
+    sym (same_ok otherwise course (Ok otherwise) (one_script plan.tree script course (Ok otherwise) a.course_is read) refl)
 
 -- a run of texts is that of what they spell
 one_run_of : (topology script text : List ℕ) (totals : Totals) (plan : Plan) (course : Course) (telling : Telling) → topology_of topology ≡ Ok plan → IsScriptRead plan.tree script (Ok course)

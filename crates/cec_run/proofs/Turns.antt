@@ -15,7 +15,7 @@ use Rattle.cec_text.specs.ReadingText.{is_complete}
 use Rattle.cec_run.specs.Run.{Config, turn_at, counted_round, IsEventTurn, IsRoundTurn, IsTurnBy, IsTurn, Leads, IsRunTextFrom, start_told, round_told, end_told, OneRunText, OneTrace}
 
 -- outcomes that tell the same are one
-same_outcome : (o p : Outcome) → SameOutcome o p → o ≡ p
+pub same_outcome : (o p : Outcome) → SameOutcome o p → o ≡ p
 same_outcome o p s = λ i. record {
   reading = record { begin = s.begin i; at = s.at i; ending = s.ending i; bits = record { items = s.bits i } };
   survivors = record { items = s.survivors i };
@@ -51,7 +51,7 @@ one_turn : (telling : Telling) (end : ℕ) (c : Config) (line other : List ℕ) 
 one_turn telling end c line other d e r s = one_turn_by telling (turn_at end c) c line other d e r s
 
 -- there is no turn where the run stops
-no_turn : (telling : Telling) (end : ℕ) (c : Config) (line : List ℕ) (d : Config) → turn_at end c ≡ Stop → IsTurn telling end c line d → ⊥
+pub no_turn : (telling : Telling) (end : ℕ) (c : Config) (line : List ℕ) (d : Config) → turn_at end c ≡ Stop → IsTurn telling end c line d → ⊥
 no_turn telling end c line d stops r = subst (λ turn. IsTurnBy telling turn c line d) stops r
 
 -- some turns come first in every way to where the run stops

@@ -69,10 +69,10 @@ is_write (Ok totals) = false
 is_write (Err (Write count)) = true
 is_write (Err _) = false
 
--- what a refusal has written: after a failed write the front of the text due, and else nothing
+-- what a refusal has written: after a failed write the front of the text due, which there is, and else nothing
 abbrev pub IsCutText : (List ℕ → Totals → Type 0) → Option (List ℕ) → Option (List ℕ) → EmulateError → Type 0
-IsCutText IsDue old new (Write told) = (text : List ℕ) (totals : Totals) → IsDue text totals
-    → (count : ℕ) × (count < length text) × (told ≡ told_count count) × Appends old new (take count text)
+IsCutText IsDue old new (Write told) =
+    (text : List ℕ) × (totals : Totals) × IsDue text totals × (count : ℕ) × (count < length text) × (told ≡ told_count count) × Appends old new (take count text)
 IsCutText IsDue old new (Topology line cause) = new ≡ old
 IsCutText IsDue old new (Script line cause) = new ≡ old
 IsCutText IsDue old new (Edid cause) = new ≡ old

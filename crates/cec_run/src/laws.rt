@@ -2,6 +2,8 @@
 ghost use Rattle.cec_run.specs.Run.{OneRunText, OneTrace};
 ghost use Rattle.cec_run.specs.RunLine.{EdgesAreTheLine, RunsAreRead, RunsAreShort};
 ghost use Rattle.cec_run.specs.Emulate.{TextsHaveOneEdgeTrace, TextsHaveOneTrace};
+ghost use Rattle.cec_run.specs.HasRun.{RunsHaveTexts, TextsHaveTraces};
+ghost use Rattle.cec_run.specs.OneRun.{OneRun, RunsCloseSoon, TextsHaveOneRun, TracesHaveParts};
 
 /// A run has one trace, and one count of its rounds and refused events.
 pub fn one_trace()
@@ -39,4 +41,37 @@ pub fn edges_are_the_line()
 /// A run ends: it has at most `end / 7200 + 4096` rounds.
 pub fn runs_are_short()
     ensures { RunsAreShort }
+{}
+
+/// A run is one run, whatever is told of it: its trace and the edges of its line have as many turns, one last state,
+/// one count of rounds and refused events, and the same rounds, in order.
+pub fn one_run()
+    ensures { OneRun }
+{}
+
+/// The trace and the edges of a topology and a script have the same counts, and tell the same rounds, in order.
+pub fn texts_have_one_run()
+    ensures { TextsHaveOneRun }
+{}
+
+/// The last round of a run closes at most 458,461 microseconds after the script's end.
+pub fn runs_close_soon()
+    ensures { RunsCloseSoon }
+{}
+
+/// A run has a trace, and a text of edges: each of its rounds has an outcome, and it stops.
+pub fn runs_have_texts()
+    ensures { RunsHaveTexts }
+{}
+
+/// A topology and a script that are accepted have a trace, and a text of edges. With [`texts_have_one_trace`] and
+/// [`texts_have_one_edge_trace`] they have one of each.
+pub fn texts_have_traces()
+    ensures { TextsHaveTraces }
+{}
+
+/// A trace is what the start tells, then what is told of each event and the line of each round, in order, and then
+/// what the end tells.
+pub fn traces_have_parts()
+    ensures { TracesHaveParts }
 {}

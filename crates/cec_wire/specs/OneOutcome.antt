@@ -1,7 +1,8 @@
--- A round has one outcome (own).
+-- A round has an outcome, and no second one (own).
 use Rattle.std.specs.Prelude.{◌≡◌, ℕ, List}
 use Rattle.cec_wave.specs.declared.Stretch.{Stretch}
 use Rattle.cec_wave.specs.Line.{IsWave}
+use Rattle.cec_wave.specs.Pulses.{AreSparse}
 use Rattle.cec_wire.specs.declared.Seat.{Seat}
 use Rattle.cec_wire.specs.declared.Outcome.{Outcome}
 use Rattle.cec_wire.specs.Round.{IsRound}
@@ -21,3 +22,11 @@ pub record SameOutcome (o p : Outcome) : Type 0 where
 abbrev pub OneOutcome : Type 0
 OneOutcome = (seats : List Seat) (begin : ℕ) (pulses : List Stretch) (o p : Outcome) → IsWave o.wave → IsWave p.wave
     → IsRound seats begin pulses o → IsRound seats begin pulses p → SameOutcome o p
+
+-- the outcome of a round, with its line as a wave
+abbrev pub HasOutcome : List Seat → ℕ → List Stretch → Type 0
+HasOutcome seats begin pulses = (o : Outcome) × IsWave o.wave × IsRound seats begin pulses o
+
+-- whoever sends, and whatever sparse pulses come, there is one
+abbrev pub RoundsHaveOutcomes : Type 0
+RoundsHaveOutcomes = (seats : List Seat) (begin : ℕ) (pulses : List Stretch) → AreSparse pulses → HasOutcome seats begin pulses

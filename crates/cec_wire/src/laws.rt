@@ -4,7 +4,7 @@ ghost use Rattle.cec_wire.specs.Bounds.{RoundsAreShort};
 ghost use Rattle.cec_wire.specs.Contend.{AcknowledgedIsZero, AcknowledgersHold, CompleteIsWinners, HasLine, LaterPulses, LosersInside, RoundBelow, SameLine, WinnersLast, WinnersWindow};
 ghost use Rattle.cec_wire.specs.Falls.{EachFallBegins, FewFalls, RoundFits, WaveFits};
 ghost use Rattle.cec_wire.specs.Lasting.{RoundsLast};
-ghost use Rattle.cec_wire.specs.OneOutcome.{OneOutcome};
+ghost use Rattle.cec_wire.specs.OneOutcome.{OneOutcome, RoundsHaveOutcomes};
 ghost use Rattle.cec_wire.specs.Polls.{FreeIsRead, HoldersAreHeard};
 ghost use Rattle.cec_wire.specs.Round.{FatesTold, OneLine};
 ghost use Rattle.cec_wire.specs.Winning.{CompleteIsRead};
@@ -107,6 +107,11 @@ pub fn rounds_are_short()
 /// one rest and one wave.
 pub fn one_outcome()
     ensures { OneOutcome }
+{}
+
+/// Each round has an outcome, whoever sends and whatever sparse pulses come.
+pub fn rounds_have_outcomes()
+    ensures { RoundsHaveOutcomes }
 {}
 
 /// What an outcome tells of each sender and of its close is what becomes of them in the round.

@@ -1,0 +1,25 @@
+-- A run has a text (own).
+use Rattle.std.specs.Prelude.{ℕ, List, Option}
+use Rattle.cec_wave.specs.declared.Stretch.{Stretch}
+use Rattle.cec_wave.specs.Pulses.{AreSparse}
+use Rattle.hdmi_topo.specs.Node.{Node}
+use Rattle.hdmi_blocks.specs.declared.edid.Edid.{Edid}
+use Rattle.cec_asm.specs.Topology.{Plan}
+use Rattle.cec_asm.specs.Script.{Course}
+use Rattle.cec_asm.specs.declared.script.TimedEvent.{TimedEvent}
+use Rattle.cec_net.specs.State.{started}
+use Rattle.cec_trace.specs.Root.{IsRoot}
+use Rattle.cec_run.specs.declared.run.Telling.{Telling}
+use Rattle.cec_run.specs.declared.run.Totals.{Totals}
+use Rattle.cec_run.specs.Run.{start, IsRunText}
+use Rattle.cec_run.specs.Emulate.{IsAccepted, IsTraceOf, IsEdgeTraceOf}
+
+-- whatever is told of it: it stops, and each of its rounds has an outcome
+abbrev pub RunsHaveTexts : Type 0
+RunsHaveTexts = (telling : Telling) (tree : List Node) (pulses : List Stretch) (events : List TimedEvent) (end : ℕ) → AreSparse pulses
+    → (text : List ℕ) × (totals : Totals) × IsRunText telling end (start (started tree pulses) events) text totals
+
+-- A topology and a script that are accepted, with an EDID that is none or is read, have a trace, and a text of edges.
+abbrev pub TextsHaveTraces : Type 0
+TextsHaveTraces = (topology script : List ℕ) (plan : Plan) (course : Course) (edid : Option Edid) → IsAccepted topology script plan course → IsRoot plan.edid edid
+    → ((text : List ℕ) × (totals : Totals) × IsTraceOf topology script text totals) × ((text : List ℕ) × (totals : Totals) × IsEdgeTraceOf topology script text totals)
