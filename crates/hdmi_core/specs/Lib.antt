@@ -1,4 +1,5 @@
 pub mod Sink
+pub mod Buffered
 pub mod Piece
 pub mod Written
 pub mod Phys
