@@ -5,5 +5,6 @@ pub mod Stood
 pub mod Finding
 pub mod Receivers
 pub mod Rounding
+pub mod Idling
 pub mod Listening
 pub mod Listened

@@ -5,8 +5,10 @@ use Rattle.cec_wave.specs.Line.{Line, was_low, is_fall}
 use Rattle.cec_bits.specs.declared.receiver.Told.{Told}
 use Rattle.cec_bits.specs.declared.receiver.Told.TheVariants.{Nothing}
 use Rattle.cec_bits.specs.declared.sender.Sender.{Sender}
+use Rattle.cec_bits.specs.declared.receiver.Receiver.{Receiver}
+use Rattle.cec_bits.specs.Phase.{Standing, Idle}
 use Rattle.cec_bits.specs.Reading.{reading_of}
-use Rattle.cec_bits.specs.Follows.{StoodBefore, GoesOn}
+use Rattle.cec_bits.specs.Follows.{StoodBefore, GoesOn, ShowsStanding}
 use Rattle.cec_bits.specs.Sending.{SenderStood, Hears}
 use Rattle.cec_wire.specs.declared.Seat.{Seat}
 use Rattle.cec_edges.specs.declared.listeners.Listeners.{Listeners}
@@ -60,6 +62,10 @@ pub record AreStanding (l : Listeners) (low : Line) (begin n : ℕ) : Type 0 whe
   pub from : begin ≤ n
   pub receiver : StoodBefore l.receiver low n
   pub senders : AreSending low begin n l.senders.items
+
+-- whatever it shows, it stands at Idle
+abbrev pub IsIdle : Receiver → Type 0
+IsIdle r = (standing : Standing) → ShowsStanding r standing → standing ≡ Idle
 
 -- no edge is noted that was not heard
 abbrev pub IsLevel : Listeners → Type 0

@@ -17,7 +17,7 @@ use Rattle.cec_edges.specs.declared.edge_wire.EdgeWire.{EdgeWire}
 use Rattle.cec_wire.specs.declared.Outcome.{Outcome}
 use Rattle.cec_wire.specs.Round.{IsRoundLine, IsRound}
 use Rattle.cec_wire.specs.Machine.{AreSentWell}
-use Rattle.cec_edges.specs.Listening.{IsLevel, AreSenders, AreStanding}
+use Rattle.cec_edges.specs.Listening.{IsIdle, IsLevel, AreSenders, AreStanding}
 use Rattle.cec_wire.specs.Edges.{Heard, heard_of, pulls, EachLine, IsNextEdge, wake_after}
 
 abbrev pub heard_by : EdgeWire → Heard
@@ -111,6 +111,10 @@ pub record Listens (w : EdgeWire) : Type 0 where
   pub level : IsLevel w.listeners
   pub senders : AreSenders w.seats.items w.begin w.listeners.senders.items
   pub stands : EachOf w (λ low. low w.begin ≡ true → AreStanding w.listeners low w.begin w.time)
+
+-- Each seat's receiver is idle: all seats share one.
+abbrev pub AreIdle : EdgeWire → Type 0
+AreIdle w = IsIdle w.listeners.receiver
 
 -- Before the first edge a receiver stands on the line that is never low; once the line is heard, on it by the end of the
 -- last microsecond that was heard.

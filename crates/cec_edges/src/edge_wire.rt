@@ -84,7 +84,7 @@ impl EdgeWire {
     ghost use Rattle.std.specs.Prelude.{IfSome, MatchOption, ℕ, ◌-◌};
     ghost use Rattle.std.specs.Option.{option_to_list};
     ghost use Rattle.cec_wire.specs.Edges.{IsNextEdge};
-    ghost use Rattle.cec_edges.specs.Wired.{heard_by, is_low_in, pulls_in, EachOf, IsBegun, IsNext, SameRound, EdgeAt, is_silent_in, wake_in, NextEdges, IsRoundOf, Leaves, Grows, Passes, Listens, IsReceiverIn, IsSenderIn, SendsNothing};
+    ghost use Rattle.cec_edges.specs.Wired.{heard_by, is_low_in, pulls_in, EachOf, IsBegun, IsNext, SameRound, EdgeAt, is_silent_in, wake_in, NextEdges, IsRoundOf, Leaves, Grows, Passes, Listens, IsReceiverIn, IsSenderIn, SendsNothing, AreIdle};
 
     // A round that begins at `start`.
     fn started(seats: &[Seat], start: u64) -> Self
@@ -96,6 +96,7 @@ impl EdgeWire {
         ensures begin { result.begin ≡ start }
         ensures time { result.time ≡ start }
         ensures pulses { result.pulses.items ≡ [] }
+        ensures idle { AreIdle result }
     {
         let sending = sending_first(seats);
         let pull = pull_at(sending.as_slice(), start, start);
@@ -118,6 +119,7 @@ impl EdgeWire {
     pub fn new() -> Self
         ensures begun { IsBegun result }
         ensures listens { Listens result }
+        ensures idle { AreIdle result }
     {
         EdgeWire::started(&[], 0)
     }
@@ -165,6 +167,7 @@ impl EdgeWire {
         ensures begin { self.new.begin ≡ start }
         ensures time { self.new.time ≡ start }
         ensures pulses { self.new.pulses.items ≡ [] }
+        ensures idle { AreIdle self.new }
     {
         *self = EdgeWire::started(seats, start);
     }
@@ -443,7 +446,8 @@ impl EdgeWire {
     pub fn receiver_of(&self, _seat: usize) -> &Receiver
         requires known { _seat < length self.now.seats.items }
         requires listens { Listens self.now }
-        ensures { IsReceiverIn self.now result.now }
+        ensures shared { result.now ≡ self.now.listeners.receiver }
+        ensures stands { IsReceiverIn self.now result.now }
     {
         &self.listeners.receiver
     }
@@ -472,16 +476,22 @@ impl EdgeWire {
         )
     }
 
-    /// What the round gave, once `next_edge` has answered that no edge comes any more. The wire is then as new.
+    /// What the round gave, once `next_edge` has returned that no edge comes any more. The wire then stands where
+    /// `begin` had it stand, before the round's first microsecond: it has the same seats, and every receiver is idle.
     pub fn finish(&mut self) -> Outcome
         requires begun { IsBegun self.old }
         requires silent { is_silent_in self.old ≡ true }
         ensures begun { IsBegun self.new }
         ensures listens { Listens self.new }
+        ensures seats { self.new.seats.items ≡ self.old.seats.items }
+        ensures begin { self.new.begin ≡ self.old.begin }
+        ensures time { self.new.time ≡ self.old.begin }
+        ensures pulses { self.new.pulses.items ≡ [] }
+        ensures idle { AreIdle self.new }
         ensures round { IsRoundOf self.old result }
     {
         let outcome = self.finished();
-        *self = EdgeWire::new();
+        *self = EdgeWire::started(self.seats.as_slice(), self.begin);
         outcome
     }
 }

@@ -3,7 +3,7 @@
 ghost use Rattle.std.specs.Prelude.{◌≡◌, ◌<◌, ◌≤◌, ℕ, Bool, length, slice_get, Some, None, MatchOption};
 ghost use Rattle.cec_bits.specs.Follows.{WakesFewer};
 ghost use Rattle.cec_bits.specs.Hears.{heard_by, wake_of};
-ghost use Rattle.cec_edges.specs.Listening.{AllHeard, AreBegun, AreSenders, AreStanding, HeardOne, IsLevel, IsReadOnce, IsSenderOf, KeepsSenders, Reaches, ReachesEdge, Ticks, sooner_wake, tells};
+ghost use Rattle.cec_edges.specs.Listening.{AllHeard, AreBegun, AreSenders, AreStanding, HeardOne, IsIdle, IsLevel, IsReadOnce, IsSenderOf, KeepsSenders, Reaches, ReachesEdge, Ticks, sooner_wake, tells};
 ghost use Rattle.cec_wire.specs.Machine.{AreSentWell, IsSentWell};
 
 use arrayvec::ArrayVec;
@@ -118,6 +118,7 @@ impl Listeners {
         ensures level { IsLevel result }
         ensures senders { AreSenders seats.now begin result.senders.items }
         ensures stands { (low : ℕ → Bool) → IsReadOnce low begin → AreStanding result low begin begin }
+        ensures idle { IsIdle result.receiver }
     {
         Listeners {
             receiver: Receiver::new(),

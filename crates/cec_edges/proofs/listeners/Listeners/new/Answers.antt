@@ -1,4 +1,5 @@
 use Rattle.std.proofs.Common.{◌∙◌, sym}
+use Rattle.cec_edges.proofs.Idling.{idle_on_high}
 use Rattle.cec_edges.proofs.Listening.{begun_senders, begins_standing}
 use Rattle.cec_edges.proofs.listeners.Listeners.new.Goals as goal
 
@@ -10,3 +11,6 @@ returns-clause-senders c = begun_senders c.args.seats.now c.args.begin c.senders
 
 pub returns-clause-stands : goal.returns-clause-stands
 returns-clause-stands c = begins_standing c.args.seats.now c.args.begin (record { receiver = c.new.result; senders = c.senders_of.result }) c.new.ensures.rests.0 c.new.ensures.before c.senders_of.ensures
+
+pub returns-clause-idle : goal.returns-clause-idle
+returns-clause-idle c = idle_on_high c.new.result (c.new.ensures.empty 0)

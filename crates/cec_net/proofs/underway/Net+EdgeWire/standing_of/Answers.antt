@@ -23,4 +23,4 @@ returns c =
     let w = c.in-Some.wire in
     let Sparse : List Stretch → Type 0 = AreSparse in
     stand_told s c.args.self.now w (shown c.standing.result) c.self.view_is (ap (λ (o : Option EdgeWire). option_map (λ (x : EdgeWire). x.time) o) c.in-Some.is) (subst Sparse c.as_slice-pulses.ensures.pulses c.as_slice-pulses.ensures.sparse)
-    (c.self.invariant.1 w c.in-Some.is) (shows_before w c.receiver_of.result.now (shown c.standing.result) c.receiver_of.ensures c.standing.ensures) (shows_after w c.receiver_of.result.now (shown c.standing.result) c.receiver_of.ensures c.standing.ensures)
+    (c.self.invariant.1 w c.in-Some.is) (shows_before w c.receiver_of.result.now (shown c.standing.result) c.receiver_of.ensures.stands c.standing.ensures) (shows_after w c.receiver_of.result.now (shown c.standing.result) c.receiver_of.ensures.stands c.standing.ensures)
