@@ -4,7 +4,7 @@ use Rattle.std.specs.List.{list_all}
 use Rattle.std.proofs.lemmas.Bool.Decides.{nat_tests}
 use denote.Bor.{Bor}
 use Rattle.cec_opcode.specs.WordSets.{Word, word, word_of, words_of}
-use Rattle.cec_opcode.specs.Table.{Row, rows}
+use Rattle.cec_opcode.specs.Table.{Row}
 use Rattle.cec_opcode.specs.declared.word_set.WordSet.{WordSet}
 use Rattle.cec_opcode.specs.declared.word_set.WordSet.TheVariants.{Reason, Power, OnOff, DeviceType, StatusRequest, DeckInfo, PlayMode, DeckControl, Display, MenuRequest, MenuState, Version, UserControl}
 
@@ -60,9 +60,6 @@ sets_short UserControl = refl
 
 abbrev pub named : Row → Word
 named r = word r.code r.name
-
-pub names_short : all_short 29 (map named rows) ≡ true
-names_short = refl
 
 name_by : (b : Bool) (r : Row) (p : Option Word) (q : Option Row) → option_map (λ (w : Word). w.text) p ≡ option_map (λ (r : Row). r.name) q
     → option_map (λ (w : Word). w.text) (cond b (Some (named r)) p) ≡ option_map (λ (r : Row). r.name) (cond b (Some r) q)

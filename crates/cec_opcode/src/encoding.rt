@@ -7,7 +7,7 @@ use crate::message::{Message, Triple};
 use crate::operand::{Operand, Operands};
 use crate::row::Rule;
 use crate::rows::rows;
-use crate::word_set::{Word, WordSet, byte_in, text_in};
+use crate::word_set::{Word, WordSet, byte_in};
 use arrayvec::ArrayVec;
 use cec_frame::{Addr, Frame};
 use thiserror::Error;
@@ -34,6 +34,16 @@ macro_rules! names {
 
 /// The opcodes that have a name.
 const NAMES: &[Word] = rows!(names, 0, unused);
+
+macro_rules! name_match {
+    ($at:expr, $unused:ident, { $($op:literal $name:literal $to:ident $message:ident $fields:tt;)* } { $($raw:literal $raw_name:literal;)* }) => {
+        match $at {
+            $($op => Some($name),)*
+            $($raw => Some($raw_name),)*
+            _ => None,
+        }
+    };
+}
 
 // A word of a row, as a case of `Operand`.
 macro_rules! operand {
@@ -205,7 +215,7 @@ pub fn name(code: u8) -> Option<&'static str>
     ensures value { option_copied result ≡ name_of code }
     ensures short { IfSome result (λ name. length name.now ≤ 29) }
 {
-    text_in(NAMES, code)
+    rows!(name_match, code, code)
 }
 
 /// The opcode that has this name, if one has.

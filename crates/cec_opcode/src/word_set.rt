@@ -227,32 +227,28 @@ pub(crate) use words;
 pub(crate) fn text_in(words: &[Word], byte: u8) -> Option<&'static str>
     ensures { option_copied result ≡ word_of (map spelled words.now) byte }
 {
-    match words {
-        [] => None,
-        [word, rest @ ..] => {
-            if word.byte == byte {
-                Some(word.text)
-            } else {
-                text_in(rest, byte)
-            }
+    let mut rest = words;
+    while let [word, others @ ..] = rest {
+        if word.byte == byte {
+            return Some(word.text);
         }
+        rest = others;
     }
+    None
 }
 
 /// The byte of the first of these words that has this text.
 pub(crate) fn byte_in(words: &[Word], text: &[u8]) -> Option<u8>
     ensures { result ≡ byte_of (map spelled words.now) text.now }
 {
-    match words {
-        [] => None,
-        [word, rest @ ..] => {
-            if word.text.as_bytes() == text {
-                Some(word.byte)
-            } else {
-                byte_in(rest, text)
-            }
+    let mut rest = words;
+    while let [word, others @ ..] = rest {
+        if word.text.as_bytes() == text {
+            return Some(word.byte);
         }
+        rest = others;
     }
+    None
 }
 
 impl WordSet {
