@@ -325,6 +325,182 @@ const QUEUES_AND_BOXES: &[Run] = &[
     },
 ];
 
+// A television with a device of each other kind in its ports, and all that a record tells is changed: some of it of each.
+const KINDS: &str = "device tv tv 4\n\
+     device amp amp 1\n\
+     device p1 player 0\n\
+     device r1 recorder 0\n\
+     device sw switch 3\n\
+     plug amp tv 1\n\
+     plug p1 tv 2\n\
+     plug r1 tv 3\n\
+     plug sw tv 4\n";
+
+const CHANGES: &str = "\
+at 2000000 press tv volume-down
+at 2000000 press tv mute
+at 2000000 press tv language fra
+at 2500000 press tv audio on
+at 3000000 send tv 0>5 report-arc-initiated
+at 3500000 press amp volume-up
+at 4000000 send r1 1>4 give-deck-status on
+at 4500000 press p1 play
+at 5000000 press tv watch 4.2.0.0
+at 5500000 press tv remote 4 up
+at 6000000 send p1 4>0 set-osd-string hold \"Hi\"
+at 6500000 send p1 4>0 user-control-pressed right
+at 7000000 press r1 eject
+at 7500000 send tv 0>1 standby
+at 8000000 press p1 menu
+at 8000000 press p1 menu
+at 8000000 press p1 menu
+at 8000000 press p1 menu
+at 8000000 press p1 menu
+at 8000000 press p1 menu
+at 8000000 press p1 menu
+at 8000000 press p1 menu
+at 8000000 press p1 menu
+at 8000000 press p1 menu
+at 8000000 press p1 menu
+at 8000000 press p1 menu
+at 8000000 press p1 menu
+at 8000000 press p1 menu
+at 8000000 press p1 menu
+at 8000000 press p1 menu
+at 8000000 press p1 menu
+at 8000000 press p1 menu
+at 8000000 press p1 menu
+end 8000001
+";
+
+const CHANGED: &str = "\
+state tv tv 0 0.0.0.0 on active=2.0.0.0 path=4.2.0.0 deck=1a menu=off audio=on volume=19 mute=on arc=off sel=- lang=667261 osd=4869 held=04 heard=4:8e:00 sub=- queue=0 dropped=0
+state amp amp 5 1.0.0.0 on active=2.0.0.0 path=4.2.0.0 deck=1a menu=off audio=on volume=21 mute=off arc=on sel=- lang=667261 osd=- held=- heard=1:84:30 sub=- queue=0 dropped=0
+state p1 player 4 2.0.0.0 on active=2.0.0.0 path=4.2.0.0 deck=11 menu=on audio=off volume=20 mute=off arc=off sel=- lang=667261 osd=- held=01 heard=1:84:30 sub=1 queue=15 dropped=3
+state r1 recorder 1 3.0.0.0 standby active=2.0.0.0 path=4.2.0.0 deck=19 menu=off audio=off volume=20 mute=off arc=off sel=- lang=667261 osd=- held=- heard=4:1b:11 sub=- queue=0 dropped=0
+state sw switch f 4.0.0.0 on active=2.0.0.0 path=4.2.0.0 deck=1a menu=off audio=off volume=20 mute=off arc=off sel=2 lang=656e67 osd=- held=- heard=1:84:30 sub=- queue=0 dropped=0
+8000001 end
+";
+
+// Switches one below another, down to the fourth level, and a player.
+const SWITCHES: &str = "device tv tv 2\n\
+     device s1 switch 2\n\
+     device s2 switch 3\n\
+     device s3 switch 2\n\
+     device s4 switch 2\n\
+     device p player 0\n\
+     plug s1 tv 1\n\
+     plug s2 s1 2\n\
+     plug p s2 3\n\
+     plug s3 s2 2\n\
+     plug s4 s3 1\n";
+
+// Each switch that has an address for its ports says which one it selects; the last one's ports have none.
+const ROUTES: &str = "\
+at 2000000 press s2 port 2
+at 3000000 press p play
+at 4000000 press tv watch 1.2.2.1
+at 5000000 press s3 port 2
+at 6000000 press s4 port 2
+at 7000000 send tv 0>f routing-change 0.0.0.0 1.2.2.0
+at 8000000 press tv watch 1.2.2.1
+at 8500000 press p play
+end 9000000
+";
+
+const ROUTED: &str = "\
+12000 39150 complete 0>0 nack by tv out s1@1,s2@1,s3@1,s4@1
+50700 173850 complete f>f report-physical-address 1.0.0.0 switch ok by s1 out s2@27,s3@27,s4@27
+180600 303750 complete f>f report-physical-address 1.2.0.0 switch ok by s2 out s3@33,s4@33
+310500 433650 complete f>f report-physical-address 1.2.2.0 switch ok by s3 out s4@38
+440400 563550 complete f>f report-physical-address 1.2.2.1 switch ok by s4 out -
+575100 698250 complete 0>f report-physical-address 0.0.0.0 tv ok by tv out -
+709813 736963 complete 4>4 nack by p out -
+753313 876463 complete 4>f report-physical-address 1.2.3.0 playback ok by p out -
+2000000 event 1 ok
+2000000 2147150 complete f>f routing-change 1.2.1.0 1.2.2.0 ok by s2 out -
+2158700 2257850 complete f>f routing-information 1.2.2.1 ok by s3 out -
+3000000 event 2 ok
+3000000 3051150 complete 4>0 image-view-on ack by p out -
+3068400 3167550 complete 4>f active-source 1.2.3.0 ok by p out -
+4000000 event 3 ok
+4000000 4099150 complete 0>f set-stream-path 1.2.2.1 ok by tv out -
+5000000 event 4 ok
+5000000 5147150 complete f>f routing-change 1.2.2.1 1.2.2.2 ok by s3 out -
+6000000 event 5 ok
+6000000 6147150 complete f>f routing-change f.f.f.f f.f.f.f ok by s4 out -
+7000000 event 6 ok
+7000000 7147150 complete 0>f routing-change 0.0.0.0 1.2.2.0 ok by tv out -
+7158700 7257850 complete f>f routing-information 1.2.2.2 ok by s3 out -
+8000000 event 7 ok
+8000000 8099150 complete 0>f set-stream-path 1.2.2.1 ok by tv out -
+8500000 event 8 ok
+8500000 8551150 complete 4>0 image-view-on ack by p out -
+8568400 8667550 complete 4>f active-source 1.2.3.0 ok by p out -
+state tv tv 0 0.0.0.0 on active=1.2.3.0 path=1.2.3.0 deck=1a menu=off audio=off volume=20 mute=off arc=off sel=- lang=656e67 osd=- held=- heard=4:84:12 sub=- queue=0 dropped=0
+state s1 switch f 1.0.0.0 on active=1.2.3.0 path=1.2.3.0 deck=1a menu=off audio=off volume=20 mute=off arc=off sel=2 lang=656e67 osd=- held=- heard=4:84:12 sub=- queue=0 dropped=0
+state s2 switch f 1.2.0.0 on active=1.2.3.0 path=1.2.3.0 deck=1a menu=off audio=off volume=20 mute=off arc=off sel=3 lang=656e67 osd=- held=- heard=4:84:12 sub=- queue=0 dropped=0
+state s3 switch f 1.2.2.0 on active=1.2.3.0 path=1.2.3.0 deck=1a menu=off audio=off volume=20 mute=off arc=off sel=1 lang=656e67 osd=- held=- heard=4:84:12 sub=- queue=0 dropped=0
+state s4 switch f 1.2.2.1 on active=1.2.3.0 path=1.2.3.0 deck=1a menu=off audio=off volume=20 mute=off arc=off sel=2 lang=656e67 osd=- held=- heard=4:84:12 sub=- queue=0 dropped=0
+state p player 4 1.2.3.0 on active=1.2.3.0 path=1.2.3.0 deck=11 menu=off audio=off volume=20 mute=off arc=off sel=- lang=656e67 osd=- held=- heard=0:84:00 sub=- queue=0 dropped=0
+9000000 end
+";
+
+// A switch below the fourth level, whose key selects a port and says nothing.
+const TOO_DEEP: &str = "device tv tv 1\n\
+     device s1 switch 1\n\
+     device s2 switch 1\n\
+     device s3 switch 1\n\
+     device s4 switch 1\n\
+     device s5 switch 2\n\
+     plug s1 tv 1\n\
+     plug s2 s1 1\n\
+     plug s3 s2 1\n\
+     plug s4 s3 1\n\
+     plug s5 s4 1\n";
+
+const SILENT: &str = "\
+12000 39150 complete 0>0 nack by tv out s1@1,s2@1,s3@1,s4@1
+50700 173850 complete f>f report-physical-address 1.0.0.0 switch ok by s1 out s2@28,s3@28,s4@28
+180600 303750 complete f>f report-physical-address 1.1.0.0 switch ok by s2 out s3@34,s4@34
+310500 433650 complete f>f report-physical-address 1.1.1.0 switch ok by s3 out s4@38
+440400 563550 complete f>f report-physical-address 1.1.1.1 switch ok by s4 out -
+575100 698250 complete 0>f report-physical-address 0.0.0.0 tv ok by tv out -
+2000000 event 1 ok
+state tv tv 0 0.0.0.0 on active=- path=- deck=1a menu=off audio=off volume=20 mute=off arc=off sel=- lang=656e67 osd=- held=- heard=f:84:11 sub=- queue=0 dropped=0
+state s1 switch f 1.0.0.0 on active=- path=- deck=1a menu=off audio=off volume=20 mute=off arc=off sel=1 lang=656e67 osd=- held=- heard=0:84:00 sub=- queue=0 dropped=0
+state s2 switch f 1.1.0.0 on active=- path=- deck=1a menu=off audio=off volume=20 mute=off arc=off sel=1 lang=656e67 osd=- held=- heard=0:84:00 sub=- queue=0 dropped=0
+state s3 switch f 1.1.1.0 on active=- path=- deck=1a menu=off audio=off volume=20 mute=off arc=off sel=1 lang=656e67 osd=- held=- heard=0:84:00 sub=- queue=0 dropped=0
+state s4 switch f 1.1.1.1 on active=- path=- deck=1a menu=off audio=off volume=20 mute=off arc=off sel=1 lang=656e67 osd=- held=- heard=0:84:00 sub=- queue=0 dropped=0
+state s5 switch f f.f.f.f on active=- path=- deck=1a menu=off audio=off volume=20 mute=off arc=off sel=2 lang=656e67 osd=- held=- heard=0:84:00 sub=- queue=0 dropped=0
+3000000 end
+";
+
+// All that state lines tell, and what switches tell.
+const RECORDS: &[Run] = &[
+    Run {
+        what: "all that a record tells",
+        place: Place::Within,
+        topology: KINDS,
+        script: CHANGES,
+        lines: CHANGED,
+    },
+    Run {
+        what: "switches route",
+        place: Place::Whole,
+        topology: SWITCHES,
+        script: ROUTES,
+        lines: ROUTED,
+    },
+    Run {
+        what: "a switch below the fourth level is silent",
+        place: Place::Whole,
+        topology: TOO_DEEP,
+        script: "at 2000000 press s5 port 2\nend 3000000\n",
+        lines: SILENT,
+    },
+];
+
 // The ends of edge files. The poll of a television alone begins at 12,000 and closes at 39,150.
 const EDGE_FILES: &[Run] = &[
     Run {
@@ -426,6 +602,7 @@ fn runs_are_told(rt: HostRuntime) {
     tell(&rt, rt.alloc(), STATES);
     tell(&rt, rt.alloc(), BEGINNINGS);
     tell(&rt, rt.alloc(), QUEUES_AND_BOXES);
+    tell(&rt, rt.alloc(), RECORDS);
     tell(&rt, rt.alloc(), EDGE_FILES);
 }
 
