@@ -246,6 +246,39 @@ sent delivered
 held => Some(15) None
 front => -";
 
+// The class of free time after the fates of an allocation's polls.
+const POLLED: &str = "\
+join 1000 500
+class => 12000
+sent delivered
+class => 16800
+sent lost
+front => 88
+class => 12000
+sent broken
+front => 88
+class => 7200
+sent lost
+front => 88
+class => 12000
+sent unacked
+class => 16800";
+
+// The same after the fates of a poll that was handed in.
+const POLL_SENT: &str = "\
+submit 48 => queued
+class => 16800
+sent lost
+class => 12000
+sent broken
+class => 7200
+sent lost
+class => 12000
+front => 48
+sent unacked
+class => 16800
+front => -";
+
 const SETTLED: &str = "\
 holds 4 => true
 holds 8 => false
@@ -366,6 +399,8 @@ const RUNS: &[(&str, &[(usize, &str)])] = &[
         ],
     ),
     ("new player", &[(1, NO_ADDRESS)]),
+    ("new player", &[(1, POLLED)]),
+    ("settled player", &[(1, POLL_SENT)]),
     ("settled player", &[(1, SETTLED)]),
     (
         "settled player",

@@ -235,13 +235,16 @@ const ARBITRATED: &str = "\
 0 5:50,8f 4:40,04 | 2000000 | 3000000+1 => Complete 2051150 bits 01000000000000010010 rest 2051600 close 2051600 by 2 out 1@4
 0 5:50,8f 4:48 | 2000000 | 3000000+1 => Complete 2027150 bits 0100100011 rest 2026700 close 2027150 by 2 out 1@4";
 
-// What becomes of what the seat of a number sends. A recorder at 1 and a player at 4 in one box acknowledge what goes
+// What becomes of what the seat of a number sends. A pulse that turns the last bit of the initiator into a 0 is a
+// lost arbitration, and one that turns the first bit of the destination breaks the frame. A recorder at 1 and a player at 4 in one box acknowledge what goes
 // to either, also where the other of the two has found no address or has not settled yet. Of a broadcast they say
 // nothing.
 const FATES: &str = "\
 1 of 0 4:40,04 | 1000000 | 1006600+400 => Delivered
 1 of 0 4:40,04 | 1000000 | 1006500+100 => Broken
 1 of 0 5:50,8f 4:48 | 2000000 | 3000000+1 => Lost@4
+1 of 0 5:50,8f | 1000000 | 1012200+1200 => Lost@4
+1 of 0 4:48 | 1000000 | 1014600+1200 => Broken@5
 2 of 0 5:50,8f 4:48 | 2000000 | 3000000+1 => Unacked
 0 of 0:01 1+4 | 1000000 | 3000000+1 => Delivered
 0 of 0:04 1+4 | 1000000 | 3000000+1 => Delivered

@@ -1,10 +1,10 @@
 //! What is told of bytes and texts, a case each.
 use crate::bases::{self, base_told, letters_told, timing_told};
 use crate::blocks::{self, edid_told, parts_told, passed_on_told};
-use crate::extensions::{self, addressed_told, heard_told};
+use crate::extensions::{self, address_told, addressed_told, heard_told};
 use crate::neighbours::{self, neighbours_told};
 use crate::samples::{comes_out, owned, parted};
-use crate::texts::{self, change_told, refusals_told, text_told};
+use crate::texts::{self, change_told, fronts_told, refusals_told, text_told};
 use hdmi_blocks::AudioFrom;
 use std::process::Abort;
 
@@ -20,6 +20,7 @@ fn blocks_told(rt: &(impl Abort + AllocGlobal), verb: &str, words: &str) -> Stri
         "amplifier" => passed_on_told(rt, AudioFrom::Amplifier, words),
         "heard" => heard_told(rt, words),
         "addressed" => addressed_told(rt, words),
+        "address" => address_told(rt, words),
         _ => owned(rt, "no such verb"),
     }
 }
@@ -31,6 +32,7 @@ fn told(rt: &(impl Abort + AllocGlobal), asked: &str) -> String {
         "change" => change_told(rt, words),
         "refusals" => refusals_told(rt, words),
         "text" => text_told(rt, words),
+        "fronts" => fronts_told(rt, words),
         "neighbours" => neighbours_told(rt, words),
         _ => blocks_told(rt, verb, words),
     }
@@ -55,5 +57,6 @@ fn blocks_are_read_and_passed_on(rt: HostRuntime) {
 fn texts_are_read_and_written(rt: HostRuntime) {
     are_told(&rt, texts::CHANGES);
     are_told(&rt, texts::RETURNED);
+    are_told(&rt, texts::FRONTS);
     are_told(&rt, neighbours::HASHES);
 }

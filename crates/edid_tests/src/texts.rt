@@ -1,5 +1,5 @@
 //! The texts of EDIDs: each form there and back, and the line at fault.
-use crate::samples::{bytes_of, number, owned};
+use crate::samples::{bytes_of, edid_of, number, owned};
 use arrayvec::ArrayVec;
 use hdmi_blocks::{Edid, edid_from_bytes, edid_to_bytes, read_parts};
 use hdmi_core::Writes;
@@ -61,6 +61,12 @@ text tv..034f map..0c speaking..e8 empty..06 => tv;ext f002020000000000000000000
 text 00ffffffffffff004c2d0201010000000a15010380341d780aee91a3544c99260f505400000001010101010101010101010101010101023a801871382d40582c450008222100001e000000fc0041422020202020202020202020000000100000000000000000000000000000000000100000000000000000000000000000..01b3 speaking..e8 => edid 1.3;maker SAM;product 258;serial 1;made 10 2011;input 80;size 52 29;gamma 120;features 0a;chroma 655 338 307 614 154 61 320 337;established 000000;standard unused;standard unused;standard unused;standard unused;standard unused;standard unused;standard unused;standard unused;timing 14850 1920 280 1080 45 88 44 4 5 520 290 0 0 1e;name \"AB           \";dummy;dummy;cta f1;video 900403;audio 090707;speakers 010000;hdmi 0.0.0.0 -;tail -;
 text 00ffffffffffff004c2d0201010000000a15010380341d780aee91a3544c99260f505400000001010101010101010101010101010101023a801871382d40582c450008222100001e000000fc004c4f554e474520545620303031000000f7000a000000000000000000000000000000100000000000000000000000000000..0160 speaking..e8 => edid 1.3;maker SAM;product 258;serial 1;made 10 2011;input 80;size 52 29;gamma 120;features 0a;chroma 655 338 307 614 154 61 320 337;established 000000;standard unused;standard unused;standard unused;standard unused;standard unused;standard unused;standard unused;standard unused;timing 14850 1920 280 1080 45 88 44 4 5 520 290 0 0 1e;name \"LOUNGE TV 001\";raw 000000f7000a000000000000000000000000;dummy;cta f1;video 900403;audio 090707;speakers 010000;hdmi 0.0.0.0 -;tail -;
 text every.. => edid 1.4;maker SAM;product 258;serial 1;made 10 2011;input 80;size 52 29;gamma 120;features 0a;chroma 655 338 307 614 154 61 320 337;established 010283;standard 1280 2 60;standard 1920 3 60;standard 800 1 85;standard unused;standard unused;standard unused;standard unused;standard unused;timing 14850 1920 280 1080 45 856 556 20 5 520 290 5 7 1e;text \"CHECK\";serial-text \"SN-0001234567\";range 00324b1e5313000a202020202020;cta f1;tag0 aa;audio 090707;video 90;vendor d85dc4;speakers 010000;tag5 bb;tag6 -;extended 004f;hdmi 1.0.0.0 801e;timing 14850 1920 280 1080 45 856 556 20 5 520 290 5 7 1e;tail 000099;
+";
+
+/// The fronts of a text of four blocks: with so many lines they are texts too, after the base block and after each extension.
+/// Every other one, cut after a line or in it, is refused at the line that is not there as a whole.
+pub(crate) const FRONTS: &str = "\
+fronts tv..034f map..0c speaking..e8 empty..06 => 23 24 30 32
 ";
 
 /// The text of both blocks with one part changed.
@@ -144,4 +150,31 @@ pub(crate) fn text_told(rt: &(impl Abort + AllocGlobal), words: &str) -> String 
     } else {
         owned(rt, "other bytes, or another text of the parts")
     }
+}
+
+/// What comes of the front of a text that has so many whole lines: their count where it is a text, nothing where it is refused at
+/// the next line, and otherwise its length and why it is refused.
+fn front_told(rt: &(impl Abort + AllocGlobal), front: &[u8], lines: usize) -> String {
+    let told = match parse_text(rt.alloc(), front) {
+        Ok(_) => format!(in rt.alloc(); " {lines}"),
+        Err(TextError::Syntax(line)) if line == lines.saturating_add(1) => return owned(rt, ""),
+        Err(error) => format!(in rt.alloc(); " {}: {error}", front.len()),
+    };
+    told.expect(rt, "a text")
+}
+
+/// With how many lines the fronts of an EDID's text are texts.
+pub(crate) fn fronts_told(rt: &(impl Abort + AllocGlobal), words: &str) -> String {
+    let text = text_of(rt, &edid_of(rt, words));
+    let mut told = String::new(rt.alloc());
+    let mut lines = 0;
+    for end in 0..=text.len() {
+        let (front, rest) = text.split_at(end);
+        let front = front_told(rt, front, lines);
+        told.push_str(front.as_str()).expect(rt, "a text");
+        if rest.first() == Some(&b'\n') {
+            lines = usize::saturating_add(lines, 1);
+        }
+    }
+    owned(rt, told.as_str().trim_start())
 }

@@ -38,6 +38,32 @@ number b => Some(4)
 count devices => 5
 ";
 
+/// A tree takes fifteen devices. What is wrong with a sixteenth besides does not matter.
+const FULL: &str = "\
+add tv tv 4 => -
+add p1 player 0 => -
+add p2 player 0 => -
+add p3 player 0 => -
+add p4 player 0 => -
+add p5 player 0 => -
+add p6 player 0 => -
+add p7 player 0 => -
+add p8 player 0 => -
+add p9 player 0 => -
+add p10 player 0 => -
+add p11 player 0 => -
+add p12 player 0 => -
+add p13 player 0 => -
+add p13 player 0 => Name
+add p14 player 0 => -
+add p15 player 0 => Full
+add p14 player 0 => Full
+add 2nd player 0 => Full
+add tv2 tv 1 => Full
+count devices => 15
+device 14 => p14 Player 0
+";
+
 const CHAIN: &str = "\
 add tv tv 1 => -
 add s1 switch 1 => -
@@ -212,6 +238,7 @@ fn grows(rt: &(impl Abort + AllocGlobal), steps: &str) {
 #[test]
 fn trees_grow_and_pass_on_addresses(rt: HostRuntime) {
     grows(&rt, REFUSALS);
+    grows(&rt, FULL);
     grows(&rt, CHAIN);
     grows(&rt, TELEVISION);
     grows(&rt, AMPLIFIER);

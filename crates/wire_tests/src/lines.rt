@@ -16,6 +16,16 @@ const CASES: &str = "\
 # What is laid for a 0 and a 1, and pulses that are far enough apart.
 lay 12000:01 => [Stretch { from: 12000, to: 15700 }, Stretch { from: 16500, to: 18000 }, Stretch { from: 18900, to: 19500 }]
 pulses 100000-100400 125400-125401 => [Stretch { from: 100000, to: 100400 }, Stretch { from: 125400, to: 125401 }]
+# So many pulses, the first as it stands there: that they are too many comes before what is wrong with the first.
+crowd 4096 5-405 => 4096
+crowd 4097 5-405 => TooMany
+crowd 4097 5-5 => TooMany
+crowd 4097 7-5 => TooMany
+crowd 4096 7-5 => Width
+crowd 4097 125001-125401 => TooMany
+crowd 4096 125001-125401 => Order
+crowd 4097 125000-125400 => TooMany
+crowd 4096 125000-125400 => Close
 # When and how a reading ends, and its bits: a sender that nobody acknowledges, and one that is cut off after its header.
 read 12000:0000000011 => 39150 Complete [0000000011]
 read 1000000:0100100001 => 1028851 Silent [0100100001]
@@ -134,6 +144,29 @@ fn pulses_text(rt: &(impl Abort + AllocGlobal), words: &str) -> String {
     format!(in rt.alloc(); "{:?}", pulses.as_slice()).expect(rt, "a text")
 }
 
+/// So many stretches, of which the others are 400 wide and as near as they may be to each other.
+fn crowd(rt: &(impl Abort + AllocGlobal), first: &str, count: u32) -> Vec<Stretch> {
+    let mut stretches = Vec::new(rt.alloc());
+    stretches
+        .extend_from_slice(&stretches_of(rt, first))
+        .expect(rt, "stretches");
+    for place in 1..count {
+        let from = 100_000 + u64::from(place) * 25_400;
+        let to = from + 400;
+        stretches.push(Stretch { from, to }).expect(rt, "stretches");
+    }
+    stretches
+}
+
+fn crowd_text(rt: &(impl Abort + AllocGlobal), words: &str) -> String {
+    let (count, first) = words.split_once(' ').expect(rt, "a count");
+    let text = match Pulses::new(&crowd(rt, first, number(rt, count))) {
+        Ok(pulses) => format!(in rt.alloc(); "{}", pulses.as_slice().len()),
+        Err(error) => format!(in rt.alloc(); "{error:?}"),
+    };
+    text.expect(rt, "a text")
+}
+
 /// What is read of what a sender pulls.
 fn reading_of_sender(rt: &impl Abort, word: &str) -> Reading {
     let (start, _bits) = word.split_once(':').expect(rt, "bits");
@@ -161,6 +194,7 @@ fn told(rt: &(impl Abort + AllocGlobal), asked: &str) -> String {
     match verb {
         "lay" => laid_text(rt, words),
         "pulses" => pulses_text(rt, words),
+        "crowd" => crowd_text(rt, words),
         "read" => read_text(rt, words),
         "last" => last_text(rt, words),
         "stand" => standing_text(rt, words),

@@ -156,6 +156,42 @@ const FAULTS: &[Case] = &[
     ("1000 0\n2000 1\n1999 end\nfrob", "line 3: order"),
 ];
 
+// A file of edges that no run has, with comments and lines left out, and what is read of it.
+const FOREIGN: &[u8] =
+    b"# a capture\n\n1000 0\n4700 1\n5500 0\n6100 1\n\n9000 0\n20000 end\n# done\n";
+
+const FOREIGN_READINGS: &[u8] = b"1000 8251 silent 1\n9000 12901 bad-start -\n";
+
+// For each of its fronts, the shortest first, the line at which it is refused, a line of the file each: the one that is cut,
+// and the one that is not there behind a whole one or a comment. A dash stands for a file that has its end.
+const FOREIGN_FRONTS: &[u8] = b"\
+122222222222\
+2\
+3333334\
+4444445\
+5555556\
+6666667\
+7\
+8888889\
+999999999-\
+--------";
+
+// The front of the foreign file that has so many bytes is read, or refused at its line.
+fn is_front_read(alloc: Global, end: usize) -> bool {
+    let Some(front) = FOREIGN.get(..end) else {
+        return false;
+    };
+    match FOREIGN_FRONTS.get(end) {
+        None => false,
+        Some(b'-') => is_read(alloc, front, FOREIGN_READINGS),
+        Some(line) => {
+            let mut fault = *b"line 0: line";
+            fault[5] = *line;
+            is_read(alloc, front, &fault)
+        }
+    }
+}
+
 /// The file has these readings, or this fault.
 pub(crate) fn is_read(alloc: Global, file: &[u8], wanted: &[u8]) -> bool {
     match told(alloc, file) {
@@ -180,6 +216,9 @@ fn files_are_read(rt: HostRuntime) {
     read(&rt, rt.alloc(), ENDS);
     read(&rt, rt.alloc(), FRAMES);
     read(&rt, rt.alloc(), FAULTS);
+    for end in 0..=FOREIGN.len() {
+        assert!(&rt; is_front_read(rt.alloc(), end), "{end}");
+    }
 }
 
 // A writer with room for ten bytes holds the front of the readings.
