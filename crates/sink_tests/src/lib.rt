@@ -1,0 +1,7 @@
+//! Tests of the calls that write, over a sink that hands each `put` on, with no buffer between.
+#![tactic(auto)]
+
+#[cfg(test)]
+mod rows;
+#[cfg(test)]
+mod writing;
