@@ -8,45 +8,78 @@ passed=0
 failed=0
 
 # A stand-in for rt. It refuses sources that have the word 'broken', notes its calls, and links a program that prints its
-# sources and its arguments. It takes as many seconds as the file 'slow' says.
+# sources and its arguments. It takes as many seconds as the file 'slow' says. `rt ci` runs at the top of a repository that has
+# nothing of an earlier run, and links the same program, or another one where there is a file 'other'.
 mkdir -p "$room/bin"
 cat > "$room/bin/rt" << 'RT'
 #!/usr/bin/env bash
-echo "$1 $2" >> "$CALLS"
+if [ "$*" = version ]; then
+  echo "kit 1 of this test"
+  exit
+fi
+echo "$*" >> "$CALLS"
+prove() {
+  echo "== $1"
+  if grep -q broken "$crates/$1"/src/*; then
+    echo "error: the sources of $1 are broken"
+    return 1
+  fi
+  echo "fn $1::f: proved"
+  echo "logic=proved functions=3 sum=0"
+}
+link() {
+  mkdir -p "$crates/hdminet/out"
+  { echo '#!/bin/sh'; echo "echo '$(cat "$crates/hdminet/src/main.rt")$1' \"\$@\""; } > "$crates/hdminet/out/hdminet"
+  chmod +x "$crates/hdminet/out/hdminet"
+}
+if [ "$*" = ci ]; then
+  crates=$PWD/crates
+  [ -d .git ] && [ -f HANDLES ] && [ -f crates/hdminet/stdin ] && ! ls -d crates/*/{out,must-fail,wrong-bodies} 2> /dev/null || exit 1
+  [ "$(cut -d: -f1 crates.txt | sort | tr '\n' ' ')" = "hdminet low " ] && [ "$(ls crates | tr '\n' ' ')" = "hdminet low " ] || exit 1
+  for crate in low hdminet; do
+    if ! prove "$crate"; then
+      printf 'rt: %s NOT PROVED\nrt: another NOT PROVED: its library %s failed\n0 passed, 2 failed\n' "$crate" "$crate"
+      exit 1
+    fi
+    echo "rt: $crate proved"
+  done
+  link "$(cat "$OTHER" 2> /dev/null)"
+  printf 'rt: ok; handles allowed: none\n2 passed, 0 failed\n'
+  exit
+fi
 [ "$1 $2 $(basename "$PWD")" = "all test hdminet" ] || exit 1
 [ -f ../../slow ] && sleep "$(cat ../../slow)"
 if grep -q unreadable ../low/src/*; then
   echo "error: nothing can be read"
   exit 1
 fi
+crates=..
 for crate in low hdminet; do
-  echo "== $crate"
-  if grep -q broken "../$crate"/src/*; then
-    echo "error: the sources of $crate are broken"
+  if ! prove "$crate"; then
     printf '== summary\n%s: failed (1)\n' "$crate"
     for _ in {1..20}; do echo "another: not run, since $crate failed"; done
     exit 1
   fi
-  echo "fn $crate::f: proved"
-  echo "logic=proved functions=3 sum=0"
 done
-mkdir -p out
-{ echo '#!/bin/sh'; echo "echo '$(cat src/main.rt)' \"\$@\""; } > out/hdminet
-chmod +x out/hdminet
+link ""
 printf '== summary\nlow: ok\nhdminet: ok\n'
 RT
 chmod +x "$room/bin/rt"
-export CALLS="$room/calls"
+export CALLS="$room/calls" OTHER="$room/other" TMPDIR="$room/tmp"
+mkdir "$TMPDIR"
 PATH="$room/bin:$PATH"
 
 # A new checkout of a program that prints 'one', a crate below it, and a crate of tests.
 checkout() {
-  rm -rf "$room/checkout" "$CALLS"
-  mkdir -p "$room/checkout/crates/low/src" "$room/checkout/crates/hdminet/src" "$room/checkout/crates/low_tests/src"
+  rm -rf "$room/checkout" "$CALLS" "$OTHER"
+  mkdir -p "$room/checkout/crates/low/src" "$room/checkout/crates/hdminet/src" "$room/checkout/crates/low_tests/src" "$room/checkout/tools"
   cp "$top/hdminet" "$room/checkout/hdminet"
+  cp "$top/tools/release" "$top/tools/sources.bash" "$room/checkout/tools"
   printf '# a comment\nlow: arrayvec\nlow_tests: low\nhdminet: low arrayvec\n' > "$room/checkout/crates.txt"
+  echo 'Handles allowed: none.' > "$room/checkout/HANDLES"
   echo law > "$room/checkout/crates/low/src/lib.rt"
   echo test > "$room/checkout/crates/low_tests/src/lib.rt"
+  echo input > "$room/checkout/crates/hdminet/stdin"
   source_is one
 }
 
@@ -60,6 +93,14 @@ start() {
 }
 
 calls() { grep -c . "$CALLS" 2> /dev/null || true; }
+
+# A new checkout with a release of its program, and nothing that was built in it.
+released() {
+  checkout
+  (cd "$room/checkout/crates/hdminet" && rt all test > /dev/null)
+  "$room/checkout/tools/release" > /dev/null
+  rm -rf "$room/checkout"/crates/*/out "$CALLS"
+}
 
 # Counts a test: a name, and a condition that held.
 check() {
@@ -147,7 +188,7 @@ cd "$top" || exit 1
 
 checkout
 without_rt=$(mktemp -d "$room/path.XXXX")
-for tool in bash sh dirname readlink find awk nproc mkdir rm mv cat grep sleep tail flock; do
+for tool in bash sh dirname readlink find awk nproc mkdir rm mv cat grep sleep tail flock sort xargs sha256sum; do
   ln -s "$(command -v $tool)" "$without_rt/$tool"
 done
 start env PATH="$without_rt" "$room/checkout/hdminet"
@@ -187,6 +228,148 @@ start "$room/checkout/hdminet" second
 check "a start beside a build that fails is refused too" refused "hdminet: not built, since"
 wait $first
 check "as the other is" [ $? = 2 ]
+
+released
+start "$room/checkout/hdminet" run x
+check "a released program starts" wrote "one run x"
+check "and says nothing" lines_of_err 0
+check "and calls no rt" [ "$(calls)" = "" ]
+check "and writes nothing" [ ! -e "$room/checkout/crates/hdminet/out" ]
+start env PATH="$without_rt" "$room/checkout/hdminet" x
+check "it needs no rt" wrote "one x"
+check "and says nothing of that" lines_of_err 0
+start "$room/second-link" x
+check "a symbolic link starts it" wrote "one x"
+find "$room/checkout" -exec touch {} +
+start "$room/checkout/hdminet" x
+check "new times change nothing" wrote "one x"
+cp -R "$room/checkout" "$room/else where/copy"
+start env LC_ALL=C.UTF-8 "$room/else where/copy/hdminet" x
+check "nor does another place or language" wrote "one x"
+echo more > "$room/checkout/crates/low_tests/src/lib.rt"
+printf 'hdminet: low arrayvec\n\nlow: arrayvec\nlow_tests: low arrayvec\n' > "$room/checkout/crates.txt"
+start "$room/checkout/hdminet" x
+check "nor do tests, or the order of crates.txt" wrote "one x"
+check "all that calls no rt" [ "$(calls)" = "" ]
+start "$room/checkout/hdminet" --prove x
+check "--prove with another word is the program's" wrote "one --prove x"
+
+source_is two
+start env PATH="$without_rt" "$room/checkout/hdminet"
+check "a released program of other sources is not started" refused "hdminet: the released program is not started: it was built of other sources"
+check "without rt" says "hdminet: not built yet, and there is no rt to build it"
+start "$room/checkout/hdminet" x
+check "what is built in its place is" wrote "two x"
+check "and it says why" says "hdminet: the released program is not started: it was built of other sources"
+start "$room/checkout/hdminet" x
+check "and builds once" [ "$(calls)" = 1 ]
+check "and says nothing then" lines_of_err 0
+source_is one
+rm -rf "$room/checkout/crates/hdminet/out"
+start "$room/checkout/hdminet" x
+check "the sources as they were start it again" wrote "one x"
+check "without a build" [ "$(calls)" = 1 ]
+for change in "crates/low/src/new.rt" "crates/low/specs/Lib.antt" "crates/hdminet/proofs/f/Proof.antt"; do
+  released
+  mkdir -p "$(dirname "$room/checkout/$change")"
+  echo more > "$room/checkout/$change"
+  start "$room/checkout/hdminet" x
+  check "a new file $change is built" [ "$(calls)" = 1 ]
+done
+released
+mv "$room/checkout/crates/low/src/lib.rt" "$room/checkout/crates/low/src/other.rt"
+start "$room/checkout/hdminet" x
+check "so is a file under another name" [ "$(calls)" = 1 ]
+released
+sed -i 's/^low: arrayvec/low: arrayvec hex/' "$room/checkout/crates.txt"
+start "$room/checkout/hdminet" x
+check "and another line of a crate" [ "$(calls)" = 1 ]
+
+released
+echo 'echo wrong' >> "$room/checkout/release/hdminet"
+start "$room/checkout/hdminet" x
+check "a program with a wrong sum is never started" wrote "one x"
+check "and it says why" says "hdminet: the released program is not started: it does not have the sum that stands beside it"
+for file in hdminet.sha256 built-of; do
+  released
+  : > "$room/checkout/release/$file"
+  start "$room/checkout/hdminet" x
+  check "nor is one with an empty $file" [ "$(calls)" = 1 ]
+  rm "$room/checkout/release/$file"
+  rm -rf "$room/checkout/crates/hdminet/out"
+  start "$room/checkout/hdminet" x
+  check "nor is one without" [ "$(calls)" = 2 ]
+done
+released
+chmod -x "$room/checkout/release/hdminet"
+start "$room/checkout/hdminet" x
+check "nor is one that may not be executed" says "hdminet: the released program is not started: it may not be executed here"
+released
+start env OSTYPE=linux-musl "$room/checkout/hdminet" x
+check "nor on another system" says "hdminet: the released program is not started: it is for Linux on x86-64"
+
+released
+start "$room/checkout/hdminet" --prove
+check "--prove gives the released program" [ "$status" = 0 ]
+check "and says so" says "hdminet: it is the released program to the byte: SHA-256 $(sha256sum < "$room/checkout/release/hdminet" | cut -d' ' -f1)"
+check "and tells each crate" says "crate 2 of 2 is proved: hdminet (6 functions so far"
+check "it proves from nothing" [ "$(cat "$CALLS")" = ci ]
+check "and leaves nothing of that" [ -z "$(ls -A "$TMPDIR")" ]
+start "$room/checkout/hdminet" x
+check "what it built starts" wrote "one x"
+check "and says nothing" lines_of_err 0
+start "$room/second-link" --prove
+check "--prove proves again what is built" [ "$(cat "$CALLS")" = "$(printf 'ci\nci')" ]
+check "through a link too" [ "$status" = 0 ]
+
+echo ' of another kit' > "$OTHER"
+start "$room/checkout/hdminet" --prove
+check "--prove gives another program" [ "$status" = 1 ]
+check "and says so" says "hdminet: it is not the released program. Their SHA-256 are"
+check "with its own sum" says "$(sha256sum < "$room/checkout/crates/hdminet/out/hdminet" | cut -d' ' -f1)  $room/checkout/crates/hdminet/out/hdminet"
+check "and the released one's" says "$(sha256sum < "$room/checkout/release/hdminet" | cut -d' ' -f1)  $room/checkout/release/hdminet"
+start "$room/checkout/hdminet" x
+check "what was proved here goes before what was released" wrote "one of another kit x"
+start "$room/checkout/tools/release" --check
+check "a check of the release finds the other program" [ "$status" = 1 ]
+start "$room/checkout/tools/release" --check "$room/checkout/release/hdminet"
+check "and takes the same one" wrote "release: its program is the one that was built"
+sed -i 's/kit 1/kit 0/' "$room/checkout/release/built-of"
+start "$room/checkout/hdminet" --prove
+check "--prove names another toolchain" says "hdminet: the released program was built by another toolchain, kit 0 of this test"
+rm "$OTHER"
+
+source_is broken
+start "$room/checkout/hdminet" --prove
+check "--prove refuses a broken source" refused "error: the sources of hdminet are broken"
+check "and says which crate failed" says "hdminet: not built, since the crate hdminet failed."
+source_is two
+start "$room/checkout/hdminet" --prove
+check "other sources give another program" [ "$status" = 1 ]
+check "and it says that they are others" says "hdminet: the released program was built of other sources"
+start "$room/checkout/tools/release" --check
+check "a check of the release takes other sources" wrote "release: it was built of other sources"
+start env PATH="$without_rt" "$room/checkout/hdminet" --prove
+check "--prove needs an rt" refused "hdminet: not proved, and there is no rt to build it"
+
+checkout
+start "$room/checkout/hdminet" --prove
+check "--prove without a release" [ "$status" = 1 ]
+check "says that there is none" says "hdminet: there is no released program in $room/checkout/release"
+start "$room/checkout/tools/release" --check
+check "a check takes that there is none" wrote "release: there is none"
+start "$room/checkout/tools/release"
+check "a release is made of what was built" [ "$status" = 0 ]
+start "$room/checkout/tools/release" --check
+check "and is that to the byte" wrote "release: its program is the one that was built"
+check "with its toolchain" grep -qx "toolchain kit 1 of this test" "$room/checkout/release/built-of"
+check "and a sum that sha256sum takes" eval '(cd "$room/checkout/release" && sha256sum --status -c hdminet.sha256)'
+echo wrong >> "$room/checkout/release/hdminet"
+start "$room/checkout/tools/release" --check
+check "a check finds a wrong sum" [ "$status" = 1 ]
+source_is two
+start "$room/checkout/tools/release"
+check "no release is made of an older program" [ "$status" = 2 ]
 
 echo "start script: $passed passed, $failed failed"
 [ "$failed" = 0 ]
