@@ -1,0 +1,4 @@
+pub mod Rules
+pub mod TimingRules
+pub mod Findings
+pub mod Text

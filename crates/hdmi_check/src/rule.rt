@@ -1,0 +1,103 @@
+//! Rules, and what is found.
+
+/// A rule for an EDID.
+#[derive(Clone, Copy, Debug, PartialEq, Eq)]
+pub enum Rule {
+    /// The features say that the first timing is the preferred one.
+    FirstTimingPreferred,
+    /// A preferred timing stands first.
+    PreferredTiming,
+    /// A descriptor has the product's name.
+    ProductName,
+    /// A descriptor has the limits of ranges.
+    RangeLimits,
+    /// A display of some frequencies has limits alone, and no formula for timings.
+    LimitsAlone,
+    /// The week is one of the revision.
+    Week,
+    /// The features say sRGB where the chromaticities are its own, and only there.
+    Srgb,
+    /// No descriptor is all zeros.
+    NoEmptyDescriptor,
+    /// A standard timing that is unused is 01 01.
+    UnusedStandard,
+    /// Several extensions come after a map of them.
+    BlockMap,
+    /// An EDID with an HDMI block is of revision 3.
+    HdmiRevision,
+    /// A serial number is told once.
+    OneSerial,
+    /// 640x480 at 60 Hz is there.
+    Vga,
+    /// A video code is listed once.
+    VideoCodeOnce,
+    /// There are no fewer detailed timings than native ones.
+    NativeCount,
+    /// Formats of computers are shown whole.
+    Underscan,
+    /// Sound is told where there is basic audio.
+    BasicAudio,
+    /// More than two channels have speakers, told in three bytes.
+    Speakers,
+    /// Zeros follow the timings of an extension.
+    Padding,
+    /// A video capability data block is there.
+    VideoCapability,
+    /// The range of RGB values can be chosen.
+    RgbRange,
+    /// The clock of an HDMI block is at most 340 MHz.
+    TmdsClock,
+    /// The physical address is that of a place in a tree.
+    Address,
+    /// There is one HDMI block.
+    OneHdmi,
+    /// A format of HDMI's own codes is listed by its video code too.
+    HdmiVideoCode,
+    /// An HDMI Forum block comes after an HDMI block.
+    ForumAfterHdmi,
+}
+
+/// A rule for a detailed timing.
+#[derive(Clone, Copy, Debug, PartialEq, Eq)]
+pub enum TimingRule {
+    /// The pixel clock is 10 MHz or more.
+    Clock,
+    /// No field is 0 that a picture needs.
+    Fields,
+    /// Something is left of the horizontal blanking after the sync.
+    HorizontalBackPorch,
+    /// Something is left of the vertical blanking after the sync.
+    VerticalBackPorch,
+    /// The image has a size where the display has one.
+    SizeThere,
+    /// The image is as large as the display.
+    SizeFits,
+    /// Its rates are within the range limits of revision 3.
+    WithinLimits,
+    /// Its rates are within the range limits of revision 4.
+    NearLimits,
+}
+
+/// How much a broken rule matters.
+#[derive(Clone, Copy, Debug, PartialEq, Eq)]
+pub enum Severity {
+    /// A standard forbids it, or a display does not work with it.
+    Fail,
+    /// It may be meant.
+    Warn,
+}
+
+/// A rule that is broken.
+#[derive(Clone, Copy, Debug, PartialEq, Eq)]
+pub enum Finding {
+    Edid(Rule),
+    /// By the detailed timing with this number, from 1.
+    Timing(u8, TimingRule),
+}
+
+/// A rule that fills the free places of an array.
+impl Default for Finding {
+    fn default() -> Self {
+        Finding::Edid(Rule::ProductName)
+    }
+}

@@ -1,0 +1,69 @@
+-- What the rules ask of extensions (CTA-861-D, section 7.5, unless another is named).
+use Rattle.std.specs.Prelude.{ℕ, ◌/◌, ◌%◌, ◌==◌, Bool, true, false, ◌&&◌, not, nat_lt, List, [], ◌∷◌, ◌++◌, slice_get, slice_index, flat_map, sum_by, count_by}
+use Rattle.std.specs.List.{list_any, list_all}
+use Rattle.std.specs.Option.{option_map_or}
+use Rattle.hdmi_edid.specs.declared.base.Base.{Base}
+use Rattle.hdmi_edid.specs.declared.descriptor.Descriptor.{Descriptor}
+use Rattle.hdmi_edid.specs.declared.descriptor.Descriptor.TheVariants.{Timing as OfTiming}
+use Rattle.hdmi_edid.specs.declared.timing.Timing.{Timing}
+use Rattle.hdmi_cta.specs.Hdmi.{is_hdmi, blocks_of}
+use Rattle.hdmi_cta.specs.declared.block.Block.{Block}
+use Rattle.hdmi_cta.specs.declared.raw.Ext.{Ext}
+use Rattle.hdmi_cta.specs.declared.raw.Ext.TheVariants.{Cta, Bare, Raw}
+use Rattle.hdmi_parts.specs.BlockParts.{is_sound, begins_with_forum}
+
+abbrev pub is_cta : Ext → Bool
+is_cta (Cta c) = true
+is_cta (Bare b) = true
+is_cta (Raw r) = false
+
+-- tag F0 (E-EDID Release A, section 4.1)
+abbrev pub is_block_map : Ext → Bool
+is_block_map (Raw r) = slice_index r.bytes 0 == 0xf0
+is_block_map _ = false
+
+abbrev pub begins_with_map : List Ext → Bool
+begins_with_map xs = option_map_or is_block_map (slice_get xs 0) false
+
+-- bit 7 of the flags: formats of computers are shown whole
+abbrev pub overscans : Ext → Bool
+overscans (Cta c) = nat_lt c.flags 128
+overscans _ = false
+
+abbrev pub has_padding : Ext → Bool
+has_padding (Cta c) = not (list_all (λ b. b == 0) c.tail.items)
+has_padding _ = false
+
+-- the low four bits of the flags: how many of the detailed timings are native
+abbrev pub native_count : Ext → ℕ
+native_count (Cta c) = c.flags % 16
+native_count _ = 0
+
+-- sound where bit 6 of the flags tells that there is none
+abbrev pub hides_sound : Ext → Bool
+hides_sound (Cta c) = (c.flags / 64 % 2 == 0) && list_any is_sound c.blocks.items
+hides_sound _ = false
+
+-- some data block passes a test
+abbrev pub some_block : (Block → Bool) → List Ext → Bool
+some_block test xs = list_any (λ x. list_any test (blocks_of x)) xs
+
+abbrev pub hdmi_count : List Ext → ℕ
+hdmi_count xs = sum_by (λ x. count_by is_hdmi (blocks_of x)) xs
+
+abbrev pub has_forum_first : Ext → Bool
+has_forum_first x = begins_with_forum (blocks_of x)
+
+-- ---- timings
+
+abbrev pub descriptor_timings : Descriptor → List Timing
+descriptor_timings (OfTiming t) = t ∷ []
+descriptor_timings _ = []
+
+abbrev pub ext_timings : Ext → List Timing
+ext_timings (Cta c) = c.timings.items
+ext_timings _ = []
+
+-- the detailed timings in the order of the bytes
+abbrev pub timings_of : Base → List Ext → List Timing
+timings_of b xs = flat_map descriptor_timings b.descriptors ++ flat_map ext_timings xs

@@ -1,0 +1,5 @@
+pub mod BaseParts
+pub mod Limits
+pub mod BlockParts
+pub mod ExtParts
+pub mod VideoCodes

@@ -1,0 +1,57 @@
+-- The rates of a detailed timing (E-EDID Release A, section 3.10.2) and the limits that a display has for them (section 3.10.3.3).
+use Rattle.std.specs.Prelude.{ℕ, ◌+◌, ◌*◌, ◌/◌, ◌%◌, ◌==◌, Bool, false, ◌&&◌, ◌||◌, nat_lt, nat_le, if◌then◌else◌, List, slice_index}
+use Rattle.std.specs.List.{list_any}
+use Rattle.hdmi_edid.specs.declared.base.Base.{Base}
+use Rattle.hdmi_edid.specs.declared.base.Revision.{Revision}
+use Rattle.hdmi_edid.specs.declared.base.Revision.TheVariants.{Three, Four}
+use Rattle.hdmi_edid.specs.declared.descriptor.Descriptor.{Descriptor}
+use Rattle.hdmi_edid.specs.declared.descriptor.Descriptor.TheVariants.{Range}
+use Rattle.hdmi_edid.specs.declared.timing.Timing.{Timing}
+use Rattle.hdmi_parts.specs.declared.span.Span.{Span}
+
+-- ---- rates
+
+-- the pixels of a line, blanking among them
+abbrev pub line_pixels : Timing → ℕ
+line_pixels t = t.horizontal_active + t.horizontal_blanking
+
+-- the half lines of a field: bit 7 of the flags tells that a picture is two fields, each half a line longer
+abbrev pub half_lines : Timing → ℕ
+half_lines t = if nat_lt t.flags 128 then 2 * (t.vertical_active + t.vertical_blanking) else 2 * (t.vertical_active + t.vertical_blanking) + 1
+
+-- A rate of `count / per` is one unit and more below the least or above the greatest. It is no rate where `per` is 0.
+abbrev pub is_outside : Span → ℕ → ℕ → Bool
+is_outside span count per = nat_lt 0 per && (nat_le (count + per) (span.least * per) || nat_le ((span.greatest + 1) * per) count)
+
+-- ---- limits
+
+-- in 1.4 two bits of byte 4 add 255 to the greatest rate, or to both (E-EDID 1.4, section 3.10.3.3)
+abbrev pub raised : Revision → ℕ → ℕ → ℕ → Span
+raised Three bits least greatest = record { least = least; greatest = greatest }
+raised Four bits least greatest =
+    record { least = if bits == 3 then least + 255 else least; greatest = if nat_le 2 bits then greatest + 255 else greatest }
+
+-- in fields a second
+abbrev pub field_span : Revision → List ℕ → Span
+field_span r l = raised r (slice_index l 0 % 4) (slice_index l 1) (slice_index l 2)
+
+-- in thousands of lines a second
+abbrev pub line_span : Revision → List ℕ → Span
+line_span r l = raised r (slice_index l 0 / 4 % 4) (slice_index l 3) (slice_index l 4)
+
+-- ---- both
+
+-- the clock counts 10,000 pixels a second
+abbrev pub is_field_rate_outside : Revision → List ℕ → Timing → Bool
+is_field_rate_outside r l t = is_outside (field_span r l) (t.clock * 20000) (line_pixels t * half_lines t)
+
+abbrev pub is_line_rate_outside : Revision → List ℕ → Timing → Bool
+is_line_rate_outside r l t = is_outside (line_span r l) (t.clock * 10) (line_pixels t)
+
+abbrev pub excludes : Revision → Timing → Descriptor → Bool
+excludes r t (Range l) = is_field_rate_outside r l.bytes t || is_line_rate_outside r l.bytes t
+excludes r t _ = false
+
+-- beyond the range limits of the base block by a unit or more: 1 Hz for fields, 1 kHz for lines
+abbrev pub is_out_of_range : Base → Timing → Bool
+is_out_of_range b t = list_any (excludes b.revision t) b.descriptors

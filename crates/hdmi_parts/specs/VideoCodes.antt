@@ -1,0 +1,41 @@
+-- The video identification codes that an EDID lists (CTA-861-D, section 7.5.1), and those of HDMI (HDMI 1.4, section 8.2.3).
+use Rattle.std.specs.Prelude.{ℕ, ◌-◌, ◌==◌, Bool, false, ◌&&◌, ◌||◌, not, nat_lt, if◌then◌else◌, List, [], ◌∷◌, map, flat_map}
+use Rattle.std.specs.List.{list_any}
+use Rattle.hdmi_cta.specs.Hdmi.{is_hdmi, blocks_of}
+use Rattle.hdmi_cta.specs.declared.block.Block.{Block}
+use Rattle.hdmi_cta.specs.declared.raw.Ext.{Ext}
+use Rattle.hdmi_parts.specs.BlockParts.{is_video_kind, hdmi_codes}
+
+-- 129 to 192 are the codes 1 to 64, marked as native
+abbrev pub code_of : ℕ → ℕ
+code_of svd = if nat_lt 128 svd && nat_lt svd 193 then svd - 128 else svd
+
+abbrev pub block_codes : Block → List ℕ
+block_codes b = if is_video_kind b.kind then map code_of b.payload.items else []
+
+abbrev pub ext_codes : Ext → List ℕ
+ext_codes x = flat_map block_codes (blocks_of x)
+
+-- the codes of all video data blocks
+abbrev pub video_codes : List Ext → List ℕ
+video_codes xs = flat_map ext_codes xs
+
+abbrev pub has_code : List ℕ → ℕ → Bool
+has_code codes code = list_any (λ c. c == code) codes
+
+-- a code stands more than once
+abbrev pub repeats : List ℕ → Bool
+repeats [] = false
+repeats (code ∷ codes) = has_code codes code || repeats codes
+
+-- the video identification code of the format that a code of HDMI stands for; 0 for a code that stands for none
+abbrev pub code_of_hdmi : ℕ → ℕ
+code_of_hdmi hdmi =
+    if hdmi == 1 then 95 else if hdmi == 2 then 94 else if hdmi == 3 then 93 else if hdmi == 4 then 98 else 0
+
+-- it stands for a format whose video identification code is not listed
+abbrev pub is_lone : List ℕ → ℕ → Bool
+is_lone codes hdmi = nat_lt 0 (code_of_hdmi hdmi) && not (has_code codes (code_of_hdmi hdmi))
+
+abbrev pub has_lone_code : List ℕ → Block → Bool
+has_lone_code codes b = is_hdmi b && list_any (is_lone codes) (hdmi_codes b.payload.items)

@@ -1,0 +1,208 @@
+//! What the rules ask of data blocks.
+ghost use Rattle.std.specs.Prelude.{◌≡◌, ◌≤◌, ◌+◌, length, take};
+ghost use Rattle.std.specs.List.{list_any};
+ghost use Rattle.hdmi_parts.specs.BlockParts.{is_vga_code, lists_vga, is_video_capability, fixes_rgb_range, is_speakers, is_ill_speakers, is_sound, is_multichannel_pcm, lists_multichannel_pcm, has_multichannel_pcm, has_fast_clock, is_hole, is_off_tree, has_wrong_address, is_forum, begins_with_forum, video_place, codes_at, hdmi_codes, is_sought};
+
+use hdmi_cta::{Block, BlockKind};
+
+/// The greatest clock of HDMI 1.4: 340 MHz, in units of 5 MHz.
+const MAX_TMDS_CLOCK: u8 = 68;
+
+/// What a rule looks for among data blocks.
+#[derive(Clone, Copy, Debug, PartialEq, Eq)]
+pub enum Sought {
+    /// An HDMI block.
+    Hdmi,
+    /// The code of 640x480 at 60 Hz.
+    Vga,
+    VideoCapability,
+    /// A video capability block after which the range of RGB values can't be chosen.
+    FixedRgbRange,
+    /// An HDMI block with a clock above that of HDMI 1.4.
+    FastClock,
+    /// An HDMI block with an address of no place in a tree.
+    WrongAddress,
+    /// Audio or speakers.
+    Sound,
+    Speakers,
+    /// A speaker block of another length than it has.
+    IllSpeakers,
+    /// Linear PCM of more than two channels.
+    MultichannelPcm,
+}
+
+fn has_vga_code(codes: &[u8]) -> bool
+    ensures { result ≡ list_any is_vga_code codes.now }
+{
+    codes.iter().any(|code| *code == 1 || *code == 129)
+}
+
+fn lists_vga(block: &Block) -> bool
+    ensures { result ≡ lists_vga block.now }
+{
+    matches!(block.kind, BlockKind::Video) && has_vga_code(block.payload.as_slice())
+}
+
+fn is_video_capability(block: &Block) -> bool
+    ensures { result ≡ is_video_capability block.now }
+{
+    let payload = block.payload.as_slice();
+    matches!(block.kind, BlockKind::Extended) && 0 < payload.len() && payload[0] == 0
+}
+
+fn fixes_rgb_range(block: &Block) -> bool
+    ensures { result ≡ fixes_rgb_range block.now }
+{
+    let payload = block.payload.as_slice();
+    is_video_capability(block) && 1 < payload.len() && payload[1] / 64 % 2 == 0
+}
+
+fn is_speakers(block: &Block) -> bool
+    ensures { result ≡ is_speakers block.now }
+{
+    matches!(block.kind, BlockKind::Speakers)
+}
+
+fn is_ill_speakers(block: &Block) -> bool
+    ensures { result ≡ is_ill_speakers block.now }
+{
+    is_speakers(block) && block.payload.len() != 3
+}
+
+fn is_sound(block: &Block) -> bool
+    ensures { result ≡ is_sound block.now }
+{
+    block.is_audio() || is_speakers(block)
+}
+
+/// Whether the first byte of an audio format tells of linear PCM with more than two channels.
+fn is_multichannel_pcm(first: u8) -> bool
+    ensures { result ≡ is_multichannel_pcm first }
+{
+    first / 8 % 16 == 1 && 1 < first % 8
+}
+
+fn lists_multichannel_pcm(formats: &[u8]) -> bool
+    ensures { result ≡ lists_multichannel_pcm formats.now }
+{
+    match formats {
+        [first, _, _, more @ ..] => is_multichannel_pcm(*first) || lists_multichannel_pcm(more),
+        _ => false,
+    }
+}
+
+fn has_multichannel_pcm(block: &Block) -> bool
+    ensures { result ≡ has_multichannel_pcm block.now }
+{
+    block.is_audio() && lists_multichannel_pcm(block.payload.as_slice())
+}
+
+fn has_fast_clock(block: &Block) -> bool
+    ensures { result ≡ has_fast_clock block.now }
+{
+    let payload = block.payload.as_slice();
+    block.is_hdmi() && 6 < payload.len() && MAX_TMDS_CLOCK < payload[6]
+}
+
+fn is_hole(first: u8, second: u8) -> bool
+    ensures { result ≡ is_hole first second }
+{
+    first == 0 && 0 < second
+}
+
+fn is_off_tree(high: u8, low: u8) -> bool
+    ensures { result ≡ is_off_tree high low }
+{
+    high == 255 && low == 255
+        || is_hole(high / 16, high % 16)
+        || is_hole(high % 16, low / 16)
+        || is_hole(low / 16, low % 16)
+}
+
+fn has_wrong_address(block: &Block) -> bool
+    ensures { result ≡ has_wrong_address block.now }
+{
+    let payload = block.payload.as_slice();
+    block.is_hdmi() && is_off_tree(payload[3], payload[4])
+}
+
+/// Whether it is a vendor block of the HDMI Forum.
+fn is_forum(block: &Block) -> bool
+    ensures { result ≡ is_forum block.now }
+{
+    let payload = block.payload.as_slice();
+    matches!(block.kind, BlockKind::Vendor)
+        && 3 <= payload.len()
+        && payload[0] == 0xd8
+        && payload[1] == 0x5d
+        && payload[2] == 0xc4
+}
+
+/// Whether a block of the HDMI Forum has no HDMI block before it.
+pub fn begins_with_forum(blocks: &[Block]) -> bool
+    ensures { result ≡ begins_with_forum blocks.now }
+{
+    match blocks {
+        [] => false,
+        [block, rest @ ..] => !block.is_hdmi() && (is_forum(block) || begins_with_forum(rest)),
+    }
+}
+
+/// Where an HDMI block tells of video formats.
+fn video_place(presence: u8) -> usize
+    ensures value { result ≡ video_place presence }
+    ensures small { result ≤ 12 }
+{
+    8 + 2 * usize::from(presence / 128 % 2) + 2 * usize::from(presence / 64 % 2)
+}
+
+/// The first bytes, so many of them as there are.
+fn front(bytes: &[u8], count: usize) -> &[u8]
+    ensures { result.now ≡ take count bytes.now }
+{
+    if count <= bytes.len() {
+        &bytes[..count]
+    } else {
+        bytes
+    }
+}
+
+/// The codes after a count at a place.
+fn codes_at(place: usize, payload: &[u8]) -> &[u8]
+    requires { place ≤ 12 }
+    ensures { result.now ≡ codes_at place payload.now }
+{
+    if payload.len() <= place + 2 {
+        return &[];
+    }
+    front(&payload[place + 2..], usize::from(payload[place + 1] / 32))
+}
+
+/// The codes of HDMI's own in the payload of an HDMI block.
+pub fn hdmi_codes(payload: &[u8]) -> &[u8]
+    ensures { result.now ≡ hdmi_codes payload.now }
+{
+    if 7 < payload.len() && payload[7] / 32 % 2 == 1 {
+        codes_at(video_place(payload[7]), payload)
+    } else {
+        &[]
+    }
+}
+
+/// Whether a data block is what a rule looks for.
+pub fn is_sought(sought: Sought, block: &Block) -> bool
+    ensures { result ≡ is_sought sought block.now }
+{
+    match sought {
+        Sought::Hdmi => block.is_hdmi(),
+        Sought::Vga => lists_vga(block),
+        Sought::VideoCapability => is_video_capability(block),
+        Sought::FixedRgbRange => fixes_rgb_range(block),
+        Sought::FastClock => has_fast_clock(block),
+        Sought::WrongAddress => has_wrong_address(block),
+        Sought::Sound => is_sound(block),
+        Sought::Speakers => is_speakers(block),
+        Sought::IllSpeakers => is_ill_speakers(block),
+        Sought::MultichannelPcm => has_multichannel_pcm(block),
+    }
+}

@@ -1,0 +1,169 @@
+//! What the rules ask of extensions.
+ghost use Rattle.std.specs.Prelude.{◌≡◌, ◌≤◌, ◌*◌, length, nat_lt, sum_by, count_by};
+ghost use Rattle.std.specs.List.{list_any};
+ghost use Rattle.hdmi_cta.specs.Hdmi.{blocks_of, is_hdmi};
+ghost use Rattle.hdmi_parts.specs.BlockParts.{is_sought};
+ghost use Rattle.hdmi_parts.specs.ExtParts.{is_cta, is_block_map, begins_with_map, overscans, has_padding, native_count, hides_sound, some_block, hdmi_count, has_forum_first};
+
+use crate::base_parts::are_zeros;
+use crate::block_parts::{Sought, begins_with_forum, is_sought};
+use hdmi_cta::{Block, Ext};
+
+/// The first byte of an extension that is a block map.
+const BLOCK_MAP_TAG: u8 = 0xf0;
+
+/// The data blocks of an extension.
+pub fn blocks_of(ext: &Ext) -> &[Block]
+    ensures blocks { result.now ≡ blocks_of ext.now }
+    ensures few { length result.now ≤ 123 }
+{
+    match ext {
+        Ext::Cta(cta) => cta.blocks.as_slice(),
+        Ext::Bare(_) | Ext::Raw(_) => &[],
+    }
+}
+
+fn is_cta(ext: &Ext) -> bool
+    ensures { result ≡ is_cta ext.now }
+{
+    match ext {
+        Ext::Cta(_) | Ext::Bare(_) => true,
+        Ext::Raw(_) => false,
+    }
+}
+
+pub fn some_cta(extensions: &[Ext]) -> bool
+    ensures { result ≡ list_any is_cta extensions.now }
+{
+    extensions.iter().any(|ext| is_cta(ext))
+}
+
+fn is_block_map(ext: &Ext) -> bool
+    ensures { result ≡ is_block_map ext.now }
+{
+    match ext {
+        Ext::Raw(raw) => raw.bytes[0] == BLOCK_MAP_TAG,
+        Ext::Cta(_) | Ext::Bare(_) => false,
+    }
+}
+
+/// Whether the first extension is a map of them.
+pub fn begins_with_map(extensions: &[Ext]) -> bool
+    ensures { result ≡ begins_with_map extensions.now }
+{
+    match extensions.first() {
+        None => false,
+        Some(ext) => is_block_map(ext),
+    }
+}
+
+fn overscans(ext: &Ext) -> bool
+    ensures { result ≡ overscans ext.now }
+{
+    match ext {
+        Ext::Cta(cta) => cta.flags < 128,
+        Ext::Bare(_) | Ext::Raw(_) => false,
+    }
+}
+
+pub fn some_overscan(extensions: &[Ext]) -> bool
+    ensures { result ≡ list_any overscans extensions.now }
+{
+    extensions.iter().any(|ext| overscans(ext))
+}
+
+fn has_padding(ext: &Ext) -> bool
+    ensures { result ≡ has_padding ext.now }
+{
+    match ext {
+        Ext::Cta(cta) => !are_zeros(cta.tail.as_slice()),
+        Ext::Bare(_) | Ext::Raw(_) => false,
+    }
+}
+
+pub fn some_padding(extensions: &[Ext]) -> bool
+    ensures { result ≡ list_any has_padding extensions.now }
+{
+    extensions.iter().any(|ext| has_padding(ext))
+}
+
+/// How many of the detailed timings are native.
+fn native_count(ext: &Ext) -> usize
+    ensures { result ≡ native_count ext.now }
+{
+    match ext {
+        Ext::Cta(cta) => usize::from(cta.flags % 16),
+        Ext::Bare(_) | Ext::Raw(_) => 0,
+    }
+}
+
+/// Whether some extension tells more native timings than there are.
+pub fn some_native(count: usize, extensions: &[Ext]) -> bool
+    ensures { result ≡ list_any (λ x. nat_lt count (native_count x)) extensions.now }
+{
+    extensions.iter().any(|ext| count < native_count(ext))
+}
+
+fn some_sought(sought: Sought, blocks: &[Block]) -> bool
+    ensures { result ≡ list_any (is_sought sought) blocks.now }
+{
+    blocks.iter().any(|block| is_sought(sought, block))
+}
+
+fn hides_sound(ext: &Ext) -> bool
+    ensures { result ≡ hides_sound ext.now }
+{
+    match ext {
+        Ext::Cta(cta) => {
+            cta.flags / 64 % 2 == 0 && some_sought(Sought::Sound, cta.blocks.as_slice())
+        }
+        Ext::Bare(_) | Ext::Raw(_) => false,
+    }
+}
+
+pub fn some_hidden_sound(extensions: &[Ext]) -> bool
+    ensures { result ≡ list_any hides_sound extensions.now }
+{
+    extensions.iter().any(|ext| hides_sound(ext))
+}
+
+/// Whether some data block is what a rule looks for.
+pub fn some_block(sought: Sought, extensions: &[Ext]) -> bool
+    ensures { result ≡ some_block (is_sought sought) extensions.now }
+{
+    extensions
+        .iter()
+        .any(|ext| some_sought(sought, blocks_of(ext)))
+}
+
+fn hdmi_count_in(blocks: &[Block]) -> usize
+    ensures count { result ≡ count_by is_hdmi blocks.now }
+    ensures few { result ≤ length blocks.now }
+{
+    blocks.iter().filter(|block| block.is_hdmi()).count()
+}
+
+/// How many HDMI blocks there are.
+pub fn hdmi_count(extensions: &[Ext]) -> usize
+    requires { length extensions.now ≤ 3 }
+    ensures { result ≡ hdmi_count extensions.now }
+{
+    let mut count = 0;
+    for ext in extensions {
+        count += hdmi_count_in(blocks_of(ext));
+    }
+    count
+}
+
+fn has_forum_first(ext: &Ext) -> bool
+    ensures { result ≡ has_forum_first ext.now }
+{
+    begins_with_forum(blocks_of(ext))
+}
+
+/// Whether an extension has an HDMI Forum block with no HDMI block before it.
+pub fn some_forum_first(extensions: &[Ext]) -> bool
+    ensures { result ≡ list_any has_forum_first extensions.now }
+{
+    extensions.iter().any(|ext| has_forum_first(ext))
+}

@@ -1,0 +1,25 @@
+//! What the parts of an EDID tell, as the rules of the standards ask for it.
+#![tactic(auto)]
+
+mod base_parts;
+mod block_parts;
+mod codes;
+mod ext_parts;
+mod limits;
+mod span;
+mod timings;
+
+pub use base_parts::{
+    NAME_TAG, RANGE_TAG, SERIAL_TAG, begins_with_timing, claims_srgb, has_established_vga,
+    is_continuous, is_srgb, is_three, prefers_first, some_empty, some_formula, some_ill_unused,
+    some_tagged,
+};
+pub use block_parts::Sought;
+pub use codes::{MAX_CODES, repeats, some_lone_code, video_codes};
+pub use ext_parts::{
+    begins_with_map, hdmi_count, some_block, some_cta, some_forum_first, some_hidden_sound,
+    some_native, some_overscan, some_padding,
+};
+pub use limits::is_out_of_range;
+pub use span::Span;
+pub use timings::{MAX_TIMINGS, timings_of};

@@ -1,0 +1,130 @@
+//! The rates of a detailed timing, and the limits that a display has for them.
+ghost use Rattle.std.specs.Prelude.{◌≡◌, ◌<◌, ◌≤◌, ◌^◌};
+ghost use Rattle.std.specs.List.{list_any};
+ghost use Rattle.hdmi_parts.specs.Limits.{line_pixels, half_lines, is_outside, raised, field_span, line_span, is_field_rate_outside, is_line_rate_outside, excludes, is_out_of_range};
+
+use crate::span::Span;
+use hdmi_edid::{Base, Descriptor, RangeLimits, Revision, Timing};
+
+/// What bits of 1.4 add to a rate.
+const OFFSET: u64 = 255;
+/// The half lines of a second's fields to the clock's units: 10,000 pixels, twice.
+const HALF_LINE_CLOCK: u64 = 20_000;
+/// The clock's units, 10,000 pixels, to a thousand lines.
+const LINE_CLOCK: u64 = 10;
+/// Flags from here on tell that a picture is two fields.
+const INTERLACED: u8 = 128;
+
+/// The pixels of a line.
+fn line_pixels(timing: &Timing) -> u64
+    ensures value { result ≡ line_pixels timing.now }
+    ensures small { result < 8192 }
+{
+    u64::from(timing.horizontal_active) + u64::from(timing.horizontal_blanking)
+}
+
+/// The half lines of a field.
+fn half_lines(timing: &Timing) -> u64
+    ensures value { result ≡ half_lines timing.now }
+    ensures small { result < 16384 }
+{
+    let lines = u64::from(timing.vertical_active) + u64::from(timing.vertical_blanking);
+    if timing.flags < INTERLACED {
+        2 * lines
+    } else {
+        2 * lines + 1
+    }
+}
+
+/// Whether a rate of `count` by `per` is one unit and more outside a span.
+fn is_outside(span: Span, count: u64, per: u64) -> bool
+    requires least { span.least < 512 }
+    requires greatest { span.greatest < 512 }
+    requires count_fits { count < 2 ^ 32 }
+    requires per_fits { per < 2 ^ 32 }
+    ensures { result ≡ is_outside span count per }
+{
+    0 < per && (count + per <= span.least * per || (span.greatest + 1) * per <= count)
+}
+
+/// The span of two bytes, which two bits raise in 1.4.
+fn raised(revision: Revision, bits: u8, least: u8, greatest: u8) -> Span
+    ensures value { result ≡ raised revision bits least greatest }
+    ensures least { result.least < 512 }
+    ensures greatest { result.greatest < 512 }
+{
+    let (least, greatest) = (u64::from(least), u64::from(greatest));
+    match revision {
+        Revision::Three => Span { least, greatest },
+        Revision::Four => Span {
+            least: if bits == 3 { least + OFFSET } else { least },
+            greatest: if 2 <= bits {
+                greatest + OFFSET
+            } else {
+                greatest
+            },
+        },
+    }
+}
+
+/// In fields a second.
+fn field_span(revision: Revision, limits: &RangeLimits) -> Span
+    ensures value { result ≡ field_span revision limits.now.bytes }
+    ensures least { result.least < 512 }
+    ensures greatest { result.greatest < 512 }
+{
+    let bytes = limits.bytes;
+    raised(revision, bytes[0] % 4, bytes[1], bytes[2])
+}
+
+/// In thousands of lines a second.
+fn line_span(revision: Revision, limits: &RangeLimits) -> Span
+    ensures value { result ≡ line_span revision limits.now.bytes }
+    ensures least { result.least < 512 }
+    ensures greatest { result.greatest < 512 }
+{
+    let bytes = limits.bytes;
+    raised(revision, bytes[0] / 4 % 4, bytes[3], bytes[4])
+}
+
+fn is_field_rate_outside(revision: Revision, limits: &RangeLimits, timing: &Timing) -> bool
+    ensures { result ≡ is_field_rate_outside revision limits.now.bytes timing.now }
+{
+    is_outside(
+        field_span(revision, limits),
+        u64::from(timing.clock) * HALF_LINE_CLOCK,
+        line_pixels(timing) * half_lines(timing),
+    )
+}
+
+fn is_line_rate_outside(revision: Revision, limits: &RangeLimits, timing: &Timing) -> bool
+    ensures { result ≡ is_line_rate_outside revision limits.now.bytes timing.now }
+{
+    is_outside(
+        line_span(revision, limits),
+        u64::from(timing.clock) * LINE_CLOCK,
+        line_pixels(timing),
+    )
+}
+
+/// Whether a descriptor has limits that a timing is outside of.
+fn excludes(revision: Revision, timing: &Timing, descriptor: &Descriptor) -> bool
+    ensures { result ≡ excludes revision timing.now descriptor.now }
+{
+    match descriptor {
+        Descriptor::Range(limits) => {
+            is_field_rate_outside(revision, limits, timing)
+                || is_line_rate_outside(revision, limits, timing)
+        }
+        _ => false,
+    }
+}
+
+/// Whether a timing is outside the range limits of a base block by a unit or more.
+pub fn is_out_of_range(base: &Base, timing: &Timing) -> bool
+    ensures { result ≡ is_out_of_range base.now timing.now }
+{
+    base.descriptors
+        .iter()
+        .any(|descriptor| excludes(base.revision, timing, descriptor))
+}

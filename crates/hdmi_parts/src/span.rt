@@ -1,0 +1,8 @@
+//! A least and a greatest rate.
+
+/// A least and a greatest rate.
+#[derive(Clone, Copy, Debug, PartialEq, Eq)]
+pub struct Span {
+    pub least: u64,
+    pub greatest: u64,
+}
