@@ -1,0 +1,12 @@
+-- What is told of a line, instant by instant (own).
+use Rattle.std.specs.Prelude.{ℕ, Bool, nat_le, if◌then◌else◌, List, [], ◌∷◌}
+
+-- from an instant on the line has a level
+pub record Sample : Type 0 where
+  pub at : ℕ
+  pub low : Bool
+
+-- the level in microsecond u: that of the last sample at u or before it
+abbrev pub sampled : Bool → List Sample → ℕ → Bool
+sampled is_low [] u = is_low
+sampled is_low (s ∷ ss) u = sampled (if nat_le s.at u then s.low else is_low) ss u
