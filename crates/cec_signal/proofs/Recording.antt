@@ -127,6 +127,20 @@ moved_still t u edges samples end l d r = record {
         before_turn t.was_low u edges r.turn v k ∙ same_level t.was_low t.is_low (d (omega arith)) ∙ sym (r.quiet t.is_low v k)
     by v h false e = r.level v (grind (arith, nat_tests))
 
+pub moved_at : (u : ℕ) (t : Track) (m : Moved) → moved u t ≡ Some m → m.track.at ≡ u
+moved_at u t m h = by (nat_lt u t.at) (nat_lt t.at u && differ t.was_low t.is_low) h
+  where
+    by : (c d : Bool)
+        → (if c then None else (if d then Some (record { track = record t { at = u; was_low = t.is_low }; edge = Some (record { at = t.at; low = t.is_low }) }) else Some (record { track = record t { at = u }; edge = None }))) ≡ Some m
+        → m.track.at ≡ u
+    by true d k = cc
+    by false true k =
+        let is : record { track = record t { at = u; was_low = t.is_low }; edge = Some (record { at = t.at; low = t.is_low }) } ≡ m = cc in
+        sym (ap (λ (x : Moved). x.track.at) is)
+    by false false k =
+        let is : record { track = record t { at = u }; edge = None } ≡ m = cc in
+        sym (ap (λ (x : Moved). x.track.at) is)
+
 pub records_moved : (u : ℕ) (t : Track) (m : Moved) (edges : List Edge) (samples : List Sample) (end : ℕ) → moved u t ≡ Some m → Records m.track edges samples end → Records t (option_to_list m.edge ++ edges) samples end
 records_moved u t m edges samples end h r = by (nat_lt u t.at) refl h
   where

@@ -1,0 +1,156 @@
+-- A pin file that is read is its line, sampled.
+use Rattle.std.proofs.Common.{◌≡◌, ℕ, ◌+◌, ◌-◌, ◌*◌, ◌/◌, ◌≤◌, Bool, true, false, nat_lt, nat_le, if◌then◌else◌, List, [], ◌∷◌, ◌++◌, Option, Some, None, Result, Ok, Err, refl, sym, ap, subst, ◌∙◌, arith}
+use Rattle.std.specs.Option.{option_to_list}
+use Rattle.std.proofs.lemmas.Bool.Decides.{nat_tests}
+use Rattle.cec_wave.specs.declared.Edge.{Edge}
+use Rattle.cec_words.specs.Lines.{lines_of, is_skipped}
+use Rattle.cec_signal.specs.Edges.{Captured, IsCapture}
+use Rattle.cec_signal.specs.Samples.{Sample, sampled}
+use Rattle.cec_signal.specs.Track.{Moved, last_edge, moved}
+use Rattle.cec_signal.specs.declared.track.Track.{Track}
+use Rattle.cec_signal.proofs.Recording.{Records, moved_at, records_capture, records_end, records_level, records_line, records_moved}
+use Rattle.cec_pin.specs.Pin.{Step, Stepped, begun, edges_in, event_of, happened, leveled, lines_read, moved_by, moved_to, noted, passed_by, read_on, started, took, with_edges}
+use Rattle.cec_pin.specs.Sampling.{Level, PinFilesAreSampled, event_in, last_time, level_by, level_of, level_told, levels_in, or_start, start_behind, time_by}
+use Rattle.cec_pin.specs.declared.line.Event.{Event}
+use Rattle.cec_pin.specs.declared.reader.Reader.{Reader}
+use Rattle.cec_pin.specs.declared.reading.PinFault.{PinFault}
+
+-- ---- nanoseconds and microseconds
+
+abbrev rounded : ℕ → ℕ
+rounded since = (since + 999) / 1000
+
+rounded_by : (since u : ℕ) → nat_le (rounded since) u ≡ nat_le since (u * 1000)
+rounded_by since u = grind (arith, nat_tests)
+
+abbrev samples_of : List Level → List Sample
+samples_of [] = []
+samples_of (l ∷ ls) = record { at = rounded l.since; low = l.low } ∷ samples_of ls
+
+samples_both : (a b : List Level) → samples_of (a ++ b) ≡ samples_of a ++ samples_of b
+samples_both [] b = refl
+samples_both (l ∷ a) b = ap (λ ss. record { at = rounded l.since; low = l.low } ∷ ss) (samples_both a b)
+
+sampled_so : (b : Bool) (ls : List Level) (u : ℕ) → sampled b (samples_of ls) u ≡ level_of b ls u
+sampled_so b [] u = refl
+sampled_so b (l ∷ ls) u =
+    ap (λ t. sampled (if t then l.low else b) (samples_of ls) u) (rounded_by l.since u) ∙ sampled_so (if nat_le l.since (u * 1000) then l.low else b) ls u
+
+-- ---- a line
+
+-- it is led on: from a start, at a time, with a level or none
+record Goes (old : Track) (step : Step) (start time : ℕ) (level : Option Level) : Type 0 where
+  start_is : step.reader.start ≡ start
+  at : step.reader.track.at ≡ rounded time
+  early : step.reader.track.at ≤ 2000000000000
+  more : (edges : List Edge) (samples : List Sample) (end : ℕ) → Records step.reader.track edges samples end
+      → Records old (option_to_list step.edge ++ edges) (samples_of (option_to_list level) ++ samples) end
+
+abbrev GoesBy : Track → Stepped → ℕ → ℕ → Option Level → Type 0
+GoesBy old (Err c) start time level = Unit {0}
+GoesBy old (Ok step) start time level = Goes old step start time level
+
+event_goes : (r : Reader) (e : Event) → GoesBy r.track (happened (Some e) r) r.start (e.nanos - r.start) (level_told (e.nanos - r.start) e.low)
+event_goes r e = late (nat_lt 2000000000000000 (e.nanos - r.start)) refl
+  where
+    told : (low : Option Bool) (m : Moved) → moved (rounded (e.nanos - r.start)) r.track ≡ Some m → e.nanos - r.start ≤ 2000000000000000
+        → Goes r.track (record { reader = record { start = r.start; track = leveled low m.track }; edge = m.edge }) r.start (e.nanos - r.start) (level_told (e.nanos - r.start) low)
+    told None m h small =
+        let at = moved_at (rounded (e.nanos - r.start)) r.track m h in
+        record {
+          start_is = refl;
+          at = at;
+          early = omega arith;
+          more = λ edges samples end k. records_moved (rounded (e.nanos - r.start)) r.track m edges samples end h k;
+        }
+    told (Some low) m h small =
+        let at = moved_at (rounded (e.nanos - r.start)) r.track m h in
+        record {
+          start_is = refl;
+          at = at;
+          early = omega arith;
+          more = λ edges samples end k.
+              records_moved (rounded (e.nanos - r.start)) r.track m edges (record { at = rounded (e.nanos - r.start); low = low } ∷ samples) end h
+              (subst (λ n. Records m.track edges (record { at = n; low = low } ∷ samples) end) at (records_level m.track low edges samples end k));
+        }
+
+    moves : (o : Option Moved) → moved (rounded (e.nanos - r.start)) r.track ≡ o → e.nanos - r.start ≤ 2000000000000000
+        → GoesBy r.track (moved_by o e.low r) r.start (e.nanos - r.start) (level_told (e.nanos - r.start) e.low)
+    moves None h small = tt
+    moves (Some m) h small = told e.low m h small
+
+    late : (c : Bool) → nat_lt 2000000000000000 (e.nanos - r.start) ≡ c
+        → GoesBy r.track (moved_to (if c then None else Some (rounded (e.nanos - r.start))) e.low r) r.start (e.nanos - r.start) (level_told (e.nanos - r.start) e.low)
+    late true h = tt
+    late false h = moves (moved (rounded (e.nanos - r.start)) r.track) refl (grind (arith, nat_tests))
+
+line_goes : (r : Reader) (line : List ℕ) (time : ℕ) → r.track.at ≡ rounded time → r.track.at ≤ 2000000000000
+    → GoesBy r.track (took line r) (start_behind line r.start) (time_by r.start (event_in line) time) (level_by r.start (event_in line))
+line_goes r line time at early = by (is_skipped line)
+  where
+    comment : (o : Option ℕ) → GoesBy r.track (Ok (record { reader = started o r; edge = None })) (or_start o r.start) time None
+    comment None = record { start_is = refl; at = at; early = early; more = λ edges samples end k. k }
+    comment (Some n) = record { start_is = refl; at = at; early = early; more = λ edges samples end k. k }
+
+    event : (o : Option Event) → GoesBy r.track (happened o r) r.start (time_by r.start o time) (level_by r.start o)
+    event None = tt
+    event (Some e) = event_goes r e
+
+    by : (c : Bool)
+        → GoesBy r.track (if c then Ok (record { reader = started (noted line) r; edge = None }) else happened (event_of line) r) (if c then or_start (noted line) r.start else r.start)
+        (time_by r.start (if c then None else event_of line) time) (level_by r.start (if c then None else event_of line))
+    by true = comment (noted line)
+    by false = event (event_of line)
+
+-- ---- a file
+
+record Ran (r : Reader) (e : Captured) (time : ℕ) (lines : List (List ℕ)) : Type 0 where
+  records : Records r.track e.edges (samples_of (levels_in r.start lines)) e.end
+  end : e.end ≡ rounded (last_time time r.start lines)
+  early : e.end ≤ 2000000000000
+
+run_more : (r : Reader) (step : Step) (e f : Captured) (time : ℕ) (line : List ℕ) (lines : List (List ℕ))
+    → Goes r.track step (start_behind line r.start) (time_by r.start (event_in line) time) (level_by r.start (event_in line))
+    → Ran step.reader f (time_by r.start (event_in line) time) lines → e ≡ record { edges = option_to_list step.edge ++ f.edges; end = f.end } → Ran r e time (line ∷ lines)
+run_more r step e f time line lines g ran is =
+    subst (λ (e : Captured). Ran r e time (line ∷ lines)) (sym is) (record {
+      records = rw (samples_both (option_to_list (level_by r.start (event_in line))) (levels_in (start_behind line r.start) lines))
+          (g.more f.edges (samples_of (levels_in (start_behind line r.start) lines)) f.end
+          (subst (λ n. Records step.reader.track f.edges (samples_of (levels_in n lines)) f.end) g.start_is ran.records));
+      end = ran.end ∙ ap (λ n. rounded (last_time (time_by r.start (event_in line) time) n lines)) g.start_is;
+      early = ran.early;
+    })
+
+lines_ran : (number : ℕ) (lines : List (List ℕ)) (r : Reader) (e : Captured) (time : ℕ) → r.track.at ≡ rounded time → r.track.at ≤ 2000000000000 → lines_read number lines r ≡ Ok e → Ran r e time lines
+lines_ran number [] r e time at early h =
+    let is : record { edges = option_to_list (last_edge r.track); end = r.track.at } ≡ e = cc in
+    subst (λ (e : Captured). Ran r e time []) is (record { records = records_end r.track; end = at; early = early })
+lines_ran number (line ∷ lines) r e time at early h =
+    by (took line r) (line_goes r line time at early) h (λ s f t a l k. lines_ran (number + 1) lines s f t a l k)
+  where
+    next : (step : Step) → Goes r.track step (start_behind line r.start) (time_by r.start (event_in line) time) (level_by r.start (event_in line)) → (o : Result Captured PinFault)
+        → lines_read (number + 1) lines step.reader ≡ o → with_edges (option_to_list step.edge) o ≡ Ok e
+        → ((s : Reader) (f : Captured) (t : ℕ) → s.track.at ≡ rounded t → s.track.at ≤ 2000000000000 → lines_read (number + 1) lines s ≡ Ok f → Ran s f t lines) → Ran r e time (line ∷ lines)
+    next step g (Err x) k m ih = cc
+    next step g (Ok f) k m ih =
+        let is : record { edges = option_to_list step.edge ++ f.edges; end = f.end } ≡ e = cc in
+        run_more r step e f time line lines g (ih step.reader f (time_by r.start (event_in line) time) g.at g.early k) (sym is)
+
+    by : (st : Stepped) → GoesBy r.track st (start_behind line r.start) (time_by r.start (event_in line) time) (level_by r.start (event_in line))
+        → read_on (passed_by number st) (lines_read (number + 1) lines) ≡ Ok e
+        → ((s : Reader) (f : Captured) (t : ℕ) → s.track.at ≡ rounded t → s.track.at ≤ 2000000000000 → lines_read (number + 1) lines s ≡ Ok f → Ran s f t lines) → Ran r e time (line ∷ lines)
+    by (Err x) g k ih = cc
+    by (Ok step) g k ih = next step g (lines_read (number + 1) lines step.reader) refl k ih
+
+pub pin_files_are_sampled : PinFilesAreSampled
+pin_files_are_sampled text e h =
+    let ran = lines_ran 1 (lines_of text) begun e 0 refl (omega arith) h in
+    let ls = levels_in 0 (lines_of text) in
+    record {
+      line = λ u. records_line e.edges (samples_of ls) e.end ran.records u ∙ sampled_so false ls u;
+      end = ran.end;
+      capture = records_capture e.edges (samples_of ls) e.end ran.early ran.records;
+    }
+
+pub read_is_capture : (text : List ℕ) (e : Captured) → edges_in text ≡ Ok e → IsCapture e.edges e.end
+read_is_capture text e h = let s = pin_files_are_sampled text e h in s.capture

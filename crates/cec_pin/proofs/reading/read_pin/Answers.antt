@@ -1,0 +1,5 @@
+use Rattle.cec_pin.proofs.Sampled.{read_is_capture}
+use Rattle.cec_pin.proofs.reading.read_pin.Goals as goal
+
+pub new-requires : goal.new-requires
+new-requires c = read_is_capture c.args.text.now (record { edges = c.in_ok-edges.edges.items; end = c.in_ok-edges.end }) c.in_ok-edges.ensures

@@ -1,0 +1,3 @@
+pub mod Pin
+pub mod Sampling
+pub mod Text

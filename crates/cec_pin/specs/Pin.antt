@@ -1,0 +1,166 @@
+-- A file of pin events as cec-ctl stores it (v4l-utils, `--store-pin`): a line an event, of which those of the CEC pin
+-- give the level of the bus; lines that are empty or begin with `#` are passed over, but for the start that they give.
+use Rattle.std.specs.Prelude.{◌≡◌, ℕ, ◌+◌, ◌-◌, ◌*◌, ◌/◌, ◌==◌, ◌&&◌, ◌||◌, Bool, true, false, nat_lt, nat_le, if◌then◌else◌, List, [], ◌∷◌, ◌++◌, length, take, drop, slice_index, codes, Option, Some, None, Result, Ok, Err}
+use Rattle.std.specs.Option.{option_to_list}
+use Rattle.std.specs.List.{list_all, position_or_len}
+use Rattle.std.specs.Char.{is_ascii_digit}
+use Rattle.std.specs.Str.{bytes_eq}
+use Rattle.std.specs.Global.{Vec}
+use Rattle.cec_wave.specs.declared.Edge.{Edge}
+use Rattle.cec_words.specs.Lines.{lines_of, is_skipped}
+use Rattle.cec_words.specs.Number.{number_of}
+use Rattle.cec_signal.specs.Edges.{Captured}
+use Rattle.cec_signal.specs.Track.{Moved, begun as line_begun, last_edge, moved, with_level}
+use Rattle.cec_signal.specs.declared.track.Track.{Track}
+use Rattle.cec_pin.specs.declared.line.Event.{Event}
+use Rattle.cec_pin.specs.declared.reader.Cause.{Cause}
+use Rattle.cec_pin.specs.declared.reader.Cause.TheVariants as cause
+use Rattle.cec_pin.specs.declared.reader.Reader.{Reader}
+use Rattle.cec_pin.specs.declared.reading.PinFault.{PinFault}
+use Rattle.cec_pin.specs.declared.reading.PinError.{PinError}
+use Rattle.cec_pin.specs.declared.reading.PinError.TheVariants.{Fault, Memory}
+
+-- ---- a line
+
+abbrev pub digit_at : List ℕ → ℕ → ℕ
+digit_at text place = slice_index text place - 48
+
+-- nine digits, in nanoseconds
+abbrev pub nine : List ℕ → ℕ
+nine text =
+    (digit_at text 0 * 100000000 + digit_at text 1 * 10000000 + digit_at text 2 * 1000000)
+    + (digit_at text 3 * 100000 + digit_at text 4 * 10000 + digit_at text 5 * 1000)
+    + (digit_at text 6 * 100 + digit_at text 7 * 10 + digit_at text 8)
+
+abbrev pub fraction_of : List ℕ → Option ℕ
+fraction_of text = if (length text == 9) && list_all is_ascii_digit text then Some (nine text) else None
+
+-- 0 and 1: the CEC pin is low, high; 2 to 5: other pins; 65,536 more where events were lost before
+abbrev pub code_by : Option ℕ → Option (Option Bool)
+code_by None = None
+code_by (Some code) =
+    if (code == 0) || (code == 65536) then Some (Some true)
+    else if (code == 1) || (code == 65537) then Some (Some false)
+    else if nat_le code 5 || (nat_le 65538 code && nat_le code 65541) then Some None
+    else None
+
+abbrev pub code_of : List ℕ → Option (Option Bool)
+code_of word = code_by (number_of word)
+
+abbrev pub nanos_by : Option ℕ → Option ℕ → Option ℕ
+nanos_by None nanos = None
+nanos_by (Some whole) None = None
+nanos_by (Some whole) (Some nanos) = Some (whole * 1000000000 + nanos)
+
+abbrev pub nanos_of : List ℕ → List ℕ → Option ℕ
+nanos_of seconds fraction = nanos_by (number_of seconds) (fraction_of fraction)
+
+abbrev pub event_by : Option ℕ → Option (Option Bool) → Option Event
+event_by None low = None
+event_by (Some nanos) None = None
+event_by (Some nanos) (Some low) = Some (record { nanos = nanos; low = low })
+
+abbrev pub dot_in : List ℕ → ℕ
+dot_in text = position_or_len (λ b. b == 46) text
+
+abbrev pub event_cut : List ℕ → List ℕ → Option Event
+event_cut seconds rest = if slice_index rest 9 == 32 then event_by (nanos_of seconds (take 9 rest)) (code_of (drop 10 rest)) else None
+
+abbrev pub event_of : List ℕ → Option Event
+event_of line = event_cut (take (dot_in line) line) (drop (dot_in line + 1) line)
+
+-- microseconds from the start on, rounded up, within the limit of a capture; what is before the start is at it
+abbrev pub instant_of : ℕ → ℕ → Option ℕ
+instant_of start nanos = if nat_lt 2000000000000000 (nanos - start) then None else Some ((nanos - start + 999) / 1000)
+
+abbrev pub word_start : List ℕ → Option ℕ
+word_start word = nanos_of (take (dot_in word) word) (drop (dot_in word + 1) word)
+
+-- a comment that gives the start
+abbrev pub noted : List ℕ → Option ℕ
+noted line = if bytes_eq (take 18 line) (codes "# start_monotonic ") then word_start (drop 18 line) else None
+
+-- ---- where a reader stands
+
+abbrev pub begun : Reader
+begun = record { start = 0; track = line_begun }
+
+pub record Step : Type 0 where
+  pub reader : Reader
+  pub edge : Option Edge
+
+abbrev pub Stepped : Type 0
+Stepped = Result Step Cause
+
+-- what a call returned, and what it left
+abbrev pub Takes : Stepped → Result (Option Edge) Cause → Reader → Type 0
+Takes stepped (Ok edge) new = stepped ≡ Ok (record { reader = new; edge = edge })
+Takes stepped (Err fault) new = stepped ≡ Err fault
+
+abbrev pub leveled : Option Bool → Track → Track
+leveled None t = t
+leveled (Some low) t = with_level low t
+
+abbrev pub moved_by : Option Moved → Option Bool → Reader → Stepped
+moved_by None low r = Err cause.Order
+moved_by (Some m) low r = Ok (record { reader = record { start = r.start; track = leveled low m.track }; edge = m.edge })
+
+-- an event of another pin is a time alone
+abbrev pub moved_to : Option ℕ → Option Bool → Reader → Stepped
+moved_to None low r = Err cause.Late
+moved_to (Some u) low r = moved_by (moved u r.track) low r
+
+abbrev pub happened : Option Event → Reader → Stepped
+happened None r = Err cause.Word
+happened (Some e) r = moved_to (instant_of r.start e.nanos) e.low r
+
+abbrev pub started : Option ℕ → Reader → Reader
+started None r = r
+started (Some start) r = record r { start = start }
+
+abbrev pub took : List ℕ → Reader → Stepped
+took line r = if is_skipped line then Ok (record { reader = started (noted line) r; edge = None }) else happened (event_of line) r
+
+-- ---- a file
+
+abbrev pub with_edges : List Edge → Result Captured PinFault → Result Captured PinFault
+with_edges edges (Ok e) = Ok (record { edges = edges ++ e.edges; end = e.end })
+with_edges edges (Err fault) = Err fault
+
+pub record Passed : Type 0 where
+  pub edges : List Edge
+  pub reader : Reader
+
+abbrev pub passed_by : ℕ → Stepped → Result Passed PinFault
+passed_by number (Err fault) = Err (record { line = number; cause = fault })
+passed_by number (Ok step) = Ok (record { edges = option_to_list step.edge; reader = step.reader })
+
+abbrev pub read_on : Result Passed PinFault → (Reader → Result Captured PinFault) → Result Captured PinFault
+read_on (Err fault) more = Err fault
+read_on (Ok p) more = with_edges p.edges (more p.reader)
+
+-- a file ends with its last event
+abbrev pub lines_read : ℕ → List (List ℕ) → Reader → Result Captured PinFault
+lines_read number [] r = Ok (record { edges = option_to_list (last_edge r.track); end = r.track.at })
+lines_read number (line ∷ lines) r = read_on (passed_by number (took line r)) (lines_read (number + 1) lines)
+
+abbrev pub edges_in : List ℕ → Result Captured PinFault
+edges_in text = lines_read 1 (lines_of text) begun
+
+-- a capture is what is read, and a fault is the one of the text; of memory nothing is said
+abbrev pub Gives : Result Captured PinError → Result Captured PinFault → Type 0
+Gives (Ok c) read = read ≡ Ok c
+Gives (Err (Fault fault)) read = read ≡ Err fault
+Gives (Err Memory) read = Unit {0}
+
+-- the same of edges and an end
+abbrev pub GivesEdges : Result (Vec Edge × ℕ) PinError → Result Captured PinFault → Type 0
+GivesEdges (Ok c) read = read ≡ Ok (record { edges = c.0.items; end = c.1 })
+GivesEdges (Err (Fault fault)) read = read ≡ Err fault
+GivesEdges (Err Memory) read = Unit {0}
+
+-- a line was passed: its edges came behind those before
+abbrev pub PassesLine : Result Passed PinFault → List Edge → Result (Unit {0}) PinError → List Edge → Reader → Type 0
+PassesLine passed old (Ok n) new reader = (more : List Edge) × (new ≡ old ++ more) × (passed ≡ Ok (record { edges = more; reader = reader }))
+PassesLine passed old (Err (Fault fault)) new reader = passed ≡ Err fault
+PassesLine passed old (Err Memory) new reader = Unit {0}

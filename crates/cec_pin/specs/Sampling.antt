@@ -1,0 +1,61 @@
+-- The line that a pin file tells of: at an instant it has the level of the last event of the CEC pin at or before it. Times
+-- are nanoseconds here, and nothing is said of edges and faults.
+use Rattle.std.specs.Prelude.{◌≡◌, ℕ, ◌+◌, ◌-◌, ◌*◌, ◌/◌, Bool, false, nat_le, if◌then◌else◌, List, [], ◌∷◌, ◌++◌, Option, Some, None, Ok}
+use Rattle.std.specs.Option.{option_to_list}
+use Rattle.cec_words.specs.Lines.{lines_of, is_skipped}
+use Rattle.cec_signal.specs.Edges.{Captured, IsCapture, line_of_edges}
+use Rattle.cec_pin.specs.Pin.{edges_in, event_of, noted}
+use Rattle.cec_pin.specs.declared.line.Event.{Event}
+
+-- from a time on, counted from the start, the line is low or not
+pub record Level : Type 0 where
+  pub since : ℕ
+  pub low : Bool
+
+abbrev pub or_start : Option ℕ → ℕ → ℕ
+or_start None start = start
+or_start (Some noted) start = noted
+
+-- the start of what stands behind a line
+abbrev pub start_behind : List ℕ → ℕ → ℕ
+start_behind line start = if is_skipped line then or_start (noted line) start else start
+
+abbrev pub event_in : List ℕ → Option Event
+event_in line = if is_skipped line then None else event_of line
+
+abbrev pub level_told : ℕ → Option Bool → Option Level
+level_told since None = None
+level_told since (Some low) = Some (record { since = since; low = low })
+
+-- an event before the start is at it; events of other pins give no level
+abbrev pub level_by : ℕ → Option Event → Option Level
+level_by start None = None
+level_by start (Some e) = level_told (e.nanos - start) e.low
+
+abbrev pub levels_in : ℕ → List (List ℕ) → List Level
+levels_in start [] = []
+levels_in start (line ∷ lines) = option_to_list (level_by start (event_in line)) ++ levels_in (start_behind line start) lines
+
+abbrev pub time_by : ℕ → Option Event → ℕ → ℕ
+time_by start None time = time
+time_by start (Some e) time = e.nanos - start
+
+-- the time of the last event
+abbrev pub last_time : ℕ → ℕ → List (List ℕ) → ℕ
+last_time time start [] = time
+last_time time start (line ∷ lines) = last_time (time_by start (event_in line) time) (start_behind line start) lines
+
+-- the last level that is not after the first instant of microsecond u counts
+abbrev pub level_of : Bool → List Level → ℕ → Bool
+level_of is_low [] u = is_low
+level_of is_low (l ∷ ls) u = level_of (if nat_le l.since (u * 1000) then l.low else is_low) ls u
+
+pub record IsSampled (text : List ℕ) (e : Captured) : Type 0 where
+  pub line : (u : ℕ) → line_of_edges e.edges u ≡ level_of false (levels_in 0 (lines_of text)) u
+  pub end : e.end ≡ (last_time 0 0 (lines_of text) + 999) / 1000
+  pub capture : IsCapture e.edges e.end
+
+-- A pin file that is read is its line, sampled: each microsecond has the level at its first instant, and the capture ends
+-- with the last event.
+abbrev pub PinFilesAreSampled : Type 0
+PinFilesAreSampled = (text : List ℕ) (e : Captured) → edges_in text ≡ Ok e → IsSampled text e

@@ -1,0 +1,124 @@
+//! A line of a file of pin events.
+ghost use Rattle.std.specs.Prelude.{◌≡◌, ◌+◌, ◌*◌, ◌^◌, ◌<◌, ◌≤◌, length};
+ghost use Rattle.std.specs.List.{list_all};
+ghost use Rattle.std.specs.Char.{is_ascii_digit};
+ghost use Rattle.cec_pin.specs.Pin.{code_of, digit_at, event_cut, event_of, fraction_of, instant_of, nanos_of, noted, word_start};
+
+use cec_words::{before, behind, byte_at, len_before, number_in};
+
+/// The latest instant of a capture, in microseconds.
+const LATEST: u128 = 2_000_000_000_000;
+
+/// What a line says.
+#[derive(Clone, Copy, Debug, PartialEq, Eq)]
+pub struct Event {
+    /// The time in nanoseconds.
+    pub nanos: u128,
+    /// Whether the line is low, where the event is one of the CEC pin.
+    pub low: Option<bool>,
+}
+
+fn digit_at(text: &[u8], place: usize) -> u64
+    ensures value { result ≡ digit_at text.now place }
+    ensures small { result < 256 }
+{
+    u64::from(byte_at(text, place).saturating_sub(b'0'))
+}
+
+fn all_digits(text: &[u8]) -> bool
+    ensures { result ≡ list_all is_ascii_digit text.now }
+{
+    text.iter().all(|b| b.is_ascii_digit())
+}
+
+// Nine digits.
+fn fraction_of(text: &[u8]) -> Option<u64>
+    ensures { result ≡ fraction_of text.now }
+{
+    if text.len() != 9 || !all_digits(text) {
+        return None;
+    }
+    let front = digit_at(text, 0) * 100_000_000
+        + digit_at(text, 1) * 10_000_000
+        + digit_at(text, 2) * 1_000_000;
+    let middle = digit_at(text, 3) * 100_000
+        + digit_at(text, 4) * 10_000
+        + digit_at(text, 5) * 1_000;
+    let last = digit_at(text, 6) * 100 + digit_at(text, 7) * 10 + digit_at(text, 8);
+    Some(front + middle + last)
+}
+
+// Whether the CEC line is low by an event's code: 0 low, 1 high, 2 to 5 other pins, with 65,536 more where events were lost.
+fn code_of(word: &[u8]) -> Option<Option<bool>>
+    ensures { result ≡ code_of word.now }
+{
+    let code = number_in(word)?;
+    if code == 0 || code == 65_536 {
+        Some(Some(true))
+    } else if code == 1 || code == 65_537 {
+        Some(Some(false))
+    } else if code <= 5 || (65_538 <= code && code <= 65_541) {
+        Some(None)
+    } else {
+        None
+    }
+}
+
+// Nanoseconds.
+fn nanos_of(seconds: &[u8], fraction: &[u8]) -> Option<u128>
+    ensures { result ≡ nanos_of seconds.now fraction.now }
+{
+    let whole = number_in(seconds)?;
+    let nanos = fraction_of(fraction)?;
+    Some(u128::from(whole) * 1_000_000_000 + u128::from(nanos))
+}
+
+// What a line says, cut at its dot.
+fn event_cut(seconds: &[u8], rest: &[u8]) -> Option<Event>
+    ensures { result ≡ event_cut seconds.now rest.now }
+{
+    if byte_at(rest, 9) != b' ' {
+        return None;
+    }
+    let nanos = nanos_of(seconds, before(rest, 9))?;
+    let low = code_of(behind(rest, 10))?;
+    Some(Event { nanos, low })
+}
+
+/// What a line says: seconds, a dot, nine digits, a space, a code.
+pub fn event_of(line: &[u8]) -> Option<Event>
+    ensures { result ≡ event_of line.now }
+{
+    let dot = len_before(line, b'.');
+    event_cut(before(line, dot), behind(line, dot + 1))
+}
+
+/// The microseconds from the start to an event, rounded up, within the limit. An event before the start is at it.
+pub fn instant_of(start: u128, nanos: u128) -> Option<u64>
+    ensures { result ≡ instant_of start nanos }
+{
+    let since = nanos.saturating_sub(start);
+    if since > LATEST * 1_000 {
+        return None;
+    }
+    Some(((since + 999) / 1_000) as u64)
+}
+
+// A time in seconds, a dot and nine digits.
+fn time_in(word: &[u8]) -> Option<u128>
+    ensures { result ≡ word_start word.now }
+{
+    let dot = len_before(word, b'.');
+    nanos_of(before(word, dot), behind(word, dot + 1))
+}
+
+/// The start that a comment gives, if it gives one.
+pub fn noted(line: &[u8]) -> Option<u128>
+    ensures { result ≡ noted line.now }
+{
+    if before(line, 18) == b"# start_monotonic ".as_slice() {
+        time_in(behind(line, 18))
+    } else {
+        None
+    }
+}

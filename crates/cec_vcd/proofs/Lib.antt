@@ -1,0 +1,4 @@
+pub mod Passing
+pub mod Texts
+pub mod ReadBack
+pub mod Sampled

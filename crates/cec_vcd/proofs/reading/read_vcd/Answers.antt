@@ -1,0 +1,6 @@
+use Rattle.cec_vcd.proofs.Sampled.{read_is_capture}
+use Rattle.cec_vcd.proofs.reading.read_vcd.Goals as goal
+
+pub new-requires : goal.new-requires
+new-requires c =
+    read_is_capture c.args.name.now c.args.text.now (record { edges = c.in_ok-edges.edges.items; end = c.in_ok-edges.end }) c.in_ok-edges.ensures

@@ -1,0 +1,5 @@
+pub mod Scale
+pub mod Dump
+pub mod Wire
+pub mod Text
+pub mod Reading
