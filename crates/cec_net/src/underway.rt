@@ -93,6 +93,19 @@ impl Net<EdgeWire> {
         }
     }
 
+    /// Becomes a copy of another network, in its own place: a network is large. What the wire holds between rounds says
+    /// nothing.
+    pub fn copy_from(&mut self, other: &Self)
+        ensures { self.new ≡ other.now }
+    {
+        self.tree = other.tree.copy();
+        self.pulses.copy_from(&other.pulses);
+        self.devices = copied_devices(&other.devices);
+        self.close = other.close;
+        self.rest = other.rest;
+        self.begun = copied_wire(&other.begun);
+    }
+
     /// Begins the next round, to take it edge by edge. A round that was begun is given up. False, and nothing changes,
     /// where there is no next start. The last round closed by 2,000,000,000,000.
     pub fn begin(&mut self) -> bool
