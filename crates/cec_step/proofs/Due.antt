@@ -22,10 +22,10 @@ use Rattle.cec_run.specs.declared.run.Turn.{Turn}
 use Rattle.cec_run.specs.declared.run.Turn.TheVariants as turns
 use Rattle.cec_run.specs.Run.{turn_of}
 use Rattle.cec_run.proofs.Advance.{event_keeps}
-use Rattle.cec_step.specs.declared.break_at.Break.{Break}
-use Rattle.cec_step.specs.declared.commands.Command.{Command}
-use Rattle.cec_step.specs.declared.commands.Command.TheVariants.{Edge, Round, Until, Show}
-use Rattle.cec_step.specs.Commands.{alone, break_of, command_of, commands_of, lines_read, onward, show_by, shown_of, until_by, worded}
+use Rattle.cec_step_text.specs.declared.break_at.Break.{Break}
+use Rattle.cec_step_text.specs.declared.commands.Command.{Command}
+use Rattle.cec_step_text.specs.declared.commands.Command.TheVariants.{Edge, Round, Until, Show}
+use Rattle.cec_step_text.specs.Commands.{alone, break_of, command_of, commands_of, lines_read, onward, show_by, shown_of, until_by, worded}
 use Rattle.cec_step.specs.Steps.{Point, Steps, IsEdgeStepBy, IsRoundStep, IsTaken, Skips, device_count, passed_by, passed_from}
 use Rattle.cec_step.specs.Ready.{InsideIf}
 use Rattle.cec_step.specs.declared.stepper.StepError.TheVariants.{Ended}

@@ -20,7 +20,7 @@ use Rattle.cec_step.specs.declared.position.Position.{Position}
 use Rattle.cec_step.specs.declared.position.Course.{Course}
 use Rattle.cec_step.specs.declared.stepper.StepError.{StepError}
 use Rattle.cec_step.specs.declared.stepper.StepError.TheVariants.{Write}
-use Rattle.cec_step.specs.EdgeText.{edge_line}
+use Rattle.cec_step_text.specs.EdgeText.{edge_line}
 use Rattle.cec_step.specs.Steps.{Point, Run, Steps, IsEdgeStep, IsEdgeStepBy, IsFirstEdge, IsFirstStep, IsNoEdge, IsNoEdgeBy, IsOver, IsRoundStep, IsTaken, in_round, passed, passed_by, passed_from}
 use Rattle.cec_step.specs.Ready.{Begins, InsideIf, IsInside, IsReady, begun_in, point_of, run_of}
 use Rattle.cec_step.proofs.Passing.{ready_event}
@@ -55,6 +55,16 @@ begun_inside end p q e b = record { begin = b.begin; heard = e.at + 1; turn = b.
 -- a text tells an edge
 abbrev pub Tells : NetState → Edge → List ℕ → Type 0
 Tells net e text = OfRound net (λ begin heard low. text ≡ edge_line net.devices e (standing_told low begin heard))
+
+pub tells_at : (p q : Position) (e : Edge) (text : List ℕ) → p ≡ q → Tells p.net e text → Tells q.net e text
+tells_at p q e text same line = subst (λ (x : Position). Tells x.net e text) same line
+
+-- a round that was begun from a copy of a position, in the run that a stepper shows
+pub begins_from : (course : Course) (run : Run) (copy here next : Position) (e : Edge) → run_of course ≡ run → copy ≡ here
+    → Begins course.end (point_of course.events.items copy) e (point_of course.events.items next) → Begins run.end (point_of run.events here) e (point_of run.events next)
+begins_from course run copy here next e shown same begins =
+    subst (λ (r : Run). Begins r.end (point_of r.events here) e (point_of r.events next)) shown
+    (subst (λ (p : Position). Begins course.end (point_of course.events.items p) e (point_of course.events.items next)) same begins)
 
 pub first_gives : (end : ℕ) (p q : Point) (e : Edge) (text : List ℕ) → Begins end p e q → Tells q.net e text → IsFirstEdge end p text q.net
 first_gives end p q e text b line =

@@ -6,3 +6,4 @@ pub mod InRound
 pub mod Started
 pub mod Due
 pub mod TraceRounds
+pub mod Over

@@ -5,11 +5,14 @@ use Rattle.hdmi_core.specs.declared.sink.WriteFault.{WriteFault}
 use Rattle.cec_words.specs.Cut.{WrittenText}
 use Rattle.cec_device.specs.State.{State}
 use Rattle.cec_trace.specs.StateText.{state_line}
-use Rattle.cec_step.specs.declared.break_at.Break.{Break}
+use Rattle.cec_step_text.specs.declared.break_at.Break.{Break}
+use Rattle.cec_step_text.specs.Stops.{stops}
 use Rattle.cec_step.specs.declared.stepper.StepError.{StepError}
 use Rattle.cec_step.specs.declared.stepper.StepError.TheVariants.{Ended, Write}
-use Rattle.cec_step.specs.Ready.{Brings}
-use Rattle.cec_step.specs.Steps.{Point, Steps, IsNever, IsOver, IsRound, IsRoundStep, IsShown, IsTaken, IsUntil, Skips, after_round, shown_net, step_text, stops}
+use Rattle.cec_step.specs.declared.position.Course.{Course}
+use Rattle.cec_step.specs.declared.position.Position.{Position}
+use Rattle.cec_step.specs.Ready.{Brings, point_of, run_of}
+use Rattle.cec_step.specs.Steps.{Point, Run, Steps, IsNever, IsOver, IsRound, IsRoundStep, IsShown, IsTaken, IsUntil, Skips, after_round, shown_net, step_text}
 
 -- a step that gives what another gives
 pub taken_as : (Gives Other : List ℕ → Steps → Type 0) (Over More : Type 0) (s t : Steps) (old new : Option (List ℕ)) (r : Result ℕ StepError)
@@ -55,3 +58,16 @@ skips_then end at n (suc m) p mid q h (next, o, skips, step, other) =
 pub brings_then : (end counter : ℕ) (p mid q : Point) → ((counter ≡ 0) × (mid ≡ p)) ⊎ Brings end p mid → Brings end mid q → Brings end p q
 brings_then end counter p mid q (inl (none, same)) k = subst (λ x. Brings end x q) same k
 brings_then end counter p mid q (inr h) k = record { before = h.before; later = omega (arith, h.later, k.later) }
+
+-- a round from a copy of a position, in the run that a stepper shows
+pub step_from : (course : Course) (run : Run) (copy here next : Position) (o : Outcome) → run_of course ≡ run → copy ≡ here
+    → IsRoundStep course.end (point_of course.events.items copy) o (point_of course.events.items next) → IsRoundStep run.end (point_of run.events here) o (point_of run.events next)
+step_from course run copy here next o shown same step =
+    subst (λ (r : Run). IsRoundStep r.end (point_of r.events here) o (point_of r.events next)) shown
+    (subst (λ (p : Position). IsRoundStep course.end (point_of course.events.items p) o (point_of course.events.items next)) same step)
+
+pub brings_from : (course : Course) (run : Run) (copy here next : Position) → run_of course ≡ run → copy ≡ here
+    → Brings course.end (point_of course.events.items copy) (point_of course.events.items next) → Brings run.end (point_of run.events here) (point_of run.events next)
+brings_from course run copy here next shown same brings =
+    subst (λ (r : Run). Brings r.end (point_of r.events here) (point_of r.events next)) shown
+    (subst (λ (p : Position). Brings course.end (point_of course.events.items p) (point_of course.events.items next)) same brings)

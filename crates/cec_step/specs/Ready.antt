@@ -13,9 +13,10 @@ use Rattle.cec_run.specs.Run.{event_text}
 use Rattle.cec_run.specs.declared.run.Turn.TheVariants.{Round}
 use Rattle.cec_step.specs.declared.position.Position.{Position}
 use Rattle.cec_step.specs.declared.position.Course.{Course}
-use Rattle.cec_step.specs.declared.stepper.Found.{Found}
-use Rattle.cec_step.specs.declared.break_at.Break.{Break}
-use Rattle.cec_step.specs.Steps.{Point, Run, Steps, IsRoundStep, Skips, stops, turn_at, passed}
+use Rattle.cec_wire.specs.declared.Outcome.{Outcome}
+use Rattle.cec_step_text.specs.declared.break_at.Break.{Break}
+use Rattle.cec_step_text.specs.Stops.{stops}
+use Rattle.cec_step.specs.Steps.{Point, Run, Steps, IsRoundStep, Skips, turn_at, passed}
 
 -- where a position stands in a run with these events
 abbrev pub point_of : List TimedEvent → Position → Point
@@ -72,11 +73,11 @@ pub record Begins (end : ℕ) (p : Point) (edge : Edge) (q : Point) : Type 0 whe
   pub first : OfRound (record (passed end p).net { heard = Some begin }) (λ begin heard low. IsNextEdge low heard (Some edge))
   pub told : q ≡ record (passed end p) { net = record (passed end p).net { heard = Some (edge.at + 1) } }
 
--- the round that a search found
-pub record IsFound (s : Steps) (at : Break) (found : Found) : Type 0 where
+-- the round that a search found: its outcome, and the positions before and after it
+pub record IsFound (s : Steps) (at : Break) (before : Position) (outcome : Outcome) (after : Position) : Type 0 where
   pub rounds : ℕ
-  pub skips : Skips s.run.end at rounds s.last (point_of s.run.events found.before)
-  pub step : IsRoundStep s.run.end (point_of s.run.events found.before) found.outcome (point_of s.run.events found.after)
-  pub stop : stops at found.outcome ≡ true
-  pub before : IsReady s.run.end (point_of s.run.events found.before)
-  pub after : IsReady s.run.end (point_of s.run.events found.after)
+  pub skips : Skips s.run.end at rounds s.last (point_of s.run.events before)
+  pub step : IsRoundStep s.run.end (point_of s.run.events before) outcome (point_of s.run.events after)
+  pub stop : stops at outcome ≡ true
+  pub before_is : IsReady s.run.end (point_of s.run.events before)
+  pub after_is : IsReady s.run.end (point_of s.run.events after)

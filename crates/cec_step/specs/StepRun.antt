@@ -9,11 +9,11 @@ use Rattle.cec_words.specs.Cut.{CutOff, WrittenText}
 use Rattle.cec_run.specs.Emulate.{IsAccepted, IsTold, is_write as is_run_write}
 use Rattle.cec_trace.specs.Root.{IsRoot}
 use Rattle.cec_run.specs.declared.emulate.EmulateError.TheVariants as faults
-use Rattle.cec_step.specs.declared.commands.Command.{Command}
-use Rattle.cec_step.specs.declared.commands.Command.TheVariants.{Edge, Round, Until, Show}
+use Rattle.cec_step_text.specs.declared.commands.Command.{Command}
+use Rattle.cec_step_text.specs.declared.commands.Command.TheVariants.{Edge, Round, Until, Show}
 use Rattle.cec_step.specs.declared.step_run.StepRunError.{StepRunError}
 use Rattle.cec_step.specs.declared.step_run.StepRunError.TheVariants.{Run, Steps as StepsLine}
-use Rattle.cec_step.specs.Commands.{commands_of}
+use Rattle.cec_step_text.specs.Commands.{commands_of}
 use Rattle.cec_step.specs.Steps.{Steps, IsEdgeStep, IsNever, IsNoEdge, IsOver, IsRound, IsShown, IsUntil, begun_at}
 
 -- ---- one command

@@ -1,33 +1,30 @@
 -- A run taken step by step, and what each step writes (own).
-use Rattle.std.specs.Prelude.{◌≡◌, ℕ, zero, suc, ◌+◌, ◌<◌, ◌==◌, ◌||◌, ◌⊎◌, not, Bool, true, false, List, [], ◌∷◌, ◌++◌, length, take, slice_get, Option, Some, None, Result, Ok, Err}
+use Rattle.std.specs.Prelude.{◌≡◌, ℕ, zero, suc, ◌+◌, ◌<◌, ◌⊎◌, Bool, true, false, List, [], ◌∷◌, ◌++◌, length, take, slice_get, Option, Some, None, Result, Ok, Err}
 use Rattle.std.specs.Io.KnownBytes.{Appends}
-use Rattle.std.specs.List.{list_any}
 use Rattle.cec_wave.specs.Line.{IsWave}
 use Rattle.cec_wave.specs.declared.Edge.{Edge}
-use Rattle.cec_frame.specs.Blocks.{frame_in}
 use Rattle.cec_wire.specs.declared.Outcome.{Outcome}
 use Rattle.cec_wire.specs.Edges.{IsNextEdge}
 use Rattle.cec_device.specs.State.{State}
 use Rattle.cec_net.specs.State.{NetState}
 use Rattle.cec_net.specs.Apply.{applied}
-use Rattle.cec_net.specs.Step.{IsNextRound, is_among}
+use Rattle.cec_net.specs.Step.{IsNextRound}
 use Rattle.cec_net.specs.Underway.{OfRound, standing_told}
 use Rattle.cec_asm.specs.declared.script.TimedEvent.{TimedEvent}
 use Rattle.cec_asm.specs.Script.{Course}
 use Rattle.hdmi_blocks.specs.declared.edid.Edid.{Edid}
 use Rattle.cec_words.specs.Cut.{told_count}
-use Rattle.cec_text.specs.ReadingText.{is_complete}
 use Rattle.cec_run.specs.declared.run.Turn.{Turn}
 use Rattle.cec_run.specs.declared.run.Turn.TheVariants.{Stop, Apply, Round}
 use Rattle.cec_run.specs.Run.{turn_of, first_time, event_text}
 use Rattle.cec_trace.specs.PortText.{port_lines}
 use Rattle.cec_trace.specs.TraceText.{round_line}
 use Rattle.cec_trace.specs.StateText.{state_line}
-use Rattle.cec_step.specs.declared.break_at.Break.{Break}
-use Rattle.cec_step.specs.declared.break_at.Break.TheVariants.{Opcode, Device, AnyBreak}
+use Rattle.cec_step_text.specs.declared.break_at.Break.{Break}
 use Rattle.cec_step.specs.declared.stepper.StepError.{StepError}
 use Rattle.cec_step.specs.declared.stepper.StepError.TheVariants.{Ended, Write}
-use Rattle.cec_step.specs.EdgeText.{edge_line}
+use Rattle.cec_step_text.specs.EdgeText.{edge_line}
+use Rattle.cec_step_text.specs.Stops.{stops}
 
 -- ---- where a run stands
 
@@ -158,22 +155,6 @@ abbrev pub IsRound : Steps → List ℕ → Steps → Type 0
 IsRound s text t = (o : Outcome) × (q : Point) × IsRoundStep s.run.end s.last o q × (text ≡ step_text s.run s.last o q) × (t ≡ after_round s q)
 
 -- ---- `until`
-
-abbrev pub is_byte : ℕ → Option ℕ → Bool
-is_byte opcode None = false
-is_byte opcode (Some byte) = byte == opcode
-
--- a complete frame with that opcode
-abbrev pub has_opcode : ℕ → Option (List ℕ) → Bool
-has_opcode opcode None = false
-has_opcode opcode (Some frame) = is_byte opcode (slice_get frame 1)
-
--- a round stops the search: it reads a frame with the opcode; the device was among those that sent, to the end or until
--- they were out; or its ending is not complete
-abbrev pub stops : Break → Outcome → Bool
-stops (Opcode opcode) o = has_opcode opcode (frame_in o.reading)
-stops (Device device) o = is_among o.survivors.items device || list_any (λ loser. loser.seat == device) o.losers.items
-stops AnyBreak o = not (is_complete o.reading.ending)
 
 -- so many rounds, none of which stops the search
 abbrev pub Skips : ℕ → Break → ℕ → Point → Point → Type 0

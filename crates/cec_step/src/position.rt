@@ -1,19 +1,18 @@
 //! Where a run stands, and its next round.
 ghost use Rattle.std.specs.Prelude.{◌≡◌, ℕ, ◌+◌, ◌++◌, ◌<◌, ◌≤◌, List, drop, length, MatchOption, IfSome, IsSome};
 ghost use Rattle.cec_net.specs.Underway.{OfRound, standing_told};
-ghost use Rattle.cec_step.specs.EdgeText.{edge_line};
+ghost use Rattle.cec_step_text.specs.EdgeText.{edge_line};
 ghost use Rattle.cec_words.specs.Cut.{WrittenText};
 ghost use Rattle.cec_run.specs.declared.run.Turn.TheVariants.{Apply, Round, Stop};
 ghost use Rattle.cec_trace.specs.Root.{HasAddress};
 ghost use Rattle.cec_step.specs.Ready.{Begins, Brings, IsReady, Passes, first_text, point_of};
 ghost use Rattle.cec_step.specs.Steps.{IsOver, IsRoundStep, passed, passed_text, start_text, turn_at};
 
-use crate::edge_text::write_edge;
-use crate::parts::behind;
 use cec_asm::TimedEvent;
 use cec_edges::EdgeWire;
 use cec_net::{Net, RoundReport};
 use cec_run::{Totals, Turn, apply_event, first_time, next_turn};
+use cec_step_text::{behind, write_edge};
 use cec_trace::write_ports;
 use cec_wave::Edge;
 use cec_words::{counted, cut_at};
@@ -63,6 +62,15 @@ impl Position {
         }
     }
 
+    /// Becomes a copy of another position, in its own place.
+    pub fn copy_from(&mut self, other: &Self)
+        ensures { self.new ≡ other.now }
+    {
+        self.net.copy_from(&other.net);
+        self.applied = other.applied;
+        self.is_first = other.is_first;
+    }
+
     // What comes next in the run.
     fn turn(&self, course: &Course) -> Turn
         ensures { result ≡ turn_at course.now.end (point_of course.now.events.items self.now) }
@@ -86,8 +94,8 @@ impl Position {
         self.applied += 1;
     }
 
-    // Applies the events that come before the next round. Returns when that round begins; None where no round comes.
-    fn pass_events(&mut self, course: &Course) -> Option<u64>
+    /// Applies the events that come before the next round. Returns when that round begins; None where no round comes.
+    pub fn pass_events(&mut self, course: &Course) -> Option<u64>
         requires { IsReady course.now.end (point_of course.now.events.items self.old) }
         ensures point { point_of course.now.events.items self.new ≡ passed course.now.end (point_of course.now.events.items self.old) }
         ensures comes { MatchOption result

@@ -5,11 +5,10 @@ ghost use Rattle.hdmi_core.specs.Written.{WrittenLine};
 ghost use Rattle.cec_step.specs.Steps.{IsTaken, device_count, is_write as step_fails};
 ghost use Rattle.cec_step.specs.StepRun.{AreCut, AreDue, AreRefused, AreStepsOf, IsCommandTaken, IsCutBy, IsNoStep, IsStep, NamesDevice, is_write};
 
-use crate::commands::{Command, CommandsError, parse_commands};
-use crate::parts::whole;
 use crate::stepper::{StepError, Stepper};
 use cec_asm::{parse_script, parse_topology};
 use cec_run::emulate::EmulateError;
+use cec_step_text::{Command, CommandsError, parse_commands, whole};
 use cec_trace::root_of;
 use cec_words::{counted, cut_at};
 use hdmi_core::{Piece, Sink, WriteFault, write_line};

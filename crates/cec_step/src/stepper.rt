@@ -1,26 +1,15 @@
 //! The stepper.
-ghost use Rattle.std.specs.Prelude.{◌≡◌, ℕ, ◌++◌, Bool, List, Option, Result, Some, IsSome, length};
-ghost use Rattle.cec_words.specs.Cut.{WrittenText};
-ghost use Rattle.cec_trace.specs.Root.{HasAddress};
-ghost use Rattle.cec_step.specs.Ready.{IsReady, point_of, run_of};
-ghost use Rattle.cec_step.specs.Steps.{step_text};
-ghost use Rattle.cec_step.specs.declared.stepper.StepError.TheVariants.{Write};
+ghost use Rattle.std.specs.Prelude.{◌≡◌, Option};
+ghost use Rattle.cec_step.specs.Over.{OverIf, is_ended};
 
-use crate::break_at::{Break, stops};
-use crate::parts::{behind, whole};
-use crate::position::{Course, Position};
+use crate::position::Position;
+use crate::walk::Walk;
 use cec_asm::{Script, Topology};
-use cec_edges::EdgeWire;
-use cec_net::Net;
-use cec_trace::{root_of, write_round, write_state};
-use cec_wire::Outcome;
-use hdmi_core::{Sink, WriteFault};
+use cec_step_text::Break;
+use hdmi_core::Sink;
 use std::alloc::{AllocError, Global};
 use std::marker::Model;
 use thiserror::Error;
-
-/// How many rounds a search leaps over at once.
-const LEAP: u32 = 64;
 
 /// Why a step was not taken.
 #[derive(Clone, Copy, Debug, Drop, PartialEq, Eq, Error)]
@@ -36,122 +25,55 @@ pub enum StepError {
 /// A run of a script on a topology, taken step by step. A step counts once its text was written.
 #[derive(Drop)]
 pub struct Stepper {
-    course: Course,
-    /// After the last round that was finished, or at the start.
-    last: Box<Position>,
-    /// In the round that was begun, where one is.
-    inside: Box<Position>,
-    is_begun: bool,
-}
-
-/// A round that was looked for: its outcome, and where the run stands before it and after it.
-#[derive(Drop)]
-struct Found {
-    before: Position,
-    after: Position,
-    outcome: Outcome,
+    walk: Walk,
+    /// Whether no edge is left, as a step has found. No further step then looks for one.
+    is_over: bool,
+    /// Places in which a step is worked out.
+    before: Box<Position>,
+    after: Box<Position>,
 }
 
 impl Model for Stepper {
-    ghost use Rattle.cec_trace.specs.Root.{HasAddress};
-    ghost use Rattle.cec_step.specs.Ready.{InsideIf, IsReady, begun_in, point_of, run_of};
     ghost use Rattle.cec_step.specs.Steps.{Steps};
+    ghost use Rattle.cec_step.specs.Over.{OverIf};
 
     ghost Value = { Steps };
 
-    ghost view = { λ s. record { run = run_of s.course; last = point_of s.course.events.items s.last.value; begun = begun_in s.is_begun (point_of s.course.events.items s.inside.value) } };
+    ghost view = { λ s. s.walk };
 
-    ghost invariant = { λ s. HasAddress s.course.edid × IsReady s.course.end (point_of s.course.events.items s.last.value)
-        × InsideIf s.is_begun s.course.end (point_of s.course.events.items s.last.value) (point_of s.course.events.items s.inside.value) };
+    ghost invariant = { λ s. OverIf s.is_over s.walk };
 }
 
-fn step_error(fault: WriteFault) -> StepError
-    ensures { result ≡ Write fault.count }
+fn is_ended(taken: &Result<u128, StepError>) -> bool
+    ensures { result ≡ is_ended taken.now }
 {
-    StepError::Write(fault.count)
-}
-
-// Writes what the trace has of a round with this outcome, from the position before it to that after it.
-fn write_step<S: Sink>(
-    course: &Course,
-    before: Position,
-    after: &Position,
-    outcome: &Outcome,
-    out: &mut S,
-) -> Result<u128, WriteFault>
-    requires ready { IsReady course.now.end (point_of course.now.events.items before) }
-    requires addressed { HasAddress course.now.edid }
-    ensures { WrittenText (S.contents out.old) (S.contents out.new) (S.is_stuck out.old) (S.is_stuck out.new)
-        (step_text (run_of course.now) (point_of course.now.events.items before) outcome.now (point_of course.now.events.items after.now)) result }
-{
-    let mut before = before;
-    match before.write_before(course, out) {
-        Ok(count) => behind(count, whole(write_round(out, after.net.devices(), outcome))),
-        Err(fault) => Err(fault),
+    match taken {
+        Err(StepError::Ended) => true,
+        _ => false,
     }
 }
 
+// Whether no edge is left, as far as that is looked for: after a step that there was not, and where no round was begun.
+fn found_over(walk: &Walk, taken: &Result<u128, StepError>, place: &mut Box<Position>) -> bool
+    ensures { OverIf result walk.now }
+{
+    is_ended(taken) && walk.is_over(place)
+}
+
 impl Stepper {
-    ghost use Rattle.std.specs.Prelude.{◌||◌, ◌<◌, IfOk, IsTrue, MatchOption, slice_get};
+    ghost use Rattle.std.specs.Prelude.{◌||◌, ◌<◌, IfOk, IsTrue, length};
     ghost use Rattle.std.specs.Option.{option_map};
     ghost use Rattle.cec_asm.specs.Script.{IsScript, course_of};
     ghost use Rattle.hdmi_blocks.specs.declared.edid.Edid.{Edid};
     ghost use Rattle.cec_trace.specs.Root.{IsRoot as IsRootOf};
     ghost use Rattle.cec_net.specs.State.{started};
-    ghost use Rattle.cec_step.specs.Ready.{Brings, IsFound, IsInside};
-    ghost use Rattle.cec_step.specs.Steps.{IsEdgeStep, IsNever, IsNoEdge, IsOver, IsRound, IsRoundStep, IsTaken, IsUntil, IsFirstStep, IsShown, Skips, after_round, begun_at, device_count, in_round, is_write, shown_net};
+    ghost use Rattle.cec_step.specs.Steps.{IsEdgeStep, IsNever, IsNoEdge, IsOver, IsRound, IsTaken, IsUntil, IsShown, begun_at, device_count, is_write};
 
-    // Stands after a round.
-    fn stand_after(&mut self, after: Position)
-        requires { IsReady self.old.run.end (point_of self.old.run.events after) }
-        ensures { self.new ≡ after_round self.old (point_of self.old.run.events after) }
+    // Whether no round is left, as a step has found.
+    fn has_no_round(&self) -> bool
+        ensures { IsTrue result → IsOver self.now.run.end self.now.last }
     {
-        *self.last = after;
-        self.is_begun = false;
-    }
-
-    // Stands in the round that comes after a position.
-    fn stand_in(&mut self, last: Position, inside: Position)
-        requires ready { IsReady self.old.run.end (point_of self.old.run.events last) }
-        requires inside { IsInside self.old.run.end (point_of self.old.run.events last) (point_of self.old.run.events inside) }
-        ensures { self.new ≡ in_round self.old (point_of self.old.run.events last) inside.net }
-    {
-        *self.last = last;
-        *self.inside = inside;
-        self.is_begun = true;
-    }
-
-    // The position after the last round that was finished.
-    fn copied_last(&self) -> Position
-        ensures last { point_of self.now.run.events result ≡ self.now.last }
-        ensures ready { IsReady self.now.run.end (point_of self.now.run.events result) }
-    {
-        self.last.copy()
-    }
-
-    // Writes what the trace has of a round, and stands after it.
-    fn take<S: Sink>(
-        &mut self,
-        before: Position,
-        after: Position,
-        outcome: &Outcome,
-        out: &mut S,
-    ) -> Result<u128, StepError>
-        requires before { IsReady self.old.run.end (point_of self.old.run.events before) }
-        requires after { IsReady self.old.run.end (point_of self.old.run.events after) }
-        ensures step { IsTaken
-            (λ text t. (text ≡ step_text self.old.run (point_of self.old.run.events before) outcome.now (point_of self.old.run.events after))
-            × (t ≡ after_round self.old (point_of self.old.run.events after)))
-            ⊥ self.old self.new (S.contents out.old) (S.contents out.new) result }
-        ensures flag { S.is_stuck out.new ≡ (is_write result || S.is_stuck out.old) }
-    {
-        match write_step(&self.course, before, &after, outcome, out) {
-            Err(fault) => Err(step_error(fault)),
-            Ok(count) => {
-                self.stand_after(after);
-                Ok(count)
-            }
-        }
+        self.is_over && !self.walk.is_begun()
     }
 
     /// Finishes the round that was begun, or the next one, and writes what the trace has of it: its line, behind
@@ -164,55 +86,12 @@ impl Stepper {
         ensures step { IsTaken (IsRound self.old) (IsOver self.old.run.end self.old.last) self.old self.new (S.contents out.old) (S.contents out.new) result }
         ensures flag { S.is_stuck out.new ≡ (is_write result || S.is_stuck out.old) }
     {
-        let last = self.copied_last();
-        let mut next = last.copy();
-        let Some(report) = next.pass_round(&self.course) else {
+        if self.has_no_round() {
             return Err(StepError::Ended);
-        };
-        self.take(last, next, &report.outcome, out)
-    }
-
-    // Goes on over as many rounds as are leapt over at once, where none of them is looked for. Returns whether it went on.
-    fn leap(&self, at: Break, here: &mut Position) -> bool
-        requires { IsReady self.now.run.end (point_of self.now.run.events here.old) }
-        ensures skips { (rounds : ℕ) × Skips self.now.run.end at rounds (point_of self.now.run.events here.old) (point_of self.now.run.events here.new) }
-        ensures ready { IsReady self.now.run.end (point_of self.now.run.events here.new) }
-        ensures goes { IsTrue result → Brings self.now.run.end (point_of self.now.run.events here.old) (point_of self.now.run.events here.new) }
-    {
-        let mut ahead = here.copy();
-        'rounds: for _ in 0..LEAP {
-            let Some(report) = ahead.pass_round(&self.course) else {
-                return false;
-            };
-            if stops(at, &report.outcome) {
-                return false;
-            }
         }
-        *here = ahead;
-        true
-    }
-
-    // Goes on to the first round that is looked for. Returns the positions before and after it, and its outcome. A position
-    // is large: it is copied before each round only where the one that is looked for is near.
-    fn search(&self, at: Break) -> Option<Found>
-        ensures { MatchOption result (IsNever self.now at) (λ found. IsFound self.now at found) }
-    {
-        let mut before = self.copied_last();
-        'leaps: while self.leap(at, &mut before) {}
-        'rounds: loop {
-            let mut after = before.copy();
-            let Some(report) = after.pass_round(&self.course) else {
-                return None;
-            };
-            if stops(at, &report.outcome) {
-                return Some(Found {
-                    before,
-                    after,
-                    outcome: report.outcome,
-                });
-            }
-            before = after;
-        }
+        let taken = self.walk.round(&mut self.before, &mut self.after, out);
+        self.is_over = found_over(&self.walk, &taken, &mut self.after);
+        taken
     }
 
     /// Goes on to the first round that is looked for, beginning with one that was begun, and writes that one alone, as
@@ -225,52 +104,11 @@ impl Stepper {
         ensures step { IsTaken (IsUntil self.old at) (IsNever self.old at) self.old self.new (S.contents out.old) (S.contents out.new) result }
         ensures flag { S.is_stuck out.new ≡ (is_write result || S.is_stuck out.old) }
     {
-        let Some(found) = self.search(at) else {
+        if self.has_no_round() {
             return Err(StepError::Ended);
-        };
-        self.take(found.before, found.after, &found.outcome, out)
-    }
-
-    // Writes the first edge of the round that comes after a position, and stands in that round.
-    fn first_edge<S: Sink>(&mut self, last: Position, out: &mut S) -> Result<u128, StepError>
-        requires { IsReady self.old.run.end (point_of self.old.run.events last) }
-        ensures step { IsTaken (IsFirstStep self.old (point_of self.old.run.events last)) (IsOver self.old.run.end (point_of self.old.run.events last))
-            self.old self.new (S.contents out.old) (S.contents out.new) result }
-        ensures flag { S.is_stuck out.new ≡ (is_write result || S.is_stuck out.old) }
-    {
-        let mut inside = last.copy();
-        let Some(edge) = inside.begin_round(&self.course) else {
-            return Err(StepError::Ended);
-        };
-        match inside.write_edge(out, edge) {
-            Err(fault) => Err(step_error(fault)),
-            Ok(count) => {
-                self.stand_in(last, inside);
-                Ok(count)
-            }
         }
-    }
-
-    // Writes the next edge of the round that was begun; where it has given all its edges, the first one of the next.
-    fn edge_inside<S: Sink>(&mut self, out: &mut S) -> Result<u128, StepError>
-        requires { IsSome self.old.begun }
-        ensures step { IsTaken (IsEdgeStep self.old) (IsNoEdge self.old) self.old self.new (S.contents out.old) (S.contents out.new) result }
-        ensures flag { S.is_stuck out.new ≡ (is_write result || S.is_stuck out.old) }
-    {
-        let mut inside = self.inside.copy();
-        let Some(edge) = inside.net.next_edge() else {
-            let report = inside.net.finish_round();
-            let _stretches = report.outcome.wave.as_slice();
-            inside.is_first = false;
-            return self.first_edge(inside, out);
-        };
-        match inside.write_edge(out, edge) {
-            Err(fault) => Err(step_error(fault)),
-            Ok(count) => {
-                *self.inside = inside;
-                Ok(count)
-            }
-        }
+        self.is_over = false;
+        self.walk.until(at, &mut self.before, &mut self.after, out)
     }
 
     /// Writes the next edge of the round that was begun, and where each device on the wire then stands. Where no
@@ -283,23 +121,12 @@ impl Stepper {
         ensures step { IsTaken (IsEdgeStep self.old) (IsNoEdge self.old) self.old self.new (S.contents out.old) (S.contents out.new) result }
         ensures flag { S.is_stuck out.new ≡ (is_write result || S.is_stuck out.old) }
     {
-        if self.is_begun {
-            return self.edge_inside(out);
+        if self.is_over {
+            return Err(StepError::Ended);
         }
-        let last = self.copied_last();
-        self.first_edge(last, out)
-    }
-
-    // The network that is shown: in the round that was begun, and else after the last one.
-    fn shown(&self) -> &Net<EdgeWire>
-        ensures net { result.now ≡ shown_net self.now }
-        ensures count { length result.now.tree ≡ device_count self.now }
-    {
-        if self.is_begun {
-            &self.inside.net
-        } else {
-            &self.last.net
-        }
+        let taken = self.walk.edge(&mut self.before, &mut self.after, out);
+        self.is_over = is_ended(&taken);
+        taken
     }
 
     /// Writes the state line of a device, whose number is below the count: in a round that was begun its state in
@@ -313,10 +140,7 @@ impl Stepper {
         ensures step { IsTaken (IsShown self.now device) ⊥ self.now self.now (S.contents out.old) (S.contents out.new) result }
         ensures flag { S.is_stuck out.new ≡ (is_write result || S.is_stuck out.old) }
     {
-        match whole(write_state(out, self.shown().device(device))) {
-            Err(fault) => Err(step_error(fault)),
-            Ok(count) => Ok(count),
-        }
+        self.walk.show(device, out)
     }
 
     /// A stepper at the start of the run. The script was read with that topology, whose EDID, where it is given, is
@@ -332,26 +156,14 @@ impl Stepper {
         ensures { IfOk result (λ stepper. (edid : Option Edid) × IsRootOf (option_map (λ bytes. bytes.items) topology.edid) edid
             × (stepper ≡ begun_at edid (course_of script) (started topology.tree script.pulses.items))) }
     {
-        let edid = match root_of(&topology.edid) {
-            Ok(edid) => edid,
-            Err(_) => None,
-        };
-        let last = Position {
-            net: Net::new(topology.tree, EdgeWire::new(), script.to_pulses()),
-            applied: 0,
-            is_first: true,
-        };
-        let inside = Box::new(alloc, last.copy())?;
-        let last = Box::new(alloc, last)?;
+        let walk = Walk::new(alloc, topology, script)?;
+        let before = walk.place(alloc)?;
+        let after = walk.place(alloc)?;
         Ok(Stepper {
-            course: Course {
-                edid,
-                events: script.events,
-                end: script.end,
-            },
-            last,
-            inside,
-            is_begun: false,
+            walk,
+            is_over: false,
+            before,
+            after,
         })
     }
 }

@@ -4,7 +4,7 @@ use Rattle.cec_asm.specs.Script.{course_of}
 use Rattle.cec_run.proofs.Accepted.{has_device}
 use Rattle.cec_step.specs.Steps.{device_count}
 use Rattle.cec_step.specs.StepRun.{AreCut, NamesDevice}
-use Rattle.cec_step.specs.declared.commands.Command.{Command}
+use Rattle.cec_step_text.specs.declared.commands.Command.{Command}
 use Rattle.cec_step.proofs.Due.{commands_name_devices}
 use Rattle.cec_step.proofs.step_run.step_run.Goals as goal
 

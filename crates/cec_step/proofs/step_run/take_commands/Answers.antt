@@ -1,7 +1,7 @@
 use Rattle.std.proofs.Common.{rules, ◌≡◌, ◌∙◌, slice_index_or, sym, subst}
 use Rattle.cec_step.specs.StepRun.{NamesDevice}
-use Rattle.cec_step.specs.declared.commands.Command.{Command}
-use Rattle.cec_step.specs.declared.commands.Command.TheVariants.{Edge}
+use Rattle.cec_step_text.specs.declared.commands.Command.{Command}
+use Rattle.cec_step_text.specs.declared.commands.Command.TheVariants.{Edge}
 use Rattle.cec_step.proofs.Due.{cut_next, dues_count, reached_more}
 use Rattle.cec_step.proofs.step_run.take_commands.Goals as goal
 

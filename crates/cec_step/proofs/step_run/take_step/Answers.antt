@@ -1,7 +1,7 @@
 use Rattle.std.proofs.Common.{sym, subst}
 use Rattle.cec_step.specs.Steps.{IsTaken}
 use Rattle.cec_step.specs.StepRun.{IsNoStep, IsStep}
-use Rattle.cec_step.specs.declared.commands.Command.{Command}
+use Rattle.cec_step_text.specs.declared.commands.Command.{Command}
 use Rattle.cec_step.proofs.step_run.take_step.Goals as goal
 
 pub returns-in-Until-clause-step : goal.returns-in-Until-clause-step

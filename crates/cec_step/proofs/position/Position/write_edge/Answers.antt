@@ -1,5 +1,5 @@
 use Rattle.std.proofs.Common.{ap, subst}
-use Rattle.cec_step.specs.EdgeText.{edge_line}
+use Rattle.cec_step_text.specs.EdgeText.{edge_line}
 use Rattle.cec_bits.specs.Follows.{shown}
 use Rattle.cec_words.specs.Cut.{WrittenText}
 use Rattle.cec_step.proofs.position.Position.write_edge.Goals as goal

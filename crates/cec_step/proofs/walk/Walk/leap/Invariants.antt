@@ -1,0 +1,12 @@
+use Rattle.std.proofs.Common.{◌≡◌, ℕ, ◌⊎◌}
+use Rattle.cec_step.specs.Ready.{Brings, IsReady, point_of}
+use Rattle.cec_step.specs.Steps.{Skips}
+use Rattle.cec_step.proofs.walk.Walk.leap.Given as goal
+
+-- none of the rounds so far is looked for, and each brought the rest on
+abbrev pub invariant-rounds : goal.invariant-rounds
+invariant-rounds l = record {
+  skips : (rounds : ℕ) × Skips l.self.run.end l.at rounds (point_of l.self.run.events l.fn.here.value) (point_of l.self.run.events l.ahead.value);
+  ready : IsReady l.self.run.end (point_of l.self.run.events l.ahead.value);
+  goes : ((l.counter ≡ 0) × (point_of l.self.run.events l.ahead.value ≡ point_of l.self.run.events l.fn.here.value)) ⊎ Brings l.self.run.end (point_of l.self.run.events l.fn.here.value) (point_of l.self.run.events l.ahead.value);
+}

@@ -1,0 +1,24 @@
+use Rattle.std.proofs.Common.{ℕ, ◌-◌}
+use Rattle.cec_step.specs.Ready.{IsReady, point_of}
+use Rattle.cec_step.specs.Steps.{Skips}
+use Rattle.cec_step.proofs.walk.Walk.search.Given as goal
+
+-- none of the rounds so far is looked for
+abbrev pub invariant-rounds : goal.invariant-rounds
+invariant-rounds l = record {
+  skips : (rounds : ℕ) × Skips l.self.run.end l.at rounds l.self.last (point_of l.self.run.events l.before.value);
+  ready : IsReady l.self.run.end (point_of l.self.run.events l.before.value);
+}
+
+abbrev pub decreases-rounds : goal.decreases-rounds
+decreases-rounds l = 2000000000000 - l.before.value.net.rest
+
+-- nor of those that were leapt over
+abbrev pub invariant-leaps : goal.invariant-leaps
+invariant-leaps l = record {
+  skips : (rounds : ℕ) × Skips l.self.run.end l.at rounds l.self.last (point_of l.self.run.events l.before.value);
+  ready : IsReady l.self.run.end (point_of l.self.run.events l.before.value);
+}
+
+abbrev pub decreases-leaps : goal.decreases-leaps
+decreases-leaps l = 2000000000000 - l.before.value.net.rest

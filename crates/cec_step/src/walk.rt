@@ -1,0 +1,364 @@
+//! Where a run stands, and how its steps lead on.
+ghost use Rattle.std.specs.Prelude.{◌≡◌, ℕ, ◌++◌, Bool, List, Option, Result, Some, IsSome, length};
+ghost use Rattle.cec_words.specs.Cut.{WrittenText};
+ghost use Rattle.cec_trace.specs.Root.{HasAddress};
+ghost use Rattle.cec_step.specs.Ready.{IsReady, point_of, run_of};
+ghost use Rattle.cec_step.specs.Steps.{step_text};
+ghost use Rattle.cec_step.specs.declared.stepper.StepError.TheVariants.{Write};
+
+use crate::position::{Course, Position};
+use crate::stepper::StepError;
+use cec_asm::{Script, Topology};
+use cec_edges::EdgeWire;
+use cec_net::Net;
+use cec_step_text::{Break, behind, stops, whole};
+use cec_trace::{root_of, write_round, write_state};
+use cec_wire::Outcome;
+use hdmi_core::{Sink, WriteFault};
+use std::alloc::{AllocError, Global};
+use std::marker::Model;
+use std::mem;
+
+/// How many rounds a search leaps over at once.
+const LEAP: u32 = 64;
+
+/// A run of a script on a topology, and where it stands. A position is large: a step is worked out in places that are lent
+/// to it, and where it counts they are exchanged for those in which the run stands.
+#[derive(Drop)]
+pub(crate) struct Walk {
+    course: Course,
+    /// After the last round that was finished, or at the start.
+    last: Box<Position>,
+    /// In the round that was begun, where one is.
+    inside: Box<Position>,
+    is_begun: bool,
+}
+
+impl Model for Walk {
+    ghost use Rattle.cec_trace.specs.Root.{HasAddress};
+    ghost use Rattle.cec_step.specs.Ready.{InsideIf, IsReady, begun_in, point_of, run_of};
+    ghost use Rattle.cec_step.specs.Steps.{Steps};
+
+    ghost Value = { Steps };
+
+    ghost view = { λ s. record { run = run_of s.course; last = point_of s.course.events.items s.last.value; begun = begun_in s.is_begun (point_of s.course.events.items s.inside.value) } };
+
+    ghost invariant = { λ s. HasAddress s.course.edid × IsReady s.course.end (point_of s.course.events.items s.last.value)
+        × InsideIf s.is_begun s.course.end (point_of s.course.events.items s.last.value) (point_of s.course.events.items s.inside.value) };
+}
+
+fn step_error(fault: WriteFault) -> StepError
+    ensures { result ≡ Write fault.count }
+{
+    StepError::Write(fault.count)
+}
+
+// Writes what the trace has of a round with this outcome, from the position before it to that after it.
+fn write_step<S: Sink>(
+    course: &Course,
+    before: &mut Position,
+    after: &Position,
+    outcome: &Outcome,
+    out: &mut S,
+) -> Result<u128, WriteFault>
+    requires ready { IsReady course.now.end (point_of course.now.events.items before.old) }
+    requires addressed { HasAddress course.now.edid }
+    ensures { WrittenText (S.contents out.old) (S.contents out.new) (S.is_stuck out.old) (S.is_stuck out.new)
+        (step_text (run_of course.now) (point_of course.now.events.items before.old) outcome.now (point_of course.now.events.items after.now)) result }
+{
+    match before.write_before(course, out) {
+        Ok(count) => behind(count, whole(write_round(out, after.net.devices(), outcome))),
+        Err(fault) => Err(fault),
+    }
+}
+
+impl Walk {
+    ghost use Rattle.std.specs.Prelude.{◌||◌, ◌<◌, IfOk, IsTrue, MatchOption, is_some, slice_get};
+    ghost use Rattle.std.specs.Option.{option_map};
+    ghost use Rattle.cec_asm.specs.Script.{IsScript, course_of};
+    ghost use Rattle.hdmi_blocks.specs.declared.edid.Edid.{Edid};
+    ghost use Rattle.cec_trace.specs.Root.{IsRoot as IsRootOf};
+    ghost use Rattle.cec_net.specs.State.{started};
+    ghost use Rattle.cec_step.specs.Over.{OverIf};
+    ghost use Rattle.cec_step.specs.Ready.{Brings, IsFound, IsInside};
+    ghost use Rattle.cec_step.specs.Steps.{IsEdgeStep, IsNever, IsNoEdge, IsOver, IsRound, IsRoundStep, IsTaken, IsUntil, IsFirstStep, IsShown, Skips, after_round, begun_at, device_count, in_round, is_write, shown_net};
+
+    // Stands after a round.
+    fn stand_after(&mut self, after: &mut Box<Position>)
+        requires { IsReady self.old.run.end (point_of self.old.run.events after.old.value) }
+        ensures { self.new ≡ after_round self.old (point_of self.old.run.events after.old.value) }
+    {
+        mem::swap(&mut self.last, after);
+        self.is_begun = false;
+    }
+
+    // Stands in the round that comes after a position.
+    fn stand_in(&mut self, last: &mut Box<Position>, inside: &mut Box<Position>)
+        requires ready { IsReady self.old.run.end (point_of self.old.run.events last.old.value) }
+        requires inside { IsInside self.old.run.end (point_of self.old.run.events last.old.value) (point_of self.old.run.events inside.old.value) }
+        ensures { self.new ≡ in_round self.old (point_of self.old.run.events last.old.value) inside.old.value.net }
+    {
+        mem::swap(&mut self.last, last);
+        mem::swap(&mut self.inside, inside);
+        self.is_begun = true;
+    }
+
+    /// Whether a round was begun.
+    pub fn is_begun(&self) -> bool
+        ensures { result ≡ is_some self.now.begun }
+    {
+        self.is_begun
+    }
+
+    /// A place for a position.
+    pub fn place(&self, alloc: Global) -> Result<Box<Position>, AllocError> {
+        Ok(Box::new(alloc, self.last.copy())?)
+    }
+
+    /// Whether no edge is left, where no round was begun. Where one was, that is not looked for.
+    pub fn is_over(&self, place: &mut Box<Position>) -> bool
+        ensures { OverIf result self.now }
+    {
+        if self.is_begun {
+            return false;
+        }
+        self.copy_last(place);
+        place.pass_events(&self.course).is_none()
+    }
+
+    // Copies the position after the last round that was finished to another place.
+    fn copy_last(&self, place: &mut Box<Position>)
+        ensures last { point_of self.now.run.events place.new.value ≡ self.now.last }
+        ensures ready { IsReady self.now.run.end (point_of self.now.run.events place.new.value) }
+    {
+        place.copy_from(&self.last);
+    }
+
+    // Writes what the trace has of a round, and stands after it.
+    fn take<S: Sink>(
+        &mut self,
+        before: &mut Box<Position>,
+        after: &mut Box<Position>,
+        outcome: &Outcome,
+        out: &mut S,
+    ) -> Result<u128, StepError>
+        requires before { IsReady self.old.run.end (point_of self.old.run.events before.old.value) }
+        requires after { IsReady self.old.run.end (point_of self.old.run.events after.old.value) }
+        ensures step { IsTaken
+            (λ text t. (text ≡ step_text self.old.run (point_of self.old.run.events before.old.value) outcome.now (point_of self.old.run.events after.old.value))
+            × (t ≡ after_round self.old (point_of self.old.run.events after.old.value)))
+            ⊥ self.old self.new (S.contents out.old) (S.contents out.new) result }
+        ensures flag { S.is_stuck out.new ≡ (is_write result || S.is_stuck out.old) }
+    {
+        match write_step(&self.course, before, after, outcome, out) {
+            Err(fault) => Err(step_error(fault)),
+            Ok(count) => {
+                self.stand_after(after);
+                Ok(count)
+            }
+        }
+    }
+
+    /// `Stepper::round`, worked out in these places.
+    pub fn round<S: Sink>(
+        &mut self,
+        before: &mut Box<Position>,
+        after: &mut Box<Position>,
+        out: &mut S,
+    ) -> Result<u128, StepError>
+        ensures step { IsTaken (IsRound self.old) (IsOver self.old.run.end self.old.last) self.old self.new (S.contents out.old) (S.contents out.new) result }
+        ensures flag { S.is_stuck out.new ≡ (is_write result || S.is_stuck out.old) }
+    {
+        self.copy_last(after);
+        let Some(report) = after.pass_round(&self.course) else {
+            return Err(StepError::Ended);
+        };
+        self.copy_last(before);
+        self.take(before, after, &report.outcome, out)
+    }
+
+    // Goes on over as many rounds as are leapt over at once, where none of them is looked for. Returns whether it went on.
+    fn leap(&self, at: Break, here: &mut Box<Position>, ahead: &mut Box<Position>) -> bool
+        requires { IsReady self.now.run.end (point_of self.now.run.events here.old.value) }
+        ensures skips { (rounds : ℕ) × Skips self.now.run.end at rounds (point_of self.now.run.events here.old.value) (point_of self.now.run.events here.new.value) }
+        ensures ready { IsReady self.now.run.end (point_of self.now.run.events here.new.value) }
+        ensures goes { IsTrue result → Brings self.now.run.end (point_of self.now.run.events here.old.value) (point_of self.now.run.events here.new.value) }
+    {
+        ahead.copy_from(here);
+        'rounds: for _ in 0..LEAP {
+            let Some(report) = ahead.pass_round(&self.course) else {
+                return false;
+            };
+            if stops(at, &report.outcome) {
+                return false;
+            }
+        }
+        mem::swap(here, ahead);
+        true
+    }
+
+    // Goes on to the first round that is looked for. Returns its outcome, with the positions before and after it in their
+    // places. A position is large: it is copied before each round only where the one that is looked for is near.
+    fn search(
+        &self,
+        at: Break,
+        before: &mut Box<Position>,
+        after: &mut Box<Position>,
+    ) -> Option<Outcome>
+        ensures { MatchOption result (IsNever self.now at) (λ outcome. IsFound self.now at before.new.value outcome after.new.value) }
+    {
+        self.copy_last(before);
+        'leaps: while self.leap(at, before, after) {}
+        'rounds: loop {
+            after.copy_from(before);
+            let Some(report) = after.pass_round(&self.course) else {
+                return None;
+            };
+            if stops(at, &report.outcome) {
+                return Some(report.outcome);
+            }
+            mem::swap(before, after);
+        }
+    }
+
+    /// `Stepper::until`, worked out in these places.
+    pub fn until<S: Sink>(
+        &mut self,
+        at: Break,
+        before: &mut Box<Position>,
+        after: &mut Box<Position>,
+        out: &mut S,
+    ) -> Result<u128, StepError>
+        ensures step { IsTaken (IsUntil self.old at) (IsNever self.old at) self.old self.new (S.contents out.old) (S.contents out.new) result }
+        ensures flag { S.is_stuck out.new ≡ (is_write result || S.is_stuck out.old) }
+    {
+        let Some(outcome) = self.search(at, before, after) else {
+            return Err(StepError::Ended);
+        };
+        self.take(before, after, &outcome, out)
+    }
+
+    // Writes the first edge of the round that comes after a position, and stands in that round.
+    fn first_edge<S: Sink>(
+        &mut self,
+        last: &mut Box<Position>,
+        inside: &mut Box<Position>,
+        out: &mut S,
+    ) -> Result<u128, StepError>
+        requires { IsReady self.old.run.end (point_of self.old.run.events last.old.value) }
+        ensures step { IsTaken (IsFirstStep self.old (point_of self.old.run.events last.old.value)) (IsOver self.old.run.end (point_of self.old.run.events last.old.value))
+            self.old self.new (S.contents out.old) (S.contents out.new) result }
+        ensures flag { S.is_stuck out.new ≡ (is_write result || S.is_stuck out.old) }
+    {
+        inside.copy_from(last);
+        let Some(edge) = inside.begin_round(&self.course) else {
+            return Err(StepError::Ended);
+        };
+        match inside.write_edge(out, edge) {
+            Err(fault) => Err(step_error(fault)),
+            Ok(count) => {
+                self.stand_in(last, inside);
+                Ok(count)
+            }
+        }
+    }
+
+    // Writes the next edge of the round that was begun; where it has given all its edges, the first one of the next.
+    fn edge_inside<S: Sink>(
+        &mut self,
+        inside: &mut Box<Position>,
+        next: &mut Box<Position>,
+        out: &mut S,
+    ) -> Result<u128, StepError>
+        requires { IsSome self.old.begun }
+        ensures step { IsTaken (IsEdgeStep self.old) (IsNoEdge self.old) self.old self.new (S.contents out.old) (S.contents out.new) result }
+        ensures flag { S.is_stuck out.new ≡ (is_write result || S.is_stuck out.old) }
+    {
+        inside.copy_from(&self.inside);
+        let Some(edge) = inside.net.next_edge() else {
+            let report = inside.net.finish_round();
+            let _stretches = report.outcome.wave.as_slice();
+            inside.is_first = false;
+            return self.first_edge(inside, next, out);
+        };
+        match inside.write_edge(out, edge) {
+            Err(fault) => Err(step_error(fault)),
+            Ok(count) => {
+                mem::swap(&mut self.inside, inside);
+                Ok(count)
+            }
+        }
+    }
+
+    /// `Stepper::edge`, worked out in these places.
+    pub fn edge<S: Sink>(
+        &mut self,
+        before: &mut Box<Position>,
+        after: &mut Box<Position>,
+        out: &mut S,
+    ) -> Result<u128, StepError>
+        ensures step { IsTaken (IsEdgeStep self.old) (IsNoEdge self.old) self.old self.new (S.contents out.old) (S.contents out.new) result }
+        ensures flag { S.is_stuck out.new ≡ (is_write result || S.is_stuck out.old) }
+    {
+        if self.is_begun {
+            return self.edge_inside(before, after, out);
+        }
+        self.copy_last(before);
+        self.first_edge(before, after, out)
+    }
+
+    // The network that is shown: in the round that was begun, and else after the last one.
+    fn shown(&self) -> &Net<EdgeWire>
+        ensures net { result.now ≡ shown_net self.now }
+        ensures count { length result.now.tree ≡ device_count self.now }
+    {
+        if self.is_begun {
+            &self.inside.net
+        } else {
+            &self.last.net
+        }
+    }
+
+    /// `Stepper::show`.
+    pub fn show<S: Sink>(&self, device: usize, out: &mut S) -> Result<u128, StepError>
+        requires { device < device_count self.now }
+        ensures step { IsTaken (IsShown self.now device) ⊥ self.now self.now (S.contents out.old) (S.contents out.new) result }
+        ensures flag { S.is_stuck out.new ≡ (is_write result || S.is_stuck out.old) }
+    {
+        match whole(write_state(out, self.shown().device(device))) {
+            Err(fault) => Err(step_error(fault)),
+            Ok(count) => Ok(count),
+        }
+    }
+
+    /// The start of a run, as of `Stepper::new`.
+    pub fn new(alloc: Global, topology: Topology, script: Script) -> Result<Walk, AllocError>
+        requires some { 0 < length topology.tree }
+        requires script { IsScript (length topology.tree) (course_of script) }
+        requires root { (edid : Option Edid) × IsRootOf (option_map (λ bytes. bytes.items) topology.edid) edid }
+        ensures { IfOk result (λ walk. (edid : Option Edid) × IsRootOf (option_map (λ bytes. bytes.items) topology.edid) edid
+            × (walk ≡ begun_at edid (course_of script) (started topology.tree script.pulses.items))) }
+    {
+        let edid = match root_of(&topology.edid) {
+            Ok(edid) => edid,
+            Err(_) => None,
+        };
+        let last = Position {
+            net: Net::new(topology.tree, EdgeWire::new(), script.to_pulses()),
+            applied: 0,
+            is_first: true,
+        };
+        let inside = Box::new(alloc, last.copy())?;
+        let last = Box::new(alloc, last)?;
+        Ok(Walk {
+            course: Course {
+                edid,
+                events: script.events,
+                end: script.end,
+            },
+            last,
+            inside,
+            is_begun: false,
+        })
+    }
+}

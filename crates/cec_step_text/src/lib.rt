@@ -1,0 +1,12 @@
+//! The texts of a run step by step: the steps that are asked for, the round that is looked for, and the line of an edge.
+#![tactic(auto)]
+
+mod break_at;
+mod commands;
+mod edge_text;
+mod parts;
+
+pub use break_at::{Break, stops};
+pub use commands::{Command, CommandsError, parse_commands};
+pub use edge_text::write_edge;
+pub use parts::{behind, whole};
