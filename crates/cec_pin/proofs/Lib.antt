@@ -1,3 +1,4 @@
 pub mod Passing
 pub mod ReadBack
 pub mod Sampled
+pub mod LostLines

@@ -4,7 +4,7 @@ use Rattle.std.proofs.Math.Seq.{take-append_seam, drop-append-add}
 use Rattle.std.specs.Fmt.{decimal}
 use Rattle.std.specs.List.{flat_map, list_all}
 use Rattle.std.specs.Option.{option_to_list}
-use Rattle.std.specs.Char.{digit_value, is_ascii_digit}
+use Rattle.std.specs.Char.{digit_value}
 use Rattle.std.specs.Str.Parse.{AllDigits}
 use Rattle.std.proofs.lemmas.Fmt.{decimal_is_IsNumeral, decimal_nonempty}
 use Rattle.std.proofs.lemmas.Bool.{false≢true}
@@ -15,13 +15,15 @@ use Rattle.cec_wave.specs.declared.Stretch.{Stretch}
 use Rattle.cec_wave.specs.Line.{covers, line_of, IsWaveFrom}
 use Rattle.cec_words.specs.Lines.{is_skipped, lines_of}
 use Rattle.cec_signal.specs.Edges.{Captured, edges_of}
+use Rattle.cec_signal.specs.Seconds.{nine_digits}
+use Rattle.cec_signal.proofs.Decimals.{decimals_again}
 use Rattle.cec_signal.proofs.Moving as moving
 use Rattle.cec_signal.proofs.Moving.{due, track_at}
 use Rattle.cec_signal.proofs.Numbers.{number_again, some_length}
 use Rattle.cec_signal.proofs.Texts as texts
 use Rattle.cec_signal.proofs.Texts.{line_before}
-use Rattle.cec_pin.specs.Pin.{begun, code_of, dot_in, event_by, event_cut, event_of, fraction_of, happened, instant_of, lines_read, moved_by, moved_to, nanos_by, nine, passed_by, read_on, took, with_edges}
-use Rattle.cec_pin.specs.Text.{event_line, event_text, head, nine_digits, round_text, stretch_text, PinFilesAreReadBack}
+use Rattle.cec_pin.specs.Pin.{begun, code_of, dot_in, event_by, event_cut, event_of, fraction_of, happened, instant_of, lines_read, moved_by, moved_to, nanos_by, passed_by, read_on, took, with_edges}
+use Rattle.cec_pin.specs.Text.{event_line, event_text, head, round_text, stretch_text, PinFilesAreReadBack}
 use Rattle.cec_pin.specs.declared.reader.Reader.{Reader}
 use Rattle.cec_pin.specs.declared.reading.PinFault.{PinFault}
 
@@ -55,25 +57,8 @@ line_in number line rest t u edge plain h =
 
 -- ---- times
 
-digit_ok : (d : ℕ) → d < 10 → is_ascii_digit (48 + d) ≡ true
-digit_ok d h = grind (arith, nat_tests)
-
-nine_ok : (n : ℕ) → n < 1000000 → nine (nine_digits n) ≡ n * 1000
-nine_ok n h = omega arith
-
-all_ok : (n : ℕ) → list_all is_ascii_digit (nine_digits n) ≡ true
-all_ok n =
-    rw (
-      digit_ok (n / 100000 % 10) (omega arith),
-      digit_ok (n / 10000 % 10) (omega arith),
-      digit_ok (n / 1000 % 10) (omega arith),
-      digit_ok (n / 100 % 10) (omega arith),
-      digit_ok (n / 10 % 10) (omega arith),
-      digit_ok (n % 10) (omega arith),
-    ) refl
-
 fraction_ok : (n : ℕ) → n < 1000000 → fraction_of (nine_digits n) ≡ Some (n * 1000)
-fraction_ok n h = rw (all_ok n) (ap Some (nine_ok n h))
+fraction_ok n h = decimals_again n h
 
 instant_ok : (t : ℕ) → t ≤ 2000000000000 → instant_of 0 (t / 1000000 * 1000000000 + t % 1000000 * 1000) ≡ Some t
 instant_ok t h =

@@ -1,3 +1,4 @@
 pub mod Pin
 pub mod Sampling
 pub mod Text
+pub mod Lost

@@ -2,14 +2,14 @@
 -- give the level of the bus; lines that are empty or begin with `#` are passed over, but for the start that they give.
 use Rattle.std.specs.Prelude.{◌≡◌, ℕ, ◌+◌, ◌-◌, ◌*◌, ◌/◌, ◌==◌, ◌&&◌, ◌||◌, Bool, true, false, nat_lt, nat_le, if◌then◌else◌, List, [], ◌∷◌, ◌++◌, length, take, drop, slice_index, codes, Option, Some, None, Result, Ok, Err}
 use Rattle.std.specs.Option.{option_to_list}
-use Rattle.std.specs.List.{list_all, position_or_len}
-use Rattle.std.specs.Char.{is_ascii_digit}
+use Rattle.std.specs.List.{position_or_len}
 use Rattle.std.specs.Str.{bytes_eq}
 use Rattle.std.specs.Global.{Vec}
 use Rattle.cec_wave.specs.declared.Edge.{Edge}
 use Rattle.cec_words.specs.Lines.{lines_of, is_skipped}
 use Rattle.cec_words.specs.Number.{number_of}
 use Rattle.cec_signal.specs.Edges.{Captured}
+use Rattle.cec_signal.specs.Seconds.{decimals_of}
 use Rattle.cec_signal.specs.Track.{Moved, begun as line_begun, last_edge, moved, with_level}
 use Rattle.cec_signal.specs.declared.track.Track.{Track}
 use Rattle.cec_pin.specs.declared.line.Event.{Event}
@@ -22,18 +22,9 @@ use Rattle.cec_pin.specs.declared.reading.PinError.TheVariants.{Fault, Memory}
 
 -- ---- a line
 
-abbrev pub digit_at : List ℕ → ℕ → ℕ
-digit_at text place = slice_index text place - 48
-
 -- nine digits, in nanoseconds
-abbrev pub nine : List ℕ → ℕ
-nine text =
-    (digit_at text 0 * 100000000 + digit_at text 1 * 10000000 + digit_at text 2 * 1000000)
-    + (digit_at text 3 * 100000 + digit_at text 4 * 10000 + digit_at text 5 * 1000)
-    + (digit_at text 6 * 100 + digit_at text 7 * 10 + digit_at text 8)
-
 abbrev pub fraction_of : List ℕ → Option ℕ
-fraction_of text = if (length text == 9) && list_all is_ascii_digit text then Some (nine text) else None
+fraction_of text = if length text == 9 then decimals_of text else None
 
 -- 0 and 1: the CEC pin is low, high; 2 to 5: other pins; 65,536 more where events were lost before
 abbrev pub code_by : Option ℕ → Option (Option Bool)

@@ -1,20 +1,16 @@
 -- The pin file of a line, as it is written, and read back (own).
-use Rattle.std.specs.Prelude.{◌≡◌, ℕ, ◌+◌, ◌-◌, ◌/◌, ◌%◌, ◌≤◌, false, List, [], ◌∷◌, ◌++◌, codes, Ok}
+use Rattle.std.specs.Prelude.{◌≡◌, ℕ, ◌-◌, ◌/◌, ◌%◌, ◌≤◌, false, List, [], ◌∷◌, ◌++◌, codes, Ok}
 use Rattle.std.specs.Fmt.{decimal}
 use Rattle.std.specs.List.{concat, flat_map}
 use Rattle.cec_wave.specs.declared.Stretch.{Stretch}
 use Rattle.cec_wave.specs.Line.{line_of, IsWave}
 use Rattle.cec_signal.specs.Edges.{edges_of}
+use Rattle.cec_signal.specs.Seconds.{nine_digits}
 use Rattle.cec_pin.specs.Pin.{edges_in}
 
 -- what cec-ctl writes first, and the line high
 abbrev pub head : List ℕ
 head = codes "# cec-ctl --store-pin\n# version 1\n# start_monotonic 0.000000000\n# start_timeofday 0.000000\n# log_addr_mask 0x0000\n# phys_addr f.f.f.f\n0.000000000 1\n"
-
--- nine digits of the microseconds below a second
-abbrev pub nine_digits : ℕ → List ℕ
-nine_digits n =
-    (48 + n / 100000 % 10) ∷ (48 + n / 10000 % 10) ∷ (48 + n / 1000 % 10) ∷ (48 + n / 100 % 10) ∷ (48 + n / 10 % 10) ∷ (48 + n % 10) ∷ 48 ∷ 48 ∷ 48 ∷ []
 
 -- an instant in seconds, a space, and a level
 abbrev pub event_line : ℕ → ℕ → List ℕ

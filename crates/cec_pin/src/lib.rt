@@ -1,14 +1,18 @@
 //! Files of pin events, as cec-ctl stores and analyses them (`--store-pin`, `--analyze-pin`): from a file to the edges of
-//! the CEC line, and the lines of such a file.
+//! the CEC line, and the lines of such a file, round by round.
 #![tactic(auto)]
 
 mod laws;
 mod line;
+mod lost;
 mod reader;
 mod reading;
+mod round;
 mod writing;
 
 pub use laws::{pin_files_are_read_back, pin_files_are_sampled};
+pub use lost::lost_lines;
 pub use reader::Cause;
 pub use reading::{PinError, PinFault, read_pin};
+pub use round::write_round;
 pub use writing::{write_fall, write_head, write_rise};

@@ -1,9 +1,8 @@
 //! A line of a file of pin events.
 ghost use Rattle.std.specs.Prelude.{◌≡◌, ◌+◌, ◌*◌, ◌^◌, ◌<◌, ◌≤◌, length};
-ghost use Rattle.std.specs.List.{list_all};
-ghost use Rattle.std.specs.Char.{is_ascii_digit};
-ghost use Rattle.cec_pin.specs.Pin.{code_of, digit_at, event_cut, event_of, fraction_of, instant_of, nanos_of, noted, word_start};
+ghost use Rattle.cec_pin.specs.Pin.{code_of, event_cut, event_of, fraction_of, instant_of, nanos_of, noted, word_start};
 
+use cec_signal::decimals_in;
 use cec_words::{before, behind, byte_at, len_before, number_in};
 
 /// The latest instant of a capture, in microseconds.
@@ -18,34 +17,14 @@ pub struct Event {
     pub low: Option<bool>,
 }
 
-fn digit_at(text: &[u8], place: usize) -> u64
-    ensures value { result ≡ digit_at text.now place }
-    ensures small { result < 256 }
-{
-    u64::from(byte_at(text, place).saturating_sub(b'0'))
-}
-
-fn all_digits(text: &[u8]) -> bool
-    ensures { result ≡ list_all is_ascii_digit text.now }
-{
-    text.iter().all(|b| b.is_ascii_digit())
-}
-
 // Nine digits.
 fn fraction_of(text: &[u8]) -> Option<u64>
     ensures { result ≡ fraction_of text.now }
 {
-    if text.len() != 9 || !all_digits(text) {
+    if text.len() != 9 {
         return None;
     }
-    let front = digit_at(text, 0) * 100_000_000
-        + digit_at(text, 1) * 10_000_000
-        + digit_at(text, 2) * 1_000_000;
-    let middle = digit_at(text, 3) * 100_000
-        + digit_at(text, 4) * 10_000
-        + digit_at(text, 5) * 1_000;
-    let last = digit_at(text, 6) * 100 + digit_at(text, 7) * 10 + digit_at(text, 8);
-    Some(front + middle + last)
+    decimals_in(text)
 }
 
 // Whether the CEC line is low by an event's code: 0 low, 1 high, 2 to 5 other pins, with 65,536 more where events were lost.

@@ -2,3 +2,4 @@ pub mod Numbers
 pub mod Texts
 pub mod Moving
 pub mod Recording
+pub mod Decimals

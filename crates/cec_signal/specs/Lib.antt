@@ -1,3 +1,4 @@
 pub mod Edges
 pub mod Track
 pub mod Samples
+pub mod Seconds

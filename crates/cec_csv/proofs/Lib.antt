@@ -1,0 +1,4 @@
+pub mod Passing
+pub mod Sampled
+pub mod ReadBack
+pub mod Columns

@@ -1,0 +1,226 @@
+-- Comma-separated values as Saleae's Logic exports them: a line of names, of which the first is that of the time, and then a
+-- row a change: seconds with up to nine decimals, perhaps below zero, and a level a channel.
+use Rattle.std.specs.Prelude.{◌≡◌, ℕ, suc, zero, ◌+◌, ◌-◌, ◌*◌, ◌/◌, ◌==◌, ◌&&◌, ◌||◌, not, min, Bool, true, false, nat_lt, nat_le, if◌then◌else◌, List, [], ◌∷◌, ◌++◌, length, take, drop, slice_index, codes, Option, Some, None, Result, Ok, Err}
+use Rattle.std.specs.Option.{option_to_list}
+use Rattle.std.specs.List.{position_or_len, slice_split}
+use Rattle.std.specs.Str.{bytes_eq}
+use Rattle.std.specs.Global.{Vec}
+use Rattle.cec_wave.specs.declared.Edge.{Edge}
+use Rattle.cec_words.specs.Lines.{lines_of}
+use Rattle.cec_words.specs.Number.{number_of}
+use Rattle.cec_signal.specs.Edges.{Captured}
+use Rattle.cec_signal.specs.Seconds.{decimals_of}
+use Rattle.cec_signal.specs.Track.{Moved, begun as line_begun, differ, last_edge, moved, with_level}
+use Rattle.cec_csv.specs.declared.row.Row.{Row}
+use Rattle.cec_csv.specs.declared.row.Time.{Time}
+use Rattle.cec_csv.specs.declared.reader.Cause.{Cause}
+use Rattle.cec_csv.specs.declared.reader.Cause.TheVariants as cause
+use Rattle.cec_csv.specs.declared.reader.Reader.{Reader}
+use Rattle.cec_csv.specs.declared.reading.CsvFault.{CsvFault}
+use Rattle.cec_csv.specs.declared.reading.CsvError.{CsvError}
+use Rattle.cec_csv.specs.declared.reading.CsvError.TheVariants.{Fault, Memory}
+
+-- ---- fields
+
+abbrev pub fields_of : List ℕ → List (List ℕ)
+fields_of line = slice_split (λ b. b == 44) line
+
+abbrev pub fields_behind : Option (List ℕ) → List (List ℕ)
+fields_behind None = []
+fields_behind (Some rest) = fields_of rest
+
+abbrev pub field_at : ℕ → List (List ℕ) → Option (List ℕ)
+field_at column [] = None
+field_at zero (field ∷ fields) = Some field
+field_at (suc column) (field ∷ fields) = field_at column fields
+
+-- without the space before a field, and without the carriage return at the end of a line
+abbrev pub trimmed : List ℕ → List ℕ
+trimmed field = if slice_index field 0 == 32 then drop 1 field else field
+
+abbrev pub without_return : List ℕ → List ℕ
+without_return line = if slice_index line (length line - 1) == 13 then take (length line - 1) line else line
+
+-- the column of a signal; an empty name stands for the first one
+abbrev pub is_named : List ℕ → List ℕ → Bool
+is_named field signal = (length signal == 0) || bytes_eq (trimmed field) signal
+
+abbrev pub column_from : ℕ → List ℕ → List (List ℕ) → Option ℕ
+column_from column signal [] = None
+column_from column signal (field ∷ fields) = if is_named field signal then Some column else column_from (column + 1) signal fields
+
+abbrev pub behind_first : List (List ℕ) → List (List ℕ)
+behind_first [] = []
+behind_first (field ∷ fields) = fields
+
+-- columns are counted from 0 after the time
+abbrev pub column_of : List ℕ → List ℕ → Option ℕ
+column_of signal line = column_from 0 signal (behind_first (fields_of (without_return line)))
+
+-- ---- a row
+
+abbrev pub nanos_by : Option ℕ → Option ℕ → Option ℕ
+nanos_by None nanos = None
+nanos_by (Some whole) None = None
+nanos_by (Some whole) (Some nanos) = if nat_lt 9999999999 whole || nat_lt 999999999 nanos then None else Some (whole * 1000000000 + nanos)
+
+abbrev pub dot_in : List ℕ → ℕ
+dot_in text = position_or_len (λ b. b == 46) text
+
+-- whole seconds of ten digits at most, and perhaps a dot and up to nine decimals, in nanoseconds
+abbrev pub nanos_of : List ℕ → Option ℕ
+nanos_of word = nanos_by (number_of (take (dot_in word) word)) (decimals_of (drop (dot_in word + 1) word))
+
+abbrev pub signed : Bool → ℕ → Time
+signed is_minus nanos = record { is_below = is_minus && nat_lt 0 nanos; nanos = nanos }
+
+abbrev pub signed_by : Bool → Option ℕ → Option Time
+signed_by is_minus None = None
+signed_by is_minus (Some nanos) = Some (signed is_minus nanos)
+
+abbrev pub time_of : List ℕ → Option Time
+time_of word = if slice_index word 0 == 45 then signed_by true (nanos_of (drop 1 word)) else signed_by false (nanos_of word)
+
+abbrev pub level_of : List ℕ → Option Bool
+level_of field = if bytes_eq field (codes "0") then Some true else if bytes_eq field (codes "1") then Some false else None
+
+abbrev pub level_by : Option (List ℕ) → Option Bool
+level_by None = None
+level_by (Some field) = level_of (trimmed field)
+
+abbrev pub row_by : Option Time → Option Bool → Option Row
+row_by None low = None
+row_by (Some time) None = None
+row_by (Some time) (Some low) = Some (record { time = time; low = low })
+
+abbrev pub row_in : ℕ → List (List ℕ) → Option Row
+row_in column [] = None
+row_in column (word ∷ fields) = row_by (time_of word) (level_by (field_at column fields))
+
+abbrev pub row_of : ℕ → List ℕ → Option Row
+row_of column line = row_in column (fields_of (without_return line))
+
+-- ---- instants
+
+abbrev pub less : ℕ → ℕ → Option ℕ
+less a b = if nat_le a b then Some (b - a) else None
+
+-- how long a time is after the first one
+abbrev pub apart : Bool → Bool → ℕ → ℕ → Option ℕ
+apart true false first nanos = Some (first + nanos)
+apart false true first nanos = None
+apart true true first nanos = less nanos first
+apart false false first nanos = less first nanos
+
+abbrev pub since : Time → Time → Option ℕ
+since first time = apart first.is_below time.is_below first.nanos time.nanos
+
+-- in microseconds, rounded up, within the limit of a capture
+abbrev pub instant_of : ℕ → Option ℕ
+instant_of nanos = if nat_lt 2000000000000000 nanos then None else Some ((nanos + 999) / 1000)
+
+-- ---- where a reader stands
+
+abbrev pub begun : ℕ → Reader
+begun column = record { column = column; first = None; is_again = true; is_low = false; track = line_begun }
+
+pub record Step : Type 0 where
+  pub reader : Reader
+  pub edge : Option Edge
+
+abbrev pub Stepped : Type 0
+Stepped = Result Step Cause
+
+-- what a call returned, and what it left
+abbrev pub Takes : Stepped → Result (Option Edge) Cause → Reader → Type 0
+Takes stepped (Ok edge) new = stepped ≡ Ok (record { reader = new; edge = edge })
+Takes stepped (Err fault) new = stepped ≡ Err fault
+
+abbrev pub moved_by : Time → Option Moved → Bool → Reader → Stepped
+moved_by first None low r = Err cause.Order
+moved_by first (Some m) low r =
+    Ok (record {
+      reader = record { column = r.column; first = Some first; is_again = not (differ low r.is_low); is_low = low; track = with_level low m.track };
+      edge = m.edge;
+    })
+
+abbrev pub moved_to : Time → Option ℕ → Bool → Reader → Stepped
+moved_to first None low r = Err cause.Late
+moved_to first (Some u) low r = moved_by first (moved u r.track) low r
+
+abbrev pub since_by : Time → Option ℕ → Bool → Reader → Stepped
+since_by first None low r = Err cause.Order
+since_by first (Some nanos) low r = moved_to first (instant_of nanos) low r
+
+-- times are counted from the first row
+abbrev pub or_first : Option Time → Time → Time
+or_first None time = time
+or_first (Some first) time = first
+
+abbrev pub happened : Row → Reader → Stepped
+happened row r = since_by (or_first r.first row.time) (since (or_first r.first row.time) row.time) row.low r
+
+abbrev pub took_by : Option Row → Reader → Stepped
+took_by None r = Err cause.Word
+took_by (Some row) r = happened row r
+
+abbrev pub took : List ℕ → Reader → Stepped
+took line r = took_by (row_of r.column line) r
+
+-- ---- a file
+
+-- the form has no end: a level that is told again ends it, or it goes on for 10,000 microseconds, within the limit
+abbrev pub ends_after : Bool → ℕ → ℕ
+ends_after is_again at = if is_again then at else min (at + 10000) 2000000000000
+
+abbrev pub end_of : Reader → ℕ
+end_of r = ends_after r.is_again r.track.at
+
+abbrev pub with_edges : List Edge → Result Captured CsvFault → Result Captured CsvFault
+with_edges edges (Ok e) = Ok (record { edges = edges ++ e.edges; end = e.end })
+with_edges edges (Err fault) = Err fault
+
+pub record Passed : Type 0 where
+  pub edges : List Edge
+  pub reader : Reader
+
+abbrev pub passed_by : ℕ → Stepped → Result Passed CsvFault
+passed_by number (Err fault) = Err (record { line = number; cause = fault })
+passed_by number (Ok step) = Ok (record { edges = option_to_list step.edge; reader = step.reader })
+
+abbrev pub read_on : Result Passed CsvFault → (Reader → Result Captured CsvFault) → Result Captured CsvFault
+read_on (Err fault) more = Err fault
+read_on (Ok p) more = with_edges p.edges (more p.reader)
+
+abbrev pub lines_read : ℕ → List (List ℕ) → Reader → Result Captured CsvFault
+lines_read number [] r = Ok (record { edges = option_to_list (last_edge r.track); end = end_of r })
+lines_read number (line ∷ lines) r = read_on (passed_by number (took line r)) (lines_read (number + 1) lines)
+
+abbrev pub column_read : Option ℕ → List (List ℕ) → Result Captured CsvFault
+column_read None lines = Err (record { line = 1; cause = cause.Signal })
+column_read (Some column) lines = lines_read 2 lines (begun column)
+
+abbrev pub named_read : List ℕ → List (List ℕ) → Result Captured CsvFault
+named_read signal [] = Err (record { line = 1; cause = cause.Signal })
+named_read signal (line ∷ lines) = column_read (column_of signal line) lines
+
+abbrev pub edges_in : List ℕ → List ℕ → Result Captured CsvFault
+edges_in signal text = named_read signal (lines_of text)
+
+-- a capture is what is read, and a fault is the one of the text; of memory nothing is said
+abbrev pub Gives : Result Captured CsvError → Result Captured CsvFault → Type 0
+Gives (Ok c) read = read ≡ Ok c
+Gives (Err (Fault fault)) read = read ≡ Err fault
+Gives (Err Memory) read = Unit {0}
+
+-- the same of edges and an end
+abbrev pub GivesEdges : Result (Vec Edge × ℕ) CsvError → Result Captured CsvFault → Type 0
+GivesEdges (Ok c) read = read ≡ Ok (record { edges = c.0.items; end = c.1 })
+GivesEdges (Err (Fault fault)) read = read ≡ Err fault
+GivesEdges (Err Memory) read = Unit {0}
+
+-- a line was passed: its edges came behind those before
+abbrev pub PassesLine : Result Passed CsvFault → List Edge → Result (Unit {0}) CsvError → List Edge → Reader → Type 0
+PassesLine passed old (Ok n) new reader = (more : List Edge) × (new ≡ old ++ more) × (passed ≡ Ok (record { edges = more; reader = reader }))
+PassesLine passed old (Err (Fault fault)) new reader = passed ≡ Err fault
+PassesLine passed old (Err Memory) new reader = Unit {0}

@@ -1,0 +1,57 @@
+-- The line that a file tells of: at an instant it has the level of the last row at or before it. Times are nanoseconds here,
+-- counted from the first row, and nothing is said of edges and faults.
+use Rattle.std.specs.Prelude.{◌≡◌, ℕ, ◌+◌, ◌*◌, ◌/◌, not, Bool, true, false, nat_le, if◌then◌else◌, List, [], ◌∷◌, ◌++◌, Option, Some, None, Ok}
+use Rattle.std.specs.Option.{option_to_list}
+use Rattle.cec_words.specs.Lines.{lines_of}
+use Rattle.cec_signal.specs.Edges.{Captured, IsCapture, line_of_edges}
+use Rattle.cec_signal.specs.Track.{differ}
+use Rattle.cec_csv.specs.Csv.{column_of, edges_in, ends_after, or_first, row_of, since}
+use Rattle.cec_csv.specs.declared.row.Row.{Row}
+use Rattle.cec_csv.specs.declared.row.Time.{Time}
+
+-- from a time on, counted from the first row, the line is low or not
+pub record Level : Type 0 where
+  pub since : ℕ
+  pub low : Bool
+
+-- the rows of a column
+abbrev pub rows_in : ℕ → List (List ℕ) → List Row
+rows_in column [] = []
+rows_in column (line ∷ lines) = option_to_list (row_of column line) ++ rows_in column lines
+
+abbrev pub rows_by : Option ℕ → List (List ℕ) → List Row
+rows_by None lines = []
+rows_by (Some column) lines = rows_in column lines
+
+abbrev pub rows_of : List ℕ → List (List ℕ) → List Row
+rows_of signal [] = []
+rows_of signal (line ∷ lines) = rows_by (column_of signal line) lines
+
+abbrev pub level_told : Option ℕ → Bool → Option Level
+level_told None low = None
+level_told (Some since) low = Some (record { since = since; low = low })
+
+-- their levels, counted from a time, or from the first of them
+abbrev pub levels_of : Option Time → List Row → List Level
+levels_of first [] = []
+levels_of first (row ∷ rows) = option_to_list (level_told (since (or_first first row.time) row.time) row.low) ++ levels_of (Some (or_first first row.time)) rows
+
+-- the last level that is not after the first instant of microsecond u counts
+abbrev pub level_of : Bool → List Level → ℕ → Bool
+level_of is_low [] u = is_low
+level_of is_low (l ∷ ls) u = level_of (if nat_le l.since (u * 1000) then l.low else is_low) ls u
+
+-- the end, by the time of the last level, and whether that was told again
+abbrev pub end_by : ℕ → Bool → Bool → List Level → ℕ
+end_by time is_low is_again [] = ends_after is_again ((time + 999) / 1000)
+end_by time is_low is_again (l ∷ ls) = end_by l.since l.low (not (differ l.low is_low)) ls
+
+pub record IsSampled (signal text : List ℕ) (e : Captured) : Type 0 where
+  pub line : (u : ℕ) → line_of_edges e.edges u ≡ level_of false (levels_of None (rows_of signal (lines_of text))) u
+  pub end : e.end ≡ end_by 0 false true (levels_of None (rows_of signal (lines_of text)))
+  pub capture : IsCapture e.edges e.end
+
+-- A file that is read is its column, sampled: each microsecond has the level at its first instant. The capture ends with the
+-- last row, if that tells the level again, or else 10,000 microseconds after it.
+abbrev pub CsvFilesAreSampled : Type 0
+CsvFilesAreSampled = (signal text : List ℕ) (e : Captured) → edges_in signal text ≡ Ok e → IsSampled signal text e

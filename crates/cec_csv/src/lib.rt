@@ -1,0 +1,15 @@
+//! Comma-separated values of the CEC line, as Saleae's Logic exports them: from the stretches of a line to a file, and from a
+//! file to the edges of the line.
+#![tactic(auto)]
+
+mod fields;
+mod laws;
+mod reader;
+mod reading;
+mod row;
+mod writing;
+
+pub use laws::{csv_files_are_read_back, csv_files_are_sampled};
+pub use reader::Cause;
+pub use reading::{CsvError, CsvFault, read_csv};
+pub use writing::{write_changes, write_head, write_last};

@@ -1,0 +1,112 @@
+//! A row: a time and a level.
+ghost use Rattle.std.specs.Prelude.{◌≡◌, ◌+◌, ◌*◌, ◌^◌, ◌<◌, ◌≤◌, length};
+ghost use Rattle.cec_csv.specs.Csv.{instant_of, level_of, nanos_of, row_of, signed, since, time_of};
+
+use crate::fields::{field_at, first_field, trimmed, without_return};
+use cec_signal::decimals_in;
+use cec_words::{before, behind, byte_at, len_before, number_in};
+
+/// The latest instant of a capture, in microseconds.
+const LATEST: u128 = 2_000_000_000_000;
+
+/// The most whole seconds of a time.
+const MOST_SECONDS: u64 = 9_999_999_999;
+
+/// The most nanoseconds below a second.
+const MOST_NANOS: u64 = 999_999_999;
+
+/// A time in nanoseconds from 0, or before it.
+#[derive(Clone, Copy, Debug, PartialEq, Eq)]
+pub struct Time {
+    pub is_below: bool,
+    pub nanos: u64,
+}
+
+/// What a row says: from a time on, whether the line is low.
+#[derive(Clone, Copy, Debug, PartialEq, Eq)]
+pub struct Row {
+    pub time: Time,
+    pub low: bool,
+}
+
+// Nanoseconds of whole seconds of ten digits at most, and perhaps a dot and up to nine decimals.
+fn nanos_of(word: &[u8]) -> Option<u64>
+    ensures { result ≡ nanos_of word.now }
+{
+    let dot = len_before(word, b'.');
+    let whole = number_in(before(word, dot))?;
+    let nanos = decimals_in(behind(word, dot + 1))?;
+    if whole > MOST_SECONDS || nanos > MOST_NANOS {
+        return None;
+    }
+    Some(whole * 1_000_000_000 + nanos)
+}
+
+fn signed(is_minus: bool, nanos: u64) -> Time
+    ensures { result ≡ signed is_minus nanos }
+{
+    Time {
+        is_below: is_minus && nanos > 0,
+        nanos,
+    }
+}
+
+// A time, perhaps with a minus before it.
+fn time_of(word: &[u8]) -> Option<Time>
+    ensures { result ≡ time_of word.now }
+{
+    if byte_at(word, 0) == b'-' {
+        let nanos = nanos_of(behind(word, 1))?;
+        Some(signed(true, nanos))
+    } else {
+        let nanos = nanos_of(word)?;
+        Some(signed(false, nanos))
+    }
+}
+
+// Whether the line is low by a field.
+fn level_of(field: &[u8]) -> Option<bool>
+    ensures { result ≡ level_of field.now }
+{
+    if field == b"0".as_slice() {
+        Some(true)
+    } else if field == b"1".as_slice() {
+        Some(false)
+    } else {
+        None
+    }
+}
+
+/// What a row says of this column, counted from 0 after the time.
+pub fn row_of(column: usize, line: &[u8]) -> Option<Row>
+    ensures { result ≡ row_of column line.now }
+{
+    let (word, fields) = first_field(without_return(line));
+    let time = time_of(word)?;
+    let field = field_at(fields, column)?;
+    let low = level_of(trimmed(field))?;
+    Some(Row { time, low })
+}
+
+/// How long a time is after the first one, in nanoseconds.
+pub fn since(first: Time, time: Time) -> Option<u128>
+    ensures { result ≡ since first time }
+{
+    let (zero_to_first, zero_to_time) = (u128::from(first.nanos), u128::from(time.nanos));
+    match (first.is_below, time.is_below) {
+        (true, false) => Some(zero_to_first + zero_to_time),
+        (false, true) => None,
+        (true, true) => zero_to_first.checked_sub(zero_to_time),
+        (false, false) => zero_to_time.checked_sub(zero_to_first),
+    }
+}
+
+/// The microseconds of a time after the first one, rounded up, within the limit.
+pub fn instant_of(since: u128) -> Option<u64>
+    ensures { result ≡ instant_of since }
+{
+    if since > LATEST * 1_000 {
+        return None;
+    }
+    Some(((since + 999) / 1_000) as u64)
+}
