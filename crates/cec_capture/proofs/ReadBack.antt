@@ -12,20 +12,23 @@ use Rattle.cec_trace.specs.EdgeText.{edge_lines}
 use Rattle.cec_trace.specs.TraceText.{end_line}
 use Rattle.cec_run.proofs.WholeLine as runs
 use Rattle.cec_run.proofs.OneRun.{runs_close_soon, texts_have_one_run, traces_have_parts}
-use Rattle.cec_run.specs.OneRun.{rounds_of_edges, Part, OfEvent, OfRound, part_rounds}
+use Rattle.cec_run.specs.OneRun.{rounds_of_line, Part, OfEvent, OfRound, part_rounds}
 use Rattle.cec_run.specs.Run.{start}
 use Rattle.cec_net.specs.State.{started}
 use Rattle.std.specs.List.{flat_map}
-use Rattle.cec_run.specs.declared.run.Telling.TheVariants.{Edges}
+use Rattle.cec_signal.specs.Edges.{edges_of}
+use Rattle.cec_line.specs.declared.format.Format.TheVariants.{Edges}
+use Rattle.cec_run.specs.declared.run.Telling.TheVariants.{Line}
 use Rattle.cec_asm.proofs.Sound.{scripts_are_sound}
 use Rattle.cec_wire.specs.declared.Outcome.{Outcome}
 use Rattle.cec_wire.specs.Alone.{outcome_listed}
 use Rattle.cec_text.specs.ReadingText.{reading_line}
 use Rattle.cec_mon.specs.Watch.{readings_text}
-use Rattle.cec_mon.specs.EdgeFile.{edge_line_of, edges_read, end_read, file_of, level_at, read_line, with_edge}
+use Rattle.cec_mon.specs.EdgeFile.{edge_line_of, edges_read, end_read, file_of, read_line, with_edge}
+use Rattle.cec_signal.specs.Edges.{level_at}
 use Rattle.cec_mon.specs.declared.edge_file.EdgeLine.{EdgeLine}
 use Rattle.cec_mon.specs.declared.edge_file.EdgeLine.TheVariants.{Edge as EdgeLineOf, End}
-use Rattle.cec_capture.specs.Capture.{edges_of, part_monitored, EdgeFilesAreReadBack, FilesOfRunsHaveTheirReadings, MonitorsTellTraces}
+use Rattle.cec_capture.specs.Capture.{part_monitored, EdgeFilesAreReadBack, FilesOfRunsHaveTheirReadings, MonitorsTellTraces}
 use Rattle.cec_capture.proofs.Texts.{IsWithout, line_before, more_without, one_without, timed, timed_line, timed_plain, timed_told}
 
 -- ---- the text
@@ -81,7 +84,7 @@ end_text : (end : ℕ) → end_line end ≡ timed end (codes "end") ++ 10 ∷ []
 end_text end = sym (append_assoc (decimal end) (codes " end") (codes "\n"))
 
 -- no stretch goes past the end
-abbrev EndsBy : ℕ → List Stretch → Type 0
+abbrev pub EndsBy : ℕ → List Stretch → Type 0
 EndsBy end [] = Unit {0}
 EndsBy end (s ∷ ss) = (s.to ≤ end) × EndsBy end ss
 
@@ -119,7 +122,7 @@ pick false false l r e early = e
 less : (u from : ℕ) → nat_lt u from ≡ true → u < from
 less u from h = grind (arith, nat_tests)
 
-same_line : (ss : List Stretch) (from u : ℕ) → IsWaveFrom from ss → level_at false (edges_of ss) u ≡ line_of ss u
+pub same_line : (ss : List Stretch) (from u : ℕ) → IsWaveFrom from ss → level_at false (edges_of ss) u ≡ line_of ss u
 same_line [] from u wave = refl
 same_line (s ∷ ss) from u wave =
     let again = same_line ss (s.to + 1) u wave.2 in
@@ -144,7 +147,7 @@ by_end : (b : Bool) (to end : ℕ) → nat_le to end ≡ b → (end < to → ⊥
 by_end true to end e h = grind (arith, nat_tests)
 by_end false to end e h = absurd (h (grind (arith, nat_tests)))
 
-ends_by : (ss : List Stretch) (from end : ℕ) → IsWaveFrom from ss → ((u : ℕ) → end ≤ u → line_of ss u ≡ false) → EndsBy end ss
+pub ends_by : (ss : List Stretch) (from end : ℕ) → IsWaveFrom from ss → ((u : ℕ) → end ≤ u → line_of ss u ≡ false) → EndsBy end ss
 ends_by [] from end wave over = tt
 ends_by (s ∷ ss) from end wave over = (
   by_end (nat_le s.to end) s.to end refl
@@ -162,7 +165,7 @@ pub files_of_runs_have_their_readings : FilesOfRunsHaveTheirReadings
 files_of_runs_have_their_readings tree pulses events end text totals sparse framed told limit =
     let k = runs.edges_are_the_line tree pulses events end text totals sparse framed told in
     let last = max end told.run.last.net.close in
-    let soon : told.run.last.net.close ≤ end + 458461 = runs_close_soon Edges tree pulses events end told.run.turns told.run.body told.run.last sparse told.run.leads in
+    let soon : told.run.last.net.close ≤ end + 458461 = runs_close_soon (Line Edges) tree pulses events end told.run.turns told.run.body told.run.last sparse told.run.leads in
     let back = edge_files_are_read_back _ last k.read.wave k.read.over (omega (arith, soon, limit)) in (
       record { edges = edges_of _; end = last },
       ap file_of k.whole ∙ back.file,
@@ -171,11 +174,11 @@ files_of_runs_have_their_readings tree pulses events end text totals sparse fram
 
 -- ---- beside the trace
 
-lines_of_rounds : (os : List Outcome) → readings_text (map outcome_listed os) ≡ flat_map (λ (o : Outcome). reading_line o.reading) os
+pub lines_of_rounds : (os : List Outcome) → readings_text (map outcome_listed os) ≡ flat_map (λ (o : Outcome). reading_line o.reading) os
 lines_of_rounds [] = refl
 lines_of_rounds (o ∷ os) = ap (λ text. reading_line o.reading ++ text) (lines_of_rounds os)
 
-lines_of_parts : (parts : List Part) → flat_map (λ (o : Outcome). reading_line o.reading) (flat_map part_rounds parts) ≡ flat_map part_monitored parts
+pub lines_of_parts : (parts : List Part) → flat_map (λ (o : Outcome). reading_line o.reading) (flat_map part_rounds parts) ≡ flat_map part_monitored parts
 lines_of_parts [] = refl
 lines_of_parts (OfEvent at e before ∷ parts) = lines_of_parts parts
 lines_of_parts (OfRound devices o ∷ parts) = ap (λ text. reading_line o.reading ++ text) (lines_of_parts parts)
@@ -183,15 +186,15 @@ lines_of_parts (OfRound devices o ∷ parts) = ap (λ text. reading_line o.readi
 pub monitors_tell_traces : MonitorsTellTraces
 monitors_tell_traces topology script x y s t p q =
     let sound = scripts_are_sound q.plan.tree script q.course q.accepted.course_is in
-    let file = files_of_runs_have_their_readings q.plan.tree q.course.pulses q.course.events q.course.end y t sound.sparse sound.framed q.edges sound.limit in
-    let one = texts_have_one_run topology script x y s t p q in
+    let file = files_of_runs_have_their_readings q.plan.tree q.course.pulses q.course.events q.course.end y t sound.sparse sound.framed q.line sound.limit in
+    let one = texts_have_one_run Edges topology script x y s t p q in
     let made = traces_have_parts p.edid p.course.end (start (started p.plan.tree p.course.pulses) p.course.events) x s p.trace in (
       file.0,
       file.1,
       record {
         parts = made.parts;
         trace_is = made.whole;
-        monitored_is = ap readings_text file.2 ∙ lines_of_rounds (rounds_of_edges topology script y t q)
+        monitored_is = ap readings_text file.2 ∙ lines_of_rounds (rounds_of_line Edges topology script y t q)
             ∙ ap (flat_map (λ (o : Outcome). reading_line o.reading)) (sym one.1 ∙ made.rounds) ∙ lines_of_parts made.parts;
       },
     )

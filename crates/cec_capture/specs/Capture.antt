@@ -2,7 +2,6 @@
 use Rattle.std.specs.Prelude.{◌≡◌, ℕ, ◌≤◌, true, false, List, [], ◌∷◌, ◌++◌, map, Option, Ok, codes}
 use Rattle.std.specs.List.{flat_map}
 use Rattle.cec_wave.specs.declared.Stretch.{Stretch}
-use Rattle.cec_wave.specs.declared.Edge.{Edge}
 use Rattle.cec_wave.specs.Line.{line_of, IsWave}
 use Rattle.cec_wave.specs.Pulses.{AreSparse}
 use Rattle.cec_wire.specs.Alone.{outcome_listed}
@@ -11,21 +10,19 @@ use Rattle.hdmi_topo.specs.Node.{Node}
 use Rattle.cec_net.specs.State.{NetState, started}
 use Rattle.cec_asm.specs.Script.{AreFramedEvents}
 use Rattle.cec_asm.specs.declared.script.TimedEvent.{TimedEvent}
-use Rattle.cec_run.specs.declared.run.Telling.TheVariants.{Trace, Edges}
+use Rattle.cec_signal.specs.Edges.{edges_of}
+use Rattle.cec_line.specs.declared.format.Format.TheVariants.{Edges}
+use Rattle.cec_run.specs.declared.run.Telling.TheVariants.{Trace, Line}
 use Rattle.cec_run.specs.declared.run.Totals.{Totals}
 use Rattle.cec_trace.specs.EdgeText.{edge_lines}
 use Rattle.cec_trace.specs.TraceText.{end_line}
 use Rattle.cec_run.specs.Run.{start, start_told, end_told, IsRunText}
 use Rattle.cec_run.specs.Emulate.{IsTraceOf, IsEdgeTraceOf}
 use Rattle.cec_run.specs.OneRun.{rounds_told, Part, OfEvent, OfRound, part_text}
-use Rattle.cec_mon.specs.EdgeFile.{EdgeFile, file_of, line_of_edges}
+use Rattle.cec_signal.specs.Edges.{line_of_edges}
+use Rattle.cec_mon.specs.EdgeFile.{EdgeFile, file_of}
 use Rattle.cec_text.specs.ReadingText.{reading_text}
 use Rattle.cec_mon.specs.Watch.{file_readings, readings_text}
-
--- the fall and the rise of each stretch
-abbrev pub edges_of : List Stretch → List Edge
-edges_of [] = []
-edges_of (s ∷ ss) = record { at = s.from; low = true } ∷ record { at = s.to; low = false } ∷ edges_of ss
 
 -- what is written of these stretches and this end is read as their edges, which tell their line
 pub record IsReadBack (ss : List Stretch) (end : ℕ) : Type 0 where
@@ -41,8 +38,8 @@ EdgeFilesAreReadBack = (ss : List Stretch) (end : ℕ) → IsWave ss → ((u : �
 -- each once.
 abbrev pub FilesOfRunsHaveTheirReadings : Type 0
 FilesOfRunsHaveTheirReadings = (tree : List Node) (pulses : List Stretch) (events : List TimedEvent) (end : ℕ) (text : List ℕ) (totals : Totals)
-    → AreSparse pulses → AreFramedEvents events → (told : IsRunText Edges end (start (started tree pulses) events) text totals) → end ≤ 1000000000000
-    → (f : EdgeFile) × (file_of text ≡ Ok f) × (file_readings f ≡ map outcome_listed (rounds_told Edges end (start (started tree pulses) events) text totals told))
+    → AreSparse pulses → AreFramedEvents events → (told : IsRunText (Line Edges) end (start (started tree pulses) events) text totals) → end ≤ 1000000000000
+    → (f : EdgeFile) × (file_of text ≡ Ok f) × (file_readings f ≡ map outcome_listed (rounds_told (Line Edges) end (start (started tree pulses) events) text totals told))
 
 -- of a part of a trace what a monitor writes: of a round's line the reading, without `by` and `out`, and nothing of an event
 abbrev pub part_monitored : Part → List ℕ

@@ -1,1 +1,2 @@
 pub mod Capture
+pub mod Formats

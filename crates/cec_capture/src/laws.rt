@@ -1,5 +1,6 @@
-//! Laws of edge files.
+//! Laws of the files of a run's line.
 ghost use Rattle.cec_capture.specs.Capture.{EdgeFilesAreReadBack, FilesOfRunsHaveTheirReadings, MonitorsTellTraces};
+ghost use Rattle.cec_capture.specs.Formats.{LinesAreReadBack, LinesOfRunsHaveTheirReadings, MonitorsTellTracesInAll};
 
 /// The edges of a line that is high from the end on, written as a run writes them, are read as they were, and tell that
 /// line.
@@ -16,4 +17,21 @@ pub fn files_of_runs_have_their_readings()
 /// tells, in order, each once.
 pub fn monitors_tell_traces()
     ensures { MonitorsTellTraces }
+{}
+
+/// A line that rounds make and that is high from the end on, written in any format, is read as its edges.
+pub fn lines_are_read_back()
+    ensures { LinesAreReadBack }
+{}
+
+/// The line of a run, written in any format, is read as a capture whose readings are those of the run's rounds, in order,
+/// each once.
+pub fn lines_of_runs_have_their_readings()
+    ensures { LinesOfRunsHaveTheirReadings }
+{}
+
+/// What a monitor writes of the line of a topology and a script, written in any format, are the readings of the rounds that
+/// their trace tells, in order, each once.
+pub fn monitors_tell_traces_in_all()
+    ensures { MonitorsTellTracesInAll }
 {}

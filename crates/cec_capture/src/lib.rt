@@ -1,6 +1,9 @@
-//! That a monitor reads the edge file of a run as the run's line.
+//! That a monitor reads the line of a run, in each format, as the run's line.
 #![tactic(auto)]
 
 mod laws;
 
-pub use laws::{edge_files_are_read_back, files_of_runs_have_their_readings, monitors_tell_traces};
+pub use laws::{
+    edge_files_are_read_back, files_of_runs_have_their_readings, lines_are_read_back,
+    lines_of_runs_have_their_readings, monitors_tell_traces, monitors_tell_traces_in_all,
+};

@@ -16,13 +16,14 @@ use Rattle.cec_bits.proofs.Stood.{was_now}
 use Rattle.cec_words.specs.Cut.{CutOff, WrittenText, told_count}
 use Rattle.cec_words.specs.Lines.{lines_of, is_skipped}
 use Rattle.cec_words.proofs.Cutting.{told_parts, cut_again}
+use Rattle.cec_signal.specs.Edges.{level_at, line_of_edges}
 use Rattle.cec_mon.specs.declared.monitor.Monitor.{Monitor as Watcher}
 use Rattle.cec_mon.specs.declared.edge_file.EdgeFault.{EdgeFault}
 use Rattle.cec_mon.specs.declared.edge_file.EdgeFault.TheVariants as fault
 use Rattle.cec_mon.specs.declared.edge_file.EdgeLine.{EdgeLine}
 use Rattle.cec_mon.specs.declared.edge_file.EdgeLine.TheVariants.{Edge, End}
 use Rattle.cec_mon.specs.declared.edge_file.EdgeLines.{EdgeLines}
-use Rattle.cec_mon.specs.EdgeFile.{EdgeFile, edge_line_of, edges_read, end_read, file_left, file_of, is_in_turn, level_at, line_of_edges, read_line, with_edge, with_edges, GoesBehind, ReadsOn}
+use Rattle.cec_mon.specs.EdgeFile.{EdgeFile, edge_line_of, edges_read, end_read, file_left, file_of, is_in_turn, read_line, with_edge, with_edges, GoesBehind, ReadsOn}
 use Rattle.cec_mon.specs.Monitor.{HeardBefore, FollowsEdge, FollowsEnd}
 use Rattle.cec_mon.specs.Watch.{WritesFile, file_readings, listed_line, readings_text, reported_text}
 
@@ -40,18 +41,18 @@ pub edges_ok : (es : List EdgeOf) (g : EdgeFile) → (f : EdgeFile) × (with_edg
 edges_ok [] g = (g, refl)
 edges_ok (e ∷ es) g = let f = edges_ok es g in (record { edges = e ∷ f.0.edges; end = f.0.end }, ap (with_edge e) f.1)
 
-record Behind (e : EdgeOf) (r : Result EdgeFile EdgeFault) (f : EdgeFile) : Type 0 where
-  left : EdgeFile
-  is : r ≡ Ok left
-  same : f ≡ record { edges = e ∷ left.edges; end = left.end }
+pub record Behind (e : EdgeOf) (r : Result EdgeFile EdgeFault) (f : EdgeFile) : Type 0 where
+  pub left : EdgeFile
+  pub is : r ≡ Ok left
+  pub same : f ≡ record { edges = e ∷ left.edges; end = left.end }
 
-behind : (e : EdgeOf) (r : Result EdgeFile EdgeFault) (f : EdgeFile) → with_edge e r ≡ Ok f → Behind e r f
+pub behind : (e : EdgeOf) (r : Result EdgeFile EdgeFault) (f : EdgeFile) → with_edge e r ≡ Ok f → Behind e r f
 behind e (Err x) f h = cc
 behind e (Ok g) f h = record { left = g; is = refl; same = cc }
 
 -- ---- no edge of what is left comes before `from`
 
-end_none : (lines : List (List ℕ)) (number t : ℕ) (f : EdgeFile) → end_read lines number t ≡ Ok f → f ≡ record { edges = []; end = t }
+pub end_none : (lines : List (List ℕ)) (number t : ℕ) (f : EdgeFile) → end_read lines number t ≡ Ok f → f ≡ record { edges = []; end = t }
 end_none [] number t f h = cc
 end_none (line ∷ lines) number t f h = by_skip (is_skipped line) h (λ k. end_none lines (number + 1) t f k)
   where
@@ -113,7 +114,7 @@ pub record Watched (f : EdgeFile) (lines : EdgeLines) (m : Watcher) (old now : O
   pub count : written ≡ told_count (length (readings_text (ended_before (line_of_edges f.edges) lines.from)))
   pub flag : is ≡ was
 
-appends_none : (old : Option (List ℕ)) → Appends old old []
+pub appends_none : (old : Option (List ℕ)) → Appends old old []
 appends_none None = tt
 appends_none (Some xs) = sym (append-nil xs)
 
@@ -179,7 +180,7 @@ told_edge f lines next m new e told old now was is written w g follows = record 
     d : HeardBefore new (line_of_edges f.edges) (e.at + 1) × (ended_by (line_of_edges f.edges) e.at ≡ ended_before (line_of_edges f.edges) lines.from ++ option_to_list told)
     d = follows (line_of_edges f.edges) lines.from w.heard g.after calm now_is
 
-text_more : (xs : List Listed) (o : Option Listed) → readings_text (xs ++ option_to_list o) ≡ readings_text xs ++ reported_text o
+pub text_more : (xs : List Listed) (o : Option Listed) → readings_text (xs ++ option_to_list o) ≡ readings_text xs ++ reported_text o
 text_more xs o = flat_map-append listed_line xs (option_to_list o)
 
 pub watched_more : (f : EdgeFile) (lines next : EdgeLines) (m new : Watcher) (e : EdgeOf) (told : Option Listed) (old mid out : Option (List ℕ)) (was is now : Bool) (written count total : ℕ)

@@ -1,2 +1,5 @@
 pub mod Waiting
 pub mod Files
+pub mod FollowedEdges
+pub mod ReadEdges
+pub mod Idle

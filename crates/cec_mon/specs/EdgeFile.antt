@@ -1,9 +1,8 @@
--- Edge files, and the line that they tell (own). A line `T 0` is a fall, `T 1` a rise, `T end` the end; lines that are
+-- Edge files (own). A line `T 0` is a fall, `T 1` a rise, `T end` the end; lines that are
 -- empty or begin with `#` are skipped, but counted.
-use Rattle.std.specs.Prelude.{◌≡◌, ℕ, ◌+◌, ◌<◌, ◌≤◌, Bool, true, false, not, nat_lt, nat_le, ◌&&◌, if◌then◌else◌, List, [], ◌∷◌, length, codes, Option, Some, None, Result, Ok, Err}
+use Rattle.std.specs.Prelude.{◌≡◌, ℕ, ◌+◌, ◌<◌, ◌≤◌, Bool, true, false, not, nat_le, ◌&&◌, if◌then◌else◌, List, [], ◌∷◌, length, codes, Option, Some, None, Result, Ok, Err}
 use Rattle.std.specs.Str.{bytes_eq}
 use Rattle.cec_wave.specs.declared.Edge.{Edge as EdgeOf}
-use Rattle.cec_wave.specs.Line.{Line}
 use Rattle.cec_words.specs.Lines.{lines_of, is_skipped}
 use Rattle.cec_words.specs.Number.{number_of}
 use Rattle.cec_words.specs.Words.{words_of, two_of}
@@ -81,16 +80,6 @@ edges_read (line ∷ lines) number is_low from =
 -- what a text is read as
 abbrev pub file_of : List ℕ → Result EdgeFile EdgeFault
 file_of text = edges_read (lines_of text) 1 false 0
-
--- ---- its line
-
--- the line is low from each fall to the next rise
-abbrev pub level_at : Bool → List EdgeOf → ℕ → Bool
-level_at is_low [] u = is_low
-level_at is_low (e ∷ es) u = if nat_lt u e.at then is_low else level_at e.low es u
-
-abbrev pub line_of_edges : List EdgeOf → Line
-line_of_edges es = level_at false es
 
 -- ---- a reader of the lines
 

@@ -1,3 +1,5 @@
 pub mod Monitor
 pub mod EdgeFile
 pub mod Watch
+pub mod Reading
+pub mod Joined

@@ -8,7 +8,8 @@ use Rattle.cec_frame.specs.declared.Reading.{Reading}
 use Rattle.cec_bits.specs.Readings.{Listed, readings_of}
 use Rattle.cec_words.specs.Cut.{CutOff}
 use Rattle.cec_text.specs.ReadingText.{reading_line}
-use Rattle.cec_mon.specs.EdgeFile.{EdgeFile, file_of, line_of_edges}
+use Rattle.cec_signal.specs.Edges.{Captured, line_of_edges}
+use Rattle.cec_mon.specs.EdgeFile.{EdgeFile, file_of}
 use Rattle.cec_mon.specs.declared.edge_file.EdgeFault.{EdgeFault}
 use Rattle.cec_mon.specs.declared.edge_file.EdgeFault.TheVariants as fault
 use Rattle.cec_mon.specs.declared.watching.WatchError.{WatchError}
@@ -40,6 +41,10 @@ told_so (fault.Order line) = Order line
 abbrev pub WritesFile : Option (List ℕ) → Option (List ℕ) → Bool → Bool → EdgeFile → Result (Unit {0}) WriteFault → Type 0
 WritesFile old new was is f (Ok n) = Appends old new (readings_text (file_readings f)) × (is ≡ was)
 WritesFile old new was is f (Err fault) = CutOff old new (readings_text (file_readings f)) fault × (is ≡ true)
+
+-- a capture by itself
+abbrev pub as_file : Captured → EdgeFile
+as_file c = record { edges = c.edges; end = c.end }
 
 -- A file without a fault has its readings written, and of another one the first line at fault is told, and nothing
 -- is written. Memory is never wanted.

@@ -59,7 +59,10 @@ fn check_file(text: &[u8]) -> Result<(), EdgeFault>
 }
 
 // Writes the line of a reading, if there is one.
-fn write_reported<S: Sink>(reading: &Option<Reading>, out: &mut S) -> Result<u128, WriteFault>
+pub(crate) fn write_reported<S: Sink>(
+    reading: &Option<Reading>,
+    out: &mut S,
+) -> Result<u128, WriteFault>
     ensures { WrittenText (S.contents out.old) (S.contents out.new) (S.is_stuck out.old) (S.is_stuck out.new)
         (reported_text (option_map listed_as reading.now)) result }
 {

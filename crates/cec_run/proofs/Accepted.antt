@@ -16,9 +16,10 @@ use Rattle.hdmi_blocks.specs.declared.edid.Edid.{Edid}
 use Rattle.hdmi_blocks.proofs.OneEdid.{one_edid}
 use Rattle.cec_trace.specs.Root.{IsRoot}
 use Rattle.cec_run.specs.declared.run.Telling.{Telling}
-use Rattle.cec_run.specs.declared.run.Telling.TheVariants.{Trace, Edges}
+use Rattle.cec_line.specs.declared.format.Format.{Format}
+use Rattle.cec_run.specs.declared.run.Telling.TheVariants.{Trace, Line}
 use Rattle.cec_run.specs.Run.{start, IsTrace, IsRunText}
-use Rattle.cec_run.specs.Emulate.{IsAccepted, IsTraceOf, IsEdgeTraceOf, TextsHaveOneTrace, TextsHaveOneEdgeTrace}
+use Rattle.cec_run.specs.Emulate.{IsAccepted, IsTraceOf, IsLineOf, TextsHaveOneTrace, TextsHaveOneLine}
 use Rattle.cec_run.proofs.Turns.{one_trace, one_run_text}
 
 -- a tree with a television has a device
@@ -92,17 +93,17 @@ one_trace_of topology script text totals plan course edid t s e w =
     subst (λ x. IsTrace x course.end (start (started plan.tree course.pulses) course.events) text totals) r
     (one_run_of topology script text totals plan course (Trace w.edid) t s w.plan w.course w.accepted w.trace)
 
-pub one_edge_trace_of : (topology script text : List ℕ) (totals : Totals) (plan : Plan) (course : Course) → topology_of topology ≡ Ok plan → IsScriptRead plan.tree script (Ok course)
-    → IsEdgeTraceOf topology script text totals → IsRunText Edges course.end (start (started plan.tree course.pulses) course.events) text totals
-one_edge_trace_of topology script text totals plan course t s w =
-    one_run_of topology script text totals plan course Edges t s w.plan w.course w.accepted w.edges
+pub one_line_of : (format : Format) (topology script text : List ℕ) (totals : Totals) (plan : Plan) (course : Course) → topology_of topology ≡ Ok plan → IsScriptRead plan.tree script (Ok course)
+    → IsLineOf format topology script text totals → IsRunText (Line format) course.end (start (started plan.tree course.pulses) course.events) text totals
+one_line_of format topology script text totals plan course t s w =
+    one_run_of topology script text totals plan course (Line format) t s w.plan w.course w.accepted w.line
 
 pub texts_have_one_trace : TextsHaveOneTrace
 texts_have_one_trace topology script x y s t p q =
     one_trace p.edid p.course.end (start (started p.plan.tree p.course.pulses) p.course.events) x y s t p.trace
     (one_trace_of topology script y t p.plan p.course p.edid p.accepted.plan_is p.accepted.course_is p.root q)
 
-pub texts_have_one_edge_trace : TextsHaveOneEdgeTrace
-texts_have_one_edge_trace topology script x y s t p q =
-    one_run_text Edges p.course.end (start (started p.plan.tree p.course.pulses) p.course.events) x y s t p.edges
-    (one_edge_trace_of topology script y t p.plan p.course p.accepted.plan_is p.accepted.course_is q)
+pub texts_have_one_line : TextsHaveOneLine
+texts_have_one_line format topology script x y s t p q =
+    one_run_text (Line format) p.course.end (start (started p.plan.tree p.course.pulses) p.course.events) x y s t p.line
+    (one_line_of format topology script y t p.plan p.course p.accepted.plan_is p.accepted.course_is q)

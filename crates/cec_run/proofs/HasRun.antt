@@ -1,5 +1,5 @@
 -- A run has a text: each round has an outcome, and the run stops.
-use Rattle.std.proofs.Common.{◌≡◌, ℕ, zero, suc, ◌+◌, ◌-◌, ◌<◌, ◌≤◌, Bool, true, false, ◌&&◌, ◌||◌, nat_lt, if◌then◌else◌, List, [], ◌∷◌, ◌++◌, length, filter, Option, Some, None, refl, sym, ap, ◌∙◌, subst, arith, append_assoc}
+use Rattle.std.proofs.Common.{◌≡◌, ℕ, zero, suc, ◌+◌, ◌-◌, ◌<◌, ◌≤◌, Bool, true, false, nat_lt, if◌then◌else◌, List, [], ◌∷◌, ◌++◌, length, filter, Option, Some, None, refl, sym, ap, ◌∙◌, subst, arith, append_assoc}
 use Rattle.std.proofs.lemmas.Bool.Decides.{nat_tests}
 use Rattle.std.proofs.lemmas.List.Elements.{filter_passes}
 use Rattle.cec_wave.specs.declared.Stretch.{Stretch}
@@ -15,7 +15,7 @@ use Rattle.cec_net.specs.Step.{after_round, seats_of}
 use Rattle.cec_net.proofs.Progress.{ComeLater, progress}
 use Rattle.cec_text.specs.ReadingText.{is_complete}
 use Rattle.cec_run.specs.declared.run.Telling.{Telling}
-use Rattle.cec_run.specs.declared.run.Telling.TheVariants.{Trace, Edges}
+use Rattle.cec_run.specs.declared.run.Telling.TheVariants.{Trace, Line}
 use Rattle.cec_run.specs.declared.run.Totals.{Totals}
 use Rattle.cec_run.specs.declared.run.Turn.{Turn}
 use Rattle.cec_run.specs.declared.run.Turn.TheVariants.{Stop, Apply, Round}
@@ -115,8 +115,9 @@ runs_have_texts telling tree pulses events end sparse =
 pub texts_have_traces : TextsHaveTraces
 texts_have_traces topology script plan course edid accepted root =
     let sparse = (scripts_are_sound plan.tree script course accepted.course_is).sparse in
-    let trace = runs_have_texts (Trace edid) plan.tree course.pulses course.events course.end sparse in
-    let edges = runs_have_texts Edges plan.tree course.pulses course.events course.end sparse in (
+    let trace = runs_have_texts (Trace edid) plan.tree course.pulses course.events course.end sparse in (
       (trace.0, trace.1, record { plan = plan; course = course; edid = edid; accepted = accepted; root = root; trace = trace.2 }),
-      (edges.0, edges.1, record { plan = plan; course = course; edid = edid; accepted = accepted; root = root; edges = edges.2 }),
+      λ format.
+          let line = runs_have_texts (Line format) plan.tree course.pulses course.events course.end sparse in
+          (line.0, line.1, record { plan = plan; course = course; edid = edid; accepted = accepted; root = root; line = line.2 }),
     )

@@ -1,4 +1,4 @@
--- The trace of a run and the edges of its line tell one run, which is over soon after the script's end.
+-- The trace of a run and the texts of its line tell one run, which is over soon after the script's end.
 use Rattle.std.proofs.Common.{◌≡◌, ℕ, zero, suc, ◌+◌, ◌≤◌, nat_lt, List, [], ◌∷◌, ◌++◌, refl, sym, ap, ap₂, ◌∙◌, subst, arith, append-nil, Option}
 use Rattle.std.specs.List.{flat_map}
 use Rattle.std.proofs.lemmas.Grind.{flat_map-append}
@@ -18,7 +18,7 @@ use Rattle.cec_asm.specs.Topology.{Plan}
 use Rattle.cec_asm.specs.Script.{Course}
 use Rattle.cec_text.specs.ReadingText.{is_complete}
 use Rattle.cec_run.specs.declared.run.Telling.{Telling}
-use Rattle.cec_run.specs.declared.run.Telling.TheVariants.{Trace, Edges}
+use Rattle.cec_run.specs.declared.run.Telling.TheVariants.{Trace, Line}
 use Rattle.cec_run.specs.declared.run.Turn.{Turn}
 use Rattle.cec_run.specs.declared.run.Turn.TheVariants.{Stop, Apply, Round}
 use Rattle.cec_run.specs.Run.{Config, start, turn_at, first_time, counted_round, IsEventTurn, IsTurnBy, Leads, IsRunText, start_told, end_told, event_text}
@@ -85,17 +85,17 @@ one_run telling other end c x y s t p q =
     }
 
 pub texts_have_one_run : TextsHaveOneRun
-texts_have_one_run topology script x y s t p q =
+texts_have_one_run format topology script x y s t p q =
     let plan : p.plan ≡ q.plan = sym (one_plan topology p.plan q.plan p.accepted.plan_is q.accepted.plan_is) in
     let course : p.course ≡ q.course = one_course topology script p.plan q.plan p.course q.course p.accepted q.accepted in
-    let here : (told : IsRunText Edges p.course.end (start (started p.plan.tree p.course.pulses) p.course.events) y t)
-    → (s ≡ t) × (rounds_of_trace topology script x s p ≡ rounds_told Edges p.course.end (start (started p.plan.tree p.course.pulses) p.course.events) y t told) = λ told. (
-    let one = one_run (Trace p.edid) Edges p.course.end (start (started p.plan.tree p.course.pulses) p.course.events) x y s t p.trace told in (one.totals, one.rounds)
+    let here : (told : IsRunText (Line format) p.course.end (start (started p.plan.tree p.course.pulses) p.course.events) y t)
+    → (s ≡ t) × (rounds_of_trace topology script x s p ≡ rounds_told (Line format) p.course.end (start (started p.plan.tree p.course.pulses) p.course.events) y t told) = λ told. (
+    let one = one_run (Trace p.edid) (Line format) p.course.end (start (started p.plan.tree p.course.pulses) p.course.events) x y s t p.trace told in (one.totals, one.rounds)
     ) in
-    let there = subst (λ (c : Course). (told : IsRunText Edges c.end (start (started p.plan.tree c.pulses) c.events) y t)
-    → (s ≡ t) × (rounds_of_trace topology script x s p ≡ rounds_told Edges c.end (start (started p.plan.tree c.pulses) c.events) y t told)) course here in
-    subst (λ (a : Plan). (told : IsRunText Edges q.course.end (start (started a.tree q.course.pulses) q.course.events) y t)
-    → (s ≡ t) × (rounds_of_trace topology script x s p ≡ rounds_told Edges q.course.end (start (started a.tree q.course.pulses) q.course.events) y t told)) plan there q.edges
+    let there = subst (λ (c : Course). (told : IsRunText (Line format) c.end (start (started p.plan.tree c.pulses) c.events) y t)
+    → (s ≡ t) × (rounds_of_trace topology script x s p ≡ rounds_told (Line format) c.end (start (started p.plan.tree c.pulses) c.events) y t told)) course here in
+    subst (λ (a : Plan). (told : IsRunText (Line format) q.course.end (start (started a.tree q.course.pulses) q.course.events) y t)
+    → (s ≡ t) × (rounds_of_trace topology script x s p ≡ rounds_told (Line format) q.course.end (start (started a.tree q.course.pulses) q.course.events) y t told)) plan there q.line
 
 -- ---- the parts of a trace
 

@@ -14,7 +14,9 @@ use Rattle.cec_run.specs.declared.emulate.EmulateError.TheVariants.{Topology, Sc
 use Rattle.cec_run.specs.declared.run.Totals.{Totals}
 use Rattle.cec_words.specs.Cut.{told_count}
 use Rattle.cec_trace.specs.Root.{IsRoot, IsNoRoot}
-use Rattle.cec_run.specs.declared.run.Telling.TheVariants.{Edges}
+use Rattle.cec_line.specs.declared.format.Format.{Format}
+use Rattle.cec_line.specs.declared.format.Format.TheVariants.{Edges}
+use Rattle.cec_run.specs.declared.run.Telling.TheVariants.{Line}
 use Rattle.cec_run.specs.Run.{start, IsRunText, IsTrace}
 
 -- the texts spell this topology and this script
@@ -31,14 +33,18 @@ pub record IsTraceOf (topology script text : List ℕ) (totals : Totals) : Type 
   pub root : IsRoot plan.edid edid
   pub trace : IsTrace edid course.end (start (started plan.tree course.pulses) course.events) text totals
 
--- the edges of the run that the texts spell, and its end
-pub record IsEdgeTraceOf (topology script text : List ℕ) (totals : Totals) : Type 0 where
+-- the line of the run that the texts spell, and its end, in a format
+pub record IsLineOf (format : Format) (topology script text : List ℕ) (totals : Totals) : Type 0 where
   pub plan : Plan
   pub course : Course
   pub edid : Option EdidValue
   pub accepted : IsAccepted topology script plan course
   pub root : IsRoot plan.edid edid
-  pub edges : IsRunText Edges course.end (start (started plan.tree course.pulses) course.events) text totals
+  pub line : IsRunText (Line format) course.end (start (started plan.tree course.pulses) course.events) text totals
+
+-- its edges
+abbrev pub IsEdgeTraceOf : List ℕ → List ℕ → List ℕ → Totals → Type 0
+IsEdgeTraceOf topology script text totals = IsLineOf Edges topology script text totals
 
 -- the texts of a topology and a script have one trace, and one count of what it tells
 abbrev pub TextsHaveOneTrace : Type 0
@@ -52,9 +58,9 @@ abbrev pub script_told : ScriptError → EmulateError
 script_told (scripts.At line cause) = Script line cause
 script_told scripts.Memory = Memory
 
--- and one text of edges
-abbrev pub TextsHaveOneEdgeTrace : Type 0
-TextsHaveOneEdgeTrace = (topology script x y : List ℕ) (s t : Totals) → IsEdgeTraceOf topology script x s → IsEdgeTraceOf topology script y t → (x ≡ y) × (s ≡ t)
+-- and one text of their line in each format
+abbrev pub TextsHaveOneLine : Type 0
+TextsHaveOneLine = (format : Format) (topology script x y : List ℕ) (s t : Totals) → IsLineOf format topology script x s → IsLineOf format topology script y t → (x ≡ y) × (s ≡ t)
 
 -- when each refusal comes: the topology's, then the script's, then the EDID; of memory nothing is said
 abbrev pub IsTold : List ℕ → List ℕ → EmulateError → Type 0
@@ -80,6 +86,9 @@ IsCutText IsDue old new Memory = new ≡ old
 
 abbrev pub IsCut : List ℕ → List ℕ → Option (List ℕ) → Option (List ℕ) → EmulateError → Type 0
 IsCut topology script = IsCutText (IsTraceOf topology script)
+
+abbrev pub IsLineCut : Format → List ℕ → List ℕ → Option (List ℕ) → Option (List ℕ) → EmulateError → Type 0
+IsLineCut format topology script = IsCutText (IsLineOf format topology script)
 
 abbrev pub IsEdgeCut : List ℕ → List ℕ → Option (List ℕ) → Option (List ℕ) → EmulateError → Type 0
 IsEdgeCut topology script = IsCutText (IsEdgeTraceOf topology script)

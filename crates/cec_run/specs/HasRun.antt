@@ -12,14 +12,16 @@ use Rattle.cec_trace.specs.Root.{IsRoot}
 use Rattle.cec_run.specs.declared.run.Telling.{Telling}
 use Rattle.cec_run.specs.declared.run.Totals.{Totals}
 use Rattle.cec_run.specs.Run.{start, IsRunText}
-use Rattle.cec_run.specs.Emulate.{IsAccepted, IsTraceOf, IsEdgeTraceOf}
+use Rattle.cec_line.specs.declared.format.Format.{Format}
+use Rattle.cec_run.specs.Emulate.{IsAccepted, IsTraceOf, IsLineOf}
 
 -- whatever is told of it: it stops, and each of its rounds has an outcome
 abbrev pub RunsHaveTexts : Type 0
 RunsHaveTexts = (telling : Telling) (tree : List Node) (pulses : List Stretch) (events : List TimedEvent) (end : ℕ) → AreSparse pulses
     → (text : List ℕ) × (totals : Totals) × IsRunText telling end (start (started tree pulses) events) text totals
 
--- A topology and a script that are accepted, with an EDID that is none or is read, have a trace, and a text of edges.
+-- A topology and a script that are accepted, with an EDID that is none or is read, have a trace, and a text of
+-- their line in each format.
 abbrev pub TextsHaveTraces : Type 0
 TextsHaveTraces = (topology script : List ℕ) (plan : Plan) (course : Course) (edid : Option Edid) → IsAccepted topology script plan course → IsRoot plan.edid edid
-    → ((text : List ℕ) × (totals : Totals) × IsTraceOf topology script text totals) × ((text : List ℕ) × (totals : Totals) × IsEdgeTraceOf topology script text totals)
+    → ((text : List ℕ) × (totals : Totals) × IsTraceOf topology script text totals) × ((format : Format) → (text : List ℕ) × (totals : Totals) × IsLineOf format topology script text totals)

@@ -1,4 +1,4 @@
--- The trace of a run and the edges of its line tell one run (own).
+-- The trace of a run and the texts of its line tell one run (own).
 use Rattle.std.specs.Prelude.{◌≡◌, ℕ, ◌+◌, ◌≤◌, List, [], ◌∷◌, ◌++◌, map, Option, codes}
 use Rattle.std.specs.List.{concat, flat_map}
 use Rattle.cec_wave.specs.declared.Stretch.{Stretch}
@@ -12,11 +12,12 @@ use Rattle.hdmi_blocks.specs.declared.edid.Edid.{Edid}
 use Rattle.cec_text.specs.ReadingText.{reading_text}
 use Rattle.cec_trace.specs.TraceText.{listed, name_at, loser_text}
 use Rattle.cec_run.specs.declared.run.Telling.{Telling}
-use Rattle.cec_run.specs.declared.run.Telling.TheVariants.{Trace, Edges}
+use Rattle.cec_line.specs.declared.format.Format.{Format}
+use Rattle.cec_run.specs.declared.run.Telling.TheVariants.{Trace, Line}
 use Rattle.cec_run.specs.declared.run.Totals.{Totals}
 use Rattle.cec_run.specs.Run.{Config, start, start_told, end_told, event_text, Leads, IsRunText, IsTrace}
 use Rattle.cec_run.specs.RunLine.{rounds_in}
-use Rattle.cec_run.specs.Emulate.{IsTraceOf, IsEdgeTraceOf}
+use Rattle.cec_run.specs.Emulate.{IsTraceOf, IsLineOf}
 
 -- the rounds that a run's text tells, in order
 abbrev pub rounds_told : (telling : Telling) (end : ℕ) (c : Config) (text : List ℕ) (totals : Totals) → IsRunText telling end c text totals → List Outcome
@@ -29,7 +30,7 @@ pub record IsOneRun (telling other : Telling) (end : ℕ) (c : Config) (x y : Li
   pub last : p.run.last ≡ q.run.last
   pub rounds : rounds_told telling end c x s p ≡ rounds_told other end c y t q
 
--- whatever is told of it, its trace or the edges of its line, it is one run
+-- whatever is told of it, its trace or its line in some format, it is one run
 abbrev pub OneRun : Type 0
 OneRun = (telling other : Telling) (end : ℕ) (c : Config) (x y : List ℕ) (s t : Totals) → (p : IsRunText telling end c x s) → (q : IsRunText other end c y t)
     → IsOneRun telling other end c x y s t p q
@@ -40,14 +41,14 @@ abbrev pub rounds_of_trace : (topology script text : List ℕ) (totals : Totals)
 rounds_of_trace topology script text totals w =
     rounds_told (Trace w.edid) w.course.end (start (started w.plan.tree w.course.pulses) w.course.events) text totals w.trace
 
-abbrev pub rounds_of_edges : (topology script text : List ℕ) (totals : Totals) → IsEdgeTraceOf topology script text totals → List Outcome
-rounds_of_edges topology script text totals w =
-    rounds_told Edges w.course.end (start (started w.plan.tree w.course.pulses) w.course.events) text totals w.edges
+abbrev pub rounds_of_line : (format : Format) (topology script text : List ℕ) (totals : Totals) → IsLineOf format topology script text totals → List Outcome
+rounds_of_line format topology script text totals w =
+    rounds_told (Line format) w.course.end (start (started w.plan.tree w.course.pulses) w.course.events) text totals w.line
 
--- The trace and the edges of a topology and a script have the same counts, and tell the same rounds, in order.
+-- The trace and the line, in any format, of a topology and a script have the same counts, and tell the same rounds, in order.
 abbrev pub TextsHaveOneRun : Type 0
-TextsHaveOneRun = (topology script x y : List ℕ) (s t : Totals) → (p : IsTraceOf topology script x s) → (q : IsEdgeTraceOf topology script y t)
-    → (s ≡ t) × (rounds_of_trace topology script x s p ≡ rounds_of_edges topology script y t q)
+TextsHaveOneRun = (format : Format) (topology script x y : List ℕ) (s t : Totals) → (p : IsTraceOf topology script x s) → (q : IsLineOf format topology script y t)
+    → (s ≡ t) × (rounds_of_trace topology script x s p ≡ rounds_of_line format topology script y t q)
 
 -- ---- the parts of a trace
 

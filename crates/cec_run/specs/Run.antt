@@ -1,5 +1,5 @@
 -- A run, and what it writes (own): the next event or the next round, again and again, until neither comes before
--- the end. It writes its trace, or the edges of its line.
+-- the end. It writes its trace, or its line in a format.
 use Rattle.std.specs.Prelude.{◌≡◌, ℕ, zero, suc, Bool, true, false, ◌+◌, max, nat_lt, nat_le, if◌then◌else◌, List, [], ◌∷◌, ◌++◌, Option, Some, None, Result}
 use Rattle.std.specs.List.{flat_map}
 use Rattle.cec_wave.specs.Line.{IsWave}
@@ -13,7 +13,7 @@ use Rattle.hdmi_core.specs.declared.sink.WriteFault.{WriteFault}
 use Rattle.cec_asm.specs.declared.script.TimedEvent.{TimedEvent}
 use Rattle.cec_run.specs.declared.run.Totals.{Totals}
 use Rattle.cec_run.specs.declared.run.Telling.{Telling}
-use Rattle.cec_run.specs.declared.run.Telling.TheVariants.{Trace, Edges}
+use Rattle.cec_run.specs.declared.run.Telling.TheVariants.{Trace, Line}
 use Rattle.cec_run.specs.declared.run.Turn.{Turn}
 use Rattle.cec_run.specs.declared.run.Turn.TheVariants.{Stop, Apply, Round}
 use Rattle.hdmi_blocks.specs.declared.edid.Edid.{Edid}
@@ -24,7 +24,7 @@ use Rattle.cec_device.specs.State.{State}
 use Rattle.cec_words.specs.Cut.{WrittenText}
 use Rattle.cec_text.specs.ReadingText.{is_complete}
 use Rattle.cec_trace.specs.TraceText.{event_line, round_line, end_line}
-use Rattle.cec_trace.specs.EdgeText.{edge_lines}
+use Rattle.cec_line.specs.Format.{line_start, line_round, line_end}
 use Rattle.cec_trace.specs.Root.{HasAddress}
 
 -- where a run stands: the network, the events that are left, and what is counted so far
@@ -70,31 +70,31 @@ turn_at end c = turn_of end c.net (first_time c.events)
 -- the EDID that ports pass on, where it is given, tells an address
 abbrev pub HasAddressTold : Telling → Type 0
 HasAddressTold (Trace edid) = HasAddress edid
-HasAddressTold Edges = Unit {0}
+HasAddressTold (Line format) = Unit {0}
 
--- at the start: the port lines of the devices that are on the wire
+-- at the start: the port lines of the devices that are on the wire, or what stands first in a format
 abbrev pub start_told : Telling → NetState → List ℕ
 start_told (Trace edid) s = port_lines 0 edid (λ device. false) s.tree
-start_told Edges s = []
+start_told (Line format) s = line_start format
 
 -- an event's line, and behind it the port lines of the devices that come onto the wire by it
 abbrev pub event_text : Option Edid → ℕ → TimedEvent → NetState → List ℕ
 event_text edid at e s = event_line at e.line (event_fault s e.event) ++ port_lines at edid (is_on_wire s.tree) (applied at e.event s).tree
 
--- of an event: its text, and no edge
+-- of an event: its text, and nothing of the line
 abbrev pub event_told : Telling → ℕ → TimedEvent → NetState → List ℕ
 event_told (Trace edid) at e s = event_text edid at e s
-event_told Edges at e s = []
+event_told (Line format) at e s = []
 
--- of a round, by the devices after it: its line, or the edges of its wave
+-- of a round, by the devices after it: its line in the trace, or its wave in the format
 abbrev pub round_told : Telling → List State → Outcome → List ℕ
 round_told (Trace edid) devices o = round_line devices o
-round_told Edges devices o = edge_lines o.wave
+round_told (Line format) devices o = line_round format o.wave
 
 -- at the end: a state line for each device, and the end; or the end, but not before the last round has closed
 abbrev pub end_told : Telling → ℕ → NetState → List ℕ
 end_told (Trace edid) end s = flat_map state_line s.devices ++ end_line end
-end_told Edges end s = end_line (max end s.close)
+end_told (Line format) end s = line_end format (max end s.close)
 
 -- ---- one turn, and what it tells
 

@@ -14,7 +14,10 @@ use Rattle.cec_asm.specs.declared.script.TimedEvent.{TimedEvent}
 use Rattle.cec_run.specs.declared.run.Turn.{Turn}
 use Rattle.cec_run.specs.declared.run.Turn.TheVariants.{Stop, Apply, Round}
 use Rattle.cec_run.specs.declared.run.Telling.{Telling}
-use Rattle.cec_run.specs.declared.run.Telling.TheVariants.{Edges}
+use Rattle.cec_line.specs.Format.{line_text}
+use Rattle.cec_line.specs.declared.format.Format.{Format}
+use Rattle.cec_line.specs.declared.format.Format.TheVariants.{Edges}
+use Rattle.cec_run.specs.declared.run.Telling.TheVariants.{Line}
 use Rattle.cec_trace.specs.EdgeText.{edge_lines}
 use Rattle.cec_trace.specs.TraceText.{end_line}
 use Rattle.cec_run.specs.declared.run.Totals.{Totals}
@@ -43,16 +46,26 @@ RunsAreRead = (telling : Telling) (tree : List Node) (pulses : List Stretch) (ev
     → AreSparse pulses → AreFramedEvents events → (leads : Leads telling end turns (start (started tree pulses) events) text d)
     → IsRead (rounds_in telling end turns (start (started tree pulses) events) text d leads) (max end d.net.close)
 
--- The text of the edges of a run is that of its whole line, which its rounds make, and of an end that is the later of the
--- script's end and the last close; and cut there, that line has the readings of the rounds, in order, each once.
-pub record IsLineText (os : List Outcome) (end : ℕ) (text : List ℕ) : Type 0 where
+-- The text of a run's line in a format is that of its rounds, one after another, and of an end that is the later of the
+-- script's end and the last close; and cut there, the line that the rounds make has their readings, in order, each once.
+pub record IsLineText (format : Format) (os : List Outcome) (end : ℕ) (text : List ℕ) : Type 0 where
+  pub read : IsRead os end
+  pub whole : text ≡ line_text format (map (λ o. o.wave) os) end
+
+abbrev pub LinesAreOfTheRounds : Type 0
+LinesAreOfTheRounds = (format : Format) (tree : List Node) (pulses : List Stretch) (events : List TimedEvent) (end : ℕ) (text : List ℕ) (totals : Totals)
+    → AreSparse pulses → AreFramedEvents events → (told : IsRunText (Line format) end (start (started tree pulses) events) text totals)
+    → IsLineText format (rounds_in (Line format) end told.run.turns (start (started tree pulses) events) told.run.body told.run.last told.run.leads) (max end told.run.last.net.close) text
+
+-- In an edge file that is the text of the whole line.
+pub record IsEdgeText (os : List Outcome) (end : ℕ) (text : List ℕ) : Type 0 where
   pub read : IsRead os end
   pub whole : text ≡ edge_lines (run_wave os) ++ end_line end
 
 abbrev pub EdgesAreTheLine : Type 0
 EdgesAreTheLine = (tree : List Node) (pulses : List Stretch) (events : List TimedEvent) (end : ℕ) (text : List ℕ) (totals : Totals)
-    → AreSparse pulses → AreFramedEvents events → (told : IsRunText Edges end (start (started tree pulses) events) text totals)
-    → IsLineText (rounds_in Edges end told.run.turns (start (started tree pulses) events) told.run.body told.run.last told.run.leads) (max end told.run.last.net.close) text
+    → AreSparse pulses → AreFramedEvents events → (told : IsRunText (Line Edges) end (start (started tree pulses) events) text totals)
+    → IsEdgeText (rounds_in (Line Edges) end told.run.turns (start (started tree pulses) events) told.run.body told.run.last told.run.leads) (max end told.run.last.net.close) text
 
 -- A run ends: it has at most one round for each 7,200 microseconds (CEC 9.1, the shortest signal free time) before its end,
 -- and one more for each of 4,096 pulses.

@@ -4,11 +4,9 @@ ghost use Rattle.std.specs.Io.KnownBytes.{Appends};
 ghost use Rattle.cec_run.specs.Emulate.{IsEdgeTraceOf, IsTold, IsEdgeCut, is_write};
 
 use crate::emulate::EmulateError;
-use crate::run::{Telling, Totals, run};
-use cec_asm::{parse_script, parse_topology};
-use cec_edges::EdgeWire;
-use cec_net::Net;
-use cec_trace::root_of;
+use crate::line::emulate_line;
+use crate::run::Totals;
+use cec_line::Format;
 use hdmi_core::Sink;
 use std::alloc::Global;
 
@@ -19,8 +17,6 @@ use std::alloc::Global;
 ///
 /// Those of [`emulate`](crate::emulate::emulate), in the same order. A failed write: then the front of the edge file
 /// was written, as long as it tells. Else nothing was written.
-// The network is large: where this stood inside its caller, the caller's frame would hold one for each kind of run.
-#[inline(never)]
 pub fn emulate_edges<S: Sink>(
     alloc: Global,
     topology: &[u8],
@@ -32,18 +28,5 @@ pub fn emulate_edges<S: Sink>(
     ensures write { S.is_stuck out.old ≡ false → (IsTrue (is_write result) ↔ IsTrue (S.is_stuck out.new)) }
     ensures cut { IfErr result (IsEdgeCut topology.now script.now (S.contents out.old) (S.contents out.new)) }
 {
-    let topology = parse_topology(alloc, topology)?;
-    let script = parse_script(alloc, &topology, script)?;
-    let _edid = root_of(&topology.edid)?;
-    // The network is lent as it is made, as for the trace.
-    match run(
-        out,
-        &mut Net::new(topology.tree, EdgeWire::new(), script.to_pulses()),
-        &Telling::Edges,
-        &script.events,
-        script.end,
-    ) {
-        Ok(totals) => Ok(totals),
-        Err(fault) => Err(EmulateError::Write(fault.count)),
-    }
+    emulate_line(alloc, topology, script, Format::Edges, out)
 }

@@ -1,7 +1,7 @@
 //! Laws of runs.
 ghost use Rattle.cec_run.specs.Run.{OneRunText, OneTrace};
-ghost use Rattle.cec_run.specs.RunLine.{EdgesAreTheLine, RunsAreRead, RunsAreShort};
-ghost use Rattle.cec_run.specs.Emulate.{TextsHaveOneEdgeTrace, TextsHaveOneTrace};
+ghost use Rattle.cec_run.specs.RunLine.{EdgesAreTheLine, LinesAreOfTheRounds, RunsAreRead, RunsAreShort};
+ghost use Rattle.cec_run.specs.Emulate.{TextsHaveOneLine, TextsHaveOneTrace};
 ghost use Rattle.cec_run.specs.HasRun.{RunsHaveTexts, TextsHaveTraces};
 ghost use Rattle.cec_run.specs.OneRun.{OneRun, RunsCloseSoon, TextsHaveOneRun, TracesHaveParts};
 
@@ -10,15 +10,16 @@ pub fn one_trace()
     ensures { OneTrace }
 {}
 
-/// A run writes one text, whether its trace or the edges of its line, and has one count of its rounds and refused
+/// A run writes one text, whether its trace or its line in a format, and has one count of its rounds and refused
 /// events.
 pub fn one_run_text()
     ensures { OneRunText }
 {}
 
-/// The texts of a topology and a script have one text of edges, and one count of its rounds and refused events.
-pub fn texts_have_one_edge_trace()
-    ensures { TextsHaveOneEdgeTrace }
+/// The texts of a topology and a script have one text of their line in each format, and one count of its rounds and refused
+/// events.
+pub fn texts_have_one_line()
+    ensures { TextsHaveOneLine }
 {}
 
 /// The texts of a topology and a script have one trace, and one count of what it tells.
@@ -32,6 +33,13 @@ pub fn runs_are_read()
     ensures { RunsAreRead }
 {}
 
+/// The line of a run, in a format, is the text of its rounds' lines, in order, between what stands first and last, and ends
+/// at the script's end or the last close, whichever is later; the readings of that line, cut there, are those of the run's
+/// rounds, in order, each once.
+pub fn lines_are_of_the_rounds()
+    ensures { LinesAreOfTheRounds }
+{}
+
 /// The edge file of a run has the edges of its whole line, and ends at the script's end or the last close, whichever
 /// is later; the readings of that line, cut there, are those of the run's rounds, in order, each once.
 pub fn edges_are_the_line()
@@ -43,13 +51,13 @@ pub fn runs_are_short()
     ensures { RunsAreShort }
 {}
 
-/// A run is one run, whatever is told of it: its trace and the edges of its line have as many turns, one last state,
+/// A run is one run, whatever is told of it: its trace and its line in any format have as many turns, one last state,
 /// one count of rounds and refused events, and the same rounds, in order.
 pub fn one_run()
     ensures { OneRun }
 {}
 
-/// The trace and the edges of a topology and a script have the same counts, and tell the same rounds, in order.
+/// The trace and the line, in any format, of a topology and a script have the same counts, and tell the same rounds, in order.
 pub fn texts_have_one_run()
     ensures { TextsHaveOneRun }
 {}
@@ -59,13 +67,13 @@ pub fn runs_close_soon()
     ensures { RunsCloseSoon }
 {}
 
-/// A run has a trace, and a text of edges: each of its rounds has an outcome, and it stops.
+/// A run has a trace, and a text of its line in each format: each of its rounds has an outcome, and it stops.
 pub fn runs_have_texts()
     ensures { RunsHaveTexts }
 {}
 
-/// A topology and a script that are accepted have a trace, and a text of edges. With [`texts_have_one_trace`] and
-/// [`texts_have_one_edge_trace`] they have one of each.
+/// A topology and a script that are accepted have a trace, and a text of their line in each format. With
+/// [`texts_have_one_trace`] and [`texts_have_one_line`] they have one of each.
 pub fn texts_have_traces()
     ensures { TextsHaveTraces }
 {}

@@ -19,10 +19,9 @@ use cec_asm::TimedEvent;
 use cec_device::Device;
 use cec_event::EventError;
 use cec_frame::Ending;
+use cec_line::{Format, as_text};
 use cec_net::Net;
-use cec_trace::{
-    on_wire, write_edges, write_end, write_event, write_ports, write_round, write_state,
-};
+use cec_trace::{on_wire, write_end, write_event, write_ports, write_round, write_state};
 use cec_wire::{Outcome, Wire};
 use cec_words::{counted, cut_at};
 use hdmi_blocks::Edid;
@@ -44,8 +43,8 @@ pub struct Totals {
 pub enum Telling {
     /// Its trace, with the EDID that ports pass on, where it is given.
     Trace(Option<Edid>),
-    /// The edges of its line.
-    Edges,
+    /// Its line, in a format.
+    Line(Format),
 }
 
 /// What comes next in a run.
@@ -192,7 +191,7 @@ fn apply_told<S: Sink, W>(
 {
     match telling {
         Telling::Trace(edid) => apply_event(out, net, edid, totals, at, event),
-        Telling::Edges => {
+        Telling::Line(_) => {
             let _refused = apply_counted(net, totals, at, event);
             Ok(0)
         }
@@ -218,16 +217,6 @@ fn counted_round(totals: Totals, ending: Ending) -> Totals
     }
 }
 
-// What was returned of a line, as it is returned of a text.
-fn as_text(line: Result<u128, WriteFault>) -> Result<u128, WriteFault>
-    ensures { (old new : Option (List ℕ)) (was is : Bool) (text : List ℕ) → WrittenLine old new was is text line → WrittenText old new was is text result }
-{
-    match line {
-        Ok(count) => Ok(counted(0, count)),
-        Err(fault) => Err(cut_at(0, fault)),
-    }
-}
-
 // Writes what is told of a round.
 fn write_round_told<S: Sink>(
     out: &mut S,
@@ -240,7 +229,7 @@ fn write_round_told<S: Sink>(
 {
     match telling {
         Telling::Trace(_) => as_text(write_round(out, devices, outcome)),
-        Telling::Edges => write_edges(out, outcome.wave.as_slice()),
+        Telling::Line(format) => cec_line::write_round(out, *format, outcome.wave.as_slice()),
     }
 }
 
@@ -304,7 +293,7 @@ fn write_start_told<S: Sink, W>(
 {
     match telling {
         Telling::Trace(edid) => write_ports(out, 0, edid, net.tree(), &[]),
-        Telling::Edges => Ok(0),
+        Telling::Line(format) => cec_line::write_start(out, *format),
     }
 }
 
@@ -319,7 +308,7 @@ fn write_end_told<S: Sink, W>(
 {
     match telling {
         Telling::Trace(_) => write_last_lines(out, net.devices(), end),
-        Telling::Edges => as_text(write_end(out, end.max(net.close()))),
+        Telling::Line(format) => cec_line::write_end(out, *format, end.max(net.close())),
     }
 }
 
@@ -369,8 +358,8 @@ fn run_turns<S: Sink, W: Wire>(
     }
 }
 
-/// Runs a network to `end`, at most 1,000,000,000,000 microseconds, and writes its trace, or the edges of its
-/// line. The EDID that ports pass on, where it is given, has an HDMI block. The events stand in the order of their
+/// Runs a network to `end`, at most 1,000,000,000,000 microseconds, and writes its trace, or its line in a
+/// format. The EDID that ports pass on, where it is given, has an HDMI block. The events stand in the order of their
 /// times, all before `end`, and name devices of the tree.
 ///
 /// # Errors

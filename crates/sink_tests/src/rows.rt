@@ -19,6 +19,21 @@ pub(crate) const ROWS: &[Row<'static>] = &[
         want: POLL_EDGES,
     },
     Row {
+        call: "emulate_line vcd",
+        input: POLL,
+        want: POLL_VCD,
+    },
+    Row {
+        call: "emulate_line pin",
+        input: POLL,
+        want: POLL_PIN,
+    },
+    Row {
+        call: "emulate_line csv",
+        input: POLL,
+        want: POLL_CSV,
+    },
+    Row {
         call: "step_run",
         input: STEPS,
         want: STEPPED,
@@ -116,6 +131,129 @@ const POLL_EDGES: &str = "\
 38100 0
 38700 1
 39150 end
+";
+
+/// The same as a dump.
+const POLL_VCD: &str = "\
+$version hdminet $end
+$timescale 1 us $end
+$scope module hdmi $end
+$var wire 1 ! CEC $end
+$upscope $end
+$enddefinitions $end
+#0
+$dumpvars
+1!
+$end
+#12000
+0!
+#15700
+1!
+#16500
+0!
+#18000
+1!
+#18900
+0!
+#20400
+1!
+#21300
+0!
+#22800
+1!
+#23700
+0!
+#25200
+1!
+#26100
+0!
+#27600
+1!
+#28500
+0!
+#30000
+1!
+#30900
+0!
+#32400
+1!
+#33300
+0!
+#34800
+1!
+#35700
+0!
+#36300
+1!
+#38100
+0!
+#38700
+1!
+#39150
+";
+
+/// The same as pin events; the level before the round, and at the end, is told again.
+const POLL_PIN: &str = "\
+# cec-ctl --store-pin
+# version 1
+# start_monotonic 0.000000000
+# start_timeofday 0.000000
+# log_addr_mask 0x0000
+# phys_addr f.f.f.f
+0.000000000 1
+0.011999000 1
+0.012000000 0
+0.015700000 1
+0.016500000 0
+0.018000000 1
+0.018900000 0
+0.020400000 1
+0.021300000 0
+0.022800000 1
+0.023700000 0
+0.025200000 1
+0.026100000 0
+0.027600000 1
+0.028500000 0
+0.030000000 1
+0.030900000 0
+0.032400000 1
+0.033300000 0
+0.034800000 1
+0.035700000 0
+0.036300000 1
+0.038100000 0
+0.038700000 1
+0.039150000 1
+";
+
+/// The same as comma-separated values; the level at the end is told again.
+const POLL_CSV: &str = "\
+Time [s],CEC
+0.000000000,1
+0.012000000,0
+0.015700000,1
+0.016500000,0
+0.018000000,1
+0.018900000,0
+0.020400000,1
+0.021300000,0
+0.022800000,1
+0.023700000,0
+0.025200000,1
+0.026100000,0
+0.027600000,1
+0.028500000,0
+0.030000000,1
+0.030900000,0
+0.032400000,1
+0.033300000,0
+0.034800000,1
+0.035700000,0
+0.036300000,1
+0.038100000,0
+0.038700000,1
+0.039150000,1
 ";
 
 /// A television with a player, and single steps of their run.

@@ -1,9 +1,11 @@
 //! Each call over writers that take few bytes a call, and that fail.
 use crate::rows::{ROWS, Row};
 use cec_frame::Frame;
+use cec_line::Format;
 use cec_mon::watch;
 use cec_run::edges::emulate_edges;
 use cec_run::emulate::emulate;
+use cec_run::line::emulate_line;
 use cec_step::step_run::step_run;
 use cec_text::{asm_lines, write_frame};
 use hdmi_convert::{edid_to_text, text_to_hex};
@@ -73,6 +75,25 @@ fn run_edges(rt: &(impl Abort + AllocGlobal), input: &str, out: &mut Out<'_>) ->
     )
 }
 
+fn run_line(
+    rt: &(impl Abort + AllocGlobal),
+    input: &str,
+    format: Format,
+    out: &mut Out<'_>,
+) -> String {
+    let (topology, script) = parted(rt, input, "script\n");
+    refusal(
+        rt,
+        emulate_line(
+            rt.alloc(),
+            topology.as_bytes(),
+            script.as_bytes(),
+            format,
+            out,
+        ),
+    )
+}
+
 fn step(rt: &(impl Abort + AllocGlobal), input: &str, out: &mut Out<'_>) -> String {
     let (topology, rest) = parted(rt, input, "script\n");
     let (script, steps) = parted(rt, rest, "steps\n");
@@ -113,6 +134,9 @@ fn call(rt: &(impl Abort + AllocGlobal), row: &Row<'_>, out: &mut Out<'_>) -> St
     match row.call {
         "emulate" => run(rt, input, out),
         "emulate_edges" => run_edges(rt, input, out),
+        "emulate_line vcd" => run_line(rt, input, Format::Vcd, out),
+        "emulate_line pin" => run_line(rt, input, Format::Pin, out),
+        "emulate_line csv" => run_line(rt, input, Format::Csv, out),
         "step_run" => step(rt, input, out),
         "watch" => refusal(rt, watch(rt.alloc(), input.as_bytes(), out)),
         "asm_lines" => refusal(rt, asm_lines(input.as_bytes(), out)),

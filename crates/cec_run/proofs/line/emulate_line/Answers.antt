@@ -1,9 +1,9 @@
 use Rattle.std.proofs.Common.{rules, ◌≡◌, Ok}
 use Rattle.cec_asm.specs.Topology.{topology_of, plan_of}
 use Rattle.cec_asm.specs.Script.{IsScriptRead, course_of}
-use Rattle.cec_run.proofs.Accepted.{early, has_device, one_edge_trace_of}
+use Rattle.cec_run.proofs.Accepted.{early, has_device, one_line_of}
 use Rattle.cec_run.proofs.HasRun.{texts_have_traces}
-use Rattle.cec_run.proofs.edges.emulate_edges.Goals as goal
+use Rattle.cec_run.proofs.line.emulate_line.Goals as goal
 
 pub new-requires-2-clause-some : goal.new-requires-2-clause-some
 new-requires-2-clause-some g c =
@@ -18,7 +18,7 @@ returns-clause-cut g c =
     let plan : topology_of c.args.topology.now ≡ Ok (plan_of c.in_ok-topology.topology) = search rules in
     let course : IsScriptRead c.in_ok-topology.topology.tree c.args.script.now (Ok (course_of c.in_ok-script.script)) = c.in_ok-script.ensures.gives in
     let due = (texts_have_traces c.args.topology.now c.args.script.now (plan_of c.in_ok-topology.topology) (course_of c.in_ok-script.script) c.in_ok-_edid._edid
-    (record { plan_is = plan; course_is = course }) c.in_ok-_edid.ensures.read).1 in
+    (record { plan_is = plan; course_is = course }) c.in_ok-_edid.ensures.read).1 c.args.format in
     let front = c.in-Err.ensures.cut due.0 due.1 (rw (c.new-2.ensures, c.to_pulses.ensures, c.deref.ensures.value)
-    (one_edge_trace_of c.args.topology.now c.args.script.now due.0 due.1 (plan_of c.in_ok-topology.topology) (course_of c.in_ok-script.script) plan course due.2)) in
+    (one_line_of c.args.format c.args.topology.now c.args.script.now due.0 due.1 (plan_of c.in_ok-topology.topology) (course_of c.in_ok-script.script) plan course due.2)) in
     (due.0, due.1, due.2, front.0, front.1, front.2, front.3)

@@ -1,0 +1,95 @@
+//! Captures, and what they are read as.
+
+/// `FORM:SIGNAL TEXT => EDGES`. In a text `|` ends a line, `^` is a tab, `~` a carriage return, `HEAD` the definitions of a wire
+/// CEC, `PINS` the comments of a pin file that starts at 100 s. `12000f` is a fall, `15700r` a rise. `auto` goes by the first
+/// line, `smooth:N` leaves out what is shorter than N of an edge file, `lost` has the lines before which events were lost, and
+/// `idle` the readings of an edge file from idle on.
+pub(crate) const ROWS: &str = "\
+# A wire that falls and rises; x and z are high, in either case; a start at low.
+vcd: HEAD|#0|1!|#12000|0!|#15700|1!|#20000 => 12000f 15700r end 20000
+vcd: HEAD|#0|x!|#5|0!|#9|z!|#12|0!|#15|X!|#18|0!|#20|Z!|#30 => 5f 9r 12f 15r 18f 20r end 30
+vcd: HEAD|#0|0!|#7|1!|#9 => 0f 7r end 9
+# Other wires, vectors and real numbers are passed over; a vector of one bit is a value. The wire goes by its name.
+vcd: $timescale 1us $end|$var wire 8 # BUS [7:0] $end|$var wire 1 ! CEC $end|$var wire 1 % SCL $end|$enddefinitions $end|#0|b10101010 #|0%|#7|b0 !|r1.5 $|#8|b1 !|#9 => 7f 8r end 9
+vcd:SCL $timescale 1us $end|$var wire 8 # BUS [7:0] $end|$var wire 1 ! CEC $end|$var wire 1 % SCL $end|$enddefinitions $end|#0|b10101010 #|0%|#7|b0 !|r1.5 $|#8|b1 !|#9 => 0f end 9
+vcd:SDA HEAD => line 3: signal
+vcd: $timescale 1 us $end|$var wire 2 ! CEC $end|$enddefinitions $end => line 3: signal
+# Units from seconds to femtoseconds: a tick is rounded up to whole microseconds.
+vcd: $timescale 1 s $end|$var wire 1 ! CEC $end|$enddefinitions $end|#1|0!|#2|1!|#3 => 1000000f 2000000r end 3000000
+vcd: $timescale 1 ms $end|$var wire 1 ! CEC $end|$enddefinitions $end|#12|0!|#15|1!|#20 => 12000f 15000r end 20000
+vcd: $timescale 10us $end|$var wire 1 ! CEC $end|$enddefinitions $end|#5|0!|#7|1!|#8 => 50f 70r end 80
+vcd: $timescale 100 ns $end|$var wire 1 ! CEC $end|$enddefinitions $end|#1|0!|#11|1!|#20 => 1f 2r end 2
+vcd: $timescale 1 ps $end|$var wire 1 ! CEC $end|$enddefinitions $end|#1000001|0!|#3000000|1!|#3000001 => 2f 3r end 4
+vcd: $timescale 10 fs $end|$var wire 1 ! CEC $end|$enddefinitions $end|#100000000|0!|#100000001|1! => 1f 2r end 2
+# A pulse of 300 ns that no first instant of a microsecond meets is gone.
+vcd: $timescale 1 ns $end|$var wire 1 ! CEC $end|$enddefinitions $end|#1100|0!|#1400|1!|#5000 => end 5
+# Of several changes in one microsecond the last counts, and a level that is told again is none.
+vcd: HEAD|#5|0!|1!|#6|0!|0!|#9|1!|#9|0!|#12 => 6f end 12
+# While dumping is off the wire is x; other sections are passed over.
+vcd: HEAD|#0|$dumpvars|1!|$end|#10|0!|#20|$dumpoff|x!|$end|#30|$dumpon|0!|$end|#40|1!|#50 => 10f 20r 30f 40r end 50
+vcd: HEAD|#0|$comment 0! $end|#5|0!|#6 => 5f end 6
+vcd: HEAD|#5|0 !|#6|1 !|#7 => 5f 6r end 7
+# Causes, with their lines.
+vcd: HEAD|#0|q! => line 5: word
+vcd: $timescale 1 us $end|$var wire 1 $end => line 2: word
+vcd: $timescale 2 us $end => line 1: scale
+vcd: $timescale 1 min $end => line 1: scale
+vcd: $var wire 1 ! CEC $end|$enddefinitions $end => line 2: scale
+vcd: $timescale 1 us $end|$var wire 1 ! CEC $end => line 3: end
+vcd: HEAD|#01 => line 4: time
+vcd: HEAD|#-1 => line 4: time
+vcd: HEAD|#18446744073709551615 => line 4: time
+vcd: HEAD|#2000000000001 => line 4: time
+vcd: HEAD|#2000000000000 => end 2000000000000
+vcd: HEAD|#5|#4 => line 5: order
+# As sigrok-cli 0.7.2 writes a dump (libsigrok 0.5.2): times and values on one line.
+auto: META samplerate: 1000000|$date Wed Nov 25 11:16:34 2026 $end|$version libsigrok 0.5.2 $end|$comment|  Acquisition with 1/1 channels at 1 MHz|$end|$timescale 1 us $end|$scope module libsigrok $end|$var wire 1 ! CEC $end|$upscope $end|$enddefinitions $end|#0 1!|#12000 0!|#15700 1!|#16500 0!|#17100 1!|#30000 => 12000f 15700r 16500f 17100r end 30000
+# As GTKWave 3.3.118 writes it (vcd2fst, fst2vcd): tabs, and the scale in three lines.
+auto: $date|^Wed Nov 25 11:16:34 2026||$end|$version|^fstWriter|$end|$timescale|^1us|$end|$scope module hdmi $end|$var wire 1 ! CEC $end|$upscope $end|$enddefinitions $end|#0|$dumpvars|1!|$end|#12000|0!|#15700|1!|#16500|0!|#17100|1!|#30000 => 12000f 15700r 16500f 17100r end 30000
+auto: $timescale 1 us $end~|$var wire 1 ! CEC $end~|$enddefinitions $end~|#3~|0!~|#9~ => 3f end 9
+# As cec-ctl 1.22.1 stores pin events: the level 1 is told again after a message, other pins are passed over.
+auto: PINS|100.000000000 1|100.012000000 0|100.015700000 1|100.030000000 1 => 12000f 15700r end 30000
+pin: PINS|100.000000500 2|100.012000001 65536|100.015700000 65537|100.016000000 4|100.017000000 3 => 12001f 15700r end 17000
+pin: PINS|99.500000000 0|100.001000000 1 => 0f 1000r end 1000
+pin: PINS|100.5 0 => line 7: word
+pin: PINS|100.000000000 6 => line 7: word
+pin: PINS|2000101.000000000 1 => line 7: late
+pin: PINS|100.000002000 0|100.000001000 1 => line 8: order
+# As Saleae's Logic 2 exports channels: the end is 10,000 after the last row, or that row, where the level is told again.
+auto: Time [s],Channel 0|0.000000000,1|0.012000000,0|0.015700000,1 => 12000f 15700r end 25700
+csv:CEC Time [s],SCL,CEC|-0.5,1,1|-0.499,0,0|0.000,1,1 => 1000f 500000r end 510000
+csv: Time [s],CEC|0,1|0.001,0|0.002,1|0.005,1 => 1000f 2000r end 5000
+csv: Time[s], Channel 0~|0.0, 1~|0.001, 0~|0.0025, 1~ => 1000f 2500r end 12500
+csv: Time,CEC|5,0|6,1 => 0f 1000000r end 1010000
+csv: Time,CEC|0,1|0.0000001,0|0.0000011,1 => 1f 2r end 10002
+csv: Time,CEC|0,1|2000000,0 => 2000000000000f end 2000000000000
+csv:SDA Time [s],CEC|0,1 => line 1: signal
+csv: Time [s] => line 1: signal
+csv: Time,A|0,\"1\" => line 2: word
+csv: Time,A|0, => line 2: word
+csv: Time,A|0,2 => line 2: word
+csv: Time,A|0.1234567890,1 => line 2: word
+csv: Time,A|1e-3,1 => line 2: word
+csv: Time,A|1,1|0.9,0 => line 3: order
+csv: Time,A|0,1|2000000.000001,0 => line 3: late
+# Edge files.
+auto: # a comment|12000 0|15700 1|20000 end => 12000f 15700r end 20000
+auto: 0,1 => line 1: line
+edges: 5 0|9 0|10 end => line 2: order
+edges: 5 0 => line 2: line
+# What is shorter than the width goes in pairs, from the left.
+smooth:0 10 0|12 1|20 end => 10f 12r end 20
+smooth:2 10 0|12 1|20 end => 10f 12r end 20
+smooth:3 10 0|12 1|20 end => end 20
+smooth:5 10 0|12 1|14 0|600 1|603 0|607 1|700 end => 14f 607r end 700
+# Events that were lost.
+lost: PINS|100.000000000 1|100.012000001 65536|100.015700000 65537|100.016000000 4|100.017000000 65539 => 8 9 11 .
+lost: PINS|100.000000000 1 => .
+# What begins before the line was high for 16,800 is one line; a line that was idle from the begin on has none.
+idle: 1000 0|1600 1|3400 0|4000 1|30000 0|33000 1|40000 end => 0 20800 joined -|30000 33000 bad-start -|
+idle: 16800 0|19800 1|40000 end => 16800 19800 bad-start -|
+idle: 16799 0|19799 1|40000 end => 0 36599 joined -|
+idle: 16799 0|19799 1|20000 end => 0 20000 joined -|
+idle: 1000 0|40000 end => 0 40000 joined -|
+idle: 40000 end => 
+";

@@ -1,0 +1,226 @@
+-- A capture followed edge by edge, and what is written of it.
+use Rattle.std.proofs.Common.{◌≡◌, ℕ, suc, ◌+◌, ◌<◌, ◌≤◌, Bool, true, false, nat_lt, if◌then◌else◌, zero, ◌-◌, ◌&&◌, ◌||◌, List, [], ◌∷◌, ◌++◌, length, append-nil, append_assoc, get_or, drop, Option, Result, Ok, Err, refl, arith, ap, ◌∙◌, sym, subst}
+use Rattle.std.proofs.Math.Seq.{drop-cons}
+use Rattle.std.proofs.Math.ListN.{drop_of_length-le}
+use Rattle.std.specs.Option.{option_to_list}
+use Rattle.std.specs.Io.KnownBytes.{Appends}
+use Rattle.std.proofs.lemmas.Bool.Decides.{nat_tests}
+use Rattle.hdmi_core.specs.declared.sink.WriteFault.{WriteFault}
+use Rattle.hdmi_core.proofs.CutShort.{Appends-trans}
+use Rattle.cec_wave.specs.declared.Edge.{Edge}
+use Rattle.cec_wave.specs.Line.{Line, was_low}
+use Rattle.cec_bits.specs.Readings.{Listed, readings_of}
+use Rattle.cec_bits.specs.Ended.{ended_by}
+use Rattle.cec_bits.specs.Reports.{ended_before}
+use Rattle.cec_bits.proofs.Reported.{ended_first}
+use Rattle.cec_bits.proofs.Stood.{was_now}
+use Rattle.cec_words.specs.Cut.{CutOff, WrittenText, told_count}
+use Rattle.cec_words.proofs.Cutting.{told_parts, cut_again}
+use Rattle.cec_signal.specs.Edges.{AreInTurn, Captured, EndBy, IsCapture, level_at, line_of_edges}
+use Rattle.cec_signal.proofs.Recording.{before_turn}
+use Rattle.cec_mon.specs.declared.monitor.Monitor.{Monitor as Watcher}
+use Rattle.cec_mon.specs.Monitor.{HeardBefore, FollowsEdge, FollowsEnd}
+use Rattle.cec_mon.specs.Joined.{WritesJoined, capture_text, has_joined, joined_line, joined_text}
+use Rattle.cec_mon.specs.Watch.{WritesFile, as_file, listed_line, readings_text}
+use Rattle.cec_mon.proofs.Files.{appends_none}
+
+-- ---- texts of readings of which some are joined
+
+or_assoc : (a b c : Bool) → ((a || b) || c) ≡ (a || (b || c))
+or_assoc true b c = refl
+or_assoc false b c = refl
+
+-- readings after others
+pub joined_more : (t : ℕ) (b : Bool) (xs ys : List Listed) → joined_text t b (xs ++ ys) ≡ joined_text t b xs ++ joined_text t (b || has_joined t xs) ys
+joined_more t b [] ys = ap (λ c. joined_text t c ys) (no_more b)
+  where
+    no_more : (b : Bool) → b ≡ (b || false)
+    no_more true = refl
+    no_more false = refl
+joined_more t b (x ∷ xs) ys = by (nat_lt x.begin t) (joined_more t true xs ys) (joined_more t b xs ys)
+  where
+    true_or : (b : Bool) → true ≡ (b || true)
+    true_or true = refl
+    true_or false = refl
+
+    by : (c : Bool) → joined_text t true (xs ++ ys) ≡ joined_text t true xs ++ joined_text t true ys → joined_text t b (xs ++ ys) ≡ joined_text t b xs ++ joined_text t (b || has_joined t xs) ys
+        → (if c then (if b then [] else joined_line t) ++ joined_text t true (xs ++ ys) else listed_line x ++ joined_text t b (xs ++ ys))
+        ≡ (if c then (if b then [] else joined_line t) ++ joined_text t true xs else listed_line x ++ joined_text t b xs) ++ joined_text t (b || (c || has_joined t xs)) ys
+    by true one other =
+        ap (λ l. (if b then [] else joined_line t) ++ l) one ∙ sym (append_assoc (if b then [] else joined_line t) (joined_text t true xs) (joined_text t true ys))
+        ∙ ap (λ c. ((if b then [] else joined_line t) ++ joined_text t true xs) ++ joined_text t c ys) (true_or b)
+    by false one other = ap (λ l. listed_line x ++ l) other ∙ sym (append_assoc (listed_line x) (joined_text t b xs) (joined_text t (b || has_joined t xs) ys))
+
+pub has_more : (t : ℕ) (xs ys : List Listed) → has_joined t (xs ++ ys) ≡ (has_joined t xs || has_joined t ys)
+has_more t [] ys = refl
+has_more t (x ∷ xs) ys = ap (λ b. nat_lt x.begin t || b) (has_more t xs ys) ∙ sym (or_assoc (nat_lt x.begin t) (has_joined t xs) (has_joined t ys))
+
+-- none is joined up to 0
+pub joined_none : (b : Bool) (xs : List Listed) → joined_text 0 b xs ≡ readings_text xs
+joined_none b [] = refl
+joined_none b (x ∷ xs) = let late : nat_lt x.begin 0 ≡ false = grind (arith, nat_tests) in rw late (ap (λ l. listed_line x ++ l) (joined_none b xs))
+
+-- what is written of the readings so far, and whether one of them was joined
+abbrev pub so_far : ℕ → Line → ℕ → List ℕ
+so_far t low from = joined_text t false (ended_before low from)
+
+abbrev pub was_joined : ℕ → Line → ℕ → Bool
+was_joined t low from = has_joined t (ended_before low from)
+
+abbrev pub told_text : ℕ → Bool → Option Listed → List ℕ
+told_text t is_told told = joined_text t is_told (option_to_list told)
+
+-- no edge comes past the limit
+pub edge_early : (edges : List Edge) (end k : ℕ) (none : Edge) → EndBy end edges → k < length edges → (get_or edges k none).at ≤ end
+edge_early [] end k none h l = absurd (omega arith)
+edge_early (e ∷ edges) end zero none h l = h.0
+edge_early (e ∷ edges) end (suc k) none h l = edge_early edges end k none h.1 (omega arith)
+
+-- the edges up to these are followed, and what has ended before the next one is written
+pub record Followed (t : ℕ) (is_told : Bool) (c : Captured) (left : List Edge) (m : Watcher) (old now : Option (List ℕ)) (was is : Bool) (written : ℕ) : Type 0 where
+  pub is_low : Bool
+  pub from : ℕ
+  pub level : (u : ℕ) → from ≤ u → line_of_edges c.edges u ≡ level_at is_low left u
+  pub before : was_low (line_of_edges c.edges) from ≡ is_low
+  pub turn : AreInTurn is_low from left
+  pub ends : EndBy c.end left
+  pub reach : from ≤ c.end + 1
+  pub heard : HeardBefore m (line_of_edges c.edges) from
+  pub told : is_told ≡ was_joined t (line_of_edges c.edges) from
+  pub wrote : Appends old now (so_far t (line_of_edges c.edges) from)
+  pub count : written ≡ told_count (length (so_far t (line_of_edges c.edges) from))
+  pub flag : is ≡ was
+
+pub followed_first : (t : ℕ) (c : Captured) (m : Watcher) (old : Option (List ℕ)) (was : Bool) → IsCapture c.edges c.end → ((low : Line) → HeardBefore m low 0) → Followed t false c c.edges m old old was was 0
+followed_first t c m old was is heard = record {
+  is_low = false;
+  from = 0;
+  level = λ u l. refl;
+  before = let x : nat_lt 0 0 ≡ false = grind (arith, nat_tests) in ap (λ b. b && line_of_edges c.edges (0 - 1)) x;
+  turn = is.turn;
+  ends = is.ends;
+  reach = omega arith;
+  heard = heard (line_of_edges c.edges);
+  told = refl;
+  wrote = appends_none old;
+  count = refl;
+  flag = refl;
+}
+
+-- an edge, and what was told of it
+record Told (c : Captured) (rest : List Edge) (new : Watcher) (e : Edge) (from : ℕ) (told : Option Listed) : Type 0 where
+  level : (u : ℕ) → e.at + 1 ≤ u → line_of_edges c.edges u ≡ level_at e.low rest u
+  before : was_low (line_of_edges c.edges) (e.at + 1) ≡ e.low
+  heard : HeardBefore new (line_of_edges c.edges) (e.at + 1)
+  by : ended_by (line_of_edges c.edges) e.at ≡ ended_before (line_of_edges c.edges) from ++ option_to_list told
+  ended : ended_before (line_of_edges c.edges) (e.at + 1) ≡ ended_before (line_of_edges c.edges) from ++ option_to_list told
+
+told_edge : (t : ℕ) (is_told : Bool) (c : Captured) (rest : List Edge) (m new : Watcher) (e : Edge) (told : Option Listed) (old now : Option (List ℕ)) (was is : Bool) (written : ℕ) → (w : Followed t is_told c (e ∷ rest) m old now was is written)
+    → FollowsEdge m e told new → Told c rest new e w.from told
+told_edge t is_told c rest m new e told old now was is written w follows = record {
+  level = λ u l. later u (omega arith);
+  before = was_now (line_of_edges c.edges) e.at ∙ now_is;
+  heard = d.0;
+  by = d.1;
+  ended = ap (ended_before (line_of_edges c.edges)) (let x : e.at + 1 ≡ suc e.at = omega arith in x) ∙ d.1;
+}
+  where
+    after : w.from ≤ e.at
+    after = w.turn.1
+
+    calm : (u : ℕ) → w.from ≤ u → u < e.at → line_of_edges c.edges u ≡ m.receiver.was_low
+    calm u l s = w.level u l ∙ ap (λ b. if b then w.is_low else level_at e.low rest u) (let x : nat_lt u e.at ≡ true = grind (arith, nat_tests) in x) ∙ sym w.before ∙ sym w.heard.stood.level
+
+    later : (u : ℕ) → e.at ≤ u → line_of_edges c.edges u ≡ level_at e.low rest u
+    later u l = w.level u (omega (arith, after)) ∙ ap (λ b. if b then w.is_low else level_at e.low rest u) (let x : nat_lt u e.at ≡ false = grind (arith, nat_tests) in x)
+
+    now_is : line_of_edges c.edges e.at ≡ e.low
+    now_is = later e.at (omega arith) ∙ before_turn e.low (e.at + 1) rest w.turn.2 e.at (omega arith)
+
+    d : HeardBefore new (line_of_edges c.edges) (e.at + 1) × (ended_by (line_of_edges c.edges) e.at ≡ ended_before (line_of_edges c.edges) w.from ++ option_to_list told)
+    d = follows (line_of_edges c.edges) w.from w.heard after calm now_is
+
+-- with the reading that an edge ends
+text_more : (t : ℕ) (is_told : Bool) (low : Line) (from : ℕ) (told : Option Listed) → is_told ≡ was_joined t low from
+    → joined_text t false (ended_before low from ++ option_to_list told) ≡ so_far t low from ++ told_text t is_told told
+text_more t is_told low from told is = joined_more t false (ended_before low from) (option_to_list told) ∙ ap (λ b. so_far t low from ++ told_text t b told) (sym is)
+
+pub followed_more : (t : ℕ) (is_told is_more : Bool) (c : Captured) (left rest : List Edge) (m new : Watcher) (e : Edge) (told : Option Listed) (old mid out : Option (List ℕ)) (was is now : Bool) (written count total : ℕ)
+    → Followed t is_told c left m old mid was is written → left ≡ e ∷ rest → FollowsEdge m e told new → WrittenText mid out is now (told_text t is_told told) (Ok count)
+    → total ≡ told_count (written + count) → is_more ≡ (is_told || has_joined t (option_to_list told)) → Followed t is_more c rest new old out was now total
+followed_more t is_told is_more c left rest m new e told old mid out was is now written count total followed cut follows wrote sum joins =
+    let w : Followed t is_told c (e ∷ rest) m old mid was is written = subst (λ (l : List Edge). Followed t is_told c l m old mid was is written) cut followed in
+    let d = told_edge t is_told c rest m new e told old mid was is written w follows in
+    let low : Line = line_of_edges c.edges in
+    let whole : so_far t low (e.at + 1) ≡ so_far t low w.from ++ told_text t is_told told = ap (joined_text t false) d.ended ∙ text_more t is_told low w.from told w.told in
+    let last = w.ends.0 in
+    record {
+      is_low = e.low;
+      from = e.at + 1;
+      level = d.level;
+      before = d.before;
+      turn = w.turn.2;
+      ends = w.ends.1;
+      reach = omega (arith, last);
+      heard = d.heard;
+      told = joins ∙ ap (λ b. b || has_joined t (option_to_list told)) w.told ∙ sym (ap (has_joined t) d.ended ∙ has_more t (ended_before low w.from) (option_to_list told));
+      wrote = subst (Appends old out) (sym whole) (Appends-trans old mid out (so_far t low w.from) (told_text t is_told told) w.wrote wrote.1);
+      count = sum ∙ told_parts written count (so_far t low w.from) (told_text t is_told told) w.count wrote.0 ∙ ap (λ (x : List ℕ). told_count (length x)) (sym whole);
+      flag = wrote.2 ∙ w.flag;
+    }
+
+-- the line of an edge's reading was cut off
+pub cut_edge : (t : ℕ) (is_told : Bool) (c : Captured) (left rest : List Edge) (m new : Watcher) (e : Edge) (told : Option Listed) (old mid out : Option (List ℕ)) (was is now : Bool) (written : ℕ) (inner cut : WriteFault)
+    → Followed t is_told c left m old mid was is written → left ≡ e ∷ rest → FollowsEdge m e told new → WrittenText mid out is now (told_text t is_told told) (Err inner) → cut.count ≡ told_count (written + inner.count)
+    → WritesJoined old out was now c t (Err cut)
+cut_edge t is_told c left rest m new e told old mid out was is now written inner cut followed split follows wrote sum =
+    let w : Followed t is_told c (e ∷ rest) m old mid was is written = subst (λ (l : List Edge). Followed t is_told c l m old mid was is written) split followed in
+    let d = told_edge t is_told c rest m new e told old mid was is written w follows in
+    let low : Line = line_of_edges c.edges in
+    let more = ended_first low e.at c.end w.ends.0 in
+    let rest_text : List ℕ = joined_text t (has_joined t (ended_before low w.from ++ option_to_list told)) more.0 in
+    let whole : capture_text c t ≡ (so_far t low w.from ++ told_text t is_told told) ++ rest_text =
+    ap (joined_text t false) (more.1 ∙ ap (λ (xs : List Listed). xs ++ more.0) d.by) ∙ joined_more t false (ended_before low w.from ++ option_to_list told) more.0
+    ∙ ap (λ (xs : List ℕ). xs ++ rest_text) (text_more t is_told low w.from told w.told) in (
+      subst (λ (x : List ℕ). CutOff old out x cut) (sym whole)
+          (cut_again old mid out (so_far t low w.from) (told_text t is_told told) rest_text written inner cut w.count w.wrote wrote.0 sum),
+      wrote.1,
+    )
+
+-- the last reading, and with it the whole list
+all_read : (t : ℕ) (is_told : Bool) (c : Captured) (m : Watcher) (told : Option Listed) (old mid : Option (List ℕ)) (was is : Bool) (written : ℕ) → (w : Followed t is_told c [] m old mid was is written) → FollowsEnd m c.end told
+    → capture_text c t ≡ so_far t (line_of_edges c.edges) w.from ++ told_text t is_told told
+all_read t is_told c m told old mid was is written w follows =
+    ap (joined_text t false) (follows (line_of_edges c.edges) w.from w.heard w.reach (λ u k s. w.level u k ∙ sym w.before ∙ sym w.heard.stood.level))
+    ∙ text_more t is_told (line_of_edges c.edges) w.from told w.told
+
+pub end_written : (t : ℕ) (is_told : Bool) (c : Captured) (left : List Edge) (m : Watcher) (told : Option Listed) (old mid out : Option (List ℕ)) (was is now : Bool) (written count : ℕ) → Followed t is_told c left m old mid was is written → left ≡ []
+    → FollowsEnd m c.end told → WrittenText mid out is now (told_text t is_told told) (Ok count) → Appends old out (capture_text c t) × (now ≡ was)
+end_written t is_told c left m told old mid out was is now written count followed none follows wrote =
+    let w : Followed t is_told c [] m old mid was is written = subst (λ (l : List Edge). Followed t is_told c l m old mid was is written) none followed in (
+      subst (Appends old out) (sym (all_read t is_told c m told old mid was is written w follows))
+          (Appends-trans old mid out (so_far t (line_of_edges c.edges) w.from) (told_text t is_told told) w.wrote wrote.1),
+      wrote.2 ∙ w.flag,
+    )
+
+pub end_cut : (t : ℕ) (is_told : Bool) (c : Captured) (left : List Edge) (m : Watcher) (told : Option Listed) (old mid out : Option (List ℕ)) (was is now : Bool) (written : ℕ) (inner cut : WriteFault) → Followed t is_told c left m old mid was is written → left ≡ []
+    → FollowsEnd m c.end told → WrittenText mid out is now (told_text t is_told told) (Err inner) → cut.count ≡ told_count (written + inner.count) → WritesJoined old out was now c t (Err cut)
+end_cut t is_told c left m told old mid out was is now written inner cut followed none follows wrote sum =
+    let w : Followed t is_told c [] m old mid was is written = subst (λ (l : List Edge). Followed t is_told c l m old mid was is written) none followed in (
+      subst (λ (x : List ℕ). CutOff old out x cut)
+          (append-nil (so_far t (line_of_edges c.edges) w.from ++ told_text t is_told told) ∙ sym (all_read t is_told c m told old mid was is written w follows))
+          (cut_again old mid out (so_far t (line_of_edges c.edges) w.from) (told_text t is_told told) [] written inner cut w.count w.wrote wrote.0 sum),
+      wrote.1,
+    )
+
+-- joined up to 0 the readings are those of the file that says the same
+pub none_joined : (c : Captured) (old new : Option (List ℕ)) (was is : Bool) (result : Result (Unit {0}) WriteFault) → WritesJoined old new was is c 0 result → WritesFile old new was is (as_file c) result
+none_joined c old new was is (Ok n) h = (subst (Appends old new) (joined_none false (readings_of (line_of_edges c.edges) c.end)) h.0, h.1)
+none_joined c old new was is (Err fault) h = (subst (λ (x : List ℕ). CutOff old new x fault) (joined_none false (readings_of (line_of_edges c.edges) c.end)) h.0, h.1)
+
+-- the next edge of a list
+pub next_edge : (edges : List Edge) (k : ℕ) (none : Edge) → k < length edges → drop k edges ≡ get_or edges k none ∷ drop (k + 1) edges
+next_edge edges k none l = drop-cons edges k none l ∙ ap (λ n. get_or edges k none ∷ drop n edges) (let x : suc k ≡ k + 1 = omega arith in x)
+
+pub no_edge : (edges : List Edge) (k : ℕ) → length edges ≤ k → drop k edges ≡ []
+no_edge edges k l = drop_of_length-le edges l

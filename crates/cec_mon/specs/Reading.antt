@@ -1,0 +1,29 @@
+-- What a reader of edge files returns (own).
+use Rattle.std.specs.Prelude.{◌≡◌, ℕ, Result, Ok, Err}
+use Rattle.std.specs.Global.{Vec}
+use Rattle.cec_wave.specs.declared.Edge.{Edge}
+use Rattle.cec_signal.specs.Edges.{Captured}
+use Rattle.cec_mon.specs.EdgeFile.{EdgeFile}
+use Rattle.cec_mon.specs.Watch.{as_file}
+use Rattle.cec_mon.specs.declared.edge_file.EdgeFault.{EdgeFault}
+use Rattle.cec_mon.specs.declared.edge_file.EdgeFault.TheVariants as fault
+use Rattle.cec_mon.specs.declared.reading.EdgeError.{EdgeError}
+use Rattle.cec_mon.specs.declared.reading.EdgeError.TheVariants.{Line, Order, Memory}
+
+abbrev pub fault_told : EdgeFault → EdgeError
+fault_told (fault.Line line) = Line line
+fault_told (fault.Order line) = Order line
+
+-- a capture is what is read, and a fault is the one of the text; of memory nothing is said
+abbrev pub GivesFile : Result Captured EdgeError → Result EdgeFile EdgeFault → Type 0
+GivesFile (Ok c) read = read ≡ Ok (as_file c)
+GivesFile (Err (Line line)) read = read ≡ Err (fault.Line line)
+GivesFile (Err (Order line)) read = read ≡ Err (fault.Order line)
+GivesFile (Err Memory) read = Unit {0}
+
+-- the same of edges and an end
+abbrev pub GivesEdges : Result (Vec Edge × ℕ) EdgeError → Result EdgeFile EdgeFault → Type 0
+GivesEdges (Ok c) read = read ≡ Ok (record { edges = c.0.items; end = c.1 })
+GivesEdges (Err (Line line)) read = read ≡ Err (fault.Line line)
+GivesEdges (Err (Order line)) read = read ≡ Err (fault.Order line)
+GivesEdges (Err Memory) read = Unit {0}

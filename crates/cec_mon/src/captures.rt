@@ -1,0 +1,142 @@
+//! From a capture to the lines of its readings.
+ghost use Rattle.std.specs.Prelude.{◌≡◌, ◌≤◌, ◌||◌, option_map};
+ghost use Rattle.std.specs.Option.{option_to_list};
+ghost use Rattle.hdmi_core.specs.Written.{WrittenLine};
+ghost use Rattle.cec_words.specs.Cut.{WrittenText};
+ghost use Rattle.cec_bits.specs.Reports.{listed_as};
+ghost use Rattle.cec_signal.specs.Edges.{line_of_edges};
+ghost use Rattle.cec_mon.specs.Joined.{IsJoined, WatchesJoined, WritesJoined, has_joined, idle_by, joined_line, joined_text};
+ghost use Rattle.cec_mon.specs.Watch.{WritesFile, as_file};
+
+use crate::monitor::Monitor;
+use crate::watching::write_reported;
+use cec_frame::Reading;
+use cec_signal::Capture;
+use cec_words::{counted, cut_at};
+use hdmi_core::{Piece, Sink, WriteFault, write_line};
+
+/// Seven nominal bit periods of 2,400 microseconds (HDMI 1.4, CEC 5.2.2), for which the line is high before a reading that is
+/// sure to begin with a start bit. No frame has its line high for so long.
+const SEVEN_PERIODS: u64 = 16_800;
+
+// The instant at which the line has been high long enough, up to another one.
+fn idle_by(high_since: Option<u64>, until: u64) -> Option<u64>
+    ensures { result ≡ idle_by high_since until }
+{
+    let since = high_since?;
+    if u128::from(since) + u128::from(SEVEN_PERIODS) <= u128::from(until) {
+        Some(since + SEVEN_PERIODS)
+    } else {
+        None
+    }
+}
+
+// The first instant at which the line is idle, or the end.
+fn joined_at(capture: &Capture) -> u64
+    ensures { IsJoined (line_of_edges capture.now.edges) capture.now.end result }
+{
+    let edges = capture.edges();
+    let mut high_since = Some(0);
+    for edge in edges {
+        if let Some(instant) = idle_by(high_since, edge.at) {
+            return instant;
+        }
+        high_since = if edge.low { None } else { Some(edge.at) };
+    }
+    match idle_by(high_since, capture.end()) {
+        Some(instant) => instant,
+        None => capture.end(),
+    }
+}
+
+fn write_joined<S: Sink>(out: &mut S, instant: u64) -> Result<u128, WriteFault>
+    ensures { WrittenLine (S.contents out.old) (S.contents out.new) (S.is_stuck out.old) (S.is_stuck out.new) (joined_line instant) result }
+{
+    write_line(
+        out,
+        &[
+            Piece::Text("0 "),
+            Piece::Decimal(instant),
+            Piece::Text(" joined -\n"),
+        ],
+    )
+}
+
+// Whether a reading is joined, or one was before it.
+fn has_joined(reading: &Option<Reading>, joined_at: u64, is_told: bool) -> bool
+    ensures { result ≡ (is_told || has_joined joined_at (option_to_list (option_map listed_as reading.now))) }
+{
+    match reading {
+        None => is_told,
+        Some(reading) => is_told || reading.begin < joined_at,
+    }
+}
+
+// Writes the line of a reading, if there is one, or the one that stands for all that are joined.
+fn write_told<S: Sink>(
+    reading: &Option<Reading>,
+    joined_at: u64,
+    is_told: bool,
+    out: &mut S,
+) -> Result<u128, WriteFault>
+    ensures { WrittenText (S.contents out.old) (S.contents out.new) (S.is_stuck out.old) (S.is_stuck out.new)
+        (joined_text joined_at is_told (option_to_list (option_map listed_as reading.now))) result }
+{
+    if !has_joined(reading, joined_at, false) {
+        return write_reported(reading, out);
+    }
+    if is_told {
+        return Ok(0);
+    }
+    match write_joined(out, joined_at) {
+        Ok(count) => Ok(counted(0, count)),
+        Err(fault) => Err(cut_at(0, fault)),
+    }
+}
+
+// Writes the readings of a capture, joined up to an instant.
+fn write_from<S: Sink>(capture: &Capture, joined_at: u64, out: &mut S) -> Result<(), WriteFault>
+    ensures { WritesJoined (S.contents out.old) (S.contents out.new) (S.is_stuck out.old) (S.is_stuck out.new) capture.now joined_at result }
+{
+    let edges = capture.edges();
+    let mut monitor = Monitor::new();
+    let mut is_told = false;
+    let mut written = 0;
+    for edge in edges {
+        let reading = monitor.edge(*edge);
+        match write_told(&reading, joined_at, is_told, out) {
+            Ok(count) => written = counted(written, count),
+            Err(fault) => return Err(cut_at(written, fault)),
+        }
+        is_told = has_joined(&reading, joined_at, is_told);
+    }
+    let reading = monitor.finish(capture.end());
+    match write_told(&reading, joined_at, is_told, out) {
+        Ok(_) => Ok(()),
+        Err(fault) => Err(cut_at(written, fault)),
+    }
+}
+
+/// Writes the readings of a capture, a line each, as `watch` writes those of an edge file.
+///
+/// # Errors
+///
+/// The sink takes no more: then the front of the readings was written, as long as it tells.
+pub fn watch_capture<S: Sink>(capture: &Capture, out: &mut S) -> Result<(), WriteFault>
+    ensures { WritesFile (S.contents out.old) (S.contents out.new) (S.is_stuck out.old) (S.is_stuck out.new) (as_file capture.now) result }
+{
+    write_from(capture, 0, out)
+}
+
+/// Writes the readings of a capture that may begin in the middle of a frame. One line, `0 T joined -`, stands for those that
+/// begin before T: the first instant before which the line was high for 16,800 microseconds of the capture, or its end where
+/// there is none. Without such readings there is no such line.
+///
+/// # Errors
+///
+/// The sink takes no more: then the front of the lines was written, as long as it tells.
+pub fn watch_from_idle<S: Sink>(capture: &Capture, out: &mut S) -> Result<(), WriteFault>
+    ensures { WatchesJoined (S.contents out.old) (S.contents out.new) (S.is_stuck out.old) (S.is_stuck out.new) capture.now result }
+{
+    write_from(capture, joined_at(capture), out)
+}
