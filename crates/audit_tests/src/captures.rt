@@ -1,0 +1,94 @@
+//! Captures, spelled slot by slot.
+use cec_signal::Capture;
+use cec_vcd::read_vcd;
+use std::process::Abort;
+
+/// What a dump begins with.
+const HEAD: &str = "$timescale 1 us $end\n$var wire 1 ! CEC $end\n$enddefinitions $end\n#0\n1!\n";
+
+/// How long the line stays high at the end of a capture, in microseconds.
+const TAIL: u64 = 20_000;
+
+/// Where a capture that is being spelled has come; its dump and its edge file so far.
+#[derive(Drop)]
+struct Spelling {
+    at: u64,
+    dump: String,
+    file: String,
+}
+
+fn number(rt: &impl Abort, text: &str) -> u64 {
+    text.parse::<u64>().ok().expect(rt, "a number")
+}
+
+/// The low and the high part of a word: `S` a start bit, `0` and `1` bits of nominal times, or both parts in microseconds.
+fn parts(rt: &impl Abort, word: &str) -> (u64, u64) {
+    match word {
+        "S" => (3_700, 800),
+        "0" => (1_500, 900),
+        "1" => (600, 1_800),
+        _ => {
+            let (low, high) = word
+                .split_once("/")
+                .expect(rt, "a low part and a high part");
+            (number(rt, low), number(rt, high))
+        }
+    }
+}
+
+fn add(rt: &(impl Abort + AllocGlobal), spelling: &mut Spelling, low: u64, high: u64) {
+    let fall = spelling.at;
+    let rise = fall.saturating_add(low);
+    let dump = format!(in rt.alloc(); "#{fall}\n0!\n#{rise}\n1!\n").expect(rt, "a text");
+    let file = format!(in rt.alloc(); "{fall} 0\n{rise} 1\n").expect(rt, "a text");
+    spelling
+        .dump
+        .push_str(dump.as_str())
+        .ok()
+        .expect(rt, "a text");
+    spelling
+        .file
+        .push_str(file.as_str())
+        .ok()
+        .expect(rt, "a text");
+    spelling.at = rise.saturating_add(high);
+}
+
+/// These words, one after another: `@N` waits until an instant, and each other word is low and then high.
+fn spelled(rt: &(impl Abort + AllocGlobal), words: &str) -> Spelling {
+    let mut spelling = Spelling {
+        at: 0,
+        dump: String::from_str(rt.alloc(), HEAD).expect(rt, "a text"),
+        file: String::new(rt.alloc()),
+    };
+    for word in words.split_ascii_whitespace() {
+        match word.strip_prefix("@") {
+            Some(instant) => spelling.at = number(rt, instant),
+            None => {
+                let (low, high) = parts(rt, word);
+                add(rt, &mut spelling, low, high);
+            }
+        }
+    }
+    spelling.at = spelling.at.saturating_add(TAIL);
+    spelling
+}
+
+/// The capture of these words.
+pub(crate) fn capture(rt: &(impl Abort + AllocGlobal), words: &str) -> Capture {
+    let spelling = spelled(rt, words);
+    let end = spelling.at;
+    let dump = spelling.dump;
+    let text = format!(in rt.alloc(); "{dump}#{end}\n").expect(rt, "a text");
+    read_vcd(rt.alloc(), b"", text.as_bytes())
+        .ok()
+        .expect(rt, "a capture")
+}
+
+/// The edge file of these words.
+pub(crate) fn edge_file(rt: &(impl Abort + AllocGlobal), words: &str) -> String {
+    let spelling = spelled(rt, words);
+    let end = spelling.at;
+    let file = spelling.file;
+    format!(in rt.alloc(); "{file}{end} end\n").expect(rt, "a text")
+}

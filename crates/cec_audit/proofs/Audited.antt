@@ -1,0 +1,148 @@
+-- A capture audited edge by edge.
+use Rattle.std.proofs.Common.{◌≡◌, ℕ, suc, ◌+◌, ◌<◌, ◌≤◌, Bool, true, false, nat_lt, if◌then◌else◌, zero, ◌-◌, ◌&&◌, List, [], ◌∷◌, ◌++◌, length, get_or, drop, Option, Result, Ok, append_assoc, refl, arith, ap, ◌∙◌, sym, subst}
+use Rattle.std.proofs.Math.Seq.{drop-cons}
+use Rattle.std.proofs.Math.ListN.{drop_of_length-le}
+use Rattle.std.specs.Option.{option_to_list}
+use Rattle.std.proofs.lemmas.Bool.Decides.{nat_tests}
+use Rattle.hdmi_core.specs.declared.sink.WriteFault.{WriteFault}
+use Rattle.cec_wave.specs.declared.Edge.{Edge}
+use Rattle.cec_wave.specs.Line.{Line, was_low}
+use Rattle.cec_bits.specs.Readings.{Listed, readings_of}
+use Rattle.cec_bits.specs.Ended.{ended_by}
+use Rattle.cec_bits.specs.Reports.{ended_before}
+use Rattle.cec_bits.proofs.Stood.{was_now}
+use Rattle.cec_words.specs.Cut.{WrittenText}
+use Rattle.cec_signal.specs.Edges.{AreInTurn, Captured, EndBy, IsCapture, level_at, line_of_edges}
+use Rattle.cec_signal.proofs.Recording.{before_turn}
+use Rattle.cec_mon.specs.declared.monitor.Monitor.{Monitor as Watcher}
+use Rattle.cec_mon.specs.Monitor.{HeardBefore, FollowsEdge, FollowsEnd}
+use Rattle.cec_audit.specs.Progress.{WritesOn}
+use Rattle.cec_audit.specs.Audit.{Tape, after, after_all, audit_text, first_tape, summary_text, told, told_all}
+use Rattle.cec_audit.proofs.Writing.{writes_first}
+
+-- ---- readings, one after another
+
+pub after_more : (t : Tape) (xs ys : List Listed) → after_all t (xs ++ ys) ≡ after_all (after_all t xs) ys
+after_more t [] ys = refl
+after_more t (x ∷ xs) ys = after_more (after x t) xs ys
+
+pub told_more : (timing : Bool) (t : Tape) (xs ys : List Listed) → told_all timing t (xs ++ ys) ≡ told_all timing t xs ++ told_all timing (after_all t xs) ys
+told_more timing t [] ys = refl
+told_more timing t (x ∷ xs) ys =
+    ap (λ (l : List ℕ). told timing t x ++ l) (told_more timing (after x t) xs ys)
+    ∙ sym (append_assoc (told timing t x) (told_all timing (after x t) xs) (told_all timing (after_all (after x t) xs) ys))
+
+-- no edge comes past the end
+pub edge_early : (edges : List Edge) (end k : ℕ) (none : Edge) → EndBy end edges → k < length edges → (get_or edges k none).at ≤ end
+edge_early [] end k none h l = absurd (omega arith)
+edge_early (e ∷ edges) end zero none h l = h.0
+edge_early (e ∷ edges) end (suc k) none h l = edge_early edges end k none h.1 (omega arith)
+
+-- ---- the edges up to these are told, and what has ended before the next one is written
+
+pub record Audited (c : Captured) (left : List Edge) (m : Watcher) (timing : Bool) (tape : Tape) (old now : Option (List ℕ)) (was is : Bool) (so_far : Result ℕ WriteFault) : Type 0 where
+  pub is_low : Bool
+  pub from : ℕ
+  pub level : (u : ℕ) → from ≤ u → line_of_edges c.edges u ≡ level_at is_low left u
+  pub before : was_low (line_of_edges c.edges) from ≡ is_low
+  pub turn : AreInTurn is_low from left
+  pub ends : EndBy c.end left
+  pub reach : from ≤ c.end + 1
+  pub heard : HeardBefore m (line_of_edges c.edges) from
+  pub kept : tape ≡ after_all (first_tape c.edges) (ended_before (line_of_edges c.edges) from)
+  pub wrote : WrittenText old now was is (told_all timing (first_tape c.edges) (ended_before (line_of_edges c.edges) from)) so_far
+
+pub audited_first : (c : Captured) (m : Watcher) (timing : Bool) (tape : Tape) (old : Option (List ℕ)) (was : Bool) (so_far : Result ℕ WriteFault) → IsCapture c.edges c.end → ((low : Line) → HeardBefore m low 0)
+    → tape ≡ first_tape c.edges → so_far ≡ Ok 0 → Audited c c.edges m timing tape old old was was so_far
+audited_first c m timing tape old was so_far is heard first none = record {
+  is_low = false;
+  from = 0;
+  level = λ u l. refl;
+  before = let x : nat_lt 0 0 ≡ false = grind (arith, nat_tests) in ap (λ b. b && line_of_edges c.edges (0 - 1)) x;
+  turn = is.turn;
+  ends = is.ends;
+  reach = omega arith;
+  heard = heard (line_of_edges c.edges);
+  kept = first;
+  wrote = subst (λ (r : Result ℕ WriteFault). WrittenText old old was was [] r) (sym none) (writes_first old was);
+}
+
+-- what is told next, and what is written of it
+more_written : (timing : Bool) (t tape : Tape) (xs : List Listed) (told : Option Listed) (old mid out : Option (List ℕ)) (was is now : Bool) (p q : Result ℕ WriteFault) → tape ≡ after_all t xs
+    → WrittenText old mid was is (told_all timing t xs) p → WritesOn mid out is now (told_all timing tape (option_to_list told)) p q → WrittenText old out was now (told_all timing t (xs ++ option_to_list told)) q
+more_written timing t tape xs told old mid out was is now p q kept wrote next =
+    subst (λ (z : List ℕ). WrittenText old out was now z q)
+    (ap (λ (s : Tape). told_all timing t xs ++ told_all timing s (option_to_list told)) kept ∙ sym (told_more timing t xs (option_to_list told)))
+    (next.on old was (told_all timing t xs) wrote)
+
+more_kept : (t tape new : Tape) (xs : List Listed) (told : Option Listed) → tape ≡ after_all t xs → new ≡ after_all tape (option_to_list told) → new ≡ after_all t (xs ++ option_to_list told)
+more_kept t tape new xs told kept next = next ∙ ap (λ (s : Tape). after_all s (option_to_list told)) kept ∙ sym (after_more t xs (option_to_list told))
+
+pub audited_more : (c : Captured) (left rest : List Edge) (m new : Watcher) (e : Edge) (told : Option Listed) (timing : Bool) (tape later : Tape) (old mid out : Option (List ℕ)) (was is now : Bool) (p q : Result ℕ WriteFault)
+    → Audited c left m timing tape old mid was is p → left ≡ e ∷ rest → FollowsEdge m e told new → later ≡ after_all tape (option_to_list told) → WritesOn mid out is now (told_all timing tape (option_to_list told)) p q
+    → Audited c rest new timing later old out was now q
+audited_more c left rest m new e told timing tape later old mid out was is now p q audited cut follows next writes = record {
+  is_low = e.low;
+  from = e.at + 1;
+  level = λ u l. past u (omega arith);
+  before = was_now low e.at ∙ now_is;
+  turn = w.turn.2;
+  ends = w.ends.1;
+  reach = let last = w.ends.0 in omega (arith, last);
+  heard = d.0;
+  kept = subst (λ (xs : List Listed). later ≡ after_all (first_tape c.edges) xs) (sym ended) (more_kept (first_tape c.edges) tape later (ended_before low w.from) told w.kept next);
+  wrote = subst (λ (xs : List Listed). WrittenText old out was now (told_all timing (first_tape c.edges) xs) q) (sym ended)
+      (more_written timing (first_tape c.edges) tape (ended_before low w.from) told old mid out was is now p q w.kept w.wrote writes);
+}
+  where
+    low : Line
+    low = line_of_edges c.edges
+
+    w : Audited c (e ∷ rest) m timing tape old mid was is p
+    w = subst (λ (l : List Edge). Audited c l m timing tape old mid was is p) cut audited
+
+    after_it : w.from ≤ e.at
+    after_it = w.turn.1
+
+    calm : (u : ℕ) → w.from ≤ u → u < e.at → line_of_edges c.edges u ≡ m.receiver.was_low
+    calm u l s = w.level u l ∙ ap (λ b. if b then w.is_low else level_at e.low rest u) (let x : nat_lt u e.at ≡ true = grind (arith, nat_tests) in x) ∙ sym w.before ∙ sym w.heard.stood.level
+
+    past : (u : ℕ) → e.at ≤ u → line_of_edges c.edges u ≡ level_at e.low rest u
+    past u l = w.level u (omega (arith, after_it)) ∙ ap (λ b. if b then w.is_low else level_at e.low rest u) (let x : nat_lt u e.at ≡ false = grind (arith, nat_tests) in x)
+
+    now_is : line_of_edges c.edges e.at ≡ e.low
+    now_is = past e.at (omega arith) ∙ before_turn e.low (e.at + 1) rest w.turn.2 e.at (omega arith)
+
+    d : HeardBefore new (line_of_edges c.edges) (e.at + 1) × (ended_by (line_of_edges c.edges) e.at ≡ ended_before (line_of_edges c.edges) w.from ++ option_to_list told)
+    d = follows (line_of_edges c.edges) w.from w.heard after_it calm now_is
+
+    ended : ended_before (line_of_edges c.edges) (e.at + 1) ≡ ended_before (line_of_edges c.edges) w.from ++ option_to_list told
+    ended = ap (ended_before (line_of_edges c.edges)) (let x : e.at + 1 ≡ suc e.at = omega arith in x) ∙ d.1
+
+-- the end of a capture
+pub audited_end : (c : Captured) (left : List Edge) (m : Watcher) (told : Option Listed) (timing : Bool) (tape later : Tape) (old mid out last : Option (List ℕ)) (was is now at : Bool) (p q r : Result ℕ WriteFault)
+    → Audited c left m timing tape old mid was is p → left ≡ [] → FollowsEnd m c.end told → later ≡ after_all tape (option_to_list told) → WritesOn mid out is now (told_all timing tape (option_to_list told)) p q
+    → WritesOn out last now at (summary_text c.end later) q r → WrittenText old last was at (audit_text timing c) r
+audited_end c left m told timing tape later old mid out last was is now at p q r audited none follows next writes ends =
+    subst (λ (t : Tape). WrittenText old last was at (told_all timing (first_tape c.edges) (readings_of (line_of_edges c.edges) c.end) ++ summary_text c.end t) r) kept
+    (ends.on old was (told_all timing (first_tape c.edges) (readings_of (line_of_edges c.edges) c.end)) wrote)
+  where
+    w : Audited c [] m timing tape old mid was is p
+    w = subst (λ (l : List Edge). Audited c l m timing tape old mid was is p) none audited
+
+    read : readings_of (line_of_edges c.edges) c.end ≡ ended_before (line_of_edges c.edges) w.from ++ option_to_list told
+    read = follows (line_of_edges c.edges) w.from w.heard w.reach (λ u k s. w.level u k ∙ sym w.before ∙ sym w.heard.stood.level)
+
+    kept : later ≡ after_all (first_tape c.edges) (readings_of (line_of_edges c.edges) c.end)
+    kept = subst (λ (xs : List Listed). later ≡ after_all (first_tape c.edges) xs) (sym read) (more_kept (first_tape c.edges) tape later (ended_before (line_of_edges c.edges) w.from) told w.kept next)
+
+    wrote : WrittenText old out was now (told_all timing (first_tape c.edges) (readings_of (line_of_edges c.edges) c.end)) q
+    wrote = subst (λ (xs : List Listed). WrittenText old out was now (told_all timing (first_tape c.edges) xs) q) (sym read)
+        (more_written timing (first_tape c.edges) tape (ended_before (line_of_edges c.edges) w.from) told old mid out was is now p q w.kept w.wrote writes)
+
+-- the next edge of a list
+pub next_edge : (edges : List Edge) (k : ℕ) (none : Edge) → k < length edges → drop k edges ≡ get_or edges k none ∷ drop (k + 1) edges
+next_edge edges k none l = drop-cons edges k none l ∙ ap (λ n. get_or edges k none ∷ drop n edges) (let x : suc k ≡ k + 1 = omega arith in x)
+
+pub no_edge : (edges : List Edge) (k : ℕ) → length edges ≤ k → drop k edges ≡ []
+no_edge edges k l = drop_of_length-le edges l

@@ -1,0 +1,7 @@
+use Rattle.std.proofs.Common.{refl}
+use Rattle.cec_audit.proofs.Writing.{writes_as, writes_two}
+use Rattle.cec_audit.proofs.auditor.Auditor.write_remarks.Goals as goal
+
+pub returns : goal.returns
+returns g c =
+    writes_as (rw (c.requires.frame, c.widths_of.ensures, c.requires.lows) refl) (writes_two (writes_two c.write_times.ensures c.write_frame.ensures) c.write_timing.ensures)

@@ -1,0 +1,134 @@
+-- The audit of a capture: below the line of each reading what there is to remark, in order, and at the end the widths of
+-- all readings (own).
+use Rattle.std.specs.Prelude.{ℕ, ◌-◌, Bool, nat_lt, ◌&&◌, if◌then◌else◌, List, [], ◌∷◌, ◌++◌, Option, Some, None, codes}
+use Rattle.hdmi_core.specs.declared.phys.Phys.{Phys}
+use Rattle.cec_wave.specs.declared.Edge.{Edge}
+use Rattle.cec_frame.specs.declared.Ending.{Ending}
+use Rattle.cec_frame.specs.declared.Ending.TheVariants.{Open}
+use Rattle.cec_bits.specs.Readings.{Listed, readings_of}
+use Rattle.cec_signal.specs.Edges.{Captured, line_of_edges}
+use Rattle.cec_timing.specs.declared.low.Low.{Low}
+use Rattle.cec_timing.specs.declared.spread.Widths.{Widths}
+use Rattle.cec_timing.specs.Lows.{Place, first_low, gone_to, lows_before, place_at, place_of}
+use Rattle.cec_timing.specs.Misfits.{low_drive}
+use Rattle.cec_timing.specs.Spreads.{no_widths, sum_of, with_slots}
+use Rattle.cec_mon.specs.Watch.{listed_line}
+use Rattle.cec_audit.specs.declared.attempts.Attempts.{Attempts}
+use Rattle.cec_audit.specs.declared.auditor.Auditor.{Auditor}
+use Rattle.cec_audit.specs.declared.counts.Count.{Count}
+use Rattle.cec_audit.specs.declared.free.Before.{Before}
+use Rattle.cec_audit.specs.declared.free.Before.TheVariants.{Nothing}
+use Rattle.cec_audit.specs.declared.requests.Request.{Request}
+use Rattle.cec_audit.specs.declared.series.Series.{Series}
+use Rattle.cec_audit.specs.Attempts.{after_attempt, failure_of, no_attempts}
+use Rattle.cec_audit.specs.Counts.{counts_text, no_counts, with_reading}
+use Rattle.cec_audit.specs.Frames.{delivered, sender}
+use Rattle.cec_audit.specs.Free.{before_of, is_bad_start, too_soon}
+use Rattle.cec_audit.specs.Lines.{drive_text, failure_text, misfits_text, series_text, soon_text, timing_text, widths_text}
+use Rattle.cec_audit.specs.Places.{moved_from, moved_text, no_places, unknown_source, unknown_text, with_places}
+use Rattle.cec_audit.specs.Requests.{after_frame, late_text}
+use Rattle.cec_audit.specs.Series.{after_start, no_series, series_over}
+
+-- ---- what is kept of the readings so far
+
+pub record Tape : Type 0 where
+  pub place : Place
+  pub before : Before
+  pub attempts : Attempts
+  pub series : Series
+  pub waiting : List Request
+  pub places : List (Option Phys)
+  pub counts : List Count
+  pub widths : Widths
+
+abbrev pub tape_of : Auditor → Tape
+tape_of a = record { place = place_of a.cursor; before = a.before; attempts = a.attempts; series = a.series; waiting = a.waiting.items; places = a.places; counts = a.counts; widths = a.widths }
+
+-- before all readings of a capture
+abbrev pub first_tape : List Edge → Tape
+first_tape edges = record { place = place_at 0 edges; before = Nothing; attempts = no_attempts; series = no_series; waiting = []; places = no_places; counts = no_counts; widths = no_widths }
+
+-- its edges are passed over up to the fall of a reading
+abbrev pub come_to : Listed → Tape → Tape
+come_to x t = record t { place = gone_to x.begin t.place.since t.place.edges }
+
+-- ---- a reading
+
+-- its slots fall before it ended; what is open has those up to the capture's end
+abbrev pub falls_until : Ending → ℕ → ℕ
+falls_until Open at = sum_of at 1
+falls_until _ at = at
+
+abbrev pub lows_of : Listed → Place → List Low
+lows_of x p = lows_before (falls_until x.told.ending x.told.at) p.edges
+
+-- the widths that are out of their windows: of bad starts in a row those of the first one
+abbrev pub is_folded : Series → Ending → Bool
+is_folded s ending = is_bad_start ending && nat_lt 0 s.count
+
+abbrev pub reading_misfits : Series → Listed → List Low → List ℕ
+reading_misfits s x lows = if is_folded s x.told.ending then [] else misfits_text x.told.ending x.told.bits 0 lows
+
+-- the low drive that may follow it
+abbrev pub drive_by : Ending → Option Low → Option ℕ
+drive_by ending None = None
+drive_by ending (Some low) = low_drive ending low
+
+abbrev pub drive_of : Listed → Place → Option ℕ
+drive_of x p = drive_by x.told.ending (first_low (gone_to x.told.at p.since p.edges).edges)
+
+-- what there is to remark of what was before it, of its times and its blocks
+abbrev pub times_text : Tape → Listed → List ℕ
+times_text t x =
+    series_text (series_over t.series x.told.ending) ++ late_text x.begin t.waiting ++ soon_text (too_soon t.before x.told.ending x.told.bits (x.begin - t.place.since))
+    ++ reading_misfits t.series x (lows_of x t.place) ++ drive_text (drive_of x t.place) ++ failure_text (failure_of t.attempts x.told.bits)
+
+-- of what it says
+abbrev pub frame_text : Tape → List ℕ → List ℕ
+frame_text t frame = moved_text (sender frame) (moved_from frame t.places) ++ unknown_text (unknown_source frame t.places)
+
+-- what there is to remark, in order
+abbrev pub remarks_text : Bool → Tape → Listed → List ℕ
+remarks_text timing t x =
+    times_text t x ++ frame_text t (delivered x) ++ timing_text timing (with_slots x.told.ending x.told.bits 0 (lows_of x t.place) no_widths)
+
+-- what is kept of it
+abbrev pub noted : Listed → Tape → Tape
+noted x t = record {
+  place = t.place;
+  before = before_of x.told.ending x.told.bits;
+  attempts = after_attempt t.attempts x.told.ending x.told.bits;
+  series = after_start t.series x.told.ending x.begin;
+  waiting = after_frame x.begin x.told.at (delivered x) t.waiting;
+  places = with_places (delivered x) t.places;
+  counts = with_reading x.told.ending x.told.bits t.counts;
+  widths = with_slots x.told.ending x.told.bits 0 (lows_of x t.place) t.widths;
+}
+
+-- its line, and what there is to remark
+abbrev pub told : Bool → Tape → Listed → List ℕ
+told timing t x = listed_line x ++ remarks_text timing (come_to x t) x
+
+abbrev pub after : Listed → Tape → Tape
+after x t = noted x (come_to x t)
+
+-- ---- readings, one after another
+
+abbrev pub after_all : Tape → List Listed → Tape
+after_all t [] = t
+after_all t (x ∷ xs) = after_all (after x t) xs
+
+abbrev pub told_all : Bool → Tape → List Listed → List ℕ
+told_all timing t [] = []
+told_all timing t (x ∷ xs) = told timing t x ++ told_all timing (after x t) xs
+
+-- what there is to say of all readings up to an end: the requests that were not answered, the frames of each initiator, and
+-- the widths
+abbrev pub summary_text : ℕ → Tape → List ℕ
+summary_text end t = codes "  all readings\n" ++ late_text end t.waiting ++ counts_text 0 t.counts ++ widths_text t.widths
+
+-- the whole of a capture: its readings, one after another, and what there is to say of all
+abbrev pub audit_text : Bool → Captured → List ℕ
+audit_text timing c =
+    told_all timing (first_tape c.edges) (readings_of (line_of_edges c.edges) c.end)
+    ++ summary_text c.end (after_all (first_tape c.edges) (readings_of (line_of_edges c.edges) c.end))

@@ -1,0 +1,274 @@
+//! What is remarked of one reading after another.
+ghost use Rattle.std.specs.Prelude.{◌≡◌, ◌+◌, ◌≤◌, length, option_map};
+ghost use Rattle.std.specs.Option.{option_to_list};
+ghost use Rattle.cec_bits.specs.Reports.{listed_as};
+ghost use Rattle.cec_audit.specs.Audit.{after, after_all, come_to, drive_by, drive_of, falls_until, first_tape, frame_text, is_folded, lows_of, noted, reading_misfits, remarks_text, summary_text, tape_of, times_text, told, told_all};
+ghost use Rattle.cec_audit.specs.Frames.{bytes_or_none, delivered};
+ghost use Rattle.cec_audit.specs.Progress.{WritesOn};
+ghost use Rattle.cec_timing.specs.Lows.{place_of};
+ghost use Rattle.cec_timing.specs.Spreads.{no_widths, with_slots};
+
+use crate::attempts::Attempts;
+use crate::counts::{Counts, count_reading, no_counts, write_counts};
+use crate::free::{Before, is_bad_start};
+use crate::header::is_delivered;
+use crate::lines::{
+    write_drive, write_failure, write_misfits, write_series, write_soon, write_timing, write_widths,
+};
+use crate::places::{
+    Places, moved_from, no_places, note_report, unknown_source, write_moved, write_unknown,
+};
+use crate::progress::Progress;
+use crate::requests::{Waiting, after_frame, sender, write_late};
+use crate::series::Series;
+use arrayvec::ArrayVec;
+use cec_frame::{Ending, Frame, Reading};
+use cec_timing::{Cursor, LOWS, Low, Widths, first_low, low_drive, lows_before};
+use cec_wave::Edge;
+use hdmi_core::{Piece, Sink};
+
+/// What is kept of the readings so far.
+#[derive(Drop)]
+pub(crate) struct Auditor<'a> {
+    // the capture's edges from the fall of the last reading on
+    cursor: Cursor<'a>,
+    before: Before,
+    attempts: Attempts,
+    series: Series,
+    waiting: Waiting,
+    places: Places,
+    counts: Counts,
+    widths: Widths,
+}
+
+// The instant before which the slots of a reading fall.
+fn falls_until(ending: Ending, at: u64) -> u64
+    ensures { result ≡ falls_until ending at }
+{
+    match ending {
+        Ending::Open => at.saturating_add(1),
+        Ending::Complete | Ending::Short | Ending::Silent | Ending::BadStart | Ending::Long => at,
+    }
+}
+
+fn lows_of(reading: &Reading, cursor: &Cursor) -> ArrayVec<Low, LOWS>
+    ensures { result.items ≡ lows_of (listed_as reading.now) (place_of cursor.now) }
+{
+    lows_before(cursor.edges(), falls_until(reading.ending, reading.at))
+}
+
+fn drive_of(reading: &Reading, cursor: &Cursor) -> Option<u64>
+    ensures { result ≡ drive_of (listed_as reading.now) (place_of cursor.now) }
+{
+    let mut end = *cursor;
+    end.go_to(reading.at);
+    match first_low(end.edges()) {
+        None => None,
+        Some(low) => low_drive(reading.ending, low),
+    }
+}
+
+// Whether a reading's widths are left out: it is a bad start after another one.
+fn is_folded(series: Series, ending: Ending) -> bool
+    ensures { result ≡ is_folded series ending }
+{
+    is_bad_start(ending) && series.count > 0
+}
+
+fn write_reading_misfits<S: Sink>(
+    series: Series,
+    reading: &Reading,
+    lows: &[Low],
+    progress: &mut Progress,
+    out: &mut S,
+)
+    requires { length lows.now ≤ 161 }
+    ensures { WritesOn (S.contents out.old) (S.contents out.new) (S.is_stuck out.old) (S.is_stuck out.new)
+        (reading_misfits series (listed_as reading.now) lows.now) progress.old.so_far progress.new.so_far }
+{
+    if is_folded(series, reading.ending) {
+        return;
+    }
+    write_misfits(reading.ending, &reading.bits, 0, lows, progress, out);
+}
+
+fn bytes_or_none(frame: &Option<Frame>) -> ArrayVec<u8, 16>
+    ensures { result.items ≡ bytes_or_none frame.now }
+{
+    let mut bytes = ArrayVec::new();
+    if let Some(frame) = frame {
+        let _ = bytes.try_extend_from_slice(frame.bytes());
+    }
+    bytes
+}
+
+// The bytes of a reading's frame, where it was delivered.
+fn delivered(reading: &Reading) -> ArrayVec<u8, 16>
+    ensures { result.items ≡ delivered (listed_as reading.now) }
+{
+    if !is_delivered(reading.ending, &reading.bits) {
+        return ArrayVec::new();
+    }
+    bytes_or_none(&reading.frame())
+}
+
+// The widths of one reading.
+fn widths_of(reading: &Reading, lows: &[Low]) -> Widths
+    requires { length lows.now ≤ 161 }
+    ensures { result ≡ with_slots reading.now.ending reading.now.bits.items 0 lows.now no_widths }
+{
+    let mut widths = Widths::new();
+    widths.add(reading.ending, &reading.bits, 0, lows);
+    widths
+}
+
+impl<'a> Auditor<'a> {
+    /// Of a capture of these edges, before its readings.
+    pub(crate) fn new(edges: &'a [Edge]) -> Self
+        ensures { tape_of result ≡ first_tape edges.now }
+    {
+        Auditor {
+            cursor: Cursor::new(edges),
+            before: Before::Nothing,
+            attempts: Attempts::new(),
+            series: Series::new(),
+            waiting: Waiting::new(),
+            places: no_places(),
+            counts: no_counts(),
+            widths: Widths::new(),
+        }
+    }
+
+    // The edges up to the fall of a reading are passed over.
+    fn come_to(&mut self, reading: &Reading)
+        ensures { tape_of self.new ≡ come_to (listed_as reading.now) (tape_of self.old) }
+    {
+        self.cursor.go_to(reading.begin);
+    }
+
+    // What there is to remark of what was before a reading, of its times and its blocks.
+    fn write_times<S: Sink>(
+        &self,
+        reading: &Reading,
+        lows: &[Low],
+        progress: &mut Progress,
+        out: &mut S,
+    )
+        requires lows { lows.now ≡ lows_of (listed_as reading.now) (tape_of self.now).place }
+        requires few { length lows.now ≤ 161 }
+        ensures { WritesOn (S.contents out.old) (S.contents out.new) (S.is_stuck out.old) (S.is_stuck out.new)
+            (times_text (tape_of self.now) (listed_as reading.now)) progress.old.so_far progress.new.so_far }
+    {
+        let free = reading.begin.saturating_sub(self.cursor.since());
+        write_series(self.series.over(reading.ending), progress, out);
+        write_late(reading.begin, &self.waiting, progress, out);
+        write_soon(
+            self.before.too_soon(reading.ending, &reading.bits, free),
+            progress,
+            out,
+        );
+        write_reading_misfits(self.series, reading, lows, progress, out);
+        write_drive(drive_of(reading, &self.cursor), progress, out);
+        write_failure(self.attempts.failure_of(&reading.bits), progress, out);
+    }
+
+    // What there is to remark of what a frame says.
+    fn write_frame<S: Sink>(&self, frame: &[u8], progress: &mut Progress, out: &mut S)
+        ensures { WritesOn (S.contents out.old) (S.contents out.new) (S.is_stuck out.old) (S.is_stuck out.new)
+            (frame_text (tape_of self.now) frame.now) progress.old.so_far progress.new.so_far }
+    {
+        write_moved(
+            sender(frame),
+            moved_from(frame, &self.places),
+            progress,
+            out,
+        );
+        write_unknown(unknown_source(frame, &self.places), progress, out);
+    }
+
+    // What there is to remark of a reading.
+    fn write_remarks<S: Sink>(
+        &self,
+        reading: &Reading,
+        lows: &[Low],
+        frame: &[u8],
+        timing: bool,
+        progress: &mut Progress,
+        out: &mut S,
+    )
+        requires lows { lows.now ≡ lows_of (listed_as reading.now) (tape_of self.now).place }
+        requires few { length lows.now ≤ 161 }
+        requires frame { frame.now ≡ delivered (listed_as reading.now) }
+        ensures { WritesOn (S.contents out.old) (S.contents out.new) (S.is_stuck out.old) (S.is_stuck out.new)
+            (remarks_text timing (tape_of self.now) (listed_as reading.now)) progress.old.so_far progress.new.so_far }
+    {
+        self.write_times(reading, lows, progress, out);
+        self.write_frame(frame, progress, out);
+        write_timing(timing, widths_of(reading, lows), progress, out);
+    }
+
+    // A reading is kept.
+    fn note(&mut self, reading: &Reading, lows: &[Low], frame: &[u8])
+        requires lows { lows.now ≡ lows_of (listed_as reading.now) (tape_of self.old).place }
+        requires few { length lows.now ≤ 161 }
+        requires frame { frame.now ≡ delivered (listed_as reading.now) }
+        ensures { tape_of self.new ≡ noted (listed_as reading.now) (tape_of self.old) }
+    {
+        self.before = Before::after(reading.ending, &reading.bits);
+        self.attempts.note(reading.ending, &reading.bits);
+        self.series = self.series.with(reading.ending, reading.begin);
+        self.waiting = after_frame(reading.begin, reading.at, frame, &self.waiting);
+        note_report(frame, &mut self.places);
+        count_reading(reading.ending, &reading.bits, &mut self.counts);
+        self.widths.add(reading.ending, &reading.bits, 0, lows);
+    }
+
+    // Writes a reading's line, and what there is to remark.
+    fn tell<S: Sink>(
+        &mut self,
+        reading: &Reading,
+        timing: bool,
+        progress: &mut Progress,
+        out: &mut S,
+    )
+        ensures kept { tape_of self.new ≡ after (listed_as reading.now) (tape_of self.old) }
+        ensures written { WritesOn (S.contents out.old) (S.contents out.new) (S.is_stuck out.old) (S.is_stuck out.new)
+            (told timing (tape_of self.old) (listed_as reading.now)) progress.old.so_far progress.new.so_far }
+    {
+        self.come_to(reading);
+        let lows = lows_of(reading, &self.cursor);
+        let frame = delivered(reading);
+        progress.reading(out, reading);
+        self.write_remarks(reading, &lows, &frame, timing, progress, out);
+        self.note(reading, &lows, &frame);
+    }
+
+    /// The same of what a monitor reported.
+    pub(crate) fn hear<S: Sink>(
+        &mut self,
+        reading: &Option<Reading>,
+        timing: bool,
+        progress: &mut Progress,
+        out: &mut S,
+    )
+        ensures kept { tape_of self.new ≡ after_all (tape_of self.old) (option_to_list (option_map listed_as reading.now)) }
+        ensures written { WritesOn (S.contents out.old) (S.contents out.new) (S.is_stuck out.old) (S.is_stuck out.new)
+            (told_all timing (tape_of self.old) (option_to_list (option_map listed_as reading.now))) progress.old.so_far progress.new.so_far }
+    {
+        let Some(reading) = reading else {
+            return;
+        };
+        self.tell(reading, timing, progress, out);
+    }
+
+    /// Writes what there is to say of all readings up to an end.
+    pub(crate) fn summarize<S: Sink>(&self, end: u64, progress: &mut Progress, out: &mut S)
+        ensures { WritesOn (S.contents out.old) (S.contents out.new) (S.is_stuck out.old) (S.is_stuck out.new)
+            (summary_text end (tape_of self.now)) progress.old.so_far progress.new.so_far }
+    {
+        progress.line(out, &[Piece::Text("  all readings\n")]);
+        write_late(end, &self.waiting, progress, out);
+        write_counts(0, &self.counts, progress, out);
+        write_widths(self.widths, progress, out);
+    }
+}

@@ -1,0 +1,10 @@
+use Rattle.std.proofs.Common.{◌≡◌, length}
+use Rattle.cec_timing.specs.Lows.{gone_to}
+use Rattle.cec_timing.proofs.cursor.Cursor.go_to.Given as goal
+
+-- what is left to pass over
+abbrev pub invariant-edges : goal.invariant-edges
+invariant-edges l = gone_to l.begin l.self.since l.self.edges.now ≡ gone_to l.begin l.initial.self.since l.initial.self.edges.now
+
+abbrev pub decreases-edges : goal.decreases-edges
+decreases-edges l = length l.self.edges.now

@@ -1,0 +1,3 @@
+pub mod Lows
+pub mod Misfits
+pub mod Spreads

@@ -1,0 +1,184 @@
+//! Which widths are out of their windows.
+ghost use Rattle.std.specs.Prelude.{◌≡◌, ◌+◌, ◌-◌, ◌<◌, ◌≤◌, length};
+ghost use Rattle.cec_timing.specs.Misfits.{drive_by, fits, has_all, is_total, low_by, low_drive, low_misfit, low_window, misfit_of, slot_bit, total_by, total_misfit, total_window};
+
+use crate::low::Low;
+use cec_frame::Ending;
+
+/// The start bit's low period, and the whole of it (CEC 5.2.1).
+const START_LOW: Window = Window {
+    least: 3_500,
+    greatest: 3_900,
+};
+
+const START_TOTAL: Window = Window {
+    least: 4_300,
+    greatest: 4_700,
+};
+
+/// The low periods of a 1 and of a 0, and the whole of a bit (CEC 5.2.2).
+const ONE_LOW: Window = Window {
+    least: 400,
+    greatest: 800,
+};
+
+const ZERO_LOW: Window = Window {
+    least: 1_300,
+    greatest: 1_700,
+};
+
+const BIT_TOTAL: Window = Window {
+    least: 2_050,
+    greatest: 2_750,
+};
+
+/// The low drive with which a message is broken (CEC 7.4): 1.4 to 1.6 nominal bit periods.
+pub const DRIVE: Window = Window {
+    least: 3_360,
+    greatest: 3_840,
+};
+
+/// The shortest signal free time (CEC 9.1): a fall that comes as late begins something else.
+const FREE: u64 = 7_200;
+
+/// A width's window, its ends too, in microseconds.
+#[derive(Clone, Copy, Debug, PartialEq, Eq)]
+pub struct Window {
+    pub least: u64,
+    pub greatest: u64,
+}
+
+/// What of a slot is measured.
+#[derive(Clone, Copy, Debug, PartialEq, Eq)]
+pub enum Kind {
+    /// From its fall to its rise.
+    Low,
+    /// From its fall to the next one.
+    Total,
+}
+
+/// A width that is out of its window.
+#[derive(Clone, Copy, Debug, PartialEq, Eq)]
+pub struct Misfit {
+    /// The slot, from 1, or 0 for the start bit.
+    pub slot: u64,
+    pub kind: Kind,
+    /// The width, in microseconds.
+    pub micros: u64,
+    pub window: Window,
+}
+
+impl Window {
+    /// Whether a width is within it.
+    pub fn fits(self, width: u64) -> bool
+        ensures { result ≡ fits self width }
+    {
+        self.least <= width && width <= self.greatest
+    }
+}
+
+pub(crate) fn slot_bit(bits: &[bool], slot: u64) -> bool
+    requires { (0 < slot) × (slot < 1000) }
+    ensures { result ≡ slot_bit bits.now slot }
+{
+    bits.get((slot - 1) as usize).copied().unwrap_or(true)
+}
+
+fn low_window(bits: &[bool], slot: u64) -> Window
+    requires { slot < 1000 }
+    ensures { result ≡ low_window bits.now slot }
+{
+    if slot == 0 {
+        START_LOW
+    } else if slot_bit(bits, slot) {
+        ONE_LOW
+    } else {
+        ZERO_LOW
+    }
+}
+
+fn total_window(slot: u64) -> Window
+    ensures { result ≡ total_window slot }
+{
+    if slot == 0 { START_TOTAL } else { BIT_TOTAL }
+}
+
+fn misfit_of(slot: u64, kind: Kind, window: Window, width: u64) -> Option<Misfit>
+    ensures { result ≡ misfit_of slot kind window width }
+{
+    if window.fits(width) {
+        return None;
+    }
+    Some(Misfit {
+        slot,
+        kind,
+        micros: width,
+        window,
+    })
+}
+
+/// Whether a slot of these bits is low for too short or too long. Slot 0 is the start bit.
+pub fn low_misfit(bits: &[bool], slot: u64, low: Low) -> Option<Misfit>
+    requires { slot < 1000 }
+    ensures { result ≡ low_misfit bits.now slot low }
+{
+    match low.rise {
+        None => None,
+        Some(rise) => misfit_of(
+            slot,
+            Kind::Low,
+            low_window(bits, slot),
+            rise.saturating_sub(low.fall),
+        ),
+    }
+}
+
+fn has_all(ending: Ending) -> bool
+    ensures { result ≡ has_all ending }
+{
+    match ending {
+        Ending::Complete | Ending::Long => true,
+        Ending::Short | Ending::Silent | Ending::BadStart | Ending::Open => false,
+    }
+}
+
+pub(crate) fn is_total(ending: Ending, last: u64, slot: u64, total: u64) -> bool
+    ensures { result ≡ is_total ending last slot total }
+{
+    total < FREE && !(has_all(ending) && slot == last)
+}
+
+/// Whether the next fall comes too soon or too late after a slot's, of a reading that ended so after these bits. Nothing is
+/// said of the last slot of a whole reading, nor of a fall that comes a signal free time later.
+pub fn total_misfit(ending: Ending, bits: &[bool], slot: u64, low: Low) -> Option<Misfit>
+    ensures { result ≡ total_misfit ending bits.now slot low }
+{
+    match low.next {
+        None => None,
+        Some(next) => {
+            let total = next.saturating_sub(low.fall);
+            if !is_total(ending, bits.len() as u64, slot, total) {
+                return None;
+            }
+            misfit_of(slot, Kind::Total, total_window(slot), total)
+        }
+    }
+}
+
+/// How long the line stayed low from the fall that ended a reading as too short, where that is longer than any bit: somebody
+/// broke the message (CEC 7.4).
+pub fn low_drive(ending: Ending, low: Low) -> Option<u64>
+    ensures { result ≡ low_drive ending low }
+{
+    match (ending, low.rise) {
+        (Ending::Short, Some(rise)) => {
+            let width = rise.saturating_sub(low.fall);
+            if ZERO_LOW.greatest < width {
+                Some(width)
+            } else {
+                None
+            }
+        }
+        _ => None,
+    }
+}
