@@ -1,0 +1,10 @@
+use Rattle.std.proofs.Common.{length}
+use Rattle.cec_words.specs.Lines.{lines_of}
+use Rattle.cec_dis.proofs.Telling.{Put}
+use Rattle.cec_dis.proofs.lines.write_lines.Given as goal
+
+abbrev pub invariant-lines : goal.invariant-lines
+invariant-lines g l = Put (lines_of l.text) l.rest (g.S.Sink.contents l.fn.out) (g.S.Sink.contents l.out) (g.S.Sink.is_stuck l.fn.out) (g.S.Sink.is_stuck l.out) l.written
+
+abbrev pub decreases-lines : goal.decreases-lines
+decreases-lines g l = length l.rest

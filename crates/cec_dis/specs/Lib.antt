@@ -1,0 +1,5 @@
+pub mod Bytes
+pub mod Kept
+pub mod Spelling
+pub mod Remark
+pub mod Lines

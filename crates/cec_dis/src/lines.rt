@@ -1,0 +1,144 @@
+//! Frames in hex, one a line, and their texts.
+ghost use Rattle.std.specs.Prelude.{◌≡◌, ◌++◌, codes, Ok, Err, Some, None, Option, MatchResult};
+ghost use Rattle.std.specs.List.{flat_map};
+ghost use Rattle.cec_dis.specs.Lines.{Answers, WritesLines, first_fault, frame_line, line_frame, line_text};
+ghost use Rattle.cec_words.specs.Cut.{WrittenText};
+ghost use Rattle.cec_words.specs.Lines.{lines_of};
+ghost use Rattle.hdmi_core.specs.Written.{WrittenLine};
+
+use crate::bytes::{DisCause, frame_in};
+use crate::remarks::remark;
+use cec_frame::Frame;
+use cec_text::frame_text;
+use cec_words::{counted, cut_at, first_line, is_skipped};
+use hdmi_core::{Piece, Sink, WriteFault, write_line};
+use thiserror::Error;
+
+/// The first line that has no frame, counted from 1, and why.
+#[derive(Clone, Copy, Debug, Drop, PartialEq, Eq, Error)]
+#[error("line {line}: {cause}")]
+pub struct DisFault {
+    pub line: u64,
+    pub cause: DisCause,
+}
+
+/// Why the texts of frames are not written.
+#[derive(Clone, Copy, Debug, Drop, PartialEq, Eq, Error)]
+pub enum DisError {
+    /// A line has no frame. Nothing was written.
+    #[error(transparent)]
+    Line(DisFault),
+    /// The sink took no more than the first bytes.
+    #[error(transparent)]
+    Write(WriteFault),
+}
+
+// The frame of a line, unless the line is skipped.
+fn line_frame(line: &[u8]) -> Result<Option<Frame>, DisCause>
+    ensures { result ≡ line_frame line.now }
+{
+    if is_skipped(line) {
+        return Ok(None);
+    }
+    match frame_in(line) {
+        Ok(frame) => Ok(Some(frame)),
+        Err(cause) => Err(cause),
+    }
+}
+
+// Looks for a line that has no frame.
+fn check_lines(text: &[u8]) -> Result<(), DisFault>
+    ensures { MatchResult result
+        (λ _. first_fault 1 (lines_of text.now) ≡ None)
+        (λ fault. first_fault 1 (lines_of text.now) ≡ Some fault) }
+{
+    let mut rest = text;
+    let mut line = 1u64;
+    'lines: while let Some((current, after)) = first_line(rest) {
+        if let Err(cause) = line_frame(current) {
+            return Err(DisFault { line, cause });
+        }
+        rest = after;
+        line += 1;
+    }
+    Ok(())
+}
+
+// Writes a text and the remark after it, as a line.
+fn write_with_remark<'a, S: Sink>(
+    text: &'a [u8],
+    word: &'a str,
+    out: &mut S,
+) -> Result<u128, WriteFault>
+    ensures { WrittenLine (S.contents out.old) (S.contents out.new) (S.is_stuck out.old) (S.is_stuck out.new) (text.now ++ codes " # " ++ word.now ++ codes "\n") result }
+{
+    write_line(
+        out,
+        &[
+            Piece::Bytes(text),
+            Piece::Text(" # "),
+            Piece::Text(word),
+            Piece::Text("\n"),
+        ],
+    )
+}
+
+fn write_frame<S: Sink>(frame: &Frame, out: &mut S) -> Result<u128, WriteFault>
+    ensures { WrittenLine (S.contents out.old) (S.contents out.new) (S.is_stuck out.old) (S.is_stuck out.new) (frame_line frame.now) result }
+{
+    let text = frame_text(frame);
+    match remark(frame) {
+        None => write_line(out, &[Piece::Bytes(text.as_slice()), Piece::Text("\n")]),
+        Some(word) => write_with_remark(text.as_slice(), word, out),
+    }
+}
+
+// Writes what a line has, if anything.
+fn write_one<S: Sink>(line: &[u8], out: &mut S) -> Result<u128, WriteFault>
+    ensures { WrittenText (S.contents out.old) (S.contents out.new) (S.is_stuck out.old) (S.is_stuck out.new) (line_text line.now) result }
+{
+    match line_frame(line) {
+        Ok(Some(frame)) => match write_frame(&frame, out) {
+            Ok(count) => Ok(counted(0, count)),
+            Err(fault) => Err(cut_at(0, fault)),
+        },
+        Ok(None) => Ok(0),
+        Err(_) => Ok(0),
+    }
+}
+
+fn write_lines<S: Sink>(text: &[u8], out: &mut S) -> Result<(), WriteFault>
+    ensures { WritesLines (S.contents out.old) (S.contents out.new) (S.is_stuck out.old) (S.is_stuck out.new) (lines_of text.now) result }
+{
+    let mut rest = text;
+    let mut written = 0;
+    'lines: while let Some((current, after)) = first_line(rest) {
+        match write_one(current, out) {
+            Ok(count) => written = counted(written, count),
+            Err(fault) => return Err(cut_at(written, fault)),
+        }
+        rest = after;
+    }
+    Ok(())
+}
+
+/// Writes the texts of the frames whose bytes the lines of a text spell in hex, a line each; after a text a remark, ` # `
+/// and a word of the standard, where the text leaves the opcode or an operand as bytes and the standard has a word. It takes
+/// no memory.
+///
+/// # Errors
+///
+/// `Line` with the first line that has no frame, and why: then nothing was written. Lines that are empty or begin with `#`
+/// are skipped, but counted. `Write` where the sink takes no more: then the front of the texts was written, as long as it
+/// says.
+pub fn dis_lines<S: Sink>(text: &[u8], out: &mut S) -> Result<(), DisError>
+    ensures { Answers (S.contents out.old) (S.contents out.new) (S.is_stuck out.old) (S.is_stuck out.new) (lines_of text.now) result }
+{
+    if let Err(fault) = check_lines(text) {
+        return Err(DisError::Line(fault));
+    }
+    match write_lines(text, out) {
+        Ok(()) => Ok(()),
+        Err(fault) => Err(DisError::Write(fault)),
+    }
+}

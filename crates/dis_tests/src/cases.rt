@@ -1,0 +1,104 @@
+//! Each row through the call that the program makes.
+use crate::rows::{REFUSED, REMARKS, SPELLINGS, USER_CONTROLS};
+use cec_dis::{DisError, dis_lines};
+use hdmi_core::Writes;
+use std::io::{self, ErrorKind, Write};
+use std::process::Abort;
+
+/// What is written of a text, or why nothing is.
+fn told(rt: &(impl Abort + AllocGlobal), text: &str) -> String {
+    let mut out = Vec::new(rt.alloc());
+    match dis_lines(text.as_bytes(), &mut Writes::new(&mut out)) {
+        Ok(()) => String::from_utf8(out).expect(rt, "a text"),
+        Err(error) => format!(in rt.alloc(); "{error}").expect(rt, "a refusal"),
+    }
+}
+
+fn holds(rt: &impl Abort, holds: bool, case: &str) {
+    assert!(rt; holds, "{case}");
+}
+
+/// Each line by itself has the text behind its arrow, or is refused for that cause.
+fn are_told(rt: &(impl Abort + AllocGlobal), lines: &str, ending: &str, front: &str) {
+    for line in lines.lines() {
+        let (input, want) = line.split_once(" => ").expect(rt, line);
+        let whole = format!(in rt.alloc(); "{front}{want}{ending}").expect(rt, line);
+        holds(rt, told(rt, input) == whole, line);
+    }
+}
+
+#[test]
+fn spellings_are_read(rt: HostRuntime) {
+    are_told(&rt, SPELLINGS, "\n", "");
+    are_told(&rt, REMARKS, "\n", "");
+    are_told(&rt, USER_CONTROLS, "\n", "");
+}
+
+#[test]
+fn other_lines_are_refused(rt: HostRuntime) {
+    for line in REFUSED.lines() {
+        let (input, want) = line.split_once(" => ").expect(&rt, line);
+        let text = format!(in rt.alloc(); "44\n\n{input} \n44\n").expect(&rt, line);
+        let fault = format!(in rt.alloc(); "line 3: {want}").expect(&rt, line);
+        holds(&rt, told(&rt, &text) == fault, line);
+    }
+}
+
+#[test]
+fn lines_are_counted(rt: HostRuntime) {
+    let text = "# a capture\n44\n\n4f 82 10 00\r\n";
+    holds(&rt, told(&rt, text).as_str() == "line 4: digit", text);
+    let text = "# a capture\n44\n\n4f 82 10 00";
+    holds(
+        &rt,
+        told(&rt, text).as_str() == "4>4\n4>f active-source 1.0.0.0\n",
+        text,
+    );
+    holds(&rt, told(&rt, "").as_str() == "", "nothing");
+}
+
+/// A writer that takes one byte a call, as many as it has room for.
+#[derive(Drop)]
+struct Narrow {
+    bytes: Vec<u8>,
+    room: usize,
+}
+
+impl Write for Narrow {
+    fn write(&mut self, bytes: &[u8]) -> io::Result<usize> {
+        if self.bytes.len() >= self.room {
+            return Err(io::Error::from(ErrorKind::Other));
+        }
+        let taken = bytes.get(..1).unwrap_or(bytes);
+        self.bytes.extend_from_slice(taken)?;
+        Ok(taken.len())
+    }
+
+    fn flush(&mut self) -> io::Result<()> {
+        Ok(())
+    }
+}
+
+/// A writer with this much room gets the front of the text that fits, and its length is the count of the fault.
+fn is_cut_off(rt: &(impl Abort + AllocGlobal), text: &str, want: &str, room: usize) -> bool {
+    let mut out = Narrow {
+        bytes: Vec::new(rt.alloc()),
+        room,
+    };
+    let done = dis_lines(text.as_bytes(), &mut Writes::new(&mut out));
+    let count = match done {
+        Ok(()) => want.len() as u128,
+        Err(DisError::Write(fault)) => fault.count,
+        Err(DisError::Line(_)) => return false,
+    };
+    count == room as u128 && Some(out.bytes.as_slice()) == want.as_bytes().get(..room)
+}
+
+#[test]
+fn a_writer_that_fails_has_the_front(rt: HostRuntime) {
+    let text = "4f a6 06\n# none\n44\n";
+    let want = "4>f op-a6 :06 # report-features\n4>4\n";
+    for room in 0..=want.len() {
+        holds(&rt, is_cut_off(&rt, text, want, room), want);
+    }
+}
