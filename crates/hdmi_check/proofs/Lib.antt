@@ -1,0 +1,2 @@
+mod AmongLemmas
+mod LawLemmas

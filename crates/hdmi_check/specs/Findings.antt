@@ -7,22 +7,23 @@ use Rattle.hdmi_cta.specs.declared.raw.Ext.{Ext}
 use Rattle.hdmi_parts.specs.ExtParts.{timings_of}
 use Rattle.hdmi_check.specs.Rules.{rules, is_broken}
 use Rattle.hdmi_check.specs.TimingRules.{timing_rules, breaks}
+use Rattle.hdmi_check.specs.declared.rule.Origin.{Origin}
 use Rattle.hdmi_check.specs.declared.rule.Rule.{Rule}
 use Rattle.hdmi_check.specs.declared.rule.TimingRule.{TimingRule}
 use Rattle.hdmi_check.specs.declared.rule.Finding.{Finding}
 use Rattle.hdmi_check.specs.declared.rule.Finding.TheVariants.{Edid, Timing as OfTiming}
 
 -- those of some rules that are broken
-abbrev pub rule_findings : Base → List Ext → List Rule → List Finding
-rule_findings b xs rs = map Edid (filter (λ rule. is_broken rule b xs) rs)
+abbrev pub rule_findings : Origin → Base → List Ext → List Rule → List Finding
+rule_findings o b xs rs = map Edid (filter (λ rule. is_broken o rule b xs) rs)
 
 -- those of some rules that the timing with this number breaks
 abbrev pub timing_findings : Base → ℕ → Timing → List TimingRule → List Finding
 timing_findings b number t rs = map (OfTiming number) (filter (λ rule. breaks rule b t) rs)
 
 -- of all rules
-unfoldable pub edid_findings : Base → List Ext → List Finding
-edid_findings b xs = rule_findings b xs rules
+unfoldable pub edid_findings : Origin → Base → List Ext → List Finding
+edid_findings o b xs = rule_findings o b xs rules
 
 -- of all rules for the timing with this number
 unfoldable pub one_timing_findings : Base → ℕ → Timing → List Finding
@@ -33,5 +34,5 @@ abbrev pub numbered : Base → ℕ → List Timing → List Finding
 numbered b number [] = []
 numbered b number (t ∷ ts) = one_timing_findings b number t ++ numbered b (number + 1) ts
 
-abbrev pub findings : Base → List Ext → List Finding
-findings b xs = edid_findings b xs ++ numbered b 1 (timings_of b xs)
+abbrev pub findings : Origin → Base → List Ext → List Finding
+findings o b xs = edid_findings o b xs ++ numbered b 1 (timings_of b xs)

@@ -5,9 +5,11 @@ use Rattle.hdmi_edid.specs.declared.base.Base.{Base}
 use Rattle.hdmi_cta.specs.Hdmi.{is_hdmi, blocks_of}
 use Rattle.hdmi_cta.specs.declared.raw.Ext.{Ext}
 use Rattle.hdmi_parts.specs.BaseParts.{is_three, some_tagged, is_empty, begins_with_timing, is_continuous, prefers_first, claims_srgb, is_srgb, is_ill_unused, has_established_vga, names_formula}
-use Rattle.hdmi_parts.specs.BlockParts.{lists_vga, is_video_capability, fixes_rgb_range, has_fast_clock, has_wrong_address, is_speakers, is_ill_speakers, has_multichannel_pcm}
+use Rattle.hdmi_parts.specs.BlockParts.{lists_vga, is_video_capability, fixes_rgb_range, has_fast_clock, has_wrong_address, has_root_address, is_speakers, is_ill_speakers, has_multichannel_pcm}
 use Rattle.hdmi_parts.specs.ExtParts.{is_cta, begins_with_map, overscans, has_padding, native_count, hides_sound, some_block, hdmi_count, has_forum_first, timings_of}
 use Rattle.hdmi_parts.specs.VideoCodes.{video_codes, repeats, has_lone_code}
+use Rattle.hdmi_check.specs.declared.rule.Origin.{Origin}
+use Rattle.hdmi_check.specs.declared.rule.Origin.TheVariants.{Display, Port}
 use Rattle.hdmi_check.specs.declared.rule.Rule.{Rule}
 use Rattle.hdmi_check.specs.declared.rule.Rule.TheVariants.{FirstTimingPreferred, PreferredTiming, ProductName, RangeLimits, LimitsAlone, Week, Srgb, NoEmptyDescriptor, UnusedStandard, BlockMap, HdmiRevision, OneSerial, Vga, VideoCodeOnce, NativeCount, Underscan, BasicAudio, Speakers, Padding, VideoCapability, RgbRange, TmdsClock, Address, OneHdmi, HdmiVideoCode, ForumAfterHdmi}
 
@@ -18,54 +20,59 @@ rules =
     BlockMap ∷ HdmiRevision ∷ OneSerial ∷ Vga ∷ VideoCodeOnce ∷ NativeCount ∷ Underscan ∷ BasicAudio ∷ Speakers ∷ Padding ∷
     VideoCapability ∷ RgbRange ∷ TmdsClock ∷ Address ∷ OneHdmi ∷ HdmiVideoCode ∷ ForumAfterHdmi ∷ []
 
--- a base block with these extensions breaks a rule
-abbrev pub is_broken : Rule → Base → List Ext → Bool
+-- an HDMI block has the address of no place in a tree, or in a port's EDID that of the root (HDMI 1.4, section 8.7.3)
+abbrev pub has_ill_address : Origin → List Ext → Bool
+has_ill_address Display xs = some_block has_wrong_address xs
+has_ill_address Port xs = some_block has_wrong_address xs || some_block has_root_address xs
+
+-- a base block with these extensions, of this origin, breaks a rule
+abbrev pub is_broken : Origin → Rule → Base → List Ext → Bool
 -- 1.3 asks that the first timing is the preferred one (E-EDID Release A, section 3.6.4)
-is_broken FirstTimingPreferred b xs = is_three b.revision && not (prefers_first b)
+is_broken o FirstTimingPreferred b xs = is_three b.revision && not (prefers_first b)
 -- a preferred timing is the first descriptor (section 3.10.1); 1.4 always has one (E-EDID 1.4, section 3.10.1)
-is_broken PreferredTiming b xs = (not (is_three b.revision) || prefers_first b) && not (begins_with_timing b)
+is_broken o PreferredTiming b xs = (not (is_three b.revision) || prefers_first b) && not (begins_with_timing b)
 -- tag FC (section 3.10.3)
-is_broken ProductName b xs = not (some_tagged 0xfc b)
+is_broken o ProductName b xs = not (some_tagged 0xfc b)
 -- 1.3 asks for tag FD (section 3.10.3), and 1.4 where the display takes any frequency (E-EDID 1.4, section 3.10.3.3)
-is_broken RangeLimits b xs = (is_three b.revision || is_continuous b) && not (some_tagged 0xfd b)
+is_broken o RangeLimits b xs = (is_three b.revision || is_continuous b) && not (some_tagged 0xfd b)
 -- 1.4: a formula makes timings of any frequency (E-EDID 1.4, section 3.10.3.3)
-is_broken LimitsAlone b xs = not (is_three b.revision) && not (is_continuous b) && list_any names_formula b.descriptors
+is_broken o LimitsAlone b xs = not (is_three b.revision) && not (is_continuous b) && list_any names_formula b.descriptors
 -- 1.3 has no model years and no week 54 (section 3.4.4)
-is_broken Week b xs = is_three b.revision && ((b.week == 54) || (b.week == 255))
+is_broken o Week b xs = is_three b.revision && ((b.week == 54) || (b.week == 255))
 -- the features tell of sRGB where the chromaticities are its own, and only there (section 3.6.4)
-is_broken Srgb b xs = (claims_srgb b && not (is_srgb b.chroma)) || (not (claims_srgb b) && is_srgb b.chroma)
+is_broken o Srgb b xs = (claims_srgb b && not (is_srgb b.chroma)) || (not (claims_srgb b) && is_srgb b.chroma)
 -- an unused descriptor has the tag 10 (section 3.10.3)
-is_broken NoEmptyDescriptor b xs = list_any is_empty b.descriptors
-is_broken UnusedStandard b xs = list_any is_ill_unused b.standard
+is_broken o NoEmptyDescriptor b xs = list_any is_empty b.descriptors
+is_broken o UnusedStandard b xs = list_any is_ill_unused b.standard
 -- 1.3 asks for a block map before two and more extensions (section 4.1)
-is_broken BlockMap b xs = is_three b.revision && nat_lt 1 (length xs) && not (begins_with_map xs)
+is_broken o BlockMap b xs = is_three b.revision && nat_lt 1 (length xs) && not (begins_with_map xs)
 -- HDMI asks for 1.3 (HDMI 1.4, section 8.3)
-is_broken HdmiRevision b xs = not (is_three b.revision) && some_block is_hdmi xs
+is_broken o HdmiRevision b xs = not (is_three b.revision) && some_block is_hdmi xs
 -- a serial number as a text leaves 0 in the four bytes (own)
-is_broken OneSerial b xs = nat_lt 0 b.serial && list_any is_cta xs && some_tagged 0xff b
+is_broken o OneSerial b xs = nat_lt 0 b.serial && list_any is_cta xs && some_tagged 0xff b
 -- each display of CTA-861 shows 640x480 at 60 Hz (CTA-861-D, section 3.1)
-is_broken Vga b xs = list_any is_cta xs && not (has_established_vga b) && not (some_block lists_vga xs)
+is_broken o Vga b xs = list_any is_cta xs && not (has_established_vga b) && not (some_block lists_vga xs)
 -- a format is listed once (CTA-861-D, section 7.5.1)
-is_broken VideoCodeOnce b xs = repeats (video_codes xs)
+is_broken o VideoCodeOnce b xs = repeats (video_codes xs)
 -- no more timings are native than there are (CTA-861-D, section 7.5)
-is_broken NativeCount b xs = list_any (λ x. nat_lt (length (timings_of b xs)) (native_count x)) xs
+is_broken o NativeCount b xs = list_any (λ x. nat_lt (length (timings_of b xs)) (native_count x)) xs
 -- formats of computers are shown whole (CTA-861-D, section 7.5)
-is_broken Underscan b xs = list_any overscans xs
+is_broken o Underscan b xs = list_any overscans xs
 -- a display that has sound takes basic audio (CTA-861-D, section 7.5)
-is_broken BasicAudio b xs = list_any hides_sound xs
+is_broken o BasicAudio b xs = list_any hides_sound xs
 -- more than two channels of linear PCM ask for the speakers, which are told in three bytes (CTA-861-D, section 7.5.3)
-is_broken Speakers b xs = (some_block has_multichannel_pcm xs && not (some_block is_speakers xs)) || some_block is_ill_speakers xs
+is_broken o Speakers b xs = (some_block has_multichannel_pcm xs && not (some_block is_speakers xs)) || some_block is_ill_speakers xs
 -- zeros follow the timings (CTA-861-D, section 7.5)
-is_broken Padding b xs = list_any has_padding xs
+is_broken o Padding b xs = list_any has_padding xs
 -- a display of CTA-861 tells its video capabilities (CTA-861-D, section 7.5.6)
-is_broken VideoCapability b xs = list_any is_cta xs && not (some_block is_video_capability xs)
+is_broken o VideoCapability b xs = list_any is_cta xs && not (some_block is_video_capability xs)
 -- the range of RGB values can be chosen (CTA-861-D, section 7.5.6)
-is_broken RgbRange b xs = some_block fixes_rgb_range xs
-is_broken TmdsClock b xs = some_block has_fast_clock xs
-is_broken Address b xs = some_block has_wrong_address xs
+is_broken o RgbRange b xs = some_block fixes_rgb_range xs
+is_broken o TmdsClock b xs = some_block has_fast_clock xs
+is_broken o Address b xs = has_ill_address o xs
 -- of several HDMI blocks the first one's address is read (own)
-is_broken OneHdmi b xs = nat_lt 1 (hdmi_count xs)
+is_broken o OneHdmi b xs = nat_lt 1 (hdmi_count xs)
 -- a format of HDMI's own codes is also listed by its video identification code (own)
-is_broken HdmiVideoCode b xs = list_any (λ x. list_any (has_lone_code (video_codes xs)) (blocks_of x)) xs
+is_broken o HdmiVideoCode b xs = list_any (λ x. list_any (has_lone_code (video_codes xs)) (blocks_of x)) xs
 -- an HDMI Forum block comes after an HDMI block (own)
-is_broken ForumAfterHdmi b xs = list_any has_forum_first xs
+is_broken o ForumAfterHdmi b xs = list_any has_forum_first xs

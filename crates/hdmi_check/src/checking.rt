@@ -1,11 +1,11 @@
 //! The rules, one by one.
 ghost use Rattle.std.specs.Prelude.{◌≡◌, ◌≤◌, ◌<◌, ◌+◌, ◌*◌, ◌++◌, length};
 ghost use Rattle.arrayvec.specs.ArrayVec.{array_vec_len};
-ghost use Rattle.hdmi_check.specs.Rules.{is_broken};
+ghost use Rattle.hdmi_check.specs.Rules.{has_ill_address, is_broken};
 ghost use Rattle.hdmi_check.specs.TimingRules.{has_zero, has_size, differs, breaks};
 ghost use Rattle.hdmi_check.specs.Findings.{rule_findings, timing_findings, edid_findings, one_timing_findings, numbered, findings};
 
-use crate::rule::{Finding, Rule, TimingRule};
+use crate::rule::{Finding, Origin, Rule, TimingRule};
 use arrayvec::ArrayVec;
 use hdmi_cta::Ext;
 use hdmi_edid::{Base, Timing};
@@ -65,10 +65,21 @@ const TIMING_RULES: [TimingRule; 8] = [
     TimingRule::NearLimits,
 ];
 
+/// Whether an HDMI block has an address that no EDID of this origin has.
+fn has_ill_address(origin: Origin, extensions: &[Ext]) -> bool
+    ensures { result ≡ has_ill_address origin extensions.now }
+{
+    some_block(Sought::WrongAddress, extensions)
+        || match origin {
+            Origin::Display => false,
+            Origin::Port => some_block(Sought::RootAddress, extensions),
+        }
+}
+
 /// Whether an EDID of these parts breaks a rule.
-fn is_broken(rule: Rule, base: &Base, extensions: &[Ext]) -> bool
+fn is_broken(origin: Origin, rule: Rule, base: &Base, extensions: &[Ext]) -> bool
     requires { length extensions.now ≤ 3 }
-    ensures { result ≡ is_broken rule base.now extensions.now }
+    ensures { result ≡ is_broken origin rule base.now extensions.now }
 {
     match rule {
         Rule::FirstTimingPreferred => is_three(base.revision) && !prefers_first(base),
@@ -115,7 +126,7 @@ fn is_broken(rule: Rule, base: &Base, extensions: &[Ext]) -> bool
         }
         Rule::RgbRange => some_block(Sought::FixedRgbRange, extensions),
         Rule::TmdsClock => some_block(Sought::FastClock, extensions),
-        Rule::Address => some_block(Sought::WrongAddress, extensions),
+        Rule::Address => has_ill_address(origin, extensions),
         Rule::OneHdmi => 1 < hdmi_count(extensions),
         Rule::HdmiVideoCode => some_lone_code(video_codes(extensions).as_slice(), extensions),
         Rule::ForumAfterHdmi => some_forum_first(extensions),
@@ -182,19 +193,20 @@ fn breaks(rule: TimingRule, base: &Base, timing: &Timing) -> bool
 fn add_rules(
     found: &mut ArrayVec<Finding, MAX_FINDINGS>,
     rules: &[Rule],
+    origin: Origin,
     base: &Base,
     extensions: &[Ext],
 )
     requires few { length extensions.now ≤ 3 }
     requires room { array_vec_len found.old + length rules.now ≤ MAX_FINDINGS }
-    ensures items { found.new.items ≡ found.old.items ++ rule_findings base.now extensions.now rules.now }
+    ensures items { found.new.items ≡ found.old.items ++ rule_findings origin base.now extensions.now rules.now }
     ensures len { array_vec_len found.new ≤ array_vec_len found.old + length rules.now }
 {
     if let [rule, rest @ ..] = rules {
-        if is_broken(*rule, base, extensions) {
+        if is_broken(origin, *rule, base, extensions) {
             found.push(Finding::Edid(*rule));
         }
-        add_rules(found, rest, base, extensions);
+        add_rules(found, rest, origin, base, extensions);
     }
 }
 
@@ -220,13 +232,18 @@ fn add_timing_rules(
 
 /// Adds the rules that an EDID breaks.
 #[tactic(auto, unfolding(crate::specs::Findings::edid_findings))]
-fn add_edid(found: &mut ArrayVec<Finding, MAX_FINDINGS>, base: &Base, extensions: &[Ext])
+fn add_edid(
+    found: &mut ArrayVec<Finding, MAX_FINDINGS>,
+    origin: Origin,
+    base: &Base,
+    extensions: &[Ext],
+)
     requires few { length extensions.now ≤ 3 }
     requires room { array_vec_len found.old + 26 ≤ MAX_FINDINGS }
-    ensures items { found.new.items ≡ found.old.items ++ edid_findings base.now extensions.now }
+    ensures items { found.new.items ≡ found.old.items ++ edid_findings origin base.now extensions.now }
     ensures len { array_vec_len found.new ≤ array_vec_len found.old + 26 }
 {
-    add_rules(found, &RULES, base, extensions);
+    add_rules(found, &RULES, origin, base, extensions);
 }
 
 /// Adds the rules that a timing breaks.
@@ -258,13 +275,13 @@ fn add_timings(
 
 /// The rules that an EDID of these parts breaks, in the order of the rules, and then for each of its detailed timings, in
 /// the order of the bytes, those that it breaks.
-pub fn check(base: &Base, extensions: &[Ext]) -> ArrayVec<Finding, MAX_FINDINGS>
+pub fn check(origin: Origin, base: &Base, extensions: &[Ext]) -> ArrayVec<Finding, MAX_FINDINGS>
     requires { length extensions.now ≤ 3 }
-    ensures { result.items ≡ findings base.now extensions.now }
+    ensures { result.items ≡ findings origin base.now extensions.now }
 {
     let mut found = ArrayVec::new();
     let timings = timings_of(base, extensions);
-    add_edid(&mut found, base, extensions);
+    add_edid(&mut found, origin, base, extensions);
     add_timings(&mut found, base, 1, timings.as_slice());
     found
 }

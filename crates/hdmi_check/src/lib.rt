@@ -2,9 +2,11 @@
 #![tactic(auto)]
 
 mod checking;
+mod laws;
 mod rule;
 mod text;
 
 pub use checking::{MAX_FINDINGS, check};
-pub use rule::{Finding, Rule, Severity, TimingRule};
+pub use laws::findings_are_what_is_broken;
+pub use rule::{Finding, Origin, Rule, Severity, TimingRule};
 pub use text::{has_failure, write_findings};

@@ -47,7 +47,7 @@ pub enum Rule {
     RgbRange,
     /// The clock of an HDMI block is at most 340 MHz.
     TmdsClock,
-    /// The physical address is that of a place in a tree.
+    /// The physical address is that of a place in a tree, and in a port not that of the root.
     Address,
     /// There is one HDMI block.
     OneHdmi,
@@ -76,6 +76,15 @@ pub enum TimingRule {
     WithinLimits,
     /// Its rates are within the range limits of revision 4.
     NearLimits,
+}
+
+/// Whose EDID is looked at.
+#[derive(Clone, Copy, Debug, PartialEq, Eq)]
+pub enum Origin {
+    /// A display's own, which has the address 0.0.0.0.
+    Display,
+    /// The one that a port passes on, which has the address of the device in it.
+    Port,
 }
 
 /// How much a broken rule matters.

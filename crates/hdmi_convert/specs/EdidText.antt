@@ -1,8 +1,6 @@
--- What is written of an EDID: its text, or its bytes in hex (own).
-use Rattle.std.specs.Prelude.{◌≡◌, ℕ, ◌<◌, Bool, true, false, List, ◌++◌, length, take, Option, Result, Ok, Err, codes}
+-- What is written of an EDID: its text of its bytes, or of its text the EDID in a form (own).
+use Rattle.std.specs.Prelude.{◌≡◌, ℕ, ◌<◌, Bool, true, false, List, length, take, Option, Result, Ok, Err}
 use Rattle.std.specs.Io.KnownBytes.{Appends}
-use Rattle.std.specs.List.{flat_map}
-use Rattle.hdmi_core.specs.Piece.{hex_text}
 use Rattle.hdmi_blocks.specs.Bytes.{edid_bytes, IsRefused}
 use Rattle.hdmi_edtext.specs.Cut.{lines_of}
 use Rattle.hdmi_edtext.specs.Lines.{edid_text}
@@ -10,6 +8,8 @@ use Rattle.hdmi_edtext.specs.Refusal.{IsRefusal}
 use Rattle.hdmi_blocks.specs.declared.edid.Edid.{Edid as EdidValue}
 use Rattle.hdmi_edtext.specs.declared.parse.TextError.{TextError}
 use Rattle.hdmi_edtext.specs.declared.parse.TextError.TheVariants as texts
+use Rattle.hdmi_convert.specs.Form.{form_text}
+use Rattle.hdmi_convert.specs.declared.form.Form.{Form}
 use Rattle.hdmi_convert.specs.declared.edid_text.EdidToTextError.{EdidToTextError}
 use Rattle.hdmi_convert.specs.declared.edid_text.EdidToTextError.TheVariants.{Edid, Write}
 use Rattle.hdmi_convert.specs.declared.edid_text.TextToHexError.{TextToHexError}
@@ -32,11 +32,7 @@ abbrev pub is_text_cut : Result (Unit {0}) EdidToTextError → Bool
 is_text_cut (Err (Write count)) = true
 is_text_cut _ = false
 
--- ---- from a text to hex
-
--- two lower-case hex digits for each byte, and a line feed
-abbrev pub hex_line : List ℕ → List ℕ
-hex_line bytes = flat_map hex_text bytes ++ codes "\n"
+-- ---- from a text to an EDID
 
 abbrev pub text_told : TextError → TextToHexError
 text_told (texts.Syntax line) = hex.Syntax line
@@ -47,14 +43,14 @@ text_told texts.Memory = hex.Memory
 abbrev pub IsNoText : List ℕ → TextError → Type 0
 IsNoText text cause = IsRefusal (lines_of text) cause × ((e : EdidValue) → edid_text e ≡ text → ⊥)
 
--- The text is an EDID's, whose bytes are written in hex, the whole line or its front; or it is none, and nothing is
--- written. Reading a text takes no memory.
-abbrev pub HexAnswers : Option (List ℕ) → Option (List ℕ) → Bool → Bool → List ℕ → Result (Unit {0}) TextToHexError → Type 0
-HexAnswers old new was is text (Ok done) = (e : EdidValue) × (edid_text e ≡ text) × Appends old new (hex_line (edid_bytes e)) × (is ≡ was)
-HexAnswers old new was is text (Err (hex.Write count)) = (e : EdidValue) × (edid_text e ≡ text) × IsCutAt old new is (hex_line (edid_bytes e)) count
-HexAnswers old new was is text (Err (hex.Syntax number)) = IsNoText text (texts.Syntax number) × (new ≡ old) × (is ≡ was)
-HexAnswers old new was is text (Err (hex.Field number)) = IsNoText text (texts.Field number) × (new ≡ old) × (is ≡ was)
-HexAnswers old new was is text (Err hex.Memory) = ⊥
+-- The text is an EDID's, which is written in a form, whole or its front; or it is none, and nothing is written. Reading
+-- a text takes no memory.
+abbrev pub FormAnswers : Form → Option (List ℕ) → Option (List ℕ) → Bool → Bool → List ℕ → Result (Unit {0}) TextToHexError → Type 0
+FormAnswers form old new was is text (Ok done) = (e : EdidValue) × (edid_text e ≡ text) × Appends old new (form_text form e) × (is ≡ was)
+FormAnswers form old new was is text (Err (hex.Write count)) = (e : EdidValue) × (edid_text e ≡ text) × IsCutAt old new is (form_text form e) count
+FormAnswers form old new was is text (Err (hex.Syntax number)) = IsNoText text (texts.Syntax number) × (new ≡ old) × (is ≡ was)
+FormAnswers form old new was is text (Err (hex.Field number)) = IsNoText text (texts.Field number) × (new ≡ old) × (is ≡ was)
+FormAnswers form old new was is text (Err hex.Memory) = ⊥
 
 abbrev pub is_hex_cut : Result (Unit {0}) TextToHexError → Bool
 is_hex_cut (Err (hex.Write count)) = true

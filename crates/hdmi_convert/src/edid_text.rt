@@ -1,11 +1,12 @@
-//! EDIDs from bytes to text, and from text to bytes in hex.
+//! EDIDs from bytes to text, and from text to bytes.
 ghost use Rattle.std.specs.Prelude.{◌≡◌, ◌↔◌, false, IsTrue};
-ghost use Rattle.hdmi_convert.specs.EdidText.{HexAnswers, TextAnswers, hex_line, is_hex_cut, is_text_cut};
-ghost use Rattle.hdmi_core.specs.Written.{WrittenLine};
+ghost use Rattle.hdmi_convert.specs.EdidText.{FormAnswers, TextAnswers, is_hex_cut, is_text_cut};
+ghost use Rattle.hdmi_convert.specs.declared.form.Form.{Form};
 
+use crate::form::{Form, write_edid};
 use arrayvec::ArrayVec;
-use hdmi_blocks::{EdidError, edid_to_bytes, read_parts};
-use hdmi_core::{Piece, Sink, WriteFault, write_line};
+use hdmi_blocks::{EdidError, read_parts};
+use hdmi_core::Sink;
 use hdmi_edtext::{TextError, parse_text, write_parts};
 use std::alloc::Global;
 use thiserror::Error;
@@ -21,7 +22,7 @@ pub enum EdidToTextError {
     Write(u128),
 }
 
-/// Why the bytes of an EDID's text are not written in hex.
+/// Why the EDID that a text tells is not written.
 #[derive(Clone, Copy, Debug, Drop, Error, PartialEq, Eq)]
 pub enum TextToHexError {
     /// On this line, from 1, another line would have to stand. Nothing was written.
@@ -30,7 +31,7 @@ pub enum TextToHexError {
     /// A field of this line, from 1, is at fault. Nothing was written.
     #[error("text: field {0}")]
     Field(usize),
-    /// A `put` took none. So many digits were written.
+    /// A `put` took none. So many bytes were written.
     #[error("write fault after {0} bytes")]
     Write(u128),
     /// Nothing was written.
@@ -87,30 +88,39 @@ pub fn edid_to_text<S: Sink>(bytes: &[u8], out: &mut S) -> Result<(), EdidToText
     }
 }
 
-// Writes bytes as one line of hex, and answers its length.
-fn write_hex_line<S: Sink>(bytes: &[u8], out: &mut S) -> Result<u128, WriteFault>
-    ensures { WrittenLine (S.contents out.old) (S.contents out.new) (S.is_stuck out.old) (S.is_stuck out.new) (hex_line bytes.now) result }
-{
-    write_line(out, &[Piece::Hex(bytes), Piece::Text("\n")])
-}
-
-/// Writes the bytes of the EDID that a text tells, as one line of lower-case hex.
+/// Writes the EDID that a text tells, in a form.
 ///
 /// # Errors
 ///
 /// `Syntax` or `Field` with the first line that no EDID's text has there: then nothing was written. `Write` where the
-/// sink takes no more: then the front of the line was written, as long as it tells. Nothing takes memory today, so
-/// `Memory` does not come.
+/// sink takes no more: then the front of the EDID in that form was written, as long as it tells. Nothing takes memory
+/// today, so `Memory` does not come.
 // An EDID and its text are large: the frame of the caller is kept free of them.
 #[inline(never)]
-pub fn text_to_hex<S: Sink>(alloc: Global, text: &[u8], out: &mut S) -> Result<(), TextToHexError>
-    ensures answers { HexAnswers (S.contents out.old) (S.contents out.new) (S.is_stuck out.old) (S.is_stuck out.new) text.now result }
+pub fn text_to_edid<S: Sink>(
+    alloc: Global,
+    text: &[u8],
+    form: Form,
+    out: &mut S,
+) -> Result<(), TextToHexError>
+    ensures answers { FormAnswers form (S.contents out.old) (S.contents out.new) (S.is_stuck out.old) (S.is_stuck out.new) text.now result }
     ensures write { S.is_stuck out.old ≡ false → (IsTrue (is_hex_cut result) ↔ IsTrue (S.is_stuck out.new)) }
 {
     let edid = parse_text(alloc, text)?;
-    let bytes = edid_to_bytes(&edid);
-    match write_hex_line(&bytes, out) {
-        Ok(_) => Ok(()),
+    match write_edid(&edid, form, out) {
+        Ok(()) => Ok(()),
         Err(fault) => Err(TextToHexError::Write(fault.count)),
     }
+}
+
+/// Writes the bytes of the EDID that a text tells, as one line of lower-case hex: `text_to_edid` with `Form::Hex`.
+///
+/// # Errors
+///
+/// As of `text_to_edid`.
+pub fn text_to_hex<S: Sink>(alloc: Global, text: &[u8], out: &mut S) -> Result<(), TextToHexError>
+    ensures answers { FormAnswers Form.Hex (S.contents out.old) (S.contents out.new) (S.is_stuck out.old) (S.is_stuck out.new) text.now result }
+    ensures write { S.is_stuck out.old ≡ false → (IsTrue (is_hex_cut result) ↔ IsTrue (S.is_stuck out.new)) }
+{
+    text_to_edid(alloc, text, Form::Hex, out)
 }

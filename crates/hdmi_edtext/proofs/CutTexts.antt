@@ -36,7 +36,7 @@ pub joined_lines : (ls : List Line) → flat_map (λ x. x) (map line_text ls) �
 joined_lines [] = refl
 joined_lines (l ∷ ls) = ap (λ t. line_text l ++ t) (joined_lines ls)
 
-line_split : (w rest : List ℕ) → has_no_feed w ≡ true → lines_of (w ++ (10 ∷ rest)) ≡ (w ++ (10 ∷ [])) ∷ lines_of rest
+pub line_split : (w rest : List ℕ) → has_no_feed w ≡ true → lines_of (w ++ (10 ∷ rest)) ≡ (w ++ (10 ∷ [])) ∷ lines_of rest
 line_split [] rest h = refl
 line_split (c ∷ w) rest h =
     let p = both (not (c == 10)) (has_no_feed w) h in
@@ -203,7 +203,7 @@ fields_feed form (Timed numbers flags) h k =
     fits OfAddress h = absurd h
     fits OfQuoted h = absurd h
 
-one_line_of : (l : Line) (rest : List ℕ) → Good l → lines_of (line_text l ++ rest) ≡ line_text l ∷ lines_of rest
+pub one_line_of : (l : Line) (rest : List ℕ) → Good l → lines_of (line_text l ++ rest) ≡ line_text l ∷ lines_of rest
 one_line_of l rest h =
     let w = word_text l.word ++ fields_text l.fields in
     let ok = feed-append (word_text l.word) (fields_text l.fields) (clean_feed (word_text l.word) (word_clean l.word)) (fields_feed (form_of l.word) l.fields h.0 h.1) in

@@ -82,6 +82,10 @@ is_off_tree high low =
 abbrev pub has_wrong_address : Block → Bool
 has_wrong_address b = is_hdmi b && is_off_tree (slice_index b.payload.items 3) (slice_index b.payload.items 4)
 
+-- 0.0.0.0, the address of the root of a tree (HDMI 1.4, section 8.7.2)
+abbrev pub has_root_address : Block → Bool
+has_root_address b = is_hdmi b && (slice_index b.payload.items 3 == 0) && (slice_index b.payload.items 4 == 0)
+
 -- the vendor block of the HDMI Forum: its identifier C4-5D-D8, the lowest byte first
 abbrev pub is_forum : Block → Bool
 is_forum b =
@@ -115,6 +119,7 @@ is_sought sought.VideoCapability = is_video_capability
 is_sought sought.FixedRgbRange = fixes_rgb_range
 is_sought sought.FastClock = has_fast_clock
 is_sought sought.WrongAddress = has_wrong_address
+is_sought sought.RootAddress = has_root_address
 is_sought sought.Sound = is_sound
 is_sought sought.Speakers = is_speakers
 is_sought sought.IllSpeakers = is_ill_speakers

@@ -1,7 +1,7 @@
 //! What the rules ask of data blocks.
 ghost use Rattle.std.specs.Prelude.{◌≡◌, ◌≤◌, ◌+◌, length, take};
 ghost use Rattle.std.specs.List.{list_any};
-ghost use Rattle.hdmi_parts.specs.BlockParts.{is_vga_code, lists_vga, is_video_capability, fixes_rgb_range, is_speakers, is_ill_speakers, is_sound, is_multichannel_pcm, lists_multichannel_pcm, has_multichannel_pcm, has_fast_clock, is_hole, is_off_tree, has_wrong_address, is_forum, begins_with_forum, video_place, codes_at, hdmi_codes, is_sought};
+ghost use Rattle.hdmi_parts.specs.BlockParts.{is_vga_code, lists_vga, is_video_capability, fixes_rgb_range, is_speakers, is_ill_speakers, is_sound, is_multichannel_pcm, lists_multichannel_pcm, has_multichannel_pcm, has_fast_clock, is_hole, is_off_tree, has_wrong_address, has_root_address, is_forum, begins_with_forum, video_place, codes_at, hdmi_codes, is_sought};
 
 use hdmi_cta::{Block, BlockKind};
 
@@ -22,6 +22,8 @@ pub enum Sought {
     FastClock,
     /// An HDMI block with an address of no place in a tree.
     WrongAddress,
+    /// An HDMI block with the address of the root of a tree.
+    RootAddress,
     /// Audio or speakers.
     Sound,
     Speakers,
@@ -126,6 +128,13 @@ fn has_wrong_address(block: &Block) -> bool
     block.is_hdmi() && is_off_tree(payload[3], payload[4])
 }
 
+fn has_root_address(block: &Block) -> bool
+    ensures { result ≡ has_root_address block.now }
+{
+    let payload = block.payload.as_slice();
+    block.is_hdmi() && payload[3] == 0 && payload[4] == 0
+}
+
 /// Whether it is a vendor block of the HDMI Forum.
 fn is_forum(block: &Block) -> bool
     ensures { result ≡ is_forum block.now }
@@ -200,6 +209,7 @@ pub fn is_sought(sought: Sought, block: &Block) -> bool
         Sought::FixedRgbRange => fixes_rgb_range(block),
         Sought::FastClock => has_fast_clock(block),
         Sought::WrongAddress => has_wrong_address(block),
+        Sought::RootAddress => has_root_address(block),
         Sought::Sound => is_sound(block),
         Sought::Speakers => is_speakers(block),
         Sought::IllSpeakers => is_ill_speakers(block),

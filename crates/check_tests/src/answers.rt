@@ -1,0 +1,112 @@
+//! What is told of EDIDs, a case each.
+use crate::displays::bytes_of;
+use crate::explains::{EXPLAINED, explained};
+use crate::rules::{IN_PORTS, RULES};
+use crate::timings::TIMINGS;
+use crate::ways::{
+    ADDRESSES, FRONTS, PASSED, address_told, fronts_told, passed_checked, passed_told,
+};
+use hdmi_convert::edid_to_findings;
+use hdmi_core::Writes;
+use std::process::Abort;
+
+/// A case and what comes of it.
+fn parted<'a>(rt: &impl Abort, case: &'a str) -> (&'a str, &'a str) {
+    case.rsplit_once(" => ").expect(rt, case)
+}
+
+/// Asserts that a case came out as its text says.
+fn holds(rt: &impl Abort, is_right: bool, case: &str) {
+    assert!(rt; is_right, "{case}");
+}
+
+/// The lines of what is wrong with an EDID, with `;` for each line feed, or `none`. Whether one fails is as the lines tell.
+fn lines_of(rt: &(impl Abort + AllocGlobal), text: &[u8]) -> String {
+    let text = str::from_utf8(text).expect(rt, "a text");
+    if text.is_empty() {
+        return String::from_str(rt.alloc(), "none").expect(rt, "a text");
+    }
+    text.replace(rt.alloc(), "\n", ";").expect(rt, "a line")
+}
+
+/// What is wrong with an EDID.
+fn checked(rt: &(impl Abort + AllocGlobal), words: &str) -> String {
+    let mut text = Vec::new(rt.alloc());
+    let fails = edid_to_findings(&bytes_of(rt, words), &mut Writes::new(&mut text)).expect(
+        rt, words,
+    );
+    let lines = lines_of(rt, &text);
+    holds(rt, fails == lines.as_str().contains("fail "), words);
+    lines
+}
+
+/// Asserts what is told in each case.
+fn are_checked(rt: &(impl Abort + AllocGlobal), cases: &str) {
+    for case in cases.lines() {
+        let (words, want) = parted(rt, case);
+        holds(rt, checked(rt, words).as_str() == want, case);
+    }
+}
+
+#[test]
+fn each_rule_is_broken_alone_and_just_kept(rt: HostRuntime) {
+    are_checked(&rt, RULES);
+    are_checked(&rt, TIMINGS);
+}
+
+/// The answer that is wanted: in place of bytes in hex, words give them.
+fn wanted(rt: &(impl Abort + AllocGlobal), want: &str) -> String {
+    if want.starts_with("tv") {
+        let digits = hex::encode(rt.alloc(), &bytes_of(rt, want)).expect(rt, "hex digits");
+        format!(in rt.alloc(); "{digits}\n").expect(rt, "a line")
+    } else {
+        String::from_str(rt.alloc(), want).expect(rt, "a text")
+    }
+}
+
+#[test]
+fn edids_are_passed_on(rt: HostRuntime) {
+    for case in PASSED.lines() {
+        let (words, want) = parted(&rt, case);
+        let want = wanted(&rt, want);
+        holds(&rt, passed_told(&rt, words).as_str() == want.as_str(), case);
+    }
+}
+
+#[test]
+fn what_is_passed_on_is_checked(rt: HostRuntime) {
+    for case in IN_PORTS.lines() {
+        let (words, want) = parted(&rt, case);
+        let told = passed_checked(&rt, words);
+        let told = if told.is_empty() {
+            "none"
+        } else {
+            told.as_str()
+        };
+        holds(&rt, told == want, case);
+    }
+}
+
+#[test]
+fn addresses_are_told(rt: HostRuntime) {
+    for case in ADDRESSES.lines() {
+        let (words, want) = parted(&rt, case);
+        holds(&rt, address_told(&rt, words).as_str() == want, case);
+    }
+}
+
+#[test]
+fn fronts_are_written_before_a_fault(rt: HostRuntime) {
+    for case in FRONTS.lines() {
+        let (words, want) = parted(&rt, case);
+        holds(&rt, fronts_told(&rt, words).as_str() == want, case);
+    }
+}
+
+#[test]
+fn broken_rules_are_explained(rt: HostRuntime) {
+    for case in EXPLAINED.lines() {
+        let (words, want) = parted(&rt, case);
+        holds(&rt, explained(&rt, words).as_str() == want, case);
+    }
+}

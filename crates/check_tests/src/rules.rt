@@ -1,0 +1,134 @@
+//! The rules for an EDID.
+
+/// What is changed in the television, and the lines of what is then wrong, with `;` for each line feed: each rule broken
+/// alone, and just kept. A dummy descriptor is 00 00 00 10 and zeros.
+pub(crate) const RULES: &str = "\
+tv => none
+tv base 35=000000 => none
+tv 24=0c => fail first-timing-not-preferred;
+tv 19=04 24=0c 118=01 => warn hdmi-of-1.3;
+tv 54=000000100000000000000000000000000000 => fail no-preferred-timing;
+tv 24=0c 54=000000100000000000000000000000000000 => fail first-timing-not-preferred;
+tv 93=fe => fail no-name;
+tv 93=fe 72=000000fc0a => none
+tv 111=fe => fail no-range-limits;
+tv 19=04 146=04 111=fe => none
+tv 19=04 146=04 111=fe 24=0f => fail no-range-limits;
+tv 19=04 146=04 118=00 => fail gtf-fixed;
+tv 19=04 146=04 118=02 => fail gtf-fixed;
+tv 19=04 146=04 118=04 => fail gtf-fixed;
+tv 19=04 146=04 118=01 => none
+tv 19=04 146=04 118=03 => none
+tv 19=04 146=04 118=00 24=0f => none
+tv 16=35 => none
+tv 16=36 => fail week-of-1.4;
+tv 16=fe => none
+tv 16=ff => fail week-of-1.4;
+tv 19=04 146=04 118=01 16=36 => none
+tv 19=04 146=04 118=01 16=ff => none
+tv 24=0a => fail srgb;
+tv 24=0a 27=a2 => none
+tv 27=a2 => fail srgb;
+tv 25=ef => fail srgb;
+tv 34=53 => fail srgb;
+tv 72=000000000000000000000000000000000000 => fail empty-descriptor;
+tv 72=000000100000000000000000000000000000 => none
+tv 72=000000000000000000000000000000000001 => none
+tv 38=0000 => fail standard-unused-form;
+tv 38=0102 => fail standard-unused-form;
+tv 52=0001 => fail standard-unused-form;
+tv 38=0200 => none
+tv cta => fail block-map;
+tv base map cta => warn no-video-capability;
+tv base cta => warn no-video-capability;
+tv 19=04 146=04 118=01 cta => none
+tv other => fail block-map;
+tv base other => none
+tv 19=04 118=01 => warn hdmi-of-1.3;
+tv 19=04 118=01 146=04 => none
+tv 72=000000ff00310a2020202020202020202020 => warn two-serials;
+tv 72=000000ff00310a2020202020202020202020 12=00 => none
+tv 72=000000ff00310a2020202020202020202020 12=00000001 => warn two-serials;
+tv base 72=000000ff00310a2020202020202020202020 => none
+tv 35=00 => none
+tv 136=05 => none
+tv 136=81 35=00 => none
+tv 136=05 35=00 => fail no-640x480;
+tv 136=05 35=df => fail no-640x480;
+tv base 35=00 bare => fail no-640x480;warn no-video-capability;
+tv 135=04 => fail vic-twice;
+tv 135=84 => fail vic-twice;
+tv 135=10 => fail vic-twice;
+tv 135=05 => none
+tv 134=c1 135=41 => none
+tv 134=c0 135=40 => fail vic-twice;
+tv 134=80 135=00 => none
+tv 131=f2 => none
+tv 131=f3 => fail native-count;
+tv 131=ff => fail native-count;
+tv 131=71 => warn overscan;
+tv base 35=20 cta => warn no-video-capability;
+tv base 35=20 cta 131=71 => warn overscan;warn no-video-capability;
+tv 131=b1 => fail no-basic-audio;
+tv 131=b1 137=03 => fail no-basic-audio;
+tv 131=b1 141=03 => fail no-basic-audio;
+tv 131=b1 137=03 141=03 => none
+tv 138=0f => none
+tv 141=03 => none
+tv 138=0f 141=03 => fail speakers;
+tv 138=0a 141=03 => fail speakers;
+tv 138=09 141=03 => none
+tv 138=17 141=03 => none
+tv 141=82010000 => fail speakers;
+tv 137=22 140=00 => none
+tv 254=01 => fail padding;
+tv 156=01 => fail padding;
+tv 152=01 => warn no-video-capability;
+tv 153=0f => warn rgb-quantization;
+tv 153=40 => none
+tv 130=1c 145=67030c001000b844e2004f => none
+tv 130=1c 145=67030c001000b845e2004f => fail tmds-clock;
+tv 149=0000 => none
+tv 149=1234 => none
+tv 149=ffff => fail address;
+tv 149=fffe => none
+tv 149=1020 => fail address;
+tv 149=1200 => none
+tv 149=1203 => fail address;
+tv 149=0100 => fail address;
+tv 149=0001 => fail address;
+tv 130=20 154=65030c001000 => warn hdmi-twice;
+tv 130=20 154=65030c010000 => none
+tv 130=20 145=6b030c001000b82d20002001e2004f => fail hdmi-vic-without-vic;
+tv 130=20 145=6b030c001000b82d20002001e2004f 135=5f => none
+tv 130=20 145=6b030c001000b82d20000001e2004f => none
+tv 130=20 145=6b030c001000b82d00002001e2004f => none
+tv 130=20 145=6b030c001000b82d20002005e2004f => none
+tv 130=21 145=6c030c001000b82d2000400201e2004f 135=5e => fail hdmi-vic-without-vic;
+tv 130=21 145=6c030c001000b82d2000400201e2004f 135=5e 134=5f => none
+tv 130=22 145=6d030c001000b82da00000002004e2004f => fail hdmi-vic-without-vic;
+tv 130=22 145=6d030c001000b82da00000002004e2004f 135=62 => none
+tv 130=24 145=6f030c001000b82de000000000002003e2004f => fail hdmi-vic-without-vic;
+tv 130=24 145=6f030c001000b82de000000000002003e2004f 135=5d => none
+tv 130=22 145=67d85dc40178000065030c000000e2004f => fail hdmi-forum-first;
+tv 130=22 145=65030c00000067d85dc401780000e2004f => none
+tv 130=22 145=67d85dc50178000065030c000000e2004f => none
+";
+
+/// The same of the EDID that a port passes on: the address of the root is wrong there.
+pub(crate) const IN_PORTS: &str = "\
+1.0.0.0 tv => none
+0.0.0.0 tv => fail address;
+0.0.0.1 tv => fail address;
+1.2.3.4 tv 149=ffff => none
+1.0.0.0 tv 130=20 154=65030c000000 => fail address;warn hdmi-twice;
+1.0.0.0 tv 130=20 154=65030c001000 => warn hdmi-twice;
+3 tv => none
+3 tv 149=1000 => none
+3 tv 149=1111 => fail address;
+3 tv 149=1020 => none
+0 tv => edid: port-range
+16 tv => edid: port-range
+3 tv base => edid: no-hdmi-block
+3 tv base 0=01 => edid: base header
+";

@@ -1,0 +1,7 @@
+//! Tests of hdmi_dump: dumps as tools print them, logs with other text around, and dumps that are broken.
+#![tactic(auto)]
+
+#[cfg(test)]
+mod printed;
+#[cfg(test)]
+mod reading;

@@ -1,0 +1,6 @@
+pub mod Pairing
+pub mod RowLemmas
+pub mod Gathering
+pub mod DigitFacts
+pub mod Printing
+pub mod Offsets

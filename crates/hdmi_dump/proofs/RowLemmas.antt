@@ -1,0 +1,74 @@
+-- Rows, and their counts.
+use Rattle.std.proofs.Common.{◌≡◌, ℕ, zero, suc, ◌≤◌, Bool, true, false, if◌then◌else◌, List, [], ◌∷◌, length, take, drop, Option, Some, None, IsSome, is_some, refl, sym, ap, ◌∙◌, arith}
+use Rattle.std.specs.Option.{option_map}
+use Rattle.std.specs.Str.{bytes_eq}
+use Rattle.std.proofs.lemmas.Bool.{false≢true}
+use Rattle.hdmi_dump.specs.declared.digits.Column.{Column}
+use Rattle.hdmi_dump.specs.declared.rows.Form.{Form}
+use Rattle.hdmi_dump.specs.Digits.{filled, pairs}
+use Rattle.hdmi_dump.specs.Rows.{column_of, counted, digits_start, has_header, header, may_have, row, row_from}
+
+-- the count of a row, from that of its pairs
+abbrev pub chosen : Form → Option ℕ → Option ℕ
+chosen form None = None
+chosen form (Some n) = if may_have form n then Some n else None
+
+counts : (form : Form) (o : Option (List ℕ)) → option_map length (counted form o) ≡ chosen form (option_map length o)
+counts form None = refl
+counts form (Some bytes) = by (may_have form (length bytes))
+  where
+    by : (b : Bool) → option_map length (if b then Some bytes else None) ≡ (if b then Some (length bytes) else None)
+    by true = refl
+    by false = refl
+
+pub row_by_count : (form : Form) (line : List ℕ) (start : ℕ) (column : Column) (body : List ℕ) (count : Option ℕ) → Some start ≡ digits_start form line
+    → column ≡ column_of form → body ≡ drop start line → count ≡ option_map length (pairs column body) → option_map length (row form line) ≡ chosen form count
+row_by_count form line start column body count h k b e =
+    let same : pairs column body ≡ pairs (column_of form) (drop start line) = cc in
+    ap (λ s. option_map length (row_from form line s)) (sym h) ∙ counts form (pairs (column_of form) (drop start line))
+    ∙ ap (λ o. chosen form (option_map length o)) (sym same) ∙ ap (chosen form) (sym e)
+
+pub chosen_all : (form : Form) (n : ℕ) → may_have form n ≡ true → chosen form (Some n) ≡ Some n
+chosen_all form n h = ap (λ b. if b then Some n else None) h
+
+pub chosen_none : (form : Form) (n : ℕ) → may_have form n ≡ false → chosen form (Some n) ≡ None
+chosen_none form n h = ap (λ b. if b then Some n else None) h
+
+pub counted_some : (o : Option (List ℕ)) (n : ℕ) → Some n ≡ option_map length o → IsSome o
+counted_some None n h = cc
+counted_some (Some bytes) n h = refl
+
+-- a row's bytes are those of its pairs
+whole : (form : Form) (o : Option (List ℕ)) → IsSome (counted form o) → counted form o ≡ o
+whole form None h = refl
+whole form (Some bytes) h = by (may_have form (length bytes)) h
+  where
+    by : (b : Bool) → IsSome (if b then Some bytes else None) → (if b then Some bytes else None) ≡ Some bytes
+    by true h = refl
+    by false h = absurd (false≢true h)
+
+pub row_pairs : (form : Form) (line : List ℕ) (start : ℕ) → digits_start form line ≡ Some start → IsSome (row form line) → row form line ≡ pairs (column_of form) (drop start line)
+row_pairs form line start h some =
+    let at : row form line ≡ counted form (pairs (column_of form) (drop start line)) = ap (row_from form line) h in
+    at ∙ whole form (pairs (column_of form) (drop start line)) (ap is_some (sym at) ∙ some)
+
+pub row_absent : (form : Form) (line : List ℕ) → digits_start form line ≡ None → row form line ≡ None
+row_absent form line h = ap (row_from form line) h
+
+-- a front of a front
+take_again : (n m : ℕ) (xs : List ℕ) → n ≤ m → take n (take m xs) ≡ take n xs
+take_again zero m xs h = refl
+take_again (suc n) zero xs h = absurd (omega arith)
+take_again (suc n) (suc m) [] h = refl
+take_again (suc n) (suc m) (x ∷ xs) h = ap (λ l. x ∷ l) (take_again n m xs (omega arith))
+
+-- the header, from the front of a row
+pub header_of : (o : Option (List ℕ)) (bytes : List ℕ) → filled [] o ≡ Some bytes → has_header o ≡ bytes_eq (take 8 bytes) header
+header_of None bytes h = cc
+header_of (Some next) bytes h =
+    let e : take 512 next ≡ bytes = cc in
+    ap (λ l. bytes_eq l header) (sym (take_again 8 512 next (omega arith)) ∙ ap (take 8) e)
+
+pub some_counted : (o : Option (List ℕ)) → is_some (option_map length o) ≡ is_some o
+some_counted None = refl
+some_counted (Some bytes) = refl

@@ -1,0 +1,13 @@
+use Rattle.std.proofs.Common.{◌≡◌, ◌+◌, ◌≤◌, [], false, length}
+use Rattle.cec_words.specs.Lines.{lines_of}
+use Rattle.hdmi_dump.specs.Dump.{gathered}
+use Rattle.hdmi_dump.proofs.dump.gather.Given as goal
+
+abbrev pub invariant-lines : goal.invariant-lines
+invariant-lines l = record {
+  so_far : gathered l.form l.first false [] (lines_of l.text) ≡ gathered l.form l.number l.skips l.bytes.items (lines_of l.rest);
+  room : l.number + length l.rest ≤ l.first + length l.text;
+}
+
+abbrev pub decreases-lines : goal.decreases-lines
+decreases-lines l = length l.rest

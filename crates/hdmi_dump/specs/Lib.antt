@@ -1,0 +1,4 @@
+pub mod Digits
+pub mod Dump
+pub mod Rows
+pub mod Printed

@@ -1,0 +1,11 @@
+//! The bytes of an EDID out of a hex dump: plain digits, as `xxd -p` prints them, and the dumps of `xxd`, `hexdump -C`
+//! and `edid-decode`, with other text around, as in the properties that `xrandr` prints or in a log.
+#![tactic(auto)]
+
+mod digits;
+mod dump;
+mod laws;
+mod rows;
+
+pub use dump::{DumpError, dump_bytes, looks_like_dump};
+pub use laws::{digits_are_read, offsets_are_read, pairs_are_read};
