@@ -1,0 +1,90 @@
+//! Blocks and the lines below them.
+use arrayvec::ArrayVec;
+use hdmi_extended::{append_extended, append_vendor, luminance};
+use hdmi_meaning::Page;
+use std::process::Abort;
+
+/// The lines below a block, each with `/` after it: a vendor block or an extended block in hex.
+fn told(rt: &(impl Abort + AllocGlobal), block: &str) -> String {
+    let (word, digits) = block.split_once(' ').expect(rt, "a block");
+    let bytes = hex::decode(rt.alloc(), digits).expect(rt, "hex digits");
+    let mut page: Page = ArrayVec::new();
+    if bytes.len() <= 128 {
+        match word {
+            "vendor" => append_vendor(&mut page, &bytes),
+            _ => append_extended(&mut page, &bytes),
+        }
+    }
+    let text = std::str::from_utf8(page.as_slice()).expect(rt, "a text");
+    text.replace(rt.alloc(), "\n", "/").expect(rt, "memory")
+}
+
+/// A block, and the lines below it.
+const ROWS: &str = "\
+extended 004f|  RGB range selectable, IT formats over- or underscanned, CE formats over- or underscanned/
+extended 0096|  YCC range selectable, preferred timing overscanned, IT formats overscanned, CE formats underscanned/
+extended 003012|  preferred timing over- or underscanned, no IT formats, no CE formats, then in hex 12/
+extended 05ffff|  xvYCC601, xvYCC709, sYCC601, opYCC601, opRGB, BT2020cYCC, BT2020YCC, BT2020RGB, DCI-P3, ICtCp, sRGB, default RGB, gamut metadata 0, gamut metadata 1, gamut metadata 2, gamut metadata 3/
+extended 05e000|  BT2020cYCC, BT2020YCC, BT2020RGB/
+extended 060f01735a14|  traditional gamma SDR, traditional gamma HDR, SMPTE ST 2084, hybrid log-gamma, static metadata type 1, content up to 604 cd/m2, frames on average up to 351 cd/m2, least luminance by code 20/
+extended 060501|  traditional gamma SDR, SMPTE ST 2084, static metadata type 1/
+extended 0d10818291a0a1c1feffdb|  16: 1920x1080 at 60 Hz 16:9/  detailed timing 1/  detailed timing 2/  further timing 1/  further timing 16/  reserved/  193: 5120x2160 at 120 Hz 64:27/  first timing by a code of DMT/  reserved/  219: 4096x2160 at 120 Hz 256:135/
+extended 0e6160|  97: 3840x2160 at 60 Hz 16:9/  96: 3840x2160 at 50 Hz 16:9/
+extended 0f|  each video code also in 4:2:0/
+extended 0f0b|  also in 4:2:0 the video codes at places 1 2 4/
+extended 0f0080|  also in 4:2:0 the video codes at places 16/
+extended 0f0100000000000102|  also in 4:2:0 the video codes at places 1 49, then in hex 02/
+vendor d85dc40178ff6fff3090ff6310|  HDMI Forum version 1, TMDS up to 600 MHz, SCDC, read request, cable status, CCBPCI, scrambling up to 340 MHz, 3D independent view, 3D dual view, 3D OSD disparity, FRL up to 12 Gbit/s on 4 lanes, UHD VIC, 4:2:0 at 48 bits a pixel, 4:2:0 at 36 bits a pixel, 4:2:0 at 30 bits a pixel/  ALLM, FVA, negative Mvrr, cinema VRR, Mdelta, QMS, FAPA in blanking, FAPA end extended, VRR from 48 to 144 Hz, DSC 1.2a, DSC in 4:2:0, QMS TFR max, QMS TFR min, DSC at each 1/16 bit a pixel, DSC at 16 bits, DSC at 12 bits, DSC at 10 bits, then in hex 6310/
+vendor d85dc40178800002|  HDMI Forum version 1, TMDS up to 600 MHz, SCDC/  ALLM/
+vendor d85dc401000000|  HDMI Forum version 1/
+vendor d85dc40100001001|  HDMI Forum version 1, FRL up to 3 Gbit/s on 3 lanes/  FAPA in blanking/
+vendor d85dc40100002000|  HDMI Forum version 1, FRL up to 6 Gbit/s on 3 lanes/
+vendor d85dc40100003000|  HDMI Forum version 1, FRL up to 6 Gbit/s on 4 lanes/
+vendor d85dc40100004000|  HDMI Forum version 1, FRL up to 8 Gbit/s on 4 lanes/
+vendor d85dc40100005000|  HDMI Forum version 1, FRL up to 10 Gbit/s on 4 lanes/
+vendor d85dc40100007000|  HDMI Forum version 1, FRL of a reserved rate/
+vendor d85dc401780000003000|  HDMI Forum version 1, TMDS up to 600 MHz/  VRR from 48 Hz on/
+vendor d85dc40178000000702c|  HDMI Forum version 1, TMDS up to 600 MHz/  VRR from 48 to 300 Hz/
+extended 79000001788060023090|  HDMI Forum version 1, TMDS up to 600 MHz, SCDC, FRL up to 12 Gbit/s on 4 lanes/  ALLM, VRR from 48 to 144 Hz/
+vendor 1a0000010203|  AMD/
+vendor 4b0400|  NVIDIA/
+vendor 6e0c00|  ASUS/
+vendor fa1000|  Apple/
+vendor b91400|  MStar/
+vendor 46d000|  Dolby/
+vendor 47e000|  InFocus/
+vendor 5c12ca|  Microsoft/
+vendor 123456|
+extended 0146d0004d4e|  Dolby Vision, then in hex 4d4e/
+extended 018b849001|  HDR10+, then in hex 01/
+extended 01123456|
+extended 1146d00041|  Dolby audio, then in hex 41/
+extended 02aabb|";
+
+#[test]
+fn blocks_are_told(rt: HostRuntime) {
+    for row in ROWS.lines() {
+        let (block, want) = row.split_once('|').expect(&rt, "a row");
+        let lines = told(&rt, block);
+        assert_eq!(rt; lines.as_str(), want, "{block}");
+    }
+}
+
+/// Codes and their luminances, as `edid-decode` prints them, to the whole number.
+const LUMINANCES: &[(u8, u16)] = &[
+    (0, 50),
+    (1, 51),
+    (32, 100),
+    (90, 351),
+    (96, 400),
+    (115, 604),
+    (138, 993),
+    (255, 12526),
+];
+
+#[test]
+fn luminances_are_told(rt: HostRuntime) {
+    for (code, want) in LUMINANCES {
+        assert_eq!(rt; luminance(*code), *want);
+    }
+}

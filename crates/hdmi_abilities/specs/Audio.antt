@@ -1,0 +1,112 @@
+-- What a short audio descriptor means (CTA-861-G, section 7.5.2).
+use Rattle.std.specs.Prelude.{ℕ, ◌+◌, ◌*◌, ◌/◌, ◌%◌, ◌==◌, ◌&&◌, ◌||◌, nat_le, Bool, if◌then◌else◌, List, [], ◌∷◌, ◌++◌, codes}
+use Rattle.hex.specs.Hex.{encode_lower}
+use Rattle.hdmi_meaning.specs.Notes.{Row, row, between, counted, spaced_words}
+
+-- byte 1, bits 6 to 3
+abbrev pub format_number : ℕ → ℕ
+format_number first = first / 8 % 16
+
+-- byte 3, bits 7 to 3, of format 15
+abbrev pub extension_number : ℕ → ℕ
+extension_number third = third / 8
+
+abbrev pub format_name : ℕ → List ℕ
+format_name n =
+    if n == 1 then codes "linear PCM"
+    else if n == 2 then codes "AC-3"
+    else if n == 3 then codes "MPEG-1"
+    else if n == 4 then codes "MP3"
+    else if n == 5 then codes "MPEG-2"
+    else if n == 6 then codes "AAC LC"
+    else if n == 7 then codes "DTS"
+    else if n == 8 then codes "ATRAC"
+    else if n == 9 then codes "One Bit Audio"
+    else if n == 10 then codes "Enhanced AC-3"
+    else if n == 11 then codes "DTS-HD"
+    else if n == 12 then codes "MAT"
+    else if n == 13 then codes "DST"
+    else if n == 14 then codes "WMA Pro"
+    else codes "reserved"
+
+abbrev pub extension_name : ℕ → List ℕ
+extension_name n =
+    if n == 4 then codes "MPEG-4 HE AAC"
+    else if n == 5 then codes "MPEG-4 HE AAC v2"
+    else if n == 6 then codes "MPEG-4 AAC LC"
+    else if n == 7 then codes "DRA"
+    else if n == 8 then codes "MPEG-4 HE AAC and MPEG Surround"
+    else if n == 10 then codes "MPEG-4 AAC LC and MPEG Surround"
+    else if n == 11 then codes "MPEG-H 3D"
+    else if n == 12 then codes "AC-4"
+    else if n == 13 then codes "linear PCM 3D"
+    else codes "reserved extension"
+
+abbrev pub audio_name : ℕ → ℕ → List ℕ
+audio_name first third = if format_number first == 15 then extension_name (extension_number third) else format_name (format_number first)
+
+-- ---- channels
+
+-- bits 2 to 0 of byte 1; of linear PCM 3D bits 7 of both bytes stand before them, that of byte 2 first
+abbrev pub channel_count : ℕ → ℕ → ℕ → ℕ
+channel_count first second third =
+    if (format_number first == 15) && (extension_number third == 13) then second / 128 * 16 + first / 128 * 8 + first % 8 + 1 else first % 8 + 1
+
+-- MPEG-H 3D and AC-4 tell of no channels
+abbrev pub channels_text : ℕ → ℕ → ℕ → List ℕ
+channels_text first second third =
+    if (format_number first == 15) && ((extension_number third == 11) || (extension_number third == 12)) then []
+    else codes ", " ++ counted (channel_count first second third) (codes " channel")
+
+-- ---- sampling rates: bits of byte 2
+
+abbrev pub rate_rows : List Row
+rate_rows =
+    row 1 (codes "32") ∷
+    row 2 (codes "44.1") ∷
+    row 4 (codes "48") ∷
+    row 8 (codes "88.2") ∷
+    row 16 (codes "96") ∷
+    row 32 (codes "176.4") ∷
+    row 64 (codes "192") ∷ []
+
+abbrev pub rates_text : ℕ → List ℕ
+rates_text second = if second % 128 == 0 then [] else codes ", " ++ (spaced_words rate_rows second ++ codes "kHz")
+
+-- ---- byte 3: sizes of samples, the greatest bit rate in units of 8 kbit/s, or what the format has there
+
+abbrev pub size_rows : List Row
+size_rows =
+    row 1 (codes "16") ∷
+    row 2 (codes "20") ∷
+    row 4 (codes "24") ∷ []
+
+abbrev pub sizes_text : ℕ → List ℕ
+sizes_text third = if third % 8 == 0 then [] else codes ", " ++ (spaced_words size_rows third ++ codes "bits")
+
+abbrev pub bit_rate_text : ℕ → List ℕ
+bit_rate_text third = between (codes ", up to ") (8 * third) (codes " kbit/s")
+
+abbrev pub other_text : ℕ → List ℕ
+other_text third = codes ", byte 3 is " ++ encode_lower (third ∷ [])
+
+abbrev pub has_sizes : ℕ → ℕ → Bool
+has_sizes first third = (format_number first == 1) || ((format_number first == 15) && (extension_number third == 13))
+
+abbrev pub third_text : ℕ → ℕ → List ℕ
+third_text first third =
+    if has_sizes first third then sizes_text third
+    else if nat_le 2 (format_number first) && nat_le (format_number first) 8 then bit_rate_text third
+    else other_text third
+
+-- ---- all of it
+
+abbrev pub audio_text : ℕ → ℕ → ℕ → List ℕ
+audio_text first second third = audio_name first third ++ (channels_text first second third ++ (rates_text second ++ third_text first third))
+
+-- three bytes a format
+abbrev pub audio_meanings : List ℕ → List (List ℕ)
+audio_meanings (first ∷ second ∷ third ∷ more) = audio_text first second third ∷ audio_meanings more
+audio_meanings [] = []
+audio_meanings (first ∷ []) = (codes "in hex " ++ encode_lower (first ∷ [])) ∷ []
+audio_meanings (first ∷ second ∷ []) = (codes "in hex " ++ encode_lower (first ∷ second ∷ [])) ∷ []

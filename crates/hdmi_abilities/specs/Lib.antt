@@ -1,0 +1,4 @@
+pub mod Audio
+pub mod Speakers
+pub mod Flags
+pub mod Hdmi

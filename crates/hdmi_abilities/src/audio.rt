@@ -1,0 +1,229 @@
+//! What the bytes of an audio data block mean.
+ghost use Rattle.std.specs.Prelude.{◌≡◌, ◌≤◌, ◌+◌, ◌*◌, ◌++◌, length, map, flat_map, codes};
+ghost use Rattle.hex.specs.Hex.{encode_lower};
+ghost use Rattle.arrayvec.specs.ArrayVec.{array_vec_len};
+ghost use Rattle.hdmi_meaning.specs.Notes.{indented, spelled};
+ghost use Rattle.hdmi_abilities.specs.Audio.{format_number, extension_number, format_name, extension_name, audio_name, channel_count, channels_text, rate_rows, rates_text, size_rows, sizes_text, bit_rate_text, other_text, has_sizes, third_text, audio_text, audio_meanings};
+
+use arrayvec::ArrayVec;
+use hdmi_edid::append;
+use hdmi_meaning::{
+    Bit, NOTE, Note, PAGE, Page, append_between, append_counted, append_line, append_named_hex,
+    append_spaced, bit_rows,
+};
+
+/// The format of linear PCM.
+const LINEAR_PCM: u8 = 1;
+/// The format that an extension tells.
+const EXTENDED: u8 = 15;
+/// The extension of MPEG-H 3D audio.
+const MPEG_H: u8 = 11;
+/// The extension of AC-4.
+const AC4: u8 = 12;
+/// The extension of linear PCM in three dimensions.
+const LINEAR_PCM_3D: u8 = 13;
+/// A unit of the greatest bit rate, in kbit/s.
+const BIT_RATE: u64 = 8;
+
+const RATES: &[Bit] = bit_rows! {
+    1 "32";
+    2 "44.1";
+    4 "48";
+    8 "88.2";
+    16 "96";
+    32 "176.4";
+    64 "192";
+};
+
+const SIZES: &[Bit] = bit_rows! {
+    1 "16";
+    2 "20";
+    4 "24";
+};
+
+fn format_number(first: u8) -> u8
+    ensures { result ≡ format_number first }
+{
+    first / 8 % 16
+}
+
+fn format_name(number: u8) -> &'static str
+    ensures value { result.now ≡ format_name number }
+    ensures short { length result.now ≤ 31 }
+{
+    match number {
+        1 => "linear PCM",
+        2 => "AC-3",
+        3 => "MPEG-1",
+        4 => "MP3",
+        5 => "MPEG-2",
+        6 => "AAC LC",
+        7 => "DTS",
+        8 => "ATRAC",
+        9 => "One Bit Audio",
+        10 => "Enhanced AC-3",
+        11 => "DTS-HD",
+        12 => "MAT",
+        13 => "DST",
+        14 => "WMA Pro",
+        _ => "reserved",
+    }
+}
+
+fn extension_name(number: u8) -> &'static str
+    ensures value { result.now ≡ extension_name number }
+    ensures short { length result.now ≤ 31 }
+{
+    match number {
+        4 => "MPEG-4 HE AAC",
+        5 => "MPEG-4 HE AAC v2",
+        6 => "MPEG-4 AAC LC",
+        7 => "DRA",
+        8 => "MPEG-4 HE AAC and MPEG Surround",
+        10 => "MPEG-4 AAC LC and MPEG Surround",
+        11 => "MPEG-H 3D",
+        12 => "AC-4",
+        13 => "linear PCM 3D",
+        _ => "reserved extension",
+    }
+}
+
+fn audio_name(first: u8, third: u8) -> &'static str
+    ensures value { result.now ≡ audio_name first third }
+    ensures short { length result.now ≤ 31 }
+{
+    if format_number(first) == EXTENDED {
+        extension_name(third / 8)
+    } else {
+        format_name(format_number(first))
+    }
+}
+
+fn channel_count(first: u8, second: u8, third: u8) -> u8
+    ensures { result ≡ channel_count first second third }
+{
+    if format_number(first) == EXTENDED && third / 8 == LINEAR_PCM_3D {
+        second / 128 * 16 + first / 128 * 8 + first % 8 + 1
+    } else {
+        first % 8 + 1
+    }
+}
+
+fn append_channels(note: &mut Note, first: u8, second: u8, third: u8)
+    requires { array_vec_len note.old + 53 ≤ NOTE }
+    ensures items { note.new.items ≡ note.old.items ++ channels_text first second third }
+    ensures len { array_vec_len note.new ≤ array_vec_len note.old + 53 }
+{
+    if format_number(first) == EXTENDED && (third / 8 == MPEG_H || third / 8 == AC4) {
+        return;
+    }
+    append(note, b", ");
+    append_counted(
+        note,
+        u64::from(channel_count(first, second, third)),
+        b" channel",
+    );
+}
+
+fn append_rates(note: &mut Note, second: u8)
+    requires { array_vec_len note.old + 285 ≤ NOTE }
+    ensures items { note.new.items ≡ note.old.items ++ rates_text second }
+    ensures len { array_vec_len note.new ≤ array_vec_len note.old + 285 }
+{
+    if second % 128 == 0 {
+        return;
+    }
+    append(note, b", ");
+    append_spaced(note, RATES, u32::from(second));
+    append(note, b"kHz");
+}
+
+fn append_sizes(note: &mut Note, third: u8)
+    requires { array_vec_len note.old + 126 ≤ NOTE }
+    ensures items { note.new.items ≡ note.old.items ++ sizes_text third }
+    ensures len { array_vec_len note.new ≤ array_vec_len note.old + 126 }
+{
+    if third % 8 == 0 {
+        return;
+    }
+    append(note, b", ");
+    append_spaced(note, SIZES, u32::from(third));
+    append(note, b"bits");
+}
+
+fn append_bit_rate(note: &mut Note, third: u8)
+    requires { array_vec_len note.old + 100 ≤ NOTE }
+    ensures items { note.new.items ≡ note.old.items ++ bit_rate_text third }
+    ensures len { array_vec_len note.new ≤ array_vec_len note.old + 35 }
+{
+    append_between(note, b", up to ", BIT_RATE * u64::from(third), b" kbit/s");
+}
+
+fn append_other(note: &mut Note, third: u8)
+    requires { array_vec_len note.old + 42 ≤ NOTE }
+    ensures items { note.new.items ≡ note.old.items ++ other_text third }
+    ensures len { array_vec_len note.new ≤ array_vec_len note.old + 14 }
+{
+    append_named_hex(note, b", byte 3 is ", &[third]);
+}
+
+fn has_sizes(first: u8, third: u8) -> bool
+    ensures { result ≡ has_sizes first third }
+{
+    let format = format_number(first);
+    format == LINEAR_PCM || format == EXTENDED && third / 8 == LINEAR_PCM_3D
+}
+
+fn append_third(note: &mut Note, first: u8, third: u8)
+    requires { array_vec_len note.old + 126 ≤ NOTE }
+    ensures items { note.new.items ≡ note.old.items ++ third_text first third }
+    ensures len { array_vec_len note.new ≤ array_vec_len note.old + 126 }
+{
+    let format = format_number(first);
+    if has_sizes(first, third) {
+        append_sizes(note, third);
+    } else if 2 <= format && format <= 8 {
+        append_bit_rate(note, third);
+    } else {
+        append_other(note, third);
+    }
+}
+
+fn audio_note(first: u8, second: u8, third: u8) -> Note
+    ensures value { result.items ≡ audio_text first second third }
+    ensures len { array_vec_len result ≤ 495 }
+{
+    let mut note = ArrayVec::new();
+    append(&mut note, audio_name(first, third).as_bytes());
+    append_channels(&mut note, first, second, third);
+    append_rates(&mut note, second);
+    append_third(&mut note, first, third);
+    note
+}
+
+/// Appends bytes that are less than a format.
+fn append_left(page: &mut Page, bytes: &[u8])
+    requires few { length bytes.now ≤ 2 }
+    requires room { array_vec_len page.old + 14 ≤ PAGE }
+    ensures { page.new.items ≡ page.old.items ++ indented (codes "in hex " ++ encode_lower bytes.now) }
+{
+    let mut note = ArrayVec::new();
+    append_named_hex(&mut note, b"in hex ", bytes);
+    append_line(page, note.as_slice());
+}
+
+/// Appends a line for each format of an audio data block, of three bytes: the format, its channels, its sampling rates, and
+/// the sizes of its samples or its greatest bit rate (CTA-861-G, section 7.5.2).
+pub fn append_audio(page: &mut Page, payload: &[u8])
+    requires { array_vec_len page.old + 166 * length payload.now ≤ PAGE }
+    ensures { page.new.items ≡ page.old.items ++ flat_map indented (audio_meanings payload.now) }
+{
+    match payload {
+        [first, second, third, rest @ ..] => {
+            append_line(page, audio_note(*first, *second, *third).as_slice());
+            append_audio(page, rest);
+        }
+        [] => {}
+        left => append_left(page, left),
+    }
+}

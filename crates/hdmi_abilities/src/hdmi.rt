@@ -1,0 +1,430 @@
+//! What an HDMI block means.
+ghost use Rattle.std.specs.Prelude.{◌≡◌, ◌≤◌, ◌<◌, ◌+◌, ◌*◌, ◌++◌, length, drop, map, flat_map};
+ghost use Rattle.arrayvec.specs.ArrayVec.{array_vec_len};
+ghost use Rattle.hdmi_meaning.specs.Notes.{indented, when, set_words};
+ghost use Rattle.hdmi_abilities.specs.Hdmi.{depth_rows, also_text, depth_text, tmds_text, content_rows, capability_words, capability_meanings, latency_text, named_latency, latency_words, latency_meanings, interlaced_place, video_place, same_code, hdmi_text, image_text, video_words, structure_rows, structure_bits, has_structures, left_meanings, structure_line, structure_meanings, stereo_meanings, code_meanings, flag_part, code_part, stereo_part, video_meanings, behind_meanings, presence_of, plain_latencies, interlaced_latencies, video_part, hdmi_meanings};
+
+use arrayvec::ArrayVec;
+use hdmi_edid::append;
+use hdmi_meaning::{
+    Bit, NOTE, Note, PAGE, Page, append_between, append_bits, append_code, append_decimal,
+    append_line, append_rest, append_spaced, append_word, append_words, before, behind, bit_rows,
+    byte_at, is_set,
+};
+
+/// A unit of the TMDS clock, in MHz.
+const TMDS_CLOCK: u64 = 5;
+/// Supports_AI
+const AI: u32 = 128;
+/// DC_Y444
+const DEEP_COLOUR_444: u32 = 8;
+/// DVI_Dual
+const DUAL_LINK: u32 = 1;
+/// Latency_Fields_Present
+const LATENCIES: u32 = 128;
+/// I_Latency_Fields_Present
+const INTERLACED_LATENCIES: u32 = 64;
+/// HDMI_Video_present
+const VIDEO: u32 = 32;
+/// 3D_present
+const STEREO: u32 = 128;
+
+const DEPTHS: &[Bit] = bit_rows! {
+    64 "48";
+    32 "36";
+    16 "30";
+};
+
+const CONTENTS: &[Bit] = bit_rows! {
+    1 "graphics content";
+    2 "photo content";
+    4 "cinema content";
+    8 "game content";
+};
+
+const STRUCTURES: &[Bit] = bit_rows! {
+    1 "3D frame packing";
+    2 "3D field alternative";
+    4 "3D line alternative";
+    8 "3D side by side (full)";
+    16 "3D L + depth";
+    32 "3D L + depth + graphics";
+    64 "3D top and bottom";
+    256 "3D side by side (half)";
+};
+
+fn also_text(bits: u8) -> &'static str
+    ensures value { result.now ≡ also_text bits }
+    ensures short { length result.now ≤ 26 }
+{
+    if is_set(u32::from(bits), DEEP_COLOUR_444) {
+        "bits a pixel also in 4:4:4"
+    } else {
+        "bits a pixel"
+    }
+}
+
+fn append_depths(note: &mut Note, bits: u8)
+    requires { array_vec_len note.old + 148 ≤ NOTE }
+    ensures items { note.new.items ≡ note.old.items ++ depth_text bits }
+    ensures len { array_vec_len note.new ≤ array_vec_len note.old + 148 }
+{
+    if bits / 16 % 8 == 0 {
+        if is_set(u32::from(bits), DEEP_COLOUR_444) {
+            append_word(note, b"deep colour in 4:4:4");
+        }
+    } else {
+        append(note, b", ");
+        append_spaced(note, DEPTHS, u32::from(bits));
+        append(note, also_text(bits).as_bytes());
+    }
+}
+
+fn append_tmds(note: &mut Note, clock: u8)
+    requires { array_vec_len note.old + 100 ≤ NOTE }
+    ensures items { note.new.items ≡ note.old.items ++ tmds_text clock }
+    ensures len { array_vec_len note.new ≤ array_vec_len note.old + 39 }
+{
+    if clock == 0 {
+        return;
+    }
+    append_between(
+        note,
+        b", TMDS up to ",
+        TMDS_CLOCK * u64::from(clock),
+        b" MHz",
+    );
+}
+
+/// Appends a word where a bit is set.
+fn append_when(note: &mut Note, is_there: bool, word: &[u8])
+    requires short { length word.now ≤ 30 }
+    requires room { array_vec_len note.old + 32 ≤ NOTE }
+    ensures items { note.new.items ≡ note.old.items ++ when is_there word.now }
+    ensures len { array_vec_len note.new ≤ array_vec_len note.old + 32 }
+{
+    if is_there {
+        append_word(note, word);
+    }
+}
+
+fn append_contents(note: &mut Note, bits: u32)
+    requires { array_vec_len note.old + 160 ≤ NOTE }
+    ensures items { note.new.items ≡ note.old.items ++ set_words content_rows bits }
+    ensures len { array_vec_len note.new ≤ array_vec_len note.old + 160 }
+{
+    append_bits(note, CONTENTS, bits);
+}
+
+fn capability_note(bits: u8, clock: u8, presence: u8) -> Note
+    ensures value { result.items ≡ capability_words bits clock presence }
+    ensures len { array_vec_len result ≤ 411 }
+{
+    let mut words = ArrayVec::new();
+    append_when(&mut words, is_set(u32::from(bits), AI), b"AI");
+    append_depths(&mut words, bits);
+    append_when(
+        &mut words,
+        is_set(u32::from(bits), DUAL_LINK),
+        b"dual-link DVI",
+    );
+    append_tmds(&mut words, clock);
+    append_contents(&mut words, u32::from(presence));
+    words
+}
+
+fn append_capabilities(page: &mut Page, bytes: &[u8])
+    requires { array_vec_len page.old + 420 ≤ PAGE }
+    ensures items { page.new.items ≡ page.old.items ++ flat_map indented (capability_meanings bytes.now) }
+    ensures len { array_vec_len page.new ≤ array_vec_len page.old + 420 }
+{
+    let words = capability_note(byte_at(bytes, 0), byte_at(bytes, 1), byte_at(bytes, 2));
+    append_words(page, words.as_slice());
+}
+
+fn append_latency(note: &mut Note, latency: u8)
+    requires { array_vec_len note.old + 24 ≤ NOTE }
+    ensures items { note.new.items ≡ note.old.items ++ latency_text latency }
+    ensures len { array_vec_len note.new ≤ array_vec_len note.old + 24 }
+{
+    match latency {
+        0 => append(note, b" unknown"),
+        255 => append(note, b" none"),
+        1..=251 => {
+            append(note, b" ");
+            append_decimal(note, 2 * (u64::from(latency) - 1));
+            append(note, b" ms");
+        }
+        _ => append(note, b" reserved"),
+    }
+}
+
+#[tactic(auto, unfolding(crate::specs::Hdmi::named_latency))]
+fn append_named_latency(note: &mut Note, name: &[u8], latency: u8)
+    requires short { length name.now ≤ 30 }
+    requires room { array_vec_len note.old + 54 ≤ NOTE }
+    ensures items { note.new.items ≡ note.old.items ++ named_latency name.now latency }
+    ensures len { array_vec_len note.new ≤ array_vec_len note.old + 54 }
+{
+    append(note, name);
+    append_latency(note, latency);
+}
+
+fn latency_note(name: &[u8], bytes: &[u8]) -> Note
+    requires { length name.now ≤ 30 }
+    ensures value { result.items ≡ latency_words name.now bytes.now }
+    ensures len { array_vec_len result ≤ 108 }
+{
+    let mut words = ArrayVec::new();
+    append_named_latency(&mut words, name, byte_at(bytes, 0));
+    append_named_latency(&mut words, b", audio latency", byte_at(bytes, 1));
+    words
+}
+
+fn append_latencies(page: &mut Page, told: bool, name: &[u8], bytes: &[u8])
+    requires short { length name.now ≤ 30 }
+    requires room { array_vec_len page.old + 109 ≤ PAGE }
+    ensures items { page.new.items ≡ page.old.items ++ flat_map indented (latency_meanings told name.now bytes.now) }
+    ensures len { array_vec_len page.new ≤ array_vec_len page.old + 109 }
+{
+    if told && 2 <= bytes.len() {
+        append_words(page, latency_note(name, bytes).as_slice());
+    }
+}
+
+fn same_code(hdmi: u8) -> u8
+    ensures { result ≡ same_code hdmi }
+{
+    match hdmi {
+        1 => 95,
+        2 => 94,
+        3 => 93,
+        4 => 98,
+        _ => 0,
+    }
+}
+
+fn hdmi_note(hdmi: u8) -> Note
+    ensures value { result.items ≡ hdmi_text hdmi }
+    ensures len { array_vec_len result ≤ 104 }
+{
+    let mut note = ArrayVec::new();
+    append_between(&mut note, b"HDMI ", u64::from(hdmi), b": ");
+    append_code(&mut note, same_code(hdmi));
+    note
+}
+
+fn append_hdmi_codes(page: &mut Page, codes: &[u8])
+    requires { array_vec_len page.old + 107 * length codes.now ≤ PAGE }
+    ensures items { page.new.items ≡ page.old.items ++ flat_map indented (map hdmi_text codes.now) }
+    ensures len { array_vec_len page.new ≤ array_vec_len page.old + 107 * length codes.now }
+{
+    if let [code, rest @ ..] = codes {
+        append_line(page, hdmi_note(*code).as_slice());
+        append_hdmi_codes(page, rest);
+    }
+}
+
+fn image_text(size: u8) -> &'static str
+    ensures value { result.now ≡ image_text size }
+    ensures short { length result.now ≤ 32 }
+{
+    match size {
+        1 => ", size right in its aspect alone",
+        2 => ", size to 1 cm",
+        3 => ", size to 5 cm",
+        _ => "",
+    }
+}
+
+fn video_note(flags: u8) -> Note
+    ensures value { result.items ≡ video_words flags }
+    ensures len { array_vec_len result ≤ 64 }
+{
+    let mut words = ArrayVec::new();
+    append_when(&mut words, is_set(u32::from(flags), STEREO), b"3D");
+    append(&mut words, image_text(flags / 8 % 4).as_bytes());
+    words
+}
+
+fn append_left(page: &mut Page, bytes: &[u8])
+    requires few { length bytes.now ≤ 128 }
+    requires room { array_vec_len page.old + 271 ≤ PAGE }
+    ensures { page.new.items ≡ page.old.items ++ flat_map indented (left_meanings bytes.now) }
+{
+    let mut words: Note = ArrayVec::new();
+    append_rest(&mut words, bytes);
+    append_words(page, words.as_slice());
+}
+
+fn structure_bits(bytes: &[u8]) -> u32
+    ensures { result ≡ structure_bits bytes.now }
+{
+    u32::from(byte_at(bytes, 0)) * 256 + u32::from(byte_at(bytes, 1))
+}
+
+fn append_structure_bits(note: &mut Note, bits: u32)
+    requires { array_vec_len note.old + 320 ≤ NOTE }
+    ensures items { note.new.items ≡ note.old.items ++ set_words structure_rows bits }
+    ensures len { array_vec_len note.new ≤ array_vec_len note.old + 320 }
+{
+    append_bits(note, STRUCTURES, bits);
+}
+
+fn structure_note(bytes: &[u8]) -> Note
+    ensures value { result.items ≡ set_words structure_rows (structure_bits bytes.now) }
+    ensures len { array_vec_len result ≤ 320 }
+{
+    let mut words = ArrayVec::new();
+    append_structure_bits(&mut words, structure_bits(bytes));
+    words
+}
+
+fn append_structure_line(page: &mut Page, bytes: &[u8])
+    requires { array_vec_len page.old + 321 ≤ PAGE }
+    ensures items { page.new.items ≡ page.old.items ++ flat_map indented (structure_line bytes.now) }
+    ensures len { array_vec_len page.new ≤ array_vec_len page.old + 321 }
+{
+    append_words(page, structure_note(bytes).as_slice());
+}
+
+fn append_behind_structures(page: &mut Page, bytes: &[u8])
+    requires few { length bytes.now ≤ 128 }
+    requires room { array_vec_len page.old + 271 ≤ PAGE }
+    ensures { page.new.items ≡ page.old.items ++ flat_map indented (left_meanings (drop 2 bytes.now)) }
+{
+    append_left(page, behind(bytes, 2));
+}
+
+fn append_structures(page: &mut Page, bytes: &[u8])
+    requires few { length bytes.now ≤ 128 }
+    requires room { array_vec_len page.old + 592 ≤ PAGE }
+    ensures { page.new.items ≡ page.old.items ++ flat_map indented (structure_meanings bytes.now) }
+{
+    append_structure_line(page, bytes);
+    append_behind_structures(page, bytes);
+}
+
+fn has_structures(flags: u8, bytes: &[u8]) -> bool
+    ensures { result ≡ has_structures flags bytes.now }
+{
+    (flags / 32 % 4 == 1 || flags / 32 % 4 == 2) && 2 <= bytes.len()
+}
+
+fn append_stereo(page: &mut Page, flags: u8, bytes: &[u8])
+    requires few { length bytes.now ≤ 128 }
+    requires room { array_vec_len page.old + 592 ≤ PAGE }
+    ensures { page.new.items ≡ page.old.items ++ flat_map indented (stereo_meanings flags bytes.now) }
+{
+    if has_structures(flags, bytes) {
+        append_structures(page, bytes);
+    } else {
+        append_left(page, bytes);
+    }
+}
+
+fn append_codes(page: &mut Page, count: u8, bytes: &[u8])
+    requires few { count < 8 }
+    requires room { array_vec_len page.old + 856 ≤ PAGE }
+    ensures items { page.new.items ≡ page.old.items ++ flat_map indented (code_meanings count bytes.now) }
+    ensures len { array_vec_len page.new ≤ array_vec_len page.old + 856 }
+{
+    append_hdmi_codes(page, before(bytes, usize::from(count)));
+}
+
+fn append_flag_part(page: &mut Page, bytes: &[u8])
+    requires { array_vec_len page.old + 65 ≤ PAGE }
+    ensures items { page.new.items ≡ page.old.items ++ flat_map indented (flag_part bytes.now) }
+    ensures len { array_vec_len page.new ≤ array_vec_len page.old + 65 }
+{
+    append_words(page, video_note(byte_at(bytes, 0)).as_slice());
+}
+
+fn append_code_part(page: &mut Page, bytes: &[u8])
+    requires { array_vec_len page.old + 856 ≤ PAGE }
+    ensures items { page.new.items ≡ page.old.items ++ flat_map indented (code_part bytes.now) }
+    ensures len { array_vec_len page.new ≤ array_vec_len page.old + 856 }
+{
+    append_codes(page, byte_at(bytes, 1) / 32, behind(bytes, 2));
+}
+
+fn append_stereo_part(page: &mut Page, bytes: &[u8])
+    requires few { length bytes.now ≤ 128 }
+    requires room { array_vec_len page.old + 592 ≤ PAGE }
+    ensures { page.new.items ≡ page.old.items ++ flat_map indented (stereo_part bytes.now) }
+{
+    let count = usize::from(byte_at(bytes, 1) / 32);
+    append_stereo(page, byte_at(bytes, 0), behind(bytes, 2 + count));
+}
+
+fn append_videos(page: &mut Page, bytes: &[u8])
+    requires few { length bytes.now ≤ 128 }
+    requires room { array_vec_len page.old + 1600 ≤ PAGE }
+    ensures { page.new.items ≡ page.old.items ++ flat_map indented (video_meanings bytes.now) }
+{
+    append_flag_part(page, bytes);
+    append_code_part(page, bytes);
+    append_stereo_part(page, bytes);
+}
+
+fn append_behind(page: &mut Page, told: bool, bytes: &[u8])
+    requires few { length bytes.now ≤ 128 }
+    requires room { array_vec_len page.old + 1600 ≤ PAGE }
+    ensures { page.new.items ≡ page.old.items ++ flat_map indented (behind_meanings told bytes.now) }
+{
+    if told && 2 <= bytes.len() {
+        append_videos(page, bytes);
+    } else {
+        append_left(page, bytes);
+    }
+}
+
+fn append_plain_latencies(page: &mut Page, bytes: &[u8])
+    requires { array_vec_len page.old + 109 ≤ PAGE }
+    ensures items { page.new.items ≡ page.old.items ++ flat_map indented (plain_latencies bytes.now) }
+    ensures len { array_vec_len page.new ≤ array_vec_len page.old + 109 }
+{
+    let told = is_set(u32::from(byte_at(bytes, 2)), LATENCIES);
+    append_latencies(page, told, b", video latency", behind(bytes, 3));
+}
+
+fn append_interlaced_latencies(page: &mut Page, bytes: &[u8])
+    requires { array_vec_len page.old + 109 ≤ PAGE }
+    ensures items { page.new.items ≡ page.old.items ++ flat_map indented (interlaced_latencies bytes.now) }
+    ensures len { array_vec_len page.new ≤ array_vec_len page.old + 109 }
+{
+    let presence = byte_at(bytes, 2);
+    let place = 3 + 2 * usize::from(presence / 128);
+    let told = is_set(u32::from(presence), INTERLACED_LATENCIES);
+    append_latencies(
+        page,
+        told,
+        b", interlaced video latency",
+        behind(bytes, place),
+    );
+}
+
+fn append_video_part(page: &mut Page, bytes: &[u8])
+    requires few { length bytes.now ≤ 128 }
+    requires room { array_vec_len page.old + 1600 ≤ PAGE }
+    ensures { page.new.items ≡ page.old.items ++ flat_map indented (video_part bytes.now) }
+{
+    let presence = byte_at(bytes, 2);
+    let place = 3 + 2 * usize::from(presence / 128) + 2 * usize::from(presence / 64 % 2);
+    let told = is_set(u32::from(presence), VIDEO);
+    append_behind(page, told, behind(bytes, place));
+}
+
+/// Appends what an HDMI block means, of the bytes behind its physical address: capabilities; latencies, video formats of
+/// HDMI's own codes and 3D where it tells of them; and what is left in hex (HDMI 1.4, section 8.3.2).
+#[tactic(auto, unfolding(crate::specs::Hdmi::hdmi_meanings))]
+pub fn append_hdmi(page: &mut Page, bytes: &[u8])
+    requires few { length bytes.now ≤ 128 }
+    requires room { array_vec_len page.old + 2300 ≤ PAGE }
+    ensures { page.new.items ≡ page.old.items ++ flat_map indented (hdmi_meanings bytes.now) }
+{
+    append_capabilities(page, bytes);
+    append_plain_latencies(page, bytes);
+    append_interlaced_latencies(page, bytes);
+    append_video_part(page, bytes);
+}

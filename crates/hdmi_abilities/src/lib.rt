@@ -1,0 +1,12 @@
+//! What the lines of a CTA extension mean: its flags, and its data blocks of audio, speakers and HDMI.
+#![tactic(auto)]
+
+mod audio;
+mod flags;
+mod hdmi;
+mod speakers;
+
+pub use audio::append_audio;
+pub use flags::append_flags;
+pub use hdmi::append_hdmi;
+pub use speakers::append_speakers;

@@ -1,0 +1,11 @@
+//! An EDID's text, and below each of its lines what that means, behind two spaces.
+#![tactic(auto)]
+
+mod edid_meaning;
+mod laws;
+mod meanings;
+mod writing;
+
+pub use edid_meaning::edid_to_meaning;
+pub use laws::meaning_keeps_the_text;
+pub use writing::write_meaning;

@@ -1,0 +1,79 @@
+//! What stands below a line. hdmi_meaning says how the meaning of one more kind of line is added; here it is an arm of
+//! `append_bytes`, and the same arm of `bytes_meanings`.
+ghost use Rattle.std.specs.Prelude.{◌≡◌, ◌≤◌, ◌++◌, length, flat_map};
+ghost use Rattle.arrayvec.specs.ArrayVec.{array_vec_len};
+ghost use Rattle.hdmi_meaning.specs.Notes.{indented};
+ghost use Rattle.hdmi_annotate.specs.Meanings.{bytes_meanings, numbers_meanings, fields_meanings, line_with_meaning};
+
+use arrayvec::ArrayVec;
+use hdmi_abilities::{append_audio, append_flags, append_hdmi, append_speakers};
+use hdmi_display::{
+    append_chroma, append_established, append_ext, append_features, append_gamma, append_input,
+    append_made, append_range, append_raw, append_size, append_standard,
+};
+use hdmi_edid::{Base, append};
+use hdmi_extended::{append_extended, append_vendor};
+use hdmi_lines::{Fields, Line, Word};
+use hdmi_meaning::{Page, append_timing, append_video};
+
+/// Appends what bytes behind a word mean.
+fn append_bytes(page: &mut Page, base: &Base, word: Word, bytes: &[u8])
+    requires few { length bytes.now ≤ 128 }
+    requires room { array_vec_len page.old ≤ 300 }
+    ensures { page.new.items ≡ page.old.items ++ flat_map indented (bytes_meanings base.now word bytes.now) }
+{
+    match word {
+        Word::Input => append_input(page, base.revision, bytes),
+        Word::Features => append_features(page, base.revision, base.input, bytes),
+        Word::Established => append_established(page, bytes),
+        Word::Range => append_range(page, base.revision, base.features, bytes),
+        Word::Raw => append_raw(page, bytes),
+        Word::Cta | Word::CtaNone => append_flags(page, bytes),
+        Word::Audio => append_audio(page, bytes),
+        Word::Video => append_video(page, bytes),
+        Word::Speakers => append_speakers(page, bytes),
+        Word::Vendor => append_vendor(page, bytes),
+        Word::Extended => append_extended(page, bytes),
+        Word::Ext => append_ext(page, bytes),
+        _ => {}
+    }
+}
+
+/// Appends what numbers behind a word mean.
+fn append_numbers(page: &mut Page, base: &Base, word: Word, numbers: &[u32])
+    requires { array_vec_len page.old ≤ 300 }
+    ensures { page.new.items ≡ page.old.items ++ flat_map indented (numbers_meanings base.now word numbers.now) }
+{
+    match word {
+        Word::Made => append_made(page, base.revision, numbers),
+        Word::Size => append_size(page, base.revision, numbers),
+        Word::Gamma => append_gamma(page, numbers),
+        Word::Chroma => append_chroma(page, numbers),
+        Word::Standard => append_standard(page, numbers),
+        _ => {}
+    }
+}
+
+/// Appends what the fields behind a word mean.
+fn append_fields(page: &mut Page, base: &Base, word: Word, fields: &Fields)
+    requires { array_vec_len page.old ≤ 300 }
+    ensures { page.new.items ≡ page.old.items ++ flat_map indented (fields_meanings base.now word fields.now) }
+{
+    match fields {
+        Fields::Numbers(numbers) => append_numbers(page, base, word, numbers.as_slice()),
+        Fields::Timed(numbers, flags) => append_timing(page, numbers.as_slice(), *flags),
+        Fields::Bytes(bytes) => append_bytes(page, base, word, bytes.as_slice()),
+        Fields::Address(_, bytes) => append_hdmi(page, bytes.as_slice()),
+        _ => {}
+    }
+}
+
+/// A line as it stands in a text, and below it what it means.
+pub(crate) fn page_of(base: &Base, line: &Line) -> Page
+    ensures { result.items ≡ line_with_meaning base.now line.now }
+{
+    let mut page = ArrayVec::new();
+    append(&mut page, line.write().as_slice());
+    append_fields(&mut page, base, line.word, &line.fields);
+    page
+}

@@ -1,0 +1,36 @@
+//! Writing an EDID's text with what it means.
+ghost use Rattle.std.specs.Prelude.{◌≡◌, ◌≤◌, ◌<◌, ◌+◌, ◌*◌, ◌^◌, length, take, flat_map};
+ghost use Rattle.hdmi_core.specs.Written.{WrittenAll};
+ghost use Rattle.hdmi_annotate.specs.Meanings.{line_with_meaning, meaning_text};
+
+use crate::meanings::page_of;
+use arrayvec::ArrayVec;
+use hdmi_core::{Sink, WriteFault, put_all};
+use hdmi_cta::Ext;
+use hdmi_edid::Base;
+use hdmi_edtext::line_at;
+
+/// Writes the text of a base block and the extensions behind it line by line, as `write_parts` does, and below each line
+/// what it means. After a fault the front of the text is written, as long as the fault's count says, and the sink is stuck.
+pub fn write_meaning<S: Sink>(
+    base: &Base,
+    extensions: &ArrayVec<Ext, 3>,
+    out: &mut S,
+) -> Result<(), WriteFault>
+    ensures { WrittenAll (S.contents out.old) (S.contents out.new) (S.is_stuck out.old) (S.is_stuck out.new) (meaning_text base.now extensions.now.items) result }
+{
+    let extensions = extensions.as_slice();
+    let mut written = 0u128;
+    let mut number = 0;
+    while let Some(line) = line_at(base, extensions, number) {
+        let page = page_of(base, &line);
+        if let Err(fault) = put_all(out, page.as_slice()) {
+            return Err(WriteFault {
+                count: written + fault.count,
+            });
+        }
+        written += page.len() as u128;
+        number += 1;
+    }
+    Ok(())
+}

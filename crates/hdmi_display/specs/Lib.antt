@@ -1,0 +1,5 @@
+pub mod Inputs
+pub mod Figures
+pub mod Established
+pub mod Ranges
+pub mod Raws

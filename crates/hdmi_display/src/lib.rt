@@ -1,0 +1,14 @@
+//! What the lines of a base block mean but for its detailed timings, and those of an extension that is kept as it is.
+#![tactic(auto)]
+
+mod established;
+mod figures;
+mod inputs;
+mod ranges;
+mod raws;
+
+pub use established::append_established;
+pub use figures::{append_chroma, append_gamma, append_made, append_size, append_standard};
+pub use inputs::{append_features, append_input};
+pub use ranges::append_range;
+pub use raws::{append_ext, append_raw};

@@ -1,0 +1,121 @@
+//! What each rule asks, with the clause of the standard that it is from.
+use hdmi_check::{Finding, Rule, TimingRule};
+
+/// What a rule for the base block asks.
+fn asked_of_base(rule: Rule) -> Option<&'static str> {
+    match rule {
+        Rule::FirstTimingPreferred => Some(
+            "in 1.3 bit 1 of the features is set: the first detailed timing is the preferred one (E-EDID A, 3.6.4)",
+        ),
+        Rule::PreferredTiming => Some(
+            "the first descriptor is a detailed timing, the preferred one (E-EDID A, 3.10.1)",
+        ),
+        Rule::ProductName => {
+            Some("a descriptor with tag fc has the product's name (E-EDID A, 3.10.3)")
+        }
+        Rule::RangeLimits => Some(
+            "a descriptor with tag fd has the range limits, in 1.4 where bit 0 of the features is set (E-EDID A, 3.10.3; 1.4, 3.10.3.3)",
+        ),
+        Rule::LimitsAlone => Some(
+            "in 1.4 range limits name GTF or CVT only where bit 0 of the features is set (E-EDID 1.4, 3.10.3.3)",
+        ),
+        Rule::Week => Some(
+            "in 1.3 the week is at most 53; 54, and 255 for a model year, came with 1.4 (E-EDID A, 3.4.4)",
+        ),
+        Rule::Srgb => Some(
+            "bit 2 of the features is set exactly where the chromaticities are those of sRGB (E-EDID A, 3.6.4)",
+        ),
+        Rule::NoEmptyDescriptor => {
+            Some("a descriptor that is not used has tag 10 (E-EDID A, 3.10.3)")
+        }
+        Rule::UnusedStandard => Some("a standard timing that is not used is 01 01 (E-EDID A, 3.9)"),
+        Rule::BlockMap => {
+            Some("in 1.3 a block map comes before two and more extensions (E-EDID A, 4.1)")
+        }
+        Rule::OneSerial => {
+            Some("where a descriptor has the serial number as a text, the four bytes of it are 0")
+        }
+        _ => None,
+    }
+}
+
+/// What a rule for extensions asks.
+fn asked_of_extensions(rule: Rule) -> &'static str {
+    match rule {
+        Rule::HdmiRevision => "an EDID with an HDMI block is of revision 1.3 (HDMI 1.4, 8.3)",
+        Rule::Vga => {
+            "640x480 at 60 Hz is there: bit 5 of the established timings, or video code 1 (CTA-861-D, 3.1)"
+        }
+        Rule::VideoCodeOnce => "a video code is listed once (CTA-861-D, 7.5.1)",
+        Rule::NativeCount => {
+            "the low four bits of a CTA block's flags are at most the detailed timings (CTA-861-D, 7.5)"
+        }
+        Rule::Underscan => {
+            "bit 7 of a CTA block's flags is set: formats of computers are shown whole (CTA-861-D, 7.5)"
+        }
+        Rule::BasicAudio => {
+            "bit 6 of a CTA block's flags is set where it has audio or speakers (CTA-861-D, 7.5)"
+        }
+        Rule::Speakers => {
+            "more than two channels of linear PCM come with a speaker block, of three bytes (CTA-861-D, 7.5.3)"
+        }
+        Rule::Padding => "zeros follow the timings of a CTA block (CTA-861-D, 7.5)",
+        Rule::VideoCapability => {
+            "an EDID with a CTA block has a video capability block (CTA-861-D, 7.5.6)"
+        }
+        Rule::RgbRange => {
+            "bit 6 of a video capability block is set: the range of RGB values can be chosen (CTA-861-D, 7.5.6)"
+        }
+        Rule::TmdsClock => {
+            "the clock in an HDMI block is at most 340 MHz, a byte of 68 (HDMI 1.4, 8.3.2)"
+        }
+        Rule::Address => {
+            "an address has no port after a 0 and is not f.f.f.f, nor 0.0.0.0 in a port (HDMI 1.4, 8.7.2, 8.7.3)"
+        }
+        Rule::OneHdmi => "there is one HDMI block: of several the address of the first is read",
+        Rule::HdmiVideoCode => {
+            "a format that an HDMI block lists is listed by its video code too: 1 to 4 are 95, 94, 93 and 98 (HDMI 1.4, 8.2.3)"
+        }
+        Rule::ForumAfterHdmi => "an HDMI Forum block comes after the HDMI block",
+        _ => "",
+    }
+}
+
+/// What a rule for detailed timings asks.
+fn asked_of_timing(rule: TimingRule) -> &'static str {
+    match rule {
+        TimingRule::Clock => "the pixel clock is at least 10 MHz",
+        TimingRule::Fields => {
+            "picture, blanking, sync offset and sync width are above 0 (E-EDID A, 3.10.2)"
+        }
+        TimingRule::HorizontalBackPorch => {
+            "some of the horizontal blanking is left after sync offset, sync width and both borders (E-EDID A, 3.10.2)"
+        }
+        TimingRule::VerticalBackPorch => {
+            "some of the vertical blanking is left after sync offset, sync width and both borders (E-EDID A, 3.10.2)"
+        }
+        TimingRule::SizeThere => {
+            "the image has a size where the display has one (E-EDID A, 3.10.2, 3.6.2)"
+        }
+        TimingRule::SizeFits => {
+            "the image is at most 9 mm larger than the display, and not more than 9 mm smaller both ways (E-EDID A, 3.10.2, 3.6.2)"
+        }
+        TimingRule::WithinLimits => {
+            "the field rate and the line rate are within the range limits (E-EDID A, 3.10.3.3)"
+        }
+        TimingRule::NearLimits => {
+            "the field rate and the line rate are within the range limits; in 1.4 a timing may be outside (E-EDID 1.4, 3.10.3.3)"
+        }
+    }
+}
+
+/// What the rule of a finding asks.
+pub fn asked(finding: Finding) -> &'static str {
+    match finding {
+        Finding::Edid(rule) => match asked_of_base(rule) {
+            Some(text) => text,
+            None => asked_of_extensions(rule),
+        },
+        Finding::Timing(_, rule) => asked_of_timing(rule),
+    }
+}

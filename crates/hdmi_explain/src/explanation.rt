@@ -1,0 +1,58 @@
+//! The lines that explain findings.
+ghost use Rattle.std.specs.Prelude.{◌≤◌, length};
+
+use crate::asked::asked;
+use crate::values::values;
+use arrayvec::ArrayVec;
+use hdmi_blocks::read_parts;
+use hdmi_check::{Finding, Origin, check, write_findings};
+use hdmi_core::Writes;
+use hdmi_cta::Ext;
+use hdmi_edid::Base;
+use std::alloc::{AllocError, Global};
+
+/// The line of a finding.
+fn line_of(alloc: Global, finding: Finding) -> Result<String, AllocError> {
+    let mut line = Vec::new(alloc);
+    let _ = write_findings(&mut Writes::new(&mut line), &[finding]);
+    match str::from_utf8(&line) {
+        Ok(text) => String::from_str(alloc, text),
+        Err(_) => Ok(String::new(alloc)),
+    }
+}
+
+/// The line of a finding, what its rule asks as another, and the values at fault as a third where they are few.
+fn explanation(
+    alloc: Global,
+    finding: Finding,
+    base: &Base,
+    extensions: &[Ext],
+) -> Result<String, AllocError>
+    requires { length extensions.now ≤ 3 }
+{
+    let line = line_of(alloc, finding)?;
+    let rule = asked(finding);
+    match values(alloc, finding, base, extensions)? {
+        None => format!(in alloc; "{line}  {rule}\n"),
+        Some(told) => format!(in alloc; "{line}  {rule}\n  here: {told}\n"),
+    }
+}
+
+/// What explains each rule that the EDID breaks that some bytes spell, in the order of the findings. Of bytes that are no
+/// EDID it is empty.
+///
+/// # Errors
+///
+/// Where memory runs out.
+pub fn explain_findings(alloc: Global, origin: Origin, bytes: &[u8]) -> Result<String, AllocError> {
+    let mut text = String::new(alloc);
+    let mut extensions = ArrayVec::new();
+    if let Ok(base) = &read_parts(bytes, &mut extensions) {
+        let found = check(origin, base, extensions.as_slice());
+        for finding in found.as_slice() {
+            let lines = explanation(alloc, *finding, base, extensions.as_slice())?;
+            text.push_str(lines.as_str())?;
+        }
+    }
+    Ok(text)
+}

@@ -1,0 +1,163 @@
+//! The values at fault.
+ghost use Rattle.std.specs.Prelude.{◌≤◌, length};
+
+use hdmi_check::{Finding, Rule, TimingRule};
+use hdmi_core::Phys;
+use hdmi_cta::{Ext, hdmi_address};
+use hdmi_edid::{Base, Timing};
+use hdmi_parts::timings_of;
+use std::alloc::{AllocError, Global};
+
+/// The clock's units, 10 kHz, that are a MHz.
+const UNITS_A_MHZ: u16 = 100;
+/// Flags from here on tell that a picture is two fields.
+const INTERLACED: u8 = 128;
+
+/// The physical address in the first HDMI block.
+fn address_of(extensions: &[Ext]) -> Option<Phys> {
+    for ext in extensions {
+        if let Some(address) = hdmi_address(ext) {
+            return Some(address);
+        }
+    }
+    None
+}
+
+fn address_told(alloc: Global, extensions: &[Ext]) -> Result<Option<String>, AllocError> {
+    match address_of(extensions) {
+        None => Ok(None),
+        Some(phys) => {
+            let (a, b, c, d) = (phys.high / 16, phys.high % 16, phys.low / 16, phys.low % 16);
+            Ok(Some(format!(in alloc; "address {a:x}.{b:x}.{c:x}.{d:x}")?))
+        }
+    }
+}
+
+/// The values that break a rule for an EDID, where they are few.
+fn told_of_edid(
+    alloc: Global,
+    rule: Rule,
+    base: &Base,
+    extensions: &[Ext],
+) -> Result<Option<String>, AllocError> {
+    match rule {
+        Rule::FirstTimingPreferred | Rule::RangeLimits | Rule::LimitsAlone | Rule::Srgb => {
+            let features = base.features;
+            Ok(Some(format!(in alloc; "features {features:02x}")?))
+        }
+        Rule::Week => {
+            let week = base.week;
+            Ok(Some(format!(in alloc; "week {week}")?))
+        }
+        Rule::OneSerial => {
+            let serial = base.serial;
+            Ok(Some(format!(in alloc; "serial number {serial}")?))
+        }
+        Rule::BlockMap => {
+            let count = base.extensions;
+            Ok(Some(format!(in alloc; "{count} extensions")?))
+        }
+        Rule::Address => address_told(alloc, extensions),
+        _ => Ok(None),
+    }
+}
+
+/// The clock in MHz to two places.
+fn clock_told(alloc: Global, timing: &Timing) -> Result<String, AllocError> {
+    let (whole, part) = (timing.clock / UNITS_A_MHZ, timing.clock % UNITS_A_MHZ);
+    format!(in alloc; "clock {whole}.{part:02} MHz")
+}
+
+/// What is taken from the blanking, and the blanking.
+fn blanking_told(
+    alloc: Global,
+    blanking: u16,
+    offset: u16,
+    width: u16,
+    border: u8,
+) -> Result<String, AllocError> {
+    format!(in alloc;
+        "blanking {blanking}, sync offset {offset}, sync width {width}, borders 2 times {border}"
+    )
+}
+
+fn size_told(alloc: Global, base: &Base, timing: &Timing) -> Result<String, AllocError> {
+    let (width, height) = (timing.width, timing.height);
+    let (across, up) = (base.width, base.height);
+    format!(in alloc; "image {width} x {height} mm, display {across} x {up} cm")
+}
+
+/// The whole part of a quotient, and its thousandths.
+fn parts_of(count: u64, per: u64) -> (u64, u64) {
+    if per == 0 {
+        return (0, 0);
+    }
+    let thousandths = count.saturating_mul(1000) / per;
+    (thousandths / 1000, thousandths % 1000)
+}
+
+fn rates_told(alloc: Global, timing: &Timing) -> Result<String, AllocError> {
+    let pixels = u64::from(timing.horizontal_active) + u64::from(timing.horizontal_blanking);
+    let lines = u64::from(timing.vertical_active) + u64::from(timing.vertical_blanking);
+    let half_lines = if timing.flags < INTERLACED {
+        2 * lines
+    } else {
+        2 * lines + 1
+    };
+    let clock = u64::from(timing.clock);
+    let (hertz, part) = parts_of(clock * 20_000, pixels.saturating_mul(half_lines));
+    let (kilohertz, more) = parts_of(clock * 10, pixels);
+    format!(in alloc; "{hertz}.{part:03} Hz, {kilohertz}.{more:03} kHz")
+}
+
+/// The values by which a timing breaks a rule.
+fn told_of_timing(
+    alloc: Global,
+    rule: TimingRule,
+    base: &Base,
+    timing: &Timing,
+) -> Result<Option<String>, AllocError> {
+    match rule {
+        TimingRule::Clock => Ok(Some(clock_told(alloc, timing)?)),
+        TimingRule::Fields => Ok(None),
+        TimingRule::HorizontalBackPorch => Ok(Some(blanking_told(
+            alloc,
+            timing.horizontal_blanking,
+            timing.horizontal_sync_offset,
+            timing.horizontal_sync_width,
+            timing.horizontal_border,
+        )?)),
+        TimingRule::VerticalBackPorch => Ok(Some(blanking_told(
+            alloc,
+            timing.vertical_blanking,
+            u16::from(timing.vertical_sync_offset),
+            u16::from(timing.vertical_sync_width),
+            timing.vertical_border,
+        )?)),
+        TimingRule::SizeThere | TimingRule::SizeFits => Ok(Some(size_told(alloc, base, timing)?)),
+        TimingRule::WithinLimits | TimingRule::NearLimits => {
+            Ok(Some(rates_told(alloc, timing)?))
+        }
+    }
+}
+
+/// The values that break the rule of a finding in an EDID of these parts, where they are few.
+pub fn values(
+    alloc: Global,
+    finding: Finding,
+    base: &Base,
+    extensions: &[Ext],
+) -> Result<Option<String>, AllocError>
+    requires { length extensions.now ≤ 3 }
+{
+    match finding {
+        Finding::Edid(rule) => told_of_edid(alloc, rule, base, extensions),
+        Finding::Timing(number, rule) => {
+            let timings = timings_of(base, extensions);
+            match timings.get(usize::from(number.saturating_sub(1))) {
+                None => Ok(None),
+                Some(timing) => told_of_timing(alloc, rule, base, timing),
+            }
+        }
+    }
+}

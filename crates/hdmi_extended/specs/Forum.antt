@@ -1,0 +1,87 @@
+-- What a block of the HDMI Forum means (HDMI 2.1, sections 10.3.2 and 10.3.6), of the bytes from its version on.
+use Rattle.std.specs.Prelude.{ℕ, ◌+◌, ◌*◌, ◌/◌, ◌%◌, ◌==◌, if◌then◌else◌, List, [], ◌∷◌, ◌++◌, drop, slice_index, codes}
+use Rattle.hdmi_meaning.specs.Notes.{Row, row, below, between, set_words, rest_words}
+
+-- ---- the link: bytes 2 to 4
+
+-- in units of 5 MHz; 0 tells nothing
+abbrev pub clock_words : ℕ → List ℕ
+clock_words clock = if clock == 0 then [] else between (codes ", TMDS up to ") (5 * clock) (codes " MHz")
+
+abbrev pub link_rows : List Row
+link_rows =
+    row 128 (codes "SCDC") ∷
+    row 64 (codes "read request") ∷
+    row 32 (codes "cable status") ∷
+    row 16 (codes "CCBPCI") ∷
+    row 8 (codes "scrambling up to 340 MHz") ∷
+    row 4 (codes "3D independent view") ∷
+    row 2 (codes "3D dual view") ∷
+    row 1 (codes "3D OSD disparity") ∷ []
+
+-- the greatest fixed rate link: Gbit/s on each of so many lanes
+abbrev pub rate_words : ℕ → List ℕ
+rate_words rate =
+    if rate == 0 then []
+    else if rate == 1 then codes ", FRL up to 3 Gbit/s on 3 lanes"
+    else if rate == 2 then codes ", FRL up to 6 Gbit/s on 3 lanes"
+    else if rate == 3 then codes ", FRL up to 6 Gbit/s on 4 lanes"
+    else if rate == 4 then codes ", FRL up to 8 Gbit/s on 4 lanes"
+    else if rate == 5 then codes ", FRL up to 10 Gbit/s on 4 lanes"
+    else if rate == 6 then codes ", FRL up to 12 Gbit/s on 4 lanes"
+    else codes ", FRL of a reserved rate"
+
+abbrev pub depth_rows : List Row
+depth_rows =
+    row 8 (codes "UHD VIC") ∷
+    row 4 (codes "4:2:0 at 48 bits a pixel") ∷
+    row 2 (codes "4:2:0 at 36 bits a pixel") ∷
+    row 1 (codes "4:2:0 at 30 bits a pixel") ∷ []
+
+-- byte 4: its high half, and bits of the other
+abbrev pub fixed_words : ℕ → List ℕ
+fixed_words b = rate_words (b / 16) ++ set_words depth_rows b
+
+abbrev pub link_words : List ℕ → List ℕ
+link_words p =
+    between (codes ", HDMI Forum version ") (slice_index p 0) [] ++
+    (clock_words (slice_index p 1) ++ (set_words link_rows (slice_index p 2) ++ fixed_words (slice_index p 3)))
+
+-- ---- what pictures may do: bytes 5 to 8
+
+abbrev pub picture_rows : List Row
+picture_rows =
+    row 2 (codes "ALLM") ∷
+    row 4 (codes "FVA") ∷
+    row 8 (codes "negative Mvrr") ∷
+    row 16 (codes "cinema VRR") ∷
+    row 32 (codes "Mdelta") ∷
+    row 64 (codes "QMS") ∷
+    row 1 (codes "FAPA in blanking") ∷
+    row 128 (codes "FAPA end extended") ∷ []
+
+-- the least rate in six bits, and the greatest in ten; 0 stands for none
+abbrev pub greatest_words : ℕ → List ℕ
+greatest_words most = if most == 0 then codes " Hz on" else between (codes " to ") most (codes " Hz")
+
+abbrev pub vrr_words : ℕ → ℕ → List ℕ
+vrr_words least most = if least == 0 then [] else between (codes ", VRR from ") least [] ++ greatest_words most
+
+abbrev pub stream_rows : List Row
+stream_rows =
+    row 128 (codes "DSC 1.2a") ∷
+    row 64 (codes "DSC in 4:2:0") ∷
+    row 32 (codes "QMS TFR max") ∷
+    row 16 (codes "QMS TFR min") ∷
+    row 8 (codes "DSC at each 1/16 bit a pixel") ∷
+    row 4 (codes "DSC at 16 bits") ∷
+    row 2 (codes "DSC at 12 bits") ∷
+    row 1 (codes "DSC at 10 bits") ∷ []
+
+abbrev pub picture_words : List ℕ → List ℕ
+picture_words p =
+    set_words picture_rows (slice_index p 4) ++
+    (vrr_words (slice_index p 5 % 64) (slice_index p 5 / 64 * 256 + slice_index p 6) ++ (set_words stream_rows (slice_index p 7) ++ rest_words (drop 8 p)))
+
+abbrev pub forum_meanings : List ℕ → List (List ℕ)
+forum_meanings p = below (link_words p) ++ below (picture_words p)

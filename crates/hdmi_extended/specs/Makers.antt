@@ -1,0 +1,34 @@
+-- Makers by the three bytes of their identifier, the lowest first (IEEE RA, MA-L; the names that the blocks go by: own).
+use Rattle.std.specs.Prelude.{ℕ, ◌+◌, ◌*◌, ◌==◌, if◌then◌else◌, List, [], ◌∷◌, ◌++◌, drop, slice_index, codes}
+use Rattle.hdmi_meaning.specs.Notes.{below, rest_words}
+
+abbrev pub identifier : List ℕ → ℕ
+identifier p = slice_index p 0 + slice_index p 1 * 256 + slice_index p 2 * 65536
+
+-- a vendor block of a maker
+abbrev pub maker_name : ℕ → List ℕ
+maker_name id =
+    if id == 0x00001a then codes ", AMD"
+    else if id == 0x00044b then codes ", NVIDIA"
+    else if id == 0x000c6e then codes ", ASUS"
+    else if id == 0x0010fa then codes ", Apple"
+    else if id == 0x0014b9 then codes ", MStar"
+    else if id == 0x00d046 then codes ", Dolby"
+    else if id == 0x00e047 then codes ", InFocus"
+    else if id == 0xca125c then codes ", Microsoft"
+    else []
+
+abbrev pub maker_meanings : List ℕ → List (List ℕ)
+maker_meanings p = below (maker_name (identifier p))
+
+-- video and audio of a maker (CTA-861-G, sections 7.5.7 and 7.5.8)
+abbrev pub video_name : ℕ → List ℕ
+video_name id = if id == 0x00d046 then codes ", Dolby Vision" else if id == 0x90848b then codes ", HDR10+" else []
+
+abbrev pub audio_name : ℕ → List ℕ
+audio_name id = if id == 0x00d046 then codes ", Dolby audio" else []
+
+-- the name, and the bytes after the identifier in hex
+abbrev pub named_meanings : List ℕ → List ℕ → List (List ℕ)
+named_meanings [] p = []
+named_meanings (c ∷ name) p = below ((c ∷ name) ++ rest_words (drop 3 p))

@@ -1,0 +1,77 @@
+//! What an extended block and a vendor block mean.
+ghost use Rattle.std.specs.Prelude.{◌≡◌, ◌≤◌, ◌+◌, ◌*◌, ◌++◌, length, flat_map};
+ghost use Rattle.arrayvec.specs.ArrayVec.{array_vec_len};
+ghost use Rattle.hdmi_meaning.specs.Notes.{indented};
+ghost use Rattle.hdmi_extended.specs.Blocks.{extended_meanings, tagged_meanings, vendor_meanings};
+
+use crate::colours::{append_capability, append_colours, append_hdr};
+use crate::forum::append_forum;
+use crate::makers::{append_maker, append_named, audio_name, identifier, video_name};
+use crate::videos::{append_map, append_preferences};
+use hdmi_meaning::{PAGE, Page, append_video, behind, byte_at};
+
+/// The extended tags (CTA-861-G, table 56).
+const VIDEO_CAPABILITY: u8 = 0x00;
+
+const VENDOR_VIDEO: u8 = 0x01;
+
+const COLORIMETRY: u8 = 0x05;
+
+const HDR_STATIC: u8 = 0x06;
+
+const PREFERENCES: u8 = 0x0d;
+
+const VIDEO_420: u8 = 0x0e;
+
+const MAP_420: u8 = 0x0f;
+
+const VENDOR_AUDIO: u8 = 0x11;
+/// The extended tag of the HDMI Forum's sink capabilities (HDMI 2.1, section 10.3.6).
+const SINK_CAPABILITY: u8 = 0x79;
+
+/// The identifier of the HDMI Forum.
+const HDMI_FORUM: u32 = 0xc45dd8;
+
+#[tactic(auto, unfolding(crate::specs::Blocks::tagged_meanings))]
+fn append_tagged(page: &mut Page, tag: u8, payload: &[u8])
+    requires few { length payload.now ≤ 128 }
+    requires room { array_vec_len page.old + 16000 ≤ PAGE }
+    ensures { page.new.items ≡ page.old.items ++ flat_map indented (tagged_meanings tag payload.now) }
+{
+    match tag {
+        VIDEO_CAPABILITY => append_capability(page, payload),
+        VENDOR_VIDEO => append_named(page, video_name(identifier(payload)).as_bytes(), payload),
+        COLORIMETRY => append_colours(page, payload),
+        HDR_STATIC => append_hdr(page, payload),
+        PREFERENCES => append_preferences(page, payload),
+        VIDEO_420 => append_video(page, payload),
+        MAP_420 => append_map(page, payload),
+        VENDOR_AUDIO => append_named(page, audio_name(identifier(payload)).as_bytes(), payload),
+        SINK_CAPABILITY => append_forum(page, behind(payload, 2)),
+        _ => {}
+    }
+}
+
+/// Appends what an extended block means, of its extended tag and the bytes after it.
+pub fn append_extended(page: &mut Page, bytes: &[u8])
+    requires few { length bytes.now ≤ 128 }
+    requires room { array_vec_len page.old + 16000 ≤ PAGE }
+    ensures { page.new.items ≡ page.old.items ++ flat_map indented (extended_meanings bytes.now) }
+{
+    if !bytes.is_empty() {
+        append_tagged(page, byte_at(bytes, 0), behind(bytes, 1));
+    }
+}
+
+/// Appends what a vendor block means, of the identifier and the bytes after it.
+pub fn append_vendor(page: &mut Page, bytes: &[u8])
+    requires few { length bytes.now ≤ 128 }
+    requires room { array_vec_len page.old + 16000 ≤ PAGE }
+    ensures { page.new.items ≡ page.old.items ++ flat_map indented (vendor_meanings bytes.now) }
+{
+    if identifier(bytes) == HDMI_FORUM {
+        append_forum(page, behind(bytes, 3));
+    } else {
+        append_maker(page, bytes);
+    }
+}

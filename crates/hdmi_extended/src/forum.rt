@@ -1,0 +1,197 @@
+//! What a block of the HDMI Forum means.
+ghost use Rattle.std.specs.Prelude.{◌≡◌, ◌≤◌, ◌<◌, ◌+◌, ◌*◌, ◌++◌, length, map, flat_map};
+ghost use Rattle.arrayvec.specs.ArrayVec.{array_vec_len};
+ghost use Rattle.hdmi_meaning.specs.Notes.{indented, set_words, spelled};
+ghost use Rattle.hdmi_extended.specs.Forum.{clock_words, depth_rows, fixed_words, forum_meanings, greatest_words, link_rows, link_words, picture_rows, picture_words, rate_words, stream_rows, vrr_words};
+
+use arrayvec::ArrayVec;
+use hdmi_edid::append;
+use hdmi_meaning::{
+    Bit, NOTE, Note, PAGE, Page, append_between, append_bits, append_rest, append_words, behind,
+    bit_rows, byte_at,
+};
+
+/// A unit of the TMDS clock, in MHz.
+const TMDS_CLOCK: u64 = 5;
+
+const LINK: &[Bit] = bit_rows! {
+    128 "SCDC";
+    64 "read request";
+    32 "cable status";
+    16 "CCBPCI";
+    8 "scrambling up to 340 MHz";
+    4 "3D independent view";
+    2 "3D dual view";
+    1 "3D OSD disparity";
+};
+
+const DEPTHS: &[Bit] = bit_rows! {
+    8 "UHD VIC";
+    4 "4:2:0 at 48 bits a pixel";
+    2 "4:2:0 at 36 bits a pixel";
+    1 "4:2:0 at 30 bits a pixel";
+};
+
+const PICTURES: &[Bit] = bit_rows! {
+    2 "ALLM";
+    4 "FVA";
+    8 "negative Mvrr";
+    16 "cinema VRR";
+    32 "Mdelta";
+    64 "QMS";
+    1 "FAPA in blanking";
+    128 "FAPA end extended";
+};
+
+const STREAMS: &[Bit] = bit_rows! {
+    128 "DSC 1.2a";
+    64 "DSC in 4:2:0";
+    32 "QMS TFR max";
+    16 "QMS TFR min";
+    8 "DSC at each 1/16 bit a pixel";
+    4 "DSC at 16 bits";
+    2 "DSC at 12 bits";
+    1 "DSC at 10 bits";
+};
+
+// Appends what the link can do.
+fn append_link_bits(note: &mut Note, bits: u8)
+    requires { array_vec_len note.old + 320 ≤ NOTE }
+    ensures items { note.new.items ≡ note.old.items ++ set_words link_rows bits }
+    ensures len { array_vec_len note.new ≤ array_vec_len note.old + 320 }
+{
+    append_bits(note, LINK, u32::from(bits));
+}
+
+// Appends the depths in 4:2:0.
+fn append_depth_bits(note: &mut Note, bits: u8)
+    requires { array_vec_len note.old + 160 ≤ NOTE }
+    ensures items { note.new.items ≡ note.old.items ++ set_words depth_rows bits }
+    ensures len { array_vec_len note.new ≤ array_vec_len note.old + 160 }
+{
+    append_bits(note, DEPTHS, u32::from(bits));
+}
+
+// Appends what pictures may do.
+fn append_picture_bits(note: &mut Note, bits: u8)
+    requires { array_vec_len note.old + 320 ≤ NOTE }
+    ensures items { note.new.items ≡ note.old.items ++ set_words picture_rows bits }
+    ensures len { array_vec_len note.new ≤ array_vec_len note.old + 320 }
+{
+    append_bits(note, PICTURES, u32::from(bits));
+}
+
+// Appends what compressed streams may do.
+fn append_stream_bits(note: &mut Note, bits: u8)
+    requires { array_vec_len note.old + 320 ≤ NOTE }
+    ensures items { note.new.items ≡ note.old.items ++ set_words stream_rows bits }
+    ensures len { array_vec_len note.new ≤ array_vec_len note.old + 320 }
+{
+    append_bits(note, STREAMS, u32::from(bits));
+}
+
+fn append_clock(note: &mut Note, clock: u8)
+    requires { array_vec_len note.old + 100 ≤ NOTE }
+    ensures items { note.new.items ≡ note.old.items ++ clock_words clock }
+    ensures len { array_vec_len note.new ≤ array_vec_len note.old + 39 }
+{
+    if clock != 0 {
+        append_between(
+            note,
+            b", TMDS up to ",
+            TMDS_CLOCK * u64::from(clock),
+            b" MHz",
+        );
+    }
+}
+
+fn rate_words(rate: u8) -> &'static str
+    ensures value { result.now ≡ rate_words rate }
+    ensures short { length result.now ≤ 40 }
+{
+    match rate {
+        0 => "",
+        1 => ", FRL up to 3 Gbit/s on 3 lanes",
+        2 => ", FRL up to 6 Gbit/s on 3 lanes",
+        3 => ", FRL up to 6 Gbit/s on 4 lanes",
+        4 => ", FRL up to 8 Gbit/s on 4 lanes",
+        5 => ", FRL up to 10 Gbit/s on 4 lanes",
+        6 => ", FRL up to 12 Gbit/s on 4 lanes",
+        _ => ", FRL of a reserved rate",
+    }
+}
+
+fn append_fixed(note: &mut Note, bits: u8)
+    requires { array_vec_len note.old + 200 ≤ NOTE }
+    ensures items { note.new.items ≡ note.old.items ++ fixed_words bits }
+    ensures len { array_vec_len note.new ≤ array_vec_len note.old + 200 }
+{
+    append(note, rate_words(bits / 16).as_bytes());
+    append_depth_bits(note, bits);
+}
+
+fn link_note(payload: &[u8]) -> Note
+    ensures value { result.items ≡ link_words payload.now }
+    ensures len { array_vec_len result ≤ 800 }
+{
+    let mut words = ArrayVec::new();
+    append_between(
+        &mut words,
+        b", HDMI Forum version ",
+        u64::from(byte_at(payload, 0)),
+        b"",
+    );
+    append_clock(&mut words, byte_at(payload, 1));
+    append_link_bits(&mut words, byte_at(payload, 2));
+    append_fixed(&mut words, byte_at(payload, 3));
+    words
+}
+
+fn append_greatest(note: &mut Note, most: u16)
+    requires { array_vec_len note.old + 100 ≤ NOTE }
+    ensures items { note.new.items ≡ note.old.items ++ greatest_words most }
+    ensures len { array_vec_len note.new ≤ array_vec_len note.old + 40 }
+{
+    if most == 0 {
+        append(note, b" Hz on");
+    } else {
+        append_between(note, b" to ", u64::from(most), b" Hz");
+    }
+}
+
+fn append_vrr(note: &mut Note, least: u8, most: u16)
+    requires { array_vec_len note.old + 160 ≤ NOTE }
+    ensures items { note.new.items ≡ note.old.items ++ vrr_words least most }
+    ensures len { array_vec_len note.new ≤ array_vec_len note.old + 80 }
+{
+    if least != 0 {
+        append_between(note, b", VRR from ", u64::from(least), b"");
+        append_greatest(note, most);
+    }
+}
+
+fn picture_note(payload: &[u8]) -> Note
+    requires { length payload.now ≤ 128 }
+    ensures value { result.items ≡ picture_words payload.now }
+    ensures len { array_vec_len result ≤ 1100 }
+{
+    let mut words = ArrayVec::new();
+    append_picture_bits(&mut words, byte_at(payload, 4));
+    let rates = byte_at(payload, 5);
+    let most = u16::from(rates / 64) * 256 + u16::from(byte_at(payload, 6));
+    append_vrr(&mut words, rates % 64, most);
+    append_stream_bits(&mut words, byte_at(payload, 7));
+    append_rest(&mut words, behind(payload, 8));
+    words
+}
+
+/// Appends what a block of the HDMI Forum means, of its bytes from the version on (HDMI 2.1, sections 10.3.2 and 10.3.6): a
+/// line of the link, and one of what pictures may do.
+pub fn append_forum(page: &mut Page, payload: &[u8])
+    requires few { length payload.now ≤ 128 }
+    requires room { array_vec_len page.old + 2000 ≤ PAGE }
+    ensures { page.new.items ≡ page.old.items ++ flat_map indented (forum_meanings payload.now) }
+{
+    append_words(page, link_note(payload).as_slice());
+    append_words(page, picture_note(payload).as_slice());
+}

@@ -1,0 +1,5 @@
+pub mod Notes
+pub mod Rates
+pub mod Timings
+pub mod Formats
+pub mod Videos
