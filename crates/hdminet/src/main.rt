@@ -2,7 +2,7 @@
 //! wire; writes frames and EDIDs as texts and bytes.
 #![tactic(auto)]
 
-use hdmi_core::{Buffered, Writes};
+use hdmi_core::Writes;
 use hdminet_program::Fault;
 use hdminet_program::program::{program, tell};
 use std::env;
@@ -15,10 +15,12 @@ fn words(rt: &HostRuntime) -> Result<Vec<String>, Fault> {
 
 fn main(rt: HostRuntime) -> ExitCode {
     let mut input = rt.stdin();
-    let mut out = Buffered::new(Writes::new(rt.stdout()));
     let mut err = Writes::new(rt.stderr());
     let status = match words(&rt) {
-        Ok(words) => program(rt.alloc(), words, &mut input, &mut out, &mut err),
+        Ok(words) => {
+            let out = Writes::new(rt.stdout());
+            program(rt.alloc(), words, &mut input, out, &mut err).status
+        }
         Err(fault) => tell(&fault, &mut err),
     };
     ExitCode::from(status)

@@ -1,37 +1,14 @@
 //! The command line.
+ghost use Rattle.std.specs.Prelude.{◌≡◌, Ok, IfSome, map, string_bytes};
+ghost use Rattle.hdminet_words.specs.Line.{asked_by};
+
 use crate::help;
 use clap::error::ErrorKind;
-use clap::{Arg, ArgAction, ArgMatches, Command, Error};
+use clap::{Arg, ArgAction, Command, Error};
 use hdminet_help::Input;
 use hdminet_lists::{frame_forms, run_words};
+use hdminet_words::{Asked, Choice, Source, Subcommand, asked_by, subcommand_of};
 use std::alloc::{AllocError, Global};
-
-/// What the words of a command line ask for.
-#[derive(Clone, Copy, Debug, PartialEq, Eq)]
-pub enum Choice {
-    /// The trace of a topology and a script.
-    Run,
-    /// The edge file of a topology and a script.
-    Edges,
-    /// Steps of a run, edge by edge and round by round.
-    Step,
-    /// The bytes of frames, from their texts.
-    Asm,
-    /// The readings of an edge file.
-    Mon,
-    /// The text of an EDID, from its bytes.
-    EdidToText,
-    /// The bytes of an EDID, from its text.
-    TextToHex,
-}
-
-/// What a command line asks for.
-#[derive(Clone, Copy, Debug, PartialEq, Eq)]
-pub struct Asked {
-    pub choice: Choice,
-    /// Whether faults are explained, and runs counted, on standard error.
-    pub explains: bool,
-}
 
 /// What is said in place of doing what a command line asks for.
 #[derive(Debug, Drop)]
@@ -44,46 +21,57 @@ pub enum Refused {
     Memory,
 }
 
-impl Choice {
-    /// What the input is to be.
-    pub fn input(self) -> Input {
-        match self {
-            Choice::Run | Choice::Edges | Choice::Step => Input::Network,
-            Choice::Asm | Choice::Mon => Input::Lines,
-            Choice::EdidToText => Input::EdidBytes,
-            Choice::TextToHex => Input::EdidText,
-        }
+/// What the input of a choice is to be.
+pub fn input_of(choice: Choice) -> Input {
+    match choice {
+        Choice::Run { .. } | Choice::Step => Input::Network,
+        Choice::Asm | Choice::Dis | Choice::Mon => Input::Lines,
+        Choice::Edid { source, .. } => match source {
+            Source::Bytes => Input::EdidBytes,
+            Source::Dump => Input::Lines,
+            Source::Text => Input::EdidText,
+        },
     }
 }
 
-fn explain_flag<'a>(alloc: Global) -> Arg<'a> {
-    Arg::new(alloc, "explain")
-        .long("explain")
-        .help(help::EXPLAIN_FLAG)
+fn flag<'a>(alloc: Global, name: &'a str, help: &'a str) -> Arg<'a> {
+    Arg::new(alloc, name)
+        .long(name)
+        .help(help)
         .action(ArgAction::SetTrue)
-        .global(true)
 }
 
-fn edid_command<'a>(alloc: Global) -> Result<Command<'a>, AllocError> {
-    let text = Arg::new(alloc, "text")
-        .long("text")
-        .help(help::TEXT_FLAG)
-        .action(ArgAction::SetTrue);
-    Command::new(alloc, "edid")
-        .about(help::EDID_ABOUT)
-        .after_help(help::EDID_HELP)
-        .arg(text)
+// Adds flags, by their names and helps.
+fn with_flags<'a>(
+    alloc: Global,
+    command: Command<'a>,
+    flags: &[(&'static str, &'static str)],
+) -> Result<Command<'a>, AllocError> {
+    let mut command = command;
+    for row in flags {
+        let (name, help) = *row;
+        command = command.arg(flag(alloc, name, help))?;
+    }
+    Ok(command)
 }
 
-fn run_command<'a>(alloc: Global, run_help: &'a str) -> Result<Command<'a>, AllocError> {
-    let edges = Arg::new(alloc, "edges")
-        .long("edges")
-        .help(help::EDGES_FLAG)
-        .action(ArgAction::SetTrue);
-    Command::new(alloc, "run")
-        .about(help::RUN_ABOUT)
-        .after_help(run_help)
-        .arg(edges)
+// Adds flags that take a value, by their names, what stands for the value, and their helps.
+fn with_values<'a>(
+    alloc: Global,
+    command: Command<'a>,
+    flags: &[(&'static str, &'static str, &'static str)],
+) -> Result<Command<'a>, AllocError> {
+    let mut command = command;
+    for row in flags {
+        let (name, value, help) = *row;
+        let flag = Arg::new(alloc, name)
+            .long(name)
+            .value_name(value)
+            .help(help)
+            .action(ArgAction::Set);
+        command = command.arg(flag)?;
+    }
+    Ok(command)
 }
 
 // Whether help is asked for.
@@ -131,10 +119,10 @@ fn program_command<'a>(alloc: Global) -> Result<Command<'a>, AllocError> {
         .version("0.1.0")
         .after_help(help::OVERVIEW)
         .disable_help_subcommand(true)
-        .arg(explain_flag(alloc))
+        .arg(flag(alloc, "explain", help::EXPLAIN_FLAG).global(true))
 }
 
-// A command without flags of its own.
+// A command, before its flags.
 fn plain_command<'a>(alloc: Global, name: &'a str, about: &'a str, help: &'a str) -> Command<'a> {
     Command::new(alloc, name).about(about).after_help(help)
 }
@@ -145,7 +133,8 @@ fn add_run<'a>(
     program: Command<'a>,
     run_help: &'a str,
 ) -> Result<Command<'a>, AllocError> {
-    let run = run_command(alloc, run_help)?;
+    let run = plain_command(alloc, "run", help::RUN_ABOUT, run_help);
+    let run = with_flags(alloc, run, help::RUN_FLAGS)?;
     program.subcommand(run)
 }
 
@@ -163,14 +152,21 @@ fn add_asm<'a>(
     program.subcommand(plain_command(alloc, "asm", help::ASM_ABOUT, asm_help))
 }
 
-// Adds the command that reads edge files.
+// Adds the command that reads frames in hex.
+fn add_dis<'a>(alloc: Global, program: Command<'a>) -> Result<Command<'a>, AllocError> {
+    program.subcommand(plain_command(alloc, "dis", help::DIS_ABOUT, help::DIS_HELP))
+}
+
+// Adds the command that reads captures.
 fn add_mon<'a>(alloc: Global, program: Command<'a>) -> Result<Command<'a>, AllocError> {
     program.subcommand(plain_command(alloc, "mon", help::MON_ABOUT, help::MON_HELP))
 }
 
 // Adds the command that reads EDIDs.
 fn add_edid<'a>(alloc: Global, program: Command<'a>) -> Result<Command<'a>, AllocError> {
-    let edid = edid_command(alloc)?;
+    let edid = plain_command(alloc, "edid", help::EDID_ABOUT, help::EDID_HELP);
+    let edid = with_flags(alloc, edid, help::EDID_FLAGS)?;
+    let edid = with_values(alloc, edid, help::EDID_VALUES)?;
     program.subcommand(edid)
 }
 
@@ -184,64 +180,79 @@ fn command<'a>(
     let program = add_run(alloc, program, run_help)?;
     let program = add_step(alloc, program)?;
     let program = add_asm(alloc, program, asm_help)?;
+    let program = add_dis(alloc, program)?;
     let program = add_mon(alloc, program)?;
     add_edid(alloc, program)
 }
 
-// What the words after the flags ask for.
-fn choice_of(matches: &ArgMatches<'_>) -> Choice {
-    let Some((command, flags)) = matches.subcommand() else {
-        return Choice::Run;
-    };
-    match command {
-        "run" if flags.get_flag("edges") => Choice::Edges,
-        "step" => Choice::Step,
-        "asm" => Choice::Asm,
-        "mon" => Choice::Mon,
-        "edid" if flags.get_flag("text") => Choice::TextToHex,
-        "edid" => Choice::EdidToText,
-        _ => Choice::Run,
+// Adds a word in its plain spelling: a flag and its value with `=` between them are two words.
+fn add_word(alloc: Global, words: &mut Vec<String>, word: &str) -> Result<(), AllocError> {
+    match word.split_once('=') {
+        Some((flag, value)) if flag.starts_with("--") => {
+            words.push(String::from_str(alloc, flag)?)?;
+            words.push(String::from_str(alloc, value)?)?;
+        }
+        _ => words.push(String::from_str(alloc, word)?)?,
     }
+    Ok(())
 }
 
-// What a command without flags asks for. The table of commands and flags takes as long to build as an EDID to read, so
-// where nothing of it is needed it is left alone.
-fn plain_choice(words: &[String]) -> Option<Choice> {
-    let [_, command] = words else {
-        return None;
-    };
-    match command.as_str() {
-        "run" => Some(Choice::Run),
-        "step" => Some(Choice::Step),
-        "asm" => Some(Choice::Asm),
-        "mon" => Some(Choice::Mon),
-        "edid" => Some(Choice::EdidToText),
-        _ => None,
-    }
+// Whether a word stands for no flag and no value by itself: it asks for explanations, or ends the flags.
+fn is_apart(word: &str) -> bool {
+    word == "--explain" || word == "--"
 }
 
-// What the matches of a command line ask for.
-fn asked_by(matches: &ArgMatches<'_>) -> Asked {
-    Asked {
-        choice: choice_of(matches),
-        explains: matches.get_flag("explain"),
+// Adds the words of a command line but the first in their plain spelling, without those that stand apart.
+fn add_words(alloc: Global, words: &[String], plain: &mut Vec<String>) -> Result<(), AllocError> {
+    for word in words {
+        if !is_apart(word.as_str()) {
+            add_word(alloc, plain, word.as_str())?;
+        }
     }
+    Ok(())
 }
 
-// Reads a command line by the table of commands and flags.
+// Whether explanations are asked for.
+fn asks_explanation(words: &[String]) -> bool {
+    for word in words {
+        if word.as_str() == "--explain" {
+            return true;
+        }
+    }
+    false
+}
+
+// A command line that the table takes, in its plain spelling: the name, the subcommand, the flags, and `--explain` last.
+fn spelled_plainly(alloc: Global, words: &[String]) -> Result<Vec<String>, AllocError> {
+    let mut plain = Vec::new(alloc);
+    plain.push(String::from_str(alloc, "hdminet")?)?;
+    if let [_, rest @ ..] = words {
+        add_words(alloc, rest, &mut plain)?;
+    }
+    if plain.len() == 1 {
+        plain.push(String::from_str(alloc, "run")?)?;
+    }
+    if asks_explanation(words) {
+        plain.push(String::from_str(alloc, "--explain")?)?;
+    }
+    Ok(plain)
+}
+
+// Reads a command line by the table of commands and flags. What the table takes is read in its plain spelling.
 fn choose_by_table(
     alloc: Global,
     words: &[String],
     run_help: &str,
     asm_help: &str,
-) -> Result<Asked, Error> {
+) -> Result<Option<Asked>, Error> {
     let command = command(alloc, run_help, asm_help)?;
-    let matches = command.try_get_matches_from(words)?;
-    Ok(asked_by(&matches))
+    let _ = command.try_get_matches_from(words)?;
+    let plain = spelled_plainly(alloc, words)?;
+    Ok(asked_by(&plain))
 }
 
 // Reads a command line with the helps of its commands.
-fn choose_with_help(alloc: Global, words: &[String]) -> Result<Asked, Error> {
+fn choose_with_help(alloc: Global, words: &[String]) -> Result<Option<Asked>, Error> {
     let run_help = run_help(alloc, words)?;
     let asm_help = asm_help(alloc, words)?;
     choose_by_table(alloc, words, run_help.as_str(), asm_help.as_str())
@@ -249,12 +260,11 @@ fn choose_with_help(alloc: Global, words: &[String]) -> Result<Asked, Error> {
 
 // What follows words that are refused: with `--explain` among them, how the program is called.
 fn explanation(words: &[String]) -> &'static str {
-    for word in words {
-        if word.as_str() == "--explain" {
-            return help::EXPLAINED;
-        }
+    if asks_explanation(words) {
+        help::EXPLAINED
+    } else {
+        ""
     }
-    ""
 }
 
 // What is said of a command line that is not to be done.
@@ -279,16 +289,44 @@ fn refusal(alloc: Global, error: &Error, words: &[String]) -> Refused {
     }
 }
 
-/// Reads a command line. With no word after the program's name it is `run`.
-pub fn choose(alloc: Global, words: &[String]) -> Result<Asked, Refused> {
-    if let Some(choice) = plain_choice(words) {
-        return Ok(Asked {
-            choice,
-            explains: false,
-        });
+// What goes with what, in the subcommand that some words name.
+fn rules(words: &[String]) -> &'static str {
+    for word in words {
+        match subcommand_of(word.as_str()) {
+            Some(Subcommand::Edid) => return help::EDID_RULES,
+            Some(_) | None => {}
+        }
+    }
+    ""
+}
+
+// What is said where the table takes words that ask for nothing: what goes with what.
+fn meaningless(alloc: Global, words: &[String]) -> Refused {
+    let rules = rules(words);
+    let explanation = explanation(words);
+    let text = format!(in alloc;
+        "error: a value is none of its flag, or flags do not go together\n{rules}\nFor more information, try '--help'.\n{explanation}"
+    );
+    match text {
+        Ok(text) => Refused::Words(text),
+        Err(AllocError) => Refused::Memory,
+    }
+}
+
+/// Reads a command line: the program's name, a subcommand, its flags. The name alone asks for the trace of a run.
+///
+/// A line that `asked_by` reads is that. Others are left to the table of commands and flags, which refuses them, shows a
+/// help, or knows another spelling of a flag.
+// The table takes as long to build as an EDID to read, so where nothing of it is needed it is left alone.
+pub fn choose(alloc: Global, words: &[String]) -> Result<Asked, Refused>
+    ensures { IfSome (asked_by (map string_bytes words.now)) (λ asked. result ≡ Ok asked) }
+{
+    if let Some(asked) = asked_by(words) {
+        return Ok(asked);
     }
     match choose_with_help(alloc, words) {
-        Ok(asked) => Ok(asked),
+        Ok(Some(asked)) => Ok(asked),
+        Ok(None) => Err(meaningless(alloc, words)),
         Err(error) => Err(refusal(alloc, &error, words)),
     }
 }

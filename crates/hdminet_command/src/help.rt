@@ -8,7 +8,7 @@ pub const EXPLAIN_FLAG: &str =
 
 /// What follows a refused command line that has `--explain`.
 pub const EXPLAINED: &str =
-    "  the subcommands are run, step, asm, mon and edid; each reads standard input, as `hdminet run < FILE`\n";
+    "  the subcommands are run, step, asm, dis, mon and edid; each reads standard input, as `hdminet run < FILE`\n";
 
 pub const OVERVIEW: &str = "\
 With --explain a fault is followed by the line of the input, the word at fault, and what would be right.
@@ -32,6 +32,8 @@ Examples, of which the folder examples/ has the inputs and outputs:
       two devices send at once: the line of that round edge by edge, and where each device then stands
   ./hdminet asm < examples/frames.txt
       `4>f active-source 1.0.0.0` gives `4f821000`
+  ./hdminet dis < examples/frames.hex
+      and `4f821000` gives `4>f active-source 1.0.0.0`
   ./hdminet mon < examples/capture.edges
       the falls and rises of a captured line give `1000 8251 silent 1` and so on
   ./hdminet edid < examples/living-room.edid
@@ -42,11 +44,21 @@ Examples, of which the folder examples/ has the inputs and outputs:
 Faults go to standard error, as `hdminet: script line 3: word`; with --explain indented lines follow.
 
 Exit status: 0 done; 1 input refused; 2 command line refused; 3 a read or write fault, or input
-past 1048576 bytes; 4 no memory.";
+past 1048576 bytes; 4 no memory; 5 an EDID breaks a rule.";
 
 pub const RUN_ABOUT: &str = "Runs a topology and a script, and prints the trace (the default)";
 
-pub const EDGES_FLAG: &str = "Prints the edges of the CEC line in place of the trace";
+/// The flags of `run`, each with its help.
+pub const RUN_FLAGS: &[(&str, &str)] = &[
+    (
+        "edges",
+        "Prints the edges of the CEC line in place of the trace",
+    ),
+    (
+        "strict",
+        "Ends with status 1 where an event of the script was refused; the output is the same",
+    ),
+];
 
 pub const RUN_HELP: &str = "\
 The input has two parts, parted by a line `script`. Lines that are empty or begin with `#` are
@@ -90,6 +102,10 @@ port of a device that comes on the wire, and at the end the state of each device
 With --edges the output is an edge file, as `hdminet mon` takes it: `T 0` for each fall of the CEC line,
 `T 1` for each rise, and last `T end`, the end of the script or the close of the last round, whichever is
 later. Its readings are those of the trace.
+
+With --strict the run is the same, and where an event was refused the status is 1 and standard error has
+`hdminet: refused events N`:
+  ./hdminet run --strict < x.net > x.trace || echo something was refused
 
 An event is refused, and the run goes on, with one of
   plug      port-range, port-taken, not-loose, loop
@@ -185,6 +201,31 @@ pub const ASM_FORMS: &str = "\
 The frames of each opcode that has a name, by its hex digits, behind `I>D` and a space; what stands in
 brackets may be left out:";
 
+pub const DIS_ABOUT: &str = "Writes CEC frames in hex as texts";
+
+pub const DIS_HELP: &str = "\
+The input has the bytes of a frame a line, in hex: header, opcode and operands. Lines that are empty or
+begin with `#` are skipped, but counted. The output has the text of each frame in a line, as
+`hdminet asm` takes it; behind it stands ` # ` and a word of the standard where the text leaves the
+opcode or an operand as bytes.
+
+Each byte has two hex digits of either case, with `0x` before them or not. Between bytes there may be
+spaces, `:`, `,` and `-`, also none. What stands before the last `>>` or `<<` of a line, and these, is
+passed over, so that a log of cec-client is read as it is.
+
+An example, and what it gives:
+  44               4>4
+  4f:82:10:00      4>f active-source 1.0.0.0
+  40 41 24         4>0 play forward
+
+The fault is `line N: CAUSE` with the first line that has no frame; nothing is written then. CAUSE is
+  digit      something else than hex digits and what may stand between bytes
+  half       a hex digit alone
+  length     no byte, or more than 16
+
+Exit status: 0 done; 1 input refused; 2 command line refused; 3 a read or write fault, or input
+past 1048576 bytes; 4 no memory.";
+
 pub const MON_ABOUT: &str = "Prints what was read on a captured line";
 
 pub const MON_HELP: &str = "\
@@ -223,7 +264,48 @@ past 1048576 bytes; 4 no memory.";
 
 pub const EDID_ABOUT: &str = "Writes an EDID as text, or a text's EDID in hex";
 
-pub const TEXT_FLAG: &str = "Reads an EDID's text, and prints its bytes as one line of hex";
+/// The flags of `edid`, each with its help.
+pub const EDID_FLAGS: &[(&str, &str)] = &[
+    (
+        "text",
+        "Reads an EDID's text, and prints its bytes as one line of hex",
+    ),
+    (
+        "hex",
+        "Reads a hex dump of the EDID, as xxd, hexdump -C or edid-decode print it",
+    ),
+    ("raw", "Prints the EDID's bytes as they are"),
+    (
+        "check",
+        "Prints the rules that the EDID breaks; status 5 where one is a failure",
+    ),
+    ("only-address", "Prints the physical address alone"),
+];
+
+/// Those that take a value, with what stands for it.
+pub const EDID_VALUES: &[(&str, &str, &str)] = &[
+    (
+        "address",
+        "ADDRESS",
+        "Puts this physical address, as 1.0.0.0, into the EDID",
+    ),
+    (
+        "port",
+        "NUMBER",
+        "Prints the EDID that the device passes on in this port, 1 to 15",
+    ),
+    (
+        "below",
+        "KIND",
+        "With --port: the device is an amplifier, amp",
+    ),
+];
+
+pub const EDID_RULES: &str = "
+  of --text and --hex one is given at most, of --raw, --check and --only-address, and of --address and --port
+  --address takes an address as 1.0.0.0, --port 1 to 15, --below amp
+  --below goes with --port alone, --only-address with neither --address nor --port
+";
 
 pub const EDID_HELP: &str = "\
 The input is an EDID of 128, 256, 384 or 512 bytes: a base block of E-EDID 1.3 or 1.4, and up to
@@ -256,11 +338,28 @@ The remarks to the right are no part of the text.
 
 To see an EDID, and to make the bytes again:
   ./hdminet edid < tv.edid > tv.txt
-  ./hdminet edid --text < tv.txt | xxd -r -p > tv.edid
+  ./hdminet edid --text --raw < tv.txt > tv.edid
+
+With --hex the input is a hex dump: plain digits, or as `xxd`, `hexdump -C` and `edid-decode` print it, or
+with other text around, as `xrandr --prop` has it. It begins at the first line whose bytes are the header
+00 ff ff ff ff ff ff 00, and may be what each of the other flags reads:
+  xrandr --prop | ./hdminet edid --hex
+
+With --check the output is a line for each rule that the EDID breaks, `fail RULE`, `warn RULE`, or
+`fail timing N RULE` with detailed timings counted from 1. Status 5 is for a rule that fails:
+  ./hdminet edid --check < tv.edid         fail srgb
+                                           warn overscan
+
+With --address the EDID has that physical address, and with --port the address of that port of the
+device: the EDID that a device there reads. Below an amplifier it has the amplifier's audio:
+  ./hdminet edid --port 2 --below amp --raw < tv.edid > player.edid
+  ./hdminet edid --only-address < player.edid
 
 Faults: `edid: CAUSE` with length, count (byte 126 does not tell the extensions), base header, base
-checksum, base revision, base maker or ext N checksum; with --text `text: syntax N` or
+checksum, base revision, base maker or ext N checksum, and no-hdmi-block where there is no place for an
+address; `dump: none`, `dump: cut N` or `dump: long N` with --hex, where no line begins an EDID, or line N
+does not go on with it, or goes past 512 bytes; `edid: a rule fails` behind the rules of --check; with --text `text: syntax N` or
 `text: field N`, for the first line that no EDID's text has there. Nothing is written then.
 
 Exit status: 0 done; 1 input refused; 2 command line refused; 3 a read or write fault, or input
-past 1048576 bytes; 4 no memory.";
+past 1048576 bytes; 4 no memory; 5 a rule fails.";

@@ -4,4 +4,4 @@
 mod choice;
 mod help;
 
-pub use choice::{Asked, Choice, Refused, choose};
+pub use choice::{Refused, choose, input_of};

@@ -1,10 +1,15 @@
 //! Why the program did not do what it was asked.
+ghost use Rattle.std.specs.Prelude.{◌<◌};
+
+use cec_dis::DisError;
 use cec_mon::WatchError;
+use cec_run::Totals;
 use cec_run::emulate::EmulateError;
 use cec_step::step_run::StepRunError;
 use cec_text::FrameLinesError;
-use hdmi_convert::{EdidToTextError, TextToHexError};
+use hdmi_convert::{EdidToTextError, PassOnError, TextToHexError};
 use hdmi_core::WriteFault;
+use hdmi_dump::DumpError;
 use std::alloc::AllocError;
 use std::io::{self, ErrorKind};
 use thiserror::Error;
@@ -21,6 +26,9 @@ pub enum Fault {
     NoScriptLine,
     #[error("no steps line")]
     NoStepsLine,
+    /// A strict run refused events of its script. All of its output was written.
+    #[error("refused events {}", .0.refused)]
+    EventsRefused(Totals),
     #[error(transparent)]
     Emulate(#[from] EmulateError),
     #[error("steps line {0}")]
@@ -28,11 +36,20 @@ pub enum Fault {
     #[error(transparent)]
     Frames(#[from] FrameLinesError),
     #[error(transparent)]
+    Dis(#[from] DisError),
+    #[error(transparent)]
     Watch(#[from] WatchError),
     #[error(transparent)]
     EdidToText(#[from] EdidToTextError),
     #[error(transparent)]
     TextToHex(#[from] TextToHexError),
+    #[error("dump: {0}")]
+    Dump(DumpError),
+    #[error(transparent)]
+    PassOn(#[from] PassOnError),
+    /// A rule that an EDID breaks is a failure. All rules that it breaks were written.
+    #[error("edid: a rule fails")]
+    RuleFails,
     #[error(transparent)]
     Write(#[from] WriteFault),
     #[error("no memory")]
@@ -58,7 +75,9 @@ impl Fault {
     }
 
     /// The exit status.
-    pub fn status(&self) -> u8 {
+    pub fn status(&self) -> u8
+        ensures { 0 < result }
+    {
         match self {
             Fault::NotUtf8 => 2,
             Fault::TooLong
@@ -66,21 +85,28 @@ impl Fault {
             | Fault::Write(_)
             | Fault::Emulate(EmulateError::Write(_))
             | Fault::Frames(FrameLinesError::Write(_))
+            | Fault::Dis(DisError::Write(_))
             | Fault::Watch(WatchError::Write(_))
             | Fault::EdidToText(EdidToTextError::Write(_))
-            | Fault::TextToHex(TextToHexError::Write(_)) => 3,
+            | Fault::TextToHex(TextToHexError::Write(_))
+            | Fault::PassOn(PassOnError::Write(_)) => 3,
             Fault::Memory(_)
             | Fault::Emulate(EmulateError::Memory)
             | Fault::Watch(WatchError::Memory)
             | Fault::TextToHex(TextToHexError::Memory) => 4,
             Fault::NoScriptLine
             | Fault::NoStepsLine
+            | Fault::EventsRefused(_)
             | Fault::Steps(_)
             | Fault::Emulate(_)
             | Fault::Frames(FrameLinesError::Line(_))
+            | Fault::Dis(DisError::Line(_))
             | Fault::Watch(_)
             | Fault::EdidToText(_)
-            | Fault::TextToHex(_) => 1,
+            | Fault::TextToHex(_)
+            | Fault::Dump(_)
+            | Fault::PassOn(_) => 1,
+            Fault::RuleFails => 5,
         }
     }
 }

@@ -1,15 +1,17 @@
 //! What the program does, over readers and writers that it is handed.
-use hdmi_core::{Buffered, Writes};
+use hdmi_core::Writes;
 use hdminet_program::program::program;
 use std::io::{self, ErrorKind, Read, Write};
 use std::process::Abort;
 
 mod command_line;
 mod edge_files;
+mod edid_flags;
 mod edids;
 mod example_lines;
 mod examples;
 mod explained;
+mod flags;
 mod frames;
 mod hostile;
 mod limits;
@@ -90,9 +92,10 @@ fn told_of<R: Read + Drop>(
         alloc,
         words(rt, line),
         &mut input,
-        &mut Buffered::new(Writes::new(&mut out)),
+        Writes::new(&mut out),
         &mut Writes::new(&mut err),
-    );
+    )
+    .status;
     Answer {
         status,
         out: out.bytes,

@@ -14,10 +14,15 @@ fn shows(rt: &(impl Abort + AllocGlobal), line: &str, part: &str) {
 const HELP: &str = "\
 run --help =>   at 1000000 press p1 play
 run --help => --edges
+run --help => --strict
 run --help =>   watch PA       tv
 asm --help => 4f821000
+dis --help => 4f:82:10:00      4>f active-source 1.0.0.0
 edid --help =>   made 10 2011 
 edid --help => --text
+edid --help => --hex
+edid --help => --only-address
+edid --help => warn overscan
 edid --help => --explain
 --help => With --explain a fault is followed by
 --help =>       device tv tv 4
@@ -78,9 +83,22 @@ frob
 --frob
 --edges
 run --edges --edges
+run --strict --strict
+mon --strict
+--strict
+run -- --edges
 run tv.net
 asm --text
-edid --hex
+edid --hex --text
+edid --address
+edid --address 1.0.0
+edid --port 0
+edid --port 16
+edid --port 1 --address 1.0.0.0
+edid --below amp
+edid --port 1 --below tv
+edid --raw --check
+edid --only-address --port 1
 edid --text --text
 mon --edges
 step tv.steps

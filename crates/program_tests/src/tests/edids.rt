@@ -63,7 +63,7 @@ fn changed(rt: &(impl Abort + AllocGlobal), change: &str) -> String {
 }
 
 /// The text of the base block, and another text behind it.
-fn behind_base(rt: &(impl Abort + AllocGlobal), extension: &str) -> String {
+pub(super) fn behind_base(rt: &(impl Abort + AllocGlobal), extension: &str) -> String {
     format!(in rt.alloc(); "{BASE_TEXT}{extension}").expect(rt, "a text")
 }
 
@@ -75,13 +75,24 @@ fn changed_text(rt: &(impl Abort + AllocGlobal), from: &str, to: &str) -> String
 }
 
 /// The bytes of these digits.
-fn bytes_of(rt: &(impl Abort + AllocGlobal), digits: &str) -> Vec<u8> {
+pub(super) fn bytes_of(rt: &(impl Abort + AllocGlobal), digits: &str) -> Vec<u8> {
     hex::decode(rt.alloc(), digits).expect(rt, "hex digits")
 }
 
+/// The program writes this text for the bytes of these digits, with these words.
+pub(super) fn gives_of_hex(
+    rt: &(impl Abort + AllocGlobal),
+    line: &str,
+    name: &str,
+    digits: &str,
+    text: &str,
+) {
+    gives(rt, line, name, &bytes_of(rt, digits), text);
+}
+
 /// The program writes this text for the bytes of these digits.
-pub(super) fn has_text(rt: &(impl Abort + AllocGlobal), name: &str, digits: &str, text: &str) {
-    gives(rt, "edid", name, &bytes_of(rt, digits), text);
+fn has_text(rt: &(impl Abort + AllocGlobal), name: &str, digits: &str, text: &str) {
+    gives_of_hex(rt, "edid", name, digits, text);
 }
 
 /// The bytes of these digits have this text, and the text these digits.

@@ -1,5 +1,5 @@
 //! The files of examples/, each with its output. tools/example-tests writes this file.
-use super::edids::has_text;
+use super::edids::gives_of_hex;
 use super::example_lines::FIRST_PATH_LINE;
 use super::*;
 
@@ -389,6 +389,24 @@ const FRAMES_HEX: &str = "\
 0f36
 ";
 
+const CEC_CLIENT_LOG: &str = "\
+# Lines of a log of cec-client, and frames as other tools print them.
+TRAFFIC: [            1203] << 0f:84:00:00:00
+TRAFFIC: [            1466] >> 4f:82:10:00
+
+40 41 24
+0x40 0x90 0x02
+44
+";
+
+const CEC_CLIENT_FRAMES: &str = "\
+0>f report-physical-address 0.0.0.0 tv
+4>f active-source 1.0.0.0
+4>0 play forward
+4>0 report-power-status :02 # standby-to-on
+4>4
+";
+
 const CAPTURE_EDGES: &str = "\
 # The line of a television that comes up: its poll, which nobody acknowledges, and its report.
 12000 0
@@ -605,7 +623,47 @@ timing 7425 1280 370 720 30 110 40 5 5 598 336 0 0 1e
 tail -
 ";
 
-const EXAMPLES: &[Case<'static>] = &[
+const OVERSCAN_EDID: &str =
+    "00ffffffffffff004c2d0201010000000a15010380341d780eee91a3544c99260f505420000001010101010101010101010101010101023a801871382d40582c450008222100001e011d007251d01e206e28550008222100001e000000fc004c4f554e47452054560a202020000000fd00173d0f440f000a20202020202001d402031a714490040301230907078301000065030c000000e2004f000000000000000000000000000000000000000000000000000000000000000000000000000000000000000000000000000000000000000000000000000000000000000000000000000000000000000000000000000000000000000000000000000000000031\n";
+
+const OVERSCAN_EDID_TXT: &str = "\
+edid 1.3
+maker SAM
+product 258
+serial 1
+made 10 2011
+input 80
+size 52 29
+gamma 120
+features 0e
+chroma 655 338 307 614 154 61 320 337
+established 200000
+standard unused
+standard unused
+standard unused
+standard unused
+standard unused
+standard unused
+standard unused
+standard unused
+timing 14850 1920 280 1080 45 88 44 4 5 520 290 0 0 1e
+timing 7425 1280 370 720 30 110 40 5 5 520 290 0 0 1e
+name \"LOUNGE TV\"
+range 00173d0f440f000a202020202020
+cta 71
+video 90040301
+audio 090707
+speakers 010000
+hdmi 0.0.0.0 -
+extended 004f
+tail -
+";
+
+const OVERSCAN_FINDINGS: &str = "\
+warn overscan
+";
+
+const RUNS: &[Case<'static>] = &[
     Case {
         name: "first-path",
         line: "run",
@@ -654,11 +712,25 @@ const EXAMPLES: &[Case<'static>] = &[
         input: TWO_ADDRESSES_STEPS,
         want: TWO_ADDRESSES_STEPPED,
     },
+];
+
+#[test]
+fn each_run_gives_its_output(rt: HostRuntime) {
+    gives_each(&rt, RUNS);
+}
+
+const TEXTS: &[Case<'static>] = &[
     Case {
         name: "frames",
         line: "asm",
         input: FRAMES_TXT,
         want: FRAMES_HEX,
+    },
+    Case {
+        name: "cec-client",
+        line: "dis",
+        input: CEC_CLIENT_LOG,
+        want: CEC_CLIENT_FRAMES,
     },
     Case {
         name: "capture",
@@ -678,11 +750,17 @@ const EXAMPLES: &[Case<'static>] = &[
         input: MONITOR_1_4_EDID_TXT,
         want: MONITOR_1_4_EDID,
     },
+    Case {
+        name: "overscan as bytes",
+        line: "edid --text",
+        input: OVERSCAN_EDID_TXT,
+        want: OVERSCAN_EDID,
+    },
 ];
 
 #[test]
-fn each_example_gives_its_output(rt: HostRuntime) {
-    gives_each(&rt, EXAMPLES);
+fn each_text_gives_its_output(rt: HostRuntime) {
+    gives_each(&rt, TEXTS);
 }
 
 /// Those whose input is an EDID, in hex.
@@ -699,11 +777,23 @@ const EDIDS: &[Case<'static>] = &[
         input: MONITOR_1_4_EDID,
         want: MONITOR_1_4_EDID_TXT,
     },
+    Case {
+        name: "overscan as text",
+        line: "edid",
+        input: OVERSCAN_EDID,
+        want: OVERSCAN_EDID_TXT,
+    },
+    Case {
+        name: "findings of overscan",
+        line: "edid --check",
+        input: OVERSCAN_EDID,
+        want: OVERSCAN_FINDINGS,
+    },
 ];
 
 #[test]
-fn each_edid_gives_its_text(rt: HostRuntime) {
+fn each_edid_gives_its_output(rt: HostRuntime) {
     for case in EDIDS {
-        has_text(&rt, case.name, case.input.trim_end(), case.want);
+        gives_of_hex(&rt, case.line, case.name, case.input.trim_end(), case.want);
     }
 }

@@ -45,8 +45,10 @@ fn each_front_of_an_input(rt: HostRuntime) {
 const WRITTEN: &[(&str, &str)] = &[
     ("run", PAIR),
     ("asm", FRAMES),
+    ("dis", "44\n4f:82:10:00\n"),
     ("mon", EDGES),
     ("run --edges", POLL),
+    ("run --strict", TELEVISION),
     ("step", STEPS),
     ("run", TELEVISION),
     ("", TELEVISION),

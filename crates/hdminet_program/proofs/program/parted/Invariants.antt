@@ -1,8 +1,13 @@
-use Rattle.std.proofs.Common.{◌≤◌, length}
+use Rattle.std.proofs.Common.{◌-◌, ◌≤◌, length, take}
+use Rattle.hdminet_program.specs.Parted.{AreOtherLines}
 use Rattle.hdminet_program.proofs.program.parted.Given as goal
 
-abbrev pub invariant-loop-line : goal.invariant-loop-line
-invariant-loop-line l = length l.rest ≤ length l.text
+-- the lines before are whole, and others
+abbrev pub invariant-lines : goal.invariant-lines
+invariant-lines l = record {
+  within : l.start ≤ length l.text;
+  earlier : AreOtherLines l.mark (take l.start l.text);
+}
 
-abbrev pub decreases-loop-line : goal.decreases-loop-line
-decreases-loop-line l = length l.rest
+abbrev pub decreases-lines : goal.decreases-lines
+decreases-lines l = length l.text - l.start

@@ -1,0 +1,15 @@
+use Rattle.std.proofs.Common.{◌≡◌, ◌∙◌, false, refl, sym}
+use Rattle.hdmi_check.specs.Text.{findings_text}
+use Rattle.hdmi_check.specs.declared.rule.Origin.TheVariants as origins
+use Rattle.hdmi_convert.specs.EdidFindings.{faults_of}
+use Rattle.hdminet_program.specs.Edids.{Shows}
+use Rattle.hdminet_words.specs.declared.choice.Place.TheVariants.{Own}
+use Rattle.hdminet_words.specs.declared.choice.View.TheVariants.{Findings}
+use Rattle.hdminet_program.proofs.ShownLemmas.{on_ok}
+use Rattle.hdminet_program.proofs.edid.check_own.Goals as goal
+
+pub returns : goal.returns
+returns g c =
+    let told = c.in_ok-fails.ensures.answers in
+    on_ok c.unless_failed.result (c.in_ok-fails.fails ≡ false) (Shows (Findings Own) c.args.bytes.now (g.W.Sink.contents c.args.out.now) (g.W.Sink.contents c.edid_to_findings.new.out))
+    (λ no. (findings_text (faults_of origins.Display told.0), (told.0, told.1, refl, sym told.4 ∙ no), told.2)) c.unless_failed.ensures

@@ -1,0 +1,13 @@
+use Rattle.std.proofs.Common.{◌≡◌, ◌∙◌, false, refl, sym}
+use Rattle.hdmi_check.specs.Text.{findings_text}
+use Rattle.hdmi_check.specs.declared.rule.Origin.TheVariants as origins
+use Rattle.hdmi_convert.specs.EdidFindings.{faults_of}
+use Rattle.hdminet_program.specs.Edids.{ShowsRules}
+use Rattle.hdminet_program.proofs.ShownLemmas.{on_ok}
+use Rattle.hdminet_program.proofs.edid.check_passed.Goals as goal
+
+pub returns : goal.returns
+returns g c =
+    let told = c.in_ok-fails.ensures.answers in
+    on_ok c.unless_failed.result (c.in_ok-fails.fails ≡ false) (ShowsRules c.args.passing c.args.bytes.now (g.W.Sink.contents c.args.out.now) (g.W.Sink.contents c.check_passed_on.new.out))
+    (λ no. (findings_text (faults_of origins.Port told.0), (told.0, told.1, refl, sym told.4 ∙ no), told.2)) c.unless_failed.ensures

@@ -1,0 +1,10 @@
+use Rattle.std.proofs.Common.{map, string_bytes}
+use Rattle.hdminet_words.specs.Line.{asked_by}
+use Rattle.hdminet_program.proofs.ServedLemmas.{chosen, helped}
+use Rattle.hdminet_program.proofs.program.act.Goals as goal
+
+pub returns-in-Ok : goal.returns-in-Ok
+returns-in-Ok g c done = chosen (asked_by (map string_bytes c.args.words.now)) c.in-Ok.asked _ _ _ c.in-Ok.ensures (c.serve.ensures done)
+
+pub returns-in-Err : goal.returns-in-Err
+returns-in-Err g c done = helped (asked_by (map string_bytes c.args.words.now)) c.in-Err.refused _ _ _ c.in-Err.ensures (c.refuse.ensures done)

@@ -1,0 +1,228 @@
+//! What is done with an EDID.
+ghost use Rattle.std.specs.Prelude.{◌≡◌, OnOk, IfOk, false};
+ghost use Rattle.hdmi_blocks.specs.Bytes.{edid_bytes};
+ghost use Rattle.hdminet_program.specs.Edids.{Made, Shows, ShowsPassed, ShowsRules, at, form_of, in_port};
+ghost use Rattle.hdmi_core.specs.Written.{WrittenAll};
+ghost use Rattle.hdmi_convert.specs.Form.{hex_line};
+
+use crate::fault::Fault;
+use hdmi_blocks::{AudioFrom, Edid, edid_from_bytes, edid_to_bytes};
+use hdmi_convert::{
+    EdidToTextError, Form, Passing, Place as PassedTo, TextToHexError, check_passed_on,
+    edid_to_findings, edid_to_text, write_address, write_passed_on,
+};
+use hdmi_core::{Phys, Piece, Sink, WriteFault, put_all, write_line};
+use hdmi_dump::dump_bytes;
+use hdmi_edtext::parse_text;
+use hdminet_words::{Place, Shape, Source, View};
+use std::alloc::Global;
+
+fn form_of(shape: Shape) -> Form
+    ensures { result ≡ form_of shape }
+{
+    match shape {
+        Shape::Text => Form::Text,
+        Shape::Hex => Form::Hex,
+        Shape::Bytes => Form::Bytes,
+    }
+}
+
+// What is passed on to an address.
+fn at(address: Phys) -> Passing
+    ensures { result ≡ at address }
+{
+    Passing {
+        place: PassedTo::Address(address),
+        audio: AudioFrom::Television,
+    }
+}
+
+// What is passed on in a port.
+fn in_port(port: u8, amplified: bool) -> Passing
+    ensures { result ≡ in_port port amplified }
+{
+    let audio = if amplified {
+        AudioFrom::Amplifier
+    } else {
+        AudioFrom::Television
+    };
+    Passing {
+        place: PassedTo::Port(port),
+        audio,
+    }
+}
+
+// The EDID of some bytes.
+#[inline(never)]
+fn edid_of(bytes: &[u8]) -> Result<Edid, Fault>
+    ensures { IfOk result (λ e. edid_bytes e ≡ bytes.now) }
+{
+    match edid_from_bytes(bytes) {
+        Ok(edid) => Ok(edid),
+        Err(cause) => Err(Fault::EdidToText(EdidToTextError::Edid(cause))),
+    }
+}
+
+// Writes bytes as one line of hex.
+fn write_hex_line<S: Sink>(bytes: &[u8], out: &mut S) -> Result<(), WriteFault>
+    ensures { WrittenAll (S.contents out.old) (S.contents out.new) (S.is_stuck out.old) (S.is_stuck out.new) (hex_line bytes.now) result }
+{
+    match write_line(out, &[Piece::Hex(bytes), Piece::Text("\n")]) {
+        Ok(_) => Ok(()),
+        Err(fault) => Err(fault),
+    }
+}
+
+fn write_as_text<W: Sink>(bytes: &[u8], out: &mut W) -> Result<(), Fault>
+    ensures { OnOk result (Shows (View.Whole Place.Own Shape.Text) bytes.now (W.contents out.old) (W.contents out.new)) }
+{
+    Ok(edid_to_text(bytes, out)?)
+}
+
+fn write_as_hex<W: Sink>(bytes: &[u8], out: &mut W) -> Result<(), Fault>
+    ensures { OnOk result (Shows (View.Whole Place.Own Shape.Hex) bytes.now (W.contents out.old) (W.contents out.new)) }
+{
+    let _edid = edid_of(bytes)?;
+    Ok(write_hex_line(bytes, out)?)
+}
+
+fn write_as_bytes<W: Sink>(bytes: &[u8], out: &mut W) -> Result<(), Fault>
+    ensures { OnOk result (Shows (View.Whole Place.Own Shape.Bytes) bytes.now (W.contents out.old) (W.contents out.new)) }
+{
+    let _edid = edid_of(bytes)?;
+    Ok(put_all(out, bytes)?)
+}
+
+// Writes the EDID of some bytes.
+fn write_own<W: Sink>(bytes: &[u8], shape: Shape, out: &mut W) -> Result<(), Fault>
+    ensures { OnOk result (Shows (View.Whole Place.Own shape) bytes.now (W.contents out.old) (W.contents out.new)) }
+{
+    match shape {
+        Shape::Text => write_as_text(bytes, out),
+        Shape::Hex => write_as_hex(bytes, out),
+        Shape::Bytes => write_as_bytes(bytes, out),
+    }
+}
+
+// Writes what is passed on of the EDID of some bytes.
+fn write_passed<W: Sink>(
+    bytes: &[u8],
+    passing: Passing,
+    shape: Shape,
+    out: &mut W,
+) -> Result<(), Fault>
+    ensures { OnOk result (ShowsPassed passing shape bytes.now (W.contents out.old) (W.contents out.new)) }
+{
+    Ok(write_passed_on(bytes, passing, form_of(shape), out)?)
+}
+
+// Writes the EDID of some bytes, for a device.
+fn write_whole<W: Sink>(bytes: &[u8], place: Place, shape: Shape, out: &mut W) -> Result<(), Fault>
+    ensures { OnOk result (Shows (View.Whole place shape) bytes.now (W.contents out.old) (W.contents out.new)) }
+{
+    match place {
+        Place::Own => write_own(bytes, shape, out),
+        Place::At(address) => write_passed(bytes, at(address), shape, out),
+        Place::Port { port, amplified } => write_passed(
+            bytes,
+            in_port(port, amplified),
+            shape,
+            out,
+        ),
+    }
+}
+
+// Nothing, unless a rule fails.
+fn unless_failed(fails: bool) -> Result<(), Fault>
+    ensures { OnOk result (fails ≡ false) }
+{
+    if fails {
+        return Err(Fault::RuleFails);
+    }
+    Ok(())
+}
+
+// Writes the rules that the EDID of some bytes breaks.
+fn check_own<W: Sink>(bytes: &[u8], out: &mut W) -> Result<(), Fault>
+    ensures { OnOk result (Shows (View.Findings Place.Own) bytes.now (W.contents out.old) (W.contents out.new)) }
+{
+    let fails = edid_to_findings(bytes, out)?;
+    unless_failed(fails)
+}
+
+// Writes the rules that what is passed on of it breaks.
+fn check_passed<W: Sink>(bytes: &[u8], passing: Passing, out: &mut W) -> Result<(), Fault>
+    ensures { OnOk result (ShowsRules passing bytes.now (W.contents out.old) (W.contents out.new)) }
+{
+    let fails = check_passed_on(bytes, passing, out)?;
+    unless_failed(fails)
+}
+
+// Writes the rules that the EDID of some bytes breaks, for a device.
+fn write_rules<W: Sink>(bytes: &[u8], place: Place, out: &mut W) -> Result<(), Fault>
+    ensures { OnOk result (Shows (View.Findings place) bytes.now (W.contents out.old) (W.contents out.new)) }
+{
+    match place {
+        Place::Own => check_own(bytes, out),
+        Place::At(address) => check_passed(bytes, at(address), out),
+        Place::Port { port, amplified } => check_passed(bytes, in_port(port, amplified), out),
+    }
+}
+
+// Writes what is asked for of the EDID of some bytes.
+fn show<W: Sink>(view: View, bytes: &[u8], out: &mut W) -> Result<(), Fault>
+    ensures { OnOk result (Shows view bytes.now (W.contents out.old) (W.contents out.new)) }
+{
+    match view {
+        View::Whole(place, shape) => write_whole(bytes, place, shape, out),
+        View::Findings(place) => write_rules(bytes, place, out),
+        View::Address => Ok(write_address(bytes, out)?),
+    }
+}
+
+// Writes what is asked for of the EDID of a hex dump.
+#[inline(never)]
+fn show_of_dump<W: Sink>(view: View, text: &[u8], out: &mut W) -> Result<(), Fault>
+    ensures { OnOk result (Made Source.Dump view text.now (W.contents out.old) (W.contents out.new)) }
+{
+    match dump_bytes(text) {
+        Ok(bytes) => show(view, bytes.as_slice(), out),
+        Err(error) => Err(Fault::Dump(error)),
+    }
+}
+
+// Writes what is asked for of an EDID.
+fn show_edid<W: Sink>(edid: &Edid, view: View, out: &mut W) -> Result<(), Fault>
+    ensures { OnOk result (Shows view (edid_bytes edid.now) (W.contents out.old) (W.contents out.new)) }
+{
+    let bytes = edid_to_bytes(edid);
+    show(view, bytes.as_slice(), out)
+}
+
+// Writes what is asked for of the EDID of a text.
+#[inline(never)]
+fn show_of_text<W: Sink>(alloc: Global, view: View, text: &[u8], out: &mut W) -> Result<(), Fault>
+    ensures { OnOk result (Made Source.Text view text.now (W.contents out.old) (W.contents out.new)) }
+{
+    match parse_text(alloc, text) {
+        Ok(edid) => show_edid(&edid, view, out),
+        Err(error) => Err(Fault::TextToHex(TextToHexError::from(error))),
+    }
+}
+
+/// Does what is asked for with an EDID.
+pub fn edid<W: Sink>(
+    alloc: Global,
+    source: Source,
+    view: View,
+    input: &[u8],
+    out: &mut W,
+) -> Result<(), Fault>
+    ensures { OnOk result (Made source view input.now (W.contents out.old) (W.contents out.new)) }
+{
+    match source {
+        Source::Bytes => show(view, input, out),
+        Source::Dump => show_of_dump(view, input, out),
+        Source::Text => show_of_text(alloc, view, input, out),
+    }
+}

@@ -1,0 +1,96 @@
+-- The flags of `edid` (own).
+use Rattle.std.specs.Prelude.{ℕ, List, [], ◌∷◌, Bool, Option, Some, None, if◌then◌else◌, true, false, codes, not, ◌&&◌, nat_le, is_none, is_some, unwrap_or, option_and_then}
+use Rattle.std.specs.Option.{option_map}
+use Rattle.std.specs.Str.{bytes_eq}
+use Rattle.cec_words.specs.Number.{number_of}
+use Rattle.hdmi_core.specs.Phys.{phys_of}
+use Rattle.hdmi_core.specs.declared.phys.Phys.{Phys}
+use Rattle.hdminet_words.specs.declared.choice.Asked.{Asked}
+use Rattle.hdminet_words.specs.declared.choice.Choice.TheVariants.{Edid}
+use Rattle.hdminet_words.specs.declared.choice.Place.{Place}
+use Rattle.hdminet_words.specs.declared.choice.Place.TheVariants.{Own, At, Port}
+use Rattle.hdminet_words.specs.declared.choice.Source.{Source}
+use Rattle.hdminet_words.specs.declared.choice.Source.TheVariants as sources
+use Rattle.hdminet_words.specs.declared.choice.Shape.{Shape}
+use Rattle.hdminet_words.specs.declared.choice.Shape.TheVariants as shapes
+use Rattle.hdminet_words.specs.declared.choice.View.{View}
+use Rattle.hdminet_words.specs.declared.choice.View.TheVariants.{Whole, Findings, Address}
+use Rattle.hdminet_words.specs.declared.edid_flags.EdidFlags.{EdidFlags}
+use Rattle.hdminet_words.specs.declared.edid_flags.Wanted.{Wanted}
+use Rattle.hdminet_words.specs.declared.edid_flags.Wanted.TheVariants.{Raw, Check, OnlyAddress}
+use Rattle.hdminet_words.specs.declared.edid_flags.EdidValue.{EdidValue}
+use Rattle.hdminet_words.specs.declared.edid_flags.EdidValue.TheVariants as values
+
+-- the number of a port: 1 to 15
+abbrev pub port_number : Option ℕ → Option ℕ
+port_number None = None
+port_number (Some n) = if nat_le 1 n && nat_le n 15 then Some n else None
+
+abbrev pub port_of : List ℕ → Option ℕ
+port_of word = port_number (number_of word)
+
+abbrev pub amplified_of : List ℕ → Bool
+amplified_of word = bytes_eq word (codes "amp")
+
+-- the flags with the value of the last
+abbrev pub with_edid_value : EdidFlags → EdidValue → List ℕ → Option EdidFlags
+with_edid_value flags values.Address word = option_map (λ address. record flags { address = Some address; waits = None }) (phys_of word)
+with_edid_value flags values.Port word = option_map (λ port. record flags { port = Some port; waits = None }) (port_of word)
+with_edid_value flags values.Below word = if amplified_of word then Some (record flags { amplified = true; waits = None }) else None
+
+-- the flags with one more; each stands once at most, and those that exclude one another not together
+abbrev pub with_edid_flag : EdidFlags → List ℕ → Option EdidFlags
+with_edid_flag flags word =
+    if bytes_eq word (codes "--text") && is_none flags.source then Some (record flags { source = Some sources.Text })
+    else if bytes_eq word (codes "--hex") && is_none flags.source then Some (record flags { source = Some sources.Dump })
+    else if bytes_eq word (codes "--raw") && is_none flags.wanted then Some (record flags { wanted = Some Raw })
+    else if bytes_eq word (codes "--check") && is_none flags.wanted then Some (record flags { wanted = Some Check })
+    else if bytes_eq word (codes "--only-address") && is_none flags.wanted then Some (record flags { wanted = Some OnlyAddress })
+    else if bytes_eq word (codes "--address") && is_none flags.address then Some (record flags { waits = Some values.Address })
+    else if bytes_eq word (codes "--port") && is_none flags.port then Some (record flags { waits = Some values.Port })
+    else if bytes_eq word (codes "--below") && not flags.amplified then Some (record flags { waits = Some values.Below })
+    else if bytes_eq word (codes "--explain") && not flags.explains then Some (record flags { explains = true })
+    else None
+
+-- the flags with one word more, which is a value where a flag waits for one
+abbrev pub with_edid_word : EdidFlags → Option EdidValue → List ℕ → Option EdidFlags
+with_edid_word flags (Some value) word = with_edid_value flags value word
+with_edid_word flags None word = with_edid_flag flags word
+
+-- and with each of some words
+abbrev pub edid_flags : EdidFlags → List (List ℕ) → Option EdidFlags
+edid_flags flags [] = Some flags
+edid_flags flags (word ∷ words) = option_and_then (λ more. edid_flags more words) (with_edid_word flags flags.waits word)
+
+-- the device that the EDID is for, by an address, a port and an amplifier, of which not each goes with each
+abbrev pub place_by : Option Phys → Option ℕ → Bool → Option Place
+place_by None None false = Some Own
+place_by (Some address) None false = Some (At address)
+place_by None (Some port) amplified = Some (Port port amplified)
+place_by address port amplified = None
+
+abbrev pub edid_place : EdidFlags → Option Place
+edid_place flags = place_by flags.address flags.port flags.amplified
+
+-- how an EDID is written where no flag says it: that of a text as hex, and else as its text
+abbrev pub own_shape : Source → Shape
+own_shape sources.Text = shapes.Hex
+own_shape sources.Bytes = shapes.Text
+own_shape sources.Dump = shapes.Text
+
+-- what is written; the address alone is that of the device that has the EDID
+abbrev pub edid_view : Option Wanted → Place → Shape → Option View
+edid_view None place shape = Some (Whole place shape)
+edid_view (Some Raw) place shape = Some (Whole place shapes.Bytes)
+edid_view (Some Check) place shape = Some (Findings place)
+edid_view (Some OnlyAddress) Own shape = Some Address
+edid_view (Some OnlyAddress) (At address) shape = None
+edid_view (Some OnlyAddress) (Port port amplified) shape = None
+
+-- what they ask for
+abbrev pub edid_asked : EdidFlags → Option Asked
+edid_asked flags =
+    let source = unwrap_or flags.source sources.Bytes in
+    let view = option_and_then (λ place. edid_view flags.wanted place (own_shape source)) (edid_place flags) in
+    if is_some flags.waits then None
+    else option_map (λ v. record { choice = Edid source v; explains = flags.explains }) view

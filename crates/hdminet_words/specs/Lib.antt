@@ -1,0 +1,3 @@
+pub mod RunFlags
+pub mod EdidFlags
+pub mod Line

@@ -1,0 +1,44 @@
+-- What a command line asks for (own).
+use Rattle.std.specs.Prelude.{ℕ, List, [], ◌∷◌, Option, Some, None, if◌then◌else◌, true, false, codes, option_and_then}
+use Rattle.std.specs.Option.{option_map}
+use Rattle.std.specs.Str.{bytes_eq}
+use Rattle.hdminet_words.specs.EdidFlags.{edid_asked, edid_flags}
+use Rattle.hdminet_words.specs.RunFlags.{run_asked, run_flags}
+use Rattle.hdminet_words.specs.declared.choice.Asked.{Asked}
+use Rattle.hdminet_words.specs.declared.choice.Choice.{Choice}
+use Rattle.hdminet_words.specs.declared.choice.Choice.TheVariants as choices
+use Rattle.hdminet_words.specs.declared.subcommand.Subcommand.{Subcommand}
+use Rattle.hdminet_words.specs.declared.subcommand.Subcommand.TheVariants.{Run, Step, Asm, Dis, Mon, Edid}
+
+-- the subcommand of a word
+abbrev pub subcommand_of : List ℕ → Option Subcommand
+subcommand_of word =
+    if bytes_eq word (codes "run") then Some Run
+    else if bytes_eq word (codes "step") then Some Step
+    else if bytes_eq word (codes "asm") then Some Asm
+    else if bytes_eq word (codes "dis") then Some Dis
+    else if bytes_eq word (codes "mon") then Some Mon
+    else if bytes_eq word (codes "edid") then Some Edid
+    else None
+
+-- `--explain` and no other flag
+abbrev pub only_explained : Choice → List (List ℕ) → Option Asked
+only_explained choice [] = Some (record { choice = choice; explains = false })
+only_explained choice (word ∷ []) = if bytes_eq word (codes "--explain") then Some (record { choice = choice; explains = true }) else None
+only_explained choice words = None
+
+-- what a subcommand with these flags asks for
+abbrev pub asked_of : Subcommand → List (List ℕ) → Option Asked
+asked_of Run words = option_map run_asked (run_flags (record { edges = false; strict = false; explains = false }) words)
+asked_of Step words = only_explained choices.Step words
+asked_of Asm words = only_explained choices.Asm words
+asked_of Dis words = only_explained choices.Dis words
+asked_of Mon words = only_explained choices.Mon words
+asked_of Edid words =
+    option_and_then edid_asked (edid_flags (record { source = None; wanted = None; address = None; port = None; amplified = false; explains = false; waits = None }) words)
+
+-- the program's name, a subcommand, its flags; the name alone is `run`
+abbrev pub asked_by : List (List ℕ) → Option Asked
+asked_by [] = None
+asked_by (name ∷ []) = asked_of Run []
+asked_by (name ∷ word ∷ flags) = option_and_then (λ subcommand. asked_of subcommand flags) (subcommand_of word)

@@ -1,0 +1,214 @@
+//! The flags of `edid`.
+ghost use Rattle.std.specs.Prelude.{◌≡◌, map, string_bytes};
+ghost use Rattle.hdminet_words.specs.EdidFlags.{amplified_of, edid_asked, edid_flags, edid_place, edid_view, own_shape, port_of, with_edid_flag, with_edid_value};
+
+use crate::choice::{Asked, Choice, Place, Shape, Source, View};
+use cec_words::number_in;
+use hdmi_core::Phys;
+
+/// A flag of `edid` that a value follows.
+#[derive(Clone, Copy, Debug)]
+pub enum EdidValue {
+    Address,
+    Port,
+    Below,
+}
+
+/// A flag of `edid` that says what is written.
+#[derive(Clone, Copy, Debug)]
+pub enum Wanted {
+    Raw,
+    Check,
+    OnlyAddress,
+}
+
+/// The flags that `edid` was given.
+#[derive(Clone, Copy, Debug)]
+pub struct EdidFlags {
+    /// What `--text` or `--hex` says that the input is.
+    pub source: Option<Source>,
+    pub wanted: Option<Wanted>,
+    pub address: Option<Phys>,
+    pub port: Option<u8>,
+    pub amplified: bool,
+    pub explains: bool,
+    /// The flag whose value comes next.
+    pub waits: Option<EdidValue>,
+}
+
+impl EdidFlags {
+    /// No flag.
+    pub const NONE: EdidFlags = EdidFlags {
+        source: None,
+        wanted: None,
+        address: None,
+        port: None,
+        amplified: false,
+        explains: false,
+        waits: None,
+    };
+}
+
+// The number of a port: 1 to 15.
+fn port_of(word: &str) -> Option<u8>
+    ensures { result ≡ port_of word.now }
+{
+    match number_in(word.as_bytes()) {
+        Some(number) if 1 <= number && number <= 15 => Some(number as u8),
+        _ => None,
+    }
+}
+
+// Whether a word says that the device is an amplifier.
+fn amplified_of(word: &str) -> bool
+    ensures { result ≡ amplified_of word.now }
+{
+    word == "amp"
+}
+
+// The flags with the value of the last.
+fn with_edid_value(flags: EdidFlags, value: EdidValue, word: &str) -> Option<EdidFlags>
+    ensures { result ≡ with_edid_value flags value word.now }
+{
+    match value {
+        EdidValue::Address => {
+            let address = Phys::read(word.as_bytes())?;
+            Some(EdidFlags {
+                address: Some(address),
+                waits: None,
+                ..flags
+            })
+        }
+        EdidValue::Port => {
+            let port = port_of(word)?;
+            Some(EdidFlags {
+                port: Some(port),
+                waits: None,
+                ..flags
+            })
+        }
+        EdidValue::Below if amplified_of(word) => Some(EdidFlags {
+            amplified: true,
+            waits: None,
+            ..flags
+        }),
+        EdidValue::Below => None,
+    }
+}
+
+// The flags with one more. Each stands once at most, and those that exclude one another not together.
+fn with_edid_flag(flags: EdidFlags, word: &str) -> Option<EdidFlags>
+    ensures { result ≡ with_edid_flag flags word.now }
+{
+    match word {
+        "--text" if flags.source.is_none() => Some(EdidFlags {
+            source: Some(Source::Text),
+            ..flags
+        }),
+        "--hex" if flags.source.is_none() => Some(EdidFlags {
+            source: Some(Source::Dump),
+            ..flags
+        }),
+        "--raw" if flags.wanted.is_none() => Some(EdidFlags {
+            wanted: Some(Wanted::Raw),
+            ..flags
+        }),
+        "--check" if flags.wanted.is_none() => Some(EdidFlags {
+            wanted: Some(Wanted::Check),
+            ..flags
+        }),
+        "--only-address" if flags.wanted.is_none() => Some(EdidFlags {
+            wanted: Some(Wanted::OnlyAddress),
+            ..flags
+        }),
+        "--address" if flags.address.is_none() => Some(EdidFlags {
+            waits: Some(EdidValue::Address),
+            ..flags
+        }),
+        "--port" if flags.port.is_none() => Some(EdidFlags {
+            waits: Some(EdidValue::Port),
+            ..flags
+        }),
+        "--below" if !flags.amplified => Some(EdidFlags {
+            waits: Some(EdidValue::Below),
+            ..flags
+        }),
+        "--explain" if !flags.explains => Some(EdidFlags {
+            explains: true,
+            ..flags
+        }),
+        _ => None,
+    }
+}
+
+/// The flags with those that these words are, and their values.
+pub fn edid_flags(flags: EdidFlags, words: &[String]) -> Option<EdidFlags>
+    ensures { result ≡ edid_flags flags (map string_bytes words.now) }
+{
+    match words {
+        [] => Some(flags),
+        [word, rest @ ..] => match flags.waits {
+            Some(value) => edid_flags(with_edid_value(flags, value, word.as_str())?, rest),
+            None => edid_flags(with_edid_flag(flags, word.as_str())?, rest),
+        },
+    }
+}
+
+// The device that the EDID is for.
+fn edid_place(flags: &EdidFlags) -> Option<Place>
+    ensures { result ≡ edid_place flags.now }
+{
+    match flags.port {
+        Some(port) if flags.address.is_none() => Some(Place::Port {
+            port,
+            amplified: flags.amplified,
+        }),
+        Some(_) => None,
+        None if flags.amplified => None,
+        None => match flags.address {
+            Some(address) => Some(Place::At(address)),
+            None => Some(Place::Own),
+        },
+    }
+}
+
+// How an EDID is written where no flag says it: that of a text as hex, and else as its text.
+fn own_shape(source: Source) -> Shape
+    ensures { result ≡ own_shape source }
+{
+    match source {
+        Source::Text => Shape::Hex,
+        Source::Bytes | Source::Dump => Shape::Text,
+    }
+}
+
+// What is written. The address alone is that of the device that has the EDID.
+fn edid_view(wanted: Option<Wanted>, place: Place, shape: Shape) -> Option<View>
+    ensures { result ≡ edid_view wanted place shape }
+{
+    match wanted {
+        None => Some(View::Whole(place, shape)),
+        Some(Wanted::Raw) => Some(View::Whole(place, Shape::Bytes)),
+        Some(Wanted::Check) => Some(View::Findings(place)),
+        Some(Wanted::OnlyAddress) => match place {
+            Place::Own => Some(View::Address),
+            Place::At(_) | Place::Port { .. } => None,
+        },
+    }
+}
+
+/// What `edid` with these flags asks for.
+pub fn edid_asked(flags: &EdidFlags) -> Option<Asked>
+    ensures { result ≡ edid_asked flags.now }
+{
+    if flags.waits.is_some() {
+        return None;
+    }
+    let source = flags.source.unwrap_or(Source::Bytes);
+    let place = edid_place(flags)?;
+    let view = edid_view(flags.wanted, place, own_shape(source))?;
+    Some(Asked {
+        choice: Choice::Edid { source, view },
+        explains: flags.explains,
+    })
+}

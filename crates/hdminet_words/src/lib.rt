@@ -1,0 +1,12 @@
+//! The words of a command line, read exactly: what each line without a slip asks for.
+#![tactic(auto)]
+
+mod choice;
+mod edid_flags;
+mod line;
+mod run_flags;
+mod subcommand;
+
+pub use choice::{Asked, Choice, Listing, Place, Shape, Source, View};
+pub use line::asked_by;
+pub use subcommand::{Subcommand, subcommand_of};

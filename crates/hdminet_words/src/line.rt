@@ -1,0 +1,51 @@
+//! Whole command lines.
+ghost use Rattle.std.specs.Prelude.{◌≡◌, map, string_bytes};
+ghost use Rattle.hdminet_words.specs.Line.{asked_by, asked_of, only_explained};
+
+use crate::choice::{Asked, Choice};
+use crate::edid_flags::{EdidFlags, edid_asked, edid_flags};
+use crate::run_flags::{RunFlags, run_asked, run_flags};
+use crate::subcommand::{Subcommand, subcommand_of};
+
+// What a subcommand asks for that has no flag but `--explain`.
+fn only_explained(choice: Choice, words: &[String]) -> Option<Asked>
+    ensures { result ≡ only_explained choice (map string_bytes words.now) }
+{
+    match words {
+        [] => Some(Asked {
+            choice,
+            explains: false,
+        }),
+        [word] if word.as_str() == "--explain" => Some(Asked {
+            choice,
+            explains: true,
+        }),
+        _ => None,
+    }
+}
+
+// What a subcommand with these flags asks for.
+fn asked_of(subcommand: Subcommand, words: &[String]) -> Option<Asked>
+    ensures { result ≡ asked_of subcommand (map string_bytes words.now) }
+{
+    match subcommand {
+        Subcommand::Run => Some(run_asked(&run_flags(RunFlags::NONE, words)?)),
+        Subcommand::Step => only_explained(Choice::Step, words),
+        Subcommand::Asm => only_explained(Choice::Asm, words),
+        Subcommand::Dis => only_explained(Choice::Dis, words),
+        Subcommand::Mon => only_explained(Choice::Mon, words),
+        Subcommand::Edid => edid_asked(&edid_flags(EdidFlags::NONE, words)?),
+    }
+}
+
+/// What a command line asks for: the program's name, a subcommand, its flags. The name alone asks for the trace of a run.
+/// `None` where a word is another one, a flag stands twice, or flags do not go together.
+pub fn asked_by(words: &[String]) -> Option<Asked>
+    ensures { result ≡ asked_by (map string_bytes words.now) }
+{
+    match words {
+        [] => None,
+        [_] => asked_of(Subcommand::Run, &[]),
+        [_, command, flags @ ..] => asked_of(subcommand_of(command.as_str())?, flags),
+    }
+}

@@ -1,0 +1,29 @@
+//! The subcommands by their words.
+ghost use Rattle.std.specs.Prelude.{◌≡◌};
+ghost use Rattle.hdminet_words.specs.Line.{subcommand_of};
+
+/// A subcommand. Each `match` over it names all of them, so that none is forgotten.
+#[derive(Clone, Copy, Debug)]
+pub enum Subcommand {
+    Run,
+    Step,
+    Asm,
+    Dis,
+    Mon,
+    Edid,
+}
+
+/// The subcommand of a word.
+pub fn subcommand_of(word: &str) -> Option<Subcommand>
+    ensures { result ≡ subcommand_of word.now }
+{
+    match word {
+        "run" => Some(Subcommand::Run),
+        "step" => Some(Subcommand::Step),
+        "asm" => Some(Subcommand::Asm),
+        "dis" => Some(Subcommand::Dis),
+        "mon" => Some(Subcommand::Mon),
+        "edid" => Some(Subcommand::Edid),
+        _ => None,
+    }
+}

@@ -1,0 +1,202 @@
+//! What the flags of `edid` add: other addresses, bytes, the rules that are broken.
+use super::edids::{EXTENSION, behind_base, blocks, bytes_of};
+use super::*;
+
+/// The text of the extension of the display, whose address is 0.0.0.0, with another address.
+fn text_at(rt: &(impl Abort + AllocGlobal), address: &str) -> String {
+    let extension = format!(in rt.alloc();
+        "cta f1\nvideo 900403\naudio 090707\nspeakers 010000\nhdmi {address} -\ntail -\n"
+    );
+    behind_base(rt, extension.expect(rt, "a text").as_str())
+}
+
+/// The flags that put in another address, and the address.
+const PLACES: &str = "\
+--address 1.2.0.0 => 1.2.0.0
+--address f.f.f.f => f.f.f.f
+--port 3 => 3.0.0.0
+--port 15 => f.0.0.0
+";
+
+#[test]
+fn writes_the_edid_for_another_device(rt: HostRuntime) {
+    let digits = blocks(&rt, EXTENSION, "e8");
+    let bytes = bytes_of(&rt, digits.as_str());
+    for case in PLACES.lines() {
+        let (flags, address) = two_parts(&rt, case);
+        let line = format!(in rt.alloc(); "edid {flags}").expect(&rt, "a line");
+        let text = text_at(&rt, address);
+        gives(&rt, line.as_str(), address, &bytes, text.as_str());
+    }
+}
+
+/// The digits of the same display with the address 1.2.0.0: the checksum is less by 12.
+fn moved(rt: &(impl Abort + AllocGlobal)) -> String {
+    blocks(rt, "020316f143900403230907078301000065030c001200", "d6")
+}
+
+#[test]
+fn writes_other_forms(rt: HostRuntime) {
+    let digits = moved(&rt);
+    let line = format!(in rt.alloc(); "{digits}\n").expect(&rt, "a line");
+    let own = text_at(&rt, "0.0.0.0");
+    let text = text_at(&rt, "1.2.0.0");
+    let bytes = bytes_of(&rt, digits.as_str());
+    let flags = "edid --text --address 1.2.0.0";
+    gives(&rt, flags, "hex", own.as_str().as_bytes(), line.as_str());
+    gives(&rt, "edid --only-address", "alone", &bytes, "1.2.0.0\n");
+    let told = told_of(&rt, "edid --raw", bytes.as_slice(), None);
+    ends(&rt, told, 0, &bytes, b"", "edid --raw", "bytes");
+    let told = told_of(&rt, "edid --raw --text", text.as_str().as_bytes(), None);
+    ends(&rt, told, 0, &bytes, b"", "edid --raw --text", "bytes");
+    gives(
+        &rt,
+        "edid --text --only-address",
+        "alone",
+        text.as_str().as_bytes(),
+        "1.2.0.0\n",
+    );
+}
+
+#[test]
+fn reads_hex_dumps(rt: HostRuntime) {
+    let digits = moved(&rt);
+    let text = text_at(&rt, "1.2.0.0");
+    let plain = format!(in rt.alloc(); "EDID of a player:\n{digits}\nand no more\n");
+    let plain = plain.expect(&rt, "a dump");
+    let plain = plain.as_str().as_bytes();
+    gives(&rt, "edid --hex", "a line", plain, text.as_str());
+    gives(
+        &rt,
+        "edid --hex --only-address",
+        "alone",
+        plain,
+        "1.2.0.0\n",
+    );
+    let told = told_of(&rt, "edid --hex --raw", plain, None);
+    ends(
+        &rt,
+        told,
+        0,
+        &bytes_of(&rt, digits.as_str()),
+        b"",
+        "edid --hex --raw",
+        "bytes",
+    );
+    refuses(&rt, "edid --hex", "none", b"edid 1.3\n", "dump: none");
+    refuses(
+        &rt,
+        "edid --hex --check",
+        "cut",
+        b"\n00ffffffffffff00\n",
+        "dump: cut 3",
+    );
+}
+
+/// A display that breaks no rule, up to the features and behind them to the first checksum, and then its flags and what
+/// follows to the second.
+const SOUND: [&str; 4] = [
+    "00ffffffffffff004c2d0201010000000a15010380341d78",
+    "ee91a3544c99260f505420000001010101010101010101010101010101023a801871382d40582c450008222100001e011d007251d01e206e28550008222100001e000000fc004c4f554e47452054560a202020000000fd00173d0f440f000a20202020202001",
+    "02031af1",
+    "4490040301230907078301000065030c000000e2004f",
+];
+
+/// The features, the first checksum, the flags, the second checksum, the status, and what is written, with `;` for a line
+/// feed. Without the bit of sRGB its chromaticities are at fault; without underscan there is a warning.
+const CHECKED: &str = "\
+0e d4 f1 b1 => 0 => 
+0a d8 f1 b1 => 5 => fail srgb;
+0e d4 71 31 => 0 => warn overscan;
+0a d8 71 31 => 5 => fail srgb;warn overscan;
+";
+
+/// The bytes of the display with these features, checksums and flags.
+fn display(rt: &(impl Abort + AllocGlobal), words: &str) -> Vec<u8> {
+    let mut words = words.split(' ');
+    let features = words.next().expect(rt, "features");
+    let first = words.next().expect(rt, "a first checksum");
+    let flags = words.next().expect(rt, "flags");
+    let second = words.next().expect(rt, "a second checksum");
+    let [begin, base, extension, blocks] = SOUND;
+    let extension = extension.strip_suffix("f1").expect(rt, "flags at the end");
+    let front = format!(in rt.alloc(); "{extension}{flags}{blocks}").expect(rt, "a front");
+    let digits = format!(in rt.alloc(); "{begin}{features}{base}{first}{front:0<254}{second}");
+    bytes_of(rt, digits.expect(rt, "two blocks").as_str())
+}
+
+#[test]
+fn tells_the_rules_that_are_broken(rt: HostRuntime) {
+    for case in CHECKED.lines() {
+        let (words, status, lines) = three_parts(&rt, case);
+        let lines = with_lines(&rt, lines);
+        let told = told_of(&rt, "edid --check", display(&rt, words).as_slice(), None);
+        let fails = status == "5";
+        let (status, err) = if fails {
+            (5, "hdminet: edid: a rule fails\n")
+        } else {
+            (0, "")
+        };
+        ends(
+            &rt,
+            told,
+            status,
+            lines.as_str().as_bytes(),
+            err.as_bytes(),
+            "edid --check",
+            words,
+        );
+    }
+}
+
+/// The rule that the address of a port is not the root's, which an EDID that is passed on may break.
+#[test]
+fn checks_what_is_passed_on(rt: HostRuntime) {
+    let bytes = display(&rt, "0e d4 f1 b1");
+    gives(&rt, "edid --check --port 2", "a port", &bytes, "");
+    let told = told_of(
+        &rt,
+        "edid --address 0.0.0.0 --check",
+        bytes.as_slice(),
+        None,
+    );
+    let err = b"hdminet: edid: a rule fails\n";
+    ends(
+        &rt,
+        told,
+        5,
+        b"fail address\n",
+        err,
+        "edid --check",
+        "the root's address",
+    );
+}
+
+/// Flags, and why an input of one byte, or a display without an HDMI block, is refused.
+const REFUSED: &str = "\
+--check => edid: length
+--raw => edid: length
+--only-address => edid: length
+--address 1.0.0.0 => edid: length
+--port 1 --below amp --check => edid: length
+--text --raw => text: syntax 1
+--text --check => text: syntax 1
+";
+
+#[test]
+fn refuses_what_is_no_edid(rt: HostRuntime) {
+    for case in REFUSED.lines() {
+        let (flags, cause) = two_parts(&rt, case);
+        let line = format!(in rt.alloc(); "edid {flags}").expect(&rt, "a line");
+        refuses(&rt, line.as_str(), flags, b"x", cause);
+    }
+    let bare = bytes_of(&rt, blocks(&rt, "020300f1", "0a").as_str());
+    refuses(
+        &rt,
+        "edid --only-address",
+        "bare",
+        &bare,
+        "edid: no-hdmi-block",
+    );
+    refuses(&rt, "edid --port 1", "bare", &bare, "edid: no-hdmi-block");
+}

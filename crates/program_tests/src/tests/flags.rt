@@ -1,0 +1,62 @@
+//! What flags add, in any order.
+use super::*;
+
+/// A television, and a key that it has not.
+const REFUSED_KEY: &[u8] = b"device tv tv 1\nscript\nat 100000 press tv play\nend 200000\n";
+
+/// A strict command line, one that is not and writes the same, and what the first writes to standard error, with `;` for a
+/// line feed.
+const STRICT: &str = "\
+run --strict => run => hdminet: refused events 1;
+run --strict --edges => run --edges => hdminet: refused events 1;
+run --edges --strict => run --edges => hdminet: refused events 1;
+run --explain --strict => run => hdminet: refused events 1;  rounds 2, complete rounds 2, refused events 1;
+--explain run --strict => run => hdminet: refused events 1;  rounds 2, complete rounds 2, refused events 1;
+";
+
+#[test]
+fn a_strict_run_writes_all_and_tells_of_events_refused(rt: HostRuntime) {
+    for case in STRICT.lines() {
+        let (strict, plain, fault) = three_parts(&rt, case);
+        let out = written(&rt, plain, REFUSED_KEY);
+        let fault = with_lines(&rt, fault);
+        let told = told_of(&rt, strict, REFUSED_KEY, None);
+        let (out, fault) = (out.as_bytes(), fault.as_bytes());
+        ends(&rt, told, 1, out, fault, strict, "an event refused");
+    }
+}
+
+/// Lines that have no frame, and why, with `;` for a line feed.
+const NO_FRAMES: &str = "\
+44;4 => line 2: half
+# 44;;x => line 3: digit
+>> => line 1: length
+";
+
+#[test]
+fn tells_which_line_has_no_frame(rt: HostRuntime) {
+    for case in NO_FRAMES.lines() {
+        let (text, cause) = two_parts(&rt, case);
+        let text = with_lines(&rt, text);
+        refuses(&rt, "dis", cause, text.as_str().as_bytes(), cause);
+    }
+}
+
+/// A television, and a key that it has.
+const TAKEN_KEY: &[u8] = b"device tv tv 1\nscript\nat 100000 press tv mute\nend 200000\n";
+
+/// Two command lines that write the same and tell of no fault.
+const SAME: &str = "\
+run => run --strict
+run --edges => run --strict --edges
+ => run --strict
+";
+
+#[test]
+fn a_strict_run_of_events_that_are_taken_is_the_run(rt: HostRuntime) {
+    for case in SAME.lines() {
+        let (plain, strict) = two_parts(&rt, case);
+        let out = written(&rt, plain, TAKEN_KEY);
+        gives(&rt, strict, "taken", TAKEN_KEY, out.as_str());
+    }
+}
