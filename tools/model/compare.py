@@ -1,6 +1,6 @@
 #!/usr/bin/env python3
 """python3 compare.py PROGRAM KIND COUNT START: random inputs of KIND through PROGRAM and the model; prints differences.
-KIND: run feat wire edges mon step asm edid edtext odd."""
+KIND: run feat wire edges mon step asm edid edtext check ways odd."""
 import os, random, subprocess, sys, time
 import wire, edid, net
 from model import model
@@ -617,6 +617,30 @@ def gen_edtext(r):
     return ['edid', '--text'], t.encode('latin1', 'replace')
 
 
+with open(os.path.join(os.path.dirname(os.path.realpath(__file__)), '../../examples/living-room.edid'), 'rb') as example:
+    EXAMPLE = example.read()
+
+
+def gen_check(r):
+    """an EDID near one that breaks few rules, as a display's or as a port's"""
+    b = bytearray(EXAMPLE if r.random() < .6 else gen_edid(r))
+    for _ in range(r.choice([0, 1, 1, 2, 4])):
+        place = r.choice([r.randrange(12, 126), r.randrange(54, 126), r.randrange(128, len(b)) if len(b) > 128 else 24, 24, 16])
+        if place not in (18, 19, 126):
+            b[place] = r.choice([0, 1, 255, r.randrange(256), b[place] ^ 1 << r.randrange(8)])
+    if r.random() < .3:
+        b[19] = r.choice([3, 4])
+    e = b''.join(edid.mend(bytes(b[i:i + 128])) for i in range(0, len(b), 128))
+    way = r.choice([[], [], ['--port', str(r.randint(1, 15))], ['--address', pa_word(r)]])
+    return ['edid', '--check'] + way, e
+
+
+def gen_ways(r):
+    e = gen_edidcmd(r)[1] if r.random() < .5 else EXAMPLE
+    way = r.choice([['--port', str(r.randint(1, 15))], ['--port', str(r.randint(1, 15)), '--below', 'amp'], ['--address', pa_word(r)], ['--only-address']])
+    return ['edid'] + way + r.choice([[], ['--raw']] if way != ['--only-address'] else [[]]), e
+
+
 def gen_odd(r):
     g = r.choice(ODD)
     a, d = g(r)
@@ -662,7 +686,7 @@ def small_run(r):
 
 
 ODD = [gen_run, small_run, small_run, gen_asm, gen_edidcmd, gen_edtext] + ([] if os.environ.get('MODEL_NO_MON') else [gen_mon]) + ([] if os.environ.get('MODEL_NO_STEP') else [gen_step])
-GEN = dict(ops=gen_ops, amp=gen_amp, run=gen_run, feat=gen_feat, wire=gen_wire, edges=gen_edges, mon=gen_mon, step=gen_step, asm=gen_asm, edid=gen_edidcmd, edtext=gen_edtext, odd=gen_odd)
+GEN = dict(ops=gen_ops, amp=gen_amp, run=gen_run, feat=gen_feat, wire=gen_wire, edges=gen_edges, mon=gen_mon, step=gen_step, asm=gen_asm, edid=gen_edidcmd, edtext=gen_edtext, check=gen_check, ways=gen_ways, odd=gen_odd)
 
 
 def main():

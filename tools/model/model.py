@@ -1,7 +1,7 @@
 #!/usr/bin/env python3
 """python3 model.py SUB [flag] < input: the model as a program; fault text on standard error."""
 import sys
-import net, wire, edid
+import check, net, wire, edid
 
 LIMIT = 1048576
 
@@ -15,7 +15,10 @@ def model(args, data):
     if sub == 'step': return net.step(data)
     if sub == 'mon': return wire.mon(data)
     if sub == 'asm': return wire.asm(data)
-    if sub == 'edid': return edid.text_cmd(data) if '--text' in args else edid.edid_cmd(data)
+    if sub == 'edid' and '--text' in args:
+        status, out, fault = edid.text_cmd(data)
+        return status, bytes.fromhex(out.decode()) if '--raw' in args else out, fault
+    if sub == 'edid': return check.edid_way(args, data) if args[1:] else edid.edid_cmd(data)
     return 2, b'', 'command line'
 
 

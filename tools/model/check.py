@@ -1,0 +1,234 @@
+"""The rules that an EDID is to keep, and the other ways in which `edid` writes one: a plain model."""
+from edid import check_edid, edid_text, first_hdmi, hdmi_place, is_hdmi, port_edid, read_ext
+from wire import pa_text, parse_pa
+
+SRGB = (655, 338, 307, 614, 154, 61, 320, 337)
+HDMI_CODES = {1: 95, 2: 94, 3: 93, 4: 98}
+
+
+def chroma(b):
+    low = [b[25] >> 6, b[25] >> 4 & 3, b[25] >> 2 & 3, b[25] & 3, b[26] >> 6, b[26] >> 4 & 3, b[26] >> 2 & 3, b[26] & 3]
+    return tuple(b[27 + i] << 2 | low[i] for i in range(8))
+
+
+class Timing:
+    def __init__(self, t):
+        self.clock = t[0] | t[1] << 8
+        self.h_active, self.h_blank = t[2] | (t[4] >> 4) << 8, t[3] | (t[4] & 15) << 8
+        self.v_active, self.v_blank = t[5] | (t[7] >> 4) << 8, t[6] | (t[7] & 15) << 8
+        self.h_offset, self.h_width = t[8] | (t[11] >> 6) << 8, t[9] | (t[11] >> 4 & 3) << 8
+        self.v_offset, self.v_width = t[10] >> 4 | (t[11] >> 2 & 3) << 4, t[10] & 15 | (t[11] & 3) << 4
+        self.width, self.height = t[12] | (t[14] >> 4) << 8, t[13] | (t[14] & 15) << 8
+        self.h_border, self.v_border, self.flags = t[15], t[16], t[17]
+        self.interlaced = self.flags >= 128
+
+
+def limits(b, four):
+    """(least, greatest) fields a second and thousands of lines a second, of each range descriptor"""
+    for i in range(4):
+        d = b[54 + 18 * i:72 + 18 * i]
+        if d[:3] == b'\0\0\0' and d[3] == 0xFD:
+            bits_v, bits_h = (d[4] & 3, d[4] >> 2 & 3) if four else (0, 0)
+            up = lambda bits, low, high: (low + 255 * (bits == 3), high + 255 * (bits >= 2))
+            yield up(bits_v, d[5], d[6]), up(bits_h, d[7], d[8])
+
+
+def is_outside(span, count, per):
+    """a rate of count / per is a unit and more outside"""
+    if per == 0:
+        return False
+    return count <= (span[0] - 1) * per or count >= (span[1] + 1) * per
+
+
+def out_of_range(b, four, t):
+    pixels = t.h_active + t.h_blank
+    half_lines = 2 * (t.v_active + t.v_blank) + t.interlaced
+    for fields, lines in limits(b, four):
+        if is_outside(fields, t.clock * 20000, pixels * half_lines) or is_outside(lines, t.clock * 10, pixels):
+            return True
+    return False
+
+
+def timing_findings(b, t):
+    four = b[19] == 4
+    zeros = (t.h_active, t.h_blank, t.h_offset, t.h_width, t.v_active, t.v_blank, t.v_width)
+    if t.clock < 1000:
+        yield 'fail', 'clock'
+    if 0 in zeros or t.v_offset == 0 and not t.interlaced:
+        yield 'fail', 'timing-zero'
+    if t.h_blank <= t.h_offset + t.h_width + 2 * t.h_border:
+        yield 'fail', 'h-back-porch'
+    if t.v_blank <= t.v_offset + t.v_width + 2 * t.v_border:
+        yield 'fail', 'v-back-porch'
+    if b[21] and b[22]:
+        if not t.width or not t.height:
+            yield 'fail', 'size-missing'
+        width, height = 10 * b[21], 10 * b[22]
+        larger = t.width > width + 9 or t.height > height + 9
+        smaller = t.width < width - 9 and t.height < height - 9
+        if (t.width or t.height) and (larger or smaller):
+            yield 'fail', 'size-differs'
+    if out_of_range(b, four, t):
+        yield ('warn' if four else 'fail'), 'out-of-range'
+
+
+def off_tree(high, low):
+    places = (high >> 4, high & 15, low >> 4, low & 15)
+    return (high, low) == (255, 255) or any(a == 0 and b for a, b in zip(places, places[1:]))
+
+
+def hdmi_video_codes(data):
+    """the codes of HDMI's own formats in the payload of an HDMI block"""
+    if len(data) < 8 or not data[7] & 0x20:
+        return b''
+    place = 8 + 2 * (data[7] >> 7) + 2 * (data[7] >> 6 & 1)
+    if len(data) < place + 2:
+        return b''
+    return data[place + 2:place + 2 + (data[place + 1] >> 5)]
+
+
+def multichannel(data):
+    return any(data[i] >> 3 & 15 == 1 and data[i] & 7 > 1 for i in range(0, len(data) - 2, 3))
+
+
+def edid_findings(e, is_port):
+    b = e[:128]
+    four = b[19] == 4
+    descriptors = [b[54 + 18 * i:72 + 18 * i] for i in range(4)]
+    shown = [d for d in descriptors if not d[0] and not d[1]]
+    tags = [d[3] for d in shown]
+    features = b[24]
+    raws = [e[128 * i:128 * i + 128] for i in range(1, len(e) // 128)]
+    exts = [read_ext(x) for x in raws]
+    ctas = [x for x in exts if x is not None]
+    full = [x for x in ctas if x['d']]
+    blocks = [(tag, bytes(data)) for x in full for _, tag, data in x['blocks']]
+    timings = timings_of(e)
+    codes = [c - 128 if 129 <= c <= 192 else c for tag, data in blocks if tag == 2 for c in data]
+    hdmi = [data for tag, data in blocks if is_hdmi(tag, data)]
+
+    if not four and not features & 2:
+        yield 'fail', 'first-timing-not-preferred'
+    if (four or features & 2) and not (b[54] or b[55]):
+        yield 'fail', 'no-preferred-timing'
+    if 0xFC not in tags:
+        yield 'fail', 'no-name'
+    if (not four or features & 1) and 0xFD not in tags:
+        yield 'fail', 'no-range-limits'
+    if four and not features & 1 and any(d[2] == 0 and d[3] == 0xFD and d[10] in (0, 2, 4) for d in shown):
+        yield 'fail', 'gtf-fixed'
+    if not four and b[16] in (54, 255):
+        yield 'fail', 'week-of-1.4'
+    if bool(features & 4) != (chroma(b) == SRGB):
+        yield 'fail', 'srgb'
+    if any(not any(d) for d in descriptors):
+        yield 'fail', 'empty-descriptor'
+    pairs = [(b[38 + 2 * i], b[39 + 2 * i]) for i in range(8)]
+    if any(x < 2 and (x, y) != (1, 1) for x, y in pairs):
+        yield 'fail', 'standard-unused-form'
+    if not four and len(raws) > 1 and raws[0][0] != 0xF0:
+        yield 'fail', 'block-map'
+    if four and hdmi:
+        yield 'warn', 'hdmi-of-1.3'
+    if any(b[12:16]) and ctas and 0xFF in tags:
+        yield 'warn', 'two-serials'
+    if ctas and not b[35] & 0x20 and not any(tag == 2 and {1, 129} & set(data) for tag, data in blocks):
+        yield 'fail', 'no-640x480'
+    if len(set(codes)) < len(codes):
+        yield 'fail', 'vic-twice'
+    if any(x['flags'] & 15 > len(timings) for x in full):
+        yield 'fail', 'native-count'
+    if any(x['flags'] < 128 for x in full):
+        yield 'warn', 'overscan'
+    if any(not x['flags'] & 0x40 and any(tag in (1, 4) for _, tag, _ in x['blocks']) for x in full):
+        yield 'fail', 'no-basic-audio'
+    speakers = [data for tag, data in blocks if tag == 4]
+    many = any(multichannel(data) for tag, data in blocks if tag == 1)
+    if many and not speakers or any(len(data) != 3 for data in speakers):
+        yield 'fail', 'speakers'
+    if any(any(x['tail']) for x in full):
+        yield 'fail', 'padding'
+    capabilities = [data for tag, data in blocks if tag == 7 and data[:1] == b'\0']
+    if ctas and not capabilities:
+        yield 'warn', 'no-video-capability'
+    if any(len(data) > 1 and not data[1] & 0x40 for data in capabilities):
+        yield 'warn', 'rgb-quantization'
+    if any(len(data) > 6 and data[6] > 68 for data in hdmi):
+        yield 'fail', 'tmds-clock'
+    if any(off_tree(data[3], data[4]) or is_port and not data[3] and not data[4] for data in hdmi):
+        yield 'fail', 'address'
+    if len(hdmi) > 1:
+        yield 'warn', 'hdmi-twice'
+    if any(HDMI_CODES.get(c, 0) not in [0] + codes for data in hdmi for c in hdmi_video_codes(data)):
+        yield 'fail', 'hdmi-vic-without-vic'
+    for x in full:
+        kinds = ['hdmi' if is_hdmi(tag, data) else 'forum' for _, tag, data in x['blocks']
+                 if is_hdmi(tag, data) or tag == 3 and bytes(data[:3]) == b'\xd8\x5d\xc4']
+        if kinds[:1] == ['forum']:
+            yield 'fail', 'hdmi-forum-first'
+            break
+
+
+def timings_of(e):
+    b = e[:128]
+    found = [Timing(b[54 + 18 * i:72 + 18 * i]) for i in range(4) if b[54 + 18 * i] or b[55 + 18 * i]]
+    for i in range(1, len(e) // 128):
+        x = read_ext(e[128 * i:128 * i + 128])
+        if x is not None and x['d']:
+            found += [Timing(t) for t in x['timings']]
+    return found
+
+
+def findings(e, is_port=False):
+    out = ['%s %s' % f for f in edid_findings(e, is_port)]
+    for n, t in enumerate(timings_of(e), 1):
+        out += ['%s timing %d %s' % (how, n, rule) for how, rule in timing_findings(e[:128], t)]
+    return out
+
+
+def has_failure(lines):
+    return any(line.startswith('fail') for line in lines)
+
+
+# ---------------------------------------------------------------- as a program
+def own_address(e):
+    """the address in the first HDMI block, or None"""
+    i = first_hdmi(e)
+    if i is None:
+        return None
+    x = e[128 * i:128 * i + 128]
+    p = hdmi_place(x)
+    return x[p] << 8 | x[p + 1]
+
+
+def in_port(address, port):
+    """the port in the first place that is 0, and none after it"""
+    for shift in (12, 8, 4, 0):
+        if address >> shift & 15 == 0:
+            return (address >> shift | port) << shift
+    return 0xFFFF
+
+
+def value_of(args, flag):
+    return args[args.index(flag) + 1] if flag in args else None
+
+
+def edid_way(args, data):
+    """(status, output, fault) of `edid` with --check, --address A, --port N, --below amp, --only-address or --raw"""
+    port, address = value_of(args, '--port'), value_of(args, '--address')
+    fault = check_edid(data)
+    if fault:
+        return 1, b'', 'edid: ' + ' '.join(str(x) for x in fault)
+    own = own_address(data)
+    if own is None and (port or address or '--only-address' in args):
+        return 1, b'', 'edid: no-hdmi-block'
+    if '--only-address' in args:
+        return 0, (pa_text(own) + '\n').encode(), ''
+    if port or address:
+        place = in_port(own, int(port)) if port else parse_pa(address.encode())
+        data = port_edid(data, place, '--below' in args)
+    if '--check' in args:
+        lines = findings(data, bool(port or address))
+        fails = has_failure(lines)
+        return 5 if fails else 0, ''.join(l + '\n' for l in lines).encode(), 'edid: a rule fails' if fails else ''
+    return 0, data if '--raw' in args else edid_text(data), ''
