@@ -8,8 +8,9 @@ passed=0
 failed=0
 
 # A stand-in for rt. It refuses sources that have the word 'broken', notes its calls, and links a program that prints its
-# sources and its arguments. It takes as many seconds as the file 'slow' says. `rt ci` runs at the top of a repository that has
-# nothing of an earlier run, and links the same program, or another one where there is a file 'other'.
+# sources and its arguments. It takes as many seconds as the file $SLOW says. `rt ci` runs at the top of a repository that has
+# nothing of an earlier run, and links the same program, or another one where there is a file $OTHER. `rt all test` runs where
+# a developer's checks have left work.
 mkdir -p "$room/bin"
 cat > "$room/bin/rt" << 'RT'
 #!/usr/bin/env bash
@@ -32,10 +33,15 @@ link() {
   { echo '#!/bin/sh'; echo "echo '$(cat "$crates/hdminet/src/main.rt")$1' \"\$@\""; } > "$crates/hdminet/out/hdminet"
   chmod +x "$crates/hdminet/out/hdminet"
 }
+sleep "$(cat "$SLOW" 2> /dev/null || echo 0)"
 if [ "$*" = ci ]; then
   crates=$PWD/crates
   [ -d .git ] && [ -f HANDLES ] && [ -f crates/hdminet/stdin ] && ! ls -d crates/*/{out,must-fail,wrong-bodies} 2> /dev/null || exit 1
   [ "$(cut -d: -f1 crates.txt | sort | tr '\n' ' ')" = "hdminet low " ] && [ "$(ls crates | tr '\n' ' ')" = "hdminet low " ] || exit 1
+  if grep -q unreadable "$crates"/low/src/*; then
+    echo "error: nothing can be read"
+    exit 1
+  fi
   for crate in low hdminet; do
     if ! prove "$crate"; then
       printf 'rt: %s NOT PROVED\nrt: another NOT PROVED: its library %s failed\n0 passed, 2 failed\n' "$crate" "$crate"
@@ -48,11 +54,6 @@ if [ "$*" = ci ]; then
   exit
 fi
 [ "$1 $2 $(basename "$PWD")" = "all test hdminet" ] || exit 1
-[ -f ../../slow ] && sleep "$(cat ../../slow)"
-if grep -q unreadable ../low/src/*; then
-  echo "error: nothing can be read"
-  exit 1
-fi
 crates=..
 for crate in low hdminet; do
   if ! prove "$crate"; then
@@ -65,13 +66,13 @@ link ""
 printf '== summary\nlow: ok\nhdminet: ok\n'
 RT
 chmod +x "$room/bin/rt"
-export CALLS="$room/calls" OTHER="$room/other" TMPDIR="$room/tmp"
+export CALLS="$room/calls" OTHER="$room/other" SLOW="$room/slow" TMPDIR="$room/tmp"
 mkdir "$TMPDIR"
 PATH="$room/bin:$PATH"
 
 # A new checkout of a program that prints 'one', a crate below it, and a crate of tests.
 checkout() {
-  rm -rf "$room/checkout" "$CALLS" "$OTHER"
+  rm -rf "$room/checkout" "$CALLS" "$OTHER" "$SLOW"
   mkdir -p "$room/checkout/crates/low/src" "$room/checkout/crates/hdminet/src" "$room/checkout/crates/low_tests/src" "$room/checkout/tools"
   cp "$top/hdminet" "$room/checkout/hdminet"
   cp "$top/tools/release" "$top/tools/sources.bash" "$room/checkout/tools"
@@ -129,6 +130,8 @@ check "it tells the minutes before" says "about "
 check "it tells each crate" says "crate 2 of 2 is proved: hdminet (6 functions so far"
 check "it tells that the program may be copied" says "It needs the C library alone and may be copied."
 check "it builds once" [ "$(calls)" = 1 ]
+check "from nothing" [ "$(cat "$CALLS")" = ci ]
+check "and leaves nothing of that" [ -z "$(ls -A "$TMPDIR")" ]
 start "$room/checkout/hdminet" again
 check "the second start builds nothing" wrote "one again"
 check "and says nothing" lines_of_err 0
@@ -163,6 +166,19 @@ echo law > "$room/checkout/crates/low/src/other.rt"
 source_is three
 start "$room/checkout/hdminet"
 check "a mended source is built" wrote "three"
+
+checkout
+mkdir -p "$room/checkout/crates/low/out/incremental"
+start "$room/checkout/hdminet" x
+check "where a developer's checks have left work it is built over that" wrote "one x"
+check "by one call" [ "$(cat "$CALLS")" = "all test --jobs $(cut -d' ' -f4 "$CALLS")" ]
+source_is "broken"
+start "$room/checkout/hdminet"
+check "there a broken source is refused" refused "error: the sources of hdminet are broken"
+check "and it says which crate failed" says "hdminet: not built, since the crate hdminet failed."
+source_is three
+start "$room/checkout/hdminet"
+check "and a mended one is built" wrote "three"
 
 ln -s "$room/checkout/hdminet" "$room/link"
 ln -s "$room/link" "$room/second-link"
@@ -207,7 +223,7 @@ check "in one line of its own" lines_of_err 1
 check "and calls no rt" [ "$(calls)" = "" ]
 
 checkout
-echo 2 > "$room/checkout/slow"
+echo 2 > "$SLOW"
 "$room/checkout/hdminet" first > "$room/first" 2> "$room/first.err" &
 first=$!
 until [ -s "$CALLS" ]; do sleep 0.1; done
@@ -219,7 +235,7 @@ check "as the other does" [ "$(cat "$room/first")" = "one first" ]
 check "and it is built once" [ "$(calls)" = 1 ]
 
 checkout
-echo 1 > "$room/checkout/slow"
+echo 1 > "$SLOW"
 source_is "broken"
 "$room/checkout/hdminet" first > "$room/first" 2> "$room/first.err" &
 first=$!
