@@ -1,5 +1,5 @@
 //! The line of an edge.
-ghost use Rattle.std.specs.Prelude.{◌≡◌, ℕ, ◌∷◌, ◌++◌, [], codes};
+ghost use Rattle.std.specs.Prelude.{◌≡◌, ℕ, ◌≤◌, ◌∷◌, ◌++◌, [], codes, length};
 ghost use Rattle.std.specs.List.{flat_map};
 ghost use Rattle.hdmi_core.specs.Written.{WrittenLine};
 ghost use Rattle.cec_bits.specs.Follows.{shown};
@@ -8,11 +8,15 @@ ghost use Rattle.cec_text.specs.ReadingText.{bit_digit, bits_text};
 ghost use Rattle.cec_step_text.specs.EdgeText.{device_text, edge_line, level_text, name_text, slot_text, standing_text};
 
 use crate::parts::{behind, whole};
+use arrayvec::ArrayVec;
 use cec_bits::Standing;
 use cec_device::Device;
 use cec_wave::Edge;
 use cec_words::{counted, cut_at};
 use hdmi_core::{Piece, Sink, WriteFault, write_line};
+
+/// The bits of a frame of sixteen blocks: as many are written at once.
+const MOST_BITS: usize = 160;
 
 fn write_level_line<S: Sink>(out: &mut S, edge: Edge) -> Result<u128, WriteFault>
     ensures { WrittenLine (S.contents out.old) (S.contents out.new) (S.is_stuck out.old) (S.is_stuck out.new) (level_text edge) result }
@@ -61,10 +65,42 @@ fn write_digits<S: Sink>(out: &mut S, bits: &[bool]) -> Result<u128, WriteFault>
     Ok(written)
 }
 
+fn digit_of(bit: bool) -> u8
+    ensures { result ≡ bit_digit bit }
+{
+    if bit { b'1' } else { b'0' }
+}
+
+// Bits as digits, or `-` for none.
+fn digits_of(bits: &[bool]) -> ArrayVec<u8, MOST_BITS>
+    requires { length bits.now ≤ MOST_BITS }
+    ensures { result.items ≡ bits_text bits.now }
+{
+    let mut digits = ArrayVec::new();
+    if bits.is_empty() {
+        digits.push(b'-');
+        return digits;
+    }
+    for bit in bits {
+        digits.push(digit_of(*bit));
+    }
+    digits
+}
+
+fn write_row<S: Sink>(out: &mut S, bits: &[bool]) -> Result<u128, WriteFault>
+    requires { length bits.now ≤ MOST_BITS }
+    ensures { WrittenLine (S.contents out.old) (S.contents out.new) (S.is_stuck out.old) (S.is_stuck out.new) (bits_text bits.now) result }
+{
+    write_line(out, &[Piece::Bytes(&digits_of(bits))])
+}
+
 // Writes bits as digits, or `-` for none.
 fn write_bits<S: Sink>(out: &mut S, bits: &[bool]) -> Result<u128, WriteFault>
     ensures { WrittenText (S.contents out.old) (S.contents out.new) (S.is_stuck out.old) (S.is_stuck out.new) (bits_text bits.now) result }
 {
+    if bits.len() <= MOST_BITS {
+        return whole(write_row(out, bits));
+    }
     if bits.is_empty() {
         write_word(out, "-")
     } else {
