@@ -1,8 +1,8 @@
 //! The texts of scripts.
-ghost use Rattle.std.specs.Prelude.{◌≡◌, ℕ, ◌+◌, ◌<◌, ◌≤◌, List, [], ◌∷◌, ◌++◌, length, Result, Ok, Err, Some, None, IfOk, IfSome, OnOk};
+ghost use Rattle.std.specs.Prelude.{◌≡◌, ℕ, ◌+◌, ◌<◌, ◌≤◌, List, [], ◌∷◌, ◌++◌, length, Result, Ok, Err, Some, None, IfOk, IfSome, OnErr, OnOk};
 ghost use Rattle.std.specs.Option.{option_copied};
 ghost use Rattle.cec_words.specs.Words.{words_behind, one_of, two_of, three_of};
-ghost use Rattle.cec_asm.specs.Script.{Notes, notes_of, course_of, time_of, last_time, last_end, scheduled, plug_words, unplug_words, key_words, event_words, send_read, pulse_cause, pulsed, pulse_words, end_words, other_words, error_at, IsFrameOf, IsSendRead, IsEventRead, IsLineRead, GivesNotes, Gives, GivesScript, IsScript};
+ghost use Rattle.cec_asm.specs.Script.{Notes, no_notes, notes_of, course_of, time_of, last_time, last_end, scheduled, plug_words, unplug_words, key_words, event_words, send_read, pulse_cause, pulsed, pulse_words, end_words, other_words, error_at, IsFrameOf, IsSendRead, IsEventRead, IsLineRead, GivesNotes, Gives, GivesScript, IsScript};
 
 use crate::course::Script;
 use crate::keys::key_in;
@@ -79,7 +79,7 @@ pub enum ScriptError {
 
 /// Why a line is not taken.
 #[derive(Debug, Drop)]
-enum LineError {
+pub enum LineError {
     Cause(ScriptCause),
     Memory,
 }
@@ -116,10 +116,23 @@ pub struct TimedEvent {
 
 /// What the lines so far say.
 #[derive(Drop)]
-struct Draft {
-    events: Vec<TimedEvent>,
-    pulses: Vec<Stretch>,
-    end: Option<u64>,
+pub struct Draft {
+    pub events: Vec<TimedEvent>,
+    pub pulses: Vec<Stretch>,
+    pub end: Option<u64>,
+}
+
+impl Draft {
+    /// No line yet.
+    pub fn new(alloc: Global) -> Self
+        ensures { notes_of result ≡ no_notes }
+    {
+        Draft {
+            events: Vec::new(alloc),
+            pulses: Vec::new(alloc),
+            end: None,
+        }
+    }
 }
 
 fn time_in(word: &[u8]) -> Option<u64>
@@ -149,7 +162,8 @@ fn last_end(pulses: &[Stretch]) -> Option<u64>
 }
 
 fn schedule(draft: &mut Draft, line: u64, time: u64, event: Event) -> Result<(), LineError>
-    ensures { GivesNotes (notes_of draft.new) result (scheduled (notes_of draft.old) line time event) }
+    ensures gives { GivesNotes (notes_of draft.new) result (scheduled (notes_of draft.old) line time event) }
+    ensures kept { OnErr result (notes_of draft.new ≡ notes_of draft.old) }
 {
     if time < last_time(&draft.events) {
         return Err(LineError::Cause(ScriptCause::Order));
@@ -173,7 +187,8 @@ fn take_plug(
     time: &[u8],
     rest: Option<&[u8]>,
 ) -> Result<(), LineError>
-    ensures { GivesNotes (notes_of draft.new) result (plug_words tree.now (notes_of draft.old) line time.now (three_of (words_behind (option_copied rest.entry)))) }
+    ensures gives { GivesNotes (notes_of draft.new) result (plug_words tree.now (notes_of draft.old) line time.now (three_of (words_behind (option_copied rest.entry)))) }
+    ensures kept { OnErr result (notes_of draft.new ≡ notes_of draft.old) }
 {
     let Some((child, parent, port)) = three_words(rest) else {
         return Err(LineError::Cause(ScriptCause::Word));
@@ -211,7 +226,8 @@ fn take_unplug(
     time: &[u8],
     rest: Option<&[u8]>,
 ) -> Result<(), LineError>
-    ensures { GivesNotes (notes_of draft.new) result (unplug_words tree.now (notes_of draft.old) line time.now (one_of (words_behind (option_copied rest.entry)))) }
+    ensures gives { GivesNotes (notes_of draft.new) result (unplug_words tree.now (notes_of draft.old) line time.now (one_of (words_behind (option_copied rest.entry)))) }
+    ensures kept { OnErr result (notes_of draft.new ≡ notes_of draft.old) }
 {
     let Some(child) = one_word(rest) else {
         return Err(LineError::Cause(ScriptCause::Word));
@@ -234,7 +250,8 @@ fn take_key(
     time: &[u8],
     rest: Option<&[u8]>,
 ) -> Result<(), LineError>
-    ensures { GivesNotes (notes_of draft.new) result (key_words tree.now (notes_of draft.old) line press time.now (words_behind (option_copied rest.entry))) }
+    ensures gives { GivesNotes (notes_of draft.new) result (key_words tree.now (notes_of draft.old) line press time.now (words_behind (option_copied rest.entry))) }
+    ensures kept { OnErr result (notes_of draft.new ≡ notes_of draft.old) }
 {
     let Some(rest) = rest else {
         return Err(LineError::Cause(ScriptCause::Word));
@@ -273,7 +290,8 @@ fn schedule_frame(
     device: Option<usize>,
     frame: Result<Frame, AssembleError>,
 ) -> Result<(), LineError>
-    ensures { GivesNotes (notes_of draft.new) result (send_read (notes_of draft.old) line time device frame) }
+    ensures gives { GivesNotes (notes_of draft.new) result (send_read (notes_of draft.old) line time device frame) }
+    ensures kept { OnErr result (notes_of draft.new ≡ notes_of draft.old) }
 {
     let Some(time) = time else {
         return Err(LineError::Cause(ScriptCause::Number));
@@ -295,7 +313,8 @@ fn take_send(
     time: &[u8],
     rest: Option<&[u8]>,
 ) -> Result<(), LineError>
-    ensures { Gives (notes_of draft.new) result (IsSendRead tree.now (notes_of draft.old) line time.now (words_behind (option_copied rest.entry))) }
+    ensures gives { Gives (notes_of draft.new) result (IsSendRead tree.now (notes_of draft.old) line time.now (words_behind (option_copied rest.entry))) }
+    ensures kept { OnErr result (notes_of draft.new ≡ notes_of draft.old) }
 {
     let Some(rest) = rest else {
         return Err(LineError::Cause(ScriptCause::Word));
@@ -325,7 +344,8 @@ fn pulse_cause(fault: PulsesError) -> ScriptCause
 }
 
 fn add_pulse(draft: &mut Draft, pulse: Stretch) -> Result<(), LineError>
-    ensures { GivesNotes (notes_of draft.new) result (pulsed (notes_of draft.old) pulse) }
+    ensures gives { GivesNotes (notes_of draft.new) result (pulsed (notes_of draft.old) pulse) }
+    ensures kept { OnErr result (notes_of draft.new ≡ notes_of draft.old) }
 {
     if let Some(fault) = stretch_fault(last_end(&draft.pulses), pulse) {
         return Err(LineError::Cause(pulse_cause(fault)));
@@ -342,7 +362,8 @@ fn add_pulse(draft: &mut Draft, pulse: Stretch) -> Result<(), LineError>
 
 /// Takes the words behind `pulse`.
 fn take_pulse(draft: &mut Draft, rest: Option<&[u8]>) -> Result<(), LineError>
-    ensures { GivesNotes (notes_of draft.new) result (pulse_words (notes_of draft.old) (two_of (words_behind (option_copied rest.entry)))) }
+    ensures gives { GivesNotes (notes_of draft.new) result (pulse_words (notes_of draft.old) (two_of (words_behind (option_copied rest.entry)))) }
+    ensures kept { OnErr result (notes_of draft.new ≡ notes_of draft.old) }
 {
     let Some((from, width)) = two_words(rest) else {
         return Err(LineError::Cause(ScriptCause::Word));
@@ -359,7 +380,8 @@ fn take_pulse(draft: &mut Draft, rest: Option<&[u8]>) -> Result<(), LineError>
 
 /// Takes the word behind `end`.
 fn take_end(draft: &mut Draft, rest: Option<&[u8]>) -> Result<(), LineError>
-    ensures { GivesNotes (notes_of draft.new) result (end_words (notes_of draft.old) (one_of (words_behind (option_copied rest.entry)))) }
+    ensures gives { GivesNotes (notes_of draft.new) result (end_words (notes_of draft.old) (one_of (words_behind (option_copied rest.entry)))) }
+    ensures kept { OnErr result (notes_of draft.new ≡ notes_of draft.old) }
 {
     let Some(time) = one_word(rest) else {
         return Err(LineError::Cause(ScriptCause::Word));
@@ -386,7 +408,8 @@ fn take_words(
     verb: &[u8],
     rest: Option<&[u8]>,
 ) -> Result<(), LineError>
-    ensures { GivesNotes (notes_of draft.new) result (event_words tree.now (notes_of draft.old) line time.now verb.now (words_behind (option_copied rest.entry))) }
+    ensures gives { GivesNotes (notes_of draft.new) result (event_words tree.now (notes_of draft.old) line time.now verb.now (words_behind (option_copied rest.entry))) }
+    ensures kept { OnErr result (notes_of draft.new ≡ notes_of draft.old) }
 {
     if verb == b"plug".as_slice() {
         take_plug(tree, draft, line, time, rest)
@@ -408,7 +431,8 @@ fn take_event(
     line: u64,
     rest: Option<&[u8]>,
 ) -> Result<(), LineError>
-    ensures { Gives (notes_of draft.new) result (IsEventRead tree.now (notes_of draft.old) line (words_behind (option_copied rest.entry))) }
+    ensures gives { Gives (notes_of draft.new) result (IsEventRead tree.now (notes_of draft.old) line (words_behind (option_copied rest.entry))) }
+    ensures kept { OnErr result (notes_of draft.new ≡ notes_of draft.old) }
 {
     let Some(rest) = rest else {
         return Err(LineError::Cause(ScriptCause::Word));
@@ -427,7 +451,8 @@ fn take_event(
 
 /// Takes the words of a line that is no event.
 fn take_other(draft: &mut Draft, verb: &[u8], rest: Option<&[u8]>) -> Result<(), LineError>
-    ensures { GivesNotes (notes_of draft.new) result (other_words (notes_of draft.old) verb.now (words_behind (option_copied rest.entry))) }
+    ensures gives { GivesNotes (notes_of draft.new) result (other_words (notes_of draft.old) verb.now (words_behind (option_copied rest.entry))) }
+    ensures kept { OnErr result (notes_of draft.new ≡ notes_of draft.old) }
 {
     if verb == b"pulse".as_slice() {
         take_pulse(draft, rest)
@@ -438,9 +463,10 @@ fn take_other(draft: &mut Draft, verb: &[u8], rest: Option<&[u8]>) -> Result<(),
     }
 }
 
-/// Takes a line.
-fn take_line(tree: &Tree<15>, draft: &mut Draft, number: u64, line: &[u8]) -> Result<(), LineError>
-    ensures { Gives (notes_of draft.new) result (IsLineRead tree.now (notes_of draft.old) number line.now) }
+/// Takes a line, the one of this number.
+pub fn take_line(tree: &Tree<15>, draft: &mut Draft, number: u64, line: &[u8]) -> Result<(), LineError>
+    ensures gives { Gives (notes_of draft.new) result (IsLineRead tree.now (notes_of draft.old) number line.now) }
+    ensures kept { OnErr result (notes_of draft.new ≡ notes_of draft.old) }
 {
     if is_skipped(line) {
         return Ok(());

@@ -1,8 +1,11 @@
 //! A sender of one frame, at the standard's nominal times (CEC 5.2) until it stops.
 ghost use Rattle.std.specs.Prelude.{◌≡◌, ℕ, ◌+◌, ◌-◌, ◌*◌, ◌<◌, ◌≤◌, Bool, false, length, slice_index_or, if◌then◌else◌};
 
+mod parts;
+
 use crate::receiver::Told;
 use cec_frame::Frame;
+pub use parts::SenderParts;
 
 // Low in the start bit for so long, and the first slot falls so long after the start (CEC 5.2.1).
 const START_LOW: u64 = 3700;

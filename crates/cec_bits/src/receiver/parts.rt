@@ -1,0 +1,98 @@
+//! What a receiver keeps, in plain numbers.
+ghost use Rattle.std.specs.Prelude.{◌≡◌, ◌≤◌, ◌<◌, length, Some, IsSome, IfSome};
+ghost use Rattle.cec_bits.specs.Parts.{ArePartsOf, number_of};
+ghost use Rattle.cec_bits.specs.declared.receiver.Place.{Place as PlaceValue};
+ghost use Rattle.cec_bits.specs.declared.receiver.Receiver.{Receiver as ReceiverValue};
+
+use crate::reading::SLOTS;
+use crate::receiver::{Place, Receiver, copied_bits};
+
+/// The latest instant that a receiver knows, in microseconds.
+const LATEST: u64 = 3_000_000_000_000;
+
+/// What a receiver keeps, in plain numbers, for callers in other languages.
+#[repr(C)]
+#[derive(Debug, Drop)]
+pub struct ReceiverParts {
+    /// Whether the line was low before its last change.
+    pub was_low: bool,
+    /// Whether the line is low.
+    pub is_low: bool,
+    /// 0 no reading runs, 1 in the start bit, 2 after its rise, 3 in a slot before its sample, 4 after it.
+    pub place: u8,
+    /// How many bits were sampled so far.
+    pub count: u8,
+    /// The instant at which the reading began, in microseconds, or 0.
+    pub begin: u64,
+    /// The last fall, in microseconds, or 0.
+    pub fall: u64,
+    /// The bits sampled so far, from slot 1 on.
+    pub bits: [bool; SLOTS],
+}
+
+fn number_of_place(place: Place) -> u8
+    ensures { result ≡ number_of place }
+{
+    match place {
+        Place::Rest => 0,
+        Place::StartLow => 1,
+        Place::StartHigh => 2,
+        Place::Unsampled => 3,
+        Place::Sampled => 4,
+    }
+}
+
+fn place_of(number: u8) -> Option<Place>
+    ensures found { IfSome result (λ place. number ≡ number_of place) }
+    ensures there { (place : PlaceValue) → number ≡ number_of place → result ≡ Some place }
+{
+    match number {
+        0 => Some(Place::Rest),
+        1 => Some(Place::StartLow),
+        2 => Some(Place::StartHigh),
+        3 => Some(Place::Unsampled),
+        4 => Some(Place::Sampled),
+        _ => None,
+    }
+}
+
+impl Receiver {
+    /// What it keeps.
+    pub fn parts(&self) -> ReceiverParts
+        ensures { ArePartsOf self.now result }
+    {
+        let mut bits = [false; SLOTS];
+        let sampled = self.bits.as_slice();
+        bits[..sampled.len()].copy_from_slice(sampled);
+        ReceiverParts {
+            was_low: self.was_low,
+            is_low: self.is_low,
+            place: number_of_place(self.place),
+            count: self.bits.len() as u8,
+            begin: self.begin,
+            fall: self.fall,
+            bits,
+        }
+    }
+
+    /// The receiver that keeps this, where one can.
+    pub fn of_parts(parts: &ReceiverParts) -> Option<Self>
+        ensures found { IfSome result (λ receiver. ArePartsOf receiver parts.now) }
+        ensures there { (receiver : ReceiverValue) → ArePartsOf receiver parts.now → IsSome result }
+    {
+        if usize::from(parts.count) >= SLOTS || parts.begin > LATEST || parts.fall > LATEST {
+            return None;
+        }
+        let Some(place) = place_of(parts.place) else {
+            return None;
+        };
+        Some(Receiver {
+            was_low: parts.was_low,
+            is_low: parts.is_low,
+            place,
+            begin: parts.begin,
+            fall: parts.fall,
+            bits: copied_bits(&parts.bits[..usize::from(parts.count)]),
+        })
+    }
+}
