@@ -9,7 +9,7 @@ failed=0
 
 # A stand-in for rt. It refuses sources that have the word 'broken', notes its calls, and links a program that prints its
 # sources and its arguments. It takes as many seconds as the file $SLOW says. `rt ci` runs at the top of a repository that has
-# nothing of an earlier run, and links the same program, or another one where there is a file $OTHER. `rt all test` runs where
+# nothing of an earlier run, with --anew or without, and links the same program, or another one where there is a file $OTHER. `rt all test` runs where
 # a developer's checks have left work.
 mkdir -p "$room/bin"
 cat > "$room/bin/rt" << 'RT'
@@ -34,7 +34,7 @@ link() {
   chmod +x "$crates/hdminet/out/hdminet"
 }
 sleep "$(cat "$SLOW" 2> /dev/null || echo 0)"
-if [ "$*" = ci ]; then
+if [ "$*" = ci ] || [ "$*" = "ci --anew" ]; then
   crates=$PWD/crates
   [ -d .git ] && [ -f HANDLES ] && [ -f crates/hdminet/stdin ] && ! ls -d crates/*/{out,must-fail,wrong-bodies} 2> /dev/null || exit 1
   [ "$(cut -d: -f1 crates.txt | sort | tr '\n' ' ')" = "hdminet low " ] && [ "$(ls crates | tr '\n' ' ')" = "hdminet low " ] || exit 1
@@ -329,13 +329,13 @@ start "$room/checkout/hdminet" --prove
 check "--prove gives the released program" [ "$status" = 0 ]
 check "and says so" says "hdminet: it is the released program to the byte: SHA-256 $(sha256sum < "$room/checkout/release/hdminet" | cut -d' ' -f1)"
 check "and tells each crate" says "crate 2 of 2 is proved: hdminet (6 functions so far"
-check "it proves from nothing" [ "$(cat "$CALLS")" = ci ]
+check "it proves from nothing" [ "$(cat "$CALLS")" = "ci --anew" ]
 check "and leaves nothing of that" [ -z "$(ls -A "$TMPDIR")" ]
 start "$room/checkout/hdminet" x
 check "what it built starts" wrote "one x"
 check "and says nothing" lines_of_err 0
 start "$room/second-link" --prove
-check "--prove proves again what is built" [ "$(cat "$CALLS")" = "$(printf 'ci\nci')" ]
+check "--prove proves again what is built" [ "$(cat "$CALLS")" = "$(printf 'ci --anew\nci --anew')" ]
 check "through a link too" [ "$status" = 0 ]
 
 echo ' of another kit' > "$OTHER"
