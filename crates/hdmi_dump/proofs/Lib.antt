@@ -4,3 +4,4 @@ pub mod Gathering
 pub mod DigitFacts
 pub mod Printing
 pub mod Offsets
+pub mod Bars

@@ -29,7 +29,7 @@ eight a b c d e f g h rest ha hb hc hd he hf hg hh =
     both _ _ long
     (both _ _ ha (both _ _ hb (both _ _ hc (both _ _ hd (both _ _ he (both _ _ hf (both _ _ hg (both _ _ hh refl))))))))
 
-offset_read : (place : ℕ) (rest : List ℕ) → place < 65536 → has_offset (offset_text place ++ rest) ≡ true
+pub offset_read : (place : ℕ) (rest : List ℕ) → place < 65536 → has_offset (offset_text place ++ rest) ≡ true
 offset_read place rest h =
     eight 48 48 48 48 (mark (place / 256 / 16)) (mark (place / 256 % 16)) (mark (place % 256 / 16)) (mark (place % 256 % 16)) rest refl refl refl refl
     (mark_hex (place / 256 / 16) (omega arith)) (mark_hex (place / 256 % 16) (omega arith)) (mark_hex (place % 256 / 16) (omega arith)) (mark_hex (place % 256 % 16) (omega arith))
@@ -70,7 +70,7 @@ twos_line (b ∷ c ∷ bytes) h =
 character_plain : (b : ℕ) → (character b == 10) ≡ false
 character_plain b = grind (arith, nat_tests)
 
-characters_line : (bytes : List ℕ) → IsLine (map character bytes)
+pub characters_line : (bytes : List ℕ) → IsLine (map character bytes)
 characters_line [] = λ k d m. absurd (omega arith)
 characters_line (b ∷ bytes) = All-cons (λ c. (c == 10) ≡ false) (character b) (map character bytes) (character_plain b) (characters_line bytes)
 
@@ -80,7 +80,7 @@ zeros_line = byte_more 48 (48 ∷ 48 ∷ 48 ∷ []) refl (byte_more 48 (48 ∷ 4
     byte_more : (c : ℕ) (cs : List ℕ) → (c == 10) ≡ false → IsLine cs → IsLine (c ∷ cs)
     byte_more c cs h k = All-cons (λ c. (c == 10) ≡ false) c cs h k
 
-offset_line : (place : ℕ) → place < 65536 → IsLine (offset_text place)
+pub offset_line : (place : ℕ) → place < 65536 → IsLine (offset_text place)
 offset_line place h =
     All-append (λ c. (c == 10) ≡ false) (48 ∷ 48 ∷ 48 ∷ 48 ∷ []) (hex_text (place / 256) ++ hex_text (place % 256)) zeros_line
     (All-append (λ c. (c == 10) ≡ false) (hex_text (place / 256)) (hex_text (place % 256)) (byte_line (place / 256) (omega arith)) (byte_line (place % 256) (omega arith)))
@@ -98,7 +98,7 @@ abbrev colon_lines : ℕ → List (List ℕ) → List (List ℕ)
 colon_lines place [] = []
 colon_lines place (part ∷ parts) = colon_line place part ∷ colon_lines (place + length part) parts
 
-fits_first : (place : ℕ) (part : List ℕ) (parts : List (List ℕ)) → place + length (concat (part ∷ parts)) ≤ 512 → place + length part + length (concat parts) ≤ 512
+pub fits_first : (place : ℕ) (part : List ℕ) (parts : List (List ℕ)) → place + length (concat (part ∷ parts)) ≤ 512 → place + length part + length (concat parts) ≤ 512
 fits_first place part parts h = omega (arith, length-append part (concat parts))
 
 colon_printed : (place : ℕ) (parts : List (List ℕ)) → place + length (concat parts) ≤ 512 → All AreBytes parts → lines_of (colon_text place parts) ≡ colon_lines place parts

@@ -59,7 +59,7 @@ one_more form number bytes line part lines other is short =
     ∙ ap (λ o. with_row number false bytes line o go) is
     ∙ ap (λ b. if b then Err (Long number) else go (bytes ++ part)) room
 
-rows_gathered : (form : Form) (lines parts : List (List ℕ)) (number : ℕ) (bytes : List ℕ) → AreRows form lines parts → length (bytes ++ concat parts) ≤ 512 → length (bytes ++ concat parts) % 128 ≡ 0
+pub rows_gathered : (form : Form) (lines parts : List (List ℕ)) (number : ℕ) (bytes : List ℕ) → AreRows form lines parts → length (bytes ++ concat parts) ≤ 512 → length (bytes ++ concat parts) % 128 ≡ 0
     → gathered form number false bytes lines ≡ Ok (bytes ++ concat parts)
 rows_gathered form [] [] number bytes rows most blocks =
     let e : bytes ++ [] ≡ bytes = append-nil bytes in
@@ -147,7 +147,7 @@ spaced_read c (b ∷ d ∷ bytes) rest gap h =
     ∙ ap (onto b) (pairs_blank c 32 more (gap more) refl ∙ spaced_read c (d ∷ bytes) rest gap (All-tail (λ b. b < 256) b (d ∷ bytes) h))
     ∙ joins_byte b (d ∷ bytes) (pairs c rest)
 
-spaced_line : (bytes : List ℕ) → AreBytes bytes → IsLine (spaced bytes)
+pub spaced_line : (bytes : List ℕ) → AreBytes bytes → IsLine (spaced bytes)
 spaced_line [] h = λ k d m. absurd (omega arith)
 spaced_line (b ∷ []) h = byte_line b (All-head (λ b. b < 256) b [] h)
 spaced_line (b ∷ d ∷ bytes) h = All-append (λ c. (c == 10) ≡ false) (hex_text b) (32 ∷ spaced (d ∷ bytes)) (byte_line b (All-head (λ b. b < 256) b (d ∷ bytes) h))

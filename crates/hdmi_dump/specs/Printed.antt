@@ -1,5 +1,5 @@
 -- How the bytes of an EDID are printed in hex, and that what is printed is read back. The bytes may be parted into lines in any way.
-use Rattle.std.specs.Prelude.{map, if◌then◌else◌, nat_le, ◌&&◌, ◌/◌, ◌+◌, ◌≡◌, ℕ, ◌%◌, ◌<◌, ◌≤◌, List, [], ◌∷◌, ◌++◌, length, take, All, codes, Ok}
+use Rattle.std.specs.Prelude.{map, if◌then◌else◌, nat_le, ◌&&◌, ◌/◌, ◌+◌, ◌≡◌, ℕ, ◌%◌, ◌<◌, ◌≤◌, List, [], ◌∷◌, ◌++◌, length, take, drop, All, codes, Ok}
 use Rattle.std.specs.List.{concat, flat_map}
 use Rattle.hdmi_core.specs.Piece.{hex_text}
 use Rattle.hdmi_dump.specs.Rows.{header}
@@ -57,3 +57,16 @@ colon_text place (part ∷ parts) = colon_line place part ++ 10 ∷ colon_text (
 
 abbrev pub OffsetsAreRead : Type 0
 OffsetsAreRead = (first : List ℕ) (parts : List (List ℕ)) → IsParted first parts → dumped (colon_text 0 (first ∷ parts)) ≡ Ok (concat (first ∷ parts))
+
+-- ---- `hexdump -C -v`: an offset, pairs one space apart in two halves, characters between bars; at the end the count of bytes
+
+abbrev pub bars_line : ℕ → List ℕ → List ℕ
+bars_line place part =
+    offset_text place ++ (32 ∷ 32 ∷ spaced (take 8 part) ++ (32 ∷ 32 ∷ spaced (drop 8 part) ++ (32 ∷ 32 ∷ 124 ∷ (map character part ++ 124 ∷ []))))
+
+abbrev pub bars_text : ℕ → List (List ℕ) → List ℕ
+bars_text place [] = offset_text place ++ 10 ∷ []
+bars_text place (part ∷ parts) = bars_line place part ++ 10 ∷ bars_text (place + length part) parts
+
+abbrev pub BarsAreRead : Type 0
+BarsAreRead = (first : List ℕ) (parts : List (List ℕ)) → IsParted first parts → dumped (bars_text 0 (first ∷ parts)) ≡ Ok (concat (first ∷ parts))

@@ -1,5 +1,5 @@
 //! Laws: what is printed of an EDID in hex is read back.
-ghost use Rattle.hdmi_dump.specs.Printed.{DigitsAreRead, OffsetsAreRead, PairsAreRead};
+ghost use Rattle.hdmi_dump.specs.Printed.{BarsAreRead, DigitsAreRead, OffsetsAreRead, PairsAreRead};
 
 /// Plain digits, as `xxd -p` and `edid --text` print them, in lines of any length.
 pub fn digits_are_read()
@@ -14,4 +14,9 @@ pub fn pairs_are_read()
 /// Rows as `xxd` prints them: an offset and a colon, bytes by twos, and their characters.
 pub fn offsets_are_read()
     ensures { OffsetsAreRead }
+{}
+
+/// Rows as `hexdump -C -v` prints them: an offset, pairs in two halves, characters between bars, and the count at the end.
+pub fn bars_are_read()
+    ensures { BarsAreRead }
 {}
