@@ -4,6 +4,28 @@ from wire import pa_text, parse_pa
 
 SRGB = (655, 338, 307, 614, 154, 61, 320, 337)
 HDMI_CODES = {1: 95, 2: 94, 3: 93, 4: 98}
+DUMMY = b'\0\0\0\x10' + bytes(14)
+# the video codes of 1 to 64, by width, lines and whether there are two fields (CTA-861, table 3)
+SIZES = {
+    (640, 480, False): [1],
+    (720, 480, False): [2, 3, 48, 49, 56, 57],
+    (720, 576, False): [17, 18, 42, 43, 52, 53],
+    (1280, 720, False): [4, 19, 41, 47, 60, 61, 62],
+    (1440, 240, False): [8, 9],
+    (1440, 288, False): [23, 24],
+    (1440, 480, False): [14, 15],
+    (1440, 576, False): [29, 30],
+    (1920, 1080, False): [16, 31, 32, 33, 34, 63, 64],
+    (2880, 240, False): [12, 13],
+    (2880, 288, False): [27, 28],
+    (2880, 480, False): [35, 36],
+    (2880, 576, False): [37, 38],
+    (1440, 480, True): [6, 7, 50, 51, 58, 59],
+    (1440, 576, True): [21, 22, 44, 45, 54, 55],
+    (1920, 1080, True): [5, 20, 39, 40, 46],
+    (2880, 480, True): [10, 11],
+    (2880, 576, True): [25, 26],
+}
 
 
 def chroma(b):
@@ -91,6 +113,20 @@ def multichannel(data):
     return any(data[i] >> 3 & 15 == 1 and data[i] & 7 > 1 for i in range(0, len(data) - 2, 3))
 
 
+def is_mixed(count, timings, native_codes):
+    """the first timings and the native codes are of several sizes, with one field or with two"""
+    sizes = {(t.h_active, t.v_active * (1 + t.interlaced), t.interlaced) for t in timings[:count]}
+    sizes |= {size for size, codes in SIZES.items() if set(codes) & set(native_codes)}
+    return any(len([s for s in sizes if s[2] == interlaced]) > 1 for interlaced in (False, True))
+
+
+def is_padding(tail):
+    """whole dummy descriptors, and then zeros"""
+    while tail[:18] == DUMMY:
+        tail = tail[18:]
+    return not any(tail)
+
+
 def edid_findings(e, is_port):
     b = e[:128]
     four = b[19] == 4
@@ -138,6 +174,9 @@ def edid_findings(e, is_port):
         yield 'fail', 'vic-twice'
     if any(x['flags'] & 15 > len(timings) for x in full):
         yield 'fail', 'native-count'
+    native_codes = [c - 128 for tag, data in blocks if tag == 2 for c in data if 129 <= c <= 192]
+    if any(is_mixed(x['flags'] & 15 if x['d'] else 0, timings, native_codes) for x in exts if x is not None):
+        yield 'fail', 'native-mixed'
     if any(x['flags'] < 128 for x in full):
         yield 'warn', 'overscan'
     if any(not x['flags'] & 0x40 and any(tag in (1, 4) for _, tag, _ in x['blocks']) for x in full):
@@ -146,7 +185,7 @@ def edid_findings(e, is_port):
     many = any(multichannel(data) for tag, data in blocks if tag == 1)
     if many and not speakers or any(len(data) != 3 for data in speakers):
         yield 'fail', 'speakers'
-    if any(any(x['tail']) for x in full):
+    if any(not is_padding(bytes(x['tail'])) for x in full):
         yield 'fail', 'padding'
     capabilities = [data for tag, data in blocks if tag == 7 and data[:1] == b'\0']
     if ctas and not capabilities:

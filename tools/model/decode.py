@@ -33,6 +33,7 @@ RULES = {
     'no-640x480': 'Required 640x480p60 timings are missing',
     'vic-twice': 'Duplicate VIC',
     'native-count': 'There are more Native DTDs',
+    'native-mixed': 'Native (progressive|interlaced) timings are a mix',
     'overscan': 'normally this should be underscanned',
     'no-basic-audio': 'indicates no Basic Audio',
     'no-video-capability': 'Missing VCDB',

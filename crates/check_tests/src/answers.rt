@@ -1,13 +1,14 @@
 //! What is told of EDIDs, a case each.
 use crate::displays::bytes_of;
-use crate::explains::{EXPLAINED, explained};
-use crate::rules::{IN_PORTS, RULES};
+use crate::explains::{EXPLAINED, HINTED, explained, hinted};
+use crate::rules::{IN_PORTS, NATIVES, RULES};
 use crate::timings::TIMINGS;
 use crate::ways::{
     ADDRESSES, FRONTS, PASSED, address_told, fronts_told, passed_checked, passed_told,
 };
 use hdmi_convert::edid_to_findings;
 use hdmi_core::Writes;
+use hdmi_explain::lacks_line_feed;
 use std::process::Abort;
 
 /// A case and what comes of it.
@@ -51,6 +52,7 @@ fn are_checked(rt: &(impl Abort + AllocGlobal), cases: &str) {
 #[test]
 fn each_rule_is_broken_alone_and_just_kept(rt: HostRuntime) {
     are_checked(&rt, RULES);
+    are_checked(&rt, NATIVES);
     are_checked(&rt, TIMINGS);
 }
 
@@ -109,4 +111,21 @@ fn broken_rules_are_explained(rt: HostRuntime) {
         let (words, want) = parted(&rt, case);
         holds(&rt, explained(&rt, words).as_str() == want, case);
     }
+}
+
+#[test]
+fn edids_without_an_hdmi_block_are_explained(rt: HostRuntime) {
+    for case in HINTED.lines() {
+        let (words, want) = parted(&rt, case);
+        holds(&rt, hinted(&rt, words).as_str() == want, case);
+    }
+}
+
+#[test]
+fn a_last_line_feed_is_missed(rt: HostRuntime) {
+    assert!(rt; lacks_line_feed(b"edid 1.3"));
+    assert!(rt; lacks_line_feed(b"edid 1.3\n "));
+    assert!(rt; !lacks_line_feed(b"edid 1.3\n"));
+    assert!(rt; !lacks_line_feed(b"\n"));
+    assert!(rt; !lacks_line_feed(b""));
 }

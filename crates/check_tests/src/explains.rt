@@ -1,7 +1,9 @@
-//! What explains a rule that is broken.
+//! What explains a rule that is broken, and why an EDID has no HDMI block.
 use crate::displays::bytes_of;
+use arrayvec::ArrayVec;
+use hdmi_blocks::read_parts;
 use hdmi_check::Origin;
-use hdmi_explain::explain_findings;
+use hdmi_explain::{explain_findings, explain_no_hdmi, first_overrun};
 use std::process::Abort;
 
 /// What is changed in the television, and what explains the rules that it then breaks, with `/` for each line feed.
@@ -12,6 +14,13 @@ tv 16=36 => fail week-of-1.4/  in 1.3 the week is at most 53; 54, and 255 for a 
 tv 24=0a => fail srgb/  bit 2 of the features is set exactly where the chromaticities are those of sRGB (E-EDID A, 3.6.4)/  here: features 0a/
 tv 93=fe => fail no-name/  a descriptor with tag fc has the product's name (E-EDID A, 3.10.3)/
 tv 149=1020 => fail address/  an address has no port after a 0 and is not f.f.f.f, nor 0.0.0.0 in a port (HDMI 1.4, 8.7.2, 8.7.3)/  here: address 1.0.2.0/
+tv 131=f2 => fail native-mixed/  native timings and video codes are of one size, those of two fields by themselves (native: CTA-861-D, 7.5, 7.5.1)/  here: 1920x1080 and 1280x720/
+tv 134=85 135=86 => fail native-mixed/  native timings and video codes are of one size, those of two fields by themselves (native: CTA-861-D, 7.5, 7.5.1)/  here: 1920x1080 and 1440x480/
+tv 133=10 135=90 => fail vic-twice/  a video code is listed once (CTA-861-D, 7.5.1)/  here: video code 16/
+tv 72=023a801871382d40582c450008222100001e 131=f3 => fail native-count/  the low four bits of a CTA block's flags are at most the detailed timings (CTA-861-D, 7.5)/  here: 3 native, 2 timings/
+tv 131=71 => warn overscan/  bit 7 of a CTA block's flags is set: formats of computers are shown whole (CTA-861-D, 7.5)/  here: flags 71/
+tv 62=00 => fail timing 1 timing-zero/  picture, blanking, sync offset and sync width are above 0 (E-EDID A, 3.10.2)/  here: horizontal sync offset 0/
+tv 254=01 => fail padding/  whole dummy descriptors and zeros follow the timings of a CTA block (CTA-861-D, 7.5; E-EDID A, 3.10.3)/
 tv 113=00 115=00 54=e703 => fail timing 1 clock/  the pixel clock is at least 10 MHz/  here: clock 9.99 MHz/
 tv 69=4a => fail timing 1 h-back-porch/  some of the horizontal blanking is left after sync offset, sync width and both borders (E-EDID A, 3.10.2)/  here: blanking 280, sync offset 88, sync width 44, borders 2 times 74/
 tv 66=12 => fail timing 1 size-differs/  the image is at most 9 mm larger than the display, and not more than 9 mm smaller both ways (E-EDID A, 3.10.2, 3.6.2)/  here: image 530 x 290 mm, display 52 x 29 cm/
@@ -22,8 +31,46 @@ pub(crate) fn explained(rt: &(impl Abort + AllocGlobal), words: &str) -> String 
     let text = explain_findings(rt.alloc(), Origin::Display, &bytes_of(rt, words)).expect(
         rt, "memory",
     );
+    lines_told(rt, text)
+}
+
+/// Lines with `/` for each line feed, or `none`.
+fn lines_told(rt: &(impl Abort + AllocGlobal), text: String) -> String {
     if text.is_empty() {
         return String::from_str(rt.alloc(), "none").expect(rt, "a text");
     }
     text.replace(rt.alloc(), "\n", "/").expect(rt, "a line")
+}
+
+/// What is changed in the television, why it has no HDMI block then, and which extension overruns.
+pub(crate) const HINTED: &str = "\
+tv => none0
+tv 0=01 => none0
+tv base => no extension follows the base block/0
+tv 146=04 => extension 1 is a CTA-861 block, no data block of which is an HDMI block/0
+tv 130=00 => extension 1 is a CTA-861 block without data blocks/0
+tv 132=5f => extension 1 is a CTA-861 block whose data blocks or timings overrun: none of them is read/1
+tv 130=90 => extension 1 is a CTA-861 block whose data blocks or timings overrun: none of them is read/1
+tv 129=02 => extension 1 is a CTA-861 block of another revision than 3: none of its data blocks is read/0
+tv base map => extension 1 is no CTA-861 block/0
+tv 128=70 => extension 1 is no CTA-861 block/0
+tv base other cta 258=05 260=41 => extension 1 is no CTA-861 block/extension 2 is a CTA-861 block whose data blocks or timings overrun: none of them is read/2
+tv cta 258=05 260=41 => none2
+";
+
+/// The number of the extension that overruns, or 0.
+fn overrun(bytes: &[u8]) -> u8 {
+    let mut extensions = ArrayVec::new();
+    if read_parts(bytes, &mut extensions).is_err() {
+        return 0;
+    }
+    first_overrun(extensions.as_slice()).unwrap_or(0)
+}
+
+pub(crate) fn hinted(rt: &(impl Abort + AllocGlobal), words: &str) -> String {
+    let bytes = bytes_of(rt, words);
+    let text = explain_no_hdmi(rt.alloc(), &bytes).expect(rt, "memory");
+    let lines = lines_told(rt, text);
+    let number = overrun(&bytes);
+    format!(in rt.alloc(); "{lines}{number}").expect(rt, "a text")
 }

@@ -7,8 +7,8 @@ tv => none
 tv base 35=000000 => none
 tv 24=0c => fail first-timing-not-preferred;
 tv 19=04 24=0c 118=01 => warn hdmi-of-1.3;
-tv 54=000000100000000000000000000000000000 => fail no-preferred-timing;
-tv 24=0c 54=000000100000000000000000000000000000 => fail first-timing-not-preferred;
+tv 131=f0 54=000000100000000000000000000000000000 => fail no-preferred-timing;
+tv 131=f0 24=0c 54=000000100000000000000000000000000000 => fail first-timing-not-preferred;
 tv 93=fe => fail no-name;
 tv 93=fe 72=000000fc0a => none
 tv 111=fe => fail no-range-limits;
@@ -30,6 +30,13 @@ tv 24=0a => fail srgb;
 tv 24=0a 27=a2 => none
 tv 27=a2 => fail srgb;
 tv 25=ef => fail srgb;
+tv 26=90 => fail srgb;
+tv 28=55 => fail srgb;
+tv 29=4d => fail srgb;
+tv 30=9a => fail srgb;
+tv 31=27 => fail srgb;
+tv 32=10 => fail srgb;
+tv 33=51 => fail srgb;
 tv 34=53 => fail srgb;
 tv 72=000000000000000000000000000000000000 => fail empty-descriptor;
 tv 72=000000100000000000000000000000000000 => none
@@ -52,20 +59,20 @@ tv 72=000000ff00310a2020202020202020202020 12=00000001 => warn two-serials;
 tv base 72=000000ff00310a2020202020202020202020 => none
 tv 35=00 => none
 tv 136=05 => none
-tv 136=81 35=00 => none
+tv 131=f0 133=10 136=81 35=00 => none
 tv 136=05 35=00 => fail no-640x480;
 tv 136=05 35=df => fail no-640x480;
 tv base 35=00 bare => fail no-640x480;warn no-video-capability;
 tv 135=04 => fail vic-twice;
-tv 135=84 => fail vic-twice;
+tv 133=10 135=90 => fail vic-twice;
 tv 135=10 => fail vic-twice;
 tv 135=05 => none
 tv 134=c1 135=41 => none
 tv 134=c0 135=40 => fail vic-twice;
 tv 134=80 135=00 => none
-tv 131=f2 => none
-tv 131=f3 => fail native-count;
-tv 131=ff => fail native-count;
+tv 72=023a801871382d40582c450008222100001e 131=f2 => none
+tv 72=023a801871382d40582c450008222100001e 131=f3 => fail native-count;
+tv 72=023a801871382d40582c450008222100001e 131=ff => fail native-count;
 tv 131=71 => warn overscan;
 tv base 35=20 cta => warn no-video-capability;
 tv base 35=20 cta 131=71 => warn overscan;warn no-video-capability;
@@ -83,6 +90,18 @@ tv 141=82010000 => fail speakers;
 tv 137=22 140=00 => none
 tv 254=01 => fail padding;
 tv 156=01 => fail padding;
+tv 157=10 => none
+tv 157=11 => fail padding;
+tv 156=01 157=10 => fail padding;
+tv 157=10 158=01 => fail padding;
+tv 157=10 171=01 => fail padding;
+tv 157=10 172=01 => fail padding;
+tv 175=10 => fail padding;
+tv 157=10 175=10 => none
+tv 157=10 175=10 193=10 211=10 229=10 => none
+tv 157=10 175=10 193=10 211=10 229=10 247=10 => fail padding;
+tv base cta 135=10 153=10 171=10 189=10 207=10 225=10 => warn no-video-capability;
+tv base cta 135=10 153=10 171=10 189=10 207=10 225=10 243=10 => fail padding;warn no-video-capability;
 tv 152=01 => warn no-video-capability;
 tv 153=0f => warn rgb-quantization;
 tv 153=40 => none
@@ -113,6 +132,34 @@ tv 130=24 145=6f030c001000b82de000000000002003e2004f 135=5d => none
 tv 130=22 145=67d85dc40178000065030c000000e2004f => fail hdmi-forum-first;
 tv 130=22 145=65030c00000067d85dc401780000e2004f => none
 tv 130=22 145=67d85dc50178000065030c000000e2004f => none
+";
+
+/// The same of native pictures. The first timing is 1920x1080, the second 1280x720. Codes are 16, native, 4, 3 and 1; the code 31
+/// and 64 are 1920x1080, 5 and 20 the same in two fields, 6 is 1440x480 in two fields, 2 and 3 are 720x480, 14 is 1440x480, 17
+/// is 720x576. A byte above 192 is a code, and 128 is none.
+pub(crate) const NATIVES: &str = "\
+tv 131=f2 => fail native-mixed;
+tv 133=10 134=84 => fail native-mixed;
+tv 131=f0 134=84 => fail native-mixed;
+tv 131=f0 133=10 134=84 => none
+tv 131=f0 133=10 => none
+tv 134=9f => none
+tv 134=c0 => none
+tv 134=c1 => none
+tv 136=81 => fail native-mixed;
+tv 134=80 => none
+tv 134=85 => none
+tv 134=85 135=94 => none
+tv 134=85 135=86 => fail native-mixed;
+tv 131=f0 133=82 134=83 135=05 => none
+tv 131=f0 133=82 134=91 => fail native-mixed;
+tv 131=f0 133=82 134=8e => fail native-mixed;
+tv 71=9e 134=85 => fail native-mixed;
+tv 54=011d 59=1c 61=20 71=9e 134=85 => none
+tv 54=011d 59=1b 61=20 71=9e 134=85 => fail native-mixed;
+tv 19=04 146=04 118=01 cta 259=f1 => none
+tv 19=04 146=04 118=01 cta 259=f2 => fail native-mixed;
+tv 19=04 146=04 118=01 bare 259=f2 => none
 ";
 
 /// The same of the EDID that a port passes on: the address of the root is wrong there.

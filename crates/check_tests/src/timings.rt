@@ -11,6 +11,10 @@ tv 64=05 => fail timing 1 timing-zero;
 tv 64=05 71=9e => none
 tv 64=40 => fail timing 1 timing-zero;
 tv 63=00 => fail timing 1 timing-zero;
+tv 131=f0 54=6207 56=00 58=01 => fail timing 1 timing-zero;
+tv 54=a032 57=00 58=70 => fail timing 1 timing-zero;fail timing 1 h-back-porch;
+tv 131=f0 115=00 54=5806 57=ff 58=7f 59=00 61=00 => fail timing 1 timing-zero;
+tv 54=b037 60=00 => fail timing 1 timing-zero;fail timing 1 v-back-porch;
 tv 69=49 => none
 tv 69=4a => fail timing 1 h-back-porch;
 tv 70=11 => none

@@ -11,7 +11,7 @@ use Rattle.hdmi_check.specs.Findings.{rule_findings, timing_findings, edid_findi
 use Rattle.hdmi_check.specs.Laws.{IsAmong, NoneTwice, breaks_at, ListsTheBroken}
 use Rattle.hdmi_check.specs.declared.rule.Origin.{Origin}
 use Rattle.hdmi_check.specs.declared.rule.Rule.{Rule}
-use Rattle.hdmi_check.specs.declared.rule.Rule.TheVariants.{FirstTimingPreferred, PreferredTiming, ProductName, RangeLimits, LimitsAlone, Week, Srgb, NoEmptyDescriptor, UnusedStandard, BlockMap, HdmiRevision, OneSerial, Vga, VideoCodeOnce, NativeCount, Underscan, BasicAudio, Speakers, Padding, VideoCapability, RgbRange, TmdsClock, Address, OneHdmi, HdmiVideoCode, ForumAfterHdmi}
+use Rattle.hdmi_check.specs.declared.rule.Rule.TheVariants.{FirstTimingPreferred, PreferredTiming, ProductName, RangeLimits, LimitsAlone, Week, Srgb, NoEmptyDescriptor, UnusedStandard, BlockMap, HdmiRevision, OneSerial, Vga, VideoCodeOnce, NativeCount, NativeSize, Underscan, BasicAudio, Speakers, Padding, VideoCapability, RgbRange, TmdsClock, Address, OneHdmi, HdmiVideoCode, ForumAfterHdmi}
 use Rattle.hdmi_check.specs.declared.rule.TimingRule.{TimingRule}
 use Rattle.hdmi_check.specs.declared.rule.TimingRule.TheVariants.{Clock, Fields, HorizontalBackPorch, VerticalBackPorch, SizeThere, SizeFits, WithinLimits, NearLimits}
 use Rattle.hdmi_check.specs.declared.rule.Finding.{Finding}
@@ -36,17 +36,18 @@ place_of OneSerial = 11
 place_of Vga = 12
 place_of VideoCodeOnce = 13
 place_of NativeCount = 14
-place_of Underscan = 15
-place_of BasicAudio = 16
-place_of Speakers = 17
-place_of Padding = 18
-place_of VideoCapability = 19
-place_of RgbRange = 20
-place_of TmdsClock = 21
-place_of Address = 22
-place_of OneHdmi = 23
-place_of HdmiVideoCode = 24
-place_of ForumAfterHdmi = 25
+place_of NativeSize = 15
+place_of Underscan = 16
+place_of BasicAudio = 17
+place_of Speakers = 18
+place_of Padding = 19
+place_of VideoCapability = 20
+place_of RgbRange = 21
+place_of TmdsClock = 22
+place_of Address = 23
+place_of OneHdmi = 24
+place_of HdmiVideoCode = 25
+place_of ForumAfterHdmi = 26
 
 placed : (rule : Rule) → slice_get rules (place_of rule) ≡ Some rule
 placed FirstTimingPreferred = refl
@@ -64,6 +65,7 @@ placed OneSerial = refl
 placed Vga = refl
 placed VideoCodeOnce = refl
 placed NativeCount = refl
+placed NativeSize = refl
 placed Underscan = refl
 placed BasicAudio = refl
 placed Speakers = refl

@@ -6,18 +6,19 @@ use Rattle.hdmi_cta.specs.Hdmi.{is_hdmi, blocks_of}
 use Rattle.hdmi_cta.specs.declared.raw.Ext.{Ext}
 use Rattle.hdmi_parts.specs.BaseParts.{is_three, some_tagged, is_empty, begins_with_timing, is_continuous, prefers_first, claims_srgb, is_srgb, is_ill_unused, has_established_vga, names_formula}
 use Rattle.hdmi_parts.specs.BlockParts.{lists_vga, is_video_capability, fixes_rgb_range, has_fast_clock, has_wrong_address, has_root_address, is_speakers, is_ill_speakers, has_multichannel_pcm}
-use Rattle.hdmi_parts.specs.ExtParts.{is_cta, begins_with_map, overscans, has_padding, native_count, hides_sound, some_block, hdmi_count, has_forum_first, timings_of}
+use Rattle.hdmi_parts.specs.ExtParts.{is_cta, begins_with_map, overscans, has_ill_padding, native_count, hides_sound, some_block, hdmi_count, has_forum_first, timings_of}
 use Rattle.hdmi_parts.specs.VideoCodes.{video_codes, repeats, has_lone_code}
+use Rattle.hdmi_native.specs.Natives.{has_mixed_natives}
 use Rattle.hdmi_check.specs.declared.rule.Origin.{Origin}
 use Rattle.hdmi_check.specs.declared.rule.Origin.TheVariants.{Display, Port}
 use Rattle.hdmi_check.specs.declared.rule.Rule.{Rule}
-use Rattle.hdmi_check.specs.declared.rule.Rule.TheVariants.{FirstTimingPreferred, PreferredTiming, ProductName, RangeLimits, LimitsAlone, Week, Srgb, NoEmptyDescriptor, UnusedStandard, BlockMap, HdmiRevision, OneSerial, Vga, VideoCodeOnce, NativeCount, Underscan, BasicAudio, Speakers, Padding, VideoCapability, RgbRange, TmdsClock, Address, OneHdmi, HdmiVideoCode, ForumAfterHdmi}
+use Rattle.hdmi_check.specs.declared.rule.Rule.TheVariants.{FirstTimingPreferred, PreferredTiming, ProductName, RangeLimits, LimitsAlone, Week, Srgb, NoEmptyDescriptor, UnusedStandard, BlockMap, HdmiRevision, OneSerial, Vga, VideoCodeOnce, NativeCount, NativeSize, Underscan, BasicAudio, Speakers, Padding, VideoCapability, RgbRange, TmdsClock, Address, OneHdmi, HdmiVideoCode, ForumAfterHdmi}
 
 -- all rules, in the order in which they are looked at
 abbrev pub rules : List Rule
 rules =
     FirstTimingPreferred ∷ PreferredTiming ∷ ProductName ∷ RangeLimits ∷ LimitsAlone ∷ Week ∷ Srgb ∷ NoEmptyDescriptor ∷ UnusedStandard ∷
-    BlockMap ∷ HdmiRevision ∷ OneSerial ∷ Vga ∷ VideoCodeOnce ∷ NativeCount ∷ Underscan ∷ BasicAudio ∷ Speakers ∷ Padding ∷
+    BlockMap ∷ HdmiRevision ∷ OneSerial ∷ Vga ∷ VideoCodeOnce ∷ NativeCount ∷ NativeSize ∷ Underscan ∷ BasicAudio ∷ Speakers ∷ Padding ∷
     VideoCapability ∷ RgbRange ∷ TmdsClock ∷ Address ∷ OneHdmi ∷ HdmiVideoCode ∷ ForumAfterHdmi ∷ []
 
 -- an HDMI block has the address of no place in a tree, or in a port's EDID that of the root (HDMI 1.4, section 8.7.3)
@@ -56,14 +57,17 @@ is_broken o Vga b xs = list_any is_cta xs && not (has_established_vga b) && not 
 is_broken o VideoCodeOnce b xs = repeats (video_codes xs)
 -- no more timings are native than there are (CTA-861-D, section 7.5)
 is_broken o NativeCount b xs = list_any (λ x. nat_lt (length (timings_of b xs)) (native_count x)) xs
+-- A display has pixels of one number, so that its native pictures are of one size, those of two fields by themselves (own; which
+-- are native: CTA-861-D, sections 7.5 and 7.5.1).
+is_broken o NativeSize b xs = has_mixed_natives b xs
 -- formats of computers are shown whole (CTA-861-D, section 7.5)
 is_broken o Underscan b xs = list_any overscans xs
 -- a display that has sound takes basic audio (CTA-861-D, section 7.5)
 is_broken o BasicAudio b xs = list_any hides_sound xs
 -- more than two channels of linear PCM ask for the speakers, which are told in three bytes (CTA-861-D, section 7.5.3)
 is_broken o Speakers b xs = (some_block has_multichannel_pcm xs && not (some_block is_speakers xs)) || some_block is_ill_speakers xs
--- zeros follow the timings (CTA-861-D, section 7.5)
-is_broken o Padding b xs = list_any has_padding xs
+-- zeros follow the timings (CTA-861-D, section 7.5), or whole descriptors that are not used (E-EDID Release A, section 3.10.3) and zeros
+is_broken o Padding b xs = list_any has_ill_padding xs
 -- a display of CTA-861 tells its video capabilities (CTA-861-D, section 7.5.6)
 is_broken o VideoCapability b xs = list_any is_cta xs && not (some_block is_video_capability xs)
 -- the range of RGB values can be chosen (CTA-861-D, section 7.5.6)

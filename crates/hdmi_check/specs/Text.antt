@@ -3,7 +3,7 @@ use Rattle.std.specs.Prelude.{ℕ, Bool, true, false, List, ◌++◌, codes, fla
 use Rattle.std.specs.Fmt.{decimal}
 use Rattle.std.specs.List.{list_any}
 use Rattle.hdmi_check.specs.declared.rule.Rule.{Rule}
-use Rattle.hdmi_check.specs.declared.rule.Rule.TheVariants.{FirstTimingPreferred, PreferredTiming, ProductName, RangeLimits, LimitsAlone, Week, Srgb, NoEmptyDescriptor, UnusedStandard, BlockMap, HdmiRevision, OneSerial, Vga, VideoCodeOnce, NativeCount, Underscan, BasicAudio, Speakers, Padding, VideoCapability, RgbRange, TmdsClock, Address, OneHdmi, HdmiVideoCode, ForumAfterHdmi}
+use Rattle.hdmi_check.specs.declared.rule.Rule.TheVariants.{FirstTimingPreferred, PreferredTiming, ProductName, RangeLimits, LimitsAlone, Week, Srgb, NoEmptyDescriptor, UnusedStandard, BlockMap, HdmiRevision, OneSerial, Vga, VideoCodeOnce, NativeCount, NativeSize, Underscan, BasicAudio, Speakers, Padding, VideoCapability, RgbRange, TmdsClock, Address, OneHdmi, HdmiVideoCode, ForumAfterHdmi}
 use Rattle.hdmi_check.specs.declared.rule.Severity.{Severity}
 use Rattle.hdmi_check.specs.declared.rule.Severity.TheVariants.{Fail, Warn}
 use Rattle.hdmi_check.specs.declared.rule.TimingRule.{TimingRule}
@@ -60,6 +60,7 @@ rule_name OneSerial = codes "two-serials"
 rule_name Vga = codes "no-640x480"
 rule_name VideoCodeOnce = codes "vic-twice"
 rule_name NativeCount = codes "native-count"
+rule_name NativeSize = codes "native-mixed"
 rule_name Underscan = codes "overscan"
 rule_name BasicAudio = codes "no-basic-audio"
 rule_name Speakers = codes "speakers"

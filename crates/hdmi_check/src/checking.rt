@@ -9,23 +9,24 @@ use crate::rule::{Finding, Origin, Rule, TimingRule};
 use arrayvec::ArrayVec;
 use hdmi_cta::Ext;
 use hdmi_edid::{Base, Timing};
+use hdmi_native::has_mixed_natives;
 use hdmi_parts::{
     NAME_TAG, RANGE_TAG, SERIAL_TAG, Sought, begins_with_map, begins_with_timing, claims_srgb,
     has_established_vga, hdmi_count, is_continuous, is_out_of_range, is_srgb, is_three,
     prefers_first, repeats, some_block, some_cta, some_empty, some_formula, some_forum_first,
-    some_hidden_sound, some_ill_unused, some_lone_code, some_native, some_overscan, some_padding,
-    some_tagged, timings_of, video_codes,
+    some_hidden_sound, some_ill_padding, some_ill_unused, some_lone_code, some_native,
+    some_overscan, some_tagged, timings_of, video_codes,
 };
 
-/// The most findings of an EDID: 26 rules, and eight for each of 22 timings.
-pub const MAX_FINDINGS: usize = 202;
+/// The most findings of an EDID: 27 rules, and eight for each of 22 timings.
+pub const MAX_FINDINGS: usize = 203;
 /// The least pixel clock of a timing: 10 MHz, in units of 10 kHz.
 const MIN_CLOCK: u16 = 1000;
 /// How much larger or smaller than the display an image may be, in millimetres.
 const SIZE_TOLERANCE: u16 = 9;
 
 /// All rules, in the order in which they are looked at.
-const RULES: [Rule; 26] = [
+const RULES: [Rule; 27] = [
     Rule::FirstTimingPreferred,
     Rule::PreferredTiming,
     Rule::ProductName,
@@ -41,6 +42,7 @@ const RULES: [Rule; 26] = [
     Rule::Vga,
     Rule::VideoCodeOnce,
     Rule::NativeCount,
+    Rule::NativeSize,
     Rule::Underscan,
     Rule::BasicAudio,
     Rule::Speakers,
@@ -113,6 +115,7 @@ fn is_broken(origin: Origin, rule: Rule, base: &Base, extensions: &[Ext]) -> boo
         }
         Rule::VideoCodeOnce => repeats(video_codes(extensions).as_slice()),
         Rule::NativeCount => some_native(timings_of(base, extensions).len(), extensions),
+        Rule::NativeSize => has_mixed_natives(base, extensions),
         Rule::Underscan => some_overscan(extensions),
         Rule::BasicAudio => some_hidden_sound(extensions),
         Rule::Speakers => {
@@ -120,7 +123,7 @@ fn is_broken(origin: Origin, rule: Rule, base: &Base, extensions: &[Ext]) -> boo
                 && !some_block(Sought::Speakers, extensions)
                 || some_block(Sought::IllSpeakers, extensions)
         }
-        Rule::Padding => some_padding(extensions),
+        Rule::Padding => some_ill_padding(extensions),
         Rule::VideoCapability => {
             some_cta(extensions) && !some_block(Sought::VideoCapability, extensions)
         }
@@ -239,9 +242,9 @@ fn add_edid(
     extensions: &[Ext],
 )
     requires few { length extensions.now ≤ 3 }
-    requires room { array_vec_len found.old + 26 ≤ MAX_FINDINGS }
+    requires room { array_vec_len found.old + 27 ≤ MAX_FINDINGS }
     ensures items { found.new.items ≡ found.old.items ++ edid_findings origin base.now extensions.now }
-    ensures len { array_vec_len found.new ≤ array_vec_len found.old + 26 }
+    ensures len { array_vec_len found.new ≤ array_vec_len found.old + 27 }
 {
     add_rules(found, &RULES, origin, base, extensions);
 }

@@ -33,6 +33,8 @@ pub enum Rule {
     VideoCodeOnce,
     /// There are no fewer detailed timings than native ones.
     NativeCount,
+    /// Native pictures are of one size.
+    NativeSize,
     /// Formats of computers are shown whole.
     Underscan,
     /// Sound is told where there is basic audio.

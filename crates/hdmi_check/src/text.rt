@@ -13,7 +13,7 @@ use hdmi_edid::append;
 /// The bytes that the longest line has room in.
 const LINE: usize = 40;
 /// The bytes that the lines of all findings have room in: a `LINE` for each.
-const TEXT: usize = 8080;
+const TEXT: usize = 8120;
 
 fn rule_severity(rule: Rule) -> Severity
     ensures { result ≡ rule_severity rule }
@@ -80,6 +80,7 @@ fn rule_name(rule: Rule) -> &'static str
         Rule::Vga => "no-640x480",
         Rule::VideoCodeOnce => "vic-twice",
         Rule::NativeCount => "native-count",
+        Rule::NativeSize => "native-mixed",
         Rule::Underscan => "overscan",
         Rule::BasicAudio => "no-basic-audio",
         Rule::Speakers => "speakers",

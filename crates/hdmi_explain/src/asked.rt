@@ -50,6 +50,9 @@ fn asked_of_extensions(rule: Rule) -> &'static str {
         Rule::NativeCount => {
             "the low four bits of a CTA block's flags are at most the detailed timings (CTA-861-D, 7.5)"
         }
+        Rule::NativeSize => {
+            "native timings and video codes are of one size, those of two fields by themselves (native: CTA-861-D, 7.5, 7.5.1)"
+        }
         Rule::Underscan => {
             "bit 7 of a CTA block's flags is set: formats of computers are shown whole (CTA-861-D, 7.5)"
         }
@@ -59,7 +62,9 @@ fn asked_of_extensions(rule: Rule) -> &'static str {
         Rule::Speakers => {
             "more than two channels of linear PCM come with a speaker block, of three bytes (CTA-861-D, 7.5.3)"
         }
-        Rule::Padding => "zeros follow the timings of a CTA block (CTA-861-D, 7.5)",
+        Rule::Padding => {
+            "whole dummy descriptors and zeros follow the timings of a CTA block (CTA-861-D, 7.5; E-EDID A, 3.10.3)"
+        }
         Rule::VideoCapability => {
             "an EDID with a CTA block has a video capability block (CTA-861-D, 7.5.6)"
         }

@@ -1,10 +1,12 @@
-//! What a rule that an EDID breaks asks, and the values at fault.
+//! What a rule that an EDID breaks asks, and the values at fault; why an EDID has no HDMI block.
 //!
-//! All of it is text for people, so that tests speak of it and no contract does.
+//! All of it but what is asked of a text and of extensions is text for people, so that tests speak of it and no contract does.
 #![tactic(auto)]
 
 mod asked;
 mod explanation;
+mod hints;
 mod values;
 
 pub use explanation::explain_findings;
+pub use hints::{explain_no_hdmi, first_overrun, lacks_line_feed};

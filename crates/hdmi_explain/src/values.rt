@@ -5,7 +5,8 @@ use hdmi_check::{Finding, Rule, TimingRule};
 use hdmi_core::Phys;
 use hdmi_cta::{Ext, hdmi_address};
 use hdmi_edid::{Base, Timing};
-use hdmi_parts::timings_of;
+use hdmi_native::{Picture, differs, native_pictures};
+use hdmi_parts::{native_count, timings_of, video_codes};
 use std::alloc::{AllocError, Global};
 
 /// The clock's units, 10 kHz, that are a MHz.
@@ -33,13 +34,86 @@ fn address_told(alloc: Global, extensions: &[Ext]) -> Result<Option<String>, All
     }
 }
 
+/// The flags of each CTA block with data blocks.
+fn flags_told(alloc: Global, extensions: &[Ext]) -> Result<Option<String>, AllocError> {
+    let mut text = String::from_str(alloc, "flags")?;
+    for ext in extensions {
+        if let Ext::Cta(cta) = ext {
+            let flags = cta.flags;
+            let word = format!(in alloc; " {flags:02x}")?;
+            text.push_str(word.as_str())?;
+        }
+    }
+    Ok(Some(text))
+}
+
+/// The greatest count of native timings, and how many timings there are.
+fn counts_told(alloc: Global, base: &Base, extensions: &[Ext]) -> Result<Option<String>, AllocError>
+    requires { length extensions.now ≤ 3 }
+{
+    let mut native = 0;
+    for ext in extensions {
+        native = native.max(native_count(ext));
+    }
+    let timings = timings_of(base, extensions).len();
+    Ok(Some(format!(in alloc; "{native} native, {timings} timings")?))
+}
+
+/// The first picture after one that differs from it.
+fn other_than(picture: Picture, others: &[Picture]) -> Option<Picture> {
+    for other in others {
+        if differs(picture, *other) {
+            return Some(*other);
+        }
+    }
+    None
+}
+
+/// Two pictures of two sizes.
+fn sizes_told(alloc: Global, base: &Base, extensions: &[Ext]) -> Result<Option<String>, AllocError>
+    requires { length extensions.now ≤ 3 }
+{
+    let timings = timings_of(base, extensions);
+    for ext in extensions {
+        let pictures = native_pictures(native_count(ext), timings.as_slice(), extensions);
+        for picture in pictures.as_slice() {
+            if let Some(other) = other_than(*picture, pictures.as_slice()) {
+                let (width, height) = (picture.width, picture.height);
+                let (across, up) = (other.width, other.height);
+                return Ok(Some(format!(in alloc; "{width}x{height} and {across}x{up}")?));
+            }
+        }
+    }
+    Ok(None)
+}
+
+/// How often a code stands.
+fn count_of(codes: &[u8], code: u8) -> usize {
+    codes.iter().filter(|other| **other == code).count()
+}
+
+/// The first code that stands more than once.
+fn repeated_told(alloc: Global, extensions: &[Ext]) -> Result<Option<String>, AllocError>
+    requires { length extensions.now ≤ 3 }
+{
+    let codes = video_codes(extensions);
+    for code in codes.as_slice() {
+        if 1 < count_of(codes.as_slice(), *code) {
+            return Ok(Some(format!(in alloc; "video code {code}")?));
+        }
+    }
+    Ok(None)
+}
+
 /// The values that break a rule for an EDID, where they are few.
 fn told_of_edid(
     alloc: Global,
     rule: Rule,
     base: &Base,
     extensions: &[Ext],
-) -> Result<Option<String>, AllocError> {
+) -> Result<Option<String>, AllocError>
+    requires { length extensions.now ≤ 3 }
+{
     match rule {
         Rule::FirstTimingPreferred | Rule::RangeLimits | Rule::LimitsAlone | Rule::Srgb => {
             let features = base.features;
@@ -57,6 +131,10 @@ fn told_of_edid(
             let count = base.extensions;
             Ok(Some(format!(in alloc; "{count} extensions")?))
         }
+        Rule::VideoCodeOnce => repeated_told(alloc, extensions),
+        Rule::NativeCount => counts_told(alloc, base, extensions),
+        Rule::NativeSize => sizes_told(alloc, base, extensions),
+        Rule::Underscan | Rule::BasicAudio => flags_told(alloc, extensions),
         Rule::Address => address_told(alloc, extensions),
         _ => Ok(None),
     }
@@ -66,6 +144,28 @@ fn told_of_edid(
 fn clock_told(alloc: Global, timing: &Timing) -> Result<String, AllocError> {
     let (whole, part) = (timing.clock / UNITS_A_MHZ, timing.clock % UNITS_A_MHZ);
     format!(in alloc; "clock {whole}.{part:02} MHz")
+}
+
+/// The first field that is 0 and that a picture needs.
+fn zero_told(alloc: Global, timing: &Timing) -> Result<String, AllocError> {
+    let name = if timing.horizontal_active == 0 {
+        "horizontal picture"
+    } else if timing.horizontal_blanking == 0 {
+        "horizontal blanking"
+    } else if timing.horizontal_sync_offset == 0 {
+        "horizontal sync offset"
+    } else if timing.horizontal_sync_width == 0 {
+        "horizontal sync width"
+    } else if timing.vertical_active == 0 {
+        "vertical picture"
+    } else if timing.vertical_blanking == 0 {
+        "vertical blanking"
+    } else if timing.vertical_sync_width == 0 {
+        "vertical sync width"
+    } else {
+        "vertical sync offset"
+    };
+    format!(in alloc; "{name} 0")
 }
 
 /// What is taken from the blanking, and the blanking.
@@ -119,7 +219,7 @@ fn told_of_timing(
 ) -> Result<Option<String>, AllocError> {
     match rule {
         TimingRule::Clock => Ok(Some(clock_told(alloc, timing)?)),
-        TimingRule::Fields => Ok(None),
+        TimingRule::Fields => Ok(Some(zero_told(alloc, timing)?)),
         TimingRule::HorizontalBackPorch => Ok(Some(blanking_told(
             alloc,
             timing.horizontal_blanking,

@@ -1,5 +1,5 @@
 -- What the rules ask of extensions (CTA-861-D, section 7.5, unless another is named).
-use Rattle.std.specs.Prelude.{ℕ, ◌/◌, ◌%◌, ◌==◌, Bool, true, false, ◌&&◌, not, nat_lt, List, [], ◌∷◌, ◌++◌, slice_get, slice_index, flat_map, sum_by, count_by}
+use Rattle.std.specs.Prelude.{ℕ, zero, suc, ◌/◌, ◌%◌, ◌==◌, Bool, true, false, ◌&&◌, not, nat_lt, if◌then◌else◌, List, [], ◌∷◌, ◌++◌, length, take, drop, slice_get, slice_index, flat_map, sum_by, count_by}
 use Rattle.std.specs.List.{list_any, list_all}
 use Rattle.std.specs.Option.{option_map_or}
 use Rattle.hdmi_edid.specs.declared.base.Base.{Base}
@@ -30,9 +30,28 @@ abbrev pub overscans : Ext → Bool
 overscans (Cta c) = nat_lt c.flags 128
 overscans _ = false
 
-abbrev pub has_padding : Ext → Bool
-has_padding (Cta c) = not (list_all (λ b. b == 0) c.tail.items)
-has_padding _ = false
+abbrev pub are_zeros : List ℕ → Bool
+are_zeros bytes = list_all (λ b. b == 0) bytes
+
+-- a dummy descriptor: tag 10 and zeros (E-EDID Release A, section 3.10.3)
+abbrev pub is_dummy : List ℕ → Bool
+is_dummy bytes = are_zeros (take 3 bytes) && (slice_index bytes 3 == 0x10) && are_zeros (drop 4 bytes)
+
+-- what follows whole dummy descriptors in front, of so many at most
+abbrev pub after_dummies : ℕ → List ℕ → List ℕ
+after_dummies zero bytes = bytes
+after_dummies (suc count) bytes =
+    if nat_lt (length bytes) 18 then bytes
+    else if is_dummy (take 18 bytes) then after_dummies count (drop 18 bytes)
+    else bytes
+
+-- six descriptors have room in a block
+abbrev pub is_padding : List ℕ → Bool
+is_padding bytes = are_zeros (after_dummies 6 bytes)
+
+abbrev pub has_ill_padding : Ext → Bool
+has_ill_padding (Cta c) = not (is_padding c.tail.items)
+has_ill_padding _ = false
 
 -- the low four bits of the flags: how many of the detailed timings are native
 abbrev pub native_count : Ext → ℕ

@@ -3,7 +3,7 @@ ghost use Rattle.std.specs.Prelude.{◌≡◌, ◌≤◌, ◌*◌, length, nat_l
 ghost use Rattle.std.specs.List.{list_any};
 ghost use Rattle.hdmi_cta.specs.Hdmi.{blocks_of, is_hdmi};
 ghost use Rattle.hdmi_parts.specs.BlockParts.{is_sought};
-ghost use Rattle.hdmi_parts.specs.ExtParts.{is_cta, is_block_map, begins_with_map, overscans, has_padding, native_count, hides_sound, some_block, hdmi_count, has_forum_first};
+ghost use Rattle.hdmi_parts.specs.ExtParts.{is_cta, is_block_map, begins_with_map, overscans, is_dummy, after_dummies, is_padding, has_ill_padding, native_count, hides_sound, some_block, hdmi_count, has_forum_first};
 
 use crate::base_parts::are_zeros;
 use crate::block_parts::{Sought, begins_with_forum, is_sought};
@@ -11,6 +11,12 @@ use hdmi_cta::{Block, Ext};
 
 /// The first byte of an extension that is a block map.
 const BLOCK_MAP_TAG: u8 = 0xf0;
+/// The bytes of a descriptor.
+const DESCRIPTOR: usize = 18;
+/// The most descriptors that a block has room for.
+const MOST_DESCRIPTORS: usize = 6;
+/// The tag of a descriptor that is not used.
+const DUMMY_TAG: u8 = 0x10;
 
 /// The data blocks of an extension.
 pub fn blocks_of(ext: &Ext) -> &[Block]
@@ -72,24 +78,56 @@ pub fn some_overscan(extensions: &[Ext]) -> bool
     extensions.iter().any(|ext| overscans(ext))
 }
 
-fn has_padding(ext: &Ext) -> bool
-    ensures { result ≡ has_padding ext.now }
+/// Whether 18 bytes are a dummy descriptor.
+fn is_dummy(bytes: &[u8]) -> bool
+    requires { length bytes.now ≡ DESCRIPTOR }
+    ensures { result ≡ is_dummy bytes.now }
+{
+    are_zeros(&bytes[..3]) && bytes[3] == DUMMY_TAG && are_zeros(&bytes[4..])
+}
+
+/// What follows whole dummy descriptors in front, of so many at most.
+#[tactic(auto, using(crate::proofs::Padding::none_follows, crate::proofs::Padding::dummy_follows, crate::proofs::Padding::other_follows))]
+fn after_dummies(count: usize, bytes: &[u8]) -> &[u8]
+    ensures { result.now ≡ after_dummies count bytes.now }
+{
+    if count == 0 || bytes.len() < DESCRIPTOR {
+        return bytes;
+    }
+    let (descriptor, rest) = bytes.split_at(DESCRIPTOR);
+    if is_dummy(descriptor) {
+        after_dummies(count - 1, rest)
+    } else {
+        bytes
+    }
+}
+
+fn is_padding(bytes: &[u8]) -> bool
+    ensures { result ≡ is_padding bytes.now }
+{
+    are_zeros(after_dummies(MOST_DESCRIPTORS, bytes))
+}
+
+fn has_ill_padding(ext: &Ext) -> bool
+    ensures { result ≡ has_ill_padding ext.now }
 {
     match ext {
-        Ext::Cta(cta) => !are_zeros(cta.tail.as_slice()),
+        Ext::Cta(cta) => !is_padding(cta.tail.as_slice()),
         Ext::Bare(_) | Ext::Raw(_) => false,
     }
 }
 
-pub fn some_padding(extensions: &[Ext]) -> bool
-    ensures { result ≡ list_any has_padding extensions.now }
+/// Whether in some extension something else than whole dummy descriptors and zeros follows the timings.
+pub fn some_ill_padding(extensions: &[Ext]) -> bool
+    ensures { result ≡ list_any has_ill_padding extensions.now }
 {
-    extensions.iter().any(|ext| has_padding(ext))
+    extensions.iter().any(|ext| has_ill_padding(ext))
 }
 
 /// How many of the detailed timings are native.
-fn native_count(ext: &Ext) -> usize
-    ensures { result ≡ native_count ext.now }
+pub fn native_count(ext: &Ext) -> usize
+    ensures value { result ≡ native_count ext.now }
+    ensures small { result ≤ 15 }
 {
     match ext {
         Ext::Cta(cta) => usize::from(cta.flags % 16),

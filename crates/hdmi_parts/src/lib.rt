@@ -17,8 +17,8 @@ pub use base_parts::{
 pub use block_parts::Sought;
 pub use codes::{MAX_CODES, repeats, some_lone_code, video_codes};
 pub use ext_parts::{
-    begins_with_map, hdmi_count, some_block, some_cta, some_forum_first, some_hidden_sound,
-    some_native, some_overscan, some_padding,
+    begins_with_map, hdmi_count, native_count, some_block, some_cta, some_forum_first,
+    some_hidden_sound, some_ill_padding, some_native, some_overscan,
 };
 pub use limits::is_out_of_range;
 pub use span::Span;
