@@ -1,0 +1,3 @@
+pub mod Certainty
+pub mod Before
+pub mod Causality
