@@ -61,13 +61,102 @@ extended 01123456|
 extended 1146d00041|  Dolby audio, then in hex 41/
 extended 02aabb|";
 
-#[test]
-fn blocks_are_told(rt: HostRuntime) {
-    for row in ROWS.lines() {
-        let (block, want) = row.split_once('|').expect(&rt, "a row");
-        let lines = told(&rt, block);
+/// Each bit and each border of the extended blocks alone.
+const EXTENDED_BITS: &str = "\
+extended 050100|  xvYCC601/
+extended 050200|  xvYCC709/
+extended 050400|  sYCC601/
+extended 050800|  opYCC601/
+extended 051000|  opRGB/
+extended 052000|  BT2020cYCC/
+extended 054000|  BT2020YCC/
+extended 058000|  BT2020RGB/
+extended 050001|  gamut metadata 0/
+extended 050002|  gamut metadata 1/
+extended 050004|  gamut metadata 2/
+extended 050008|  gamut metadata 3/
+extended 050010|  default RGB/
+extended 050020|  sRGB/
+extended 050040|  ICtCp/
+extended 050080|  DCI-P3/
+extended 060100|  traditional gamma SDR/
+extended 060200|  traditional gamma HDR/
+extended 060400|  SMPTE ST 2084/
+extended 060800|  hybrid log-gamma/
+extended 060001|  static metadata type 1/
+extended 06000020|  content up to 100 cd/m2/
+extended 0600000020|  frames on average up to 100 cd/m2/
+extended 060000000020|  least luminance by code 32/
+extended 0040|  RGB range selectable, no IT formats, no CE formats/
+extended 0080|  YCC range selectable, no IT formats, no CE formats/
+extended 0010|  preferred timing overscanned, no IT formats, no CE formats/
+extended 0004|  IT formats overscanned, no CE formats/
+extended 0001|  no IT formats, CE formats overscanned/
+extended 0020|  preferred timing underscanned, no IT formats, no CE formats/
+extended 0008|  IT formats underscanned, no CE formats/
+extended 0002|  no IT formats, CE formats underscanned/
+extended 0030|  preferred timing over- or underscanned, no IT formats, no CE formats/
+extended 000c|  IT formats over- or underscanned, no CE formats/
+extended 0003|  no IT formats, CE formats over- or underscanned/
+extended 0f0001|  also in 4:2:0 the video codes at places 9/
+extended 0f0002|  also in 4:2:0 the video codes at places 10/
+extended 0f0004|  also in 4:2:0 the video codes at places 11/
+extended 0f0008|  also in 4:2:0 the video codes at places 12/
+extended 0f0010|  also in 4:2:0 the video codes at places 13/
+extended 0f0020|  also in 4:2:0 the video codes at places 14/
+extended 0f0040|  also in 4:2:0 the video codes at places 15/
+extended 0f0080|  also in 4:2:0 the video codes at places 16/
+extended 0d7f80818f90919f|  127: 5120x2160 at 100 Hz 64:27/  reserved/  detailed timing 1/  detailed timing 15/  detailed timing 16/  further timing 1/  further timing 15/
+extended 0da0a1c0c1fdfeff|  further timing 16/  reserved/  reserved/  193: 5120x2160 at 120 Hz 64:27/  253: reserved/  first timing by a code of DMT/  reserved/";
+
+/// Each bit of the HDMI Forum's block alone.
+const FORUM_BITS: &str = "\
+vendor d85dc401008000|  HDMI Forum version 1, SCDC/
+vendor d85dc401004000|  HDMI Forum version 1, read request/
+vendor d85dc401002000|  HDMI Forum version 1, cable status/
+vendor d85dc401001000|  HDMI Forum version 1, CCBPCI/
+vendor d85dc401000800|  HDMI Forum version 1, scrambling up to 340 MHz/
+vendor d85dc401000400|  HDMI Forum version 1, 3D independent view/
+vendor d85dc401000200|  HDMI Forum version 1, 3D dual view/
+vendor d85dc401000100|  HDMI Forum version 1, 3D OSD disparity/
+vendor d85dc401000008|  HDMI Forum version 1, UHD VIC/
+vendor d85dc401000004|  HDMI Forum version 1, 4:2:0 at 48 bits a pixel/
+vendor d85dc401000002|  HDMI Forum version 1, 4:2:0 at 36 bits a pixel/
+vendor d85dc401000001|  HDMI Forum version 1, 4:2:0 at 30 bits a pixel/
+vendor d85dc40100000080|  HDMI Forum version 1/  FAPA end extended/
+vendor d85dc40100000040|  HDMI Forum version 1/  QMS/
+vendor d85dc40100000020|  HDMI Forum version 1/  Mdelta/
+vendor d85dc40100000010|  HDMI Forum version 1/  cinema VRR/
+vendor d85dc40100000008|  HDMI Forum version 1/  negative Mvrr/
+vendor d85dc40100000004|  HDMI Forum version 1/  FVA/
+vendor d85dc40100000002|  HDMI Forum version 1/  ALLM/
+vendor d85dc40100000001|  HDMI Forum version 1/  FAPA in blanking/
+vendor d85dc40100000000000080|  HDMI Forum version 1/  DSC 1.2a/
+vendor d85dc40100000000000040|  HDMI Forum version 1/  DSC in 4:2:0/
+vendor d85dc40100000000000020|  HDMI Forum version 1/  QMS TFR max/
+vendor d85dc40100000000000010|  HDMI Forum version 1/  QMS TFR min/
+vendor d85dc40100000000000008|  HDMI Forum version 1/  DSC at each 1/16 bit a pixel/
+vendor d85dc40100000000000004|  HDMI Forum version 1/  DSC at 16 bits/
+vendor d85dc40100000000000002|  HDMI Forum version 1/  DSC at 12 bits/
+vendor d85dc40100000000000001|  HDMI Forum version 1/  DSC at 10 bits/";
+
+fn are_told(rt: &(impl Abort + AllocGlobal), rows: &str) {
+    for row in rows.lines() {
+        let (block, want) = row.split_once('|').expect(rt, "a row");
+        let lines = told(rt, block);
         assert_eq!(rt; lines.as_str(), want, "{block}");
     }
+}
+
+#[test]
+fn blocks_are_told(rt: HostRuntime) {
+    are_told(&rt, ROWS);
+}
+
+#[test]
+fn each_bit_is_told(rt: HostRuntime) {
+    are_told(&rt, EXTENDED_BITS);
+    are_told(&rt, FORUM_BITS);
 }
 
 /// Codes and their luminances, as `edid-decode` prints them, to the whole number.
