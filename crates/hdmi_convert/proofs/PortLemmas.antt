@@ -1,5 +1,5 @@
 -- The address in a port, by the address of its device, is that of the tree.
-use Rattle.std.proofs.Common.{◌≡◌, ℕ, zero, suc, ◌+◌, ◌*◌, ◌/◌, ◌%◌, ◌<◌, ◌==◌, Bool, true, false, nat_lt, nat_le, ◌≤◌, if◌then◌else◌, List, [], ◌∷◌, ◌++◌, length, Option, Some, None, IsTrue, option_and_then, option_map, refl, ap, sym, ◌∙◌, subst, arith}
+use Rattle.std.proofs.Common.{◌≡◌, ℕ, ◌+◌, ◌*◌, ◌/◌, ◌%◌, ◌<◌, ◌==◌, true, false, nat_lt, nat_le, ◌≤◌, if◌then◌else◌, List, [], ◌∷◌, ◌++◌, length, Option, Some, option_and_then, option_map, refl, ap, sym, ◌∙◌, arith}
 use Rattle.std.specs.List.{list_all}
 use Rattle.std.specs.Option.{option_map_or}
 use Rattle.std.proofs.lemmas.Bool.{leb-true, ltb-true, ne_eqb, and_parts}
@@ -9,10 +9,10 @@ use Rattle.hdmi_blocks.specs.declared.edid.Edid.{Edid}
 use Rattle.hdmi_topo.specs.declared.plug.Plug.{Plug}
 use Rattle.hdmi_topo.specs.Node.{Node}
 use Rattle.hdmi_topo.specs.Path.{address_by, nibbles, path_of, path_within}
-use Rattle.hdmi_topo.specs.Port.{IsPassedOn, audio_from, port_address, port_bytes}
+use Rattle.hdmi_topo.specs.Port.{audio_from, port_address, port_bytes}
 use Rattle.hdmi_topo.specs.Tree.{is_root, plug_of}
-use Rattle.hdmi_convert.specs.Laws.{in_port, PassesAsTheTree, TelevisionsPassAsTheTree}
-use Rattle.hdmi_convert.specs.Passing.{IsPassedOnAs, address_in, is_port}
+use Rattle.hdmi_convert.specs.Laws.{PassesAsTheTree, TelevisionsPassAsTheTree}
+use Rattle.hdmi_convert.specs.Passing.{address_in, is_port}
 
 -- the port in the first free place of four, from each place on
 abbrev from_fourth : ℕ → ℕ → ℕ → ℕ → ℕ → Phys
