@@ -11,7 +11,7 @@ use Rattle.hdmi_dump.specs.declared.rows.Form.TheVariants.{Bars, Colon, Plain}
 use Rattle.hdmi_dump.specs.Digits.{is_column, onto, pairs}
 use Rattle.hdmi_dump.specs.Rows.{counted, digits_start, form_of, has_header, has_offset, header, row, row_from}
 use Rattle.hdmi_dump.specs.Dump.{dumped_from, gathered_by}
-use Rattle.hdmi_dump.specs.Printed.{BarsAreRead, IsParted, bars_line, bars_text, character, offset_text, spaced}
+use Rattle.hdmi_dump.specs.Printed.{BarsAreRead, bars_line, bars_text, character, offset_text, spaced}
 use Rattle.hdmi_dump.proofs.DigitFacts.{joins}
 use Rattle.hdmi_dump.proofs.Offsets.{characters_line, fits_first, offset_line, offset_read}
 use Rattle.hdmi_dump.proofs.Pairing.{pairs_blank, pairs_column}

@@ -5,3 +5,4 @@ pub mod DigitFacts
 pub mod Printing
 pub mod Offsets
 pub mod Bars
+pub mod Before

@@ -1,8 +1,8 @@
 -- How the bytes of an EDID are printed in hex, and that what is printed is read back. The bytes may be parted into lines in any way.
-use Rattle.std.specs.Prelude.{map, if◌then◌else◌, nat_le, ◌&&◌, ◌/◌, ◌+◌, ◌≡◌, ℕ, ◌%◌, ◌<◌, ◌≤◌, List, [], ◌∷◌, ◌++◌, length, take, drop, All, codes, Ok}
+use Rattle.std.specs.Prelude.{map, if◌then◌else◌, nat_le, ◌&&◌, ◌/◌, ◌+◌, ◌==◌, ◌≡◌, ℕ, ◌%◌, ◌<◌, ◌≤◌, false, List, [], ◌∷◌, ◌++◌, length, take, drop, All, codes, None, Ok}
 use Rattle.std.specs.List.{concat, flat_map}
 use Rattle.hdmi_core.specs.Piece.{hex_text}
-use Rattle.hdmi_dump.specs.Rows.{header}
+use Rattle.hdmi_dump.specs.Rows.{form_of, header}
 use Rattle.hdmi_dump.specs.Dump.{dumped}
 
 -- The bytes of one to four blocks that begin with the header, parted into lines of which the first has the header.
@@ -70,3 +70,16 @@ bars_text place (part ∷ parts) = bars_line place part ++ 10 ∷ bars_text (pla
 
 abbrev pub BarsAreRead : Type 0
 BarsAreRead = (first : List ℕ) (parts : List (List ℕ)) → IsParted first parts → dumped (bars_text 0 (first ∷ parts)) ≡ Ok (concat (first ∷ parts))
+
+-- ---- other text before a dump
+
+-- lines on none of which an EDID begins
+pub record AreOthers (lines : List (List ℕ)) : Type 0 where
+  pub plain : All (λ line. All (λ c. (c == 10) ≡ false) line) lines
+  pub none : All (λ line. form_of line ≡ None) lines
+
+abbrev pub text_of : List (List ℕ) → List ℕ
+text_of lines = flat_map (λ line. line ++ 10 ∷ []) lines
+
+abbrev pub TextBeforeIsPassedOver : Type 0
+TextBeforeIsPassedOver = (lines : List (List ℕ)) (text bytes : List ℕ) → AreOthers lines → dumped text ≡ Ok bytes → dumped (text_of lines ++ text) ≡ Ok bytes

@@ -8,4 +8,6 @@ mod laws;
 mod rows;
 
 pub use dump::{DumpError, dump_bytes, looks_like_dump};
-pub use laws::{bars_are_read, digits_are_read, offsets_are_read, pairs_are_read};
+pub use laws::{
+    bars_are_read, digits_are_read, offsets_are_read, pairs_are_read, text_before_is_passed_over,
+};
