@@ -1,3 +1,4 @@
 pub mod Writing
 pub mod Audited
 pub mod Remarks
+pub mod KeptReadings

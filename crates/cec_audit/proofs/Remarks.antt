@@ -2,15 +2,14 @@
 use Rattle.std.proofs.Common.{◌≡◌, ℕ, ◌-◌, List, ◌++◌, Option, refl}
 use Rattle.cec_bits.specs.Readings.{Listed}
 use Rattle.cec_timing.specs.declared.low.Low.{Low}
-use Rattle.cec_audit.specs.declared.attempts.Failure.{Failure}
-use Rattle.cec_audit.specs.declared.free.TooSoon.{TooSoon}
-use Rattle.cec_audit.specs.declared.series.Series.{Series}
-use Rattle.cec_audit.specs.Attempts.{failure_of}
-use Rattle.cec_audit.specs.Free.{too_soon}
-use Rattle.cec_audit.specs.Series.{series_over}
-use Rattle.cec_audit.specs.declared.requests.Request.{Request}
-use Rattle.cec_audit.specs.Requests.{late_text}
-use Rattle.cec_audit.specs.Lines.{drive_text, failure_text, series_text, soon_text}
+use Rattle.cec_remarks.specs.declared.attempts.Failure.{Failure}
+use Rattle.cec_remarks.specs.declared.free.TooSoon.{TooSoon}
+use Rattle.cec_remarks.specs.declared.series.Series.{Series}
+use Rattle.cec_remarks.specs.Attempts.{failure_of}
+use Rattle.cec_remarks.specs.Free.{too_soon}
+use Rattle.cec_remarks.specs.Series.{series_over}
+use Rattle.cec_remarks.specs.declared.requests.Request.{Request}
+use Rattle.cec_audit.specs.Lines.{drive_text, failure_text, late_text, series_text, soon_text}
 use Rattle.cec_audit.specs.Audit.{Tape, drive_of, lows_of, reading_misfits, times_text}
 
 pub times_are : (t : Tape) (x : Listed) (lows : List Low) (over : Option Series) (waiting : List Request) (soon : Option TooSoon) (drive : Option ℕ) (failure : Option Failure)

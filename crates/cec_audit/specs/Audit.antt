@@ -13,21 +13,21 @@ use Rattle.cec_timing.specs.Lows.{Place, first_low, gone_to, lows_before, place_
 use Rattle.cec_timing.specs.Misfits.{low_drive}
 use Rattle.cec_timing.specs.Spreads.{no_widths, sum_of, with_slots}
 use Rattle.cec_mon.specs.Watch.{listed_line}
-use Rattle.cec_audit.specs.declared.attempts.Attempts.{Attempts}
+use Rattle.cec_remarks.specs.declared.attempts.Attempts.{Attempts}
 use Rattle.cec_audit.specs.declared.auditor.Auditor.{Auditor}
-use Rattle.cec_audit.specs.declared.counts.Count.{Count}
-use Rattle.cec_audit.specs.declared.free.Before.{Before}
-use Rattle.cec_audit.specs.declared.free.Before.TheVariants.{Nothing}
-use Rattle.cec_audit.specs.declared.requests.Request.{Request}
-use Rattle.cec_audit.specs.declared.series.Series.{Series}
-use Rattle.cec_audit.specs.Attempts.{after_attempt, failure_of, no_attempts}
-use Rattle.cec_audit.specs.Counts.{counts_text, no_counts, with_reading}
-use Rattle.cec_audit.specs.Frames.{delivered, sender}
-use Rattle.cec_audit.specs.Free.{before_of, is_bad_start, too_soon}
-use Rattle.cec_audit.specs.Lines.{drive_text, failure_text, misfits_text, series_text, soon_text, timing_text, widths_text}
-use Rattle.cec_audit.specs.Places.{moved_from, moved_text, no_places, unknown_source, unknown_text, with_places}
-use Rattle.cec_audit.specs.Requests.{after_frame, late_text}
-use Rattle.cec_audit.specs.Series.{after_start, no_series, series_over}
+use Rattle.cec_remarks.specs.declared.counts.Count.{Count}
+use Rattle.cec_remarks.specs.declared.free.Before.{Before}
+use Rattle.cec_remarks.specs.declared.free.Before.TheVariants.{Nothing}
+use Rattle.cec_remarks.specs.declared.requests.Request.{Request}
+use Rattle.cec_remarks.specs.declared.series.Series.{Series}
+use Rattle.cec_remarks.specs.Attempts.{after_attempt, failure_of, no_attempts}
+use Rattle.cec_remarks.specs.Counts.{no_counts, with_reading}
+use Rattle.cec_remarks.specs.Frames.{delivered, sender}
+use Rattle.cec_remarks.specs.Free.{before_of, is_bad_start, too_soon}
+use Rattle.cec_audit.specs.Lines.{counts_text, drive_text, failure_text, late_text, misfits_text, moved_text, series_text, soon_text, timing_text, unknown_text, widths_text}
+use Rattle.cec_remarks.specs.Places.{moved_from, no_places, unknown_source, with_places}
+use Rattle.cec_remarks.specs.Requests.{after_frame}
+use Rattle.cec_remarks.specs.Series.{after_start, no_series, series_over}
 
 -- ---- what is kept of the readings so far
 

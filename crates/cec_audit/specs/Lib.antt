@@ -1,11 +1,4 @@
 pub mod Progress
-pub mod Header
-pub mod Attempts
-pub mod Free
-pub mod Series
-pub mod Counts
-pub mod Frames
-pub mod Requests
-pub mod Places
 pub mod Lines
 pub mod Audit
+pub mod Kept

@@ -1,7 +1,9 @@
 -- The lines of remarks (own). Each begins with two spaces.
-use Rattle.std.specs.Prelude.{ℕ, ◌+◌, ◌-◌, ◌/◌, ◌%◌, ◌==◌, Bool, true, false, nat_lt, if◌then◌else◌, List, [], ◌∷◌, ◌++◌, length, Option, Some, None, codes}
+use Rattle.std.specs.Prelude.{ℕ, ◌+◌, ◌-◌, ◌/◌, ◌%◌, ◌==◌, Bool, true, false, nat_lt, ◌&&◌, if◌then◌else◌, List, [], ◌∷◌, ◌++◌, Option, Some, None, codes}
 use Rattle.std.specs.Fmt.{decimal}
 use Rattle.std.specs.List.{concat}
+use Rattle.hdmi_core.specs.declared.phys.Phys.{Phys}
+use Rattle.hdmi_core.specs.Piece.{hex_text, nibble_text, phys_text}
 use Rattle.cec_frame.specs.declared.Ending.{Ending}
 use Rattle.cec_timing.specs.declared.low.Low.{Low as LowOf}
 use Rattle.cec_timing.specs.declared.misfit.Kind.{Kind}
@@ -10,9 +12,12 @@ use Rattle.cec_timing.specs.declared.misfit.Misfit.{Misfit}
 use Rattle.cec_timing.specs.declared.spread.Spread.{Spread}
 use Rattle.cec_timing.specs.declared.spread.Widths.{Widths}
 use Rattle.cec_timing.specs.Misfits.{fits, low_misfit, total_misfit, window}
-use Rattle.cec_audit.specs.declared.attempts.Failure.{Failure}
-use Rattle.cec_audit.specs.declared.free.TooSoon.{TooSoon}
-use Rattle.cec_audit.specs.declared.series.Series.{Series}
+use Rattle.cec_remarks.specs.declared.attempts.Failure.{Failure}
+use Rattle.cec_remarks.specs.declared.counts.Count.{Count}
+use Rattle.cec_remarks.specs.declared.free.TooSoon.{TooSoon}
+use Rattle.cec_remarks.specs.declared.requests.Request.{Request}
+use Rattle.cec_remarks.specs.declared.series.Series.{Series}
+use Rattle.cec_remarks.specs.Requests.{is_late}
 
 -- bad starts in a row, folded: `  after 7 bad-start since 1000`
 abbrev pub series_text : Option Series → List ℕ
@@ -67,6 +72,31 @@ abbrev pub failure_text : Option Failure → List ℕ
 failure_text None = []
 failure_text (Some f) = concat (codes "  block " ∷ decimal f.block ∷ failure_word f.refused ∷ decimal f.attempt ∷ limit_word f.attempt ∷ [])
 
+-- ---- what frames say
+
+-- two addresses for one device: `  1 reported 1.0.0.0 before`
+abbrev pub moved_text : ℕ → Option Phys → List ℕ
+moved_text initiator None = []
+moved_text initiator (Some phys) = concat (codes "  " ∷ nibble_text (initiator % 16) ∷ codes " reported " ∷ phys_text phys ∷ codes " before\n" ∷ [])
+
+-- an active source that nobody reported: `  nobody reported 2.0.0.0`
+abbrev pub unknown_text : Option Phys → List ℕ
+unknown_text None = []
+unknown_text (Some phys) = concat (codes "  nobody reported " ∷ phys_text phys ∷ codes "\n" ∷ [])
+
+-- ---- requests that were not answered: `  no answer to 4>0 8f of 1051150`
+
+abbrev pub request_text : Request → List ℕ
+request_text r = concat (codes "  no answer to " ∷ nibble_text (r.initiator % 16) ∷ codes ">" ∷ nibble_text (r.destination % 16) ∷ codes " " ∷ hex_text r.opcode ∷ codes " of " ∷ decimal r.since ∷ codes "\n" ∷ [])
+
+-- by an instant
+abbrev pub if_late : ℕ → Request → List ℕ
+if_late begin r = if is_late begin r then request_text r else []
+
+abbrev pub late_text : ℕ → List Request → List ℕ
+late_text begin [] = []
+late_text begin (r ∷ rs) = if_late begin r ++ late_text begin rs
+
 -- ---- widths
 
 -- `  zero low 1490..1512 mean 1501 of 14`; the mean is rounded down; nothing where there is none
@@ -83,3 +113,16 @@ widths_text w =
 abbrev pub timing_text : Bool → Widths → List ℕ
 timing_text true w = widths_text w
 timing_text false w = []
+
+-- ---- frames of each initiator
+
+-- `  from 4: 12 taken, 1 not taken, 2 broken`; nothing of who sent none
+abbrev pub count_text : ℕ → Count → List ℕ
+count_text initiator c =
+    if (c.taken == 0) && ((c.untaken == 0) && (c.broken == 0)) then []
+    else concat (codes "  from " ∷ nibble_text (initiator % 16) ∷ codes ": " ∷ decimal c.taken ∷ codes " taken, " ∷ decimal c.untaken ∷ codes " not taken, " ∷ decimal c.broken ∷ codes " broken\n" ∷ [])
+
+-- of the initiators from one on
+abbrev pub counts_text : ℕ → List Count → List ℕ
+counts_text initiator [] = []
+counts_text initiator (c ∷ counts) = count_text initiator c ++ counts_text (initiator + 1) counts

@@ -3,26 +3,23 @@ ghost use Rattle.std.specs.Prelude.{◌≡◌, ◌+◌, ◌≤◌, length, optio
 ghost use Rattle.std.specs.Option.{option_to_list};
 ghost use Rattle.cec_bits.specs.Reports.{listed_as};
 ghost use Rattle.cec_audit.specs.Audit.{after, after_all, come_to, drive_by, drive_of, falls_until, first_tape, frame_text, is_folded, lows_of, noted, reading_misfits, remarks_text, summary_text, tape_of, times_text, told, told_all};
-ghost use Rattle.cec_audit.specs.Frames.{bytes_or_none, delivered};
+ghost use Rattle.cec_remarks.specs.Frames.{delivered};
+ghost use Rattle.cec_audit.specs.Lines.{timing_text};
 ghost use Rattle.cec_audit.specs.Progress.{WritesOn};
 ghost use Rattle.cec_timing.specs.Lows.{place_of};
 ghost use Rattle.cec_timing.specs.Spreads.{no_widths, with_slots};
 
-use crate::attempts::Attempts;
-use crate::counts::{Counts, count_reading, no_counts, write_counts};
-use crate::free::{Before, is_bad_start};
-use crate::header::is_delivered;
 use crate::lines::{
-    write_drive, write_failure, write_misfits, write_series, write_soon, write_timing, write_widths,
-};
-use crate::places::{
-    Places, moved_from, no_places, note_report, unknown_source, write_moved, write_unknown,
+    write_counts, write_drive, write_failure, write_late, write_misfits, write_moved, write_series,
+    write_soon, write_unknown, write_widths,
 };
 use crate::progress::Progress;
-use crate::requests::{Waiting, after_frame, sender, write_late};
-use crate::series::Series;
 use arrayvec::ArrayVec;
-use cec_frame::{Ending, Frame, Reading};
+use cec_frame::{Ending, Reading};
+use cec_remarks::{
+    Attempts, Before, Counts, Places, Series, Waiting, after_frame, count_reading, delivered,
+    is_bad_start, moved_from, no_counts, no_places, note_report, sender, unknown_source,
+};
 use cec_timing::{Cursor, LOWS, Low, Widths, first_low, low_drive, lows_before};
 use cec_wave::Edge;
 use hdmi_core::{Piece, Sink};
@@ -92,26 +89,6 @@ fn write_reading_misfits<S: Sink>(
     write_misfits(reading.ending, &reading.bits, 0, lows, progress, out);
 }
 
-fn bytes_or_none(frame: &Option<Frame>) -> ArrayVec<u8, 16>
-    ensures { result.items ≡ bytes_or_none frame.now }
-{
-    let mut bytes = ArrayVec::new();
-    if let Some(frame) = frame {
-        let _ = bytes.try_extend_from_slice(frame.bytes());
-    }
-    bytes
-}
-
-// The bytes of a reading's frame, where it was delivered.
-fn delivered(reading: &Reading) -> ArrayVec<u8, 16>
-    ensures { result.items ≡ delivered (listed_as reading.now) }
-{
-    if !is_delivered(reading.ending, &reading.bits) {
-        return ArrayVec::new();
-    }
-    bytes_or_none(&reading.frame())
-}
-
 // The widths of one reading.
 fn widths_of(reading: &Reading, lows: &[Low]) -> Widths
     requires { length lows.now ≤ 161 }
@@ -120,6 +97,24 @@ fn widths_of(reading: &Reading, lows: &[Low]) -> Widths
     let mut widths = Widths::new();
     widths.add(reading.ending, &reading.bits, 0, lows);
     widths
+}
+
+// The widths of a reading, where they are asked for.
+fn write_reading_widths<S: Sink>(
+    timing: bool,
+    reading: &Reading,
+    lows: &[Low],
+    progress: &mut Progress,
+    out: &mut S,
+)
+    requires { length lows.now ≤ 161 }
+    ensures { WritesOn (S.contents out.old) (S.contents out.new) (S.is_stuck out.old) (S.is_stuck out.new)
+        (timing_text timing (with_slots reading.now.ending reading.now.bits.items 0 lows.now no_widths)) progress.old.so_far progress.new.so_far }
+{
+    if !timing {
+        return;
+    }
+    write_widths(widths_of(reading, lows), progress, out);
 }
 
 impl<'a> Auditor<'a> {
@@ -204,7 +199,7 @@ impl<'a> Auditor<'a> {
     {
         self.write_times(reading, lows, progress, out);
         self.write_frame(frame, progress, out);
-        write_timing(timing, widths_of(reading, lows), progress, out);
+        write_reading_widths(timing, reading, lows, progress, out);
     }
 
     // A reading is kept.

@@ -1,15 +1,13 @@
 //! The lines of remarks.
-ghost use Rattle.std.specs.Prelude.{◌≡◌, ◌+◌, ◌<◌, length, codes};
-ghost use Rattle.cec_audit.specs.Lines.{drive_text, drive_word, failure_text, failure_word, kind_text, limit_word, misfit_line, misfit_text, misfits_text, series_text, soon_text, spread_text, timing_text, widths_text};
+ghost use Rattle.std.specs.Prelude.{◌≡◌, ◌+◌, ◌<◌, ◌≤◌, length, codes};
+ghost use Rattle.cec_audit.specs.Lines.{count_text, counts_text, drive_text, drive_word, failure_text, failure_word, if_late, kind_text, late_text, limit_word, misfit_line, misfit_text, misfits_text, moved_text, request_text, series_text, soon_text, spread_text, unknown_text, widths_text};
 ghost use Rattle.cec_audit.specs.Progress.{WritesOn};
 
-use crate::attempts::Failure;
-use crate::free::TooSoon;
 use crate::progress::Progress;
-use crate::series::Series;
 use cec_frame::Ending;
+use cec_remarks::{Count, Failure, Request, Series, TooSoon};
 use cec_timing::{DRIVE, Kind, Low, Misfit, Spread, Widths, low_misfit, total_misfit};
-use hdmi_core::{Piece, Sink};
+use hdmi_core::{Phys, Piece, Sink};
 
 /// The first attempt, and five retransmissions (CEC 7.1).
 const ATTEMPTS: u64 = 6;
@@ -193,6 +191,83 @@ pub(crate) fn write_failure<S: Sink>(failure: Option<Failure>, progress: &mut Pr
     );
 }
 
+pub(crate) fn write_moved<S: Sink>(
+    initiator: u8,
+    before: Option<Phys>,
+    progress: &mut Progress,
+    out: &mut S,
+)
+    ensures { WritesOn (S.contents out.old) (S.contents out.new) (S.is_stuck out.old) (S.is_stuck out.new) (moved_text initiator before) progress.old.so_far progress.new.so_far }
+{
+    let Some(phys) = before else {
+        return;
+    };
+    progress.line(
+        out,
+        &[
+            Piece::Text("  "),
+            Piece::Nibble(initiator),
+            Piece::Text(" reported "),
+            Piece::Phys(phys),
+            Piece::Text(" before\n"),
+        ],
+    );
+}
+
+pub(crate) fn write_unknown<S: Sink>(unknown: Option<Phys>, progress: &mut Progress, out: &mut S)
+    ensures { WritesOn (S.contents out.old) (S.contents out.new) (S.is_stuck out.old) (S.is_stuck out.new) (unknown_text unknown) progress.old.so_far progress.new.so_far }
+{
+    let Some(phys) = unknown else {
+        return;
+    };
+    progress.line(
+        out,
+        &[
+            Piece::Text("  nobody reported "),
+            Piece::Phys(phys),
+            Piece::Text("\n"),
+        ],
+    );
+}
+
+fn write_if_late<S: Sink>(begin: u64, request: Request, progress: &mut Progress, out: &mut S)
+    ensures { WritesOn (S.contents out.old) (S.contents out.new) (S.is_stuck out.old) (S.is_stuck out.new) (if_late begin request) progress.old.so_far progress.new.so_far }
+{
+    if !request.is_late(begin) {
+        return;
+    }
+    progress.line(
+        out,
+        &[
+            Piece::Text("  no answer to "),
+            Piece::Nibble(request.initiator),
+            Piece::Text(">"),
+            Piece::Nibble(request.destination),
+            Piece::Text(" "),
+            Piece::HexByte(request.opcode),
+            Piece::Text(" of "),
+            Piece::Decimal(request.since),
+            Piece::Text("\n"),
+        ],
+    );
+}
+
+/// Writes the requests that have waited for more than a second at an instant.
+pub(crate) fn write_late<S: Sink>(
+    begin: u64,
+    waiting: &[Request],
+    progress: &mut Progress,
+    out: &mut S,
+)
+    ensures { WritesOn (S.contents out.old) (S.contents out.new) (S.is_stuck out.old) (S.is_stuck out.new) (late_text begin waiting.now) progress.old.so_far progress.new.so_far }
+{
+    let [request, waiting @ ..] = waiting else {
+        return;
+    };
+    write_if_late(begin, *request, progress, out);
+    write_late(begin, waiting, progress, out);
+}
+
 fn write_spread<S: Sink>(name: &str, spread: Spread, progress: &mut Progress, out: &mut S)
     ensures { WritesOn (S.contents out.old) (S.contents out.new) (S.is_stuck out.old) (S.is_stuck out.new) (spread_text name.now spread) progress.old.so_far progress.new.so_far }
 {
@@ -226,17 +301,41 @@ pub(crate) fn write_widths<S: Sink>(widths: Widths, progress: &mut Progress, out
     write_spread("  bit total ", widths.total, progress, out);
 }
 
-/// The widths of a reading, where they are asked for.
-pub(crate) fn write_timing<S: Sink>(
-    timing: bool,
-    widths: Widths,
+fn write_count<S: Sink>(initiator: u8, count: Count, progress: &mut Progress, out: &mut S)
+    ensures { WritesOn (S.contents out.old) (S.contents out.new) (S.is_stuck out.old) (S.is_stuck out.new) (count_text initiator count) progress.old.so_far progress.new.so_far }
+{
+    if count.taken == 0 && count.untaken == 0 && count.broken == 0 {
+        return;
+    }
+    progress.line(
+        out,
+        &[
+            Piece::Text("  from "),
+            Piece::Nibble(initiator),
+            Piece::Text(": "),
+            Piece::Decimal(count.taken),
+            Piece::Text(" taken, "),
+            Piece::Decimal(count.untaken),
+            Piece::Text(" not taken, "),
+            Piece::Decimal(count.broken),
+            Piece::Text(" broken\n"),
+        ],
+    );
+}
+
+/// Writes the counts of the initiators from one on, a line for each that sent a frame.
+pub(crate) fn write_counts<S: Sink>(
+    initiator: u8,
+    counts: &[Count],
     progress: &mut Progress,
     out: &mut S,
 )
-    ensures { WritesOn (S.contents out.old) (S.contents out.new) (S.is_stuck out.old) (S.is_stuck out.new) (timing_text timing widths) progress.old.so_far progress.new.so_far }
+    requires { initiator + length counts.now ≤ 16 }
+    ensures { WritesOn (S.contents out.old) (S.contents out.new) (S.is_stuck out.old) (S.is_stuck out.new) (counts_text initiator counts.now) progress.old.so_far progress.new.so_far }
 {
-    if !timing {
+    let [count, counts @ ..] = counts else {
         return;
-    }
-    write_widths(widths, progress, out);
+    };
+    write_count(initiator, *count, progress, out);
+    write_counts(initiator + 1, counts, progress, out);
 }

@@ -29,7 +29,8 @@ use Rattle.cec_signal.specs.Edges.{level_at}
 use Rattle.cec_mon.specs.declared.edge_file.EdgeLine.{EdgeLine}
 use Rattle.cec_mon.specs.declared.edge_file.EdgeLine.TheVariants.{Edge as EdgeLineOf, End}
 use Rattle.cec_capture.specs.Capture.{part_monitored, EdgeFilesAreReadBack, FilesOfRunsHaveTheirReadings, MonitorsTellTraces}
-use Rattle.cec_capture.proofs.Texts.{IsWithout, line_before, more_without, one_without, timed, timed_line, timed_plain, timed_told}
+use Rattle.cec_signal.proofs.Texts.{line_before}
+use Rattle.cec_capture.proofs.Texts.{IsWithout, more_without, one_without, timed, timed_line, timed_plain, timed_told}
 
 -- ---- the text
 

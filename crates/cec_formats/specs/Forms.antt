@@ -1,5 +1,5 @@
 -- The form of a capture, by its first line (own).
-use Rattle.std.specs.Prelude.{ℕ, Bool, ◌==◌, ◌&&◌, ◌||◌, nat_lt, if◌then◌else◌, List, [], ◌∷◌, length, take, slice_index, codes}
+use Rattle.std.specs.Prelude.{ℕ, Bool, not, ◌==◌, ◌&&◌, ◌||◌, nat_lt, if◌then◌else◌, List, [], ◌∷◌, length, take, slice_index, codes}
 use Rattle.std.specs.List.{position_or_len}
 use Rattle.std.specs.Option.{is_none}
 use Rattle.std.specs.Str.{bytes_eq}
@@ -8,12 +8,12 @@ use Rattle.cec_words.specs.Number.{number_of}
 use Rattle.cec_formats.specs.declared.form.Form.{Form}
 use Rattle.cec_formats.specs.declared.form.Form.TheVariants.{Edges, Vcd, Pin, Csv}
 
--- whether there is a comma, and before it no number
+-- whether there is a comma, and before it no number; a remark has no names
 abbrev pub comma_in : List ℕ → ℕ
 comma_in line = position_or_len (λ b. b == 44) line
 
 abbrev pub has_names : List ℕ → Bool
-has_names line = nat_lt (comma_in line) (length line) && is_none (number_of (take (comma_in line) line))
+has_names line = not (slice_index line 0 == 35) && (nat_lt (comma_in line) (length line) && is_none (number_of (take (comma_in line) line)))
 
 -- `$..` and `META ..` begin a dump, `# cec-ctl --store-pin` a file of pin events, and a line with names comma-separated values
 abbrev pub form_of_line : List ℕ → Form

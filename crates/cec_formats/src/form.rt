@@ -17,12 +17,12 @@ pub enum Form {
     Csv,
 }
 
-// Whether a line has a comma, and before it no number.
+// Whether a line is no remark, and has a comma and before it no number.
 fn has_names(line: &[u8]) -> bool
     ensures { result ≡ has_names line.now }
 {
     let comma = len_before(line, b',');
-    comma < line.len() && number_in(before(line, comma)).is_none()
+    byte_at(line, 0) != b'#' && comma < line.len() && number_in(before(line, comma)).is_none()
 }
 
 // The form of a capture with this first line.
@@ -42,7 +42,8 @@ fn form_of_line(line: &[u8]) -> Form
 
 impl Form {
     /// The form of a capture, by its first line: `$..` and `META ..` begin a dump, `# cec-ctl --store-pin` a file of pin
-    /// events, and a line with a comma and no number before it comma-separated values. All else is an edge file.
+    /// events, and a line with a comma and no number before it comma-separated values, where it does not begin with `#`.
+    /// All else is an edge file.
     pub fn of(text: &[u8]) -> Form
         ensures { result ≡ form_of text.now }
     {

@@ -1,4 +1,4 @@
-use Rattle.std.proofs.Common.{◌≡◌, ℕ, ◌+◌, ◌-◌, ◌<◌, ◌≤◌, Bool, List, [], ◌∷◌, ◌++◌, length, get_or, take, drop, refl, arith}
+use Rattle.std.proofs.Common.{◌≡◌, ℕ, ◌+◌, ◌≤◌, Bool, List, [], ◌∷◌, ◌++◌, length, get_or, drop, refl, arith}
 use Rattle.std.proofs.lemmas.List.{take_rest}
 use Rattle.cec_frame.specs.declared.Ending.{Ending}
 use Rattle.cec_timing.specs.declared.low.Low.{Low}

@@ -1,8 +1,6 @@
-use Rattle.std.proofs.Common.{◌++◌, List, ℕ, codes, ap, refl}
-use Rattle.cec_audit.specs.declared.requests.Request.{Request}
-use Rattle.cec_audit.specs.Counts.{counts_text}
-use Rattle.cec_audit.specs.Lines.{widths_text}
-use Rattle.cec_audit.specs.Requests.{late_text}
+use Rattle.std.proofs.Common.{◌++◌, List, codes, ap}
+use Rattle.cec_remarks.specs.declared.requests.Request.{Request}
+use Rattle.cec_audit.specs.Lines.{counts_text, late_text, widths_text}
 use Rattle.cec_audit.proofs.Writing.{writes_as, writes_two}
 use Rattle.cec_audit.proofs.auditor.Auditor.summarize.Goals as goal
 

@@ -4,4 +4,4 @@ use Rattle.cec_audit.proofs.auditor.Auditor.write_remarks.Goals as goal
 
 pub returns : goal.returns
 returns g c =
-    writes_as (rw (c.requires.frame, c.widths_of.ensures, c.requires.lows) refl) (writes_two (writes_two c.write_times.ensures c.write_frame.ensures) c.write_timing.ensures)
+    writes_as (rw (c.requires.frame, c.requires.lows) refl) (writes_two (writes_two c.write_times.ensures c.write_frame.ensures) c.write_reading_widths.ensures)

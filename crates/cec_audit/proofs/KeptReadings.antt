@@ -1,0 +1,295 @@
+-- The remarks of an audit are lines that begin with two spaces.
+use Rattle.std.proofs.Common.{◌≡◌, ◌≢◌, ℕ, zero, suc, ◌+◌, ◌/◌, ◌%◌, ◌==◌, ◌<◌, ◌-◌, ◌&&◌, Bool, true, false, not, nat_lt, if◌then◌else◌, List, [], ◌∷◌, ◌++◌, Option, None, Some, codes, refl, sym, ap, subst, ◌∙◌, append-nil, append_assoc, arith}
+use Rattle.std.specs.Fmt.{decimal, digit_glyph, digits, digits_onto}
+use Rattle.std.specs.List.{flat_map, list_all}
+use Rattle.std.proofs.lemmas.Bool.{false≢true}
+use Rattle.std.proofs.lemmas.Bool.Decides.{nat_tests}
+use Rattle.std.proofs.lemmas.Grind.{flat_map-append}
+use Rattle.hdmi_core.specs.declared.phys.Phys.{Phys}
+use Rattle.hdmi_core.specs.Piece.{hex_text, nibble_text, phys_text}
+use Rattle.cec_frame.specs.declared.Ending.{Ending}
+use Rattle.cec_bits.specs.Readings.{Listed, readings_of}
+use Rattle.cec_signal.specs.Edges.{Captured, line_of_edges}
+use Rattle.cec_timing.specs.declared.low.Low.{Low as LowOf}
+use Rattle.cec_timing.specs.declared.misfit.Kind.{Kind}
+use Rattle.cec_timing.specs.declared.misfit.Kind.TheVariants.{Low, Total}
+use Rattle.cec_timing.specs.declared.misfit.Misfit.{Misfit}
+use Rattle.cec_timing.specs.declared.spread.Spread.{Spread}
+use Rattle.cec_timing.specs.declared.spread.Widths.{Widths}
+use Rattle.cec_timing.specs.Misfits.{fits, low_misfit, total_misfit, window}
+use Rattle.cec_mon.specs.Watch.{listed_line}
+use Rattle.cec_remarks.specs.declared.attempts.Failure.{Failure}
+use Rattle.cec_remarks.specs.declared.counts.Count.{Count}
+use Rattle.cec_remarks.specs.declared.free.TooSoon.{TooSoon}
+use Rattle.cec_remarks.specs.declared.requests.Request.{Request}
+use Rattle.cec_remarks.specs.declared.series.Series.{Series}
+use Rattle.cec_audit.specs.Lines.{count_text, counts_text, drive_text, drive_word, failure_text, failure_word, if_late, kind_text, late_text, limit_word, misfit_line, misfit_text, misfits_text, moved_text, request_text, series_text, soon_text, spread_text, timing_text, unknown_text, widths_text}
+use Rattle.cec_remarks.specs.Attempts.{failure_of}
+use Rattle.cec_remarks.specs.Frames.{delivered, sender}
+use Rattle.cec_remarks.specs.Free.{too_soon}
+use Rattle.cec_remarks.specs.Places.{moved_from, unknown_source}
+use Rattle.cec_remarks.specs.Requests.{is_late}
+use Rattle.cec_remarks.specs.Series.{series_over}
+use Rattle.cec_timing.specs.Spreads.{no_widths, with_slots}
+use Rattle.cec_audit.specs.Audit.{Tape, after, after_all, audit_text, come_to, drive_of, first_tape, frame_text, is_folded, lows_of, reading_misfits, remarks_text, summary_text, times_text, told, told_all}
+use Rattle.cec_audit.specs.Kept.{AllRemarks, AreKept, AreRemarks, AuditsKeepReadings, IsClosed, IsPlain, IsRemark}
+
+-- ---- without a line feed
+
+plain_more : (xs ys : List ℕ) → IsPlain xs → IsPlain ys → IsPlain (xs ++ ys)
+plain_more [] ys h k = k
+plain_more (c ∷ cs) ys h k = (h.0, plain_more cs ys h.1 k)
+
+-- a text that is written out
+plain_codes : (xs : List ℕ) → list_all (λ c. not (c == 10)) xs ≡ true → IsPlain xs
+plain_codes [] h = tt
+plain_codes (c ∷ cs) h = by (c == 10) refl h (plain_codes cs)
+  where
+    by : (b : Bool) → (c == 10) ≡ b → (not b && list_all (λ c. not (c == 10)) cs) ≡ true → (list_all (λ c. not (c == 10)) cs ≡ true → IsPlain cs) → IsPlain (c ∷ cs)
+    by true e k more = absurd (false≢true k)
+    by false e k more = ((λ p. (let q : (c == 10) ≡ true = grind (arith, nat_tests) in false≢true (sym e ∙ q))), more k)
+
+-- digits
+plain_glyph : (n : ℕ) → (if nat_lt n 10 then 48 + n else 87 + n) ≢ 10
+plain_glyph n = by (nat_lt n 10)
+  where
+    by : (b : Bool) → (if b then 48 + n else 87 + n) ≢ 10
+    by true = λ p. absurd (omega arith)
+    by false = λ p. absurd (omega arith)
+
+plain_onto : (k n : ℕ) (acc : List ℕ) → IsPlain acc → IsPlain (digits_onto k 10 false n acc)
+plain_onto zero n acc h = h
+plain_onto (suc k) n acc h = by (n / 10 == 0) (plain_onto k (n / 10) (digit_glyph false (n % 10) ∷ acc) (plain_glyph (n % 10), h))
+  where
+    by : (b : Bool) → IsPlain (digits_onto k 10 false (n / 10) (digit_glyph false (n % 10) ∷ acc)) → IsPlain (if b then digit_glyph false (n % 10) ∷ acc else digits_onto k 10 false (n / 10) (digit_glyph false (n % 10) ∷ acc))
+    by true more = (plain_glyph (n % 10), h)
+    by false more = more
+
+plain_decimal : (n : ℕ) → IsPlain (decimal n)
+unfolding digits
+plain_decimal n = plain_onto 64 n [] tt
+
+plain_nibble : (n : ℕ) → IsPlain (nibble_text n)
+plain_nibble n = (plain_glyph n, tt)
+
+plain_hex : (n : ℕ) → IsPlain (hex_text n)
+plain_hex n = (plain_glyph (n / 16), (plain_glyph (n % 16), tt))
+
+dot : IsPlain (codes ".")
+dot = plain_codes (codes ".") refl
+
+plain_phys : (p : Phys) → IsPlain (phys_text p)
+plain_phys p = (plain_glyph (p.high / 16), (dot.0, (plain_glyph (p.high % 16), (dot.0, (plain_glyph (p.low / 16), (dot.0, (plain_glyph (p.low % 16), tt)))))))
+
+-- ---- closed by a line feed
+
+closed : IsClosed (10 ∷ [])
+closed = record { rest = []; same = refl; plain = tt }
+
+closed_more : (xs : List ℕ) {ys : List ℕ} → IsPlain xs → IsClosed ys → IsClosed (xs ++ ys)
+closed_more xs {ys} h k = record {
+  rest = xs ++ k.rest;
+  same = ap (λ (l : List ℕ). xs ++ l) k.same ∙ sym (append_assoc xs k.rest (10 ∷ []));
+  plain = plain_more xs k.rest h k.plain;
+}
+
+lit : (xs : List ℕ) {ys : List ℕ} → list_all (λ c. not (c == 10)) xs ≡ true → IsClosed ys → IsClosed (xs ++ ys)
+lit xs h k = closed_more xs (plain_codes xs h) k
+
+dec : (n : ℕ) {ys : List ℕ} → IsClosed ys → IsClosed (decimal n ++ ys)
+dec n k = closed_more (decimal n) (plain_decimal n) k
+
+last : {xs : List ℕ} → IsClosed xs → IsClosed (xs ++ [])
+last {xs} k = subst IsClosed (sym (append-nil xs)) k
+
+-- ---- lines, one after another
+
+no_remarks : AreRemarks []
+no_remarks = record { lines = []; each = tt; same = refl }
+
+one_remark : (line : List ℕ) → IsRemark line → AreRemarks line
+one_remark line h = record { lines = line ∷ []; each = (h, tt); same = sym (append-nil line) }
+
+all_more : (xs ys : List (List ℕ)) → AllRemarks xs → AllRemarks ys → AllRemarks (xs ++ ys)
+all_more [] ys h k = k
+all_more (x ∷ xs) ys h k = (h.0, all_more xs ys h.1 k)
+
+more_remarks : {a b : List ℕ} → AreRemarks a → AreRemarks b → AreRemarks (a ++ b)
+more_remarks {a} {b} x y = record {
+  lines = x.lines ++ y.lines;
+  each = all_more x.lines y.lines x.each y.each;
+  same = ap (λ (l : List ℕ). l ++ b) x.same ∙ ap (λ (l : List ℕ). flat_map (λ (line : List ℕ). line) x.lines ++ l) y.same ∙ sym (flat_map-append (λ (line : List ℕ). line) x.lines y.lines);
+}
+
+-- ---- each kind of remark
+
+series_remarks : (o : Option Series) → AreRemarks (series_text o)
+series_remarks None = no_remarks
+series_remarks (Some s) = one_remark (series_text (Some s)) (refl, refl, lit (codes "after ") refl (dec s.count (lit (codes " bad-start since ") refl (dec s.since closed))))
+
+soon_remarks : (o : Option TooSoon) → AreRemarks (soon_text o)
+soon_remarks None = no_remarks
+soon_remarks (Some s) = one_remark (soon_text (Some s)) (refl, refl, lit (codes "free ") refl (dec s.free (lit (codes " of ") refl (dec s.due closed))))
+
+plain_kind : (k : Kind) → IsPlain (kind_text k)
+plain_kind Low = plain_codes (codes " low ") refl
+plain_kind Total = plain_codes (codes " total ") refl
+
+-- a width and its window
+abbrev width_part : Misfit → List ℕ
+width_part m = kind_text m.kind ++ (decimal m.micros ++ (codes " not " ++ (decimal m.window.least ++ (codes ".." ++ (decimal m.window.greatest ++ (10 ∷ []))))))
+
+width_closed : (m : Misfit) → IsClosed (width_part m)
+width_closed m = closed_more (kind_text m.kind) (plain_kind m.kind) (dec m.micros (lit (codes " not ") refl (dec m.window.least (lit (codes "..") refl (dec m.window.greatest closed)))))
+
+abbrev start_line : Misfit → List ℕ
+start_line m = codes "  start" ++ width_part m
+
+abbrev slot_line : Misfit → List ℕ
+slot_line m = codes "  slot " ++ (decimal m.slot ++ (codes " block " ++ (decimal ((m.slot - 1) / 10 + 1) ++ (codes " bit " ++ (decimal ((m.slot - 1) % 10 + 1) ++ width_part m)))))
+
+misfit_remark : (m : Misfit) → IsRemark (misfit_line m)
+misfit_remark m = by (m.slot == 0)
+  where
+    by : (b : Bool) → IsRemark (if b then start_line m else slot_line m)
+    by true = (refl, refl, lit (codes "start") refl (width_closed m))
+    by false = (refl, refl, lit (codes "slot ") refl (dec m.slot (lit (codes " block ") refl (dec ((m.slot - 1) / 10 + 1) (lit (codes " bit ") refl (dec ((m.slot - 1) % 10 + 1) (width_closed m)))))))
+
+misfit_remarks : (o : Option Misfit) → AreRemarks (misfit_text o)
+misfit_remarks None = no_remarks
+misfit_remarks (Some m) = one_remark (misfit_line m) (misfit_remark m)
+
+misfits_remarks : (ending : Ending) (bits : List Bool) (slot : ℕ) (lows : List LowOf) → AreRemarks (misfits_text ending bits slot lows)
+misfits_remarks ending bits slot [] = no_remarks
+misfits_remarks ending bits slot (low ∷ lows) =
+    more_remarks (more_remarks (misfit_remarks (low_misfit bits slot low)) (misfit_remarks (total_misfit ending bits slot low))) (misfits_remarks ending bits (slot + 1) lows)
+
+drive_closed : (width : ℕ) → IsClosed (drive_word width)
+drive_closed width = by (fits (window 3360 3840) width)
+  where
+    by : (b : Bool) → IsClosed (if b then codes "\n" else codes " not 3360..3840\n")
+    by true = closed
+    by false = lit (codes " not 3360..3840") refl closed
+
+drive_remarks : (o : Option ℕ) → AreRemarks (drive_text o)
+drive_remarks None = no_remarks
+drive_remarks (Some width) = one_remark (drive_text (Some width)) (refl, refl, lit (codes "low drive ") refl (dec width (last (drive_closed width))))
+
+limit_closed : (attempt : ℕ) → IsClosed (limit_word attempt)
+limit_closed attempt = by (nat_lt 6 attempt)
+  where
+    by : (b : Bool) → IsClosed (if b then codes " of at most 6\n" else codes "\n")
+    by true = lit (codes " of at most 6") refl closed
+    by false = closed
+
+plain_failure : (b : Bool) → IsPlain (failure_word b)
+plain_failure true = plain_codes (codes " refused, attempt ") refl
+plain_failure false = plain_codes (codes " not acknowledged, attempt ") refl
+
+failure_remarks : (o : Option Failure) → AreRemarks (failure_text o)
+failure_remarks None = no_remarks
+failure_remarks (Some f) =
+    one_remark (failure_text (Some f)) (refl, refl, lit (codes "block ") refl (dec f.block (closed_more (failure_word f.refused) (plain_failure f.refused) (dec f.attempt (last (limit_closed f.attempt))))))
+
+moved_remarks : (initiator : ℕ) (o : Option Phys) → AreRemarks (moved_text initiator o)
+moved_remarks initiator None = no_remarks
+moved_remarks initiator (Some p) =
+    one_remark (moved_text initiator (Some p)) (refl, refl, closed_more (nibble_text (initiator % 16)) (plain_nibble (initiator % 16)) (lit (codes " reported ") refl (closed_more (phys_text p) (plain_phys p) (lit (codes " before") refl closed))))
+
+unknown_remarks : (o : Option Phys) → AreRemarks (unknown_text o)
+unknown_remarks None = no_remarks
+unknown_remarks (Some p) = one_remark (unknown_text (Some p)) (refl, refl, lit (codes "nobody reported ") refl (closed_more (phys_text p) (plain_phys p) closed))
+
+late_remark : (begin : ℕ) (r : Request) → AreRemarks (if_late begin r)
+late_remark begin r = by (is_late begin r)
+  where
+    by : (b : Bool) → AreRemarks (if b then request_text r else [])
+    by true = one_remark (request_text r) (refl, refl, lit (codes "no answer to ") refl (closed_more (nibble_text (r.initiator % 16)) (plain_nibble (r.initiator % 16)) (lit (codes ">") refl (closed_more (nibble_text (r.destination % 16)) (plain_nibble (r.destination % 16)) (lit (codes " ") refl (closed_more (hex_text r.opcode) (plain_hex r.opcode) (lit (codes " of ") refl (dec r.since closed))))))))
+    by false = no_remarks
+
+late_remarks : (begin : ℕ) (waiting : List Request) → AreRemarks (late_text begin waiting)
+late_remarks begin [] = no_remarks
+late_remarks begin (r ∷ rs) = more_remarks (late_remark begin r) (late_remarks begin rs)
+
+-- ---- widths and counts
+
+abbrev spread_line : List ℕ → Spread → List ℕ
+spread_line name s = name ++ (decimal s.least ++ (codes ".." ++ (decimal s.greatest ++ (codes " mean " ++ (decimal (s.sum / s.count) ++ (codes " of " ++ (decimal s.count ++ (10 ∷ []))))))))
+
+spread_remarks : (name : List ℕ) → IsPlain name → (s : Spread) → AreRemarks (spread_text (32 ∷ 32 ∷ name) s)
+spread_remarks name h s = by (s.count == 0)
+  where
+    by : (b : Bool) → AreRemarks (if b then [] else spread_line (32 ∷ 32 ∷ name) s)
+    by true = no_remarks
+    by false = one_remark (spread_line (32 ∷ 32 ∷ name) s) (refl, refl, closed_more name h (dec s.least (lit (codes "..") refl (dec s.greatest (lit (codes " mean ") refl (dec (s.sum / s.count) (lit (codes " of ") refl (dec s.count closed))))))))
+
+widths_remarks : (w : Widths) → AreRemarks (widths_text w)
+widths_remarks w =
+    more_remarks (more_remarks (more_remarks (more_remarks (spread_remarks (codes "start low ") (plain_codes (codes "start low ") refl) w.start_low) (spread_remarks (codes "start total ") (plain_codes (codes "start total ") refl) w.start_total))
+    (spread_remarks (codes "one low ") (plain_codes (codes "one low ") refl) w.one_low)) (spread_remarks (codes "zero low ") (plain_codes (codes "zero low ") refl) w.zero_low)) (spread_remarks (codes "bit total ") (plain_codes (codes "bit total ") refl) w.total)
+
+timing_remarks : (timing : Bool) (w : Widths) → AreRemarks (timing_text timing w)
+timing_remarks true w = widths_remarks w
+timing_remarks false w = no_remarks
+
+abbrev count_line : ℕ → Count → List ℕ
+count_line initiator c =
+    codes "  from " ++ (nibble_text (initiator % 16) ++ (codes ": " ++ (decimal c.taken ++ (codes " taken, " ++ (decimal c.untaken ++ (codes " not taken, " ++ (decimal c.broken ++ codes " broken\n")))))))
+
+count_remarks : (initiator : ℕ) (c : Count) → AreRemarks (count_text initiator c)
+count_remarks initiator c = by ((c.taken == 0) && ((c.untaken == 0) && (c.broken == 0)))
+  where
+    line : AreRemarks (count_line initiator c)
+    line = one_remark (count_line initiator c) (
+      refl,
+      refl,
+      lit (codes "from ") refl (closed_more (nibble_text (initiator % 16)) (plain_nibble (initiator % 16)) (lit (codes ": ") refl (dec c.taken (lit (codes " taken, ") refl (dec c.untaken (lit (codes " not taken, ") refl (dec c.broken (lit (codes " broken") refl closed)))))))),
+    )
+
+    by : (b : Bool) → AreRemarks (if b then [] else count_line initiator c)
+    by true = no_remarks
+    by false = line
+
+counts_remarks : (initiator : ℕ) (counts : List Count) → AreRemarks (counts_text initiator counts)
+counts_remarks initiator [] = no_remarks
+counts_remarks initiator (c ∷ counts) = more_remarks (count_remarks initiator c) (counts_remarks (initiator + 1) counts)
+
+summary_remarks : (end : ℕ) (t : Tape) → AreRemarks (summary_text end t)
+summary_remarks end t =
+    more_remarks (more_remarks (more_remarks (one_remark (codes "  all readings\n") (refl, refl, lit (codes "all readings") refl closed)) (late_remarks end t.waiting)) (counts_remarks 0 t.counts)) (widths_remarks t.widths)
+
+-- ---- below a reading
+
+folded_remarks : (s : Series) (x : Listed) (lows : List LowOf) → AreRemarks (reading_misfits s x lows)
+folded_remarks s x lows = by (is_folded s x.told.ending)
+  where
+    by : (b : Bool) → AreRemarks (if b then [] else misfits_text x.told.ending x.told.bits 0 lows)
+    by true = no_remarks
+    by false = misfits_remarks x.told.ending x.told.bits 0 lows
+
+times : (t : Tape) (x : Listed) → AreRemarks (times_text t x)
+times t x =
+    more_remarks
+    (more_remarks
+    (more_remarks
+    (more_remarks
+    (more_remarks (series_remarks (series_over t.series x.told.ending)) (late_remarks x.begin t.waiting)) (soon_remarks (too_soon t.before x.told.ending x.told.bits (x.begin - t.place.since)))) (folded_remarks t.series x (lows_of x t.place))) (drive_remarks (drive_of x t.place))) (failure_remarks (failure_of t.attempts x.told.bits))
+
+below : (timing : Bool) (t : Tape) (x : Listed) → AreRemarks (remarks_text timing t x)
+below timing t x =
+    more_remarks
+    (more_remarks (times t x) (more_remarks (moved_remarks (sender (delivered x)) (moved_from (delivered x) t.places)) (unknown_remarks (unknown_source (delivered x) t.places)))) (timing_remarks timing (with_slots x.told.ending x.told.bits 0 (lows_of x t.place) no_widths))
+
+kept_from : (timing : Bool) (t : Tape) (xs : List Listed) (end : List ℕ) → AreRemarks end → AreKept xs (told_all timing t xs ++ end)
+kept_from timing t [] end h = h
+kept_from timing t (x ∷ xs) end h = (
+  remarks_text timing (come_to x t) x,
+  told_all timing (after x t) xs ++ end,
+  below timing (come_to x t) x,
+  kept_from timing (after x t) xs end h,
+  append_assoc (told timing t x) (told_all timing (after x t) xs) end,
+)
+
+pub audits_keep_readings : AuditsKeepReadings
+audits_keep_readings timing c =
+    kept_from timing (first_tape c.edges) (readings_of (line_of_edges c.edges) c.end) (summary_text c.end (after_all (first_tape c.edges) (readings_of (line_of_edges c.edges) c.end))) (summary_remarks c.end (after_all (first_tape c.edges) (readings_of (line_of_edges c.edges) c.end)))

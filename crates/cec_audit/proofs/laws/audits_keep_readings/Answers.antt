@@ -1,0 +1,5 @@
+use Rattle.cec_audit.proofs.KeptReadings.{audits_keep_readings}
+use Rattle.cec_audit.proofs.laws.audits_keep_readings.Goals as goal
+
+pub returns : goal.returns
+returns c = audits_keep_readings

@@ -1,0 +1,66 @@
+-- Requests and what answers them (CEC 13, the messages of each feature; CEC 9.2: an answer comes within a second of the
+-- request; CEC 12.3: a device may answer a direct message by Feature Abort).
+use Rattle.std.specs.Prelude.{ℕ, ◌==◌, Bool, not, nat_lt, ◌&&◌, ◌||◌, if◌then◌else◌, List, [], ◌∷◌, ◌++◌, length, slice_index, Option, Some, None}
+use Rattle.cec_timing.specs.Spreads.{sum_of}
+use Rattle.cec_remarks.specs.declared.requests.Request.{Request}
+use Rattle.cec_remarks.specs.Frames.{opcode_of, receiver, sender}
+
+-- The message that answers one: names, addresses, vendors, versions, languages, states of power, audio and menus.
+abbrev pub answer_to : ℕ → Option ℕ
+answer_to opcode =
+    if opcode == 0x46 then Some 0x47
+    else if opcode == 0x70 then Some 0x72
+    else if opcode == 0x71 then Some 0x7a
+    else if opcode == 0x7d then Some 0x7e
+    else if opcode == 0x83 then Some 0x84
+    else if opcode == 0x8c then Some 0x87
+    else if opcode == 0x8d then Some 0x8e
+    else if opcode == 0x8f then Some 0x90
+    else if opcode == 0x91 then Some 0x32
+    else if opcode == 0x9f then Some 0x9e
+    else None
+
+-- the request of a frame to one device that ended at `since`
+abbrev pub request_by : List ℕ → ℕ → Option ℕ → Option Request
+request_by frame since None = None
+request_by frame since (Some answer) = Some (record { initiator = sender frame; destination = receiver frame; opcode = opcode_of frame; answer = answer; since = since })
+
+abbrev pub request_of : List ℕ → ℕ → Option Request
+request_of frame since = if nat_lt (length frame) 2 || (receiver frame == 15) then None else request_by frame since (answer_to (opcode_of frame))
+
+-- to the asker or to all
+abbrev pub reaches : List ℕ → Request → Bool
+reaches frame r = (receiver frame == r.initiator) || (receiver frame == 15)
+
+-- says to the asker that the request is not followed
+abbrev pub refuses : List ℕ → Request → Bool
+refuses frame r = (opcode_of frame == 0) && ((receiver frame == r.initiator) && (slice_index frame 2 == r.opcode))
+
+-- A frame answers a request where it comes from whom the request was for, and is the answer or a refusal.
+abbrev pub is_answer : List ℕ → Request → Bool
+is_answer frame r = not (nat_lt (length frame) 2) && ((sender frame == r.destination) && (((opcode_of frame == r.answer) && reaches frame r) || refuses frame r))
+
+-- more than a second after the request
+abbrev pub is_late : ℕ → Request → Bool
+is_late begin r = nat_lt (sum_of r.since 1000000) begin
+
+-- ---- the requests that wait for an answer
+
+abbrev pub unless_over : Bool → Request → List Request
+unless_over over r = if over then [] else r ∷ []
+
+-- after a reading that begins then, by the frame that it delivered
+abbrev pub is_over : ℕ → List ℕ → Request → Bool
+is_over begin frame r = is_late begin r || is_answer frame r
+
+abbrev pub left_waiting : ℕ → List ℕ → List Request → List Request
+left_waiting begin frame [] = []
+left_waiting begin frame (r ∷ rs) = unless_over (is_over begin frame r) r ++ left_waiting begin frame rs
+
+-- and with the request that it is; at most 16 are kept (own)
+abbrev pub with_request : Option Request → List Request → List Request
+with_request None waiting = waiting
+with_request (Some r) waiting = if nat_lt (length waiting) 16 then waiting ++ r ∷ [] else waiting
+
+abbrev pub after_frame : ℕ → ℕ → List ℕ → List Request → List Request
+after_frame begin at frame waiting = with_request (request_of frame at) (left_waiting begin frame waiting)

@@ -1,0 +1,105 @@
+//! The header of a frame, and which of its blocks were taken.
+ghost use Rattle.std.specs.Prelude.{◌≡◌, ℕ, ◌+◌, ◌*◌, ◌<◌, ◌≤◌, length, false, slice_index_or};
+ghost use Rattle.cec_frame.specs.Blocks.{weighed};
+ghost use Rattle.cec_bits.specs.Sending.{bit_read};
+ghost use Rattle.cec_text.specs.ReadingText.{is_complete};
+ghost use Rattle.cec_remarks.specs.Header.{destination_of, failed_block, initiator_of, is_delivered, is_taken, is_to_all, nibble_at, seeks_address};
+
+use cec_frame::{Addr, Ending};
+
+/// The slots of a block: eight bits, end-of-message and acknowledge (CEC 6.1).
+pub(crate) const BLOCK: usize = 10;
+
+/// The bits of a header's initiator and destination (CEC 6.1.1).
+pub(crate) const HEADER: usize = 8;
+
+// A bit that was not read counts as 0.
+fn bit_at(bits: &[bool], k: usize) -> bool
+    ensures { result ≡ slice_index_or bits.now k false }
+{
+    bits.get(k).copied().unwrap_or(false)
+}
+
+fn weighed(weight: u8, bit: bool) -> u8
+    ensures value { result ≡ weighed weight bit }
+    ensures within { result ≤ weight }
+{
+    if bit { weight } else { 0 }
+}
+
+fn nibble_at(bits: &[bool], k: usize) -> u8
+    requires { k < 1000 }
+    ensures value { result ≡ nibble_at bits.now k }
+    ensures small { result < 16 }
+{
+    weighed(8, bit_at(bits, k))
+        + weighed(4, bit_at(bits, k + 1))
+        + weighed(2, bit_at(bits, k + 2))
+        + weighed(1, bit_at(bits, k + 3))
+}
+
+pub(crate) fn initiator_of(bits: &[bool]) -> u8
+    ensures value { result ≡ initiator_of bits.now }
+    ensures small { result < 16 }
+{
+    nibble_at(bits, 0)
+}
+
+pub(crate) fn destination_of(bits: &[bool]) -> u8
+    ensures value { result ≡ destination_of bits.now }
+    ensures small { result < 16 }
+{
+    nibble_at(bits, 4)
+}
+
+pub(crate) fn is_to_all(bits: &[bool]) -> bool
+    ensures { result ≡ is_to_all bits.now }
+{
+    destination_of(bits) == Addr::BROADCAST
+}
+
+/// Whether it polls its own address (CEC 10.2.1).
+pub(crate) fn seeks_address(bits: &[bool]) -> bool
+    ensures { result ≡ seeks_address bits.now }
+{
+    let initiator = initiator_of(bits);
+    initiator == destination_of(bits) && initiator != Addr::BROADCAST
+}
+
+fn is_taken(bits: &[bool], block: usize) -> bool
+    requires { (1 ≤ block) × (block < 1000) }
+    ensures { result ≡ is_taken bits.now block }
+{
+    bit_at(bits, BLOCK * block - 1) == is_to_all(bits)
+}
+
+/// The first block, from 1, that was not acknowledged or, of a frame to all, was refused (CEC 6.1.2).
+pub(crate) fn failed_block(bits: &[bool]) -> Option<usize>
+    requires { length bits.now ≤ 160 }
+    ensures { result ≡ failed_block bits.now }
+{
+    let blocks = bits.len() / BLOCK;
+    for block in 1..blocks + 1 {
+        if !is_taken(bits, block) {
+            return Some(block);
+        }
+    }
+    None
+}
+
+fn is_complete(ending: Ending) -> bool
+    ensures { result ≡ is_complete ending }
+{
+    match ending {
+        Ending::Complete => true,
+        Ending::Short | Ending::Silent | Ending::BadStart | Ending::Long | Ending::Open => false,
+    }
+}
+
+/// Whether a frame was read whole, and taken.
+pub(crate) fn is_delivered(ending: Ending, bits: &[bool]) -> bool
+    requires { length bits.now ≤ 160 }
+    ensures { result ≡ is_delivered ending bits.now }
+{
+    is_complete(ending) && failed_block(bits).is_none()
+}

@@ -1,0 +1,21 @@
+//! What an audit of a captured line keeps of the readings so far, and what there is to remark of the next one: signal free
+//! times, attempts at a frame, bad starts in a row, requests without an answer, physical addresses, frames of each
+//! initiator (HDMI 1.4 CEC).
+#![tactic(auto)]
+
+mod attempts;
+mod counts;
+mod frames;
+mod free;
+mod header;
+mod places;
+mod requests;
+mod series;
+
+pub use attempts::{Attempts, Failure};
+pub use counts::{Count, Counts, count_reading, no_counts};
+pub use frames::{delivered, sender};
+pub use free::{Before, TooSoon, is_bad_start};
+pub use places::{Places, moved_from, no_places, note_report, unknown_source};
+pub use requests::{Request, WAITING, Waiting, after_frame};
+pub use series::Series;

@@ -1,0 +1,116 @@
+//! The physical addresses that devices report.
+ghost use Rattle.std.specs.Prelude.{◌≡◌, ◌<◌, length, None};
+ghost use Rattle.cec_remarks.specs.Frames.{sender};
+ghost use Rattle.cec_remarks.specs.Places.{is_place, is_reported, moved_from, no_places, other_than, phys_in, same_phys, unknown_source, with_places};
+
+use crate::frames::{opcode_of, sender};
+use cec_frame::Addr;
+use cec_words::byte_at;
+use hdmi_core::Phys;
+
+/// The opcodes of Report Physical Address and Active Source.
+const REPORT: u8 = 0x84;
+
+const ACTIVE_SOURCE: u8 = 0x82;
+
+/// What each logical address reported last.
+pub type Places = [Option<Phys>; 16];
+
+/// Nothing was reported.
+pub fn no_places() -> Places
+    ensures { result ≡ no_places }
+{
+    [None; 16]
+}
+
+// The address in a frame of this opcode.
+fn phys_in(opcode: u8, frame: &[u8]) -> Option<Phys>
+    ensures { result ≡ phys_in opcode frame.now }
+{
+    if opcode_of(frame) != opcode || frame.len() < 4 {
+        return None;
+    }
+    Some(Phys {
+        high: byte_at(frame, 2),
+        low: byte_at(frame, 3),
+    })
+}
+
+fn same_phys(one: Phys, other: Phys) -> bool
+    ensures { result ≡ same_phys one other }
+{
+    one.high == other.high && one.low == other.low
+}
+
+fn other_than(before: Option<Phys>, phys: Phys) -> Option<Phys>
+    ensures { result ≡ other_than before phys }
+{
+    match before {
+        None => None,
+        Some(before) => {
+            if same_phys(before, phys) {
+                return None;
+            }
+            Some(before)
+        }
+    }
+}
+
+/// The address that the sender of a report had reported before, where that was another one.
+pub fn moved_from(frame: &[u8], places: &Places) -> Option<Phys>
+    ensures { result ≡ moved_from frame.now places.now }
+{
+    let initiator = sender(frame);
+    match phys_in(REPORT, frame) {
+        None => None,
+        Some(phys) => {
+            if initiator == Addr::BROADCAST {
+                return None;
+            }
+            other_than(places[initiator as usize], phys)
+        }
+    }
+}
+
+fn is_place(place: Option<Phys>, phys: Phys) -> bool
+    ensures { result ≡ is_place place phys }
+{
+    match place {
+        None => false,
+        Some(place) => same_phys(place, phys),
+    }
+}
+
+fn is_reported(places: &[Option<Phys>], phys: Phys) -> bool
+    ensures { result ≡ is_reported places.now phys }
+{
+    let [place, places @ ..] = places else {
+        return false;
+    };
+    is_place(*place, phys) || is_reported(places, phys)
+}
+
+/// The address that an active source has, where nobody reported it.
+pub fn unknown_source(frame: &[u8], places: &Places) -> Option<Phys>
+    ensures { result ≡ unknown_source frame.now places.now }
+{
+    match phys_in(ACTIVE_SOURCE, frame) {
+        None => None,
+        Some(phys) => {
+            if is_reported(places, phys) {
+                return None;
+            }
+            Some(phys)
+        }
+    }
+}
+
+/// A frame was delivered.
+pub fn note_report(frame: &[u8], places: &mut Places)
+    ensures { places.new ≡ with_places frame.now places.old }
+{
+    let initiator = sender(frame);
+    if let Some(phys) = phys_in(REPORT, frame) {
+        places[initiator as usize] = Some(phys);
+    }
+}

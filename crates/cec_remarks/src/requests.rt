@@ -1,0 +1,156 @@
+//! Requests that wait for an answer.
+ghost use Rattle.std.specs.Prelude.{◌≡◌, ◌+◌, ◌≤◌, ◌<◌, ◌++◌, length};
+ghost use Rattle.cec_remarks.specs.Frames.{opcode_of, receiver, sender};
+ghost use Rattle.cec_remarks.specs.Requests.{after_frame, answer_to, is_answer, is_late, is_over, left_waiting, reaches, refuses, request_of, unless_over, with_request};
+
+use crate::frames::{opcode_of, receiver, sender};
+use arrayvec::ArrayVec;
+use cec_frame::Addr;
+use cec_words::byte_at;
+
+/// The longest time in which an answer comes (CEC 9.2), in microseconds.
+const ANSWER: u64 = 1_000_000;
+
+/// The opcode of Feature Abort (CEC 12.3).
+const FEATURE_ABORT: u8 = 0x00;
+
+/// The most requests that wait at once.
+pub const WAITING: usize = 16;
+
+/// A request, and what answers it.
+#[derive(Clone, Copy, Debug, Default, PartialEq, Eq)]
+pub struct Request {
+    pub initiator: u8,
+    pub destination: u8,
+    pub opcode: u8,
+    /// The opcode of its answer.
+    pub answer: u8,
+    /// Where its reading ended.
+    pub since: u64,
+}
+
+/// The requests that wait for an answer.
+pub type Waiting = ArrayVec<Request, WAITING>;
+
+fn answer_to(opcode: u8) -> Option<u8>
+    ensures { result ≡ answer_to opcode }
+{
+    match opcode {
+        0x46 => Some(0x47),
+        0x70 => Some(0x72),
+        0x71 => Some(0x7a),
+        0x7d => Some(0x7e),
+        0x83 => Some(0x84),
+        0x8c => Some(0x87),
+        0x8d => Some(0x8e),
+        0x8f => Some(0x90),
+        0x91 => Some(0x32),
+        0x9f => Some(0x9e),
+        _ => None,
+    }
+}
+
+// The request that a frame is, whose reading ended then.
+fn request_of(frame: &[u8], since: u64) -> Option<Request>
+    ensures { result ≡ request_of frame.now since }
+{
+    let destination = receiver(frame);
+    if frame.len() < 2 || destination == Addr::BROADCAST {
+        return None;
+    }
+    let opcode = opcode_of(frame);
+    match answer_to(opcode) {
+        None => None,
+        Some(answer) => Some(Request {
+            initiator: sender(frame),
+            destination,
+            opcode,
+            answer,
+            since,
+        }),
+    }
+}
+
+impl Request {
+    fn reaches(self, frame: &[u8]) -> bool
+        ensures { result ≡ reaches frame.now self }
+    {
+        let destination = receiver(frame);
+        destination == self.initiator || destination == Addr::BROADCAST
+    }
+
+    fn refuses(self, frame: &[u8]) -> bool
+        ensures { result ≡ refuses frame.now self }
+    {
+        opcode_of(frame) == FEATURE_ABORT
+            && receiver(frame) == self.initiator
+            && byte_at(frame, 2) == self.opcode
+    }
+
+    // Whether a frame answers it.
+    fn is_answer(self, frame: &[u8]) -> bool
+        ensures { result ≡ is_answer frame.now self }
+    {
+        if frame.len() < 2 || sender(frame) != self.destination {
+            return false;
+        }
+        (opcode_of(frame) == self.answer && self.reaches(frame)) || self.refuses(frame)
+    }
+
+    /// Whether more than a second has passed by an instant.
+    pub fn is_late(self, begin: u64) -> bool
+        ensures { result ≡ is_late begin self }
+    {
+        self.since.saturating_add(ANSWER) < begin
+    }
+
+    fn is_over(self, begin: u64, frame: &[u8]) -> bool
+        ensures { result ≡ is_over begin frame.now self }
+    {
+        self.is_late(begin) || self.is_answer(frame)
+    }
+}
+
+fn push_unless(over: bool, request: Request, kept: &mut Waiting)
+    requires { length kept.old.items + 1 ≤ 16 }
+    ensures { kept.new.items ≡ kept.old.items ++ unless_over over request }
+{
+    if over {
+        return;
+    }
+    kept.push(request);
+}
+
+fn push_waiting(begin: u64, frame: &[u8], waiting: &[Request], kept: &mut Waiting)
+    requires { length kept.old.items + length waiting.now ≤ 16 }
+    ensures { kept.new.items ≡ kept.old.items ++ left_waiting begin frame.now waiting.now }
+{
+    let [request, waiting @ ..] = waiting else {
+        return;
+    };
+    push_unless(request.is_over(begin, frame), *request, kept);
+    push_waiting(begin, frame, waiting, kept);
+}
+
+fn push_request(request: Option<Request>, waiting: &mut Waiting)
+    ensures { waiting.new.items ≡ with_request request waiting.old.items }
+{
+    let Some(request) = request else {
+        return;
+    };
+    if waiting.is_full() {
+        return;
+    }
+    waiting.push(request);
+}
+
+/// The requests that wait after a reading from `begin` to `at`, which delivered this frame, or none.
+pub fn after_frame(begin: u64, at: u64, frame: &[u8], waiting: &[Request]) -> Waiting
+    requires { length waiting.now ≤ 16 }
+    ensures { result.items ≡ after_frame begin at frame.now waiting.now }
+{
+    let mut kept = Waiting::new();
+    push_waiting(begin, frame, waiting, &mut kept);
+    push_request(request_of(frame, at), &mut kept);
+    kept
+}
