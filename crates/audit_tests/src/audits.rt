@@ -46,6 +46,62 @@ const WIDTHS: &[Case] = &[
         "@100000 3499/1001 0",
         "100000 103499 bad-start -\n  start low 3499 not 3500..3900\n104500 106000 bad-start -\n",
     ),
+    (
+        "@100000 3500/1000 0 1 0 0 0 0 0 0 1 0",
+        "100000 127150 complete 4>0 ack\n",
+    ),
+    (
+        "@100000 3900/600 0 1 0 0 0 0 0 0 1 0",
+        "100000 127150 complete 4>0 ack\n",
+    ),
+    (
+        "@100000 3901/599",
+        "100000 103901 bad-start -\n  start low 3901 not 3500..3900\n",
+    ),
+    (
+        "@100000 3700/600 0 1 0 0 0 0 0 0 1 0",
+        "100000 126950 complete 4>0 ack\n",
+    ),
+    (
+        "@100000 3700/1000 0 1 0 0 0 0 0 0 1 0",
+        "100000 127350 complete 4>0 ack\n",
+    ),
+    (
+        "@100000 3700/599 0",
+        "100000 104299 bad-start -\n  start total 4299 not 4300..4700\n",
+    ),
+    (
+        "@100000 3700/1001 0",
+        "100000 104701 bad-start -\n  start total 4701 not 4300..4700\n104701 106201 bad-start -\n",
+    ),
+    (
+        "@100000 S 0 600/1450 600/2150 0 0 0 0 0 1 0",
+        "100000 127150 complete 6>0 ack\n",
+    ),
+    (
+        "@100000 S 0 600/6599 S",
+        "100000 109651 silent 01\n  slot 2 block 1 bit 2 total 7199 not 2050..2750\n114099 118800 bad-start -\n",
+    ),
+    (
+        "@100000 S 0 600/6600 S",
+        "100000 109651 silent 01\n114100 118801 bad-start -\n",
+    ),
+    (
+        "@100000 S 0 600/1000 3360/900",
+        "100000 108500 short 01\n  slot 2 block 1 bit 2 total 1600 not 2050..2750\n  low drive 3360\n",
+    ),
+    (
+        "@100000 S 0 600/1000 3840/900",
+        "100000 108500 short 01\n  slot 2 block 1 bit 2 total 1600 not 2050..2750\n  low drive 3840\n",
+    ),
+    (
+        "@100000 S 0 600/1000 1701/900",
+        "100000 108500 short 01\n  slot 2 block 1 bit 2 total 1600 not 2050..2750\n  low drive 1701 not 3360..3840\n",
+    ),
+    (
+        "@100000 S 0 600/1000 1700/900",
+        "100000 108500 short 01\n  slot 2 block 1 bit 2 total 1600 not 2050..2750\n",
+    ),
 ];
 
 /// A header that nobody acknowledges, six times and then a seventh; a broadcast that is refused; a poll of one's own address.
@@ -99,6 +155,37 @@ const FREE: &[Case] = &[
         "@100000 S 0 1 0 0 0 0 0 0 1 1500/16800 S 0 1 0 0 0 0 0 0 1 0",
         "100000 127150 complete 4>0 ack\n144400 171550 complete 4>0 ack\n",
     ),
+    // after a frame to all that nobody refused, by the same one
+    (
+        "@100000 =4f36 @166799 =40",
+        "100000 151150 complete 4>f standby ok\n166799 193949 complete 4>0 ack\n  free 16099 of 16800\n",
+    ),
+    // where who sends is not known: after a look for an address, before one, and from 15
+    (
+        "@100000 S 0 1 0 0 0 1 0 0 1 600/7199 S 0 0 0 0 0 1 0 0 1 0",
+        "100000 127150 complete 4>4 nack\n133899 161049 complete 0>4 ack\n  free 7199 of 7200\n",
+    ),
+    (
+        "@100000 S 0 1 0 0 0 1 0 0 1 600/7200 S 0 0 0 0 0 1 0 0 1 0",
+        "100000 127150 complete 4>4 nack\n133900 161050 complete 0>4 ack\n",
+    ),
+    (
+        "@100000 S 0 1 0 0 0 0 0 0 1 1500/7199 S 0 0 0 1 0 0 0 1 1 1",
+        "100000 127150 complete 4>0 ack\n134799 161949 complete 1>1 nack\n  free 7199 of 7200\n",
+    ),
+    (
+        "@100000 S 0 1 0 0 0 0 0 0 1 1500/7200 S 0 0 0 1 0 0 0 1 1 1",
+        "100000 127150 complete 4>0 ack\n134800 161950 complete 1>1 nack\n",
+    ),
+    (
+        "@100000 =40 @134799 =f0",
+        "100000 127150 complete 4>0 ack\n134799 161949 complete f>0 ack\n  free 7199 of 7200\n",
+    ),
+    // after a header that broke
+    (
+        "@100000 S 0 1 0 0 0 600/7199 =40",
+        "100000 119251 silent 010001\n124299 151449 complete 4>0 ack\n  free 7199 of 7200\n",
+    ),
 ];
 
 /// Bad starts in a row, folded.
@@ -128,11 +215,53 @@ const REQUESTS: &[Case] = &[
     ),
 ];
 
+/// Each request that is known and its answer (CEC 13): Give OSD Name, System Audio Mode Request, Give Audio Status, Give System
+/// Audio Mode Status, Give Physical Address, Give Device Vendor ID, Menu Request, Give Device Power Status, Get Menu Language,
+/// Get CEC Version. Answers to one device, and to all.
+const ANSWERS: &[(&str, &str)] = &[
+    ("46", "0447"),
+    ("70", "0f72"),
+    ("71", "047a"),
+    ("7d", "047e"),
+    ("83", "0f84"),
+    ("8c", "0f87"),
+    ("8d", "048e"),
+    ("8f", "0490"),
+    ("91", "0f32"),
+    ("9f", "049e"),
+];
+
+/// What is no answer to Give Device Power Status from 4 to 0: an answer from another device, to another one, to another
+/// request, a Feature Abort of another opcode, from another device, to another one, and a header alone.
+const NO_ANSWERS: &[&str] = &["5490", "0590", "0447", "040046", "54008f", "05008f", "04"];
+
+/// What is no request, or has no answer: a frame to all, a header alone, Image View On.
+const NO_REQUESTS: &[&str] = &["4f8f", "40", "4004"];
+
 /// Report Physical Address of 1.0.0.0 and then of 2.0.0.0 from 4, and Active Source of 2.0.0.0 and of 3.0.0.0.
 const ADDRESSES: &[Case] = &[(
     "@100000 S 0 1 0 0 1 1 1 1 0 1 1 0 0 0 0 1 0 0 0 1 0 0 0 1 0 0 0 0 0 1 0 0 0 0 0 0 0 0 0 1 0 0 0 0 0 1 0 0 1 1 @300000 S 0 1 0 0 1 1 1 1 0 1 1 0 0 0 0 1 0 0 0 1 0 0 1 0 0 0 0 0 0 1 0 0 0 0 0 0 0 0 0 1 0 0 0 0 0 1 0 0 1 1 @500000 S 0 1 0 0 1 1 1 1 0 1 1 0 0 0 0 0 1 0 0 1 0 0 1 0 0 0 0 0 0 1 0 0 0 0 0 0 0 0 1 1 @700000 S 0 1 0 0 1 1 1 1 0 1 1 0 0 0 0 0 1 0 0 1 0 0 1 1 0 0 0 0 0 1 0 0 0 0 0 0 0 0 1 1",
     "100000 223150 complete 4>f report-physical-address 1.0.0.0 playback ok\n300000 423150 complete 4>f report-physical-address 2.0.0.0 playback ok\n  4 reported 1.0.0.0 before\n500000 599150 complete 4>f active-source 2.0.0.0 ok\n700000 799150 complete 4>f active-source 3.0.0.0 ok\n  nobody reported 3.0.0.0\n",
 )];
+
+/// Addresses that are told again, of other devices, by devices without an address, and in frames that are too short.
+const PLACES: &[(&str, &str)] = &[
+    ("@100000 =4f84100004 @300000 =4f84100004", ""),
+    ("@100000 =4f84100004 @300000 =5f84200005", ""),
+    (
+        "@100000 =4f84100004 @300000 =4f84120004",
+        "  4 reported 1.0.0.0 before|",
+    ),
+    (
+        "@100000 =4f84100004 @300000 =4f84100104",
+        "  4 reported 1.0.0.0 before|",
+    ),
+    ("@100000 =ff84100004 @300000 =ff84200004", ""),
+    ("@100000 =ff84100004 @300000 =4f821000", ""),
+    ("@100000 =4f8410 @300000 =4f84200004", ""),
+    ("@100000 =4f8210", ""),
+    ("@100000 =4f821000", "  nobody reported 1.0.0.0|"),
+];
 
 /// What is written of a capture.
 fn audited(rt: &(impl Abort + AllocGlobal), words: &str, timing: bool) -> String {
@@ -155,6 +284,88 @@ fn remarks(rt: &(impl Abort + AllocGlobal), case: &Case) {
         .split_once("  all readings\n")
         .expect(rt, "a summary");
     assert_eq!(rt; before, case.1);
+}
+
+/// The remarks alone, before the summary, each ended by `|`.
+fn remarked(rt: &(impl Abort + AllocGlobal), words: &str) -> String {
+    let text = audited(rt, words, false);
+    let mut lines = String::new(rt.alloc());
+    for line in text.as_str().lines() {
+        if line == "  all readings" {
+            break;
+        }
+        if line.starts_with("  ") {
+            lines.push_str(line).ok().expect(rt, "a line");
+            lines.push_str("|").ok().expect(rt, "a line");
+        }
+    }
+    lines
+}
+
+/// What is remarked after a request from 4 to 0 and another frame, by a poll two seconds later.
+fn after_request(rt: &(impl Abort + AllocGlobal), request: &str, frame: &str) -> String {
+    let words = format!(in rt.alloc(); "@100000 ={request} @300000 ={frame} @2200000 =40").expect(
+        rt, "words",
+    );
+    remarked(rt, words.as_str())
+}
+
+#[test]
+fn answers(rt: HostRuntime) {
+    for (request, answer) in ANSWERS {
+        let asked = format!(in rt.alloc(); "40{request}").expect(&rt, "a frame");
+        let aborted = format!(in rt.alloc(); "0400{request}").expect(&rt, "a frame");
+        let want = format!(in rt.alloc(); "  no answer to 4>0 {request} of 151150|").expect(
+            &rt, "a line",
+        );
+        assert_eq!(rt; after_request(&rt, asked.as_str(), answer).as_str(), "");
+        assert_eq!(rt;
+            after_request(&rt, asked.as_str(), aborted.as_str()).as_str(),
+            ""
+        );
+        assert_eq!(rt;
+            after_request(&rt, asked.as_str(), "10").as_str(),
+            want.as_str()
+        );
+    }
+}
+
+#[test]
+fn no_answers(rt: HostRuntime) {
+    for frame in NO_ANSWERS {
+        let told = after_request(&rt, "408f", frame);
+        assert_eq!(rt; told.as_str(), "  no answer to 4>0 8f of 151150|");
+    }
+    for frame in NO_REQUESTS {
+        let told = after_request(&rt, frame, "10");
+        assert_eq!(rt; told.as_str(), "");
+    }
+}
+
+#[test]
+fn places(rt: HostRuntime) {
+    for (words, want) in PLACES {
+        let told = remarked(&rt, words);
+        assert_eq!(rt; told.as_str(), *want);
+    }
+}
+
+/// The frames of each initiator: taken, not acknowledged, refused and broken; nothing of who sent none, nor of a reading
+/// without a header.
+#[test]
+fn initiators(rt: HostRuntime) {
+    let words =
+        "@100000 =40 @200000 =4f36 @300000 S 0 1 0 0 0 0 0 0 1 1 @400000 S 0 0 0 0 1 1 1 1 1 0 @500000 S 0 0 0 1 0 0 0 0 @600000 S 1 1 1 1 0 0 0";
+    let text = audited(&rt, words, false);
+    let (_, summary) = text
+        .as_str()
+        .split_once("  all readings\n")
+        .expect(&rt, "a summary");
+    let (counts, _) = summary.split_once("  start low").expect(&rt, "widths");
+    assert_eq!(rt;
+        counts,
+        "  from 0: 0 taken, 1 not taken, 0 broken\n  from 1: 0 taken, 0 not taken, 1 broken\n  from 4: 2 taken, 1 not taken, 0 broken\n"
+    );
 }
 
 #[test]

@@ -54,7 +54,54 @@ fn add(rt: &(impl Abort + AllocGlobal), spelling: &mut Spelling, low: u64, high:
     spelling.at = rise.saturating_add(high);
 }
 
-/// These words, one after another: `@N` waits until an instant, and each other word is low and then high.
+fn add_slot(rt: &(impl Abort + AllocGlobal), spelling: &mut Spelling, bit: bool) {
+    if bit {
+        add(rt, spelling, 600, 1_800);
+    } else {
+        add(rt, spelling, 1_500, 900);
+    }
+}
+
+/// A block: its byte, whether it is the last one, and how it is acknowledged.
+fn add_block(
+    rt: &(impl Abort + AllocGlobal),
+    spelling: &mut Spelling,
+    byte: u8,
+    is_last: bool,
+    acknowledge: bool,
+) {
+    for weight in [128, 64, 32, 16, 8, 4, 2, 1] {
+        add_slot(rt, spelling, byte & weight != 0);
+    }
+    add_slot(rt, spelling, is_last);
+    add_slot(rt, spelling, acknowledge);
+}
+
+/// A frame in hex at nominal times, which is taken: each block of a frame to one device is acknowledged, and none of a frame
+/// to all is refused.
+fn add_frame(rt: &(impl Abort + AllocGlobal), spelling: &mut Spelling, digits: &str) {
+    let bytes = hex::decode(rt.alloc(), digits).ok().expect(rt, "a frame");
+    let header = bytes.first().copied().expect(rt, "a header");
+    let mut left = bytes.len();
+    add(rt, spelling, 3_700, 800);
+    for byte in &bytes {
+        left = left.saturating_sub(1);
+        add_block(rt, spelling, *byte, left == 0, header & 15 == 15);
+    }
+}
+
+fn add_word(rt: &(impl Abort + AllocGlobal), spelling: &mut Spelling, word: &str) {
+    match word.strip_prefix("=") {
+        Some(hex) => add_frame(rt, spelling, hex),
+        None => {
+            let (low, high) = parts(rt, word);
+            add(rt, spelling, low, high);
+        }
+    }
+}
+
+/// These words, one after another: `@N` waits until an instant, `=4f36` is a frame in hex, and each other word is low and then
+/// high.
 fn spelled(rt: &(impl Abort + AllocGlobal), words: &str) -> Spelling {
     let mut spelling = Spelling {
         at: 0,
@@ -64,10 +111,7 @@ fn spelled(rt: &(impl Abort + AllocGlobal), words: &str) -> Spelling {
     for word in words.split_ascii_whitespace() {
         match word.strip_prefix("@") {
             Some(instant) => spelling.at = number(rt, instant),
-            None => {
-                let (low, high) = parts(rt, word);
-                add(rt, &mut spelling, low, high);
-            }
+            None => add_word(rt, &mut spelling, word),
         }
     }
     spelling.at = spelling.at.saturating_add(TAIL);
