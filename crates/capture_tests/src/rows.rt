@@ -9,6 +9,9 @@ pub(crate) const ROWS: &str = "\
 vcd: HEAD|#0|1!|#12000|0!|#15700|1!|#20000 => 12000f 15700r end 20000
 vcd: HEAD|#0|x!|#5|0!|#9|z!|#12|0!|#15|X!|#18|0!|#20|Z!|#30 => 5f 9r 12f 15r 18f 20r end 30
 vcd: HEAD|#0|0!|#7|1!|#9 => 0f 7r end 9
+# Vectors, real numbers and strings, in either case; what other keywords tell among changes is passed over.
+vcd: HEAD|#0|sLOW !|#2|S0 $|#5|B0 !|#6|R1.5 !|#7|B1 !|#9 => 5f 7r end 9
+vcd: HEAD|#0|$dumpall|1!|$end|#5|$dumpon|0!|$end|#6|$comment 1! $end|#9 => 5f end 9
 # Other wires, vectors and real numbers are passed over; a vector of one bit is a value. The wire goes by its name.
 vcd: $timescale 1us $end|$var wire 8 # BUS [7:0] $end|$var wire 1 ! CEC $end|$var wire 1 % SCL $end|$enddefinitions $end|#0|b10101010 #|0%|#7|b0 !|r1.5 $|#8|b1 !|#9 => 7f 8r end 9
 vcd:SCL $timescale 1us $end|$var wire 8 # BUS [7:0] $end|$var wire 1 ! CEC $end|$var wire 1 % SCL $end|$enddefinitions $end|#0|b10101010 #|0%|#7|b0 !|r1.5 $|#8|b1 !|#9 => 0f end 9
@@ -51,6 +54,13 @@ auto: $timescale 1 us $end~|$var wire 1 ! CEC $end~|$enddefinitions $end~|#3~|0!
 auto: PINS|100.000000000 1|100.012000000 0|100.015700000 1|100.030000000 1 => 12000f 15700r end 30000
 pin: PINS|100.000000500 2|100.012000001 65536|100.015700000 65537|100.016000000 4|100.017000000 3 => 12001f 15700r end 17000
 pin: PINS|99.500000000 0|100.001000000 1 => 0f 1000r end 1000
+pin: PINS|100.000000000 5|100.012000000 0|100.013000000 65538|100.014000000 65539|100.015000000 65540|100.016000000 65541|100.017000000 2|100.018000000 3 => 12000f end 18000
+pin: PINS|100.000000000 65542 => line 7: word
+pin: PINS|100.000000000 65535 => line 7: word
+# Without a start times are counted from 0: a file of a machine that has run for more than 23 days is late.
+auto: # cec-ctl --store-pin|# version 1|81234.012000000 0|81234.015700000 1 => 81234012000f 81234015700r end 81234015700
+pin: # cec-ctl --store-pin|# version 1|2000000.000000000 1 => end 2000000000000
+pin: # cec-ctl --store-pin|# version 1|2000000.000000001 1 => line 3: late
 pin: PINS|100.5 0 => line 7: word
 pin: PINS|100.000000000 6 => line 7: word
 pin: PINS|2000101.000000000 1 => line 7: late
@@ -74,6 +84,11 @@ csv: Time,A|1,1|0.9,0 => line 3: order
 csv: Time,A|0,1|2000000.000001,0 => line 3: late
 # Edge files.
 auto: # a comment|12000 0|15700 1|20000 end => 12000f 15700r end 20000
+# A remark with a comma is no line of names.
+auto: # first try, with a comma|12000 0|15700 1|20000 end => 12000f 15700r end 20000
+auto: #,|12000 0|15700 1|20000 end => 12000f 15700r end 20000
+auto: |12000 0|15700 1|20000 end => 12000f 15700r end 20000
+auto:  => line 1: line
 auto: 0,1 => line 1: line
 edges: 5 0|9 0|10 end => line 2: order
 edges: 5 0 => line 2: line
