@@ -1,0 +1,27 @@
+-- What is answered of EDIDs (this profile's own).
+use Rattle.std.specs.Prelude.{◌≡◌, ℕ, ◌/◌, ◌%◌, Bool, true, false, List}
+use Rattle.hdmi_core.specs.declared.phys.Phys.{Phys}
+use Rattle.hdmi_blocks.specs.Bytes.{IsRefused as IsNoEdid}
+use Rattle.hdmi_blocks.specs.declared.bytes.EdidError.{EdidError}
+use Rattle.hdmi_blocks.specs.declared.passing.AudioFrom.{AudioFrom}
+use Rattle.hdmi_blocks.specs.declared.passing.AudioFrom.TheVariants.{Television, Amplifier}
+use Rattle.hdminet_room.specs.Codes.{number_of}
+use Rattle.hdminet_room.specs.Faults.{edid_code}
+use Rattle.hdminet_room.specs.Room.{IsRefused}
+use Rattle.hdminet_room.specs.declared.answer.Answer.{Answer}
+
+-- the bytes are no EDID, for the cause of this number
+abbrev pub IsEdidFound : List ℕ → ℕ → Type 0
+IsEdidFound bytes code = (cause : EdidError) × IsNoEdid bytes cause × (code ≡ number_of (edid_code cause))
+
+-- and nothing is put into the room
+abbrev pub IsEdidRefused : List ℕ → List ℕ → List ℕ → Answer → Type 0
+IsEdidRefused bytes old new answer = (cause : EdidError) × IsNoEdid bytes cause × IsRefused (edid_code cause) 0 old new answer
+
+-- an address of four nibbles, as 0x1200 for 1.2.0.0 (HDMI 1.4, 8.7.2)
+abbrev pub phys_of : ℕ → Phys
+phys_of address = record { high = address / 256; low = address % 256 }
+
+abbrev pub audio_of : Bool → AudioFrom
+audio_of true = Amplifier
+audio_of false = Television

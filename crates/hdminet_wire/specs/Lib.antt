@@ -1,0 +1,6 @@
+pub mod Edids
+pub mod Frames
+pub mod Heard
+pub mod Readings
+pub mod Receiver
+pub mod Sender

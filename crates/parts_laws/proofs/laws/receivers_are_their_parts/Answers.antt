@@ -1,0 +1,5 @@
+use Rattle.parts_laws.proofs.Same.{taken_back}
+use Rattle.parts_laws.proofs.laws.receivers_are_their_parts.Goals as goal
+
+pub returns : goal.returns
+returns c = taken_back c.args.receiver.now c.parts.result c.of_parts.result c.parts.ensures c.of_parts.ensures.found (c.of_parts.ensures.there c.args.receiver.now c.parts.ensures)

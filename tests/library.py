@@ -1,0 +1,101 @@
+"""library.py TOP COUNT [PROGRAM]: what a caller of the library sees, over Python: COUNT random frames both ways, EDIDs,
+refusals, a sender and a receiver, and with PROGRAM that each example's trace and edges are the program's."""
+
+import glob
+import os
+import random
+import subprocess
+import sys
+import time
+
+import hdminet
+
+top, count, program = sys.argv[1], int(sys.argv[2]), sys.argv[3] if len(sys.argv) > 3 else ""
+
+
+def refused(code, line, call, *arguments):
+    try:
+        call(*arguments)
+    except hdminet.Error as error:
+        assert (error.code, error.line) == (code, line), (error.code, error.line, str(error))
+    else:
+        raise AssertionError("%s was not refused" % call.__name__)
+
+
+def read(name):
+    with open(os.path.join(top, "examples", name), "rb") as file:
+        return file.read()
+
+
+def frames():
+    assert hdminet.frame_text(b"\x4f\x82\x10\x00") == "4>f active-source 1.0.0.0"
+    assert hdminet.frame_bytes("0>4 standby") == b"\x04\x36"
+    refused(10, 0, hdminet.frame_text, b"")
+    refused(11, 0, hdminet.frame_text, bytes(17))
+    refused(21, 0, hdminet.frame_bytes, "4>0 frob")
+    generator, begin = random.Random(1), time.time()
+    for _ in range(count):
+        frame = generator.randbytes(generator.randint(1, 16))
+        assert hdminet.frame_bytes(hdminet.frame_text(frame)) == frame
+    print("%d random frames to text and back in Python: %.1f microseconds each" % (count, (time.time() - begin) / max(count, 1) * 1e6))
+    texts, dumps = read("frames.txt").decode().splitlines(), read("frames.hex").decode().split()
+    assert [hdminet.frame_bytes(text).hex() for text in texts if text and not text.startswith("#")] == dumps
+
+
+def edids():
+    for name in ("living-room", "monitor-1.4", "overscan"):
+        edid = read(name + ".edid")
+        assert hdminet.edid_fault(edid) is None and hdminet.edid_text(edid) == read(name + ".edid.txt").decode("latin-1")
+    edid = read("living-room.edid")
+    assert hdminet.edid_fault(edid[:-1]) == "edid: length"
+    refused(30, 0, hdminet.edid_text, edid[:-1])
+    passed = hdminet.edid_port(edid, "1.2.0.0")
+    assert passed == hdminet.edid_port(edid, 0x1200) and len(passed) == len(edid) and b"\x03\x0c\x00\x12\x00" in passed
+    assert hdminet.edid_port(edid, "1.2.0.0", True) != passed
+
+
+def lines():
+    frame, receiver, sender = b"\x40\x44\x41", hdminet.Receiver(), hdminet.Sender(b"\x40\x44\x41", 1000)
+    found, was_low = [], False
+    for t in range(1000, 90000):
+        # A follower acknowledges each block in its tenth slot.
+        since = t - 1000 - 4500 - 9 * 2400
+        follower = since >= 0 and since % 24000 < 1500 and sender.is_sending()
+        is_low = sender.pulls(t) or follower
+        if is_low != was_low or receiver.wakes_at() == t:
+            reading = receiver.hear(t, is_low)
+            sender.hear(receiver.heard, t)
+            found += [reading] if reading else []
+        was_low = is_low
+    assert [(reading.begin, reading.ending, reading.frame(), reading.acknowledged()) for reading in found] == [(1000, "complete", frame, True)]
+    assert not sender.is_sending() and sender.slot() is None
+
+
+def runs():
+    refused(60, 1, hdminet.emulate, "frob\n", "end 1\n")
+    refused(80, 1, hdminet.emulate, "device tv tv 1\n", "at 1 frob\nend 5\n")
+    refused(21, 1, hdminet.emulate, "device tv tv 1\n", "at 1 send tv 4>0 frob\nend 5\n")
+    refused(87, 2, hdminet.emulate, "device tv tv 1\n", "at 1 press tv play\n")
+    refused(100, 1, hdminet.watch, "frob\n")
+    assert hdminet.watch(read("capture.edges")).encode() == read("capture.readings")
+    for name in sorted(glob.glob(os.path.join(top, "examples", "*.net"))):
+        text = read(os.path.basename(name))
+        topology, script = text.split(b"script\n", 1)
+        begin = time.time()
+        trace, edges = hdminet.emulate(topology, script), hdminet.emulate_edges(topology, script)
+        took = time.time() - begin
+        expected = name[:-3] + "trace"
+        assert trace.encode("latin-1") == read(os.path.basename(expected)), name
+        if program:
+            assert trace.encode("latin-1") == subprocess.run([program, "run"], input=text, capture_output=True, check=True).stdout, name
+            assert edges.encode() == subprocess.run([program, "run", "--edges"], input=text, capture_output=True, check=True).stdout, name
+            assert hdminet.watch(edges).encode() == subprocess.run([program, "mon"], input=edges.encode(), capture_output=True, check=True).stdout, name
+        print("%s: trace and edges in %.1f milliseconds each" % (os.path.basename(name), took * 1000 / 2))
+
+
+frames()
+edids()
+lines()
+if hasattr(hdminet._library, "hdminet_emulate"):
+    runs()
+print("library.py: ok")
