@@ -20,7 +20,15 @@ tv 133=10 135=90 => fail vic-twice/  a video code is listed once (CTA-861-D, 7.5
 tv 72=023a801871382d40582c450008222100001e 131=f3 => fail native-count/  the low four bits of a CTA block's flags are at most the detailed timings (CTA-861-D, 7.5)/  here: 3 native, 2 timings/
 tv 131=71 => warn overscan/  bit 7 of a CTA block's flags is set: formats of computers are shown whole (CTA-861-D, 7.5)/  here: flags 71/
 tv 62=00 => fail timing 1 timing-zero/  picture, blanking, sync offset and sync width are above 0 (E-EDID A, 3.10.2)/  here: horizontal sync offset 0/
-tv 254=01 => fail padding/  whole dummy descriptors and zeros follow the timings of a CTA block (CTA-861-D, 7.5; E-EDID A, 3.10.3)/
+tv 254=01 => fail padding/  whole dummy descriptors and zeros follow the timings of a CTA block (CTA-861-D, 7.5; E-EDID A, 3.10.3)/  here: extension 1/
+tv 38=0102 => fail standard-unused-form/  a standard timing that is not used is 01 01 (E-EDID A, 3.9)/  here: standard timing 1 is 01 02/
+tv 52=0001 => fail standard-unused-form/  a standard timing that is not used is 01 01 (E-EDID A, 3.9)/  here: standard timing 8 is 00 01/
+tv 72=000000000000000000000000000000000000 => fail empty-descriptor/  a descriptor that is not used has tag 10 (E-EDID A, 3.10.3)/  here: descriptor 2/
+tv 153=0f => warn rgb-quantization/  bit 6 of a video capability block is set: the range of RGB values can be chosen (CTA-861-D, 7.5.6)/  here: video capability 0f/
+tv 138=0f 141=03 => fail speakers/  more than two channels of linear PCM come with a speaker block, of three bytes (CTA-861-D, 7.5.3)/  here: no speaker block/
+tv 141=82010000 => fail speakers/  more than two channels of linear PCM come with a speaker block, of three bytes (CTA-861-D, 7.5.3)/  here: a speaker block of 2 bytes/
+tv 130=1c 145=67030c001000b845e2004f => fail tmds-clock/  the clock in an HDMI block is at most 340 MHz, a byte of 68 (HDMI 1.4, 8.3.2)/  here: TMDS clock 345 MHz/
+tv 130=20 154=65030c001000 => warn hdmi-twice/  there is one HDMI block: of several the address of the first is read/  here: 2 HDMI blocks/
 tv 113=00 115=00 54=e703 => fail timing 1 clock/  the pixel clock is at least 10 MHz/  here: clock 9.99 MHz/
 tv 69=4a => fail timing 1 h-back-porch/  some of the horizontal blanking is left after sync offset, sync width and both borders (E-EDID A, 3.10.2)/  here: blanking 280, sync offset 88, sync width 44, borders 2 times 74/
 tv 66=12 => fail timing 1 size-differs/  the image is at most 9 mm larger than the display, and not more than 9 mm smaller both ways (E-EDID A, 3.10.2, 3.6.2)/  here: image 530 x 290 mm, display 52 x 29 cm/

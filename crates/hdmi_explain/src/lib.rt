@@ -6,6 +6,7 @@
 mod asked;
 mod explanation;
 mod hints;
+mod places;
 mod values;
 
 pub use explanation::explain_findings;

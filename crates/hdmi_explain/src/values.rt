@@ -1,12 +1,15 @@
 //! The values at fault.
 ghost use Rattle.std.specs.Prelude.{◌≤◌, length};
 
+use crate::places::{
+    capability_told, empty_told, padding_told, speakers_told, tmds_told, unused_told,
+};
 use hdmi_check::{Finding, Rule, TimingRule};
 use hdmi_core::Phys;
 use hdmi_cta::{Ext, hdmi_address};
 use hdmi_edid::{Base, Timing};
 use hdmi_native::{Picture, differs, native_pictures};
-use hdmi_parts::{native_count, timings_of, video_codes};
+use hdmi_parts::{hdmi_count, native_count, timings_of, video_codes};
 use std::alloc::{AllocError, Global};
 
 /// The clock's units, 10 kHz, that are a MHz.
@@ -135,7 +138,17 @@ fn told_of_edid(
         Rule::NativeCount => counts_told(alloc, base, extensions),
         Rule::NativeSize => sizes_told(alloc, base, extensions),
         Rule::Underscan | Rule::BasicAudio => flags_told(alloc, extensions),
+        Rule::NoEmptyDescriptor => empty_told(alloc, base),
+        Rule::UnusedStandard => unused_told(alloc, base),
+        Rule::Speakers => speakers_told(alloc, extensions),
+        Rule::Padding => padding_told(alloc, extensions),
+        Rule::RgbRange => capability_told(alloc, extensions),
+        Rule::TmdsClock => tmds_told(alloc, extensions),
         Rule::Address => address_told(alloc, extensions),
+        Rule::OneHdmi => {
+            let count = hdmi_count(extensions);
+            Ok(Some(format!(in alloc; "{count} HDMI blocks")?))
+        }
         _ => Ok(None),
     }
 }
