@@ -1,9 +1,7 @@
 -- The remarks of an audit are lines that begin with two spaces.
-use Rattle.std.proofs.Common.{◌≡◌, ◌≢◌, ℕ, zero, suc, ◌+◌, ◌/◌, ◌%◌, ◌==◌, ◌<◌, ◌-◌, ◌&&◌, Bool, true, false, not, nat_lt, if◌then◌else◌, List, [], ◌∷◌, ◌++◌, Option, None, Some, codes, refl, sym, ap, subst, ◌∙◌, append-nil, append_assoc, arith}
-use Rattle.std.specs.Fmt.{decimal, digit_glyph, digits, digits_onto}
+use Rattle.std.proofs.Common.{◌≡◌, ℕ, ◌+◌, ◌/◌, ◌%◌, ◌==◌, ◌-◌, ◌&&◌, Bool, true, false, not, nat_lt, if◌then◌else◌, List, [], ◌∷◌, ◌++◌, Option, None, Some, codes, refl, sym, ap, subst, ◌∙◌, append-nil, append_assoc}
+use Rattle.std.specs.Fmt.{decimal}
 use Rattle.std.specs.List.{flat_map, list_all}
-use Rattle.std.proofs.lemmas.Bool.{false≢true}
-use Rattle.std.proofs.lemmas.Bool.Decides.{nat_tests}
 use Rattle.std.proofs.lemmas.Grind.{flat_map-append}
 use Rattle.hdmi_core.specs.declared.phys.Phys.{Phys}
 use Rattle.hdmi_core.specs.Piece.{hex_text, nibble_text, phys_text}
@@ -17,7 +15,6 @@ use Rattle.cec_timing.specs.declared.misfit.Misfit.{Misfit}
 use Rattle.cec_timing.specs.declared.spread.Spread.{Spread}
 use Rattle.cec_timing.specs.declared.spread.Widths.{Widths}
 use Rattle.cec_timing.specs.Misfits.{fits, low_misfit, total_misfit, window}
-use Rattle.cec_mon.specs.Watch.{listed_line}
 use Rattle.cec_remarks.specs.declared.attempts.Failure.{Failure}
 use Rattle.cec_remarks.specs.declared.counts.Count.{Count}
 use Rattle.cec_remarks.specs.declared.free.TooSoon.{TooSoon}
@@ -31,55 +28,9 @@ use Rattle.cec_remarks.specs.Places.{moved_from, unknown_source}
 use Rattle.cec_remarks.specs.Requests.{is_late}
 use Rattle.cec_remarks.specs.Series.{series_over}
 use Rattle.cec_timing.specs.Spreads.{no_widths, with_slots}
-use Rattle.cec_audit.specs.Audit.{Tape, after, after_all, audit_text, come_to, drive_of, first_tape, frame_text, is_folded, lows_of, reading_misfits, remarks_text, summary_text, times_text, told, told_all}
-use Rattle.cec_audit.specs.Kept.{AllRemarks, AreKept, AreRemarks, AuditsKeepReadings, IsClosed, IsPlain, IsRemark}
-
--- ---- without a line feed
-
-plain_more : (xs ys : List ℕ) → IsPlain xs → IsPlain ys → IsPlain (xs ++ ys)
-plain_more [] ys h k = k
-plain_more (c ∷ cs) ys h k = (h.0, plain_more cs ys h.1 k)
-
--- a text that is written out
-plain_codes : (xs : List ℕ) → list_all (λ c. not (c == 10)) xs ≡ true → IsPlain xs
-plain_codes [] h = tt
-plain_codes (c ∷ cs) h = by (c == 10) refl h (plain_codes cs)
-  where
-    by : (b : Bool) → (c == 10) ≡ b → (not b && list_all (λ c. not (c == 10)) cs) ≡ true → (list_all (λ c. not (c == 10)) cs ≡ true → IsPlain cs) → IsPlain (c ∷ cs)
-    by true e k more = absurd (false≢true k)
-    by false e k more = ((λ p. (let q : (c == 10) ≡ true = grind (arith, nat_tests) in false≢true (sym e ∙ q))), more k)
-
--- digits
-plain_glyph : (n : ℕ) → (if nat_lt n 10 then 48 + n else 87 + n) ≢ 10
-plain_glyph n = by (nat_lt n 10)
-  where
-    by : (b : Bool) → (if b then 48 + n else 87 + n) ≢ 10
-    by true = λ p. absurd (omega arith)
-    by false = λ p. absurd (omega arith)
-
-plain_onto : (k n : ℕ) (acc : List ℕ) → IsPlain acc → IsPlain (digits_onto k 10 false n acc)
-plain_onto zero n acc h = h
-plain_onto (suc k) n acc h = by (n / 10 == 0) (plain_onto k (n / 10) (digit_glyph false (n % 10) ∷ acc) (plain_glyph (n % 10), h))
-  where
-    by : (b : Bool) → IsPlain (digits_onto k 10 false (n / 10) (digit_glyph false (n % 10) ∷ acc)) → IsPlain (if b then digit_glyph false (n % 10) ∷ acc else digits_onto k 10 false (n / 10) (digit_glyph false (n % 10) ∷ acc))
-    by true more = (plain_glyph (n % 10), h)
-    by false more = more
-
-plain_decimal : (n : ℕ) → IsPlain (decimal n)
-unfolding digits
-plain_decimal n = plain_onto 64 n [] tt
-
-plain_nibble : (n : ℕ) → IsPlain (nibble_text n)
-plain_nibble n = (plain_glyph n, tt)
-
-plain_hex : (n : ℕ) → IsPlain (hex_text n)
-plain_hex n = (plain_glyph (n / 16), (plain_glyph (n % 16), tt))
-
-dot : IsPlain (codes ".")
-dot = plain_codes (codes ".") refl
-
-plain_phys : (p : Phys) → IsPlain (phys_text p)
-plain_phys p = (plain_glyph (p.high / 16), (dot.0, (plain_glyph (p.high % 16), (dot.0, (plain_glyph (p.low / 16), (dot.0, (plain_glyph (p.low % 16), tt)))))))
+use Rattle.cec_audit.specs.Audit.{Tape, after, after_all, audit_text, come_to, drive_of, first_tape, is_folded, lows_of, reading_misfits, remarks_text, summary_text, times_text, told, told_all}
+use Rattle.cec_audit.proofs.Plain.{plain_codes, plain_decimal, plain_hex, plain_more, plain_nibble, plain_phys}
+use Rattle.cec_audit.specs.Kept.{AllRemarks, AreKept, AreRemarks, IsClosed, IsPlain, IsRemark}
 
 -- ---- closed by a line feed
 
@@ -290,6 +241,6 @@ kept_from timing t (x ∷ xs) end h = (
   append_assoc (told timing t x) (told_all timing (after x t) xs) end,
 )
 
-pub audits_keep_readings : AuditsKeepReadings
-audits_keep_readings timing c =
+pub are_kept : (timing : Bool) (c : Captured) → AreKept (readings_of (line_of_edges c.edges) c.end) (audit_text timing c)
+are_kept timing c =
     kept_from timing (first_tape c.edges) (readings_of (line_of_edges c.edges) c.end) (summary_text c.end (after_all (first_tape c.edges) (readings_of (line_of_edges c.edges) c.end))) (summary_remarks c.end (after_all (first_tape c.edges) (readings_of (line_of_edges c.edges) c.end)))

@@ -1,10 +1,11 @@
 -- An audit keeps the readings: the line of each stands in it as a monitor writes it, in order, and all else are lines that
 -- begin with two spaces (own).
-use Rattle.std.specs.Prelude.{◌≡◌, ◌≢◌, ℕ, Bool, List, [], ◌∷◌, ◌++◌}
+use Rattle.std.specs.Prelude.{◌≡◌, ◌≢◌, ℕ, ◌==◌, Bool, not, List, [], ◌∷◌, ◌++◌, slice_index, filter}
 use Rattle.std.specs.List.{flat_map}
 use Rattle.cec_bits.specs.Readings.{Listed, readings_of}
 use Rattle.cec_signal.specs.Edges.{Captured, line_of_edges}
-use Rattle.cec_mon.specs.Watch.{listed_line}
+use Rattle.cec_words.specs.Lines.{lines_of}
+use Rattle.cec_mon.specs.Watch.{listed_line, readings_text}
 use Rattle.cec_audit.specs.Audit.{audit_text}
 
 -- without a line feed
@@ -39,6 +40,17 @@ abbrev pub AreKept : List Listed → List ℕ → Type 0
 AreKept [] text = AreRemarks text
 AreKept (x ∷ xs) text = (below : List ℕ) × (rest : List ℕ) × AreRemarks below × AreKept xs rest × (text ≡ listed_line x ++ below ++ rest)
 
--- Without the lines that begin with two spaces an audit is what a monitor writes.
+-- the lines of a text that do not begin with a space
+abbrev pub is_remark : List ℕ → Bool
+is_remark line = slice_index line 0 == 32
+
+abbrev pub without_remarks : List ℕ → List ℕ
+without_remarks text = flat_map (λ line. line ++ 10 ∷ []) (filter (λ line. not (is_remark line)) (lines_of text))
+
+pub record KeepsReadings (xs : List Listed) (text : List ℕ) : Type 0 where
+  pub parts : AreKept xs text
+  pub lines : without_remarks text ≡ readings_text xs
+
+-- Each line of an audit that does not begin with a space is what a monitor writes, in order, and all else begins with two.
 abbrev pub AuditsKeepReadings : Type 0
-AuditsKeepReadings = (timing : Bool) (c : Captured) → AreKept (readings_of (line_of_edges c.edges) c.end) (audit_text timing c)
+AuditsKeepReadings = (timing : Bool) (c : Captured) → KeepsReadings (readings_of (line_of_edges c.edges) c.end) (audit_text timing c)

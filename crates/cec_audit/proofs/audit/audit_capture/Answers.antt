@@ -1,4 +1,4 @@
-use Rattle.std.proofs.Common.{◌≡◌, ◌+◌, ◌≤◌, ◌∷◌, [], List, Bool, ℕ, Result, drop, false, get_or, option_map, sym, subst, ap, ◌∙◌, arith}
+use Rattle.std.proofs.Common.{◌+◌, ◌≤◌, List, ℕ, drop, false, get_or, option_map, sym, subst, ap, ◌∙◌, arith}
 use Rattle.cec_wave.specs.declared.Edge.{Edge}
 use Rattle.cec_bits.specs.Reports.{listed_as}
 use Rattle.cec_mon.specs.Monitor.{FollowsEnd}

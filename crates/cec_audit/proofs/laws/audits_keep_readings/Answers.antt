@@ -1,4 +1,4 @@
-use Rattle.cec_audit.proofs.KeptReadings.{audits_keep_readings}
+use Rattle.cec_audit.proofs.KeptLines.{audits_keep_readings}
 use Rattle.cec_audit.proofs.laws.audits_keep_readings.Goals as goal
 
 pub returns : goal.returns
