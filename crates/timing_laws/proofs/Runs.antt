@@ -1,0 +1,268 @@
+-- Runs without pulses, round by round.
+use Rattle.std.proofs.Common.{◌≡◌, ◌≢◌, ℕ, ◌+◌, ◌-◌, ◌*◌, ◌<◌, ◌≤◌, Bool, true, false, ◌||◌, nat_lt, if◌then◌else◌, List, [], ◌∷◌, ◌++◌, length, slice_index_or, map, inl, inr, Option, Some, None, is_some, refl, arith, ap, ◌∙◌, sym, subst}
+use Rattle.std.specs.List.{filter, list_any, cons_option}
+use Rattle.std.proofs.lemmas.Bool.{cases_lt, false≢true}
+use Rattle.std.proofs.lemmas.Bool.Decides.{nat_tests}
+use Rattle.cec_wave.specs.declared.Edge.{Edge}
+use Rattle.cec_wave.specs.declared.Stretch.{Stretch}
+use Rattle.cec_wave.specs.Line.{line_of}
+use Rattle.cec_wave.specs.Sender.{slot_stretches, sender_stretches}
+use Rattle.cec_frame.specs.declared.Ending.{Ending}
+use Rattle.cec_frame.specs.declared.Ending.TheVariants.{Complete, Short, Silent, BadStart, Long, Open}
+use Rattle.cec_bits.specs.Reading.{reading_of}
+use Rattle.cec_bits.specs.Readings.{IsLone}
+use Rattle.cec_bits.proofs.Ends.{at_by}
+use Rattle.cec_signal.specs.Edges.{edges_of}
+use Rattle.cec_timing.specs.Lows.{gone_to, lows_before}
+use Rattle.cec_audit.specs.Audit.{Tape, after, come_to, falls_until, first_tape, is_folded}
+use Rattle.cec_audit.specs.Lines.{misfits_text}
+use Rattle.cec_wire.specs.declared.Seat.{Seat}
+use Rattle.cec_wire.specs.declared.Outcome.{Outcome}
+use Rattle.cec_wire.specs.Round.{IsRound, frames_of}
+use Rattle.cec_wire.specs.Alone.{outcome_listed, part_of}
+use Rattle.cec_wire.specs.Lasting.{is_begun}
+use Rattle.cec_wire.proofs.Alone.{rounds_are_lone}
+use Rattle.cec_wire.proofs.Lays.{after_start, slot_at}
+use Rattle.cec_wire.proofs.Differ.{In}
+use Rattle.cec_net.specs.State.{NetState, next_start}
+use Rattle.cec_net.specs.Start.{first_onset, least_start, sooner}
+use Rattle.cec_net.specs.Apply.{applied}
+use Rattle.cec_net.specs.Step.{after_round, seats_of}
+use Rattle.cec_net.specs.Framed.{AreFramed}
+use Rattle.cec_net.specs.Line.{Move, Happens, Goes, GoesFrom, Moves, rounds_of, run_wave}
+use Rattle.cec_net.proofs.Framed.{framed-applied, framed-round, seats_fit}
+use Rattle.cec_net.proofs.Lines.{begun, kept}
+use Rattle.cec_net.proofs.Progress.{Led, led}
+use Rattle.timing_laws.specs.Times.{AreInTime}
+use Rattle.timing_laws.proofs.Slots.{no_pulses}
+use Rattle.timing_laws.proofs.Nominal.{ends_later, rounds_are_nominal}
+use Rattle.timing_laws.proofs.Widths.{Later, sender_remarks}
+
+-- ---- rounds of nominal times, one after another
+
+pub record IsTimed (o : Outcome) : Type 0 where
+  pub wave : o.wave ≡ sender_stretches o.reading.begin o.reading.bits.items
+  pub some : 0 < length o.reading.bits.items
+  pub ends : o.reading.begin + 2100 + 2400 * length o.reading.bits.items < o.reading.at
+  pub closed : o.reading.ending ≢ Open
+
+-- each begins a signal free time after the one before, whose reading is over
+abbrev pub Apart : Outcome → List Outcome → Type 0
+Apart o [] = Unit {0}
+Apart o (p ∷ os) = (o.reading.begin + 9300 + 2400 * length o.reading.bits.items ≤ p.reading.begin) × (o.reading.at < p.reading.begin)
+
+abbrev pub AreTimed : List Outcome → Type 0
+AreTimed [] = Unit {0}
+AreTimed (o ∷ os) = IsTimed o × Apart o os × AreTimed os
+
+-- ---- the edges of rounds
+
+-- all edges come before an instant
+abbrev AreBefore : ℕ → List Edge → Type 0
+AreBefore t [] = Unit {0}
+AreBefore t (e ∷ es) = (e.at < t) × AreBefore t es
+
+passed : (t since : ℕ) (old more : List Edge) → AreBefore t old → Later t more → (gone_to t since (old ++ more)).edges ≡ more
+passed t since [] [] h l = refl
+passed t since [] (e ∷ more) h l = let k : t ≤ e.at = l in let x : nat_lt e.at t ≡ false = grind (arith, nat_tests) in rw x refl
+passed t since (e ∷ old) more h l = let a : e.at < t = h.0 in let x : nat_lt e.at t ≡ true = grind (arith, nat_tests) in rw x (passed t e.at old more h.1 l)
+
+slots_before : (t fall : ℕ) (bits : List Bool) → fall + 2400 * length bits ≤ t → AreBefore t (edges_of (slot_stretches fall bits))
+slots_before t fall [] h = tt
+slots_before t fall (true ∷ bits) h = (omega arith, (omega arith, slots_before t (fall + 2400) bits (omega (arith, h))))
+slots_before t fall (false ∷ bits) h = (omega arith, (omega arith, slots_before t (fall + 2400) bits (omega (arith, h))))
+
+sender_before : (t begin : ℕ) (bits : List Bool) → begin + 4500 + 2400 * length bits ≤ t → AreBefore t (edges_of (sender_stretches begin bits))
+sender_before t begin bits h = (omega arith, (omega arith, slots_before t (begin + 4500) bits h))
+
+edges_more : (xs ys : List Stretch) → edges_of (xs ++ ys) ≡ edges_of xs ++ edges_of ys
+edges_more [] ys = refl
+edges_more (s ∷ xs) ys = ap (λ (es : List Edge). record { at = s.from; low = true } ∷ record { at = s.to; low = false } ∷ es) (edges_more xs ys)
+
+-- the next round's first edge
+abbrev NextBegin : ℕ → List Outcome → Type 0
+NextBegin from [] = Unit {0}
+NextBegin from (o ∷ os) = from ≤ o.reading.begin
+
+first_edge : (from : ℕ) (os : List Outcome) → AreTimed os → NextBegin from os → Later from (edges_of (run_wave os))
+first_edge from [] h l = tt
+first_edge from (o ∷ os) h l = subst (λ (w : List Stretch). Later from (edges_of (w ++ run_wave os))) (sym h.0.wave) l
+
+-- ---- what an audit remarks
+
+unfolded : (b : Bool) (text : List ℕ) → text ≡ [] → (if b then [] else text) ≡ []
+unfolded true text h = refl
+unfolded false text h = h
+
+until_is : (ending : Ending) (at : ℕ) → ending ≢ Open → falls_until ending at ≡ at
+until_is Complete at h = refl
+until_is Short at h = refl
+until_is Silent at h = refl
+until_is BadStart at h = refl
+until_is Long at h = refl
+until_is Open at h = absurd (h refl)
+
+next_by : (from to : ℕ) (os : List Outcome) → from ≤ to → NextBegin to os → NextBegin from os
+next_by from to [] l h = tt
+next_by from to (o ∷ os) l h = let k : to ≤ o.reading.begin = h in omega arith
+
+apart_free : (o : Outcome) (os : List Outcome) → Apart o os → NextBegin (o.reading.begin + 9300 + 2400 * length o.reading.bits.items) os
+apart_free o [] h = tt
+apart_free o (p ∷ os) h = h.0
+
+apart_over : (o : Outcome) (os : List Outcome) → Apart o os → NextBegin (o.reading.at + 1) os
+apart_over o [] h = tt
+apart_over o (p ∷ os) h = let l : o.reading.at < p.reading.begin = h.1 in omega arith
+
+-- of a round that comes next nothing is remarked
+round_remarks : (o : Outcome) (os : List Outcome) → AreTimed (o ∷ os) → (edges : List Edge) → edges ≡ edges_of o.wave ++ edges_of (run_wave os)
+    → misfits_text o.reading.ending o.reading.bits.items 0 (lows_before (falls_until o.reading.ending o.reading.at) edges) ≡ []
+round_remarks o os h edges e =
+    ap (λ (es : List Edge). misfits_text o.reading.ending o.reading.bits.items 0 (lows_before (falls_until o.reading.ending o.reading.at) es)) (e ∙ ap (λ (w : List Stretch). edges_of w ++ edges_of (run_wave os)) h.0.wave)
+    ∙ sender_remarks o.reading.ending (falls_until o.reading.ending o.reading.at) (edges_of (run_wave os)) o.reading.bits.items o.reading.begin h.0.some
+    (first_edge (falls_until o.reading.ending o.reading.at) os h.2 (next_by (falls_until o.reading.ending o.reading.at) (o.reading.at + 1) os (omega (arith, u)) (apart_over o os h.1)))
+    (let l : o.reading.begin + 2100 + 2400 * length o.reading.bits.items < o.reading.at = h.0.ends in omega (arith, l, u))
+    (first_edge (o.reading.begin + 9300 + 2400 * length o.reading.bits.items) os h.2 (apart_free o os h.1))
+  where
+    u : falls_until o.reading.ending o.reading.at ≡ o.reading.at
+    u = until_is o.reading.ending o.reading.at h.0.closed
+
+-- what is past comes before the next round
+abbrev OldBefore : List Edge → List Outcome → Type 0
+OldBefore old [] = Unit {0}
+OldBefore old (o ∷ os) = AreBefore o.reading.begin old
+
+old_before : (o : Outcome) (os : List Outcome) → AreTimed (o ∷ os) → OldBefore (edges_of o.wave) os
+old_before o [] h = tt
+old_before o (p ∷ os) h =
+    subst (λ (w : List Stretch). AreBefore p.reading.begin (edges_of w)) (sym h.0.wave)
+    (let l : o.reading.begin + 9300 + 2400 * length o.reading.bits.items ≤ p.reading.begin = h.1.0 in sender_before p.reading.begin o.reading.begin o.reading.bits.items (omega (arith, l)))
+
+pub rounds_in_time : (os : List Outcome) → AreTimed os → (t : Tape) (old : List Edge) → t.place.edges ≡ old ++ edges_of (run_wave os) → OldBefore old os → AreInTime t (map outcome_listed os)
+rounds_in_time [] h t old left past = tt
+rounds_in_time (o ∷ os) h t old left past = (
+  unfolded (is_folded t.series o.reading.ending) _ (round_remarks o os h (come_to (outcome_listed o) t).place.edges here),
+  rounds_in_time os h.2 (after (outcome_listed o) t) (edges_of o.wave) here (old_before o os h),
+)
+  where
+    here : (come_to (outcome_listed o) t).place.edges ≡ edges_of o.wave ++ edges_of (run_wave os)
+    here =
+        ap (λ (es : List Edge). (gone_to o.reading.begin t.place.since es).edges) left
+        ∙ passed o.reading.begin t.place.since old (edges_of (run_wave (o ∷ os))) past (first_edge o.reading.begin (o ∷ os) h (omega arith))
+        ∙ edges_more o.wave (run_wave os)
+
+-- ---- a run
+
+sends_any : (seats : List Seat) (f : List ℕ) → In f (frames_of seats) → list_any (λ (s : Seat). is_some s.sends) seats ≡ true
+sends_any [] f i = absurd i
+sends_any (s ∷ seats) f i = by_frame (λ k. sends_any seats f k) s.sends i
+  where
+    by_frame : (In f (frames_of seats) → list_any (λ (x : Seat). is_some x.sends) seats ≡ true) → (o : Option (List ℕ)) → In f (cons_option o (frames_of seats)) → (is_some o || list_any (λ (x : Seat). is_some x.sends) seats) ≡ true
+    by_frame later None k = later k
+    by_frame later (Some g) k = refl
+
+-- without pulses it is a device that starts
+leads : (s : NetState) (begin : ℕ) → s.pulses ≡ [] → next_start s ≡ Some begin → Led s.rest begin s.devices
+leads s begin none next = led s.rest begin s.devices (by (least_start s.rest s.devices) (ap (λ (ps : List Stretch). sooner (least_start s.rest s.devices) (first_onset ps)) (sym none) ∙ next))
+  where
+    by : (o : Option ℕ) → sooner o None ≡ Some begin → o ≡ Some begin
+    by None h = h
+    by (Some t) h = h
+
+timed : (s : NetState) (begin : ℕ) (o : Outcome) → AreFramed s → s.pulses ≡ [] → GoesFrom s begin o → IsTimed o
+timed s begin o framed none g = record {
+  wave = rounds_are_nominal (seats_of s begin) begin o (seats_fit s begin framed) g.wave round sends ∙ ap (λ (b : ℕ). sender_stretches b o.reading.bits.items) (sym g.round.starts);
+  some = later.1;
+  ends = let a = later.0 in let b : o.reading.begin ≡ begin = g.round.starts in omega (arith, a, b);
+  closed = later.2;
+}
+  where
+    round : IsRound (seats_of s begin) begin [] o
+    round = subst (λ (ps : List Stretch). IsRound (seats_of s begin) begin ps o) none g.round
+
+    lead : Led s.rest begin s.devices
+    lead = leads s begin none g.begins
+
+    sends : list_any (λ (x : Seat). is_some x.sends) (seats_of s begin) ≡ true
+    sends = sends_any (seats_of s begin) lead.frame lead.sent
+
+    later : (begin + 2100 + 2400 * length o.reading.bits.items < o.reading.at) × (0 < length o.reading.bits.items) × (o.reading.ending ≢ Open)
+    later = ends_later (seats_of s begin) begin o (seats_fit s begin framed) round sends
+
+-- the last slot falls before the line comes to rest
+last_low : (o : Outcome) → IsTimed o → line_of o.wave (o.reading.begin + 2100 + 2400 * length o.reading.bits.items) ≡ true
+last_low o h =
+    ap (λ (w : List Stretch). line_of w at) h.wave ∙ after_start o.reading.bits.items o.reading.begin at (omega (arith, some))
+    ∙ slot_at o.reading.bits.items (o.reading.begin + 4500) (length o.reading.bits.items - 1) 0 at (omega (arith, some)) (omega arith) (omega (arith, some))
+    ∙ by (slice_index_or o.reading.bits.items (length o.reading.bits.items - 1) false)
+  where
+    at : ℕ
+    at = o.reading.begin + 2100 + 2400 * length o.reading.bits.items
+
+    some : 0 < length o.reading.bits.items
+    some = h.some
+
+    by : (b : Bool) → nat_lt 0 (if b then 600 else 1500) ≡ true
+    by true = refl
+    by false = refl
+
+-- the round is over by where the state stands
+record Rested (o : Outcome) (rest : ℕ) : Type 0 where
+  low : o.reading.begin + 2100 + 2400 * length o.reading.bits.items < rest
+  soon : o.reading.at ≤ rest + 4701
+
+rested_after : (s : NetState) (begin : ℕ) (o : Outcome) → AreFramed s → s.pulses ≡ [] → GoesFrom s begin o → Rested o o.rest
+rested_after s begin o framed none g = record { low = low; soon = soon }
+  where
+    round : IsRound (seats_of s begin) begin [] o
+    round = subst (λ (ps : List Stretch). IsRound (seats_of s begin) begin ps o) none g.round
+
+    starts : is_begun (seats_of s begin) begin [] ≡ true
+    starts = subst (λ (ps : List Stretch). is_begun (seats_of s begin) begin ps ≡ true) none (begun s begin g.begins)
+
+    lone : IsLone (part_of o)
+    lone = rounds_are_lone.lone (seats_of s begin) begin [] o (seats_fit s begin framed) no_pulses g.wave round starts
+
+    low : o.reading.begin + 2100 + 2400 * length o.reading.bits.items < o.rest
+    low = elim (cases_lt (o.reading.begin + 2100 + 2400 * length o.reading.bits.items) o.rest) [
+      | inl lt ↦ lt
+      | inr ge ↦ absurd (false≢true (sym (lone.after (o.reading.begin + 2100 + 2400 * length o.reading.bits.items) ge) ∙ last_low o (timed s begin o framed none g)))
+    ]
+
+    soon : o.reading.at ≤ o.rest + 4701
+    soon =
+        let a : (reading_of (line_of o.wave) o.reading.begin).until ≤ o.rest + 4700 = rounds_are_lone.soon (seats_of s begin) begin [] o no_pulses g.wave round starts in
+        let b : (reading_of (line_of o.wave) o.reading.begin).at ≤ (reading_of (line_of o.wave) o.reading.begin).until + 1 = at_by (line_of o.wave) o.reading.begin in
+        let c : o.reading.at ≡ (reading_of (line_of o.wave) o.reading.begin).at = g.round.ends ∙ ap (λ (x : ℕ). (reading_of (line_of o.wave) x).at) (sym g.round.starts) in
+        omega (arith, a, b, c)
+
+apart_next : (o : Outcome) (s t : NetState) (ms : List Move) → Rested o s.rest → s.pulses ≡ [] → Moves s ms t → Apart o (rounds_of ms)
+apart_next o s t [] r none m = tt
+apart_next o s t (Happens at event ∷ ms) r none m =
+    apart_next o (applied at event s) t ms (subst (λ (rest : ℕ). Rested o rest) (sym (kept at event s).rest) r) ((kept at event s).pulses ∙ none) m.1
+apart_next o s t (Goes begin p ∷ ms) r none m =
+    let late : s.rest + 7200 ≤ begin = (leads s begin none m.0.begins).late in
+    let starts : p.reading.begin ≡ begin = m.0.round.starts in
+    let low = r.low in
+    let soon = r.soon in
+    (omega (arith, late, starts, low), omega (arith, late, starts, soon))
+
+pub runs_are_timed : (s t : NetState) (ms : List Move) → AreFramed s → s.pulses ≡ [] → Moves s ms t → AreTimed (rounds_of ms)
+runs_are_timed s t [] framed none m = tt
+runs_are_timed s t (Happens at event ∷ ms) framed none m = runs_are_timed (applied at event s) t ms (framed-applied at event s m.0 framed) ((kept at event s).pulses ∙ none) m.1
+runs_are_timed s t (Goes begin o ∷ ms) framed none m = (
+  timed s begin o framed none m.0,
+  apart_next o (after_round s begin o) t ms (rested_after s begin o framed none m.0) left m.1,
+  runs_are_timed (after_round s begin o) t ms (framed-round s begin o framed) left m.1,
+)
+  where
+    left : filter (λ p. nat_lt o.rest p.from) s.pulses ≡ []
+    left = ap (filter (λ (p : Stretch). nat_lt o.rest p.from)) none
+
+-- nothing is past when an audit begins
+pub first_in_time : (os : List Outcome) → AreTimed os → AreInTime (first_tape (edges_of (run_wave os))) (map outcome_listed os)
+first_in_time os h = rounds_in_time os h (first_tape (edges_of (run_wave os))) [] refl (none os)
+  where
+    none : (xs : List Outcome) → OldBefore [] xs
+    none [] = tt
+    none (x ∷ xs) = tt

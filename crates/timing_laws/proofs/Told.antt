@@ -1,0 +1,121 @@
+-- The line of a run without pulses, as it is written and read.
+use Rattle.std.proofs.Common.{◌≡◌, ℕ, zero, suc, ◌+◌, ◌≤◌, max, false, List, [], ◌∷◌, ◌++◌, map, refl, sym, ap, ◌∙◌, subst, arith}
+use Rattle.std.proofs.Math.Path.{fun_ext}
+use Rattle.std.specs.List.{flat_map}
+use Rattle.cec_wave.specs.declared.Stretch.{Stretch}
+use Rattle.cec_wave.specs.Line.{line_of, IsWave}
+use Rattle.cec_bits.specs.Readings.{Listed, readings_of}
+use Rattle.cec_wire.specs.declared.Outcome.{Outcome}
+use Rattle.cec_wire.specs.Alone.{outcome_listed}
+use Rattle.hdmi_topo.specs.Node.{Node}
+use Rattle.cec_signal.specs.Edges.{Captured, edges_of, line_of_edges}
+use Rattle.cec_audit.specs.Audit.{first_tape}
+use Rattle.cec_net.specs.State.{NetState, started}
+use Rattle.cec_net.specs.Apply.{applied}
+use Rattle.cec_net.specs.Step.{after_round}
+use Rattle.cec_net.specs.Line.{Move, Happens, Goes, Moves, rounds_of, run_wave}
+use Rattle.cec_net.proofs.Framed.{framed-started}
+use Rattle.cec_asm.specs.Script.{AreFramedEvents}
+use Rattle.cec_asm.specs.declared.script.TimedEvent.{TimedEvent}
+use Rattle.cec_run.specs.declared.run.Telling.{Telling}
+use Rattle.cec_run.specs.declared.run.Telling.TheVariants.{Line}
+use Rattle.cec_run.specs.declared.run.Totals.{Totals}
+use Rattle.cec_run.specs.declared.run.Turn.{Turn}
+use Rattle.cec_run.specs.declared.run.Turn.TheVariants.{Stop, Apply, Round}
+use Rattle.cec_run.specs.Run.{Config, start, turn_at, first_time, IsEventTurn, IsRunText, IsTurnBy, Leads}
+use Rattle.cec_run.specs.RunLine.{rounds_by, rounds_in, IsLineText}
+use Rattle.cec_run.specs.OneRun.{rounds_told}
+use Rattle.cec_run.proofs.Advance.{round_begins}
+use Rattle.cec_run.proofs.OneRun.{runs_close_soon}
+use Rattle.cec_run.proofs.WholeLine.{lines_are_of_the_rounds}
+use Rattle.cec_capture.specs.Formats.{IsReadAs}
+use Rattle.cec_capture.proofs.Formats.{is_capture, lines_are_read_back}
+use Rattle.cec_capture.proofs.ReadBack.{same_line}
+use Rattle.timing_laws.specs.Times.{AreInTime, KeepsTimes, RunsKeepTheirTimes}
+use Rattle.timing_laws.proofs.Slots.{no_pulses}
+use Rattle.timing_laws.proofs.Runs.{AreTimed, first_in_time, runs_are_timed}
+
+-- the moves of a run, with these rounds
+record IsMoved (s t : NetState) (os : List Outcome) : Type 0 where
+  moves : List Move
+  goes : Moves s moves t
+  rounds : rounds_of moves ≡ os
+
+by_event : (telling : Telling) (at : ℕ) (events : List TimedEvent) (c d last : Config) (text : List ℕ) (os : List Outcome) → IsEventTurn telling at events c text d → c.events ≡ events
+    → AreFramedEvents events → (AreFramedEvents d.events → IsMoved d.net last.net os) → IsMoved c.net last.net os
+by_event telling at [] c d last text os t same f k =
+    let m : IsMoved d.net last.net os = k (subst AreFramedEvents (sym (ap (λ (x : Config). x.events) t.1 ∙ same)) tt) in
+    subst (λ (s : NetState). IsMoved s last.net os) (ap (λ (x : Config). x.net) t.1) m
+by_event telling at (e ∷ events) c d last text os t same f k =
+    let m : IsMoved d.net last.net os = k (subst AreFramedEvents (sym (ap (λ (x : Config). x.events) t.1)) f.1) in
+    let n : IsMoved (applied at e.event c.net) last.net os = subst (λ (s : NetState). IsMoved s last.net os) (ap (λ (x : Config). x.net) t.1) m in
+    record { moves = Happens at e.event ∷ n.moves; goes = (f.0, n.goes); rounds = n.rounds }
+
+by_turn : (telling : Telling) (end : ℕ) (turn : Turn) (c d last : Config) (text : List ℕ) (os : List Outcome) → turn_at end c ≡ turn → (t : IsTurnBy telling turn c text d)
+    → AreFramedEvents c.events → (AreFramedEvents d.events → IsMoved d.net last.net os) → IsMoved c.net last.net (rounds_by telling turn c text d t ++ os)
+by_turn telling end Stop c d last text os same t f k = absurd t
+by_turn telling end (Apply at) c d last text os same t f k = by_event telling at c.events c d last text os t refl f k
+by_turn telling end (Round begin) c d last text os same t f k =
+    let m : IsMoved d.net last.net os = k (subst AreFramedEvents (sym t.1) f) in
+    let n : IsMoved (after_round c.net begin t.0.outcome) last.net os = subst (λ (s : NetState). IsMoved s last.net os) t.0.next.after_is m in
+    record {
+      moves = Goes begin t.0.outcome ∷ n.moves;
+      goes = (record { begins = (round_begins end c.net (first_time c.events) begin same).0; wave = t.0.wave; round = t.0.next.round }, n.goes);
+      rounds = ap (λ xs. t.0.outcome ∷ xs) n.rounds;
+    }
+
+moved : (telling : Telling) (end turns : ℕ) (c d : Config) (text : List ℕ) (l : Leads telling end turns c text d) → AreFramedEvents c.events
+    → IsMoved c.net d.net (rounds_in telling end turns c text d l)
+moved telling end zero c d text l f = record { moves = []; goes = ap (λ (x : Config). x.net) l.1; rounds = refl }
+moved telling end (suc turns) c d text l f =
+    by_turn telling end (turn_at end c) c l.0 d l.1 (rounds_in telling end turns l.0 l.2 d l.4) refl l.3 f (λ g. moved telling end turns l.0 d l.2 l.4 g)
+
+-- the waves of rounds make the run's line
+waves_flat : (os : List Outcome) → run_wave os ≡ flat_map (λ ss. ss) (map (λ o. o.wave) os)
+waves_flat [] = refl
+waves_flat (o ∷ os) = ap (λ l. o.wave ++ l) (waves_flat os)
+
+-- its rounds are of nominal times
+told_timed : (telling : Telling) (tree : List Node) (events : List TimedEvent) (end : ℕ) (text : List ℕ) (totals : Totals) → AreFramedEvents events
+    → (told : IsRunText telling end (start (started tree []) events) text totals) → AreTimed (rounds_told telling end (start (started tree []) events) text totals told)
+told_timed telling tree events end text totals framed told =
+    let m = moved telling end told.run.turns (start (started tree []) events) told.run.last told.run.body told.run.leads framed in
+    subst AreTimed m.rounds (runs_are_timed (started tree []) told.run.last.net m.moves (framed-started tree []) refl m.goes)
+
+pub runs_keep_their_times : RunsKeepTheirTimes
+runs_keep_their_times format tree events end text totals framed told limit = (c, record { read = read; capture = is_capture (flat_map (λ ss. ss) waves) last wave over low }, in_time)
+  where
+    os : List Outcome
+    os = rounds_told (Line format) end (start (started tree []) events) text totals told
+
+    waves : List (List Stretch)
+    waves = map (λ (o : Outcome). o.wave) os
+
+    last : ℕ
+    last = max end told.run.last.net.close
+
+    k : IsLineText format os last text
+    k = lines_are_of_the_rounds format tree [] events end text totals no_pulses framed told
+
+    low : last ≤ 2000000000000
+    low = let soon : told.run.last.net.close ≤ end + 458461 = runs_close_soon (Line format) tree [] events end told.run.turns told.run.body told.run.last no_pulses told.run.leads in omega (arith, soon, limit)
+
+    wave : IsWave (flat_map (λ ss. ss) waves)
+    wave = subst (λ (ss : List Stretch). IsWave ss) (waves_flat os) k.read.wave
+
+    over : (u : ℕ) → last ≤ u → line_of (flat_map (λ ss. ss) waves) u ≡ false
+    over u h = subst (λ (ss : List Stretch). line_of ss u ≡ false) (waves_flat os) (k.read.over u h)
+
+    c : Captured
+    c = record { edges = edges_of (flat_map (λ ss. ss) waves); end = last }
+
+    read : IsReadAs format text c
+    read = subst (λ (t : List ℕ). IsReadAs format t c) (sym k.whole) (lines_are_read_back format waves last wave over low)
+
+    readings : readings_of (line_of_edges c.edges) last ≡ map outcome_listed os
+    readings = ap (λ line. readings_of line last) (fun_ext (λ u. same_line (flat_map (λ ss. ss) waves) 0 u wave)) ∙ ap (λ (ss : List Stretch). readings_of (line_of ss) last) (sym (waves_flat os)) ∙ k.read.readings
+
+    in_time : KeepsTimes c
+    in_time =
+        subst (λ (xs : List Listed). AreInTime (first_tape c.edges) xs) (sym readings)
+        (subst (λ (ss : List Stretch). AreInTime (first_tape (edges_of ss)) (map outcome_listed os)) (waves_flat os) (first_in_time os (told_timed (Line format) tree events end text totals framed told)))

@@ -1,0 +1,2 @@
+pub mod Nominal
+pub mod Times

@@ -1,0 +1,29 @@
+-- A run without pulses keeps the times of the standard (CEC 5.2.1, 5.2.2): no width is out of its window.
+use Rattle.std.specs.Prelude.{◌≡◌, ℕ, ◌≤◌, List, [], ◌∷◌}
+use Rattle.hdmi_topo.specs.Node.{Node}
+use Rattle.cec_bits.specs.Readings.{Listed, readings_of}
+use Rattle.cec_signal.specs.Edges.{Captured, line_of_edges}
+use Rattle.cec_audit.specs.Audit.{Tape, after, come_to, first_tape, lows_of, reading_misfits}
+use Rattle.cec_net.specs.State.{started}
+use Rattle.cec_asm.specs.Script.{AreFramedEvents}
+use Rattle.cec_asm.specs.declared.script.TimedEvent.{TimedEvent}
+use Rattle.cec_line.specs.declared.format.Format.{Format}
+use Rattle.cec_run.specs.declared.run.Telling.TheVariants.{Line}
+use Rattle.cec_run.specs.declared.run.Totals.{Totals}
+use Rattle.cec_run.specs.Run.{start, IsRunText}
+use Rattle.cec_capture.specs.Formats.{IsReadText}
+
+-- an audit that goes from reading to reading remarks no width
+abbrev pub AreInTime : Tape → List Listed → Type 0
+AreInTime t [] = Unit {0}
+AreInTime t (x ∷ xs) = (reading_misfits (come_to x t).series x (lows_of x (come_to x t).place) ≡ []) × AreInTime (after x t) xs
+
+abbrev pub KeepsTimes : Captured → Type 0
+KeepsTimes c = AreInTime (first_tape c.edges) (readings_of (line_of_edges c.edges) c.end)
+
+-- The line of a run without pulses, within the limit of scripts and written in any format, is read as a capture of which an audit
+-- remarks no width.
+abbrev pub RunsKeepTheirTimes : Type 0
+RunsKeepTheirTimes = (format : Format) (tree : List Node) (events : List TimedEvent) (end : ℕ) (text : List ℕ) (totals : Totals)
+    → AreFramedEvents events → IsRunText (Line format) end (start (started tree []) events) text totals → end ≤ 1000000000000
+    → (c : Captured) × IsReadText format text c × KeepsTimes c

@@ -1,0 +1,15 @@
+//! Laws of the times of rounds and runs.
+ghost use Rattle.timing_laws.specs.Nominal.{RoundsAreNominal};
+ghost use Rattle.timing_laws.specs.Times.{RunsKeepTheirTimes};
+
+/// The line of a round that no pulse comes into is that of one sender of the nominal times, which sends the bits that are
+/// read, whoever sends, wins and acknowledges.
+pub fn rounds_are_nominal()
+    ensures { RoundsAreNominal }
+{}
+
+/// The line of a run without pulses, written in any format, is read as a capture of which an audit remarks no width: each
+/// start bit and bit is low for as long as the standard allows, and the next one falls in time (CEC 5.2.1, 5.2.2).
+pub fn runs_keep_their_times()
+    ensures { RunsKeepTheirTimes }
+{}

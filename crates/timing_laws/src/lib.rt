@@ -1,0 +1,6 @@
+//! Laws of the times of runs: without pulses from outside no width is out of its window.
+#![tactic(auto)]
+
+mod laws;
+
+pub use laws::{rounds_are_nominal, runs_keep_their_times};
