@@ -1,0 +1,276 @@
+//! Where a seat pulls the line of a round low.
+ghost use Rattle.std.specs.Prelude.{◌≡◌, [], ◌&&◌, ◌+◌, ◌*◌, ◌<◌, ◌≤◌, ◌++◌, nat_le, length, IfSome};
+ghost use Rattle.std.specs.List.{flat_map, range_with_len};
+ghost use Rattle.cec_wave.specs.Sender.{sender_stretches};
+ghost use Rattle.cec_frame.specs.Bits.{frame_bits};
+ghost use Rattle.cec_bits.specs.Sending.{destination};
+ghost use Rattle.cec_wire.specs.Round.{holds_address, is_held, out_in};
+ghost use Rattle.cec_drives.specs.Stretches.{ack_in, acknowledges_in, break_stretches, breaks_off, cut_after, goes_to, is_short, last_pull, seat_stretches, seat_stretches_by, sent_stretches, slot_fall};
+
+use arrayvec::ArrayVec;
+use cec_frame::{Addr, Ending, Frame};
+use cec_wave::{Stretch, lay};
+use cec_wire::{Outcome, Seat};
+use cec_wires::Drive;
+
+// The tenth slot of each block is its acknowledge slot, and a frame has at most 16 blocks (CEC 6).
+const SLOTS_OF_BLOCK: usize = 10;
+
+const BLOCKS: usize = 16;
+
+const HEADER_BITS: usize = 8;
+
+// From a slot's fall to its sample, how long it is acknowledged, and how long a fall too early is followed by a pull, in
+// microseconds.
+const SAMPLE: u64 = 1050;
+
+const ACK_PULL: u64 = 1500;
+
+const SHORT_PULL: u64 = 3600;
+
+// ---- the slots
+
+// The fall of a slot, counted from 1.
+fn slot_fall(outcome: &Outcome, slot: usize) -> Option<u64>
+    ensures fall { result ≡ slot_fall outcome.now slot }
+    ensures early { IfSome result (λ fall. fall < outcome.now.reading.at) }
+{
+    match outcome.wave.as_slice().get(slot) {
+        Some(stretch) if stretch.from < outcome.reading.at => Some(stretch.from),
+        _ => None,
+    }
+}
+
+// ---- what is sent
+
+// The last microsecond in which a sender pulls that is out at this slot, if it is out.
+fn last_pull(outcome: &Outcome, out: Option<usize>) -> u64
+    requires { outcome.now.reading.at ≤ 3000000000000 }
+    ensures last { result ≡ last_pull outcome.now out }
+    ensures early { result < 3000000001051 }
+{
+    match out {
+        None => outcome.reading.at,
+        Some(slot) => match slot_fall(outcome, slot) {
+            None => 0,
+            Some(fall) => fall + SAMPLE,
+        },
+    }
+}
+
+// Adds stretches up to the end of a microsecond.
+fn push_until(drive: &mut Drive, stretches: &[Stretch], last: u64)
+    requires room { length drive.old + length stretches.now ≤ 161 }
+    requires early { last < 3000000001051 }
+    ensures stretches { drive.new ≡ drive.old ++ cut_after last stretches.now }
+    ensures room { length drive.new ≤ length drive.old + length stretches.now }
+{
+    let Some((stretch, others)) = stretches.split_first() else {
+        return;
+    };
+    if stretch.from <= last {
+        drive.push(stretch.from, stretch.to.min(last + 1));
+        push_until(drive, others, last);
+    } else {
+        push_until(drive, others, last);
+    }
+}
+
+// Adds the bits of a frame.
+fn push_bits(bits: &mut ArrayVec<bool, 160>, frame: &Frame)
+    requires empty { bits.old.items ≡ [] }
+    requires room { length (frame_bits frame.now) ≤ 160 }
+    ensures { bits.new.items ≡ frame_bits frame.now }
+{
+    let mut slot = 0;
+    'filling: while slot < frame.slots() {
+        bits.push(frame.bit(slot + 1));
+        slot += 1;
+    }
+}
+
+#[tactic(auto, using(crate::proofs::Bits::frame_room))]
+fn bits_of(frame: &Frame) -> ArrayVec<bool, 160>
+    ensures { result.items ≡ frame_bits frame.now }
+{
+    // It has at most 16 blocks.
+    let _bytes = frame.bytes();
+    let mut bits = ArrayVec::new();
+    push_bits(&mut bits, frame);
+    bits
+}
+
+// Adds what a sender of this frame pulls up to the end of a microsecond.
+fn push_sent(drive: &mut Drive, frame: &Frame, begin: u64, last: u64)
+    requires empty { drive.old ≡ [] }
+    requires begin { begin ≤ 2000000000000 }
+    requires early { last < 3000000001051 }
+    ensures stretches { drive.new ≡ cut_after last (sender_stretches begin (frame_bits frame.now)) }
+    ensures room { length drive.new ≤ 161 }
+{
+    let bits = bits_of(frame);
+    let wave = lay(bits.as_slice(), begin);
+    push_until(drive, wave.as_slice(), last);
+}
+
+// Where a seat pulls that sends this frame, if it sends one.
+fn sent(sends: &Option<Frame>, begin: u64, outcome: &Outcome, out: Option<usize>) -> Drive
+    requires begin { begin ≤ 2000000000000 }
+    requires early { outcome.now.reading.at ≤ 3000000000000 }
+    ensures stretches { result ≡ sent_stretches begin outcome.now out sends.now }
+    ensures room { length result ≤ 161 }
+{
+    let mut drive = Drive::new();
+    if let Some(frame) = sends {
+        push_sent(&mut drive, frame, begin, last_pull(outcome, out));
+    }
+    drive
+}
+
+// ---- what is acknowledged
+
+// The seat sends in a slot, where it is out at this one, if it is out.
+fn goes_to(sends: &Option<Frame>, out: Option<usize>, slot: usize) -> bool
+    ensures { result ≡ goes_to sends.now out slot }
+{
+    sends.is_some()
+        && match out {
+            None => true,
+            Some(out) => slot <= out,
+        }
+}
+
+// A unit at this address, if it has settled, holds an address below 15.
+fn is_at(held: &Option<Addr>, address: u8) -> bool
+    ensures { result ≡ holds_address held.now address }
+{
+    match held {
+        None => false,
+        Some(held) => held.value() == address && held.value() < Addr::BROADCAST,
+    }
+}
+
+// One of the seat's units holds it.
+fn holds(seat: &Seat, address: u8) -> bool
+    ensures { result ≡ is_held seat.now.holds address }
+{
+    seat.holds.iter().any(|held| is_at(held, address))
+}
+
+// The destination, in slots 5 to 8.
+fn destination(bits: &[bool]) -> u8
+    requires { 8 ≤ length bits.now }
+    ensures { result ≡ destination bits.now }
+{
+    8 * u8::from(bits[4]) + 4 * u8::from(bits[5]) + 2 * u8::from(bits[6]) + u8::from(bits[7])
+}
+
+// The header was read, and goes to an address that the seat holds.
+fn is_called(seat: &Seat, bits: &[bool]) -> bool
+    ensures { result ≡ (nat_le 8 (length bits.now) && is_held seat.now.holds (destination bits.now)) }
+{
+    bits.len() >= HEADER_BITS && holds(seat, destination(bits))
+}
+
+// Whether the seat acknowledges in a slot.
+fn acknowledges(outcome: &Outcome, seat: &Seat, out: Option<usize>, slot: usize) -> bool
+    ensures { result ≡ acknowledges_in outcome.now seat.now out slot }
+{
+    seat.plugged
+        && is_called(seat, outcome.reading.bits.as_slice())
+        && !goes_to(&seat.sends, out, slot)
+}
+
+// Adds the pull in the tenth slot of a block, where the seat acknowledges it.
+fn push_ack(drive: &mut Drive, outcome: &Outcome, seat: &Seat, out: Option<usize>, block: usize)
+    requires room { length drive.old < 192 }
+    requires block { block ≤ 16 }
+    requires early { outcome.now.reading.at ≤ 3000000000000 }
+    ensures stretches { drive.new ≡ drive.old ++ ack_in outcome.now seat.now out block }
+    ensures room { length drive.new ≤ length drive.old + 1 }
+{
+    let slot = SLOTS_OF_BLOCK * block;
+    if !acknowledges(outcome, seat, out, slot) {
+        return;
+    }
+    match slot_fall(outcome, slot) {
+        None => {}
+        Some(fall) => drive.push(fall + 1, fall + ACK_PULL),
+    }
+}
+
+// The same of so many blocks, from this one on.
+fn push_acks(
+    drive: &mut Drive,
+    outcome: &Outcome,
+    seat: &Seat,
+    out: Option<usize>,
+    block: usize,
+    count: usize,
+)
+    requires room { length drive.old + count ≤ 192 }
+    requires blocks { block + count ≤ 17 }
+    requires early { outcome.now.reading.at ≤ 3000000000000 }
+    ensures stretches { drive.new ≡ drive.old ++ flat_map (ack_in outcome.now seat.now out) (range_with_len block count) }
+    ensures room { length drive.new ≤ length drive.old + count }
+{
+    if count > 0 {
+        push_ack(drive, outcome, seat, out, block);
+        push_acks(drive, outcome, seat, out, block + 1, count - 1);
+    }
+}
+
+// ---- after a fall too early
+
+fn is_short(ending: Ending) -> bool
+    ensures { result ≡ is_short ending }
+{
+    match ending {
+        Ending::Short => true,
+        _ => false,
+    }
+}
+
+fn breaks_off(outcome: &Outcome, seat: &Seat, out: Option<usize>) -> bool
+    ensures { result ≡ breaks_off outcome.now seat.now out }
+{
+    let bits = outcome.reading.bits.as_slice();
+    is_short(outcome.reading.ending) && seat.plugged && !goes_to(&seat.sends, out, bits.len() + 1)
+}
+
+// Adds the pull of a seat after a fall too early, where it does not send.
+fn push_break(drive: &mut Drive, outcome: &Outcome, seat: &Seat, out: Option<usize>)
+    requires room { length drive.old < 192 }
+    requires early { outcome.now.reading.at ≤ 3000000000000 }
+    ensures { drive.new ≡ drive.old ++ break_stretches outcome.now seat.now out }
+{
+    if breaks_off(outcome, seat, out) {
+        let at = outcome.reading.at;
+        drive.push(at + 1, at + SHORT_PULL);
+    }
+}
+
+// ---- all of it
+
+// Where a seat pulls that is out at this slot, if it is out.
+fn drive_by(outcome: &Outcome, seat: &Seat, begin: u64, out: Option<usize>) -> Drive
+    requires begin { begin ≤ 2000000000000 }
+    requires early { outcome.now.reading.at ≤ 3000000000000 }
+    ensures { result ≡ seat_stretches_by begin outcome.now seat.now out }
+{
+    let mut drive = sent(&seat.sends, begin, outcome, out);
+    push_acks(&mut drive, outcome, seat, out, 1, BLOCKS);
+    push_break(&mut drive, outcome, seat, out);
+    drive
+}
+
+/// Where the seat of this number pulls in a round that begins at `begin`, by what the round's outcome tells: as a sender
+/// until it is out, 1,500 microseconds of each block that it acknowledges, and 3,600 after a fall too early. A pull that
+/// answers a fall begins a microsecond after it.
+pub fn seat_drive(outcome: &Outcome, number: usize, seat: &Seat, begin: u64) -> Drive
+    requires begin { begin ≤ 2000000000000 }
+    requires early { outcome.now.reading.at ≤ 3000000000000 }
+    ensures { result ≡ seat_stretches begin outcome.now number seat.now }
+{
+    drive_by(outcome, seat, begin, outcome.out_at(number))
+}

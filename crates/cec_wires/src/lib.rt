@@ -1,0 +1,13 @@
+//! Dumps of several wires (IEEE 1364-2005, 18): the CEC line, and below it who drives it, a wire for each device and one
+//! for the pulses.
+#![tactic(auto)]
+
+mod definitions;
+mod drive;
+mod instants;
+mod parts;
+
+pub use definitions::{write_closing, write_opening, write_variable};
+pub use drive::Drive;
+pub use instants::write_wires;
+pub use parts::{after, whole};
