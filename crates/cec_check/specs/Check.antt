@@ -1,0 +1,48 @@
+-- What a check of a script answers: its report by the trace of the plain script's run.
+use Rattle.std.specs.Prelude.{◌≡◌, ℕ, ◌<◌, Bool, true, false, List, length, take, Option, Some, None, Result, Ok, Err}
+use Rattle.std.specs.Io.KnownBytes.{Appends}
+use Rattle.cec_expect.specs.Line.{plain_script}
+use Rattle.cec_expect.specs.Faults.{first_fault}
+use Rattle.cec_run.specs.Emulate.{IsTraceOf, IsTold}
+use Rattle.cec_run.specs.declared.run.Totals.{Totals}
+use Rattle.cec_check.specs.Report.{Report, report}
+use Rattle.cec_check.specs.declared.checking.Tally.{Tally}
+use Rattle.cec_check.specs.declared.checking.CheckError.{CheckError}
+use Rattle.cec_check.specs.declared.checking.CheckError.TheVariants.{Emulate, Expect, Write, Memory}
+
+abbrev pub tally_of : Report → Tally
+tally_of r = record { count = r.count; failed = r.failed }
+
+-- the report of a script, by the trace of the run of its plain script on the topology, which is accepted and has no line at fault
+pub record IsReportOf (topology script : List ℕ) (r : Report) : Type 0 where
+  pub trace : List ℕ
+  pub totals : Totals
+  pub run : IsTraceOf topology (plain_script script) trace totals
+  pub accepted : first_fault script ≡ None
+  pub report_is : r ≡ report script trace
+
+-- the report is written
+abbrev pub IsChecked : List ℕ → List ℕ → Option (List ℕ) → Option (List ℕ) → Tally → Type 0
+IsChecked topology script old new tally =
+    (r : Report) × IsReportOf topology script r × (tally ≡ tally_of r) × Appends old new r.text
+
+-- When each refusal comes: those of the run of the plain script, and then the first line whose label or expectation is at fault.
+-- Of memory nothing is said.
+abbrev pub IsCheckTold : List ℕ → List ℕ → CheckError → Type 0
+IsCheckTold topology script (Emulate error) = IsTold topology (plain_script script) error
+IsCheckTold topology script (Expect fault) = (trace : List ℕ) × (totals : Totals) × IsTraceOf topology (plain_script script) trace totals × (first_fault script ≡ Some fault)
+IsCheckTold topology script (Write count) = (r : Report) × IsReportOf topology script r
+IsCheckTold topology script Memory = Unit {0}
+
+-- what a refusal has written: after a failed write the front of the report, as long as it tells, and else nothing
+abbrev pub IsCheckCut : List ℕ → List ℕ → Option (List ℕ) → Option (List ℕ) → CheckError → Type 0
+IsCheckCut topology script old new (Write count) =
+    (r : Report) × IsReportOf topology script r × (count < length r.text) × Appends old new (take count r.text)
+IsCheckCut topology script old new (Emulate error) = new ≡ old
+IsCheckCut topology script old new (Expect fault) = new ≡ old
+IsCheckCut topology script old new Memory = new ≡ old
+
+abbrev pub is_write : Result Tally CheckError → Bool
+is_write (Ok tally) = false
+is_write (Err (Write count)) = true
+is_write (Err _) = false

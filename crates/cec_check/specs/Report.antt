@@ -1,0 +1,134 @@
+-- The report of a script's expectations (Test Anything Protocol, version 13): a line for each expectation, in order, and one for
+-- each refused event that none expects; then their count. Lines that begin with `#` stand below those that failed.
+use Rattle.std.specs.Prelude.{ℕ, ◌+◌, ◌-◌, ◌^◌, ◌==◌, ◌||◌, min, Bool, true, false, if◌then◌else◌, codes, take, filter, List, [], ◌∷◌, ◌++◌, Option, Some, None, is_some, Result, Ok, Err}
+use Rattle.std.specs.Fmt.{decimal}
+use Rattle.std.specs.List.{concat, flat_map}
+use Rattle.cec_words.specs.Lines.{lines_of}
+use Rattle.cec_words.specs.Words.{words_of}
+use Rattle.cec_expect.specs.Line.{behind_label}
+use Rattle.cec_expect.specs.Form.{Form, form_in}
+use Rattle.cec_expect.specs.Form.Form.{Other, Rounds, Refused}
+use Rattle.cec_expect.specs.declared.form.ExpectCause.{ExpectCause}
+use Rattle.cec_judge.specs.Told.{EventLine, event_in, refusal_in}
+use Rattle.cec_judge.specs.Seen.{end_seen}
+use Rattle.cec_judge.specs.Judged.{judged, is_refusal_expected}
+use Rattle.cec_judge.specs.declared.seen.Span.{Span}
+use Rattle.cec_judge.specs.declared.judge.Judged.{Judged}
+use Rattle.cec_check.specs.declared.report.Draft.{Draft}
+
+-- the text so far, how many tests it has, and how many of them failed
+pub record Report : Type 0 where
+  pub text : List ℕ
+  pub count : ℕ
+  pub failed : ℕ
+
+abbrev pub report_as : Draft → Report
+report_as d = record { text = d.text.bytes.items; count = d.count; failed = d.failed }
+
+-- one more, as a u64 counts
+abbrev pub next : ℕ → ℕ
+next n = min (n + 1) (2 ^ 64 - 1)
+
+-- ---- tests
+
+-- a `#` or a backslash in the text of a test has a backslash before it
+abbrev pub escaped_byte : ℕ → List ℕ
+escaped_byte b = if (b == 35) || (b == 92) then 92 ∷ b ∷ [] else b ∷ []
+
+abbrev pub escaped : List ℕ → List ℕ
+escaped text = flat_map escaped_byte text
+
+abbrev pub verdict_word : Bool → List ℕ
+verdict_word true = codes "ok "
+verdict_word false = codes "not ok "
+
+abbrev pub test_start : ℕ → Bool → ℕ → List ℕ → List ℕ
+test_start number holds line front = concat (verdict_word holds ∷ decimal number ∷ codes " - line " ∷ decimal line ∷ codes ": " ∷ front ∷ [])
+
+abbrev pub test_line : ℕ → Bool → ℕ → List ℕ → List ℕ → List ℕ
+test_line number holds line front text = test_start number holds line front ++ escaped text ++ codes "\n"
+
+abbrev pub with_test : Report → Bool → ℕ → List ℕ → List ℕ → Report
+with_test r holds line front text = record {
+  text = r.text ++ test_line (next r.count) holds line front text;
+  count = next r.count;
+  failed = if holds then r.failed else next r.failed;
+}
+
+-- ---- what stands below a test of rounds that failed
+
+-- the first eight lines of rounds that are seen
+abbrev pub shown : List ℕ → Span → List ℕ → List (List ℕ)
+shown trace span pattern = take 8 (filter (λ line. is_some (end_seen span pattern line)) (lines_of trace))
+
+abbrev pub shown_line : List ℕ → List ℕ
+shown_line line = codes "# " ++ line ++ codes "\n"
+
+abbrev pub shown_text : List ℕ → Span → List ℕ → List ℕ
+shown_text trace span pattern = flat_map shown_line (shown trace span pattern)
+
+abbrev pub seen_line : ℕ → Span → List ℕ
+seen_line count span = concat (codes "# seen " ∷ decimal count ∷ codes " from " ∷ decimal span.from ∷ codes " to " ∷ decimal span.to ∷ codes "\n" ∷ [])
+
+-- the window and the rounds in it that meet the pattern, or, where none does, the rounds in it
+abbrev pub span_remarks : List ℕ → List ℕ → ℕ → Option Span → List ℕ
+span_remarks trace pattern count None = codes "# no instant\n"
+span_remarks trace pattern count (Some span) = seen_line count span ++ shown_text trace span (if count == 0 then codes "*" else pattern)
+
+abbrev pub form_remarks : List ℕ → Judged → Result Form ExpectCause → List ℕ
+form_remarks trace j (Err cause) = []
+form_remarks trace j (Ok Other) = []
+form_remarks trace j (Ok (Rounds quantity window pattern)) = span_remarks trace pattern j.count j.span
+form_remarks trace j (Ok (Refused name word)) = []
+
+abbrev pub remarks : List ℕ → Judged → List ℕ → List ℕ
+remarks trace j line = form_remarks trace j (form_in (behind_label (words_of line)))
+
+abbrev pub with_remarks : Report → Bool → List ℕ → Report
+with_remarks r true text = r
+with_remarks r false text = record r { text = r.text ++ text }
+
+-- ---- lines of the script
+
+abbrev pub with_found : List ℕ → Report → ℕ → List ℕ → Judged → Option Bool → Report
+with_found trace r number line j None = r
+with_found trace r number line j (Some holds) = with_remarks (with_test r holds number [] line) holds (remarks trace j line)
+
+abbrev pub with_line : List ℕ → Report → ℕ → List ℕ → Judged → Report
+with_line trace r number line j = with_found trace r number line j j.holds
+
+-- these lines, of which the first has this number, and what is found of them
+abbrev pub with_lines : List ℕ → Report → ℕ → List (List ℕ) → List Judged → Report
+with_lines trace r number [] js = r
+with_lines trace r number (line ∷ lines) [] = r
+with_lines trace r number (line ∷ lines) (j ∷ js) = with_lines trace (with_line trace r number line j) (number + 1) lines js
+
+-- ---- refused events
+
+abbrev pub with_word : List ℕ → Report → ℕ → Option (List ℕ) → Report
+with_word script r line None = r
+with_word script r line (Some word) = if is_refusal_expected script line then r else with_test r false line (codes "refused ") word
+
+abbrev pub with_event : List ℕ → Report → Option EventLine → Report
+with_event script r None = r
+with_event script r (Some e) = with_word script r e.line (refusal_in e.outcome)
+
+-- of these lines of the trace
+abbrev pub with_refusals : List ℕ → Report → List (List ℕ) → Report
+with_refusals script r [] = r
+with_refusals script r (line ∷ lines) = with_refusals script (with_event script r (event_in (words_of line))) lines
+
+-- ---- all
+
+abbrev pub begun : Report
+begun = record { text = codes "TAP version 13\n"; count = 0; failed = 0 }
+
+abbrev pub plan_line : ℕ → List ℕ
+plan_line count = concat (codes "1.." ∷ decimal count ∷ codes "\n" ∷ [])
+
+abbrev pub ended : Report → Report
+ended r = record r { text = r.text ++ plan_line r.count }
+
+-- the report of a script, by the trace of its run
+abbrev pub report : List ℕ → List ℕ → Report
+report script trace = ended (with_refusals script (with_lines trace begun 1 (lines_of script) (judged script trace)) (lines_of trace))

@@ -1,0 +1,80 @@
+//! From the texts of a topology and a script with expectations to their report.
+ghost use Rattle.std.specs.Prelude.{◌≡◌, ◌↔◌, true, false, IfOk, IfErr, IsTrue};
+ghost use Rattle.cec_check.specs.Check.{IsCheckCut, IsCheckTold, IsChecked, is_write};
+
+use crate::held::Held;
+use crate::report::whole_report;
+use cec_expect::{ExpectFault, first_fault, plain_script};
+use cec_run::emulate::{EmulateError, emulate};
+use hdmi_core::{Sink, put_all};
+use std::alloc::Global;
+use thiserror::Error;
+
+/// How many tests a report has.
+#[derive(Clone, Copy, Debug, PartialEq, Eq)]
+pub struct Tally {
+    /// All of them, one for each expectation and for each refused event that none expects.
+    pub count: u64,
+    /// Those that failed.
+    pub failed: u64,
+}
+
+/// Why there is no report, or not all of it.
+#[derive(Debug, Drop, Error)]
+pub enum CheckError {
+    /// The run of the script without labels and expectations is refused.
+    #[error(transparent)]
+    Emulate(EmulateError),
+    /// The first line of the script whose label or expectation is at fault.
+    #[error("script {0}")]
+    Expect(ExpectFault),
+    /// A `put` took none. So many bytes of the report were written.
+    #[error("write fault after {0} bytes")]
+    Write(u128),
+    #[error("no memory")]
+    Memory,
+}
+
+/// Runs a script without its labels and expectations on a topology, and writes the report of whether the run is as they have
+/// it, as the Test Anything Protocol has it: a line for each expectation, in order, and one for each refused event that none
+/// expects. The trace of the run is held in memory.
+///
+/// # Errors
+///
+/// Those of `emulate` for the plain script, and then the first line of the script whose label or expectation is at fault: then
+/// nothing was written. A failed write: then the front of the report was written, as long as it tells.
+pub fn check<S: Sink>(
+    alloc: Global,
+    topology: &[u8],
+    script: &[u8],
+    out: &mut S,
+) -> Result<Tally, CheckError>
+    ensures ok { IfOk result (IsChecked topology.now script.now (S.contents out.old) (S.contents out.new)) }
+    ensures told { IfErr result (IsCheckTold topology.now script.now) }
+    ensures write { S.is_stuck out.old ≡ false → (IsTrue (is_write result) ↔ IsTrue (S.is_stuck out.new)) }
+    ensures cut { IfErr result (IsCheckCut topology.now script.now (S.contents out.old) (S.contents out.new)) }
+{
+    let Ok(plain) = plain_script(alloc, script) else {
+        return Err(CheckError::Memory);
+    };
+    let mut trace = Held::new(alloc);
+    match emulate(alloc, topology, &plain, &mut trace) {
+        Ok(_) => {}
+        Err(EmulateError::Write(_)) => return Err(CheckError::Memory),
+        Err(error) => return Err(CheckError::Emulate(error)),
+    }
+    match first_fault(script) {
+        Some(fault) => return Err(CheckError::Expect(fault)),
+        None => {}
+    }
+    let Ok(report) = whole_report(alloc, script, &trace.bytes) else {
+        return Err(CheckError::Memory);
+    };
+    match put_all(out, &report.text.bytes) {
+        Ok(()) => Ok(Tally {
+            count: report.count,
+            failed: report.failed,
+        }),
+        Err(fault) => Err(CheckError::Write(fault.count)),
+    }
+}

@@ -1,0 +1,300 @@
+//! The report of a script's expectations, by the trace of its run.
+ghost use Rattle.std.specs.Prelude.{◌≡◌, ◌++◌, ◌∷◌, [], ◌==◌, codes, if◌then◌else◌, OnOk, IfOk, Some, None, length};
+ghost use Rattle.std.specs.List.{flat_map};
+ghost use Rattle.std.specs.Option.{option_map};
+ghost use Rattle.hdmi_core.specs.Piece.{piece_text};
+ghost use Rattle.cec_words.specs.Lines.{lines_of};
+ghost use Rattle.cec_words.specs.Words.{words_of};
+ghost use Rattle.cec_judge.specs.Judged.{judged};
+ghost use Rattle.cec_judge.specs.Told.{event_as};
+ghost use Rattle.cec_check.specs.Report.{begun, ended, escaped, escaped_byte, remarks, report, report_as, shown_text, shown_line, span_remarks, verdict_word, with_event, with_found, with_line, with_lines, with_refusals, with_test, with_word};
+
+use crate::held::Held;
+use cec_expect::{Form, form_in, unlabelled};
+use cec_judge::{
+    EventLine, Judged, Span, all_judged, end_seen, event_in, is_refusal_expected, refusal_in,
+};
+use cec_words::first_line;
+use hdmi_core::{Piece, put_all, write_pieces};
+use std::alloc::{AllocError, Global};
+
+/// A report that is being made.
+#[derive(Drop)]
+pub(crate) struct Draft {
+    pub(crate) text: Held,
+    /// How many tests it has.
+    pub(crate) count: u64,
+    /// How many of them failed.
+    pub(crate) failed: u64,
+}
+
+/// How many lines of rounds stand below a test that failed, at most.
+const SHOWN_MOST: usize = 8;
+
+// Appends the parts of a line.
+fn append(out: &mut Held, pieces: &[Piece]) -> Result<(), AllocError>
+    ensures { OnOk result (out.new.bytes.items ≡ out.old.bytes.items ++ flat_map piece_text pieces.now) }
+{
+    match write_pieces(out, pieces) {
+        Ok(_) => Ok(()),
+        Err(_) => Err(AllocError),
+    }
+}
+
+fn append_bytes(out: &mut Held, bytes: &[u8]) -> Result<(), AllocError>
+    ensures { OnOk result (out.new.bytes.items ≡ out.old.bytes.items ++ bytes.now) }
+{
+    match put_all(out, bytes) {
+        Ok(()) => Ok(()),
+        Err(_) => Err(AllocError),
+    }
+}
+
+fn append_byte(out: &mut Held, byte: u8) -> Result<(), AllocError>
+    ensures { OnOk result (out.new.bytes.items ≡ out.old.bytes.items ++ escaped_byte byte) }
+{
+    if byte == b'#' || byte == b'\\' {
+        append_bytes(out, &[b'\\', byte])
+    } else {
+        append_bytes(out, &[byte])
+    }
+}
+
+// Appends a text with a backslash before each `#` and each backslash.
+fn append_escaped(out: &mut Held, text: &[u8]) -> Result<(), AllocError>
+    ensures { OnOk result (out.new.bytes.items ≡ out.old.bytes.items ++ escaped text.now) }
+{
+    let mut rest = text;
+    'bytes: while let [byte, others @ ..] = rest {
+        append_byte(out, *byte)?;
+        rest = others;
+    }
+    Ok(())
+}
+
+fn verdict_word(holds: bool) -> &'static str
+    ensures { result.now ≡ verdict_word holds }
+{
+    if holds { "ok " } else { "not ok " }
+}
+
+// Appends a test.
+fn add_test(
+    draft: &mut Draft,
+    holds: bool,
+    line: u64,
+    front: &str,
+    text: &[u8],
+) -> Result<(), AllocError>
+    ensures { OnOk result (report_as draft.new ≡ with_test (report_as draft.old) holds line front.now text.now) }
+{
+    let number = draft.count.saturating_add(1);
+    append(
+        &mut draft.text,
+        &[
+            Piece::Text(verdict_word(holds)),
+            Piece::Decimal(number),
+            Piece::Text(" - line "),
+            Piece::Decimal(line),
+            Piece::Text(": "),
+            Piece::Text(front),
+        ],
+    )?;
+    append_escaped(&mut draft.text, text)?;
+    append_bytes(&mut draft.text, b"\n")?;
+    draft.count = number;
+    if !holds {
+        draft.failed = draft.failed.saturating_add(1);
+    }
+    Ok(())
+}
+
+// Appends the first eight lines of rounds that are seen.
+fn append_shown(out: &mut Held, trace: &[u8], span: Span, pattern: &[u8]) -> Result<(), AllocError>
+    ensures { OnOk result (out.new.bytes.items ≡ out.old.bytes.items ++ shown_text trace.now span pattern.now) }
+{
+    let mut rest = trace;
+    let mut left = SHOWN_MOST;
+    'lines: while let Some((line, after)) = first_line(rest) {
+        if left == 0 {
+            return Ok(());
+        }
+        if end_seen(span, pattern, line).is_some() {
+            append(
+                out,
+                &[Piece::Text("# "), Piece::Bytes(line), Piece::Text("\n")],
+            )?;
+            left -= 1;
+        }
+        rest = after;
+    }
+    Ok(())
+}
+
+// What is looked at below a test that failed.
+fn looked_at(count: u64, pattern: &[u8]) -> &[u8]
+    ensures { result.now ≡ (if count == 0 then codes "*" else pattern.now) }
+{
+    if count == 0 { b"*" } else { pattern }
+}
+
+// Appends the window, and rounds in it.
+fn append_span(
+    out: &mut Held,
+    trace: &[u8],
+    pattern: &[u8],
+    count: u64,
+    span: Option<Span>,
+) -> Result<(), AllocError>
+    ensures { OnOk result (out.new.bytes.items ≡ out.old.bytes.items ++ span_remarks trace.now pattern.now count span) }
+{
+    let Some(span) = span else {
+        return append_bytes(out, b"# no instant\n");
+    };
+    append(
+        out,
+        &[
+            Piece::Text("# seen "),
+            Piece::Decimal(count),
+            Piece::Text(" from "),
+            Piece::Decimal(span.from),
+            Piece::Text(" to "),
+            Piece::Decimal(span.to),
+            Piece::Text("\n"),
+        ],
+    )?;
+    append_shown(out, trace, span, looked_at(count, pattern))
+}
+
+// Appends what stands below a test that failed.
+fn append_remarks(
+    out: &mut Held,
+    trace: &[u8],
+    judged: &Judged,
+    line: &[u8],
+) -> Result<(), AllocError>
+    ensures { OnOk result (out.new.bytes.items ≡ out.old.bytes.items ++ remarks trace.now judged.now line.now) }
+{
+    match form_in(unlabelled(line).rest) {
+        Err(_) => Ok(()),
+        Ok(form) => match form {
+            Form::Other => Ok(()),
+            Form::Refused { .. } => Ok(()),
+            Form::Rounds { pattern, .. } => {
+                append_span(out, trace, pattern, judged.count, judged.span)
+            }
+        },
+    }
+}
+
+// Appends the test of a line, where it is an expectation.
+fn add_line(
+    draft: &mut Draft,
+    trace: &[u8],
+    number: u64,
+    line: &[u8],
+    judged: &Judged,
+) -> Result<(), AllocError>
+    ensures { OnOk result (report_as draft.new ≡ with_line trace.now (report_as draft.old) number line.now judged.now) }
+{
+    let Some(holds) = judged.holds else {
+        return Ok(());
+    };
+    add_test(draft, holds, number, "", line)?;
+    if holds {
+        return Ok(());
+    }
+    append_remarks(&mut draft.text, trace, judged, line)
+}
+
+// Appends the tests of the lines of a script.
+fn add_lines(
+    draft: &mut Draft,
+    script: &[u8],
+    trace: &[u8],
+    judged: &[Judged],
+) -> Result<(), AllocError>
+    ensures { OnOk result (report_as draft.new ≡ with_lines trace.now (report_as draft.old) 1 (lines_of script.now) judged.now) }
+{
+    let mut rest = script;
+    let mut found = judged;
+    let mut number = 1u64;
+    'lines: while let Some((line, after)) = first_line(rest) {
+        let [judged, others @ ..] = found else {
+            return Ok(());
+        };
+        add_line(draft, trace, number, line, judged)?;
+        rest = after;
+        found = others;
+        number += 1;
+    }
+    Ok(())
+}
+
+fn add_word(draft: &mut Draft, script: &[u8], line: u64, word: &[u8]) -> Result<(), AllocError>
+    ensures { OnOk result (report_as draft.new ≡ with_word script.now (report_as draft.old) line (Some word.now)) }
+{
+    if is_refusal_expected(script, line) {
+        return Ok(());
+    }
+    add_test(draft, false, line, "refused ", word)
+}
+
+// Appends the test of an event, where it was refused and no line expects it.
+fn add_event(draft: &mut Draft, script: &[u8], event: Option<EventLine>) -> Result<(), AllocError>
+    ensures { OnOk result (report_as draft.new ≡ with_event script.now (report_as draft.old) (option_map event_as event.entry)) }
+{
+    let Some(event) = event else {
+        return Ok(());
+    };
+    let Some(word) = refusal_in(event.outcome) else {
+        return Ok(());
+    };
+    add_word(draft, script, event.line, word)
+}
+
+// Appends the tests of refused events.
+fn add_refusals(draft: &mut Draft, script: &[u8], trace: &[u8]) -> Result<(), AllocError>
+    ensures { OnOk result (report_as draft.new ≡ with_refusals script.now (report_as draft.old) (lines_of trace.now)) }
+{
+    let mut rest = trace;
+    'lines: while let Some((line, after)) = first_line(rest) {
+        add_event(draft, script, event_in(line))?;
+        rest = after;
+    }
+    Ok(())
+}
+
+fn add_plan(draft: &mut Draft) -> Result<(), AllocError>
+    ensures { OnOk result (report_as draft.new ≡ ended (report_as draft.old)) }
+{
+    let count = draft.count;
+    append(
+        &mut draft.text,
+        &[Piece::Text("1.."), Piece::Decimal(count), Piece::Text("\n")],
+    )
+}
+
+fn begun(alloc: Global) -> Result<Draft, AllocError>
+    ensures { IfOk result (λ draft. report_as draft ≡ begun) }
+{
+    let mut text = Held::new(alloc);
+    append_bytes(&mut text, b"TAP version 13\n")?;
+    Ok(Draft {
+        text,
+        count: 0,
+        failed: 0,
+    })
+}
+
+/// The report of a script, by the trace of its run.
+pub(crate) fn whole_report(alloc: Global, script: &[u8], trace: &[u8]) -> Result<Draft, AllocError>
+    ensures { IfOk result (λ draft. report_as draft ≡ report script.now trace.now) }
+{
+    let found = all_judged(alloc, script, trace)?;
+    let mut draft = begun(alloc)?;
+    add_lines(&mut draft, script, trace, &found)?;
+    add_refusals(&mut draft, script, trace)?;
+    add_plan(&mut draft)?;
+    Ok(draft)
+}

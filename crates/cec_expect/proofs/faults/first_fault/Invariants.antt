@@ -1,0 +1,14 @@
+use Rattle.std.proofs.Common.{◌≡◌, ◌+◌, ◌≤◌, length}
+use Rattle.cec_words.specs.Lines.{lines_of}
+use Rattle.cec_expect.specs.Faults.{faults_from, first_fault}
+use Rattle.cec_expect.proofs.faults.first_fault.Given as goal
+
+-- no line before is at fault
+abbrev pub invariant-lines : goal.invariant-lines
+invariant-lines l = record {
+  same : first_fault l.script ≡ faults_from l.script l.number (lines_of l.rest);
+  room : l.number + length l.rest ≤ length l.script + 1;
+}
+
+abbrev pub decreases-lines : goal.decreases-lines
+decreases-lines l = length l.rest

@@ -1,0 +1,12 @@
+use Rattle.std.proofs.Common.{◌≡◌, ◌++◌, length}
+use Rattle.std.specs.List.{flat_map}
+use Rattle.cec_words.specs.Lines.{lines_of}
+use Rattle.cec_expect.specs.Line.{plain_line, plain_script}
+use Rattle.cec_expect.proofs.line.plain_script.Given as goal
+
+-- the lines so far, and those that are left
+abbrev pub invariant-lines : goal.invariant-lines
+invariant-lines l = l.text.items ++ flat_map plain_line (lines_of l.rest) ≡ plain_script l.script
+
+abbrev pub decreases-lines : goal.decreases-lines
+decreases-lines l = length l.rest

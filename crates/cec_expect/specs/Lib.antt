@@ -1,0 +1,4 @@
+pub mod Fits
+pub mod Line
+pub mod Form
+pub mod Faults

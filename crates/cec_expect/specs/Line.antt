@@ -1,0 +1,47 @@
+-- Lines of a script with labels and expectations (own): `label NAME` may stand before a line.
+use Rattle.std.specs.Prelude.{ℕ, Bool, false, if◌then◌else◌, codes, List, [], ◌∷◌, ◌++◌, Option, Some, None}
+use Rattle.std.specs.Str.{bytes_eq}
+use Rattle.std.specs.List.{flat_map}
+use Rattle.cec_words.specs.Lines.{lines_of}
+use Rattle.cec_words.specs.Words.{words_of, text_of}
+
+abbrev pub first_of : List (List ℕ) → Option (List ℕ)
+first_of [] = None
+first_of (name ∷ words) = Some name
+
+-- the label of a line, by its words
+abbrev pub label_in : List (List ℕ) → Option (List ℕ)
+label_in [] = None
+label_in (verb ∷ words) = if bytes_eq verb (codes "label") then first_of words else None
+
+abbrev pub behind_name : List (List ℕ) → List (List ℕ) → List (List ℕ)
+behind_name line [] = line
+behind_name line (name ∷ words) = words
+
+-- the words without the label
+abbrev pub behind_label : List (List ℕ) → List (List ℕ)
+behind_label [] = []
+behind_label (verb ∷ words) = if bytes_eq verb (codes "label") then behind_name (verb ∷ words) words else verb ∷ words
+
+abbrev pub has_verb : List ℕ → List (List ℕ) → Bool
+has_verb verb [] = false
+has_verb verb (word ∷ words) = bytes_eq word verb
+
+-- `expect ..`
+abbrev pub is_expectation : List (List ℕ) → Bool
+is_expectation words = has_verb (codes "expect") words
+
+-- `at ..`
+abbrev pub is_event : List (List ℕ) → Bool
+is_event words = has_verb (codes "at") words
+
+-- what is left of a line in a script without expectations
+abbrev pub plain_words : List (List ℕ) → List ℕ
+plain_words words = if is_expectation words then [] else text_of words
+
+abbrev pub plain_line : List ℕ → List ℕ
+plain_line line = plain_words (behind_label (words_of line)) ++ 10 ∷ []
+
+-- The script without labels and expectations, line for line: the line of an expectation is empty.
+abbrev pub plain_script : List ℕ → List ℕ
+plain_script script = flat_map plain_line (lines_of script)

@@ -1,0 +1,12 @@
+//! What is expected of a run: labels and expectations in a script, patterns, and the script without them.
+#![tactic(auto)]
+
+mod faults;
+mod form;
+mod line;
+mod pattern;
+
+pub use faults::{ExpectFault, event_labelled, first_fault, labelled};
+pub use form::{ExpectCause, Form, Quantity, Window, form_in};
+pub use line::{Labelled, plain_script, unlabelled};
+pub use pattern::fits;

@@ -1,0 +1,14 @@
+use Rattle.std.proofs.Common.{◌≡◌, ◌+◌, ◌≤◌, length}
+use Rattle.cec_words.specs.Lines.{lines_of}
+use Rattle.cec_judge.specs.Judged.{lines_judged, judged}
+use Rattle.cec_judge.proofs.judge.all_judged.Given as goal
+
+-- what is found of the lines above, and then of those that are left
+abbrev pub invariant-lines : goal.invariant-lines
+invariant-lines l = record {
+  same : lines_judged l.script l.trace l.found.items (lines_of l.rest) ≡ judged l.script l.trace;
+  room : length l.found.items + length l.rest ≤ length l.script;
+}
+
+abbrev pub decreases-lines : goal.decreases-lines
+decreases-lines l = length l.rest

@@ -1,0 +1,129 @@
+-- What is found of each line of a script, by the trace (own). Lines count from 1.
+use Rattle.std.specs.Prelude.{ℕ, ◌+◌, ◌-◌, ◌^◌, ◌==◌, nat_lt, min, Bool, true, false, if◌then◌else◌, length, slice_get, List, [], ◌∷◌, ◌++◌, Option, Some, None, Result, Ok, Err}
+use Rattle.std.specs.Str.{bytes_eq}
+use Rattle.std.specs.List.{list_any}
+use Rattle.cec_words.specs.Lines.{lines_of}
+use Rattle.cec_words.specs.Words.{words_of}
+use Rattle.cec_expect.specs.Line.{behind_label}
+use Rattle.cec_expect.specs.Form.{Form, Window, form_in}
+use Rattle.cec_expect.specs.Form.Form.{Other, Rounds, Refused}
+use Rattle.cec_expect.specs.Form.Window.{Within, From}
+use Rattle.cec_expect.specs.Faults.{labelled, event_labelled}
+use Rattle.cec_expect.specs.declared.form.ExpectCause.{ExpectCause}
+use Rattle.cec_expect.specs.declared.form.Quantity.{Quantity}
+use Rattle.cec_expect.specs.declared.form.Quantity.TheVariants.{AtLeastOnce, Never, Once}
+use Rattle.cec_judge.specs.Told.{EventLine, event_at, refusal_in}
+use Rattle.cec_judge.specs.Seen.{ends_seen, first_of}
+use Rattle.cec_judge.specs.declared.seen.Span.{Span}
+use Rattle.cec_judge.specs.declared.judge.Judged.{Judged}
+
+-- ---- windows
+
+abbrev pub instant_by : Option Judged → Option ℕ
+instant_by None = None
+instant_by (Some j) = j.at
+
+-- the instant of a line, by what is found of the lines above
+abbrev pub instant_at : List Judged → Option ℕ → Option ℕ
+instant_at above None = None
+instant_at above (Some line) = instant_by (slice_get above (line - 1))
+
+-- a window that begins at an instant; its end is at most 2 ^ 64 - 1
+abbrev pub span_from : ℕ → Option ℕ → Option Span
+span_from duration None = None
+span_from duration (Some at) = Some (record { from = at; to = min (at + duration) (2 ^ 64 - 1) })
+
+-- a label without an instant leaves no span
+abbrev pub span_of : List ℕ → List Judged → Window → Option Span
+span_of script above (Within duration name) = span_from duration (instant_at above (labelled script name))
+span_of script above (From from to) = Some (record { from = from; to = to })
+
+-- ---- expectations of rounds
+
+abbrev pub holds_by : Quantity → ℕ → Bool
+holds_by AtLeastOnce count = nat_lt 0 count
+holds_by Never count = count == 0
+holds_by Once count = count == 1
+
+-- its instant is the end of the first round that meets it, where it holds
+abbrev pub rounds_by : Quantity → Span → ℕ → Option ℕ → Judged
+rounds_by quantity span count first = record {
+  holds = Some (holds_by quantity count);
+  at = if holds_by quantity count then first else None;
+  span = Some span;
+  count = count;
+}
+
+-- what fails
+abbrev pub failed : Judged
+failed = record { holds = Some false; at = None; span = None; count = 0 }
+
+abbrev pub rounds_judged : List ℕ → Quantity → List ℕ → Option Span → Judged
+rounds_judged trace quantity pattern None = failed
+rounds_judged trace quantity pattern (Some span) =
+    rounds_by quantity span (length (ends_seen trace span pattern)) (first_of (ends_seen trace span pattern))
+
+-- ---- refused events
+
+abbrev pub refusal_by : Option EventLine → Option (List ℕ)
+refusal_by None = None
+refusal_by (Some e) = refusal_in e.outcome
+
+-- the word with which the event of a line was refused
+abbrev pub refusal_at : List ℕ → Option ℕ → Option (List ℕ)
+refusal_at trace None = None
+refusal_at trace (Some line) = refusal_by (event_at trace line)
+
+abbrev pub is_word : List ℕ → Option (List ℕ) → Bool
+is_word word None = false
+is_word word (Some other) = bytes_eq other word
+
+abbrev pub refused_judged : List ℕ → List ℕ → List ℕ → List ℕ → Judged
+refused_judged script trace name word = record { holds = Some (is_word word (refusal_at trace (event_labelled script name))); at = None; span = None; count = 0 }
+
+-- ---- lines
+
+abbrev pub event_instant : Option EventLine → Option ℕ
+event_instant None = None
+event_instant (Some e) = Some e.at
+
+-- the instant of an event is that of its line in the trace; nothing is to hold of it
+abbrev pub other_judged : List ℕ → ℕ → Judged
+other_judged trace number = record { holds = None; at = event_instant (event_at trace number); span = None; count = 0 }
+
+abbrev pub form_judged : List ℕ → List ℕ → List Judged → Result Form ExpectCause → Judged
+form_judged script trace above (Err cause) = failed
+form_judged script trace above (Ok Other) = other_judged trace (length above + 1)
+form_judged script trace above (Ok (Rounds quantity window pattern)) = rounds_judged trace quantity pattern (span_of script above window)
+form_judged script trace above (Ok (Refused name word)) = refused_judged script trace name word
+
+abbrev pub line_judged : List ℕ → List ℕ → List Judged → List ℕ → Judged
+line_judged script trace above line = form_judged script trace above (form_in (behind_label (words_of line)))
+
+-- these lines, below others
+abbrev pub lines_judged : List ℕ → List ℕ → List Judged → List (List ℕ) → List Judged
+lines_judged script trace above [] = above
+lines_judged script trace above (line ∷ lines) = lines_judged script trace (above ++ line_judged script trace above line ∷ []) lines
+
+-- all lines
+abbrev pub judged : List ℕ → List ℕ → List Judged
+judged script trace = lines_judged script trace [] (lines_of script)
+
+-- ---- refusals that no line expects
+
+abbrev pub is_number : ℕ → Option ℕ → Bool
+is_number number None = false
+is_number number (Some line) = line == number
+
+abbrev pub form_expects : List ℕ → ℕ → Result Form ExpectCause → Bool
+form_expects script number (Err cause) = false
+form_expects script number (Ok Other) = false
+form_expects script number (Ok (Rounds quantity window pattern)) = false
+form_expects script number (Ok (Refused name word)) = is_number number (event_labelled script name)
+
+abbrev pub line_expects : List ℕ → ℕ → List ℕ → Bool
+line_expects script number line = form_expects script number (form_in (behind_label (words_of line)))
+
+-- a line of the script expects that the event of this line is refused
+abbrev pub is_refusal_expected : List ℕ → ℕ → Bool
+is_refusal_expected script number = list_any (line_expects script number) (lines_of script)

@@ -1,0 +1,4 @@
+pub mod Told
+pub mod Seen
+pub mod Judged
+pub mod Laws

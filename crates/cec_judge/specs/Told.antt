@@ -1,0 +1,84 @@
+-- What the lines of a trace say of rounds and of events, by their words (own).
+use Rattle.std.specs.Prelude.{ℕ, ◌==◌, if◌then◌else◌, codes, List, [], ◌∷◌, Option, Some, None, option_map}
+use Rattle.std.specs.Str.{bytes_eq}
+use Rattle.std.specs.List.{filter_map, find}
+use Rattle.std.specs.Option.{option_copied}
+use Rattle.cec_words.specs.Lines.{lines_of}
+use Rattle.cec_words.specs.Number.{number_of}
+use Rattle.cec_words.specs.Words.{words_of, words_behind, text_of, one_of}
+use Rattle.cec_judge.specs.declared.told.RoundLine.{RoundLine as RoundRead}
+use Rattle.cec_judge.specs.declared.told.EventLine.{EventLine as EventRead}
+
+-- ---- rounds
+
+-- a round: when it began and ended, and what its line says behind these times
+pub record RoundLine : Type 0 where
+  pub begin : ℕ
+  pub at : ℕ
+  pub told : List ℕ
+
+-- the words behind the times as a text, without the word `complete`
+abbrev pub behind_complete : List ℕ → List (List ℕ) → List ℕ
+behind_complete ending [] = ending
+behind_complete ending (word ∷ words) = if bytes_eq ending (codes "complete") then text_of (word ∷ words) else text_of (ending ∷ word ∷ words)
+
+abbrev pub told_in : List (List ℕ) → List ℕ
+told_in [] = []
+told_in (ending ∷ words) = behind_complete ending words
+
+abbrev pub round_by : Option ℕ → Option ℕ → List ℕ → Option RoundLine
+round_by None at told = None
+round_by (Some begin) None told = None
+round_by (Some begin) (Some at) told = Some (record { begin = begin; at = at; told = told })
+
+-- a line of a round begins with two numbers
+abbrev pub round_in : List (List ℕ) → Option RoundLine
+round_in [] = None
+round_in (begin ∷ []) = None
+round_in (begin ∷ at ∷ words) = round_by (number_of begin) (number_of at) (told_in words)
+
+-- the rounds of a trace, in order
+abbrev pub rounds_of : List ℕ → List RoundLine
+rounds_of trace = filter_map (λ line. round_in (words_of line)) (lines_of trace)
+
+abbrev pub round_as : RoundRead → RoundLine
+round_as r = record { begin = r.begin; at = r.at; told = r.told.now }
+
+-- ---- events
+
+-- an event: when it was applied, its line in the script, and the words of what became of it
+pub record EventLine : Type 0 where
+  pub at : ℕ
+  pub line : ℕ
+  pub outcome : List (List ℕ)
+
+abbrev pub event_by : Option ℕ → Option ℕ → List (List ℕ) → Option EventLine
+event_by None line outcome = None
+event_by (Some at) None outcome = None
+event_by (Some at) (Some line) outcome = Some (record { at = at; line = line; outcome = outcome })
+
+abbrev pub event_behind : List ℕ → List ℕ → List (List ℕ) → Option EventLine
+event_behind at word [] = None
+event_behind at word (line ∷ outcome) = if bytes_eq word (codes "event") then event_by (number_of at) (number_of line) outcome else None
+
+-- a line of an event: `T event N OUTCOME`
+abbrev pub event_in : List (List ℕ) → Option EventLine
+event_in [] = None
+event_in (at ∷ []) = None
+event_in (at ∷ word ∷ words) = event_behind at word words
+
+-- the events of a trace, in order
+abbrev pub events_of : List ℕ → List EventLine
+events_of trace = filter_map (λ line. event_in (words_of line)) (lines_of trace)
+
+-- the event of a line of the script
+abbrev pub event_at : List ℕ → ℕ → Option EventLine
+event_at trace number = find (λ e. e.line == number) (events_of trace)
+
+abbrev pub event_as : EventRead → EventLine
+event_as e = record { at = e.at; line = e.line; outcome = words_behind (option_copied e.outcome) }
+
+-- the word with which an event was refused, by what became of it: `refused WORD`
+abbrev pub refusal_in : List (List ℕ) → Option (List ℕ)
+refusal_in [] = None
+refusal_in (verb ∷ words) = if bytes_eq verb (codes "refused") then one_of words else None

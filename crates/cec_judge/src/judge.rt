@@ -1,0 +1,212 @@
+//! What is found of each line of a script, by the trace.
+ghost use Rattle.std.specs.Prelude.{◌≡◌, ◌<◌, ◌^◌, length, IfOk};
+ghost use Rattle.std.specs.Option.{option_copied};
+ghost use Rattle.cec_expect.specs.Form.{form_as, window_of};
+ghost use Rattle.cec_judge.specs.Judged.{failed, form_expects, form_judged, holds_by, instant_at, is_number, is_refusal_expected, is_word, judged, line_expects, line_judged, other_judged, refusal_at, refused_judged, rounds_judged, span_from, span_of};
+
+use crate::seen::{Span, rounds_seen};
+use crate::told::{event_at, refusal_in};
+use cec_expect::{Form, Quantity, Window, event_labelled, form_in, labelled, unlabelled};
+use cec_words::first_line;
+use std::alloc::{AllocError, AllocFailed, Global};
+
+/// What is found of a line.
+#[derive(Clone, Copy, Debug, PartialEq, Eq)]
+pub struct Judged {
+    /// Whether the expectation holds; `None` of a line that is none.
+    pub holds: Option<bool>,
+    /// The instant of the line: that at which its event was applied, or the end of the first round that meets the
+    /// expectation.
+    pub at: Option<u64>,
+    /// The span of time in which rounds were looked at.
+    pub span: Option<Span>,
+    /// How many of them meet the pattern.
+    pub count: u64,
+}
+
+// What fails.
+fn failed() -> Judged
+    ensures { result ≡ failed }
+{
+    Judged {
+        holds: Some(false),
+        at: None,
+        span: None,
+        count: 0,
+    }
+}
+
+// The instant of a line.
+fn instant_at(above: &[Judged], line: Option<u64>) -> Option<u64>
+    ensures { result ≡ instant_at above.now line }
+{
+    let line = line?;
+    let place = line.saturating_sub(1) as usize;
+    match above.get(place) {
+        None => None,
+        Some(judged) => judged.at,
+    }
+}
+
+fn span_from(duration: u64, at: Option<u64>) -> Option<Span>
+    ensures { result ≡ span_from duration at }
+{
+    let at = at?;
+    Some(Span {
+        from: at,
+        to: at.saturating_add(duration),
+    })
+}
+
+fn span_of(script: &[u8], above: &[Judged], window: Window) -> Option<Span>
+    ensures { result ≡ span_of script.now above.now (window_of window.entry) }
+{
+    match window {
+        Window::Within { duration, label } => {
+            span_from(duration, instant_at(above, labelled(script, label)))
+        }
+        Window::From { from, to } => Some(Span { from, to }),
+    }
+}
+
+fn holds_by(quantity: Quantity, count: u64) -> bool
+    ensures { result ≡ holds_by quantity count }
+{
+    match quantity {
+        Quantity::AtLeastOnce => 0 < count,
+        Quantity::Never => count == 0,
+        Quantity::Once => count == 1,
+    }
+}
+
+fn rounds_judged(trace: &[u8], quantity: Quantity, pattern: &[u8], span: Option<Span>) -> Judged
+    ensures { result ≡ rounds_judged trace.now quantity pattern.now span }
+{
+    let Some(span) = span else {
+        return failed();
+    };
+    let seen = rounds_seen(trace, span, pattern);
+    let holds = holds_by(quantity, seen.count);
+    Judged {
+        holds: Some(holds),
+        at: if holds { seen.first } else { None },
+        span: Some(span),
+        count: seen.count,
+    }
+}
+
+fn refusal_at(trace: &[u8], line: Option<u64>) -> Option<&[u8]>
+    ensures { option_copied result ≡ refusal_at trace.now line }
+{
+    match event_at(trace, line?) {
+        None => None,
+        Some(event) => refusal_in(event.outcome),
+    }
+}
+
+fn is_word(word: &[u8], other: Option<&[u8]>) -> bool
+    ensures { result ≡ is_word word.now (option_copied other.entry) }
+{
+    match other {
+        None => false,
+        Some(other) => other == word,
+    }
+}
+
+fn refused_judged(script: &[u8], trace: &[u8], name: &[u8], word: &[u8]) -> Judged
+    ensures { result ≡ refused_judged script.now trace.now name.now word.now }
+{
+    Judged {
+        holds: Some(is_word(word, refusal_at(trace, event_labelled(script, name)))),
+        at: None,
+        span: None,
+        count: 0,
+    }
+}
+
+fn other_judged(trace: &[u8], number: u64) -> Judged
+    ensures { result ≡ other_judged trace.now number }
+{
+    let at = match event_at(trace, number) {
+        None => None,
+        Some(event) => Some(event.at),
+    };
+    Judged {
+        holds: None,
+        at,
+        span: None,
+        count: 0,
+    }
+}
+
+fn line_judged(script: &[u8], trace: &[u8], above: &[Judged], line: &[u8]) -> Judged
+    requires { length above.now < 2 ^ 63 }
+    ensures { result ≡ line_judged script.now trace.now above.now line.now }
+{
+    match form_in(unlabelled(line).rest) {
+        Err(_) => failed(),
+        Ok(form) => match form {
+            Form::Other => other_judged(trace, above.len() as u64 + 1),
+            Form::Rounds {
+                quantity,
+                window,
+                pattern,
+            } => rounds_judged(trace, quantity, pattern, span_of(script, above, window)),
+            Form::Refused { label, word } => refused_judged(script, trace, label, word),
+        },
+    }
+}
+
+/// What is found of each line of a script, in order, by the trace of its run.
+///
+/// # Errors
+///
+/// Want of memory.
+pub fn all_judged(alloc: Global, script: &[u8], trace: &[u8]) -> Result<Vec<Judged>, AllocError>
+    ensures { IfOk result (λ found. found.items ≡ judged script.now trace.now) }
+{
+    let mut found = Vec::new(alloc);
+    let mut rest = script;
+    'lines: while let Some((line, after)) = first_line(rest) {
+        let judged = line_judged(script, trace, &found, line);
+        found.push(judged)?;
+        rest = after;
+    }
+    Ok(found)
+}
+
+fn is_number(number: u64, line: Option<u64>) -> bool
+    ensures { result ≡ is_number number line }
+{
+    match line {
+        None => false,
+        Some(line) => line == number,
+    }
+}
+
+fn line_expects(script: &[u8], number: u64, line: &[u8]) -> bool
+    ensures { result ≡ line_expects script.now number line.now }
+{
+    match form_in(unlabelled(line).rest) {
+        Err(_) => false,
+        Ok(form) => match form {
+            Form::Refused { label, .. } => is_number(number, event_labelled(script, label)),
+            Form::Other => false,
+            Form::Rounds { .. } => false,
+        },
+    }
+}
+
+/// Whether a line of the script expects that the event of this line is refused.
+pub fn is_refusal_expected(script: &[u8], number: u64) -> bool
+    ensures { result ≡ is_refusal_expected script.now number }
+{
+    let mut rest = script;
+    'lines: while let Some((line, after)) = first_line(rest) {
+        if line_expects(script, number, line) {
+            return true;
+        }
+        rest = after;
+    }
+    false
+}
