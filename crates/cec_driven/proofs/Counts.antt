@@ -1,0 +1,44 @@
+-- How many devices there are stays the same.
+use Rattle.std.proofs.Common.{◌≡◌, ℕ, zero, suc, ◌≤◌, List, [], ◌∷◌, length, Option, Some, None, map, refl, ap, sym, ◌∙◌, subst, arith}
+use Rattle.cec_wave.specs.declared.Stretch.{Stretch}
+use Rattle.cec_wire.specs.declared.Outcome.{Outcome}
+use Rattle.cec_event.specs.declared.event.Event.{Event}
+use Rattle.cec_event.specs.declared.event.Event.TheVariants.{Plug, Unplug, Key, Send}
+use Rattle.cec_event.specs.declared.event.EventError.{EventError}
+use Rattle.hdmi_topo.specs.Node.{Node}
+use Rattle.cec_device.specs.State.{State}
+use Rattle.cec_device.specs.Place.{fresh}
+use Rattle.cec_net.specs.State.{NetState, moved_by, started}
+use Rattle.cec_net.specs.Apply.{applied, applied_unless, changed_at, event_fault}
+use Rattle.cec_net.specs.Step.{after_round, IsNextRound}
+use Rattle.cec_net.proofs.Each.{length-each_from}
+use Rattle.cec_driven.specs.Driven.{names_of}
+
+length-changed : (number : ℕ) (change : State → State) (devices : List State) → length (changed_at number change devices) ≡ length devices
+length-changed number change [] = refl
+length-changed zero change (d ∷ devices) = refl
+length-changed (suc number) change (d ∷ devices) = ap suc (length-changed number change devices)
+
+count_unless : (fault : Option EventError) (at : ℕ) (event : Event) (s : NetState) → length (applied_unless fault at event s).devices ≡ length s.devices
+count_unless (Some error) at event s = refl
+count_unless None at (Plug child parent port) s = length-each_from 0 (moved_by at _) s.devices
+count_unless None at (Unplug child) s = length-each_from 0 (moved_by at _) s.devices
+count_unless None at (Key device key press) s = length-changed device _ s.devices
+count_unless None at (Send device frame) s = length-changed device _ s.devices
+
+pub count_applied : (at : ℕ) (event : Event) (s t : NetState) → t ≡ applied at event s → length t.devices ≡ length s.devices
+count_applied at event s t e = ap (λ (n : NetState). length n.devices) e ∙ count_unless (event_fault s event) at event s
+
+pub count_round : (begin : ℕ) (o : Outcome) (s t : NetState) → IsNextRound s begin o t → length t.devices ≡ length s.devices
+count_round begin o s t next = ap (λ (n : NetState). length n.devices) next.after_is ∙ length-each_from 0 _ s.devices
+
+length-loose : (tree : List Node) → length (map (λ (node : Node). fresh node.kind node.name node.ports) tree) ≡ length tree
+length-loose [] = refl
+length-loose (node ∷ tree) = ap suc (length-loose tree)
+
+pub count_started : (tree : List Node) (pulses : List Stretch) → length (started tree pulses).devices ≡ length tree
+count_started tree pulses = length-each_from 0 (moved_by 0 tree) (map (λ (node : Node). fresh node.kind node.name node.ports) tree) ∙ length-loose tree
+
+pub count_names : (devices : List State) → length (names_of devices) ≡ length devices
+count_names [] = refl
+count_names (d ∷ devices) = ap suc (count_names devices)

@@ -1,0 +1,5 @@
+pub mod Counts
+pub mod Turns
+pub mod Running
+pub mod HasDrives
+pub mod RoundBounds

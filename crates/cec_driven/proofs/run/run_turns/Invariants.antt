@@ -1,0 +1,25 @@
+use Rattle.std.proofs.Common.{ℕ, ◌≡◌, ◌≤◌, ◌+◌, ◌-◌, length}
+use Rattle.cec_asm.specs.Script.{IsSchedule}
+use Rattle.cec_run.specs.Run.{start}
+use Rattle.cec_driven.proofs.Running.{Reached}
+use Rattle.cec_driven.proofs.run.run_turns.Given as goal
+
+-- what was written is told by the turns so far; the rest keeps the counts and times small, and what is kept beside the network
+abbrev pub invariant-turns : goal.invariant-turns
+invariant-turns g l = record {
+  reached : Reached l.end (start l.fn.net l.events) (record { net = l.net; events = l.rest; totals = l.totals })
+      (g.S.Sink.contents l.fn.out) (g.S.Sink.contents l.out) l.written;
+  flag : g.S.Sink.is_stuck l.out ≡ g.S.Sink.is_stuck l.fn.out;
+  schedule : (from : ℕ) × IsSchedule (length l.net.tree) l.end from l.rest;
+  closed : l.net.close ≤ 2000000000000;
+  rested : l.net.rest ≤ 2000000000000;
+  rounds : l.totals.rounds ≤ l.net.rest;
+  complete : l.totals.complete ≤ l.totals.rounds;
+  refused : l.totals.refused + length l.rest ≤ length l.events;
+  few : length l.net.devices ≤ 15;
+  pulses : l.kept.pulses ≡ l.net.pulses;
+  since : l.kept.rest ≡ l.net.rest;
+}
+
+abbrev pub decreases-turns : goal.decreases-turns
+decreases-turns g l = length l.rest + (2000000000000 - l.net.rest)

@@ -1,0 +1,78 @@
+-- A run's line, and below it who drives it (own): the dump has a wire for the line, one for each device, and one for the pulses
+-- (IEEE 1364-2005, 18).
+use Rattle.std.specs.Prelude.{◌≡◌, ℕ, zero, suc, Bool, ◌+◌, ◌-◌, max, List, [], ◌∷◌, ◌++◌, map, Option, Some, Result}
+use Rattle.cec_wave.specs.declared.Stretch.{Stretch}
+use Rattle.cec_wave.specs.Line.{IsWave}
+use Rattle.cec_wire.specs.declared.Seat.{Seat}
+use Rattle.cec_wire.specs.declared.Outcome.{Outcome}
+use Rattle.cec_wires.specs.Wires.{head, wires_text}
+use Rattle.cec_drives.specs.Stretches.{drives_of}
+use Rattle.cec_device.specs.State.{State}
+use Rattle.cec_net.specs.State.{NetState, next_start}
+use Rattle.cec_net.specs.Step.{IsNextRound, seats_of}
+use Rattle.cec_net.specs.Progress.{IsProgress}
+use Rattle.cec_text.specs.ReadingText.{is_complete}
+use Rattle.cec_vcd.specs.Text.{last}
+use Rattle.cec_words.specs.Cut.{WrittenText}
+use Rattle.hdmi_core.specs.declared.sink.WriteFault.{WriteFault}
+use Rattle.cec_line.specs.declared.format.Format.TheVariants.{Vcd}
+use Rattle.cec_run.specs.declared.run.Telling.TheVariants.{Line}
+use Rattle.cec_run.specs.declared.run.Totals.{Totals}
+use Rattle.cec_run.specs.declared.run.Turn.{Turn}
+use Rattle.cec_run.specs.declared.run.Turn.TheVariants.{Stop, Apply, Round}
+use Rattle.cec_run.specs.Run.{Config, counted_round, turn_at, IsEventTurn, IsRoundTurn}
+
+-- the names of the devices' wires
+abbrev pub names_of : List State → List (List ℕ)
+names_of devices = map (λ d. d.name) devices
+
+-- a round: its line and its drives, from its begin up to where the line is high for good
+abbrev pub round_drives : List Seat → ℕ → List Stretch → Outcome → List ℕ
+round_drives seats begin pulses o = wires_text (o.wave ∷ drives_of seats begin pulses o) begin (o.rest + 1 - begin)
+
+-- ---- one turn of the run's line, and what is told of its drives: of an event nothing, of a round its drives
+
+abbrev pub IsDrivenBy : Turn → Config → List ℕ → List ℕ → Config → Type 0
+IsDrivenBy Stop c line text d = ⊥
+IsDrivenBy (Apply at) c line text d = IsEventTurn (Line Vcd) at c.events c line d × (text ≡ [])
+IsDrivenBy (Round begin) c line text d =
+    (turn : IsRoundTurn (Line Vcd) begin c.net c.totals line d.net d.totals) × (d.events ≡ c.events) × (text ≡ round_drives (seats_of c.net begin) begin c.net.pulses turn.outcome)
+
+abbrev pub IsDrivenTurn : ℕ → Config → List ℕ → List ℕ → Config → Type 0
+IsDrivenTurn end c line text d = IsDrivenBy (turn_at end c) c line text d
+
+-- ---- the whole run
+
+-- one turn after another, with the text of the line and the text of the drives
+abbrev pub Drives : ℕ → ℕ → Config → List ℕ → List ℕ → Config → Type 0
+Drives end zero c line text d = (line ≡ []) × (text ≡ []) × (d ≡ c)
+Drives end (suc turns) c line text d =
+    (mid : Config) × (told : List ℕ) × (rest : List ℕ) × (driven : List ℕ) × (left : List ℕ)
+    × IsDrivenTurn end c told driven mid × Drives end turns mid rest left d × (line ≡ told ++ rest) × (text ≡ driven ++ left)
+
+-- behind the head: the drives of the turns up to where the run stops, and the end, which is not before the last close
+pub record IsDrivenFrom (end : ℕ) (c : Config) (text : List ℕ) (totals : Totals) : Type 0 where
+  pub turns : ℕ
+  pub at_end : Config
+  pub line : List ℕ
+  pub body : List ℕ
+  pub drives : Drives end turns c line body at_end
+  pub stops : turn_at end at_end ≡ Stop
+  pub whole : text ≡ body ++ last (max end at_end.net.close)
+  pub counts : totals ≡ at_end.totals
+
+pub record IsDriven (end : ℕ) (c : Config) (text : List ℕ) (totals : Totals) : Type 0 where
+  pub rest : List ℕ
+  pub run : IsDrivenFrom end c rest totals
+  pub whole : text ≡ head (names_of c.net.devices) ++ rest
+
+-- a round was run from one state to the next, and its drives were written
+pub record RoundDriven (before after : NetState) (t u : Totals) (old new : Option (List ℕ)) (was is : Bool) (result : Result ℕ WriteFault) : Type 0 where
+  pub begin : ℕ
+  pub outcome : Outcome
+  pub begins : next_start before ≡ Some begin
+  pub wave : IsWave outcome.wave
+  pub next : IsNextRound before begin outcome after
+  pub totals : u ≡ counted_round (is_complete outcome.reading.ending) t
+  pub progress : IsProgress before begin after
+  pub written : WrittenText old new was is (round_drives (seats_of before begin) begin before.pulses outcome) result

@@ -1,0 +1,25 @@
+-- What the texts of a topology and a script give.
+use Rattle.std.specs.Prelude.{ℕ, List, Option}
+use Rattle.cec_asm.specs.Topology.{Plan}
+use Rattle.cec_asm.specs.Script.{Course}
+use Rattle.cec_trace.specs.Root.{IsRoot}
+use Rattle.cec_net.specs.State.{started}
+use Rattle.hdmi_blocks.specs.declared.edid.Edid.{Edid}
+use Rattle.cec_run.specs.declared.emulate.EmulateError.{EmulateError}
+use Rattle.cec_run.specs.declared.run.Totals.{Totals}
+use Rattle.cec_run.specs.Run.{start}
+use Rattle.cec_run.specs.Emulate.{IsAccepted, IsCutText}
+use Rattle.cec_driven.specs.Driven.{IsDriven}
+
+-- the line of the run that the texts spell, and who drives it
+pub record IsDrivesOf (topology script text : List ℕ) (totals : Totals) : Type 0 where
+  pub plan : Plan
+  pub course : Course
+  pub edid : Option Edid
+  pub accepted : IsAccepted topology script plan course
+  pub root : IsRoot plan.edid edid
+  pub driven : IsDriven course.end (start (started plan.tree course.pulses) course.events) text totals
+
+-- what a refusal has written
+abbrev pub IsDrivesCut : List ℕ → List ℕ → Option (List ℕ) → Option (List ℕ) → EmulateError → Type 0
+IsDrivesCut topology script = IsCutText (IsDrivesOf topology script)

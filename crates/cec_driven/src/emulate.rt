@@ -1,0 +1,54 @@
+//! From the texts of a topology and a script to the line of their run, and who drives it.
+ghost use Rattle.std.specs.Prelude.{◌≡◌, ℕ, List, ◌↔◌, true, false, IfOk, IfErr, IsTrue};
+ghost use Rattle.std.specs.Io.KnownBytes.{Appends};
+ghost use Rattle.cec_run.specs.Emulate.{IsTold, is_write};
+ghost use Rattle.cec_driven.specs.Emulate.{IsDrivesCut, IsDrivesOf};
+
+use crate::run::run;
+use cec_asm::{parse_script, parse_topology};
+use cec_edges::EdgeWire;
+use cec_net::Net;
+use cec_run::Totals;
+use cec_run::emulate::EmulateError;
+use cec_trace::root_of;
+use hdmi_core::Sink;
+use std::alloc::Global;
+
+/// Runs a script on a topology, and writes a Value Change Dump (IEEE 1364-2005, 18) while it runs: a wire for the line of the
+/// whole run, and below it one for each device and one for the pulses, low where that device, as a sender, an acknowledger or
+/// by a low drive, or a pulse pulls. Instants are in microseconds; the last one is the later of the script's end and the
+/// close of the last round.
+///
+/// # Errors
+///
+/// Those of [`emulate`](cec_run::emulate::emulate), in the same order. A failed write: then the front of that text was
+/// written, as long as it tells. Else nothing was written.
+// The network is large: where this stood inside its caller, the caller's frame would hold one for each kind of run.
+#[inline(never)]
+pub fn emulate_drives<S: Sink>(
+    alloc: Global,
+    topology: &[u8],
+    script: &[u8],
+    out: &mut S,
+) -> Result<Totals, EmulateError>
+    ensures ok { IfOk result (λ totals. (text : List ℕ) × IsDrivesOf topology.now script.now text totals × Appends (S.contents out.old) (S.contents out.new) text) }
+    ensures told { IfErr result (IsTold topology.now script.now) }
+    ensures write { S.is_stuck out.old ≡ false → (IsTrue (is_write result) ↔ IsTrue (S.is_stuck out.new)) }
+    ensures cut { IfErr result (IsDrivesCut topology.now script.now (S.contents out.old) (S.contents out.new)) }
+{
+    let topology = parse_topology(alloc, topology)?;
+    let script = parse_script(alloc, &topology, script)?;
+    let _edid = root_of(&topology.edid)?;
+    let _count = topology.tree.count();
+    // The network is lent as it is made, as for the trace.
+    match run(
+        out,
+        &mut Net::new(topology.tree, EdgeWire::new(), script.to_pulses()),
+        script.to_pulses(),
+        &script.events,
+        script.end,
+    ) {
+        Ok(totals) => Ok(totals),
+        Err(fault) => Err(EmulateError::Write(fault.count)),
+    }
+}

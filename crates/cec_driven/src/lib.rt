@@ -1,0 +1,11 @@
+//! The line of a run and who drives it, as a dump of several wires: from the texts of a topology and a script.
+#![tactic(auto)]
+
+mod counting;
+mod emulate;
+mod head;
+mod round;
+mod run;
+mod seats;
+
+pub use emulate::emulate_drives;

@@ -1,0 +1,80 @@
+//! One round, and who drives its line.
+ghost use Rattle.std.specs.Prelude.{◌≡◌, ◌+◌, ◌<◌, ◌≤◌, length, Some};
+ghost use Rattle.cec_words.specs.Cut.{WrittenText};
+ghost use Rattle.cec_wire.specs.Bounds.{begun_within};
+ghost use Rattle.cec_net.specs.State.{next_start};
+ghost use Rattle.cec_driven.specs.Driven.{RoundDriven, round_drives};
+
+use crate::counting::counted_round;
+use crate::seats::seats_of;
+use cec_drives::drives_of;
+use cec_net::Net;
+use cec_run::Totals;
+use cec_wave::{Pulses, Stretch};
+use cec_wire::{Outcome, Seat, Wire};
+use cec_wires::write_wires;
+use hdmi_core::{Sink, WriteFault};
+
+// Writes the line and the drives of a round that began at `begin` and gave this outcome.
+fn write_round<S: Sink>(
+    out: &mut S,
+    seats: &[Seat],
+    begin: u64,
+    pulses: &[Stretch],
+    outcome: &Outcome,
+) -> Result<u128, WriteFault>
+    requires seats { length seats.now ≤ 15 }
+    requires pulses { length (begun_within begin outcome.now.rest pulses.now) ≤ 192 }
+    requires begin { begin ≤ 2000000000000 }
+    requires early { outcome.now.reading.at ≤ 3000000000000 }
+    requires rest { (begin ≤ outcome.now.rest) × (outcome.now.rest ≤ 3000000000000) }
+    ensures { WrittenText (S.contents out.old) (S.contents out.new) (S.is_stuck out.old) (S.is_stuck out.new)
+        (round_drives seats.now begin pulses.now outcome.now) result }
+{
+    let drives = drives_of(seats, begin, pulses, outcome);
+    write_wires(
+        out,
+        outcome.wave.as_slice(),
+        &drives,
+        begin,
+        outcome.rest + 1,
+    )
+}
+
+/// What a run keeps beside its network: the pulses that no round has taken, and since when the line is high.
+#[derive(Drop)]
+pub struct Kept {
+    pub pulses: Pulses,
+    pub rest: u64,
+}
+
+/// Runs the next round, which begins at `begin`, and writes its line and who drives it.
+pub fn run_round<S: Sink, W: Wire>(
+    out: &mut S,
+    net: &mut Net<W>,
+    kept: &mut Kept,
+    totals: &mut Totals,
+    begin: u64,
+) -> Result<u128, WriteFault>
+    requires starts { next_start net.old ≡ Some begin }
+    requires early { net.old.close ≤ 2000000000000 }
+    requires soon { begin ≤ 2000000000000 }
+    requires few { length net.old.devices ≤ 15 }
+    requires pulses { kept.old.pulses ≡ net.old.pulses }
+    requires rest { kept.old.rest ≡ net.old.rest }
+    requires rested { net.old.rest ≤ 2000000000000 }
+    requires room { totals.old.rounds < 18446744073709551615 }
+    requires less { totals.old.complete ≤ totals.old.rounds }
+    ensures round { RoundDriven net.old net.new totals.old totals.new (S.contents out.old) (S.contents out.new) (S.is_stuck out.old) (S.is_stuck out.new) result }
+    ensures pulses { kept.new.pulses ≡ net.new.pulses }
+    ensures rest { kept.new.rest ≡ net.new.rest }
+{
+    let seats = seats_of(net.devices(), kept.rest, begin);
+    let outcome = net.round_at(begin);
+    *totals = counted_round(*totals, outcome.reading.ending);
+    let _stretches = outcome.wave.as_slice();
+    let written = write_round(out, &seats, begin, kept.pulses.as_slice(), &outcome);
+    kept.pulses.drop_until(outcome.rest);
+    kept.rest = outcome.rest;
+    written
+}

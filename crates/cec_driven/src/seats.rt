@@ -1,0 +1,90 @@
+//! The seats of a round, as they stand before it.
+ghost use Rattle.std.specs.Prelude.{◌≡◌, ◌+◌, ◌==◌, ◌<◌, ◌≤◌, length, map};
+ghost use Rattle.cec_net.specs.Start.{contends, next_turn, start_from};
+ghost use Rattle.cec_net.specs.Step.{seat_of};
+
+use arrayvec::ArrayVec;
+use cec_device::Device;
+use cec_wire::Seat;
+
+// The most devices.
+pub(crate) const DEVICES: usize = 15;
+
+// The turns of allocation: a device starts a poll of its own in one of sixteen microseconds.
+const TURNS: u64 = 16;
+
+// The first instant from `at` on whose remainder by 16 is the number.
+fn next_turn(number: u8, at: u64) -> u64
+    requires { at ≤ 3000000000000 }
+    ensures { result ≡ next_turn number at }
+{
+    at + (u64::from(number) + TURNS - at % TURNS) % TURNS
+}
+
+// Whether that instant is this one.
+fn is_turn(number: u8, at: u64, begin: u64) -> bool
+    requires { begin ≤ 2500000000000 }
+    ensures { result ≡ (next_turn number at == begin) }
+{
+    at <= begin && next_turn(number, at) == begin
+}
+
+// Whether a device whose frame is ready then starts at `begin`, where the line is high since `rest`.
+fn starts_at(device: &Device<16>, ready: u64, rest: u64, begin: u64) -> bool
+    requires rest { rest ≤ 2500000000000 }
+    requires begin { begin ≤ 2500000000000 }
+    ensures { result ≡ (start_from rest device.now ready == begin) }
+{
+    let earliest = ready.max(rest + device.class().micros());
+    if device.is_allocating() {
+        is_turn(device.number(), earliest, begin)
+    } else {
+        earliest == begin
+    }
+}
+
+// Whether a device contends in the round that begins at `begin`.
+fn contends(device: &Device<16>, rest: u64, begin: u64) -> bool
+    requires rest { rest ≤ 2500000000000 }
+    requires begin { begin ≤ 2500000000000 }
+    ensures { result ≡ contends rest begin device.now }
+{
+    if !device.is_on_wire() {
+        return false;
+    }
+    match device.ready_at() {
+        None => false,
+        Some(ready) => starts_at(device, ready, rest, begin),
+    }
+}
+
+fn seat_of(device: &Device<16>, rest: u64, begin: u64) -> Seat
+    requires rest { rest ≤ 2500000000000 }
+    requires begin { begin ≤ 2500000000000 }
+    ensures { result ≡ seat_of rest begin device.now }
+{
+    let sends = if contends(device, rest, begin) {
+        device.queue_front()
+    } else {
+        None
+    };
+    Seat {
+        plugged: device.is_on_wire(),
+        holds: device.held(),
+        sends,
+    }
+}
+
+/// The seats of the round that begins at `begin`, where the line is high since `rest`.
+pub fn seats_of(devices: &[Device<16>], rest: u64, begin: u64) -> ArrayVec<Seat, DEVICES>
+    requires few { length devices.now ≤ 15 }
+    requires rest { rest ≤ 2500000000000 }
+    requires begin { begin ≤ 2500000000000 }
+    ensures { result.items ≡ map (seat_of rest begin) devices.now }
+{
+    let mut seats = ArrayVec::new();
+    for device in devices {
+        seats.push(seat_of(device, rest, begin));
+    }
+    seats
+}
