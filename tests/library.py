@@ -11,6 +11,8 @@ import time
 import hdminet
 
 top, count, program = sys.argv[1], int(sys.argv[2]), sys.argv[3] if len(sys.argv) > 3 else ""
+# examples/c/receiver.c as a program: told the edges of each example, it reports the readings.
+receiver = os.environ.get("HDMINET_RECEIVER")
 
 
 def refused(code, line, call, *arguments):
@@ -90,6 +92,8 @@ def runs():
             assert trace.encode("latin-1") == subprocess.run([program, "run"], input=text, capture_output=True, check=True).stdout, name
             assert edges.encode() == subprocess.run([program, "run", "--edges"], input=text, capture_output=True, check=True).stdout, name
             assert hdminet.watch(edges).encode() == subprocess.run([program, "mon"], input=edges.encode(), capture_output=True, check=True).stdout, name
+        if receiver:
+            assert subprocess.run([receiver], input=edges.encode(), capture_output=True, check=True).stdout == hdminet.watch(edges).encode(), name
         print("%s: trace and edges in %.1f milliseconds each" % (os.path.basename(name), took * 1000 / 2))
 
 
