@@ -1,0 +1,177 @@
+-- The stretches of a seat are what it pulls by the rule of a round.
+use Rattle.std.proofs.Common.{◌≡◌, ℕ, zero, suc, ◌+◌, ◌-◌, ◌*◌, ◌/◌, ◌%◌, ◌==◌, ◌<◌, ◌≤◌, Bool, true, false, not, ◌&&◌, ◌||◌, nat_lt, nat_le, if◌then◌else◌, min, List, [], ◌∷◌, ◌++◌, length, length-append, slice_get, slice_index_or, option_map, inl, inr, Option, Some, None, is_none, refl, arith, ap, ap₂, ◌∙◌, sym, subst}
+use Rattle.std.specs.List.{list_any, enumerate_from, filter_map, flat_map, cons_option, find, range_with_len}
+use mathlib.Core.Bool.{beq}
+use Rattle.std.proofs.lemmas.Bool.{cases_lt}
+use Rattle.std.proofs.lemmas.Bool.Decides.{nat_tests}
+use Rattle.cec_wave.specs.declared.Stretch.{Stretch}
+use Rattle.cec_wave.specs.Line.{Line, covers, line_of}
+use Rattle.cec_wave.specs.Sender.{sender_stretches}
+use Rattle.cec_frame.specs.Bits.{frame_bits}
+use Rattle.cec_frame.specs.declared.Ending.{Ending}
+use Rattle.cec_frame.specs.declared.Ending.TheVariants.{Complete, Short, Silent, BadStart, Long, Open}
+use Rattle.cec_bits.specs.Reading.{Read, End, Known, Slot, known, known_slot, known_slots, reading_of, bits_of}
+use Rattle.cec_bits.specs.Sending.{bit_read, destination, known_bits, is_whole, is_out_by, out_slot, sender_pulls}
+use Rattle.cec_wire.specs.declared.Seat.{Seat}
+use Rattle.cec_wire.specs.declared.Outcome.{Outcome}
+use Rattle.cec_wire.specs.Round.{acknowledges, all_known, frames_of, is_acknowledged, is_broken, is_held, is_not_before, out_of, sends_in}
+use Rattle.cec_wire.specs.Contend.{leaves}
+use Rattle.cec_wire.proofs.Early.{destination_more, leaves_more, or_cases, and_left, and_right}
+use Rattle.cec_wire.proofs.Spans.{AreSpaced, MoreBits, bits_more, reading_spans}
+use Rattle.cec_drives.specs.Stretches.{ack_by, ack_in, ack_stretches, acknowledges_in, break_stretches, breaks_off, cut_after, goes_to, is_short, last_pull, sample_by, sent_stretches, slot_fall, stretch}
+use Rattle.drive_laws.proofs.Sent.{FrontTold, all_bits, bits_at, found_before, front_told, known_after, last_by, one_known, out_slot_of, stops}
+use Rattle.drive_laws.proofs.Slots.{falls_at}
+
+-- what an outcome tells of its reading
+pub record Tells (low : Line) (begin : ℕ) (o : Outcome) : Type 0 where
+  pub at : o.reading.at ≡ (reading_of low begin).at
+  pub ending : o.reading.ending ≡ (reading_of low begin).ending
+  pub bits : o.reading.bits.items ≡ bits_of (reading_of low begin)
+  pub slots : (n : ℕ) → 1 ≤ n → slot_fall o n ≡ falls_at (reading_of low begin).slots (n - 1)
+
+-- ---- who sends
+
+or_false : (b : Bool) → (b || false) ≡ b
+or_false true = refl
+or_false false = refl
+
+cut_cover : (last t : ℕ) (s : Stretch) → nat_le s.from last ≡ true → covers (stretch s.from (min s.to (last + 1))) t ≡ (covers s t && nat_le t last)
+cut_cover last t s h = grind (arith, nat_tests)
+
+late_cover : (last t : ℕ) (s : Stretch) → nat_le s.from last ≡ false → (covers s t && nat_le t last) ≡ false
+late_cover last t s h = grind (arith, nat_tests)
+
+cut_line : (last t : ℕ) (ss : List Stretch) → line_of (cut_after last ss) t ≡ (line_of ss t && nat_le t last)
+cut_line last t [] = refl
+cut_line last t (s ∷ ss) = by (nat_le s.from last) refl (cut_line last t ss)
+  where
+    spread : (a b c : Bool) → ((a && c) || (b && c)) ≡ ((a || b) && c)
+    spread true true true = refl
+    spread true true false = refl
+    spread true false c = or_false c
+    spread false b c = refl
+
+    by : (b : Bool) → nat_le s.from last ≡ b → line_of (cut_after last ss) t ≡ (line_of ss t && nat_le t last)
+        → line_of (if b then stretch s.from (min s.to (last + 1)) ∷ cut_after last ss else cut_after last ss) t ≡ ((covers s t || line_of ss t) && nat_le t last)
+    by true h rest = ap₂ (λ a b. a || b) (cut_cover last t s h) rest ∙ spread (covers s t) (line_of ss t) (nat_le t last)
+    by false h rest = rest ∙ ap (λ a. a || (line_of ss t && nat_le t last)) (sym (late_cover last t s h)) ∙ spread (covers s t) (line_of ss t) (nat_le t last)
+
+last_same : (low : Line) (begin : ℕ) (o : Outcome) (sent : List Bool) → Tells low begin o → (out : Option ℕ) → out_slot (all_known (reading_of low begin)) sent ≡ out
+    → last_pull o out ≡ last_by (reading_of low begin) out
+last_same low begin o sent tells None e = tells.at
+last_same low begin o sent tells (Some n) e = ap sample_by (tells.slots n (out_slot_of low begin sent n e).0)
+
+pub sent_line : (low : Line) (begin t : ℕ) (o : Outcome) → Tells low begin o → (sends : Option (List ℕ))
+    → line_of (sent_stretches begin o (out_of (reading_of low begin) sends) sends) t ≡ list_any (sender_pulls begin (known t (reading_of low begin)) t) (cons_option sends [])
+sent_line low begin t o tells None = refl
+sent_line low begin t o tells (Some f) =
+    let sent = frame_bits f in
+    let out = out_slot (all_known (reading_of low begin)) (frame_bits f) in
+    cut_line (last_pull o out) t (sender_stretches begin sent)
+    ∙ ap (λ n. line_of (sender_stretches begin sent) t && nat_le t n) (last_same low begin o sent tells out refl)
+    ∙ ap (λ b. line_of (sender_stretches begin sent) t && b) (sym (stops low begin t sent))
+    ∙ sym (or_false (sender_pulls begin (known t (reading_of low begin)) t f))
+
+-- ---- who pulls after a fall too early
+
+pub break_line : (low : Line) (begin t : ℕ) (o : Outcome) → Tells low begin o → (seat : Seat)
+    → line_of (break_stretches o seat (out_of (reading_of low begin) seat.sends)) t ≡ is_broken (seat ∷ []) (known t (reading_of low begin)) t (known t (reading_of low begin)).ended
+break_line low begin t o tells seat = by_ending (reading_of low begin).ending refl
+  where
+    out : Option ℕ
+    out = out_of (reading_of low begin) seat.sends
+
+    no_break : (b : Bool) → line_of (if b && false then stretch (o.reading.at + 1) (o.reading.at + 3600) ∷ [] else []) t ≡ false
+    no_break true = refl
+    no_break false = refl
+
+    -- an ending that is none
+    quiet : (x : Ending) → (reading_of low begin).ending ≡ x → is_short x ≡ false → line_of (break_stretches o seat out) t ≡ false
+    quiet x e h =
+        let none : breaks_off o seat out ≡ false = ap (λ (y : Ending). is_short y && (seat.plugged && not (goes_to seat.sends out (length o.reading.bits.items + 1)))) (tells.ending ∙ e)
+        ∙ ap (λ b. b && (seat.plugged && not (goes_to seat.sends out (length o.reading.bits.items + 1)))) h in
+        rw none refl
+
+    other : (x : Ending) → is_short x ≡ false → (b : Bool)
+        → is_broken (seat ∷ []) (known t (reading_of low begin)) t (if b then Some (record { ending = x; at = (reading_of low begin).at; until = (reading_of low begin).until }) else None) ≡ false
+    other Complete h true = refl
+    other Silent h true = refl
+    other BadStart h true = refl
+    other Long h true = refl
+    other Open h true = refl
+    other Short h true = cc
+    other x h false = refl
+
+    known_end : (x : Ending) → (reading_of low begin).ending ≡ x
+        → (known t (reading_of low begin)).ended ≡ (if nat_lt (reading_of low begin).until t then Some (record { ending = x; at = (reading_of low begin).at; until = (reading_of low begin).until }) else None)
+    known_end x e = ap (λ (y : Ending). if nat_lt (reading_of low begin).until t then (let some : Option End = Some (record { ending = y; at = (reading_of low begin).at; until = (reading_of low begin).until }) in some) else None) e
+
+    both_none : (x : Ending) → (reading_of low begin).ending ≡ x → is_short x ≡ false
+        → line_of (break_stretches o seat out) t ≡ is_broken (seat ∷ []) (known t (reading_of low begin)) t (known t (reading_of low begin)).ended
+    both_none x e h =
+        quiet x e h ∙ sym (ap (is_broken (seat ∷ []) (known t (reading_of low begin)) t) (known_end x e) ∙ other x h (nat_lt (reading_of low begin).until t))
+
+    -- who sends to the end
+    goes_same : (sends : Option (List ℕ)) (n : ℕ) → goes_to sends (out_of (reading_of low begin) sends) n ≡ sends_in (all_known (reading_of low begin)) sends n
+    goes_same None n = refl
+    goes_same (Some f) n = refl
+
+    breaks : (b : Bool) → nat_lt (reading_of low begin).until t ≡ b → (reading_of low begin).ending ≡ Short
+        → line_of (break_stretches o seat out) t ≡ is_broken (seat ∷ []) (known t (reading_of low begin)) t
+        (if b then Some (record { ending = Short; at = (reading_of low begin).at; until = (reading_of low begin).until }) else None)
+    breaks b h short = by_time b h
+      where
+        until_at : (reading_of low begin).until ≡ (reading_of low begin).at
+        until_at = ((reading_spans low begin).short short).1
+
+        pulls : Bool
+        pulls = seat.plugged && not (goes_to seat.sends out (length o.reading.bits.items + 1))
+
+        short_first : breaks_off o seat out ≡ pulls
+        short_first = ap (λ (y : Ending). is_short y && (seat.plugged && not (goes_to seat.sends out (length o.reading.bits.items + 1)))) (tells.ending ∙ short)
+
+        line_is : line_of (break_stretches o seat out) t ≡ (pulls && covers (stretch (o.reading.at + 1) (o.reading.at + 3600)) t)
+        line_is = ap (λ b. line_of (if b then stretch (o.reading.at + 1) (o.reading.at + 3600) ∷ [] else []) t) short_first ∙ by_pulls pulls
+          where
+            by_pulls : (b : Bool) → line_of (if b then stretch (o.reading.at + 1) (o.reading.at + 3600) ∷ [] else []) t ≡ (b && covers (stretch (o.reading.at + 1) (o.reading.at + 3600)) t)
+            by_pulls true = or_false (covers (stretch (o.reading.at + 1) (o.reading.at + 3600)) t)
+            by_pulls false = refl
+
+        cover_is : covers (stretch (o.reading.at + 1) (o.reading.at + 3600)) t ≡ (nat_le ((reading_of low begin).at + 1) t && nat_lt t ((reading_of low begin).at + 3600))
+        cover_is = ap (λ n. nat_le (n + 1) t && nat_lt t (n + 3600)) tells.at
+
+        by_time : (b : Bool) → nat_lt (reading_of low begin).until t ≡ b → line_of (break_stretches o seat out) t ≡ is_broken (seat ∷ []) (known t (reading_of low begin)) t
+            (if b then Some (record { ending = Short; at = (reading_of low begin).at; until = (reading_of low begin).until }) else None)
+        by_time false g =
+            let not_yet : nat_le ((reading_of low begin).at + 1) t ≡ false = grind (arith, nat_tests, until_at) in
+            line_is ∙ ap (λ c. pulls && c) (cover_is ∙ ap (λ c. c && nat_lt t ((reading_of low begin).at + 3600)) not_yet) ∙ never pulls
+          where
+            never : (b : Bool) → (b && false) ≡ false
+            never true = refl
+            never false = refl
+        by_time true g =
+            let past : (reading_of low begin).until < t = grind (arith, nat_tests) in
+            let now : nat_le ((reading_of low begin).at + 1) t ≡ true = grind (arith, nat_tests, until_at) in
+            let k = known_after t low begin past in
+            let count : length (known_bits (all_known (reading_of low begin))) ≡ length o.reading.bits.items = ap length (all_bits low begin ∙ sym tells.bits) in
+            let sends : sends_in (known t (reading_of low begin)) seat.sends (length (known_bits (known t (reading_of low begin))) + 1) ≡ goes_to seat.sends out (length o.reading.bits.items + 1) =
+            ap (λ (n : Known). sends_in n seat.sends (length (known_bits n) + 1)) k
+            ∙ ap (λ n. sends_in (all_known (reading_of low begin)) seat.sends (n + 1)) count ∙ sym (goes_same seat.sends (length o.reading.bits.items + 1)) in
+            line_is ∙ ap (λ c. pulls && c) (cover_is ∙ ap (λ c. c && nat_lt t ((reading_of low begin).at + 3600)) now)
+            ∙ turned pulls (nat_lt t ((reading_of low begin).at + 3600))
+            ∙ ap (λ b. nat_lt t ((reading_of low begin).at + 3600) && ((seat.plugged && not b) || false)) (sym sends)
+          where
+            turned : (a b : Bool) → (a && b) ≡ (b && (a || false))
+            turned true true = refl
+            turned true false = refl
+            turned false true = refl
+            turned false false = refl
+
+    by_ending : (x : Ending) → (reading_of low begin).ending ≡ x
+        → line_of (break_stretches o seat out) t ≡ is_broken (seat ∷ []) (known t (reading_of low begin)) t (known t (reading_of low begin)).ended
+    by_ending Complete e = both_none Complete e refl
+    by_ending Silent e = both_none Silent e refl
+    by_ending BadStart e = both_none BadStart e refl
+    by_ending Long e = both_none Long e refl
+    by_ending Open e = both_none Open e refl
+    by_ending Short e = breaks (nat_lt (reading_of low begin).until t) refl e ∙ sym (ap (is_broken (seat ∷ []) (known t (reading_of low begin)) t) (known_end Short e))

@@ -1,0 +1,129 @@
+-- The line of a round is low exactly where one of its drives is.
+use Rattle.std.proofs.Common.{◌≡◌, ℕ, zero, suc, ◌+◌, ◌-◌, ◌==◌, ◌<◌, ◌≤◌, Bool, true, false, ◌&&◌, ◌||◌, nat_lt, nat_le, if◌then◌else◌, List, [], ◌∷◌, ◌++◌, slice_get, inl, inr, Option, Some, None, refl, arith, ap, ap₂, ◌∙◌, sym, subst}
+use Rattle.std.specs.List.{list_any, cons_option}
+use Rattle.std.proofs.lemmas.Bool.{cases_lt}
+use Rattle.std.proofs.lemmas.Bool.Decides.{nat_tests}
+use Rattle.cec_wave.specs.declared.Stretch.{Stretch}
+use Rattle.cec_wave.specs.Line.{Line, covers, line_of, IsWave}
+use Rattle.cec_wave.specs.Pulses.{AreSparse}
+use Rattle.cec_bits.specs.Reading.{Read, known, reading_of, start_of}
+use Rattle.cec_bits.specs.Sending.{sender_pulls}
+use Rattle.cec_bits.proofs.Waves.{quiet}
+use Rattle.cec_wire.specs.declared.Loser.{Loser}
+use Rattle.cec_wire.specs.declared.Seat.{Seat}
+use Rattle.cec_wire.specs.declared.Outcome.{Outcome}
+use Rattle.cec_wire.specs.Bounds.{begun_within}
+use Rattle.cec_wire.specs.Contend.{AreFrames}
+use Rattle.cec_wire.specs.Lasting.{is_begun}
+use Rattle.cec_wire.specs.Round.{is_acknowledged, is_broken, lost_at, losers_from, out_in, out_of, IsRound}
+use Rattle.cec_wire.proofs.Lasting.{begun_by, contended, low_at_begin}
+use Rattle.cec_wire.proofs.OneOutcome.{covers_own}
+use Rattle.cec_wire.proofs.Still.{high_before}
+use Rattle.cec_drives.specs.Drives.{pulse_line, seat_line}
+use Rattle.cec_drives.specs.Stretches.{ack_stretches, break_stretches, drives_from, drives_of, fall_by, seat_stretches, seat_stretches_by, sent_stretches, slot_fall}
+use Rattle.cec_drives.proofs.Driven.{lines_are_driven}
+use Rattle.drive_laws.specs.DriveLaws.{DrivesAreTheLine}
+use Rattle.drive_laws.proofs.Acks.{ack_line, any_append}
+use Rattle.drive_laws.proofs.Pulses.{pulses_line}
+use Rattle.drive_laws.proofs.Seats.{Tells, break_line, sent_line}
+use Rattle.drive_laws.proofs.Slots.{falls_at, slots_fall}
+
+-- ---- the first stretch begins with the round
+
+first_begin : (ss : List Stretch) (begin : ℕ) → IsWave ss → line_of ss begin ≡ true → ((u : ℕ) → u < begin → line_of ss u ≡ false)
+    → (s : Stretch) × (rest : List Stretch) × (ss ≡ s ∷ rest) × (s.from ≡ begin)
+first_begin [] begin w l h = cc
+first_begin (s ∷ rest) begin w l h = (
+  s,
+  rest,
+  refl,
+  elim (cases_lt begin s.from) [
+    | inl early ↦ (let no = quiet (s ∷ rest) s.from begin (omega arith, w.1, w.2) early in cc)
+    | inr le ↦ elim (cases_lt s.from begin) [
+      | inl late ↦ (let is : covers s s.from ≡ true = covers_own s s.from (omega arith) w.1 in let no = h s.from late in let yes : line_of (s ∷ rest) s.from ≡ true = rw is refl in cc)
+      | inr ge ↦ omega arith
+    ]
+  ],
+)
+
+-- ---- what an outcome tells
+
+tells_by : (wave : List Stretch) (begin : ℕ) (o : Outcome) (s : Stretch) (rest : List Stretch) → o.wave ≡ wave → wave ≡ s ∷ rest → s.from ≡ begin → IsWave (s ∷ rest)
+    → o.reading.at ≡ (reading_of (line_of wave) begin).at → (n : ℕ) → 1 ≤ n → slot_fall o n ≡ falls_at (reading_of (line_of wave) begin).slots (n - 1)
+tells_by wave begin o s rest own same first w at zero some = absurd (omega arith)
+tells_by wave begin o s rest own same first w at (suc k) some =
+    let less : suc k - 1 ≡ k = omega arith in
+    ap₂ (λ n (ss : List Stretch). fall_by n (slice_get ss (suc k))) at (own ∙ same)
+    ∙ subst (λ b. fall_by (reading_of (line_of wave) b).at (slice_get rest k) ≡ falls_at (reading_of (line_of wave) b).slots k) first
+    (subst (λ (ss : List Stretch). fall_by (reading_of (line_of ss) s.from).at (slice_get rest k) ≡ falls_at (reading_of (line_of ss) s.from).slots k) (sym same) (sym (slots_fall s rest 0 w k)))
+    ∙ ap (falls_at (reading_of (line_of wave) begin).slots) (sym less)
+
+-- ---- seat by seat
+
+seat_same : (low : Line) (begin t : ℕ) (o : Outcome) → Tells low begin o → (seat : Seat) → line_of (seat_stretches_by begin o seat (out_of (reading_of low begin) seat.sends)) t ≡ seat_line begin low seat t
+seat_same low begin t o tells seat =
+    let out = out_of (reading_of low begin) seat.sends in
+    any_append (λ s. covers s t) (sent_stretches begin o out seat.sends) (ack_stretches o seat out ++ break_stretches o seat out)
+    ∙ ap₂ (λ a b. a || b) (sent_line low begin t o tells seat.sends)
+    (any_append (λ s. covers s t) (ack_stretches o seat out) (break_stretches o seat out) ∙ ap₂ (λ a b. a || b) (ack_line low begin t o tells seat) (break_line low begin t o tells seat))
+
+-- the losers after place n have greater places
+later_losers : (r : Read) (n k : ℕ) (seats : List Seat) → k < n → out_in (losers_from r n seats) k ≡ None
+later_losers r n k [] h = refl
+later_losers r n k (s ∷ ss) h = by_out (out_of r s.sends) (later_losers r (n + 1) k ss (omega arith))
+  where
+    by_out : (o : Option ℕ) → out_in (losers_from r (n + 1) ss) k ≡ None → out_in (lost_at n o ++ losers_from r (n + 1) ss) k ≡ None
+    by_out None e = e
+    by_out (Some slot) e = let x : (n == k) ≡ false = grind (arith, nat_tests) in ap (λ b. if b then Some slot else out_in (losers_from r (n + 1) ss) k) x ∙ e
+
+out_found : (r : Read) (n k m : ℕ) (seats : List Seat) (s : Seat) → m ≡ n + k → slice_get seats k ≡ Some s → out_in (losers_from r n seats) m ≡ out_of r s.sends
+out_found r n k m [] s e h = cc
+out_found r n zero m (x ∷ ss) s e h =
+    let same : x ≡ s = cc in
+    by_out (out_of r x.sends) (later_losers r (n + 1) m ss (omega arith)) ∙ ap (λ (y : Seat). out_of r y.sends) same
+  where
+    by_out : (o : Option ℕ) → out_in (losers_from r (n + 1) ss) m ≡ None → out_in (lost_at n o ++ losers_from r (n + 1) ss) m ≡ o
+    by_out None q = q
+    by_out (Some slot) q = let y : (n == m) ≡ true = grind (arith, nat_tests) in ap (λ b. if b then Some slot else out_in (losers_from r (n + 1) ss) m) y
+out_found r n (suc k) m (x ∷ ss) s e h = by_out (out_of r x.sends) (out_found r (n + 1) k m ss s (omega arith) h)
+  where
+    by_out : (o : Option ℕ) → out_in (losers_from r (n + 1) ss) m ≡ out_of r s.sends → out_in (lost_at n o ++ losers_from r (n + 1) ss) m ≡ out_of r s.sends
+    by_out None q = q
+    by_out (Some slot) q = let y : (n == m) ≡ false = grind (arith, nat_tests) in ap (λ b. if b then Some slot else out_in (losers_from r (n + 1) ss) m) y ∙ q
+
+seats_same : (low : Line) (begin t : ℕ) (o : Outcome) → Tells low begin o → (n : ℕ) (seats : List Seat)
+    → ((k : ℕ) (s : Seat) → slice_get seats k ≡ Some s → out_in o.losers.items (n + k) ≡ out_of (reading_of low begin) s.sends)
+    → list_any (λ ss. line_of ss t) (drives_from begin o n seats) ≡ list_any (λ seat. seat_line begin low seat t) seats
+seats_same low begin t o tells n [] outs = refl
+seats_same low begin t o tells n (seat ∷ seats) outs =
+    let first : out_in o.losers.items n ≡ out_of (reading_of low begin) seat.sends = ap (out_in o.losers.items) (let e : n ≡ n + 0 = omega arith in e) ∙ outs 0 seat refl in
+    ap₂ (λ a b. a || b) (ap (λ out. line_of (seat_stretches_by begin o seat out) t) first ∙ seat_same low begin t o tells seat)
+    (seats_same low begin t o tells (n + 1) seats (λ k s h. ap (out_in o.losers.items) (let e : n + 1 + k ≡ n + suc k = omega arith in e) ∙ outs (suc k) s h))
+
+-- ---- the whole line
+
+pub drives_are_the_line : DrivesAreTheLine
+drives_are_the_line seats begin pulses o frames sparse wave round begun t =
+    let low : Line = line_of o.wave in
+    let b = begun_by (line_of o.wave) begin (start_of (line_of o.wave) begin) refl in
+    let starts : line_of o.wave begin ≡ true = low_at_begin seats begin pulses (line_of o.wave) sparse (contended seats begin pulses (line_of o.wave) round.line) b.tells begun in
+    let first = first_begin o.wave begin wave starts (high_before seats begin pulses (line_of o.wave) round.line) in
+    let tells : Tells (line_of o.wave) begin o = record {
+      at = round.ends;
+      ending = round.ending;
+      bits = round.bits;
+      slots = tells_by o.wave begin o first.0 first.1 refl first.2 first.3 (subst IsWave first.2 wave) round.ends;
+    } in
+    let own = seats_same (line_of o.wave) begin t o tells 0 seats
+    (λ k s h. ap (λ (ls : List Loser). out_in ls (0 + k)) round.losers ∙ out_found (reading_of (line_of o.wave) begin) 0 k (0 + k) seats s refl h) in
+    let pulse = pulses_line seats begin pulses o frames sparse wave round t in
+    lines_are_driven seats begin pulses (line_of o.wave) frames sparse round.line t
+    ∙ ap₂ (λ a c. a || c) pulse (sym own)
+    ∙ turned (line_of (begun_within begin o.rest pulses) t) (list_any (λ ss. line_of ss t) (drives_from begin o 0 seats))
+    ∙ sym (any_append (λ ss. line_of ss t) (drives_from begin o 0 seats) (begun_within begin o.rest pulses ∷ []))
+  where
+    turned : (a b : Bool) → (a || b) ≡ (b || (a || false))
+    turned true true = refl
+    turned true false = refl
+    turned false true = refl
+    turned false false = refl

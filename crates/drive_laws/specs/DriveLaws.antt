@@ -1,0 +1,18 @@
+-- The line of a round is low exactly where one of its drives is (own).
+use Rattle.std.specs.Prelude.{◌≡◌, ℕ, true, List}
+use Rattle.std.specs.List.{list_any}
+use Rattle.cec_wave.specs.declared.Stretch.{Stretch}
+use Rattle.cec_wave.specs.Line.{line_of, IsWave}
+use Rattle.cec_wave.specs.Pulses.{AreSparse}
+use Rattle.cec_wire.specs.declared.Seat.{Seat}
+use Rattle.cec_wire.specs.declared.Outcome.{Outcome}
+use Rattle.cec_wire.specs.Contend.{AreFrames}
+use Rattle.cec_wire.specs.Lasting.{is_begun}
+use Rattle.cec_wire.specs.Round.{IsRound}
+use Rattle.cec_drives.specs.Stretches.{drives_of}
+
+-- In a round in which somebody pulls at once, the line is low in a microsecond if and only if one of the seats, or a pulse
+-- that begins in the round, pulls then.
+abbrev pub DrivesAreTheLine : Type 0
+DrivesAreTheLine = (seats : List Seat) (begin : ℕ) (pulses : List Stretch) (o : Outcome) → AreFrames seats → AreSparse pulses → IsWave o.wave → IsRound seats begin pulses o
+    → is_begun seats begin pulses ≡ true → (t : ℕ) → line_of o.wave t ≡ list_any (λ ss. line_of ss t) (drives_of seats begin pulses o)
