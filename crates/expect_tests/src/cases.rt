@@ -1,0 +1,155 @@
+//! Each row through the public calls.
+use crate::rows::{FAULTS, PATTERNS, PLAIN, REFUSALS, REPORT, SCRIPT, TOPOLOGY};
+use cec_check::{CheckError, Tally, check};
+use cec_expect::{first_fault, fits, plain_script};
+use hdmi_core::Writes;
+use std::io::{self, ErrorKind, Write};
+use std::process::Abort;
+
+fn holds(rt: &impl Abort, holds: bool, case: &str) {
+    assert!(rt; holds, "{case}");
+}
+
+#[test]
+fn patterns_are_met(rt: HostRuntime) {
+    for line in PATTERNS.lines() {
+        let (asked, want) = line.rsplit_once(" => ").expect(&rt, line);
+        let (pattern, text) = asked.split_once(" => ").expect(&rt, line);
+        let met = fits(pattern.as_bytes(), text.as_bytes());
+        holds(&rt, met == (want == "met"), line);
+    }
+}
+
+/// The lines of a row, each ended.
+fn spelled(rt: &(impl Abort + AllocGlobal), row: &str) -> String {
+    let mut text = String::new(rt.alloc());
+    for line in row.split('|') {
+        text.push_str(line).expect(rt, row);
+        text.push('\n').expect(rt, row);
+    }
+    text
+}
+
+fn fault_of(rt: &(impl Abort + AllocGlobal), script: &str) -> String {
+    match first_fault(script.as_bytes()) {
+        None => String::from_str(rt.alloc(), "none").expect(rt, script),
+        Some(fault) => format!(in rt.alloc(); "{fault}").expect(rt, script),
+    }
+}
+
+#[test]
+fn the_first_line_at_fault_is_found(rt: HostRuntime) {
+    for line in FAULTS.lines() {
+        let (script, want) = line.rsplit_once(" => ").expect(&rt, line);
+        let script = spelled(&rt, script);
+        holds(&rt, fault_of(&rt, &script).as_str() == want, line);
+    }
+}
+
+fn plain_of(rt: &(impl Abort + AllocGlobal), script: &str) -> String {
+    let plain = plain_script(rt.alloc(), script.as_bytes()).expect(rt, script);
+    String::from_utf8(plain).expect(rt, script)
+}
+
+#[test]
+fn plain_scripts_have_each_line(rt: HostRuntime) {
+    for line in PLAIN.lines() {
+        let (script, want) = line.split_once(" => ").expect(&rt, line);
+        let want = format!(in rt.alloc(); "{want}\n").expect(&rt, line);
+        holds(&rt, plain_of(&rt, script) == want, line);
+    }
+}
+
+/// The report of a script, and its counts, or why there is none.
+fn report_of(rt: &(impl Abort + AllocGlobal), topology: &str, script: &str) -> (String, String) {
+    let mut out = Vec::new(rt.alloc());
+    let done = check(
+        rt.alloc(),
+        topology.as_bytes(),
+        script.as_bytes(),
+        &mut Writes::new(&mut out),
+    );
+    let counts = match done {
+        Ok(tally) => told(rt, tally),
+        Err(error) => format!(in rt.alloc(); "{error}").expect(rt, "a refusal"),
+    };
+    (String::from_utf8(out).expect(rt, "a text"), counts)
+}
+
+fn told(rt: &(impl Abort + AllocGlobal), tally: Tally) -> String {
+    let Tally { count, failed } = tally;
+    format!(in rt.alloc(); "{failed} of {count}").expect(rt, "a tally")
+}
+
+#[test]
+fn expectations_are_reported(rt: HostRuntime) {
+    let (text, counts) = report_of(&rt, TOPOLOGY, SCRIPT);
+    holds(&rt, counts.as_str() == "6 of 10", "counts");
+    holds(&rt, text.as_str() == REPORT, "report");
+}
+
+#[test]
+fn refusals_write_nothing(rt: HostRuntime) {
+    for line in REFUSALS.lines() {
+        let (input, want) = line.rsplit_once(" => ").expect(&rt, line);
+        let (topology, script) = input.split_once('|').expect(&rt, line);
+        let (text, refusal) = report_of(&rt, &spelled(&rt, topology), &spelled(&rt, script));
+        holds(&rt, text.is_empty() && refusal.as_str() == want, line);
+    }
+}
+
+/// A writer that takes one byte a call, as many as it has room for.
+#[derive(Drop)]
+struct Narrow {
+    bytes: Vec<u8>,
+    room: usize,
+}
+
+impl Write for Narrow {
+    fn write(&mut self, bytes: &[u8]) -> io::Result<usize> {
+        if self.bytes.len() >= self.room {
+            return Err(io::Error::from(ErrorKind::Other));
+        }
+        let taken = bytes.get(..1).unwrap_or(bytes);
+        self.bytes.extend_from_slice(taken)?;
+        Ok(taken.len())
+    }
+
+    fn flush(&mut self) -> io::Result<()> {
+        Ok(())
+    }
+}
+
+/// A writer with this much room gets the front of the report that fits, and its length is the count of the fault.
+fn is_cut_off(rt: &(impl Abort + AllocGlobal), room: usize) -> bool {
+    let mut out = Narrow {
+        bytes: Vec::new(rt.alloc()),
+        room,
+    };
+    let done = check(
+        rt.alloc(),
+        b"device tv tv 4\n",
+        b"expect from 0 to 9 short\nend 10\n",
+        &mut Writes::new(&mut out),
+    );
+    let count = match done {
+        Ok(_) => CUT.len() as u128,
+        Err(CheckError::Write(count)) => count,
+        Err(_) => return false,
+    };
+    count == room as u128 && Some(out.bytes.as_slice()) == CUT.as_bytes().get(..room)
+}
+
+const CUT: &str = "\
+TAP version 13
+not ok 1 - line 1: expect from 0 to 9 short
+# seen 0 from 0 to 9
+1..1
+";
+
+#[test]
+fn a_writer_that_fails_has_the_front(rt: HostRuntime) {
+    for room in 0..=CUT.len() {
+        holds(&rt, is_cut_off(&rt, room), CUT);
+    }
+}

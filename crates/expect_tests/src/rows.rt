@@ -1,0 +1,116 @@
+//! What the calls are given, and what is wanted of them, worked out by hand.
+
+/// A pattern, a text, and whether it is met: up to the end of a word, `*` within one word.
+pub(crate) const PATTERNS: &str = "\
+4>f active-source => 4>f active-source 1.0.0.0 ok by p1 out - => met
+4>f active-source 1.0.0.0 ok by p1 out - => 4>f active-source 1.0.0.0 ok by p1 out - => met
+4>f active-sour => 4>f active-source 1.0.0.0 ok by p1 out - => not
+4>0 play => 4>0 play-x ack by p1 out - => not
+4>0 play => 4>0 pla => not
+*>f active-source => 8>f active-source 2.0.0.0 ok by p2 out - => met
+*>f active-source => 8>0 image-view-on ack by p2 out - => not
+*>f active-source 1.* ok => 4>f active-source 1.2.0.0 ok by p1 out - => met
+*>f active-source 1.* ok => 4>f active-source 2.0.0.0 ok by p1 out - => not
+4>0 image-view-on * by p1 => 4>0 image-view-on nack by p1 out - => met
+4>0 * by => 4>0 play forward ack by p1 out - => not
+4>0 * * ack => 4>0 play forward ack by p1 out - => met
+* => 4>4 nack by p1 out - => met
+silent => silent 1000001001 by p1 out - => met
+short => silent 0 by p1 out - => not
+*a*b*c*d => 1a2b3c4d by p1 => met";
+
+/// Scripts of two lines, between `|`, and the first line at fault.
+pub(crate) const FAULTS: &str = "\
+at 5 press p1 play|end 10 => none
+label a at 5 press p1 play|expect within 10 of a short => none
+label a at 5 press p1 play|expect once within 10 of a * play => none
+label a at 5 press p1 play|label b expect none within 10 of a short => none
+label a at 5 press p1 play|expect refused a not-for-kind => none
+expect from 1 to 1 short|end 10 => none
+at 5 press p1 play|expect => line 2: word
+at 5 press p1 play|expect within 10 of a => line 2: word
+at 5 press p1 play|expect within 10 from a short => line 2: word
+at 5 press p1 play|expect from 1 of 2 short => line 2: word
+at 5 press p1 play|expect never from 1 to 2 short => line 2: word
+at 5 press p1 play|expect refused a => line 2: word
+at 5 press p1 play|expect refused a b c => line 2: word
+at 5 press p1 play|expect from 1 to 2 *a*b*c*d* => line 2: word
+at 5 press p1 play|expect from 1 to 2  => line 2: word
+at 5 press p1 play|label a => line 2: word
+at 5 press p1 play|expect from 01 to 2 short => line 2: number
+at 5 press p1 play|expect from 1 to x short => line 2: number
+at 5 press p1 play|expect within -1 of a short => line 2: number
+at 5 press p1 play|expect within 1 of a short => line 2: label
+expect within 1 of a short|label a at 5 press p1 play => line 1: label
+label a at 5 press p1 play|label a at 6 press p1 play => line 2: label
+at 5 press p1 play|label  at 6 press p1 play => line 2: label
+label a expect from 1 to 2 short|expect refused a off-wire => line 2: label
+label a expect within 1 of a short|end 10 => line 1: label
+at 5 press p1 play|expect from 2 to 1 short => line 2: order
+expect from 2 to 1 short|expect => line 1: order";
+
+/// A line, and what is left of it in the plain script.
+pub(crate) const PLAIN: &str = "\
+at 5 press p1 play => at 5 press p1 play
+label a at 5 press p1 play => at 5 press p1 play
+label a pulse 5 10 => pulse 5 10
+label a expect from 1 to 2 short => 
+expect from 1 to 2 short => 
+expected => expected
+# expect => # expect
+label => label
+label a => 
+label a label b => label b
+end 10 => end 10";
+
+pub(crate) const TOPOLOGY: &str = "\
+device tv tv 4
+device p1 player 0
+plug p1 tv 1
+";
+
+/// The rounds of this script up to the second press stand in the README with their times.
+pub(crate) const SCRIPT: &str = "\
+label film at 1000000 press p1 play
+label on expect within 60000 of film 4>0 image-view-on ack
+expect once within 200000 of on 4>f active-source 1.0.0.0 ok
+expect none from 0 to 2000000 short
+expect within 1000 of film 4>0 image-view-on
+label no expect none within 200000 of film *>f active-source
+label slip at 1500000 press tv eject
+expect refused slip not-for-kind
+at 1600000 press tv eject
+expect none within 5 of no \\#
+expect refused slip off-wire
+expect once from 0 to 400000 *>f report-physical-address
+end 2000000
+";
+
+pub(crate) const REPORT: &str = "\
+TAP version 13
+ok 1 - line 2: label on expect within 60000 of film 4>0 image-view-on ack
+ok 2 - line 3: expect once within 200000 of on 4>f active-source 1.0.0.0 ok
+ok 3 - line 4: expect none from 0 to 2000000 short
+not ok 4 - line 5: expect within 1000 of film 4>0 image-view-on
+# seen 0 from 1000000 to 1001000
+not ok 5 - line 6: label no expect none within 200000 of film *>f active-source
+# seen 1 from 1000000 to 1200000
+# 1068400 1167550 complete 4>f active-source 1.0.0.0 ok by p1 out -
+ok 6 - line 8: expect refused slip not-for-kind
+not ok 7 - line 10: expect none within 5 of no \\\\\\#
+# no instant
+not ok 8 - line 11: expect refused slip off-wire
+not ok 9 - line 12: expect once from 0 to 400000 *>f report-physical-address
+# seen 2 from 0 to 400000
+# 89405 212555 complete 0>f report-physical-address 0.0.0.0 tv ok by tv out -
+# 224105 347255 complete 4>f report-physical-address 1.0.0.0 playback ok by p1 out -
+not ok 10 - line 9: refused not-for-kind
+1..10
+";
+
+/// Refusals: a topology and a script between `|`.
+pub(crate) const REFUSALS: &str = "\
+device tv tv 4|expect|end 10 => script line 1: word
+device tv tv 4|expect from 2 to 1 short|at 5 press p1 play|end 10 => script line 2: name
+device tv x 4|expect|end 10 => topology line 1: word
+device tv tv 4|expect from 1 to 2 short => script line 2: end";
