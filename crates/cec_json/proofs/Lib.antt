@@ -1,0 +1,4 @@
+pub mod Writing
+pub mod Spaces
+pub mod Parted
+pub mod Reading

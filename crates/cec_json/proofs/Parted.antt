@@ -1,0 +1,114 @@
+-- Objects, part by part.
+use Rattle.std.proofs.Common.{◌≡◌, ℕ, ◌+◌, ◌<◌, ◌≤◌, Bool, false, if◌then◌else◌, List, [], ◌∷◌, ◌++◌, length, take, drop, get_or, map, codes, Option, Result, add-one, append-nil, append_assoc, refl, sym, ap, subst, ◌∙◌, arith}
+use Rattle.std.proofs.lemmas.Grind.{flat_map-append}
+use Rattle.std.proofs.Math.Seq.{take-suc}
+use Rattle.hdmi_core.specs.declared.sink.WriteFault.{WriteFault}
+use Rattle.cec_words.specs.Cut.{WrittenText}
+use Rattle.cec_words.specs.Lines.{lines_of}
+use Rattle.cec_json.specs.Columns.{field, fields, lead, reading_fields, spelled}
+use Rattle.cec_json.specs.Object.{AreBytesOf, AreObjects, IsObject, begun, broken_body, bytes_value, complete_body, complete_fields, frame_fields, frame_in, reading_type, seats, typed}
+use Rattle.cec_json.specs.Parts.{after_byte, after_word, before_byte, before_last, behind_ending, has_seats, told_in, value_of, word}
+use Rattle.cec_json.specs.Progress.{WritesOn}
+use Rattle.cec_json.specs.Values.{code_text, coded, report_value, some_report}
+use Rattle.cec_json.specs.declared.columns.Column.{Column}
+use Rattle.cec_json.specs.declared.values.Code.{Code}
+use Rattle.cec_json.specs.declared.values.Shape.TheVariants.{Text}
+
+-- one character more
+pub coded_more : (code : Code) (text : List ℕ) (i : ℕ) (x : List ℕ) → i < length text → x ≡ code_text code (get_or text i 0)
+    → coded code (take i text) ++ x ≡ coded code (take (i + 1) text)
+coded_more code text i x h e =
+    ap (λ (l : List ℕ). coded code (take i text) ++ l) (e ∙ sym (append-nil (code_text code (get_or text i 0))))
+    ∙ sym (flat_map-append (code_text code) (take i text) (get_or text i 0 ∷ []))
+    ∙ ap (coded code) (sym (take-suc text i 0 h) ∙ ap (λ (n : ℕ). take n text) (sym (add-one i)))
+
+-- a field, and the rest
+pub fields_more : (columns : List Column) (text first told rest : List ℕ) (none : Column) → 1 ≤ length columns → first ≡ word text → told ≡ value_of first → rest ≡ after_word text
+    → field (get_or columns 0 none).name.now (get_or columns 0 none).shape told ++ fields (map spelled (drop 1 columns)) rest ≡ fields (map spelled columns) text
+unfolding fields
+fields_more [] text first told rest none h e f g = absurd (omega arith)
+fields_more (c ∷ cs) text first told rest none h e f g = rw (f, e, g) refl
+
+pub fields_none : (columns : List Column) (text : List ℕ) → length columns < 1 → [] ≡ fields (map spelled columns) text
+unfolding fields
+fields_none [] text h = refl
+fields_none (c ∷ cs) text h = absurd (omega arith)
+
+-- the text of two that is chosen by a Bool that is false
+pub else_is : (b : Bool) (x y : List ℕ) → b ≡ false → y ≡ (if b then x else y)
+else_is b x y e = ap (λ (v : Bool). if v then x else y) (sym e)
+
+-- ---- parts that were looked for
+
+report_same : (a b c x y z : List ℕ) → a ≡ x → b ≡ y → c ≡ z → report_value a b c ≡ report_value x y z
+report_same a b c x y z e f g =
+    ap (λ (v : List ℕ). report_value v b c) e ∙ ap (λ (v : List ℕ). report_value x v c) f ∙ ap (λ (v : List ℕ). report_value x y v) g
+
+pub report_is : (word rest a b c : List ℕ) → rest ≡ after_byte 58 word → a ≡ before_byte 58 word → b ≡ before_byte 58 rest → c ≡ after_byte 58 rest
+    → report_value a b c ≡ some_report word
+report_is word rest a b c e f g h =
+    report_same a b c (before_byte 58 word) (before_byte 58 (after_byte 58 word)) (after_byte 58 (after_byte 58 word)) f (g ∙ ap (before_byte 58) e) (h ∙ ap (after_byte 58) e)
+
+pub begun_is : (line rest name : List ℕ) (is : Bool) → rest ≡ behind_ending line → is ≡ has_seats rest → name ≡ reading_type is → typed name ++ fields reading_fields line ≡ begun line
+begun_is line rest name is e f g = ap (λ (v : List ℕ). typed v ++ fields reading_fields line) (g ∙ ap reading_type (f ∙ ap has_seats e))
+
+abbrev frame_by : (bytes : Option (List ℕ)) (text initiator destination : List ℕ) → List ℕ
+frame_by bytes text initiator destination =
+    field (codes "frame") Text text ++ field (codes "initiator") Text initiator ++ field (codes "destination") Text destination ++ (lead (codes "bytes") ++ bytes_value bytes)
+
+pub frame_is : (bytes : Option (List ℕ)) (text initiator behind destination : List ℕ) → initiator ≡ take 1 text → behind ≡ drop 2 text → destination ≡ take 1 behind
+    → field (codes "frame") Text text ++ field (codes "initiator") Text initiator ++ field (codes "destination") Text destination ++ (lead (codes "bytes") ++ bytes_value bytes) ≡ frame_fields bytes text
+frame_is bytes text initiator behind destination e f g =
+    ap (λ (v : List ℕ). frame_by bytes text v destination) e ∙ ap (λ (v : List ℕ). frame_by bytes text (take 1 text) v) (g ∙ ap (take 1) f)
+
+abbrev whole_by : (line middle rest : List ℕ) → List ℕ
+whole_by line middle rest = begun line ++ middle ++ seats rest
+
+pub whole_is : (bytes : Option (List ℕ)) (line rest told : List ℕ) → rest ≡ behind_ending line → told ≡ told_in rest
+    → begun line ++ complete_fields bytes told ++ seats rest ≡ complete_body bytes line
+whole_is bytes line rest told e f =
+    ap (λ (v : List ℕ). whole_by line (complete_fields bytes v) rest) (f ∙ ap told_in e)
+    ∙ ap (λ (v : List ℕ). whole_by line (complete_fields bytes (told_in (behind_ending line))) v) e
+
+pub broken_is : (line rest told : List ℕ) → rest ≡ behind_ending line → told ≡ told_in rest
+    → begun line ++ field (codes "bits") Text told ++ seats rest ≡ broken_body line
+broken_is line rest told e f =
+    ap (λ (v : List ℕ). whole_by line (field (codes "bits") Text v) rest) (f ∙ ap told_in e)
+    ∙ ap (λ (v : List ℕ). whole_by line (field (codes "bits") Text (told_in (behind_ending line))) v) e
+
+-- the frame that was looked for is that of the line
+pub bytes_are : (line rest told text : List ℕ) (bytes : Option (List ℕ)) → rest ≡ behind_ending line → told ≡ told_in rest → text ≡ before_last told → AreBytesOf text bytes
+    → AreBytesOf (frame_in line) bytes
+bytes_are line rest told text bytes a b c are = subst (λ (t : List ℕ). AreBytesOf t bytes) (c ∙ ap before_last (b ∙ ap told_in a)) are
+
+-- ---- line after line
+
+objects_more : (lines : List (List ℕ)) (line objects text : List ℕ) → AreObjects lines objects → IsObject line text → AreObjects (lines ++ line ∷ []) (objects ++ text)
+objects_more [] line objects text none is = (text, [], is, refl, rw none (sym (append-nil text)))
+objects_more (l ∷ lines) line objects text are is =
+    (are.0, are.1 ++ text, are.2, objects_more lines line are.1 text are.3 is, rw are.4 (append_assoc are.0 are.1 text))
+
+-- the objects of the lines before the rest are written, or the front of what is written of them
+pub record Done (text rest : List ℕ) (old now : Option (List ℕ)) (was is : Bool) (so_far : Result ℕ WriteFault) : Type 0 where
+  pub lines : List (List ℕ)
+  pub objects : List ℕ
+  pub parts : lines_of text ≡ lines ++ lines_of rest
+  pub are : AreObjects lines objects
+  pub written : WrittenText old now was is objects so_far
+
+pub done_first : (text : List ℕ) (old : Option (List ℕ)) (was : Bool) (so_far : Result ℕ WriteFault) → WrittenText old old was was [] so_far → Done text text old old was was so_far
+done_first text old was so_far w = record { lines = []; objects = []; parts = refl; are = refl; written = w }
+
+pub done_more : (text rest after line object : List ℕ) (old mid new : Option (List ℕ)) (was is now : Bool) (before later : Result ℕ WriteFault) → Done text rest old mid was is before
+    → lines_of rest ≡ line ∷ lines_of after → IsObject line object → WritesOn mid new is now object before later → Done text after old new was now later
+done_more text rest after line object old mid new was is now before later d e is_object on = record {
+  lines = d.lines ++ line ∷ [];
+  objects = d.objects ++ object;
+  parts = d.parts ∙ ap (λ (l : List (List ℕ)). d.lines ++ l) e ∙ sym (append_assoc d.lines (line ∷ []) (lines_of after));
+  are = objects_more d.lines line d.objects object d.are is_object;
+  written = on.on old was d.objects d.written;
+}
+
+pub done_all : (text rest : List ℕ) (old now : Option (List ℕ)) (was is : Bool) (so_far : Result ℕ WriteFault) (d : Done text rest old now was is so_far) → lines_of rest ≡ [] → AreObjects (lines_of text) d.objects
+done_all text rest old now was is so_far d e =
+    subst (λ (l : List (List ℕ)). AreObjects l d.objects) (sym (d.parts ∙ ap (λ (l : List (List ℕ)). d.lines ++ l) e ∙ append-nil d.lines)) d.are

@@ -1,0 +1,51 @@
+-- The line of an object is read back from it.
+use Rattle.std.proofs.Common.{◌≡◌, ℕ, ◌+◌, ◌*◌, ◌/◌, ◌%◌, ◌==◌, ◌&&◌, Bool, true, false, nat_lt, nat_le, cond, codes, List, [], ◌∷◌, ◌++◌, append_assoc, refl, sym, ap, subst, ◌∙◌, arith}
+use Rattle.std.proofs.lemmas.Bool.{eqb-true}
+use Rattle.std.proofs.lemmas.Bool.Decides.{nat_tests}
+use Rattle.cec_json.specs.Object.{body, form_of}
+use Rattle.cec_json.specs.ReadBack.{LinesAreReadBack, OneLineAnObject, digit, line_of, string_from}
+use Rattle.cec_json.specs.ReadBack.Place.{Char}
+use Rattle.cec_json.specs.Values.{char_text, coded, quoted}
+use Rattle.cec_json.specs.declared.values.Code.TheVariants as codings
+
+digit_again : (n : ℕ) → digit (cond (nat_lt n 10) (48 + n) (87 + n)) ≡ n
+digit_again n = grind (arith, nat_tests)
+
+byte_again : (b high low : ℕ) → high ≡ b / 16 → low ≡ b % 16 → high * 16 + low ≡ b
+byte_again b high low e f = omega (arith, e, f)
+
+hex_again : (b : ℕ) → digit (cond (nat_lt (b / 16) 10) (48 + b / 16) (87 + b / 16)) * 16 + digit (cond (nat_lt (b % 16) 10) (48 + b % 16) (87 + b % 16)) ≡ b
+hex_again b = byte_again b _ _ (digit_again (b / 16)) (digit_again (b % 16))
+
+-- a character
+char_by : (p q r : Bool) (b : ℕ) (rest : List ℕ) → (b == 34) ≡ p → (b == 92) ≡ q → (nat_le 32 b && nat_le b 126) ≡ r
+    → string_from Char (char_text b ++ rest) ≡ b ∷ string_from Char rest
+char_by true q r b rest e f g =
+    subst (λ (n : ℕ). string_from Char (char_text n ++ rest) ≡ n ∷ string_from Char rest) (sym (eqb-true b 34 e)) refl
+char_by false true r b rest e f g =
+    subst (λ (n : ℕ). string_from Char (char_text n ++ rest) ≡ n ∷ string_from Char rest) (sym (eqb-true b 92 f)) refl
+char_by false false true b rest e f g = rw (e, f, g, e, f) refl
+char_by false false false b rest e f g = rw (e, f, g) (ap (λ (n : ℕ). n ∷ string_from Char rest) (hex_again b))
+
+char_read : (b : ℕ) (rest : List ℕ) → string_from Char (char_text b ++ rest) ≡ b ∷ string_from Char rest
+char_read b rest = char_by (b == 34) (b == 92) (nat_le 32 b && nat_le b 126) b rest refl refl refl
+
+-- a string
+string_read : (line rest : List ℕ) → string_from Char (coded codings.Char line ++ 34 ∷ rest) ≡ line
+string_read [] rest = refl
+string_read (b ∷ line) rest =
+    ap (string_from Char) (append_assoc (char_text b) (coded codings.Char line) (34 ∷ rest))
+    ∙ char_read b (coded codings.Char line ++ 34 ∷ rest)
+    ∙ ap (λ (l : List ℕ). b ∷ l) (string_read line rest)
+
+-- the line in an object, with whatever stands behind it
+line_read : (line fields end : List ℕ) → line_of (codes "{\"line\":" ++ quoted line ++ fields ++ end) ≡ line
+line_read line fields end =
+    ap (string_from Char) (append_assoc (coded codings.Char line ++ 34 ∷ []) fields end ∙ append_assoc (coded codings.Char line) (34 ∷ []) (fields ++ end))
+    ∙ string_read line (fields ++ end)
+
+pub read_back : LinesAreReadBack
+read_back = λ line text is. ap line_of is.2 ∙ line_read line (body (form_of line) is.0 line) (codes "}\n")
+
+pub one_line : OneLineAnObject
+one_line = λ line other text is also. sym (read_back line text is) ∙ read_back other text also

@@ -1,0 +1,49 @@
+-- Fields of an object: names, and words of a line as their values.
+use Rattle.std.specs.Prelude.{ℕ, List, [], ◌∷◌, ◌++◌, codes}
+use Rattle.cec_json.specs.Parts.{after_word, value_of, word}
+use Rattle.cec_json.specs.Values.{value_text}
+use Rattle.cec_json.specs.declared.columns.Column.{Column}
+use Rattle.cec_json.specs.declared.values.Shape.{Shape}
+use Rattle.cec_json.specs.declared.values.Shape.TheVariants.{Number, Text, Switch, Units, Heard}
+
+abbrev pub lead : List ℕ → List ℕ
+lead name = codes ",\"" ++ name ++ codes "\":"
+
+abbrev pub field : List ℕ → Shape → List ℕ → List ℕ
+field name shape word = lead name ++ value_text shape word
+
+-- a field by itself
+abbrev pub spelled : Column → List ℕ × Shape
+spelled column = (column.name.now, column.shape)
+
+-- a field for each of the first words of a text
+unfoldable pub fields : List (List ℕ × Shape) → List ℕ → List ℕ
+fields [] text = []
+fields (column ∷ columns) text = field column.0 column.1 (value_of (word text)) ++ fields columns (after_word text)
+
+-- ---- the fields of each line
+
+-- `T port NAME P HEX`, `T event LINE ..`, `T end`: the instant in microseconds
+abbrev pub instant : List (List ℕ × Shape)
+instant = (codes "at", Number) ∷ []
+
+-- behind `port`
+abbrev pub port_fields : List (List ℕ × Shape)
+port_fields = (codes "device", Text) ∷ (codes "port", Number) ∷ (codes "edid", Text) ∷ []
+
+-- behind `event`
+abbrev pub event_fields : List (List ℕ × Shape)
+event_fields = (codes "script_line", Number) ∷ (codes "verdict", Text) ∷ (codes "cause", Text) ∷ []
+
+-- `START END ENDING`
+abbrev pub reading_fields : List (List ℕ × Shape)
+reading_fields = (codes "begin", Number) ∷ (codes "close", Number) ∷ (codes "ending", Text) ∷ []
+
+-- behind `state`
+abbrev pub state_fields : List (List ℕ × Shape)
+state_fields =
+    (codes "device", Text) ∷ (codes "kind", Text) ∷ (codes "logical_addresses", Units) ∷ (codes "physical_address", Text) ∷ (codes "power", Text)
+    ∷ (codes "active_source", Text) ∷ (codes "path", Text) ∷ (codes "deck", Text) ∷ (codes "menu", Switch) ∷ (codes "system_audio", Switch)
+    ∷ (codes "volume", Number) ∷ (codes "mute", Switch) ∷ (codes "audio_return_channel", Switch) ∷ (codes "selected_port", Number)
+    ∷ (codes "menu_language", Text) ∷ (codes "osd_text", Text) ∷ (codes "held_key", Text) ∷ (codes "heard", Heard) ∷ (codes "subscriber", Text)
+    ∷ (codes "queued", Number) ∷ (codes "dropped", Number) ∷ []

@@ -1,0 +1,6 @@
+pub mod Progress
+pub mod Parts
+pub mod Values
+pub mod Columns
+pub mod Object
+pub mod ReadBack

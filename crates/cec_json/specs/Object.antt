@@ -1,0 +1,116 @@
+-- The object of a line of a trace, or of a reading (own): the line itself, what it is, and what it tells.
+use Rattle.std.specs.Prelude.{◌≡◌, ℕ, Bool, ◌||◌, if◌then◌else◌, List, [], ◌∷◌, ◌++◌, take, drop, Option, Some, None, codes}
+use Rattle.std.specs.List.{flat_map}
+use Rattle.std.specs.Str.{bytes_eq}
+use Rattle.hdmi_core.specs.Piece.{hex_text}
+use Rattle.cec_text.specs.FrameLines.{IsTextOf}
+use Rattle.cec_json.specs.Columns.{event_fields, field, fields, instant, lead, port_fields, reading_fields, state_fields}
+use Rattle.cec_json.specs.Parts.{after_word, before_last, behind_ending, has_seats, last_word, losers_in, told_in, winners_in, word}
+use Rattle.cec_json.specs.Values.{quoted}
+use Rattle.cec_json.specs.declared.object.Form.{Form}
+use Rattle.cec_json.specs.declared.object.Form.TheVariants as forms
+use Rattle.cec_json.specs.declared.values.Shape.TheVariants.{Text, Names, Losers}
+
+-- ---- which line it is
+
+abbrev pub is_broken : List ℕ → Bool
+is_broken ending =
+    bytes_eq ending (codes "short") || bytes_eq ending (codes "silent") || bytes_eq ending (codes "bad-start") || bytes_eq ending (codes "long")
+    || bytes_eq ending (codes "open") || bytes_eq ending (codes "joined")
+
+abbrev pub form_by : List ℕ → List ℕ → List ℕ → Form
+form_by first second third =
+    if bytes_eq first (codes "state") then forms.State
+    else if bytes_eq second (codes "port") then forms.Port
+    else if bytes_eq second (codes "event") then forms.Event
+    else if bytes_eq second (codes "end") then forms.End
+    else if bytes_eq third (codes "complete") then forms.Complete
+    else if is_broken third then forms.Broken
+    else forms.Other
+
+abbrev pub form_of : List ℕ → Form
+form_of line = form_by (word line) (word (after_word line)) (word (after_word (after_word line)))
+
+-- ---- what it tells
+
+abbrev pub typed : List ℕ → List ℕ
+typed name = codes ",\"type\":\"" ++ name ++ codes "\""
+
+-- a round, or without those who sent in it a reading
+abbrev pub reading_type : Bool → List ℕ
+reading_type is_round = if is_round then codes "round" else codes "reading"
+
+abbrev pub begun : List ℕ → List ℕ
+begun line = typed (reading_type (has_seats (behind_ending line))) ++ fields reading_fields line
+
+abbrev pub named : List ℕ → List ℕ
+named rest = field (codes "by") Names (winners_in rest) ++ field (codes "out") Losers (losers_in rest)
+
+abbrev pub seats : List ℕ → List ℕ
+seats rest = if has_seats rest then named rest else []
+
+abbrev pub hex_value : List ℕ → List ℕ
+hex_value bytes = codes "\"" ++ flat_map hex_text bytes ++ codes "\""
+
+-- the bytes of a frame, in hex
+abbrev pub bytes_value : Option (List ℕ) → List ℕ
+bytes_value None = codes "null"
+bytes_value (Some frame) = hex_value frame
+
+-- the text of the frame, its addresses, its bytes, and whether it was taken
+abbrev pub frame_fields : Option (List ℕ) → List ℕ → List ℕ
+frame_fields bytes text =
+    field (codes "frame") Text text ++ field (codes "initiator") Text (take 1 text) ++ field (codes "destination") Text (take 1 (drop 2 text))
+    ++ (lead (codes "bytes") ++ bytes_value bytes)
+
+abbrev pub complete_fields : Option (List ℕ) → List ℕ → List ℕ
+complete_fields bytes told = frame_fields bytes (before_last told) ++ field (codes "verdict") Text (last_word told)
+
+abbrev pub state_body : List ℕ → List ℕ
+state_body line = typed (codes "state") ++ fields state_fields (after_word line)
+
+abbrev pub port_body : List ℕ → List ℕ
+port_body line = typed (codes "port") ++ fields instant line ++ fields port_fields (after_word (after_word line))
+
+abbrev pub event_body : List ℕ → List ℕ
+event_body line = typed (codes "event") ++ fields instant line ++ fields event_fields (after_word (after_word line))
+
+abbrev pub end_body : List ℕ → List ℕ
+end_body line = typed (codes "end") ++ fields instant line
+
+abbrev pub complete_body : Option (List ℕ) → List ℕ → List ℕ
+complete_body bytes line = begun line ++ complete_fields bytes (told_in (behind_ending line)) ++ seats (behind_ending line)
+
+abbrev pub broken_body : List ℕ → List ℕ
+broken_body line = begun line ++ field (codes "bits") Text (told_in (behind_ending line)) ++ seats (behind_ending line)
+
+abbrev pub body : Form → Option (List ℕ) → List ℕ → List ℕ
+body forms.State bytes line = state_body line
+body forms.Port bytes line = port_body line
+body forms.Event bytes line = event_body line
+body forms.End bytes line = end_body line
+body forms.Complete bytes line = complete_body bytes line
+body forms.Broken bytes line = broken_body line
+body forms.Other bytes line = typed (codes "other")
+
+-- the object, with the bytes of the frame that the line has
+abbrev pub object : Option (List ℕ) → List ℕ → List ℕ
+object bytes line = codes "{\"line\":" ++ quoted line ++ body (form_of line) bytes line ++ codes "}\n"
+
+-- ---- the object of a line
+
+-- these are the bytes of a text's frame, and none where it is no frame's
+abbrev pub AreBytesOf : List ℕ → Option (List ℕ) → Type 0
+AreBytesOf text None = (frame : List ℕ) → IsTextOf text frame → ⊥
+AreBytesOf text (Some frame) = IsTextOf text frame
+
+abbrev pub frame_in : List ℕ → List ℕ
+frame_in line = before_last (told_in (behind_ending line))
+
+abbrev pub IsObject : List ℕ → List ℕ → Type 0
+IsObject line text = (bytes : Option (List ℕ)) × AreBytesOf (frame_in line) bytes × (text ≡ object bytes line)
+
+-- a text is the objects of these lines, in order
+abbrev pub AreObjects : List (List ℕ) → List ℕ → Type 0
+AreObjects [] text = text ≡ []
+AreObjects (line ∷ lines) text = (first : List ℕ) × (others : List ℕ) × IsObject line first × AreObjects lines others × (text ≡ first ++ others)

@@ -1,0 +1,7 @@
+//! Tests of objects of lines: each form of line, each field, and writers that fail.
+#![tactic(auto)]
+
+#[cfg(test)]
+mod objects;
+#[cfg(test)]
+mod rows;

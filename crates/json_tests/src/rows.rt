@@ -1,0 +1,46 @@
+//! Lines, and their objects. Each is written by hand, from docs/formats.md and RFC 8259.
+
+/// A line of a trace or of readings without quotes and backslashes, and after an arrow what its object has after the line.
+pub(crate) const READINGS: &str = "\
+12000 39150 complete 0>0 nack by tv out - => \"type\":\"round\",\"begin\":12000,\"close\":39150,\"ending\":\"complete\",\"frame\":\"0>0\",\"initiator\":\"0\",\"destination\":\"0\",\"bytes\":\"00\",\"verdict\":\"nack\",\"by\":[\"tv\"],\"out\":[]
+50700 173850 complete f>f report-physical-address 2.0.0.0 switch ok by sw out tv@1 => \"type\":\"round\",\"begin\":50700,\"close\":173850,\"ending\":\"complete\",\"frame\":\"f>f report-physical-address 2.0.0.0 switch\",\"initiator\":\"f\",\"destination\":\"f\",\"bytes\":\"ff84200006\",\"verdict\":\"ok\",\"by\":[\"sw\"],\"out\":[{\"device\":\"tv\",\"slot\":1}]
+1000000 1051150 complete 4>0 image-view-on ack by p1,p-2 out p3@13,p4@5 => \"type\":\"round\",\"begin\":1000000,\"close\":1051150,\"ending\":\"complete\",\"frame\":\"4>0 image-view-on\",\"initiator\":\"4\",\"destination\":\"0\",\"bytes\":\"4004\",\"verdict\":\"ack\",\"by\":[\"p1\",\"p-2\"],\"out\":[{\"device\":\"p3\",\"slot\":13},{\"device\":\"p4\",\"slot\":5}]
+7000000 7051150 complete 0>f request-active-source refused by - out tv@1 => \"type\":\"round\",\"begin\":7000000,\"close\":7051150,\"ending\":\"complete\",\"frame\":\"0>f request-active-source\",\"initiator\":\"0\",\"destination\":\"f\",\"bytes\":\"0f85\",\"verdict\":\"refused\",\"by\":[],\"out\":[{\"device\":\"tv\",\"slot\":1}]
+2000000 2006500 short 0 by p1 out - => \"type\":\"round\",\"begin\":2000000,\"close\":2006500,\"ending\":\"short\",\"bits\":\"0\",\"by\":[\"p1\"],\"out\":[]
+6063600 6075651 silent 100 by p2 out - => \"type\":\"round\",\"begin\":6063600,\"close\":6075651,\"ending\":\"silent\",\"bits\":\"100\",\"by\":[\"p2\"],\"out\":[]
+6063600 6064200 bad-start - by - out p2@1 => \"type\":\"round\",\"begin\":6063600,\"close\":6064200,\"ending\":\"bad-start\",\"bits\":null,\"by\":[],\"out\":[{\"device\":\"p2\",\"slot\":1}]
+6063600 6075651 long 0110 by p2 out - => \"type\":\"round\",\"begin\":6063600,\"close\":6075651,\"ending\":\"long\",\"bits\":\"0110\",\"by\":[\"p2\"],\"out\":[]
+1068400 1167550 complete 4>f active-source 1.0.0.0 ok => \"type\":\"reading\",\"begin\":1068400,\"close\":1167550,\"ending\":\"complete\",\"frame\":\"4>f active-source 1.0.0.0\",\"initiator\":\"4\",\"destination\":\"f\",\"bytes\":\"4f821000\",\"verdict\":\"ok\"
+0 99150 complete 4>0 feature-abort 44 refused ack => \"type\":\"reading\",\"begin\":0,\"close\":99150,\"ending\":\"complete\",\"frame\":\"4>0 feature-abort 44 refused\",\"initiator\":\"4\",\"destination\":\"0\",\"bytes\":\"40004404\",\"verdict\":\"ack\"
+0 99150 complete 4>0 op-e5 :0102 nack => \"type\":\"reading\",\"begin\":0,\"close\":99150,\"ending\":\"complete\",\"frame\":\"4>0 op-e5 :0102\",\"initiator\":\"4\",\"destination\":\"0\",\"bytes\":\"40e50102\",\"verdict\":\"nack\"
+0 27150 complete 4>x nack => \"type\":\"reading\",\"begin\":0,\"close\":27150,\"ending\":\"complete\",\"frame\":\"4>x\",\"initiator\":\"4\",\"destination\":\"x\",\"bytes\":null,\"verdict\":\"nack\"
+2000000 2006500 short 0 => \"type\":\"reading\",\"begin\":2000000,\"close\":2006500,\"ending\":\"short\",\"bits\":\"0\"
+2000000 2006500 silent 01 => \"type\":\"reading\",\"begin\":2000000,\"close\":2006500,\"ending\":\"silent\",\"bits\":\"01\"
+2000000 2000600 bad-start - => \"type\":\"reading\",\"begin\":2000000,\"close\":2000600,\"ending\":\"bad-start\",\"bits\":null
+2000000 2006500 long 1 => \"type\":\"reading\",\"begin\":2000000,\"close\":2006500,\"ending\":\"long\",\"bits\":\"1\"
+2000000 2006500 open 0101 => \"type\":\"reading\",\"begin\":2000000,\"close\":2006500,\"ending\":\"open\",\"bits\":\"0101\"
+0 16800 joined - => \"type\":\"reading\",\"begin\":0,\"close\":16800,\"ending\":\"joined\",\"bits\":null
+2000000 event 2 ok => \"type\":\"event\",\"at\":2000000,\"script_line\":2,\"verdict\":\"ok\",\"cause\":null
+11000000 event 21 refused not-for-kind => \"type\":\"event\",\"at\":11000000,\"script_line\":21,\"verdict\":\"refused\",\"cause\":\"not-for-kind\"
+0 port amp 12 00ffffffffffff00 => \"type\":\"port\",\"at\":0,\"device\":\"amp\",\"port\":12,\"edid\":\"00ffffffffffff00\"
+14000000 end => \"type\":\"end\",\"at\":14000000";
+
+/// The same of states: each kind of address, and each field with a value and with none.
+pub(crate) const STATES: &str = "\
+state tv tv 0 0.0.0.0 standby active=2.2.0.0 path=1.1.0.0 deck=1a menu=off audio=on volume=21 mute=off arc=on sel=- lang=656e67 osd=- held=- heard=8:47:70 sub=- queue=0 dropped=3 => \"type\":\"state\",\"device\":\"tv\",\"kind\":\"tv\",\"logical_addresses\":[\"0\"],\"physical_address\":\"0.0.0.0\",\"power\":\"standby\",\"active_source\":\"2.2.0.0\",\"path\":\"1.1.0.0\",\"deck\":\"1a\",\"menu\":false,\"system_audio\":true,\"volume\":21,\"mute\":false,\"audio_return_channel\":true,\"selected_port\":null,\"menu_language\":\"656e67\",\"osd_text\":null,\"held_key\":null,\"heard\":{\"initiator\":\"8\",\"opcode\":\"47\",\"first_operand\":\"70\"},\"subscriber\":null,\"queued\":0,\"dropped\":3
+state box combo 1+- 2.0.0.0 on active=- path=- deck=11 menu=on audio=off volume=100 mute=on arc=off sel=- lang=666572 osd=48656c6c6f held=44 heard=- sub=0 queue=16 dropped=0 => \"type\":\"state\",\"device\":\"box\",\"kind\":\"combo\",\"logical_addresses\":[\"1\",null],\"physical_address\":\"2.0.0.0\",\"power\":\"on\",\"active_source\":null,\"path\":null,\"deck\":\"11\",\"menu\":true,\"system_audio\":false,\"volume\":100,\"mute\":true,\"audio_return_channel\":false,\"selected_port\":null,\"menu_language\":\"666572\",\"osd_text\":\"48656c6c6f\",\"held_key\":\"44\",\"heard\":null,\"subscriber\":\"0\",\"queued\":16,\"dropped\":0
+state sw switch f f.f.f.f on active=- path=- deck=1a menu=off audio=off volume=20 mute=off arc=off sel=2 lang=656e67 osd=- held=- heard=- sub=- queue=0 dropped=0 => \"type\":\"state\",\"device\":\"sw\",\"kind\":\"switch\",\"logical_addresses\":[\"f\"],\"physical_address\":\"f.f.f.f\",\"power\":\"on\",\"active_source\":null,\"path\":null,\"deck\":\"1a\",\"menu\":false,\"system_audio\":false,\"volume\":20,\"mute\":false,\"audio_return_channel\":false,\"selected_port\":2,\"menu_language\":\"656e67\",\"osd_text\":null,\"held_key\":null,\"heard\":null,\"subscriber\":null,\"queued\":0,\"dropped\":0
+state p1 player - - on active=- path=- deck=1a menu=off audio=off volume=20 mute=off arc=off sel=- lang=656e67 osd=- held=- heard=- sub=- queue=0 dropped=0 => \"type\":\"state\",\"device\":\"p1\",\"kind\":\"player\",\"logical_addresses\":[null],\"physical_address\":null,\"power\":\"on\",\"active_source\":null,\"path\":null,\"deck\":\"1a\",\"menu\":false,\"system_audio\":false,\"volume\":20,\"mute\":false,\"audio_return_channel\":false,\"selected_port\":null,\"menu_language\":\"656e67\",\"osd_text\":null,\"held_key\":null,\"heard\":null,\"subscriber\":null,\"queued\":0,\"dropped\":0
+state box combo f+4 3.0.0.0 on active=- path=- deck=1a menu=off audio=off volume=0 mute=off arc=off sel=- lang=656e67 osd=- held=- heard=- sub=- queue=0 dropped=0 => \"type\":\"state\",\"device\":\"box\",\"kind\":\"combo\",\"logical_addresses\":[\"f\",\"4\"],\"physical_address\":\"3.0.0.0\",\"power\":\"on\",\"active_source\":null,\"path\":null,\"deck\":\"1a\",\"menu\":false,\"system_audio\":false,\"volume\":0,\"mute\":false,\"audio_return_channel\":false,\"selected_port\":null,\"menu_language\":\"656e67\",\"osd_text\":null,\"held_key\":null,\"heard\":null,\"subscriber\":null,\"queued\":0,\"dropped\":0";
+
+/// The same of lines that are none of a trace.
+pub(crate) const OTHERS: &str = "\
+ => \"type\":\"other\"
+not ok 1 => \"type\":\"other\"";
+
+/// Lines with quotes and backslashes, and their whole objects.
+pub(crate) const SPELLED: &str = "\
+6083500 6182650 complete 8>0 set-osd-name \"p2\" ack by p2 out - => {\"line\":\"6083500 6182650 complete 8>0 set-osd-name \\\"p2\\\" ack by p2 out -\",\"type\":\"round\",\"begin\":6083500,\"close\":6182650,\"ending\":\"complete\",\"frame\":\"8>0 set-osd-name \\\"p2\\\"\",\"initiator\":\"8\",\"destination\":\"0\",\"bytes\":\"80477032\",\"verdict\":\"ack\",\"by\":[\"p2\"],\"out\":[]}
+0 99150 complete 8>0 set-osd-name \"x by y out -\" ack => {\"line\":\"0 99150 complete 8>0 set-osd-name \\\"x by y out -\\\" ack\",\"type\":\"reading\",\"begin\":0,\"close\":99150,\"ending\":\"complete\",\"frame\":\"8>0 set-osd-name \\\"x by y out -\\\"\",\"initiator\":\"8\",\"destination\":\"0\",\"bytes\":\"8047782062792079206f7574202d\",\"verdict\":\"ack\"}
+0 99150 complete 8>0 set-osd-name \"a ack by b out\" nack by p1 out - => {\"line\":\"0 99150 complete 8>0 set-osd-name \\\"a ack by b out\\\" nack by p1 out -\",\"type\":\"round\",\"begin\":0,\"close\":99150,\"ending\":\"complete\",\"frame\":\"8>0 set-osd-name \\\"a ack by b out\\\"\",\"initiator\":\"8\",\"destination\":\"0\",\"bytes\":\"8047612061636b2062792062206f7574\",\"verdict\":\"nack\",\"by\":[\"p1\"],\"out\":[]}
+0 99150 complete 8>0 set-osd-name \"a\\,@b\" ack => {\"line\":\"0 99150 complete 8>0 set-osd-name \\\"a\\\\,@b\\\" ack\",\"type\":\"reading\",\"begin\":0,\"close\":99150,\"ending\":\"complete\",\"frame\":\"8>0 set-osd-name \\\"a\\\\,@b\\\"\",\"initiator\":\"8\",\"destination\":\"0\",\"bytes\":\"8047615c2c4062\",\"verdict\":\"ack\"}";
