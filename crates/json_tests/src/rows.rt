@@ -35,8 +35,8 @@ state box combo f+4 3.0.0.0 on active=- path=- deck=1a menu=off audio=off volume
 
 /// The same of lines that are none of a trace.
 pub(crate) const OTHERS: &str = "\
- => \"type\":\"other\"
-not ok 1 => \"type\":\"other\"";
+not ok 1 => \"type\":\"other\"
+ => \"type\":\"other\"";
 
 /// Lines with quotes and backslashes, and their whole objects.
 pub(crate) const SPELLED: &str = "\
