@@ -522,7 +522,7 @@ def gen_mon(r):
         i = r.randrange(len(ls))
         ls = r.choice([ls[:i] + ls[i + 1:], ls[:i] + [''] + ls[i:], ls[:i] + ['# x'] + ls[i:], ls[:i] + [ls[i]] + ls[i:], ls[:i] + [ls[i] + ' '] + ls[i + 1:],
                        ls[:i] + ['0' + ls[i]] + ls[i + 1:], ls + ls[-1:], ls + ['zz'], ls[:-1], ls[:i] + ['%d 0' % (2 * 10 ** 12 + r.randrange(-1, 2))] + ls[i:]])
-    return ['mon'], '\n'.join(ls) + r.choice(['\n', '\n', ''])
+    return ['mon', '--from', 'edges'], '\n'.join(ls) + r.choice(['\n', '\n', ''])
 
 
 def gen_step(r):

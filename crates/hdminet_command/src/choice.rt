@@ -25,7 +25,7 @@ pub enum Refused {
 pub fn input_of(choice: Choice) -> Input {
     match choice {
         Choice::Run { .. } | Choice::Step => Input::Network,
-        Choice::Asm | Choice::Dis | Choice::Mon => Input::Lines,
+        Choice::Asm | Choice::Dis | Choice::Mon { .. } => Input::Lines,
         Choice::Edid { source, .. } => match source {
             Source::Bytes => Input::EdidBytes,
             Source::Dump => Input::Lines,
@@ -135,6 +135,7 @@ fn add_run<'a>(
 ) -> Result<Command<'a>, AllocError> {
     let run = plain_command(alloc, "run", help::RUN_ABOUT, run_help);
     let run = with_flags(alloc, run, help::RUN_FLAGS)?;
+    let run = with_values(alloc, run, help::RUN_VALUES)?;
     program.subcommand(run)
 }
 
@@ -159,7 +160,10 @@ fn add_dis<'a>(alloc: Global, program: Command<'a>) -> Result<Command<'a>, Alloc
 
 // Adds the command that reads captures.
 fn add_mon<'a>(alloc: Global, program: Command<'a>) -> Result<Command<'a>, AllocError> {
-    program.subcommand(plain_command(alloc, "mon", help::MON_ABOUT, help::MON_HELP))
+    let mon = plain_command(alloc, "mon", help::MON_ABOUT, help::MON_HELP);
+    let mon = with_flags(alloc, mon, help::MON_FLAGS)?;
+    let mon = with_values(alloc, mon, help::MON_VALUES)?;
+    program.subcommand(mon)
 }
 
 // Adds the command that reads EDIDs.
@@ -293,6 +297,8 @@ fn refusal(alloc: Global, error: &Error, words: &[String]) -> Refused {
 fn rules(words: &[String]) -> &'static str {
     for word in words {
         match subcommand_of(word.as_str()) {
+            Some(Subcommand::Run) => return help::RUN_RULES,
+            Some(Subcommand::Mon) => return help::MON_RULES,
             Some(Subcommand::Edid) => return help::EDID_RULES,
             Some(_) | None => {}
         }

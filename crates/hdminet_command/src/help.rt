@@ -60,6 +60,17 @@ pub const RUN_FLAGS: &[(&str, &str)] = &[
     ),
 ];
 
+/// Those that take a value, with what stands for it.
+pub const RUN_VALUES: &[(&str, &str, &str)] = &[(
+    "as",
+    "FORMAT",
+    "With --edges, prints the line as vcd, for PulseView and GTKWave, pin, for cec-ctl, or csv",
+)];
+
+pub const RUN_RULES: &str = "
+  --as takes vcd, pin or csv, and goes with --edges alone
+";
+
 pub const RUN_HELP: &str = "\
 The input has two parts, parted by a line `script`. Lines that are empty or begin with `#` are
 skipped. Words stand one space apart. Times are microseconds.
@@ -101,7 +112,9 @@ port of a device that comes on the wire, and at the end the state of each device
 
 With --edges the output is an edge file, as `hdminet mon` takes it: `T 0` for each fall of the CEC line,
 `T 1` for each rise, and last `T end`, the end of the script or the close of the last round, whichever is
-later. Its readings are those of the trace.
+later. Its readings are those of the trace. With --as the same line is a Value Change Dump (vcd), pin
+events of cec-ctl (pin), or seconds and levels with commas between them (csv):
+  ./hdminet run --edges --as vcd < examples/first-path.net > first-path.vcd
 
 With --strict the run is the same, and where an event was refused the status is 1 and standard error has
 `hdminet: refused events N`:
@@ -228,6 +241,51 @@ past 1048576 bytes; 4 no memory.";
 
 pub const MON_ABOUT: &str = "Prints what was read on a captured line";
 
+/// The flags of `mon`, each with its help.
+pub const MON_FLAGS: &[(&str, &str)] = &[
+    (
+        "from-start",
+        "Prints all readings; without it of a vcd, pin or csv those from where the line was first idle",
+    ),
+    (
+        "from-idle",
+        "Prints one line for the readings that begin before the line was first idle",
+    ),
+    (
+        "audit",
+        "Prints below each reading what the standard would have otherwise",
+    ),
+    (
+        "timing",
+        "Prints the audit, with the widths of each reading's parts",
+    ),
+];
+
+/// Those that take a value, with what stands for it.
+pub const MON_VALUES: &[(&str, &str, &str)] = &[
+    (
+        "from",
+        "FORM",
+        "Reads edges, vcd, pin or csv; where it is left out the first line says which",
+    ),
+    (
+        "signal",
+        "NAME",
+        "Reads the wire of this name in a vcd or csv; where it is left out the first",
+    ),
+    (
+        "glitch",
+        "MICROSECONDS",
+        "Passes over pulses and gaps that are shorter; 50 is safe",
+    ),
+];
+
+pub const MON_RULES: &str = "
+  --from takes edges, vcd, pin or csv; --glitch a number of microseconds
+  --signal goes with vcd and csv alone; of --from-start and --from-idle one is given at most, and neither
+  with --audit and --timing
+";
+
 pub const MON_HELP: &str = "\
 The input is an edge file: the falls and rises of the CEC line in the order of their times, as a logic
 analyser captures them, and the end of the capture. Lines that are empty or begin with `#` are skipped,
@@ -253,14 +311,29 @@ An example, and what it gives:
   6100 1
   20000 end                          1000 8251 silent 1
 
-docs/formats.md says how to make an edge file from a logic analyser's export.
+Captures of other tools are read too: Value Change Dumps (vcd) of PulseView, sigrok-cli and GTKWave, pin
+events of cec-ctl (pin), and comma-separated values of Logic (csv). The first line says which it is, or
+--from does; --signal names the wire:
+  ./hdminet mon --from vcd --signal CEC --glitch 50 < capture.vcd
 
-Faults: `line N: line` for the first line that is ill-formed, past the limit or behind the end (the line
-after the last, where no end is there); `line N: order` for one out of turn or time. Nothing is written
-then.
+Of these forms one line, `0 T joined -`, stands for the readings that begin before T, when the line had
+been high for 16800 microseconds, since a capture may begin in the middle of a frame: that is --from-idle.
+With --from-start all readings are printed. With --glitch pulses and gaps of fewer microseconds are passed
+over. Events that a pin file has lost are named on standard error.
+
+With --audit indented lines below each reading say what the standard would have otherwise, and at the end
+stands a summary; with --timing the widths of each reading's parts too:
+  ./hdminet mon --audit < capture.vcd
+    1000000 1051150 complete 4>0 image-view-on ack
+      slot 13 block 2 bit 3 low 870 not 400..800
+
+Faults: `line N: CAUSE` for the first line at fault; nothing is written then. Of an edge file CAUSE is line
+(ill-formed, past the limit or behind the end; or the line after the last, where no end is there) or order
+(out of turn or time); of the others also word, scale, signal, time, late and end, as docs/captures.md
+has them.
 
 Exit status: 0 done; 1 input refused; 2 command line refused; 3 a read or write fault, or input
-past 1048576 bytes; 4 no memory.";
+past 1048576 bytes, with --from past 67108864; 4 no memory.";
 
 pub const EDID_ABOUT: &str = "Writes an EDID as text, or a text's EDID in hex";
 
@@ -278,6 +351,10 @@ pub const EDID_FLAGS: &[(&str, &str)] = &[
     (
         "check",
         "Prints the rules that the EDID breaks; status 5 where one is a failure",
+    ),
+    (
+        "meaning",
+        "Prints the EDID's text, and below each line what it means",
     ),
     ("only-address", "Prints the physical address alone"),
 ];
@@ -302,9 +379,11 @@ pub const EDID_VALUES: &[(&str, &str, &str)] = &[
 ];
 
 pub const EDID_RULES: &str = "
-  of --text and --hex one is given at most, of --raw, --check and --only-address, and of --address and --port
+  of --text and --hex one is given at most, of --raw, --check,
+  --meaning and --only-address, and of --address and --port
   --address takes an address as 1.0.0.0, --port 1 to 15, --below amp
-  --below goes with --port alone, --only-address with neither --address nor --port
+  --below goes with --port alone, --meaning and --only-address with neither
+  --address nor --port
 ";
 
 pub const EDID_HELP: &str = "\
@@ -344,6 +423,12 @@ With --hex the input is a hex dump: plain digits, or as `xxd`, `hexdump -C` and 
 with other text around, as `xrandr --prop` has it. It begins at the first line whose bytes are the header
 00 ff ff ff ff ff ff 00, and may be what each of the other flags reads:
   xrandr --prop | ./hdminet edid --hex
+
+With --meaning an indented line or more below each line of the text tells what it means:
+  video 900403
+    16 native: 1920x1080 at 60 Hz 16:9
+    4: 1280x720 at 60 Hz 16:9
+    3: 720x480 at 60 Hz 16:9
 
 With --check the output is a line for each rule that the EDID breaks, `fail RULE`, `warn RULE`, or
 `fail timing N RULE` with detailed timings counted from 1. Status 5 is for a rule that fails:

@@ -2,7 +2,7 @@
 use crate::grammar::{
     EDID_WORDS, KEYS, KEYWORDS, KINDS, SCRIPT, STEP_WORDS, STEPS, TOPOLOGY, fitting, most_fitting,
 };
-use crate::hints::{is_shown, of_edid, of_line, of_text};
+use crate::hints::{is_shown, of_edid, of_edid_text, of_line, of_text};
 use crate::marks::{Mark, marked};
 use crate::order::add_order;
 use crate::place::{Place, declared_by, is_line_end, place_of};
@@ -226,6 +226,10 @@ fn add_input_hints(draft: &mut Draft, what: Input, fault: Fault<'_>, input: &[u8
     match (what, fault.part) {
         (_, Part::Program) if fault.cause != "no script line" => {}
         (Input::EdidBytes, _) => add_edid_hints(draft, fault.cause, input),
+        (Input::EdidText, _) => {
+            add_hints(draft, of_text(input).as_slice());
+            add_hints(draft, of_edid_text(input).as_slice());
+        }
         _ => add_hints(draft, of_text(input).as_slice()),
     }
 }

@@ -1,10 +1,14 @@
 //! What often goes wrong with an input, whatever the fault says.
+use hdmi_dump::looks_like_dump;
 
 /// The bytes that some editors put before a text in UTF-8.
 const BYTE_ORDER_MARK: [u8; 3] = [0xef, 0xbb, 0xbf];
 
 /// The first bytes of each EDID.
 const EDID_HEADER: [u8; 3] = [0x00, 0xff, 0xff];
+
+/// What is said of a hex dump.
+const HEX_DUMP: &str = "this looks like a hex dump; `edid --hex` reads it";
 
 /// Whether a byte is shown as it is.
 pub fn is_shown(byte: u8) -> bool {
@@ -61,38 +65,23 @@ pub fn of_text(input: &[u8]) -> [Option<&'static str>; 4] {
     ]
 }
 
-fn is_digit_or_blank(byte: &u8) -> bool {
-    byte.is_ascii_hexdigit() || byte.is_ascii_whitespace()
-}
-
-// Whether some bytes are hex digits and blanks.
-fn is_hex_text(input: &[u8]) -> bool {
-    !input.is_empty() && input.iter().all(is_digit_or_blank)
-}
-
-// Whether some bytes begin as `xxd` and `hexdump -C` print them: eight digits and a colon or a space.
-fn is_numbered_dump(input: &[u8]) -> bool {
-    match input.split_at_checked(8) {
-        Some((digits, rest)) => {
-            digits.iter().all(u8::is_ascii_hexdigit)
-                && (rest.starts_with(b":") || rest.starts_with(b" "))
-        }
-        None => false,
-    }
-}
-
 /// What is odd about an input that is to be the bytes of an EDID.
-pub fn of_edid(input: &[u8]) -> [Option<&'static str>; 4] {
-    let is_plain = is_hex_text(input);
-    let is_numbered = !is_plain && is_numbered_dump(input);
+pub fn of_edid(input: &[u8]) -> [Option<&'static str>; 3] {
     [
         input.is_empty().then_some("the input is empty"),
-        is_plain.then_some("this looks like a hex dump; `xxd -r -p` makes bytes of it"),
-        is_numbered.then_some(
-            "this looks like a hex dump; `xxd -r` makes bytes of one that `xxd` made",
-        ),
+        looks_like_dump(input).then_some(HEX_DUMP),
         input.starts_with(b"edid 1.").then_some(
             "this looks like the text of an EDID, which `edid --text` reads",
+        ),
+    ]
+}
+
+/// What is odd about an input that is to be the text of an EDID, beside what is odd about any text.
+pub fn of_edid_text(input: &[u8]) -> [Option<&'static str>; 2] {
+    [
+        looks_like_dump(input).then_some(HEX_DUMP),
+        (!input.is_empty() && !input.ends_with(b"\n")).then_some(
+            "the last line has no line feed; each line of an EDID's text ends with one",
         ),
     ]
 }

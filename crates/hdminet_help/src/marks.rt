@@ -151,7 +151,8 @@ fn in_lines(cause: &str, place: Place<'_>, line: &str) -> Option<Mark> {
     match cause {
         "line" => in_line(line),
         "order" => out_of_order(place, line),
-        _ => in_frame(cause, 0),
+        "address" | "name" | "too-long" | "count" | "operand" => in_frame(cause, 0),
+        _ => None,
     }
 }
 

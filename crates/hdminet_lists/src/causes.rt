@@ -110,6 +110,36 @@ const LINES: &[Row] = &[
         "order",
         "falls and rises take turns, from a fall on, each later than the one before; `end` is not before the last",
     ),
+    (
+        "digit",
+        "a byte is two hex digits, with `0x` before them or not; between bytes stand spaces, `:`, `,` or `-`",
+    ),
+    ("half", "a hex digit stands alone; each byte has two"),
+    ("length", "a frame has 1 to 16 bytes"),
+    (
+        "word",
+        "nothing of this form reads so: docs/captures.md has each form, and `mon --from` says which it is",
+    ),
+    (
+        "scale",
+        "before its changes a dump says how long a tick is, as `$timescale 1 us $end`: 1, 10 or 100 of s, ms, us, ns, ps or fs",
+    ),
+    (
+        "signal",
+        "no wire has this name and one bit: `mon --signal` takes the name in a dump's `$var`, or in the line of names",
+    ),
+    (
+        "time",
+        "a time is `#` and a decimal number with no zero before it, at most 2000000000000 microseconds",
+    ),
+    (
+        "late",
+        "a time is at most 2000000000000 microseconds after the start",
+    ),
+    (
+        "end",
+        "the definitions of a dump end with `$enddefinitions $end`, and its changes follow",
+    ),
 ];
 
 const EDID: &[Row] = &[
@@ -168,7 +198,10 @@ const PROGRAM: &[Row] = &[
         "no steps line",
         "a line `steps`, and nothing else on it, parts the script from the commands",
     ),
-    ("input too long", "standard input has at most 1048576 bytes"),
+    (
+        "input too long",
+        "standard input has at most 1048576 bytes, a capture with `mon --from` 67108864",
+    ),
     (
         "read fault",
         "standard input is not to be read: is it open, and is it a file and no folder?",

@@ -1,3 +1,4 @@
 pub mod LineLemmas
 pub mod ShownLemmas
 pub mod ServedLemmas
+pub mod CaptureLemmas

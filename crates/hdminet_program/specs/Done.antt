@@ -1,21 +1,23 @@
 -- What the program does for a choice, an input and what it writes (own).
-use Rattle.std.specs.Prelude.{◌≡◌, ◌^◌, ◌≤◌, ℕ, true, ◌⊎◌, List, length, Option, Some, None, IfSome, MatchOption, Ok, codes}
+use Rattle.std.specs.Prelude.{◌≡◌, ℕ, Bool, true, ◌⊎◌, List, Option, None, IfSome, MatchOption, codes}
 use Rattle.std.specs.List.{flat_map}
 use Rattle.std.specs.Io.KnownBytes.{Appends}
 use Rattle.cec_dis.specs.Lines.{first_fault, line_text}
-use Rattle.cec_mon.specs.EdgeFile.{EdgeFile, file_of}
-use Rattle.cec_mon.specs.Watch.{file_readings, readings_text}
-use Rattle.cec_run.specs.Emulate.{IsEdgeTraceOf, IsTraceOf}
+use Rattle.cec_line.specs.declared.format.Format.{Format}
+use Rattle.cec_line.specs.declared.format.Format.TheVariants as formats
+use Rattle.cec_run.specs.Emulate.{IsLineOf, IsTraceOf}
 use Rattle.cec_run.specs.declared.run.Totals.{Totals}
 use Rattle.cec_step.specs.StepRun.{AreStepsOf}
 use Rattle.cec_text.specs.FrameLines.{AreTextsOf, hex_line as frame_line, told}
 use Rattle.cec_words.specs.Lines.{lines_of}
 use Rattle.hdminet_words.specs.Line.{asked_by}
+use Rattle.hdminet_words.specs.MonFlags.{signal_in}
 use Rattle.hdminet_words.specs.declared.choice.Asked.{Asked}
 use Rattle.hdminet_words.specs.declared.choice.Choice.{Choice}
 use Rattle.hdminet_words.specs.declared.choice.Choice.TheVariants.{Run, Step, Asm, Dis, Mon, Edid}
 use Rattle.hdminet_words.specs.declared.choice.Listing.{Listing}
-use Rattle.hdminet_words.specs.declared.choice.Listing.TheVariants.{Trace, Edges}
+use Rattle.hdminet_words.specs.declared.choice.Listing.TheVariants.{Trace, Edges, Vcd, Pin, Csv}
+use Rattle.hdminet_program.specs.Captures.{IsHeard, form_of, name_of, report_of}
 use Rattle.hdminet_program.specs.Edids.{IsShown, IsTold}
 use Rattle.hdminet_program.specs.Parted.{IsParted}
 
@@ -30,12 +32,12 @@ pub record IsRunDone (input text : List ℕ) (totals : Totals) : Type 0 where
   pub parts : IsRunInput input topology script
   pub trace : IsTraceOf topology script text totals
 
--- the same of its edges
-pub record AreEdgesDone (input text : List ℕ) (totals : Totals) : Type 0 where
+-- the same of its line in a format
+pub record IsLineDone (format : Format) (input text : List ℕ) (totals : Totals) : Type 0 where
   pub topology : List ℕ
   pub script : List ℕ
   pub parts : IsRunInput input topology script
-  pub edges : IsEdgeTraceOf topology script text totals
+  pub line : IsLineOf format topology script text totals
 
 -- behind the script and a line `steps` stand commands, whose steps these are
 pub record AreStepsDone (input text : List ℕ) : Type 0 where
@@ -50,40 +52,49 @@ pub record AreStepsDone (input text : List ℕ) : Type 0 where
 -- this text with these counts is what is asked for of the run that the input spells
 abbrev pub IsListed : Listing → List ℕ → List ℕ → Totals → Type 0
 IsListed Trace input text totals = IsRunDone input text totals
-IsListed Edges input text totals = AreEdgesDone input text totals
+IsListed Edges input text totals = IsLineDone formats.Edges input text totals
+IsListed Vcd input text totals = IsLineDone formats.Vcd input text totals
+IsListed Pin input text totals = IsLineDone formats.Pin input text totals
+IsListed Csv input text totals = IsLineDone formats.Csv input text totals
 
--- The text that a choice makes of an input. A strict run is one whose events were all taken.
-abbrev pub IsDone : Choice → List ℕ → List ℕ → Type 0
-IsDone (Run listing strict) input text = (totals : Totals) × IsListed listing input text totals × (strict ≡ true → totals.refused ≡ 0)
-IsDone Step input text = AreStepsDone input text
-IsDone Asm input text = (frames : List (List ℕ)) × AreTextsOf (told (lines_of input)) frames × (text ≡ flat_map frame_line frames)
-IsDone Dis input text = (first_fault 1 (lines_of input) ≡ None) × (text ≡ flat_map line_text (lines_of input))
-IsDone Mon input text = (file : EdgeFile) × (file_of input ≡ Ok file) × (text ≡ readings_text (file_readings file))
-IsDone (Edid source view) input text = (bytes : List ℕ) × IsTold source input bytes × IsShown view bytes text
+-- The text that a choice makes of an input; of a capture, of the wire of a name. A strict run is one whose events were all
+-- taken.
+abbrev pub IsDone : Choice → List ℕ → List ℕ → List ℕ → Type 0
+IsDone (Run listing strict) name input text = (totals : Totals) × IsListed listing input text totals × (strict ≡ true → totals.refused ≡ 0)
+IsDone Step name input text = AreStepsDone input text
+IsDone Asm name input text = (frames : List (List ℕ)) × AreTextsOf (told (lines_of input)) frames × (text ≡ flat_map frame_line frames)
+IsDone Dis name input text = (first_fault 1 (lines_of input) ≡ None) × (text ≡ flat_map line_text (lines_of input))
+IsDone (Mon form glitch report) name input text = IsHeard (form_of form input) name glitch (report_of report (form_of form input)) input text
+IsDone (Edid source view) name input text = (bytes : List ℕ) × IsTold source input bytes × IsShown view bytes text
 
 -- a choice is done for an input: its text is written, and nothing else
-abbrev pub Writes : Choice → List ℕ → Option (List ℕ) → Option (List ℕ) → Type 0
-Writes choice input old new = (text : List ℕ) × IsDone choice input text × Appends old new text
+abbrev pub Writes : Choice → List ℕ → List ℕ → Option (List ℕ) → Option (List ℕ) → Type 0
+Writes choice name input old new = (text : List ℕ) × IsDone choice name input text × Appends old new text
+
+-- the line of a run in a format is written, and nothing else
+abbrev pub WritesLine : Format → Bool → List ℕ → Option (List ℕ) → Option (List ℕ) → Type 0
+WritesLine format strict input old new =
+    (text : List ℕ) × ((totals : Totals) × IsLineDone format input text totals × (strict ≡ true → totals.refused ≡ 0)) × Appends old new text
 
 -- what was read is all that there was, where that is known
 abbrev pub IsAllOf : Option (List ℕ) → List ℕ → Type 0
 IsAllOf known bytes = IfSome known (λ all. bytes ≡ all)
 
 -- a choice is done for all that there was to read
-pub record IsServed (known old new : Option (List ℕ)) (choice : Choice) : Type 0 where
+pub record IsServed (known old new : Option (List ℕ)) (choice : Choice) (name : List ℕ) : Type 0 where
   pub input : List ℕ
   pub all : IsAllOf known input
-  pub written : Writes choice input old new
+  pub written : Writes choice name input old new
 
 -- a help is written; of its text nothing is said
 abbrev pub IsHelp : Option (List ℕ) → Option (List ℕ) → Type 0
 IsHelp old new = (text : List ℕ) × Appends old new text
 
 -- What is asked for is done: one choice, or where a line is not read exactly some choice or a help.
-abbrev pub AreServedAs : Option Asked → Option (List ℕ) → Option (List ℕ) → Option (List ℕ) → Type 0
-AreServedAs asked known old new =
-    MatchOption asked (((choice : Choice) × IsServed known old new choice) ⊎ IsHelp old new) (λ a. IsServed known old new a.choice)
+abbrev pub AreServedAs : Option Asked → List ℕ → Option (List ℕ) → Option (List ℕ) → Option (List ℕ) → Type 0
+AreServedAs asked name known old new =
+    MatchOption asked (((choice : Choice) × IsServed known old new choice name) ⊎ IsHelp old new) (λ a. IsServed known old new a.choice name)
 
 -- What the words of a command line ask for is done.
 abbrev pub AreServed : List (List ℕ) → Option (List ℕ) → Option (List ℕ) → Option (List ℕ) → Type 0
-AreServed words known old new = AreServedAs (asked_by words) known old new
+AreServed words known old new = AreServedAs (asked_by words) (name_of (signal_in words)) known old new

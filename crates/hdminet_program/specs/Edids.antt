@@ -1,6 +1,7 @@
 -- What is written of an EDID (own).
 use Rattle.std.specs.Prelude.{◌≡◌, ℕ, Bool, true, false, List, Option, Some, Ok, if◌then◌else◌}
 use Rattle.std.specs.Io.KnownBytes.{Appends}
+use Rattle.hdmi_annotate.specs.EdidMeaning.{meaning_of}
 use Rattle.hdmi_blocks.specs.Bytes.{edid_bytes}
 use Rattle.hdmi_blocks.specs.declared.edid.Edid.{Edid}
 use Rattle.hdmi_blocks.specs.declared.passing.AudioFrom.TheVariants.{Television, Amplifier}
@@ -25,7 +26,7 @@ use Rattle.hdminet_words.specs.declared.choice.Shape.TheVariants as shapes
 use Rattle.hdminet_words.specs.declared.choice.Source.{Source}
 use Rattle.hdminet_words.specs.declared.choice.Source.TheVariants as sources
 use Rattle.hdminet_words.specs.declared.choice.View.{View}
-use Rattle.hdminet_words.specs.declared.choice.View.TheVariants.{Whole, Findings, Address}
+use Rattle.hdminet_words.specs.declared.choice.View.TheVariants.{Whole, Meaning, Findings, Address}
 
 abbrev pub form_of : Shape → Form
 form_of shapes.Text = forms.Text
@@ -57,6 +58,7 @@ origin_of (Port port amplified) = origins.Port
 -- The text that a view of the EDID of some bytes is. Of rules that are broken it is all, and none of them is a failure.
 abbrev pub IsShown : View → List ℕ → List ℕ → Type 0
 IsShown (Whole place shape) bytes text = (e : Edid) × IsFor place bytes e × (text ≡ form_text (form_of shape) e)
+IsShown Meaning bytes text = (e : Edid) × (edid_bytes e ≡ bytes) × (text ≡ meaning_of e)
 IsShown (Findings place) bytes text =
     (e : Edid) × IsFor place bytes e × (text ≡ findings_text (faults_of (origin_of place) e)) × (some_failure (faults_of (origin_of place) e) ≡ false)
 IsShown Address bytes text = (a : Phys) × Reports bytes (Some a) × (text ≡ address_line a)

@@ -1,3 +1,4 @@
 pub mod Parted
 pub mod Edids
+pub mod Captures
 pub mod Done

@@ -6,16 +6,19 @@ ghost use Rattle.hdmi_core.specs.Written.{WrittenAll};
 ghost use Rattle.hdmi_convert.specs.Form.{hex_line};
 
 use crate::fault::Fault;
+use hdmi_annotate::edid_to_meaning;
 use hdmi_blocks::{AudioFrom, Edid, edid_from_bytes, edid_to_bytes};
+use hdmi_check::Origin;
 use hdmi_convert::{
     EdidToTextError, Form, Passing, Place as PassedTo, TextToHexError, check_passed_on,
     edid_to_findings, edid_to_text, write_address, write_passed_on,
 };
-use hdmi_core::{Phys, Piece, Sink, WriteFault, put_all, write_line};
+use hdmi_core::{Phys, Piece, Sink, WriteFault, Writes, put_all, write_line};
 use hdmi_dump::dump_bytes;
 use hdmi_edtext::parse_text;
+use hdmi_explain::{explain_findings, explain_no_hdmi};
 use hdminet_words::{Place, Shape, Source, View};
-use std::alloc::Global;
+use std::alloc::{AllocError, Global};
 
 fn form_of(shape: Shape) -> Form
     ensures { result ≡ form_of shape }
@@ -169,6 +172,13 @@ fn write_rules<W: Sink>(bytes: &[u8], place: Place, out: &mut W) -> Result<(), F
     }
 }
 
+// Writes the text of the EDID of some bytes with what it means.
+fn write_meaning<W: Sink>(bytes: &[u8], out: &mut W) -> Result<(), Fault>
+    ensures { OnOk result (Shows View.Meaning bytes.now (W.contents out.old) (W.contents out.new)) }
+{
+    Ok(edid_to_meaning(bytes, out)?)
+}
+
 // Writes what is asked for of the EDID of some bytes.
 fn show<W: Sink>(view: View, bytes: &[u8], out: &mut W) -> Result<(), Fault>
     ensures { OnOk result (Shows view bytes.now (W.contents out.old) (W.contents out.new)) }
@@ -176,6 +186,7 @@ fn show<W: Sink>(view: View, bytes: &[u8], out: &mut W) -> Result<(), Fault>
     match view {
         View::Whole(place, shape) => write_whole(bytes, place, shape, out),
         View::Findings(place) => write_rules(bytes, place, out),
+        View::Meaning => write_meaning(bytes, out),
         View::Address => Ok(write_address(bytes, out)?),
     }
 }
@@ -225,4 +236,47 @@ pub fn edid<W: Sink>(
         Source::Dump => show_of_dump(view, input, out),
         Source::Text => show_of_text(alloc, view, input, out),
     }
+}
+
+// The rules are those for the EDID of a display, or for one that is passed on.
+fn origin_of(place: Place) -> Origin {
+    match place {
+        Place::Own => Origin::Display,
+        Place::At(_) | Place::Port { .. } => Origin::Port,
+    }
+}
+
+// The bytes of the EDID of an input, for a device.
+fn bytes_for(alloc: Global, source: Source, place: Place, input: &[u8]) -> Result<Vec<u8>, Fault> {
+    let mut bytes = Vec::new(alloc);
+    let view = View::Whole(place, Shape::Bytes);
+    edid(alloc, source, view, input, &mut Writes::new(&mut bytes))?;
+    Ok(bytes)
+}
+
+/// What each rule asks that the EDID of an input breaks, for a device, and the values at fault. Of no EDID there is nothing.
+pub fn explain_rules(
+    alloc: Global,
+    source: Source,
+    place: Place,
+    input: &[u8],
+) -> Result<String, AllocError> {
+    match bytes_for(alloc, source, place, input) {
+        Ok(bytes) => explain_findings(alloc, origin_of(place), &bytes),
+        Err(_) => Ok(String::new(alloc)),
+    }
+}
+
+/// Why the EDID of an input has no HDMI block, in indented lines. Of one that has a block there is nothing.
+pub fn explain_lack(alloc: Global, source: Source, input: &[u8]) -> Result<String, AllocError> {
+    let mut text = String::new(alloc);
+    if let Ok(bytes) = bytes_for(alloc, source, Place::Own, input) {
+        let told = explain_no_hdmi(alloc, &bytes)?;
+        for line in told.as_str().lines() {
+            text.push_str("  ")?;
+            text.push_str(line)?;
+            text.push_str("\n")?;
+        }
+    }
+    Ok(text)
 }

@@ -2,7 +2,7 @@
 ghost use Rattle.std.specs.Prelude.{◌<◌};
 
 use cec_dis::DisError;
-use cec_mon::WatchError;
+use cec_formats::CaptureError;
 use cec_run::Totals;
 use cec_run::emulate::EmulateError;
 use cec_step::step_run::StepRunError;
@@ -38,7 +38,7 @@ pub enum Fault {
     #[error(transparent)]
     Dis(#[from] DisError),
     #[error(transparent)]
-    Watch(#[from] WatchError),
+    Capture(#[from] CaptureError),
     #[error(transparent)]
     EdidToText(#[from] EdidToTextError),
     #[error(transparent)]
@@ -86,13 +86,12 @@ impl Fault {
             | Fault::Emulate(EmulateError::Write(_))
             | Fault::Frames(FrameLinesError::Write(_))
             | Fault::Dis(DisError::Write(_))
-            | Fault::Watch(WatchError::Write(_))
             | Fault::EdidToText(EdidToTextError::Write(_))
             | Fault::TextToHex(TextToHexError::Write(_))
             | Fault::PassOn(PassOnError::Write(_)) => 3,
             Fault::Memory(_)
             | Fault::Emulate(EmulateError::Memory)
-            | Fault::Watch(WatchError::Memory)
+            | Fault::Capture(CaptureError::Memory)
             | Fault::TextToHex(TextToHexError::Memory) => 4,
             Fault::NoScriptLine
             | Fault::NoStepsLine
@@ -101,7 +100,7 @@ impl Fault {
             | Fault::Emulate(_)
             | Fault::Frames(FrameLinesError::Line(_))
             | Fault::Dis(DisError::Line(_))
-            | Fault::Watch(_)
+            | Fault::Capture(CaptureError::Fault(_))
             | Fault::EdidToText(_)
             | Fault::TextToHex(_)
             | Fault::Dump(_)

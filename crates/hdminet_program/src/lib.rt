@@ -1,6 +1,7 @@
 //! The program: its input, its output, its faults, over readers and sinks that it is handed.
 #![tactic(auto)]
 
+mod capture;
 mod edid;
 mod fault;
 pub mod program;

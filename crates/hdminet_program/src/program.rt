@@ -1,31 +1,50 @@
 //! The program over a reader and two sinks.
-ghost use Rattle.std.specs.Prelude.{◌≡◌, ◌<◌, ◌≤◌, true, OnOk, IfOk, IfSome, Ok, map, string_bytes};
+ghost use Rattle.std.specs.Prelude.{◌≡◌, ◌<◌, ◌≤◌, true, [], OnOk, IfOk, IfSome, Ok, map, string_bytes};
 ghost use Rattle.std.specs.Io.KnownBytes.{Keeps};
 ghost use Rattle.hdmi_core.specs.Buffered.{below};
 ghost use Rattle.hdminet_program.specs.Parted.{IsParted};
-ghost use Rattle.hdminet_program.specs.Done.{AreServed, IsAllOf, IsHelp, IsRunInput, IsServed, Writes};
+ghost use Rattle.hdminet_program.specs.Done.{AreServed, IsAllOf, IsHelp, IsRunInput, IsServed, Writes, WritesLine};
+ghost use Rattle.hdminet_program.specs.Captures.{name_of};
+ghost use Rattle.hdminet_words.specs.MonFlags.{signal_in};
 
-use crate::edid::edid;
+use crate::capture::{monitor, tell_lost};
+use crate::edid::{edid, explain_lack, explain_rules};
 use crate::fault::Fault;
 use arrayvec::ArrayString;
 use cec_dis::dis_lines;
-use cec_mon::watch;
+use cec_line::Format;
 use cec_run::Totals;
-use cec_run::edges::emulate_edges;
 use cec_run::emulate::emulate;
+use cec_run::line::emulate_line;
 use cec_step::step_run::step_run;
 use cec_text::asm_lines;
 use cec_words::{behind, len_before};
 use hdmi_core::{Buffered, Sink, put_all};
 use hdminet_command::{Refused, choose, input_of};
 use hdminet_help::{counts, explain};
-use hdminet_words::{Asked, Choice, Listing};
+use hdminet_words::{Asked, Choice, Listing, View, signal_in};
 use std::alloc::{AllocError, Global};
 use std::fmt::Write;
 use std::io::Read;
 
 /// The longest input, in bytes.
 const LIMIT: usize = 1_048_576;
+
+/// The longest capture whose form is given, in bytes.
+const CAPTURE_LIMIT: usize = 67_108_864;
+
+// The longest input of a choice, in bytes.
+fn limit_of(choice: Choice) -> usize {
+    match choice {
+        Choice::Mon { form: Some(_), .. } => CAPTURE_LIMIT,
+        Choice::Mon { form: None, .. }
+        | Choice::Run { .. }
+        | Choice::Step
+        | Choice::Asm
+        | Choice::Dis
+        | Choice::Edid { .. } => LIMIT,
+    }
+}
 
 /// How the program ended.
 #[derive(Drop)]
@@ -38,12 +57,12 @@ pub struct Ended<W> {
 }
 
 // Reads all there is, up to the limit.
-fn read_input<R: Read>(alloc: Global, input: &mut R) -> Result<Vec<u8>, Fault>
+fn read_input<R: Read>(alloc: Global, limit: usize, input: &mut R) -> Result<Vec<u8>, Fault>
     ensures { IfOk result (λ bytes. IsAllOf (R.remaining input.old) bytes.items) }
 {
     let mut bytes = Vec::new(alloc);
     let mut buffer = [0u8; 4096];
-    'reads: while bytes.len() <= LIMIT {
+    'reads: while bytes.len() <= limit {
         match input.read(&mut buffer) {
             Ok(0) => return Ok(bytes),
             Ok(count) => bytes.extend_from_slice(&buffer[..count])?,
@@ -98,30 +117,32 @@ fn run<W: Sink>(
     input: &[u8],
     out: &mut W,
 ) -> Result<Option<Totals>, Fault>
-    ensures { OnOk result (Writes (Choice.Run Listing.Trace strict) input.now (W.contents out.old) (W.contents out.new)) }
+    ensures { OnOk result (Writes (Choice.Run Listing.Trace strict) [] input.now (W.contents out.old) (W.contents out.new)) }
 {
     let (topology, script) = parts(input)?;
     let totals = emulate(alloc, topology, script, out)?;
     accepted(totals, strict)
 }
 
+// Writes the line of a run in a format.
 #[inline(never)]
-fn run_to_edges<W: Sink>(
+fn run_to_line<W: Sink>(
     alloc: Global,
+    format: Format,
     strict: bool,
     input: &[u8],
     out: &mut W,
 ) -> Result<Option<Totals>, Fault>
-    ensures { OnOk result (Writes (Choice.Run Listing.Edges strict) input.now (W.contents out.old) (W.contents out.new)) }
+    ensures { OnOk result (WritesLine format strict input.now (W.contents out.old) (W.contents out.new)) }
 {
     let (topology, script) = parts(input)?;
-    let totals = emulate_edges(alloc, topology, script, out)?;
+    let totals = emulate_line(alloc, topology, script, format, out)?;
     accepted(totals, strict)
 }
 
 #[inline(never)]
 fn step<W: Sink>(alloc: Global, input: &[u8], out: &mut W) -> Result<Option<Totals>, Fault>
-    ensures { OnOk result (Writes Choice.Step input.now (W.contents out.old) (W.contents out.new)) }
+    ensures { OnOk result (Writes Choice.Step [] input.now (W.contents out.old) (W.contents out.new)) }
 {
     let (topology, rest) = parts(input)?;
     let (script, steps) = parted(rest, b"steps").ok_or(Fault::NoStepsLine)?;
@@ -131,23 +152,15 @@ fn step<W: Sink>(alloc: Global, input: &[u8], out: &mut W) -> Result<Option<Tota
 
 #[inline(never)]
 fn disassemble<W: Sink>(input: &[u8], out: &mut W) -> Result<Option<Totals>, Fault>
-    ensures { OnOk result (Writes Choice.Dis input.now (W.contents out.old) (W.contents out.new)) }
+    ensures { OnOk result (Writes Choice.Dis [] input.now (W.contents out.old) (W.contents out.new)) }
 {
     dis_lines(input, out)?;
     Ok(None)
 }
 
 #[inline(never)]
-fn monitor<W: Sink>(alloc: Global, input: &[u8], out: &mut W) -> Result<Option<Totals>, Fault>
-    ensures { OnOk result (Writes Choice.Mon input.now (W.contents out.old) (W.contents out.new)) }
-{
-    watch(alloc, input, out)?;
-    Ok(None)
-}
-
-#[inline(never)]
 fn assemble<W: Sink>(input: &[u8], out: &mut W) -> Result<Option<Totals>, Fault>
-    ensures { OnOk result (Writes Choice.Asm input.now (W.contents out.old) (W.contents out.new)) }
+    ensures { OnOk result (Writes Choice.Asm [] input.now (W.contents out.old) (W.contents out.new)) }
 {
     asm_lines(input, out)?;
     Ok(None)
@@ -157,20 +170,31 @@ fn assemble<W: Sink>(input: &[u8], out: &mut W) -> Result<Option<Totals>, Fault>
 fn perform<W: Sink>(
     alloc: Global,
     choice: Choice,
+    signal: &[u8],
     input: &[u8],
     out: &mut W,
 ) -> Result<Option<Totals>, Fault>
-    ensures { OnOk result (Writes choice input.now (W.contents out.old) (W.contents out.new)) }
+    ensures { OnOk result (Writes choice signal.now input.now (W.contents out.old) (W.contents out.new)) }
 {
     match choice {
         Choice::Run { listing, strict } => match listing {
             Listing::Trace => run(alloc, strict, input, out),
-            Listing::Edges => run_to_edges(alloc, strict, input, out),
+            Listing::Edges => run_to_line(alloc, Format::Edges, strict, input, out),
+            Listing::Vcd => run_to_line(alloc, Format::Vcd, strict, input, out),
+            Listing::Pin => run_to_line(alloc, Format::Pin, strict, input, out),
+            Listing::Csv => run_to_line(alloc, Format::Csv, strict, input, out),
         },
         Choice::Step => step(alloc, input, out),
         Choice::Asm => assemble(input, out),
         Choice::Dis => disassemble(input, out),
-        Choice::Mon => monitor(alloc, input, out),
+        Choice::Mon {
+            form,
+            glitch,
+            report,
+        } => {
+            monitor(alloc, form, signal, glitch, report, input, out)?;
+            Ok(None)
+        }
         Choice::Edid { source, view } => {
             edid(alloc, source, view, input, out)?;
             Ok(None)
@@ -205,6 +229,31 @@ fn counts_of(alloc: Global, totals: &Totals) -> Result<String, AllocError> {
     counts(alloc, totals.rounds, totals.complete, totals.refused)
 }
 
+// What the rules ask that an EDID breaks, where they are asked for.
+#[inline(never)]
+fn rules_of(alloc: Global, choice: Choice, input: &[u8]) -> Result<String, AllocError> {
+    match choice {
+        Choice::Edid {
+            source,
+            view: View::Findings(place),
+        } => explain_rules(alloc, source, place, input),
+        _ => Ok(String::new(alloc)),
+    }
+}
+
+// Why an EDID has no HDMI block, where that is the fault.
+fn lack_of(
+    alloc: Global,
+    choice: Choice,
+    fault: &Fault,
+    input: &[u8],
+) -> Result<String, AllocError> {
+    match (choice, fault) {
+        (Choice::Edid { source, .. }, Fault::PassOn(_)) => explain_lack(alloc, source, input),
+        _ => Ok(String::new(alloc)),
+    }
+}
+
 // What follows the line of a fault with `--explain`.
 #[inline(never)]
 fn explanation(
@@ -213,11 +262,16 @@ fn explanation(
     fault: &Fault,
     input: &[u8],
 ) -> Result<String, AllocError> {
-    if let Fault::EventsRefused(totals) = fault {
-        return counts_of(alloc, totals);
+    match fault {
+        Fault::EventsRefused(totals) => counts_of(alloc, totals),
+        Fault::RuleFails => rules_of(alloc, choice, input),
+        _ => {
+            let line = format!(in alloc; "{fault}")?;
+            let mut text = explain(alloc, input_of(choice), line.as_str(), input)?;
+            text.push_str(lack_of(alloc, choice, fault, input)?.as_str())?;
+            Ok(text)
+        }
     }
-    let line = format!(in alloc; "{fault}")?;
-    explain(alloc, input_of(choice), line.as_str(), input)
 }
 
 // Writes lines that only help. Where memory runs out there are none.
@@ -236,6 +290,21 @@ fn report<E: Sink>(alloc: Global, asked: Asked, fault: &Fault, input: &[u8], err
         add_help(explanation(alloc, asked.choice, fault, input), err);
     }
     status
+}
+
+// Writes what there is to say besides of what was done: events that a capture lost, and with `--explain` the counts of a run
+// and what the rules ask that an EDID breaks.
+fn remark<E: Sink>(alloc: Global, asked: Asked, totals: Option<Totals>, input: &[u8], err: &mut E) {
+    if let Choice::Mon { form, .. } = asked.choice {
+        tell_lost(alloc, form, input, err);
+    }
+    if !asked.explains {
+        return;
+    }
+    match totals {
+        Some(totals) => add_help(counts_of(alloc, &totals), err),
+        None => add_help(rules_of(alloc, asked.choice, input), err),
+    }
 }
 
 // Writes a help. Answers the exit status.
@@ -267,19 +336,19 @@ fn refuse<W: Sink, E: Sink>(refused: &Refused, out: &mut Buffered<W>, err: &mut 
 fn answer<W: Sink, E: Sink>(
     alloc: Global,
     asked: Asked,
+    signal: &[u8],
     input: &[u8],
     out: &mut Buffered<W>,
     err: &mut E,
 ) -> u8
-    ensures { result ≡ 0 → Writes asked.choice input.now (⟦<Buffered<W> as Sink>⟧.contents out.old) (W.contents (below out.new)) }
+    ensures { result ≡ 0 → Writes asked.choice signal.now input.now (⟦<Buffered<W> as Sink>⟧.contents out.old) (W.contents (below out.new)) }
 {
-    let done = perform(alloc, asked.choice, input, out);
+    let done = perform(alloc, asked.choice, signal, input, out);
     match handed_on(done, out) {
-        Ok(Some(totals)) if asked.explains => {
-            add_help(counts_of(alloc, &totals), err);
+        Ok(totals) => {
+            remark(alloc, asked, totals, input, err);
             0
         }
-        Ok(_) => 0,
         Err(fault) => report(alloc, asked, &fault, input, err),
     }
 }
@@ -288,15 +357,43 @@ fn answer<W: Sink, E: Sink>(
 fn serve<R: Read, W: Sink, E: Sink>(
     alloc: Global,
     asked: Asked,
+    signal: &[u8],
     input: &mut R,
     out: &mut Buffered<W>,
     err: &mut E,
 ) -> u8
-    ensures { result ≡ 0 → IsServed (R.remaining input.old) (⟦<Buffered<W> as Sink>⟧.contents out.old) (W.contents (below out.new)) asked.choice }
+    ensures { result ≡ 0 → IsServed (R.remaining input.old) (⟦<Buffered<W> as Sink>⟧.contents out.old) (W.contents (below out.new)) asked.choice signal.now }
 {
-    match read_input(alloc, input) {
-        Ok(input) => answer(alloc, asked, &input, out, err),
+    match read_input(alloc, limit_of(asked.choice), input) {
+        Ok(input) => answer(alloc, asked, signal, &input, out, err),
         Err(fault) => report(alloc, asked, &fault, b"", err),
+    }
+}
+
+// The name of the wire that some words name, or nothing.
+fn name_of(alloc: Global, words: &[String]) -> Result<Vec<u8>, AllocError>
+    ensures { IfOk result (λ name. name.items ≡ name_of (signal_in (map string_bytes words.now))) }
+{
+    match signal_in(words) {
+        Some(name) => name.to_vec(alloc),
+        None => Ok(Vec::new(alloc)),
+    }
+}
+
+// Does what is asked for, of the wire that the words name. Answers the exit status.
+fn serve_named<R: Read, W: Sink, E: Sink>(
+    alloc: Global,
+    asked: Asked,
+    words: &[String],
+    input: &mut R,
+    out: &mut Buffered<W>,
+    err: &mut E,
+) -> u8
+    ensures { result ≡ 0 → IsServed (R.remaining input.old) (⟦<Buffered<W> as Sink>⟧.contents out.old) (W.contents (below out.new)) asked.choice (name_of (signal_in (map string_bytes words.now))) }
+{
+    match name_of(alloc, words) {
+        Ok(name) => serve(alloc, asked, &name, input, out, err),
+        Err(AllocError) => tell(&Fault::Memory(AllocError), err),
     }
 }
 
@@ -311,7 +408,7 @@ fn act<R: Read, W: Sink, E: Sink>(
     ensures { result ≡ 0 → AreServed (map string_bytes words.now) (R.remaining input.old) (⟦<Buffered<W> as Sink>⟧.contents out.old) (W.contents (below out.new)) }
 {
     match choose(alloc, words) {
-        Ok(asked) => serve(alloc, asked, input, out, err),
+        Ok(asked) => serve_named(alloc, asked, words, input, out, err),
         Err(refused) => refuse(&refused, out, err),
     }
 }

@@ -14,10 +14,10 @@ use Rattle.hdminet_words.specs.declared.choice.Source.TheVariants as sources
 use Rattle.hdminet_words.specs.declared.choice.Shape.{Shape}
 use Rattle.hdminet_words.specs.declared.choice.Shape.TheVariants as shapes
 use Rattle.hdminet_words.specs.declared.choice.View.{View}
-use Rattle.hdminet_words.specs.declared.choice.View.TheVariants.{Whole, Findings, Address}
+use Rattle.hdminet_words.specs.declared.choice.View.TheVariants.{Whole, Meaning, Findings, Address}
 use Rattle.hdminet_words.specs.declared.edid_flags.EdidFlags.{EdidFlags}
 use Rattle.hdminet_words.specs.declared.edid_flags.Wanted.{Wanted}
-use Rattle.hdminet_words.specs.declared.edid_flags.Wanted.TheVariants.{Raw, Check, OnlyAddress}
+use Rattle.hdminet_words.specs.declared.edid_flags.Wanted.TheVariants as wants
 use Rattle.hdminet_words.specs.declared.edid_flags.EdidValue.{EdidValue}
 use Rattle.hdminet_words.specs.declared.edid_flags.EdidValue.TheVariants as values
 
@@ -43,9 +43,10 @@ abbrev pub with_edid_flag : EdidFlags → List ℕ → Option EdidFlags
 with_edid_flag flags word =
     if bytes_eq word (codes "--text") && is_none flags.source then Some (record flags { source = Some sources.Text })
     else if bytes_eq word (codes "--hex") && is_none flags.source then Some (record flags { source = Some sources.Dump })
-    else if bytes_eq word (codes "--raw") && is_none flags.wanted then Some (record flags { wanted = Some Raw })
-    else if bytes_eq word (codes "--check") && is_none flags.wanted then Some (record flags { wanted = Some Check })
-    else if bytes_eq word (codes "--only-address") && is_none flags.wanted then Some (record flags { wanted = Some OnlyAddress })
+    else if bytes_eq word (codes "--raw") && is_none flags.wanted then Some (record flags { wanted = Some wants.Raw })
+    else if bytes_eq word (codes "--check") && is_none flags.wanted then Some (record flags { wanted = Some wants.Check })
+    else if bytes_eq word (codes "--meaning") && is_none flags.wanted then Some (record flags { wanted = Some wants.Meaning })
+    else if bytes_eq word (codes "--only-address") && is_none flags.wanted then Some (record flags { wanted = Some wants.OnlyAddress })
     else if bytes_eq word (codes "--address") && is_none flags.address then Some (record flags { waits = Some values.Address })
     else if bytes_eq word (codes "--port") && is_none flags.port then Some (record flags { waits = Some values.Port })
     else if bytes_eq word (codes "--below") && not flags.amplified then Some (record flags { waits = Some values.Below })
@@ -78,14 +79,17 @@ own_shape sources.Text = shapes.Hex
 own_shape sources.Bytes = shapes.Text
 own_shape sources.Dump = shapes.Text
 
--- what is written; the address alone is that of the device that has the EDID
+-- what is written; meanings and the address alone are of the device that has the EDID
 abbrev pub edid_view : Option Wanted → Place → Shape → Option View
 edid_view None place shape = Some (Whole place shape)
-edid_view (Some Raw) place shape = Some (Whole place shapes.Bytes)
-edid_view (Some Check) place shape = Some (Findings place)
-edid_view (Some OnlyAddress) Own shape = Some Address
-edid_view (Some OnlyAddress) (At address) shape = None
-edid_view (Some OnlyAddress) (Port port amplified) shape = None
+edid_view (Some wants.Raw) place shape = Some (Whole place shapes.Bytes)
+edid_view (Some wants.Check) place shape = Some (Findings place)
+edid_view (Some wants.Meaning) Own shape = Some Meaning
+edid_view (Some wants.Meaning) (At address) shape = None
+edid_view (Some wants.Meaning) (Port port amplified) shape = None
+edid_view (Some wants.OnlyAddress) Own shape = Some Address
+edid_view (Some wants.OnlyAddress) (At address) shape = None
+edid_view (Some wants.OnlyAddress) (Port port amplified) shape = None
 
 -- what they ask for
 abbrev pub edid_asked : EdidFlags → Option Asked

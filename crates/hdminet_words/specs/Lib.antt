@@ -1,3 +1,4 @@
 pub mod RunFlags
+pub mod MonFlags
 pub mod EdidFlags
 pub mod Line

@@ -1,8 +1,8 @@
 -- What a command line asks for (own).
 use Rattle.std.specs.Prelude.{ℕ, List, [], ◌∷◌, Option, Some, None, if◌then◌else◌, true, false, codes, option_and_then}
-use Rattle.std.specs.Option.{option_map}
 use Rattle.std.specs.Str.{bytes_eq}
 use Rattle.hdminet_words.specs.EdidFlags.{edid_asked, edid_flags}
+use Rattle.hdminet_words.specs.MonFlags.{mon_asked, mon_flags}
 use Rattle.hdminet_words.specs.RunFlags.{run_asked, run_flags}
 use Rattle.hdminet_words.specs.declared.choice.Asked.{Asked}
 use Rattle.hdminet_words.specs.declared.choice.Choice.{Choice}
@@ -29,11 +29,11 @@ only_explained choice words = None
 
 -- what a subcommand with these flags asks for
 abbrev pub asked_of : Subcommand → List (List ℕ) → Option Asked
-asked_of Run words = option_map run_asked (run_flags (record { edges = false; strict = false; explains = false }) words)
+asked_of Run words = option_and_then run_asked (run_flags (record { edges = false; format = None; strict = false; explains = false; waits = false }) words)
 asked_of Step words = only_explained choices.Step words
 asked_of Asm words = only_explained choices.Asm words
 asked_of Dis words = only_explained choices.Dis words
-asked_of Mon words = only_explained choices.Mon words
+asked_of Mon words = option_and_then mon_asked (mon_flags (record { form = None; named = false; glitch = None; start = None; audit = false; timing = false; explains = false; waits = None }) words)
 asked_of Edid words =
     option_and_then edid_asked (edid_flags (record { source = None; wanted = None; address = None; port = None; amplified = false; explains = false; waits = None }) words)
 

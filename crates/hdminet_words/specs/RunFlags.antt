@@ -1,27 +1,50 @@
 -- The flags of `run` (own).
-use Rattle.std.specs.Prelude.{ℕ, List, [], ◌∷◌, Bool, Option, Some, None, if◌then◌else◌, true, codes, not, ◌&&◌, option_and_then}
+use Rattle.std.specs.Prelude.{ℕ, List, [], ◌∷◌, Bool, Option, Some, None, if◌then◌else◌, true, false, codes, not, ◌&&◌, is_none, option_and_then}
+use Rattle.std.specs.Option.{option_map}
 use Rattle.std.specs.Str.{bytes_eq}
 use Rattle.hdminet_words.specs.declared.choice.Asked.{Asked}
 use Rattle.hdminet_words.specs.declared.choice.Choice.TheVariants.{Run}
-use Rattle.hdminet_words.specs.declared.choice.Listing.TheVariants.{Trace, Edges}
+use Rattle.hdminet_words.specs.declared.choice.Listing.{Listing}
+use Rattle.hdminet_words.specs.declared.choice.Listing.TheVariants.{Trace, Edges, Vcd, Pin, Csv}
 use Rattle.hdminet_words.specs.declared.run_flags.RunFlags.{RunFlags}
 
+-- the format of a line that a word names
+abbrev pub line_listing : List ℕ → Option Listing
+line_listing word =
+    if bytes_eq word (codes "vcd") then Some Vcd
+    else if bytes_eq word (codes "pin") then Some Pin
+    else if bytes_eq word (codes "csv") then Some Csv
+    else None
+
 -- the flags with one more; each stands once at most
-abbrev pub with_run_flag : RunFlags → List ℕ → Option RunFlags
-with_run_flag flags word =
+abbrev pub one_run_flag : RunFlags → List ℕ → Option RunFlags
+one_run_flag flags word =
     if bytes_eq word (codes "--edges") && not flags.edges then Some (record flags { edges = true })
+    else if bytes_eq word (codes "--as") && is_none flags.format then Some (record flags { waits = true })
     else if bytes_eq word (codes "--strict") && not flags.strict then Some (record flags { strict = true })
     else if bytes_eq word (codes "--explain") && not flags.explains then Some (record flags { explains = true })
     else None
+
+-- or with the value of the last
+abbrev pub with_run_flag : RunFlags → List ℕ → Option RunFlags
+with_run_flag flags word =
+    if flags.waits then option_map (λ format. record flags { format = Some format; waits = false }) (line_listing word)
+    else one_run_flag flags word
 
 -- and with each of some words
 abbrev pub run_flags : RunFlags → List (List ℕ) → Option RunFlags
 run_flags flags [] = Some flags
 run_flags flags (word ∷ words) = option_and_then (λ more. run_flags more words) (with_run_flag flags word)
 
+-- what is written: with `--as` and not `--edges` nothing
+abbrev pub run_listing : Bool → Option Listing → Option Listing
+run_listing true (Some format) = Some format
+run_listing true None = Some Edges
+run_listing false (Some format) = None
+run_listing false None = Some Trace
+
 -- what they ask for
-abbrev pub run_asked : RunFlags → Asked
-run_asked flags = record {
-  choice = Run (if flags.edges then Edges else Trace) flags.strict;
-  explains = flags.explains;
-}
+abbrev pub run_asked : RunFlags → Option Asked
+run_asked flags =
+    if flags.waits then None
+    else option_map (λ listing. record { choice = Run listing flags.strict; explains = flags.explains }) (run_listing flags.edges flags.format)

@@ -8,6 +8,38 @@ pub enum Listing {
     Trace,
     /// The edge file of its line.
     Edges,
+    /// Its line as a Value Change Dump.
+    Vcd,
+    /// Its line as pin events of cec-ctl.
+    Pin,
+    /// Its line as comma-separated values.
+    Csv,
+}
+
+/// The form of a capture.
+#[derive(Clone, Copy, Debug)]
+pub enum Form {
+    /// An edge file.
+    Edges,
+    /// A Value Change Dump.
+    Vcd,
+    /// Pin events of cec-ctl.
+    Pin,
+    /// Comma-separated values.
+    Csv,
+}
+
+/// What is written of a capture.
+#[derive(Clone, Copy, Debug)]
+pub enum Report {
+    /// Its readings.
+    Readings,
+    /// Those from where the line was first idle, as of a capture that begins in the middle of a frame.
+    FromIdle,
+    /// Its readings, and below each what the standard would have otherwise.
+    Audit,
+    /// The same, with the widths of the parts of each reading.
+    Timing,
 }
 
 /// What an EDID is read from.
@@ -48,6 +80,8 @@ pub enum Shape {
 pub enum View {
     /// The EDID for a device.
     Whole(Place, Shape),
+    /// Its text, and below each line what it means.
+    Meaning,
     /// The rules that it breaks.
     Findings(Place),
     /// The physical address in it.
@@ -58,17 +92,28 @@ pub enum View {
 #[derive(Clone, Copy, Debug)]
 pub enum Choice {
     /// A run of a topology and a script. Where it is strict, an event that is refused is a fault.
-    Run { listing: Listing, strict: bool },
+    Run {
+        listing: Listing,
+        strict: bool,
+    },
     /// Steps of a run, edge by edge and round by round.
     Step,
     /// The bytes of frames, from their texts.
     Asm,
     /// The texts of frames, from their bytes in hex.
     Dis,
-    /// The readings of an edge file.
-    Mon,
+    /// What a capture tells. Its first line tells its form where none is given; pulses and gaps shorter than so many
+    /// microseconds are passed over; and where no report is given, that is by the form.
+    Mon {
+        form: Option<Form>,
+        glitch: u64,
+        report: Option<Report>,
+    },
     /// An EDID.
-    Edid { source: Source, view: View },
+    Edid {
+        source: Source,
+        view: View,
+    },
 }
 
 /// What a command line asks for.

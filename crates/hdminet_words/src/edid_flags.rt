@@ -18,6 +18,7 @@ pub enum EdidValue {
 #[derive(Clone, Copy, Debug)]
 pub enum Wanted {
     Raw,
+    Meaning,
     Check,
     OnlyAddress,
 }
@@ -117,6 +118,10 @@ fn with_edid_flag(flags: EdidFlags, word: &str) -> Option<EdidFlags>
             wanted: Some(Wanted::Check),
             ..flags
         }),
+        "--meaning" if flags.wanted.is_none() => Some(EdidFlags {
+            wanted: Some(Wanted::Meaning),
+            ..flags
+        }),
         "--only-address" if flags.wanted.is_none() => Some(EdidFlags {
             wanted: Some(Wanted::OnlyAddress),
             ..flags
@@ -182,7 +187,7 @@ fn own_shape(source: Source) -> Shape
     }
 }
 
-// What is written. The address alone is that of the device that has the EDID.
+// What is written. Meanings and the address alone are of the device that has the EDID.
 fn edid_view(wanted: Option<Wanted>, place: Place, shape: Shape) -> Option<View>
     ensures { result ≡ edid_view wanted place shape }
 {
@@ -190,6 +195,10 @@ fn edid_view(wanted: Option<Wanted>, place: Place, shape: Shape) -> Option<View>
         None => Some(View::Whole(place, shape)),
         Some(Wanted::Raw) => Some(View::Whole(place, Shape::Bytes)),
         Some(Wanted::Check) => Some(View::Findings(place)),
+        Some(Wanted::Meaning) => match place {
+            Place::Own => Some(View::Meaning),
+            Place::At(_) | Place::Port { .. } => None,
+        },
         Some(Wanted::OnlyAddress) => match place {
             Place::Own => Some(View::Address),
             Place::At(_) | Place::Port { .. } => None,

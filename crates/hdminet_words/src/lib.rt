@@ -4,9 +4,11 @@
 mod choice;
 mod edid_flags;
 mod line;
+mod mon_flags;
 mod run_flags;
 mod subcommand;
 
-pub use choice::{Asked, Choice, Listing, Place, Shape, Source, View};
+pub use choice::{Asked, Choice, Form, Listing, Place, Report, Shape, Source, View};
 pub use line::asked_by;
+pub use mon_flags::signal_in;
 pub use subcommand::{Subcommand, subcommand_of};

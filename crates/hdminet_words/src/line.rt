@@ -4,6 +4,7 @@ ghost use Rattle.hdminet_words.specs.Line.{asked_by, asked_of, only_explained};
 
 use crate::choice::{Asked, Choice};
 use crate::edid_flags::{EdidFlags, edid_asked, edid_flags};
+use crate::mon_flags::{MonFlags, mon_asked, mon_flags};
 use crate::run_flags::{RunFlags, run_asked, run_flags};
 use crate::subcommand::{Subcommand, subcommand_of};
 
@@ -29,11 +30,11 @@ fn asked_of(subcommand: Subcommand, words: &[String]) -> Option<Asked>
     ensures { result ≡ asked_of subcommand (map string_bytes words.now) }
 {
     match subcommand {
-        Subcommand::Run => Some(run_asked(&run_flags(RunFlags::NONE, words)?)),
+        Subcommand::Run => run_asked(&run_flags(RunFlags::NONE, words)?),
         Subcommand::Step => only_explained(Choice::Step, words),
         Subcommand::Asm => only_explained(Choice::Asm, words),
         Subcommand::Dis => only_explained(Choice::Dis, words),
-        Subcommand::Mon => only_explained(Choice::Mon, words),
+        Subcommand::Mon => mon_asked(&mon_flags(MonFlags::NONE, words)?),
         Subcommand::Edid => edid_asked(&edid_flags(EdidFlags::NONE, words)?),
     }
 }

@@ -1,6 +1,6 @@
 //! The flags of `run`.
 ghost use Rattle.std.specs.Prelude.{◌≡◌, map, string_bytes};
-ghost use Rattle.hdminet_words.specs.RunFlags.{run_asked, run_flags, with_run_flag};
+ghost use Rattle.hdminet_words.specs.RunFlags.{line_listing, run_asked, run_flags, with_run_flag};
 
 use crate::choice::{Asked, Choice, Listing};
 
@@ -8,26 +8,56 @@ use crate::choice::{Asked, Choice, Listing};
 #[derive(Clone, Copy, Debug)]
 pub struct RunFlags {
     pub edges: bool,
+    /// The format that `--as` names.
+    pub format: Option<Listing>,
     pub strict: bool,
     pub explains: bool,
+    /// Whether the word of a format comes next.
+    pub waits: bool,
 }
 
 impl RunFlags {
     /// No flag.
     pub const NONE: RunFlags = RunFlags {
         edges: false,
+        format: None,
         strict: false,
         explains: false,
+        waits: false,
     };
 }
 
-// The flags with one more. Each stands once at most.
+// The format of a line that a word names.
+fn line_listing(word: &str) -> Option<Listing>
+    ensures { result ≡ line_listing word.now }
+{
+    match word {
+        "vcd" => Some(Listing::Vcd),
+        "pin" => Some(Listing::Pin),
+        "csv" => Some(Listing::Csv),
+        _ => None,
+    }
+}
+
+// The flags with one more, or with the value of the last. Each stands once at most.
 fn with_run_flag(flags: RunFlags, word: &str) -> Option<RunFlags>
     ensures { result ≡ with_run_flag flags word.now }
 {
+    if flags.waits {
+        let format = line_listing(word)?;
+        return Some(RunFlags {
+            format: Some(format),
+            waits: false,
+            ..flags
+        });
+    }
     match word {
         "--edges" if !flags.edges => Some(RunFlags {
             edges: true,
+            ..flags
+        }),
+        "--as" if flags.format.is_none() => Some(RunFlags {
+            waits: true,
             ..flags
         }),
         "--strict" if !flags.strict => Some(RunFlags {
@@ -52,20 +82,22 @@ pub fn run_flags(flags: RunFlags, words: &[String]) -> Option<RunFlags>
     }
 }
 
-/// What `run` with these flags asks for.
-pub fn run_asked(flags: &RunFlags) -> Asked
+/// What `run` with these flags asks for: `--as` goes with `--edges` alone.
+pub fn run_asked(flags: &RunFlags) -> Option<Asked>
     ensures { result ≡ run_asked flags.now }
 {
-    let listing = if flags.edges {
-        Listing::Edges
-    } else {
-        Listing::Trace
+    let listing = match flags.format {
+        _ if flags.waits => return None,
+        Some(format) if flags.edges => format,
+        Some(_) => return None,
+        None if flags.edges => Listing::Edges,
+        None => Listing::Trace,
     };
-    Asked {
+    Some(Asked {
         choice: Choice::Run {
             listing,
             strict: flags.strict,
         },
         explains: flags.explains,
-    }
+    })
 }

@@ -4,10 +4,13 @@ use hdminet_program::program::program;
 use std::io::{self, ErrorKind, Read, Write};
 use std::process::Abort;
 
+mod captures;
 mod command_line;
 mod edge_files;
 mod edid_flags;
 mod edids;
+mod example_captures;
+mod example_dumps;
 mod example_lines;
 mod examples;
 mod explained;

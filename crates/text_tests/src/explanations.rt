@@ -244,13 +244,13 @@ const EDIDS: &str = "\
 4c2d
 => edid: length
   an EDID has 128, 256, 384 or 512 bytes: a base block and up to three extensions of 128 bytes each
-  this looks like a hex dump; `xxd -r -p` makes bytes of it
+  this looks like a hex dump; `edid --hex` reads it
   the input has 22 bytes; an EDID has 128, 256, 384 or 512
 --
-00000000: 00ff ffff ffff ff00 4c2d=> edid: length
+00000000: 00ff ffff ffff ff00 4c2d  ........L-=> edid: length
   an EDID has 128, 256, 384 or 512 bytes: a base block and up to three extensions of 128 bytes each
-  this looks like a hex dump; `xxd -r` makes bytes of one that `xxd` made
-  the input has 34 bytes; an EDID has 128, 256, 384 or 512
+  this looks like a hex dump; `edid --hex` reads it
+  the input has 46 bytes; an EDID has 128, 256, 384 or 512
 --
 edid 1.3
 maker SAM
@@ -280,6 +280,19 @@ makers SAM
           ^^^^^^
   `makers`: did you mean `maker`?
   here another line has to stand: `edid --help` shows the lines in their order; each has its word and all its fields, and ends with a line feed
+--
+edid 1.3=> text: syntax 1
+  line 1: edid 1.3
+          ^^^^
+  here another line has to stand: `edid --help` shows the lines in their order; each has its word and all its fields, and ends with a line feed
+  the last line has no line feed; each line of an EDID's text ends with one
+--
+00ffffffffffff00
+=> text: syntax 1
+  line 1: 00ffffffffffff00
+          ^^^^^^^^^^^^^^^^
+  here another line has to stand: `edid --help` shows the lines in their order; each has its word and all its fields, and ends with a line feed
+  this looks like a hex dump; `edid --hex` reads it
 ";
 
 const STEPS: &str = "\
@@ -393,6 +406,7 @@ const BYTES: &[(Input, &[u8], &str, &str)] = &[
   this line has bytes that are no printable text; `.` stands for each
   here another line has to stand: `edid --help` shows the lines in their order; each has its word and all its fields, and ends with a line feed
   this looks like the bytes of an EDID, which `edid` reads without `--text`
+  the last line has no line feed; each line of an EDID's text ends with one
 ",
     ),
 ];
@@ -463,6 +477,15 @@ line 1: name
 line 1: too-long
 line 1: count
 line 1: operand
+line 1: digit
+line 1: half
+line 1: length
+line 1: word
+line 1: scale
+line 1: signal
+line 1: time
+line 1: late
+line 1: end
 line 1: line
 line 1: order
 edid: length

@@ -17,6 +17,11 @@ run --help => --edges
 run --help => --strict
 run --help =>   watch PA       tv
 asm --help => 4f821000
+run --help => --as
+mon --help => --from-idle
+mon --help => --signal
+mon --help => 0 T joined -
+edid --help => --meaning
 dis --help => 4f:82:10:00      4>f active-source 1.0.0.0
 edid --help =>   made 10 2011 
 edid --help => --text
@@ -98,9 +103,25 @@ edid --port 1 --address 1.0.0.0
 edid --below amp
 edid --port 1 --below tv
 edid --raw --check
+edid --meaning --port 1
 edid --only-address --port 1
 edid --text --text
 mon --edges
+mon --from
+mon --from wav
+mon --signal
+mon --signal CEC --from pin
+mon --signal CEC --from edges
+mon --signal A --signal B
+mon --glitch few
+mon --from-idle --from-start
+mon --from-idle --audit
+mon --timing --from-start
+mon --audit --audit
+run --as vcd
+run --edges --as
+run --edges --as edges
+run --edges --as vcd --as vcd
 step tv.steps
 ";
 

@@ -58,6 +58,34 @@ fn writes_other_forms(rt: HostRuntime) {
     );
 }
 
+/// Lines that stand below those of the text of the display, worked out from CTA-861.
+const MEANINGS: &str = "\
+  week 10 of 2011
+  16 native: 1920x1080 at 60 Hz 16:9
+  4: 1280x720 at 60 Hz 16:9
+  linear PCM, 2 channels, 32 44.1 48 kHz, 16 20 24 bits
+";
+
+#[test]
+fn writes_what_the_lines_mean(rt: HostRuntime) {
+    let bytes = bytes_of(&rt, blocks(&rt, EXTENSION, "e8").as_str());
+    let text = written(&rt, "edid --meaning", &bytes);
+    for line in MEANINGS.lines() {
+        let whole = format!(in rt.alloc(); "\n{line}\n").expect(&rt, "a line");
+        expect(
+            &rt,
+            text.as_str().contains(whole.as_str()),
+            "edid --meaning",
+            line,
+        );
+    }
+    let plain = written(&rt, "edid", &bytes);
+    let mut kept = text.as_str().lines().filter(|line| !line.starts_with(" "));
+    for line in plain.as_str().lines() {
+        expect(&rt, kept.next() == Some(line), "edid --meaning", line);
+    }
+}
+
 #[test]
 fn reads_hex_dumps(rt: HostRuntime) {
     let digits = moved(&rt);
@@ -149,6 +177,26 @@ fn tells_the_rules_that_are_broken(rt: HostRuntime) {
     }
 }
 
+/// What follows a fault of a rule, or nothing where none is one, with `--explain`: what each rule asks, and the values at fault.
+const EXPLAINED: &str = "\
+0e d4 f1 b1 => 0 => 
+0a d8 f1 b1 => 5 => hdminet: edid: a rule fails;fail srgb;  bit 2 of the features is set exactly where the chromaticities are those of sRGB (E-EDID A, 3.6.4);  here: features 0a;
+0e d4 71 31 => 0 => warn overscan;  bit 7 of a CTA block's flags is set: formats of computers are shown whole (CTA-861-D, 7.5);  here: flags 71;
+";
+
+#[test]
+fn explains_the_rules_that_are_broken(rt: HostRuntime) {
+    for case in EXPLAINED.lines() {
+        let (words, status, lines) = three_parts(&rt, case);
+        let lines = with_lines(&rt, lines);
+        let bytes = display(&rt, words);
+        let told = told_of(&rt, "edid --check --explain", bytes.as_slice(), None);
+        let status_is_right = told.status == if status == "5" { 5 } else { 0 };
+        let right = status_is_right && told.err.as_slice() == lines.as_bytes();
+        expect(&rt, right, "edid --check --explain", words);
+    }
+}
+
 /// The rule that the address of a port is not the root's, which an EDID that is passed on may break.
 #[test]
 fn checks_what_is_passed_on(rt: HostRuntime) {
@@ -176,6 +224,7 @@ fn checks_what_is_passed_on(rt: HostRuntime) {
 const REFUSED: &str = "\
 --check => edid: length
 --raw => edid: length
+--meaning => edid: length
 --only-address => edid: length
 --address 1.0.0.0 => edid: length
 --port 1 --below amp --check => edid: length
@@ -199,4 +248,16 @@ fn refuses_what_is_no_edid(rt: HostRuntime) {
         "edid: no-hdmi-block",
     );
     refuses(&rt, "edid --port 1", "bare", &bare, "edid: no-hdmi-block");
+}
+
+/// An extension without data blocks, and what is said of it where an address is asked for.
+#[test]
+fn explains_why_there_is_no_address(rt: HostRuntime) {
+    let bare = bytes_of(&rt, blocks(&rt, "020300f1", "0a").as_str());
+    let told = told_of(&rt, "edid --only-address --explain", bare.as_slice(), None);
+    let right = told.status == 1
+        && told.out.is_empty()
+        && told.err.starts_with(b"hdminet: edid: no-hdmi-block\n")
+        && told.err.ends_with(b"\n  extension 1 is a CTA-861 block without data blocks\n");
+    expect(&rt, right, "edid --only-address --explain", "bare");
 }

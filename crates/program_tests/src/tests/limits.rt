@@ -56,6 +56,21 @@ fn reads_what_is_not_too_long(rt: HostRuntime) {
     }
 }
 
+/// A capture whose form is given may be longer.
+#[test]
+fn reads_long_captures(rt: HostRuntime) {
+    let text = "\n21000 0\n24700 1\n25500 0\n26100 1\n40000 end\n";
+    let input = behind_comment(&rt, 2 * LIMIT, text);
+    let input = input.as_bytes();
+    gives(
+        &rt,
+        "mon --from edges",
+        "a long capture",
+        input,
+        "21000 28251 silent 1\n",
+    );
+}
+
 /// The program reads nothing of an input, for this reason.
 fn reads_nothing<R: Read + Drop>(rt: &(impl Abort + AllocGlobal), line: &str, input: R, why: &str) {
     let told = told_of(rt, line, input, None);

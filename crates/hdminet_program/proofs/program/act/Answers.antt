@@ -1,10 +1,15 @@
 use Rattle.std.proofs.Common.{map, string_bytes}
 use Rattle.hdminet_words.specs.Line.{asked_by}
+use Rattle.hdminet_words.specs.MonFlags.{signal_in}
+use Rattle.hdminet_program.specs.Captures.{name_of}
 use Rattle.hdminet_program.proofs.ServedLemmas.{chosen, helped}
 use Rattle.hdminet_program.proofs.program.act.Goals as goal
 
 pub returns-in-Ok : goal.returns-in-Ok
-returns-in-Ok g c done = chosen (asked_by (map string_bytes c.args.words.now)) c.in-Ok.asked _ _ _ c.in-Ok.ensures (c.serve.ensures done)
+returns-in-Ok g c done =
+    chosen (asked_by (map string_bytes c.args.words.now)) c.in-Ok.asked (name_of (signal_in (map string_bytes c.args.words.now))) _ _ _ c.in-Ok.ensures
+    (c.serve_named.ensures done)
 
 pub returns-in-Err : goal.returns-in-Err
-returns-in-Err g c done = helped (asked_by (map string_bytes c.args.words.now)) c.in-Err.refused _ _ _ c.in-Err.ensures (c.refuse.ensures done)
+returns-in-Err g c done = helped (asked_by (map string_bytes c.args.words.now)) c.in-Err.refused (name_of (signal_in (map string_bytes c.args.words.now))) _ _ _ c.in-Err.ensures
+    (c.refuse.ensures done)

@@ -7,4 +7,4 @@ abbrev pub invariant-reads : goal.invariant-reads
 invariant-reads g l = Consumes (g.R.Read.remaining l.fn.input) (g.R.Read.remaining l.input) l.bytes.items
 
 abbrev pub decreases-reads : goal.decreases-reads
-decreases-reads g l = 1048577 - vec_len l.bytes
+decreases-reads g l = suc l.limit - vec_len l.bytes

@@ -1,0 +1,8 @@
+use Rattle.std.proofs.Common.{refl}
+use Rattle.hdmi_annotate.specs.EdidMeaning.{meaning_of}
+use Rattle.hdminet_program.proofs.edid.write_meaning.Goals as goal
+
+pub returns : goal.returns
+returns g c =
+    let told = c.in_ok-edid_to_meaning.ensures.answers in
+    (meaning_of told.0, (told.0, told.1, refl), told.2)

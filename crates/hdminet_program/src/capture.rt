@@ -1,0 +1,146 @@
+//! What is told of a capture.
+ghost use Rattle.std.specs.Prelude.{◌≡◌, OnOk, IfOk};
+ghost use Rattle.hdminet_program.specs.Captures.{Heard, Reports, form_of, kept, report_of};
+
+use crate::fault::Fault;
+use arrayvec::ArrayString;
+use cec_audit::{AuditOptions, audit_capture};
+use cec_formats::{Form as CaptureForm, read_capture};
+use cec_mon::{watch_capture, watch_from_idle};
+use cec_pin::lost_lines;
+use cec_signal::Capture;
+use cec_smooth::smoothed;
+use hdmi_core::{Sink, put_all};
+use hdminet_words::{Form, Report};
+use std::alloc::{AllocError, Global};
+use std::fmt::Write;
+
+// The form of a capture: what is asked for, or else what its first line tells.
+fn form_of(form: Option<Form>, input: &[u8]) -> CaptureForm
+    ensures { result ≡ form_of form input.now }
+{
+    match form {
+        None => CaptureForm::of(input),
+        Some(Form::Edges) => CaptureForm::Edges,
+        Some(Form::Vcd) => CaptureForm::Vcd,
+        Some(Form::Pin) => CaptureForm::Pin,
+        Some(Form::Csv) => CaptureForm::Csv,
+    }
+}
+
+// What is written of a capture: what is asked for, or else what its form has.
+fn report_of(report: Option<Report>, form: CaptureForm) -> Report
+    ensures { result ≡ report_of report form }
+{
+    match report {
+        Some(report) => report,
+        None => match form {
+            CaptureForm::Edges => Report::Readings,
+            CaptureForm::Vcd | CaptureForm::Pin | CaptureForm::Csv => Report::FromIdle,
+        },
+    }
+}
+
+// A capture without pulses and gaps that are too short.
+fn without_short(alloc: Global, glitch: u64, whole: Capture) -> Result<Capture, AllocError>
+    ensures edges { IfOk result (λ c. c.edges ≡ kept glitch whole.edges) }
+    ensures end { IfOk result (λ c. c.end ≡ whole.end) }
+{
+    if glitch == 0 {
+        Ok(whole)
+    } else {
+        smoothed(alloc, &whole, glitch)
+    }
+}
+
+fn write_readings<W: Sink>(capture: &Capture, out: &mut W) -> Result<(), Fault>
+    ensures { OnOk result (Reports Report.Readings capture.now (W.contents out.old) (W.contents out.new)) }
+{
+    Ok(watch_capture(capture, out)?)
+}
+
+fn write_from_idle<W: Sink>(capture: &Capture, out: &mut W) -> Result<(), Fault>
+    ensures { OnOk result (Reports Report.FromIdle capture.now (W.contents out.old) (W.contents out.new)) }
+{
+    Ok(watch_from_idle(capture, out)?)
+}
+
+fn write_audit<W: Sink>(capture: &Capture, out: &mut W) -> Result<(), Fault>
+    ensures { OnOk result (Reports Report.Audit capture.now (W.contents out.old) (W.contents out.new)) }
+{
+    Ok(audit_capture(capture, AuditOptions { timing: false }, out)?)
+}
+
+fn write_timing<W: Sink>(capture: &Capture, out: &mut W) -> Result<(), Fault>
+    ensures { OnOk result (Reports Report.Timing capture.now (W.contents out.old) (W.contents out.new)) }
+{
+    Ok(audit_capture(capture, AuditOptions { timing: true }, out)?)
+}
+
+// Writes what is asked for of a capture.
+fn write_report<W: Sink>(capture: &Capture, report: Report, out: &mut W) -> Result<(), Fault>
+    ensures { OnOk result (Reports report capture.now (W.contents out.old) (W.contents out.new)) }
+{
+    match report {
+        Report::Readings => write_readings(capture, out),
+        Report::FromIdle => write_from_idle(capture, out),
+        Report::Audit => write_audit(capture, out),
+        Report::Timing => write_timing(capture, out),
+    }
+}
+
+// Writes what is asked for of a capture in a form, of the wire of a name.
+#[inline(never)]
+fn listen<W: Sink>(
+    alloc: Global,
+    form: CaptureForm,
+    signal: &[u8],
+    glitch: u64,
+    report: Report,
+    input: &[u8],
+    out: &mut W,
+) -> Result<(), Fault>
+    ensures { OnOk result (Heard form signal.now glitch report input.now (W.contents out.old) (W.contents out.new)) }
+{
+    let whole = read_capture(alloc, form, signal, input)?;
+    let kept = without_short(alloc, glitch, whole)?;
+    write_report(&kept, report, out)
+}
+
+/// Writes what is asked for of a capture: in a form, or in the one that its first line tells, of the wire of a name, or the
+/// first where that is empty.
+pub fn monitor<W: Sink>(
+    alloc: Global,
+    form: Option<Form>,
+    signal: &[u8],
+    glitch: u64,
+    report: Option<Report>,
+    input: &[u8],
+    out: &mut W,
+) -> Result<(), Fault>
+    ensures { OnOk result (Heard (form_of form input.now) signal.now glitch (report_of report (form_of form input.now)) input.now (W.contents out.old) (W.contents out.new)) }
+{
+    let form = form_of(form, input);
+    let report = report_of(report, form);
+    listen(alloc, form, signal, glitch, report, input, out)
+}
+
+// The line that names an event before which others were lost.
+fn write_lost<E: Sink>(line: u64, err: &mut E) {
+    let mut text = ArrayString::<64>::new();
+    let _ = writeln!(text, "hdminet: events were lost before line {line}");
+    let _ = put_all(err, text.as_bytes());
+}
+
+/// Names the lines of pin events before which others were lost: what is read across them is not to be trusted. Where memory
+/// runs out none is named.
+pub fn tell_lost<E: Sink>(alloc: Global, form: Option<Form>, input: &[u8], err: &mut E) {
+    if form_of(form, input) != CaptureForm::Pin {
+        return;
+    }
+    if let Ok(lines) = lost_lines(alloc, input) {
+        for line in &lines {
+            write_lost(*line, err);
+        }
+    }
+}

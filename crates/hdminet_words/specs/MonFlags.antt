@@ -1,0 +1,86 @@
+-- The flags of `mon` (own).
+use Rattle.std.specs.Prelude.{ℕ, List, [], ◌∷◌, Bool, Option, Some, None, if◌then◌else◌, true, false, codes, not, ◌&&◌, ◌||◌, is_none, is_some, unwrap_or, option_and_then, take, drop}
+use Rattle.std.specs.Option.{option_map, option_or}
+use Rattle.std.specs.Str.{bytes_eq}
+use Rattle.cec_words.specs.Number.{number_of}
+use Rattle.hdminet_words.specs.declared.choice.Asked.{Asked}
+use Rattle.hdminet_words.specs.declared.choice.Choice.TheVariants.{Mon}
+use Rattle.hdminet_words.specs.declared.choice.Form.{Form}
+use Rattle.hdminet_words.specs.declared.choice.Form.TheVariants.{Edges, Vcd, Pin, Csv}
+use Rattle.hdminet_words.specs.declared.choice.Report.{Report}
+use Rattle.hdminet_words.specs.declared.choice.Report.TheVariants.{Readings, FromIdle, Timing, Audit}
+use Rattle.hdminet_words.specs.declared.mon_flags.MonFlags.{MonFlags}
+use Rattle.hdminet_words.specs.declared.mon_flags.MonValue.{MonValue}
+use Rattle.hdminet_words.specs.declared.mon_flags.MonValue.TheVariants.{From, Signal, Glitch}
+
+-- the form of a capture that a word names
+abbrev pub form_of : List ℕ → Option Form
+form_of word =
+    if bytes_eq word (codes "edges") then Some Edges
+    else if bytes_eq word (codes "vcd") then Some Vcd
+    else if bytes_eq word (codes "pin") then Some Pin
+    else if bytes_eq word (codes "csv") then Some Csv
+    else None
+
+-- the flags with the value of the last
+abbrev pub with_mon_value : MonFlags → MonValue → List ℕ → Option MonFlags
+with_mon_value flags From word = option_map (λ form. record flags { form = Some form; waits = None }) (form_of word)
+with_mon_value flags Signal word = Some (record flags { named = true; waits = None })
+with_mon_value flags Glitch word = option_map (λ glitch. record flags { glitch = Some glitch; waits = None }) (number_of word)
+
+-- the flags with one more; each stands once at most, and those that exclude one another not together
+abbrev pub with_mon_flag : MonFlags → List ℕ → Option MonFlags
+with_mon_flag flags word =
+    if bytes_eq word (codes "--from") && is_none flags.form then Some (record flags { waits = Some From })
+    else if bytes_eq word (codes "--signal") && not flags.named then Some (record flags { waits = Some Signal })
+    else if bytes_eq word (codes "--glitch") && is_none flags.glitch then Some (record flags { waits = Some Glitch })
+    else if bytes_eq word (codes "--from-start") && is_none flags.start then Some (record flags { start = Some Readings })
+    else if bytes_eq word (codes "--from-idle") && is_none flags.start then Some (record flags { start = Some FromIdle })
+    else if bytes_eq word (codes "--audit") && not flags.audit then Some (record flags { audit = true })
+    else if bytes_eq word (codes "--timing") && not flags.timing then Some (record flags { timing = true })
+    else if bytes_eq word (codes "--explain") && not flags.explains then Some (record flags { explains = true })
+    else None
+
+-- the flags with one word more, which is a value where a flag waits for one
+abbrev pub with_mon_word : MonFlags → Option MonValue → List ℕ → Option MonFlags
+with_mon_word flags (Some value) word = with_mon_value flags value word
+with_mon_word flags None word = with_mon_flag flags word
+
+-- and with each of some words
+abbrev pub mon_flags : MonFlags → List (List ℕ) → Option MonFlags
+mon_flags flags [] = Some flags
+mon_flags flags (word ∷ words) = option_and_then (λ more. mon_flags more words) (with_mon_word flags flags.waits word)
+
+-- whether the wires of a capture may have names
+abbrev pub has_names : Option Form → Bool
+has_names None = true
+has_names (Some Vcd) = true
+has_names (Some Csv) = true
+has_names (Some form) = false
+
+-- What is written of the capture, where a flag says it. An audit is of the whole capture; with the widths of its parts it is one
+-- with `--audit` or without.
+abbrev pub mon_report : Option Report → Bool → Bool → Option (Option Report)
+mon_report start false false = Some start
+mon_report None true false = Some (Some Audit)
+mon_report None audit true = Some (Some Timing)
+mon_report start audit timing = None
+
+-- what they ask for
+abbrev pub mon_asked : MonFlags → Option Asked
+mon_asked flags =
+    if is_some flags.waits || (flags.named && not (has_names flags.form)) then None
+    else option_map (λ report. record {
+      choice = Mon flags.form (unwrap_or flags.glitch 0) report;
+      explains = flags.explains;
+    }) (mon_report flags.start flags.audit flags.timing)
+
+-- the value that stands in the word of `--signal`, as `--signal=NAME`
+abbrev pub joined_signal : List ℕ → Option (List ℕ)
+joined_signal word = if bytes_eq (take 9 word) (codes "--signal=") then Some (drop 9 word) else None
+
+-- the name of a wire: what stands behind the first `--signal`, as a word of its own or in the same word
+abbrev pub signal_in : List (List ℕ) → Option (List ℕ)
+signal_in [] = None
+signal_in (word ∷ []) = joined_signal word
+signal_in (word ∷ name ∷ words) = if bytes_eq word (codes "--signal") then Some name else option_or (joined_signal word) (signal_in (name ∷ words))

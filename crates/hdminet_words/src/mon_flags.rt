@@ -1,0 +1,206 @@
+//! The flags of `mon`.
+ghost use Rattle.std.specs.Prelude.{◌≡◌, map, string_bytes, Some, None, MatchOption};
+ghost use Rattle.hdminet_words.specs.MonFlags.{form_of, has_names, joined_signal, mon_asked, mon_flags, mon_report, signal_in, with_mon_flag, with_mon_value};
+
+use crate::choice::{Asked, Choice, Form, Report};
+use cec_words::{before, behind, number_in};
+
+/// A flag of `mon` that a value follows.
+#[derive(Clone, Copy, Debug)]
+pub enum MonValue {
+    From,
+    Signal,
+    Glitch,
+}
+
+/// The flags that `mon` was given.
+#[derive(Clone, Copy, Debug)]
+pub struct MonFlags {
+    pub form: Option<Form>,
+    /// Whether `--signal` names a wire, which `signal_in` returns.
+    pub named: bool,
+    pub glitch: Option<u64>,
+    /// The readings that `--from-start` or `--from-idle` asks for.
+    pub start: Option<Report>,
+    pub audit: bool,
+    pub timing: bool,
+    pub explains: bool,
+    /// The flag whose value comes next.
+    pub waits: Option<MonValue>,
+}
+
+impl MonFlags {
+    /// No flag.
+    pub const NONE: MonFlags = MonFlags {
+        form: None,
+        named: false,
+        glitch: None,
+        start: None,
+        audit: false,
+        timing: false,
+        explains: false,
+        waits: None,
+    };
+}
+
+// The form of a capture that a word names.
+fn form_of(word: &str) -> Option<Form>
+    ensures { result ≡ form_of word.now }
+{
+    match word {
+        "edges" => Some(Form::Edges),
+        "vcd" => Some(Form::Vcd),
+        "pin" => Some(Form::Pin),
+        "csv" => Some(Form::Csv),
+        _ => None,
+    }
+}
+
+// The flags with the value of the last.
+fn with_mon_value(flags: MonFlags, value: MonValue, word: &str) -> Option<MonFlags>
+    ensures { result ≡ with_mon_value flags value word.now }
+{
+    match value {
+        MonValue::From => {
+            let form = form_of(word)?;
+            Some(MonFlags {
+                form: Some(form),
+                waits: None,
+                ..flags
+            })
+        }
+        MonValue::Signal => Some(MonFlags {
+            named: true,
+            waits: None,
+            ..flags
+        }),
+        MonValue::Glitch => {
+            let glitch = number_in(word.as_bytes())?;
+            Some(MonFlags {
+                glitch: Some(glitch),
+                waits: None,
+                ..flags
+            })
+        }
+    }
+}
+
+// The flags with one more. Each stands once at most, and those that exclude one another not together.
+fn with_mon_flag(flags: MonFlags, word: &str) -> Option<MonFlags>
+    ensures { result ≡ with_mon_flag flags word.now }
+{
+    match word {
+        "--from" if flags.form.is_none() => Some(MonFlags {
+            waits: Some(MonValue::From),
+            ..flags
+        }),
+        "--signal" if !flags.named => Some(MonFlags {
+            waits: Some(MonValue::Signal),
+            ..flags
+        }),
+        "--glitch" if flags.glitch.is_none() => Some(MonFlags {
+            waits: Some(MonValue::Glitch),
+            ..flags
+        }),
+        "--from-start" if flags.start.is_none() => Some(MonFlags {
+            start: Some(Report::Readings),
+            ..flags
+        }),
+        "--from-idle" if flags.start.is_none() => Some(MonFlags {
+            start: Some(Report::FromIdle),
+            ..flags
+        }),
+        "--audit" if !flags.audit => Some(MonFlags {
+            audit: true,
+            ..flags
+        }),
+        "--timing" if !flags.timing => Some(MonFlags {
+            timing: true,
+            ..flags
+        }),
+        "--explain" if !flags.explains => Some(MonFlags {
+            explains: true,
+            ..flags
+        }),
+        _ => None,
+    }
+}
+
+/// The flags with those that these words are, and their values.
+pub fn mon_flags(flags: MonFlags, words: &[String]) -> Option<MonFlags>
+    ensures { result ≡ mon_flags flags (map string_bytes words.now) }
+{
+    match words {
+        [] => Some(flags),
+        [word, rest @ ..] => match flags.waits {
+            Some(value) => mon_flags(with_mon_value(flags, value, word.as_str())?, rest),
+            None => mon_flags(with_mon_flag(flags, word.as_str())?, rest),
+        },
+    }
+}
+
+// Whether the wires of a capture may have names: those of edge files and of pin events have none.
+fn has_names(form: Option<Form>) -> bool
+    ensures { result ≡ has_names form }
+{
+    match form {
+        None | Some(Form::Vcd | Form::Csv) => true,
+        Some(Form::Edges | Form::Pin) => false,
+    }
+}
+
+// What is written of the capture, where a flag says it. An audit is of the whole capture.
+fn mon_report(start: Option<Report>, audit: bool, timing: bool) -> Option<Option<Report>>
+    ensures { result ≡ mon_report start audit timing }
+{
+    match start {
+        Some(_) if audit || timing => None,
+        Some(start) => Some(Some(start)),
+        None if timing => Some(Some(Report::Timing)),
+        None if audit => Some(Some(Report::Audit)),
+        None => Some(None),
+    }
+}
+
+/// What `mon` with these flags asks for.
+pub fn mon_asked(flags: &MonFlags) -> Option<Asked>
+    ensures { result ≡ mon_asked flags.now }
+{
+    if flags.waits.is_some() || (flags.named && !has_names(flags.form)) {
+        return None;
+    }
+    let report = mon_report(flags.start, flags.audit, flags.timing)?;
+    Some(Asked {
+        choice: Choice::Mon {
+            form: flags.form,
+            glitch: flags.glitch.unwrap_or(0),
+            report,
+        },
+        explains: flags.explains,
+    })
+}
+
+// The value that stands in the word of `--signal`, as `--signal=NAME`.
+fn joined_signal(word: &[u8]) -> Option<&[u8]>
+    ensures { MatchOption result (joined_signal word.now ≡ None) (λ name. joined_signal word.now ≡ Some name.now) }
+{
+    if before(word, 9) == b"--signal=".as_slice() {
+        Some(behind(word, 9))
+    } else {
+        None
+    }
+}
+
+/// The name of a wire: what stands behind the first `--signal`, as a word of its own or in the same word.
+pub fn signal_in(words: &[String]) -> Option<&[u8]>
+    ensures { MatchOption result (signal_in (map string_bytes words.now) ≡ None) (λ name. signal_in (map string_bytes words.now) ≡ Some name.now) }
+{
+    match words {
+        [] => None,
+        [word, name, ..] if word.as_str() == "--signal" => Some(name.as_bytes()),
+        [word, rest @ ..] => match joined_signal(word.as_bytes()) {
+            Some(name) => Some(name),
+            None => signal_in(rest),
+        },
+    }
+}

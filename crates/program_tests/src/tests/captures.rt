@@ -1,0 +1,133 @@
+//! Captures in each form, and what `mon` tells of them.
+use super::*;
+
+/// A start bit and a bit 1, after which the line stays high, as an edge file with `;` for a line feed, and in other forms. The
+/// line is high for 21,000 before. The pin file tells the last level again; in comma-separated values the end is 10,000 after
+/// the last row.
+const CAPTURES: &str = "\
+21000 0;24700 1;25500 0;26100 1;40000 end;
+# a capture, by hand;21000 0;24700 1;25500 0;26100 1;40000 end;
+$timescale 1 us $end;$var wire 1 ! CEC $end;$enddefinitions $end;#0;1!;#21000;0!;#24700;1!;#25500;0!;#26100;1!;#40000;
+# cec-ctl --store-pin;# version 1;# start_monotonic 7.000000000;7.021000000 0;7.024700000 1;7.025500000 0;7.026100000 1;7.040000000 1;
+Time [s],CEC;0.000000000,1;0.021000000,0;0.024700000,1;0.025500000,0;0.026100000,1;
+";
+
+/// What is read in it: a start bit, and one bit before nothing comes any more.
+const READINGS: &str = "21000 28251 silent 1\n";
+
+#[test]
+fn reads_captures_in_each_form(rt: HostRuntime) {
+    for capture in CAPTURES.lines() {
+        let input = with_lines(&rt, capture);
+        gives(&rt, "mon", capture, input.as_str().as_bytes(), READINGS);
+    }
+}
+
+/// A command line, an input with `;` for a line feed, and what is read in it, with `;` for one: forms by their names; a wire by
+/// its name and the first; a pulse of 3 and a gap of 4, which are passed over; readings that begin before the line was idle.
+const FLAGS: &str = "\
+mon --from edges => 1000 0;4700 1;5500 0;6100 1;20000 end; => 1000 8251 silent 1;
+mon --from csv --signal CEC => Time,SCL,CEC;0,1,1;0.021,1,0;0.0247,1,1;0.0255,1,0;0.0261,1,1; => 21000 28251 silent 1;
+mon --signal CEC --from vcd => $timescale 1 us $end $var wire 1 a SCL $end $var wire 1 b CEC $end $enddefinitions $end;#5;0a;#21000;0b;#24700;1b;#25500;0b;#26100;1b;#40000; => 21000 28251 silent 1;
+mon --signal=CEC --from=vcd => $timescale 1 us $end $var wire 1 a SCL $end $var wire 1 b CEC $end $enddefinitions $end;#5;0a;#21000;0b;#24700;1b;#25500;0b;#26100;1b;#40000; => 21000 28251 silent 1;
+mon => $timescale 1 us $end $var wire 1 a SCL $end $var wire 1 b CEC $end $enddefinitions $end;#5;0a;#3705;1a;#4505;0a;#5105;1a;#21000;0b;#24700;1b;#40000; => 0 21905 joined -;
+mon --from-start => $timescale 1 us $end $var wire 1 a SCL $end $var wire 1 b CEC $end $enddefinitions $end;#5;0a;#3705;1a;#4505;0a;#5105;1a;#40000; => 5 7256 silent 1;
+mon --glitch 5 => 500 0;503 1;1000 0;4700 1;4900 0;4904 1;5500 0;6100 1;20000 end; => 1000 8251 silent 1;
+mon --glitch 0 => 1000 0;4700 1;5500 0;6100 1;20000 end; => 1000 8251 silent 1;
+mon --from-idle => 1000 0;4700 1;5500 0;6100 1;20000 end; => 0 20000 joined -;
+mon --from-start --from csv => Time,CEC;0,1;0.001,0;0.0047,1;0.0055,0;0.0061,1; => 1000 8251 silent 1;
+mon => Time,CEC;0,1;0.001,0;0.0047,1;0.0055,0;0.0061,1;0.03,0;0.0304,1;0.04,1; => 0 22900 joined -;30000 30400 bad-start -;
+";
+
+#[test]
+fn reads_what_flags_ask_for(rt: HostRuntime) {
+    for case in FLAGS.lines() {
+        let (line, text, want) = three_parts(&rt, case);
+        let input = with_lines(&rt, text);
+        let want = with_lines(&rt, want);
+        gives(&rt, line, text, input.as_str().as_bytes(), want.as_str());
+    }
+}
+
+/// Before its second event others were lost.
+const LOST: &[u8] = b"# cec-ctl --store-pin
+# start_monotonic 7.000000000
+7.021000000 0
+7.024700000 65537
+7.025500000 0
+7.026100000 1
+7.040000000 1
+";
+
+#[test]
+fn names_the_events_that_were_lost(rt: HostRuntime) {
+    let told = told_of(&rt, "mon", LOST, None);
+    let err = b"hdminet: events were lost before line 4\n";
+    ends(&rt, told, 0, READINGS.as_bytes(), err, "mon", "lost events");
+}
+
+/// What an audit says below the reading: the time after it and its widths.
+#[test]
+fn audits_a_capture(rt: HostRuntime) {
+    let edges = b"21000 0\n24700 1\n25500 0\n26320 1\n40000 end\n";
+    for line in ["mon --audit", "mon --timing", "mon --timing --audit"] {
+        let text = written(&rt, line, edges);
+        let text = text.as_str();
+        let right = text.starts_with(READINGS)
+            && text.contains("low 820 not 400..800\n")
+            && text.contains("\n  all readings\n");
+        expect(&rt, right, line, text);
+    }
+}
+
+/// A command line, an input, and why it is refused.
+const REFUSED: &str = "\
+mon --from pin => 1000 0; => line 1: word
+mon --from vcd => 1000 0; => line 2: end
+mon --signal HPD => Time,CEC;0,1; => line 1: signal
+mon --from csv => Time,CEC;0,2; => line 2: word
+mon --glitch 5 => 1000 0;900 1; => line 2: order
+mon --audit => 1000 0; => line 2: line
+";
+
+#[test]
+fn tells_the_line_of_a_capture_at_fault(rt: HostRuntime) {
+    for case in REFUSED.lines() {
+        let (line, text, cause) = three_parts(&rt, case);
+        let input = with_lines(&rt, text);
+        refuses(&rt, line, cause, input.as_str().as_bytes(), cause);
+    }
+}
+
+/// The start of a run's line as a dump, and the first edges of pin events and comma-separated values.
+const LINES: &str = "\
+run --edges --as vcd => $version hdminet $end;$timescale 1 us $end;
+run --edges --as pin => # cec-ctl --store-pin
+run --as csv --edges => Time [s],CEC;0.000000000,1;0.012000000,0;0.015700000,1;
+";
+
+/// A television alone, up to an instant after its poll and its report.
+const ALONE: &[u8] = b"device tv tv 1\nscript\nend 250000\n";
+
+#[test]
+fn writes_the_line_for_other_tools(rt: HostRuntime) {
+    let readings = written(&rt, "mon", written(&rt, "run --edges", ALONE).as_bytes());
+    for case in LINES.lines() {
+        let (line, start) = two_parts(&rt, case);
+        let text = written(&rt, line, ALONE);
+        let start = with_lines(&rt, start);
+        expect(
+            &rt,
+            text.as_str().starts_with(start.as_str()),
+            line,
+            text.as_str(),
+        );
+        gives(
+            &rt,
+            "mon --from-start",
+            line,
+            text.as_bytes(),
+            readings.as_str(),
+        );
+    }
+}
