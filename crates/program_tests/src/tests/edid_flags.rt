@@ -59,8 +59,7 @@ fn writes_other_forms(rt: HostRuntime) {
 }
 
 /// Lines that stand below those of the text of the display, worked out from CTA-861.
-const MEANINGS: &str = "\
-  week 10 of 2011
+const MEANINGS: &str = "  week 10 of 2011
   16 native: 1920x1080 at 60 Hz 16:9
   4: 1280x720 at 60 Hz 16:9
   linear PCM, 2 channels, 32 44.1 48 kHz, 16 20 24 bits
