@@ -464,7 +464,12 @@ fn take_other(draft: &mut Draft, verb: &[u8], rest: Option<&[u8]>) -> Result<(),
 }
 
 /// Takes a line, the one of this number.
-pub fn take_line(tree: &Tree<15>, draft: &mut Draft, number: u64, line: &[u8]) -> Result<(), LineError>
+pub fn take_line(
+    tree: &Tree<15>,
+    draft: &mut Draft,
+    number: u64,
+    line: &[u8],
+) -> Result<(), LineError>
     ensures gives { Gives (notes_of draft.new) result (IsLineRead tree.now (notes_of draft.old) number line.now) }
     ensures kept { OnErr result (notes_of draft.new ≡ notes_of draft.old) }
 {
