@@ -13,11 +13,11 @@ static int failed;
 
 #define HOLDS(what) do { if (!(what)) { printf("%s:%d: %s\n", __FILE__, __LINE__, #what); failed = 1; } } while (0)
 
-static uint64_t seed = 1;
+static uint64_t random_state = 1;
 
 static uint32_t random_below(uint32_t below) {
-    seed = seed * 6364136223846793005u + 1442695040888963407u;
-    return (uint32_t)(seed >> 33) % below;
+    random_state = random_state * 6364136223846793005u + 1442695040888963407u;
+    return (uint32_t)(random_state >> 33) % below;
 }
 
 static size_t read_file(const char *name, uint8_t *bytes, size_t most) {
