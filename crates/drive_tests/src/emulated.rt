@@ -1,0 +1,123 @@
+//! Dumps of runs.
+use crate::rows::{DUMP, POLL, SCRIPT, TOPOLOGY};
+use cec_driven::emulate_drives;
+use hdmi_core::Writes;
+use std::io::{self, ErrorKind, Write};
+use std::process::Abort;
+
+/// A writer that takes at most so many bytes a call. It fails once, where it has no room left, and takes bytes again after that.
+#[derive(Drop)]
+struct Narrow {
+    bytes: Vec<u8>,
+    most: usize,
+    room: usize,
+}
+
+impl Write for Narrow {
+    fn write(&mut self, bytes: &[u8]) -> io::Result<usize> {
+        let left = self.room.saturating_sub(self.bytes.len());
+        if left == 0 {
+            self.room = usize::MAX;
+            return Err(io::Error::from(ErrorKind::Other));
+        }
+        let taken = bytes.get(..left.min(self.most)).unwrap_or(bytes);
+        self.bytes.extend_from_slice(taken)?;
+        Ok(taken.len())
+    }
+
+    fn flush(&mut self) -> io::Result<()> {
+        Ok(())
+    }
+}
+
+/// What is written of a run, and why it was refused, or an empty text.
+#[derive(Drop)]
+struct Written {
+    bytes: Vec<u8>,
+    refusal: String,
+}
+
+fn dumped(
+    rt: &(impl Abort + AllocGlobal),
+    topology: &str,
+    script: &str,
+    most: usize,
+    room: usize,
+) -> Written {
+    let mut narrow = Narrow {
+        bytes: Vec::new(rt.alloc()),
+        most,
+        room,
+    };
+    let mut out = Writes::new(&mut narrow);
+    let outcome = emulate_drives(rt.alloc(), topology.as_bytes(), script.as_bytes(), &mut out);
+    let refusal = match outcome {
+        Ok(_) => String::new(rt.alloc()),
+        Err(error) => format!(in rt.alloc(); "{error}").expect(rt, "a refusal"),
+    };
+    Written {
+        bytes: narrow.bytes,
+        refusal,
+    }
+}
+
+fn is_written(rt: &impl Abort, told: Written, text: &str, refusal: &str) {
+    assert!(rt;
+        told.bytes.as_slice() == text.as_bytes(),
+        "another text, with `{refusal}`"
+    );
+    assert!(rt; told.refusal.as_str() == refusal, "{}", told.refusal);
+}
+
+/// The dump of a run, over a writer that takes all bytes, and over one that takes one a call.
+fn dumps_come_out(rt: &(impl Abort + AllocGlobal)) {
+    is_written(
+        rt,
+        dumped(rt, TOPOLOGY, SCRIPT, usize::MAX, usize::MAX),
+        DUMP,
+        "",
+    );
+    is_written(rt, dumped(rt, TOPOLOGY, SCRIPT, 1, usize::MAX), DUMP, "");
+}
+
+/// A refused text writes nothing.
+fn refusals_write_nothing(rt: &(impl Abort + AllocGlobal)) {
+    is_written(
+        rt,
+        dumped(rt, "devise tv tv 1\n", SCRIPT, usize::MAX, usize::MAX),
+        "",
+        "topology line 1: word",
+    );
+    is_written(
+        rt,
+        dumped(rt, TOPOLOGY, "stop 5\n", usize::MAX, usize::MAX),
+        "",
+        "script line 1: word",
+    );
+}
+
+/// A writer that fails at a byte has all bytes before it, and the count is reported.
+fn faults_are_counted(rt: &(impl Abort + AllocGlobal)) {
+    for room in 0..POLL.len() {
+        let told = dumped(rt, TOPOLOGY, "end 40000\n", usize::MAX, room);
+        let refusal = format!(in rt.alloc(); "write fault after {room} bytes").expect(rt, "a text");
+        let front = POLL.as_bytes().get(..room).unwrap_or(b"");
+        assert!(rt; told.bytes.as_slice() == front, "another front at {room}");
+        assert!(rt;
+            told.refusal.as_str() == refusal.as_str(),
+            "{}",
+            told.refusal
+        );
+    }
+}
+
+#[test]
+fn runs_are_dumped(rt: HostRuntime) {
+    dumps_come_out(&rt);
+    refusals_write_nothing(&rt);
+}
+
+#[test]
+fn faults_come_at_each_byte(rt: HostRuntime) {
+    faults_are_counted(&rt);
+}
