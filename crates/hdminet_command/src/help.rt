@@ -55,6 +55,10 @@ pub const RUN_FLAGS: &[(&str, &str)] = &[
         "Prints the edges of the CEC line in place of the trace",
     ),
     (
+        "drives",
+        "With --edges --as vcd, the dump also has a wire for each device and one for the pulses",
+    ),
+    (
         "strict",
         "Ends with status 1 where an event of the script was refused; the output is the same",
     ),
@@ -69,6 +73,7 @@ pub const RUN_VALUES: &[(&str, &str, &str)] = &[(
 
 pub const RUN_RULES: &str = "
   --as takes vcd, pin or csv, and goes with --edges alone
+  --drives goes with --edges --as vcd alone
 ";
 
 pub const RUN_HELP: &str = "\

@@ -3,6 +3,7 @@ use Rattle.std.specs.Prelude.{◌≡◌, ℕ, Bool, true, ◌⊎◌, List, Optio
 use Rattle.std.specs.List.{flat_map}
 use Rattle.std.specs.Io.KnownBytes.{Appends}
 use Rattle.cec_dis.specs.Lines.{first_fault, line_text}
+use Rattle.cec_driven.specs.Emulate.{IsDrivesOf}
 use Rattle.cec_line.specs.declared.format.Format.{Format}
 use Rattle.cec_line.specs.declared.format.Format.TheVariants as formats
 use Rattle.cec_run.specs.Emulate.{IsLineOf, IsTraceOf}
@@ -16,7 +17,7 @@ use Rattle.hdminet_words.specs.declared.choice.Asked.{Asked}
 use Rattle.hdminet_words.specs.declared.choice.Choice.{Choice}
 use Rattle.hdminet_words.specs.declared.choice.Choice.TheVariants.{Run, Step, Asm, Dis, Mon, Edid}
 use Rattle.hdminet_words.specs.declared.choice.Listing.{Listing}
-use Rattle.hdminet_words.specs.declared.choice.Listing.TheVariants.{Trace, Edges, Vcd, Pin, Csv}
+use Rattle.hdminet_words.specs.declared.choice.Listing.TheVariants.{Trace, Edges, Vcd, Pin, Csv, Drives}
 use Rattle.hdminet_program.specs.Captures.{IsHeard, form_of, name_of, report_of}
 use Rattle.hdminet_program.specs.Edids.{IsShown, IsTold}
 use Rattle.hdminet_program.specs.Parted.{IsParted}
@@ -39,6 +40,13 @@ pub record IsLineDone (format : Format) (input text : List ℕ) (totals : Totals
   pub parts : IsRunInput input topology script
   pub line : IsLineOf format topology script text totals
 
+-- the same of its line and who drives it
+pub record IsDrivenDone (input text : List ℕ) (totals : Totals) : Type 0 where
+  pub topology : List ℕ
+  pub script : List ℕ
+  pub parts : IsRunInput input topology script
+  pub drives : IsDrivesOf topology script text totals
+
 -- behind the script and a line `steps` stand commands, whose steps these are
 pub record AreStepsDone (input text : List ℕ) : Type 0 where
   pub topology : List ℕ
@@ -56,6 +64,7 @@ IsListed Edges input text totals = IsLineDone formats.Edges input text totals
 IsListed Vcd input text totals = IsLineDone formats.Vcd input text totals
 IsListed Pin input text totals = IsLineDone formats.Pin input text totals
 IsListed Csv input text totals = IsLineDone formats.Csv input text totals
+IsListed Drives input text totals = IsDrivenDone input text totals
 
 -- The text that a choice makes of an input; of a capture, of the wire of a name. A strict run is one whose events were all
 -- taken.

@@ -12,6 +12,7 @@ use crate::edid::{edid, explain_lack, explain_rules};
 use crate::fault::Fault;
 use arrayvec::ArrayString;
 use cec_dis::dis_lines;
+use cec_driven::emulate_drives;
 use cec_line::Format;
 use cec_run::Totals;
 use cec_run::emulate::emulate;
@@ -140,6 +141,21 @@ fn run_to_line<W: Sink>(
     accepted(totals, strict)
 }
 
+// Writes the line of a run, and who drives it.
+#[inline(never)]
+fn run_to_drives<W: Sink>(
+    alloc: Global,
+    strict: bool,
+    input: &[u8],
+    out: &mut W,
+) -> Result<Option<Totals>, Fault>
+    ensures { OnOk result (Writes (Choice.Run Listing.Drives strict) [] input.now (W.contents out.old) (W.contents out.new)) }
+{
+    let (topology, script) = parts(input)?;
+    let totals = emulate_drives(alloc, topology, script, out)?;
+    accepted(totals, strict)
+}
+
 #[inline(never)]
 fn step<W: Sink>(alloc: Global, input: &[u8], out: &mut W) -> Result<Option<Totals>, Fault>
     ensures { OnOk result (Writes Choice.Step [] input.now (W.contents out.old) (W.contents out.new)) }
@@ -183,6 +199,7 @@ fn perform<W: Sink>(
             Listing::Vcd => run_to_line(alloc, Format::Vcd, strict, input, out),
             Listing::Pin => run_to_line(alloc, Format::Pin, strict, input, out),
             Listing::Csv => run_to_line(alloc, Format::Csv, strict, input, out),
+            Listing::Drives => run_to_drives(alloc, strict, input, out),
         },
         Choice::Step => step(alloc, input, out),
         Choice::Asm => assemble(input, out),

@@ -29,7 +29,7 @@ only_explained choice words = None
 
 -- what a subcommand with these flags asks for
 abbrev pub asked_of : Subcommand → List (List ℕ) → Option Asked
-asked_of Run words = option_and_then run_asked (run_flags (record { edges = false; format = None; strict = false; explains = false; waits = false }) words)
+asked_of Run words = option_and_then run_asked (run_flags (record { edges = false; format = None; drives = false; strict = false; explains = false; waits = false }) words)
 asked_of Step words = only_explained choices.Step words
 asked_of Asm words = only_explained choices.Asm words
 asked_of Dis words = only_explained choices.Dis words

@@ -5,7 +5,7 @@ use Rattle.std.specs.Str.{bytes_eq}
 use Rattle.hdminet_words.specs.declared.choice.Asked.{Asked}
 use Rattle.hdminet_words.specs.declared.choice.Choice.TheVariants.{Run}
 use Rattle.hdminet_words.specs.declared.choice.Listing.{Listing}
-use Rattle.hdminet_words.specs.declared.choice.Listing.TheVariants.{Trace, Edges, Vcd, Pin, Csv}
+use Rattle.hdminet_words.specs.declared.choice.Listing.TheVariants.{Trace, Edges, Vcd, Pin, Csv, Drives}
 use Rattle.hdminet_words.specs.declared.run_flags.RunFlags.{RunFlags}
 
 -- the format of a line that a word names
@@ -21,6 +21,7 @@ abbrev pub one_run_flag : RunFlags → List ℕ → Option RunFlags
 one_run_flag flags word =
     if bytes_eq word (codes "--edges") && not flags.edges then Some (record flags { edges = true })
     else if bytes_eq word (codes "--as") && is_none flags.format then Some (record flags { waits = true })
+    else if bytes_eq word (codes "--drives") && not flags.drives then Some (record flags { drives = true })
     else if bytes_eq word (codes "--strict") && not flags.strict then Some (record flags { strict = true })
     else if bytes_eq word (codes "--explain") && not flags.explains then Some (record flags { explains = true })
     else None
@@ -43,8 +44,14 @@ run_listing true None = Some Edges
 run_listing false (Some format) = None
 run_listing false None = Some Trace
 
+-- with who drives the line: of a dump of the line alone
+abbrev pub with_drives : Bool → Option Listing → Option Listing
+with_drives true (Some Vcd) = Some Drives
+with_drives true listing = None
+with_drives false listing = listing
+
 -- what they ask for
 abbrev pub run_asked : RunFlags → Option Asked
 run_asked flags =
     if flags.waits then None
-    else option_map (λ listing. record { choice = Run listing flags.strict; explains = flags.explains }) (run_listing flags.edges flags.format)
+    else option_map (λ listing. record { choice = Run listing flags.strict; explains = flags.explains }) (with_drives flags.drives (run_listing flags.edges flags.format))

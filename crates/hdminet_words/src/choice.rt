@@ -14,6 +14,8 @@ pub enum Listing {
     Pin,
     /// Its line as comma-separated values.
     Csv,
+    /// Its line as a Value Change Dump, and below it who drives it.
+    Drives,
 }
 
 /// The form of a capture.

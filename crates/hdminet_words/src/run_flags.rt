@@ -10,6 +10,8 @@ pub struct RunFlags {
     pub edges: bool,
     /// The format that `--as` names.
     pub format: Option<Listing>,
+    /// Whether a dump has who drives the line too.
+    pub drives: bool,
     pub strict: bool,
     pub explains: bool,
     /// Whether the word of a format comes next.
@@ -21,6 +23,7 @@ impl RunFlags {
     pub const NONE: RunFlags = RunFlags {
         edges: false,
         format: None,
+        drives: false,
         strict: false,
         explains: false,
         waits: false,
@@ -60,6 +63,10 @@ fn with_run_flag(flags: RunFlags, word: &str) -> Option<RunFlags>
             waits: true,
             ..flags
         }),
+        "--drives" if !flags.drives => Some(RunFlags {
+            drives: true,
+            ..flags
+        }),
         "--strict" if !flags.strict => Some(RunFlags {
             strict: true,
             ..flags
@@ -82,12 +89,14 @@ pub fn run_flags(flags: RunFlags, words: &[String]) -> Option<RunFlags>
     }
 }
 
-/// What `run` with these flags asks for: `--as` goes with `--edges` alone.
+/// What `run` with these flags asks for: `--as` goes with `--edges` alone, and `--drives` with `--edges --as vcd`.
 pub fn run_asked(flags: &RunFlags) -> Option<Asked>
     ensures { result ≡ run_asked flags.now }
 {
     let listing = match flags.format {
         _ if flags.waits => return None,
+        Some(Listing::Vcd) if flags.edges && flags.drives => Listing::Drives,
+        _ if flags.drives => return None,
         Some(format) if flags.edges => format,
         Some(_) => return None,
         None if flags.edges => Listing::Edges,

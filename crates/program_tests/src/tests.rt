@@ -10,6 +10,7 @@ mod edge_files;
 mod edid_flags;
 mod edids;
 mod example_captures;
+mod example_drives;
 mod example_dumps;
 mod example_lines;
 mod examples;

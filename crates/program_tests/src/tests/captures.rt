@@ -102,6 +102,7 @@ fn tells_the_line_of_a_capture_at_fault(rt: HostRuntime) {
 /// The start of a run's line as a dump, and the first edges of pin events and comma-separated values.
 const LINES: &str = "\
 run --edges --as vcd => $version hdminet $end;$timescale 1 us $end;
+run --edges --as vcd --drives => $version hdminet $end;$timescale 1 us $end;$scope module hdmi $end;
 run --edges --as pin => # cec-ctl --store-pin
 run --as csv --edges => Time [s],CEC;0.000000000,1;0.012000000,0;0.015700000,1;
 ";

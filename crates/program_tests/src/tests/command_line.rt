@@ -18,6 +18,7 @@ run --help => --strict
 run --help =>   watch PA       tv
 asm --help => 4f821000
 run --help => --as
+run --help => --drives
 mon --help => --from-idle
 mon --help => --signal
 mon --help => 0 T joined -
@@ -122,6 +123,10 @@ run --as vcd
 run --edges --as
 run --edges --as edges
 run --edges --as vcd --as vcd
+run --drives
+run --edges --drives
+run --edges --as pin --drives
+run --drives --edges --as vcd --drives
 step tv.steps
 ";
 

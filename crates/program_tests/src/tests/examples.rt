@@ -1,5 +1,6 @@
 //! The files of examples/, each with its output. tools/example-tests writes this file.
 use super::edids::gives_of_hex;
+use super::example_drives::FIRST_PATH_DRIVES_VCD;
 use super::example_lines::FIRST_PATH_LINE;
 use super::*;
 
@@ -555,6 +556,12 @@ const RUNS: &[Case<'static>] = &[
         line: "run --edges",
         input: FIRST_PATH_NET,
         want: FIRST_PATH_LINE,
+    },
+    Case {
+        name: "drives of first-path",
+        line: "run --edges --as vcd --drives",
+        input: FIRST_PATH_NET,
+        want: FIRST_PATH_DRIVES_VCD,
     },
     Case {
         name: "arbitration",

@@ -10,6 +10,7 @@ const STRICT: &str = "\
 run --strict => run => hdminet: refused events 1;
 run --strict --edges => run --edges => hdminet: refused events 1;
 run --edges --strict => run --edges => hdminet: refused events 1;
+run --drives --strict --as vcd --edges => run --edges --as vcd --drives => hdminet: refused events 1;
 run --explain --strict => run => hdminet: refused events 1;  rounds 2, complete rounds 2, refused events 1;
 --explain run --strict => run => hdminet: refused events 1;  rounds 2, complete rounds 2, refused events 1;
 ";

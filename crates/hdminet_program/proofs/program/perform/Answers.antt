@@ -23,3 +23,8 @@ pub returns-in-Csv : goal.returns-in-Csv
 returns-in-Csv g c =
     let P : Choice → Type 0 = λ x. OnOk c.run_to_line-in-Csv.result (Writes x c.args.signal.now c.args.input.now (g.W.Sink.contents c.args.out.now) (g.W.Sink.contents c.run_to_line-in-Csv.new.out)) in
     subst P (sym (c.in-Run.is ∙ ap (λ l. Run l c.in-Run.strict) c.in-Csv.is)) c.run_to_line-in-Csv.ensures
+
+pub returns-in-Drives : goal.returns-in-Drives
+returns-in-Drives g c =
+    let P : Choice → Type 0 = λ x. OnOk c.run_to_drives.result (Writes x c.args.signal.now c.args.input.now (g.W.Sink.contents c.args.out.now) (g.W.Sink.contents c.run_to_drives.new.out)) in
+    subst P (sym (c.in-Run.is ∙ ap (λ l. Run l c.in-Run.strict) c.in-Drives.is)) c.run_to_drives.ensures
