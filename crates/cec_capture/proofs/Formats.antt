@@ -1,5 +1,5 @@
 -- The line of a run is read back in each format.
-use Rattle.std.proofs.Common.{◌≡◌, ℕ, ◌+◌, ◌<◌, ◌≤◌, max, false, List, [], ◌∷◌, ◌++◌, map, Ok, refl, sym, ap, ◌∙◌, subst, arith, append_assoc}
+use Rattle.std.proofs.Common.{◌≡◌, ℕ, ◌+◌, ◌≤◌, max, false, List, [], ◌∷◌, ◌++◌, map, refl, sym, ap, ◌∙◌, subst, arith}
 use Rattle.std.proofs.Math.Path.{fun_ext}
 use Rattle.std.proofs.lemmas.Grind.{flat_map-append}
 use Rattle.std.specs.List.{flat_map}
@@ -7,11 +7,10 @@ use Rattle.cec_wave.specs.declared.Stretch.{Stretch}
 use Rattle.cec_wave.specs.Line.{line_of, IsWave, IsWaveFrom}
 use Rattle.cec_bits.specs.Readings.{readings_of}
 use Rattle.cec_wire.specs.declared.Outcome.{Outcome}
-use Rattle.cec_wire.specs.Alone.{outcome_listed}
 use Rattle.cec_net.specs.Line.{run_wave}
 use Rattle.cec_net.specs.State.{started}
 use Rattle.cec_asm.proofs.Sound.{scripts_are_sound}
-use Rattle.cec_signal.specs.Edges.{AreInTurn, Captured, EndBy, IsCapture, edges_of}
+use Rattle.cec_signal.specs.Edges.{AreInTurn, EndBy, IsCapture, edges_of}
 use Rattle.cec_vcd.specs.Dump as vcd_in
 use Rattle.cec_vcd.specs.Text as vcd
 use Rattle.cec_vcd.proofs.ReadBack.{dumps_are_read_back}
@@ -19,20 +18,18 @@ use Rattle.cec_pin.proofs.ReadBack.{pin_files_are_read_back}
 use Rattle.cec_csv.specs.Csv as csv_in
 use Rattle.cec_csv.specs.Text as csv
 use Rattle.cec_csv.proofs.ReadBack.{csv_files_are_read_back}
-use Rattle.cec_trace.specs.EdgeText.{edge_lines, stretch_lines}
+use Rattle.cec_trace.specs.EdgeText.{stretch_lines}
 use Rattle.cec_trace.specs.TraceText.{end_line}
 use Rattle.cec_text.specs.ReadingText.{reading_line}
 use Rattle.cec_mon.specs.EdgeFile.{file_of}
 use Rattle.cec_mon.specs.Watch.{readings_text}
-use Rattle.cec_line.specs.Format.{line_text}
-use Rattle.cec_line.specs.declared.format.Format.{Format}
 use Rattle.cec_line.specs.declared.format.Format.TheVariants.{Edges, Vcd, Pin, Csv}
 use Rattle.cec_run.specs.declared.run.Telling.TheVariants.{Line}
 use Rattle.cec_run.specs.Run.{start}
 use Rattle.cec_run.specs.OneRun.{rounds_of_line, rounds_told}
 use Rattle.cec_run.proofs.WholeLine as runs
 use Rattle.cec_run.proofs.OneRun.{runs_close_soon, texts_have_one_run, traces_have_parts}
-use Rattle.cec_capture.specs.Formats.{IsReadAs, IsReadText, LinesAreReadBack, LinesOfRunsHaveTheirReadings, MonitorsTellTracesInAll}
+use Rattle.cec_capture.specs.Formats.{IsReadAs, LinesAreReadBack, LinesOfRunsHaveTheirReadings, MonitorsTellTracesInAll}
 use Rattle.cec_capture.proofs.ReadBack.{EndsBy, edge_files_are_read_back, ends_by, lines_of_parts, lines_of_rounds, same_line}
 
 -- ---- a line that rounds make

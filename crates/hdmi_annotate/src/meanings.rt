@@ -5,7 +5,6 @@ ghost use Rattle.arrayvec.specs.ArrayVec.{array_vec_len};
 ghost use Rattle.hdmi_meaning.specs.Notes.{indented};
 ghost use Rattle.hdmi_annotate.specs.Meanings.{bytes_meanings, numbers_meanings, fields_meanings, line_with_meaning};
 
-use arrayvec::ArrayVec;
 use hdmi_abilities::{append_audio, append_flags, append_hdmi, append_speakers};
 use hdmi_display::{
     append_chroma, append_established, append_ext, append_features, append_gamma, append_input,
@@ -68,12 +67,11 @@ fn append_fields(page: &mut Page, base: &Base, word: Word, fields: &Fields)
     }
 }
 
-/// A line as it stands in a text, and below it what it means.
-pub(crate) fn page_of(base: &Base, line: &Line) -> Page
-    ensures { result.items ≡ line_with_meaning base.now line.now }
+/// Puts a line as it stands in a text, and below it what it means, in place of what stood on a page.
+pub(crate) fn fill_page(page: &mut Page, base: &Base, line: &Line)
+    ensures { page.new.items ≡ line_with_meaning base.now line.now }
 {
-    let mut page = ArrayVec::new();
-    append(&mut page, line.write().as_slice());
-    append_fields(&mut page, base, line.word, &line.fields);
-    page
+    page.clear();
+    append(page, line.write().as_slice());
+    append_fields(page, base, line.word, &line.fields);
 }

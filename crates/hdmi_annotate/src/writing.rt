@@ -3,12 +3,13 @@ ghost use Rattle.std.specs.Prelude.{◌≡◌, ◌≤◌, ◌<◌, ◌+◌, ◌*
 ghost use Rattle.hdmi_core.specs.Written.{WrittenAll};
 ghost use Rattle.hdmi_annotate.specs.Meanings.{line_with_meaning, meaning_text};
 
-use crate::meanings::page_of;
+use crate::meanings::fill_page;
 use arrayvec::ArrayVec;
 use hdmi_core::{Sink, WriteFault, put_all};
 use hdmi_cta::Ext;
 use hdmi_edid::Base;
 use hdmi_edtext::line_at;
+use hdmi_meaning::Page;
 
 /// Writes the text of a base block and the extensions behind it line by line, as `write_parts` does, and below each line
 /// what it means. After a fault the front of the text is written, as long as the fault's count says, and the sink is stuck.
@@ -22,8 +23,10 @@ pub fn write_meaning<S: Sink>(
     let extensions = extensions.as_slice();
     let mut written = 0u128;
     let mut number = 0;
+    // One page serves all lines, since it is large.
+    let mut page: Page = ArrayVec::new();
     while let Some(line) = line_at(base, extensions, number) {
-        let page = page_of(base, &line);
+        fill_page(&mut page, base, &line);
         if let Err(fault) = put_all(out, page.as_slice()) {
             return Err(WriteFault {
                 count: written + fault.count,

@@ -10,7 +10,7 @@ pub returns-in-Err : goal.returns-in-Err
 returns-in-Err g c =
     let i = c.loop-line.invariant in
     let at = ap (λ xs. slice_get (part_lines c.args.base.now xs) c.loop-line.number) (sym c.as_slice-extensions.ensures.value) ∙ c.in-Some.ensures in
-    let same : c.as_slice.result.now ≡ line_with_meaning c.args.base.now c.in-Some.line = c.as_slice.ensures.value ∙ c.page_of-page.ensures in
+    let same : c.as_slice.result.now ≡ line_with_meaning c.args.base.now c.in-Some.line = c.as_slice.ensures.value ∙ c.fill_page.ensures in
     let fault = c.in-Err.ensures.err in
     let cut = cut_line (line_with_meaning c.args.base.now) (part_lines c.args.base.now c.args.extensions.now.items) c.loop-line.number c.in-Err.fault.count c.loop-line.written c.in-Some.line c.as_slice.result.now _ _ _ same at i.count
     fault.0 i.so_far fault.1 in
@@ -20,7 +20,7 @@ pub loop-line-preserved : goal.loop-line-preserved
 loop-line-preserved g c =
     let i = c.loop-line.invariant in
     let at = ap (λ xs. slice_get (part_lines c.args.base.now xs) c.loop-line.number) (sym c.as_slice-extensions.ensures.value) ∙ c.in-Some.ensures in
-    let same : c.as_slice.result.now ≡ line_with_meaning c.args.base.now c.in-Some.line = c.as_slice.ensures.value ∙ c.page_of-page.ensures in
+    let same : c.as_slice.result.now ≡ line_with_meaning c.args.base.now c.in-Some.line = c.as_slice.ensures.value ∙ c.fill_page.ensures in
     let more = text_more (line_with_meaning c.args.base.now) (part_lines c.args.base.now c.args.extensions.now.items) c.loop-line.number c.in-Some.line at in
     let len = ap length more ∙ length-append (flat_map (line_with_meaning c.args.base.now) (take c.loop-line.number (part_lines c.args.base.now c.args.extensions.now.items))) (line_with_meaning c.args.base.now c.in-Some.line) in
     let there = slice_get_within (part_lines c.args.base.now c.args.extensions.now.items) c.loop-line.number c.in-Some.line at in
@@ -29,7 +29,7 @@ loop-line-preserved g c =
     let few = few_parts c.args.base.now c.args.extensions.now.items (omega (arith, size_of, fits)) in
     let count = i.count in
     let bound = i.bound in
-    let size = ap length c.page_of-page.ensures in
+    let size = ap length c.fill_page.ensures in
     record {
       so_far = wrote_more (line_with_meaning c.args.base.now) (part_lines c.args.base.now c.args.extensions.now.items) c.loop-line.number c.in-Some.line c.as_slice.result.now _ _ _ same at i.so_far c.in_default-put_all.ensures.ok;
       flag = c.in_default-put_all.ensures.same ∙ i.flag;
