@@ -1,5 +1,5 @@
 -- The first lines of those that are seen.
-use Rattle.std.proofs.Common.{◌≡◌, ℕ, zero, suc, ◌-◌, Bool, true, List, [], ◌∷◌, ◌++◌, take, filter, cond, ap, sym, refl, ◌∙◌, append_assoc, arith}
+use Rattle.std.proofs.Common.{◌≡◌, ℕ, zero, suc, ◌-◌, Bool, true, List, ◌∷◌, ◌++◌, take, filter, cond, ap, sym, refl, ◌∙◌, append_assoc, arith}
 use Rattle.std.specs.List.{flat_map}
 use Rattle.cec_check.specs.Report.{shown_line}
 

@@ -1,5 +1,5 @@
 -- What a check of a script answers: its report by the trace of the plain script's run.
-use Rattle.std.specs.Prelude.{◌≡◌, ℕ, ◌<◌, Bool, true, false, List, length, take, Option, Some, None, Result, Ok, Err}
+use Rattle.std.specs.Prelude.{◌≡◌, ℕ, ◌<◌, not, Bool, true, false, List, length, filter, take, Option, Some, None, Result, Ok, Err}
 use Rattle.std.specs.Io.KnownBytes.{Appends}
 use Rattle.cec_expect.specs.Line.{plain_script}
 use Rattle.cec_expect.specs.Faults.{first_fault}
@@ -10,8 +10,9 @@ use Rattle.cec_check.specs.declared.checking.Tally.{Tally}
 use Rattle.cec_check.specs.declared.checking.CheckError.{CheckError}
 use Rattle.cec_check.specs.declared.checking.CheckError.TheVariants.{Emulate, Expect, Write, Memory}
 
-abbrev pub tally_of : Report → Tally
-tally_of r = record { count = r.count; failed = r.failed }
+-- how many tests have these verdicts, and how many of them failed
+abbrev pub tally_of : List Bool → Tally
+tally_of verdicts = record { count = length verdicts; failed = length (filter not verdicts) }
 
 -- the report of a script, by the trace of the run of its plain script on the topology, which is accepted and has no line at fault
 pub record IsReportOf (topology script : List ℕ) (r : Report) : Type 0 where
@@ -24,7 +25,7 @@ pub record IsReportOf (topology script : List ℕ) (r : Report) : Type 0 where
 -- the report is written
 abbrev pub IsChecked : List ℕ → List ℕ → Option (List ℕ) → Option (List ℕ) → Tally → Type 0
 IsChecked topology script old new tally =
-    (r : Report) × IsReportOf topology script r × (tally ≡ tally_of r) × Appends old new r.text
+    (r : Report) × IsReportOf topology script r × (tally ≡ tally_of r.verdicts) × Appends old new r.text
 
 -- When each refusal comes: those of the run of the plain script, and then the first line whose label or expectation is at fault.
 -- Of memory nothing is said.
@@ -42,7 +43,28 @@ IsCheckCut topology script old new (Emulate error) = new ≡ old
 IsCheckCut topology script old new (Expect fault) = new ≡ old
 IsCheckCut topology script old new Memory = new ≡ old
 
+abbrev pub is_write_fault : CheckError → Bool
+is_write_fault (Write count) = true
+is_write_fault (Emulate error) = false
+is_write_fault (Expect fault) = false
+is_write_fault Memory = false
+
 abbrev pub is_write : Result Tally CheckError → Bool
 is_write (Ok tally) = false
-is_write (Err (Write count)) = true
-is_write (Err _) = false
+is_write (Err error) = is_write_fault error
+
+-- ---- verdicts alone
+
+-- these are the verdicts of the report's tests
+abbrev pub AreVerdictsOf : List ℕ → List ℕ → List Bool → Type 0
+AreVerdictsOf topology script verdicts = (r : Report) × IsReportOf topology script r × (verdicts ≡ r.verdicts)
+
+-- when each refusal comes where nothing is written: as with a report
+pub record IsVerdictTold (topology script : List ℕ) (error : CheckError) : Type 0 where
+  pub told : IsCheckTold topology script error
+  pub unwritten : is_write_fault error ≡ false
+
+-- a tally counts the verdicts, and those of them that are false
+abbrev pub TalliesCountVerdicts : Type 0
+TalliesCountVerdicts = (topology script : List ℕ) (old new : Option (List ℕ)) (tally : Tally) (verdicts : List Bool)
+    → IsChecked topology script old new tally → AreVerdictsOf topology script verdicts → tally ≡ tally_of verdicts

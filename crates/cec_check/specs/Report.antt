@@ -1,6 +1,6 @@
 -- The report of a script's expectations (Test Anything Protocol, version 13): a line for each expectation, in order, and one for
 -- each refused event that none expects; then their count. Lines that begin with `#` stand below those that failed.
-use Rattle.std.specs.Prelude.{ℕ, ◌+◌, ◌-◌, ◌^◌, ◌==◌, ◌||◌, min, Bool, true, false, if◌then◌else◌, codes, take, filter, List, [], ◌∷◌, ◌++◌, Option, Some, None, is_some, Result, Ok, Err}
+use Rattle.std.specs.Prelude.{ℕ, ◌+◌, ◌==◌, ◌||◌, Bool, true, false, if◌then◌else◌, codes, length, take, filter, List, [], ◌∷◌, ◌++◌, Option, Some, None, is_some, Result, Ok, Err}
 use Rattle.std.specs.Fmt.{decimal}
 use Rattle.std.specs.List.{concat, flat_map}
 use Rattle.cec_words.specs.Lines.{lines_of}
@@ -16,18 +16,13 @@ use Rattle.cec_judge.specs.declared.seen.Span.{Span}
 use Rattle.cec_judge.specs.declared.judge.Judged.{Judged}
 use Rattle.cec_check.specs.declared.report.Draft.{Draft}
 
--- the text so far, how many tests it has, and how many of them failed
+-- the text so far, and of each of its tests, in order, whether it holds
 pub record Report : Type 0 where
   pub text : List ℕ
-  pub count : ℕ
-  pub failed : ℕ
+  pub verdicts : List Bool
 
 abbrev pub report_as : Draft → Report
-report_as d = record { text = d.text.bytes.items; count = d.count; failed = d.failed }
-
--- one more, as a u64 counts
-abbrev pub next : ℕ → ℕ
-next n = min (n + 1) (2 ^ 64 - 1)
+report_as d = record { text = d.text.bytes.items; verdicts = d.verdicts.items }
 
 -- ---- tests
 
@@ -50,9 +45,8 @@ test_line number holds line front text = test_start number holds line front ++ e
 
 abbrev pub with_test : Report → Bool → ℕ → List ℕ → List ℕ → Report
 with_test r holds line front text = record {
-  text = r.text ++ test_line (next r.count) holds line front text;
-  count = next r.count;
-  failed = if holds then r.failed else next r.failed;
+  text = r.text ++ test_line (length r.verdicts + 1) holds line front text;
+  verdicts = r.verdicts ++ holds ∷ [];
 }
 
 -- ---- what stands below a test of rounds that failed
@@ -121,13 +115,13 @@ with_refusals script r (line ∷ lines) = with_refusals script (with_event scrip
 -- ---- all
 
 abbrev pub begun : Report
-begun = record { text = codes "TAP version 13\n"; count = 0; failed = 0 }
+begun = record { text = codes "TAP version 13\n"; verdicts = [] }
 
 abbrev pub plan_line : ℕ → List ℕ
 plan_line count = concat (codes "1.." ∷ decimal count ∷ codes "\n" ∷ [])
 
 abbrev pub ended : Report → Report
-ended r = record r { text = r.text ++ plan_line r.count }
+ended r = record r { text = r.text ++ plan_line (length r.verdicts) }
 
 -- the report of a script, by the trace of its run
 abbrev pub report : List ℕ → List ℕ → Report

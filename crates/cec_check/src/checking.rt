@@ -1,9 +1,10 @@
 //! From the texts of a topology and a script with expectations to their report.
-ghost use Rattle.std.specs.Prelude.{◌≡◌, ◌↔◌, true, false, IfOk, IfErr, IsTrue};
-ghost use Rattle.cec_check.specs.Check.{IsCheckCut, IsCheckTold, IsChecked, is_write};
+ghost use Rattle.std.specs.Prelude.{◌≡◌, ◌↔◌, not, true, false, length, filter, IfOk, IfErr, IsTrue};
+ghost use Rattle.cec_check.specs.Check.{AreVerdictsOf, IsCheckCut, IsCheckTold, IsChecked, IsReportOf, IsVerdictTold, is_write, tally_of};
+ghost use Rattle.cec_check.specs.Report.{report_as};
 
 use crate::held::Held;
-use crate::report::whole_report;
+use crate::report::{Draft, whole_report};
 use cec_expect::{ExpectFault, first_fault, plain_script};
 use cec_run::emulate::{EmulateError, emulate};
 use hdmi_core::{Sink, put_all};
@@ -35,6 +36,54 @@ pub enum CheckError {
     Memory,
 }
 
+// How many tests failed.
+fn failed_in(verdicts: &[bool]) -> u64
+    ensures { result ≡ length (filter not verdicts.now) }
+{
+    let mut rest = verdicts;
+    let mut count = 0u64;
+    'verdicts: while let [holds, others @ ..] = rest {
+        if !*holds {
+            count += 1;
+        }
+        rest = others;
+    }
+    count
+}
+
+fn tally_of(verdicts: &[bool]) -> Tally
+    ensures { result ≡ tally_of verdicts.now }
+{
+    Tally {
+        count: verdicts.len() as u64,
+        failed: failed_in(verdicts),
+    }
+}
+
+// The report of a script, by the trace of its run.
+fn report_of(alloc: Global, topology: &[u8], script: &[u8]) -> Result<Draft, CheckError>
+    ensures ok { IfOk result (λ draft. IsReportOf topology.now script.now (report_as draft)) }
+    ensures told { IfErr result (IsVerdictTold topology.now script.now) }
+{
+    let Ok(plain) = plain_script(alloc, script) else {
+        return Err(CheckError::Memory);
+    };
+    let mut trace = Held::new(alloc);
+    match emulate(alloc, topology, &plain, &mut trace) {
+        Ok(_) => {}
+        Err(EmulateError::Write(_)) => return Err(CheckError::Memory),
+        Err(error) => return Err(CheckError::Emulate(error)),
+    }
+    match first_fault(script) {
+        Some(fault) => return Err(CheckError::Expect(fault)),
+        None => {}
+    }
+    match whole_report(alloc, script, &trace.bytes) {
+        Ok(report) => Ok(report),
+        Err(_) => Err(CheckError::Memory),
+    }
+}
+
 /// Runs a script without its labels and expectations on a topology, and writes the report of whether the run is as they have
 /// it, as the Test Anything Protocol has it: a line for each expectation, in order, and one for each refused event that none
 /// expects. The trace of the run is held in memory.
@@ -54,27 +103,25 @@ pub fn check<S: Sink>(
     ensures write { S.is_stuck out.old ≡ false → (IsTrue (is_write result) ↔ IsTrue (S.is_stuck out.new)) }
     ensures cut { IfErr result (IsCheckCut topology.now script.now (S.contents out.old) (S.contents out.new)) }
 {
-    let Ok(plain) = plain_script(alloc, script) else {
-        return Err(CheckError::Memory);
-    };
-    let mut trace = Held::new(alloc);
-    match emulate(alloc, topology, &plain, &mut trace) {
-        Ok(_) => {}
-        Err(EmulateError::Write(_)) => return Err(CheckError::Memory),
-        Err(error) => return Err(CheckError::Emulate(error)),
-    }
-    match first_fault(script) {
-        Some(fault) => return Err(CheckError::Expect(fault)),
-        None => {}
-    }
-    let Ok(report) = whole_report(alloc, script, &trace.bytes) else {
-        return Err(CheckError::Memory);
+    let report = match report_of(alloc, topology, script) {
+        Ok(report) => report,
+        Err(error) => return Err(error),
     };
     match put_all(out, &report.text.bytes) {
-        Ok(()) => Ok(Tally {
-            count: report.count,
-            failed: report.failed,
-        }),
+        Ok(()) => Ok(tally_of(&report.verdicts)),
         Err(fault) => Err(CheckError::Write(fault.count)),
     }
+}
+
+/// Whether each test of the report that [`check`] writes of a script holds, in order. The trace of the run and the report are
+/// held in memory meanwhile.
+///
+/// # Errors
+///
+/// Those of [`check`], except that nothing is written.
+pub fn verdicts(alloc: Global, topology: &[u8], script: &[u8]) -> Result<Vec<bool>, CheckError>
+    ensures ok { IfOk result (λ verdicts. AreVerdictsOf topology.now script.now verdicts.items) }
+    ensures told { IfErr result (IsVerdictTold topology.now script.now) }
+{
+    Ok(report_of(alloc, topology, script)?.verdicts)
 }

@@ -3,6 +3,8 @@
 
 mod checking;
 mod held;
+mod laws;
 mod report;
 
-pub use checking::{CheckError, Tally, check};
+pub use checking::{CheckError, Tally, check, verdicts};
+pub use laws::tallies_count_verdicts;

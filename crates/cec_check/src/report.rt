@@ -22,10 +22,8 @@ use std::alloc::{AllocError, Global};
 #[derive(Drop)]
 pub(crate) struct Draft {
     pub(crate) text: Held,
-    /// How many tests it has.
-    pub(crate) count: u64,
-    /// How many of them failed.
-    pub(crate) failed: u64,
+    /// Whether each of its tests holds, in order.
+    pub(crate) verdicts: Vec<bool>,
 }
 
 /// How many lines of rounds stand below a test that failed, at most.
@@ -88,7 +86,7 @@ fn add_test(
 ) -> Result<(), AllocError>
     ensures { OnOk result (report_as draft.new ≡ with_test (report_as draft.old) holds line front.now text.now) }
 {
-    let number = draft.count.saturating_add(1);
+    let number = draft.verdicts.len() as u64 + 1;
     append(
         &mut draft.text,
         &[
@@ -102,10 +100,7 @@ fn add_test(
     )?;
     append_escaped(&mut draft.text, text)?;
     append_bytes(&mut draft.text, b"\n")?;
-    draft.count = number;
-    if !holds {
-        draft.failed = draft.failed.saturating_add(1);
-    }
+    draft.verdicts.push(holds)?;
     Ok(())
 }
 
@@ -268,7 +263,7 @@ fn add_refusals(draft: &mut Draft, script: &[u8], trace: &[u8]) -> Result<(), Al
 fn add_plan(draft: &mut Draft) -> Result<(), AllocError>
     ensures { OnOk result (report_as draft.new ≡ ended (report_as draft.old)) }
 {
-    let count = draft.count;
+    let count = draft.verdicts.len() as u64;
     append(
         &mut draft.text,
         &[Piece::Text("1.."), Piece::Decimal(count), Piece::Text("\n")],
@@ -282,8 +277,7 @@ fn begun(alloc: Global) -> Result<Draft, AllocError>
     append_bytes(&mut text, b"TAP version 13\n")?;
     Ok(Draft {
         text,
-        count: 0,
-        failed: 0,
+        verdicts: Vec::new(alloc),
     })
 }
 

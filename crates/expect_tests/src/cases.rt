@@ -1,6 +1,6 @@
 //! Each row through the public calls.
 use crate::rows::{FAULTS, PATTERNS, PLAIN, REFUSALS, REPORT, SCRIPT, TOPOLOGY};
-use cec_check::{CheckError, Tally, check};
+use cec_check::{CheckError, Tally, check, verdicts};
 use cec_expect::{first_fault, fits, plain_script};
 use hdmi_core::Writes;
 use std::io::{self, ErrorKind, Write};
@@ -86,6 +86,35 @@ fn expectations_are_reported(rt: HostRuntime) {
     let (text, counts) = report_of(&rt, TOPOLOGY, SCRIPT);
     holds(&rt, counts.as_str() == "6 of 10", "counts");
     holds(&rt, text.as_str() == REPORT, "report");
+}
+
+/// `o` for each test that holds, `x` for each that fails, or why there are none.
+fn verdicts_of(rt: &(impl Abort + AllocGlobal), topology: &str, script: &str) -> String {
+    match verdicts(rt.alloc(), topology.as_bytes(), script.as_bytes()) {
+        Ok(verdicts) => marks(rt, &verdicts),
+        Err(error) => format!(in rt.alloc(); "{error}").expect(rt, "a refusal"),
+    }
+}
+
+fn marks(rt: &(impl Abort + AllocGlobal), verdicts: &[bool]) -> String {
+    let mut text = String::new(rt.alloc());
+    for holds in verdicts {
+        text.push(if *holds { 'o' } else { 'x' })
+            .expect(rt, "a mark");
+    }
+    text
+}
+
+#[test]
+fn verdicts_are_those_of_the_report(rt: HostRuntime) {
+    let marks = verdicts_of(&rt, TOPOLOGY, SCRIPT);
+    holds(&rt, marks.as_str() == "oooxxoxxxx", "verdicts");
+    for line in REFUSALS.lines() {
+        let (input, want) = line.rsplit_once(" => ").expect(&rt, line);
+        let (topology, script) = input.split_once('|').expect(&rt, line);
+        let refusal = verdicts_of(&rt, &spelled(&rt, topology), &spelled(&rt, script));
+        holds(&rt, refusal.as_str() == want, line);
+    }
 }
 
 #[test]

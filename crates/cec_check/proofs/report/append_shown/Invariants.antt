@@ -1,4 +1,4 @@
-use Rattle.std.proofs.Common.{◌≡◌, ◌++◌, ◌≤◌, length, take, filter, is_some}
+use Rattle.std.proofs.Common.{◌≡◌, ◌++◌, length, take, filter, is_some}
 use Rattle.std.specs.List.{flat_map}
 use Rattle.cec_words.specs.Lines.{lines_of}
 use Rattle.cec_judge.specs.Seen.{end_seen}

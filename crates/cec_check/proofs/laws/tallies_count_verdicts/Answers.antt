@@ -1,0 +1,5 @@
+use Rattle.cec_check.proofs.Checked as lemmas
+use Rattle.cec_check.proofs.laws.tallies_count_verdicts.Goals as goal
+
+pub returns : goal.returns
+returns c = lemmas.tallies_count_verdicts
