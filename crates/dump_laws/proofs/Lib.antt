@@ -1,0 +1,5 @@
+pub mod Levels
+pub mod Words
+pub mod Changes
+pub mod Head
+pub mod Whole

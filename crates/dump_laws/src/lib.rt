@@ -1,0 +1,6 @@
+//! Laws: a dump of several wires tells each of its wires.
+#![tactic(auto)]
+
+mod laws;
+
+pub use laws::dumps_tell_their_wires;
