@@ -118,7 +118,7 @@ abbrev pub spans_text : List Span → List ℕ
 spans_text spans = flat_map (λ s. wires_text s.wires s.from s.count) spans
 
 -- spans end by an end
-ends_span : (from end : ℕ) (ss : List Span) → AreSpans from end ss → from ≤ end + 1
+pub ends_span : (from end : ℕ) (ss : List Span) → AreSpans from end ss → from ≤ end + 1
 ends_span from end [] h = h
 ends_span from end (s ∷ ss) h = let a : from ≤ s.from = h.0 in let b = ends_span (s.from + s.count) end ss h.2 in omega (arith, a, b)
 

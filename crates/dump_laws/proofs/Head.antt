@@ -14,11 +14,11 @@ use Rattle.dump_laws.proofs.Words.{id_end, id_plain, id_space, line_words, shown
 
 -- ---- a name
 
-record IsName (name : List ℕ) : Type 0 where
-  some : (length name == 0) ≡ false
-  other : is_end name ≡ false
-  solid : Lacks is_space name
-  plain : Lacks (λ c. c == 10) name
+pub record IsName (name : List ℕ) : Type 0 where
+  pub some : (length name == 0) ≡ false
+  pub other : is_end name ≡ false
+  pub solid : Lacks is_space name
+  pub plain : Lacks (λ c. c == 10) name
 
 word_parts : (a b c : Bool) → (not a && (not b && c)) ≡ true → (a ≡ false) × (b ≡ false) × (c ≡ true)
 word_parts true b c h = cc
@@ -33,7 +33,7 @@ or_right : (a b : Bool) → (a || b) ≡ false → b ≡ false
 or_right true b h = cc
 or_right false b h = h
 
-name_of : (name : List ℕ) → is_word name ≡ true → IsName name
+pub name_of : (name : List ℕ) → is_word name ≡ true → IsName name
 name_of name h =
     let parts = word_parts (length name == 0) (is_end name) (list_all (λ b. not (is_space b || (b == 10))) name) h in
     let lacks = shown (λ b. is_space b || (b == 10)) name parts.2 in
@@ -46,13 +46,13 @@ name_of name h =
 
 -- ---- the line of a variable
 
-abbrev variable_line : ℕ → List ℕ → List ℕ
+abbrev pub variable_line : ℕ → List ℕ → List ℕ
 variable_line number name = codes "$var wire 1 " ++ id_of number ∷ 32 ∷ (name ++ codes " $end")
 
 abbrev pub variable_words : ℕ → List ℕ → List (List ℕ)
 variable_words number name = codes "$var" ∷ codes "wire" ∷ codes "1" ∷ (id_of number ∷ []) ∷ name ∷ codes "$end" ∷ []
 
-line_plain : (number : ℕ) (name : List ℕ) → IsName name → Lacks (λ c. c == 10) (variable_line number name)
+pub line_plain : (number : ℕ) (name : List ℕ) → IsName name → Lacks (λ c. c == 10) (variable_line number name)
 line_plain number name is =
     All-append (λ c. (c == 10) ≡ false) (codes "$var wire 1 ") (id_of number ∷ 32 ∷ (name ++ codes " $end")) (shown (λ c. c == 10) (codes "$var wire 1 ") refl)
     (more_lack (λ c. c == 10) (id_of number) (32 ∷ (name ++ codes " $end")) (id_plain number)
@@ -61,7 +61,7 @@ line_plain number name is =
 abbrev in_front : List (List ℕ) → List (List ℕ)
 in_front parts = codes "$var" ∷ codes "wire" ∷ codes "1" ∷ parts
 
-line_parts : (number : ℕ) (name : List ℕ) → IsName name → parts_of (variable_line number name) ≡ variable_words number name
+pub line_parts : (number : ℕ) (name : List ℕ) → IsName name → parts_of (variable_line number name) ≡ variable_words number name
 line_parts number name is =
     ap in_front (
     slice_split_at is_space (id_of number ∷ []) 32 (name ++ codes " $end") (more_lack is_space (id_of number) [] (id_space number) (none_lack is_space)) refl
@@ -78,7 +78,7 @@ ended : (name rest : List ℕ) → (name ++ codes " $end\n") ++ rest ≡ (name +
 ended [] rest = refl
 ended (c ∷ name) rest = ap (λ l. c ∷ l) (ended name rest)
 
-variable_text : (number : ℕ) (name rest : List ℕ) → variable number name ++ rest ≡ variable_line number name ++ 10 ∷ rest
+pub variable_text : (number : ℕ) (name rest : List ℕ) → variable number name ++ rest ≡ variable_line number name ++ 10 ∷ rest
 variable_text number name rest = ap (λ l. codes "$var wire 1 " ++ id_of number ∷ 32 ∷ l) (ended name rest)
 
 words_variable : (number : ℕ) (name rest : List ℕ) → IsName name → words_in (variable number name ++ rest) ≡ variable_words number name ++ words_in rest
@@ -109,7 +109,7 @@ abbrev pub closing_words : ℕ → List ℕ → List (List ℕ)
 closing_words count rest =
     codes "$upscope" ∷ codes "$end" ∷ (variable_words (count + 1) (codes "pulses") ++ (codes "$upscope" ∷ codes "$end" ∷ codes "$enddefinitions" ∷ codes "$end" ∷ words_in (high_text count rest)))
 
-closing_parted : (count : ℕ) (rest : List ℕ)
+pub closing_parted : (count : ℕ) (rest : List ℕ)
     → closing count ++ rest ≡ codes "$upscope $end" ++ 10 ∷ (variable (count + 1) (codes "pulses") ++ (codes "$upscope $end" ++ 10 ∷ (codes "$enddefinitions $end" ++ 10 ∷ high_text count rest)))
 closing_parted count rest =
     let highs = flat_map high_at_first (range_with_len 0 (count + 2)) in

@@ -3,3 +3,5 @@ pub mod Words
 pub mod Changes
 pub mod Head
 pub mod Whole
+pub mod Reading
+pub mod ReadHead

@@ -109,17 +109,17 @@ other_id a b h = none (bytes_eq (id_of a ∷ []) (id_of b ∷ [])) refl
 abbrev pub value_word : Bool → ℕ → List ℕ
 value_word low number = (if low then 48 else 49) ∷ id_of number ∷ []
 
-pub value_words : (low : Bool) (number : ℕ) (rest : List ℕ) → words_in ((if low then 48 else 49) ∷ id_of number ∷ 10 ∷ rest) ≡ value_word low number ∷ words_in rest
-value_words low number rest =
-    words_before (value_word low number) rest (plain low) ∙ ap (λ ws. ws ++ words_in rest) (one_word (value_word low number) (parts low) refl)
-  where
-    plain : (b : Bool) → Lacks (λ c. c == 10) ((if b then 48 else 49) ∷ id_of number ∷ [])
-    plain true = more_lack (λ c. c == 10) 48 (id_of number ∷ []) refl (more_lack (λ c. c == 10) (id_of number) [] (id_plain number) (none_lack (λ c. c == 10)))
-    plain false = more_lack (λ c. c == 10) 49 (id_of number ∷ []) refl (more_lack (λ c. c == 10) (id_of number) [] (id_plain number) (none_lack (λ c. c == 10)))
+pub value_plain : (low : Bool) (number : ℕ) → Lacks (λ c. c == 10) (value_word low number)
+value_plain true number = more_lack (λ c. c == 10) 48 (id_of number ∷ []) refl (more_lack (λ c. c == 10) (id_of number) [] (id_plain number) (none_lack (λ c. c == 10)))
+value_plain false number = more_lack (λ c. c == 10) 49 (id_of number ∷ []) refl (more_lack (λ c. c == 10) (id_of number) [] (id_plain number) (none_lack (λ c. c == 10)))
 
-    parts : (b : Bool) → parts_of ((if b then 48 else 49) ∷ id_of number ∷ []) ≡ ((if b then 48 else 49) ∷ id_of number ∷ []) ∷ []
-    parts true = slice_split_none is_space (48 ∷ id_of number ∷ []) (more_lack is_space 48 (id_of number ∷ []) refl (more_lack is_space (id_of number) [] (id_space number) (none_lack is_space)))
-    parts false = slice_split_none is_space (49 ∷ id_of number ∷ []) (more_lack is_space 49 (id_of number ∷ []) refl (more_lack is_space (id_of number) [] (id_space number) (none_lack is_space)))
+pub value_parts : (low : Bool) (number : ℕ) → parts_of (value_word low number) ≡ value_word low number ∷ []
+value_parts true number = slice_split_none is_space (48 ∷ id_of number ∷ []) (more_lack is_space 48 (id_of number ∷ []) refl (more_lack is_space (id_of number) [] (id_space number) (none_lack is_space)))
+value_parts false number = slice_split_none is_space (49 ∷ id_of number ∷ []) (more_lack is_space 49 (id_of number ∷ []) refl (more_lack is_space (id_of number) [] (id_space number) (none_lack is_space)))
+
+pub value_words : (low : Bool) (number : ℕ) (rest : List ℕ) → words_in (value_word low number ++ 10 ∷ rest) ≡ value_word low number ∷ words_in rest
+value_words low number rest =
+    words_before (value_word low number) rest (value_plain low number) ∙ ap (λ ws. ws ++ words_in rest) (one_word (value_word low number) (value_parts low number) refl)
 
 -- ---- an instant
 
@@ -151,7 +151,7 @@ words_changes t number (wire ∷ wires) rest =
     ∙ ap (λ ws. change_word (turns (line_of wire) t) (line_of wire t) number ++ ws) (words_changes t (number + 1) wires rest)
     ∙ sym (append_assoc (change_word (turns (line_of wire) t) (line_of wire t) number) (change_words t (number + 1) wires) (words_in rest))
 
-line_parted : (ds more rest : List ℕ) → ((ds ++ 10 ∷ []) ++ more) ++ rest ≡ ds ++ 10 ∷ (more ++ rest)
+pub line_parted : (ds more rest : List ℕ) → ((ds ++ 10 ∷ []) ++ more) ++ rest ≡ ds ++ 10 ∷ (more ++ rest)
 line_parted [] more rest = refl
 line_parted (d ∷ ds) more rest = ap (λ l. d ∷ l) (line_parted ds more rest)
 

@@ -1,11 +1,11 @@
 -- A dump of several wires (IEEE 1364-2005, 18): what it declares, and that it tells each of its wires (own).
-use Rattle.std.specs.Prelude.{◌≡◌, ℕ, zero, suc, ◌+◌, ◌<◌, ◌≤◌, ◌==◌, ◌&&◌, ◌||◌, not, Bool, true, false, if◌then◌else◌, List, [], ◌∷◌, ◌++◌, length, slice_index, codes, Option, Some, None, Ok, All}
+use Rattle.std.specs.Prelude.{◌≡◌, ℕ, zero, suc, ◌+◌, ◌<◌, ◌≤◌, ◌==◌, ◌&&◌, ◌||◌, not, Bool, true, false, if◌then◌else◌, List, [], ◌∷◌, ◌++◌, length, slice_index, codes, Option, Some, None, Ok, All, ◌⊎◌}
 use Rattle.std.specs.List.{flat_map, list_all, list_any}
 use Rattle.std.specs.Option.{option_to_list}
 use Rattle.std.specs.Str.{bytes_eq}
 use Rattle.cec_wave.specs.declared.Stretch.{Stretch}
 use Rattle.cec_wave.specs.Line.{line_of}
-use Rattle.cec_signal.specs.Edges.{Captured, line_of_edges}
+use Rattle.cec_signal.specs.Edges.{Captured, IsCapture, line_of_edges}
 use Rattle.cec_vcd.specs.Dump.{edges_in, is_end, is_space}
 use Rattle.cec_vcd.specs.Text.{last}
 use Rattle.cec_vcd.specs.Wire.{Part, Wire, wire_in, wire_line, words_in}
@@ -98,3 +98,15 @@ pub record TellsWires (names : List (List ℕ)) (spans : List Span) (text : List
 abbrev pub DumpsTellTheirWires : Type 0
 DumpsTellTheirWires = (names : List (List ℕ)) (spans : List Span) (end : ℕ) → All (λ name. is_word name ≡ true) names → AreSpans 0 end spans → end ≤ 2000000000000
     → TellsWires names spans (dump_of names spans end)
+
+-- a capture is the line's, up to the dump's end
+pub record TellsLine (spans : List Span) (end : ℕ) (c : Captured) : Type 0 where
+  pub line : (u : ℕ) → line_of_edges c.edges u ≡ level_at 0 spans u
+  pub end_is : c.end ≡ end
+  pub capture : IsCapture c.edges c.end
+
+-- As this program's reader has it, asked for the first wire or for the line by its name: the dump is a capture of the line.
+abbrev pub DumpsAreReadAsTheLine : Type 0
+DumpsAreReadAsTheLine = (asked : List ℕ) (names : List (List ℕ)) (spans : List Span) (end : ℕ) → (asked ≡ []) ⊎ (asked ≡ codes "CEC")
+    → All (λ name. is_word name ≡ true) names → AreSpans 0 end spans → end ≤ 2000000000000
+    → (c : Captured) × (edges_in asked (dump_of names spans end) ≡ Ok c) × TellsLine spans end c
