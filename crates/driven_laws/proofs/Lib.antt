@@ -1,0 +1,4 @@
+mod Turns
+mod Names
+mod Captures
+mod Dumps

@@ -1,0 +1,238 @@
+-- The names of a run's devices are those of the topology, and each is one word.
+use Rattle.std.proofs.Common.{◌≡◌, ℕ, zero, suc, ◌+◌, ◌-◌, ◌<◌, ◌≤◌, ◌==◌, ◌&&◌, ◌||◌, Bool, true, false, not, nat_lt, nat_le, min, if◌then◌else◌, List, [], ◌∷◌, ◌++◌, length, map, codes, slice_index, Option, Some, None, is_some, Result, Ok, Err, refl, sym, ap, ap₂, ◌∙◌, subst, arith}
+use Rattle.std.specs.List.{All, list_all}
+use Rattle.std.specs.Char.{is_ascii_lowercase}
+use Rattle.std.specs.Str.{bytes_eq}
+use Rattle.std.proofs.lemmas.Bool.Decides.{nat_tests}
+use Rattle.std.proofs.lemmas.List.Elements.{All-append, All-cons, All-nil}
+use Rattle.std.proofs.lemmas.Slice.Eq.{bytes_eq-Decides}
+use Rattle.hdmi_core.specs.declared.kind.Kind.{Kind}
+use Rattle.hdmi_core.specs.declared.phys.Phys.{Phys}
+use Rattle.hdmi_topo.specs.Name.{is_name, is_name_byte}
+use Rattle.hdmi_topo.specs.Node.{Node}
+use Rattle.hdmi_topo.specs.Path.{address_of}
+use Rattle.hdmi_topo.specs.Tree.{add_fault, added, device_named, has_root, plug_fault, plugged, with_plug}
+use Rattle.hdmi_topo.specs.declared.plug.Plug.{Plug}
+use Rattle.hdmi_topo.specs.declared.plug.AddError.{AddError}
+use Rattle.hdmi_topo.specs.declared.plug.PlugError.{PlugError}
+use Rattle.cec_wave.specs.declared.Stretch.{Stretch}
+use Rattle.cec_words.specs.Lines.{is_skipped, lines_of}
+use Rattle.cec_words.specs.Number.{number_of}
+use Rattle.cec_words.specs.Words.{one_of, three_of, words_of}
+use Rattle.cec_vcd.specs.Dump.{is_end, is_space}
+use Rattle.cec_asm.specs.Topology.{Plan, TopologyFault, at_line, bytes_of, device_line, device_read, edid_line, edid_read, kind_named, line_read, lines_read, plug_line, plug_read, topology_of, unless_add, unless_plug, worded}
+use Rattle.cec_asm.specs.declared.topology.TopologyCause.{TopologyCause}
+use Rattle.cec_asm.specs.declared.topology.TopologyCause.TheVariants as causes
+use Rattle.cec_device.specs.State.{State, frame_of, held, holds, one_more, queued, speaks}
+use Rattle.cec_device.specs.Place.{fresh, is_on_wire, joined, reported, reported_by, reported_from, start_place}
+use Rattle.cec_feature.specs.Kinds.{is_switch, type_of}
+use Rattle.cec_net.specs.State.{NetState, each_from, loose, moved, moved_by, started}
+use Rattle.cec_driven.specs.Driven.{names_of}
+use Rattle.dump_laws.specs.Dumps.{is_word}
+use Rattle.driven_laws.specs.Dumps.{names_in}
+
+-- ---- a device keeps its name
+
+two : (t : Bool) (x y : State) (name : List ℕ) → x.name ≡ name → y.name ≡ name → (if t then x else y).name ≡ name
+two true x y name h k = h
+two false x y name h k = k
+
+name-queued : (limit at from to : ℕ) (bytes : List ℕ) (d : State) → (queued limit at from to bytes d).name ≡ d.name
+name-queued limit at from to bytes d =
+    two (not (speaks d) || holds d.place to) d
+    (if nat_lt (length d.queue) limit then record d { queue = d.queue ++ record { frame = frame_of from to bytes; ready = at } ∷ [] } else record d { dropped = one_more d.dropped }) d.name refl
+    (two (nat_lt (length d.queue) limit) (record d { queue = d.queue ++ record { frame = frame_of from to bytes; ready = at } ∷ [] }) (record d { dropped = one_more d.dropped }) d.name refl refl)
+
+name-reported_from : (limit at : ℕ) (unit : Option ℕ) (d : State) → (reported_from limit at unit d).name ≡ d.name
+name-reported_from limit at None d = refl
+name-reported_from limit at (Some from) d =
+    two (nat_lt from 15 || is_switch d.kind) (queued limit at from 15 (0x84 ∷ d.phys.high ∷ d.phys.low ∷ type_of d.kind from ∷ []) d) d d.name
+    (name-queued limit at from 15 (0x84 ∷ d.phys.high ∷ d.phys.low ∷ type_of d.kind from ∷ []) d) refl
+
+name-reported_by : (limit at : ℕ) (units : List (Option ℕ)) (d : State) → (reported_by limit at units d).name ≡ d.name
+name-reported_by limit at [] d = refl
+name-reported_by limit at (unit ∷ units) d = name-reported_by limit at units (reported_from limit at unit d) ∙ name-reported_from limit at unit d
+
+name-joined : (limit number at : ℕ) (phys : Phys) (d : State) → (joined limit d number phys at).name ≡ d.name
+name-joined limit number at phys d =
+    let e : State = record (fresh d.kind d.name d.ports) {
+      number = number;
+      phys = phys;
+      place = start_place d.kind phys;
+      poll_ready = at;
+    } in
+    name-reported_by limit at (held e.place) e
+
+name-moved : (at number : ℕ) (plugged : Bool) (address : Option Phys) (d : State) → (moved at number plugged address d).name ≡ d.name
+name-moved at number false (Some address) d = name-joined 16 number at address d
+name-moved at number false None d = refl
+name-moved at number true (Some address) d = refl
+name-moved at number true None d = refl
+
+names-each : (n at : ℕ) (tree : List Node) (ds : List State) → names_of (each_from n (moved_by at tree) ds) ≡ names_of ds
+names-each n at tree [] = refl
+names-each n at tree (d ∷ ds) = ap₂ (λ x xs. x ∷ xs) (name-moved at n (is_on_wire d) (address_of tree n) d) (names-each (n + 1) at tree ds)
+
+names-loose : (tree : List Node) → names_of (loose tree) ≡ names_in tree
+names-loose [] = refl
+names-loose (node ∷ tree) = ap (λ xs. node.name ∷ xs) (names-loose tree)
+
+pub names_started : (tree : List Node) (pulses : List Stretch) → names_of (started tree pulses).devices ≡ names_in tree
+names_started tree pulses = names-each 0 0 tree (loose tree) ∙ names-loose tree
+
+-- ---- a name is one word
+
+and_left : (a b : Bool) → (a && b) ≡ true → a ≡ true
+and_left true b h = refl
+and_left false b h = cc
+
+and_right : (a b : Bool) → (a && b) ≡ true → b ≡ true
+and_right true b h = h
+and_right false b h = cc
+
+both : (a b : Bool) → a ≡ true → b ≡ true → (a && b) ≡ true
+both true b h k = k
+both false b h k = cc
+
+solid_byte : (b : ℕ) → is_name_byte b ≡ true → not (is_space b || (b == 10)) ≡ true
+solid_byte b h = grind (arith, nat_tests)
+
+solid : (word : List ℕ) → list_all is_name_byte word ≡ true → list_all (λ b. not (is_space b || (b == 10))) word ≡ true
+solid [] h = refl
+solid (c ∷ word) h =
+    both (not (is_space c || (c == 10))) (list_all (λ b. not (is_space b || (b == 10))) word) (solid_byte c (and_left (is_name_byte c) (list_all is_name_byte word) h))
+    (solid word (and_right (is_name_byte c) (list_all is_name_byte word) h))
+
+no_end : (word : List ℕ) → is_ascii_lowercase (slice_index word 0) ≡ true → not (is_end word) ≡ true
+no_end word h = by (is_end word) refl
+  where
+    by : (b : Bool) → is_end word ≡ b → not b ≡ true
+    by false e = refl
+    by true e =
+        let is : word ≡ codes "$end" = (bytes_eq-Decides word (codes "$end")).0 e in
+        let low : is_ascii_lowercase 36 ≡ true = subst (λ (w : List ℕ). is_ascii_lowercase (slice_index w 0) ≡ true) is h in cc
+
+some_word : (word : List ℕ) → nat_lt 0 (length word) ≡ true → not (length word == 0) ≡ true
+some_word word h = grind (arith, nat_tests)
+
+pub word_of : (name : List ℕ) → is_name name ≡ true → is_word name ≡ true
+word_of name h =
+    let few = nat_lt 0 (length name) && nat_le (length name) 14 in
+    let front = few && is_ascii_lowercase (slice_index name 0) in
+    let all = and_right front (list_all is_name_byte name) h in
+    let begins = and_left front (list_all is_name_byte name) h in
+    let lower = and_right few (is_ascii_lowercase (slice_index name 0)) begins in
+    let some = and_left (nat_lt 0 (length name)) (nat_le (length name) 14) (and_left few (is_ascii_lowercase (slice_index name 0)) begins) in
+    both (not (length name == 0)) (not (is_end name) && list_all (λ b. not (is_space b || (b == 10))) name) (some_word name some)
+    (both (not (is_end name)) (list_all (λ b. not (is_space b || (b == 10))) name) (no_end name lower) (solid name all))
+
+-- ---- a topology's names are names
+
+abbrev AreNamed : List Node → Type 0
+AreNamed tree = All (λ node. is_name node.name ≡ true) tree
+
+named_plug : (tree : List Node) (child : ℕ) (plug : Option Plug) → AreNamed tree → AreNamed (with_plug tree child plug)
+named_plug [] child plug h = h
+named_plug (node ∷ tree) zero plug h = All-cons (λ (n : Node). is_name n.name ≡ true) (record node { plug = plug }) tree (h 0 node (omega arith)) (λ k x l. h (suc k) x (omega arith))
+named_plug (node ∷ tree) (suc child) plug h =
+    All-cons (λ (n : Node). is_name n.name ≡ true) node (with_plug tree child plug) (h 0 node (omega arith)) (named_plug tree child plug (λ k x l. h (suc k) x (omega arith)))
+
+-- what is read keeps it
+Keeps : Result Plan TopologyCause → Type 0
+Keeps (Ok plan) = AreNamed plan.tree
+Keeps (Err cause) = Unit {0}
+
+keeps_if : (b : Bool) (r s : Result Plan TopologyCause) → (b ≡ true → Keeps r) → (b ≡ false → Keeps s) → Keeps (if b then r else s)
+keeps_if true r s h k = h refl
+keeps_if false r s h k = k refl
+
+keeps_add : (fault : Option AddError) (plan : Plan) → AreNamed plan.tree → Keeps (unless_add fault plan)
+unfolding Keeps
+keeps_add None plan h = h
+keeps_add (Some error) plan h = tt
+
+keeps_plug : (fault : Option PlugError) (plan : Plan) → AreNamed plan.tree → Keeps (unless_plug fault plan)
+unfolding Keeps
+keeps_plug None plan h = h
+keeps_plug (Some error) plan h = tt
+
+is_named : (a b : Bool) → (not a || b) ≡ false → a ≡ true
+is_named true b h = refl
+is_named false b h = cc
+
+keeps_device : (plan : Plan) (name : List ℕ) (kind : Option Kind) (ports : Option ℕ) → AreNamed plan.tree → Keeps (device_read plan name kind ports)
+unfolding Keeps
+keeps_device plan name None ports h = tt
+keeps_device plan name (Some kind) None h = tt
+keeps_device plan name (Some kind) (Some ports) h =
+    keeps_if (nat_lt 15 ports) (Err causes.Number) _ (λ e. tt) (λ e.
+    keeps_if (not (is_name name) || is_some (device_named plan.tree name)) (Err causes.Name) _ (λ g. tt) (λ g.
+    keeps_add (add_fault 15 plan.tree name kind) (record plan { tree = added plan.tree name kind ports })
+    (All-append (λ (n : Node). is_name n.name ≡ true) plan.tree (record { name = name; kind = kind; ports = ports; plug = None } ∷ []) h
+    (All-cons (λ (n : Node). is_name n.name ≡ true) (record { name = name; kind = kind; ports = ports; plug = None }) []
+    (is_named (is_name name) (is_some (device_named plan.tree name)) g) (All-nil (λ (n : Node). is_name n.name ≡ true))))))
+
+keeps_device_line : (plan : Plan) (words : Option (List ℕ × List ℕ × List ℕ)) → AreNamed plan.tree → Keeps (device_line plan words)
+unfolding Keeps
+keeps_device_line plan None h = tt
+keeps_device_line plan (Some words) h = keeps_device plan words.0 (kind_named words.1) (number_of words.2) h
+
+keeps_plug_read : (plan : Plan) (port child parent : Option ℕ) → AreNamed plan.tree → Keeps (plug_read plan port child parent)
+unfolding Keeps
+keeps_plug_read plan None child parent h = tt
+keeps_plug_read plan (Some port) None parent h = tt
+keeps_plug_read plan (Some port) (Some child) None h = tt
+keeps_plug_read plan (Some port) (Some child) (Some parent) h =
+    keeps_plug (plug_fault plan.tree child parent (min port 255)) (record plan { tree = plugged plan.tree child parent (min port 255) }) (named_plug plan.tree child _ h)
+
+keeps_plug_line : (plan : Plan) (words : Option (List ℕ × List ℕ × List ℕ)) → AreNamed plan.tree → Keeps (plug_line plan words)
+unfolding Keeps
+keeps_plug_line plan None h = tt
+keeps_plug_line plan (Some words) h = keeps_plug_read plan (number_of words.2) (device_named plan.tree words.0) (device_named plan.tree words.1) h
+
+keeps_edid : (plan : Plan) (bytes : Option (List ℕ)) → AreNamed plan.tree → Keeps (edid_read plan bytes)
+unfolding Keeps
+keeps_edid plan None h = tt
+keeps_edid plan (Some bytes) h = h
+
+keeps_edid_line : (plan : Plan) (word : Option (List ℕ)) → AreNamed plan.tree → Keeps (edid_line plan word)
+unfolding Keeps
+keeps_edid_line plan None h = tt
+keeps_edid_line plan (Some word) h = keeps_if (is_some plan.edid) (Err causes.Word) (edid_read plan (bytes_of word)) (λ e. tt) (λ e. keeps_edid plan (bytes_of word) h)
+
+keeps_worded : (plan : Plan) (words : List (List ℕ)) → AreNamed plan.tree → Keeps (worded plan words)
+unfolding Keeps
+keeps_worded plan [] h = tt
+keeps_worded plan (verb ∷ words) h =
+    keeps_if (bytes_eq verb (codes "device")) (device_line plan (three_of words)) _ (λ e. keeps_device_line plan (three_of words) h) (λ e.
+    keeps_if (bytes_eq verb (codes "plug")) (plug_line plan (three_of words)) _ (λ g. keeps_plug_line plan (three_of words) h) (λ g.
+    keeps_if (bytes_eq verb (codes "edid")) (edid_line plan (one_of words)) (Err causes.Word) (λ k. keeps_edid_line plan (one_of words) h) (λ k. tt)))
+
+keeps_line : (plan : Plan) (line : List ℕ) → AreNamed plan.tree → Keeps (line_read plan line)
+unfolding Keeps
+keeps_line plan line h = keeps_if (is_skipped line) (Ok plan) (worded plan (words_of line)) (λ e. h) (λ e. keeps_worded plan (words_of line) h)
+
+named_lines : (lines : List (List ℕ)) (number : ℕ) (plan end : Plan) → AreNamed plan.tree → lines_read lines number plan ≡ Ok end → AreNamed end.tree
+unfolding Keeps
+named_lines [] number plan end h e = step (has_root plan.tree) e
+  where
+    none : Result Plan TopologyFault
+    none = Err (record { line = number; cause = causes.NoRoot })
+
+    step : (b : Bool) → (if b then Ok plan else none) ≡ Ok end → AreNamed end.tree
+    step true k = let same : plan ≡ end = cc in subst (λ (p : Plan). AreNamed p.tree) same h
+    step false k = cc
+named_lines (line ∷ lines) number plan end h e = step (line_read plan line) (keeps_line plan line h) (λ next k. named_lines lines (number + 1) next end k) e
+  where
+    step : (r : Result Plan TopologyCause) → Keeps r → ((next : Plan) → AreNamed next.tree → lines_read lines (number + 1) next ≡ Ok end → AreNamed end.tree)
+        → at_line number r (λ next. lines_read lines (number + 1) next) ≡ Ok end → AreNamed end.tree
+    step (Ok next) k on e = on next k e
+    step (Err cause) k on e = cc
+
+pub names_are_words : (topology : List ℕ) (plan : Plan) → topology_of topology ≡ Ok plan → All (λ name. is_word name ≡ true) (names_in plan.tree)
+names_are_words topology plan h = words plan.tree (named_lines (lines_of topology) 1 (record { tree = []; edid = None }) plan (All-nil (λ (n : Node). is_name n.name ≡ true)) h)
+  where
+    words : (tree : List Node) → AreNamed tree → All (λ name. is_word name ≡ true) (names_in tree)
+    words [] k = All-nil (λ name. is_word name ≡ true)
+    words (node ∷ tree) k =
+        All-cons (λ name. is_word name ≡ true) node.name (names_in tree) (word_of node.name (k 0 node (omega arith))) (words tree (λ i x l. k (suc i) x (omega arith)))

@@ -1,0 +1,47 @@
+-- The dump of a run and of who drives its line tells that the line is low exactly where somebody pulls it (own).
+use Rattle.std.specs.Prelude.{◌≡◌, ℕ, ◌+◌, List, [], ◌∷◌, ◌++◌, drop, map, codes, Some, Ok}
+use Rattle.std.specs.List.{list_any}
+use Rattle.cec_wave.specs.Line.{line_of}
+use Rattle.hdmi_topo.specs.Node.{Node}
+use Rattle.cec_signal.specs.Edges.{Captured}
+use Rattle.cec_net.specs.Line.{run_wave}
+use Rattle.cec_vcd.specs.Dump.{edges_in}
+use Rattle.cec_vcd.specs.Wire.{Wire, wire_in, wire_line, words_in}
+use Rattle.cec_wires.specs.Wires.{id_of}
+use Rattle.cec_line.specs.declared.format.Format.TheVariants.{Vcd}
+use Rattle.cec_run.specs.declared.run.Totals.{Totals}
+use Rattle.cec_run.specs.Emulate.{IsLineOf}
+use Rattle.cec_driven.specs.Emulate.{IsDrivesOf}
+use Rattle.dump_laws.specs.Dumps.{Declared, declared_in, numbered, wire_at}
+use Rattle.driven_laws.specs.Rounds.{Laid, drives, rounds_of}
+
+-- the wires that a dump declares below its first one
+abbrev pub below : List ℕ → List Declared
+below text = drop 1 (declared_in (words_in text))
+
+-- What a dump tells (IEEE 1364-2005, 18), by its words alone: its first wire is the line, and at every microsecond that is low if
+-- and only if one of the wires below it is.
+pub record TellsDrives (names : List (List ℕ)) (rounds : List Laid) (text : List ℕ) : Type 0 where
+  pub line : Wire
+  pub first : wire_in [] (words_in text) ≡ Some line
+  pub driven : (u : ℕ) → wire_line line u ≡ list_any (λ d. wire_line (record line { id = d.id }) u) (below text)
+  -- They are a wire for the line, one for each device, and one for the pulses,
+  pub declared : declared_in (words_in text) ≡ numbered 0 (codes "CEC" ∷ (names ++ codes "pulses" ∷ []))
+  -- the first is the line of the whole run,
+  pub line_is : (u : ℕ) → wire_line line u ≡ line_of (run_wave (map (λ r. r.outcome) rounds)) u
+  -- and each of the others is low where its device, or the pulses, pull in some round.
+  pub drives_are : (number u : ℕ) → wire_line (record line { id = id_of (number + 1) ∷ [] }) u ≡ list_any (λ r. line_of (wire_at number (drives r)) u) rounds
+
+-- the names of a topology's devices
+abbrev pub names_in : List Node → List (List ℕ)
+names_in tree = map (λ node. node.name) tree
+
+-- Of every topology and script that are accepted.
+abbrev pub DumpsTellDrives : Type 0
+DumpsTellDrives = (topology script text : List ℕ) (totals : Totals) → (p : IsDrivesOf topology script text totals)
+    → TellsDrives (names_in p.plan.tree) (rounds_of topology script text totals p) text
+
+-- Read by this program, as its first wire or by the line's name, the dump with drives is the same capture as that of the line alone.
+abbrev pub DumpsAreReadAsLines : Type 0
+DumpsAreReadAsLines = (topology script x y : List ℕ) (s t : Totals) → IsDrivesOf topology script x s → IsLineOf Vcd topology script y t
+    → (c : Captured) × (edges_in [] y ≡ Ok c) × (edges_in [] x ≡ Ok c) × (edges_in (codes "CEC") x ≡ Ok c)

@@ -1,0 +1,65 @@
+-- The rounds of a run of which a dump tells who drives the line (own).
+use Rattle.std.specs.Prelude.{◌≡◌, ℕ, zero, suc, true, List, [], ◌∷◌, ◌++◌, map, All}
+use Rattle.cec_wave.specs.declared.Stretch.{Stretch}
+use Rattle.cec_wave.specs.Line.{IsWave}
+use Rattle.cec_wave.specs.Pulses.{AreSparse}
+use Rattle.cec_wire.specs.declared.Seat.{Seat}
+use Rattle.cec_wire.specs.declared.Outcome.{Outcome}
+use Rattle.cec_wire.specs.Contend.{AreFrames}
+use Rattle.cec_wire.specs.Lasting.{is_begun}
+use Rattle.cec_wire.specs.Round.{IsRound}
+use Rattle.cec_drives.specs.Stretches.{drives_of}
+use Rattle.cec_net.specs.State.{started}
+use Rattle.cec_net.specs.Step.{seats_of}
+use Rattle.cec_run.specs.declared.run.Totals.{Totals}
+use Rattle.cec_run.specs.declared.run.Turn.{Turn}
+use Rattle.cec_run.specs.declared.run.Turn.TheVariants.{Stop, Apply, Round}
+use Rattle.cec_run.specs.Run.{Config, start, turn_at}
+use Rattle.cec_run.specs.Emulate.{IsTraceOf}
+use Rattle.cec_run.specs.OneRun.{rounds_of_trace}
+use Rattle.cec_driven.specs.Driven.{Drives, IsDrivenBy}
+use Rattle.cec_driven.specs.Emulate.{IsDrivesOf}
+
+-- a round: who sits at the line and sends as it begins, the pulses that no round before it has taken, and what it gives
+pub record Laid : Type 0 where
+  pub seats : List Seat
+  pub begin : ℕ
+  pub pulses : List Stretch
+  pub outcome : Outcome
+
+-- its drives: each seat's, and then the pulses'
+abbrev pub drives : Laid → List (List Stretch)
+drives r = drives_of r.seats r.begin r.pulses r.outcome
+
+-- the round of a turn, if it is one
+abbrev pub rounds_by : (turn : Turn) (c : Config) (line text : List ℕ) (d : Config) → IsDrivenBy turn c line text d → List Laid
+rounds_by Stop c line text d t = []
+rounds_by (Apply at) c line text d t = []
+rounds_by (Round begin) c line text d t = record { seats = seats_of c.net begin; begin = begin; pulses = c.net.pulses; outcome = t.0.outcome } ∷ []
+
+abbrev pub rounds_in : (end turns : ℕ) (c : Config) (line text : List ℕ) (d : Config) → Drives end turns c line text d → List Laid
+rounds_in end zero c line text d l = []
+rounds_in end (suc turns) c line text d l = rounds_by (turn_at end c) c l.1 l.3 l.0 l.5 ++ rounds_in end turns l.0 l.2 l.4 d l.6
+
+-- the rounds of the run whose drives a text tells, in order
+abbrev pub rounds_of : (topology script text : List ℕ) (totals : Totals) → IsDrivesOf topology script text totals → List Laid
+rounds_of topology script text totals p =
+    rounds_in p.course.end p.driven.run.turns (start (started p.plan.tree p.course.pulses) p.course.events) p.driven.run.line p.driven.run.body p.driven.run.at_end p.driven.run.drives
+
+-- it is one of which `drives_are_the_line` of drive_laws speaks: its seats send frames, pulses are sparse, its line is in order and
+-- is that of a round, and somebody pulls at once
+pub record IsRuled (r : Laid) : Type 0 where
+  pub frames : AreFrames r.seats
+  pub sparse : AreSparse r.pulses
+  pub wave : IsWave r.outcome.wave
+  pub round : IsRound r.seats r.begin r.pulses r.outcome
+  pub begun : is_begun r.seats r.begin r.pulses ≡ true
+
+-- So is each round of a run.
+abbrev pub RoundsAreRuled : Type 0
+RoundsAreRuled = (topology script text : List ℕ) (totals : Totals) → (p : IsDrivesOf topology script text totals) → All IsRuled (rounds_of topology script text totals p)
+
+-- And these are the rounds that the trace tells, in order.
+abbrev pub RoundsAreTheTraces : Type 0
+RoundsAreTheTraces = (topology script x y : List ℕ) (s t : Totals) → (p : IsTraceOf topology script x s) → (q : IsDrivesOf topology script y t)
+    → (s ≡ t) × (rounds_of_trace topology script x s p ≡ map (λ r. r.outcome) (rounds_of topology script y t q))

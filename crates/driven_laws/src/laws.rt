@@ -1,0 +1,24 @@
+//! Laws of the dumps that tell who drives the line of a run.
+ghost use Rattle.driven_laws.specs.Rounds.{RoundsAreRuled, RoundsAreTheTraces};
+ghost use Rattle.driven_laws.specs.Dumps.{DumpsAreReadAsLines, DumpsTellDrives};
+
+/// Each round of a run is one of which [`drives_are_the_line`](drive_laws::drives_are_the_line) speaks.
+pub fn rounds_are_ruled()
+    ensures { RoundsAreRuled }
+{}
+
+/// The rounds whose drives are told are those that the trace of the same texts tells, in order.
+pub fn rounds_are_the_traces()
+    ensures { RoundsAreTheTraces }
+{}
+
+/// The dump of a run and of who drives its line tells at every microsecond a line that is low exactly where one of the wires
+/// below it is low.
+pub fn dumps_tell_drives()
+    ensures { DumpsTellDrives }
+{}
+
+/// Read as its first wire or by the line's name, that dump is the same capture as the dump of the line alone.
+pub fn dumps_are_read_as_lines()
+    ensures { DumpsAreReadAsLines }
+{}

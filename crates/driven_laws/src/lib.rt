@@ -1,0 +1,8 @@
+//! Laws: the dump of a run and of who drives its line tells a line that is low exactly where somebody pulls it.
+#![tactic(auto)]
+
+mod laws;
+
+pub use laws::{
+    dumps_are_read_as_lines, dumps_tell_drives, rounds_are_ruled, rounds_are_the_traces,
+};
