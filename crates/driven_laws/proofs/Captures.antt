@@ -32,18 +32,18 @@ same_edges b from (e ∷ es) (f ∷ fs) h k same = elim (cases_lt e.at f.at) [
   | inr ge ↦ elim (cases_lt f.at e.at) [
     | inl lt ↦ absurd (differ b (sym (at_edge b from f fs k) ∙ sym (same f.at k.1) ∙ before_edge b e es f.at lt))
     | inr le ↦ (
-      let at : e.at ≡ f.at = omega (arith, ge, le) in
-      let low : e.low ≡ f.low = h.0 ∙ sym k.0 in
-      let one : e ≡ f = (λ i. record { at = at i; low = low i }) in
-      let there : AreInTurn e.low (e.at + 1) fs = subst (λ (x : Edge). AreInTurn x.low (x.at + 1) fs) (sym one) k.2 in
-      let levels : (u : ℕ) → e.at + 1 ≤ u → level_at e.low es u ≡ level_at e.low fs u = (λ u l.
-      let from_e : e.at ≤ u = omega (arith, l) in
-      let from_f : f.at ≤ u = omega (arith, l, at) in
-      let begun : from ≤ e.at = h.1 in
-      let now : from ≤ u = omega (arith, l, begun) in
-      sym (after_edge b e es u from_e) ∙ same u now ∙ after_edge b f fs u from_f ∙ ap (λ x. level_at x fs u) (sym low)) in
-      ap₂ (λ (x : Edge) (xs : List Edge). x ∷ xs) one (same_edges e.low (e.at + 1) es fs h.2 there levels)
-    )
+        let at : e.at ≡ f.at = omega (arith, ge, le) in
+        let low : e.low ≡ f.low = h.0 ∙ sym k.0 in
+        let one : e ≡ f = (λ i. record { at = at i; low = low i }) in
+        let there : AreInTurn e.low (e.at + 1) fs = subst (λ (x : Edge). AreInTurn x.low (x.at + 1) fs) (sym one) k.2 in
+        let levels : (u : ℕ) → e.at + 1 ≤ u → level_at e.low es u ≡ level_at e.low fs u = (λ u l.
+        let from_e : e.at ≤ u = omega (arith, l) in
+        let from_f : f.at ≤ u = omega (arith, l, at) in
+        let begun : from ≤ e.at = h.1 in
+        let now : from ≤ u = omega (arith, l, begun) in
+        sym (after_edge b e es u from_e) ∙ same u now ∙ after_edge b f fs u from_f ∙ ap (λ x. level_at x fs u) (sym low)) in
+        ap₂ (λ (x : Edge) (xs : List Edge). x ∷ xs) one (same_edges e.low (e.at + 1) es fs h.2 there levels)
+        )
   ]
 ]
 

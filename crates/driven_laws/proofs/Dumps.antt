@@ -1,8 +1,7 @@
 -- The dump of a run and of who drives its line.
-use Rattle.std.proofs.Common.{◌≡◌, ℕ, zero, suc, ◌+◌, ◌<◌, ◌≤◌, Bool, true, false, ◌||◌, max, List, [], ◌∷◌, ◌++◌, drop, length, map, codes, get_or, Some, Ok, inl, inr, refl, sym, ap, ap₂, ◌∙◌, subst, arith, append_assoc}
+use Rattle.std.proofs.Common.{◌≡◌, ℕ, zero, suc, ◌+◌, ◌≤◌, Bool, true, false, ◌||◌, max, List, [], ◌∷◌, ◌++◌, drop, length, map, codes, get_or, Ok, inl, inr, refl, sym, ap, ap₂, ◌∙◌, subst, arith}
 use Rattle.std.proofs.lemmas.List.{map-append}
 use Rattle.std.specs.List.{All, flat_map, list_any}
-use Rattle.std.proofs.lemmas.List.Elements.{All-nil}
 use Rattle.std.proofs.lemmas.List.Folds.{list_any-append}
 use Rattle.cec_wave.specs.declared.Stretch.{Stretch}
 use Rattle.cec_wave.specs.Line.{IsWave, covers, line_of}
@@ -14,13 +13,12 @@ use Rattle.hdmi_topo.specs.Node.{Node}
 use Rattle.cec_net.specs.Line.{run_wave}
 use Rattle.cec_net.specs.State.{started}
 use Rattle.cec_net.proofs.Framed.{framed-started}
-use Rattle.cec_asm.specs.Script.{IsScript}
 use Rattle.cec_asm.proofs.Sound.{scripts_are_sound}
 use Rattle.cec_vcd.specs.Dump.{edges_in}
 use Rattle.cec_vcd.specs.Text.{last}
-use Rattle.cec_vcd.specs.Wire.{Wire, wire_line, words_in}
+use Rattle.cec_vcd.specs.Wire.{wire_line}
 use Rattle.cec_wires.specs.Wires.{head, id_of}
-use Rattle.cec_drives.specs.Stretches.{drives_from, drives_of}
+use Rattle.cec_drives.specs.Stretches.{drives_from}
 use Rattle.cec_line.specs.Format.{line_text}
 use Rattle.cec_line.specs.declared.format.Format.TheVariants.{Vcd}
 use Rattle.cec_run.specs.declared.run.Telling.TheVariants.{Line}
@@ -33,17 +31,17 @@ use Rattle.cec_run.specs.Emulate.{IsLineOf}
 use Rattle.cec_run.proofs.Accepted.{texts_have_one_line}
 use Rattle.cec_run.proofs.OneRun.{runs_close_soon, texts_have_one_run}
 use Rattle.cec_run.proofs.WholeLine.{lines_are_of_the_rounds}
-use Rattle.cec_driven.specs.Driven.{Drives, IsDrivenBy, names_of}
+use Rattle.cec_driven.specs.Driven.{Drives, IsDrivenBy}
 use Rattle.cec_driven.specs.Emulate.{IsDrivesOf}
 use Rattle.cec_driven.proofs.Counts.{count_started}
+use Rattle.cec_driven.proofs.HasDrives.{runs_have_drives}
 use Rattle.cec_capture.proofs.Formats.{is_capture, lines_are_read_back}
 use Rattle.cec_capture.proofs.ReadBack.{same_line}
-use Rattle.dump_laws.specs.Dumps.{AreSpans, Declared, Span, TellsLine, TellsWires, declared_in, dump_of, is_word, level_at, numbered, wire_at}
-use Rattle.dump_laws.proofs.Changes.{spans_text}
+use Rattle.dump_laws.specs.Dumps.{Declared, Span, TellsLine, TellsWires, dump_of, level_at, numbered, wire_at}
 use Rattle.dump_laws.proofs.ReadHead.{dumps_are_read_as_the_line}
 use Rattle.dump_laws.proofs.Whole.{dumps_tell_their_wires}
 use Rattle.driven_laws.specs.Rounds.{IsRuled, Laid, RoundsAreRuled, RoundsAreTheTraces, drives, rounds_by, rounds_in, rounds_of}
-use Rattle.driven_laws.specs.Dumps.{DumpsAreReadAsLines, DumpsTellDrives, TellsDrives, below, names_in}
+use Rattle.driven_laws.specs.Dumps.{DumpsAreReadAsLines, DumpsTellDrives, TellsDrives, TextsHaveDrives, names_in}
 use Rattle.driven_laws.proofs.Captures.{same_captures}
 use Rattle.driven_laws.proofs.Names.{names_are_words, names_started}
 use Rattle.driven_laws.proofs.Turns.{Stands, Told, all_told, driven_line, span_of}
@@ -293,6 +291,11 @@ dumps_tell_drives topology script text totals p =
     (tells p.plan.tree rs (dump_of (names_in p.plan.tree) (spans_in topology script text totals p) (end_of topology script text totals p)) told.ruled told.seated
     (dumps_tell_their_wires (names_in p.plan.tree) (spans_in topology script text totals p) (end_of topology script text totals p) (names_are_words topology p.plan p.accepted.plan_is) told.spans
     (soon topology script text totals p)))
+
+pub texts_have_drives : TextsHaveDrives
+texts_have_drives topology script plan course edid accepted root =
+    let driven = runs_have_drives plan.tree course.pulses course.events course.end (scripts_are_sound plan.tree script course accepted.course_is).sparse in
+    (driven.0, driven.1, record { plan = plan; course = course; edid = edid; accepted = accepted; root = root; driven = driven.2 })
 
 -- ---- it is read as the dump of the line alone
 

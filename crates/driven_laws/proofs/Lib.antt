@@ -1,4 +1,4 @@
-mod Turns
-mod Names
-mod Captures
-mod Dumps
+pub mod Turns
+pub mod Names
+pub mod Captures
+pub mod Dumps

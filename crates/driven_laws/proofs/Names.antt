@@ -1,5 +1,5 @@
 -- The names of a run's devices are those of the topology, and each is one word.
-use Rattle.std.proofs.Common.{◌≡◌, ℕ, zero, suc, ◌+◌, ◌-◌, ◌<◌, ◌≤◌, ◌==◌, ◌&&◌, ◌||◌, Bool, true, false, not, nat_lt, nat_le, min, if◌then◌else◌, List, [], ◌∷◌, ◌++◌, length, map, codes, slice_index, Option, Some, None, is_some, Result, Ok, Err, refl, sym, ap, ap₂, ◌∙◌, subst, arith}
+use Rattle.std.proofs.Common.{◌≡◌, ℕ, zero, suc, ◌+◌, ◌==◌, ◌&&◌, ◌||◌, Bool, true, false, not, nat_lt, nat_le, min, if◌then◌else◌, List, [], ◌∷◌, ◌++◌, length, codes, slice_index, Option, Some, None, is_some, Result, Ok, Err, refl, ap, ap₂, ◌∙◌, subst, arith}
 use Rattle.std.specs.List.{All, list_all}
 use Rattle.std.specs.Char.{is_ascii_lowercase}
 use Rattle.std.specs.Str.{bytes_eq}
@@ -24,9 +24,9 @@ use Rattle.cec_asm.specs.Topology.{Plan, TopologyFault, at_line, bytes_of, devic
 use Rattle.cec_asm.specs.declared.topology.TopologyCause.{TopologyCause}
 use Rattle.cec_asm.specs.declared.topology.TopologyCause.TheVariants as causes
 use Rattle.cec_device.specs.State.{State, frame_of, held, holds, one_more, queued, speaks}
-use Rattle.cec_device.specs.Place.{fresh, is_on_wire, joined, reported, reported_by, reported_from, start_place}
+use Rattle.cec_device.specs.Place.{fresh, is_on_wire, joined, reported_by, reported_from, start_place}
 use Rattle.cec_feature.specs.Kinds.{is_switch, type_of}
-use Rattle.cec_net.specs.State.{NetState, each_from, loose, moved, moved_by, started}
+use Rattle.cec_net.specs.State.{each_from, loose, moved, moved_by, started}
 use Rattle.cec_driven.specs.Driven.{names_of}
 use Rattle.dump_laws.specs.Dumps.{is_word}
 use Rattle.driven_laws.specs.Dumps.{names_in}

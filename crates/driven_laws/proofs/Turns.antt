@@ -1,11 +1,10 @@
 -- A run, turn by turn: its rounds, and the spans that its dump tells.
-use Rattle.std.proofs.Common.{◌≡◌, ℕ, zero, suc, ◌+◌, ◌-◌, ◌<◌, ◌≤◌, Bool, true, false, ◌||◌, nat_lt, min, max, List, [], ◌∷◌, ◌++◌, length, map, get_or, Option, Some, None, inl, inr, refl, sym, ap, ap₂, ◌∙◌, subst, arith}
+use Rattle.std.proofs.Common.{◌≡◌, ℕ, zero, suc, ◌+◌, ◌-◌, ◌<◌, ◌≤◌, Bool, true, false, ◌||◌, nat_lt, min, max, List, [], ◌∷◌, ◌++◌, length, map, Option, Some, None, refl, sym, ap, ap₂, ◌∙◌, subst, arith}
 use Rattle.std.specs.List.{All, filter, list_any}
-use Rattle.std.proofs.lemmas.Bool.{cases_lt}
 use Rattle.std.proofs.lemmas.Bool.Decides.{nat_tests}
 use Rattle.std.proofs.lemmas.List.Elements.{All-cons, All-nil, filter_passes}
 use Rattle.cec_wave.specs.declared.Stretch.{Stretch}
-use Rattle.cec_wave.specs.Line.{IsWave, line_of}
+use Rattle.cec_wave.specs.Line.{line_of}
 use Rattle.cec_wave.specs.Pulses.{AreSparse}
 use Rattle.cec_wave.proofs.Kept.{sparse-filter}
 use Rattle.cec_bits.specs.Readings.{IsLone}
@@ -17,7 +16,6 @@ use Rattle.cec_wire.proofs.Lasting.{rounds_last}
 use Rattle.drive_laws.proofs.Whole.{drives_are_the_line}
 use Rattle.dump_laws.specs.Dumps.{AreSpans, IsWithin, Span, wire_at}
 use Rattle.dump_laws.proofs.Changes.{spans_text}
-use Rattle.cec_device.specs.State.{State}
 use Rattle.cec_net.specs.Start.{first_onset, least_start, sooner}
 use Rattle.cec_net.specs.State.{NetState, next_start}
 use Rattle.cec_net.specs.Apply.{applied}

@@ -1,16 +1,20 @@
 -- The dump of a run and of who drives its line tells that the line is low exactly where somebody pulls it (own).
-use Rattle.std.specs.Prelude.{◌≡◌, ℕ, ◌+◌, List, [], ◌∷◌, ◌++◌, drop, map, codes, Some, Ok}
+use Rattle.std.specs.Prelude.{◌≡◌, ℕ, ◌+◌, List, [], ◌∷◌, ◌++◌, drop, map, codes, Option, Some, Ok}
 use Rattle.std.specs.List.{list_any}
 use Rattle.cec_wave.specs.Line.{line_of}
+use Rattle.hdmi_blocks.specs.declared.edid.Edid.{Edid}
 use Rattle.hdmi_topo.specs.Node.{Node}
 use Rattle.cec_signal.specs.Edges.{Captured}
+use Rattle.cec_asm.specs.Script.{Course}
+use Rattle.cec_asm.specs.Topology.{Plan}
 use Rattle.cec_net.specs.Line.{run_wave}
+use Rattle.cec_trace.specs.Root.{IsRoot}
 use Rattle.cec_vcd.specs.Dump.{edges_in}
 use Rattle.cec_vcd.specs.Wire.{Wire, wire_in, wire_line, words_in}
 use Rattle.cec_wires.specs.Wires.{id_of}
 use Rattle.cec_line.specs.declared.format.Format.TheVariants.{Vcd}
 use Rattle.cec_run.specs.declared.run.Totals.{Totals}
-use Rattle.cec_run.specs.Emulate.{IsLineOf}
+use Rattle.cec_run.specs.Emulate.{IsAccepted, IsLineOf}
 use Rattle.cec_driven.specs.Emulate.{IsDrivesOf}
 use Rattle.dump_laws.specs.Dumps.{Declared, declared_in, numbered, wire_at}
 use Rattle.driven_laws.specs.Rounds.{Laid, drives, rounds_of}
@@ -36,7 +40,12 @@ pub record TellsDrives (names : List (List ℕ)) (rounds : List Laid) (text : Li
 abbrev pub names_in : List Node → List (List ℕ)
 names_in tree = map (λ node. node.name) tree
 
--- Of every topology and script that are accepted.
+-- A topology and a script that are accepted, with an EDID that is none or is read, have such a dump.
+abbrev pub TextsHaveDrives : Type 0
+TextsHaveDrives = (topology script : List ℕ) (plan : Plan) (course : Course) (edid : Option Edid) → IsAccepted topology script plan course → IsRoot plan.edid edid
+    → (text : List ℕ) × (totals : Totals) × IsDrivesOf topology script text totals
+
+-- And each of theirs tells the drives of their run.
 abbrev pub DumpsTellDrives : Type 0
 DumpsTellDrives = (topology script text : List ℕ) (totals : Totals) → (p : IsDrivesOf topology script text totals)
     → TellsDrives (names_in p.plan.tree) (rounds_of topology script text totals p) text

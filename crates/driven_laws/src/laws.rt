@@ -1,6 +1,6 @@
 //! Laws of the dumps that tell who drives the line of a run.
 ghost use Rattle.driven_laws.specs.Rounds.{RoundsAreRuled, RoundsAreTheTraces};
-ghost use Rattle.driven_laws.specs.Dumps.{DumpsAreReadAsLines, DumpsTellDrives};
+ghost use Rattle.driven_laws.specs.Dumps.{DumpsAreReadAsLines, DumpsTellDrives, TextsHaveDrives};
 
 /// Each round of a run is one of which [`drives_are_the_line`](drive_laws::drives_are_the_line) speaks.
 pub fn rounds_are_ruled()
@@ -10,6 +10,11 @@ pub fn rounds_are_ruled()
 /// The rounds whose drives are told are those that the trace of the same texts tells, in order.
 pub fn rounds_are_the_traces()
     ensures { RoundsAreTheTraces }
+{}
+
+/// A topology and a script that are accepted have a dump of their run and of who drives its line.
+pub fn texts_have_drives()
+    ensures { TextsHaveDrives }
 {}
 
 /// The dump of a run and of who drives its line tells at every microsecond a line that is low exactly where one of the wires

@@ -5,4 +5,5 @@ mod laws;
 
 pub use laws::{
     dumps_are_read_as_lines, dumps_tell_drives, rounds_are_ruled, rounds_are_the_traces,
+    texts_have_drives,
 };

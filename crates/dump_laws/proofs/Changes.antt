@@ -1,6 +1,5 @@
 -- The changes that a dump's words tell of one of its wires.
 use Rattle.std.proofs.Common.{◌≡◌, ℕ, zero, suc, ◌+◌, ◌^◌, ◌<◌, ◌≤◌, ◌&&◌, ◌||◌, Bool, true, false, nat_lt, if◌then◌else◌, List, [], ◌∷◌, ◌++◌, refl, sym, ap, ◌∙◌, arith, append_assoc, append-nil}
-use Rattle.std.specs.Fmt.{decimal}
 use Rattle.std.specs.List.{flat_map, list_any, range_with_len}
 use Rattle.std.specs.Str.{bytes_eq}
 use Rattle.cec_wave.specs.declared.Stretch.{Stretch}
@@ -10,7 +9,7 @@ use Rattle.cec_vcd.specs.Text.{last}
 use Rattle.cec_vcd.specs.Wire.{Change, changes_in, is_by, level_of, words_in}
 use Rattle.cec_vcd.specs.declared.reader.Section.TheVariants as section
 use Rattle.cec_vcd.proofs.Texts.{time_line}
-use Rattle.cec_wires.specs.Wires.{changes_from, high_at_first, id_of, instant_text, turns, wires_text}
+use Rattle.cec_wires.specs.Wires.{high_at_first, id_of, instant_text, turns, wires_text}
 use Rattle.dump_laws.specs.Dumps.{AreSpans, Span, wire_at}
 use Rattle.dump_laws.proofs.Levels.{change_by, micro, own_change, own_changes, span_changes}
 use Rattle.dump_laws.proofs.Words.{change_word, change_words, instant_words, instant_words_by, other_id, own_id, time_words, value_word, value_words, words_instant}

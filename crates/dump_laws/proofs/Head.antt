@@ -1,14 +1,14 @@
 -- The definitions of a dump of several wires, as its words say them.
 use Rattle.std.proofs.Common.{◌≡◌, ℕ, suc, ◌+◌, ◌==◌, ◌&&◌, ◌||◌, not, Bool, true, false, if◌then◌else◌, List, [], ◌∷◌, ◌++◌, length, get_or, codes, filter, All, Option, Some, None, refl, sym, ap, ◌∙◌, arith, append_assoc}
-use Rattle.std.specs.List.{flat_map, list_all, range_with_len, slice_split}
+use Rattle.std.specs.List.{flat_map, list_all, range_with_len}
 use Rattle.std.specs.Str.{bytes_eq}
 use Rattle.std.proofs.lemmas.List.Elements.{All-append}
 use Rattle.std.proofs.lemmas.List.Splits.{slice_split_at}
 use Rattle.cec_signal.proofs.Texts.{Lacks, more_lack, none_lack, shown}
 use Rattle.cec_vcd.specs.Dump.{is_end, is_space, parts_of}
-use Rattle.cec_vcd.specs.Wire.{Part, Wire, is_some_word, wire_from, wire_in, words_in}
+use Rattle.cec_vcd.specs.Wire.{is_some_word, wire_from, wire_in, words_in}
 use Rattle.cec_wires.specs.Wires.{closing, head, high_at_first, id_of, opening, variable, variables}
-use Rattle.dump_laws.specs.Dumps.{Declared, declared_from, declared_in, is_word, numbered}
+use Rattle.dump_laws.specs.Dumps.{declared_from, declared_in, is_word, numbered}
 use Rattle.dump_laws.proofs.Levels.{micro}
 use Rattle.dump_laws.proofs.Words.{id_end, id_plain, id_space, line_words, shown_words, words_before}
 

@@ -1,16 +1,15 @@
 -- The level that changes tell, span by span.
-use Rattle.std.proofs.Common.{◌≡◌, ℕ, zero, suc, ◌+◌, ◌-◌, ◌*◌, ◌<◌, ◌≤◌, ◌&&◌, ◌||◌, not, Bool, true, false, nat_lt, nat_le, if◌then◌else◌, List, [], ◌∷◌, ◌++◌, inl, inr, refl, sym, ap, ap₂, ◌∙◌, subst, arith, append_assoc}
-use Rattle.std.specs.List.{flat_map, list_any, range_with_len}
+use Rattle.std.proofs.Common.{◌≡◌, ℕ, zero, suc, ◌+◌, ◌-◌, ◌<◌, ◌≤◌, ◌&&◌, ◌||◌, not, Bool, true, false, nat_lt, nat_le, if◌then◌else◌, List, [], ◌∷◌, ◌++◌, inl, inr, refl, sym, ap, ap₂, ◌∙◌, arith, append_assoc}
+use Rattle.std.specs.List.{flat_map, range_with_len}
 use Rattle.std.proofs.lemmas.Bool.{cases_lt}
 use Rattle.std.proofs.lemmas.Bool.Decides.{nat_tests}
-use Rattle.cec_wave.specs.declared.Stretch.{Stretch}
-use Rattle.cec_wave.specs.Line.{Line, line_of, is_fall, is_rise, was_low}
+use Rattle.cec_wave.specs.Line.{Line, line_of, was_low}
 use Rattle.cec_vcd.specs.Wire.{Change, is_by, level_of}
 use Rattle.cec_vcd.specs.declared.scale.Scale.{Scale as ScaleOf}
 use Rattle.cec_vcd.specs.declared.scale.Unit.TheVariants.{Microsecond}
 use Rattle.cec_vcd.specs.declared.scale.Count.TheVariants.{One}
 use Rattle.cec_wires.specs.Wires.{turns}
-use Rattle.dump_laws.specs.Dumps.{Span, IsWithin, AreSpans, level_at, wire_at}
+use Rattle.dump_laws.specs.Dumps.{Span, AreSpans, level_at, wire_at}
 
 abbrev pub micro : ScaleOf
 micro = record { count = One; unit = Microsecond }
@@ -97,11 +96,11 @@ in_level low from zero u cs l m h = absurd (omega arith)
 in_level low from (suc count) u cs l m h = step_level low from count u cs l ∙ elim (cases_lt from u) [
   | inl lt ↦ in_level low (from + 1) count u cs (omega (arith, lt)) (omega (arith, m)) h
   | inr ge ↦ (
-  let here : u ≡ from = omega (arith, l, ge) in
-  not_yet u (was_low low (from + 1)) (own_changes low (from + 1) count ++ cs)
-  (after_append u (own_changes low (from + 1) count) cs (after_changes low u (from + 1) count (omega (arith, here))) h)
-  ∙ was_next low from ∙ ap low (sym here)
-  )
+      let here : u ≡ from = omega (arith, l, ge) in
+      not_yet u (was_low low (from + 1)) (own_changes low (from + 1) count ++ cs)
+      (after_append u (own_changes low (from + 1) count) cs (after_changes low u (from + 1) count (omega (arith, here))) h)
+      ∙ was_next low from ∙ ap low (sym here)
+      )
 ]
 
 -- past them
@@ -151,22 +150,22 @@ spans_level number u from end [] h = refl
 spans_level number u from end (s ∷ ss) h = elim (cases_lt u (s.from + s.count)) [
   | inl lt ↦ elim (cases_lt u s.from) [
     | inl early ↦ (
-      not_yet u false (span_changes number (s ∷ ss)) (after_spans number u s.from end (s ∷ ss) (omega arith, h.1, h.2) early)
-      ∙ sym (high_before number u s.from end (s ∷ ss) (omega arith, h.1, h.2) early)
-    )
+        not_yet u false (span_changes number (s ∷ ss)) (after_spans number u s.from end (s ∷ ss) (omega arith, h.1, h.2) early)
+        ∙ sym (high_before number u s.from end (s ∷ ss) (omega arith, h.1, h.2) early)
+        )
     | inr late ↦ (
-      ap (λ b. level_of micro b (span_changes number (s ∷ ss)) u) (sym begins)
-      ∙ in_level low s.from s.count u (span_changes number ss) late lt (after_spans number u (s.from + s.count) end ss h.2 lt)
-      ∙ or_none (low u) ∙ ap (λ b. low u || b) (sym (high_before number u (s.from + s.count) end ss h.2 lt))
-    )
+        ap (λ b. level_of micro b (span_changes number (s ∷ ss)) u) (sym begins)
+        ∙ in_level low s.from s.count u (span_changes number ss) late lt (after_spans number u (s.from + s.count) end ss h.2 lt)
+        ∙ or_none (low u) ∙ ap (λ b. low u || b) (sym (high_before number u (s.from + s.count) end ss h.2 lt))
+        )
   ]
   | inr ge ↦ (
-    ap (λ b. level_of micro b (span_changes number (s ∷ ss)) u) (sym begins)
-    ∙ past_level low s.from s.count u (span_changes number ss) ge
-    ∙ ap (λ b. level_of micro b (span_changes number ss) u) ends
-    ∙ spans_level number u (s.from + s.count) end ss h.2
-    ∙ ap (λ b. b || level_at number ss u) (sym (h.1.after number u (omega (arith, ge))))
-  )
+      ap (λ b. level_of micro b (span_changes number (s ∷ ss)) u) (sym begins)
+      ∙ past_level low s.from s.count u (span_changes number ss) ge
+      ∙ ap (λ b. level_of micro b (span_changes number ss) u) ends
+      ∙ spans_level number u (s.from + s.count) end ss h.2
+      ∙ ap (λ b. b || level_at number ss u) (sym (h.1.after number u (omega (arith, ge))))
+      )
 ]
   where
     low : Line

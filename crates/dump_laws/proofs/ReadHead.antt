@@ -1,5 +1,5 @@
 -- A reader takes each line of the definitions of several wires.
-use Rattle.std.proofs.Common.{◌≡◌, ℕ, suc, ◌+◌, ◌≤◌, ◌==◌, ◌||◌, not, true, false, List, [], ◌∷◌, ◌++◌, length, codes, All, Option, Some, None, Ok, ◌⊎◌, inl, inr, refl, sym, ap, ◌∙◌, subst, arith, append_assoc}
+use Rattle.std.proofs.Common.{◌≡◌, ℕ, suc, ◌+◌, ◌≤◌, ◌==◌, ◌||◌, not, true, false, List, [], ◌∷◌, ◌++◌, length, codes, All, Option, Some, None, Ok, inl, inr, refl, sym, ap, ◌∙◌, subst, arith, append_assoc}
 use Rattle.std.specs.List.{flat_map, list_all, range_with_len}
 use Rattle.std.specs.Str.{bytes_eq}
 use Rattle.cec_signal.specs.Edges.{Captured}
@@ -7,7 +7,7 @@ use Rattle.cec_signal.specs.Track.{begun as line_begun}
 use Rattle.cec_signal.proofs.Texts.{shown}
 use Rattle.cec_vcd.specs.Dump.{State, begun, edges_in, parts_of, words_passed}
 use Rattle.cec_vcd.specs.Text.{last}
-use Rattle.cec_vcd.specs.Wire.{Wire, wire_in, wire_line, words_in}
+use Rattle.cec_vcd.specs.Wire.{Wire, wire_line}
 use Rattle.cec_vcd.specs.declared.scale.Scale.{Scale as ScaleOf}
 use Rattle.cec_vcd.specs.declared.reader.Section.TheVariants as section
 use Rattle.cec_vcd.proofs.Sampled.{dumps_are_sampled}

@@ -1,5 +1,5 @@
 -- A reader takes each line of the changes of several wires.
-use Rattle.std.proofs.Common.{◌≡◌, ℕ, zero, suc, ◌+◌, ◌^◌, ◌<◌, ◌≤◌, ◌==◌, ◌&&◌, Bool, true, false, nat_lt, nat_le, if◌then◌else◌, List, [], ◌∷◌, ◌++◌, length, Option, Some, None, Ok, refl, sym, ap, ◌∙◌, subst, arith, append_assoc}
+use Rattle.std.proofs.Common.{◌≡◌, ℕ, zero, suc, ◌+◌, ◌≤◌, ◌==◌, ◌&&◌, Bool, true, false, nat_lt, nat_le, if◌then◌else◌, List, [], ◌∷◌, ◌++◌, length, Option, Some, None, Ok, refl, sym, ap, ◌∙◌, subst, arith, append_assoc}
 use Rattle.std.specs.Fmt.{decimal}
 use Rattle.std.specs.List.{flat_map, list_any, range_with_len}
 use Rattle.std.specs.Option.{option_to_list}
@@ -14,7 +14,7 @@ use Rattle.cec_signal.specs.declared.track.Track.{Track}
 use Rattle.cec_signal.proofs.Numbers.{number_again, some_length}
 use Rattle.cec_signal.proofs.Texts.{Lacks, line_before}
 use Rattle.cec_vcd.specs.Scale.{instant_of}
-use Rattle.cec_vcd.specs.Dump.{State, kept, lines_passed, parts_of, timed, timed_by, told_by, took, words_passed, onto}
+use Rattle.cec_vcd.specs.Dump.{State, kept, lines_passed, parts_of, timed, timed_by, told_by, took, words_passed}
 use Rattle.cec_vcd.specs.Text.{last}
 use Rattle.cec_vcd.specs.declared.reader.Section.TheVariants as section
 use Rattle.cec_vcd.proofs.Passing.{before, line_told, word_passed}

@@ -5,7 +5,7 @@ use Rattle.cec_vcd.specs.Text.{last}
 use Rattle.cec_vcd.specs.Wire.{level_of, words_in}
 use Rattle.cec_wires.specs.Wires.{high_at_first}
 use Rattle.dump_laws.specs.Dumps.{AreSpans, DumpsTellTheirWires, Span, level_at}
-use Rattle.dump_laws.proofs.Levels.{micro, span_changes, spans_level}
+use Rattle.dump_laws.proofs.Levels.{micro, spans_level}
 use Rattle.dump_laws.proofs.Words.{shown_words}
 use Rattle.dump_laws.proofs.Changes.{body_told, highs_told, spans_text, told}
 use Rattle.dump_laws.proofs.Head.{head_declared, head_wire, high_text}

@@ -1,23 +1,21 @@
 -- The words of a dump's lines.
-use Rattle.std.proofs.Common.{◌≡◌, ℕ, zero, suc, ◌+◌, ◌^◌, ◌<◌, ◌≤◌, ◌==◌, ◌&&◌, ◌||◌, not, Bool, true, false, if◌then◌else◌, List, [], ◌∷◌, ◌++◌, length, codes, filter, All, refl, sym, ap, ap₂, ◌∙◌, subst, arith, append_assoc}
+use Rattle.std.proofs.Common.{◌≡◌, ℕ, zero, suc, ◌+◌, ◌^◌, ◌<◌, ◌≤◌, ◌==◌, ◌||◌, not, Bool, true, false, if◌then◌else◌, List, [], ◌∷◌, ◌++◌, length, codes, filter, refl, sym, ap, ◌∙◌, arith, append_assoc}
 use Rattle.std.specs.Fmt.{decimal}
-use Rattle.std.specs.List.{flat_map, list_all, list_any, range_with_len, slice_split}
+use Rattle.std.specs.List.{flat_map, list_all, list_any}
 use Rattle.std.specs.Str.{bytes_eq}
-use Rattle.std.proofs.lemmas.Bool.{false≢true}
 use Rattle.std.proofs.lemmas.Bool.Decides.{nat_tests}
-use Rattle.std.proofs.lemmas.List.Elements.{All-append, filter-append}
-use Rattle.std.proofs.lemmas.List.Splits.{slice_split_at, slice_split_none}
+use Rattle.std.proofs.lemmas.List.Elements.{filter-append}
+use Rattle.std.proofs.lemmas.List.Splits.{slice_split_none}
 use Rattle.std.proofs.lemmas.Slice.Eq.{bytes_eq-Decides}
 use Rattle.cec_wave.specs.declared.Stretch.{Stretch}
 use Rattle.cec_wave.specs.Line.{line_of}
 use Rattle.cec_words.specs.Lines.{lines_of}
 use Rattle.cec_signal.proofs.Numbers.{some_length}
-use Rattle.cec_signal.proofs.Texts.{Lacks, line_before, more_lack, none_lack, number_lacks, shown}
+use Rattle.cec_signal.proofs.Texts.{Lacks, line_before, more_lack, none_lack, shown}
 use Rattle.cec_vcd.specs.Dump.{is_end, is_space, parts_of}
 use Rattle.cec_vcd.specs.Wire.{is_some_word, words_in}
 use Rattle.cec_vcd.proofs.Texts.{time_line, time_parts, time_plain}
-use Rattle.cec_wires.specs.Wires.{change_text, changes_from, high_at_first, id_of, instant_text, turns, variable, variables}
-use Rattle.dump_laws.specs.Dumps.{is_word}
+use Rattle.cec_wires.specs.Wires.{change_text, changes_from, id_of, instant_text, turns}
 
 -- ---- one line
 
