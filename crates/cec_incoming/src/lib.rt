@@ -1,0 +1,6 @@
+//! The lines that a reader gives, each as soon as its end was read.
+#![tactic(auto)]
+
+mod incoming;
+
+pub use incoming::{LineFault, Lines};

@@ -1,0 +1,7 @@
+pub mod Extends
+pub mod Going
+pub mod Noting
+pub mod Wholly
+pub mod Answering
+pub mod NoteCalls
+pub mod Kept

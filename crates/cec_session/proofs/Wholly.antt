@@ -1,0 +1,289 @@
+-- What the lines of a session have told is the front of the trace, and in the end that trace.
+use Rattle.std.proofs.Common.{◌≡◌, ℕ, zero, suc, ◌≤◌, ◌||◌, ◌⊎◌, max, Bool, true, false, nat_lt, if◌then◌else◌, List, [], ◌∷◌, ◌++◌, length, inl, inr, Option, Some, None, Result, Ok, Err, refl, sym, ap, ap₂, subst, ◌∙◌, arith, append-nil, append_assoc}
+use Rattle.std.specs.List.{All, list_any}
+use Rattle.std.proofs.lemmas.List.Elements.{All-nil, All-cons}
+use Rattle.std.proofs.lemmas.List.Prefix.{front_rest}
+use Rattle.std.proofs.lemmas.Bool.Decides.{nat_tests}
+use Rattle.cec_wave.specs.declared.Stretch.{Stretch}
+use Rattle.cec_wave.proofs.Sparse.{faultless_are_sparse}
+use Rattle.hdmi_topo.specs.Node.{Node}
+use Rattle.hdmi_blocks.specs.declared.edid.Edid.{Edid}
+use Rattle.cec_net.specs.State.{started}
+use Rattle.cec_net.proofs.Framed.{framed-started}
+use Rattle.cec_asm.specs.Script.{Notes, IsLineRead}
+use Rattle.cec_asm.specs.declared.script.TimedEvent.{TimedEvent}
+use Rattle.cec_asm.specs.declared.script.ScriptCause.{ScriptCause}
+use Rattle.cec_asm.proofs.Sound.{AreSound, line-keeps, sound_start}
+use Rattle.cec_run.specs.declared.run.Telling.TheVariants.{Trace}
+use Rattle.cec_run.specs.declared.run.Turn.{Turn}
+use Rattle.cec_run.specs.Run.{Config, start, start_told, end_told, Leads, IsRunText, IsRunTextFrom}
+use Rattle.cec_live.specs.Certain.{ComesFrom, LeadsIf, LeadsBy, with_more}
+use Rattle.cec_live.proofs.Certainty.{turns_stay_certain, told_is_front}
+use Rattle.cec_live.proofs.Before.{all_on}
+use Rattle.cec_session.specs.declared.answer.Refusal.TheVariants.{Script, Past}
+use Rattle.cec_session.specs.declared.command.Command.{Command}
+use Rattle.cec_session.specs.declared.command.Command.TheVariants as commands
+use Rattle.cec_session.specs.declared.live.Step.{Step}
+use Rattle.cec_session.specs.declared.live.Step.TheVariants.{Refuse, Idle, Show, Go, Finish}
+use Rattle.cec_session.specs.Turns.{IsTold, Goes}
+use Rattle.cec_session.specs.Command.{command_of}
+use Rattle.cec_session.specs.Session.{Session, Standing, begun, numbered, standing, with_standing, noted, step_noted, step_by, step_to, after_to, step_wait, after_wait, step_show, is_late, is_past, refuses_pulse, ends_before, horizon_by, new_events, new_pulses, IsStepBy, IsDue}
+use Rattle.cec_session.specs.Whole.{told_of, AreLines, SessionsTellFronts, SessionsTellTraces}
+use Rattle.cec_session.proofs.Extends.{line_extends}
+use Rattle.cec_session.proofs.Noting.{taken, drop_all}
+
+-- ---- while a session goes on
+
+record SoFar (edid : Option Edid) (tree : List Node) (s : Session) (told : List ℕ) : Type 0 where
+  edid_is : s.edid ≡ edid
+  turns : ℕ
+  leads : LeadsBy (Trace edid) s.horizon turns (start (started tree s.notes.pulses) s.notes.events) told s.place
+  sound : AreSound (length s.tree) s.notes
+
+so_far_start : (edid : Option Edid) (tree : List Node) → SoFar edid tree (begun edid tree) []
+so_far_start edid tree = record { edid_is = refl; turns = zero; leads = (refl, refl); sound = sound_start (length tree) }
+
+-- what comes for the horizon or later leaves it
+stay_on : (edid : Option Edid) (tree : List Node) (until on turns count : ℕ) (notes : Notes) (place : Config) (told : List ℕ) (events : List TimedEvent) (later : List Stretch) → AreSound count notes
+    → LeadsBy (Trace edid) until turns (start (started tree notes.pulses) notes.events) told place → ComesFrom until events later on
+    → LeadsBy (Trace edid) on turns (start (started tree (notes.pulses ++ later)) (notes.events ++ events)) told (with_more events later place)
+stay_on edid tree until on turns count notes place told events later sound l comes =
+    turns_stay_certain (Trace edid) until on turns (start (started tree notes.pulses) notes.events) place told events later
+    ((faultless_are_sparse notes.pulses).0 sound.sparse) (framed-started tree notes.pulses) sound.framed comes l
+
+same_place : (place : Config) → with_more [] [] place ≡ place
+same_place place =
+    ap₂ (λ (ps : List Stretch) (es : List TimedEvent). let c : Config = record { net = record place.net { pulses = ps }; events = es; totals = place.totals } in c)
+    (append-nil place.net.pulses) (append-nil place.events)
+
+raised : (edid : Option Edid) (tree : List Node) (s : Session) (told : List ℕ) (horizon : ℕ) → SoFar edid tree s told → s.horizon ≤ horizon → SoFar edid tree (record s { horizon = horizon }) told
+raised edid tree s told horizon r le =
+    let comes : ComesFrom s.horizon [] [] horizon = record { scheduled = All-nil (λ e. s.horizon ≤ e.at); begun = All-nil (λ p. s.horizon ≤ p.from); over = le } in
+    let l = stay_on edid tree s.horizon horizon r.turns (length s.tree) s.notes s.place told [] [] r.sound r.leads comes in
+    record {
+      edid_is = r.edid_is;
+      turns = r.turns;
+      leads = subst (λ (c : Config). LeadsBy (Trace edid) horizon r.turns (start (started tree s.notes.pulses) s.notes.events) told c) (same_place s.place)
+          (subst (λ (es : List TimedEvent). LeadsBy (Trace edid) horizon r.turns (start (started tree s.notes.pulses) es) told (with_more [] [] s.place)) (append-nil s.notes.events)
+          (subst (λ (ps : List Stretch). LeadsBy (Trace edid) horizon r.turns (start (started tree ps) (s.notes.events ++ [])) told (with_more [] [] s.place)) (append-nil s.notes.pulses) l));
+      sound = r.sound;
+    }
+
+-- ---- a line of the script
+
+neither : (a b : Bool) → (a || b) ≡ false → (a ≡ false) × (b ≡ false)
+neither true b e = cc
+neither false b e = (refl, e)
+
+from_events : (horizon : ℕ) (events : List TimedEvent) → list_any (λ e. nat_lt e.at horizon) events ≡ false → All (λ e. horizon ≤ e.at) events
+from_events horizon [] e = All-nil (λ e. horizon ≤ e.at)
+from_events horizon (event ∷ events) e =
+    let parts = neither (nat_lt event.at horizon) (list_any (λ e. nat_lt e.at horizon) events) e in
+    All-cons (λ e. horizon ≤ e.at) event events (let no = parts.0 in grind (arith, nat_tests)) (from_events horizon events parts.1)
+
+from_pulses : (horizon : ℕ) (pulses : List Stretch) → list_any (λ p. nat_lt p.from horizon) pulses ≡ false → All (λ p. horizon ≤ p.from) pulses
+from_pulses horizon [] e = All-nil (λ p. horizon ≤ p.from)
+from_pulses horizon (pulse ∷ pulses) e =
+    let parts = neither (nat_lt pulse.from horizon) (list_any (λ p. nat_lt p.from horizon) pulses) e in
+    All-cons (λ p. horizon ≤ p.from) pulse pulses (let no = parts.0 in grind (arith, nat_tests)) (from_pulses horizon pulses parts.1)
+
+from_end : (horizon : ℕ) (end : Option ℕ) → ends_before horizon end ≡ false → horizon ≤ horizon_by horizon end
+from_end horizon None e = omega arith
+from_end horizon (Some end) e = grind (arith, nat_tests)
+
+comes : (s : Standing) (new : Notes) → is_late s new ≡ false → ComesFrom s.horizon (new_events s.notes new) (new_pulses s.notes new) (horizon_by s.horizon new.end)
+comes s new e =
+    let past = (neither (is_past s.horizon s.notes new) (refuses_pulse (new_pulses s.notes new) s.net) e).0 in
+    let parts = neither (list_any (λ e. nat_lt e.at s.horizon) (new_events s.notes new)) (list_any (λ p. nat_lt p.from s.horizon) (new_pulses s.notes new) || ends_before s.horizon new.end) past in
+    let rest = neither (list_any (λ p. nat_lt p.from s.horizon) (new_pulses s.notes new)) (ends_before s.horizon new.end) parts.1 in
+    record { scheduled = from_events s.horizon (new_events s.notes new) parts.0; begun = from_pulses s.horizon (new_pulses s.notes new) rest.0; over = from_end s.horizon new.end rest.1 }
+
+-- a step that ends the script, or does not
+abbrev EndBy : Step → Session → Type 0
+EndBy Finish s = s.notes.end ≡ Some s.horizon
+EndBy (Refuse refusal) s = s.notes.end ≡ None
+EndBy Idle s = s.notes.end ≡ None
+EndBy (Show device) s = s.notes.end ≡ None
+EndBy Go s = s.notes.end ≡ None
+
+record Asked (edid : Option Edid) (tree : List Node) (step : Step) (s : Session) (told : List ℕ) : Type 0 where
+  so_far : SoFar edid tree s told
+  ended : EndBy step s
+
+same_standing : (s : Session) → with_standing s (standing s) ≡ s
+same_standing s =
+    ap (λ (es : List TimedEvent). let t : Session = record s { place = record s.place { events = es } } in t)
+    (ap (λ (es : List TimedEvent). s.place.events ++ es) (drop_all s.notes.events) ∙ append-nil s.place.events)
+
+asked_taken : (edid : Option Edid) (tree : List Node) (s : Session) (told line : List ℕ) (new : Notes) → SoFar edid tree s told → IsLineRead s.tree s.notes s.lines line (Ok new)
+    → is_late (standing s) new ≡ false → SoFar edid tree (with_standing s (taken (standing s) new)) told
+asked_taken edid tree s told line new r read late =
+    let e = line_extends s.tree s.notes s.lines line new read in
+    let events : s.notes.events ++ new_events s.notes new ≡ new.events = ap (λ (es : List TimedEvent). s.notes.events ++ es) (front_rest new.events s.notes.events e.events e.events_are) ∙ sym e.events_are in
+    let pulses : s.notes.pulses ++ new_pulses s.notes new ≡ new.pulses = ap (λ (ps : List Stretch). s.notes.pulses ++ ps) (front_rest new.pulses s.notes.pulses e.pulses e.pulses_are) ∙ sym e.pulses_are in
+    let on = horizon_by s.horizon new.end in
+    let place = with_more (new_events s.notes new) (new_pulses s.notes new) s.place in
+    let l = stay_on edid tree s.horizon on r.turns (length s.tree) s.notes s.place told (new_events s.notes new) (new_pulses s.notes new) r.sound r.leads (comes (standing s) new late) in
+    record {
+      edid_is = r.edid_is;
+      turns = r.turns;
+      leads = subst (λ (es : List TimedEvent). LeadsBy (Trace edid) on r.turns (start (started tree new.pulses) es) told place) events
+          (subst (λ (ps : List Stretch). LeadsBy (Trace edid) on r.turns (start (started tree ps) (s.notes.events ++ new_events s.notes new)) told place) pulses l);
+      sound = line-keeps s.tree s.notes s.lines line new r.sound read;
+    }
+
+end_taken : (s : Session) (new : Notes) (end : Option ℕ) → new.end ≡ end → EndBy (step_by end) (record s { notes = new; horizon = horizon_by s.horizon end })
+end_taken s new None e = e
+end_taken s new (Some end) e = e
+
+asked_late : (edid : Option Edid) (tree : List Node) (s : Session) (told line : List ℕ) (new : Notes) (late : Bool) → is_late (standing s) new ≡ late → SoFar edid tree s told → s.notes.end ≡ None
+    → IsLineRead s.tree s.notes s.lines line (Ok new) → Asked edid tree (step_noted (standing s) (Ok new)) (with_standing s (noted (standing s) (Ok new))) told
+asked_late edid tree s told line new true e r going read =
+    subst (λ (b : Bool). Asked edid tree (if b then Refuse Past else step_by new.end) (with_standing s (if b then standing s else taken (standing s) new)) told) (sym e)
+    (subst (λ (t : Session). Asked edid tree (Refuse Past) t told) (sym (same_standing s)) (record { so_far = r; ended = going }))
+asked_late edid tree s told line new false e r going read =
+    subst (λ (b : Bool). Asked edid tree (if b then Refuse Past else step_by new.end) (with_standing s (if b then standing s else taken (standing s) new)) told) (sym e)
+    (record { so_far = asked_taken edid tree s told line new r read e; ended = ended new.end refl })
+  where
+    ended : (end : Option ℕ) → new.end ≡ end → EndBy (step_by new.end) (with_standing s (taken (standing s) new))
+    ended None h = subst (λ (end : Option ℕ). EndBy (step_by end) (with_standing s (record { notes = new; horizon = horizon_by s.horizon end; net = record s.place.net { pulses = s.place.net.pulses ++ new_pulses s.notes new } }))) (sym h) h
+    ended (Some end) h = subst (λ (end : Option ℕ). EndBy (step_by end) (with_standing s (record { notes = new; horizon = horizon_by s.horizon end; net = record s.place.net { pulses = s.place.net.pulses ++ new_pulses s.notes new } }))) (sym h) h
+
+asked_read : (edid : Option Edid) (tree : List Node) (s : Session) (told line : List ℕ) (read : Result Notes ScriptCause) → SoFar edid tree s told → s.notes.end ≡ None
+    → IsLineRead s.tree s.notes s.lines line read → Asked edid tree (step_noted (standing s) read) (with_standing s (noted (standing s) read)) told
+asked_read edid tree s told line (Err cause) r going read =
+    subst (λ (t : Session). Asked edid tree (Refuse (Script cause)) t told) (sym (same_standing s)) (record { so_far = r; ended = going })
+asked_read edid tree s told line (Ok new) r going read = asked_late edid tree s told line new (is_late (standing s) new) refl r going read
+
+-- ---- its other lines
+
+asked_to : (edid : Option Edid) (tree : List Node) (s : Session) (told : List ℕ) (time : Option ℕ) → SoFar edid tree s told → s.notes.end ≡ None → Asked edid tree (step_to s time) (after_to s time) told
+asked_to edid tree s told None r going = record { so_far = r; ended = going }
+asked_to edid tree s told (Some time) r going = by_test (nat_lt time s.horizon) refl
+  where
+    by_test : (b : Bool) → nat_lt time s.horizon ≡ b → Asked edid tree (step_to s (Some time)) (after_to s (Some time)) told
+    by_test true e =
+        subst (λ (b : Bool). Asked edid tree (if b then Refuse Past else Go) (if b then s else record s { horizon = time }) told) (sym e) (record { so_far = r; ended = going })
+    by_test false e =
+        subst (λ (b : Bool). Asked edid tree (if b then Refuse Past else Go) (if b then s else record s { horizon = time }) told) (sym e)
+        (record { so_far = raised edid tree s told time r (grind (arith, nat_tests)); ended = going })
+
+asked_wait : (edid : Option Edid) (tree : List Node) (s : Session) (told : List ℕ) (soon : Option ℕ) → SoFar edid tree s told → s.notes.end ≡ None → Asked edid tree (step_wait soon) (after_wait s soon) told
+asked_wait edid tree s told None r going = record { so_far = r; ended = going }
+asked_wait edid tree s told (Some time) r going = record { so_far = raised edid tree s told (max s.horizon time) r (omega arith); ended = going }
+
+asked_show : (edid : Option Edid) (tree : List Node) (s : Session) (told : List ℕ) (device : Option ℕ) → SoFar edid tree s told → s.notes.end ≡ None → Asked edid tree (step_show device) s told
+asked_show edid tree s told None r going = record { so_far = r; ended = going }
+asked_show edid tree s told (Some device) r going = record { so_far = r; ended = going }
+
+asked_by : (edid : Option Edid) (tree : List Node) (s : Session) (told line : List ℕ) (command : Command) (step : Step) (t : Session) → SoFar edid tree s told → s.notes.end ≡ None
+    → IsStepBy s command line step t → Asked edid tree step t told
+asked_by edid tree s told line commands.Script step t r going (read, is, asks, stands) =
+    subst (λ (step : Step). Asked edid tree step t told) (sym asks)
+    (subst (λ (t : Session). Asked edid tree (step_noted (standing s) read) t told) (sym stands) (asked_read edid tree s told line read r going is))
+asked_by edid tree s told line commands.Wait step t r going (soon, is, asks, stands) =
+    subst (λ (step : Step). Asked edid tree step t told) (sym asks)
+    (subst (λ (t : Session). Asked edid tree (step_wait soon) t told) (sym stands) (asked_wait edid tree s told soon r going))
+asked_by edid tree s told line (commands.RunTo time) step t r going (asks, stands) =
+    subst (λ (step : Step). Asked edid tree step t told) (sym asks)
+    (subst (λ (t : Session). Asked edid tree (step_to s time) t told) (sym stands) (asked_to edid tree s told time r going))
+asked_by edid tree s told line (commands.Show device) step t r going (asks, stands) =
+    subst (λ (step : Step). Asked edid tree step t told) (sym asks)
+    (subst (λ (t : Session). Asked edid tree (step_show device) t told) (sym stands) (asked_show edid tree s told device r going))
+
+counted : (edid : Option Edid) (tree : List Node) (s : Session) (told : List ℕ) → SoFar edid tree s told → SoFar edid tree (numbered s) told
+counted edid tree s told r = record { edid_is = r.edid_is; turns = r.turns; leads = r.leads; sound = r.sound }
+
+-- ---- what is due of a step
+
+-- the whole trace was told
+record Over (edid : Option Edid) (tree : List Node) (s : Session) (told : List ℕ) : Type 0 where
+  run : IsRunTextFrom (Trace edid) s.horizon (start (started tree s.notes.pulses) s.notes.events) told s.place.totals
+  ended : s.notes.end ≡ Some s.horizon
+
+abbrev Reached : Option Edid → List Node → Session → List ℕ → Type 0
+Reached edid tree s told = (SoFar edid tree s told × (s.notes.end ≡ None)) ⊎ Over edid tree s told
+
+-- whatever the turns are
+any_turns : (Holds : Turn → Config → Type 0) (edid : Option Edid) (until n : ℕ) (c d : Config) (text : List ℕ) → LeadsIf Holds (Trace edid) until n c text d → LeadsIf (IsTold true until) (Trace edid) until n c text d
+any_turns Holds edid until zero c d text l = l
+any_turns Holds edid until (suc n) c d text (mid, line, rest, turn, over, after, e) = (mid, line, rest, turn, tt, any_turns Holds edid until n mid d rest after, e)
+
+leads_of : (edid : Option Edid) (until n : ℕ) (c d : Config) (text : List ℕ) → LeadsIf (IsTold true until) (Trace edid) until n c text d → Leads (Trace edid) until n c text d
+leads_of edid until zero c d text l = l
+leads_of edid until (suc n) c d text (mid, line, rest, turn, over, after, e) = (mid, line, rest, turn, leads_of edid until n mid d rest after, e)
+
+still : (edid : Option Edid) (tree : List Node) (s t : Session) (told : List ℕ) → SoFar edid tree s told → s.notes.end ≡ None → t ≡ s → Reached edid tree t (told ++ [])
+still edid tree s t told r going same =
+    subst (λ (t : Session). Reached edid tree t (told ++ [])) (sym same) (subst (λ (text : List ℕ). Reached edid tree s text) (sym (append-nil told)) (inl (r, going)))
+
+due_reached : (edid : Option Edid) (tree : List Node) (s t : Session) (told text : List ℕ) (step : Step) → Asked edid tree step s told → (due : IsDue step s text t) → Reached edid tree t (told ++ told_of step s text t due)
+due_reached edid tree s t told text (Refuse refusal) a due = still edid tree s t told a.so_far a.ended due.1
+due_reached edid tree s t told text Idle a due = still edid tree s t told a.so_far a.ended due.1
+due_reached edid tree s t told text (Show device) a due = still edid tree s t told a.so_far a.ended due.3
+due_reached edid tree s t told text Go a (first, place, goes, is, stands) =
+    let r = a.so_far in
+    let here : Goes edid false s.horizon s.place first place = subst (λ (e : Option Edid). Goes e false s.horizon s.place first place) r.edid_is goes in
+    let all = all_on (IsTold false s.horizon) (Trace edid) s.horizon r.turns here.turns (start (started tree s.notes.pulses) s.notes.events) s.place place told first r.leads here.leads in
+    subst (λ (t : Session). Reached edid tree t (told ++ first)) (sym stands) (inl (record { edid_is = r.edid_is; turns = all.0; leads = all.1; sound = r.sound }, a.ended))
+due_reached edid tree s t told text Finish a (first, place, goes, is, stands) =
+    let r = a.so_far in
+    let here : Goes edid true s.horizon s.place first place = subst (λ (e : Option Edid). Goes e true s.horizon s.place first place) r.edid_is goes in
+    let before = any_turns (IsTold false s.horizon) edid s.horizon r.turns (start (started tree s.notes.pulses) s.notes.events) s.place told r.leads in
+    let all = all_on (IsTold true s.horizon) (Trace edid) s.horizon r.turns here.turns (start (started tree s.notes.pulses) s.notes.events) s.place place told first before here.leads in
+    let last = end_told (Trace s.edid) s.horizon place.net in
+    let run : IsRunTextFrom (Trace edid) s.horizon (start (started tree s.notes.pulses) s.notes.events) (told ++ (first ++ last)) place.totals = record {
+      turns = all.0;
+      last = place;
+      body = told ++ first;
+      leads = leads_of edid s.horizon all.0 (start (started tree s.notes.pulses) s.notes.events) place (told ++ first) all.1;
+      stops = here.last;
+      whole = sym (append_assoc told first last);
+      counts = refl;
+    } in
+    subst (λ (t : Session). Reached edid tree t (told ++ (first ++ last))) (sym stands) (inr (record { run = run; ended = a.ended }))
+
+-- ---- all lines
+
+not_both : (end : Option ℕ) (at : ℕ) → end ≡ None → end ≡ Some at → ⊥
+not_both end at e f = cc
+
+some_same : (end : Option ℕ) (a b : ℕ) → end ≡ Some a → end ≡ Some b → a ≡ b
+some_same end a b e f = cc
+
+all_lines : (edid : Option Edid) (tree : List Node) (lines kept : List (List ℕ)) (s t : Session) (before told text : List ℕ) → Reached edid tree s before → AreLines lines s kept told text t
+    → Reached edid tree t (before ++ told)
+all_lines edid tree [] kept s t before told text r (nothing, none, empty, same) =
+    subst (λ (t : Session). Reached edid tree t (before ++ told)) (sym same)
+    (subst (λ (told : List ℕ). Reached edid tree s (before ++ told)) (sym none) (subst (λ (text : List ℕ). Reached edid tree s text) (sym (append-nil before)) r))
+all_lines edid tree (line ∷ lines) kept s t before told text (inr over) (mid, here, there, first, second, more, rest, is, after, kept_is, told_is, text_is) = absurd (not_both s.notes.end s.horizon is.goes_on over.ended)
+all_lines edid tree (line ∷ lines) kept s t before told text (inl (so_far, going)) (mid, own, others, first, second, more, rest, is, after, kept_is, told_is, text_is) =
+    let asked = asked_by edid tree (numbered s) before line (command_of s.tree line) is.step is.asked (counted edid tree s before so_far) going is.asks in
+    let here : Reached edid tree mid (before ++ first) =
+    subst (λ (told : List ℕ). Reached edid tree mid (before ++ told)) (sym is.told_is) (due_reached edid tree is.asked mid before second is.step asked is.due) in
+    let there = all_lines edid tree lines others mid t (before ++ first) more rest here after in
+    subst (λ (text : List ℕ). Reached edid tree t text) (append_assoc before first more ∙ ap (λ (text : List ℕ). before ++ text) (sym told_is)) there
+
+reached : (edid : Option Edid) (tree : List Node) (lines kept : List (List ℕ)) (told text : List ℕ) (t : Session) → AreLines lines (begun edid tree) kept told text t → Reached edid tree t told
+reached edid tree lines kept told text t l = all_lines edid tree lines kept (begun edid tree) t [] told text (inl (so_far_start edid tree, refl)) l
+
+pub sessions_tell_fronts : SessionsTellFronts
+sessions_tell_fronts edid tree lines kept told text t l going events later end whole totals comes run =
+    by_case (reached edid tree lines kept told text t l)
+  where
+    by_case : Reached edid tree t told → (more : List ℕ) × (whole ≡ (start_told (Trace edid) (started tree t.notes.pulses) ++ told) ++ more)
+    by_case (inl (r, none)) =
+        told_is_front (Trace edid) tree t.notes.pulses later t.notes.events events t.horizon end r.turns t.place told whole totals
+        ((faultless_are_sparse t.notes.pulses).0 r.sound.sparse) r.sound.framed comes r.leads run
+    by_case (inr over) = absurd (not_both t.notes.end t.horizon going over.ended)
+
+pub sessions_tell_traces : SessionsTellTraces
+sessions_tell_traces edid tree lines kept told text t end l ended = by_case (reached edid tree lines kept told text t l)
+  where
+    by_case : Reached edid tree t told
+        → IsRunText (Trace edid) end (start (started tree t.notes.pulses) t.notes.events) (start_told (Trace edid) (started tree t.notes.pulses) ++ told) t.place.totals
+    by_case (inl (r, none)) = absurd (not_both t.notes.end end none ended)
+    by_case (inr over) =
+        subst (λ (end : ℕ). IsRunText (Trace edid) end (start (started tree t.notes.pulses) t.notes.events)
+        (start_told (Trace edid) (started tree t.notes.pulses) ++ told) t.place.totals) (some_same t.notes.end t.horizon end over.ended ended)
+        (record { rest = told; run = over.run; whole = refl })

@@ -1,0 +1,35 @@
+use Rattle.std.proofs.Common.{rules, ◌≡◌, ◌≤◌, ℕ, length, drop, Option, MatchOption, Result, Ok, sym, subst}
+use Rattle.cec_asm.specs.Script.{Notes, IsLineRead, notes_of}
+use Rattle.cec_asm.specs.declared.script.ScriptCause.{ScriptCause}
+use Rattle.cec_session.specs.declared.live.Step.{Step}
+use Rattle.cec_session.specs.Note.{IsSettled}
+use Rattle.cec_session.proofs.Extends.{few_new, line_extends}
+use Rattle.cec_session.proofs.NoteCalls.{refused_note}
+use Rattle.cec_session.proofs.note.note_line.Goals as goal
+
+pub settle-requires : goal.settle-requires
+settle-requires c =
+    let old = notes_of c.args.draft.now in
+    let new = notes_of c.take_line.new.draft in
+    let count : c.len-pulses.result ≡ length old.pulses = search rules in
+    let e = line_extends c.args.tree.now old c.args.number c.args.line.now new c.in-Ok.ensures.gives in
+    record { few = subst (λ (n : ℕ). length (drop n new.pulses) ≤ 1) (sym count) (few_new old new e) }
+
+pub returns-in-Ok : goal.returns-in-Ok
+returns-in-Ok c =
+    let old = notes_of c.args.draft.now in
+    let new = notes_of c.take_line.new.draft in
+    let events : c.len-events.result ≡ length old.events = search rules in
+    let pulses : c.len-pulses.result ≡ length old.pulses = search rules in
+    let e = line_extends c.args.tree.now old c.args.number c.args.line.now new c.in-Ok.ensures.gives in
+    (Ok new, c.in-Ok.ensures.gives, c.settle.ensures old c.requires.going e events pulses)
+
+pub returns-in-Err : goal.returns-in-Err
+returns-in-Err c =
+    let old = notes_of c.args.draft.now in
+    let new = notes_of c.take_line.new.draft in
+    subst (λ (r : Option Step). MatchOption r ((new ≡ old) × (c.args.horizon.now ≡ c.args.horizon.now) × (c.args.net.now ≡ c.args.net.now))
+    (λ step. (read : Result Notes ScriptCause) × IsLineRead c.args.tree.now old c.args.number c.args.line.now read
+    × IsSettled (record { notes = old; horizon = c.args.horizon.now; net = c.args.net.now }) read step (record { notes = new; horizon = c.args.horizon.now; net = c.args.net.now })))
+    (sym c.refused_by.ensures)
+    (refused_note c.args.tree.now c.args.number c.args.line.now old new c.args.horizon.now c.args.net.now c.in-Err.error c.in-Err.ensures.gives c.in-Err.ensures.kept)

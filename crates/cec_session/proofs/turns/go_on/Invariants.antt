@@ -1,0 +1,24 @@
+use Rattle.std.proofs.Common.{ℕ, ◌≡◌, ◌≤◌, ◌+◌, ◌-◌, length, drop}
+use Rattle.cec_asm.specs.Script.{IsSchedule}
+use Rattle.cec_session.proofs.Going.{Told}
+use Rattle.cec_session.proofs.turns.go_on.Given as goal
+
+-- what was written is told by the turns so far; the rest keeps the counts and times small
+abbrev pub invariant-turns : goal.invariant-turns
+invariant-turns g l = record {
+  told : Told l.edid l.ended l.until (record { net = l.fn.net; events = l.events; totals = l.fn.totals }) (record { net = l.net; events = l.rest; totals = l.totals })
+      (g.S.Sink.contents l.fn.out) (g.S.Sink.contents l.out) l.written;
+  flag : g.S.Sink.is_stuck l.out ≡ g.S.Sink.is_stuck l.fn.out;
+  rest : l.rest ≡ drop l.applied l.events;
+  few : l.applied ≤ length l.events;
+  schedule : (from end : ℕ) × IsSchedule (length l.net.tree) end from l.rest;
+  closed : l.net.close ≤ 2000000000000;
+  rested : l.net.rest ≤ 2000000000000;
+  rounds : l.totals.rounds ≤ l.net.rest;
+  complete : l.totals.complete ≤ l.totals.rounds;
+  refused : l.totals.refused + length l.rest ≤ l.fn.totals.refused + length l.events;
+  tree : length l.net.tree ≡ length l.fn.net.tree;
+}
+
+abbrev pub decreases-turns : goal.decreases-turns
+decreases-turns g l = length l.rest + (2000000000000 - l.net.rest)

@@ -1,0 +1,30 @@
+-- The lines of a session that are no lines of a script (this profile's own): `wait`, `run to T` and `show NAME`. Every other
+-- line is one of the script.
+use Rattle.std.specs.Prelude.{ℕ, List, [], ◌∷◌, codes, if◌then◌else◌, Option, Some, None}
+use Rattle.std.specs.Str.{bytes_eq}
+use Rattle.hdmi_topo.specs.Node.{Node}
+use Rattle.hdmi_topo.specs.Tree.{device_named}
+use Rattle.cec_words.specs.Words.{words_of, one_of, two_of}
+use Rattle.cec_asm.specs.Script.{time_of}
+use Rattle.cec_session.specs.declared.command.Command.{Command}
+use Rattle.cec_session.specs.declared.command.Command.TheVariants.{Script, Wait, RunTo, Show}
+
+-- the words after `run`
+abbrev pub run_words : Option (List ℕ × List ℕ) → Command
+run_words None = Script
+run_words (Some words) = if bytes_eq words.0 (codes "to") then RunTo (time_of words.1) else Script
+
+-- the word after `show`
+abbrev pub show_words : List Node → Option (List ℕ) → Command
+show_words tree None = Script
+show_words tree (Some name) = Show (device_named tree name)
+
+abbrev pub verb_words : List Node → List (List ℕ) → Command
+verb_words tree [] = Script
+verb_words tree (verb ∷ words) =
+    if bytes_eq verb (codes "run") then run_words (two_of words)
+    else if bytes_eq verb (codes "show") then show_words tree (one_of words)
+    else Script
+
+abbrev pub command_of : List Node → List ℕ → Command
+command_of tree line = if bytes_eq line (codes "wait") then Wait else verb_words tree (words_of line)

@@ -1,0 +1,31 @@
+-- What a line of the script adds to what the lines before it say (this profile's own).
+use Rattle.std.specs.Prelude.{◌≡◌, ◌≤◌, List, ◌++◌, length, Option, Some, None, Result}
+use Rattle.cec_wave.specs.declared.Stretch.{Stretch}
+use Rattle.cec_asm.specs.Script.{Notes}
+use Rattle.cec_asm.specs.declared.script.TimedEvent.{TimedEvent}
+use Rattle.cec_asm.specs.declared.script.ScriptCause.{ScriptCause}
+use Rattle.cec_asm.specs.declared.script.LineError.{LineError}
+use Rattle.cec_asm.specs.declared.script.LineError.TheVariants.{Cause, Memory}
+use Rattle.cec_session.specs.declared.answer.Refusal.TheVariants.{Script}
+use Rattle.cec_session.specs.declared.live.Step.{Step}
+use Rattle.cec_session.specs.declared.live.Step.TheVariants.{Refuse}
+use Rattle.cec_session.specs.Session.{Standing, step_noted, noted}
+
+-- one event at most, and one pulse at most
+pub record Extends (old new : Notes) : Type 0 where
+  pub events : List TimedEvent
+  pub pulses : List Stretch
+  pub events_are : new.events ≡ old.events ++ events
+  pub pulses_are : new.pulses ≡ old.pulses ++ pulses
+  pub few_events : length events ≤ 1
+  pub few_pulses : length pulses ≤ 1
+
+-- the step that it asks for, and what it changes
+pub record IsSettled (s : Standing) (read : Result Notes ScriptCause) (step : Step) (t : Standing) : Type 0 where
+  pub asks : step ≡ step_noted s read
+  pub stands : t ≡ noted s read
+
+-- a line that is not taken is refused, or memory ran out
+abbrev pub refused_by : LineError → Option Step
+refused_by (Cause cause) = Some (Refuse (Script cause))
+refused_by Memory = None

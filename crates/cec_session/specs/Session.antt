@@ -1,0 +1,220 @@
+-- A session: a run whose script comes line by line, what each line does, and what is due after it (this profile's own).
+use Rattle.std.specs.Prelude.{◌≡◌, ℕ, ◌+◌, ◌<◌, ◌≤◌, min, max, ◌||◌, Bool, true, false, nat_lt, if◌then◌else◌, codes, List, [], ◌∷◌, ◌++◌, length, drop, slice_get, Option, Some, None, is_some, Result, Ok, Err, All}
+use Rattle.std.specs.List.{list_any}
+use Rattle.std.specs.Fmt.{decimal}
+use Rattle.cec_wave.specs.declared.Stretch.{Stretch}
+use Rattle.cec_wave.specs.Pulses.{pulses_fault}
+use Rattle.cec_wave.specs.Line.{IsWave}
+use Rattle.cec_wire.specs.declared.Outcome.{Outcome}
+use Rattle.hdmi_topo.specs.Node.{Node}
+use Rattle.hdmi_blocks.specs.declared.edid.Edid.{Edid}
+use Rattle.cec_device.specs.State.{State}
+use Rattle.cec_net.specs.State.{NetState, started}
+use Rattle.cec_net.specs.Step.{IsNextRound}
+use Rattle.cec_net.specs.Added.{pulse_fault}
+use Rattle.cec_asm.specs.Script.{Notes, no_notes, last_time, within_limit, script_cause, IsLineRead, IsSchedule, AreFramedEvents}
+use Rattle.cec_asm.specs.declared.script.TimedEvent.{TimedEvent}
+use Rattle.cec_asm.specs.declared.script.ScriptCause.{ScriptCause}
+use Rattle.cec_asm.specs.declared.script.ScriptCause.TheVariants.{Number, Name}
+use Rattle.cec_trace.specs.Root.{HasAddress}
+use Rattle.cec_trace.specs.StateText.{state_line}
+use Rattle.cec_run.specs.declared.run.Telling.TheVariants.{Trace}
+use Rattle.cec_run.specs.declared.run.Turn.{Turn}
+use Rattle.cec_run.specs.declared.run.Turn.TheVariants.{Stop, Apply, Round}
+use Rattle.cec_run.specs.Run.{Config, start, turn_at, end_told}
+use Rattle.cec_live.specs.Certain.{with_pulses}
+use Rattle.cec_session.specs.declared.command.Command.{Command}
+use Rattle.cec_session.specs.declared.command.Command.TheVariants as commands
+use Rattle.cec_session.specs.declared.answer.Refusal.{Refusal}
+use Rattle.cec_session.specs.declared.answer.Refusal.TheVariants.{Script, Past}
+use Rattle.cec_session.specs.declared.live.Step.{Step}
+use Rattle.cec_session.specs.declared.live.Step.TheVariants.{Refuse, Idle, Show, Go, Finish}
+use Rattle.cec_session.specs.Command.{command_of}
+use Rattle.cec_session.specs.Turns.{Goes, IsWithin}
+
+-- ---- a session
+
+-- the television's EDID, the devices by their names, what the lines that were taken say, the instant before which all was told
+-- and from which on more may come, how many lines came, and where the run stands
+pub record Session : Type 0 where
+  pub edid : Option Edid
+  pub tree : List Node
+  pub notes : Notes
+  pub horizon : ℕ
+  pub lines : ℕ
+  pub place : Config
+
+-- before its first line
+abbrev pub begun : Option Edid → List Node → Session
+begun edid tree = record { edid = edid; tree = tree; notes = no_notes; horizon = 0; lines = 0; place = start (started tree []) [] }
+
+-- a line has come; the count stays at its greatest value
+abbrev pub numbered : Session → Session
+numbered s = record s { lines = min (s.lines + 1) 18446744073709551615 }
+
+-- ---- a line of the script
+
+-- what it says after what was said
+abbrev pub new_events : Notes → Notes → List TimedEvent
+new_events old new = drop (length old.events) new.events
+
+abbrev pub new_pulses : Notes → Notes → List Stretch
+new_pulses old new = drop (length old.pulses) new.pulses
+
+-- it ends the script before an instant
+abbrev pub ends_before : ℕ → Option ℕ → Bool
+ends_before horizon None = false
+ends_before horizon (Some end) = nat_lt end horizon
+
+-- it is for an instant before the horizon
+abbrev pub is_past : ℕ → Notes → Notes → Bool
+is_past horizon old new =
+    list_any (λ e. nat_lt e.at horizon) (new_events old new) || (list_any (λ p. nat_lt p.from horizon) (new_pulses old new) || ends_before horizon new.end)
+
+-- what a line of the script can change: what the lines say, the horizon, and the pulses that the network knows
+pub record Standing : Type 0 where
+  pub notes : Notes
+  pub horizon : ℕ
+  pub net : NetState
+
+-- the network can't be told of its pulse
+abbrev pub refuses_pulse : List Stretch → NetState → Bool
+refuses_pulse [] net = false
+refuses_pulse (pulse ∷ pulses) net = is_some (pulse_fault net pulse)
+
+abbrev pub is_late : Standing → Notes → Bool
+is_late s new = is_past s.horizon s.notes new || refuses_pulse (new_pulses s.notes new) s.net
+
+-- the end is the last horizon
+abbrev pub horizon_by : ℕ → Option ℕ → ℕ
+horizon_by horizon None = horizon
+horizon_by horizon (Some end) = end
+
+abbrev pub step_by : Option ℕ → Step
+step_by None = Go
+step_by (Some end) = Finish
+
+-- what the line asks for: it is refused for its own cause, or else because it is too late, or else taken
+abbrev pub step_noted : Standing → Result Notes ScriptCause → Step
+step_noted s (Err cause) = Refuse (Script cause)
+step_noted s (Ok new) = if is_late s new then Refuse Past else step_by new.end
+
+-- and what it changes; a refusal changes nothing
+abbrev pub noted : Standing → Result Notes ScriptCause → Standing
+noted s (Err cause) = s
+noted s (Ok new) =
+    if is_late s new then s else record { notes = new; horizon = horizon_by s.horizon new.end; net = with_pulses (new_pulses s.notes new) s.net }
+
+abbrev pub standing : Session → Standing
+standing s = record { notes = s.notes; horizon = s.horizon; net = s.place.net }
+
+-- the session with what was noted
+abbrev pub with_standing : Session → Standing → Session
+with_standing s t = record s {
+  notes = t.notes;
+  horizon = t.horizon;
+  place = record { net = t.net; events = s.place.events ++ new_events s.notes t.notes; totals = s.place.totals };
+}
+
+-- ---- `run to T`
+
+abbrev pub step_to : Session → Option ℕ → Step
+step_to s None = Refuse (Script Number)
+step_to s (Some time) = if nat_lt time s.horizon then Refuse Past else Go
+
+abbrev pub after_to : Session → Option ℕ → Session
+after_to s None = s
+after_to s (Some time) = if nat_lt time s.horizon then s else record s { horizon = time }
+
+-- ---- `wait`
+
+-- the least horizon at which one more turn is told, if nothing else comes: one microsecond after an event is applied or a round
+-- closes. There is none where nothing comes by 1,000,000,000,000.
+abbrev pub IsSoonestBy : NetState → Turn → Option ℕ → Type 0
+IsSoonestBy net Stop soon = soon ≡ None
+IsSoonestBy net (Apply at) soon = soon ≡ Some (at + 1)
+IsSoonestBy net (Round begin) soon =
+    (outcome : Outcome) × (after : NetState) × IsWave outcome.wave × IsNextRound net begin outcome after × (soon ≡ within_limit (Some (after.close + 1)))
+
+abbrev pub IsSoonest : Config → Option ℕ → Type 0
+IsSoonest c soon = IsSoonestBy c.net (turn_at 1000000000000 c) soon
+
+abbrev pub step_wait : Option ℕ → Step
+step_wait None = Idle
+step_wait (Some time) = Go
+
+abbrev pub after_wait : Session → Option ℕ → Session
+after_wait s None = s
+after_wait s (Some time) = record s { horizon = max s.horizon time }
+
+-- ---- `show NAME`
+
+abbrev pub step_show : Option ℕ → Step
+step_show None = Refuse (Script Name)
+step_show (Some device) = Show device
+
+-- ---- what a line asks for
+
+abbrev pub IsStepBy : Session → Command → List ℕ → Step → Session → Type 0
+IsStepBy s commands.Script line step t =
+    (read : Result Notes ScriptCause) × IsLineRead s.tree s.notes s.lines line read × (step ≡ step_noted (standing s) read) × (t ≡ with_standing s (noted (standing s) read))
+IsStepBy s commands.Wait line step t = (soon : Option ℕ) × IsSoonest s.place soon × (step ≡ step_wait soon) × (t ≡ after_wait s soon)
+IsStepBy s (commands.RunTo time) line step t = (step ≡ step_to s time) × (t ≡ after_to s time)
+IsStepBy s (commands.Show device) line step t = (step ≡ step_show device) × (t ≡ s)
+
+-- each line counts, and asks for a step
+abbrev pub IsStep : Session → List ℕ → Step → Session → Type 0
+IsStep s line step t = IsStepBy (numbered s) (command_of s.tree line) line step t
+
+-- ---- what is due
+
+abbrev pub refusal_cause : Refusal → List ℕ
+refusal_cause Past = codes "past"
+refusal_cause (Script cause) = script_cause cause
+
+-- the line of answer
+abbrev pub taken_line : ℕ → List ℕ
+taken_line horizon = codes "= " ++ (decimal horizon ++ codes "\n")
+
+abbrev pub idle_line : ℕ → List ℕ
+idle_line horizon = codes "= " ++ (decimal horizon ++ codes " idle\n")
+
+abbrev pub refused_line : ℕ → Refusal → List ℕ
+refused_line line refusal = codes "! " ++ (decimal line ++ (codes " " ++ (refusal_cause refusal ++ codes "\n")))
+
+-- Of each step: the text that is due, and the session after it. It goes on where time has gone on: the turns that are certain,
+-- then the answer; at the end all that is left of the trace.
+abbrev pub IsDue : Step → Session → List ℕ → Session → Type 0
+IsDue (Refuse refusal) s text t = (text ≡ refused_line s.lines refusal) × (t ≡ s)
+IsDue Idle s text t = (text ≡ idle_line s.horizon) × (t ≡ s)
+IsDue (Show device) s text t = (shown : State) × (slice_get s.place.net.devices device ≡ Some shown) × (text ≡ codes "= " ++ state_line shown) × (t ≡ s)
+IsDue Go s text t = (told : List ℕ) × (place : Config) × Goes s.edid false s.horizon s.place told place × (text ≡ told ++ taken_line s.horizon) × (t ≡ record s { place = place })
+IsDue Finish s text t =
+    (told : List ℕ) × (place : Config) × Goes s.edid true s.horizon s.place told place
+    × (text ≡ told ++ (end_told (Trace s.edid) s.horizon place.net ++ taken_line s.horizon)) × (t ≡ record s { place = place })
+
+-- ---- what holds of every session
+
+-- of what its lines say
+pub record AreFit (count : ℕ) (notes : Notes) : Type 0 where
+  pub schedule : IsSchedule count (last_time notes.events + 1) 0 notes.events
+  pub framed : AreFramedEvents notes.events
+  pub sparse : pulses_fault notes.pulses ≡ None
+  pub early : All (λ pulse. pulse.from ≤ 1000000000000) notes.pulses
+  pub ended : (time : ℕ) → notes.end ≡ Some time → IsSchedule count time 0 notes.events × (time ≤ 1000000000000)
+
+pub record IsReady (s : Session) : Type 0 where
+  pub addressed : HasAddress s.edid
+  pub fit : AreFit (length s.tree) s.notes
+  pub matched : length s.place.net.tree ≡ length s.tree
+  pub early : s.horizon ≤ 1000000000000
+  pub within : IsWithin s.place
+  pub refused : s.place.totals.refused + length s.place.events ≤ length s.notes.events
+
+-- a device that is shown is one of so many
+abbrev pub NamesShown : ℕ → Step → Type 0
+NamesShown count (Show device) = device < count
+NamesShown count (Refuse refusal) = Unit {0}
+NamesShown count Idle = Unit {0}
+NamesShown count Go = Unit {0}
+NamesShown count Finish = Unit {0}

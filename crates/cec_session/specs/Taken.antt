@@ -1,0 +1,39 @@
+-- A line that was taken, and what was written after it.
+use Rattle.std.specs.Prelude.{◌≡◌, ℕ, Bool, true, List, length, Option, Result, Ok, Err}
+use Rattle.std.specs.Io.KnownBytes.{Appends}
+use Rattle.hdmi_core.specs.declared.sink.WriteFault.{WriteFault}
+use Rattle.cec_words.specs.Cut.{CutOff, WrittenText, told_count}
+use Rattle.cec_run.specs.Run.{Config}
+use Rattle.cec_session.specs.Turns.{Goes}
+use Rattle.cec_session.specs.declared.live.Step.{Step}
+use Rattle.cec_session.specs.declared.live.LiveError.{LiveError}
+use Rattle.cec_session.specs.declared.live.LiveError.TheVariants.{Write, Memory}
+use Rattle.cec_session.specs.Session.{Session, numbered, IsStep, IsDue}
+
+-- a session went on: all turns that are told from where it stood were written, and nothing else has changed; or a fault cut
+-- their text off
+abbrev pub IsGone : Bool → Session → Session → Option (List ℕ) → Option (List ℕ) → Bool → Bool → Result ℕ WriteFault → Type 0
+IsGone ended s t old new was is (Ok told) =
+    (text : List ℕ) × (place : Config) × Goes s.edid ended s.horizon s.place text place × (t ≡ record s { place = place }) × WrittenText old new was is text (Ok told)
+IsGone ended s t old new was is (Err fault) =
+    ((text : List ℕ) (place : Config) → Goes s.edid ended s.horizon s.place text place → CutOff old new text fault) × (is ≡ true)
+
+-- what is due was written whole, or a fault cut it off
+abbrev pub IsAnswered : Step → Session → Session → Option (List ℕ) → Option (List ℕ) → Bool → Bool → Result ℕ WriteFault → Type 0
+IsAnswered step s t old new was is (Ok told) = (text : List ℕ) × IsDue step s text t × (told ≡ told_count (length text)) × Appends old new text × (is ≡ was)
+IsAnswered step s t old new was is (Err fault) = ((text : List ℕ) (after : Session) → IsDue step s text after → CutOff old new text fault) × (is ≡ true)
+
+-- A line asks for a step, and what is due of that was written. After a failed write the front of the text that is due was
+-- written, as long as the fault says. Where memory ran out the line counts, and nothing else has changed.
+abbrev pub IsLineTaken : Session → List ℕ → Session → Option (List ℕ) → Option (List ℕ) → Bool → Bool → Result ℕ LiveError → Type 0
+IsLineTaken s line t old new was is (Ok told) =
+    (step : Step) × (asked : Session) × IsStep s line step asked × IsAnswered step asked t old new was is (Ok told)
+IsLineTaken s line t old new was is (Err (Write count)) =
+    (step : Step) × (asked : Session) × IsStep s line step asked × IsAnswered step asked t old new was is (Err (record { count = count }))
+IsLineTaken s line t old new was is (Err Memory) = (t ≡ numbered s) × (new ≡ old) × (is ≡ was)
+
+-- memory ran out
+abbrev pub IsOfMemory : Result ℕ LiveError → Type 0
+IsOfMemory (Ok told) = ⊥
+IsOfMemory (Err (Write count)) = ⊥
+IsOfMemory (Err Memory) = Unit {0}

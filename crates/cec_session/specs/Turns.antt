@@ -1,0 +1,62 @@
+-- The turns that a session tells (this profile's own).
+use Rattle.std.specs.Prelude.{◌≡◌, ℕ, ◌+◌, ◌<◌, ◌≤◌, Bool, true, false, List, length, Option, Some, None, Result, Ok, Err}
+use Rattle.cec_wave.specs.Line.{IsWave}
+use Rattle.cec_wire.specs.declared.Outcome.{Outcome}
+use Rattle.cec_net.specs.State.{NetState}
+use Rattle.cec_net.specs.Step.{IsNextRound}
+use Rattle.hdmi_blocks.specs.declared.edid.Edid.{Edid}
+use Rattle.hdmi_core.specs.declared.sink.WriteFault.{WriteFault}
+use Rattle.cec_run.specs.declared.run.Telling.TheVariants.{Trace}
+use Rattle.cec_run.specs.declared.run.Totals.{Totals}
+use Rattle.cec_run.specs.declared.run.Turn.{Turn}
+use Rattle.cec_run.specs.declared.run.Turn.TheVariants.{Stop}
+use Rattle.cec_run.specs.Run.{Config, turn_at, RoundWritten}
+use Rattle.cec_live.specs.Certain.{IsOverBy, LeadsIf, IsHeld}
+
+-- What a turn has to be to be told: while more lines may come, over before the horizon; once the script has ended, each is.
+abbrev pub IsTold : Bool → ℕ → Turn → Config → Type 0
+IsTold false until turn after = IsOverBy until turn after
+IsTold true until turn after = Unit {0}
+
+-- no further turn is told
+abbrev pub IsLast : Bool → ℕ → Config → Type 0
+IsLast false until c = IsHeld until c
+IsLast true until c = turn_at until c ≡ Stop
+
+-- all turns that are told from one place on, and their texts one after another
+pub record Goes (edid : Option Edid) (ended : Bool) (until : ℕ) (c : Config) (text : List ℕ) (d : Config) : Type 0 where
+  pub turns : ℕ
+  pub leads : LeadsIf (IsTold ended until) (Trace edid) until turns c text d
+  pub last : IsLast ended until d
+
+-- ---- a round
+
+-- the next round closes at an instant or later, so it is not told yet
+abbrev pub IsLate : Bool → ℕ → ℕ → NetState → Type 0
+IsLate true until begin net = ⊥
+IsLate false until begin net = (outcome : Outcome) × (after : NetState) × IsWave outcome.wave × IsNextRound net begin outcome after × (until ≤ after.close)
+
+-- or it is told
+abbrev pub IsSoon : Bool → ℕ → NetState → Type 0
+IsSoon true until after = Unit {0}
+IsSoon false until after = after.close < until
+
+-- the next round is not told yet, and nothing changed; or it was run, and its line written
+abbrev pub IsRoundTaken : Option Edid → Bool → ℕ → ℕ → NetState → NetState → Totals → Totals → Option (List ℕ) → Option (List ℕ) → Bool → Bool → Result (Option ℕ) WriteFault → Type 0
+IsRoundTaken edid ended until begin s t a b old new was is (Ok None) = (t ≡ s) × (b ≡ a) × (new ≡ old) × (is ≡ was) × IsLate ended until begin s
+IsRoundTaken edid ended until begin s t a b old new was is (Ok (Some count)) = RoundWritten (Trace edid) s t a b old new was is (Ok count) × IsSoon ended until t
+IsRoundTaken edid ended until begin s t a b old new was is (Err fault) = RoundWritten (Trace edid) s t a b old new was is (Err fault) × IsSoon ended until t
+
+-- ---- what stays within its limits
+
+-- times and counts at a place
+pub record IsWithin (c : Config) : Type 0 where
+  pub closed : c.net.close ≤ 2000000000000
+  pub rested : c.net.rest ≤ 2000000000000
+  pub rounds : c.totals.rounds ≤ c.net.rest
+  pub complete : c.totals.complete ≤ c.totals.rounds
+
+-- what turns leave as it was
+pub record Keeps (c d : Config) : Type 0 where
+  pub tree : length d.net.tree ≡ length c.net.tree
+  pub refused : d.totals.refused + length d.events ≤ c.totals.refused + length c.events

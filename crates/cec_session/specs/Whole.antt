@@ -1,0 +1,87 @@
+-- Whole sessions: what their lines have told of the trace, and the script that they are (this profile's own).
+use Rattle.std.specs.Prelude.{◌≡◌, ℕ, ◌≤◌, List, [], ◌∷◌, ◌++◌, length, Option, Some, None, Ok, All}
+use Rattle.cec_wave.specs.declared.Stretch.{Stretch}
+use Rattle.hdmi_topo.specs.Node.{Node}
+use Rattle.hdmi_blocks.specs.declared.edid.Edid.{Edid}
+use Rattle.cec_net.specs.State.{started}
+use Rattle.cec_incoming.specs.Incoming.{IsWhole, text_of_lines}
+use Rattle.cec_asm.specs.Topology.{topology_of, Plan}
+use Rattle.cec_asm.specs.declared.script.TimedEvent.{TimedEvent}
+use Rattle.cec_trace.specs.Root.{IsRoot}
+use Rattle.cec_run.specs.declared.run.Telling.TheVariants.{Trace}
+use Rattle.cec_run.specs.declared.run.Totals.{Totals}
+use Rattle.cec_run.specs.Run.{start, end_told, IsRunText}
+use Rattle.cec_run.specs.Emulate.{IsTraceOf}
+use Rattle.cec_live.specs.Certain.{ComesFrom}
+use Rattle.cec_live.specs.Causal.{BeginsWith, before_told}
+use Rattle.cec_session.specs.declared.command.Command.{Command}
+use Rattle.cec_session.specs.declared.command.Command.TheVariants as commands
+use Rattle.cec_session.specs.declared.live.Step.{Step}
+use Rattle.cec_session.specs.declared.live.Step.TheVariants.{Refuse, Idle, Show, Go, Finish}
+use Rattle.cec_session.specs.Command.{command_of}
+use Rattle.cec_session.specs.Session.{Session, begun, IsStep, IsDue}
+
+-- what is due of a step without its answer: lines of the trace
+abbrev pub told_of : (step : Step) (s : Session) (text : List ℕ) (t : Session) → IsDue step s text t → List ℕ
+told_of (Refuse refusal) s text t due = []
+told_of Idle s text t due = []
+told_of (Show device) s text t due = []
+told_of Go s text t due = due.0
+told_of Finish s text t due = due.0 ++ end_told (Trace s.edid) s.horizon due.1.net
+
+-- a line of the script as it was taken, and an empty one where it was refused
+abbrev pub kept_by : Step → List ℕ → List ℕ
+kept_by (Refuse refusal) line = []
+kept_by Idle line = []
+kept_by (Show device) line = []
+kept_by Go line = line
+kept_by Finish line = line
+
+-- the session's own lines are empty too
+abbrev pub kept_line : Command → Step → List ℕ → List ℕ
+kept_line commands.Script step line = kept_by step line
+kept_line commands.Wait step line = []
+kept_line (commands.RunTo time) step line = []
+kept_line (commands.Show device) step line = []
+
+-- A line of a session whose script has not ended: what of it is of the script, what was written, and what of that is of the
+-- trace.
+pub record IsLine (s : Session) (line kept told text : List ℕ) (t : Session) : Type 0 where
+  pub goes_on : s.notes.end ≡ None
+  pub step : Step
+  pub asked : Session
+  pub asks : IsStep s line step asked
+  pub due : IsDue step asked text t
+  pub kept_is : kept ≡ kept_line (command_of s.tree line) step line
+  pub told_is : told ≡ told_of step asked text t due
+
+-- one line after another
+abbrev pub AreLines : List (List ℕ) → Session → List (List ℕ) → List ℕ → List ℕ → Session → Type 0
+AreLines [] s kept told text t = (kept ≡ []) × (told ≡ []) × (text ≡ []) × (t ≡ s)
+AreLines (line ∷ lines) s kept told text t =
+    (mid : Session) × (here : List ℕ) × (there : List (List ℕ)) × (first : List ℕ) × (second : List ℕ) × (more : List ℕ) × (rest : List ℕ)
+    × IsLine s line here first second mid × AreLines lines mid there more rest t × (kept ≡ here ∷ there) × (told ≡ first ++ more) × (text ≡ second ++ rest)
+
+-- While a session goes on, what its lines have told, without the answers, is the front of the trace of every run that may still
+-- come of the lines that were taken.
+abbrev pub SessionsTellFronts : Type 0
+SessionsTellFronts = (edid : Option Edid) (tree : List Node) (lines kept : List (List ℕ)) (told text : List ℕ) (t : Session) → AreLines lines (begun edid tree) kept told text t → t.notes.end ≡ None
+    → (events : List TimedEvent) (later : List Stretch) (end : ℕ) (whole : List ℕ) (totals : Totals) → ComesFrom t.horizon events later end
+    → IsRunText (Trace edid) end (start (started tree (t.notes.pulses ++ later)) (t.notes.events ++ events)) whole totals
+    → BeginsWith (before_told (Trace edid) tree t.notes.pulses told) whole
+
+-- And once it has ended it is that trace.
+abbrev pub SessionsTellTraces : Type 0
+SessionsTellTraces = (edid : Option Edid) (tree : List Node) (lines kept : List (List ℕ)) (told text : List ℕ) (t : Session) (end : ℕ) → AreLines lines (begun edid tree) kept told text t
+    → t.notes.end ≡ Some end
+    → IsRunText (Trace edid) end (start (started tree t.notes.pulses) t.notes.events) (before_told (Trace edid) tree t.notes.pulses told) t.place.totals
+
+-- ---- the script that was taken
+
+-- So what a session has told is, without the answers, the trace that the topology and its script have, with the lines that were
+-- refused and the session's own ones emptied.
+abbrev pub SessionsTellTracesOf : Type 0
+SessionsTellTracesOf = (topology : List ℕ) (plan : Plan) (edid : Option Edid) (lines kept : List (List ℕ)) (told text : List ℕ) (t : Session) (end : ℕ)
+    → topology_of topology ≡ Ok plan → IsRoot plan.edid edid → All IsWhole lines → length lines ≤ 18446744073709551615
+    → AreLines lines (begun edid plan.tree) kept told text t → t.notes.end ≡ Some end
+    → IsTraceOf topology (text_of_lines kept) (before_told (Trace edid) plan.tree [] told) t.place.totals

@@ -1,0 +1,73 @@
+//! The lines of a session that are no lines of a script.
+ghost use Rattle.std.specs.Prelude.{◌≡◌};
+ghost use Rattle.std.specs.Option.{option_copied, option_map};
+ghost use Rattle.cec_words.specs.Words.{one_of, two_of, words_behind};
+ghost use Rattle.cec_asm.specs.Script.{time_of};
+ghost use Rattle.cec_session.specs.Command.{command_of, run_words, show_words};
+
+use cec_words::{first_word, number_in, one_word, two_words};
+use hdmi_topo::Tree;
+
+/// Times are at most this many microseconds, as those of a script.
+pub(crate) const LATEST: u64 = 1_000_000_000_000;
+
+/// What a line of a session is.
+#[derive(Clone, Copy, Debug, PartialEq, Eq)]
+pub enum Command {
+    /// A line of the script.
+    Script,
+    /// `wait`
+    Wait,
+    /// `run to T`, with the time, where it is one.
+    RunTo(Option<u64>),
+    /// `show NAME`, with the device's number, where it has that name.
+    Show(Option<usize>),
+}
+
+fn time_in(word: &[u8]) -> Option<u64>
+    ensures { result ≡ time_of word.now }
+{
+    let time = number_in(word)?;
+    if time > LATEST { None } else { Some(time) }
+}
+
+// What the words after `run` ask for.
+fn run_in(rest: Option<&[u8]>) -> Command
+    ensures { result ≡ run_words (two_of (words_behind (option_copied rest.entry))) }
+{
+    let Some((to, time)) = two_words(rest) else {
+        return Command::Script;
+    };
+    if to == b"to".as_slice() {
+        Command::RunTo(time_in(time))
+    } else {
+        Command::Script
+    }
+}
+
+// What the word after `show` asks for.
+fn show_in(tree: &Tree<15>, rest: Option<&[u8]>) -> Command
+    ensures { result ≡ show_words tree.now (one_of (words_behind (option_copied rest.entry))) }
+{
+    let Some(name) = one_word(rest) else {
+        return Command::Script;
+    };
+    Command::Show(tree.device_named(name))
+}
+
+/// What a line asks for.
+pub(crate) fn command_in(tree: &Tree<15>, line: &[u8]) -> Command
+    ensures { result ≡ command_of tree.now line.now }
+{
+    if line == b"wait".as_slice() {
+        return Command::Wait;
+    }
+    let (verb, rest) = first_word(line);
+    if verb == b"run".as_slice() {
+        run_in(rest)
+    } else if verb == b"show".as_slice() {
+        show_in(tree, rest)
+    } else {
+        Command::Script
+    }
+}

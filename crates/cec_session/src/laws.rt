@@ -1,0 +1,19 @@
+//! Laws of whole sessions.
+ghost use Rattle.cec_session.specs.Whole.{SessionsTellFronts, SessionsTellTraces, SessionsTellTracesOf};
+
+/// While a session goes on, what its lines have told, without the answers, is the front of the trace of every run that may
+/// still come of the lines that were taken.
+pub fn sessions_tell_fronts()
+    ensures { SessionsTellFronts }
+{}
+
+/// Once it has ended, that is the trace of the lines that were taken.
+pub fn sessions_tell_traces()
+    ensures { SessionsTellTraces }
+{}
+
+/// What a session has told is the trace that its topology has with its script, with the lines that were refused and the
+/// session's own ones emptied.
+pub fn sessions_tell_traces_of()
+    ensures { SessionsTellTracesOf }
+{}

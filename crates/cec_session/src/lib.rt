@@ -1,0 +1,13 @@
+//! A run whose script comes line by line: after each line, what of the trace is certain by then, and one line of answer.
+#![tactic(auto)]
+
+mod answer;
+mod command;
+mod laws;
+mod live;
+mod note;
+mod turns;
+
+pub use answer::Refusal;
+pub use laws::{sessions_tell_fronts, sessions_tell_traces, sessions_tell_traces_of};
+pub use live::{Live, LiveError, Step};

@@ -1,0 +1,326 @@
+//! A run whose script comes line by line.
+ghost use Rattle.std.specs.Prelude.{◌≡◌, Option};
+ghost use Rattle.cec_session.specs.Session.{step_show};
+
+use crate::answer::{Refusal, write_idle, write_refused, write_shown, write_taken};
+use crate::command::{Command, command_in};
+use crate::note::{events_after, note_line};
+use crate::turns::{go_on, soonest, write_last_lines};
+use cec_asm::{Draft, ScriptCause, TimedEvent};
+use cec_edges::EdgeWire;
+use cec_net::Net;
+use cec_run::{Totals, first_time};
+use cec_step_text::behind;
+use cec_trace::write_ports;
+use cec_wave::Pulses;
+use hdmi_blocks::Edid;
+use hdmi_core::{Sink, WriteFault};
+use hdmi_topo::Tree;
+use std::alloc::Global;
+use std::marker::Model;
+use thiserror::Error;
+
+/// What a line asks for.
+#[derive(Clone, Copy, Debug, Drop, PartialEq, Eq)]
+pub enum Step {
+    /// It is refused.
+    Refuse(Refusal),
+    /// Nothing comes any more, unless a line does.
+    Idle,
+    /// The state of the device of this number is shown.
+    Show(usize),
+    /// The run goes on to the horizon.
+    Go,
+    /// The run goes on to its end.
+    Finish,
+}
+
+/// Why a line was not answered.
+#[derive(Debug, Drop, Error)]
+pub enum LiveError {
+    /// A `put` took none. So many bytes of what is due were written.
+    #[error("write fault after {0} bytes")]
+    Write(u128),
+    #[error("no memory")]
+    Memory,
+}
+
+/// A run whose script comes line by line. What it has written is at each moment the front of the trace that the run of the
+/// lines so far has, whatever lines come. Times are in microseconds.
+#[derive(Drop)]
+pub struct Live {
+    edid: Option<Edid>,
+    /// The devices by their names.
+    tree: Tree<15>,
+    net: Net<EdgeWire>,
+    /// What the lines that were taken say.
+    draft: Draft,
+    /// How many events were applied.
+    applied: usize,
+    totals: Totals,
+    /// All that is over before this instant was told, and each line that comes is for it or later.
+    horizon: u64,
+    /// How many lines have come.
+    lines: u64,
+}
+
+impl Model for Live {
+    ghost use Rattle.std.specs.Prelude.{◌≤◌, drop, length};
+    ghost use Rattle.cec_asm.specs.Script.{notes_of};
+    ghost use Rattle.cec_session.specs.Session.{IsReady, Session};
+
+    ghost Value = { Session };
+
+    ghost view = { λ l. record {
+      edid = l.edid;
+      tree = l.tree;
+      notes = notes_of l.draft;
+      horizon = l.horizon;
+      lines = l.lines;
+      place = record { net = l.net; events = drop l.applied l.draft.events.items; totals = l.totals };
+    } };
+
+    ghost invariant = { λ l. IsReady (record {
+      edid = l.edid;
+      tree = l.tree;
+      notes = notes_of l.draft;
+      horizon = l.horizon;
+      lines = l.lines;
+      place = record { net = l.net; events = drop l.applied l.draft.events.items; totals = l.totals };
+    })
+        × (l.applied ≤ length l.draft.events.items) };
+}
+
+fn shown(device: Option<usize>) -> Step
+    ensures { result ≡ step_show device }
+{
+    match device {
+        None => Step::Refuse(Refusal::Script(ScriptCause::Name)),
+        Some(device) => Step::Show(device),
+    }
+}
+
+impl Live {
+    ghost use Rattle.std.specs.Prelude.{ℕ, ◌<◌, ◌≤◌, ◌++◌, IfSome, MatchOption, Result, is_some, length, None};
+    ghost use Rattle.cec_asm.specs.Script.{IsLineRead, Notes};
+    ghost use Rattle.cec_asm.specs.declared.script.ScriptCause.{ScriptCause as ScriptCauseValue};
+    ghost use Rattle.cec_trace.specs.Root.{HasAddress};
+    ghost use Rattle.cec_words.specs.Cut.{WrittenText};
+    ghost use Rattle.cec_run.specs.declared.run.Telling.TheVariants.{Trace};
+    ghost use Rattle.cec_run.specs.Run.{end_told, start_told};
+    ghost use Rattle.cec_session.specs.declared.live.Step.TheVariants.{Finish, Go, Show};
+    ghost use Rattle.cec_session.specs.Note.{IsSettled};
+    ghost use Rattle.cec_session.specs.Session.{IsSoonest, IsStep, NamesShown, after_to, after_wait, begun, numbered, standing, step_to, step_wait, taken_line, with_standing};
+    ghost use Rattle.cec_session.specs.Taken.{IsAnswered, IsGone, IsLineTaken, IsOfMemory};
+
+    /// A run before its first line. The television's EDID, where it is given, has an HDMI block.
+    pub fn new(alloc: Global, tree: Tree<15>, edid: Option<Edid>) -> Live
+        requires some { 0 < length tree }
+        requires addressed { HasAddress edid }
+        ensures { result ≡ begun edid tree }
+    {
+        let Ok(none) = Pulses::new(&[]) else {
+            unreachable!();
+        };
+        Live {
+            edid,
+            tree: tree.copy(),
+            net: Net::new(tree, EdgeWire::new(), none),
+            draft: Draft::new(alloc),
+            applied: 0,
+            totals: Totals::default(),
+            horizon: 0,
+            lines: 0,
+        }
+    }
+
+    /// Whether the script has come to its end.
+    pub fn is_over(&self) -> bool
+        ensures { result ≡ is_some self.now.notes.end }
+    {
+        self.draft.end.is_some()
+    }
+
+    /// Writes what the trace has at its start: the lines of the ports.
+    pub fn write_start<S: Sink>(&self, out: &mut S) -> Result<u128, WriteFault>
+        ensures { WrittenText (S.contents out.old) (S.contents out.new) (S.is_stuck out.old) (S.is_stuck out.new) (start_told (Trace self.now.edid) self.now.place.net) result }
+    {
+        write_ports(out, 0, &self.edid, self.net.tree(), &[])
+    }
+
+    // The events that were not applied yet.
+    fn left(&self) -> &[TimedEvent]
+        ensures { result.now ≡ self.now.place.events }
+    {
+        events_after(&self.draft, self.applied)
+    }
+
+    // Takes a line of the script. None where memory ran out; then nothing has changed.
+    fn note(&mut self, line: &[u8]) -> Option<Step>
+        requires going { self.old.notes.end ≡ None }
+        ensures { MatchOption result (self.new ≡ self.old)
+            (λ step. (read : Result Notes ScriptCauseValue) × IsLineRead self.old.tree self.old.notes self.old.lines line.now read
+            × IsSettled (standing self.old) read step (standing self.new) × (self.new ≡ with_standing self.old (standing self.new))) }
+    {
+        note_line(
+            &self.tree,
+            &mut self.draft,
+            &mut self.net,
+            &mut self.horizon,
+            self.lines,
+            line,
+        )
+    }
+
+    // Takes `wait`.
+    fn wait(&mut self) -> Step
+        ensures { (soon : Option ℕ) × IsSoonest self.old.place soon × (result ≡ step_wait soon) × (self.new ≡ after_wait self.old soon) }
+    {
+        match soonest(&self.net, first_time(self.left())) {
+            None => Step::Idle,
+            Some(time) => {
+                self.horizon = self.horizon.max(time);
+                Step::Go
+            }
+        }
+    }
+
+    // Takes `run to T`.
+    fn run_to(&mut self, time: Option<u64>) -> Step
+        requires early { IfSome time (λ t. t ≤ 1000000000000) }
+        ensures step { result ≡ step_to self.old time }
+        ensures after { self.new ≡ after_to self.old time }
+    {
+        match time {
+            None => Step::Refuse(Refusal::Script(ScriptCause::Number)),
+            Some(time) => {
+                if time < self.horizon {
+                    return Step::Refuse(Refusal::Past);
+                }
+                self.horizon = time;
+                Step::Go
+            }
+        }
+    }
+
+    // What a line asks for. None where memory ran out; then the line counts, and nothing else has changed.
+    fn step(&mut self, line: &[u8]) -> Option<Step>
+        requires going { self.old.notes.end ≡ None }
+        ensures step { MatchOption result (self.new ≡ numbered self.old) (λ step. IsStep self.old line.now step self.new) }
+        ensures shown { IfSome result (λ step. NamesShown (length self.new.tree) step) }
+    {
+        self.lines = self.lines.saturating_add(1);
+        match command_in(&self.tree, line) {
+            Command::Script => self.note(line),
+            Command::Wait => Some(self.wait()),
+            Command::RunTo(time) => Some(self.run_to(time)),
+            Command::Show(device) => Some(shown(device)),
+        }
+    }
+
+    // Goes on, and writes what is told.
+    fn go<S: Sink>(&mut self, out: &mut S, ended: bool) -> Result<u128, WriteFault>
+        ensures { IsGone ended self.old self.new (S.contents out.old) (S.contents out.new) (S.is_stuck out.old) (S.is_stuck out.new) result }
+    {
+        let mut ahead = self.net.copy();
+        let mut totals = self.totals;
+        match go_on(
+            out,
+            &mut ahead,
+            &self.edid,
+            &mut totals,
+            events_after(&self.draft, self.applied),
+            self.horizon,
+            ended,
+        ) {
+            Err(fault) => Err(fault),
+            Ok(gone) => {
+                self.net = ahead;
+                self.totals = totals;
+                self.applied += gone.applied;
+                Ok(gone.written)
+            }
+        }
+    }
+
+    // Writes that a line was taken.
+    fn write_answer<S: Sink>(&self, out: &mut S) -> Result<u128, WriteFault>
+        ensures { WrittenText (S.contents out.old) (S.contents out.new) (S.is_stuck out.old) (S.is_stuck out.new) (taken_line self.now.horizon) result }
+    {
+        write_taken(out, self.horizon)
+    }
+
+    // Shows the state of a device.
+    fn take_show<S: Sink>(&self, device: usize, out: &mut S) -> Result<u128, WriteFault>
+        requires { device < length self.now.tree }
+        ensures { IsAnswered (Show device) self.now self.now (S.contents out.old) (S.contents out.new) (S.is_stuck out.old) (S.is_stuck out.new) result }
+    {
+        write_shown(out, self.net.device(device))
+    }
+
+    // Goes on to the horizon, and answers.
+    fn take_go<S: Sink>(&mut self, out: &mut S) -> Result<u128, WriteFault>
+        ensures { IsAnswered Go self.old self.new (S.contents out.old) (S.contents out.new) (S.is_stuck out.old) (S.is_stuck out.new) result }
+    {
+        match self.go(out, false) {
+            Ok(count) => behind(count, self.write_answer(out)),
+            Err(fault) => Err(fault),
+        }
+    }
+
+    // Writes the rest of the trace after its last turn, and answers.
+    fn write_end<S: Sink>(&self, out: &mut S) -> Result<u128, WriteFault>
+        ensures { WrittenText (S.contents out.old) (S.contents out.new) (S.is_stuck out.old) (S.is_stuck out.new)
+            (end_told (Trace self.now.edid) self.now.horizon self.now.place.net ++ taken_line self.now.horizon) result }
+    {
+        match write_last_lines(out, self.net.devices(), self.horizon) {
+            Ok(count) => behind(count, write_taken(out, self.horizon)),
+            Err(fault) => Err(fault),
+        }
+    }
+
+    // Goes on to the end, and answers.
+    fn take_finish<S: Sink>(&mut self, out: &mut S) -> Result<u128, WriteFault>
+        ensures { IsAnswered Finish self.old self.new (S.contents out.old) (S.contents out.new) (S.is_stuck out.old) (S.is_stuck out.new) result }
+    {
+        match self.go(out, true) {
+            Ok(count) => behind(count, self.write_end(out)),
+            Err(fault) => Err(fault),
+        }
+    }
+
+    // Writes what is due of a step.
+    fn take<S: Sink>(&mut self, step: Step, out: &mut S) -> Result<u128, WriteFault>
+        requires shown { NamesShown (length self.old.tree) step }
+        ensures { IsAnswered step self.old self.new (S.contents out.old) (S.contents out.new) (S.is_stuck out.old) (S.is_stuck out.new) result }
+    {
+        match step {
+            Step::Refuse(refusal) => write_refused(out, self.lines, refusal),
+            Step::Idle => write_idle(out, self.horizon),
+            Step::Show(device) => self.take_show(device, out),
+            Step::Go => self.take_go(out),
+            Step::Finish => self.take_finish(out),
+        }
+    }
+
+    /// Takes a line, writes what of the trace is certain by it, and then one line of answer. The script has not come to its
+    /// end.
+    ///
+    /// # Errors
+    ///
+    /// Memory ran out: then nothing was written, and the line is not taken. A `put` took none: then the front of what is due
+    /// was written, as long as the error says.
+    pub fn line<S: Sink>(&mut self, line: &[u8], out: &mut S) -> Result<u128, LiveError>
+        requires going { self.old.notes.end ≡ None }
+        ensures taken { IsLineTaken self.old line.now self.new (S.contents out.old) (S.contents out.new) (S.is_stuck out.old) (S.is_stuck out.new) result }
+        ensures memory { IsOfMemory result → out.new ≡ out.old }
+    {
+        let Some(step) = self.step(line) else {
+            return Err(LiveError::Memory);
+        };
+        match self.take(step, out) {
+            Ok(count) => Ok(count),
+            Err(fault) => Err(LiveError::Write(fault.count)),
+        }
+    }
+}

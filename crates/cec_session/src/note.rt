@@ -1,0 +1,155 @@
+//! A line of the script: what it says, and whether it comes too late.
+ghost use Rattle.std.specs.Prelude.{◌≡◌, ℕ, ◌||◌, ◌≤◌, ◌∷◌, [], drop, take, length, nat_lt, if◌then◌else◌, None, Result, Ok, MatchOption};
+ghost use Rattle.std.specs.List.{list_any};
+ghost use Rattle.cec_asm.specs.Script.{IsLineRead, Notes, notes_of};
+ghost use Rattle.cec_asm.specs.declared.script.ScriptCause.{ScriptCause as ScriptCauseValue};
+ghost use Rattle.cec_live.specs.Certain.{with_pulses};
+ghost use Rattle.cec_session.specs.Note.{Extends, IsSettled, refused_by};
+ghost use Rattle.cec_session.specs.Session.{Standing, ends_before, refuses_pulse};
+ghost use Rattle.cec_session.specs.declared.answer.Refusal.TheVariants.{Past};
+ghost use Rattle.cec_session.specs.declared.live.Step.TheVariants.{Refuse};
+
+use crate::answer::Refusal;
+use crate::live::Step;
+use cec_asm::{Draft, LineError, TimedEvent, take_line};
+use cec_edges::EdgeWire;
+use cec_net::Net;
+use cec_wave::Stretch;
+use hdmi_topo::Tree;
+
+// What comes after the first ones.
+fn after<T>(items: &[T], count: usize) -> &[T]
+    ensures { result.now ≡ drop count items.now }
+{
+    if count <= items.len() {
+        &items[count..]
+    } else {
+        &[]
+    }
+}
+
+/// The events after the first ones.
+pub(crate) fn events_after(draft: &Draft, count: usize) -> &[TimedEvent]
+    ensures { result.now ≡ drop count draft.now.events.items }
+{
+    after(&draft.events, count)
+}
+
+fn any_event_before(events: &[TimedEvent], horizon: u64) -> bool
+    ensures { result ≡ list_any (λ e. nat_lt e.at horizon) events.now }
+{
+    events.iter().any(|event| event.at < horizon)
+}
+
+fn any_pulse_before(pulses: &[Stretch], horizon: u64) -> bool
+    ensures { result ≡ list_any (λ p. nat_lt p.from horizon) pulses.now }
+{
+    pulses.iter().any(|pulse| pulse.from < horizon)
+}
+
+fn ends_before(horizon: u64, end: Option<u64>) -> bool
+    ensures { result ≡ ends_before horizon end }
+{
+    match end {
+        None => false,
+        Some(end) => end < horizon,
+    }
+}
+
+// Tells the network of the pulse, where there is one. Returns whether it refuses it; then it is as it was.
+fn add_pulse(net: &mut Net<EdgeWire>, pulses: &[Stretch]) -> bool
+    requires few { length pulses.now ≤ 1 }
+    ensures refused { result ≡ refuses_pulse pulses.now net.old }
+    ensures net { net.new ≡ (if result then net.old else with_pulses pulses.now net.old) }
+{
+    let Some((pulse, others)) = pulses.split_first() else {
+        return false;
+    };
+    let _others = others;
+    match net.add_pulse(*pulse) {
+        Ok(()) => false,
+        Err(_) => true,
+    }
+}
+
+// Whether what came after so many events and pulses, or an end, is for an instant before the horizon.
+fn is_past(draft: &Draft, events: usize, pulses: usize, horizon: u64) -> bool
+    ensures { result ≡ (list_any (λ e. nat_lt e.at horizon) (drop events draft.now.events.items)
+        || (list_any (λ p. nat_lt p.from horizon) (drop pulses draft.now.pulses.items) || ends_before horizon draft.now.end)) }
+{
+    any_event_before(after(&draft.events, events), horizon)
+        || any_pulse_before(after(&draft.pulses, pulses), horizon)
+        || ends_before(horizon, draft.end)
+}
+
+// Takes a line back, before which there were so many events and pulses and no end, and refuses it.
+fn take_back(draft: &mut Draft, events: usize, pulses: usize) -> Step
+    ensures notes { notes_of draft.new ≡ record { events = take events draft.old.events.items; pulses = take pulses draft.old.pulses.items; end = None } }
+    ensures step { result ≡ Refuse Past }
+{
+    draft.events.truncate(events);
+    draft.pulses.truncate(pulses);
+    draft.end = None;
+    Step::Refuse(Refusal::Past)
+}
+
+// What becomes of a line that the draft has taken, before which there were so many events and pulses and no end.
+fn settle(
+    draft: &mut Draft,
+    events: usize,
+    pulses: usize,
+    net: &mut Net<EdgeWire>,
+    horizon: &mut u64,
+) -> Step
+    requires few { length (drop pulses draft.old.pulses.items) ≤ 1 }
+    ensures { (old : Notes) → old.end ≡ None → Extends old (notes_of draft.old) → events ≡ length old.events → pulses ≡ length old.pulses
+        → IsSettled (record { notes = old; horizon = horizon.old; net = net.old }) (Ok (notes_of draft.old)) result
+        (record { notes = notes_of draft.new; horizon = horizon.new; net = net.new }) }
+{
+    if is_past(draft, events, pulses, *horizon) {
+        return take_back(draft, events, pulses);
+    }
+    if add_pulse(net, after(&draft.pulses, pulses)) {
+        return take_back(draft, events, pulses);
+    }
+    match draft.end {
+        None => Step::Go,
+        Some(end) => {
+            *horizon = end;
+            Step::Finish
+        }
+    }
+}
+
+fn refused_by(error: LineError) -> Option<Step>
+    ensures { result ≡ refused_by error }
+{
+    match error {
+        LineError::Cause(cause) => Some(Step::Refuse(Refusal::Script(cause))),
+        LineError::Memory => None,
+    }
+}
+
+/// Takes a line of the script, the one of this number. None where memory ran out; then nothing has changed.
+pub(crate) fn note_line(
+    tree: &Tree<15>,
+    draft: &mut Draft,
+    net: &mut Net<EdgeWire>,
+    horizon: &mut u64,
+    number: u64,
+    line: &[u8],
+) -> Option<Step>
+    requires going { draft.old.end ≡ None }
+    ensures { MatchOption result
+        ((notes_of draft.new ≡ notes_of draft.old) × (horizon.new ≡ horizon.old) × (net.new ≡ net.old))
+        (λ step. (read : Result Notes ScriptCauseValue) × IsLineRead tree.now (notes_of draft.old) number line.now read
+        × IsSettled (record { notes = notes_of draft.old; horizon = horizon.old; net = net.old }) read step
+        (record { notes = notes_of draft.new; horizon = horizon.new; net = net.new })) }
+{
+    let events = draft.events.len();
+    let pulses = draft.pulses.len();
+    match take_line(tree, draft, number, line) {
+        Ok(()) => Some(settle(draft, events, pulses, net, horizon)),
+        Err(error) => refused_by(error),
+    }
+}
