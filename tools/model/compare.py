@@ -1,9 +1,16 @@
 #!/usr/bin/env python3
 """python3 compare.py PROGRAM KIND COUNT START: random inputs of KIND through PROGRAM and the model; prints differences.
-KIND: run feat wire edges mon step asm edid edtext check ways odd."""
-import os, random, subprocess, sys, time
+KIND: run feat wire edges mon step asm edid edtext check ways expect odd."""
+import os, random, re, subprocess, sys, time
 import wire, edid, net
-from model import model
+import expectations
+from model import model as model_of
+
+
+
+def model(args, data):
+    return expectations.check(data) if args[:1] == ['check'] else model_of(args, data)
+
 
 MAXDIFF = int(os.environ.get('MODEL_MAX', '5'))
 KINDS6 = ['tv', 'amp', 'player', 'recorder', 'switch', 'combo', 'combo']
@@ -641,6 +648,122 @@ def gen_ways(r):
     return ['edid'] + way + r.choice([[], ['--raw']] if way != ['--only-address'] else [[]]), e
 
 
+def star(r, word):
+    """the word with some of its bytes as a star, or more of them"""
+    i, j = sorted(r.randrange(len(word) + 1) for _ in range(2))
+    if r.random() < .15: return '**' if r.random() < .5 else word[:i] + '*' + word[i:]
+    return word[:i] + '*' + word[j:]
+
+
+def gen_pattern(r, line):
+    """a pattern near what a round's line says, seldom an empty one or one with too many stars"""
+    while True:
+        text = near_pattern(r, line)
+        if 1 <= len(text) <= 160 and text.count('*') <= 4 or r.random() < .05: return text
+
+
+def near_pattern(r, line):
+    """what a round's line says, or a front of it, with stars; now and then next to that"""
+    words = line.split(' ', 2)[2].split(' ')
+    if words[0] == 'complete': words = words[1:]
+    k = r.random()
+    words = words[:len(words) if k < .2 else r.randrange(1, len(words) + 1)]
+    for _ in range(r.choice([0, 0, 0, 1, 1, 2, 4, 5])):
+        i = r.randrange(len(words))
+        words[i] = star(r, words[i])
+    text = ' '.join(words)
+    k = r.random()
+    if k < .08: text = text[:r.randrange(len(text) + 1)]
+    elif k < .12: text += r.choice([' ', ' *', '*', ' -', 'x', '#', '\\'])
+    elif k < .14: text = r.choice(['*', '* *', '* * * *', '* * * * *', 'short', 'silent', 'bad-start', 'bad-start -', 'complete', 'long', '4>f', '*>f active-source', '* by *', 'x' * r.choice([159, 160, 161])])
+    return text
+
+
+def gen_window(r, lines, labels, end, near):
+    """a window about the round with this line, or any"""
+    begin, close = (int(x) for x in near.split(' ')[:2])
+    k = r.random()
+    if labels and k < .55:
+        label, at = r.choice(labels)
+        span = close - at if at is not None and close >= at and r.random() < .8 else r.choice([0, 1, 50000, 100000, 200000, 600000, 10 ** 12])
+        return 'within %d of %s' % (max(0, span + r.choice([0, 0, 0, 0, -1, 1, 100000])), label)
+    low, high = begin + r.choice([0, 0, 0, -1, 1, -100000]), close + r.choice([0, 0, 0, -1, 1, 100000])
+    if k > .9: low, high = r.choice([0, end // 2]), r.choice([end, 10 ** 12, end // 2])
+    low, high = max(0, low), max(0, high)
+    return 'from %d to %d' % (min(low, high), max(low, high)) if r.random() < .995 else 'from %d to %d' % (high, low)
+
+
+REFUSALS = ['port-range', 'port-taken', 'not-loose', 'loop', 'not-plugged', 'off-wire', 'not-for-kind', 'no-address', 'own-address', 'queue-full', 'nonsense']
+
+
+def gen_expect(r):
+    """a run with labels and expectations of its rounds, many at the border of what holds; a part with a line at fault"""
+    args, text = r.choice([gen_run, gen_feat, gen_feat, gen_wire, gen_wire])(r)
+    topology, script = text.split('\nscript\n')
+    lines = script.split('\n')[:-1]
+    trace = model(['run'], text.encode())[1].decode('latin1').split('\n')
+    rounds = [l for l in trace if re.match(r'\d+ \d+ ', l)] or ['0 27150 complete 0>0 nack by tv out -']
+    events = {l.split(' ')[2]: l.split(' ') for l in trace if ' event ' in l}
+    end = int(trace[-2].split(' ')[0])
+    out, labels, slips = [], [], []
+
+    def expectation():
+        near = r.choice(rounds)
+        body = 'expect %s%s %s' % (r.choice(['', '', 'none ', 'once ']), gen_window(r, rounds, labels, end, near), gen_pattern(r, near))
+        if slips and r.random() < .3:
+            label, word = r.choice(slips)
+            body = 'expect refused %s %s' % (label, word if r.random() < .8 else r.choice(REFUSALS))
+        elif STATES and r.random() < .15:
+            body = gen_state(r, trace, end)
+        if r.random() < .3:
+            label = 'e%d' % len(labels)
+            body = 'label %s %s' % (label, body)
+            labels.append((label, int(near.split(' ')[1])))
+        return body
+    inside = r.choice([0, .1, .3])
+    for n, line in enumerate(lines, 1):
+        out.append((n, line))
+        if r.random() < inside: out.append((None, None))
+    out += [(None, None)] * r.choice([1, 2, 5, 10])
+    if r.random() < .1: out.insert(r.randrange(len(out)), (None, None))
+    lines = []
+    for n, line in out:
+        if n is None:
+            line = expectation()
+        elif line.startswith('at ') and r.random() < .5 or str(n) in events and events[str(n)][3] == 'refused' and r.random() < .7:
+            label = 'l%d' % n if r.random() < .995 else 'l1'
+            event = events.get(str(n))
+            labels.append((label, int(event[0]) if event else None))
+            if event and event[3] == 'refused': slips.append((label, event[4]))
+            elif r.random() < .1: slips.append((label, r.choice(REFUSALS)))
+            line = 'label %s %s' % (label, line)
+        elif r.random() < .01:
+            line = r.choice(['# ' + line, 'label x # ' + line])
+        lines.append(line)
+    if r.random() < .25:
+        special = [i for i, l in enumerate(lines) if l.startswith(('label', 'expect'))] or [0]
+        i = r.choice(special)
+        if r.random() < .6: lines[i] = mutate_text(r, lines[i])
+        else:
+            lines.insert(i, r.choice(['expect', 'expect ', 'label', 'label ', 'label x', 'label x ', 'label  at 5', 'label x expect', 'expect none', 'expect once', 'expect some from 0 to 1 *', 'expect from 0 to 1', 'expect from 0 to 1 ', 'expect from 0 to 1  ',
+                                      'expect from 1 to 0 *', 'expect from 0 to 01 *', 'expect from 0 to 1000000000001 *', 'expect from 0 to 1000000000000 *', 'expect within 5 of nosuch *', 'expect within x of nosuch *', 'expect within 5 of', 'expect within 5 of l1', 'expect within 5 of  *',
+                                      'expect refused', 'expect refused nosuch', 'expect refused nosuch off-wire', 'expect refused l1 nonsense', 'expect refused l1 off-wire x', 'expect refused e0 off-wire', 'label y label z at 5 press tv power', 'label y expect within 5 of y *', 'label y expect from 0 to 1 * * * * *',
+                                      'expect from 0 to 1 ' + 'x' * 160, 'expect from 0 to 1 ' + 'x' * 161, 'label y expect from 9 to 8 *', 'label l1 expect from 9 to 8 *', 'label y expect within x of nosuch ', 'expect  from 0 to 1 *', ' expect from 0 to 1 *', 'Expect from 0 to 1 *', 'expect once none from 0 to 1 *']))
+    return ['check'], topology + '\nscript\n' + '\n'.join(lines) + r.choice(['\n', '\n', ''])
+
+
+# expectations of states, where the program has them
+STATES = bool(os.environ.get('MODEL_STATES'))
+
+
+def gen_state(r, trace, end):
+    """words of a device's state line, some of them changed, at any time"""
+    state = r.choice([l for l in trace if l.startswith('state ')]).split(' ')
+    words = [w if r.random() < .9 else r.choice(['on', 'active=-', 'volume=20', 'standby', w + 'x', w[:-1]]) for w in r.sample(state[1:], r.choice([1, 1, 2, 4]))]
+    at = r.choice([end, end, end - 1, r.randrange(end + 1), r.randrange(end + 1), end + 1 if r.random() < .1 else 1])
+    return 'expect state %d %s %s' % (at, state[1] if r.random() < .98 else 'nosuch', ' '.join(words))
+
+
 def gen_odd(r):
     g = r.choice(ODD)
     a, d = g(r)
@@ -685,8 +808,8 @@ def small_run(r):
     return a, t
 
 
-ODD = [gen_run, small_run, small_run, gen_asm, gen_edidcmd, gen_edtext] + ([] if os.environ.get('MODEL_NO_MON') else [gen_mon]) + ([] if os.environ.get('MODEL_NO_STEP') else [gen_step])
-GEN = dict(ops=gen_ops, amp=gen_amp, run=gen_run, feat=gen_feat, wire=gen_wire, edges=gen_edges, mon=gen_mon, step=gen_step, asm=gen_asm, edid=gen_edidcmd, edtext=gen_edtext, check=gen_check, ways=gen_ways, odd=gen_odd)
+ODD = [gen_run, small_run, small_run, gen_asm, gen_edidcmd, gen_edtext] + ([] if os.environ.get('MODEL_NO_MON') else [gen_mon]) + ([] if os.environ.get('MODEL_NO_STEP') else [gen_step]) + ([gen_expect] if os.environ.get('MODEL_EXPECT') else [])
+GEN = dict(ops=gen_ops, amp=gen_amp, run=gen_run, feat=gen_feat, wire=gen_wire, edges=gen_edges, mon=gen_mon, step=gen_step, asm=gen_asm, edid=gen_edidcmd, edtext=gen_edtext, check=gen_check, ways=gen_ways, expect=gen_expect, odd=gen_odd)
 
 
 def main():

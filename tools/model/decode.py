@@ -51,12 +51,17 @@ TIMING_RULES = {
 }
 
 
-def decoded(bytes_):
-    """the lines of warnings and failures of edid-decode, or None where it breaks off"""
+def decoded_text(bytes_):
+    """what `edid-decode --check` writes of an EDID"""
     with tempfile.NamedTemporaryFile() as file:
         file.write(bytes_)
         file.flush()
-        text = subprocess.run(['edid-decode', '--check', file.name], capture_output=True).stdout.decode('latin-1')
+        return subprocess.run(['edid-decode', '--check', file.name], capture_output=True).stdout.decode('latin-1')
+
+
+def decoded(bytes_):
+    """the lines of warnings and failures of edid-decode, or None where it breaks off"""
+    text = decoded_text(bytes_)
     place = re.search(r'^(Warnings|Failures):$', text, re.M)
     return text[place.start():] if place else '' if 'EDID conformity' in text else None
 

@@ -1,0 +1,214 @@
+"""Expectations of scripts and their report: a plain model."""
+import re
+from net import Fault, Run, load, parse_script, parse_topology, parts
+from wire import T_LIMIT, lines_of, number, skipped
+
+ROUND = re.compile(rb'\d+ \d+ (complete|short|silent|bad-start|long) ')
+EVENT = re.compile(rb'(\d+) event (\d+) (ok|refused ([a-z-]+))')
+SHOWN = 8
+MOST_PATTERN = 160
+MOST_STARS = 4
+
+
+def is_expectation(line):
+    return line.split(b' ')[0] == b'expect'
+
+
+def parted(line):
+    """(label or None, what stands behind it or None); the whole line where it has none"""
+    words = line.split(b' ', 2)
+    if words[0] != b'label':
+        return None, line
+    return (words[1] if len(words) > 1 else b''), (words[2] if len(words) > 2 else None)
+
+
+def plain_script(script):
+    """the script without labels, in which an expectation is an empty line"""
+    out = []
+    for line in lines_of(script):
+        if not skipped(line):
+            line = parted(line)[1] or b''
+            if is_expectation(line):
+                line = b''
+        out.append(line)
+    return b''.join(line + b'\n' for line in out)
+
+
+class Expectation:
+    """`kind` is rounds, refused or state"""
+
+    def __init__(self, number_, text, label, kind):
+        self.number, self.text, self.label, self.kind = number_, text, label, kind
+
+
+def parse_expectation(n, text, label, body, names, end):
+    """the expectation; a list of causes at fault where it is at fault"""
+    words = body.split(b' ')
+    it = Expectation(n, text, label, 'rounds')
+    if words[1:2] == [b'refused']:
+        if len(words) != 4 or not words[3]:
+            return ['word']
+        it.kind, it.of, it.word = 'refused', words[2], words[3]
+        return it
+    if words[1:2] == [b'state']:
+        if len(words) < 5 or b'' in words[4:]:
+            return ['word']
+        it.kind, it.at, it.device, it.words = 'state', number(words[2], T_LIMIT), words[3], words[4:]
+        causes = []
+        if it.at is None:
+            causes.append('number')
+        if it.device.decode('latin1') not in names:
+            causes.append('name')
+        if it.at is not None and it.at > end:
+            causes.append('order')
+        return causes or it
+    it.how = 'some'
+    place = 1
+    if words[1:2] in ([b'none'], [b'once']):
+        it.how = words[1].decode()
+        place = 2
+    window, pattern = words[place:place + 4], b' '.join(words[place + 4:])
+    if len(window) < 4 or not 1 <= len(pattern) <= MOST_PATTERN or pattern.count(b'*') > MOST_STARS:
+        return ['word']
+    it.pattern = pattern
+    if window[0] == b'within' and window[2] == b'of':
+        it.window, it.span, it.of = 'within', number(window[1], T_LIMIT), window[3]
+        return ['number'] if it.span is None else it
+    if window[0] == b'from' and window[2] == b'to':
+        it.window, it.begin, it.end = 'from', number(window[1], T_LIMIT), number(window[3], T_LIMIT)
+        if it.begin is None or it.end is None:
+            return ['number']
+        it.of = None
+        return it if it.begin <= it.end else ['order']
+    return ['word']
+
+
+ORDER = ['word', 'number', 'name', 'label', 'order']
+
+
+def expectations(script, names, end):
+    """the expectations, and {label: line of its event}; raises the first fault"""
+    found, labels = [], {}
+    for n, line in enumerate(lines_of(script), 1):
+        if skipped(line):
+            continue
+        label, body = parted(line)
+        causes = []
+        if label is not None and not body:
+            causes.append('word')
+        if label is not None and (label == b'' or label in labels):
+            causes.append('label')
+        it = None
+        if body and is_expectation(body):
+            it = parse_expectation(n, line, label, body, names, end)
+            if isinstance(it, list):
+                causes += it
+                it = None
+                # a window at fault in its order may name no label
+            elif it.kind != 'state' and it.of is not None:
+                if it.of not in labels or it.kind == 'refused' and labels[it.of] is None:
+                    causes.append('label')
+        if causes:
+            raise Fault('script line %d: %s' % (n, min(causes, key=ORDER.index)))
+        if label is not None:
+            labels[label] = None if it else n
+        if it:
+            found.append(it)
+    return found, labels
+
+
+def fits(pattern, text):
+    """the text begins with the pattern, up to the end of a word; a * is any bytes of one word"""
+    parts_ = [re.escape(p) for p in pattern.split(b'*')]
+    return re.match(b'[^ ]*'.join(parts_) + b'(?= |$)', text, re.S) is not None
+
+
+def told(line):
+    """what a round says: what stands behind its times, without the word complete"""
+    rest = line.split(b' ', 2)[2]
+    return rest[9:] if rest.startswith(b'complete ') else rest
+
+
+def escaped(text):
+    return text.replace(b'\\', b'\\\\').replace(b'#', b'\\#')
+
+
+class Judge:
+    def __init__(self, trace, state_at, labels):
+        self.rounds = [(int(line.split(b' ')[0]), int(line.split(b' ')[1]), line) for line in trace if ROUND.match(line)]
+        events = [EVENT.fullmatch(line) for line in trace]
+        self.events = {int(m[2]): (int(m[1]), m[4]) for m in events if m}
+        self.state_at = state_at
+        self.labels = labels
+        self.instants = {label: self.events[n][0] for label, n in labels.items() if n in self.events}
+
+    def window(self, it):
+        if it.window == 'from':
+            return it.begin, it.end
+        instant = self.instants.get(it.of)
+        return None if instant is None else (instant, instant + it.span)
+
+    def judge(self, it):
+        """(whether it holds, the lines behind a failure)"""
+        if it.kind == 'refused':
+            found = self.events.get(self.labels[it.of])
+            return found is not None and found[1] == it.word, []
+        if it.kind == 'state':
+            line = self.state_at(it.at, it.device)
+            return all(word in line.split(b' ') for word in it.words), [line]
+        window = self.window(it)
+        if window is None:
+            return False, [b'no instant']
+        inside = [r for r in self.rounds if window[0] <= r[0] and r[1] <= window[1]]
+        seen = [r for r in inside if fits(it.pattern, told(r[2]))]
+        holds = {'some': len(seen) > 0, 'none': len(seen) == 0, 'once': len(seen) == 1}[it.how]
+        if holds and seen and it.label is not None:
+            self.instants[it.label] = seen[0][1]
+        return holds, [b'seen %d from %d to %d' % (len(seen), *window)] + [r[2] for r in (seen or inside)[:SHOWN]]
+
+
+def trace_of(topology, script, end=None):
+    """the trace of the run, or of the run that is cut at `end`"""
+    tree, names, edid, events, pulses, last = load(topology, script)
+    if end is not None:
+        events, last = [e for e in events if e[0] < end], end
+    run = Run(tree, edid, events, pulses, last)
+    while run.to_round():
+        run.round()
+    return [line.encode() for line in run.lines], [d.state_line().encode() for d in run.devs]
+
+
+def check(data):
+    """(status, output, fault)"""
+    try:
+        topology, script = parts(data)
+        plain = plain_script(script)
+        tree, names, edid, events, pulses, end = load(topology, plain)
+        found, labels = expectations(script, names, end)
+    except Fault as f:
+        return 1, b'', f.args[0]
+    trace = trace_of(topology, plain)[0]
+    states = {}
+
+    def state_at(at, device):
+        if at not in states:
+            states[at] = trace_of(topology, plain, at)[1]
+        return states[at][names[device.decode()]]
+    judge = Judge(trace, state_at, labels)
+    out = [b'TAP version 13']
+    failed = n = 0
+    for it in found:
+        holds, remarks = judge.judge(it)
+        n += 1
+        failed += not holds
+        out.append(b'%sok %d - line %d: %s' % (b'' if holds else b'not ', n, it.number, escaped(it.text)))
+        if not holds:
+            out += [b'# ' + remark for remark in remarks]
+    expected = {labels[it.of] for it in found if it.kind == 'refused'}
+    for line, (_, word) in sorted(judge.events.items()):
+        if word and line not in expected:
+            n += 1
+            failed += 1
+            out.append(b'not ok %d - line %d: refused %s' % (n, line, word))
+    out.append(b'1..%d' % n)
+    return (1 if failed else 0), b''.join(line + b'\n' for line in out), 'failed %d' % failed if failed else ''
