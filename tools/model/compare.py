@@ -7,7 +7,6 @@ import expectations
 from model import model as model_of
 
 
-
 def model(args, data):
     return expectations.check(data) if args[:1] == ['check'] else model_of(args, data)
 
