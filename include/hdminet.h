@@ -1,4 +1,5 @@
-/* Calls of hdminet that are proved and take memory: the emulator, and the readings of an edge file. hdminet_wire.h has the
+/* Calls of hdminet that are proved and take memory: the emulator, the report of a script's expectations,
+   and the readings of an edge file. hdminet_wire.h has the
    others, and what callers promise: it holds here too.
 
    These calls take memory by the program's malloc, realloc and free, and give all of it back before they return. The
@@ -42,9 +43,20 @@ enum hdminet_run_code {
     HDMINET_SCRIPT_TOO_MANY = 86, /* a pulse stands after 4,096 others */
     HDMINET_SCRIPT_END = 87,      /* there is no `end`, a line after it, or it is not after every event */
 
+    HDMINET_EXPECT_WORD = 90,   /* there is no such expectation, its pattern is too long, or nothing follows a label */
+    HDMINET_EXPECT_NUMBER = 91, /* there is no number in an expectation */
+    HDMINET_EXPECT_LABEL = 92,  /* a label stands above already, or none above is the one that is named */
+    HDMINET_EXPECT_ORDER = 93,  /* the window of an expectation ends before it begins */
+
     HDMINET_EDGES_LINE = 100, /* a line is ill-formed, its time is past the limit, it is after the end, or there is no end */
     HDMINET_EDGES_ORDER = 101 /* an edge is out of turn, or its time goes back */
 };
+
+/* How many tests a report has. */
+typedef struct hdminet_counts {
+    uint64_t count;  /* all of them: one for each expectation, and for each refused event that none expects */
+    uint64_t failed; /* those that failed */
+} hdminet_counts;
 
 /* Runs a script on a topology, and puts the trace of the run into the room. */
 hdminet_answer hdminet_emulate(const uint8_t *topology, size_t topology_length, const uint8_t *script, size_t script_length,
@@ -53,6 +65,11 @@ hdminet_answer hdminet_emulate(const uint8_t *topology, size_t topology_length, 
 /* Runs a script on a topology, and puts the edge file of the run into the room: the falls and rises of its line. */
 hdminet_answer hdminet_emulate_edges(const uint8_t *topology, size_t topology_length, const uint8_t *script,
                                      size_t script_length, uint8_t *room, size_t room_length);
+
+/* Runs a script without its labels and expectations on a topology, and puts the report into the room whether the run is as
+   they have it, in the Test Anything Protocol. Sets *counts, also where the room is too small. */
+hdminet_answer hdminet_check(const uint8_t *topology, size_t topology_length, const uint8_t *script, size_t script_length,
+                             uint8_t *room, size_t room_length, hdminet_counts *counts);
 
 /* Puts the lines of what was read on the line of an edge file into the room. */
 hdminet_answer hdminet_watch(const uint8_t *edges, size_t edges_length, uint8_t *room, size_t room_length);

@@ -110,6 +110,12 @@ typedef struct hdminet_pull {
     bool is_low;   /* whether it pulls */
 } hdminet_pull;
 
+/* What became of a sender's frame. */
+typedef struct hdminet_fate {
+    uint32_t code; /* enum hdminet_code: 0 where it is known */
+    uint8_t fate;  /* 1 delivered, 2 not acknowledged or refused, 3 lost to another initiator, 4 broken; 0 where it is not known */
+} hdminet_fate;
+
 /* The one text of a frame of 1 to 16 bytes: at most 96 bytes, with no 0 after them. */
 hdminet_answer hdminet_frame_text(const uint8_t *bytes, size_t bytes_length, uint8_t *room, size_t room_length);
 
@@ -160,6 +166,10 @@ hdminet_pull hdminet_sender_pulls(const hdminet_sender *sender, uint64_t t);
 /* The first instant after t at which the pull changes, where the sender is told nothing more. HDMINET_ABSENT where it
    changes no more. */
 hdminet_instant hdminet_sender_next_change(const hdminet_sender *sender, uint64_t t);
+
+/* What became of the frame of a sender that has stopped, by the reading that it began (CEC 9). HDMINET_ABSENT while it sends
+   or the reading has not ended. */
+hdminet_fate hdminet_sender_fate(const hdminet_sender *sender, const hdminet_reading *reading);
 
 #ifdef __cplusplus
 }

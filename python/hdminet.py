@@ -14,7 +14,7 @@ import ctypes.util
 import os
 from collections import namedtuple
 
-__all__ = ["Error", "Reading", "Receiver", "Sender", "edid_fault", "edid_port", "edid_text", "emulate", "emulate_edges",
+__all__ = ["Error", "Reading", "Receiver", "Report", "Sender", "check", "edid_fault", "edid_port", "edid_text", "emulate", "emulate_edges",
            "frame_bytes", "frame_text", "watch"]
 
 # The numbers of answers, as include/hdminet_wire.h and include/hdminet.h have them.
@@ -31,9 +31,11 @@ CODES = {
     69: "topology: loop", 70: "topology: hex",
     80: "script: word", 81: "script: number", 82: "script: name", 83: "script: width", 84: "script: order",
     85: "script: close", 86: "script: too-many", 87: "script: end",
+    90: "expect: word", 91: "expect: number", 92: "expect: label", 93: "expect: order",
     100: "edges: line", 101: "edges: order",
 }
 DONE, ROOM, ABSENT = 0, 1, 4
+FATES = (None, "delivered", "unacked", "lost", "broken")
 ENDINGS = (None, "complete", "short", "silent", "bad-start", "long", "open")
 
 
@@ -77,6 +79,14 @@ class _Pull(ctypes.Structure):
     _fields_ = [("code", ctypes.c_uint32), ("is_low", ctypes.c_bool)]
 
 
+class _Fate(ctypes.Structure):
+    _fields_ = [("code", ctypes.c_uint32), ("fate", ctypes.c_uint8)]
+
+
+class _Counts(ctypes.Structure):
+    _fields_ = [("count", ctypes.c_uint64), ("failed", ctypes.c_uint64)]
+
+
 _BYTES = [ctypes.c_char_p, ctypes.c_size_t]
 _CALLS = {
     "hdminet_frame_text": (_Answer, _BYTES * 2),
@@ -93,8 +103,10 @@ _CALLS = {
     "hdminet_sender_heard": (ctypes.c_uint32, [ctypes.POINTER(_Sender), ctypes.POINTER(_Heard), ctypes.c_uint64]),
     "hdminet_sender_pulls": (_Pull, [ctypes.POINTER(_Sender), ctypes.c_uint64]),
     "hdminet_sender_next_change": (_Instant, [ctypes.POINTER(_Sender), ctypes.c_uint64]),
+    "hdminet_sender_fate": (_Fate, [ctypes.POINTER(_Sender), ctypes.POINTER(_Reading)]),
     "hdminet_emulate": (_Answer, _BYTES * 3),
     "hdminet_emulate_edges": (_Answer, _BYTES * 3),
+    "hdminet_check": (_Answer, _BYTES * 3 + [ctypes.POINTER(_Counts)]),
     "hdminet_watch": (_Answer, _BYTES * 2),
 }
 
@@ -180,6 +192,20 @@ def emulate_edges(topology, script):
     return _filled(_library.hdminet_emulate_edges, topology, len(topology), script, len(script), room=1 << 18).decode("latin-1")
 
 
+Report = namedtuple("Report", "text count failed")
+
+
+def check(topology, script):
+    """Whether the run of a script is as its expectations have it: the report, how many tests it has, and how many failed."""
+    topology, script, counts = _text(topology), _text(script), _Counts()
+
+    def call(*arguments):
+        return _library.hdminet_check(*arguments, ctypes.byref(counts))
+
+    text = _filled(call, topology, len(topology), script, len(script), room=1 << 16).decode("latin-1")
+    return Report(text, counts.count, counts.failed)
+
+
 def watch(edges):
     """What was read on a line of these falls and rises, a line each."""
     edges = _text(edges)
@@ -189,9 +215,12 @@ def watch(edges):
 class Reading(namedtuple("Reading", "begin at ending bits")):
     """A reading of the line: its fall, the instant of its ending, how it ended, and the bits that were sampled."""
 
+    def _parts(self):
+        return _Reading(self.begin, self.at, ENDINGS.index(self.ending), len(self.bits), (ctypes.c_bool * 160)(*self.bits))
+
     def frame(self):
         """The bytes of the frame of a complete reading, and None of another one."""
-        parts = _Reading(self.begin, self.at, ENDINGS.index(self.ending), len(self.bits), (ctypes.c_bool * 160)(*self.bits))
+        parts = self._parts()
         try:
             return _filled(_library.hdminet_reading_frame, ctypes.byref(parts), room=16)
         except Error as error:
@@ -296,6 +325,14 @@ class Sender:
     def is_sending(self):
         """Whether it has not stopped yet."""
         return self.state.state == 0
+
+    def fate(self, reading):
+        """What became of the frame, by the reading that it began: 'delivered', 'unacked', 'lost' or 'broken'; None while it sends."""
+        fate = _library.hdminet_sender_fate(ctypes.byref(self.state), ctypes.byref(reading._parts()))
+        if fate.code == ABSENT:
+            return None
+        self._check(fate.code)
+        return FATES[fate.fate]
 
     def slot(self):
         """The slot at which it went out, or None."""

@@ -206,9 +206,29 @@ static void line(bool is_acknowledged) {
         HOLDS(reading.ending == 1 && reading.begin == 1000 && reading.count == 30 && sender.state == 2);
         hdminet_answer answer = hdminet_reading_frame(&reading, read, sizeof read);
         HOLDS(answer.code == HDMINET_DONE && answer.length == 3 && memcmp(read, frame, 3) == 0 && !reading.bits[29]);
+        HOLDS(hdminet_sender_fate(&sender, &reading).code == HDMINET_DONE && hdminet_sender_fate(&sender, &reading).fate == 1);
+        /* Refused in the last block, and broken off by another ending; none while it sends, or the reading runs. */
+        reading.bits[29] = true;
+        HOLDS(hdminet_sender_fate(&sender, &reading).fate == 2);
+        reading.ending = 2;
+        HOLDS(hdminet_sender_fate(&sender, &reading).fate == 4);
+        reading.ending = 6;
+        HOLDS(hdminet_sender_fate(&sender, &reading).code == HDMINET_ABSENT && hdminet_sender_fate(&sender, &reading).fate == 0);
+        reading.ending = 0;
+        HOLDS(hdminet_sender_fate(&sender, &reading).code == HDMINET_STATE);
+        reading.ending = 1;
+        sender.state = 1, sender.slot = 3;
+        HOLDS(hdminet_sender_fate(&sender, &reading).fate == 3);
+        sender.slot = 5;
+        HOLDS(hdminet_sender_fate(&sender, &reading).fate == 4);
+        sender.state = 0, sender.slot = 0;
+        HOLDS(hdminet_sender_fate(&sender, &reading).code == HDMINET_ABSENT);
+        sender.state = 3;
+        HOLDS(hdminet_sender_fate(&sender, &reading).code == HDMINET_STATE);
     } else {
         /* Out at the acknowledge slot of the first block: nobody pulled it low. */
         HOLDS(sender.state == 1 && sender.slot == 10 && reading.ending == 3);
+        HOLDS(hdminet_sender_fate(&sender, &reading).code == HDMINET_DONE && hdminet_sender_fate(&sender, &reading).fate == 2);
     }
 }
 

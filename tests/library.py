@@ -71,6 +71,7 @@ def lines():
         was_low = is_low
     assert [(reading.begin, reading.ending, reading.frame(), reading.acknowledged()) for reading in found] == [(1000, "complete", frame, True)]
     assert not sender.is_sending() and sender.slot() is None
+    assert sender.fate(found[0]) == "delivered" and hdminet.Sender(frame, 1000).fate(found[0]) is None
 
 
 def runs():
@@ -79,6 +80,22 @@ def runs():
     refused(21, 1, hdminet.emulate, "device tv tv 1\n", "at 1 send tv 4>0 frob\nend 5\n")
     refused(87, 2, hdminet.emulate, "device tv tv 1\n", "at 1 press tv play\n")
     refused(100, 1, hdminet.watch, "frob\n")
+    refused(60, 1, hdminet.check, "frob\n", "end 1\n")
+    refused(90, 1, hdminet.check, "device tv tv 1\n", "expect frob\nend 5\n")
+    # The key of the player is pressed at 1000000; the rounds after it are those of examples/first-path.trace.
+    topology = "device tv tv 4\ndevice p1 player 0\nplug p1 tv 1\n"
+    script = """label film at 1000000 press p1 play
+label on expect within 60000 of film 4>0 image-view-on ack
+expect none within 200000 of film 4>f active-source
+end 1500000
+"""
+    assert hdminet.check(topology, script) == ("""TAP version 13
+ok 1 - line 2: label on expect within 60000 of film 4>0 image-view-on ack
+not ok 2 - line 3: expect none within 200000 of film 4>f active-source
+# seen 1 from 1000000 to 1200000
+# 1068400 1167550 complete 4>f active-source 1.0.0.0 ok by p1 out -
+1..2
+""", 2, 1)
     assert hdminet.watch(read("capture.edges")).encode() == read("capture.readings")
     for name in sorted(glob.glob(os.path.join(top, "examples", "*.net"))):
         text = read(os.path.basename(name))

@@ -20,7 +20,7 @@ line() {
 compiles() { cc -std=c11 -Wall -Wextra -Werror -fsyntax-only -I "$top/include" "$1"; }
 
 line "headers, exports and Python" "$top/tools/library-matches"
-for file in "$top"/examples/c/*.c "$top/tests/library.c"; do line "$file compiles" compiles "$file"; done
+for file in "$top"/examples/c/*.c "$top"/tests/library*.c; do line "$file compiles" compiles "$file"; done
 
 if [ $# -ge 1 ]; then
   at=$(cd "$1" && pwd)
@@ -28,6 +28,9 @@ if [ $# -ge 1 ]; then
   link() { cc -std=c11 -O2 -Wall -Wextra -ffunction-sections -I "$at/include" -o "$room/$1" "$2" -L "$at/lib" -Wl,--gc-sections -Wl,-Bstatic "$3" -Wl,-Bdynamic; }
   line "tests/library.c links" link library "$top/tests/library.c" -lhdminet_wire
   line "tests/library.c" "$room/library" "$top/examples/living-room.edid" "$top/examples/living-room.edid.txt" "$count"
+  run_links() { cc -std=c11 -O2 -Wall -Wextra -I "$at/include" -o "$room/library-run" "$top/tests/library-run.c" -L "$at/lib" -Wl,-Bstatic -lhdminet -Wl,-Bdynamic -lpthread; }
+  line "tests/library-run.c links" run_links
+  line "tests/library-run.c" "$room/library-run"
   line "examples/c/receiver.c links" link receiver "$top/examples/c/receiver.c" -lhdminet_wire
   small() {
     strip -o "$room/stripped" "$room/receiver" && local size && size=$(stat -c %s "$room/stripped") &&

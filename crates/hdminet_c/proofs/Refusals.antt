@@ -5,6 +5,10 @@ use Rattle.cec_asm.specs.declared.script.ScriptCause.{ScriptCause}
 use Rattle.cec_asm.specs.declared.script.ScriptCause.TheVariants as scripts
 use Rattle.cec_asm.specs.declared.topology.TopologyCause.{TopologyCause}
 use Rattle.cec_asm.specs.declared.topology.TopologyCause.TheVariants as topologies
+use Rattle.cec_check.specs.declared.checking.CheckError.{CheckError}
+use Rattle.cec_check.specs.declared.checking.CheckError.TheVariants as checks
+use Rattle.cec_expect.specs.declared.form.ExpectCause.{ExpectCause}
+use Rattle.cec_expect.specs.declared.form.ExpectCause.TheVariants as expects
 use Rattle.cec_mon.specs.declared.watching.WatchError.{WatchError}
 use Rattle.cec_mon.specs.declared.watching.WatchError.TheVariants as watches
 use Rattle.cec_run.specs.declared.emulate.EmulateError.{EmulateError}
@@ -22,6 +26,7 @@ use Rattle.hdminet_room.specs.Faults.{base_code, edid_code, text_code}
 use Rattle.hdminet_room.specs.Room.{IsPut}
 use Rattle.hdminet_room.specs.declared.answer.Answer.{Answer}
 use Rattle.hdminet_room.specs.declared.code.Code.TheVariants.{EdidFirst, EdidSecond, EdidThird}
+use Rattle.hdminet_c.specs.Checking.{check_answer, expect_code}
 use Rattle.hdminet_c.specs.Run.{root_code, run_answer, script_code, topology_code}
 use Rattle.hdminet_c.specs.Watching.{watch_answer}
 
@@ -90,6 +95,18 @@ watch_more (watches.Order line) = omega arith
 watch_more (watches.Write count) = omega arith
 watch_more watches.Memory = omega arith
 
+expect_more : (cause : ExpectCause) → 1 < number_of (expect_code cause)
+expect_more expects.Word = omega arith
+expect_more expects.Number = omega arith
+expect_more expects.Label = omega arith
+expect_more expects.Order = omega arith
+
+check_more : (error : CheckError) → 1 < (check_answer error).code
+check_more (checks.Emulate error) = run_more error
+check_more (checks.Expect fault) = expect_more fault.cause
+check_more (checks.Write count) = omega arith
+check_more checks.Memory = omega arith
+
 -- a run that is refused is not done
 pub not_run : (error : EmulateError) (answer : Answer) → answer ≡ run_answer error → answer.code ≤ 1 → ⊥
 not_run error answer is little =
@@ -101,6 +118,12 @@ pub not_watched : (error : WatchError) (answer : Answer) → answer ≡ watch_an
 not_watched error answer is little =
     let code : answer.code ≡ (watch_answer error).code = ap (λ (a : Answer). a.code) is in
     let more = watch_more error in
+    omega (arith, code, more, little)
+
+pub not_checked : (error : CheckError) (answer : Answer) → answer ≡ check_answer error → answer.code ≤ 1 → ⊥
+not_checked error answer is little =
+    let code : answer.code ≡ (check_answer error).code = ap (λ (a : Answer). a.code) is in
+    let more = check_more error in
     omega (arith, code, more, little)
 
 -- bytes that are put are refused for want of room alone

@@ -54,7 +54,7 @@ fn root_code(cause: EdidCause) -> Code
 }
 
 // Why there is no run. What is written stands in memory, so that only want of it ends a write.
-fn run_refused(error: &EmulateError) -> Answer
+pub(crate) fn run_refused(error: &EmulateError) -> Answer
     ensures { result ≡ run_answer error.now }
 {
     match error {

@@ -1,7 +1,7 @@
 -- The numbers of answers (this profile's own).
 use Rattle.std.specs.Prelude.{ℕ}
 use Rattle.hdminet_room.specs.declared.code.Code.{Code}
-use Rattle.hdminet_room.specs.declared.code.Code.TheVariants.{Done, Room, State, Late, Absent, Heard, FrameEmpty, FrameTooLong, TextAddress, TextName, TextTooLong, TextCount, TextOperand, EdidLength, EdidCount, EdidHeader, EdidChecksum, EdidRevision, EdidMaker, EdidFirst, EdidSecond, EdidThird, EdidNoHdmiBlock, Memory, TopologyWord, TopologyNumber, TopologyName, TopologyFull, TopologySecondRoot, TopologyNoRoot, TopologyPortRange, TopologyPortTaken, TopologyNotLoose, TopologyLoop, TopologyHex, ScriptWord, ScriptNumber, ScriptName, ScriptWidth, ScriptOrder, ScriptClose, ScriptTooMany, ScriptEnd, EdgesLine, EdgesOrder}
+use Rattle.hdminet_room.specs.declared.code.Code.TheVariants.{Done, Room, State, Late, Absent, Heard, FrameEmpty, FrameTooLong, TextAddress, TextName, TextTooLong, TextCount, TextOperand, EdidLength, EdidCount, EdidHeader, EdidChecksum, EdidRevision, EdidMaker, EdidFirst, EdidSecond, EdidThird, EdidNoHdmiBlock, Memory, TopologyWord, TopologyNumber, TopologyName, TopologyFull, TopologySecondRoot, TopologyNoRoot, TopologyPortRange, TopologyPortTaken, TopologyNotLoose, TopologyLoop, TopologyHex, ScriptWord, ScriptNumber, ScriptName, ScriptWidth, ScriptOrder, ScriptClose, ScriptTooMany, ScriptEnd, ExpectWord, ExpectNumber, ExpectLabel, ExpectOrder, EdgesLine, EdgesOrder}
 
 abbrev pub number_of : Code → ℕ
 number_of Done = 0
@@ -47,5 +47,9 @@ number_of ScriptOrder = 84
 number_of ScriptClose = 85
 number_of ScriptTooMany = 86
 number_of ScriptEnd = 87
+number_of ExpectWord = 90
+number_of ExpectNumber = 91
+number_of ExpectLabel = 92
+number_of ExpectOrder = 93
 number_of EdgesLine = 100
 number_of EdgesOrder = 101

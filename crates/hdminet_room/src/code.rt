@@ -91,6 +91,14 @@ pub enum Code {
     ScriptTooMany,
     /// There is no `end`, a line after it, or it is not after every event.
     ScriptEnd,
+    /// There is no such expectation, its pattern is too long, or nothing follows a label.
+    ExpectWord,
+    /// There is no number in an expectation.
+    ExpectNumber,
+    /// A label stands above already, or none above is the one that is named.
+    ExpectLabel,
+    /// The window of an expectation ends before it begins.
+    ExpectOrder,
     /// The line of an edge file is ill-formed, its time is past the limit, or it stands after the end, or there is no end.
     EdgesLine,
     /// The edge is out of turn, or its time goes back.
@@ -146,6 +154,10 @@ impl Code {
             Code::ScriptClose => 85,
             Code::ScriptTooMany => 86,
             Code::ScriptEnd => 87,
+            Code::ExpectWord => 90,
+            Code::ExpectNumber => 91,
+            Code::ExpectLabel => 92,
+            Code::ExpectOrder => 93,
             Code::EdgesLine => 100,
             Code::EdgesOrder => 101,
         }

@@ -1,4 +1,5 @@
 pub mod Edids
+pub mod Fate
 pub mod Frames
 pub mod Heard
 pub mod Readings

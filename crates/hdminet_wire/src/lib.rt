@@ -4,6 +4,7 @@
 #![tactic(auto)]
 
 mod edids;
+mod fate;
 mod frames;
 mod heard;
 mod readings;

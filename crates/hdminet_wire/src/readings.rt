@@ -82,7 +82,7 @@ pub(crate) fn ended_of(told: Told, t: u64, running: Option<Reading>) -> Option<R
     }
 }
 
-fn reading_in(parts: &ReadingParts) -> Option<Reading>
+pub(crate) fn reading_in(parts: &ReadingParts) -> Option<Reading>
     ensures { result ≡ reading_in parts.now }
 {
     let count = usize::from(parts.count);

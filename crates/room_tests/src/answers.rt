@@ -55,5 +55,6 @@ fn refusals_have_numbers(rt: HostRuntime) {
     let maker = EdidError::Base(BaseError::Maker);
     is_number(&rt, edid_code(maker), 35, "maker");
     is_number(&rt, Code::ScriptEnd, 87, "end");
+    is_number(&rt, Code::ExpectLabel, 92, "label");
     is_number(&rt, Code::EdgesOrder, 101, "order");
 }
