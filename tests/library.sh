@@ -41,7 +41,7 @@ if [ $# -ge 1 ]; then
     cc -O2 -ffreestanding -nostdlib -static -fno-stack-protector -I "$at/include" -o "$room/bare" "$top/examples/c/bare.c" \
       -L "$at/lib" -lhdminet_wire && [ "$("$room/bare")" = "4>f active-source 1.0.0.0" ]
   }
-  [ "$(uname -m)" != x86_64 ] || line "examples/c/bare.c, with no C library" bare
+  line "examples/c/bare.c, with no C library" bare
   line "tests/library.py" env HDMINET_RECEIVER="$room/receiver" PYTHONPATH="$at/python" HDMINET_LIBRARY="$at/lib/libhdminet.so" python3 "$top/tests/library.py" "$top" "$count" "$program"
   watch_example() {
     env PYTHONPATH="$at/python" HDMINET_LIBRARY="$at/lib/libhdminet.so" python3 "$top/examples/python/watch.py" < "$top/examples/capture.edges" |
