@@ -72,10 +72,10 @@ def parse_expectation(n, text, label, body, names, end):
         return ['word']
     it.pattern = pattern
     if window[0] == b'within' and window[2] == b'of':
-        it.window, it.span, it.of = 'within', number(window[1], T_LIMIT), window[3]
+        it.window, it.span, it.of = 'within', number(window[1]), window[3]
         return ['number'] if it.span is None else it
     if window[0] == b'from' and window[2] == b'to':
-        it.window, it.begin, it.end = 'from', number(window[1], T_LIMIT), number(window[3], T_LIMIT)
+        it.window, it.begin, it.end = 'from', number(window[1]), number(window[3])
         if it.begin is None or it.end is None:
             return ['number']
         it.of = None
