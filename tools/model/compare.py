@@ -1,14 +1,9 @@
 #!/usr/bin/env python3
 """python3 compare.py PROGRAM KIND COUNT START: random inputs of KIND through PROGRAM and the model; prints differences.
-KIND: run feat wire edges mon step asm edid edtext check ways expect odd."""
+KIND: run feat wire edges mon step asm edid edtext check ways expect json odd."""
 import os, random, re, subprocess, sys, time
 import wire, edid, net
-import expectations
-from model import model as model_of
-
-
-def model(args, data):
-    return expectations.check(data) if args[:1] == ['check'] else model_of(args, data)
+from model import model
 
 
 MAXDIFF = int(os.environ.get('MODEL_MAX', '5'))
@@ -802,13 +797,19 @@ def gen_odd(r):
     return a, d
 
 
+def gen_json(r):
+    """lines of runs and of captures as objects"""
+    a, d = r.choice([gen_run, gen_feat, gen_wire, gen_mon])(r)
+    return [w for w in a if w != '--edges'] + ['--json'], d
+
+
 def small_run(r):
     a, t = gen_wire(r)
     return a, t
 
 
 ODD = [gen_run, small_run, small_run, gen_asm, gen_edidcmd, gen_edtext] + ([] if os.environ.get('MODEL_NO_MON') else [gen_mon]) + ([] if os.environ.get('MODEL_NO_STEP') else [gen_step]) + ([gen_expect] if os.environ.get('MODEL_EXPECT') else [])
-GEN = dict(ops=gen_ops, amp=gen_amp, run=gen_run, feat=gen_feat, wire=gen_wire, edges=gen_edges, mon=gen_mon, step=gen_step, asm=gen_asm, edid=gen_edidcmd, edtext=gen_edtext, check=gen_check, ways=gen_ways, expect=gen_expect, odd=gen_odd)
+GEN = dict(ops=gen_ops, amp=gen_amp, run=gen_run, feat=gen_feat, wire=gen_wire, edges=gen_edges, mon=gen_mon, step=gen_step, asm=gen_asm, edid=gen_edidcmd, edtext=gen_edtext, check=gen_check, ways=gen_ways, expect=gen_expect, json=gen_json, odd=gen_odd)
 
 
 def main():

@@ -211,4 +211,4 @@ def check(data):
             failed += 1
             out.append(b'not ok %d - line %d: refused %s' % (n, line, word))
     out.append(b'1..%d' % n)
-    return (1 if failed else 0), b''.join(line + b'\n' for line in out), 'failed %d' % failed if failed else ''
+    return (1 if failed else 0), b''.join(line + b'\n' for line in out), 'failed tests %d' % failed if failed else ''

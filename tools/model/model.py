@@ -1,7 +1,7 @@
 #!/usr/bin/env python3
 """python3 model.py SUB [flag] < input: the model as a program; fault text on standard error."""
 import sys
-import check, net, wire, edid
+import check, expectations, net, objects, wire, edid
 
 LIMIT = 1048576
 
@@ -11,7 +11,11 @@ def model(args, data):
     if len(data) > LIMIT:
         return 3, b'', 'input too long'
     sub = args[0] if args else 'run'
+    if '--json' in args:
+        status, out, fault = model([word for word in args if word != '--json'], data)
+        return status, objects.objects(out), fault
     if sub == 'run': return net.run(data, '--edges' in args)
+    if sub == 'check': return expectations.check(data)
     if sub == 'step': return net.step(data)
     if sub == 'mon': return wire.mon(data)
     if sub == 'asm': return wire.asm(data)

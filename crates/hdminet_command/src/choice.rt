@@ -7,7 +7,7 @@ use clap::error::ErrorKind;
 use clap::{Arg, ArgAction, Command, Error};
 use hdminet_help::Input;
 use hdminet_lists::{frame_forms, run_words};
-use hdminet_words::{Asked, Choice, Source, Subcommand, asked_by, subcommand_of};
+use hdminet_words::{Asked, Choice, Objects, Source, Subcommand, asked_by, subcommand_of};
 use std::alloc::{AllocError, Global};
 
 /// What is said in place of doing what a command line asks for.
@@ -24,8 +24,11 @@ pub enum Refused {
 /// What the input of a choice is to be.
 pub fn input_of(choice: Choice) -> Input {
     match choice {
-        Choice::Run { .. } | Choice::Step => Input::Network,
-        Choice::Asm | Choice::Dis | Choice::Mon { .. } => Input::Lines,
+        Choice::Check(_) => Input::Test,
+        Choice::Run { .. } | Choice::Step | Choice::Json(Objects::Trace { .. }) => Input::Network,
+        Choice::Asm | Choice::Dis | Choice::Mon { .. } | Choice::Json(Objects::Capture { .. }) => {
+            Input::Lines
+        }
         Choice::Edid { source, .. } => match source {
             Source::Bytes => Input::EdidBytes,
             Source::Dump => Input::Lines,
@@ -139,6 +142,12 @@ fn add_run<'a>(
     program.subcommand(run)
 }
 
+// Adds the command that tests a network.
+fn add_check<'a>(alloc: Global, program: Command<'a>) -> Result<Command<'a>, AllocError> {
+    let check = plain_command(alloc, "check", help::CHECK_ABOUT, help::CHECK_HELP);
+    program.subcommand(with_flags(alloc, check, help::CHECK_FLAGS)?)
+}
+
 // Adds the command that steps through a run.
 fn add_step<'a>(alloc: Global, program: Command<'a>) -> Result<Command<'a>, AllocError> {
     program.subcommand(plain_command(alloc, "step", help::STEP_ABOUT, help::STEP_HELP))
@@ -182,6 +191,7 @@ fn command<'a>(
 ) -> Result<Command<'a>, AllocError> {
     let program = program_command(alloc)?;
     let program = add_run(alloc, program, run_help)?;
+    let program = add_check(alloc, program)?;
     let program = add_step(alloc, program)?;
     let program = add_asm(alloc, program, asm_help)?;
     let program = add_dis(alloc, program)?;
@@ -298,6 +308,7 @@ fn rules(words: &[String]) -> &'static str {
     for word in words {
         match subcommand_of(word.as_str()) {
             Some(Subcommand::Run) => return help::RUN_RULES,
+            Some(Subcommand::Check) => return help::CHECK_RULES,
             Some(Subcommand::Mon) => return help::MON_RULES,
             Some(Subcommand::Edid) => return help::EDID_RULES,
             Some(_) | None => {}

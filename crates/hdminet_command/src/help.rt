@@ -8,7 +8,7 @@ pub const EXPLAIN_FLAG: &str =
 
 /// What follows a refused command line that has `--explain`.
 pub const EXPLAINED: &str =
-    "  the subcommands are run, step, asm, dis, mon and edid; each reads standard input, as `hdminet run < FILE`\n";
+    "  the subcommands are run, check, step, asm, dis, mon and edid; each reads standard input, as `hdminet run < FILE`\n";
 
 pub const OVERVIEW: &str = "\
 With --explain a fault is followed by the line of the input, the word at fault, and what would be right.
@@ -28,6 +28,8 @@ Examples, of which the folder examples/ has the inputs and outputs:
       (further ones are four-players.net and ports.net)
   ./hdminet run --edges < examples/first-path.net
       the same network, but the falls and rises of its CEC line: `12000 0`, `15700 1` and so on
+  ./hdminet check < examples/film.test
+      a network under test: `ok 1 - ..` for each line of its script that says what is to happen
   ./hdminet step < examples/arbitration.steps
       two devices send at once: the line of that round edge by edge, and where each device then stands
   ./hdminet asm < examples/frames.txt
@@ -43,8 +45,8 @@ Examples, of which the folder examples/ has the inputs and outputs:
 
 Faults go to standard error, as `hdminet: script line 3: word`; with --explain indented lines follow.
 
-Exit status: 0 done; 1 input refused; 2 command line refused; 3 a read or write fault, or input
-past 1048576 bytes; 4 no memory; 5 an EDID breaks a rule.";
+Exit status: 0 done; 1 input refused, or a test failed; 2 command line refused; 3 a read or write fault,
+or input past 1048576 bytes; 4 no memory; 5 an EDID breaks a rule.";
 
 pub const RUN_ABOUT: &str = "Runs a topology and a script, and prints the trace (the default)";
 
@@ -53,6 +55,10 @@ pub const RUN_FLAGS: &[(&str, &str)] = &[
     (
         "edges",
         "Prints the edges of the CEC line in place of the trace",
+    ),
+    (
+        "json",
+        "Prints each line of the trace as an object of JSON; not with --edges",
     ),
     (
         "drives",
@@ -74,6 +80,7 @@ pub const RUN_VALUES: &[(&str, &str, &str)] = &[(
 pub const RUN_RULES: &str = "
   --as takes vcd, pin or csv, and goes with --edges alone
   --drives goes with --edges --as vcd alone
+  --json goes without --edges
 ";
 
 pub const RUN_HELP: &str = "\
@@ -121,6 +128,9 @@ later. Its readings are those of the trace. With --as the same line is a Value C
 events of cec-ctl (pin), or seconds and levels with commas between them (csv):
   ./hdminet run --edges --as vcd < examples/first-path.net > first-path.vcd
 
+With --json each line of the trace is an object of JSON, whose first field is that line:
+  {\"line\":\"1000000 event 1 ok\",\"type\":\"event\",\"at\":1000000,\"script_line\":1,\"verdict\":\"ok\",\"cause\":null}
+
 With --strict the run is the same, and where an event was refused the status is 1 and standard error has
 `hdminet: refused events N`:
   ./hdminet run --strict < x.net > x.trace || echo something was refused
@@ -144,6 +154,74 @@ past 1048576 bytes; 4 no memory.";
 pub const RUN_WORDS: &str = "\
 The keys, each with the kinds that have it, and the codes of a remote control; port N is a key of a switch
 with so many ports:";
+
+pub const CHECK_ABOUT: &str = "Says whether a run is as its script expects";
+
+/// The flags of `check`, each with its help.
+pub const CHECK_FLAGS: &[(&str, &str)] = &[
+    (
+        "trace",
+        "Prints behind the report the trace of the run, each line behind `# `",
+    ),
+    (
+        "plain",
+        "Prints the input without labels and expectations, for run, in place of the report",
+    ),
+];
+
+pub const CHECK_RULES: &str = "
+  of --trace and --plain one is given at most
+";
+
+pub const CHECK_HELP: &str = "\
+The input is that of `hdminet run`, and its script may also have labels and expectations:
+  label NAME LINE                        a label before an event or an expectation
+  expect within D of NAME PATTERN        a round that meets the pattern, D microseconds from a label on
+  expect from T to U PATTERN             or between two times
+  expect none .., expect once ..         no such round, or exactly one
+  expect refused NAME WORD               the event of this label is refused with the word
+A pattern is met by a round whose line in the trace begins with it behind its two times, without the word
+complete, up to the end of a word; `*` stands for any part of one word. A round is in a window where it
+begins and ends in it. The instant of a label is that at which its event was applied, or the end of the
+first round that meets its expectation.
+
+The output is in the Test Anything Protocol, version 13: a line `ok` or `not ok` for each expectation, in
+order, then one for each refused event that none expects. Below a failure stand the window and rounds in it.
+Lines are counted from the line behind `script`.
+
+An example:
+  device tv tv 4
+  device p1 player 0
+  plug p1 tv 1
+  script
+  label film at 1000000 press p1 play
+  label on expect within 60000 of film 4>0 image-view-on ack
+  expect once within 200000 of on 4>f active-source 1.0.0.0 ok
+  end 2000000
+and what it gives:
+  TAP version 13
+  ok 1 - line 2: label on expect within 60000 of film 4>0 image-view-on ack
+  ok 2 - line 3: expect once within 200000 of on 4>f active-source 1.0.0.0 ok
+  1..2
+
+With --trace the report is followed by a line `# trace` and the lines of the trace, each behind `# `. With
+--plain the output is the topology, the line `script` and the script without labels and expectations, line
+for line, whose run the report speaks of:
+  ./hdminet check --plain < film.test | ./hdminet run
+
+Where a test fails, the status is 1 and standard error has `hdminet: failed tests N`; the report is written.
+
+Faults: those of `hdminet run`, and then `script line N: CAUSE` for the first label or expectation at fault;
+nothing is written then. CAUSE is the first of these that applies:
+  word       no such expectation; a pattern of no or more than 160 bytes, or with more than four `*`; nothing
+             behind a label
+  number     a number that is none
+  label      a label that is empty or stands above already; one that no line above has; for a refusal, one
+             that is no event's
+  order      a window ends before it begins
+
+Exit status: 0 all tests hold; 1 a test failed, or input refused; 2 command line refused; 3 a read or write
+fault, or input past 1048576 bytes; 4 no memory.";
 
 pub const STEP_ABOUT: &str = "Takes a run step by step, edge by edge or round by round";
 
@@ -264,6 +342,10 @@ pub const MON_FLAGS: &[(&str, &str)] = &[
         "timing",
         "Prints the audit, with the widths of each reading's parts",
     ),
+    (
+        "json",
+        "Prints each reading as an object of JSON; not with --audit or --timing",
+    ),
 ];
 
 /// Those that take a value, with what stands for it.
@@ -289,6 +371,7 @@ pub const MON_RULES: &str = "
   --from takes edges, vcd, pin or csv; --glitch a number of microseconds
   --signal goes with vcd and csv alone; of --from-start and --from-idle one is given at most, and neither
   with --audit and --timing
+  --json goes without --audit and --timing
 ";
 
 pub const MON_HELP: &str = "\
@@ -331,6 +414,8 @@ stands a summary; with --timing the widths of each reading's parts too:
   ./hdminet mon --audit < capture.vcd
     1000000 1051150 complete 4>0 image-view-on ack
       slot 13 block 2 bit 3 low 870 not 400..800
+
+With --json each line of the output is an object of JSON, whose first field is that line.
 
 Faults: `line N: CAUSE` for the first line at fault; nothing is written then. Of an edge file CAUSE is line
 (ill-formed, past the limit or behind the end; or the line after the last, where no end is there) or order

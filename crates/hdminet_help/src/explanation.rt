@@ -1,6 +1,8 @@
 //! What follows the line of a fault.
+use crate::expectations::{labelled_by, part_of, without_label};
 use crate::grammar::{
-    EDID_WORDS, KEYS, KEYWORDS, KINDS, SCRIPT, STEP_WORDS, STEPS, TOPOLOGY, fitting, most_fitting,
+    EDID_WORDS, EXPECTATION_WORDS, EXPECTATIONS, KEYS, KEYWORDS, KINDS, SCRIPT, STEP_WORDS, STEPS,
+    TEST, TOPOLOGY, fitting, most_fitting,
 };
 use crate::hints::{is_shown, of_edid, of_edid_text, of_line, of_text};
 use crate::marks::{Mark, marked};
@@ -17,6 +19,8 @@ use std::alloc::{AllocError, Global};
 pub enum Input {
     /// A topology, a line `script` and a script.
     Network,
+    /// The same with a script that may have labels and expectations.
+    Test,
     /// Lines of their own: frames or edges.
     Lines,
     /// The bytes of an EDID.
@@ -125,11 +129,31 @@ fn add_nearest_name(draft: &mut Draft, place: Place<'_>, word: &str) -> bool {
     false
 }
 
+// The first label that a word may have been meant for.
+fn add_nearest_label(draft: &mut Draft, place: Place<'_>, word: &str) -> bool {
+    let above = place.number.saturating_sub(1);
+    for line in place.input.split(is_line_end).take(above) {
+        if let Some(name) = labelled_by(line) {
+            if add_near(draft, name, word) {
+                return true;
+            }
+        }
+    }
+    false
+}
+
 // What the word at fault may have been meant for. Returns whether there is something.
 fn add_suggestion(draft: &mut Draft, place: Place<'_>, fault: Fault<'_>, word: &str) -> bool {
     match (fault.part, fault.cause) {
-        (Part::Topology | Part::Script, "name") => add_nearest_name(draft, place, word),
+        (Part::Topology | Part::Script | Part::Labelled, "name") => {
+            add_nearest_name(draft, place, word)
+        }
         (Part::Topology | Part::Script, _) => add_nearest_word(draft, word),
+        (Part::Labelled, _) => {
+            add_nearest_word(draft, word) || add_nearest(draft, EXPECTATION_WORDS, word)
+        }
+        (Part::Expectation, "label") => add_nearest_label(draft, place, word),
+        (Part::Expectation, _) => add_nearest(draft, EXPECTATION_WORDS, word),
         (Part::Lines | Part::ScriptFrame, _) => add_nearest_opcode(draft, word),
         (Part::EdidText, _) => add_nearest(draft, EDID_WORDS, word),
         (Part::Steps, _) => {
@@ -160,14 +184,24 @@ fn add_shown(draft: &mut Draft, place: Place<'_>, line: &str, mark: Option<Mark>
     }
 }
 
+// The forms that a script's line could have, and who reads it where it is a test's.
+fn add_script_forms(draft: &mut Draft, line: &str) {
+    add_forms(draft, SCRIPT, line);
+    if line.starts_with("label ") || line.starts_with("expect ") {
+        draft.add_line("labels and expectations are read by `hdminet check`");
+    }
+}
+
 // The forms that the line could have, or the line that it should not stand behind.
 fn add_right_forms(draft: &mut Draft, place: Place<'_>, fault: Fault<'_>, line: &str) {
     match (fault.part, fault.cause) {
         (Part::Topology, "word") => add_forms(draft, TOPOLOGY, line),
-        (Part::Script, "word") => add_forms(draft, SCRIPT, line),
-        (Part::Script, "order") => add_order(draft, place),
+        (Part::Script, "word") => add_script_forms(draft, line),
+        (Part::Labelled, "word") => add_forms(draft, TEST, without_label(line).line),
+        (Part::Expectation, "word") => add_forms(draft, EXPECTATIONS, without_label(line).line),
+        (Part::Script | Part::Labelled, "order") => add_order(draft, place),
         (Part::Steps, _) => add_forms(draft, STEPS, line),
-        (Part::ScriptFrame, cause) => add_frame(draft, cause, line, 4),
+        (Part::ScriptFrame, cause) => add_frame(draft, cause, without_label(line).line, 4),
         (Part::Lines, cause) => add_frame(draft, cause, line, 0),
         _ => {}
     }
@@ -234,6 +268,17 @@ fn add_input_hints(draft: &mut Draft, what: Input, fault: Fault<'_>, input: &[u8
     }
 }
 
+// A fault as the script of a test has it: of an expectation or a label, or of a line that may have a label.
+fn as_of<'a>(what: Input, fault: Fault<'a>, place: Option<Place<'_>>) -> Fault<'a> {
+    match (what, fault.part, place) {
+        (Input::Test, Part::Script, Some(place)) => Fault {
+            part: part_of(place, fault.cause),
+            ..fault
+        },
+        _ => fault,
+    }
+}
+
 /// The indented lines that follow the line of a fault, which is without `hdminet: ` here: the line of the input with its
 /// number, the word marked, what would be right, and what often goes wrong so.
 ///
@@ -248,7 +293,9 @@ pub fn explain(
 ) -> Result<String, AllocError> {
     let mut draft = Draft::new(alloc);
     let fault = read_fault(fault);
-    if let Some(place) = place_of(input, what, fault) {
+    let place = place_of(input, what, fault);
+    let fault = as_of(what, fault, place);
+    if let Some(place) = place {
         add_place(&mut draft, place, fault);
     }
     if let Some(right) = right(fault) {

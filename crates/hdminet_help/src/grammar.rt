@@ -18,6 +18,38 @@ pub const SCRIPT: &[&str] = &[
     "end T",
 ];
 
+/// The lines of the script of a test: those of a script, with a label before them or not, and expectations.
+pub const TEST: &[&str] = &[
+    "at T press NAME KEY",
+    "at T release NAME KEY",
+    "at T plug CHILD PARENT PORT",
+    "at T unplug CHILD",
+    "at T send NAME FRAME",
+    "pulse T WIDTH",
+    "end T",
+    "label NAME LINE",
+    "expect within D of NAME PATTERN",
+    "expect from T to U PATTERN",
+    "expect refused NAME WORD",
+];
+
+/// The lines of expectations, and the line of a label.
+pub const EXPECTATIONS: &[&str] = &[
+    "expect within D of NAME PATTERN",
+    "expect from T to U PATTERN",
+    "expect none within D of NAME PATTERN",
+    "expect none from T to U PATTERN",
+    "expect once within D of NAME PATTERN",
+    "expect once from T to U PATTERN",
+    "expect refused NAME WORD",
+    "label NAME LINE",
+];
+
+/// The words of expectations and labels that stand for themselves.
+pub const EXPECTATION_WORDS: &[&str] = &[
+    "label", "expect", "none", "once", "within", "from", "refused", "of", "to",
+];
+
 /// The steps.
 pub const STEPS: &[&str] = &[
     "edge",

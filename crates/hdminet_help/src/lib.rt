@@ -4,6 +4,7 @@
 #![tactic(auto)]
 
 mod edges;
+mod expectations;
 mod explanation;
 mod grammar;
 mod hints;

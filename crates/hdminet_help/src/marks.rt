@@ -1,6 +1,7 @@
 //! Which words of a line are at fault.
 use crate::edges::{in_line, out_of_order};
-use crate::grammar::{SCRIPT, STEPS, TOPOLOGY, most_fitting};
+use crate::expectations::{Unlabelled, behind_label, in_expectation, without_label};
+use crate::grammar::{SCRIPT, STEPS, TEST, TOPOLOGY, most_fitting};
 use crate::place::{Place, is_declared};
 use hdminet_lists::{Fault, Part, word_at, word_count};
 
@@ -120,6 +121,16 @@ fn in_script(cause: &str, place: Place<'_>, line: &str) -> Option<Mark> {
     }
 }
 
+// A line of a test's script, which may have a label.
+fn in_labelled(cause: &str, place: Place<'_>, line: &str) -> Option<Mark> {
+    let Unlabelled { words, line } = without_label(line);
+    let mark = match cause {
+        "word" => unfit(TEST, line),
+        _ => in_script(cause, place, line),
+    };
+    behind_label(words, mark)
+}
+
 // The name of a step's line that no device has.
 fn name_in_steps(place: Place<'_>, line: &str) -> Option<Mark> {
     let index = if is_word(line, 0, "show") { 1 } else { 2 };
@@ -170,7 +181,9 @@ pub fn marked(fault: Fault<'_>, place: Place<'_>, line: &str) -> Option<Mark> {
     match fault.part {
         Part::Topology => in_topology(fault.cause, place, line),
         Part::Script => in_script(fault.cause, place, line),
-        Part::ScriptFrame => in_frame(fault.cause, 4),
+        Part::Labelled => in_labelled(fault.cause, place, line),
+        Part::Expectation => in_expectation(fault.cause, place, line),
+        Part::ScriptFrame => behind_label(without_label(line).words, in_frame(fault.cause, 4)),
         Part::Steps => in_steps(place, line),
         Part::Lines => in_lines(fault.cause, place, line),
         Part::Edid => from(1),

@@ -1,4 +1,5 @@
 //! Which line of a script is earlier than which.
+use crate::expectations::without_label;
 use crate::place::{Place, is_line_end, lines_before};
 use hdminet_lists::{Draft, Part, word_at};
 
@@ -17,7 +18,9 @@ struct Earlier {
 
 // The word of this number, from 0, behind a line's first word, as a number.
 fn number_behind(line: &[u8], word: &str, index: usize) -> Option<u64> {
-    let words = str::from_utf8(line).ok()?.strip_prefix(word)?;
+    let words = without_label(str::from_utf8(line).ok()?)
+        .line
+        .strip_prefix(word)?;
     word_at(words, index)?.parse().ok()
 }
 
@@ -81,7 +84,7 @@ fn add_earlier_pulse(draft: &mut Draft, place: Place<'_>) {
 
 /// Says which line's time is earlier than which, of a line of a script that is out of order.
 pub fn add_order(draft: &mut Draft, place: Place<'_>) {
-    if place.line.starts_with(PULSE.as_bytes()) {
+    if number_behind(place.line, PULSE, 0).is_some() {
         add_earlier_pulse(draft, place);
     } else {
         add_earlier_event(draft, place);

@@ -64,7 +64,9 @@ fn lines_to(input: &[u8], after: usize, text: &str) -> usize {
 /// How many lines stand before the lines of a part, `script` or `steps` among them.
 pub fn lines_before(part: Part, input: &[u8]) -> usize {
     match part {
-        Part::Script | Part::ScriptFrame => lines_to(input, 0, "script"),
+        Part::Script | Part::Labelled | Part::Expectation | Part::ScriptFrame => lines_to(
+            input, 0, "script",
+        ),
         Part::Steps => lines_to(input, lines_to(input, 0, "script"), "steps"),
         _ => 0,
     }
@@ -75,7 +77,9 @@ fn place_without_number<'a>(input: &'a [u8], what: Input, fault: Fault<'_>) -> O
     match fault.cause {
         "no script line" => find_like(input, "script"),
         "no steps line" => find_like(input, "steps"),
-        _ if fault.part == Part::Edid && what == Input::Network => find_like(input, "edid "),
+        _ if fault.part == Part::Edid && (what == Input::Network || what == Input::Test) => {
+            find_like(input, "edid ")
+        }
         _ => None,
     }
 }

@@ -76,6 +76,26 @@ pub const SCRIPT: &[Row] = &[
     ),
 ];
 
+/// The causes of expectations and labels.
+const EXPECTATIONS: &[Row] = &[
+    (
+        "word",
+        "words stand one space apart; PATTERN has 1 to 160 bytes and at most four `*`; a label stands before a line",
+    ),
+    (
+        "number",
+        "D, T and U are decimal numbers of microseconds; none has a zero before it",
+    ),
+    (
+        "label",
+        "a label is a word that no other line has, on a line above those that name it; `refused` names that of an event",
+    ),
+    (
+        "order",
+        "a window does not end before it begins: U is T or later",
+    ),
+];
+
 const STEPS: &[Row] = &[(
     "",
     "XX is an opcode, two hex digits in lower case; NAME has a `device` line in the topology; words stand one space apart",
@@ -230,7 +250,8 @@ fn right_in(rows: &[Row], cause: &str) -> Option<&'static str> {
 fn rows_of(part: Part) -> &'static [Row] {
     match part {
         Part::Topology => TOPOLOGY,
-        Part::Script => SCRIPT,
+        Part::Script | Part::Labelled => SCRIPT,
+        Part::Expectation => EXPECTATIONS,
         Part::Steps => STEPS,
         Part::Lines | Part::ScriptFrame => LINES,
         Part::Edid => EDID,

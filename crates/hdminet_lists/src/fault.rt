@@ -7,6 +7,10 @@ pub enum Part {
     Topology,
     /// The script, after the line `script`.
     Script,
+    /// A line of the script of a test, which may have a label.
+    Labelled,
+    /// An expectation or a label of that script.
+    Expectation,
     /// A frame that a line of the script sends.
     ScriptFrame,
     /// The commands after the line `steps`.

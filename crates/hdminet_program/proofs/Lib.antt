@@ -2,3 +2,5 @@ pub mod LineLemmas
 pub mod ShownLemmas
 pub mod ServedLemmas
 pub mod CaptureLemmas
+pub mod ObjectLemmas
+pub mod TestLemmas

@@ -4,6 +4,7 @@ use Rattle.std.specs.List.{flat_map}
 use Rattle.std.specs.Io.KnownBytes.{Appends}
 use Rattle.cec_dis.specs.Lines.{first_fault, line_text}
 use Rattle.cec_driven.specs.Emulate.{IsDrivesOf}
+use Rattle.cec_json.specs.Object.{AreObjects}
 use Rattle.cec_line.specs.declared.format.Format.{Format}
 use Rattle.cec_line.specs.declared.format.Format.TheVariants as formats
 use Rattle.cec_run.specs.Emulate.{IsLineOf, IsTraceOf}
@@ -15,12 +16,16 @@ use Rattle.hdminet_words.specs.Line.{asked_by}
 use Rattle.hdminet_words.specs.MonFlags.{signal_in}
 use Rattle.hdminet_words.specs.declared.choice.Asked.{Asked}
 use Rattle.hdminet_words.specs.declared.choice.Choice.{Choice}
-use Rattle.hdminet_words.specs.declared.choice.Choice.TheVariants.{Run, Step, Asm, Dis, Mon, Edid}
+use Rattle.hdminet_words.specs.declared.choice.Choice.TheVariants.{Run, Check, Step, Asm, Dis, Mon, Json, Edid}
+use Rattle.hdminet_words.specs.declared.choice.Objects.{Objects}
+use Rattle.hdminet_words.specs.declared.choice.Objects.TheVariants as of
 use Rattle.hdminet_words.specs.declared.choice.Listing.{Listing}
 use Rattle.hdminet_words.specs.declared.choice.Listing.TheVariants.{Trace, Edges, Vcd, Pin, Csv, Drives}
+use Rattle.hdminet_words.specs.declared.choice.TestView.{TestView}
 use Rattle.hdminet_program.specs.Captures.{IsHeard, form_of, name_of, report_of}
 use Rattle.hdminet_program.specs.Edids.{IsShown, IsTold}
 use Rattle.hdminet_program.specs.Parted.{IsParted}
+use Rattle.hdminet_program.specs.Tests.{IsTestOf}
 
 -- the input of a run is a topology and a script, with the line `script` between them
 abbrev pub IsRunInput : List ℕ → List ℕ → List ℕ → Type 0
@@ -47,6 +52,13 @@ pub record IsDrivenDone (input text : List ℕ) (totals : Totals) : Type 0 where
   pub parts : IsRunInput input topology script
   pub drives : IsDrivesOf topology script text totals
 
+-- this text is what is asked for of the test that the input spells
+pub record IsTestDone (view : TestView) (input text : List ℕ) : Type 0 where
+  pub topology : List ℕ
+  pub script : List ℕ
+  pub parts : IsRunInput input topology script
+  pub test : IsTestOf view topology script text
+
 -- behind the script and a line `steps` stand commands, whose steps these are
 pub record AreStepsDone (input text : List ℕ) : Type 0 where
   pub topology : List ℕ
@@ -66,14 +78,25 @@ IsListed Pin input text totals = IsLineDone formats.Pin input text totals
 IsListed Csv input text totals = IsLineDone formats.Csv input text totals
 IsListed Drives input text totals = IsDrivenDone input text totals
 
+-- the lines of which there are objects
+abbrev pub AreLines : Objects → List ℕ → List ℕ → List ℕ → Type 0
+AreLines (of.Trace strict) name input text = (totals : Totals) × IsRunDone input text totals × (strict ≡ true → totals.refused ≡ 0)
+AreLines (of.Capture form glitch report) name input text = IsHeard (form_of form input) name glitch (report_of report (form_of form input)) input text
+
+-- they are written, and nothing else
+abbrev pub WritesLines : Objects → List ℕ → List ℕ → Option (List ℕ) → Option (List ℕ) → Type 0
+WritesLines objects name input old new = (text : List ℕ) × AreLines objects name input text × Appends old new text
+
 -- The text that a choice makes of an input; of a capture, of the wire of a name. A strict run is one whose events were all
 -- taken.
 abbrev pub IsDone : Choice → List ℕ → List ℕ → List ℕ → Type 0
 IsDone (Run listing strict) name input text = (totals : Totals) × IsListed listing input text totals × (strict ≡ true → totals.refused ≡ 0)
+IsDone (Check view) name input text = IsTestDone view input text
 IsDone Step name input text = AreStepsDone input text
 IsDone Asm name input text = (frames : List (List ℕ)) × AreTextsOf (told (lines_of input)) frames × (text ≡ flat_map frame_line frames)
 IsDone Dis name input text = (first_fault 1 (lines_of input) ≡ None) × (text ≡ flat_map line_text (lines_of input))
 IsDone (Mon form glitch report) name input text = IsHeard (form_of form input) name glitch (report_of report (form_of form input)) input text
+IsDone (Json objects) name input text = (lines : List ℕ) × AreLines objects name input lines × AreObjects (lines_of lines) text
 IsDone (Edid source view) name input text = (bytes : List ℕ) × IsTold source input bytes × IsShown view bytes text
 
 -- a choice is done for an input: its text is written, and nothing else

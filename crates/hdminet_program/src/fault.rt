@@ -1,7 +1,9 @@
 //! Why the program did not do what it was asked.
 ghost use Rattle.std.specs.Prelude.{◌<◌};
 
+use cec_check::{CheckError, Tally};
 use cec_dis::DisError;
+use cec_expect::ExpectFault;
 use cec_formats::CaptureError;
 use cec_run::Totals;
 use cec_run::emulate::EmulateError;
@@ -31,6 +33,11 @@ pub enum Fault {
     EventsRefused(Totals),
     #[error(transparent)]
     Emulate(#[from] EmulateError),
+    #[error("script {0}")]
+    Expect(ExpectFault),
+    /// Tests of a report failed. All of it was written.
+    #[error("failed tests {}", .0.failed)]
+    TestsFailed(Tally),
     #[error("steps line {0}")]
     Steps(u64),
     #[error(transparent)]
@@ -61,6 +68,17 @@ impl From<StepRunError> for Fault {
         match error {
             StepRunError::Run(error) => Fault::Emulate(error),
             StepRunError::Steps(line) => Fault::Steps(line),
+        }
+    }
+}
+
+impl From<CheckError> for Fault {
+    fn from(error: CheckError) -> Fault {
+        match error {
+            CheckError::Emulate(error) => Fault::Emulate(error),
+            CheckError::Expect(fault) => Fault::Expect(fault),
+            CheckError::Write(count) => Fault::Write(WriteFault { count }),
+            CheckError::Memory => Fault::Memory(AllocError),
         }
     }
 }
@@ -96,6 +114,8 @@ impl Fault {
             Fault::NoScriptLine
             | Fault::NoStepsLine
             | Fault::EventsRefused(_)
+            | Fault::Expect(_)
+            | Fault::TestsFailed(_)
             | Fault::Steps(_)
             | Fault::Emulate(_)
             | Fault::Frames(FrameLinesError::Line(_))

@@ -3,6 +3,7 @@
 
 mod capture;
 mod edid;
+mod expectations;
 mod fault;
 pub mod program;
 

@@ -3,16 +3,19 @@ ghost use Rattle.std.specs.Prelude.{◌≡◌, ◌<◌, ◌≤◌, true, [], OnO
 ghost use Rattle.std.specs.Io.KnownBytes.{Keeps};
 ghost use Rattle.hdmi_core.specs.Buffered.{below};
 ghost use Rattle.hdminet_program.specs.Parted.{IsParted};
-ghost use Rattle.hdminet_program.specs.Done.{AreServed, IsAllOf, IsHelp, IsRunInput, IsServed, Writes, WritesLine};
+ghost use Rattle.hdminet_program.specs.Done.{AreServed, IsAllOf, IsHelp, IsRunInput, IsServed, Writes, WritesLine, WritesLines};
 ghost use Rattle.hdminet_program.specs.Captures.{name_of};
 ghost use Rattle.hdminet_words.specs.MonFlags.{signal_in};
 
 use crate::capture::{monitor, tell_lost};
 use crate::edid::{edid, explain_lack, explain_rules};
+use crate::expectations::write_test;
 use crate::fault::Fault;
 use arrayvec::ArrayString;
+use cec_check::Tally;
 use cec_dis::dis_lines;
 use cec_driven::emulate_drives;
+use cec_json::{Held, write_objects};
 use cec_line::Format;
 use cec_run::Totals;
 use cec_run::emulate::emulate;
@@ -23,7 +26,7 @@ use cec_words::{behind, len_before};
 use hdmi_core::{Buffered, Sink, put_all};
 use hdminet_command::{Refused, choose, input_of};
 use hdminet_help::{counts, explain};
-use hdminet_words::{Asked, Choice, Listing, View, signal_in};
+use hdminet_words::{Asked, Choice, Listing, Objects, TestView, View, signal_in};
 use std::alloc::{AllocError, Global};
 use std::fmt::Write;
 use std::io::Read;
@@ -37,9 +40,12 @@ const CAPTURE_LIMIT: usize = 67_108_864;
 // The longest input of a choice, in bytes.
 fn limit_of(choice: Choice) -> usize {
     match choice {
-        Choice::Mon { form: Some(_), .. } => CAPTURE_LIMIT,
+        Choice::Mon { form: Some(_), .. } | Choice::Json(Objects::Capture { form: Some(_), .. }) =>
+            CAPTURE_LIMIT,
         Choice::Mon { form: None, .. }
+        | Choice::Json(Objects::Trace { .. } | Objects::Capture { form: None, .. })
         | Choice::Run { .. }
+        | Choice::Check(_)
         | Choice::Step
         | Choice::Asm
         | Choice::Dis
@@ -50,8 +56,8 @@ fn limit_of(choice: Choice) -> usize {
 /// How the program ended.
 #[derive(Drop)]
 pub struct Ended<W> {
-    /// The exit status: 0 done, 1 input refused or an event of a strict run, 2 command line refused, 3 a read or write fault
-    /// or input past its limit, 4 no memory, 5 an EDID breaks a rule.
+    /// The exit status: 0 done, 1 input refused, an event of a strict run refused or a test failed, 2 command line refused, 3 a
+    /// read or write fault or input past its limit, 4 no memory, 5 an EDID breaks a rule.
     pub status: u8,
     /// The sink that it wrote to.
     pub out: W,
@@ -157,6 +163,20 @@ fn run_to_drives<W: Sink>(
 }
 
 #[inline(never)]
+fn test<W: Sink>(
+    alloc: Global,
+    view: TestView,
+    input: &[u8],
+    out: &mut W,
+) -> Result<Option<Totals>, Fault>
+    ensures { OnOk result (Writes (Choice.Check view) [] input.now (W.contents out.old) (W.contents out.new)) }
+{
+    let (topology, script) = parts(input)?;
+    write_test(alloc, view, topology, script, out)?;
+    Ok(None)
+}
+
+#[inline(never)]
 fn step<W: Sink>(alloc: Global, input: &[u8], out: &mut W) -> Result<Option<Totals>, Fault>
     ensures { OnOk result (Writes Choice.Step [] input.now (W.contents out.old) (W.contents out.new)) }
 {
@@ -182,6 +202,49 @@ fn assemble<W: Sink>(input: &[u8], out: &mut W) -> Result<Option<Totals>, Fault>
     Ok(None)
 }
 
+// Writes the lines whose objects are asked for.
+fn write_lines<W: Sink>(
+    alloc: Global,
+    objects: Objects,
+    signal: &[u8],
+    input: &[u8],
+    out: &mut W,
+) -> Result<Option<Totals>, Fault>
+    ensures { OnOk result (WritesLines objects signal.now input.now (W.contents out.old) (W.contents out.new)) }
+{
+    match objects {
+        Objects::Trace { strict } => run(alloc, strict, input, out),
+        Objects::Capture {
+            form,
+            glitch,
+            report,
+        } => {
+            monitor(alloc, form, signal, glitch, report, input, out)?;
+            Ok(None)
+        }
+    }
+}
+
+// Writes the objects of lines, which are held until they are all there.
+#[inline(never)]
+fn write_json<W: Sink>(
+    alloc: Global,
+    objects: Objects,
+    signal: &[u8],
+    input: &[u8],
+    out: &mut W,
+) -> Result<Option<Totals>, Fault>
+    ensures { OnOk result (Writes (Choice.Json objects) signal.now input.now (W.contents out.old) (W.contents out.new)) }
+{
+    let mut held = Held::new(alloc);
+    let done = write_lines(alloc, objects, signal, input, &mut held);
+    if held.is_full() {
+        return Err(Fault::Memory(AllocError));
+    }
+    write_objects(held.bytes(), out)?;
+    done
+}
+
 // Does what is asked for. Of a run the result has the counts.
 fn perform<W: Sink>(
     alloc: Global,
@@ -201,6 +264,7 @@ fn perform<W: Sink>(
             Listing::Csv => run_to_line(alloc, Format::Csv, strict, input, out),
             Listing::Drives => run_to_drives(alloc, strict, input, out),
         },
+        Choice::Check(view) => test(alloc, view, input, out),
         Choice::Step => step(alloc, input, out),
         Choice::Asm => assemble(input, out),
         Choice::Dis => disassemble(input, out),
@@ -212,6 +276,7 @@ fn perform<W: Sink>(
             monitor(alloc, form, signal, glitch, report, input, out)?;
             Ok(None)
         }
+        Choice::Json(objects) => write_json(alloc, objects, signal, input, out),
         Choice::Edid { source, view } => {
             edid(alloc, source, view, input, out)?;
             Ok(None)
@@ -244,6 +309,14 @@ pub fn tell<E: Sink>(fault: &Fault, err: &mut E) -> u8
 // The line of what a run did, for `--explain`.
 fn counts_of(alloc: Global, totals: &Totals) -> Result<String, AllocError> {
     counts(alloc, totals.rounds, totals.complete, totals.refused)
+}
+
+// The line of a report whose tests did not all hold, for `--explain`.
+fn tests_of(alloc: Global, tally: Tally) -> Result<String, AllocError> {
+    format!(in alloc;
+        "  tests {}, failed tests {}; with --trace the trace of the run follows the report\n",
+        tally.count, tally.failed
+    )
 }
 
 // What the rules ask that an EDID breaks, where they are asked for.
@@ -281,6 +354,7 @@ fn explanation(
 ) -> Result<String, AllocError> {
     match fault {
         Fault::EventsRefused(totals) => counts_of(alloc, totals),
+        Fault::TestsFailed(tally) => tests_of(alloc, *tally),
         Fault::RuleFails => rules_of(alloc, choice, input),
         _ => {
             let line = format!(in alloc; "{fault}")?;
@@ -312,8 +386,11 @@ fn report<E: Sink>(alloc: Global, asked: Asked, fault: &Fault, input: &[u8], err
 // Writes what there is to say besides of what was done: events that a capture lost, and with `--explain` the counts of a run
 // and what the rules ask that an EDID breaks.
 fn remark<E: Sink>(alloc: Global, asked: Asked, totals: Option<Totals>, input: &[u8], err: &mut E) {
-    if let Choice::Mon { form, .. } = asked.choice {
-        tell_lost(alloc, form, input, err);
+    match asked.choice {
+        Choice::Mon { form, .. } | Choice::Json(Objects::Capture { form, .. }) => {
+            tell_lost(alloc, form, input, err);
+        }
+        _ => {}
     }
     if !asked.explains {
         return;

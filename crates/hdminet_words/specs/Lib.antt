@@ -1,4 +1,5 @@
 pub mod RunFlags
+pub mod CheckFlags
 pub mod MonFlags
 pub mod EdidFlags
 pub mod Line

@@ -1,6 +1,7 @@
 -- What a command line asks for (own).
 use Rattle.std.specs.Prelude.{ℕ, List, [], ◌∷◌, Option, Some, None, if◌then◌else◌, true, false, codes, option_and_then}
 use Rattle.std.specs.Str.{bytes_eq}
+use Rattle.hdminet_words.specs.CheckFlags.{check_asked, check_flags}
 use Rattle.hdminet_words.specs.EdidFlags.{edid_asked, edid_flags}
 use Rattle.hdminet_words.specs.MonFlags.{mon_asked, mon_flags}
 use Rattle.hdminet_words.specs.RunFlags.{run_asked, run_flags}
@@ -8,12 +9,13 @@ use Rattle.hdminet_words.specs.declared.choice.Asked.{Asked}
 use Rattle.hdminet_words.specs.declared.choice.Choice.{Choice}
 use Rattle.hdminet_words.specs.declared.choice.Choice.TheVariants as choices
 use Rattle.hdminet_words.specs.declared.subcommand.Subcommand.{Subcommand}
-use Rattle.hdminet_words.specs.declared.subcommand.Subcommand.TheVariants.{Run, Step, Asm, Dis, Mon, Edid}
+use Rattle.hdminet_words.specs.declared.subcommand.Subcommand.TheVariants.{Run, Check, Step, Asm, Dis, Mon, Edid}
 
 -- the subcommand of a word
 abbrev pub subcommand_of : List ℕ → Option Subcommand
 subcommand_of word =
     if bytes_eq word (codes "run") then Some Run
+    else if bytes_eq word (codes "check") then Some Check
     else if bytes_eq word (codes "step") then Some Step
     else if bytes_eq word (codes "asm") then Some Asm
     else if bytes_eq word (codes "dis") then Some Dis
@@ -29,11 +31,12 @@ only_explained choice words = None
 
 -- what a subcommand with these flags asks for
 abbrev pub asked_of : Subcommand → List (List ℕ) → Option Asked
-asked_of Run words = option_and_then run_asked (run_flags (record { edges = false; format = None; drives = false; strict = false; explains = false; waits = false }) words)
+asked_of Run words = option_and_then run_asked (run_flags (record { edges = false; format = None; drives = false; strict = false; json = false; explains = false; waits = false }) words)
+asked_of Check words = option_and_then check_asked (check_flags (record { plain = false; trace = false; explains = false }) words)
 asked_of Step words = only_explained choices.Step words
 asked_of Asm words = only_explained choices.Asm words
 asked_of Dis words = only_explained choices.Dis words
-asked_of Mon words = option_and_then mon_asked (mon_flags (record { form = None; named = false; glitch = None; start = None; audit = false; timing = false; explains = false; waits = None }) words)
+asked_of Mon words = option_and_then mon_asked (mon_flags (record { form = None; named = false; glitch = None; start = None; audit = false; timing = false; json = false; explains = false; waits = None }) words)
 asked_of Edid words =
     option_and_then edid_asked (edid_flags (record { source = None; wanted = None; address = None; port = None; amplified = false; explains = false; waits = None }) words)
 

@@ -4,7 +4,9 @@ use Rattle.std.specs.Option.{option_map, option_or}
 use Rattle.std.specs.Str.{bytes_eq}
 use Rattle.cec_words.specs.Number.{number_of}
 use Rattle.hdminet_words.specs.declared.choice.Asked.{Asked}
-use Rattle.hdminet_words.specs.declared.choice.Choice.TheVariants.{Mon}
+use Rattle.hdminet_words.specs.declared.choice.Choice.{Choice}
+use Rattle.hdminet_words.specs.declared.choice.Choice.TheVariants.{Mon, Json}
+use Rattle.hdminet_words.specs.declared.choice.Objects.TheVariants as objects
 use Rattle.hdminet_words.specs.declared.choice.Form.{Form}
 use Rattle.hdminet_words.specs.declared.choice.Form.TheVariants.{Edges, Vcd, Pin, Csv}
 use Rattle.hdminet_words.specs.declared.choice.Report.{Report}
@@ -38,6 +40,7 @@ with_mon_flag flags word =
     else if bytes_eq word (codes "--from-idle") && is_none flags.start then Some (record flags { start = Some FromIdle })
     else if bytes_eq word (codes "--audit") && not flags.audit then Some (record flags { audit = true })
     else if bytes_eq word (codes "--timing") && not flags.timing then Some (record flags { timing = true })
+    else if bytes_eq word (codes "--json") && not flags.json then Some (record flags { json = true })
     else if bytes_eq word (codes "--explain") && not flags.explains then Some (record flags { explains = true })
     else None
 
@@ -66,12 +69,21 @@ mon_report None true false = Some (Some Audit)
 mon_report None audit true = Some (Some Timing)
 mon_report start audit timing = None
 
+-- what is done with the capture
+abbrev pub mon_choice : Bool → Option Form → ℕ → Option Report → Choice
+mon_choice true form glitch report = Json (objects.Capture form glitch report)
+mon_choice false form glitch report = Mon form glitch report
+
+-- a value is missing, a wire has no name, or an audit would be objects
+abbrev pub is_misfit : MonFlags → Bool
+is_misfit flags = is_some flags.waits || (flags.named && not (has_names flags.form)) || (flags.json && (flags.audit || flags.timing))
+
 -- what they ask for
 abbrev pub mon_asked : MonFlags → Option Asked
 mon_asked flags =
-    if is_some flags.waits || (flags.named && not (has_names flags.form)) then None
+    if is_misfit flags then None
     else option_map (λ report. record {
-      choice = Mon flags.form (unwrap_or flags.glitch 0) report;
+      choice = mon_choice flags.json flags.form (unwrap_or flags.glitch 0) report;
       explains = flags.explains;
     }) (mon_report flags.start flags.audit flags.timing)
 

@@ -1,9 +1,11 @@
 -- The flags of `run` (own).
-use Rattle.std.specs.Prelude.{ℕ, List, [], ◌∷◌, Bool, Option, Some, None, if◌then◌else◌, true, false, codes, not, ◌&&◌, is_none, option_and_then}
+use Rattle.std.specs.Prelude.{ℕ, List, [], ◌∷◌, Bool, Option, Some, None, if◌then◌else◌, true, false, codes, not, ◌&&◌, ◌||◌, is_none, option_and_then}
 use Rattle.std.specs.Option.{option_map}
 use Rattle.std.specs.Str.{bytes_eq}
 use Rattle.hdminet_words.specs.declared.choice.Asked.{Asked}
-use Rattle.hdminet_words.specs.declared.choice.Choice.TheVariants.{Run}
+use Rattle.hdminet_words.specs.declared.choice.Choice.{Choice}
+use Rattle.hdminet_words.specs.declared.choice.Choice.TheVariants.{Run, Json}
+use Rattle.hdminet_words.specs.declared.choice.Objects.TheVariants as objects
 use Rattle.hdminet_words.specs.declared.choice.Listing.{Listing}
 use Rattle.hdminet_words.specs.declared.choice.Listing.TheVariants.{Trace, Edges, Vcd, Pin, Csv, Drives}
 use Rattle.hdminet_words.specs.declared.run_flags.RunFlags.{RunFlags}
@@ -23,6 +25,7 @@ one_run_flag flags word =
     else if bytes_eq word (codes "--as") && is_none flags.format then Some (record flags { waits = true })
     else if bytes_eq word (codes "--drives") && not flags.drives then Some (record flags { drives = true })
     else if bytes_eq word (codes "--strict") && not flags.strict then Some (record flags { strict = true })
+    else if bytes_eq word (codes "--json") && not flags.json then Some (record flags { json = true })
     else if bytes_eq word (codes "--explain") && not flags.explains then Some (record flags { explains = true })
     else None
 
@@ -50,8 +53,13 @@ with_drives true (Some Vcd) = Some Drives
 with_drives true listing = None
 with_drives false listing = listing
 
--- what they ask for
+-- what is done with the run
+abbrev pub run_choice : Bool → Listing → Bool → Choice
+run_choice true listing strict = Json (objects.Trace strict)
+run_choice false listing strict = Run listing strict
+
+-- what they ask for; objects are those of the trace
 abbrev pub run_asked : RunFlags → Option Asked
 run_asked flags =
-    if flags.waits then None
-    else option_map (λ listing. record { choice = Run listing flags.strict; explains = flags.explains }) (with_drives flags.drives (run_listing flags.edges flags.format))
+    if flags.waits || (flags.edges && flags.json) then None
+    else option_map (λ listing. record { choice = run_choice flags.json listing flags.strict; explains = flags.explains }) (with_drives flags.drives (run_listing flags.edges flags.format))

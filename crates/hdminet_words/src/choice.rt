@@ -44,6 +44,32 @@ pub enum Report {
     Timing,
 }
 
+/// What is written of a test: a topology, and a script with expectations.
+#[derive(Clone, Copy, Debug)]
+pub enum TestView {
+    /// The report of whether its run is as they have it.
+    Report,
+    /// The report, and behind it the trace of its run.
+    Traced,
+    /// The input of its run, without labels and expectations.
+    Plain,
+}
+
+/// What is written as objects of JSON, a line each.
+#[derive(Clone, Copy, Debug)]
+pub enum Objects {
+    /// The lines of the trace of a run. Where it is strict, an event that is refused is a fault.
+    Trace {
+        strict: bool,
+    },
+    /// The lines of a capture.
+    Capture {
+        form: Option<Form>,
+        glitch: u64,
+        report: Option<Report>,
+    },
+}
+
 /// What an EDID is read from.
 #[derive(Clone, Copy, Debug)]
 pub enum Source {
@@ -98,6 +124,8 @@ pub enum Choice {
         listing: Listing,
         strict: bool,
     },
+    /// A test of a run.
+    Check(TestView),
     /// Steps of a run, edge by edge and round by round.
     Step,
     /// The bytes of frames, from their texts.
@@ -111,6 +139,8 @@ pub enum Choice {
         glitch: u64,
         report: Option<Report>,
     },
+    /// Lines of a run or of a capture, as objects.
+    Json(Objects),
     /// An EDID.
     Edid {
         source: Source,

@@ -1,6 +1,7 @@
 //! The words of a command line, read exactly: what each line without a slip asks for.
 #![tactic(auto)]
 
+mod check_flags;
 mod choice;
 mod edid_flags;
 mod line;
@@ -8,7 +9,9 @@ mod mon_flags;
 mod run_flags;
 mod subcommand;
 
-pub use choice::{Asked, Choice, Form, Listing, Place, Report, Shape, Source, View};
+pub use choice::{
+    Asked, Choice, Form, Listing, Objects, Place, Report, Shape, Source, TestView, View,
+};
 pub use line::asked_by;
 pub use mon_flags::signal_in;
 pub use subcommand::{Subcommand, subcommand_of};

@@ -2,6 +2,7 @@
 ghost use Rattle.std.specs.Prelude.{◌≡◌, map, string_bytes};
 ghost use Rattle.hdminet_words.specs.Line.{asked_by, asked_of, only_explained};
 
+use crate::check_flags::{CheckFlags, check_asked, check_flags};
 use crate::choice::{Asked, Choice};
 use crate::edid_flags::{EdidFlags, edid_asked, edid_flags};
 use crate::mon_flags::{MonFlags, mon_asked, mon_flags};
@@ -31,6 +32,7 @@ fn asked_of(subcommand: Subcommand, words: &[String]) -> Option<Asked>
 {
     match subcommand {
         Subcommand::Run => run_asked(&run_flags(RunFlags::NONE, words)?),
+        Subcommand::Check => check_asked(&check_flags(CheckFlags::NONE, words)?),
         Subcommand::Step => only_explained(Choice::Step, words),
         Subcommand::Asm => only_explained(Choice::Asm, words),
         Subcommand::Dis => only_explained(Choice::Dis, words),

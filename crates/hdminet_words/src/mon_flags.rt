@@ -1,8 +1,8 @@
 //! The flags of `mon`.
 ghost use Rattle.std.specs.Prelude.{◌≡◌, map, string_bytes, Some, None, MatchOption};
-ghost use Rattle.hdminet_words.specs.MonFlags.{form_of, has_names, joined_signal, mon_asked, mon_flags, mon_report, signal_in, with_mon_flag, with_mon_value};
+ghost use Rattle.hdminet_words.specs.MonFlags.{form_of, has_names, is_misfit, joined_signal, mon_asked, mon_choice, mon_flags, mon_report, signal_in, with_mon_flag, with_mon_value};
 
-use crate::choice::{Asked, Choice, Form, Report};
+use crate::choice::{Asked, Choice, Form, Objects, Report};
 use cec_words::{before, behind, number_in};
 
 /// A flag of `mon` that a value follows.
@@ -24,6 +24,7 @@ pub struct MonFlags {
     pub start: Option<Report>,
     pub audit: bool,
     pub timing: bool,
+    pub json: bool,
     pub explains: bool,
     /// The flag whose value comes next.
     pub waits: Option<MonValue>,
@@ -38,6 +39,7 @@ impl MonFlags {
         start: None,
         audit: false,
         timing: false,
+        json: false,
         explains: false,
         waits: None,
     };
@@ -118,6 +120,10 @@ fn with_mon_flag(flags: MonFlags, word: &str) -> Option<MonFlags>
             timing: true,
             ..flags
         }),
+        "--json" if !flags.json => Some(MonFlags {
+            json: true,
+            ..flags
+        }),
         "--explain" if !flags.explains => Some(MonFlags {
             explains: true,
             ..flags
@@ -162,20 +168,44 @@ fn mon_report(start: Option<Report>, audit: bool, timing: bool) -> Option<Option
     }
 }
 
-/// What `mon` with these flags asks for.
+// What is done with a capture.
+fn mon_choice(json: bool, form: Option<Form>, glitch: u64, report: Option<Report>) -> Choice
+    ensures { result ≡ mon_choice json form glitch report }
+{
+    if json {
+        Choice::Json(Objects::Capture {
+            form,
+            glitch,
+            report,
+        })
+    } else {
+        Choice::Mon {
+            form,
+            glitch,
+            report,
+        }
+    }
+}
+
+// Whether flags exclude one another: a value is missing, a wire has no name, or an audit would be objects.
+fn is_misfit(flags: &MonFlags) -> bool
+    ensures { result ≡ is_misfit flags.now }
+{
+    flags.waits.is_some()
+        || (flags.named && !has_names(flags.form))
+        || (flags.json && (flags.audit || flags.timing))
+}
+
+/// What `mon` with these flags asks for. `--json` goes with readings alone.
 pub fn mon_asked(flags: &MonFlags) -> Option<Asked>
     ensures { result ≡ mon_asked flags.now }
 {
-    if flags.waits.is_some() || (flags.named && !has_names(flags.form)) {
+    if is_misfit(flags) {
         return None;
     }
     let report = mon_report(flags.start, flags.audit, flags.timing)?;
     Some(Asked {
-        choice: Choice::Mon {
-            form: flags.form,
-            glitch: flags.glitch.unwrap_or(0),
-            report,
-        },
+        choice: mon_choice(flags.json, flags.form, flags.glitch.unwrap_or(0), report),
         explains: flags.explains,
     })
 }

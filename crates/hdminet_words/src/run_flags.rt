@@ -1,8 +1,8 @@
 //! The flags of `run`.
 ghost use Rattle.std.specs.Prelude.{◌≡◌, map, string_bytes};
-ghost use Rattle.hdminet_words.specs.RunFlags.{line_listing, run_asked, run_flags, with_run_flag};
+ghost use Rattle.hdminet_words.specs.RunFlags.{line_listing, run_asked, run_choice, run_flags, with_run_flag};
 
-use crate::choice::{Asked, Choice, Listing};
+use crate::choice::{Asked, Choice, Listing, Objects};
 
 /// The flags that `run` was given.
 #[derive(Clone, Copy, Debug)]
@@ -13,6 +13,7 @@ pub struct RunFlags {
     /// Whether a dump has who drives the line too.
     pub drives: bool,
     pub strict: bool,
+    pub json: bool,
     pub explains: bool,
     /// Whether the word of a format comes next.
     pub waits: bool,
@@ -25,6 +26,7 @@ impl RunFlags {
         format: None,
         drives: false,
         strict: false,
+        json: false,
         explains: false,
         waits: false,
     };
@@ -71,6 +73,10 @@ fn with_run_flag(flags: RunFlags, word: &str) -> Option<RunFlags>
             strict: true,
             ..flags
         }),
+        "--json" if !flags.json => Some(RunFlags {
+            json: true,
+            ..flags
+        }),
         "--explain" if !flags.explains => Some(RunFlags {
             explains: true,
             ..flags
@@ -89,12 +95,24 @@ pub fn run_flags(flags: RunFlags, words: &[String]) -> Option<RunFlags>
     }
 }
 
-/// What `run` with these flags asks for: `--as` goes with `--edges` alone, and `--drives` with `--edges --as vcd`.
+// What is done with a run.
+fn run_choice(json: bool, listing: Listing, strict: bool) -> Choice
+    ensures { result ≡ run_choice json listing strict }
+{
+    if json {
+        Choice::Json(Objects::Trace { strict })
+    } else {
+        Choice::Run { listing, strict }
+    }
+}
+
+/// What `run` with these flags asks for: `--as` goes with `--edges` alone, `--drives` with `--edges --as vcd`, and `--json`
+/// without `--edges`.
 pub fn run_asked(flags: &RunFlags) -> Option<Asked>
     ensures { result ≡ run_asked flags.now }
 {
     let listing = match flags.format {
-        _ if flags.waits => return None,
+        _ if flags.waits || (flags.edges && flags.json) => return None,
         Some(Listing::Vcd) if flags.edges && flags.drives => Listing::Drives,
         _ if flags.drives => return None,
         Some(format) if flags.edges => format,
@@ -103,10 +121,7 @@ pub fn run_asked(flags: &RunFlags) -> Option<Asked>
         None => Listing::Trace,
     };
     Some(Asked {
-        choice: Choice::Run {
-            listing,
-            strict: flags.strict,
-        },
+        choice: run_choice(flags.json, listing, flags.strict),
         explains: flags.explains,
     })
 }

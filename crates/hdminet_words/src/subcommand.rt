@@ -6,6 +6,7 @@ ghost use Rattle.hdminet_words.specs.Line.{subcommand_of};
 #[derive(Clone, Copy, Debug)]
 pub enum Subcommand {
     Run,
+    Check,
     Step,
     Asm,
     Dis,
@@ -19,6 +20,7 @@ pub fn subcommand_of(word: &str) -> Option<Subcommand>
 {
     match word {
         "run" => Some(Subcommand::Run),
+        "check" => Some(Subcommand::Check),
         "step" => Some(Subcommand::Step),
         "asm" => Some(Subcommand::Asm),
         "dis" => Some(Subcommand::Dis),

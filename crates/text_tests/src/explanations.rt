@@ -138,6 +138,17 @@ end 9000
 --
 device tv tv 4
 script
+expect from 0 to 5 short
+end 9
+=> script line 1: word
+  line 3: expect from 0 to 5 short
+          ^^^^^^
+  a line here reads `at T press NAME KEY`, `at T release NAME KEY`, `at T plug CHILD PARENT PORT`, `at T unplug CHILD`, `at T send NAME FRAME`, `pulse T WIDTH`, `end T`
+  labels and expectations are read by `hdminet check`
+  words stand one space apart, and nothing follows the last one
+--
+device tv tv 4
+script
 at 5 send tv 0>f set-menu-language english
 end 9
 => script line 1: frame operand
@@ -378,6 +389,162 @@ until
   XX is an opcode, two hex digits in lower case; NAME has a `device` line in the topology; words stand one space apart
 ";
 
+// Networks under test, in the same form.
+const TESTS: &str = "\
+device tv tv 4
+script
+label film at 5 press tv powr
+end 9
+=> script line 1: word
+  line 3: label film at 5 press tv powr
+                                   ^^^^
+  a line here reads `at T press NAME KEY`
+  `powr`: did you mean `power`?
+  words stand one space apart, and nothing follows the last one
+--
+device tv tv 4
+script
+expct none from 0 to 5 short
+end 9
+=> script line 1: word
+  line 3: expct none from 0 to 5 short
+          ^^^^^
+  a line here reads `at T press NAME KEY`, `at T release NAME KEY`, `at T plug CHILD PARENT PORT`, `at T unplug CHILD`, `at T send NAME FRAME`, `pulse T WIDTH`, `end T`, `label NAME LINE`, `expect within D of NAME PATTERN`, `expect from T to U PATTERN`, `expect refused NAME WORD`
+  `expct`: did you mean `expect`?
+  words stand one space apart, and nothing follows the last one
+--
+device tv tv 4
+script
+label film at 5 press tv power
+label on expect none wihtin 5 of film short
+end 9
+=> script line 2: word
+  line 4: label on expect none wihtin 5 of film short
+                               ^^^^^^
+  a line here reads `expect none within D of NAME PATTERN`, `expect none from T to U PATTERN`
+  `wihtin`: did you mean `within`?
+  words stand one space apart; PATTERN has 1 to 160 bytes and at most four `*`; a label stands before a line
+--
+device tv tv 4
+script
+expect from 0 to 5 4>0 * * * * *
+end 9
+=> script line 1: word
+  line 3: expect from 0 to 5 4>0 * * * * *
+                             ^^^^^^^^^^^^^
+  a line here reads `expect from T to U PATTERN`
+  words stand one space apart; PATTERN has 1 to 160 bytes and at most four `*`; a label stands before a line
+--
+device tv tv 4
+script
+label film at 5 press tv eject
+expect refused film not-for-kind here
+end 9
+=> script line 2: word
+  line 4: expect refused film not-for-kind here
+                                           ^^^^
+  a line here reads `expect refused NAME WORD`
+  words stand one space apart; PATTERN has 1 to 160 bytes and at most four `*`; a label stands before a line
+--
+device tv tv 4
+script
+label film
+end 9
+=> script line 1: word
+  line 3: label film
+  a line here reads `label NAME LINE`
+  words stand one space apart; PATTERN has 1 to 160 bytes and at most four `*`; a label stands before a line
+--
+device tv tv 4
+script
+expect once from 5 to 09 short
+end 9
+=> script line 1: number
+  line 3: expect once from 5 to 09 short
+                                ^^
+  D, T and U are decimal numbers of microseconds; none has a zero before it
+--
+device tv tv 4
+script
+expect within soon of film short
+end 9
+=> script line 1: number
+  line 3: expect within soon of film short
+                        ^^^^
+  D, T and U are decimal numbers of microseconds; none has a zero before it
+--
+device tv tv 4
+script
+label film at 5 press tv power
+expect within 5 of filn short
+end 9
+=> script line 2: label
+  line 4: expect within 5 of filn short
+                             ^^^^
+  `filn`: did you mean `film`?
+  a label is a word that no other line has, on a line above those that name it; `refused` names that of an event
+--
+device tv tv 4
+script
+label film at 5 press tv power
+label film expect from 0 to 5 short
+end 9
+=> script line 2: label
+  line 4: label film expect from 0 to 5 short
+                ^^^^
+  a label is a word that no other line has, on a line above those that name it; `refused` names that of an event
+--
+device tv tv 4
+script
+label none expect from 0 to 5 short
+expect refused none off-wire
+end 9
+=> script line 2: label
+  line 4: expect refused none off-wire
+                         ^^^^
+  a label is a word that no other line has, on a line above those that name it; `refused` names that of an event
+--
+device tv tv 4
+script
+label late expect once from 9 to 5 short
+end 9
+=> script line 1: order
+  line 3: label late expect once from 9 to 5 short
+                                           ^
+  a window does not end before it begins: U is T or later
+--
+device tv tv 4
+script
+label a at 9 press tv power
+label b at 5 press tv power
+end 10
+=> script line 2: order
+  line 4: label b at 5 press tv power
+                     ^
+  the time of line 4, 5, is before that of line 3, 9
+  times do not go back: each T is that of the line before it or later, and a pulse begins after the end of the last one
+--
+device tv tv 4
+script
+label a at 5 press tvv power
+end 10
+=> script line 1: name
+  line 3: label a at 5 press tvv power
+                             ^^^
+  a NAME, CHILD or PARENT of the script has a `device` line in the topology
+--
+device tv tv 4
+script
+label a at 5 send tv 0>f set-menu-language english
+end 9
+=> script line 1: frame operand
+  line 3: label a at 5 send tv 0>f set-menu-language english
+                                                     ^^^^^^^
+  a frame here reads `I>D set-menu-language LANG`
+  LANG is three letters, a to z
+  operands are the opcode's words, as docs/formats.md has them; as hex, `:` and two lower-case digits a byte, where no word says them
+";
+
 /// Inputs that are no text.
 const BYTES: &[(Input, &[u8], &str, &str)] = &[
     (
@@ -436,6 +603,7 @@ fn faults_are_explained(rt: HostRuntime) {
     let alloc = rt.alloc();
     are_explained(&rt, alloc, Input::Network, NETWORKS);
     are_explained(&rt, alloc, Input::Network, STEPS);
+    are_explained(&rt, alloc, Input::Test, TESTS);
     are_explained(&rt, alloc, Input::Lines, FRAMES);
     are_explained(&rt, alloc, Input::EdidBytes, EDIDS);
     are_explained(&rt, alloc, Input::EdidText, EDID_TEXTS);

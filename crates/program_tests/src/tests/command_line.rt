@@ -15,6 +15,13 @@ const HELP: &str = "\
 run --help =>   at 1000000 press p1 play
 run --help => --edges
 run --help => --strict
+run --help => --json
+mon --help => --json
+check --help =>   expect refused NAME WORD 
+check --help =>   ok 2 - line 3: expect once within 200000 of on 4>f active-source 1.0.0.0 ok
+check --help => --trace
+check --help => --plain
+--help =>   check
 run --help =>   watch PA       tv
 asm --help => 4f821000
 run --help => --as
@@ -91,6 +98,20 @@ frob
 run --edges --edges
 run --strict --strict
 mon --strict
+run --json --json
+run --json --edges
+run --edges --as vcd --json
+mon --json --audit
+mon --timing --json
+mon --json --json
+step --json
+check --json
+check --edges
+check --strict
+check --trace --plain
+check --plain --plain
+check --trace --explain --trace
+check film.test
 --strict
 run -- --edges
 run tv.net

@@ -246,6 +246,19 @@ state box combo 1+8 2.0.0.0 on active=2.0.0.0 path=2.0.0.0 deck=11 menu=off audi
 3000000 end
 ";
 
+const FIRST_PATH_OBJECTS: &str = "\
+{\"line\":\"12000 39150 complete 0>0 nack by tv out -\",\"type\":\"round\",\"begin\":12000,\"close\":39150,\"ending\":\"complete\",\"frame\":\"0>0\",\"initiator\":\"0\",\"destination\":\"0\",\"bytes\":\"00\",\"verdict\":\"nack\",\"by\":[\"tv\"],\"out\":[]}
+{\"line\":\"50705 77855 complete 4>4 nack by p1 out -\",\"type\":\"round\",\"begin\":50705,\"close\":77855,\"ending\":\"complete\",\"frame\":\"4>4\",\"initiator\":\"4\",\"destination\":\"4\",\"bytes\":\"44\",\"verdict\":\"nack\",\"by\":[\"p1\"],\"out\":[]}
+{\"line\":\"89405 212555 complete 0>f report-physical-address 0.0.0.0 tv ok by tv out -\",\"type\":\"round\",\"begin\":89405,\"close\":212555,\"ending\":\"complete\",\"frame\":\"0>f report-physical-address 0.0.0.0 tv\",\"initiator\":\"0\",\"destination\":\"f\",\"bytes\":\"0f84000000\",\"verdict\":\"ok\",\"by\":[\"tv\"],\"out\":[]}
+{\"line\":\"224105 347255 complete 4>f report-physical-address 1.0.0.0 playback ok by p1 out -\",\"type\":\"round\",\"begin\":224105,\"close\":347255,\"ending\":\"complete\",\"frame\":\"4>f report-physical-address 1.0.0.0 playback\",\"initiator\":\"4\",\"destination\":\"f\",\"bytes\":\"4f84100004\",\"verdict\":\"ok\",\"by\":[\"p1\"],\"out\":[]}
+{\"line\":\"1000000 event 1 ok\",\"type\":\"event\",\"at\":1000000,\"script_line\":1,\"verdict\":\"ok\",\"cause\":null}
+{\"line\":\"1000000 1051150 complete 4>0 image-view-on ack by p1 out -\",\"type\":\"round\",\"begin\":1000000,\"close\":1051150,\"ending\":\"complete\",\"frame\":\"4>0 image-view-on\",\"initiator\":\"4\",\"destination\":\"0\",\"bytes\":\"4004\",\"verdict\":\"ack\",\"by\":[\"p1\"],\"out\":[]}
+{\"line\":\"1068400 1167550 complete 4>f active-source 1.0.0.0 ok by p1 out -\",\"type\":\"round\",\"begin\":1068400,\"close\":1167550,\"ending\":\"complete\",\"frame\":\"4>f active-source 1.0.0.0\",\"initiator\":\"4\",\"destination\":\"f\",\"bytes\":\"4f821000\",\"verdict\":\"ok\",\"by\":[\"p1\"],\"out\":[]}
+{\"line\":\"state tv tv 0 0.0.0.0 on active=1.0.0.0 path=1.0.0.0 deck=1a menu=off audio=off volume=20 mute=off arc=off sel=- lang=656e67 osd=- held=- heard=4:84:10 sub=- queue=0 dropped=0\",\"type\":\"state\",\"device\":\"tv\",\"kind\":\"tv\",\"logical_addresses\":[\"0\"],\"physical_address\":\"0.0.0.0\",\"power\":\"on\",\"active_source\":\"1.0.0.0\",\"path\":\"1.0.0.0\",\"deck\":\"1a\",\"menu\":false,\"system_audio\":false,\"volume\":20,\"mute\":false,\"audio_return_channel\":false,\"selected_port\":null,\"menu_language\":\"656e67\",\"osd_text\":null,\"held_key\":null,\"heard\":{\"initiator\":\"4\",\"opcode\":\"84\",\"first_operand\":\"10\"},\"subscriber\":null,\"queued\":0,\"dropped\":0}
+{\"line\":\"state p1 player 4 1.0.0.0 on active=1.0.0.0 path=1.0.0.0 deck=11 menu=off audio=off volume=20 mute=off arc=off sel=- lang=656e67 osd=- held=- heard=0:84:00 sub=- queue=0 dropped=0\",\"type\":\"state\",\"device\":\"p1\",\"kind\":\"player\",\"logical_addresses\":[\"4\"],\"physical_address\":\"1.0.0.0\",\"power\":\"on\",\"active_source\":\"1.0.0.0\",\"path\":\"1.0.0.0\",\"deck\":\"11\",\"menu\":false,\"system_audio\":false,\"volume\":20,\"mute\":false,\"audio_return_channel\":false,\"selected_port\":null,\"menu_language\":\"656e67\",\"osd_text\":null,\"held_key\":null,\"heard\":{\"initiator\":\"0\",\"opcode\":\"84\",\"first_operand\":\"00\"},\"subscriber\":null,\"queued\":0,\"dropped\":0}
+{\"line\":\"1500000 end\",\"type\":\"end\",\"at\":1500000}
+";
+
 const ARBITRATION_STEPS: &str = "\
 # Two devices send at once, and the one with the lower address goes on: an arbitration edge by edge.
 device tv tv 4
@@ -562,6 +575,12 @@ const RUNS: &[Case<'static>] = &[
         line: "run --edges --as vcd --drives",
         input: FIRST_PATH_NET,
         want: FIRST_PATH_DRIVES_VCD,
+    },
+    Case {
+        name: "objects of first-path",
+        line: "run --json",
+        input: FIRST_PATH_NET,
+        want: FIRST_PATH_OBJECTS,
     },
     Case {
         name: "arbitration",

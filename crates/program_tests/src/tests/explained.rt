@@ -10,6 +10,11 @@ run => DEVICE tv tv 4;script;end 9; =>   line 1: DEVICE tv tv 4
 run => device tv tv 4;script;end 9 ; =>   line 3: end 9 
 run => device tv\ttv 4;script;end 9; =>   line 1: device tv.tv 4
 run =>  =>   a line `script`, and nothing else on it, parts the topology from the script
+check => device tv tv 4;script;label a at 5 pres tv power;end 9; =>   line 3: label a at 5 pres tv power
+check --trace => device tv tv 4;script;expect none;end 9; =>   line 3: expect none
+check --plain => device tv tv 4;script;expect from 9 to 5 short;end 9; =>   line 3: expect from 9 to 5 short
+check =>  =>   a line `script`, and nothing else on it, parts the topology from the script
+run --json => device tv tv 4;script;at 5 press tv plya;end 9; =>   line 3: at 5 press tv plya
 asm => 4>0 pley forward; =>   line 1: 4>0 pley forward
 asm => 4>4\r; =>   line 1: 4>4.
 asm => 4>0\tplay forward; =>   line 1: 4>0.play forward

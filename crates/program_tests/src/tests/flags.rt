@@ -10,6 +10,7 @@ const STRICT: &str = "\
 run --strict => run => hdminet: refused events 1;
 run --strict --edges => run --edges => hdminet: refused events 1;
 run --edges --strict => run --edges => hdminet: refused events 1;
+run --strict --json => run --json => hdminet: refused events 1;
 run --drives --strict --as vcd --edges => run --edges --as vcd --drives => hdminet: refused events 1;
 run --explain --strict => run => hdminet: refused events 1;  rounds 2, complete rounds 2, refused events 1;
 --explain run --strict => run => hdminet: refused events 1;  rounds 2, complete rounds 2, refused events 1;
@@ -50,6 +51,7 @@ const TAKEN_KEY: &[u8] = b"device tv tv 1\nscript\nat 100000 press tv mute\nend 
 const SAME: &str = "\
 run => run --strict
 run --edges => run --strict --edges
+run --json => run --json --strict
  => run --strict
 ";
 

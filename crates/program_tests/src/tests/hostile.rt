@@ -41,6 +41,9 @@ fn each_front_of_an_input(rt: HostRuntime) {
     }
 }
 
+/// A network under test, all of whose tests hold.
+const TEST: &str = "device tv tv 4\nscript\nexpect once from 0 to 50000 0>0 nack\nend 60000\n";
+
 /// A command line and its input.
 const WRITTEN: &[(&str, &str)] = &[
     ("run", PAIR),
@@ -49,6 +52,11 @@ const WRITTEN: &[(&str, &str)] = &[
     ("mon", EDGES),
     ("run --edges", POLL),
     ("run --strict", TELEVISION),
+    ("run --json", TELEVISION),
+    ("mon --json", EDGES),
+    ("check", TEST),
+    ("check --trace", TEST),
+    ("check --plain", TEST),
     ("step", STEPS),
     ("run", TELEVISION),
     ("", TELEVISION),

@@ -78,7 +78,15 @@ fn reads_nothing<R: Read + Drop>(rt: &(impl Abort + AllocGlobal), line: &str, in
 }
 
 /// Each command that reads.
-const COMMANDS: &[&str] = &["run", "run --edges", "asm", "mon", "edid", "edid --text"];
+const COMMANDS: &[&str] = &[
+    "run",
+    "run --edges",
+    "check",
+    "asm",
+    "mon",
+    "edid",
+    "edid --text",
+];
 
 #[test]
 fn refuses_what_is_too_long(rt: HostRuntime) {

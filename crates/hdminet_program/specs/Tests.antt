@@ -1,0 +1,48 @@
+-- What is written of a test (own): a topology, and a script with expectations.
+use Rattle.std.specs.Prelude.{◌≡◌, ℕ, not, length, filter, List, ◌++◌, Option, None, codes}
+use Rattle.std.specs.Io.KnownBytes.{Appends}
+use Rattle.std.specs.List.{flat_map}
+use Rattle.cec_check.specs.Check.{IsReportOf}
+use Rattle.cec_check.specs.Report.{Report}
+use Rattle.cec_expect.specs.Faults.{first_fault}
+use Rattle.cec_expect.specs.Line.{plain_script}
+use Rattle.cec_run.specs.Emulate.{IsTraceOf}
+use Rattle.cec_run.specs.declared.run.Totals.{Totals}
+use Rattle.cec_words.specs.Lines.{lines_of}
+use Rattle.hdminet_words.specs.declared.choice.TestView.{TestView}
+use Rattle.hdminet_words.specs.declared.choice.TestView.TheVariants as views
+
+-- the lines of a trace as remarks, behind a line that says so
+abbrev pub remark_line : List ℕ → List ℕ
+remark_line line = codes "# " ++ line ++ codes "\n"
+
+abbrev pub trace_remarks : List ℕ → List ℕ
+trace_remarks trace = codes "# trace\n" ++ flat_map remark_line (lines_of trace)
+
+-- the remarks of the trace of the run of the script without labels and expectations
+abbrev pub AreRemarksOf : List ℕ → List ℕ → List ℕ → Type 0
+AreRemarksOf topology script remarks =
+    (trace : List ℕ) × (totals : Totals) × IsTraceOf topology (plain_script script) trace totals × (remarks ≡ trace_remarks trace)
+
+-- the report of the script's expectations, of which none failed
+abbrev pub IsPassed : List ℕ → List ℕ → List ℕ → Type 0
+IsPassed topology script text = (r : Report) × IsReportOf topology script r × (length (filter not r.verdicts) ≡ 0) × (text ≡ r.text)
+
+-- the report, and behind it the trace
+abbrev pub IsTraced : List ℕ → List ℕ → List ℕ → Type 0
+IsTraced topology script text =
+    (tests : List ℕ) × (remarks : List ℕ) × IsPassed topology script tests × AreRemarksOf topology script remarks × (text ≡ tests ++ remarks)
+
+-- the input of the run of the script without labels and expectations, none of which is at fault
+abbrev pub IsPlain : List ℕ → List ℕ → List ℕ → Type 0
+IsPlain topology script text = (first_fault script ≡ None) × (text ≡ topology ++ codes "script\n" ++ plain_script script)
+
+-- this text is what is asked for of a test
+abbrev pub IsTestOf : TestView → List ℕ → List ℕ → List ℕ → Type 0
+IsTestOf views.Report topology script text = IsPassed topology script text
+IsTestOf views.Traced topology script text = IsTraced topology script text
+IsTestOf views.Plain topology script text = IsPlain topology script text
+
+-- it is written, and nothing else
+abbrev pub WritesTest : TestView → List ℕ → List ℕ → Option (List ℕ) → Option (List ℕ) → Type 0
+WritesTest view topology script old new = (text : List ℕ) × IsTestOf view topology script text × Appends old new text

@@ -1,0 +1,133 @@
+//! What is told of a test: whether a run is as the expectations of its script have it.
+ghost use Rattle.std.specs.Prelude.{◌≡◌, ◌++◌, OnOk, IfOk};
+ghost use Rattle.hdminet_program.specs.Tests.{AreRemarksOf, WritesTest, remark_line, trace_remarks};
+
+use crate::fault::Fault;
+use cec_check::{CheckError, Tally, check};
+use cec_expect::{first_fault, plain_script};
+use cec_json::Held;
+use cec_run::emulate::{EmulateError, emulate};
+use cec_words::first_line;
+use hdmi_core::{Piece, Sink, put_all, write_pieces};
+use hdminet_words::TestView;
+use std::alloc::{AllocError, Global};
+
+// Nothing, unless a test of a report failed.
+fn passed(tally: Tally) -> Result<(), Fault>
+    ensures { OnOk result (tally.failed ≡ 0) }
+{
+    if tally.failed > 0 {
+        return Err(Fault::TestsFailed(tally));
+    }
+    Ok(())
+}
+
+// Writes the report.
+#[inline(never)]
+fn write_tests<W: Sink>(
+    alloc: Global,
+    topology: &[u8],
+    script: &[u8],
+    out: &mut W,
+) -> Result<(), Fault>
+    ensures { OnOk result (WritesTest TestView.Report topology.now script.now (W.contents out.old) (W.contents out.new)) }
+{
+    let tally = check(alloc, topology, script, out)?;
+    passed(tally)
+}
+
+// Appends a line of a trace as a remark.
+fn push_remark(text: &mut Vec<u8>, line: &[u8]) -> Result<(), AllocError>
+    ensures { OnOk result (text.new.items ≡ text.old.items ++ remark_line line.now) }
+{
+    text.extend_from_slice(b"# ")?;
+    text.extend_from_slice(line)?;
+    text.push(b'\n')?;
+    Ok(())
+}
+
+// A trace as remarks.
+fn trace_remarks(alloc: Global, trace: &[u8]) -> Result<Vec<u8>, AllocError>
+    ensures { IfOk result (λ text. text.items ≡ trace_remarks trace.now) }
+{
+    let mut text = b"# trace\n".to_vec(alloc)?;
+    let mut rest = trace;
+    'lines: while let Some((line, after)) = first_line(rest) {
+        push_remark(&mut text, line)?;
+        rest = after;
+    }
+    Ok(text)
+}
+
+// Runs the script without labels and expectations on the topology, and returns its trace as remarks.
+#[inline(never)]
+fn remarks_of(alloc: Global, topology: &[u8], script: &[u8]) -> Result<Vec<u8>, Fault>
+    ensures { IfOk result (λ text. AreRemarksOf topology.now script.now text.items) }
+{
+    let plain = plain_script(alloc, script)?;
+    let mut trace = Held::new(alloc);
+    match emulate(alloc, topology, &plain, &mut trace) {
+        Ok(_) => {}
+        Err(EmulateError::Write(_)) => return Err(Fault::Memory(AllocError)),
+        Err(error) => return Err(Fault::Emulate(error)),
+    }
+    Ok(trace_remarks(alloc, trace.bytes())?)
+}
+
+// Writes the report, and behind it the trace.
+#[inline(never)]
+fn write_traced<W: Sink>(
+    alloc: Global,
+    topology: &[u8],
+    script: &[u8],
+    out: &mut W,
+) -> Result<(), Fault>
+    ensures { OnOk result (WritesTest TestView.Traced topology.now script.now (W.contents out.old) (W.contents out.new)) }
+{
+    let remarks = remarks_of(alloc, topology, script)?;
+    let tally = check(alloc, topology, script, out)?;
+    put_all(out, &remarks)?;
+    passed(tally)
+}
+
+// Writes the input of the run, in which the line of an expectation is empty.
+#[inline(never)]
+fn write_plain<W: Sink>(
+    alloc: Global,
+    topology: &[u8],
+    script: &[u8],
+    out: &mut W,
+) -> Result<(), Fault>
+    ensures { OnOk result (WritesTest TestView.Plain topology.now script.now (W.contents out.old) (W.contents out.new)) }
+{
+    if let Some(fault) = first_fault(script) {
+        return Err(Fault::from(CheckError::Expect(fault)));
+    }
+    let plain = plain_script(alloc, script)?;
+    write_pieces(
+        out,
+        &[
+            Piece::Bytes(topology),
+            Piece::Text("script\n"),
+            Piece::Bytes(&plain),
+        ],
+    )?;
+    Ok(())
+}
+
+/// Writes what is asked for of a test. A report with a test that failed is written, and then a fault.
+pub fn write_test<W: Sink>(
+    alloc: Global,
+    view: TestView,
+    topology: &[u8],
+    script: &[u8],
+    out: &mut W,
+) -> Result<(), Fault>
+    ensures { OnOk result (WritesTest view topology.now script.now (W.contents out.old) (W.contents out.new)) }
+{
+    match view {
+        TestView::Report => write_tests(alloc, topology, script, out),
+        TestView::Traced => write_traced(alloc, topology, script, out),
+        TestView::Plain => write_plain(alloc, topology, script, out),
+    }
+}
