@@ -1,32 +1,81 @@
 -- The report of a run that is held in memory, which is one.
-use Rattle.std.proofs.Common.{◌≡◌, ℕ, List, [], ◌++◌, Some, None, sym, ap, ◌∙◌, subst}
+use Rattle.std.proofs.Common.{◌≡◌, ℕ, List, [], ◌∷◌, ◌++◌, Some, None, Result, Ok, Err, refl, sym, ap, ◌∙◌, subst, append_assoc, append-nil}
 use Rattle.std.specs.Io.KnownBytes.{Appends}
-use Rattle.cec_expect.specs.Line.{plain_script}
+use Rattle.cec_words.specs.Lines.{lines_of}
+use Rattle.cec_words.specs.Words.{words_of}
+use Rattle.cec_expect.specs.Line.{behind_label, cut_script, plain_script}
+use Rattle.cec_expect.specs.Form.{Form, form_in}
+use Rattle.cec_expect.specs.Form.Form.{Other, Rounds, State, Refused}
+use Rattle.cec_expect.specs.declared.form.ExpectCause.{ExpectCause}
 use Rattle.cec_expect.specs.Faults.{first_fault}
 use Rattle.cec_run.specs.Emulate.{IsTraceOf}
 use Rattle.cec_run.specs.declared.run.Totals.{Totals}
 use Rattle.cec_run.proofs.Accepted.{texts_have_one_trace}
+use Rattle.cec_judge.specs.Told.{state_line}
+use Rattle.cec_check.specs.States.{AreStates, IsStateFor, IsStateOf}
 use Rattle.cec_check.specs.Report.{Report, report}
 use Rattle.cec_check.specs.Check.{IsReportOf, TalliesCountVerdicts, tally_of}
 
-pub reported : (topology script plain held bytes text : List ℕ) (totals : Totals) (r : Report) → plain ≡ plain_script script → held ≡ []
-    → IsTraceOf topology plain text totals → Appends (Some held) (Some bytes) text → first_fault script ≡ None → r ≡ report script bytes → IsReportOf topology script r
-reported topology script plain held bytes text totals r is empty trace written accepted made = record {
+pub reported : (topology script plain held bytes text : List ℕ) (totals : Totals) (states : List (List ℕ)) (r : Report) → plain ≡ plain_script script → held ≡ []
+    → IsTraceOf topology plain text totals → Appends (Some held) (Some bytes) text → first_fault topology script ≡ None → AreStates topology plain (lines_of script) states
+    → r ≡ report script bytes states → IsReportOf topology script r
+reported topology script plain held bytes text totals states r is empty trace written accepted are made = record {
   trace = text;
   totals = totals;
   run = subst (λ p. IsTraceOf topology p text totals) is trace;
   accepted = accepted;
-  report_is = made ∙ ap (report script) (written ∙ ap (λ h. h ++ text) empty);
+  states = states;
+  states_are = subst (λ p. AreStates topology p (lines_of script) states) is are;
+  report_is = made ∙ ap (λ b. report script b states) (written ∙ ap (λ h. h ++ text) empty);
 }
 
 pub run_of_plain : (topology script plain text : List ℕ) (totals : Totals) → plain ≡ plain_script script → IsTraceOf topology plain text totals
     → IsTraceOf topology (plain_script script) text totals
 run_of_plain topology script plain text totals is trace = subst (λ p. IsTraceOf topology p text totals) is trace
 
+-- one report of equal traces and states
+pub reports : (script t u : List ℕ) (xs ys : List (List ℕ)) → t ≡ u → xs ≡ ys → report script t xs ≡ report script u ys
+reports script t u xs ys e f = ap (λ b. report script b xs) e ∙ ap (report script u) f
+
+-- ---- states
+
+-- one more line's state
+pub one_more : (topology plain : List ℕ) (all lines rest : List (List ℕ)) (line state : List ℕ) (found new : List (List ℕ)) → lines ≡ line ∷ rest → IsStateFor topology plain line state
+    → new ≡ found ++ state ∷ [] → ((more : List (List ℕ)) → AreStates topology plain lines more → AreStates topology plain all (found ++ more))
+    → (more : List (List ℕ)) → AreStates topology plain rest more → AreStates topology plain all (new ++ more)
+one_more topology plain all lines rest line state found new split is made before more h =
+    let again : AreStates topology plain lines (state ∷ more) = subst (λ ls. AreStates topology plain ls (state ∷ more)) (sym split) (is, h) in
+    subst (λ xs. AreStates topology plain all xs) (sym (ap (λ n. n ++ more) made ∙ append_assoc found (state ∷ []) more)) (before (state ∷ more) again)
+
+-- the states of all lines
+pub no_more : (topology plain : List ℕ) (all lines : List (List ℕ)) (found : List (List ℕ)) → lines ≡ []
+    → ((more : List (List ℕ)) → AreStates topology plain lines more → AreStates topology plain all (found ++ more)) → AreStates topology plain all found
+no_more topology plain all lines found split before =
+    subst (λ xs. AreStates topology plain all xs) (append-nil found) (before [] (subst (λ ls. AreStates topology plain ls []) (sym split) refl))
+
+one_state : (topology plain : List ℕ) (form : Result Form ExpectCause) (x y : List ℕ) → IsStateOf topology plain form x → IsStateOf topology plain form y → x ≡ y
+one_state topology plain (Ok (State time device words)) x y h k =
+    let same = texts_have_one_trace topology (cut_script time plain) h.trace k.trace h.totals k.totals h.run k.run in
+    h.state_is ∙ ap (λ t. state_line t device) same.0 ∙ sym k.state_is
+one_state topology plain (Ok Other) x y h k = h ∙ sym k
+one_state topology plain (Ok (Rounds quantity window pattern)) x y h k = h ∙ sym k
+one_state topology plain (Ok (Refused name word)) x y h k = h ∙ sym k
+one_state topology plain (Err cause) x y h k = h ∙ sym k
+
+one_states : (topology plain : List ℕ) (lines xs ys : List (List ℕ)) → AreStates topology plain lines xs → AreStates topology plain lines ys → xs ≡ ys
+one_states topology plain [] xs ys h k = h ∙ sym k
+one_states topology plain (line ∷ lines) [] ys h k = absurd h
+one_states topology plain (line ∷ lines) (x ∷ xs) [] h k = absurd k
+one_states topology plain (line ∷ lines) (x ∷ xs) (y ∷ ys) h k =
+    ap (λ a. a ∷ xs) (one_state topology plain (form_in (behind_label (words_of line))) x y h.0 k.0) ∙ ap (λ zs. y ∷ zs) (one_states topology plain lines xs ys h.1 k.1)
+
+-- ---- one report
+
 one_report : (topology script : List ℕ) (r q : Report) → IsReportOf topology script r → IsReportOf topology script q → r ≡ q
 one_report topology script r q x y =
     let same = texts_have_one_trace topology (plain_script script) x.trace y.trace x.totals y.totals x.run y.run in
-    x.report_is ∙ ap (report script) same.0 ∙ sym y.report_is
+    let states : x.states ≡ y.states = one_states topology (plain_script script) (lines_of script) x.states y.states x.states_are y.states_are in
+    x.report_is ∙ ap (λ t. report script t x.states) same.0 ∙ ap (report script y.trace) states ∙ sym y.report_is
 
 pub tallies_count_verdicts : TalliesCountVerdicts
 tallies_count_verdicts topology script old new tally verdicts (r, is, counted, written) (q, other, are) =

@@ -1,2 +1,4 @@
 pub mod Checked
+pub mod Cuts
+pub mod Refusals
 pub mod Shown

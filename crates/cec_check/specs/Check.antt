@@ -1,10 +1,12 @@
 -- What a check of a script answers: its report by the trace of the plain script's run.
 use Rattle.std.specs.Prelude.{◌≡◌, ℕ, ◌<◌, not, Bool, true, false, List, length, filter, take, Option, Some, None, Result, Ok, Err}
 use Rattle.std.specs.Io.KnownBytes.{Appends}
+use Rattle.cec_words.specs.Lines.{lines_of}
 use Rattle.cec_expect.specs.Line.{plain_script}
 use Rattle.cec_expect.specs.Faults.{first_fault}
 use Rattle.cec_run.specs.Emulate.{IsTraceOf, IsTold}
 use Rattle.cec_run.specs.declared.run.Totals.{Totals}
+use Rattle.cec_check.specs.States.{AreStates}
 use Rattle.cec_check.specs.Report.{Report, report}
 use Rattle.cec_check.specs.declared.checking.Tally.{Tally}
 use Rattle.cec_check.specs.declared.checking.CheckError.{CheckError}
@@ -19,8 +21,10 @@ pub record IsReportOf (topology script : List ℕ) (r : Report) : Type 0 where
   pub trace : List ℕ
   pub totals : Totals
   pub run : IsTraceOf topology (plain_script script) trace totals
-  pub accepted : first_fault script ≡ None
-  pub report_is : r ≡ report script trace
+  pub accepted : first_fault topology script ≡ None
+  pub states : List (List ℕ)
+  pub states_are : AreStates topology (plain_script script) (lines_of script) states
+  pub report_is : r ≡ report script trace states
 
 -- the report is written
 abbrev pub IsChecked : List ℕ → List ℕ → Option (List ℕ) → Option (List ℕ) → Tally → Type 0
@@ -31,7 +35,7 @@ IsChecked topology script old new tally =
 -- Of memory nothing is said.
 abbrev pub IsCheckTold : List ℕ → List ℕ → CheckError → Type 0
 IsCheckTold topology script (Emulate error) = IsTold topology (plain_script script) error
-IsCheckTold topology script (Expect fault) = (trace : List ℕ) × (totals : Totals) × IsTraceOf topology (plain_script script) trace totals × (first_fault script ≡ Some fault)
+IsCheckTold topology script (Expect fault) = (trace : List ℕ) × (totals : Totals) × IsTraceOf topology (plain_script script) trace totals × (first_fault topology script ≡ Some fault)
 IsCheckTold topology script (Write count) = (r : Report) × IsReportOf topology script r
 IsCheckTold topology script Memory = Unit {0}
 

@@ -1,2 +1,4 @@
 pub mod Report
+pub mod States
+pub mod Cuts
 pub mod Check

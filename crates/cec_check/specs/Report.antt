@@ -7,7 +7,7 @@ use Rattle.cec_words.specs.Lines.{lines_of}
 use Rattle.cec_words.specs.Words.{words_of}
 use Rattle.cec_expect.specs.Line.{behind_label}
 use Rattle.cec_expect.specs.Form.{Form, form_in}
-use Rattle.cec_expect.specs.Form.Form.{Other, Rounds, Refused}
+use Rattle.cec_expect.specs.Form.Form.{Other, Rounds, State, Refused}
 use Rattle.cec_expect.specs.declared.form.ExpectCause.{ExpectCause}
 use Rattle.cec_judge.specs.Told.{EventLine, event_in, refusal_in}
 use Rattle.cec_judge.specs.Seen.{end_seen}
@@ -49,7 +49,7 @@ with_test r holds line front text = record {
   verdicts = r.verdicts ++ holds ∷ [];
 }
 
--- ---- what stands below a test of rounds that failed
+-- ---- what stands below a test that failed
 
 -- the first eight lines of rounds that are seen
 abbrev pub shown : List ℕ → Span → List ℕ → List (List ℕ)
@@ -69,14 +69,16 @@ abbrev pub span_remarks : List ℕ → List ℕ → ℕ → Option Span → List
 span_remarks trace pattern count None = codes "# no instant\n"
 span_remarks trace pattern count (Some span) = seen_line count span ++ shown_text trace span (if count == 0 then codes "*" else pattern)
 
-abbrev pub form_remarks : List ℕ → Judged → Result Form ExpectCause → List ℕ
-form_remarks trace j (Err cause) = []
-form_remarks trace j (Ok Other) = []
-form_remarks trace j (Ok (Rounds quantity window pattern)) = span_remarks trace pattern j.count j.span
-form_remarks trace j (Ok (Refused name word)) = []
+-- the state line, where a state was expected
+abbrev pub form_remarks : List ℕ → List ℕ → Judged → Result Form ExpectCause → List ℕ
+form_remarks trace state j (Err cause) = []
+form_remarks trace state j (Ok Other) = []
+form_remarks trace state j (Ok (Rounds quantity window pattern)) = span_remarks trace pattern j.count j.span
+form_remarks trace state j (Ok (State time device words)) = shown_line state
+form_remarks trace state j (Ok (Refused name word)) = []
 
-abbrev pub remarks : List ℕ → Judged → List ℕ → List ℕ
-remarks trace j line = form_remarks trace j (form_in (behind_label (words_of line)))
+abbrev pub remarks : List ℕ → List ℕ → Judged → List ℕ → List ℕ
+remarks trace state j line = form_remarks trace state j (form_in (behind_label (words_of line)))
 
 abbrev pub with_remarks : Report → Bool → List ℕ → Report
 with_remarks r true text = r
@@ -84,18 +86,19 @@ with_remarks r false text = record r { text = r.text ++ text }
 
 -- ---- lines of the script
 
-abbrev pub with_found : List ℕ → Report → ℕ → List ℕ → Judged → Option Bool → Report
-with_found trace r number line j None = r
-with_found trace r number line j (Some holds) = with_remarks (with_test r holds number [] line) holds (remarks trace j line)
+abbrev pub with_found : List ℕ → List ℕ → Report → ℕ → List ℕ → Judged → Option Bool → Report
+with_found trace state r number line j None = r
+with_found trace state r number line j (Some holds) = with_remarks (with_test r holds number [] line) holds (remarks trace state j line)
 
-abbrev pub with_line : List ℕ → Report → ℕ → List ℕ → Judged → Report
-with_line trace r number line j = with_found trace r number line j j.holds
+abbrev pub with_line : List ℕ → List ℕ → Report → ℕ → List ℕ → Judged → Report
+with_line trace state r number line j = with_found trace state r number line j j.holds
 
--- these lines, of which the first has this number, and what is found of them
-abbrev pub with_lines : List ℕ → Report → ℕ → List (List ℕ) → List Judged → Report
-with_lines trace r number [] js = r
-with_lines trace r number (line ∷ lines) [] = r
-with_lines trace r number (line ∷ lines) (j ∷ js) = with_lines trace (with_line trace r number line j) (number + 1) lines js
+-- these lines, of which the first has this number, the state line of each, and what is found of it
+abbrev pub with_lines : List ℕ → Report → ℕ → List (List ℕ) → List (List ℕ) → List Judged → Report
+with_lines trace r number [] states js = r
+with_lines trace r number (line ∷ lines) [] js = r
+with_lines trace r number (line ∷ lines) (state ∷ states) [] = r
+with_lines trace r number (line ∷ lines) (state ∷ states) (j ∷ js) = with_lines trace (with_line trace state r number line j) (number + 1) lines states js
 
 -- ---- refused events
 
@@ -123,6 +126,6 @@ plan_line count = concat (codes "1.." ∷ decimal count ∷ codes "\n" ∷ [])
 abbrev pub ended : Report → Report
 ended r = record r { text = r.text ++ plan_line (length r.verdicts) }
 
--- the report of a script, by the trace of its run
-abbrev pub report : List ℕ → List ℕ → Report
-report script trace = ended (with_refusals script (with_lines trace begun 1 (lines_of script) (judged script trace)) (lines_of trace))
+-- the report of a script, by the trace of its run and, of each line, the state line that it speaks of
+abbrev pub report : List ℕ → List ℕ → List (List ℕ) → Report
+report script trace states = ended (with_refusals script (with_lines trace begun 1 (lines_of script) states (judged script trace states)) (lines_of trace))

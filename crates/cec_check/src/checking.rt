@@ -5,6 +5,7 @@ ghost use Rattle.cec_check.specs.Report.{report_as};
 
 use crate::held::Held;
 use crate::report::{Draft, whole_report};
+use crate::states::all_states;
 use cec_expect::{ExpectFault, first_fault, plain_script};
 use cec_run::emulate::{EmulateError, emulate};
 use hdmi_core::{Sink, put_all};
@@ -74,11 +75,14 @@ fn report_of(alloc: Global, topology: &[u8], script: &[u8]) -> Result<Draft, Che
         Err(EmulateError::Write(_)) => return Err(CheckError::Memory),
         Err(error) => return Err(CheckError::Emulate(error)),
     }
-    match first_fault(script) {
+    match first_fault(topology, script) {
         Some(fault) => return Err(CheckError::Expect(fault)),
         None => {}
     }
-    match whole_report(alloc, script, &trace.bytes) {
+    let Ok(states) = all_states(alloc, topology, &plain, script) else {
+        return Err(CheckError::Memory);
+    };
+    match whole_report(alloc, script, &trace.bytes, &states) {
         Ok(report) => Ok(report),
         Err(_) => Err(CheckError::Memory),
     }

@@ -5,6 +5,7 @@ mod checking;
 mod held;
 mod laws;
 mod report;
+mod states;
 
 pub use checking::{CheckError, Tally, check, verdicts};
-pub use laws::tallies_count_verdicts;
+pub use laws::{cut_scripts_are_read, tallies_count_verdicts};

@@ -1,5 +1,5 @@
 //! The report of a script's expectations, by the trace of its run.
-ghost use Rattle.std.specs.Prelude.{◌≡◌, ◌++◌, ◌∷◌, [], ◌==◌, codes, if◌then◌else◌, OnOk, IfOk, Some, None, length};
+ghost use Rattle.std.specs.Prelude.{◌≡◌, ◌++◌, ◌∷◌, [], ◌==◌, codes, if◌then◌else◌, OnOk, IfOk, Some, None, length, map};
 ghost use Rattle.std.specs.List.{flat_map};
 ghost use Rattle.std.specs.Option.{option_map};
 ghost use Rattle.hdmi_core.specs.Piece.{piece_text};
@@ -104,6 +104,16 @@ fn add_test(
     Ok(())
 }
 
+// Appends a line of a trace.
+fn append_shown_line(out: &mut Held, line: &[u8]) -> Result<(), AllocError>
+    ensures { OnOk result (out.new.bytes.items ≡ out.old.bytes.items ++ shown_line line.now) }
+{
+    append(
+        out,
+        &[Piece::Text("# "), Piece::Bytes(line), Piece::Text("\n")],
+    )
+}
+
 // Appends the first eight lines of rounds that are seen.
 fn append_shown(out: &mut Held, trace: &[u8], span: Span, pattern: &[u8]) -> Result<(), AllocError>
     ensures { OnOk result (out.new.bytes.items ≡ out.old.bytes.items ++ shown_text trace.now span pattern.now) }
@@ -115,10 +125,7 @@ fn append_shown(out: &mut Held, trace: &[u8], span: Span, pattern: &[u8]) -> Res
             return Ok(());
         }
         if end_seen(span, pattern, line).is_some() {
-            append(
-                out,
-                &[Piece::Text("# "), Piece::Bytes(line), Piece::Text("\n")],
-            )?;
+            append_shown_line(out, line)?;
             left -= 1;
         }
         rest = after;
@@ -165,16 +172,18 @@ fn append_span(
 fn append_remarks(
     out: &mut Held,
     trace: &[u8],
+    state: &[u8],
     judged: &Judged,
     line: &[u8],
 ) -> Result<(), AllocError>
-    ensures { OnOk result (out.new.bytes.items ≡ out.old.bytes.items ++ remarks trace.now judged.now line.now) }
+    ensures { OnOk result (out.new.bytes.items ≡ out.old.bytes.items ++ remarks trace.now state.now judged.now line.now) }
 {
     match form_in(unlabelled(line).rest) {
         Err(_) => Ok(()),
         Ok(form) => match form {
             Form::Other => Ok(()),
             Form::Refused { .. } => Ok(()),
+            Form::State { .. } => append_shown_line(out, state),
             Form::Rounds { pattern, .. } => {
                 append_span(out, trace, pattern, judged.count, judged.span)
             }
@@ -186,11 +195,12 @@ fn append_remarks(
 fn add_line(
     draft: &mut Draft,
     trace: &[u8],
+    state: &[u8],
     number: u64,
     line: &[u8],
     judged: &Judged,
 ) -> Result<(), AllocError>
-    ensures { OnOk result (report_as draft.new ≡ with_line trace.now (report_as draft.old) number line.now judged.now) }
+    ensures { OnOk result (report_as draft.new ≡ with_line trace.now state.now (report_as draft.old) number line.now judged.now) }
 {
     let Some(holds) = judged.holds else {
         return Ok(());
@@ -199,7 +209,7 @@ fn add_line(
     if holds {
         return Ok(());
     }
-    append_remarks(&mut draft.text, trace, judged, line)
+    append_remarks(&mut draft.text, trace, state, judged, line)
 }
 
 // Appends the tests of the lines of a script.
@@ -207,19 +217,25 @@ fn add_lines(
     draft: &mut Draft,
     script: &[u8],
     trace: &[u8],
+    states: &[Vec<u8>],
     judged: &[Judged],
 ) -> Result<(), AllocError>
-    ensures { OnOk result (report_as draft.new ≡ with_lines trace.now (report_as draft.old) 1 (lines_of script.now) judged.now) }
+    ensures { OnOk result (report_as draft.new ≡ with_lines trace.now (report_as draft.old) 1 (lines_of script.now) (map (λ state. state.items) states.now) judged.now) }
 {
     let mut rest = script;
+    let mut left = states;
     let mut found = judged;
     let mut number = 1u64;
     'lines: while let Some((line, after)) = first_line(rest) {
+        let [state, later @ ..] = left else {
+            return Ok(());
+        };
         let [judged, others @ ..] = found else {
             return Ok(());
         };
-        add_line(draft, trace, number, line, judged)?;
+        add_line(draft, trace, state, number, line, judged)?;
         rest = after;
+        left = later;
         found = others;
         number += 1;
     }
@@ -281,13 +297,18 @@ fn begun(alloc: Global) -> Result<Draft, AllocError>
     })
 }
 
-/// The report of a script, by the trace of its run.
-pub(crate) fn whole_report(alloc: Global, script: &[u8], trace: &[u8]) -> Result<Draft, AllocError>
-    ensures { IfOk result (λ draft. report_as draft ≡ report script.now trace.now) }
+/// The report of a script, by the trace of its run and, of each line, the state line that it speaks of.
+pub(crate) fn whole_report(
+    alloc: Global,
+    script: &[u8],
+    trace: &[u8],
+    states: &[Vec<u8>],
+) -> Result<Draft, AllocError>
+    ensures { IfOk result (λ draft. report_as draft ≡ report script.now trace.now (map (λ state. state.items) states.now)) }
 {
-    let found = all_judged(alloc, script, trace)?;
+    let found = all_judged(alloc, script, trace, states)?;
     let mut draft = begun(alloc)?;
-    add_lines(&mut draft, script, trace, &found)?;
+    add_lines(&mut draft, script, trace, states, &found)?;
     add_refusals(&mut draft, script, trace)?;
     add_plan(&mut draft)?;
     Ok(draft)

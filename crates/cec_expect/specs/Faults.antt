@@ -1,15 +1,18 @@
 -- Labels of a script, and its first line at fault (own). Lines count from 1. A label is a word that is not empty, stands on one
--- line alone, and above those that name it; of a refusal it is an event's. A window does not end before it begins.
-use Rattle.std.specs.Prelude.{ℕ, ◌+◌, ◌==◌, nat_lt, ◌&&◌, Bool, true, false, if◌then◌else◌, length, List, [], ◌∷◌, Option, Some, None, Result, Ok, Err}
+-- line alone, and above those that name it; of a refusal it is an event's. A window does not end before it begins. The device of
+-- a state is one of the topology, and its time is not past the end.
+use Rattle.std.specs.Prelude.{ℕ, ◌+◌, ◌==◌, nat_lt, ◌&&◌, not, codes, Bool, true, false, if◌then◌else◌, length, List, [], ◌∷◌, Option, Some, None, Result, Ok, Err}
 use Rattle.std.specs.Str.{bytes_eq}
+use Rattle.std.specs.List.{list_any}
 use Rattle.cec_words.specs.Lines.{lines_of}
 use Rattle.cec_words.specs.Words.{words_of}
+use Rattle.cec_words.specs.Number.{number_of}
 use Rattle.cec_expect.specs.Line.{label_in, behind_label, is_event}
 use Rattle.cec_expect.specs.Form.{Form, Window, form_in}
-use Rattle.cec_expect.specs.Form.Form.{Other, Rounds, Refused}
+use Rattle.cec_expect.specs.Form.Form.{Other, Rounds, State, Refused}
 use Rattle.cec_expect.specs.Form.Window.{Within, From}
 use Rattle.cec_expect.specs.declared.form.ExpectCause.{ExpectCause}
-use Rattle.cec_expect.specs.declared.form.ExpectCause.TheVariants.{Label, Order}
+use Rattle.cec_expect.specs.declared.form.ExpectCause.TheVariants.{Name, Label, Order}
 use Rattle.cec_expect.specs.declared.faults.ExpectFault.{ExpectFault}
 
 abbrev pub is_named : List ℕ → Option (List ℕ) → Bool
@@ -51,6 +54,34 @@ abbrev pub is_own_label : List ℕ → ℕ → Option (List ℕ) → Bool
 is_own_label script number None = true
 is_own_label script number (Some name) = nat_lt 0 (length name) && is_line number (labelled script name)
 
+-- ---- states
+
+-- `device NAME ..`
+abbrev pub declared_in : List (List ℕ) → Option (List ℕ)
+declared_in [] = None
+declared_in (verb ∷ []) = None
+declared_in (verb ∷ name ∷ words) = if bytes_eq verb (codes "device") then Some name else None
+
+-- a line of the topology declares this device
+abbrev pub is_declared : List ℕ → List ℕ → Bool
+is_declared topology name = list_any (λ line. is_named name (declared_in (words_of line))) (lines_of topology)
+
+-- `end T`
+abbrev pub end_in : List (List ℕ) → Option ℕ
+end_in [] = None
+end_in (verb ∷ []) = None
+end_in (verb ∷ time ∷ words) = if bytes_eq verb (codes "end") then number_of time else None
+
+abbrev pub is_past : ℕ → Option ℕ → Bool
+is_past time None = false
+is_past time (Some end) = nat_lt end time
+
+-- the script ends before this time
+abbrev pub ends_before : List ℕ → ℕ → Bool
+ends_before script time = list_any (λ line. is_past time (end_in (behind_label (words_of line)))) (lines_of script)
+
+-- ---- lines at fault
+
 abbrev pub window_fault : List ℕ → ℕ → Window → Option ExpectCause
 window_fault script number (Within duration name) = if is_above number (labelled script name) then None else Some Label
 window_fault script number (From from to) = if nat_lt to from then Some Order else None
@@ -58,24 +89,35 @@ window_fault script number (From from to) = if nat_lt to from then Some Order el
 abbrev pub form_fault : List ℕ → ℕ → Form → Option ExpectCause
 form_fault script number Other = None
 form_fault script number (Rounds quantity window pattern) = window_fault script number window
+form_fault script number (State time device words) = if ends_before script time then Some Order else None
 form_fault script number (Refused name word) = if is_above number (event_labelled script name) then None else Some Label
 
-abbrev pub fault_by : List ℕ → ℕ → Option (List ℕ) → Result Form ExpectCause → Option ExpectCause
-fault_by script number label (Err cause) = Some cause
-fault_by script number label (Ok form) = if is_own_label script number label then form_fault script number form else Some Label
+-- it names a device that is not declared
+abbrev pub is_strange : List ℕ → Form → Bool
+is_strange topology Other = false
+is_strange topology (Rounds quantity window pattern) = false
+is_strange topology (State time device words) = not (is_declared topology device)
+is_strange topology (Refused name word) = false
+
+abbrev pub fault_by : List ℕ → List ℕ → ℕ → Option (List ℕ) → Result Form ExpectCause → Option ExpectCause
+fault_by topology script number label (Err cause) = Some cause
+fault_by topology script number label (Ok form) =
+    if is_strange topology form then Some Name
+    else if is_own_label script number label then form_fault script number form
+    else Some Label
 
 -- why a line is refused
-abbrev pub line_fault : List ℕ → ℕ → List ℕ → Option ExpectCause
-line_fault script number line = fault_by script number (label_in (words_of line)) (form_in (behind_label (words_of line)))
+abbrev pub line_fault : List ℕ → List ℕ → ℕ → List ℕ → Option ExpectCause
+line_fault topology script number line = fault_by topology script number (label_in (words_of line)) (form_in (behind_label (words_of line)))
 
 abbrev pub fault_or : ℕ → Option ExpectCause → Option ExpectFault → Option ExpectFault
 fault_or number None next = next
 fault_or number (Some cause) next = Some (record { line = number; cause = cause })
 
 -- the first line at fault of these, of which the first has this number
-abbrev pub faults_from : List ℕ → ℕ → List (List ℕ) → Option ExpectFault
-faults_from script number [] = None
-faults_from script number (line ∷ lines) = fault_or number (line_fault script number line) (faults_from script (number + 1) lines)
+abbrev pub faults_from : List ℕ → List ℕ → ℕ → List (List ℕ) → Option ExpectFault
+faults_from topology script number [] = None
+faults_from topology script number (line ∷ lines) = fault_or number (line_fault topology script number line) (faults_from topology script (number + 1) lines)
 
-abbrev pub first_fault : List ℕ → Option ExpectFault
-first_fault script = faults_from script 1 (lines_of script)
+abbrev pub first_fault : List ℕ → List ℕ → Option ExpectFault
+first_fault topology script = faults_from topology script 1 (lines_of script)

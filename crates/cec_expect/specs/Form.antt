@@ -1,9 +1,10 @@
--- What the line of an expectation says (own): `expect HOW WINDOW PATTERN` or `expect refused NAME WORD`, where HOW is nothing,
--- `none` or `once`, and WINDOW is `within D of NAME` or `from T to U`. Times are in microseconds.
-use Rattle.std.specs.Prelude.{◌≡◌, ℕ, ◌==◌, nat_lt, nat_le, ◌&&◌, not, Bool, if◌then◌else◌, codes, length, filter, List, [], ◌∷◌, Option, Some, None, Result, Ok, Err}
+-- What the line of an expectation says (own): `expect HOW WINDOW PATTERN`, `expect state T DEVICE WORD..` or `expect refused NAME
+-- WORD`, where HOW is nothing, `none` or `once`, and WINDOW is `within D of NAME` or `from T to U`. Times are in microseconds.
+use Rattle.std.specs.Prelude.{◌≡◌, ℕ, ◌≤◌, ◌==◌, nat_lt, nat_le, ◌&&◌, not, Bool, if◌then◌else◌, codes, length, filter, List, [], ◌∷◌, Option, Some, None, Result, Ok, Err}
 use Rattle.std.specs.Str.{bytes_eq}
+use Rattle.std.specs.List.{list_all}
 use Rattle.cec_words.specs.Number.{number_of}
-use Rattle.cec_words.specs.Words.{text_of, two_of}
+use Rattle.cec_words.specs.Words.{words_of, text_of, two_of}
 use Rattle.cec_expect.specs.declared.form.ExpectCause.{ExpectCause}
 use Rattle.cec_expect.specs.declared.form.ExpectCause.TheVariants.{Word, Number}
 use Rattle.cec_expect.specs.declared.form.Quantity.{Quantity}
@@ -19,10 +20,11 @@ pub data Window : Type 0 where
   Within : ℕ → List ℕ → Window
   From : ℕ → ℕ → Window
 
--- a line that is no expectation, one of rounds, or one of an event that is refused with a word
+-- a line that is no expectation, one of rounds, one of a device's state at a time, or one of an event that is refused with a word
 pub data Form : Type 0 where
   Other : Form
   Rounds : Quantity → Window → List ℕ → Form
+  State : ℕ → List ℕ → List (List ℕ) → Form
   Refused : List ℕ → List ℕ → Form
 
 -- ---- without where the texts lie in memory
@@ -34,6 +36,7 @@ window_of (windows.From from to) = From from to
 abbrev pub form_as : FormRead → Form
 form_as forms.Other = Other
 form_as (forms.Rounds quantity window pattern) = Rounds quantity (window_of window) pattern.now
+form_as (forms.State time device words) = State time device.now (words_of words.now)
 form_as (forms.Refused label word) = Refused label.now word.now
 
 -- ---- patterns
@@ -89,6 +92,23 @@ rounds_by quantity (Some parts) =
 abbrev pub rounds_in : Quantity → List (List ℕ) → Result Form ExpectCause
 rounds_in quantity words = rounds_by quantity (parts_in words)
 
+-- ---- expectations of states: times as in scripts, at most 1,000,000,000,000 microseconds
+
+-- no word is empty
+abbrev pub are_words : List (List ℕ) → Bool
+are_words words = list_all (λ word. nat_lt 0 (length word)) words
+
+abbrev pub timed : Option ℕ → List ℕ → List (List ℕ) → Result Form ExpectCause
+timed None device words = Err Number
+timed (Some time) device words = if nat_lt 1000000000000 time then Err Number else Ok (State time device words)
+
+-- a time, a device, and at least one word
+abbrev pub state_in : List (List ℕ) → Result Form ExpectCause
+state_in [] = Err Word
+state_in (time ∷ []) = Err Word
+state_in (time ∷ device ∷ []) = Err Word
+state_in (time ∷ device ∷ word ∷ words) = if are_words (word ∷ words) then timed (number_of time) device (word ∷ words) else Err Word
+
 -- ---- all
 
 abbrev pub refused_by : Option (List ℕ × List ℕ) → Result Form ExpectCause
@@ -100,6 +120,7 @@ abbrev pub expectation_in : List (List ℕ) → Result Form ExpectCause
 expectation_in [] = Err Word
 expectation_in (how ∷ words) =
     if bytes_eq how (codes "refused") then refused_by (two_of words)
+    else if bytes_eq how (codes "state") then state_in words
     else if bytes_eq how (codes "none") then rounds_in Never words
     else if bytes_eq how (codes "once") then rounds_in Once words
     else rounds_in AtLeastOnce (how ∷ words)
@@ -108,6 +129,13 @@ expectation_in (how ∷ words) =
 abbrev pub form_in : List (List ℕ) → Result Form ExpectCause
 form_in [] = Err Word
 form_in (verb ∷ words) = if bytes_eq verb (codes "expect") then expectation_in words else Ok Other
+
+-- the time of a state is at most 1,000,000,000,000
+abbrev pub IsEarly : FormRead → Type 0
+IsEarly forms.Other = Unit {0}
+IsEarly (forms.Rounds quantity window pattern) = Unit {0}
+IsEarly (forms.State time device words) = time ≤ 1000000000000
+IsEarly (forms.Refused label word) = Unit {0}
 
 -- what is read is what the words say
 abbrev pub IsForm : Result Form ExpectCause → Result FormRead ExpectCause → Type 0

@@ -1,8 +1,10 @@
 -- Lines of a script with labels and expectations (own): `label NAME` may stand before a line.
-use Rattle.std.specs.Prelude.{ℕ, Bool, false, if◌then◌else◌, codes, List, [], ◌∷◌, ◌++◌, Option, Some, None}
+use Rattle.std.specs.Prelude.{ℕ, nat_lt, Bool, false, if◌then◌else◌, codes, List, [], ◌∷◌, ◌++◌, Option, Some, None}
 use Rattle.std.specs.Str.{bytes_eq}
+use Rattle.std.specs.Fmt.{decimal}
 use Rattle.std.specs.List.{flat_map}
-use Rattle.cec_words.specs.Lines.{lines_of}
+use Rattle.cec_words.specs.Lines.{lines_of, is_skipped}
+use Rattle.cec_words.specs.Number.{number_of}
 use Rattle.cec_words.specs.Words.{words_of, text_of}
 
 abbrev pub first_of : List (List ℕ) → Option (List ℕ)
@@ -45,3 +47,27 @@ plain_line line = plain_words (behind_label (words_of line)) ++ 10 ∷ []
 -- The script without labels and expectations, line for line: the line of an expectation is empty.
 abbrev pub plain_script : List ℕ → List ℕ
 plain_script script = flat_map plain_line (lines_of script)
+
+-- ---- a script that ends earlier
+
+abbrev pub is_sooner : ℕ → Option ℕ → Bool
+is_sooner time None = false
+is_sooner time (Some at) = nat_lt at time
+
+-- `at U ..`, where U is before this time
+abbrev pub is_before : ℕ → List (List ℕ) → Bool
+is_before time [] = false
+is_before time (verb ∷ []) = false
+is_before time (verb ∷ at ∷ words) = is_sooner time (number_of at)
+
+-- an event at this time or later is left out, and the end is at this time; pulses and comments are kept
+abbrev pub cut_line : ℕ → List ℕ → List ℕ
+cut_line time line =
+    if is_skipped line then line
+    else if is_event (words_of line) then (if is_before time (words_of line) then line else [])
+    else if has_verb (codes "end") (words_of line) then codes "end " ++ decimal time
+    else line
+
+-- a plain script that ends at a time, line for line
+abbrev pub cut_script : ℕ → List ℕ → List ℕ
+cut_script time script = flat_map (λ line. cut_line time line ++ 10 ∷ []) (lines_of script)

@@ -1,14 +1,16 @@
 //! Labels of a script, and its first line at fault.
 ghost use Rattle.std.specs.Prelude.{◌≡◌, ◌&&◌, if◌then◌else◌, true, false};
+ghost use Rattle.std.specs.List.{list_any};
 ghost use Rattle.std.specs.Option.{option_copied};
 ghost use Rattle.cec_words.specs.Lines.{lines_of};
-ghost use Rattle.cec_words.specs.Words.{words_of};
+ghost use Rattle.cec_words.specs.Words.{words_behind, words_of};
 ghost use Rattle.cec_expect.specs.Form.{form_as, window_of};
-ghost use Rattle.cec_expect.specs.Faults.{event_labelled, first_fault, form_fault, has_label, is_above, is_event_line, is_line, is_own_label, labelled, labelled_from, line_fault, window_fault};
+ghost use Rattle.cec_expect.specs.Line.{behind_label};
+ghost use Rattle.cec_expect.specs.Faults.{declared_in, end_in, ends_before, event_labelled, first_fault, form_fault, has_label, is_above, is_declared, is_event_line, is_line, is_named, is_own_label, is_past, is_strange, labelled, labelled_from, line_fault, window_fault};
 
 use crate::form::{ExpectCause, Form, Window, form_in};
 use crate::line::{has_verb, unlabelled};
-use cec_words::first_line;
+use cec_words::{first_line, first_word, number_in};
 use thiserror::Error;
 
 /// The first line of a script at fault, counted from 1, and why.
@@ -96,6 +98,75 @@ fn is_own_label(script: &[u8], number: u64, label: Option<&[u8]>) -> bool
     }
 }
 
+// The device that a line of a topology declares.
+fn declared_in(line: &[u8]) -> Option<&[u8]>
+    ensures { option_copied result ≡ declared_in (words_of line.now) }
+{
+    let (verb, rest) = first_word(line);
+    let (name, _others) = first_word(rest?);
+    if verb == b"device".as_slice() {
+        Some(name)
+    } else {
+        None
+    }
+}
+
+fn declares(name: &[u8], line: &[u8]) -> bool
+    ensures { result ≡ is_named name.now (declared_in (words_of line.now)) }
+{
+    match declared_in(line) {
+        None => false,
+        Some(declared) => declared == name,
+    }
+}
+
+fn is_declared(topology: &[u8], name: &[u8]) -> bool
+    ensures { result ≡ is_declared topology.now name.now }
+{
+    let mut rest = topology;
+    'lines: while let Some((line, after)) = first_line(rest) {
+        if declares(name, line) {
+            return true;
+        }
+        rest = after;
+    }
+    false
+}
+
+fn end_in(rest: Option<&[u8]>) -> Option<u64>
+    ensures { result ≡ end_in (words_behind (option_copied rest.entry)) }
+{
+    let (verb, rest) = first_word(rest?);
+    let (time, _others) = first_word(rest?);
+    if verb == b"end".as_slice() {
+        number_in(time)
+    } else {
+        None
+    }
+}
+
+fn is_past(time: u64, line: &[u8]) -> bool
+    ensures { result ≡ is_past time (end_in (behind_label (words_of line.now))) }
+{
+    match end_in(unlabelled(line).rest) {
+        None => false,
+        Some(end) => end < time,
+    }
+}
+
+fn ends_before(script: &[u8], time: u64) -> bool
+    ensures { result ≡ ends_before script.now time }
+{
+    let mut rest = script;
+    'lines: while let Some((line, after)) = first_line(rest) {
+        if is_past(time, line) {
+            return true;
+        }
+        rest = after;
+    }
+    false
+}
+
 fn window_fault(script: &[u8], number: u64, window: Window) -> Option<ExpectCause>
     ensures { result ≡ window_fault script.now number (window_of window.entry) }
 {
@@ -123,6 +194,13 @@ fn form_fault(script: &[u8], number: u64, form: Form) -> Option<ExpectCause>
     match form {
         Form::Other => None,
         Form::Rounds { window, .. } => window_fault(script, number, window),
+        Form::State { time, .. } => {
+            if ends_before(script, time) {
+                Some(ExpectCause::Order)
+            } else {
+                None
+            }
+        }
         Form::Refused { label, .. } => {
             if is_above(number, event_labelled(script, label)) {
                 None
@@ -133,14 +211,28 @@ fn form_fault(script: &[u8], number: u64, form: Form) -> Option<ExpectCause>
     }
 }
 
-fn line_fault(script: &[u8], number: u64, line: &[u8]) -> Option<ExpectCause>
-    ensures { result ≡ line_fault script.now number line.now }
+// Whether a form names a device that is not declared.
+fn is_strange(topology: &[u8], form: Form) -> bool
+    ensures { result ≡ is_strange topology.now (form_as form.entry) }
+{
+    match form {
+        Form::Other => false,
+        Form::Rounds { .. } => false,
+        Form::State { device, .. } => !is_declared(topology, device),
+        Form::Refused { .. } => false,
+    }
+}
+
+fn line_fault(topology: &[u8], script: &[u8], number: u64, line: &[u8]) -> Option<ExpectCause>
+    ensures { result ≡ line_fault topology.now script.now number line.now }
 {
     let line = unlabelled(line);
     match form_in(line.rest) {
         Err(cause) => Some(cause),
         Ok(form) => {
-            if is_own_label(script, number, line.label) {
+            if is_strange(topology, form) {
+                Some(ExpectCause::Name)
+            } else if is_own_label(script, number, line.label) {
                 form_fault(script, number, form)
             } else {
                 Some(ExpectCause::Label)
@@ -149,14 +241,14 @@ fn line_fault(script: &[u8], number: u64, line: &[u8]) -> Option<ExpectCause>
     }
 }
 
-/// The first line of a script whose label or expectation is at fault.
-pub fn first_fault(script: &[u8]) -> Option<ExpectFault>
-    ensures { result ≡ first_fault script.now }
+/// The first line of a script for a topology whose label or expectation is at fault.
+pub fn first_fault(topology: &[u8], script: &[u8]) -> Option<ExpectFault>
+    ensures { result ≡ first_fault topology.now script.now }
 {
     let mut rest = script;
     let mut number = 1u64;
     'lines: while let Some((line, after)) = first_line(rest) {
-        if let Some(cause) = line_fault(script, number, line) {
+        if let Some(cause) = line_fault(topology, script, number, line) {
             return Some(ExpectFault {
                 line: number,
                 cause,

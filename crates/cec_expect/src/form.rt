@@ -1,9 +1,9 @@
 //! What the line of an expectation says.
-ghost use Rattle.std.specs.Prelude.{◌≡◌, ◌≤◌, ◌+◌, length, Some};
+ghost use Rattle.std.specs.Prelude.{◌≡◌, ◌≤◌, ◌+◌, length, Some, IfOk};
 ghost use Rattle.std.specs.Option.{option_copied, option_map};
-ghost use Rattle.cec_words.specs.Words.{words_behind};
+ghost use Rattle.cec_words.specs.Words.{words_behind, words_of};
 ghost use Rattle.cec_words.specs.Number.{number_of};
-ghost use Rattle.cec_expect.specs.Form.{IsForm, between, expectation_in, form_in, is_pattern, is_window, parts_as, parts_in, refused_by, rounds_by, rounds_in, stars, within};
+ghost use Rattle.cec_expect.specs.Form.{IsEarly, IsForm, are_words, between, expectation_in, form_in, is_pattern, is_window, parts_as, parts_in, refused_by, rounds_by, rounds_in, stars, state_in, timed, within};
 ghost use Rattle.cec_words.specs.Words.{two_of};
 
 use cec_words::{first_word, number_in, two_words};
@@ -12,19 +12,26 @@ use thiserror::Error;
 /// Why the line of a label or an expectation is refused: the first of these that applies.
 #[derive(Clone, Copy, Debug, Drop, PartialEq, Eq, Error)]
 pub enum ExpectCause {
-    /// No such expectation; a pattern of more than 160 bytes or with more than four `*`; nothing after a label.
+    /// No such expectation; a pattern of more than 160 bytes or with more than four `*`; no words of a state, or an empty
+    /// one; nothing after a label.
     #[error("word")]
     Word,
-    /// No number.
+    /// No number, or a state's time past 1,000,000,000,000.
     #[error("number")]
     Number,
+    /// A device that the topology does not declare.
+    #[error("name")]
+    Name,
     /// A label that stands above already; one that no line above has; for a refusal, one that is no event's.
     #[error("label")]
     Label,
-    /// The window ends before it begins.
+    /// The window ends before it begins, or the time of a state is past the end.
     #[error("order")]
     Order,
 }
+
+/// Times of states are at most this many microseconds, as those of scripts.
+const LATEST: u64 = 1_000_000_000_000;
 
 /// How often a round is expected.
 #[derive(Clone, Copy, Debug, PartialEq, Eq)]
@@ -53,6 +60,12 @@ pub enum Form<'a> {
         quantity: Quantity,
         window: Window<'a>,
         pattern: &'a [u8],
+    },
+    /// The words are among those of the device's state line, had the run ended at this time.
+    State {
+        time: u64,
+        device: &'a [u8],
+        words: &'a [u8],
     },
     /// The event with the label is refused with the word.
     Refused {
@@ -113,7 +126,8 @@ fn is_window(kind: &[u8], joint: &[u8], parts: &Parts) -> bool
 }
 
 fn within<'a>(quantity: Quantity, parts: &Parts<'a>) -> Result<Form<'a>, ExpectCause>
-    ensures { IsForm (within quantity (number_of parts.now.first.now) (parts_as parts.now)) result }
+    ensures is { IsForm (within quantity (number_of parts.now.first.now) (parts_as parts.now)) result }
+    ensures early { IfOk result IsEarly }
 {
     let Some(duration) = number_in(parts.first) else {
         return Err(ExpectCause::Number);
@@ -129,7 +143,8 @@ fn within<'a>(quantity: Quantity, parts: &Parts<'a>) -> Result<Form<'a>, ExpectC
 }
 
 fn between<'a>(quantity: Quantity, parts: &Parts<'a>) -> Result<Form<'a>, ExpectCause>
-    ensures { IsForm (between quantity (number_of parts.now.first.now) (number_of parts.now.second.now) (parts_as parts.now)) result }
+    ensures is { IsForm (between quantity (number_of parts.now.first.now) (number_of parts.now.second.now) (parts_as parts.now)) result }
+    ensures early { IfOk result IsEarly }
 {
     let Some(from) = number_in(parts.first) else {
         return Err(ExpectCause::Number);
@@ -145,7 +160,8 @@ fn between<'a>(quantity: Quantity, parts: &Parts<'a>) -> Result<Form<'a>, Expect
 }
 
 fn rounds_by<'a>(quantity: Quantity, parts: &Parts<'a>) -> Result<Form<'a>, ExpectCause>
-    ensures { IsForm (rounds_by quantity (Some (parts_as parts.now))) result }
+    ensures is { IsForm (rounds_by quantity (Some (parts_as parts.now))) result }
+    ensures early { IfOk result IsEarly }
 {
     if !is_pattern(parts.pattern) {
         Err(ExpectCause::Word)
@@ -159,7 +175,8 @@ fn rounds_by<'a>(quantity: Quantity, parts: &Parts<'a>) -> Result<Form<'a>, Expe
 }
 
 fn rounds_in<'a>(quantity: Quantity, rest: Option<&'a [u8]>) -> Result<Form<'a>, ExpectCause>
-    ensures { IsForm (rounds_in quantity (words_behind (option_copied rest.entry))) result }
+    ensures is { IsForm (rounds_in quantity (words_behind (option_copied rest.entry))) result }
+    ensures early { IfOk result IsEarly }
 {
     match parts_in(rest) {
         None => Err(ExpectCause::Word),
@@ -167,8 +184,67 @@ fn rounds_in<'a>(quantity: Quantity, rest: Option<&'a [u8]>) -> Result<Form<'a>,
     }
 }
 
+// Whether no word of a text is empty.
+fn are_words(text: &[u8]) -> bool
+    ensures { result ≡ are_words (words_of text.now) }
+{
+    let mut rest = Some(text);
+    'words: while let Some(words) = rest {
+        let (word, others) = first_word(words);
+        if word.is_empty() {
+            return false;
+        }
+        rest = others;
+    }
+    true
+}
+
+fn timed<'a>(time: &[u8], device: &'a [u8], words: &'a [u8]) -> Result<Form<'a>, ExpectCause>
+    ensures is { IsForm (timed (number_of time.now) device.now (words_of words.now)) result }
+    ensures early { IfOk result IsEarly }
+{
+    match number_in(time) {
+        None => Err(ExpectCause::Number),
+        Some(time) => {
+            if time > LATEST {
+                Err(ExpectCause::Number)
+            } else {
+                Ok(Form::State {
+                    time,
+                    device,
+                    words,
+                })
+            }
+        }
+    }
+}
+
+fn state_in<'a>(rest: Option<&'a [u8]>) -> Result<Form<'a>, ExpectCause>
+    ensures is { IsForm (state_in (words_behind (option_copied rest.entry))) result }
+    ensures early { IfOk result IsEarly }
+{
+    let Some(text) = rest else {
+        return Err(ExpectCause::Word);
+    };
+    let (time, rest) = first_word(text);
+    let Some(text) = rest else {
+        return Err(ExpectCause::Word);
+    };
+    let (device, rest) = first_word(text);
+    let Some(words) = rest else {
+        return Err(ExpectCause::Word);
+    };
+    let (_word, _words) = first_word(words);
+    if are_words(words) {
+        timed(time, device, words)
+    } else {
+        Err(ExpectCause::Word)
+    }
+}
+
 fn refused_in<'a>(rest: Option<&'a [u8]>) -> Result<Form<'a>, ExpectCause>
-    ensures { IsForm (refused_by (two_of (words_behind (option_copied rest.entry)))) result }
+    ensures is { IsForm (refused_by (two_of (words_behind (option_copied rest.entry)))) result }
+    ensures early { IfOk result IsEarly }
 {
     match two_words(rest) {
         None => Err(ExpectCause::Word),
@@ -177,7 +253,8 @@ fn refused_in<'a>(rest: Option<&'a [u8]>) -> Result<Form<'a>, ExpectCause>
 }
 
 fn expectation_in<'a>(rest: Option<&'a [u8]>) -> Result<Form<'a>, ExpectCause>
-    ensures { IsForm (expectation_in (words_behind (option_copied rest.entry))) result }
+    ensures is { IsForm (expectation_in (words_behind (option_copied rest.entry))) result }
+    ensures early { IfOk result IsEarly }
 {
     let Some(text) = rest else {
         return Err(ExpectCause::Word);
@@ -185,6 +262,8 @@ fn expectation_in<'a>(rest: Option<&'a [u8]>) -> Result<Form<'a>, ExpectCause>
     let (how, others) = first_word(text);
     if how == b"refused".as_slice() {
         refused_in(others)
+    } else if how == b"state".as_slice() {
+        state_in(others)
     } else if how == b"none".as_slice() {
         rounds_in(Quantity::Never, others)
     } else if how == b"once".as_slice() {
@@ -200,7 +279,8 @@ fn expectation_in<'a>(rest: Option<&'a [u8]>) -> Result<Form<'a>, ExpectCause>
 ///
 /// The first cause.
 pub fn form_in<'a>(rest: Option<&'a [u8]>) -> Result<Form<'a>, ExpectCause>
-    ensures { IsForm (form_in (words_behind (option_copied rest.entry))) result }
+    ensures is { IsForm (form_in (words_behind (option_copied rest.entry))) result }
+    ensures early { IfOk result IsEarly }
 {
     let Some(text) = rest else {
         return Err(ExpectCause::Word);

@@ -8,5 +8,5 @@ mod pattern;
 
 pub use faults::{ExpectFault, event_labelled, first_fault, labelled};
 pub use form::{ExpectCause, Form, Quantity, Window, form_in};
-pub use line::{Labelled, plain_script, unlabelled};
+pub use line::{Labelled, cut_script, plain_script, unlabelled};
 pub use pattern::fits;

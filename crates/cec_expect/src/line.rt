@@ -1,10 +1,11 @@
 //! Lines of a script with labels and expectations.
-ghost use Rattle.std.specs.Prelude.{◌≡◌, ◌++◌, ◌∷◌, [], OnOk, IfOk};
+ghost use Rattle.std.specs.Prelude.{◌≡◌, ◌++◌, ◌∷◌, [], codes, if◌then◌else◌, OnOk, IfOk};
+ghost use Rattle.std.specs.Fmt.{decimal};
 ghost use Rattle.std.specs.Option.{option_copied};
 ghost use Rattle.cec_words.specs.Words.{words_behind, words_of};
-ghost use Rattle.cec_expect.specs.Line.{behind_label, has_verb, label_in, plain_line, plain_script, plain_words};
+ghost use Rattle.cec_expect.specs.Line.{behind_label, cut_line, cut_script, has_verb, is_before, label_in, plain_line, plain_script, plain_words};
 
-use cec_words::{first_line, first_word};
+use cec_words::{first_line, first_word, is_skipped, number_in};
 use std::alloc::{AllocError, Global};
 
 /// A line of a script: its label, and the line without it.
@@ -86,6 +87,72 @@ pub fn plain_script(alloc: Global, script: &[u8]) -> Result<Vec<u8>, AllocError>
     let mut rest = script;
     'lines: while let Some((line, after)) = first_line(rest) {
         push_plain(&mut text, line)?;
+        rest = after;
+    }
+    Ok(text)
+}
+
+// Whether the line of an event has a time before this one.
+fn is_before(time: u64, line: &[u8]) -> bool
+    ensures { result ≡ is_before time (words_of line.now) }
+{
+    let (_verb, rest) = first_word(line);
+    let Some(rest) = rest else {
+        return false;
+    };
+    let (at, _others) = first_word(rest);
+    match number_in(at) {
+        None => false,
+        Some(at) => at < time,
+    }
+}
+
+fn push_event(text: &mut Vec<u8>, time: u64, line: &[u8]) -> Result<(), AllocError>
+    ensures { OnOk result (text.new.items ≡ text.old.items ++ (if is_before time (words_of line.now) then line.now else [])) }
+{
+    if is_before(time, line) {
+        text.extend_from_slice(line)?;
+    }
+    Ok(())
+}
+
+fn push_end(text: &mut Vec<u8>, time: u64) -> Result<(), AllocError>
+    ensures { OnOk result (text.new.items ≡ text.old.items ++ codes "end " ++ decimal time) }
+{
+    text.extend_from_slice(b"end ")?;
+    let mut digits = itoa::Buffer::new();
+    text.extend_from_slice(digits.format(time).as_bytes())?;
+    Ok(())
+}
+
+fn push_cut(text: &mut Vec<u8>, time: u64, line: &[u8]) -> Result<(), AllocError>
+    ensures { OnOk result (text.new.items ≡ text.old.items ++ cut_line time line.now) }
+{
+    if !is_skipped(line) {
+        if has_verb(b"at", Some(line)) {
+            return push_event(text, time, line);
+        }
+        if has_verb(b"end", Some(line)) {
+            return push_end(text, time);
+        }
+    }
+    text.extend_from_slice(line)?;
+    Ok(())
+}
+
+/// A plain script that ends at a time, line for line: events at that time or later are empty lines, and the end is at that time.
+///
+/// # Errors
+///
+/// Want of memory.
+pub fn cut_script(alloc: Global, time: u64, script: &[u8]) -> Result<Vec<u8>, AllocError>
+    ensures { IfOk result (λ text. text.items ≡ cut_script time script.now) }
+{
+    let mut text = Vec::new(alloc);
+    let mut rest = script;
+    'lines: while let Some((line, after)) = first_line(rest) {
+        push_cut(&mut text, time, line)?;
+        text.push(b'\n')?;
         rest = after;
     }
     Ok(text)

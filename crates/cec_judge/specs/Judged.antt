@@ -1,18 +1,19 @@
--- What is found of each line of a script, by the trace (own). Lines count from 1.
+-- What is found of each line of a script, by the trace and, of each line, the state line that it speaks of (own). Lines count
+-- from 1.
 use Rattle.std.specs.Prelude.{ℕ, ◌+◌, ◌-◌, ◌^◌, ◌==◌, nat_lt, min, Bool, true, false, if◌then◌else◌, length, slice_get, List, [], ◌∷◌, ◌++◌, Option, Some, None, Result, Ok, Err}
 use Rattle.std.specs.Str.{bytes_eq}
-use Rattle.std.specs.List.{list_any}
+use Rattle.std.specs.List.{list_all, list_any}
 use Rattle.cec_words.specs.Lines.{lines_of}
 use Rattle.cec_words.specs.Words.{words_of}
 use Rattle.cec_expect.specs.Line.{behind_label}
 use Rattle.cec_expect.specs.Form.{Form, Window, form_in}
-use Rattle.cec_expect.specs.Form.Form.{Other, Rounds, Refused}
+use Rattle.cec_expect.specs.Form.Form.{Other, Rounds, State, Refused}
 use Rattle.cec_expect.specs.Form.Window.{Within, From}
 use Rattle.cec_expect.specs.Faults.{labelled, event_labelled}
 use Rattle.cec_expect.specs.declared.form.ExpectCause.{ExpectCause}
 use Rattle.cec_expect.specs.declared.form.Quantity.{Quantity}
 use Rattle.cec_expect.specs.declared.form.Quantity.TheVariants.{AtLeastOnce, Never, Once}
-use Rattle.cec_judge.specs.Told.{EventLine, event_at, refusal_in}
+use Rattle.cec_judge.specs.Told.{EventLine, event_at, refusal_in, state_words}
 use Rattle.cec_judge.specs.Seen.{ends_seen, first_of}
 use Rattle.cec_judge.specs.declared.seen.Span.{Span}
 use Rattle.cec_judge.specs.declared.judge.Judged.{Judged}
@@ -63,6 +64,18 @@ rounds_judged trace quantity pattern None = failed
 rounds_judged trace quantity pattern (Some span) =
     rounds_by quantity span (length (ends_seen trace span pattern)) (first_of (ends_seen trace span pattern))
 
+-- ---- states
+
+abbrev pub has_word : List ℕ → List (List ℕ) → Bool
+has_word word words = list_any (λ other. bytes_eq other word) words
+
+-- each of these words is among the others
+abbrev pub has_words : List (List ℕ) → List (List ℕ) → Bool
+has_words words others = list_all (λ word. has_word word others) words
+
+abbrev pub state_judged : List ℕ → List (List ℕ) → Judged
+state_judged state words = record { holds = Some (has_words words (state_words (words_of state))); at = None; span = None; count = 0 }
+
 -- ---- refused events
 
 abbrev pub refusal_by : Option EventLine → Option (List ℕ)
@@ -91,23 +104,26 @@ event_instant (Some e) = Some e.at
 abbrev pub other_judged : List ℕ → ℕ → Judged
 other_judged trace number = record { holds = None; at = event_instant (event_at trace number); span = None; count = 0 }
 
-abbrev pub form_judged : List ℕ → List ℕ → List Judged → Result Form ExpectCause → Judged
-form_judged script trace above (Err cause) = failed
-form_judged script trace above (Ok Other) = other_judged trace (length above + 1)
-form_judged script trace above (Ok (Rounds quantity window pattern)) = rounds_judged trace quantity pattern (span_of script above window)
-form_judged script trace above (Ok (Refused name word)) = refused_judged script trace name word
+abbrev pub form_judged : List ℕ → List ℕ → List ℕ → List Judged → Result Form ExpectCause → Judged
+form_judged script trace state above (Err cause) = failed
+form_judged script trace state above (Ok Other) = other_judged trace (length above + 1)
+form_judged script trace state above (Ok (Rounds quantity window pattern)) = rounds_judged trace quantity pattern (span_of script above window)
+form_judged script trace state above (Ok (State time device words)) = state_judged state words
+form_judged script trace state above (Ok (Refused name word)) = refused_judged script trace name word
 
-abbrev pub line_judged : List ℕ → List ℕ → List Judged → List ℕ → Judged
-line_judged script trace above line = form_judged script trace above (form_in (behind_label (words_of line)))
+abbrev pub line_judged : List ℕ → List ℕ → List ℕ → List Judged → List ℕ → Judged
+line_judged script trace state above line = form_judged script trace state above (form_in (behind_label (words_of line)))
 
--- these lines, below others
-abbrev pub lines_judged : List ℕ → List ℕ → List Judged → List (List ℕ) → List Judged
-lines_judged script trace above [] = above
-lines_judged script trace above (line ∷ lines) = lines_judged script trace (above ++ line_judged script trace above line ∷ []) lines
+-- these lines, below others, and the state line of each
+abbrev pub lines_judged : List ℕ → List ℕ → List Judged → List (List ℕ) → List (List ℕ) → List Judged
+lines_judged script trace above [] states = above
+lines_judged script trace above (line ∷ lines) [] = above
+lines_judged script trace above (line ∷ lines) (state ∷ states) =
+    lines_judged script trace (above ++ line_judged script trace state above line ∷ []) lines states
 
 -- all lines
-abbrev pub judged : List ℕ → List ℕ → List Judged
-judged script trace = lines_judged script trace [] (lines_of script)
+abbrev pub judged : List ℕ → List ℕ → List (List ℕ) → List Judged
+judged script trace states = lines_judged script trace [] (lines_of script) states
 
 -- ---- refusals that no line expects
 
@@ -119,6 +135,7 @@ abbrev pub form_expects : List ℕ → ℕ → Result Form ExpectCause → Bool
 form_expects script number (Err cause) = false
 form_expects script number (Ok Other) = false
 form_expects script number (Ok (Rounds quantity window pattern)) = false
+form_expects script number (Ok (State time device words)) = false
 form_expects script number (Ok (Refused name word)) = is_number number (event_labelled script name)
 
 abbrev pub line_expects : List ℕ → ℕ → List ℕ → Bool

@@ -1,5 +1,5 @@
--- What the lines of a trace say of rounds and of events, by their words (own).
-use Rattle.std.specs.Prelude.{ℕ, ◌==◌, if◌then◌else◌, codes, List, [], ◌∷◌, Option, Some, None, option_map}
+-- What the lines of a trace say of rounds, of events and of states, by their words (own).
+use Rattle.std.specs.Prelude.{ℕ, ◌==◌, ◌&&◌, Bool, false, if◌then◌else◌, codes, List, [], ◌∷◌, Option, Some, None, option_map}
 use Rattle.std.specs.Str.{bytes_eq}
 use Rattle.std.specs.List.{filter_map, find}
 use Rattle.std.specs.Option.{option_copied}
@@ -82,3 +82,26 @@ event_as e = record { at = e.at; line = e.line; outcome = words_behind (option_c
 abbrev pub refusal_in : List (List ℕ) → Option (List ℕ)
 refusal_in [] = None
 refusal_in (verb ∷ words) = if bytes_eq verb (codes "refused") then one_of words else None
+
+-- ---- states
+
+-- `state NAME ..`
+abbrev pub is_state_of : List ℕ → List (List ℕ) → Bool
+is_state_of name [] = false
+is_state_of name (verb ∷ []) = false
+is_state_of name (verb ∷ device ∷ words) = bytes_eq verb (codes "state") && bytes_eq device name
+
+-- the first of these lines that tells the state of a device, empty where none does
+abbrev pub state_among : List ℕ → List (List ℕ) → List ℕ
+state_among name [] = []
+state_among name (line ∷ lines) = if is_state_of name (words_of line) then line else state_among name lines
+
+-- the line of a trace that tells the state of a device
+abbrev pub state_line : List ℕ → List ℕ → List ℕ
+state_line trace name = state_among name (lines_of trace)
+
+-- what it tells: the words behind the name
+abbrev pub state_words : List (List ℕ) → List (List ℕ)
+state_words [] = []
+state_words (verb ∷ []) = []
+state_words (verb ∷ device ∷ words) = words

@@ -1,13 +1,14 @@
 //! What is found of each line of a script, by the trace.
-ghost use Rattle.std.specs.Prelude.{◌≡◌, ◌<◌, ◌^◌, length, IfOk};
+ghost use Rattle.std.specs.Prelude.{◌≡◌, ◌<◌, ◌^◌, length, map, IfOk};
 ghost use Rattle.std.specs.Option.{option_copied};
+ghost use Rattle.cec_words.specs.Words.{words_behind, words_of};
 ghost use Rattle.cec_expect.specs.Form.{form_as, window_of};
-ghost use Rattle.cec_judge.specs.Judged.{failed, form_expects, form_judged, holds_by, instant_at, is_number, is_refusal_expected, is_word, judged, line_expects, line_judged, other_judged, refusal_at, refused_judged, rounds_judged, span_from, span_of};
+ghost use Rattle.cec_judge.specs.Judged.{failed, form_expects, form_judged, has_word, has_words, holds_by, instant_at, is_number, is_refusal_expected, is_word, judged, line_expects, line_judged, other_judged, refusal_at, refused_judged, rounds_judged, span_from, span_of, state_judged};
 
 use crate::seen::{Span, rounds_seen};
-use crate::told::{event_at, refusal_in};
+use crate::told::{event_at, refusal_in, state_words};
 use cec_expect::{Form, Quantity, Window, event_labelled, form_in, labelled, unlabelled};
-use cec_words::first_line;
+use cec_words::{first_line, first_word};
 use std::alloc::{AllocError, AllocFailed, Global};
 
 /// What is found of a line.
@@ -124,6 +125,46 @@ fn refused_judged(script: &[u8], trace: &[u8], name: &[u8], word: &[u8]) -> Judg
     }
 }
 
+fn has_word(word: &[u8], text: Option<&[u8]>) -> bool
+    ensures { result ≡ has_word word.now (words_behind (option_copied text.entry)) }
+{
+    let mut rest = text;
+    'words: while let Some(words) = rest {
+        let (other, others) = first_word(words);
+        if other == word {
+            return true;
+        }
+        rest = others;
+    }
+    false
+}
+
+// Whether each word of a text is among those of another.
+fn has_words(text: &[u8], other: Option<&[u8]>) -> bool
+    ensures { result ≡ has_words (words_of text.now) (words_behind (option_copied other.entry)) }
+{
+    let mut rest = Some(text);
+    'words: while let Some(words) = rest {
+        let (word, others) = first_word(words);
+        if !has_word(word, other) {
+            return false;
+        }
+        rest = others;
+    }
+    true
+}
+
+fn state_judged(state: &[u8], words: &[u8]) -> Judged
+    ensures { result ≡ state_judged state.now (words_of words.now) }
+{
+    Judged {
+        holds: Some(has_words(words, state_words(state))),
+        at: None,
+        span: None,
+        count: 0,
+    }
+}
+
 fn other_judged(trace: &[u8], number: u64) -> Judged
     ensures { result ≡ other_judged trace.now number }
 {
@@ -139,9 +180,9 @@ fn other_judged(trace: &[u8], number: u64) -> Judged
     }
 }
 
-fn line_judged(script: &[u8], trace: &[u8], above: &[Judged], line: &[u8]) -> Judged
+fn line_judged(script: &[u8], trace: &[u8], state: &[u8], above: &[Judged], line: &[u8]) -> Judged
     requires { length above.now < 2 ^ 63 }
-    ensures { result ≡ line_judged script.now trace.now above.now line.now }
+    ensures { result ≡ line_judged script.now trace.now state.now above.now line.now }
 {
     match form_in(unlabelled(line).rest) {
         Err(_) => failed(),
@@ -152,25 +193,37 @@ fn line_judged(script: &[u8], trace: &[u8], above: &[Judged], line: &[u8]) -> Ju
                 window,
                 pattern,
             } => rounds_judged(trace, quantity, pattern, span_of(script, above, window)),
+            Form::State { words, .. } => state_judged(state, words),
             Form::Refused { label, word } => refused_judged(script, trace, label, word),
         },
     }
 }
 
-/// What is found of each line of a script, in order, by the trace of its run.
+/// What is found of each line of a script, in order, by the trace of its run and, of each line, the state line that it speaks
+/// of.
 ///
 /// # Errors
 ///
 /// Want of memory.
-pub fn all_judged(alloc: Global, script: &[u8], trace: &[u8]) -> Result<Vec<Judged>, AllocError>
-    ensures { IfOk result (λ found. found.items ≡ judged script.now trace.now) }
+pub fn all_judged(
+    alloc: Global,
+    script: &[u8],
+    trace: &[u8],
+    states: &[Vec<u8>],
+) -> Result<Vec<Judged>, AllocError>
+    ensures { IfOk result (λ found. found.items ≡ judged script.now trace.now (map (λ state. state.items) states.now)) }
 {
     let mut found = Vec::new(alloc);
     let mut rest = script;
+    let mut left = states;
     'lines: while let Some((line, after)) = first_line(rest) {
-        let judged = line_judged(script, trace, &found, line);
+        let [state, others @ ..] = left else {
+            return Ok(found);
+        };
+        let judged = line_judged(script, trace, state, &found, line);
         found.push(judged)?;
         rest = after;
+        left = others;
     }
     Ok(found)
 }
@@ -193,6 +246,7 @@ fn line_expects(script: &[u8], number: u64, line: &[u8]) -> bool
             Form::Refused { label, .. } => is_number(number, event_labelled(script, label)),
             Form::Other => false,
             Form::Rounds { .. } => false,
+            Form::State { .. } => false,
         },
     }
 }

@@ -1,8 +1,8 @@
-//! What the lines of a trace say of rounds and of events.
+//! What the lines of a trace say of rounds, of events and of states.
 ghost use Rattle.std.specs.Prelude.{◌≡◌, ◌+◌, ◌≤◌, length};
 ghost use Rattle.std.specs.Option.{option_copied, option_map};
 ghost use Rattle.cec_words.specs.Words.{words_behind, words_of};
-ghost use Rattle.cec_judge.specs.Told.{event_as, event_at, event_in, refusal_in, round_as, round_in, told_in};
+ghost use Rattle.cec_judge.specs.Told.{event_as, event_at, event_in, is_state_of, refusal_in, round_as, round_in, state_line, state_words, told_in};
 
 use cec_words::{first_line, first_word, number_in, one_word};
 
@@ -101,4 +101,38 @@ pub fn refusal_in(outcome: Option<&[u8]>) -> Option<&[u8]>
     } else {
         None
     }
+}
+
+fn is_state_of(name: &[u8], line: &[u8]) -> bool
+    ensures { result ≡ is_state_of name.now (words_of line.now) }
+{
+    let (verb, rest) = first_word(line);
+    let Some(rest) = rest else {
+        return false;
+    };
+    let (device, _words) = first_word(rest);
+    verb == b"state".as_slice() && device == name
+}
+
+/// The line of a trace that tells the state of a device, empty where none does.
+pub fn state_line<'a>(trace: &'a [u8], name: &[u8]) -> &'a [u8]
+    ensures { result.now ≡ state_line trace.now name.now }
+{
+    let mut rest = trace;
+    'lines: while let Some((line, after)) = first_line(rest) {
+        if is_state_of(name, line) {
+            return line;
+        }
+        rest = after;
+    }
+    &[]
+}
+
+/// What a line of a state tells after the device's name.
+pub(crate) fn state_words(line: &[u8]) -> Option<&[u8]>
+    ensures { words_behind (option_copied result) ≡ state_words (words_of line.now) }
+{
+    let (_verb, rest) = first_word(line);
+    let (_device, rest) = first_word(rest?);
+    rest
 }

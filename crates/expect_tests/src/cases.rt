@@ -1,7 +1,9 @@
 //! Each row through the public calls.
-use crate::rows::{FAULTS, PATTERNS, PLAIN, REFUSALS, REPORT, SCRIPT, TOPOLOGY};
+use crate::rows::{
+    CUTS, FAULTS, PATTERNS, PLAIN, REFUSALS, REPORT, SCRIPT, STATES, STATES_REPORT, TOPOLOGY,
+};
 use cec_check::{CheckError, Tally, check, verdicts};
-use cec_expect::{first_fault, fits, plain_script};
+use cec_expect::{cut_script, first_fault, fits, plain_script};
 use hdmi_core::Writes;
 use std::io::{self, ErrorKind, Write};
 use std::process::Abort;
@@ -31,7 +33,7 @@ fn spelled(rt: &(impl Abort + AllocGlobal), row: &str) -> String {
 }
 
 fn fault_of(rt: &(impl Abort + AllocGlobal), script: &str) -> String {
-    match first_fault(script.as_bytes()) {
+    match first_fault(TOPOLOGY.as_bytes(), script.as_bytes()) {
         None => String::from_str(rt.alloc(), "none").expect(rt, script),
         Some(fault) => format!(in rt.alloc(); "{fault}").expect(rt, script),
     }
@@ -57,6 +59,22 @@ fn plain_scripts_have_each_line(rt: HostRuntime) {
         let (script, want) = line.split_once(" => ").expect(&rt, line);
         let want = format!(in rt.alloc(); "{want}\n").expect(&rt, line);
         holds(&rt, plain_of(&rt, script) == want, line);
+    }
+}
+
+fn cut_of(rt: &(impl Abort + AllocGlobal), time: &str, script: &str) -> String {
+    let time = time.parse::<u64>().expect(rt, time);
+    let cut = cut_script(rt.alloc(), time, script.as_bytes()).expect(rt, script);
+    String::from_utf8(cut).expect(rt, script)
+}
+
+#[test]
+fn scripts_end_earlier(rt: HostRuntime) {
+    for line in CUTS.lines() {
+        let (asked, want) = line.split_once(" => ").expect(&rt, line);
+        let (time, script) = asked.split_once(' ').expect(&rt, line);
+        let cut = cut_of(&rt, time, &spelled(&rt, script));
+        holds(&rt, cut == spelled(&rt, want), line);
     }
 }
 
@@ -86,6 +104,13 @@ fn expectations_are_reported(rt: HostRuntime) {
     let (text, counts) = report_of(&rt, TOPOLOGY, SCRIPT);
     holds(&rt, counts.as_str() == "6 of 10", "counts");
     holds(&rt, text.as_str() == REPORT, "report");
+}
+
+#[test]
+fn states_are_reported(rt: HostRuntime) {
+    let (text, counts) = report_of(&rt, TOPOLOGY, STATES);
+    holds(&rt, counts.as_str() == "6 of 15", "counts");
+    holds(&rt, text.as_str() == STATES_REPORT, "report");
 }
 
 /// `o` for each test that holds, `x` for each that fails, or why there are none.

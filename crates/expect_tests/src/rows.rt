@@ -19,7 +19,7 @@ silent => silent 1000001001 by p1 out - => met
 short => silent 0 by p1 out - => not
 *a*b*c*d => 1a2b3c4d by p1 => met";
 
-/// Scripts of two lines, between `|`, and the first line at fault.
+/// Scripts of two lines, between `|`, for the topology below, and the first line at fault.
 pub(crate) const FAULTS: &str = "\
 at 5 press p1 play|end 10 => none
 label a at 5 press p1 play|expect within 10 of a short => none
@@ -47,7 +47,27 @@ at 5 press p1 play|label  at 6 press p1 play => line 2: label
 label a expect from 1 to 2 short|expect refused a off-wire => line 2: label
 label a expect within 1 of a short|end 10 => line 1: label
 at 5 press p1 play|expect from 2 to 1 short => line 2: order
-expect from 2 to 1 short|expect => line 1: order";
+expect from 2 to 1 short|expect => line 1: order
+expect state 10 tv on|end 10 => none
+end 10|label a expect state 0 p1 player 4 => none
+end 10|expect state => line 2: word
+end 10|expect state 5 => line 2: word
+end 10|expect state 5 tv => line 2: word
+end 10|expect state 5 tv  on => line 2: word
+end 10|expect state x p2 => line 2: word
+end 10|expect state x p2 on => line 2: number
+end 10|expect state 05 tv on => line 2: number
+end 10|expect state 1000000000001 p2 on => line 2: number
+end 10|expect state 1000000000000 tv on => line 2: order
+end 10|expect state 11 p2 on => line 2: name
+end 10|expect state 5 plug on => line 2: name
+end 10|label  expect state 10 p2 on => line 2: name
+end 10|label  expect state 11 tv on => line 2: label
+end 10|expect state 11 tv on => line 2: order
+label a end 10|expect state 11 tv on => line 2: order
+expect state 11 tv on|end 10 => line 1: order
+label a expect state 5 tv on|expect refused a off-wire => line 2: label
+label a expect state 5 tv on|expect within 5 of a short => none";
 
 /// A line, and what is left of it in the plain script.
 pub(crate) const PLAIN: &str = "\
@@ -56,12 +76,26 @@ label a at 5 press p1 play => at 5 press p1 play
 label a pulse 5 10 => pulse 5 10
 label a expect from 1 to 2 short => 
 expect from 1 to 2 short => 
+expect state 5 tv on => 
 expected => expected
 # expect => # expect
 label => label
 label a => 
 label a label b => label b
 end 10 => end 10";
+
+/// A time, the lines of a plain script between `|`, and the lines of the script that ends then.
+pub(crate) const CUTS: &str = "\
+5 at 4 press p1 play|end 9 => at 4 press p1 play|end 5
+5 at 5 press p1 play|end 9 => |end 5
+5 at 6 press p1 play|end 9 => |end 5
+0 at 0 press p1 play|end 9 => |end 0
+5 pulse 7 10|end 9 => pulse 7 10|end 5
+5 # at 7|end 9 => # at 7|end 5
+5 |end 9|# end 7 => |end 5|# end 7
+5 end 5 => end 5
+1000000000000 at 7 press p1 play|end 1000000000000 => at 7 press p1 play|end 1000000000000
+5 attic|ending => attic|ending";
 
 pub(crate) const TOPOLOGY: &str = "\
 device tv tv 4
@@ -108,9 +142,60 @@ not ok 10 - line 9: refused not-for-kind
 1..10
 ";
 
+/// Before its first poll at 12,000 the television has no address; the round that says the active source begins at 1,068,400. A
+/// player off the wire has what a new one has.
+pub(crate) const STATES: &str = "\
+label film at 1000000 press p1 play
+expect state 0 tv tv - 0.0.0.0 on active=-
+expect state 0 tv 0
+expect state 12000 tv -
+expect state 12001 tv 0
+expect state 1000000 tv active=-
+expect state 1068400 tv 0 active=1.0.0.0
+label on expect state 1068401 tv active=1.0.0.0 on 0
+expect state 1068400 tv active=
+expect state 1068400 tv tv state
+at 1300000 unplug p1
+expect state 1300000 p1 4 1.0.0.0
+expect state 1300001 p1 - active=-
+expect state 1300001 p1 4
+at 1400000 plug p1 tv 1
+expect state 2000000 p1 1.0.0.0 active=- 4
+expect state 2000000 tv active=1.0.0.0
+expect none within 5 of on short
+end 2000000
+";
+
+pub(crate) const STATES_REPORT: &str = "\
+TAP version 13
+ok 1 - line 2: expect state 0 tv tv - 0.0.0.0 on active=-
+not ok 2 - line 3: expect state 0 tv 0
+# state tv tv - 0.0.0.0 on active=- path=- deck=1a menu=off audio=off volume=20 mute=off arc=off sel=- lang=656e67 osd=- held=- heard=- sub=- queue=0 dropped=0
+ok 3 - line 4: expect state 12000 tv -
+ok 4 - line 5: expect state 12001 tv 0
+ok 5 - line 6: expect state 1000000 tv active=-
+not ok 6 - line 7: expect state 1068400 tv 0 active=1.0.0.0
+# state tv tv 0 0.0.0.0 on active=- path=- deck=1a menu=off audio=off volume=20 mute=off arc=off sel=- lang=656e67 osd=- held=- heard=4:84:10 sub=- queue=0 dropped=0
+ok 7 - line 8: label on expect state 1068401 tv active=1.0.0.0 on 0
+not ok 8 - line 9: expect state 1068400 tv active=
+# state tv tv 0 0.0.0.0 on active=- path=- deck=1a menu=off audio=off volume=20 mute=off arc=off sel=- lang=656e67 osd=- held=- heard=4:84:10 sub=- queue=0 dropped=0
+not ok 9 - line 10: expect state 1068400 tv tv state
+# state tv tv 0 0.0.0.0 on active=- path=- deck=1a menu=off audio=off volume=20 mute=off arc=off sel=- lang=656e67 osd=- held=- heard=4:84:10 sub=- queue=0 dropped=0
+ok 10 - line 12: expect state 1300000 p1 4 1.0.0.0
+ok 11 - line 13: expect state 1300001 p1 - active=-
+not ok 12 - line 14: expect state 1300001 p1 4
+# state p1 player - - on active=- path=- deck=1a menu=off audio=off volume=20 mute=off arc=off sel=- lang=656e67 osd=- held=- heard=- sub=- queue=0 dropped=0
+ok 13 - line 16: expect state 2000000 p1 1.0.0.0 active=- 4
+ok 14 - line 17: expect state 2000000 tv active=1.0.0.0
+not ok 15 - line 18: expect none within 5 of on short
+# no instant
+1..15
+";
+
 /// Refusals: a topology and a script between `|`.
 pub(crate) const REFUSALS: &str = "\
 device tv tv 4|expect|end 10 => script line 1: word
 device tv tv 4|expect from 2 to 1 short|at 5 press p1 play|end 10 => script line 2: name
 device tv x 4|expect|end 10 => topology line 1: word
-device tv tv 4|expect from 1 to 2 short => script line 2: end";
+device tv tv 4|expect from 1 to 2 short => script line 2: end
+device tv tv 4|expect state 1 amp on|end 10 => script line 1: name";

@@ -1,4 +1,4 @@
-use Rattle.std.proofs.Common.{◌≡◌, ◌+◌, ◌≤◌, length}
+use Rattle.std.proofs.Common.{◌≡◌, ◌+◌, ◌≤◌, length, map}
 use Rattle.cec_words.specs.Lines.{lines_of}
 use Rattle.cec_check.specs.Report.{report_as, with_lines}
 use Rattle.cec_check.proofs.report.add_lines.Given as goal
@@ -6,7 +6,8 @@ use Rattle.cec_check.proofs.report.add_lines.Given as goal
 -- the tests of the lines above, and then of those that are left
 abbrev pub invariant-lines : goal.invariant-lines
 invariant-lines l = record {
-  same : with_lines l.trace (report_as l.draft) l.number (lines_of l.rest) l.found ≡ with_lines l.trace (report_as l.fn.draft) 1 (lines_of l.script) l.judged;
+  same : with_lines l.trace (report_as l.draft) l.number (lines_of l.rest) (map (λ state. state.items) l.left) l.found
+      ≡ with_lines l.trace (report_as l.fn.draft) 1 (lines_of l.script) (map (λ state. state.items) l.states) l.judged;
   room : l.number + length l.rest ≤ length l.script + 1;
 }
 

@@ -6,7 +6,7 @@ use Rattle.cec_expect.proofs.faults.first_fault.Given as goal
 -- no line before is at fault
 abbrev pub invariant-lines : goal.invariant-lines
 invariant-lines l = record {
-  same : first_fault l.script ≡ faults_from l.script l.number (lines_of l.rest);
+  same : first_fault l.topology l.script ≡ faults_from l.topology l.script l.number (lines_of l.rest);
   room : l.number + length l.rest ≤ length l.script + 1;
 }
 

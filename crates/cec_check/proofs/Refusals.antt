@@ -1,0 +1,65 @@
+-- A run up to a time is not refused where the whole one is not.
+use Rattle.std.proofs.Common.{◌≡◌, ℕ, ◌≤◌, List, Option, IsSome, Some, None, Result, Ok, Err, ap, sym, subst, ◌∙◌}
+use Rattle.hdmi_core.specs.declared.phys.Phys.{Phys}
+use Rattle.hdmi_blocks.specs.Address.{edid_address}
+use Rattle.hdmi_blocks.specs.Bytes.{edid_bytes, IsRefused}
+use Rattle.hdmi_blocks.specs.declared.edid.Edid.{Edid as EdidValue}
+use Rattle.hdmi_blocks.proofs.OneEdid.{not_refused, one_edid}
+use Rattle.cec_trace.specs.Root.{IsNoRoot, IsRoot}
+use Rattle.cec_trace.specs.declared.root.EdidCause.{EdidCause}
+use Rattle.cec_trace.specs.declared.root.EdidCause.TheVariants.{Edid as OfEdid, NoHdmiBlock}
+use Rattle.cec_asm.specs.Topology.{Plan}
+use Rattle.cec_asm.specs.Script.{IsScriptRead}
+use Rattle.cec_asm.proofs.OneReading.{one_script}
+use Rattle.cec_expect.specs.Line.{cut_script}
+use Rattle.cec_run.specs.Emulate.{IsTraceOf, IsTold}
+use Rattle.cec_run.specs.declared.emulate.EmulateError.{EmulateError}
+use Rattle.cec_run.specs.declared.emulate.EmulateError.TheVariants.{Topology, Script, Edid, Write, Memory}
+use Rattle.cec_run.specs.declared.run.Totals.{Totals}
+use Rattle.cec_run.proofs.Accepted.{one_plan}
+use Rattle.cec_check.specs.Cuts.{cut_course}
+use Rattle.cec_check.proofs.Cuts.{cuts_are_read}
+
+-- ---- an EDID that is read is not refused
+
+no_cause : (bytes : List ℕ) (root : EdidValue) (cause : EdidCause) → edid_bytes root ≡ bytes → IsSome (edid_address root) → IsNoRoot bytes cause → ⊥
+no_cause bytes root (OfEdid error) spells some refused = not_refused root error (subst (λ xs. IsRefused xs error) (sym spells) refused)
+no_cause bytes root NoHdmiBlock spells some (other, same, none) =
+    let one : root ≡ other = one_edid root other (spells ∙ sym same) in
+    let address : edid_address root ≡ None = ap edid_address one ∙ none in
+    clash (edid_address root) address some
+  where
+    clash : (a : Option Phys) → a ≡ None → IsSome a → ⊥
+    clash a same there = cc
+
+no_root_refused : (bytes : Option (List ℕ)) (root : Option EdidValue) (given : List ℕ) (cause : EdidCause) → IsRoot bytes root → bytes ≡ Some given → IsNoRoot given cause → ⊥
+no_root_refused None root given cause r is refused = cc
+no_root_refused (Some bytes) None given cause r is refused = absurd r
+no_root_refused (Some bytes) (Some root) given cause r is refused =
+    let same : bytes ≡ given = cc in
+    no_cause given root cause (r.0 ∙ same) r.1 refused
+
+-- ---- runs
+
+-- what is left is want of memory
+abbrev pub IsWant : EmulateError → Type 0
+IsWant (Topology line cause) = ⊥
+IsWant (Script line cause) = ⊥
+IsWant (Edid cause) = ⊥
+IsWant (Write count) = Unit {0}
+IsWant Memory = Unit {0}
+
+pub not_refused_earlier : (topology plain text : List ℕ) (time : ℕ) (totals : Totals) (error : EmulateError) → time ≤ 1000000000000 → IsTraceOf topology plain text totals
+    → IsTold topology (cut_script time plain) error → IsWant error
+not_refused_earlier topology plain text time totals (Topology line cause) early run told = (let accepted = run.accepted.plan_is in cc)
+not_refused_earlier topology plain text time totals (Script line cause) early run told =
+    let same : told.0 ≡ run.plan = one_plan topology run.plan told.0 run.accepted.plan_is told.1 in
+    let refused = subst (λ (p : Plan). IsScriptRead p.tree (cut_script time plain) (Err (record { line = line; cause = cause }))) same told.2 in
+    let read = cuts_are_read run.plan.tree time plain run.course early run.accepted.course_is in
+    let clash = one_script run.plan.tree (cut_script time plain) (cut_course time run.course) (Err (record { line = line; cause = cause })) read refused in
+    cc
+not_refused_earlier topology plain text time totals (Edid cause) early run told =
+    let same : told.0 ≡ run.plan = one_plan topology run.plan told.0 run.accepted.plan_is told.2.plan_is in
+    no_root_refused run.plan.edid run.edid told.3 cause run.root (ap (λ (p : Plan). p.edid) (sym same) ∙ told.4) told.5
+not_refused_earlier topology plain text time totals (Write count) early run told = tt
+not_refused_earlier topology plain text time totals Memory early run told = tt

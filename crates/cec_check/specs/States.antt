@@ -1,0 +1,38 @@
+-- The states that a script speaks of (own): a device's line with which the run would end, had it ended at a time.
+use Rattle.std.specs.Prelude.{◌≡◌, ℕ, List, [], ◌∷◌, Result, Ok, Err}
+use Rattle.cec_words.specs.Words.{words_of}
+use Rattle.cec_expect.specs.Line.{behind_label, cut_script}
+use Rattle.cec_expect.specs.Form.{Form, form_in}
+use Rattle.cec_expect.specs.Form.Form.{Other, Rounds, State, Refused}
+use Rattle.cec_expect.specs.declared.form.ExpectCause.{ExpectCause}
+use Rattle.cec_run.specs.Emulate.{IsTraceOf}
+use Rattle.cec_run.specs.declared.run.Totals.{Totals}
+use Rattle.cec_judge.specs.Told.{state_line}
+
+-- the device's state line in the trace of the plain script that ends at the time
+pub record IsStateAt (topology plain : List ℕ) (time : ℕ) (device state : List ℕ) : Type 0 where
+  pub trace : List ℕ
+  pub totals : Totals
+  pub run : IsTraceOf topology (cut_script time plain) trace totals
+  pub state_is : state ≡ state_line trace device
+
+-- the state line that a form speaks of; of another form none
+abbrev pub IsStateOf : List ℕ → List ℕ → Result Form ExpectCause → List ℕ → Type 0
+IsStateOf topology plain (Ok (State time device words)) state = IsStateAt topology plain time device state
+IsStateOf topology plain (Ok Other) state = state ≡ []
+IsStateOf topology plain (Ok (Rounds quantity window pattern)) state = state ≡ []
+IsStateOf topology plain (Ok (Refused name word)) state = state ≡ []
+IsStateOf topology plain (Err cause) state = state ≡ []
+
+abbrev pub IsStateFor : List ℕ → List ℕ → List ℕ → List ℕ → Type 0
+IsStateFor topology plain line state = IsStateOf topology plain (form_in (behind_label (words_of line))) state
+
+-- of each of these lines the state line that it speaks of
+abbrev pub AreStates : List ℕ → List ℕ → List (List ℕ) → List (List ℕ) → Type 0
+AreStates topology plain [] states = states ≡ []
+AreStates topology plain (line ∷ lines) [] = ⊥
+AreStates topology plain (line ∷ lines) (state ∷ states) = IsStateFor topology plain line state × AreStates topology plain lines states
+
+-- the plain script has a trace
+abbrev pub IsTraced : List ℕ → List ℕ → Type 0
+IsTraced topology plain = (trace : List ℕ) × (totals : Totals) × IsTraceOf topology plain trace totals

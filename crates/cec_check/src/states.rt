@@ -1,0 +1,85 @@
+//! The state lines that the lines of a script speak of.
+ghost use Rattle.std.specs.Prelude.{◌≤◌, map, IfOk};
+ghost use Rattle.cec_words.specs.Lines.{lines_of};
+ghost use Rattle.cec_check.specs.States.{AreStates, IsStateAt, IsStateFor, IsTraced};
+
+use crate::held::Held;
+use cec_expect::{Form, cut_script, form_in, unlabelled};
+use cec_judge::state_line;
+use cec_run::emulate::{EmulateError, emulate};
+use cec_words::first_line;
+use std::alloc::{AllocError, Global};
+
+// The state line of a device at the end of a run of the plain script up to a time.
+fn state_at(
+    alloc: Global,
+    topology: &[u8],
+    plain: &[u8],
+    time: u64,
+    device: &[u8],
+) -> Result<Vec<u8>, AllocError>
+    requires traced { IsTraced topology.now plain.now }
+    requires early { time ≤ 1000000000000 }
+    ensures { IfOk result (λ state. IsStateAt topology.now plain.now time device.now state.items) }
+{
+    let cut = cut_script(alloc, time, plain)?;
+    let mut trace = Held::new(alloc);
+    match emulate(alloc, topology, &cut, &mut trace) {
+        Ok(_) => {}
+        Err(error) => match error {
+            EmulateError::Topology { .. } => unreachable!(),
+            EmulateError::Script { .. } => unreachable!(),
+            EmulateError::Edid(_) => unreachable!(),
+            EmulateError::Write(_) => return Err(AllocError),
+            EmulateError::Memory => return Err(AllocError),
+        },
+    }
+    let mut state = Vec::new(alloc);
+    state.extend_from_slice(state_line(&trace.bytes, device))?;
+    Ok(state)
+}
+
+// The state line that a line of the script speaks of; of another line none.
+fn state_for(
+    alloc: Global,
+    topology: &[u8],
+    plain: &[u8],
+    line: &[u8],
+) -> Result<Vec<u8>, AllocError>
+    requires traced { IsTraced topology.now plain.now }
+    ensures { IfOk result (λ state. IsStateFor topology.now plain.now line.now state.items) }
+{
+    match form_in(unlabelled(line).rest) {
+        Err(_) => Ok(Vec::new(alloc)),
+        Ok(form) => match form {
+            Form::State { time, device, .. } => state_at(alloc, topology, plain, time, device),
+            Form::Other => Ok(Vec::new(alloc)),
+            Form::Rounds { .. } => Ok(Vec::new(alloc)),
+            Form::Refused { .. } => Ok(Vec::new(alloc)),
+        },
+    }
+}
+
+/// Of each line of a script the state line that it speaks of, by a run for each.
+///
+/// # Errors
+///
+/// Want of memory.
+pub(crate) fn all_states(
+    alloc: Global,
+    topology: &[u8],
+    plain: &[u8],
+    script: &[u8],
+) -> Result<Vec<Vec<u8>>, AllocError>
+    requires traced { IsTraced topology.now plain.now }
+    ensures { IfOk result (λ states. AreStates topology.now plain.now (lines_of script.now) (map (λ state. state.items) states.items)) }
+{
+    let mut states = Vec::new(alloc);
+    let mut rest = script;
+    'lines: while let Some((line, after)) = first_line(rest) {
+        let state = state_for(alloc, topology, plain, line)?;
+        states.push(state)?;
+        rest = after;
+    }
+    Ok(states)
+}
