@@ -3,12 +3,10 @@ ghost use Rattle.std.specs.Prelude.{◌≡◌, ℕ, List, ◌↔◌, true, false
 ghost use Rattle.std.specs.Io.KnownBytes.{Appends};
 ghost use Rattle.cec_run.specs.Emulate.{IsTraceOf, IsTold, IsCut, is_write};
 
-use crate::run::{Telling, Totals, run};
+use crate::run::{Telling, Totals, run, started_net};
 use cec_asm::{
     ScriptCause, ScriptError, TopologyCause, TopologyError, parse_script, parse_topology,
 };
-use cec_edges::EdgeWire;
-use cec_net::Net;
 use cec_trace::{EdidCause, root_of};
 use hdmi_core::Sink;
 use std::alloc::Global;
@@ -95,10 +93,12 @@ pub fn emulate<S: Sink>(
     let topology = parse_topology(alloc, topology)?;
     let script = parse_script(alloc, &topology, script)?;
     let edid = root_of(&topology.edid)?;
-    // The network is lent as it is made: a name of its own would be a second place for it.
+    let Ok(mut net) = started_net(alloc, topology.tree, &script) else {
+        return Err(EmulateError::Memory);
+    };
     match run(
         out,
-        &mut Net::new(topology.tree, EdgeWire::new(), script.to_pulses()),
+        &mut net,
         &Telling::Trace(edid),
         &script.events,
         script.end,

@@ -4,7 +4,7 @@ ghost use Rattle.std.specs.List.{flat_map};
 ghost use Rattle.std.specs.Io.KnownBytes.{Appends};
 ghost use Rattle.hdmi_core.specs.Written.{WrittenLine};
 ghost use Rattle.cec_asm.specs.Script.{IsSchedule};
-ghost use Rattle.cec_net.specs.State.{next_start};
+ghost use Rattle.cec_net.specs.State.{next_start, started};
 ghost use Rattle.cec_run.specs.declared.run.Totals.{Totals as TotalsRecord};
 ghost use Rattle.cec_event.specs.Events.{NamesDevices};
 ghost use Rattle.cec_net.specs.Apply.{applied, event_fault};
@@ -15,8 +15,9 @@ ghost use Rattle.cec_trace.specs.TraceText.{event_line, end_line};
 ghost use Rattle.cec_trace.specs.Root.{HasAddress};
 ghost use Rattle.cec_run.specs.Run.{HasAddressTold, IsRunText, IsRunTextFrom, RoundWritten, counted_event, counted_round, end_told, event_text, event_told, event_turn, first_time, round_told, round_turn, start, start_told, turn_of};
 
-use cec_asm::TimedEvent;
+use cec_asm::{Script, TimedEvent};
 use cec_device::Device;
+use cec_edges::EdgeWire;
 use cec_event::EventError;
 use cec_frame::Ending;
 use cec_line::{Format, as_text};
@@ -26,6 +27,8 @@ use cec_wire::{Outcome, Wire};
 use cec_words::{counted, cut_at};
 use hdmi_blocks::Edid;
 use hdmi_core::{Sink, WriteFault};
+use hdmi_topo::Tree;
+use std::alloc::{AllocError, Global};
 
 /// What a run did.
 #[derive(Clone, Copy, Debug, Default, PartialEq, Eq)]
@@ -356,6 +359,26 @@ fn run_turns<S: Sink, W: Wire>(
         Ok(_) => Ok(totals),
         Err(fault) => Err(cut_at(written, fault)),
     }
+}
+
+/// The network at the start of a run, on the heap: it is large.
+///
+/// # Errors
+///
+/// Want of memory.
+// What is made on the way is kept out of the caller's frame, on which the run stands.
+#[inline(never)]
+pub fn started_net(
+    alloc: Global,
+    tree: Tree<15>,
+    script: &Script,
+) -> Result<Box<Net<EdgeWire>>, AllocError>
+    requires some { 0 < length tree }
+    requires early { All (λ p. p.from ≤ 2000000000000) script.now.pulses.items }
+    ensures { IfOk result (λ net. net.value ≡ started tree script.now.pulses.items) }
+{
+    let net = Box::new(alloc, Net::new(tree, EdgeWire::new(), script.to_pulses()))?;
+    Ok(net)
 }
 
 /// Runs a network to `end`, at most 1,000,000,000,000 microseconds, and writes its trace, or its line in a

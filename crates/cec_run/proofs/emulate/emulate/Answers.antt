@@ -5,13 +5,13 @@ use Rattle.cec_run.proofs.Accepted.{early, has_device, one_trace_of}
 use Rattle.cec_run.proofs.HasRun.{texts_have_traces}
 use Rattle.cec_run.proofs.emulate.emulate.Goals as goal
 
-pub new-requires-2-clause-some : goal.new-requires-2-clause-some
-new-requires-2-clause-some g c =
+pub started_net-requires-clause-some : goal.started_net-requires-clause-some
+started_net-requires-clause-some g c =
     let plan : topology_of c.args.topology.now ≡ Ok (plan_of c.in_ok-topology.topology) = search rules in
     has_device c.args.topology.now (plan_of c.in_ok-topology.topology) plan
 
-pub new-requires-2-clause-early : goal.new-requires-2-clause-early
-new-requires-2-clause-early g c = rw c.to_pulses.ensures (early c.in_ok-script.script.pulses.items c.in_ok-script.ensures.script.early)
+pub started_net-requires-clause-early : goal.started_net-requires-clause-early
+started_net-requires-clause-early g c = early c.in_ok-script.script.pulses.items c.in_ok-script.ensures.script.early
 
 pub returns-clause-cut : goal.returns-clause-cut
 returns-clause-cut g c =
@@ -19,6 +19,6 @@ returns-clause-cut g c =
     let course : IsScriptRead c.in_ok-topology.topology.tree c.args.script.now (Ok (course_of c.in_ok-script.script)) = c.in_ok-script.ensures.gives in
     let due = (texts_have_traces c.args.topology.now c.args.script.now (plan_of c.in_ok-topology.topology) (course_of c.in_ok-script.script) c.in_ok-edid.edid
     (record { plan_is = plan; course_is = course }) c.in_ok-edid.ensures.read).0 in
-    let front = c.in-Err.ensures.cut due.0 due.1 (rw (c.new-2.ensures, c.to_pulses.ensures, c.deref.ensures.value)
+    let front = c.in-Err.ensures.cut due.0 due.1 (rw (c.deref_mut.ensures.value, c.in-Ok.ensures, c.deref.ensures.value)
     (one_trace_of c.args.topology.now c.args.script.now due.0 due.1 (plan_of c.in_ok-topology.topology) (course_of c.in_ok-script.script) c.in_ok-edid.edid plan course c.in_ok-edid.ensures.read due.2)) in
     (due.0, due.1, due.2, front.0, front.1, front.2, front.3)
