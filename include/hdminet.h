@@ -6,7 +6,7 @@
    caller promises besides:
    - The three functions are of one allocator, and align a block as C asks for.
    - No call comes from a signal handler, nor from the forked child of a process with threads.
-   - The stack has 1 MB left: the emulator takes some 520 KB of it. A thread with less is made larger first.
+   - The stack has 400 KB left: the emulator takes some 350 KB of it. A thread of 512 KB will do.
    Where memory runs out, HDMINET_MEMORY is the answer. */
 #ifndef HDMINET_H
 #define HDMINET_H

@@ -1,4 +1,4 @@
-/* What a caller of the library that takes memory sees, over C, from a thread of 1 MB of stack: a trace, its edges, what
+/* What a caller of the library that takes memory sees, over C, from a thread of 512 KB of stack: a trace, its edges, what
    was read of them and a report. Each failed line is printed; the status is 0 where none is. */
 #include "hdminet.h"
 
@@ -53,7 +53,7 @@ static void *calls(void *unused) {
 int main(void) {
     pthread_attr_t small;
     pthread_t thread;
-    HOLDS(pthread_attr_init(&small) == 0 && pthread_attr_setstacksize(&small, 1 << 20) == 0);
+    HOLDS(pthread_attr_init(&small) == 0 && pthread_attr_setstacksize(&small, 512 << 10) == 0);
     HOLDS(pthread_create(&thread, &small, calls, NULL) == 0 && pthread_join(thread, NULL) == 0);
     puts(failed ? "library-run: failed" : "library-run: ok");
     return failed;
