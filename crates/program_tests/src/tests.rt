@@ -12,6 +12,7 @@ mod edids;
 mod example_captures;
 mod example_drives;
 mod example_dumps;
+mod example_edids;
 mod example_lines;
 mod example_reports;
 mod examples;

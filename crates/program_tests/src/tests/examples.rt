@@ -1,5 +1,4 @@
 //! The files of examples/, each with its output. tools/example-tests writes this file.
-use super::edids::gives_of_hex;
 use super::example_drives::FIRST_PATH_DRIVES_VCD;
 use super::example_lines::FIRST_PATH_LINE;
 use super::*;
@@ -421,118 +420,6 @@ const CEC_CLIENT_FRAMES: &str = "\
 4>4
 ";
 
-const LIVING_ROOM_EDID: &str =
-    "00ffffffffffff004c2d0201010000000a15010380341d780eee91a3544c99260f505420000001010101010101010101010101010101023a801871382d40582c450008222100001e011d007251d01e206e28550008222100001e000000fc004c4f554e47452054560a202020000000fd00173d0f440f000a20202020202001d402031af14490040301230907078301000065030c000000e2004f0000000000000000000000000000000000000000000000000000000000000000000000000000000000000000000000000000000000000000000000000000000000000000000000000000000000000000000000000000000000000000000000000000000000b1\n";
-
-const LIVING_ROOM_EDID_TXT: &str = "\
-edid 1.3
-maker SAM
-product 258
-serial 1
-made 10 2011
-input 80
-size 52 29
-gamma 120
-features 0e
-chroma 655 338 307 614 154 61 320 337
-established 200000
-standard unused
-standard unused
-standard unused
-standard unused
-standard unused
-standard unused
-standard unused
-standard unused
-timing 14850 1920 280 1080 45 88 44 4 5 520 290 0 0 1e
-timing 7425 1280 370 720 30 110 40 5 5 520 290 0 0 1e
-name \"LOUNGE TV\"
-range 00173d0f440f000a202020202020
-cta f1
-video 90040301
-audio 090707
-speakers 010000
-hdmi 0.0.0.0 -
-extended 004f
-tail -
-";
-
-const MONITOR_1_4_EDID: &str =
-    "00ffffffffffff0010ac0041000000000c1e0104a53c22783eee91a3544c99260f5054a54b008180a9c0d1c001010101010101010101023a801871382d40582c450056502100001e000000ff00434656394e303132330a202020000000fc004445534b204d4f4e49544f520a000000fd00314b1e5311010a202020202020018f020315f14590040302012309070783010000e200ca011d007251d01e206e28550056502100001e00000000000000000000000000000000000000000000000000000000000000000000000000000000000000000000000000000000000000000000000000000000000000000000000000000000000000000000000000000000ed\n";
-
-const MONITOR_1_4_EDID_TXT: &str = "\
-edid 1.4
-maker DEL
-product 16640
-serial 0
-made 12 2020
-input a5
-size 60 34
-gamma 120
-features 3e
-chroma 655 338 307 614 154 61 320 337
-established a54b00
-standard 1280 2 60
-standard 1600 3 60
-standard 1920 3 60
-standard unused
-standard unused
-standard unused
-standard unused
-standard unused
-timing 14850 1920 280 1080 45 88 44 4 5 598 336 0 0 1e
-serial-text \"CFV9N0123\"
-name \"DESK MONITOR\"
-range 00314b1e5311010a202020202020
-cta f1
-video 9004030201
-audio 090707
-speakers 010000
-extended 00ca
-timing 7425 1280 370 720 30 110 40 5 5 598 336 0 0 1e
-tail -
-";
-
-const OVERSCAN_EDID: &str =
-    "00ffffffffffff004c2d0201010000000a15010380341d780eee91a3544c99260f505420000001010101010101010101010101010101023a801871382d40582c450008222100001e011d007251d01e206e28550008222100001e000000fc004c4f554e47452054560a202020000000fd00173d0f440f000a20202020202001d402031a714490040301230907078301000065030c000000e2004f000000000000000000000000000000000000000000000000000000000000000000000000000000000000000000000000000000000000000000000000000000000000000000000000000000000000000000000000000000000000000000000000000000000031\n";
-
-const OVERSCAN_EDID_TXT: &str = "\
-edid 1.3
-maker SAM
-product 258
-serial 1
-made 10 2011
-input 80
-size 52 29
-gamma 120
-features 0e
-chroma 655 338 307 614 154 61 320 337
-established 200000
-standard unused
-standard unused
-standard unused
-standard unused
-standard unused
-standard unused
-standard unused
-standard unused
-timing 14850 1920 280 1080 45 88 44 4 5 520 290 0 0 1e
-timing 7425 1280 370 720 30 110 40 5 5 520 290 0 0 1e
-name \"LOUNGE TV\"
-range 00173d0f440f000a202020202020
-cta 71
-video 90040301
-audio 090707
-speakers 010000
-hdmi 0.0.0.0 -
-extended 004f
-tail -
-";
-
-const OVERSCAN_FINDINGS: &str = "\
-warn overscan
-";
-
 const RUNS: &[Case<'static>] = &[
     Case {
         name: "first-path",
@@ -614,62 +501,9 @@ const TEXTS: &[Case<'static>] = &[
         input: CEC_CLIENT_LOG,
         want: CEC_CLIENT_FRAMES,
     },
-    Case {
-        name: "living-room as bytes",
-        line: "edid --text",
-        input: LIVING_ROOM_EDID_TXT,
-        want: LIVING_ROOM_EDID,
-    },
-    Case {
-        name: "monitor-1.4 as bytes",
-        line: "edid --text",
-        input: MONITOR_1_4_EDID_TXT,
-        want: MONITOR_1_4_EDID,
-    },
-    Case {
-        name: "overscan as bytes",
-        line: "edid --text",
-        input: OVERSCAN_EDID_TXT,
-        want: OVERSCAN_EDID,
-    },
 ];
 
 #[test]
 fn each_text_gives_its_output(rt: HostRuntime) {
     gives_each(&rt, TEXTS);
-}
-
-/// Those whose input is an EDID, in hex.
-const EDIDS: &[Case<'static>] = &[
-    Case {
-        name: "living-room as text",
-        line: "edid",
-        input: LIVING_ROOM_EDID,
-        want: LIVING_ROOM_EDID_TXT,
-    },
-    Case {
-        name: "monitor-1.4 as text",
-        line: "edid",
-        input: MONITOR_1_4_EDID,
-        want: MONITOR_1_4_EDID_TXT,
-    },
-    Case {
-        name: "overscan as text",
-        line: "edid",
-        input: OVERSCAN_EDID,
-        want: OVERSCAN_EDID_TXT,
-    },
-    Case {
-        name: "findings of overscan",
-        line: "edid --check",
-        input: OVERSCAN_EDID,
-        want: OVERSCAN_FINDINGS,
-    },
-];
-
-#[test]
-fn each_edid_gives_its_output(rt: HostRuntime) {
-    for case in EDIDS {
-        gives_of_hex(&rt, case.line, case.name, case.input.trim_end(), case.want);
-    }
 }
