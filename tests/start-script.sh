@@ -353,6 +353,8 @@ check "and takes the same one" wrote "release: its program is the one that was b
 sed -i 's/kit 1/kit 0/' "$room/checkout/release/built-of"
 start "$room/checkout/hdminet" --prove
 check "--prove names another toolchain" says "hdminet: the released program was built by another toolchain, kit 0 of this test"
+start "$room/checkout/tools/release" --check
+check "a check of the release takes another toolchain" wrote "release: it was built by another toolchain, kit 0 of this test"
 rm "$OTHER"
 
 source_is broken
