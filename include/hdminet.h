@@ -46,7 +46,7 @@ enum hdminet_run_code {
     HDMINET_EXPECT_WORD = 90,   /* there is no such expectation, its pattern is too long, or nothing follows a label */
     HDMINET_EXPECT_NUMBER = 91, /* there is no number in an expectation */
     HDMINET_EXPECT_LABEL = 92,  /* a label stands above already, or none above is the one that is named */
-    HDMINET_EXPECT_ORDER = 93,  /* the window of an expectation ends before it begins */
+    HDMINET_EXPECT_ORDER = 93,  /* the window of an expectation ends before it begins, or the time of a state is past the end */
 
     HDMINET_EDGES_LINE = 100, /* a line is ill-formed, its time is past the limit, it is after the end, or there is no end */
     HDMINET_EDGES_ORDER = 101 /* an edge is out of turn, or its time goes back */

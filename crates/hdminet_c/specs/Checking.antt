@@ -9,13 +9,14 @@ use Rattle.cec_expect.specs.declared.form.ExpectCause.TheVariants as expects
 use Rattle.hdminet_room.specs.Room.{IsPut, refusal}
 use Rattle.hdminet_room.specs.declared.answer.Answer.{Answer}
 use Rattle.hdminet_room.specs.declared.code.Code.{Code}
-use Rattle.hdminet_room.specs.declared.code.Code.TheVariants.{Memory, ExpectWord, ExpectNumber, ExpectLabel, ExpectOrder}
+use Rattle.hdminet_room.specs.declared.code.Code.TheVariants.{Memory, ScriptName, ExpectWord, ExpectNumber, ExpectLabel, ExpectOrder}
 use Rattle.hdminet_c.specs.Run.{run_answer}
 use Rattle.hdminet_c.specs.declared.checking.Counts.{Counts}
 
 abbrev pub expect_code : ExpectCause → Code
 expect_code expects.Word = ExpectWord
 expect_code expects.Number = ExpectNumber
+expect_code expects.Name = ScriptName
 expect_code expects.Label = ExpectLabel
 expect_code expects.Order = ExpectOrder
 
