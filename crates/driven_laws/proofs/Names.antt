@@ -33,11 +33,11 @@ use Rattle.driven_laws.specs.Dumps.{names_in}
 
 -- ---- a device keeps its name
 
-two : (t : Bool) (x y : State) (name : List ℕ) → x.name ≡ name → y.name ≡ name → (if t then x else y).name ≡ name
+pub two : (t : Bool) (x y : State) (name : List ℕ) → x.name ≡ name → y.name ≡ name → (if t then x else y).name ≡ name
 two true x y name h k = h
 two false x y name h k = k
 
-name-queued : (limit at from to : ℕ) (bytes : List ℕ) (d : State) → (queued limit at from to bytes d).name ≡ d.name
+pub name-queued : (limit at from to : ℕ) (bytes : List ℕ) (d : State) → (queued limit at from to bytes d).name ≡ d.name
 name-queued limit at from to bytes d =
     two (not (speaks d) || holds d.place to) d
     (if nat_lt (length d.queue) limit then record d { queue = d.queue ++ record { frame = frame_of from to bytes; ready = at } ∷ [] } else record d { dropped = one_more d.dropped }) d.name refl
@@ -49,7 +49,7 @@ name-reported_from limit at (Some from) d =
     two (nat_lt from 15 || is_switch d.kind) (queued limit at from 15 (0x84 ∷ d.phys.high ∷ d.phys.low ∷ type_of d.kind from ∷ []) d) d d.name
     (name-queued limit at from 15 (0x84 ∷ d.phys.high ∷ d.phys.low ∷ type_of d.kind from ∷ []) d) refl
 
-name-reported_by : (limit at : ℕ) (units : List (Option ℕ)) (d : State) → (reported_by limit at units d).name ≡ d.name
+pub name-reported_by : (limit at : ℕ) (units : List (Option ℕ)) (d : State) → (reported_by limit at units d).name ≡ d.name
 name-reported_by limit at [] d = refl
 name-reported_by limit at (unit ∷ units) d = name-reported_by limit at units (reported_from limit at unit d) ∙ name-reported_from limit at unit d
 
@@ -69,7 +69,7 @@ name-moved at number false None d = refl
 name-moved at number true (Some address) d = refl
 name-moved at number true None d = refl
 
-names-each : (n at : ℕ) (tree : List Node) (ds : List State) → names_of (each_from n (moved_by at tree) ds) ≡ names_of ds
+pub names-each : (n at : ℕ) (tree : List Node) (ds : List State) → names_of (each_from n (moved_by at tree) ds) ≡ names_of ds
 names-each n at tree [] = refl
 names-each n at tree (d ∷ ds) = ap₂ (λ x xs. x ∷ xs) (name-moved at n (is_on_wire d) (address_of tree n) d) (names-each (n + 1) at tree ds)
 

@@ -1,0 +1,6 @@
+pub mod Lines
+pub mod Rounds
+pub mod Others
+pub mod Names
+pub mod Script
+pub mod Run

@@ -1,0 +1,155 @@
+-- The names of devices stay, whatever they meet.
+use Rattle.std.proofs.Common.{◌≡◌, ℕ, zero, suc, ◌+◌, ◌%◌, ◌<◌, ◌==◌, Bool, true, false, not, ◌&&◌, ◌||◌, nat_lt, if◌then◌else◌, map, List, [], ◌∷◌, ◌++◌, length, Option, Some, None, refl, sym, ap, ap₂, ◌∙◌, subst, arith}
+use Rattle.std.specs.List.{All}
+use Rattle.cec_opcode.specs.Words.{reason_byte}
+use Rattle.cec_opcode.specs.declared.words.Reason.TheVariants.{Unrecognized}
+use Rattle.cec_opcode.specs.declared.message.Decoded.{Decoded}
+use Rattle.cec_opcode.specs.declared.message.Decoded.TheVariants.{Known, Poll, Short, Unknown as NoName}
+use Rattle.cec_opcode.specs.Table.{decoded_of}
+use Rattle.hdmi_topo.specs.Node.{Node}
+use Rattle.hdmi_topo.specs.Tree.{with_plug}
+use Rattle.hdmi_topo.specs.declared.plug.Plug.{Plug as PlugRecord}
+use Rattle.cec_wire.specs.declared.Outcome.{Outcome}
+use Rattle.cec_wire.specs.Round.{close_in, fate_in}
+use Rattle.cec_frame.specs.Blocks.{frame_in}
+use Rattle.cec_frame.specs.declared.Fate.{Fate}
+use Rattle.cec_frame.specs.declared.Fate.TheVariants.{Delivered, Unacked, Lost, Broken}
+use Rattle.cec_feature.specs.declared.record.Heard.{Heard}
+use Rattle.cec_feature.specs.declared.keys.Key.{Key}
+use Rattle.cec_feature.specs.declared.say.Say.{Say}
+use Rattle.cec_feature.specs.declared.say.Say.TheVariants.{Reply, Cast, Tell, Refuse}
+use Rattle.cec_feature.specs.Effect.{Effect}
+use Rattle.cec_feature.specs.Effects.{effect_of, heard_of, refuses}
+use Rattle.cec_feature.specs.Keys.{pressing, releasing}
+use Rattle.cec_device.specs.declared.device.SubmitError.{SubmitError}
+use Rattle.cec_device.specs.declared.keys.KeyError.{KeyError}
+use Rattle.cec_device.specs.declared.free_time.FreeTime.TheVariants.{Retry}
+use Rattle.cec_device.specs.State.{State, held, queued, source}
+use Rattle.cec_device.specs.Say.{effected, say, say_all}
+use Rattle.cec_device.specs.Effects.{by_decoded, followed, is_for}
+use Rattle.cec_device.specs.Keys.{key_fault, keyed, keyed_by, own_doing}
+use Rattle.cec_device.specs.Place.{class_of_poll, ended, failed, frame_sent, front_is_poll, is_on_wire, polled_at, sent_by, stepped, submit_fault, submitted, submitted_by}
+use Rattle.cec_event.specs.declared.event.Event.{Event}
+use Rattle.cec_event.specs.declared.event.Event.TheVariants.{Plug, Unplug, Key as KeyEvent, Send}
+use Rattle.cec_event.specs.declared.event.EventError.{EventError}
+use Rattle.cec_net.specs.Start.{contends}
+use Rattle.cec_net.specs.State.{NetState, each_from}
+use Rattle.cec_net.specs.Apply.{applied, applied_unless, changed_at, event_fault}
+use Rattle.cec_net.specs.Step.{after_round, device_after, followed_in, followed_unless, is_among, is_contended, told}
+use Rattle.cec_driven.specs.Driven.{names_of}
+use Rattle.driven_laws.specs.Dumps.{names_in}
+use Rattle.driven_laws.proofs.Names.{name-queued, name-reported_by, names-each, two}
+
+-- ---- what a device says and does
+
+name-say : (limit : ℕ) (h : Heard) (s : Say) (d : State) → (say limit h s d).name ≡ d.name
+name-say limit h (Reply bytes) d = two (nat_lt h.from 15) (queued limit h.at (source d.place h.to) h.from bytes d) d d.name (name-queued limit h.at (source d.place h.to) h.from bytes d) refl
+name-say limit h (Cast bytes) d = name-queued limit h.at (source d.place h.to) 15 bytes d
+name-say limit h (Tell to bytes) d = two (nat_lt to 15) (queued limit h.at (source d.place h.to) to bytes d) d d.name (name-queued limit h.at (source d.place h.to) to bytes d) refl
+name-say limit h (Refuse reason) d =
+    two (nat_lt h.to 15 && (nat_lt h.from 15 && not (h.opcode == 0))) (queued limit h.at (source d.place h.to) h.from (0x00 ∷ h.opcode ∷ reason_byte reason ∷ []) d) d d.name
+    (name-queued limit h.at (source d.place h.to) h.from (0x00 ∷ h.opcode ∷ reason_byte reason ∷ []) d) refl
+
+name-say_all : (limit : ℕ) (h : Heard) (says : List Say) (d : State) → (say_all limit h says d).name ≡ d.name
+name-say_all limit h [] d = refl
+name-say_all limit h (s ∷ says) d = name-say_all limit h says (say limit h s d) ∙ name-say limit h s d
+
+name-effected : (limit : ℕ) (h : Heard) (e : Effect) (d : State) → (effected limit h e d).name ≡ d.name
+name-effected limit h e d = name-say_all limit h e.says (record d { record_of = e.after })
+
+name-decoded : (limit : ℕ) (h : Heard) (d : State) (said : Decoded) → (by_decoded limit h d said).name ≡ d.name
+name-decoded limit h d (Known message) = name-effected limit h (effect_of d.kind d.phys d.name d.ports h d.record_of message) d
+name-decoded limit h d (NoName opcode) = name-effected limit h (refuses d.record_of Unrecognized) d
+name-decoded limit h d (Short opcode) = refl
+name-decoded limit h d Poll = refl
+
+name-followed : (limit at : ℕ) (frame : List ℕ) (d : State) → (followed limit d frame at).name ≡ d.name
+name-followed limit at [] d = refl
+name-followed limit at (header ∷ []) d = refl
+name-followed limit at (header ∷ opcode ∷ operands) d =
+    two (is_for d (header % 16) opcode) (by_decoded limit (heard_of header opcode operands at) d (decoded_of (header ∷ opcode ∷ operands))) d d.name
+    (name-decoded limit (heard_of header opcode operands at) d (decoded_of (header ∷ opcode ∷ operands))) refl
+
+name-keyed_by : (limit at : ℕ) (key : Key) (press : Bool) (d : State) (fault : Option KeyError) → (keyed_by limit d key press at fault).name ≡ d.name
+name-keyed_by limit at key press d None =
+    name-effected limit (own_doing at) (if press then pressing d.kind d.phys d.record_of key else releasing d.kind d.record_of key) d
+name-keyed_by limit at key press d (Some fault) = refl
+
+name-submitted_by : (at : ℕ) (frame : List ℕ) (d : State) (fault : Option SubmitError) → (submitted_by d frame at fault).name ≡ d.name
+name-submitted_by at frame d None = refl
+name-submitted_by at frame d (Some fault) = refl
+
+-- ---- fates
+
+name-failed : (d : State) → (failed d).name ≡ d.name
+name-failed d = two (nat_lt d.attempts 5) (record d { attempts = d.attempts + 1; class = Retry }) (ended d) d.name refl refl
+
+name-frame_sent : (fate : Fate) (d : State) → (frame_sent d fate).name ≡ d.name
+name-frame_sent Lost d = refl
+name-frame_sent Delivered d = refl
+name-frame_sent Unacked d = two (front_is_poll d.queue) (ended d) (failed d) d.name refl (name-failed d)
+name-frame_sent Broken d = two (front_is_poll d.queue) (record d { class = Retry }) (failed d) d.name refl (name-failed d)
+
+name-sent_by : (limit at : ℕ) (fate : Fate) (d : State) (p : Option ℕ) → (sent_by limit d fate at p).name ≡ d.name
+name-sent_by limit at fate d None = name-frame_sent fate d
+name-sent_by limit at fate d (Some a) =
+    let e : State = record d { place = stepped d.kind d.place fate; poll_ready = at; class = class_of_poll fate } in
+    name-reported_by limit at (held e.place) e
+
+name-told : (own others : Bool) (fate : Fate) (at : ℕ) (d : State) → (told own others fate at d).name ≡ d.name
+name-told true others fate at d = name-sent_by 16 at fate d (polled_at d.place)
+name-told false true fate at d = refl
+name-told false false fate at d = refl
+
+name-unless : (sends : Bool) (frame : Option (List ℕ)) (at : ℕ) (d : State) → (followed_unless sends frame at d).name ≡ d.name
+name-unless sends None at d = refl
+name-unless true (Some frame) at d = refl
+name-unless false (Some frame) at d = name-followed 16 at frame d
+
+name-after : (own others : Bool) (o : Outcome) (number : ℕ) (d : State) → (device_after own others o number d).name ≡ d.name
+name-after own others o number d =
+    two (is_on_wire d) (told own others (fate_in o number) (close_in o) (followed_in o number d)) d d.name
+    (name-told own others (fate_in o number) (close_in o) (followed_in o number d) ∙ name-unless (is_among o.survivors.items number) (frame_in o.reading) (close_in o) d) refl
+
+-- ---- all devices
+
+names-all : (n : ℕ) (f : ℕ → State → State) (xs : List State) → ((m : ℕ) (d : State) → (f m d).name ≡ d.name) → names_of (each_from n f xs) ≡ names_of xs
+names-all n f [] step = refl
+names-all n f (x ∷ xs) step = ap₂ (λ a as. a ∷ as) (step n x) (names-all (n + 1) f xs step)
+
+names-changed : (number : ℕ) (f : State → State) (xs : List State) → ((d : State) → (f d).name ≡ d.name) → names_of (changed_at number f xs) ≡ names_of xs
+names-changed number f [] step = refl
+names-changed zero f (x ∷ xs) step = ap (λ a. a ∷ names_of xs) (step x)
+names-changed (suc number) f (x ∷ xs) step = ap (λ as. x.name ∷ as) (names-changed number f xs step)
+
+names-unless : (fault : Option EventError) (at : ℕ) (event : Event) (s : NetState) → names_of (applied_unless fault at event s).devices ≡ names_of s.devices
+names-unless (Some error) at event s = refl
+names-unless None at (Plug child parent port) s = names-each 0 at _ s.devices
+names-unless None at (Unplug child) s = names-each 0 at _ s.devices
+names-unless None at (KeyEvent device key press) s = names-changed device (λ d. keyed 16 d key press at) s.devices (λ d. name-keyed_by 16 at key press d (key_fault d key))
+names-unless None at (Send device frame) s = names-changed device (λ d. submitted 16 d frame at) s.devices (λ d. name-submitted_by at frame d (submit_fault 16 d frame))
+
+pub names_applied : (at : ℕ) (event : Event) (s : NetState) → names_of (applied at event s).devices ≡ names_of s.devices
+names_applied at event s = names-unless (event_fault s event) at event s
+
+pub names_round : (s : NetState) (begin : ℕ) (o : Outcome) → names_of (after_round s begin o).devices ≡ names_of s.devices
+names_round s begin o =
+    names-all 0 (λ number d. device_after (contends s.rest begin d) (is_contended s.rest begin s.devices) o number d) s.devices
+    (λ number d. name-after (contends s.rest begin d) (is_contended s.rest begin s.devices) o number d)
+
+-- ---- the tree
+
+names-plug : (tree : List Node) (child : ℕ) (plug : Option PlugRecord) → names_in (with_plug tree child plug) ≡ names_in tree
+names-plug [] child plug = refl
+names-plug (node ∷ tree) zero plug = refl
+names-plug (node ∷ tree) (suc child) plug = ap (λ ns. node.name ∷ ns) (names-plug tree child plug)
+
+tree-unless : (fault : Option EventError) (at : ℕ) (event : Event) (s : NetState) → names_in (applied_unless fault at event s).tree ≡ names_in s.tree
+tree-unless (Some error) at event s = refl
+tree-unless None at (Plug child parent port) s = names-plug s.tree child _
+tree-unless None at (Unplug child) s = names-plug s.tree child _
+tree-unless None at (KeyEvent device key press) s = refl
+tree-unless None at (Send device frame) s = refl
+
+pub tree_applied : (at : ℕ) (event : Event) (s : NetState) → names_in (applied at event s).tree ≡ names_in s.tree
+tree_applied at event s = tree-unless (event_fault s event) at event s
