@@ -115,12 +115,12 @@ name-after own others o number d =
 
 names-all : (n : ℕ) (f : ℕ → State → State) (xs : List State) → ((m : ℕ) (d : State) → (f m d).name ≡ d.name) → names_of (each_from n f xs) ≡ names_of xs
 names-all n f [] step = refl
-names-all n f (x ∷ xs) step = ap₂ (λ a as. a ∷ as) (step n x) (names-all (n + 1) f xs step)
+names-all n f (x ∷ xs) step = ap₂ (λ a bs. a ∷ bs) (step n x) (names-all (n + 1) f xs step)
 
 names-changed : (number : ℕ) (f : State → State) (xs : List State) → ((d : State) → (f d).name ≡ d.name) → names_of (changed_at number f xs) ≡ names_of xs
 names-changed number f [] step = refl
 names-changed zero f (x ∷ xs) step = ap (λ a. a ∷ names_of xs) (step x)
-names-changed (suc number) f (x ∷ xs) step = ap (λ as. x.name ∷ as) (names-changed number f xs step)
+names-changed (suc number) f (x ∷ xs) step = ap (λ bs. x.name ∷ bs) (names-changed number f xs step)
 
 names-unless : (fault : Option EventError) (at : ℕ) (event : Event) (s : NetState) → names_of (applied_unless fault at event s).devices ≡ names_of s.devices
 names-unless (Some error) at event s = refl

@@ -35,7 +35,7 @@ use Rattle.cec_trace.specs.StateText.{address_text, kind_text, language_bytes, n
 use Rattle.cec_trace.specs.TraceText.{end_line, error_word, event_line}
 use Rattle.cec_judge.specs.Told.{EventLine, RoundLine, event_by, event_in, event_behind, round_by, round_in, told_in}
 use Rattle.judge_laws.specs.ReadBack.{fault_words}
-use Rattle.judge_laws.proofs.Lines.{Adds, Closed, adds_none, adds_nothing, closed_end, closed_last, closed_more, first_word, number_solid, one_word_adds, two_words_add}
+use Rattle.judge_laws.proofs.Lines.{Adds, Closed, adds_none, adds_nothing, adds_two, closed_end, closed_last, closed_more, first_word, number_solid, one_word_adds, two_words_add}
 
 -- ---- words that are no numbers
 
@@ -134,7 +134,7 @@ plain_address Switch [] = tt
 plain_address Switch (u ∷ us) = plain_unit u
 plain_address Combo [] = tt
 plain_address Combo (u ∷ []) = plain_unit u
-plain_address Combo (u ∷ v ∷ us) = plain_more (unit_text u) (codes "+" ++ unit_text v) (plain_unit u) (plain_more (codes "+") (unit_text v) (plain_codes (codes "+") refl) (plain_unit v))
+plain_address Combo (u ∷ v ∷ us) = plain_more (unit_text u ++ codes "+") (unit_text v) (plain_more (unit_text u) (codes "+") (plain_unit u) (plain_codes (codes "+") refl)) (plain_unit v)
 
 plain_power : (on : Bool) → IsPlain (power_text on)
 plain_power true = plain_codes (codes "on") refl
@@ -161,26 +161,26 @@ lit xs h k = closed_more xs (plain_codes xs h) k
 pub state_adds : (d : State) → IsPlain d.name → Adds (state_line d) [] []
 state_adds d plain =
     let tail =
-        closed_more d.name plain (lit (codes " ") refl (closed_more (kind_text d.kind) (plain_kind d.kind) (lit (codes " ") refl
-        (closed_more (address_text d.kind (held d.place)) (plain_address d.kind (held d.place)) (lit (codes " ") refl
-        (closed_more (dash_or phys_text (phys_on (place.is_on_wire d) d.phys)) (plain_dash phys_text (phys_on (place.is_on_wire d) d.phys) plain_phys) (lit (codes " ") refl
-        (closed_more (power_text d.record_of.power) (plain_power d.record_of.power) (lit (codes " active=") refl
-        (closed_more (dash_or phys_text d.record_of.active) (plain_dash phys_text d.record_of.active plain_phys) (lit (codes " path=") refl
-        (closed_more (dash_or phys_text d.record_of.path) (plain_dash phys_text d.record_of.path plain_phys) (lit (codes " deck=") refl
-        (closed_more (hex_text (deck_info_byte d.record_of.deck)) (plain_hex (deck_info_byte d.record_of.deck)) (lit (codes " menu=") refl
-        (closed_more (switch_text d.record_of.menu) (plain_switch d.record_of.menu) (lit (codes " audio=") refl
-        (closed_more (switch_text d.record_of.audio) (plain_switch d.record_of.audio) (lit (codes " volume=") refl
-        (closed_more (decimal d.record_of.volume) (plain_decimal d.record_of.volume) (lit (codes " mute=") refl
-        (closed_more (switch_text d.record_of.mute) (plain_switch d.record_of.mute) (lit (codes " arc=") refl
-        (closed_more (switch_text d.record_of.arc) (plain_switch d.record_of.arc) (lit (codes " sel=") refl
-        (closed_more (dash_or decimal d.record_of.selected) (plain_dash decimal d.record_of.selected plain_decimal) (lit (codes " lang=") refl
-        (closed_more (flat_map hex_text (language_bytes d.record_of.language)) (plain_hexes (language_bytes d.record_of.language)) (lit (codes " osd=") refl
-        (closed_more (hex_or_dash d.record_of.osd.items) (plain_hex_dash d.record_of.osd.items) (lit (codes " held=") refl
-        (closed_more (dash_or hex_text d.record_of.held) (plain_dash hex_text d.record_of.held plain_hex) (lit (codes " heard=") refl
-        (closed_more (dash_or note_text d.record_of.heard) (plain_dash note_text d.record_of.heard plain_note) (lit (codes " sub=") refl
-        (closed_more (dash_or (λ n. nibble_text (n % 16)) d.record_of.sub) (plain_dash (λ n. nibble_text (n % 16)) d.record_of.sub (λ n. plain_nibble (n % 16))) (lit (codes " queue=") refl
-        (closed_more (decimal (length d.queue)) (plain_decimal (length d.queue)) (lit (codes " dropped=") refl
-        (closed_more (decimal d.dropped) (plain_decimal d.dropped) closed_last)))))))))))))))))))))))))))))))))))))))) in
+    closed_more d.name plain (lit (codes " ") refl (closed_more (kind_text d.kind) (plain_kind d.kind) (lit (codes " ") refl
+    (closed_more (address_text d.kind (held d.place)) (plain_address d.kind (held d.place)) (lit (codes " ") refl
+    (closed_more (dash_or phys_text (phys_on (place.is_on_wire d) d.phys)) (plain_dash phys_text (phys_on (place.is_on_wire d) d.phys) plain_phys) (lit (codes " ") refl
+    (closed_more (power_text d.record_of.power) (plain_power d.record_of.power) (lit (codes " active=") refl
+    (closed_more (dash_or phys_text d.record_of.active) (plain_dash phys_text d.record_of.active plain_phys) (lit (codes " path=") refl
+    (closed_more (dash_or phys_text d.record_of.path) (plain_dash phys_text d.record_of.path plain_phys) (lit (codes " deck=") refl
+    (closed_more (hex_text (deck_info_byte d.record_of.deck)) (plain_hex (deck_info_byte d.record_of.deck)) (lit (codes " menu=") refl
+    (closed_more (switch_text d.record_of.menu) (plain_switch d.record_of.menu) (lit (codes " audio=") refl
+    (closed_more (switch_text d.record_of.audio) (plain_switch d.record_of.audio) (lit (codes " volume=") refl
+    (closed_more (decimal d.record_of.volume) (plain_decimal d.record_of.volume) (lit (codes " mute=") refl
+    (closed_more (switch_text d.record_of.mute) (plain_switch d.record_of.mute) (lit (codes " arc=") refl
+    (closed_more (switch_text d.record_of.arc) (plain_switch d.record_of.arc) (lit (codes " sel=") refl
+    (closed_more (dash_or decimal d.record_of.selected) (plain_dash decimal d.record_of.selected plain_decimal) (lit (codes " lang=") refl
+    (closed_more (flat_map hex_text (language_bytes d.record_of.language)) (plain_hexes (language_bytes d.record_of.language)) (lit (codes " osd=") refl
+    (closed_more (hex_or_dash d.record_of.osd.items) (plain_hex_dash d.record_of.osd.items) (lit (codes " held=") refl
+    (closed_more (dash_or hex_text d.record_of.held) (plain_dash hex_text d.record_of.held plain_hex) (lit (codes " heard=") refl
+    (closed_more (dash_or note_text d.record_of.heard) (plain_dash note_text d.record_of.heard plain_note) (lit (codes " sub=") refl
+    (closed_more (dash_or (λ n. nibble_text (n % 16)) d.record_of.sub) (plain_dash (λ n. nibble_text (n % 16)) d.record_of.sub (λ n. plain_nibble (n % 16))) (lit (codes " queue=") refl
+    (closed_more (decimal (length d.queue)) (plain_decimal (length d.queue)) (lit (codes " dropped=") refl
+    (closed_more (decimal d.dropped) (plain_decimal d.dropped) closed_last)))))))))))))))))))))))))))))))))))))))) in
     silent (one_word_adds (codes "state") (shown (λ b. b == 32) (codes "state") refl) (plain_codes (codes "state") refl) tail) (no_begin (codes "state") (words_of tail.body) refl)
     (no_event (codes "state") (words_of tail.body) refl)
 

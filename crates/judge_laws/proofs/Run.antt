@@ -1,7 +1,7 @@
 -- A trace is read back, turn by turn.
 use Rattle.std.proofs.Common.{◌≡◌, ◌≢◌, ℕ, zero, suc, ◌+◌, ◌^◌, ◌<◌, ◌≤◌, ◌==◌, Bool, true, false, nat_lt, max, if◌then◌else◌, List, [], ◌∷◌, ◌++◌, length, map, slice_get, Option, Some, None, refl, sym, ap, ap₂, ◌∙◌, subst, arith, append_assoc, append-nil}
 use Rattle.std.proofs.lemmas.List.{map-append}
-use Rattle.std.specs.List.{All, flat_map}
+use Rattle.std.specs.List.{All, cons_option, filter_map, flat_map}
 use Rattle.std.proofs.lemmas.Bool.Decides.{nat_tests}
 use Rattle.std.proofs.lemmas.List.Elements.{All-append, All-cons, All-nil}
 use Rattle.std.proofs.lemmas.Option.{get_or_from_slice_get, slice_get_within}
@@ -11,6 +11,8 @@ use Rattle.cec_wire.proofs.Bounds.{rounds_are_short}
 use Rattle.hdmi_blocks.specs.declared.edid.Edid.{Edid}
 use Rattle.hdmi_topo.specs.Node.{Node}
 use Rattle.hdmi_topo.specs.Path.{is_on_wire}
+use Rattle.cec_words.specs.Lines.{lines_of}
+use Rattle.cec_words.specs.Words.{words_of}
 use Rattle.cec_signal.proofs.Texts.{Lacks}
 use Rattle.cec_device.specs.State.{State}
 use Rattle.cec_net.specs.State.{NetState, next_start, started}
@@ -31,7 +33,9 @@ use Rattle.cec_run.specs.RunLine as run_line
 use Rattle.cec_run.specs.Emulate.{IsTraceOf}
 use Rattle.cec_run.proofs.Advance.{round_begins}
 use Rattle.cec_driven.specs.Driven.{names_of}
-use Rattle.cec_judge.specs.Told.{EventLine, RoundLine, events_of, rounds_of}
+use Rattle.cec_judge.specs.Seen.{end_by, ends_seen}
+use Rattle.cec_judge.specs.Told.{EventLine, RoundLine, events_of, round_in, rounds_of}
+use Rattle.cec_judge.specs.declared.seen.Span.{Span}
 use Rattle.dump_laws.specs.Dumps.{is_word}
 use Rattle.dump_laws.proofs.Head.{name_of}
 use Rattle.driven_laws.specs.Dumps.{names_in}
@@ -211,6 +215,28 @@ whole_text text rs es a = (
   ap events_of (sym (append-nil text)) ∙ a.events [] ∙ append-nil (es ++ []) ∙ append-nil es,
 )
 
+-- ---- which rounds are seen
+
+after_none : {X Y Z : Type 0} (g : X → Option Y) (f : Option Y → Option Z) → f None ≡ None → (xs : List X)
+    → filter_map (λ x. f (g x)) xs ≡ filter_map (λ y. f (Some y)) (filter_map g xs)
+after_none {X} {Y} g f none [] = refl
+after_none {X} {Y} g f none (x ∷ xs) = by (g x) (after_none g f none xs)
+  where
+    by : (o : Option Y) → filter_map (λ x. f (g x)) xs ≡ filter_map (λ y. f (Some y)) (filter_map g xs)
+        → cons_option (f o) (filter_map (λ x. f (g x)) xs) ≡ filter_map (λ y. f (Some y)) (cons_option o (filter_map g xs))
+    by None more = ap (λ o. cons_option o (filter_map (λ x. f (g x)) xs)) none ∙ more
+    by (Some y) more = ap (cons_option (f (Some y))) more
+
+of_mapped : {X Y Z : Type 0} (f : X → Y) (h : Y → Option Z) (xs : List X) → filter_map h (map f xs) ≡ filter_map (λ x. h (f x)) xs
+of_mapped f h [] = refl
+of_mapped f h (x ∷ xs) = ap (cons_option (h (f x))) (of_mapped f h xs)
+
+seen_so : (text pattern : List ℕ) (span : Span) (rs : List RoundTold) → rounds_of text ≡ map round_read rs
+    → ends_seen text span pattern ≡ filter_map (λ r. end_by span pattern (Some (round_read r))) rs
+seen_so text pattern span rs e =
+    after_none (λ line. round_in (words_of line)) (end_by span pattern) refl (lines_of text) ∙ ap (filter_map (λ r. end_by span pattern (Some r))) e
+    ∙ of_mapped round_read (λ r. end_by span pattern (Some r)) rs
+
 abbrev run_told : (topology script text : List ℕ) (totals : Totals) → (p : IsTraceOf topology script text totals) → Type 0
 run_told topology script text totals p =
     Turned (names_in p.plan.tree) p.trace.run.body (start (started p.plan.tree p.course.pulses) p.course.events) p.trace.run.last (rounds_told topology script text totals p) (events_told topology script text totals p)
@@ -247,6 +273,7 @@ traces_are_read_back topology script text totals p small =
       rounds = read.0;
       outcomes = same_rounds p.edid p.course.end p.trace.run.turns c last p.trace.run.body p.trace.run.leads;
       events = read.1;
+      seen = λ span pattern. seen_so text pattern span (rounds_told topology script text totals p) read.0;
       in_order = run.order;
     }
 

@@ -1,5 +1,6 @@
 -- A trace that is read back is its run (own): what is judged of a trace is judged of the rounds and events of the run.
 use Rattle.std.specs.Prelude.{◌≡◌, ℕ, zero, suc, ◌<◌, ◌^◌, length, List, [], ◌∷◌, ◌++◌, map, slice_get, Option, Some, None, codes}
+use Rattle.std.specs.List.{filter_map}
 use Rattle.cec_frame.specs.declared.Ending.{Ending}
 use Rattle.cec_frame.specs.declared.Ending.TheVariants.{Complete, Short, Silent, BadStart, Long, Open}
 use Rattle.cec_wire.specs.declared.Outcome.{Outcome}
@@ -18,7 +19,9 @@ use Rattle.cec_run.specs.declared.run.Turn.TheVariants.{Stop, Apply, Round}
 use Rattle.cec_run.specs.Run.{Config, IsTurnBy, Leads, start, turn_at}
 use Rattle.cec_run.specs.Emulate.{IsTraceOf}
 use Rattle.cec_run.specs.OneRun.{rounds_of_trace}
+use Rattle.cec_judge.specs.Seen.{end_by, ends_seen}
 use Rattle.cec_judge.specs.Told.{EventLine, RoundLine, events_of, rounds_of}
+use Rattle.cec_judge.specs.declared.seen.Span.{Span}
 
 -- ---- what a run tells
 
@@ -99,6 +102,8 @@ pub record IsReadBack (topology script text : List ℕ) (totals : Totals) (p : I
   pub rounds : rounds_of text ≡ map round_read (rounds_told topology script text totals p)
   pub outcomes : map (λ r. r.outcome) (rounds_told topology script text totals p) ≡ rounds_of_trace topology script text totals p
   pub events : events_of text ≡ map event_read (events_told topology script text totals p)
+  -- Which of the rounds are seen in a span of time is by these alone.
+  pub seen : (span : Span) (pattern : List ℕ) → ends_seen text span pattern ≡ filter_map (λ r. end_by span pattern (Some (round_read r))) (rounds_told topology script text totals p)
   pub in_order : p.course.events ≡ map (λ e. e.event) (events_told topology script text totals p) ++ p.trace.run.last.events
 
 -- Of every topology and script that are accepted, the script of fewer bytes than 2 ^ 63.
