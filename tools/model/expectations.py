@@ -155,7 +155,7 @@ class Judge:
             return found is not None and found[1] == it.word, []
         if it.kind == 'state':
             line = self.state_at(it.at, it.device)
-            return all(word in line.split(b' ') for word in it.words), [line]
+            return all(word in line.split(b' ')[2:] for word in it.words), [line]
         window = self.window(it)
         if window is None:
             return False, [b'no instant']
