@@ -33,6 +33,7 @@ tv 113=00 115=00 54=e703 => fail timing 1 clock/  the pixel clock is at least 10
 tv 69=4a => fail timing 1 h-back-porch/  some of the horizontal blanking is left after sync offset, sync width and both borders (E-EDID A, 3.10.2)/  here: blanking 280, sync offset 88, sync width 44, borders 2 times 74/
 tv 66=12 => fail timing 1 size-differs/  the image is at most 9 mm larger than the display, and not more than 9 mm smaller both ways (E-EDID A, 3.10.2, 3.6.2)/  here: image 530 x 290 mm, display 52 x 29 cm/
 tv 116=42 => fail timing 1 out-of-range/  the field rate and the line rate are within the range limits (E-EDID A, 3.10.3.3)/  here: 60.000 Hz, 67.500 kHz/
+tv 54=f339 116=42 => fail timing 1 out-of-range/  the field rate and the line rate are within the range limits (E-EDID A, 3.10.3.3)/  here: 59.939 Hz, 67.432 kHz/
 ";
 
 pub(crate) fn explained(rt: &(impl Abort + AllocGlobal), words: &str) -> String {

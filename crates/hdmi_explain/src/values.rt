@@ -200,12 +200,12 @@ fn size_told(alloc: Global, base: &Base, timing: &Timing) -> Result<String, Allo
     format!(in alloc; "image {width} x {height} mm, display {across} x {up} cm")
 }
 
-/// The whole part of a quotient, and its thousandths.
+/// The whole part of a quotient, and its thousandths, to the nearest one.
 fn parts_of(count: u64, per: u64) -> (u64, u64) {
     if per == 0 {
         return (0, 0);
     }
-    let thousandths = count.saturating_mul(1000) / per;
+    let thousandths = count.saturating_mul(1000).saturating_add(per / 2) / per;
     (thousandths / 1000, thousandths % 1000)
 }
 
