@@ -179,6 +179,7 @@ The input is that of `hdminet run`, and its script may also have labels and expe
   expect within D of NAME PATTERN        a round that meets the pattern, D microseconds from a label on
   expect from T to U PATTERN             or between two times
   expect none .., expect once ..         no such round, or exactly one
+  expect state T NAME WORD ..            at T the device's state line has each of these words
   expect refused NAME WORD               the event of this label is refused with the word
 A pattern is met by a round whose line in the trace begins with it behind its two times, without the word
 complete, up to the end of a word; `*` stands for any part of one word. A round is in a window where it
@@ -186,8 +187,8 @@ begins and ends in it. The instant of a label is that at which its event was app
 first round that meets its expectation.
 
 The output is in the Test Anything Protocol, version 13: a line `ok` or `not ok` for each expectation, in
-order, then one for each refused event that none expects. Below a failure stand the window and rounds in it.
-Lines are counted from the line behind `script`.
+order, then one for each refused event that none expects. Below a failure stand the window and rounds in it,
+or the state line. Lines are counted from the line behind `script`.
 
 An example:
   device tv tv 4
@@ -216,9 +217,10 @@ nothing is written then. CAUSE is the first of these that applies:
   word       no such expectation; a pattern of no or more than 160 bytes, or with more than four `*`; nothing
              behind a label
   number     a number that is none
+  name       a device that the topology does not declare
   label      a label that is empty or stands above already; one that no line above has; for a refusal, one
              that is no event's
-  order      a window ends before it begins
+  order      a window ends before it begins, or the time of a state is past `end`
 
 Exit status: 0 all tests hold; 1 a test failed, or input refused; 2 command line refused; 3 a read or write
 fault, or input past 1048576 bytes; 4 no memory.";

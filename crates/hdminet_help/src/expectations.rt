@@ -104,8 +104,21 @@ fn unfit_word(line: &str, window: usize) -> Option<Mark> {
     }
 }
 
+// The words at fault of an expectation of a device's state.
+fn in_state(cause: &str, line: &str) -> Option<Mark> {
+    match cause {
+        "word" => unfit_word(line, 1),
+        "number" | "order" => one(2),
+        "name" => one(3),
+        _ => None,
+    }
+}
+
 // The words at fault of an expectation without its label.
 fn in_window(cause: &str, line: &str) -> Option<Mark> {
+    if is_word(line, 1, "state") {
+        return in_state(cause, line);
+    }
     let window = before_window(line);
     match cause {
         "word" => unfit_word(line, window),

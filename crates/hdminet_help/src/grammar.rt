@@ -30,6 +30,7 @@ pub const TEST: &[&str] = &[
     "label NAME LINE",
     "expect within D of NAME PATTERN",
     "expect from T to U PATTERN",
+    "expect state T NAME WORD",
     "expect refused NAME WORD",
 ];
 
@@ -41,13 +42,14 @@ pub const EXPECTATIONS: &[&str] = &[
     "expect none from T to U PATTERN",
     "expect once within D of NAME PATTERN",
     "expect once from T to U PATTERN",
+    "expect state T NAME WORD",
     "expect refused NAME WORD",
     "label NAME LINE",
 ];
 
 /// The words of expectations and labels that stand for themselves.
 pub const EXPECTATION_WORDS: &[&str] = &[
-    "label", "expect", "none", "once", "within", "from", "refused", "of", "to",
+    "label", "expect", "none", "once", "within", "from", "state", "refused", "of", "to",
 ];
 
 /// The steps.

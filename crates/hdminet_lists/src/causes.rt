@@ -86,13 +86,14 @@ const EXPECTATIONS: &[Row] = &[
         "number",
         "D, T and U are decimal numbers of microseconds; none has a zero before it",
     ),
+    ("name", "a line of the topology declares the device"),
     (
         "label",
         "a label is a word that no other line has, on a line above those that name it; `refused` names that of an event",
     ),
     (
         "order",
-        "a window does not end before it begins: U is T or later",
+        "a window does not end before it begins: U is T or later; the time of a state is not past `end`",
     ),
 ];
 
