@@ -52,7 +52,8 @@ fn failed_in(verdicts: &[bool]) -> u64
     count
 }
 
-fn tally_of(verdicts: &[bool]) -> Tally
+/// How many tests have these verdicts, and how many of them failed.
+pub fn tally_of(verdicts: &[bool]) -> Tally
     ensures { result ≡ tally_of verdicts.now }
 {
     Tally {

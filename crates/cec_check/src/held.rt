@@ -6,14 +6,14 @@ use std::alloc::Global;
 
 /// What was put, and whether memory ran out.
 #[derive(Drop)]
-pub(crate) struct Held {
-    pub(crate) bytes: Vec<u8>,
+pub struct Held {
+    pub bytes: Vec<u8>,
     stuck: bool,
 }
 
 impl Held {
     /// Nothing is put yet.
-    pub(crate) fn new(alloc: Global) -> Self
+    pub fn new(alloc: Global) -> Self
         ensures { result.bytes.items ≡ [] }
     {
         Held {

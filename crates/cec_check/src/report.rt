@@ -20,10 +20,10 @@ use std::alloc::{AllocError, Global};
 
 /// A report that is being made.
 #[derive(Drop)]
-pub(crate) struct Draft {
-    pub(crate) text: Held,
+pub struct Draft {
+    pub text: Held,
     /// Whether each of its tests holds, in order.
-    pub(crate) verdicts: Vec<bool>,
+    pub verdicts: Vec<bool>,
 }
 
 /// How many lines of rounds stand below a test that failed, at most.
@@ -298,7 +298,7 @@ fn begun(alloc: Global) -> Result<Draft, AllocError>
 }
 
 /// The report of a script, by the trace of its run and, of each line, the state line that it speaks of.
-pub(crate) fn whole_report(
+pub fn whole_report(
     alloc: Global,
     script: &[u8],
     trace: &[u8],

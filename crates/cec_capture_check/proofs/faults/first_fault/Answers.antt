@@ -1,0 +1,11 @@
+use Rattle.std.proofs.Common.{◌≡◌, ap, ◌∙◌}
+use Rattle.cec_words.specs.Lines.{lines_of}
+use Rattle.cec_capture_check.specs.Faults.{earlier, kinds_from}
+use Rattle.cec_capture_check.proofs.First.{first_is}
+use Rattle.cec_capture_check.proofs.faults.first_fault.Goals as goal
+
+pub returns : goal.returns
+returns c =
+    let text = c.args.text.now in
+    c.earlier.ensures ∙ ap (λ f. earlier f c.first_fault.result) c.kind_fault_in.ensures ∙ ap (earlier (kinds_from 1 (lines_of text))) c.first_fault.ensures
+    ∙ first_is text 1 (lines_of text)

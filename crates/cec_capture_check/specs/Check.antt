@@ -1,0 +1,39 @@
+-- What a check of a capture answers: the report of its expectations by its readings (own).
+use Rattle.std.specs.Prelude.{◌≡◌, ℕ, ◌<◌, Bool, true, false, List, length, take, Option, Some, None, Result, Ok, Err}
+use Rattle.std.specs.Io.KnownBytes.{Appends}
+use Rattle.cec_signal.specs.Edges.{Captured}
+use Rattle.cec_check.specs.Check.{tally_of}
+use Rattle.cec_check.specs.Report.{Report, report}
+use Rattle.cec_check.specs.declared.checking.Tally.{Tally}
+use Rattle.cec_capture_check.specs.Faults.{first_fault}
+use Rattle.cec_capture_check.specs.Marks.{capture_trace, no_states}
+use Rattle.cec_capture_check.specs.declared.checking.CaptureCheckError.{CaptureCheckError}
+use Rattle.cec_capture_check.specs.declared.checking.CaptureCheckError.TheVariants.{Expect, Write, Memory}
+
+-- the report of expectations, by what is judged of a capture
+abbrev pub capture_report : List ℕ → Captured → Report
+capture_report text capture = report text (capture_trace text capture) (no_states text)
+
+-- no line is at fault, and the report is written
+pub record IsCaptureChecked (text : List ℕ) (capture : Captured) (old new : Option (List ℕ)) (tally : Tally) : Type 0 where
+  pub accepted : first_fault text ≡ None
+  pub tally_is : tally ≡ tally_of (capture_report text capture).verdicts
+  pub written : Appends old new (capture_report text capture).text
+
+-- when each refusal comes; of memory nothing is said
+abbrev pub IsCaptureTold : List ℕ → CaptureCheckError → Type 0
+IsCaptureTold text (Expect fault) = first_fault text ≡ Some fault
+IsCaptureTold text (Write count) = first_fault text ≡ None
+IsCaptureTold text Memory = Unit {0}
+
+-- what a refusal has written: after a failed write the front of the report, as long as it tells, and else nothing
+abbrev pub IsCaptureCut : List ℕ → Captured → Option (List ℕ) → Option (List ℕ) → CaptureCheckError → Type 0
+IsCaptureCut text capture old new (Expect fault) = new ≡ old
+IsCaptureCut text capture old new (Write count) = (count < length (capture_report text capture).text) × Appends old new (take count (capture_report text capture).text)
+IsCaptureCut text capture old new Memory = new ≡ old
+
+abbrev pub is_write : Result Tally CaptureCheckError → Bool
+is_write (Ok tally) = false
+is_write (Err (Expect fault)) = false
+is_write (Err (Write count)) = true
+is_write (Err Memory) = false

@@ -1,0 +1,33 @@
+-- The first line of expectations of a capture that is at fault (own). Lines count from 1.
+use Rattle.std.specs.Prelude.{ℕ, ◌+◌, nat_lt, if◌then◌else◌, List, [], ◌∷◌, Option, Some, None}
+use Rattle.cec_words.specs.Lines.{lines_of}
+use Rattle.cec_expect.specs.Faults.{fault_or, line_fault as expectation_fault}
+use Rattle.cec_expect.specs.declared.form.ExpectCause.{ExpectCause}
+use Rattle.cec_expect.specs.declared.faults.ExpectFault.{ExpectFault}
+use Rattle.cec_capture_check.specs.Lines.{line_fault}
+
+abbrev pub or_else : Option ExpectCause → Option ExpectCause → Option ExpectCause
+or_else None next = next
+or_else (Some cause) next = Some cause
+
+-- the first line at fault of these, of which the first has this number: it is none of a capture's, or its label or expectation is
+-- at fault as in a script; there are no devices
+abbrev pub faults_from : List ℕ → ℕ → List (List ℕ) → Option ExpectFault
+faults_from text number [] = None
+faults_from text number (line ∷ lines) = fault_or number (or_else (line_fault line) (expectation_fault [] text number line)) (faults_from text (number + 1) lines)
+
+abbrev pub first_fault : List ℕ → Option ExpectFault
+first_fault text = faults_from text 1 (lines_of text)
+
+-- ---- as it is found
+
+-- the first line that is none of a capture's
+abbrev pub kinds_from : ℕ → List (List ℕ) → Option ExpectFault
+kinds_from number [] = None
+kinds_from number (line ∷ lines) = fault_or number (line_fault line) (kinds_from (number + 1) lines)
+
+-- the one on the earlier line, or else the first
+abbrev pub earlier : Option ExpectFault → Option ExpectFault → Option ExpectFault
+earlier None other = other
+earlier (Some fault) None = Some fault
+earlier (Some fault) (Some other) = if nat_lt other.line fault.line then Some other else Some fault

@@ -1,0 +1,80 @@
+//! From expectations and a capture to their report.
+ghost use Rattle.std.specs.Prelude.{◌≡◌, ◌↔◌, true, false, IfOk, IfErr, IsTrue};
+ghost use Rattle.cec_capture_check.specs.Check.{IsCaptureChecked, IsCaptureCut, IsCaptureTold, capture_report, is_write};
+ghost use Rattle.cec_capture_check.specs.Marks.{capture_trace};
+ghost use Rattle.cec_check.specs.Report.{report_as};
+
+use crate::faults::first_fault;
+use crate::marks::{no_states, push_marks};
+use cec_check::{Draft, Held, Tally, tally_of, whole_report};
+use cec_expect::ExpectFault;
+use cec_mon::watch_capture;
+use cec_signal::Capture;
+use hdmi_core::{Sink, put_all};
+use std::alloc::{AllocError, Global};
+use thiserror::Error;
+
+/// Why there is no report of a capture, or not all of it.
+#[derive(Debug, Drop, Error)]
+pub enum CaptureCheckError {
+    /// The first line of the expectations at fault.
+    #[error("expectations {0}")]
+    Expect(ExpectFault),
+    /// A `put` took none. So many bytes of the report were written.
+    #[error("write fault after {0} bytes")]
+    Write(u128),
+    #[error("no memory")]
+    Memory,
+}
+
+// What is judged of a capture.
+fn capture_trace(alloc: Global, expectations: &[u8], capture: &Capture) -> Result<Held, AllocError>
+    ensures { IfOk result (λ held. held.bytes.items ≡ capture_trace expectations.now capture.now) }
+{
+    let mut held = Held::new(alloc);
+    push_marks(&mut held.bytes, expectations)?;
+    match watch_capture(capture, &mut held) {
+        Ok(()) => Ok(held),
+        Err(_) => Err(AllocError),
+    }
+}
+
+fn report_of(alloc: Global, expectations: &[u8], capture: &Capture) -> Result<Draft, AllocError>
+    ensures { IfOk result (λ draft. report_as draft ≡ capture_report expectations.now capture.now) }
+{
+    let held = capture_trace(alloc, expectations, capture)?;
+    let states = no_states(alloc, expectations)?;
+    whole_report(alloc, expectations, &held.bytes, &states)
+}
+
+/// Writes the report of whether the readings of a capture are as the expectations have it, as `check` writes that of a run. The
+/// lines of the expectations are those of a script, with `label NAME at T` in place of events: it names an instant. The report and
+/// the lines of the readings are held in memory.
+///
+/// # Errors
+///
+/// The first line at fault: then nothing was written. A failed write: then the front of the report was written, as long as it
+/// tells.
+pub fn check_capture<S: Sink>(
+    alloc: Global,
+    expectations: &[u8],
+    capture: &Capture,
+    out: &mut S,
+) -> Result<Tally, CaptureCheckError>
+    ensures ok { IfOk result (IsCaptureChecked expectations.now capture.now (S.contents out.old) (S.contents out.new)) }
+    ensures told { IfErr result (IsCaptureTold expectations.now) }
+    ensures write { S.is_stuck out.old ≡ false → (IsTrue (is_write result) ↔ IsTrue (S.is_stuck out.new)) }
+    ensures cut { IfErr result (IsCaptureCut expectations.now capture.now (S.contents out.old) (S.contents out.new)) }
+{
+    match first_fault(expectations) {
+        Some(fault) => return Err(CaptureCheckError::Expect(fault)),
+        None => {}
+    }
+    let Ok(report) = report_of(alloc, expectations, capture) else {
+        return Err(CaptureCheckError::Memory);
+    };
+    match put_all(out, &report.text.bytes) {
+        Ok(()) => Ok(tally_of(&report.verdicts)),
+        Err(fault) => Err(CaptureCheckError::Write(fault.count)),
+    }
+}

@@ -1,0 +1,8 @@
+//! Whether a capture is as its expectations have it.
+#![tactic(auto)]
+
+mod checking;
+mod faults;
+mod marks;
+
+pub use checking::{CaptureCheckError, check_capture};

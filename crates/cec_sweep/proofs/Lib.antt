@@ -1,0 +1,3 @@
+pub mod Instants
+pub mod Stretching
+pub mod Refused

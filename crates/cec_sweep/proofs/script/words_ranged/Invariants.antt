@@ -1,0 +1,13 @@
+use Rattle.std.proofs.Common.{◌≡◌, length}
+use Rattle.std.specs.Option.{option_copied}
+use Rattle.cec_words.specs.Words.{words_behind, words_of}
+use Rattle.cec_sweep.specs.Script.{words_ranged}
+use Rattle.cec_sweep.specs.declared.places.Place.TheVariants.{Begin}
+use Rattle.cec_sweep.proofs.script.words_ranged.Given as goal
+
+-- the words before, and then those that are left
+abbrev pub invariant-words : goal.invariant-words
+invariant-words l = words_ranged l.number l.place l.seen (words_behind (option_copied l.rest)) ≡ words_ranged l.number Begin l.fn.seen (words_of l.line)
+
+abbrev pub decreases-words : goal.decreases-words
+decreases-words l = length (words_behind (option_copied l.rest))

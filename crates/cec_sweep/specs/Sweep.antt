@@ -1,0 +1,84 @@
+-- What a sweep of a script answers (own): the stretches of its range, by the verdicts of the script with each instant in the
+-- range's place.
+use Rattle.std.specs.Prelude.{◌≡◌, ℕ, ◌<◌, Bool, true, false, List, ◌∷◌, ◌++◌, length, take, Option, Some, None, Result, Ok, Err}
+use Rattle.std.specs.List.{All}
+use Rattle.std.specs.Io.KnownBytes.{Appends}
+use Rattle.cec_check.specs.Check.{AreVerdictsOf, IsVerdictTold}
+use Rattle.cec_check.specs.declared.checking.CheckError.{CheckError}
+use Rattle.cec_sweep.specs.Script.{range_of, script_at}
+use Rattle.cec_sweep.specs.Series.{Series, instants_of}
+use Rattle.cec_sweep.specs.Stretches.{AreStretches, Draft, Stretch, all_hold, stretches_text}
+use Rattle.cec_sweep.specs.declared.sweeping.SweepError.{SweepError}
+use Rattle.cec_sweep.specs.declared.sweeping.SweepError.TheVariants.{NoRange, Range, At, Write, Memory}
+
+-- the verdicts of a check of the script at an instant
+abbrev pub AreVerdictsAt : List ℕ → List ℕ → ℕ → List Bool → Type 0
+AreVerdictsAt topology script t verdicts = AreVerdictsOf topology (script_at t script) verdicts
+
+-- a script with a range, and its stretches
+pub record IsSweepOf (topology script : List ℕ) (stretches : List Stretch) : Type 0 where
+  pub series : Series
+  pub range : range_of script ≡ Ok (Some series)
+  pub are : AreStretches (AreVerdictsAt topology script) series stretches
+
+-- their lines are written; the answer is whether each verdict at each instant is ok
+abbrev pub IsSwept : List ℕ → List ℕ → Option (List ℕ) → Option (List ℕ) → Bool → Type 0
+IsSwept topology script old new holds = (stretches : List Stretch) × IsSweepOf topology script stretches × (holds ≡ all_hold stretches) × Appends old new (stretches_text stretches)
+
+-- the script is refused at an instant of a series, and at none before
+pub record IsFirstRefusal (topology script : List ℕ) (s : Series) (instant : ℕ) (error : CheckError) : Type 0 where
+  pub before : List ℕ
+  pub after : List ℕ
+  pub place : instants_of s ≡ before ++ instant ∷ after
+  pub taken : All (λ t. (verdicts : List Bool) × AreVerdictsAt topology script t verdicts) before
+  pub told : IsVerdictTold topology (script_at instant script) error
+
+abbrev pub IsRefusedAt : List ℕ → List ℕ → ℕ → CheckError → Type 0
+IsRefusedAt topology script instant error = (s : Series) × (range_of script ≡ Ok (Some s)) × IsFirstRefusal topology script s instant error
+
+-- when each refusal comes; of memory nothing is said
+abbrev pub IsSweepTold : List ℕ → List ℕ → SweepError → Type 0
+IsSweepTold topology script NoRange = range_of script ≡ Ok None
+IsSweepTold topology script (Range fault) = range_of script ≡ Err fault
+IsSweepTold topology script (At instant error) = IsRefusedAt topology script instant error
+IsSweepTold topology script (Write count) = (stretches : List Stretch) × IsSweepOf topology script stretches
+IsSweepTold topology script Memory = Unit {0}
+
+-- what a refusal has written: after a failed write the front of the lines, as long as it tells, and else nothing
+abbrev pub IsSweepCut : List ℕ → List ℕ → Option (List ℕ) → Option (List ℕ) → SweepError → Type 0
+IsSweepCut topology script old new (Write count) =
+    (stretches : List Stretch) × IsSweepOf topology script stretches × (count < length (stretches_text stretches)) × Appends old new (take count (stretches_text stretches))
+IsSweepCut topology script old new NoRange = new ≡ old
+IsSweepCut topology script old new (Range fault) = new ≡ old
+IsSweepCut topology script old new (At instant error) = new ≡ old
+IsSweepCut topology script old new Memory = new ≡ old
+
+abbrev pub is_write : Result Bool SweepError → Bool
+is_write (Ok holds) = false
+is_write (Err (Write count)) = true
+is_write (Err NoRange) = false
+is_write (Err (Range fault)) = false
+is_write (Err (At instant error)) = false
+is_write (Err Memory) = false
+
+-- ---- parts
+
+-- a refusal at an instant
+abbrev pub IsRefusalAt : List ℕ → List ℕ → ℕ → SweepError → Type 0
+IsRefusalAt topology script t (At instant error) = (instant ≡ t) × IsVerdictTold topology (script_at t script) error
+IsRefusalAt topology script t Memory = Unit {0}
+IsRefusalAt topology script t NoRange = ⊥
+IsRefusalAt topology script t (Range fault) = ⊥
+IsRefusalAt topology script t (Write count) = ⊥
+
+abbrev pub IsSeriesTold : List ℕ → List ℕ → Series → SweepError → Type 0
+IsSeriesTold topology script s (At instant error) = IsFirstRefusal topology script s instant error
+IsSeriesTold topology script s Memory = Unit {0}
+IsSeriesTold topology script s NoRange = ⊥
+IsSeriesTold topology script s (Range fault) = ⊥
+IsSeriesTold topology script s (Write count) = ⊥
+
+-- the lines of all stretches
+abbrev pub IsSweptDraft : List ℕ → List ℕ → Series → Draft → Type 0
+IsSweptDraft topology script s d =
+    (stretches : List Stretch) × AreStretches (AreVerdictsAt topology script) s stretches × (d.text ≡ stretches_text stretches) × (d.holds ≡ all_hold stretches)

@@ -1,0 +1,12 @@
+//! Sweeps: what is found of a script's expectations at each instant of a series that stands for one of its times.
+#![tactic(auto)]
+
+mod places;
+mod script;
+mod series;
+mod stretches;
+mod sweeping;
+
+pub use script::RangeFault;
+pub use series::RangeCause;
+pub use sweeping::{SweepError, sweep};

@@ -1,0 +1,163 @@
+//! The range of a script, and the script at an instant of it.
+ghost use Rattle.std.specs.Prelude.{◌≡◌, ◌++◌, ◌&&◌, Ok, Err, Some, None, IfOk, OnOk};
+ghost use Rattle.std.specs.Option.{option_copied};
+ghost use Rattle.cec_words.specs.Words.{words_behind, words_of};
+ghost use Rattle.cec_sweep.specs.Script.{is_range_at, line_at, mark_before, range_of, script_at, taken, with_word, word_at, words_ranged};
+
+use crate::places::Place;
+use crate::series::{RangeCause, Series, is_range, series_in};
+use cec_words::{first_line, first_word};
+use std::alloc::{AllocError, Global};
+use thiserror::Error;
+
+/// The first line of a script, counted from 1, whose range is refused, and why.
+#[derive(Clone, Copy, Debug, Drop, PartialEq, Eq, Error)]
+#[error("line {line}: {cause}")]
+pub struct RangeFault {
+    pub line: u64,
+    pub cause: RangeCause,
+}
+
+fn is_range_at(place: Place, word: &[u8]) -> bool
+    ensures { result ≡ is_range_at place word.now }
+{
+    place.is_time() && is_range(word)
+}
+
+// A range, behind the one that was seen.
+fn taken(
+    number: u64,
+    seen: Option<Series>,
+    found: Result<Series, RangeCause>,
+) -> Result<Option<Series>, RangeFault>
+    ensures { result ≡ taken number seen found }
+{
+    match found {
+        Err(cause) => Err(RangeFault {
+            line: number,
+            cause,
+        }),
+        Ok(series) => match seen {
+            None => Ok(Some(series)),
+            Some(_) => Err(RangeFault {
+                line: number,
+                cause: RangeCause::Range,
+            }),
+        },
+    }
+}
+
+fn with_word(
+    number: u64,
+    place: Place,
+    seen: Option<Series>,
+    word: &[u8],
+) -> Result<Option<Series>, RangeFault>
+    ensures { result ≡ with_word number place seen word.now }
+{
+    if is_range_at(place, word) {
+        taken(number, seen, series_in(word))
+    } else {
+        Ok(seen)
+    }
+}
+
+fn words_ranged(
+    number: u64,
+    seen: Option<Series>,
+    line: &[u8],
+) -> Result<Option<Series>, RangeFault>
+    ensures { result ≡ words_ranged number Place.Begin seen (words_of line.now) }
+{
+    let mut rest = Some(line);
+    let mut place = Place::Begin;
+    let mut seen = seen;
+    'words: while let Some(text) = rest {
+        let (word, others) = first_word(text);
+        seen = match with_word(number, place, seen, word) {
+            Err(fault) => return Err(fault),
+            Ok(seen) => seen,
+        };
+        place = place.next(word);
+        rest = others;
+    }
+    Ok(seen)
+}
+
+/// The range of a script, where it has one.
+///
+/// # Errors
+///
+/// The first line whose range is none, or is the second one.
+pub(crate) fn range_of(script: &[u8]) -> Result<Option<Series>, RangeFault>
+    ensures { result ≡ range_of script.now }
+{
+    let mut rest = script;
+    let mut number = 1u64;
+    let mut seen = None;
+    'lines: while let Some((line, after)) = first_line(rest) {
+        seen = match words_ranged(number, seen, line) {
+            Err(fault) => return Err(fault),
+            Ok(seen) => seen,
+        };
+        rest = after;
+        number += 1;
+    }
+    Ok(seen)
+}
+
+fn push_word(text: &mut Vec<u8>, at: u64, place: Place, word: &[u8]) -> Result<(), AllocError>
+    ensures { OnOk result (text.new.items ≡ text.old.items ++ word_at at place word.now) }
+{
+    if is_range_at(place, word) {
+        let mut digits = itoa::Buffer::new();
+        text.extend_from_slice(digits.format(at).as_bytes())
+    } else {
+        text.extend_from_slice(word)
+    }
+}
+
+// What stands behind a word.
+fn mark_before(others: Option<&[u8]>) -> &'static [u8]
+    ensures { result.now ≡ mark_before (words_behind (option_copied others.entry)) }
+{
+    match others {
+        None => b"\n",
+        Some(text) => {
+            let (_word, _words) = first_word(text);
+            b" "
+        }
+    }
+}
+
+fn push_line(text: &mut Vec<u8>, at: u64, line: &[u8]) -> Result<(), AllocError>
+    ensures { OnOk result (text.new.items ≡ text.old.items ++ line_at at line.now) }
+{
+    let mut rest = Some(line);
+    let mut place = Place::Begin;
+    'words: while let Some(part) = rest {
+        let (word, others) = first_word(part);
+        push_word(text, at, place, word)?;
+        text.extend_from_slice(mark_before(others))?;
+        place = place.next(word);
+        rest = others;
+    }
+    Ok(())
+}
+
+/// The script with this instant in the place of its range.
+///
+/// # Errors
+///
+/// Want of memory.
+pub(crate) fn script_at(alloc: Global, script: &[u8], at: u64) -> Result<Vec<u8>, AllocError>
+    ensures { IfOk result (λ text. text.items ≡ script_at at script.now) }
+{
+    let mut text = Vec::new(alloc);
+    let mut rest = script;
+    'lines: while let Some((line, after)) = first_line(rest) {
+        push_line(&mut text, at, line)?;
+        rest = after;
+    }
+    Ok(text)
+}

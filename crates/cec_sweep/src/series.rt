@@ -1,0 +1,154 @@
+//! Series of instants, in the place of a time of a script.
+ghost use Rattle.std.specs.Prelude.{◌≡◌, ◌≤◌, ◌<◌, IfSome};
+ghost use Rattle.cec_sweep.specs.Series.{is_range, positive, series_in, series_to, series_until, step_at, timed};
+
+use cec_words::{before, behind, byte_at, len_before, number_in};
+use std::marker::Model;
+use thiserror::Error;
+
+/// Why a range of instants is refused: the first of these that applies.
+#[derive(Clone, Copy, Debug, Drop, PartialEq, Eq, Error)]
+pub enum RangeCause {
+    /// A time that is no number, or above 1,000,000,000,000; a step that is none, or 0.
+    #[error("number")]
+    Number,
+    /// It ends before it begins.
+    #[error("order")]
+    Order,
+    /// It is the second one.
+    #[error("range")]
+    Range,
+}
+
+/// The latest time of a script, in microseconds.
+const LATEST: u64 = 1_000_000_000_000;
+
+/// The instants from one to another, one every so many microseconds.
+#[derive(Debug, Drop)]
+pub(crate) struct Series {
+    from: u64,
+    to: u64,
+    step: u64,
+}
+
+impl Model for Series {
+    ghost use Rattle.cec_sweep.specs.Series.{IsSeries, Series};
+
+    ghost Value = { Series };
+
+    ghost view = { λ s. record { from = s.from; to = s.to; step = s.step } };
+
+    ghost invariant = { λ s. IsSeries (record { from = s.from; to = s.to; step = s.step }) };
+}
+
+impl Series {
+    ghost use Rattle.cec_sweep.specs.Series.{IsSeries};
+
+    /// The first instant.
+    pub(crate) fn from(&self) -> u64
+        ensures from { result ≡ self.now.from }
+        ensures series { IsSeries self.now }
+    {
+        self.from
+    }
+
+    /// The time after which no instant comes.
+    pub(crate) fn to(&self) -> u64
+        ensures to { result ≡ self.now.to }
+        ensures series { IsSeries self.now }
+    {
+        self.to
+    }
+
+    /// How many microseconds lie between two instants.
+    pub(crate) fn step(&self) -> u64
+        ensures step { result ≡ self.now.step }
+        ensures series { IsSeries self.now }
+    {
+        self.step
+    }
+}
+
+/// Whether a word is meant as a range: its first point is followed by another.
+pub(crate) fn is_range(word: &[u8]) -> bool
+    ensures { result ≡ is_range word.now }
+{
+    let point = len_before(word, b'.');
+    byte_at(word, point) == b'.' && byte_at(word, point + 1) == b'.'
+}
+
+// A time within the limit.
+fn timed(number: Option<u64>) -> Option<u64>
+    ensures value { result ≡ timed number }
+    ensures early { IfSome result (λ time. time ≤ 1000000000000) }
+{
+    match number {
+        None => None,
+        Some(time) => { if time <= LATEST { Some(time) } else { None } }
+    }
+}
+
+fn positive(number: Option<u64>) -> Option<u64>
+    ensures value { result ≡ positive number }
+    ensures moves { IfSome result (λ step. 0 < step) }
+{
+    match number {
+        None => None,
+        Some(step) => { if step == 0 { None } else { Some(step) } }
+    }
+}
+
+// The step behind a slash, or 1 where there is none.
+fn step_at(text: &[u8], slash: usize) -> Option<u64>
+    ensures value { result ≡ step_at text.now slash }
+    ensures moves { IfSome result (λ step. 0 < step) }
+{
+    if slash < text.len() {
+        positive(number_in(behind(text, slash + 1)))
+    } else {
+        Some(1)
+    }
+}
+
+fn series_to(from: u64, to: u64, step: u64) -> Result<Series, RangeCause>
+    requires { (to ≤ 1000000000000) × (0 < step) }
+    ensures { result ≡ series_to from to step }
+{
+    if to < from {
+        Err(RangeCause::Order)
+    } else {
+        Ok(Series { from, to, step })
+    }
+}
+
+// Up to a time, with a step or without.
+fn series_until(from: Option<u64>, text: &[u8]) -> Result<Series, RangeCause>
+    ensures { result ≡ series_until from text.now }
+{
+    let slash = len_before(text, b'/');
+    let Some(from) = from else {
+        return Err(RangeCause::Number);
+    };
+    let Some(to) = timed(number_in(before(text, slash))) else {
+        return Err(RangeCause::Number);
+    };
+    let Some(step) = step_at(text, slash) else {
+        return Err(RangeCause::Number);
+    };
+    series_to(from, to, step)
+}
+
+/// The series of a range.
+///
+/// # Errors
+///
+/// The first cause.
+pub(crate) fn series_in(word: &[u8]) -> Result<Series, RangeCause>
+    ensures { result ≡ series_in word.now }
+{
+    let point = len_before(word, b'.');
+    series_until(
+        timed(number_in(before(word, point))),
+        behind(word, point + 2),
+    )
+}

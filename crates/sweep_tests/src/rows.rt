@@ -1,0 +1,142 @@
+//! What the calls are given, and what is wanted of them, worked out by hand. Lines are parted by `|`.
+
+/// A television alone. It polls from 12,000 to 39,150 microseconds.
+pub(crate) const ALONE: &str = "device tv tv 4";
+
+/// Scripts for it, and their stretches, or why there are none.
+pub(crate) const SWEEPS: &str = "\
+expect from 0 to 39140..39160 0>0|end 50000 => not: 39140..39149 not-ok|39150..39160 ok|
+expect from 0 to 39140..39163/4 0>0|end 50000 => not: 39140..39148 not-ok|39152..39160 ok|
+expect from 0 to 39150..39150 0>0|end 50000 => all: 39150..39150 ok|
+expect from 11995..12004 to 50000 0>0|end 60000 => not: 11995..12000 ok|12001..12004 not-ok|
+expect none from 11995..12004 to 50000 0>0|end 60000 => not: 11995..12000 not-ok|12001..12004 ok|
+label a at 7 press tv mute|expect once within 39140..39145 of a 0>0|end 60000 => not: 39140..39142 not-ok|39143..39145 ok|
+label a at 11990..12002/3 press tv mute|expect within 27155 of a 0>0|end 60000 => not: 11990..11993 not-ok|11996..11999 ok|12002..12002 not-ok|
+at 5..7 press tv eject|expect from 0 to 50000 0>0|end 60000 => not: 5..7 ok not-ok|
+at 5..7 press tv mute|end 10 => all: 5..7|
+at 5 press tv mute|end 10 => no range
+label 5..7 at 5 press tv mute|end 10 => no range
+at 5.7 press tv mute|end 10 => no range
+at 5 send tv 0>f set-osd-name \"at 5..7\"|end 10 => no range
+# at 5..7|end 10 => no range
+expect from 0 to 9 at 5..7|end 10 => no range
+at 5.. press tv mute|end 10 => script line 1: number
+at ..7 press tv mute|end 10 => script line 1: number
+at 05..7 press tv mute|end 10 => script line 1: number
+at 5..x press tv mute|end 10 => script line 1: number
+at 5...7 press tv mute|end 10 => script line 1: number
+at 5..7/0 press tv mute|end 10 => script line 1: number
+at 5..7/ press tv mute|end 10 => script line 1: number
+at 5..7/1/2 press tv mute|end 10 => script line 1: number
+pulse 5..1000000000001 10|end 10 => script line 1: number
+end 1000000000001..1000000000002 => script line 1: number
+at 7..5 press tv mute|end 10 => script line 1: order
+label a at 5 press tv mute|label b at 7..6 press tv mute|end 10 => script line 2: order
+at 5..7 press tv mute|at 8..9 press tv mute|end 10 => script line 2: range
+at 5..7 press tv mute|end 9..8 => script line 2: order
+at 5..7 press tv mute|pulse 9..x 10|end 10 => script line 2: number
+at 7..5 press tv mute|end x..9 => script line 1: order
+expect from 3..4 to 5..6 short|end 10 => script line 1: range
+expect once within 3..2 of a short|end 10 => script line 1: order
+expect state 3..2 tv on|end 10 => script line 1: order
+at 5..12 press tv mute|end 10 => script line 2: end at 10
+at 5 press tv mute|at 3..9 press tv mute|end 10 => script line 2: order at 3
+at 5..7 press x mute|end 10 => script line 1: name at 5
+expect from 5 to 3..7 short|end 10 => script line 1: order at 3
+at 7..5 press x mute => script line 1: order";
+
+/// Two decks that announce themselves within a frame's time. The first second is for their addresses.
+pub(crate) const DECKS: &str =
+    "device tv tv 4|device p1 player 0|device p2 player 0|plug p1 tv 1|plug p2 tv 2";
+
+/// The first deck's key comes at 5,000,000, the second one's before it. Later the television asks who is shown.
+pub(crate) const RACE: &str = "\
+at RANGE press p2 play|\
+label key at 5000000 press p1 play|\
+expect within 60000 of key 4>0 image-view-on ack|\
+label ask at 6000000 send tv 0>f request-active-source|\
+expect within 300000 of ask *>f active-source|\
+end 7000000";
+
+/// The second deck's key at T is answered by image-view-on, which is read up to T + 51,150 and leaves the line high from T + 51,600
+/// on, and by active-source, which begins at T + 68,400, is read up to T + 167,550, and leaves the line high from T + 167,100 on.
+///
+/// - Up to 4,931,599 that began before the first deck's key, which waits for its end. The first deck may send from T + 179,100 on,
+///   and the television has read it at T + 230,250, too late. But the first deck is the active source then, and says so when asked.
+/// - Else the first deck has its key before the second one says that it is the active source. It may send from T + 63,600 on, before
+///   the second one goes on. Then both say that they are the active source, each hears the other after its own key, and none answers.
+///   Its first frame is read in time where the key comes at T + 54,750 or later, up to 4,945,250.
+/// - From 4,945,251 on it is read too late.
+/// - At 5,000,000 both begin at once, and the first deck, with the lower address, wins: its frame is read at 5,051,150.
+pub(crate) const RACES: &str = "\
+4840000..5000000/10000 => 4840000..4930000 not-ok ok|4940000..4940000 ok not-ok|4950000..4990000 not-ok not-ok|5000000..5000000 ok not-ok|
+4931597..4931602 => 4931597..4931599 not-ok ok|4931600..4931602 ok not-ok|
+4945248..4945253 => 4945248..4945250 ok not-ok|4945251..4945253 not-ok not-ok|
+4999997..5000000 => 4999997..4999999 not-ok not-ok|5000000..5000000 ok not-ok|";
+
+/// Expectations of a capture, and the line at fault.
+pub(crate) const FAULTS: &str = "\
+label a at 5|expect within 1 of a short => none
+label a expect from 1 to 2 short|label b at 7|expect once within 1 of a short => none
+label at at 5 => none
+expect refused a off-wire => expectations line 1: word
+label a at 5|expect refused a off-wire => expectations line 2: word
+label a at 5|expect refused => expectations line 2: word
+expect state 5 tv on => expectations line 1: word
+label a at 5|expect => expectations line 2: word
+at 5 => expectations line 1: word
+label a at 5 press tv mute => expectations line 1: word
+label a at => expectations line 1: word
+label a => expectations line 1: word
+label => expectations line 1: word
+label a at 5||expect within 1 of a short => expectations line 2: word
+# remark => expectations line 1: word
+end 10 => expectations line 1: word
+pulse 5 10 => expectations line 1: word
+label a at x => expectations line 1: number
+label a at 05 => expectations line 1: number
+label a at 5|label a at x => expectations line 2: number
+label a at 5|expect within x of a short => expectations line 2: number
+label a at 5|label a at 6 => expectations line 2: label
+label  at 5 => expectations line 1: label
+expect within 1 of a short => expectations line 1: label
+expect within 1 of a short|label a at 5 => expectations line 1: label
+expect from 2 to 1 short => expectations line 1: order
+expect from 2 to 1 short|other => expectations line 1: order
+other|expect from 2 to 1 short => expectations line 1: word";
+
+/// When a frame begins, and its bits: a television's poll, a frame to it, and one that is not over at the end.
+pub(crate) const FRAMES: &str = "\
+12000 0000000011
+100000 01000000000000010010
+300000 00";
+
+pub(crate) const END: u64 = 309_000;
+
+pub(crate) const EXPECTED: &str = "\
+label boot at 0
+label on expect within 160000 of boot 4>0 image-view-on ack
+expect once from 0 to 39150 0>0 nack
+expect none from 0 to 39149 0>0
+expect within 5 of on short
+label late at 100001
+expect within 100000 of late 4>0
+expect once from 300000 to 310000 open
+expect none within 400000 of boot 4>0 image-view-on
+";
+
+pub(crate) const REPORT: &str = "\
+TAP version 13
+ok 1 - line 2: label on expect within 160000 of boot 4>0 image-view-on ack
+ok 2 - line 3: expect once from 0 to 39150 0>0 nack
+ok 3 - line 4: expect none from 0 to 39149 0>0
+not ok 4 - line 5: expect within 5 of on short
+# seen 0 from 151150 to 151155
+not ok 5 - line 7: expect within 100000 of late 4>0
+# seen 0 from 100001 to 200001
+ok 6 - line 8: expect once from 300000 to 310000 open
+not ok 7 - line 9: expect none within 400000 of boot 4>0 image-view-on
+# seen 1 from 0 to 400000
+# 100000 151150 complete 4>0 image-view-on ack
+1..7
+";
