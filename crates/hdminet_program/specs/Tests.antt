@@ -35,7 +35,7 @@ IsTraced topology script text =
 
 -- the input of the run of the script without labels and expectations, none of which is at fault
 abbrev pub IsPlain : List ℕ → List ℕ → List ℕ → Type 0
-IsPlain topology script text = (first_fault script ≡ None) × (text ≡ topology ++ codes "script\n" ++ plain_script script)
+IsPlain topology script text = (first_fault topology script ≡ None) × (text ≡ topology ++ codes "script\n" ++ plain_script script)
 
 -- this text is what is asked for of a test
 abbrev pub IsTestOf : TestView → List ℕ → List ℕ → List ℕ → Type 0

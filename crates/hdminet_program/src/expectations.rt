@@ -100,7 +100,7 @@ fn write_plain<W: Sink>(
 ) -> Result<(), Fault>
     ensures { OnOk result (WritesTest TestView.Plain topology.now script.now (W.contents out.old) (W.contents out.new)) }
 {
-    if let Some(fault) = first_fault(script) {
+    if let Some(fault) = first_fault(topology, script) {
         return Err(Fault::from(CheckError::Expect(fault)));
     }
     let plain = plain_script(alloc, script)?;

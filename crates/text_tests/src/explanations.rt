@@ -409,7 +409,7 @@ end 9
 => script line 1: word
   line 3: expct none from 0 to 5 short
           ^^^^^
-  a line here reads `at T press NAME KEY`, `at T release NAME KEY`, `at T plug CHILD PARENT PORT`, `at T unplug CHILD`, `at T send NAME FRAME`, `pulse T WIDTH`, `end T`, `label NAME LINE`, `expect within D of NAME PATTERN`, `expect from T to U PATTERN`, `expect refused NAME WORD`
+  a line here reads `at T press NAME KEY`, `at T release NAME KEY`, `at T plug CHILD PARENT PORT`, `at T unplug CHILD`, `at T send NAME FRAME`, `pulse T WIDTH`, `end T`, `label NAME LINE`, `expect within D of NAME PATTERN`, `expect from T to U PATTERN`, `expect state T NAME WORD`, `expect refused NAME WORD`
   `expct`: did you mean `expect`?
   words stand one space apart, and nothing follows the last one
 --
