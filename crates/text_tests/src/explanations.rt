@@ -511,7 +511,7 @@ end 9
 => script line 1: order
   line 3: label late expect once from 9 to 5 short
                                            ^
-  a window does not end before it begins: U is T or later
+  a window does not end before it begins: U is T or later; the time of a state is not past `end`
 --
 device tv tv 4
 script
