@@ -1,0 +1,4 @@
+pub mod Coming
+pub mod Putting
+pub mod Answered
+pub mod Whole

@@ -1,0 +1,117 @@
+-- A whole session, from its parts.
+use Rattle.std.proofs.Common.{◌≡◌, ℕ, ◌⊎◌, Bool, true, false, List, ◌++◌, Option, Some, None, Result, Ok, Err, inl, inr, refl, sym, ap, subst, ◌∙◌}
+use Rattle.std.proofs.lemmas.Bool.{false≢true}
+use Rattle.hdmi_blocks.specs.declared.edid.Edid.{Edid as EdidValue}
+use Rattle.cec_net.specs.State.{started}
+use Rattle.cec_incoming.specs.Incoming.{text_of_lines}
+use Rattle.cec_asm.specs.Topology.{Plan}
+use Rattle.cec_run.specs.Emulate.{IsTraceOf}
+use Rattle.cec_session.specs.Session.{Session, begun}
+use Rattle.cec_session.specs.Whole.{AreLines}
+use Rattle.cec_session.proofs.Kept.{sessions_tell_traces_of}
+use Rattle.cec_dialogue.specs.declared.error.SessionError.{SessionError}
+use Rattle.cec_dialogue.specs.declared.error.SessionError.TheVariants.{Read, TooLong, NoScriptLine, Topology, Edid, Script, Write, Memory}
+use Rattle.cec_dialogue.specs.Dialogue.{HasBegun, HasEnded, HasGone, HasRun, HaveAnswers, IsAnswering, IsBegun, IsCut, IsCutShort, IsFirstPut, IsLeft, IsOpened, IsOpening, IsSession, IsTalk, IsTopologyFault, first_told, is_write}
+
+-- ---- what stands first, and the answers
+
+pub talked_on : (before after : Option (List ℕ)) (s : Session) (old put new : Option (List ℕ)) (result : Result Unit SessionError) → IsFirstPut s old put (Ok tt) → IsAnswering before after s put new result
+    → IsTalk before after s old new result
+talked_on before after s old put new result first answered = inl (put, first, answered)
+
+pub talked_cut : (before after : Option (List ℕ)) (s : Session) (old new : Option (List ℕ)) (error : SessionError) → IsFirstPut s old new (Err error) → IsTalk before after s old new (Err error)
+talked_cut before after s old new (Write count) first = inr (refl, first)
+talked_cut before after s old new Read first = absurd first
+talked_cut before after s old new TooLong first = absurd first
+talked_cut before after s old new NoScriptLine first = absurd first
+talked_cut before after s old new (Topology line cause) first = absurd first
+talked_cut before after s old new (Edid cause) first = absurd first
+talked_cut before after s old new (Script line cause) first = absurd first
+talked_cut before after s old new Memory first = absurd first
+
+-- ---- the trace
+
+trace_of : (topology : List ℕ) (s : Session) (b : HasBegun topology s) (lines kept : List (List ℕ)) (told text : List ℕ) (t : Session) (end : ℕ) (before after old new : Option (List ℕ)) (a : HaveAnswers before after s old new t)
+    → t.notes.end ≡ Some end → IsTraceOf topology (text_of_lines a.kept) (first_told s ++ a.told) t.place.totals
+trace_of topology s b lines kept told text t end before after old new a ended =
+    let are : AreLines a.lines (begun b.edid b.plan.tree) a.kept a.told a.text t = subst (λ (s : Session). AreLines a.lines s a.kept a.told a.text t) b.is a.are in
+    subst (λ (s : Session). IsTraceOf topology (text_of_lines a.kept) (first_told s ++ a.told) t.place.totals) (sym b.is)
+    (sessions_tell_traces_of topology b.plan b.edid a.lines a.kept a.told a.text t end b.plan_is b.root a.whole a.few are ended)
+
+-- ---- the session
+
+quiet_cut : (error : SessionError) → (let r : Result Unit SessionError = Err error in is_write r) ≡ true → (P : SessionError → Type 0) → ((count : ℕ) → P (Write count)) → P error
+quiet_cut (Write count) e P f = f count
+quiet_cut Read e P f = absurd (false≢true e)
+quiet_cut TooLong e P f = absurd (false≢true e)
+quiet_cut NoScriptLine e P f = absurd (false≢true e)
+quiet_cut (Topology line cause) e P f = absurd (false≢true e)
+quiet_cut (Edid cause) e P f = absurd (false≢true e)
+quiet_cut (Script line cause) e P f = absurd (false≢true e)
+quiet_cut Memory e P f = absurd (false≢true e)
+
+answered_is : (before mid after : Option (List ℕ)) (s : Session) (old put new : Option (List ℕ)) (topology : List ℕ) (result : Result Unit SessionError) → (run : HasRun before after old new)
+    → IsAnswering run.mid after run.first run.so_far new result → IsSession before after old new result
+answered_is before mid after s old put new topology (Ok done) run a = record {
+  run = run;
+  over = a;
+  trace = trace_of run.topology run.first run.begins a.answers.lines a.answers.kept a.answers.told a.answers.text a.last a.end run.mid after run.so_far new a.answers a.ended;
+}
+answered_is before mid after s old put new topology (Err (Script line cause)) run a = (run, a)
+answered_is before mid after s old put new topology (Err (Write count)) run a = inl (run, a)
+answered_is before mid after s old put new topology (Err Read) run a = inr (run, a)
+answered_is before mid after s old put new topology (Err TooLong) run a = inr (run, a)
+answered_is before mid after s old put new topology (Err Memory) run a = inr (run, a)
+answered_is before mid after s old put new topology (Err NoScriptLine) run a = absurd a
+answered_is before mid after s old put new topology (Err (Topology line cause)) run a = absurd a
+answered_is before mid after s old put new topology (Err (Edid cause)) run a = absurd a
+
+pub session_is : (before mid after : Option (List ℕ)) (s : Session) (old new : Option (List ℕ)) (topology : List ℕ) (result : Result Unit SessionError) → IsOpened before mid topology → HasBegun topology s
+    → IsTalk mid after s old new result → IsSession before after old new result
+session_is before mid after s old new topology result ready begins (inl (put, first, answered)) =
+    answered_is before mid after s old put new topology result (record { topology = topology; first = s; mid = mid; so_far = put; opened = ready; begins = begins; put = first }) answered
+session_is before mid after s old new topology (Ok done) opened begins (inr (failed, cut)) = absurd (false≢true failed)
+session_is before mid after s old new topology (Err error) opened begins (inr (failed, cut)) =
+    quiet_cut error failed (λ error. IsSession before after old new (Err error)) (λ count. inr (topology, s, mid, opened, begins, cut))
+
+-- the topology is refused
+pub refused_is : (before mid after old : Option (List ℕ)) (topology : List ℕ) (error : SessionError) → IsOpened before mid topology → IsTopologyFault topology error → IsSession before after old old (Err error)
+refused_is before mid after old topology (Topology line cause) opened fault = ((topology, mid, opened, fault), refl)
+refused_is before mid after old topology (Edid cause) opened fault = ((topology, mid, opened, fault), refl)
+refused_is before mid after old topology Memory opened fault = inl refl
+refused_is before mid after old topology Read opened fault = absurd fault
+refused_is before mid after old topology TooLong opened fault = absurd fault
+refused_is before mid after old topology NoScriptLine opened fault = absurd fault
+refused_is before mid after old topology (Script line cause) opened fault = absurd fault
+refused_is before mid after old topology (Write count) opened fault = absurd fault
+
+pub refused_quiet : (topology : List ℕ) (error : SessionError) → IsTopologyFault topology error → (let r : Result Unit SessionError = Err error in is_write r) ≡ false
+refused_quiet topology (Topology line cause) fault = refl
+refused_quiet topology (Edid cause) fault = refl
+refused_quiet topology Memory fault = refl
+refused_quiet topology Read fault = absurd fault
+refused_quiet topology TooLong fault = absurd fault
+refused_quiet topology NoScriptLine fault = absurd fault
+refused_quiet topology (Script line cause) fault = absurd fault
+refused_quiet topology (Write count) fault = absurd fault
+
+-- there is none
+pub unopened_is : (before mid after old : Option (List ℕ)) (error : SessionError) → IsOpening before mid (Err error) → IsSession before after old old (Err error)
+unopened_is before mid after old NoScriptLine none = (none, refl)
+unopened_is before mid after old Read none = inl refl
+unopened_is before mid after old TooLong none = inl refl
+unopened_is before mid after old Memory none = inl refl
+unopened_is before mid after old (Topology line cause) none = absurd none
+unopened_is before mid after old (Edid cause) none = absurd none
+unopened_is before mid after old (Script line cause) none = absurd none
+unopened_is before mid after old (Write count) none = absurd none
+
+pub unopened_quiet : (before mid : Option (List ℕ)) (error : SessionError) → IsOpening before mid (Err error) → (let r : Result Unit SessionError = Err error in is_write r) ≡ false
+unopened_quiet before mid NoScriptLine none = refl
+unopened_quiet before mid Read none = refl
+unopened_quiet before mid TooLong none = refl
+unopened_quiet before mid Memory none = refl
+unopened_quiet before mid (Topology line cause) none = absurd none
+unopened_quiet before mid (Edid cause) none = absurd none
+unopened_quiet before mid (Script line cause) none = absurd none
+unopened_quiet before mid (Write count) none = absurd none

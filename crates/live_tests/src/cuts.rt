@@ -1,0 +1,132 @@
+//! Scripts cut into sessions: without its answers, what a session wrote is the trace of the lines that were taken.
+use crate::pipes::{lines_of, said_in};
+use crate::rooms::ROOMS;
+use cec_run::emulate::emulate;
+use hdmi_core::Writes;
+use std::process::Abort;
+
+/// Numbers in no order, one after another.
+#[derive(Drop)]
+struct Numbers(u64);
+
+impl Numbers {
+    fn next(&mut self, below: u64) -> u64 {
+        self.0 = self
+            .0
+            .wrapping_mul(6364136223846793005)
+            .wrapping_add(1442695040888963407);
+        (self.0 >> 33).checked_rem(below).unwrap_or(0)
+    }
+}
+
+/// The instant of a line of a script: its first number.
+fn instant(line: &str) -> u64 {
+    for word in line.split(' ') {
+        if let Ok(time) = word.parse::<u64>() {
+            return time;
+        }
+    }
+    0
+}
+
+/// Adds a line to what is sent, and it or an empty line to what `run` reads.
+fn send(rt: &impl Abort, sent: &mut Vec<u8>, script: &mut Vec<u8>, line: &[u8], is_taken: bool) {
+    sent.extend_from_slice(line).expect(rt, "a line");
+    sent.extend_from_slice(b"\n").expect(rt, "its end");
+    if is_taken {
+        script.extend_from_slice(line).expect(rt, "a line");
+    }
+    script.extend_from_slice(b"\n").expect(rt, "its end");
+}
+
+/// The text up to the line `script`, with it, and the text after it.
+fn parts(room: &str) -> (&str, &str) {
+    match room.split_once("\nscript\n") {
+        Some(parts) => parts,
+        None => (room, ""),
+    }
+}
+
+/// Sends up to three lines that a run's script has not: bad ones, remarks, and times up to this one.
+fn send_others(
+    rt: &(impl Abort + AllocGlobal),
+    numbers: &mut Numbers,
+    sent: &mut Vec<u8>,
+    script: &mut Vec<u8>,
+    now: u64,
+    until: u64,
+) -> u64 {
+    let mut now = now;
+    for _ in 0..numbers.next(4) {
+        match numbers.next(4) {
+            0 => send(rt, sent, script, b"frob", false),
+            1 => send(rt, sent, script, b"# a remark", true),
+            _ => {
+                let ahead = until.saturating_sub(now).saturating_add(1);
+                now = now.saturating_add(numbers.next(ahead));
+                let line = format!(in rt.alloc(); "run to {now}").expect(rt, "a line");
+                send(rt, sent, script, line.as_bytes(), false);
+            }
+        }
+    }
+    now
+}
+
+/// A session over a script, cut by these numbers, writes what `run` writes of its script.
+fn is_cut(rt: &(impl Abort + AllocGlobal), room: &str, seed: u64) {
+    let (topology, lines) = parts(room);
+    let mut numbers = Numbers(seed);
+    let mut sent = Vec::new(rt.alloc());
+    let mut script = Vec::new(rt.alloc());
+    sent.extend_from_slice(topology.as_bytes())
+        .expect(rt, "a topology");
+    sent.extend_from_slice(b"\nscript\n").expect(rt, "a line");
+    let mut now = 0u64;
+    for line in lines.lines() {
+        now = send_others(rt, &mut numbers, &mut sent, &mut script, now, instant(line));
+        send(rt, &mut sent, &mut script, line.as_bytes(), true);
+    }
+    let (said, ended) = said_in(rt, sent.as_slice(), usize::MAX);
+    let told = lines_of(rt, said.as_slice(), |line| {
+        !line.starts_with(b"> ") && !line.starts_with(b"= ") && !line.starts_with(b"! ")
+    });
+    let mut trace = Vec::new(rt.alloc());
+    let ran = emulate(
+        rt.alloc(),
+        topology.as_bytes(),
+        script.as_slice(),
+        &mut Writes::new(&mut trace),
+    );
+    assert!(rt;
+        ended.is_ok() && ran.is_ok() && told.as_slice() == trace.as_slice(),
+        "{seed}: {room}"
+    );
+}
+
+#[test]
+fn tells_the_trace_of_the_lines_taken(rt: HostRuntime) {
+    for room in ROOMS {
+        for seed in 0..10u64 {
+            is_cut(&rt, room, seed);
+        }
+    }
+}
+
+/// The rooms of writers that fail in mid-session.
+#[test]
+fn says_how_much_was_written(rt: HostRuntime) {
+    let input = b"device tv tv 1\nscript\nrun to 50000\nend 60000\n";
+    for room in [0, 1, 41, 42, 49, 50, 60].iter() {
+        let (said, ended) = said_in(&rt, input, *room);
+        let told = lines_of(&rt, said.as_slice(), |line| !line.starts_with(b"> "));
+        let Err(error) = ended else {
+            panic!(&rt; "written whole");
+        };
+        let fault = format!(in rt.alloc(); "{error}").expect(&rt, "a fault");
+        let want = format!(in rt.alloc(); "write fault after {room} bytes").expect(&rt, "a fault");
+        assert!(&rt;
+            fault.as_str() == want.as_str() && told.len() >= *room,
+            "{room}"
+        );
+    }
+}
