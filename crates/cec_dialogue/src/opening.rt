@@ -54,7 +54,6 @@ fn next_line<R: Read>(
 }
 
 /// Reads the text before the first line `script`, and that line.
-
 pub(crate) fn topology_text<R: Read>(
     alloc: Global,
     lines: &mut Lines,
@@ -83,7 +82,6 @@ pub(crate) fn topology_text<R: Read>(
 }
 
 /// The run of a topology before its first line.
-
 pub(crate) fn begin(alloc: Global, text: &[u8]) -> Result<Live, SessionError>
     ensures { IsBegun text.now result }
 {

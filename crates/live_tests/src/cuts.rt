@@ -1,5 +1,5 @@
 //! Scripts cut into sessions: without its answers, what a session wrote is the trace of the lines that were taken.
-use crate::pipes::{lines_of, said_in};
+use crate::pipes::{Wanted, end_of, lines_of, said_in};
 use crate::rooms::ROOMS;
 use cec_run::emulate::emulate;
 use hdmi_core::Writes;
@@ -87,9 +87,7 @@ fn is_cut(rt: &(impl Abort + AllocGlobal), room: &str, seed: u64) {
         send(rt, &mut sent, &mut script, line.as_bytes(), true);
     }
     let (said, ended) = said_in(rt, sent.as_slice(), usize::MAX);
-    let told = lines_of(rt, said.as_slice(), |line| {
-        !line.starts_with(b"> ") && !line.starts_with(b"= ") && !line.starts_with(b"! ")
-    });
+    let told = lines_of(rt, said.as_slice(), Wanted::Trace);
     let mut trace = Vec::new(rt.alloc());
     let ran = emulate(
         rt.alloc(),
@@ -113,20 +111,24 @@ fn tells_the_trace_of_the_lines_taken(rt: HostRuntime) {
 }
 
 /// The rooms of writers that fail in mid-session.
+const FULL: &[usize] = &[0, 1, 41, 42, 49, 50, 60];
+
+/// A session over a writer with so much room ends as it is full, and has written so much.
+fn is_full(rt: &(impl Abort + AllocGlobal), room: usize) {
+    let input = b"device tv tv 1\nscript\nrun to 50000\nend 60000\n";
+    let (said, ended) = said_in(rt, input, room);
+    let written = lines_of(rt, said.as_slice(), Wanted::Written);
+    let fault = end_of(rt, &ended);
+    let want = format!(in rt.alloc(); "write fault after {room} bytes").expect(rt, "a fault");
+    assert!(rt;
+        fault.as_str() == want.as_str() && written.len() >= room,
+        "{room}"
+    );
+}
+
 #[test]
 fn says_how_much_was_written(rt: HostRuntime) {
-    let input = b"device tv tv 1\nscript\nrun to 50000\nend 60000\n";
-    for room in [0, 1, 41, 42, 49, 50, 60].iter() {
-        let (said, ended) = said_in(&rt, input, *room);
-        let told = lines_of(&rt, said.as_slice(), |line| !line.starts_with(b"> "));
-        let Err(error) = ended else {
-            panic!(&rt; "written whole");
-        };
-        let fault = format!(in rt.alloc(); "{error}").expect(&rt, "a fault");
-        let want = format!(in rt.alloc(); "write fault after {room} bytes").expect(&rt, "a fault");
-        assert!(&rt;
-            fault.as_str() == want.as_str() && told.len() >= *room,
-            "{room}"
-        );
+    for room in FULL {
+        is_full(&rt, *room);
     }
 }

@@ -1,5 +1,5 @@
 //! Sessions line by line: each line that is sent stands after `> `, and before the next one stands what came for it.
-use crate::pipes::said_in;
+use crate::pipes::{end_of, said_in};
 use std::process::Abort;
 
 /// A television alone. Its rounds are those of its trace: 12000 to 39150, and 55500 to 178650.
@@ -101,11 +101,7 @@ fn is_said(rt: &(impl Abort + AllocGlobal), dialogue: &str, end: &str) {
     }
     let (said, ended) = said_in(rt, input.as_slice(), usize::MAX);
     assert!(rt; said.as_slice() == dialogue.as_bytes(), "{dialogue}");
-    let told = match ended {
-        Ok(()) => format!(in rt.alloc(); ""),
-        Err(error) => format!(in rt.alloc(); "{error}"),
-    };
-    let told = told.expect(rt, "a text");
+    let told = end_of(rt, &ended);
     assert!(rt; told.as_str() == end, "{told}");
 }
 

@@ -1,5 +1,5 @@
 //! Inputs that end a session before its end, and lines that it refuses.
-use crate::pipes::{lines_of, said_in};
+use crate::pipes::{Wanted, end_of, lines_of, said_in};
 use std::process::Abort;
 
 /// An input, what is written of it, and how the session ends.
@@ -65,17 +65,8 @@ const FAULTS: &[Fault] = &[
 /// A session over this input writes so much, and ends so.
 fn ends_so(rt: &(impl Abort + AllocGlobal), input: &[u8], said: &str, end: &str) {
     let (all, ended) = said_in(rt, input, usize::MAX);
-    let told = lines_of(rt, all.as_slice(), |line| {
-        line.starts_with(b"=")
-            || line.starts_with(b"!")
-            || line.ends_with(b"end")
-            || line.starts_with(b"state")
-    });
-    let fault = match ended {
-        Ok(()) => format!(in rt.alloc(); ""),
-        Err(error) => format!(in rt.alloc(); "{error}"),
-    };
-    let fault = fault.expect(rt, "a text");
+    let told = lines_of(rt, all.as_slice(), Wanted::Answers);
+    let fault = end_of(rt, &ended);
     assert!(rt;
         told.as_slice() == said.as_bytes() && fault.as_str() == end,
         "{said}{fault}"

@@ -92,18 +92,52 @@ pub(crate) fn said_in(
     (said.into_inner(), end)
 }
 
-/// The lines of a text of which this holds, each with its end.
+/// Some lines of what was said.
+#[derive(Clone, Copy)]
+pub(crate) enum Wanted {
+    /// What was written.
+    Written,
+    /// What was written without the answers.
+    Trace,
+    /// The answers, and the last lines of a trace.
+    Answers,
+}
+
+fn is_answer(line: &[u8]) -> bool {
+    line.starts_with(b"= ") || line.starts_with(b"! ")
+}
+
+fn is_wanted(wanted: Wanted, line: &[u8]) -> bool {
+    match wanted {
+        Wanted::Written => !line.starts_with(b"> "),
+        Wanted::Trace => !line.starts_with(b"> ") && !is_answer(line),
+        Wanted::Answers => is_answer(line) || line.ends_with(b" end") || line.starts_with(b"state "),
+    }
+}
+
+/// These lines of what was said, each with its end.
 pub(crate) fn lines_of(
     rt: &(impl Abort + AllocGlobal),
-    text: &[u8],
-    is_wanted: impl Fn(&[u8]) -> bool,
+    said: &[u8],
+    wanted: Wanted,
 ) -> Vec<u8> {
     let mut kept = Vec::new(rt.alloc());
-    for line in text.split(|byte| *byte == b'\n') {
-        if !line.is_empty() && is_wanted(line) {
+    for line in said.split(|byte| *byte == b'\n') {
+        if !line.is_empty() && is_wanted(wanted, line) {
             kept.extend_from_slice(line).expect(rt, "a line");
             kept.extend_from_slice(b"\n").expect(rt, "its end");
         }
     }
     kept
+}
+
+/// How a session ended: nothing where it came to its end.
+pub(crate) fn end_of(
+    rt: &(impl Abort + AllocGlobal),
+    ended: &Result<(), SessionError>,
+) -> String {
+    match ended {
+        Ok(()) => String::new(rt.alloc()),
+        Err(error) => format!(in rt.alloc(); "{error}").expect(rt, "a text"),
+    }
 }
