@@ -111,16 +111,14 @@ fn is_wanted(wanted: Wanted, line: &[u8]) -> bool {
     match wanted {
         Wanted::Written => !line.starts_with(b"> "),
         Wanted::Trace => !line.starts_with(b"> ") && !is_answer(line),
-        Wanted::Answers => is_answer(line) || line.ends_with(b" end") || line.starts_with(b"state "),
+        Wanted::Answers => is_answer(line)
+            || line.ends_with(b" end")
+            || line.starts_with(b"state "),
     }
 }
 
 /// These lines of what was said, each with its end.
-pub(crate) fn lines_of(
-    rt: &(impl Abort + AllocGlobal),
-    said: &[u8],
-    wanted: Wanted,
-) -> Vec<u8> {
+pub(crate) fn lines_of(rt: &(impl Abort + AllocGlobal), said: &[u8], wanted: Wanted) -> Vec<u8> {
     let mut kept = Vec::new(rt.alloc());
     for line in said.split(|byte| *byte == b'\n') {
         if !line.is_empty() && is_wanted(wanted, line) {
@@ -132,10 +130,7 @@ pub(crate) fn lines_of(
 }
 
 /// How a session ended: nothing where it came to its end.
-pub(crate) fn end_of(
-    rt: &(impl Abort + AllocGlobal),
-    ended: &Result<(), SessionError>,
-) -> String {
+pub(crate) fn end_of(rt: &(impl Abort + AllocGlobal), ended: &Result<(), SessionError>) -> String {
     match ended {
         Ok(()) => String::new(rt.alloc()),
         Err(error) => format!(in rt.alloc(); "{error}").expect(rt, "a text"),
