@@ -20,33 +20,94 @@ static const char *expecting =
 /* The first line of examples/first-path.trace, and the last. */
 static const char *first = "12000 39150 complete 0>0 nack by tv out -\n", *last = "\n1500000 end\n";
 
-static void *calls(void *unused) {
-    (void)unused;
-    static uint8_t room[1 << 16], edges[1 << 16];
+/* The room is filled before each call that is to leave it. */
+static uint8_t room[1 << 16], edges[1 << 16];
+
+static void fill(void) {
+    memset(room, 0xa5, sizeof room);
+}
+
+static bool is_filled(size_t from) {
+    for (size_t i = from; i < sizeof room; i++) if (room[i] != 0xa5) return false;
+    return true;
+}
+
+/* Whether a call was refused so, and has left the room. */
+static bool refused(hdminet_answer answer, uint32_t code, uint64_t line) {
+    return answer.code == code && answer.line == line && answer.length == 0 && is_filled(0);
+}
+
+static void traces(void) {
+    fill();
     hdminet_answer answer = hdminet_emulate(TEXT(topology), TEXT(script), room, sizeof room);
-    HOLDS(answer.code == HDMINET_DONE && answer.length > strlen(first) + strlen(last));
+    HOLDS(answer.code == HDMINET_DONE && answer.line == 0 && answer.length > strlen(first) + strlen(last) && is_filled(answer.length));
     HOLDS(memcmp(room, first, strlen(first)) == 0 && memcmp(room + answer.length - strlen(last), last, strlen(last)) == 0);
     size_t length = answer.length;
-    room[length - 1] = 0xa5;
+    fill();
     answer = hdminet_emulate(TEXT(topology), TEXT(script), room, length - 1);
-    HOLDS(answer.code == HDMINET_ROOM && answer.length == length && room[length - 1] == 0xa5);
-    answer = hdminet_emulate(TEXT(topology), TEXT("at 1 frob\nend 5\n"), room, sizeof room);
-    HOLDS(answer.code == HDMINET_SCRIPT_WORD && answer.line == 1 && answer.length == 0);
+    HOLDS(answer.code == HDMINET_ROOM && answer.length == length && is_filled(0));
+    HOLDS(hdminet_emulate(TEXT(topology), TEXT(script), room, length).code == HDMINET_DONE && is_filled(length));
+    fill();
+    HOLDS(refused(hdminet_emulate(TEXT("device tv box 4\n"), TEXT(script), room, sizeof room), HDMINET_TOPOLOGY_WORD, 1));
+    HOLDS(refused(hdminet_emulate(TEXT(""), TEXT(script), room, sizeof room), HDMINET_TOPOLOGY_NO_ROOT, 1));
+    HOLDS(refused(hdminet_emulate(TEXT(topology), TEXT("at 1 frob\nend 5\n"), room, sizeof room), HDMINET_SCRIPT_WORD, 1));
+    HOLDS(refused(hdminet_emulate(TEXT(topology), TEXT("at 1 send tv 4>0 frob\nend 5\n"), room, sizeof room), HDMINET_TEXT_NAME, 1));
+    HOLDS(refused(hdminet_emulate(TEXT("device tv tv 1\nedid 00\n"), TEXT("end 5\n"), room, sizeof room), HDMINET_EDID_LENGTH, 0));
+    HOLDS(refused(hdminet_emulate_edges(TEXT(topology), TEXT("at 1 frob\nend 5\n"), room, sizeof room), HDMINET_SCRIPT_WORD, 1));
+}
 
-    answer = hdminet_emulate_edges(TEXT(topology), TEXT(script), edges, sizeof edges);
+static void lines(void) {
+    hdminet_answer answer = hdminet_emulate_edges(TEXT(topology), TEXT(script), edges, sizeof edges);
     HOLDS(answer.code == HDMINET_DONE && memcmp(edges, "12000 0\n", 8) == 0);
-    answer = hdminet_watch(edges, answer.length, room, sizeof room);
-    HOLDS(answer.code == HDMINET_DONE && memcmp(room, "12000 39150 complete 0>0 nack\n", 30) == 0);
+    size_t length = answer.length;
+    fill();
+    answer = hdminet_emulate_edges(TEXT(topology), TEXT(script), room, length - 1);
+    HOLDS(answer.code == HDMINET_ROOM && answer.length == length && is_filled(0));
+    answer = hdminet_watch(edges, length, room, sizeof room);
+    HOLDS(answer.code == HDMINET_DONE && memcmp(room, "12000 39150 complete 0>0 nack\n", 30) == 0 && is_filled(answer.length));
+    size_t read = answer.length;
+    fill();
+    answer = hdminet_watch(edges, length, room, read - 1);
+    HOLDS(answer.code == HDMINET_ROOM && answer.length == read && is_filled(0));
+    HOLDS(refused(hdminet_watch(TEXT("12000 0\nfrob\n"), room, sizeof room), HDMINET_EDGES_LINE, 2));
+    HOLDS(refused(hdminet_watch(TEXT("12000 0\n13000 0\n14000 end\n"), room, sizeof room), HDMINET_EDGES_ORDER, 2));
+}
 
+static void reports(void) {
     hdminet_counts counts = {7, 7};
-    answer = hdminet_check(TEXT(topology), TEXT(expecting), room, sizeof room, &counts);
-    HOLDS(answer.code == HDMINET_DONE && counts.count == 2 && counts.failed == 1);
+    fill();
+    hdminet_answer answer = hdminet_check(TEXT(topology), TEXT(expecting), room, sizeof room, &counts);
+    HOLDS(answer.code == HDMINET_DONE && counts.count == 2 && counts.failed == 1 && is_filled(answer.length));
     HOLDS(memcmp(room, "TAP version 13\nok 1 - line 2: expect within", 43) == 0);
+    size_t length = answer.length;
     counts.count = counts.failed = 7;
-    HOLDS(hdminet_check(TEXT(topology), TEXT(expecting), room, 0, &counts).code == HDMINET_ROOM && counts.failed == 1);
+    fill();
+    answer = hdminet_check(TEXT(topology), TEXT(expecting), room, length - 1, &counts);
+    HOLDS(answer.code == HDMINET_ROOM && answer.length == length && counts.count == 2 && counts.failed == 1 && is_filled(0));
     counts.count = counts.failed = 7;
-    answer = hdminet_check(TEXT(topology), TEXT("\nexpect frob\nend 5\n"), room, sizeof room, &counts);
-    HOLDS(answer.code == HDMINET_EXPECT_WORD && answer.line == 2 && counts.count == 7 && counts.failed == 7);
+    HOLDS(refused(hdminet_check(TEXT(topology), TEXT("\nexpect frob\nend 5\n"), room, sizeof room, &counts), HDMINET_EXPECT_WORD, 2));
+    HOLDS(refused(hdminet_check(TEXT("frob\n"), TEXT(expecting), room, sizeof room, &counts), HDMINET_TOPOLOGY_WORD, 1));
+    HOLDS(counts.count == 7 && counts.failed == 7);
+}
+
+/* The headers ask for pointers that are not null, also for 0 bytes. These are answered as no bytes all the same. */
+static void nothing_at_null(void) {
+    hdminet_counts counts = {7, 7};
+    fill();
+    HOLDS(refused(hdminet_emulate(NULL, 0, TEXT(script), room, sizeof room), HDMINET_TOPOLOGY_NO_ROOT, 1));
+    HOLDS(refused(hdminet_emulate(TEXT(topology), NULL, 0, room, sizeof room), HDMINET_SCRIPT_END, 1));
+    HOLDS(refused(hdminet_emulate_edges(TEXT(topology), NULL, 0, room, sizeof room), HDMINET_SCRIPT_END, 1));
+    HOLDS(refused(hdminet_check(TEXT(topology), NULL, 0, room, sizeof room, &counts), HDMINET_SCRIPT_END, 1));
+    HOLDS(refused(hdminet_watch(NULL, 0, room, sizeof room), HDMINET_EDGES_LINE, 1));
+    HOLDS(hdminet_emulate(TEXT(topology), TEXT(script), NULL, 0).code == HDMINET_ROOM);
+}
+
+static void *calls(void *unused) {
+    (void)unused;
+    traces();
+    lines();
+    reports();
+    nothing_at_null();
     return NULL;
 }
 

@@ -1,6 +1,7 @@
 /* What a caller of the library sees, over C: frames both ways, refusals, room that is too small, states that are spoilt, a
    sender and a receiver on one line. Each failed line is printed; the status is 0 where none is. The first argument is
-   the file of an EDID with an HDMI block, the second one its text, the third how many random frames. */
+   the file of an EDID with an HDMI block, the second one its text, the third how many random frames; a fourth and a fifth
+   are files to which the texts of those frames and their bytes in hex are written. */
 #include "hdminet_wire.h"
 
 #include <inttypes.h>
@@ -33,9 +34,67 @@ static bool is_filled(const uint8_t *room, size_t from, size_t to) {
     return true;
 }
 
+/* Random frames to text and back. Written to the files, where there are files, they are what the program has to read. */
+static void random_frames(long count, FILE *texts, FILE *dumps) {
+    uint8_t frame[16], room[128], back[16];
+    long wrong = 0;
+    clock_t begin = clock();
+    for (long i = 0; i < count; i++) {
+        size_t length = 1 + random_below(16);
+        for (size_t k = 0; k < length; k++) frame[k] = (uint8_t)random_below(256);
+        hdminet_answer text = hdminet_frame_text(frame, length, room, sizeof room);
+        hdminet_answer answer = hdminet_frame_bytes(room, text.length, back, sizeof back);
+        wrong += text.code != HDMINET_DONE || answer.code != HDMINET_DONE || answer.length != length || memcmp(frame, back, length) != 0;
+        if (texts && dumps) {
+            fprintf(texts, "%.*s\n", (int)text.length, (char *)room);
+            for (size_t k = 0; k < length; k++) fprintf(dumps, "%02x", back[k]);
+            fputc('\n', dumps);
+        }
+    }
+    HOLDS(wrong == 0);
+    double took = (double)(clock() - begin) / CLOCKS_PER_SEC;
+    if (!texts && count > 0) printf("%ld random frames to text and back: %.2f microseconds each\n", count, took * 1e6 / (double)count);
+}
+
+/* A text with one byte turned is refused and leaves the room, or is the text of a frame itself. */
+static void turned_texts(long count) {
+    uint8_t frame[16], text[128], room[16], again[128];
+    long wrong = 0, taken = 0;
+    for (long i = 0; i < count; i++) {
+        size_t length = 1 + random_below(16);
+        for (size_t k = 0; k < length; k++) frame[k] = (uint8_t)random_below(256);
+        hdminet_answer spelled = hdminet_frame_text(frame, length, text, sizeof text);
+        text[random_below((uint32_t)spelled.length)] ^= (uint8_t)(1 + random_below(255));
+        memset(room, 0xa5, sizeof room);
+        hdminet_answer answer = hdminet_frame_bytes(text, spelled.length, room, sizeof room);
+        if (answer.code == HDMINET_DONE) {
+            hdminet_answer back = hdminet_frame_text(room, answer.length, again, sizeof again);
+            wrong += back.code != HDMINET_DONE || back.length != spelled.length || memcmp(text, again, back.length) != 0;
+            taken++;
+        } else {
+            wrong += answer.code < HDMINET_TEXT_ADDRESS || answer.code > HDMINET_TEXT_OPERAND || answer.length != 0 || !is_filled(room, 0, sizeof room);
+        }
+    }
+    HOLDS(wrong == 0 && (count < 1000 || (taken > 0 && taken < count)));
+}
+
+/* The headers ask for pointers that are not null, also for 0 bytes. These are answered as none all the same. */
+static void nothing_at_null(void) {
+    uint8_t frame[] = {0x4f, 0x82, 0x10, 0x00}, room[32];
+    memset(room, 0xa5, sizeof room);
+    HOLDS(hdminet_frame_text(NULL, 0, room, sizeof room).code == HDMINET_FRAME_EMPTY && is_filled(room, 0, sizeof room));
+    HOLDS(hdminet_frame_text(frame, 4, NULL, 0).code == HDMINET_ROOM && hdminet_frame_text(frame, 4, NULL, 0).length == 25);
+    HOLDS(hdminet_frame_bytes(NULL, 0, room, sizeof room).code == HDMINET_TEXT_ADDRESS && is_filled(room, 0, sizeof room));
+    HOLDS(hdminet_edid_fault(NULL, 0) == HDMINET_EDID_LENGTH);
+    HOLDS(hdminet_edid_text(NULL, 0, room, sizeof room).code == HDMINET_EDID_LENGTH && is_filled(room, 0, sizeof room));
+    HOLDS(hdminet_edid_port(NULL, 0, 0x1000, false, room, sizeof room).code == HDMINET_EDID_LENGTH && is_filled(room, 0, sizeof room));
+    hdminet_sender sender = {0};
+    HOLDS(hdminet_sender_begin(&sender, NULL, 0, 1) == HDMINET_FRAME_EMPTY);
+}
+
 /* CEC 17, table 7: 0x82 is <Active Source>, 0x36 <Standby>. */
-static void frames(long count) {
-    uint8_t frame[17] = {0x4f, 0x82, 0x10, 0x00}, room[128], back[16];
+static void frames(void) {
+    uint8_t frame[17] = {0x4f, 0x82, 0x10, 0x00}, room[128];
     hdminet_answer answer;
     memset(room, 0xa5, sizeof room);
     answer = hdminet_frame_text(frame, 4, room, sizeof room);
@@ -65,18 +124,6 @@ static void frames(long count) {
     HOLDS(answer.code == HDMINET_ROOM && answer.length == 2 && is_filled(room, 0, sizeof room));
     answer = hdminet_frame_bytes((const uint8_t *)"0>4 standby", 11, room, 2);
     HOLDS(answer.code == HDMINET_DONE && answer.length == 2 && room[0] == 0x04 && room[1] == 0x36 && is_filled(room, 2, sizeof room));
-
-    clock_t begin = clock();
-    long wrong = 0;
-    for (long i = 0; i < count; i++) {
-        size_t length = 1 + random_below(16);
-        for (size_t k = 0; k < length; k++) frame[k] = (uint8_t)random_below(256);
-        hdminet_answer text = hdminet_frame_text(frame, length, room, sizeof room);
-        answer = hdminet_frame_bytes(room, text.length, back, sizeof back);
-        wrong += text.code != HDMINET_DONE || answer.code != HDMINET_DONE || answer.length != length || memcmp(frame, back, length) != 0;
-    }
-    HOLDS(wrong == 0);
-    printf("%ld random frames to text and back: %.2f microseconds each\n", count, (double)(clock() - begin) / CLOCKS_PER_SEC * 1e6 / (double)(count ? count : 1));
 }
 
 static void edids(const char *edid_name, const char *text_name) {
@@ -107,8 +154,15 @@ static void edids(const char *edid_name, const char *text_name) {
 
     /* What a port passes on differs in the two bytes of its address and in the checksum of that block. */
     static uint8_t passed[512];
+    memset(passed, 0xa5, sizeof passed);
     answer = hdminet_edid_port(edid, count, 0x1200, false, passed, count - 1);
-    HOLDS(answer.code == HDMINET_ROOM && answer.length == count);
+    HOLDS(answer.code == HDMINET_ROOM && answer.length == count && is_filled(passed, 0, sizeof passed));
+    answer = hdminet_edid_port(edid, count - 1, 0x1200, false, passed, sizeof passed);
+    HOLDS(answer.code == HDMINET_EDID_LENGTH && answer.length == 0 && is_filled(passed, 0, sizeof passed));
+    edid[count - 1] ^= 1;
+    answer = hdminet_edid_port(edid, count, 0x1200, false, passed, sizeof passed);
+    HOLDS(answer.code == HDMINET_EDID_FIRST && answer.length == 0 && is_filled(passed, 0, sizeof passed));
+    edid[count - 1] ^= 1;
     answer = hdminet_edid_port(edid, count, 0x1200, false, passed, sizeof passed);
     HOLDS(answer.code == HDMINET_DONE && answer.length == count && hdminet_edid_fault(passed, count) == HDMINET_DONE);
     size_t differ = 0;
@@ -121,7 +175,8 @@ static void edids(const char *edid_name, const char *text_name) {
     passed[127] = (uint8_t)(passed[127] + passed[126]);
     passed[126] = 0;
     HOLDS(hdminet_edid_fault(passed, 128) == HDMINET_DONE);
-    HOLDS(hdminet_edid_port(passed, 128, 0x1200, false, room, sizeof room).code == HDMINET_EDID_NO_HDMI_BLOCK);
+    memset(room, 0xa5, 1024);
+    HOLDS(hdminet_edid_port(passed, 128, 0x1200, false, room, sizeof room).code == HDMINET_EDID_NO_HDMI_BLOCK && is_filled(room, 0, 1024));
 }
 
 /* The states are as large as the header says, and a spoilt one is refused and kept. */
@@ -157,6 +212,19 @@ static void states(void) {
     HOLDS(hdminet_sender_pulls(&sender, 1).code == HDMINET_STATE && hdminet_sender_next_change(&sender, 1).code == HDMINET_STATE);
     HOLDS(hdminet_sender_heard(&sender, &heard, 1) == HDMINET_STATE);
     HOLDS(hdminet_sender_begin(&sender, frame, 2, 1000) == HDMINET_DONE && sender.count == 2 && sender.begin == 1000 && sender.state == 0);
+    for (int field = 0; field < 6; field++) {
+        hdminet_sender changed = sender;
+        if (field == 0) changed.count = 0;
+        if (field == 1) changed.count = 17;
+        if (field == 2) changed.state = 3;
+        if (field == 3) changed.begin = 3000000000001;
+        if (field == 4) changed.slot = 1;
+        if (field == 5) changed.last = 1;
+        sender_before = changed;
+        HOLDS(hdminet_sender_heard(&changed, &heard, 1) == HDMINET_STATE && memcmp(&changed, &sender_before, sizeof changed) == 0);
+        HOLDS(hdminet_sender_pulls(&changed, 1).code == HDMINET_STATE && hdminet_sender_next_change(&changed, 1).code == HDMINET_STATE);
+        HOLDS(hdminet_sender_fate(&changed, &reading).code == HDMINET_STATE && hdminet_sender_fate(&changed, &reading).fate == 0);
+    }
     HOLDS(hdminet_sender_pulls(&sender, 3000000000001).code == HDMINET_LATE && hdminet_sender_next_change(&sender, 3000000000001).code == HDMINET_LATE);
     sender_before = sender;
     heard.kind = 4;
@@ -167,6 +235,7 @@ static void states(void) {
     HOLDS(hdminet_sender_heard(&sender, &heard, 3000000000001) == HDMINET_LATE && memcmp(&sender, &sender_before, sizeof sender) == 0);
 
     hdminet_reading none = {0};
+    memset(room, 0xa5, sizeof room);
     none.ending = 1, none.count = 161;
     HOLDS(hdminet_reading_frame(&none, room, sizeof room).code == HDMINET_STATE);
     none.count = 10, none.ending = 0;
@@ -175,6 +244,7 @@ static void states(void) {
     HOLDS(hdminet_reading_frame(&none, room, sizeof room).code == HDMINET_ABSENT);
     none.ending = 1, none.count = 9;
     HOLDS(hdminet_reading_frame(&none, room, sizeof room).code == HDMINET_ABSENT);
+    HOLDS(is_filled(room, 0, sizeof room));
 }
 
 /* A sender and a receiver on one line, where a follower acknowledges or does not: the receiver reads the sender's frame. */
@@ -204,6 +274,8 @@ static void line(bool is_acknowledged) {
     HOLDS(ended == 1);
     if (is_acknowledged) {
         HOLDS(reading.ending == 1 && reading.begin == 1000 && reading.count == 30 && sender.state == 2);
+        memset(read, 0xa5, sizeof read);
+        HOLDS(hdminet_reading_frame(&reading, read, 2).code == HDMINET_ROOM && is_filled(read, 0, sizeof read));
         hdminet_answer answer = hdminet_reading_frame(&reading, read, sizeof read);
         HOLDS(answer.code == HDMINET_DONE && answer.length == 3 && memcmp(read, frame, 3) == 0 && !reading.bits[29]);
         HOLDS(hdminet_sender_fate(&sender, &reading).code == HDMINET_DONE && hdminet_sender_fate(&sender, &reading).fate == 1);
@@ -254,13 +326,22 @@ static void edges(void) {
 }
 
 int main(int count, char **words) {
-    if (count != 4) return 2;
-    frames(atol(words[3]));
+    if (count != 4 && count != 6) return 2;
+    frames();
+    random_frames(atol(words[3]), NULL, NULL);
+    turned_texts(atol(words[3]));
+    nothing_at_null();
     edids(words[1], words[2]);
     states();
     line(true);
     line(false);
     edges();
+    if (count == 6) {
+        FILE *texts = fopen(words[4], "w"), *dumps = fopen(words[5], "w");
+        HOLDS(texts && dumps);
+        if (texts && dumps) random_frames(atol(words[3]), texts, dumps);
+        HOLDS(texts && dumps && fclose(texts) == 0 && fclose(dumps) == 0);
+    }
     puts(failed ? "library: failed" : "library: ok");
     return failed;
 }

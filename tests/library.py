@@ -4,6 +4,7 @@ refusals, a sender and a receiver, and with PROGRAM that each example's trace an
 import glob
 import os
 import random
+import re
 import subprocess
 import sys
 import time
@@ -40,6 +41,17 @@ def frames():
         frame = generator.randbytes(generator.randint(1, 16))
         assert hdminet.frame_bytes(hdminet.frame_text(frame)) == frame
     print("%d random frames to text and back in Python: %.1f microseconds each" % (count, (time.time() - begin) / max(count, 1) * 1e6))
+    # A text with one byte turned is refused, or is the text of a frame itself.
+    taken = 0
+    for _ in range(count // 10):
+        text = bytearray(hdminet.frame_text(generator.randbytes(generator.randint(1, 16))).encode())
+        text[generator.randrange(len(text))] ^= generator.randint(1, 255)
+        try:
+            assert hdminet.frame_text(hdminet.frame_bytes(bytes(text))).encode() == text
+            taken += 1
+        except hdminet.Error as error:
+            assert 20 <= error.code <= 24 and error.line == 0
+    assert count < 10000 or 0 < taken < count // 10
     texts, dumps = read("frames.txt").decode().splitlines(), read("frames.hex").decode().split()
     assert [hdminet.frame_bytes(text).hex() for text in texts if text and not text.startswith("#")] == dumps
 
@@ -51,6 +63,12 @@ def edids():
     edid = read("living-room.edid")
     assert hdminet.edid_fault(edid[:-1]) == "edid: length"
     refused(30, 0, hdminet.edid_text, edid[:-1])
+    refused(30, 0, hdminet.edid_port, edid[:-1], 0x1200)
+    for turned, code in ((3, 32), (40, 33), (200, 36)):
+        other = edid[:turned] + bytes([edid[turned] ^ 16]) + edid[turned + 1:]
+        assert hdminet.edid_fault(other) == hdminet.CODES[code]
+        refused(code, 0, hdminet.edid_text, other)
+        refused(code, 0, hdminet.edid_port, other, "1.0.0.0")
     passed = hdminet.edid_port(edid, "1.2.0.0")
     assert passed == hdminet.edid_port(edid, 0x1200) and len(passed) == len(edid) and b"\x03\x0c\x00\x12\x00" in passed
     assert hdminet.edid_port(edid, "1.2.0.0", True) != passed
@@ -72,6 +90,20 @@ def lines():
     assert [(reading.begin, reading.ending, reading.frame(), reading.acknowledged()) for reading in found] == [(1000, "complete", frame, True)]
     assert not sender.is_sending() and sender.slot() is None
     assert sender.fate(found[0]) == "delivered" and hdminet.Sender(frame, 1000).fate(found[0]) is None
+    # A spoilt state is refused, and stays as it is.
+    receiver.state.place, sender.state.state = 9, 9
+    spoilt = bytes(receiver.state), bytes(sender.state)
+    refused(2, 0, receiver.hear, 200000, True)
+    refused(2, 0, receiver.wakes_at)
+    refused(2, 0, receiver.running, 200000)
+    refused(2, 0, sender.pulls, 200000)
+    refused(2, 0, sender.next_change, 200000)
+    refused(2, 0, sender.hear, receiver.heard, 200000)
+    refused(2, 0, sender.fate, found[0])
+    assert spoilt == (bytes(receiver.state), bytes(sender.state))
+    refused(3, 0, hdminet.Receiver().hear, 3000000000001, True)
+    refused(3, 0, hdminet.Sender, frame, 3000000000001)
+    refused(10, 0, hdminet.Sender, b"", 1)
 
 
 def runs():
@@ -109,9 +141,20 @@ not ok 2 - line 3: expect none within 200000 of film 4>f active-source
             assert trace.encode("latin-1") == subprocess.run([program, "run"], input=text, capture_output=True, check=True).stdout, name
             assert edges.encode() == subprocess.run([program, "run", "--edges"], input=text, capture_output=True, check=True).stdout, name
             assert hdminet.watch(edges).encode() == subprocess.run([program, "mon"], input=edges.encode(), capture_output=True, check=True).stdout, name
+            report = subprocess.run([program, "check"], input=text, capture_output=True, check=True).stdout
+            assert hdminet.check(topology, script).text.encode("latin-1") == report, name
         if receiver:
             assert subprocess.run([receiver], input=edges.encode(), capture_output=True, check=True).stdout == hdminet.watch(edges).encode(), name
         print("%s: trace and edges in %.1f milliseconds each" % (os.path.basename(name), took * 1000 / 2))
+    for name in sorted(glob.glob(os.path.join(top, "examples", "*.test"))):
+        text = read(os.path.basename(name))
+        report = hdminet.check(*text.split(b"script\n", 1))
+        kept = name[:-4] + ("failures" if report.failed else "report")
+        assert report.text.encode("latin-1") == read(os.path.basename(kept)), name
+        assert report.count == len(re.findall("^(?:not )?ok ", report.text, re.M)) and report.failed == len(re.findall("^not ok ", report.text, re.M))
+        if program:
+            ran = subprocess.run([program, "check"], input=text, capture_output=True)
+            assert (ran.stdout, ran.returncode) == (report.text.encode("latin-1"), min(report.failed, 1)), name
 
 
 frames()

@@ -1,7 +1,11 @@
 #!/usr/bin/env bash
 # library.sh DIR [PROGRAM]: tests what tools/library has installed under DIR, over C and Python, and with PROGRAM, the
-# program as it is built, that each example's trace and readings are the program's. The last line is
+# program as it is built, that traces, edges, readings, reports and texts are the program's. The last line is
 # 'library: N passed, M failed'. With no DIR it tests what needs no library: the headers, and that the C files compile.
+#
+# $CC is the C compiler, cc where there is none. $HDMINET_RUN is what stands before a program that it has built, as
+# 'qemu-aarch64 -L /usr/aarch64-linux-gnu' for CC=aarch64-linux-gnu-gcc; nothing is called from Python then.
+# $HDMINET_FRAMES is how many random frames are taken.
 set -u
 top=$(cd "$(dirname "${BASH_SOURCE[0]}")/.." && pwd)
 room=$(mktemp -d)
@@ -9,53 +13,144 @@ trap 'rm -rf "$room"' EXIT
 passed=0
 failed=0
 count=${HDMINET_FRAMES:-200000}
+cc=${CC:-cc}
+run=${HDMINET_RUN:-}
 
 line() {
   local what=$1
   shift
   if "$@" > "$room/log" 2>&1; then passed=$((passed + 1)); else failed=$((failed + 1)); echo "library: failed: $what"; tail -n 20 "$room/log"; fi
-  grep -E 'each$|bytes$' "$room/log"
+  # The figures that it prints.
+  grep -E '(each|bytes|of stack)$' "$room/log"
 }
 
-compiles() { cc -std=c11 -Wall -Wextra -Werror -fsyntax-only -I "$top/include" "$1"; }
+compiles() { $cc -std=c11 -Wall -Wextra -Werror -fsyntax-only -I "$top/include" "$1"; }
 
 line "headers, exports and Python" "$top/tools/library-matches"
-for file in "$top"/examples/c/*.c "$top"/tests/library*.c; do line "$file compiles" compiles "$file"; done
+for file in "$top"/examples/c/*.c "$top"/tests/library*.c "$top"/tools/library*.c; do line "$(basename "$file") compiles" compiles "$file"; done
+
+# Links a program with libhdminet_wire.a, or with libhdminet.a.
+link() {
+  local name=$1 library=$2
+  shift 2
+  $cc -std=c11 -O2 -Wall -Wextra -ffunction-sections -I "$at/include" -o "$room/$name" "$@" -L "$at/lib" -Wl,--gc-sections \
+    -Wl,-Bstatic "$library" -Wl,-Bdynamic -lpthread
+}
+
+# The names that an archive or a shared library gives, or of an archive those that it asks for.
+given() { nm -g --defined-only "$@" | sed -n 's/^[0-9a-f]* [TDBR] //p' | sort -u; }
+asked() { comm -23 <(nm -g --undefined-only "$1" | sed -n 's/^ *U //p' | sort -u) <(given "$1"); }
+declared() { sed -n 's/^[a-z].* \**\(hdminet_[a-z_]*\)(.*/\1/p' "$@" | sort -u; }
+same() { diff <(printf '%s\n' "${1:-}" | tr ' ' '\n' | grep . | sort -u) <(printf '%s\n' "${2:-}" | tr ' ' '\n' | grep . | sort -u); }
+wire_names() {
+  same "$(declared "$at/include/hdminet_wire.h")" "$(given "$at/lib/libhdminet_wire.a" | grep -v '^_R')" &&
+    same "memcpy memmove memset" "$(asked "$at/lib/libhdminet_wire.a")"
+}
+all_names() {
+  local names
+  names=$(declared "$at/include/hdminet_wire.h" "$at/include/hdminet.h")
+  same "$names rattle_alloc rattle_realloc rattle_dealloc" "$(given "$at/lib/libhdminet.a")" &&
+    same "memcpy memmove memset malloc realloc free" "$(asked "$at/lib/libhdminet.a")" &&
+    same "$names rattle_alloc rattle_realloc rattle_dealloc" "$(given -D "$at/lib/libhdminet.so")"
+}
+
+small() {
+  strip=${cc%gcc}strip
+  command -v "$strip" > /dev/null || strip=strip
+  "$strip" -o "$room/stripped" "$room/receiver" && local size && size=$(stat -c %s "$room/stripped") &&
+    echo "receiver.c with the library, stripped: $size bytes" && [ "$size" -lt 200000 ]
+}
+
+bare() {
+  $cc -O2 -ffreestanding -nostdlib -static -fno-stack-protector -I "$at/include" -o "$room/bare" "$top/examples/c/bare.c" \
+    -L "$at/lib" -lhdminet_wire && [ "$($run "$room/bare")" = "4>f active-source 1.0.0.0" ]
+}
+
+# A program that finds the library by pkg-config, and the shared one at its start.
+packaged() {
+  local words
+  words=$(PKG_CONFIG_PATH="$at/lib/pkgconfig" pkg-config --cflags --libs hdminet) &&
+    $cc -std=c11 -O2 -o "$room/shared" "$top/examples/c/emulate.c" $words &&
+    LD_LIBRARY_PATH="$at/lib" "$room/shared" < "$top/examples/first-path.net" | cmp - "$top/examples/first-path.trace" &&
+    words=$(PKG_CONFIG_PATH="$at/lib/pkgconfig" pkg-config --cflags --libs hdminet_wire) &&
+    $cc -std=c11 -O2 -o "$room/packaged" "$top/examples/c/receiver.c" $words &&
+    "$room/packaged" < "$top/examples/capture.edges" | cmp - "$top/examples/capture.readings"
+}
+
+# What a program writes and the file, or what the second program writes, are the same. The status of a report with a test
+# that failed is 1.
+writes() { local file=$1; shift; "$@" > "$room/written"; [ $? -le 1 ] && cmp "$room/written" "$file"; }
+writes_as_program() {
+  local input=$1 word=$2 status
+  shift 2
+  $run "$room/emulate" "$word" < "$input" > "$room/written"
+  status=$?
+  "$program" "$@" < "$input" > "$room/due"
+  [ $? = $status ] && [ -s "$room/due" ] && cmp "$room/written" "$room/due"
+}
+
+# The readings of the edges of an example, by examples/c/receiver.c, and by examples/c/gpio.c, which prints no bits and
+# not what is open at the end, at instants of a clock.
+readings() {
+  "$program" run --edges < "$1" > "$room/edges" && "$program" mon < "$room/edges" > "$room/readings" && [ -s "$room/readings" ] &&
+    $run "$room/receiver" < "$room/edges" | cmp - "$room/readings"
+}
+at_the_clock() {
+  $run "$room/gpio" "$1" 17 > "$room/written"
+  [ $? = 1 ] && [ -s "$room/written" ] && diff <(awk '{ $2 -= $1; $1 = $1 - 3600000000; print }' "$room/written") \
+    <(awk '$3 != "open" { if ($3 != "complete") NF = 3; $2 -= $1; print }' "$2")
+}
+
+# The program reads the texts of the random frames as the library has written them, in parts that it takes at once.
+frames_of_the_program() {
+  local part
+  split -l 9000 "$room/texts" "$room/texts." && split -l 9000 "$room/dumps" "$room/dumps." && [ -s "$room/texts.aa" ] || return 1
+  for part in "$room"/texts.??; do
+    "$program" asm < "$part" | cmp - "${part/texts/dumps}" && "$program" dis < "${part/texts/dumps}" | cmp - "$part" || return 1
+  done
+}
 
 if [ $# -ge 1 ]; then
-  at=$(cd "$1" && pwd)
+  at=$(cd "$1" && pwd) || exit 2
   program=${2:-}
-  link() { cc -std=c11 -O2 -Wall -Wextra -ffunction-sections -I "$at/include" -o "$room/$1" "$2" -L "$at/lib" -Wl,--gc-sections -Wl,-Bstatic "$3" -Wl,-Bdynamic; }
-  line "tests/library.c links" link library "$top/tests/library.c" -lhdminet_wire
-  line "tests/library.c" "$room/library" "$top/examples/living-room.edid" "$top/examples/living-room.edid.txt" "$count"
-  run_links() { cc -std=c11 -O2 -Wall -Wextra -I "$at/include" -o "$room/library-run" "$top/tests/library-run.c" -L "$at/lib" -Wl,-Bstatic -lhdminet -Wl,-Bdynamic -lpthread; }
-  line "tests/library-run.c links" run_links
-  line "tests/library-run.c" "$room/library-run"
-  line "examples/c/receiver.c links" link receiver "$top/examples/c/receiver.c" -lhdminet_wire
-  small() {
-    strip -o "$room/stripped" "$room/receiver" && local size && size=$(stat -c %s "$room/stripped") &&
-      echo "receiver.c with the library: $size bytes" && [ "$size" -lt 200000 ]
-  }
+  line "what libhdminet_wire.a gives and asks for" wire_names
+  line "what libhdminet.a and libhdminet.so give and ask for" all_names
+  line "library.c links" link library -lhdminet_wire "$top/tests/library.c"
+  line "library.c" $run "$room/library" "$top/examples/living-room.edid" "$top/examples/living-room.edid.txt" "$count" "$room/texts" "$room/dumps"
+  line "library-run.c links" link library-run -lhdminet "$top/tests/library-run.c"
+  line "library-run.c" $run "$room/library-run"
+  line "library-stack.c links" link library-stack -lhdminet "$top/tests/library-stack.c"
+  line "library-stack.c" $run "$room/library-stack" "$top/examples/living-room.edid"
+  line "receiver.c links" link receiver -lhdminet_wire "$top/examples/c/receiver.c"
   line "its size" small
-  bare() {
-    cc -O2 -ffreestanding -nostdlib -static -fno-stack-protector -I "$at/include" -o "$room/bare" "$top/examples/c/bare.c" \
-      -L "$at/lib" -lhdminet_wire && [ "$("$room/bare")" = "4>f active-source 1.0.0.0" ]
-  }
-  line "examples/c/bare.c, with no C library" bare
-  line "tests/library.py" env HDMINET_RECEIVER="$room/receiver" PYTHONPATH="$at/python" HDMINET_LIBRARY="$at/lib/libhdminet.so" python3 "$top/tests/library.py" "$top" "$count" "$program"
-  watch_example() {
-    env PYTHONPATH="$at/python" HDMINET_LIBRARY="$at/lib/libhdminet.so" python3 "$top/examples/python/watch.py" < "$top/examples/capture.edges" |
-      cmp - "$top/examples/capture.readings"
-  }
-  line "examples/python/watch.py" watch_example
-  captured() { "$room/receiver" < "$top/examples/capture.edges" | cmp - "$top/examples/capture.readings"; }
-  line "examples/c/receiver.c on examples/capture.edges" captured
+  line "receiver.c on capture.edges" writes "$top/examples/capture.readings" $run "$room/receiver" < "$top/examples/capture.edges"
+  line "gpio.c links" link gpio -lhdminet_wire "$top/examples/c/gpio.c" "$top/tests/library-gpio.c" -Wl,--wrap={open,ioctl,poll,read,clock_gettime}
+  line "gpio.c on capture.edges" at_the_clock "$top/examples/capture.edges" "$top/examples/capture.readings"
+  line "bare.c, with no C library" bare
+  line "emulate.c links" link emulate -lhdminet "$top/examples/c/emulate.c"
+  for net in "$top"/examples/*.net; do
+    line "the trace of $(basename "$net")" writes "${net%.net}.trace" $run "$room/emulate" trace < "$net"
+  done
+  for test in "$top"/examples/*.report "$top"/examples/*.failures; do
+    line "$(basename "$test")" writes "$test" $run "$room/emulate" check < "${test%.*}.test"
+  done
+  if [ -z "$run" ]; then
+    line "by pkg-config" packaged
+    line "library.py" env HDMINET_RECEIVER="$room/receiver" PYTHONPATH="$at/python" HDMINET_LIBRARY="$at/lib/libhdminet.so" \
+      python3 "$top/tests/library.py" "$top" "$count" "$program"
+    line "watch.py" writes "$top/examples/capture.readings" env PYTHONPATH="$at/python" python3 "$top/examples/python/watch.py" < "$top/examples/capture.edges"
+  fi
   if [ -n "$program" ]; then
-    readings() {
-      "$program" run --edges < "$1" > "$room/edges" && "$program" mon < "$room/edges" > "$room/readings" &&
-        "$room/receiver" < "$room/edges" | cmp - "$room/readings"
-    }
-    for net in "$top"/examples/*.net; do line "the readings of $(basename "$net") in C" readings "$net"; done
+    line "the random frames, read by the program" frames_of_the_program
+    for net in "$top"/examples/*.net; do
+      name=$(basename "$net")
+      line "the program's trace of $name" writes_as_program "$net" trace run
+      line "the program's edges of $name" writes_as_program "$net" edges run --edges
+      line "the program's report of $name" writes_as_program "$net" check check
+      line "the readings of $name" readings "$net"
+      line "the readings of $name at a clock" at_the_clock "$room/edges" "$room/readings"
+    done
+    for test in "$top"/examples/*.test; do line "the program's report of $(basename "$test")" writes_as_program "$test" check check; done
   fi
 fi
 echo "library: $passed passed, $failed failed"

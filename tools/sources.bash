@@ -1,12 +1,15 @@
 # What the program is built of, for the scripts that read this file. Each function takes the top of a checkout.
 
-# Lists the crates that the program is built of, as their lines of crates.txt: hdminet, and what has a line and stands below it.
+# Lists the crates that the program is built of, as their lines of crates.txt: hdminet, or the crates that are named after the
+# top, and what has a line and stands below them.
 needed_lines() {
-  local -A below=() needed=([hdminet]=1)
-  local -a left=(hdminet)
+  local -A below=() kind=() needed=()
+  local -a left=("${@:2}")
   local name names
+  [ ${#left[@]} -gt 0 ] || left=(hdminet)
+  for name in "${left[@]}"; do needed[$name]=1; done
   while IFS=: read -r name names; do
-    [[ $name != [a-z]* ]] || below[$name]=$names
+    [[ $name != [a-z]* ]] || { below[${name%% *}]=$names && kind[${name%% *}]=$name; }
   done < "$1/crates.txt"
   while [ ${#left[@]} -gt 0 ]; do
     names=${below[${left[0]}]-}
@@ -19,13 +22,13 @@ needed_lines() {
       fi
     done
   done
-  for name in "${!needed[@]}"; do printf '%s:%s\n' "$name" "${below[$name]-}"; done
+  for name in "${!needed[@]}"; do printf '%s:%s\n' "${kind[$name]-$name}" "${below[$name]-}"; done
 }
 
 # Lists the names of those crates.
 needed_crates() {
   local name names
-  while IFS=: read -r name names; do printf '%s\n' "$name"; done < <(needed_lines "$1")
+  while IFS=: read -r name names; do printf '%s\n' "${name%% *}"; done < <(needed_lines "$@")
 }
 
 # The sum over what the program is built of: the lines of its crates, and the sum and the name of each file of src/, specs/ and
