@@ -212,14 +212,13 @@ static void states(void) {
     HOLDS(hdminet_sender_pulls(&sender, 1).code == HDMINET_STATE && hdminet_sender_next_change(&sender, 1).code == HDMINET_STATE);
     HOLDS(hdminet_sender_heard(&sender, &heard, 1) == HDMINET_STATE);
     HOLDS(hdminet_sender_begin(&sender, frame, 2, 1000) == HDMINET_DONE && sender.count == 2 && sender.begin == 1000 && sender.state == 0);
-    for (int field = 0; field < 6; field++) {
+    for (int field = 0; field < 5; field++) {
         hdminet_sender changed = sender;
         if (field == 0) changed.count = 0;
         if (field == 1) changed.count = 17;
         if (field == 2) changed.state = 3;
         if (field == 3) changed.begin = 3000000000001;
         if (field == 4) changed.slot = 1;
-        if (field == 5) changed.last = 1;
         sender_before = changed;
         HOLDS(hdminet_sender_heard(&changed, &heard, 1) == HDMINET_STATE && memcmp(&changed, &sender_before, sizeof changed) == 0);
         HOLDS(hdminet_sender_pulls(&changed, 1).code == HDMINET_STATE && hdminet_sender_next_change(&changed, 1).code == HDMINET_STATE);

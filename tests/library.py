@@ -141,8 +141,8 @@ not ok 2 - line 3: expect none within 200000 of film 4>f active-source
             assert trace.encode("latin-1") == subprocess.run([program, "run"], input=text, capture_output=True, check=True).stdout, name
             assert edges.encode() == subprocess.run([program, "run", "--edges"], input=text, capture_output=True, check=True).stdout, name
             assert hdminet.watch(edges).encode() == subprocess.run([program, "mon"], input=edges.encode(), capture_output=True, check=True).stdout, name
-            report = subprocess.run([program, "check"], input=text, capture_output=True, check=True).stdout
-            assert hdminet.check(topology, script).text.encode("latin-1") == report, name
+            ran, report = subprocess.run([program, "check"], input=text, capture_output=True), hdminet.check(topology, script)
+            assert (ran.stdout, ran.returncode) == (report.text.encode("latin-1"), min(report.failed, 1)), name
         if receiver:
             assert subprocess.run([receiver], input=edges.encode(), capture_output=True, check=True).stdout == hdminet.watch(edges).encode(), name
         print("%s: trace and edges in %.1f milliseconds each" % (os.path.basename(name), took * 1000 / 2))
