@@ -1,12 +1,11 @@
-/* Calls of hdminet that are proved and take memory: the emulator, the report of a script's expectations,
-   and the readings of an edge file. hdminet_wire.h has the
-   others, and what callers promise: it holds here too.
+/* Calls of hdminet that are proved and take memory: the emulator, the report of a script's expectations, and the readings of an
+   edge file. hdminet_wire.h has the others, and what callers promise: it holds here too.
 
    These calls take memory by the program's malloc, realloc and free, and give all of it back before they return. The
    caller promises besides:
    - The three functions are of one allocator, and align a block as C asks for.
    - No call comes from a signal handler, nor from the forked child of a process with threads.
-   - The stack has 400 KB left: the emulator takes some 350 KB of it. A thread of 512 KB will do.
+   - The stack has 400 KB left: the emulator takes some 340 KB of it. A thread of 512 KB will do.
    Where memory runs out, HDMINET_MEMORY is the answer. */
 #ifndef HDMINET_H
 #define HDMINET_H
