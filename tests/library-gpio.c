@@ -1,5 +1,5 @@
 /* A GPIO character device and a clock of its own for examples/c/gpio.c, linked with -Wl,--wrap: each fall and rise of the edge
-   file that the first word names is an event, told some time after its instant. */
+   file that the first word names is an event, which comes some time after its instant. */
 #define _POSIX_C_SOURCE 200809L
 #include <inttypes.h>
 #include <linux/gpio.h>
@@ -13,7 +13,7 @@ enum { MOST_DELAY = 4000 };
 static uint64_t clock_now = 3600000000u;
 static FILE *file;
 static struct gpio_v2_line_event event;
-static uint64_t told_at;
+static uint64_t comes_at;
 
 /* Takes the next event, where there is one. */
 static int take(void) {
@@ -25,7 +25,7 @@ static int take(void) {
         random_state = random_state * 6364136223846793005u + 1442695040888963407u;
         event.timestamp_ns = (start + t) * 1000 + random_state % 1000;
         event.id = level[0] == '0' ? GPIO_V2_LINE_EVENT_FALLING_EDGE : GPIO_V2_LINE_EVENT_RISING_EDGE;
-        told_at = start + t + (random_state >> 33) % MOST_DELAY;
+        comes_at = start + t + (random_state >> 33) % MOST_DELAY;
     }
     return event.id != 0;
 }
@@ -46,12 +46,12 @@ int __wrap_clock_gettime(clockid_t which, struct timespec *time) {
     return which == CLOCK_MONOTONIC ? 0 : -1;
 }
 
-/* An event that is told within the time-out, or the time-out; the end of the file where neither comes. */
+/* An event that comes within the time-out, or the time-out; the end of the file where neither comes. */
 int __wrap_poll(struct pollfd *lines, nfds_t count, int timeout) {
     (void)lines, (void)count;
     uint64_t until = clock_now + (uint64_t)timeout * 1000;
-    if (take() && (timeout < 0 || told_at <= until)) {
-        clock_now = told_at > clock_now ? told_at : clock_now;
+    if (take() && (timeout < 0 || comes_at <= until)) {
+        clock_now = comes_at > clock_now ? comes_at : clock_now;
         return 1;
     }
     if (timeout < 0) return 1;

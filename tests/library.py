@@ -12,7 +12,7 @@ import time
 import hdminet
 
 top, count, program = sys.argv[1], int(sys.argv[2]), sys.argv[3] if len(sys.argv) > 3 else ""
-# examples/c/receiver.c as a program: told the edges of each example, it reports the readings.
+# examples/c/receiver.c as a program: from the edges of each example it reports the readings.
 receiver = os.environ.get("HDMINET_RECEIVER")
 
 

@@ -1,4 +1,4 @@
-/* A receiver of the CEC line on Linux: `gpio /dev/gpiochip0 17` is told each edge of that line by an event of the GPIO character
+/* A receiver of the CEC line on Linux: `gpio /dev/gpiochip0 17` takes each edge of that line from an event of the GPIO character
    device, and prints what was read, as `hdminet mon` does, at instants of the system's clock. The pin has to bear the line's
    level, 3.3 volts. */
 #define _POSIX_C_SOURCE 200809L
@@ -14,7 +14,7 @@
 #include <time.h>
 #include <unistd.h>
 
-/* How many microseconds after its instant a wake is called: an edge before it was told by then. */
+/* How many microseconds after its instant a wake is called: an edge before it is there by then. */
 enum { LATE = 5000 };
 
 static hdminet_receiver receiver;
@@ -55,7 +55,7 @@ static void wake(uint64_t t) {
 
 static void edge(uint64_t clock, bool is_low) {
     static uint64_t last;
-    /* Two edges of one microsecond are told one after the other. */
+    /* Of two edges in one microsecond the second counts a microsecond later. */
     last = clock > last ? clock : last + 1;
     wake(last - origin);
     /* While the line rests a receiver may begin anew, so that its instants stay small. */
@@ -79,8 +79,8 @@ int main(int count, char **words) {
     for (;;) {
         hdminet_instant next = hdminet_receiver_wakes_at(&receiver);
         int64_t left = (int64_t)(next.at + LATE - now());
-        int told = poll(&line, 1, next.code != HDMINET_DONE ? -1 : left > 0 ? (int)(left / 1000) + 1 : 0);
-        if (told == 0) {
+        int events = poll(&line, 1, next.code != HDMINET_DONE ? -1 : left > 0 ? (int)(left / 1000) + 1 : 0);
+        if (events == 0) {
             hear(next.at, receiver.is_low);
         } else if (read(line.fd, &event, sizeof event) == sizeof event) {
             edge(event.timestamp_ns / 1000, event.id == GPIO_V2_LINE_EVENT_FALLING_EDGE);

@@ -1,4 +1,4 @@
-/* A receiver of the CEC line. It is told the falls and rises of the line, as `hdminet run --edges` writes them and as
+/* A receiver of the CEC line. It takes the falls and rises of the line, as `hdminet run --edges` writes them and as
    docs/formats.md has them, and prints what was read, as `hdminet mon` does.
 
    In a device `edge` is what the interrupt of the line's pin calls, and `wake` what a timer calls that is set to
