@@ -24,6 +24,7 @@ static int take(void) {
         if (sscanf(line, "%" SCNu64 " %3s", &t, level) != 2 || strcmp(level, "end") == 0) continue;
         random_state = random_state * 6364136223846793005u + 1442695040888963407u;
         event.timestamp_ns = (start + t) * 1000 + random_state % 1000;
+        event.seqno++;
         event.id = level[0] == '0' ? GPIO_V2_LINE_EVENT_FALLING_EDGE : GPIO_V2_LINE_EVENT_RISING_EDGE;
         comes_at = start + t + (random_state >> 33) % MOST_DELAY;
     }

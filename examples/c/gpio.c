@@ -75,6 +75,7 @@ int main(int count, char **words) {
     if (count != 3) return 2;
     struct pollfd line = {.fd = line_of(words[1], (unsigned)atoi(words[2])), .events = POLLIN};
     struct gpio_v2_line_event event;
+    uint32_t seen = 0;
     receiver = hdminet_receiver_new();
     for (;;) {
         hdminet_instant next = hdminet_receiver_wakes_at(&receiver);
@@ -83,6 +84,8 @@ int main(int count, char **words) {
         if (events == 0) {
             hear(next.at, receiver.is_low);
         } else if (read(line.fd, &event, sizeof event) == sizeof event) {
+            /* Where the kernel had no room for an event, what was read up to then is given up. */
+            if (event.seqno != ++seen) receiver = hdminet_receiver_new(), seen = event.seqno;
             edge(event.timestamp_ns / 1000, event.id == GPIO_V2_LINE_EVENT_FALLING_EDGE);
         } else {
             return 1;
