@@ -13,7 +13,7 @@ def model(args, data):
     sub = args[0] if args else 'run'
     if '--json' in args:
         status, out, fault = model([word for word in args if word != '--json'], data)
-        return status, objects.objects(out), fault
+        return status, objects.objects(out, objects.report_told_of if sub == 'check' else objects.told_of), fault
     if sub == 'run': return net.run(data, '--edges' in args)
     if sub == 'check': return expectations.check(data)
     if sub == 'step': return net.step(data)

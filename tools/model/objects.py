@@ -1,5 +1,6 @@
-"""Lines of a trace, or of readings, as objects of JSON: what docs/formats.md says of them, by Python's json."""
+"""Lines of a trace, of readings or of a report as objects of JSON: what docs/formats.md says of them, by Python's json."""
 import json
+import re
 import wire
 
 ENDINGS = ('complete', 'short', 'silent', 'bad-start', 'long', 'open', 'joined')
@@ -57,7 +58,7 @@ def state(words):
     return told
 
 
-def object_of(line):
+def told_of(line):
     words = line.split(' ')
     if words[0] == 'state':
         told = state(words[1:])
@@ -70,9 +71,34 @@ def object_of(line):
         told = {'type': 'end', 'at': int(words[0])}
     else:
         told = reading(words)
-    return json.dumps({'line': line, **told}, separators=(',', ':'))
+    return told
 
 
-def objects(text):
+def test(holds, rest):
+    number, place = rest.split(' - line ', 1)
+    line, text = place.split(': ', 1)
+    refused = text.startswith('refused ')
+    return {'type': 'test', 'test': int(number), 'script_line': int(line), 'holds': holds,
+            'expectation': None if refused else re.sub(r'\\(.)', r'\1', text), 'refused': text[8:] if refused else None}
+
+
+def report_told_of(line):
+    if line == 'TAP version 13':
+        return {'type': 'version', 'version': 13}
+    if line.startswith(('ok ', 'not ok ')):
+        return test(line[0] == 'o', line.split('ok ', 1)[1])
+    if line == '# no instant':
+        return {'type': 'window', 'seen': None, 'from': None, 'to': None}
+    if line.startswith('# seen '):
+        seen, start, end = line.split(' ')[2::2]
+        return {'type': 'window', 'seen': int(seen), 'from': int(start), 'to': int(end)}
+    if line == '# trace':
+        return {'type': 'trace'}
+    if line.startswith('1..'):
+        return {'type': 'plan', 'tests': int(line[3:])}
+    return told_of(line[2:])
+
+
+def objects(text, told=told_of):
     """the objects of a text's lines"""
-    return ''.join(object_of(line) + '\n' for line in text.decode().splitlines()).encode()
+    return ''.join(json.dumps({'line': line, **told(line)}, separators=(',', ':')) + '\n' for line in text.decode().splitlines()).encode()

@@ -6,7 +6,7 @@ use Rattle.hdmi_core.specs.declared.sink.WriteFault.{WriteFault}
 use Rattle.cec_words.specs.Cut.{WrittenText}
 use Rattle.cec_words.specs.Lines.{lines_of}
 use Rattle.cec_json.specs.Columns.{field, fields, lead, reading_fields, spelled}
-use Rattle.cec_json.specs.Object.{AreBytesOf, AreObjects, IsObject, begun, broken_body, bytes_value, complete_body, complete_fields, frame_fields, frame_in, reading_type, seats, typed}
+use Rattle.cec_json.specs.Object.{AreBytesOf, AreInOrder, begun, broken_body, bytes_value, complete_body, complete_fields, frame_fields, frame_in, reading_type, seats, typed}
 use Rattle.cec_json.specs.Parts.{after_byte, after_word, before_byte, before_last, behind_ending, has_seats, told_in, value_of, word}
 use Rattle.cec_json.specs.Progress.{WritesOn}
 use Rattle.cec_json.specs.Values.{code_text, coded, report_value, some_report}
@@ -83,32 +83,32 @@ bytes_are line rest told text bytes a b c are = subst (λ (t : List ℕ). AreByt
 
 -- ---- line after line
 
-objects_more : (lines : List (List ℕ)) (line objects text : List ℕ) → AreObjects lines objects → IsObject line text → AreObjects (lines ++ line ∷ []) (objects ++ text)
-objects_more [] line objects text none is = (text, [], is, refl, rw none (sym (append-nil text)))
-objects_more (l ∷ lines) line objects text are is =
-    (are.0, are.1 ++ text, are.2, objects_more lines line are.1 text are.3 is, rw are.4 (append_assoc are.0 are.1 text))
+in_order_more : (Is : List ℕ → List ℕ → Type 0) (lines : List (List ℕ)) (line objects text : List ℕ) → AreInOrder Is lines objects → Is line text → AreInOrder Is (lines ++ line ∷ []) (objects ++ text)
+in_order_more Is [] line objects text none is = (text, [], is, refl, rw none (sym (append-nil text)))
+in_order_more Is (l ∷ lines) line objects text are is =
+    (are.0, are.1 ++ text, are.2, in_order_more Is lines line are.1 text are.3 is, rw are.4 (append_assoc are.0 are.1 text))
 
--- the objects of the lines before the rest are written, or the front of what is written of them
-pub record Done (text rest : List ℕ) (old now : Option (List ℕ)) (was is : Bool) (so_far : Result ℕ WriteFault) : Type 0 where
+-- the texts of the lines before the rest are written, or the front of what is written of them
+pub record Done (Is : List ℕ → List ℕ → Type 0) (text rest : List ℕ) (old now : Option (List ℕ)) (was is : Bool) (so_far : Result ℕ WriteFault) : Type 0 where
   pub lines : List (List ℕ)
   pub objects : List ℕ
   pub parts : lines_of text ≡ lines ++ lines_of rest
-  pub are : AreObjects lines objects
+  pub are : AreInOrder Is lines objects
   pub written : WrittenText old now was is objects so_far
 
-pub done_first : (text : List ℕ) (old : Option (List ℕ)) (was : Bool) (so_far : Result ℕ WriteFault) → WrittenText old old was was [] so_far → Done text text old old was was so_far
-done_first text old was so_far w = record { lines = []; objects = []; parts = refl; are = refl; written = w }
+pub done_first : (Is : List ℕ → List ℕ → Type 0) (text : List ℕ) (old : Option (List ℕ)) (was : Bool) (so_far : Result ℕ WriteFault) → WrittenText old old was was [] so_far → Done Is text text old old was was so_far
+done_first Is text old was so_far w = record { lines = []; objects = []; parts = refl; are = refl; written = w }
 
-pub done_more : (text rest after line object : List ℕ) (old mid new : Option (List ℕ)) (was is now : Bool) (before later : Result ℕ WriteFault) → Done text rest old mid was is before
-    → lines_of rest ≡ line ∷ lines_of after → IsObject line object → WritesOn mid new is now object before later → Done text after old new was now later
-done_more text rest after line object old mid new was is now before later d e is_object on = record {
+pub done_more : (Is : List ℕ → List ℕ → Type 0) (text rest after line object : List ℕ) (old mid new : Option (List ℕ)) (was is now : Bool) (before later : Result ℕ WriteFault) → Done Is text rest old mid was is before
+    → lines_of rest ≡ line ∷ lines_of after → Is line object → WritesOn mid new is now object before later → Done Is text after old new was now later
+done_more Is text rest after line object old mid new was is now before later d e is_object on = record {
   lines = d.lines ++ line ∷ [];
   objects = d.objects ++ object;
   parts = d.parts ∙ ap (λ (l : List (List ℕ)). d.lines ++ l) e ∙ sym (append_assoc d.lines (line ∷ []) (lines_of after));
-  are = objects_more d.lines line d.objects object d.are is_object;
+  are = in_order_more Is d.lines line d.objects object d.are is_object;
   written = on.on old was d.objects d.written;
 }
 
-pub done_all : (text rest : List ℕ) (old now : Option (List ℕ)) (was is : Bool) (so_far : Result ℕ WriteFault) (d : Done text rest old now was is so_far) → lines_of rest ≡ [] → AreObjects (lines_of text) d.objects
-done_all text rest old now was is so_far d e =
-    subst (λ (l : List (List ℕ)). AreObjects l d.objects) (sym (d.parts ∙ ap (λ (l : List (List ℕ)). d.lines ++ l) e ∙ append-nil d.lines)) d.are
+pub done_all : (Is : List ℕ → List ℕ → Type 0) (text rest : List ℕ) (old now : Option (List ℕ)) (was is : Bool) (so_far : Result ℕ WriteFault) (d : Done Is text rest old now was is so_far) → lines_of rest ≡ [] → AreInOrder Is (lines_of text) d.objects
+done_all Is text rest old now was is so_far d e =
+    subst (λ (l : List (List ℕ)). AreInOrder Is l d.objects) (sym (d.parts ∙ ap (λ (l : List (List ℕ)). d.lines ++ l) e ∙ append-nil d.lines)) d.are

@@ -2,10 +2,10 @@
 use Rattle.std.proofs.Common.{◌≡◌, ℕ, ◌+◌, ◌*◌, ◌/◌, ◌%◌, ◌==◌, ◌&&◌, Bool, true, false, nat_lt, nat_le, cond, codes, List, [], ◌∷◌, ◌++◌, append_assoc, refl, sym, ap, subst, ◌∙◌, arith}
 use Rattle.std.proofs.lemmas.Bool.{eqb-true}
 use Rattle.std.proofs.lemmas.Bool.Decides.{nat_tests}
-use Rattle.cec_json.specs.Object.{body, form_of}
+use Rattle.cec_json.specs.Object.{object}
 use Rattle.cec_json.specs.ReadBack.{LinesAreReadBack, OneLineAnObject, digit, line_of, string_from}
 use Rattle.cec_json.specs.ReadBack.Place.{Char}
-use Rattle.cec_json.specs.Values.{char_text, coded, quoted}
+use Rattle.cec_json.specs.Values.{char_text, coded}
 use Rattle.cec_json.specs.declared.values.Code.TheVariants as codings
 
 digit_again : (n : ℕ) → digit (cond (nat_lt n 10) (48 + n) (87 + n)) ≡ n
@@ -39,13 +39,13 @@ string_read (b ∷ line) rest =
     ∙ ap (λ (l : List ℕ). b ∷ l) (string_read line rest)
 
 -- the line in an object, with whatever stands behind it
-line_read : (line fields end : List ℕ) → line_of (codes "{\"line\":" ++ quoted line ++ fields ++ end) ≡ line
-line_read line fields end =
-    ap (string_from Char) (append_assoc (coded codings.Char line ++ 34 ∷ []) fields end ∙ append_assoc (coded codings.Char line) (34 ∷ []) (fields ++ end))
-    ∙ string_read line (fields ++ end)
+pub line_read : (line told : List ℕ) → line_of (object line told) ≡ line
+line_read line told =
+    ap (string_from Char) (append_assoc (coded codings.Char line ++ 34 ∷ []) told (codes "}\n") ∙ append_assoc (coded codings.Char line) (34 ∷ []) (told ++ codes "}\n"))
+    ∙ string_read line (told ++ codes "}\n")
 
 pub read_back : LinesAreReadBack
-read_back = λ line text is. ap line_of is.2 ∙ line_read line (body (form_of line) is.0 line) (codes "}\n")
+read_back = λ line text is. ap line_of is.2 ∙ line_read line is.0
 
 pub one_line : OneLineAnObject
 one_line = λ line other text is also. sym (read_back line text is) ∙ read_back other text also

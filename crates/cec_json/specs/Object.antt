@@ -93,10 +93,6 @@ body forms.Complete bytes line = complete_body bytes line
 body forms.Broken bytes line = broken_body line
 body forms.Other bytes line = typed (codes "other")
 
--- the object, with the bytes of the frame that the line has
-abbrev pub object : Option (List ℕ) → List ℕ → List ℕ
-object bytes line = codes "{\"line\":" ++ quoted line ++ body (form_of line) bytes line ++ codes "}\n"
-
 -- ---- the object of a line
 
 -- these are the bytes of a text's frame, and none where it is no frame's
@@ -107,10 +103,22 @@ AreBytesOf text (Some frame) = IsTextOf text frame
 abbrev pub frame_in : List ℕ → List ℕ
 frame_in line = before_last (told_in (behind_ending line))
 
+-- what the object of a line has behind the line
+abbrev pub IsTold : List ℕ → List ℕ → Type 0
+IsTold line told = (bytes : Option (List ℕ)) × AreBytesOf (frame_in line) bytes × (told ≡ body (form_of line) bytes line)
+
+-- the line, and what it tells
+abbrev pub object : List ℕ → List ℕ → List ℕ
+object line told = codes "{\"line\":" ++ quoted line ++ told ++ codes "}\n"
+
 abbrev pub IsObject : List ℕ → List ℕ → Type 0
-IsObject line text = (bytes : Option (List ℕ)) × AreBytesOf (frame_in line) bytes × (text ≡ object bytes line)
+IsObject line text = (told : List ℕ) × IsTold line told × (text ≡ object line told)
+
+-- a text is one text for each of these lines, in order
+abbrev pub AreInOrder : (List ℕ → List ℕ → Type 0) → List (List ℕ) → List ℕ → Type 0
+AreInOrder Is [] text = text ≡ []
+AreInOrder Is (line ∷ lines) text = (first : List ℕ) × (others : List ℕ) × Is line first × AreInOrder Is lines others × (text ≡ first ++ others)
 
 -- a text is the objects of these lines, in order
 abbrev pub AreObjects : List (List ℕ) → List ℕ → Type 0
-AreObjects [] text = text ≡ []
-AreObjects (line ∷ lines) text = (first : List ℕ) × (others : List ℕ) × IsObject line first × AreObjects lines others × (text ≡ first ++ others)
+AreObjects lines text = AreInOrder IsObject lines text

@@ -73,7 +73,7 @@ pub const STATE: &[Column] = columns! {
 };
 
 /// Writes what stands before the value of a field.
-pub(crate) fn write_lead<S: Sink>(name: &str, progress: &mut Progress, out: &mut S)
+pub fn write_lead<S: Sink>(name: &str, progress: &mut Progress, out: &mut S)
     ensures { WritesOn (S.contents out.old) (S.contents out.new) (S.is_stuck out.old) (S.is_stuck out.new) (lead name.now) progress.old.so_far progress.new.so_far }
 {
     progress.pieces(
@@ -83,7 +83,7 @@ pub(crate) fn write_lead<S: Sink>(name: &str, progress: &mut Progress, out: &mut
 }
 
 /// Writes a field.
-pub(crate) fn write_field<S: Sink>(
+pub fn write_field<S: Sink>(
     name: &str,
     shape: Shape,
     word: &[u8],

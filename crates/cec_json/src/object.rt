@@ -1,6 +1,6 @@
 //! The object of a line.
 ghost use Rattle.std.specs.Prelude.{◌≡◌, ℕ, List, Option};
-ghost use Rattle.cec_json.specs.Object.{AreBytesOf, IsObject, begun, body, broken_body, bytes_value, complete_body, complete_fields, end_body, event_body, form_by, form_of, frame_fields, frame_in, hex_value, is_broken, named, object, port_body, reading_type, seats, state_body, typed};
+ghost use Rattle.cec_json.specs.Object.{AreBytesOf, IsObject, begun, body, broken_body, bytes_value, complete_body, complete_fields, end_body, event_body, form_by, form_of, frame_fields, frame_in, IsTold, hex_value, is_broken, named, port_body, reading_type, seats, state_body, typed};
 ghost use Rattle.cec_json.specs.Progress.{WritesOn};
 
 use crate::columns::{AT, EVENT, PORT, READING, STATE, write_field, write_fields, write_lead};
@@ -85,7 +85,8 @@ fn frame_of(text: &[u8]) -> Option<Frame>
     }
 }
 
-fn write_type<S: Sink>(name: &str, progress: &mut Progress, out: &mut S)
+/// Writes the type of a line.
+pub fn write_type<S: Sink>(name: &str, progress: &mut Progress, out: &mut S)
     ensures { WritesOn (S.contents out.old) (S.contents out.new) (S.is_stuck out.old) (S.is_stuck out.new) (typed name.now) progress.old.so_far progress.new.so_far }
 {
     progress.pieces(
@@ -238,14 +239,13 @@ fn write_body<S: Sink>(
     }
 }
 
-// Writes the object of a line, with the frame in it.
-fn write_with<S: Sink>(frame: &Option<Frame>, line: &[u8], progress: &mut Progress, out: &mut S)
-    ensures { WritesOn (S.contents out.old) (S.contents out.new) (S.is_stuck out.old) (S.is_stuck out.new) (object frame.now line.now) progress.old.so_far progress.new.so_far }
+/// Writes what the object of a line has behind the line: its type, and what it tells.
+pub fn write_told<S: Sink>(line: &[u8], progress: &mut Progress, out: &mut S)
+    ensures { (told : List ℕ) × IsTold line.now told
+        × WritesOn (S.contents out.old) (S.contents out.new) (S.is_stuck out.old) (S.is_stuck out.new) told progress.old.so_far progress.new.so_far }
 {
-    progress.text(out, b"{\"line\":");
-    write_quoted(line, progress, out);
-    write_body(form_of(line), frame, line, progress, out);
-    progress.text(out, b"}\n");
+    let frame = frame_of(before_last(told_in(behind_ending(line))));
+    write_body(form_of(line), &frame, line, progress, out);
 }
 
 /// Writes the object of a line.
@@ -253,6 +253,8 @@ pub(crate) fn write_object<S: Sink>(line: &[u8], progress: &mut Progress, out: &
     ensures { (text : List ℕ) × IsObject line.now text
         × WritesOn (S.contents out.old) (S.contents out.new) (S.is_stuck out.old) (S.is_stuck out.new) text progress.old.so_far progress.new.so_far }
 {
-    let frame = frame_of(before_last(told_in(behind_ending(line))));
-    write_with(&frame, line, progress, out);
+    progress.text(out, b"{\"line\":");
+    write_quoted(line, progress, out);
+    write_told(line, progress, out);
+    progress.text(out, b"}\n");
 }

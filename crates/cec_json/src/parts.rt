@@ -5,28 +5,28 @@ ghost use Rattle.cec_json.specs.Parts.{after_byte, after_word, before_byte, befo
 use cec_words::{before, behind, len_before};
 
 /// What stands before the first byte of this value, or all where there is none.
-pub(crate) fn before_byte(byte: u8, text: &[u8]) -> &[u8]
+pub fn before_byte(byte: u8, text: &[u8]) -> &[u8]
     ensures { result.now ≡ before_byte byte text.now }
 {
     before(text, len_before(text, byte))
 }
 
 /// What stands after the first byte of this value.
-pub(crate) fn after_byte(byte: u8, text: &[u8]) -> &[u8]
+pub fn after_byte(byte: u8, text: &[u8]) -> &[u8]
     ensures { result.now ≡ after_byte byte text.now }
 {
     behind(text, len_before(text, byte) + 1)
 }
 
 /// The first word.
-pub(crate) fn word(text: &[u8]) -> &[u8]
+pub fn word(text: &[u8]) -> &[u8]
     ensures { result.now ≡ word text.now }
 {
     before_byte(b' ', text)
 }
 
 /// What stands after the first word and its space.
-pub(crate) fn after_word(text: &[u8]) -> &[u8]
+pub fn after_word(text: &[u8]) -> &[u8]
     ensures { result.now ≡ after_word text.now }
 {
     after_byte(b' ', text)

@@ -8,10 +8,11 @@ ghost use Rattle.cec_json.specs.Progress.{WritesOn, grown, result_of};
 use cec_words::{counted, cut_at};
 use hdmi_core::{Piece, Sink, WriteFault, put_all, write_pieces};
 
-/// How far a text is written: its length so far, or where it was cut off. Once it is cut off nothing more is put.
+/// How far a text is written. Once it is cut off nothing more is put.
 #[derive(Debug, Drop)]
-pub(crate) struct Progress {
-    so_far: Result<u128, WriteFault>,
+pub struct Progress {
+    /// Its length so far, or where it was cut off.
+    pub so_far: Result<u128, WriteFault>,
 }
 
 // The length with the next part, or where that was cut off.
@@ -34,14 +35,14 @@ fn put_text<S: Sink>(out: &mut S, text: &[u8]) -> Result<u128, WriteFault>
 
 impl Progress {
     /// Of a text of which nothing is written yet.
-    pub(crate) fn new() -> Self
+    pub fn new() -> Self
         ensures { result.so_far ≡ Ok 0 }
     {
         Progress { so_far: Ok(0) }
     }
 
     /// Writes a text.
-    pub(crate) fn text<S: Sink>(&mut self, out: &mut S, text: &[u8])
+    pub fn text<S: Sink>(&mut self, out: &mut S, text: &[u8])
         ensures { WritesOn (S.contents out.old) (S.contents out.new) (S.is_stuck out.old) (S.is_stuck out.new) text.now self.old.so_far self.new.so_far }
     {
         let Ok(written) = self.so_far else {
@@ -51,7 +52,7 @@ impl Progress {
     }
 
     /// Writes a text of parts.
-    pub(crate) fn pieces<S: Sink>(&mut self, out: &mut S, pieces: &[Piece])
+    pub fn pieces<S: Sink>(&mut self, out: &mut S, pieces: &[Piece])
         ensures { WritesOn (S.contents out.old) (S.contents out.new) (S.is_stuck out.old) (S.is_stuck out.new) (flat_map piece_text pieces.now) self.old.so_far self.new.so_far }
     {
         let Ok(written) = self.so_far else {
@@ -61,7 +62,7 @@ impl Progress {
     }
 
     /// Whether all of it was written, or where it was cut off.
-    pub(crate) fn result(self) -> Result<(), WriteFault>
+    pub fn result(self) -> Result<(), WriteFault>
         ensures { result ≡ result_of self.so_far }
     {
         match self.so_far {

@@ -122,6 +122,13 @@ fn code_text(code: Code, byte: u8) -> ArrayVec<u8, CODE_MOST>
     }
 }
 
+/// Writes a character of a string.
+pub fn write_char<S: Sink>(byte: u8, progress: &mut Progress, out: &mut S)
+    ensures { WritesOn (S.contents out.old) (S.contents out.new) (S.is_stuck out.old) (S.is_stuck out.new) (char_text byte) progress.old.so_far progress.new.so_far }
+{
+    progress.text(out, &char_text(byte));
+}
+
 // Writes what the characters of a word become.
 fn write_coded<S: Sink>(code: Code, text: &[u8], progress: &mut Progress, out: &mut S)
     ensures { WritesOn (S.contents out.old) (S.contents out.new) (S.is_stuck out.old) (S.is_stuck out.new) (coded code text.now) progress.old.so_far progress.new.so_far }
@@ -132,7 +139,7 @@ fn write_coded<S: Sink>(code: Code, text: &[u8], progress: &mut Progress, out: &
 }
 
 /// Writes a string.
-pub(crate) fn write_quoted<S: Sink>(text: &[u8], progress: &mut Progress, out: &mut S)
+pub fn write_quoted<S: Sink>(text: &[u8], progress: &mut Progress, out: &mut S)
     ensures { WritesOn (S.contents out.old) (S.contents out.new) (S.is_stuck out.old) (S.is_stuck out.new) (quoted text.now) progress.old.so_far progress.new.so_far }
 {
     progress.text(out, b"\"");

@@ -4,4 +4,8 @@
 #[cfg(test)]
 mod objects;
 #[cfg(test)]
+mod report_rows;
+#[cfg(test)]
+mod reports;
+#[cfg(test)]
 mod rows;

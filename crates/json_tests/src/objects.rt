@@ -12,7 +12,7 @@ fn objects(rt: &(impl Abort + AllocGlobal), text: &[u8]) -> String {
     String::from_utf8(out).expect(rt, "a text")
 }
 
-fn holds(rt: &impl Abort, holds: bool, case: &str) {
+pub(crate) fn holds(rt: &impl Abort, holds: bool, case: &str) {
     assert!(rt; holds, "{case}");
 }
 
@@ -82,9 +82,9 @@ fn what_is_held(rt: HostRuntime) {
 
 /// A writer that takes one byte a call, as many as it has room for.
 #[derive(Drop)]
-struct Narrow {
-    bytes: Vec<u8>,
-    room: usize,
+pub(crate) struct Narrow {
+    pub(crate) bytes: Vec<u8>,
+    pub(crate) room: usize,
 }
 
 impl Write for Narrow {

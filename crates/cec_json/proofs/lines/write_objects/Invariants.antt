@@ -1,9 +1,10 @@
 use Rattle.std.proofs.Common.{length}
+use Rattle.cec_json.specs.Object.{IsObject}
 use Rattle.cec_json.proofs.Parted.{Done}
 use Rattle.cec_json.proofs.lines.write_objects.Given as goal
 
 abbrev pub invariant-loop-line : goal.invariant-loop-line
-invariant-loop-line g l = Done l.text l.rest (g.S.Sink.contents l.fn.out) (g.S.Sink.contents l.out) (g.S.Sink.is_stuck l.fn.out) (g.S.Sink.is_stuck l.out) l.progress.so_far
+invariant-loop-line g l = Done IsObject l.text l.rest (g.S.Sink.contents l.fn.out) (g.S.Sink.contents l.out) (g.S.Sink.is_stuck l.fn.out) (g.S.Sink.is_stuck l.out) l.progress.so_far
 
 abbrev pub decreases-loop-line : goal.decreases-loop-line
 decreases-loop-line g l = length l.rest

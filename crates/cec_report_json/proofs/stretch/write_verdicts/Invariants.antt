@@ -1,0 +1,15 @@
+use Rattle.std.proofs.Common.{[], length}
+use Rattle.std.specs.Option.{option_copied}
+use Rattle.cec_words.specs.Words.{words_behind}
+use Rattle.cec_report_json.specs.Stretch.{verdicts}
+use Rattle.cec_report_json.proofs.Fronts.{Front}
+use Rattle.cec_report_json.proofs.stretch.write_verdicts.Given as goal
+
+-- the verdicts of the words before are written
+abbrev pub invariant-words : goal.invariant-words
+invariant-words g l =
+    Front (verdicts [] (words_behind (option_copied l.words))) (verdicts l.mark (words_behind (option_copied l.rest)))
+    (g.S.Sink.contents l.fn.out) (g.S.Sink.contents l.out) (g.S.Sink.is_stuck l.fn.out) (g.S.Sink.is_stuck l.out) l.fn.progress.so_far l.progress.so_far
+
+abbrev pub decreases-words : goal.decreases-words
+decreases-words g l = length (words_behind (option_copied l.rest))

@@ -1,0 +1,5 @@
+pub mod TestLine
+pub mod Window
+pub mod Stretch
+pub mod Object
+pub mod ReadBack

@@ -1,0 +1,73 @@
+-- The object of a line of a report (own): the line itself, what it is, and what it tells.
+use Rattle.std.specs.Prelude.{◌≡◌, ℕ, true, false, if◌then◌else◌, codes, take, drop, List, ◌++◌}
+use Rattle.std.specs.Str.{bytes_eq}
+use Rattle.cec_json.specs.Columns.{field}
+use Rattle.cec_json.specs.Object.{AreInOrder, IsTold, object, typed}
+use Rattle.cec_json.specs.Parts.{after_word, word}
+use Rattle.cec_json.specs.declared.values.Shape.TheVariants.{Number}
+use Rattle.cec_report_json.specs.TestLine.{test_told}
+use Rattle.cec_report_json.specs.Window.{no_window_told, seen_told}
+use Rattle.cec_report_json.specs.Stretch.{is_stretch, stretch_told}
+use Rattle.cec_report_json.specs.declared.object.Form.{Form}
+use Rattle.cec_report_json.specs.declared.object.Form.TheVariants as forms
+use Rattle.cec_report_json.specs.declared.object.Report.{Report}
+use Rattle.cec_report_json.specs.declared.object.Report.TheVariants as reports
+
+-- ---- which line it is
+
+-- by the word behind `#`; what is none of a report's is one of a trace
+abbrev pub remark_form : List ℕ → Form
+remark_form word =
+    if bytes_eq word (codes "seen") then forms.Window
+    else if bytes_eq word (codes "no") then forms.NoWindow
+    else if bytes_eq word (codes "trace") then forms.Trace
+    else forms.Shown
+
+-- by the first two words, and the first three bytes
+abbrev pub test_form : List ℕ → List ℕ → List ℕ → Form
+test_form first second start =
+    if bytes_eq first (codes "ok") then forms.Passed
+    else if bytes_eq first (codes "not") then forms.Failed
+    else if bytes_eq first (codes "#") then remark_form second
+    else if bytes_eq first (codes "TAP") then forms.Version
+    else if bytes_eq start (codes "1..") then forms.Plan
+    else forms.Other
+
+abbrev pub sweep_form : List ℕ → Form
+sweep_form range = if is_stretch range then forms.Stretch else forms.Other
+
+abbrev pub form_of : Report → List ℕ → Form
+form_of reports.Expectations line = test_form (word line) (word (after_word line)) (take 3 line)
+form_of reports.Sweep line = sweep_form (word line)
+
+-- ---- what it tells
+
+-- `TAP version 13`
+abbrev pub version_told : List ℕ → List ℕ
+version_told line = typed (codes "version") ++ field (codes "version") Number (word (after_word (after_word line)))
+
+-- `1..N`
+abbrev pub plan_told : List ℕ → List ℕ
+plan_told line = typed (codes "plan") ++ field (codes "tests") Number (drop 3 line)
+
+-- what stands behind the line; of a line of a trace, what its own object has there
+abbrev pub IsToldAs : Form → List ℕ → List ℕ → Type 0
+IsToldAs forms.Version line told = told ≡ version_told line
+IsToldAs forms.Passed line told = told ≡ test_told true (after_word line)
+IsToldAs forms.Failed line told = told ≡ test_told false (after_word (after_word line))
+IsToldAs forms.Window line told = told ≡ seen_told (after_word (after_word line))
+IsToldAs forms.NoWindow line told = told ≡ no_window_told
+IsToldAs forms.Trace line told = told ≡ typed (codes "trace")
+IsToldAs forms.Shown line told = IsTold (after_word line) told
+IsToldAs forms.Plan line told = told ≡ plan_told line
+IsToldAs forms.Stretch line told = told ≡ stretch_told line
+IsToldAs forms.Other line told = told ≡ typed (codes "other")
+
+-- ---- the object of a line
+
+abbrev pub IsReportObject : Report → List ℕ → List ℕ → Type 0
+IsReportObject report line text = (told : List ℕ) × IsToldAs (form_of report line) line told × (text ≡ object line told)
+
+-- a text is the objects of these lines, in order
+abbrev pub AreReportObjects : Report → List (List ℕ) → List ℕ → Type 0
+AreReportObjects report lines text = AreInOrder (IsReportObject report) lines text
