@@ -1,0 +1,6 @@
+//! Laws: what the object of a line of a report tells is what the report has there.
+#![tactic(auto)]
+
+mod laws;
+
+pub use laws::{expectations_are_told, refusals_are_told};
