@@ -20,13 +20,16 @@ use Rattle.cec_text.specs.declared.assembler.AssembleError.{AssembleError}
 use Rattle.cec_words.specs.Words.{words_of, text_of, one_of, two_of, three_of}
 use Rattle.cec_words.specs.Number.{number_of}
 use Rattle.cec_asm.specs.Keys.{key_of}
+use Rattle.cec_asm.specs.Holding.{hold_of}
+use Rattle.cec_device.specs.declared.outside.Act.{Act}
+use Rattle.cec_device.specs.declared.outside.Act.TheVariants.{Empty}
 use Rattle.cec_event.specs.Events.{NamesDevices, IsFramedEvent}
 use Rattle.cec_event.specs.declared.event.Event.{Event}
-use Rattle.cec_event.specs.declared.event.Event.TheVariants.{Plug, Unplug, Key, Send}
+use Rattle.cec_event.specs.declared.event.Event.TheVariants.{Plug, Unplug, Key, Send, Outside}
 use Rattle.cec_asm.specs.declared.script.TimedEvent.{TimedEvent}
 use Rattle.cec_asm.specs.declared.script.ScriptCause.{ScriptCause}
 use Rattle.cec_asm.specs.declared.script.ScriptCause.TheVariants.{Word, Number, Name, Frame, Order, TooMany, End}
-use Rattle.cec_asm.specs.Script.{Course, Notes, within_limit, time_of, last_time, last_end, scheduled, plug_read, plug_words, unplug_read, unplug_words, key_read, key_words, send_read, event_words, pulse_cause, unless_fault, pulsed, pulse_read, pulse_words, end_read, end_words, other_words, ended, no_notes, IsFrameOf, IsSendRead, IsEventRead, IsWordsRead, IsLineRead, IsSchedule, AreFramedEvents, IsScript, Onward, AreLinesRead, ScriptsAreSound}
+use Rattle.cec_asm.specs.Script.{Course, Notes, within_limit, time_of, last_time, last_end, scheduled, plug_read, plug_words, unplug_read, unplug_words, key_read, key_words, act_read, hold_words, drop_words, send_read, event_words, pulse_cause, unless_fault, pulsed, pulse_read, pulse_words, end_read, end_words, other_words, ended, no_notes, IsFrameOf, IsSendRead, IsEventRead, IsWordsRead, IsLineRead, IsSchedule, AreFramedEvents, IsScript, Onward, AreLinesRead, ScriptsAreSound}
 
 -- ---- times
 
@@ -225,13 +228,32 @@ key_words-keeps tree notes line press time [] s = keeps_err (length tree) Word
 key_words-keeps tree notes line press time (name ∷ words) s =
     key_read-keeps (length tree) notes line press (key_of words) (time_of time) (device_named tree name) s (named-below tree name)
 
+act_read-keeps : (count : ℕ) (notes : Notes) (line : ℕ) (act : Option Act) (time device : Option ℕ) → AreSound count notes → ((i : ℕ) → device ≡ Some i → i < count) →
+    Keeps count (act_read notes line act time device)
+act_read-keeps count notes line None time device s hd = keeps_err count Word
+act_read-keeps count notes line (Some act) None device s hd = keeps_err count Number
+act_read-keeps count notes line (Some act) (Some time) None s hd = keeps_err count Name
+act_read-keeps count notes line (Some act) (Some time) (Some device) s hd = scheduled-keeps count notes line time (Outside device act) s (hd device refl) tt
+
+hold_words-keeps : (tree : List Node) (notes : Notes) (line : ℕ) (time : List ℕ) (words : Option (List ℕ × List ℕ)) → AreSound (length tree) notes → Keeps (length tree) (hold_words tree notes line time words)
+hold_words-keeps tree notes line time None s = keeps_err (length tree) Word
+hold_words-keeps tree notes line time (Some words) s =
+    act_read-keeps (length tree) notes line (hold_of words.1) (time_of time) (device_named tree words.0) s (named-below tree words.0)
+
+drop_words-keeps : (tree : List Node) (notes : Notes) (line : ℕ) (time : List ℕ) (words : Option (List ℕ)) → AreSound (length tree) notes → Keeps (length tree) (drop_words tree notes line time words)
+drop_words-keeps tree notes line time None s = keeps_err (length tree) Word
+drop_words-keeps tree notes line time (Some word) s =
+    act_read-keeps (length tree) notes line (Some Empty) (time_of time) (device_named tree word) s (named-below tree word)
+
 event_words-keeps : (tree : List Node) (notes : Notes) (line : ℕ) (time verb : List ℕ) (words : List (List ℕ)) → AreSound (length tree) notes → Keeps (length tree) (event_words tree notes line time verb words)
 event_words-keeps tree notes line time verb words s =
     keeps_if (length tree) (bytes_eq verb (codes "plug")) _ _ (λ e. plug_words-keeps tree notes line time (three_of words) s)
     (λ e. keeps_if (length tree) (bytes_eq verb (codes "unplug")) _ _ (λ e. unplug_words-keeps tree notes line time (one_of words) s)
     (λ e. keeps_if (length tree) (bytes_eq verb (codes "press")) _ _ (λ e. key_words-keeps tree notes line true time words s)
     (λ e. keeps_if (length tree) (bytes_eq verb (codes "release")) _ _ (λ e. key_words-keeps tree notes line false time words s)
-    (λ e. keeps_err (length tree) Word))))
+    (λ e. keeps_if (length tree) (bytes_eq verb (codes "hold")) _ _ (λ e. hold_words-keeps tree notes line time (two_of words) s)
+    (λ e. keeps_if (length tree) (bytes_eq verb (codes "drop")) _ _ (λ e. drop_words-keeps tree notes line time (one_of words) s)
+    (λ e. keeps_err (length tree) Word))))))
 
 -- a frame has a block
 frame_some : (frame : List ℕ) → is_frame frame ≡ true → 0 < length frame

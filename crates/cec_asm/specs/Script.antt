@@ -18,9 +18,12 @@ use Rattle.cec_text.specs.declared.assembler.AssembleError.{AssembleError}
 use Rattle.cec_words.specs.Words.{words_of, text_of, one_of, two_of, three_of}
 use Rattle.cec_words.specs.Number.{number_of}
 use Rattle.cec_asm.specs.Keys.{key_of}
+use Rattle.cec_asm.specs.Holding.{hold_of}
+use Rattle.cec_device.specs.declared.outside.Act.{Act}
+use Rattle.cec_device.specs.declared.outside.Act.TheVariants.{Empty}
 use Rattle.cec_event.specs.Events.{NamesDevices, IsFramedEvent}
 use Rattle.cec_event.specs.declared.event.Event.{Event}
-use Rattle.cec_event.specs.declared.event.Event.TheVariants.{Plug, Unplug, Key, Send}
+use Rattle.cec_event.specs.declared.event.Event.TheVariants.{Plug, Unplug, Key, Send, Outside}
 use Rattle.cec_asm.specs.declared.script.TimedEvent.{TimedEvent}
 use Rattle.cec_asm.specs.declared.script.Draft.{Draft}
 use Rattle.cec_asm.specs.declared.course.Script.{Script}
@@ -120,6 +123,21 @@ abbrev pub key_words : List Node → Notes → ℕ → Bool → List ℕ → Lis
 key_words tree notes line press time [] = Err Word
 key_words tree notes line press time (name ∷ words) = key_read notes line press (key_of words) (time_of time) (device_named tree name)
 
+-- `at T hold NAME ADDRS`, `at T drop NAME`
+abbrev pub act_read : Notes → ℕ → Option Act → Option ℕ → Option ℕ → Result Notes ScriptCause
+act_read notes line None time device = Err Word
+act_read notes line (Some act) None device = Err Number
+act_read notes line (Some act) (Some time) None = Err Name
+act_read notes line (Some act) (Some time) (Some device) = scheduled notes line time (Outside device act)
+
+abbrev pub hold_words : List Node → Notes → ℕ → List ℕ → Option (List ℕ × List ℕ) → Result Notes ScriptCause
+hold_words tree notes line time None = Err Word
+hold_words tree notes line time (Some words) = act_read notes line (hold_of words.1) (time_of time) (device_named tree words.0)
+
+abbrev pub drop_words : List Node → Notes → ℕ → List ℕ → Option (List ℕ) → Result Notes ScriptCause
+drop_words tree notes line time None = Err Word
+drop_words tree notes line time (Some word) = act_read notes line (Some Empty) (time_of time) (device_named tree word)
+
 -- the events whose words say all
 abbrev pub event_words : List Node → Notes → ℕ → List ℕ → List ℕ → List (List ℕ) → Result Notes ScriptCause
 event_words tree notes line time verb words =
@@ -127,6 +145,8 @@ event_words tree notes line time verb words =
     else if bytes_eq verb (codes "unplug") then unplug_words tree notes line time (one_of words)
     else if bytes_eq verb (codes "press") then key_words tree notes line true time words
     else if bytes_eq verb (codes "release") then key_words tree notes line false time words
+    else if bytes_eq verb (codes "hold") then hold_words tree notes line time (two_of words)
+    else if bytes_eq verb (codes "drop") then drop_words tree notes line time (one_of words)
     else Err Word
 
 -- a text is this frame's and no other's, or no frame's, for this cause

@@ -5,7 +5,7 @@ use Rattle.std.specs.Str.{bytes_eq}
 use Rattle.std.specs.Result.{result_ok}
 use Rattle.hex.specs.Hex.{decode_of}
 use Rattle.hdmi_core.specs.declared.kind.Kind.{Kind}
-use Rattle.hdmi_core.specs.declared.kind.Kind.TheVariants.{Tv, Amp, Player, Recorder, Switch, Combo}
+use Rattle.hdmi_core.specs.declared.kind.Kind.TheVariants.{Tv, Amp, Player, Recorder, Switch, Combo, Outside}
 use Rattle.hdmi_topo.specs.Name.{is_name}
 use Rattle.hdmi_topo.specs.Node.{Node}
 use Rattle.hdmi_topo.specs.Tree.{device_named, has_root, add_fault, added, plug_fault, plugged}
@@ -54,6 +54,7 @@ kind_named word =
     else if bytes_eq word (codes "recorder") then Some Recorder
     else if bytes_eq word (codes "switch") then Some Switch
     else if bytes_eq word (codes "combo") then Some Combo
+    else if bytes_eq word (codes "outside") then Some Outside
     else None
 
 -- the causes that a tree's refusals give

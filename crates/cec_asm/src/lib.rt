@@ -2,6 +2,7 @@
 #![tactic(auto)]
 
 mod course;
+mod holding;
 mod keys;
 mod laws;
 mod script;

@@ -2,11 +2,13 @@
 ghost use Rattle.std.specs.Prelude.{◌≡◌, ℕ, ◌+◌, ◌<◌, ◌≤◌, List, [], ◌∷◌, ◌++◌, length, Result, Ok, Err, Some, None, IfOk, IfSome, OnErr, OnOk};
 ghost use Rattle.std.specs.Option.{option_copied};
 ghost use Rattle.cec_words.specs.Words.{words_behind, one_of, two_of, three_of};
-ghost use Rattle.cec_asm.specs.Script.{Notes, no_notes, notes_of, course_of, time_of, last_time, last_end, scheduled, plug_words, unplug_words, key_words, event_words, send_read, pulse_cause, pulsed, pulse_words, end_words, other_words, error_at, IsFrameOf, IsSendRead, IsEventRead, IsLineRead, GivesNotes, Gives, GivesScript, IsScript};
+ghost use Rattle.cec_asm.specs.Script.{Notes, no_notes, notes_of, course_of, time_of, last_time, last_end, scheduled, plug_words, unplug_words, key_words, act_read, hold_words, drop_words, event_words, send_read, pulse_cause, pulsed, pulse_words, end_words, other_words, error_at, IsFrameOf, IsSendRead, IsEventRead, IsLineRead, GivesNotes, Gives, GivesScript, IsScript};
 
 use crate::course::Script;
+use crate::holding::hold_in;
 use crate::keys::key_in;
 use crate::topology::Topology;
+use cec_device::Act;
 use cec_event::Event;
 use cec_frame::Frame;
 use cec_text::{AssembleError, assemble, frames_are_whole};
@@ -26,7 +28,7 @@ const WIDEST_COUNTED: u64 = 65_535;
 /// Why a line of a script is refused: the first of these that applies.
 #[derive(Clone, Copy, Debug, Drop, PartialEq, Eq)]
 pub enum ScriptCause {
-    /// No such line, or no such key.
+    /// No such line, no such key, or no such addresses.
     Word,
     /// An ill-formed number, or a time past 1,000,000,000,000.
     Number,
@@ -270,6 +272,64 @@ fn take_key(
     schedule(draft, line, time, Event::Key { device, key, press })
 }
 
+fn schedule_act(
+    draft: &mut Draft,
+    line: u64,
+    act: Option<Act>,
+    time: Option<u64>,
+    device: Option<usize>,
+) -> Result<(), LineError>
+    ensures gives { GivesNotes (notes_of draft.new) result (act_read (notes_of draft.old) line act time device) }
+    ensures kept { OnErr result (notes_of draft.new ≡ notes_of draft.old) }
+{
+    let Some(act) = act else {
+        return Err(LineError::Cause(ScriptCause::Word));
+    };
+    let Some(time) = time else {
+        return Err(LineError::Cause(ScriptCause::Number));
+    };
+    let Some(device) = device else {
+        return Err(LineError::Cause(ScriptCause::Name));
+    };
+    schedule(draft, line, time, Event::Outside { device, act })
+}
+
+/// Takes the words behind `at T hold`.
+fn take_hold(
+    tree: &Tree<15>,
+    draft: &mut Draft,
+    line: u64,
+    time: &[u8],
+    rest: Option<&[u8]>,
+) -> Result<(), LineError>
+    ensures gives { GivesNotes (notes_of draft.new) result (hold_words tree.now (notes_of draft.old) line time.now (two_of (words_behind (option_copied rest.entry)))) }
+    ensures kept { OnErr result (notes_of draft.new ≡ notes_of draft.old) }
+{
+    let Some((device, addresses)) = two_words(rest) else {
+        return Err(LineError::Cause(ScriptCause::Word));
+    };
+    let act = hold_in(addresses);
+    schedule_act(draft, line, act, time_in(time), tree.device_named(device))
+}
+
+/// Takes the word behind `at T drop`.
+fn take_drop(
+    tree: &Tree<15>,
+    draft: &mut Draft,
+    line: u64,
+    time: &[u8],
+    rest: Option<&[u8]>,
+) -> Result<(), LineError>
+    ensures gives { GivesNotes (notes_of draft.new) result (drop_words tree.now (notes_of draft.old) line time.now (one_of (words_behind (option_copied rest.entry)))) }
+    ensures kept { OnErr result (notes_of draft.new ≡ notes_of draft.old) }
+{
+    let Some(device) = one_word(rest) else {
+        return Err(LineError::Cause(ScriptCause::Word));
+    };
+    let act = Some(Act::Empty);
+    schedule_act(draft, line, act, time_in(time), tree.device_named(device))
+}
+
 /// The frame of a text, or why it is none's.
 fn read_frame(text: &[u8]) -> Result<Frame, AssembleError>
     ensures { IsFrameOf text.now result }
@@ -419,6 +479,10 @@ fn take_words(
         take_key(tree, draft, line, true, time, rest)
     } else if verb == b"release".as_slice() {
         take_key(tree, draft, line, false, time, rest)
+    } else if verb == b"hold".as_slice() {
+        take_hold(tree, draft, line, time, rest)
+    } else if verb == b"drop".as_slice() {
+        take_drop(tree, draft, line, time, rest)
     } else {
         Err(LineError::Cause(ScriptCause::Word))
     }
@@ -494,8 +558,8 @@ fn error_at(line: u64, error: LineError) -> ScriptError
 }
 
 /// Reads a script for the devices of a topology: lines `at T EVENT`, `pulse T WIDTH` and last `end T`, where EVENT is
-/// `plug CHILD PARENT PORT`, `unplug CHILD`, `press NAME KEY`, `release NAME KEY` or `send NAME FRAME`; empty lines
-/// and lines that begin with `#` are skipped. Times are microseconds. Those of events do not go back and are before
+/// `plug CHILD PARENT PORT`, `unplug CHILD`, `press NAME KEY`, `release NAME KEY`, `send NAME FRAME`, `hold NAME ADDRS`
+/// or `drop NAME`; empty lines and lines that begin with `#` are skipped. Times are microseconds. Those of events do not go back and are before
 /// the end; pulses are in order and far enough apart. A device's number is below the count of devices, and no frame
 /// is empty.
 ///

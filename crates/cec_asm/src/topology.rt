@@ -134,6 +134,8 @@ fn kind_named(word: &[u8]) -> Option<Kind>
         Some(Kind::Switch)
     } else if word == b"combo".as_slice() {
         Some(Kind::Combo)
+    } else if word == b"outside".as_slice() {
+        Some(Kind::Outside)
     } else {
         None
     }

@@ -1,4 +1,4 @@
--- What a reading tells before an instant depends on the line before it alone.
+-- What is known of a reading before an instant depends on the line before it alone.
 use Rattle.std.specs.Prelude.{◌≡◌, ℕ, ◌<◌, Bool}
 use Rattle.cec_bits.specs.Reading.{known, reading_of}
 

@@ -12,17 +12,17 @@ use Rattle.cec_bits.specs.Phase as phase
 use Rattle.cec_bits.specs.declared.receiver.Standing as code
 use Rattle.cec_bits.specs.declared.receiver.Standing.TheVariants as at
 
--- It was told the line through microsecond t, and what it keeps is that line's.
+-- It has heard the line through microsecond t, and what it keeps is that line's.
 pub record StandsOn (r : Receiver) (low : Line) (t : ℕ) : Type 0 where
   pub keeps : heard_by r ≡ kept_of low t
   pub level : (r.was_low ≡ low t) × (r.is_low ≡ low t)
 
--- It was told the line before microsecond t; an edge may be noted since.
+-- It has heard the line before microsecond t; an edge may be noted since.
 pub record StoodBefore (r : Receiver) (low : Line) (t : ℕ) : Type 0 where
   pub keeps : heard_by r ≡ kept_before low t
   pub level : r.was_low ≡ was_low low t
 
--- The line goes on to microsecond t as it was told: without an edge up to t, at t with the edge that is noted, or
+-- The line goes on to microsecond t as it was heard: without an edge up to t, at t with the edge that is noted, or
 -- with none; and t is no later than its wake.
 pub record GoesOn (r : Receiver) (low : Line) (before t : ℕ) : Type 0 where
   pub from : before ≤ t
@@ -30,18 +30,18 @@ pub record GoesOn (r : Receiver) (low : Line) (before t : ℕ) : Type 0 where
   pub edge : low t ≡ r.is_low
   pub wake : (w : ℕ) → wake_of (heard_by r) ≡ Some w → t ≤ w
 
--- A tick at t leaves it standing on each such line, and tells what t tells of that line.
+-- A tick at t leaves it standing on each such line, and returns what t adds to that line's readings.
 abbrev pub Follows : Receiver → ℕ → Told → Receiver → Type 0
 Follows old t told new = (low : ℕ → Bool) (before : ℕ) → StoodBefore old low before → GoesOn old low before t → StandsOn new low t × (told ≡ told_at low t)
 
--- Where no edge came at t and a tick told an ending that belongs to t alone, the line may still fall or rise in t: a second
--- tick then leaves it standing on the line that does.
+-- Where no edge came at t and a tick returned an ending that belongs to t alone, the line may still fall or rise in t: a
+-- second tick then leaves it standing on the line that does.
 abbrev pub FollowsAgain : Receiver → ℕ → Told → Receiver → Type 0
 FollowsAgain old t told new =
     (low other : ℕ → Bool) (ending : Ending) → heard_by old ≡ kept_of low t → old.was_low ≡ low t → low t ≡ was_low low t → told_at low t ≡ Ended ending
     → ((u : ℕ) → u < t → other u ≡ low u) → other t ≡ old.is_low → StandsOn new other t × (told ≡ Nothing)
 
--- Up to that tick no instant told anything of such a line.
+-- Up to that tick no instant added anything to such a line's readings.
 abbrev pub TellsOnce : Receiver → ℕ → Type 0
 TellsOnce old t = (low : ℕ → Bool) (before : ℕ) → StoodBefore old low before → GoesOn old low before t → (u : ℕ) → before ≤ u → u < t → told_at low u ≡ Nothing
 
@@ -49,7 +49,7 @@ TellsOnce old t = (low : ℕ → Bool) (before : ℕ) → StoodBefore old low be
 abbrev pub WakesFewer : Receiver → ℕ → Receiver → Type 0
 WakesFewer old t new = wake_of (heard_by old) ≡ Some t → old.is_low ≡ old.was_low → wakes_left new.place < wakes_left old.place
 
--- the first instant from t on that tells something of a line
+-- the first instant from t on that adds something to a line's readings
 abbrev pub IsNextTold : Line → ℕ → Option ℕ → Type 0
 IsNextTold low t None = (u : ℕ) → t ≤ u → told_at low u ≡ Nothing
 IsNextTold low t (Some w) = (t ≤ w) × (told_at low w ≢ Nothing) × ((u : ℕ) → t ≤ u → u < w → told_at low u ≡ Nothing)

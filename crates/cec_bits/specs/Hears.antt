@@ -1,4 +1,4 @@
--- A receiver, microsecond by microsecond: what it keeps of the line, and what each microsecond tells it. The order
+-- A receiver, microsecond by microsecond: what it keeps of the line, and what each microsecond adds. The order
 -- of a reading is the standard's (CEC 5.2 and 6); windows, sampling instant and endings are this profile's own.
 use Rattle.std.specs.Prelude.{ℕ, zero, suc, ◌+◌, ◌==◌, Bool, not, nat_lt, ◌&&◌, if◌then◌else◌, List, [], ◌∷◌, ◌++◌, length, Option, Some, None}
 use Rattle.cec_wave.specs.Line.{Line, was_low}
@@ -29,7 +29,7 @@ rest = record { place = Rest; begin = 0; fall = 0; bits = [] }
 abbrev pub starts : ℕ → Bool → Hears
 starts t falls = if falls then record { place = StartLow; begin = t; fall = 0; bits = [] } else rest
 
--- what a microsecond leads to, and tells
+-- what a microsecond leads to, and adds
 pub record Heard : Type 0 where
   pub state : Hears
   pub told : Told
@@ -37,14 +37,14 @@ pub record Heard : Type 0 where
 abbrev pub told_so : Hears → Told → Heard
 told_so h told = record { state = h; told = told }
 
--- the rise is due 3,500 to 3,900 after the fall
+-- the start bit: its rise is due 3,500 to 3,900 after its fall (CEC 5.2.1; window own)
 abbrev pub hear_start_low : ℕ → Bool → Bool → Hears → Heard
 hear_start_low t falls rises h =
     if nat_lt (h.begin + 3900) t then told_so (starts t falls) (Ended BadStart)
     else if rises then (if nat_lt t (h.begin + 3500) then told_so rest (Ended BadStart) else told_so (record h { place = StartHigh }) Nothing)
     else told_so h Nothing
 
--- the first slot's fall is due 4,300 to 4,700 after the start bit's
+-- the first slot's fall is due 4,300 to 4,700 after the start bit's (CEC 5.2.1; window own)
 abbrev pub hear_start_high : ℕ → Bool → Hears → Heard
 hear_start_high t falls h =
     if nat_lt (h.begin + 4700) t then told_so (starts t falls) (Ended BadStart)
@@ -86,7 +86,7 @@ unfoldable pub hears : Line → ℕ → Hears
 hears low zero = rest
 hears low (suc n) = (hear_in n (was_low low n) (low n) (hears low n)).state
 
--- the next instant that tells something, where no edge comes first
+-- the next instant that adds something, where no edge comes first
 abbrev pub wake_of : Hears → Option ℕ
 wake_of h = wake_at h.place h.begin h.fall
   where

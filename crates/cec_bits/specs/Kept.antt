@@ -1,4 +1,4 @@
--- What a receiver of a line keeps at an instant, and what that instant tells it, by the line's readings (own).
+-- What a receiver of a line keeps at an instant, and what it learns at that instant, by the line's readings (own).
 use Rattle.std.specs.Prelude.{◌≡◌, ℕ, zero, suc, ◌+◌, ◌-◌, ◌==◌, Bool, true, false, nat_lt, if◌then◌else◌, List, [], ◌∷◌, length, is_some, Option, Some, None}
 use Rattle.std.specs.List.{filter_map}
 use Rattle.cec_wave.specs.Line.{Line, is_fall, is_rise}
@@ -70,7 +70,7 @@ standing_by h is_low = stands h.place
 abbrev pub StandingsAreKept : Type 0
 StandingsAreKept = (low : ℕ → Bool) (t : ℕ) → standing_by (kept_of low t) (low t) ≡ standing_of low t
 
--- ---- what instant t tells of the reading that ran before it: a sample, an ending, or both
+-- ---- what instant t adds to the reading that ran before it: a sample, an ending, or both
 
 -- the slot, counted from n, that is sampled at t, and its bit
 pub record Sample : Type 0 where

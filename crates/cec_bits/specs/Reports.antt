@@ -34,7 +34,7 @@ running_by h t = runs_at h.place
     runs_at Unsampled = Some (ends_with h.begin t Open h.bits)
     runs_at Sampled = Some (ends_with h.begin t Open h.bits)
 
--- the reading that ran, where instant t told that it ended
+-- the reading that ran, where instant t ended it
 abbrev pub ended_of : Told → ℕ → Option Listed → Option Listed
 ended_of Nothing t running = None
 ended_of (Bit slot value) t running = None
@@ -46,7 +46,7 @@ abbrev pub ended_before : Line → ℕ → List Listed
 ended_before low zero = []
 ended_before low (suc t) = ended_by low t
 
--- Instant n ends the reading that it tells, and no other.
+-- Instant n ends the reading that it reports, and no other.
 abbrev pub EndingsAreTold : Type 0
 EndingsAreTold = (low : ℕ → Bool) (n : ℕ)
     → ended_by low n ≡ ended_before low n ++ option_to_list (ended_of (told_at low n) n (running_by (kept_before low n) n))

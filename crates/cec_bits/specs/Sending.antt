@@ -1,5 +1,6 @@
--- How long a sender goes on, by what is read of its line, and what it pulls until then (CEC 9: a sender that reads
--- another bit than its own stops; CEC 6.1 and 7.3: acknowledge slots).
+-- How long a sender (the standard's initiator) goes on, by what is read of its line, and what it pulls until then.
+-- Arbitration: a sender that reads another bit than its own stops (CEC 9). The acknowledge bit: a sender stops after a
+-- block that was not acknowledged, or a broadcast block that was refused (CEC 6.1 and 7.3).
 use Rattle.std.specs.Prelude.{◌≡◌, ℕ, ◌+◌, ◌*◌, ◌-◌, ◌%◌, ◌==◌, ◌<◌, ◌≤◌, Bool, true, false, not, nat_lt, nat_le, ◌&&◌, if◌then◌else◌, List, length, slice_index_or, slice_range, fold, is_none, Option, Some, None}
 use Rattle.std.specs.List.{filter_map, find, range_with_len}
 use mathlib.Core.Bool.{beq}
@@ -41,8 +42,9 @@ is_whole (Some end) = has_all end.ending
 
 -- ---- how long a sender goes on
 
--- slot n tells a sender of these bits to stop: in an acknowledge slot that does not end the reading a direct block
--- was read 1 or a broadcast block 0; in another slot it read another bit (`whole`: the last bit ends the reading)
+-- a sender of these bits stops at slot n: in an acknowledge slot that does not end the reading a directly addressed block
+-- was read 1 or a broadcast block 0; in another slot it read another bit, as where it loses arbitration (`whole`: the last
+-- bit ends the reading)
 abbrev pub is_out_by : List Bool → Bool → List Bool → ℕ → Bool
 is_out_by bits whole sent n =
     if n % 10 == 0
@@ -95,24 +97,24 @@ abbrev pub IsBefore : SenderState → ℕ → ℕ → Type 0
 IsBefore Sending last t = Unit {0}
 IsBefore _ last t = last < t
 
--- It was told what the line told before t of the reading that it began.
+-- It has heard what came before t of the reading that it began.
 pub record SenderStood (s : Sender) (low : Line) (t : ℕ) : Type 0 where
   pub after : s.begin < t
   pub state : s.state ≡ state_before low s.begin (frame_bits s.frame) t
   pub past : IsBefore s.state s.last t
 
--- From `before` to t the reading that it began runs, and tells nothing before t.
+-- From `before` to t the reading that it began runs, and nothing is added to it before t.
 pub record IsSilent (low : Line) (begin before t : ℕ) : Type 0 where
   pub from : before ≤ t
   pub runs : (u : ℕ) → before ≤ u → u ≤ t → running_of low (u - 1) ≡ Some begin
   pub silent : (u : ℕ) → before ≤ u → u < t → told_at low u ≡ Nothing
 
--- What t tells leaves it so on each line that tells that.
+-- What is heard at t leaves it so on each line on which that is heard.
 abbrev pub Hears : Sender → Told → ℕ → Sender → Type 0
 Hears old told t new =
     (low : ℕ → Bool) (before : ℕ) → SenderStood old low before → IsSilent low old.begin before t → told ≡ told_at low t → SenderStood new low (t + 1)
 
--- It stops at the instant that tells it to, and stays as it is then.
+-- It stops at the instant of that slot's sample or of the ending, and stays as it is then.
 abbrev pub StopsAt : SenderState → ℕ → ℕ → SenderState → ℕ → Type 0
 StopsAt Sending old_last t Sending last = Unit {0}
 StopsAt Sending old_last t _ last = last ≡ t

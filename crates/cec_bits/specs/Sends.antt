@@ -1,4 +1,4 @@
--- A sender, told by told: what each tells it by its own bits (own).
+-- A sender, report by report of the receiver: what each means by its own bits (own).
 use Rattle.std.specs.Prelude.{ℕ, ◌-◌, ◌%◌, ◌==◌, Bool, not, ◌&&◌, if◌then◌else◌, List, slice_index_or, false}
 use mathlib.Core.Bool.{beq}
 use Rattle.cec_bits.specs.declared.receiver.Told.{Told}

@@ -25,7 +25,7 @@ pub fn one_list()
     ensures { OneList }
 {}
 
-/// What is told of a line by an instant depends on the line through that instant alone.
+/// What is known of a line's readings by an instant depends on the line through that instant alone.
 pub fn lists_are_causal()
     ensures { ListsAreCausal }
 {}
@@ -40,7 +40,7 @@ pub fn readings_end_one_by_one()
     ensures { EndOneByOne }
 {}
 
-/// A receiver's readings are its line's: each instant ends the reading that it tells, and where the line is cut the
+/// A receiver's readings are its line's: each instant ends the reading that it reports, and where the line is cut the
 /// one that is still kept is open.
 pub fn readings_are_reported()
     ensures endings { EndingsAreTold }

@@ -1,4 +1,5 @@
-//! A sender of one frame, at the standard's nominal times (CEC 5.2) until it stops.
+//! A sender of one frame (the standard's initiator), at the nominal times (CEC 5.2) until it stops: where it loses
+//! arbitration (CEC 9), at a block that is not acknowledged (CEC 6.1), or with the reading.
 ghost use Rattle.std.specs.Prelude.{◌≡◌, ℕ, ◌+◌, ◌-◌, ◌*◌, ◌<◌, ◌≤◌, Bool, false, length, slice_index_or, if◌then◌else◌};
 
 mod parts;
@@ -26,13 +27,14 @@ const BLOCK_SLOTS: usize = 10;
 #[derive(Clone, Copy, Debug, PartialEq, Eq)]
 pub enum SenderState {
     Sending,
-    /// It stopped at this slot: the line was read differently there, or the block was not taken.
+    /// It stopped at this slot: the line was read differently there, as where arbitration is lost (CEC 9), or the block was
+    /// not acknowledged (CEC 6.1).
     Out(usize),
     /// It stopped when the reading ended.
     Stopped,
 }
 
-/// A sender of one frame. It goes by what a receiver tells of the reading that it began.
+/// A sender of one frame. It goes by what a receiver reports of the reading that it began.
 #[derive(Debug, Drop)]
 pub struct Sender {
     frame: Frame,
@@ -199,7 +201,7 @@ impl Sender {
         }
     }
 
-    /// The first instant after `t` at which its pull changes, if it is told nothing more.
+    /// The first instant after `t` at which its pull changes, if it hears nothing more.
     pub fn next_change(&self, t: u64) -> Option<u64>
         requires early { t ≤ 3000000000000 }
         ensures { IsNextChange (pull_of self.now) t result }
@@ -223,8 +225,8 @@ impl Sender {
         }
     }
 
-    // Whether this bit tells it to stop: in an acknowledge slot 1 in a direct block and 0 in a broadcast, in another
-    // slot a bit that is not its own.
+    // Whether it stops at this bit: in an acknowledge slot 1 in a directly addressed block and 0 in a broadcast (CEC
+    // 6.1), in another slot a bit that is not its own (arbitration, CEC 9).
     fn is_out_at(&self, slot: usize, value: bool) -> bool
         ensures { result ≡ is_out_there (frame_bits self.now.frame) slot value }
     {
@@ -251,7 +253,7 @@ impl Sender {
         self.last = t;
     }
 
-    /// What the receiver told at `t` of the reading that this sender began.
+    /// What the receiver reported at `t` of the reading that this sender began.
     pub fn heard(&mut self, told: Told, t: u64)
         requires early { t ≤ 3000000000000 }
         ensures keeps { (self.new.frame ≡ self.old.frame) × (self.new.begin ≡ self.old.begin) }

@@ -1,18 +1,19 @@
 -- What each call keeps: what is queued goes to others, and polls and addresses are of the kind's lists.
-use Rattle.std.proofs.Common.{◌≡◌, ℕ, ◌+◌, ◌*◌, ◌%◌, ◌/◌, Bool, true, false, not, ◌||◌, nat_lt, [], ◌∷◌, length, slice_index, Option, Some, None, ◌⊎◌, inl, inr, refl, sym, subst, ◌∙◌, arith}
+use Rattle.std.proofs.Common.{◌≡◌, ℕ, ◌+◌, ◌*◌, ◌%◌, ◌/◌, Bool, true, false, not, ◌&&◌, ◌||◌, if◌then◌else◌, nat_lt, List, [], ◌∷◌, length, slice_index, Option, Some, None, ◌⊎◌, inl, inr, refl, sym, subst, ◌∙◌, arith}
 use Rattle.std.proofs.lemmas.Bool.Decides.{nat_tests}
 use Rattle.hdmi_core.specs.declared.kind.Kind.{Kind}
-use Rattle.hdmi_core.specs.declared.kind.Kind.TheVariants.{Tv, Amp, Player, Recorder, Switch, Combo}
+use Rattle.hdmi_core.specs.declared.kind.Kind.TheVariants.{Tv, Amp, Player, Recorder, Switch, Combo, Outside}
 use Rattle.cec_device.specs.declared.place.Place.{Place}
 use Rattle.cec_device.specs.declared.place.Place.TheVariants.{Polls}
-use Rattle.cec_feature.specs.Kinds.{addresses, is_in, recorders, second_addresses}
+use Rattle.cec_feature.specs.Kinds.{addresses, is_in, is_outside, recorders, second_addresses}
 use Rattle.cec_device.specs.State.{State, holds, is_held}
-use Rattle.cec_device.specs.Place.{is_off, settled_at, start_place}
+use Rattle.cec_device.specs.Place.{is_off, settled_at, start_place, submitted_by}
+use Rattle.cec_device.specs.declared.device.SubmitError.TheVariants.{QueueFull, OwnAddress, NoAddress, OffWire}
 use Rattle.cec_device.specs.Keys.{key_fault}
 use Rattle.cec_device.specs.Once.{goes_elsewhere}
 use Rattle.cec_device.specs.Listed.{is_listed, listed_at, may_take}
 use Rattle.cec_device.specs.Clean.{KeepsClean, clean_at, is_clean}
-use Rattle.cec_device.proofs.CleanLemmas.{clean-by_tests, clean-empty, clean-followed, clean-front, clean-keyed, clean-reported, clean-sent}
+use Rattle.cec_device.proofs.CleanLemmas.{is_clear, clean-by_tests, clean-empty, clean-followed, clean-front, clean-keyed, clean-reported, clean-sent}
 use Rattle.cec_device.proofs.ListedLemmas.{and_left, and_right, both, holds_listed, players_are}
 use Rattle.cec_device.proofs.NumberLemmas.{put_on}
 
@@ -31,6 +32,7 @@ other_unit Recorder first a h k = cc
 other_unit Player first a h k = cc
 other_unit Amp first a h k = cc
 other_unit Switch first a h k = cc
+other_unit Outside first a h k = cc
 other_unit Combo first a h k = other_list first a h (players_are a k)
 
 first_not : (b : Bool) → b ≡ false → not (b || (false || false)) ≡ true
@@ -55,6 +57,14 @@ listed d k = and_left (is_listed d) (clean_at d.place d.queue) k
 clear : (d : State) → is_clean d ≡ true → clean_at d.place d.queue ≡ true
 clear d k = and_right (is_listed d) (clean_at d.place d.queue) k
 
+-- a frame that is handed to a device that is not from outside
+clean-inside : (limit : ℕ) (outside : Bool) → outside ≡ false → (d : State) (frame : List ℕ) (at : ℕ) → clean_at d.place d.queue ≡ true
+    → is_clear (submitted_by d frame at (if is_off d.place then Some OffWire else (if not (outside || settled_at d.place (slice_index frame 0 / 16)) then Some NoAddress else (
+    if not outside && holds d.place (slice_index frame 0 % 16) then Some OwnAddress else (if nat_lt (length d.queue) limit then None else Some QueueFull))))) ≡ true
+clean-inside limit true e d frame at k = cc
+clean-inside limit false e d frame at k =
+    clean-by_tests (is_off d.place) (settled_at d.place (slice_index frame 0 / 16)) (holds d.place (slice_index frame 0 % 16)) (nat_lt (length d.queue) limit) d frame at refl refl k
+
 pub keeps_clean : KeepsClean
 keeps_clean = record {
   leaving = λ d. refl;
@@ -62,8 +72,7 @@ keeps_clean = record {
       (clean-reported limit at (put_on number at phys d) (clean-empty (start_place d.kind phys)));
   telling = λ limit at fate d k. both _ _ (holds_listed.telling limit at fate d (listed d k)) (clean-sent limit at fate d d.place refl (clear d k));
   waiting = λ d k. k;
-  submitting = λ limit at frame d k. both _ _ (holds_listed.submitting limit at frame d (listed d k))
-      (clean-by_tests (is_off d.place) (settled_at d.place (slice_index frame 0 / 16)) (holds d.place (slice_index frame 0 % 16)) (nat_lt (length d.queue) limit) d frame at refl refl (clear d k));
+  submitting = λ limit at frame d own k. both _ _ (holds_listed.submitting limit at frame d (listed d k)) (clean-inside limit (is_outside d.kind) own d frame at (clear d k));
   following = λ limit at frame d k. both _ _ (holds_listed.following limit at frame d (listed d k)) (clean-followed limit at frame d (clear d k));
   keying = λ limit at key press d k. both _ _ (holds_listed.keying limit at key press d (listed d k)) (clean-keyed limit at key press d (key_fault d key) (clear d k));
   sending = λ d frame k e. clean-front d.place d.queue frame (clear d k) (front_elsewhere d d.place refl (listed d k)) e;

@@ -1,11 +1,12 @@
 -- A frame that a device follows: what the opcode table makes of it, in the record and in the queue.
-use Rattle.std.specs.Prelude.{ℕ, ◌==◌, ◌%◌, Bool, ◌&&◌, ◌||◌, List, ◌∷◌, if◌then◌else◌}
+use Rattle.std.specs.Prelude.{ℕ, ◌==◌, ◌%◌, Bool, not, ◌&&◌, ◌||◌, List, ◌∷◌, if◌then◌else◌}
 use Rattle.cec_opcode.specs.declared.message.Decoded.{Decoded}
 use Rattle.cec_opcode.specs.declared.message.Decoded.TheVariants.{Known, Unknown as NoName}
 use Rattle.cec_opcode.specs.declared.words.Reason.TheVariants.{Unrecognized}
 use Rattle.cec_opcode.specs.Table.{decoded_of, rule_of, may_go}
 use Rattle.cec_feature.specs.declared.record.Heard.{Heard}
 use Rattle.cec_feature.specs.Effects.{effect_of, refuses, heard_of}
+use Rattle.cec_feature.specs.Kinds.{is_outside}
 use Rattle.cec_device.specs.State.{State, holds}
 use Rattle.cec_device.specs.Say.{effected}
 
@@ -15,9 +16,10 @@ by_decoded limit h d (Known message) = effected limit h (effect_of d.kind d.phys
 by_decoded limit h d (NoName opcode) = effected limit h (refuses d.record_of Unrecognized) d
 by_decoded limit h d _ = d
 
--- a direct frame is followed by who holds its destination, and only as the opcode may go
+-- a directly addressed frame is followed by who holds its destination, a broadcast by all (CEC 6.1), and each only as the
+-- opcode may go (own); a device from outside follows none
 abbrev pub is_for : State → ℕ → ℕ → Bool
-is_for d to opcode = may_go (rule_of opcode) to && ((to == 15) || holds d.place to)
+is_for d to opcode = not (is_outside d.kind) && (may_go (rule_of opcode) to && ((to == 15) || holds d.place to))
 
 -- a device after a frame that came whole
 abbrev pub followed : ℕ → State → List ℕ → ℕ → State

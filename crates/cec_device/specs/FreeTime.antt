@@ -1,4 +1,4 @@
--- How long the line has to have been free before a device starts (CEC 9.1), in microseconds.
+-- Signal free time: how long the line has to have been free before a device starts (CEC 9.1), in microseconds.
 use Rattle.std.specs.Prelude.{ℕ}
 use Rattle.cec_device.specs.declared.free_time.FreeTime.{FreeTime}
 use Rattle.cec_device.specs.declared.free_time.FreeTime.TheVariants.{Retry, NewInitiator, PresentInitiator}

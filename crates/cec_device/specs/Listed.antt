@@ -1,4 +1,5 @@
--- A device polls and holds addresses of its kind's lists alone, each unit those of its own.
+-- Logical address allocation (CEC 10.2.1): a device polls and holds addresses of its kind's lists alone, each unit those of
+-- its own.
 use Rattle.std.specs.Prelude.{◌≡◌, ℕ, ◌<◌, ◌==◌, ◌&&◌, ◌||◌, Bool, true, List, slice_get, Some, None, zero, suc}
 use Rattle.hdmi_core.specs.declared.kind.Kind.{Kind}
 use Rattle.hdmi_core.specs.declared.phys.Phys.{Phys}

@@ -1,6 +1,7 @@
--- Joining, leaving, the allocation of a logical address (CEC 10.2.1), and the fates of frames that were sent
--- (CEC 7.1 and 9.1; that a poll is tried again without limit, and how attempts are counted, are this profile's own).
-use Rattle.std.specs.Prelude.{ℕ, ◌==◌, ◌+◌, ◌*◌, ◌/◌, ◌%◌, ◌||◌, Bool, true, false, not, nat_lt, List, [], ◌∷◌, ◌++◌, length, slice_index, if◌then◌else◌, Option, Some, None, is_some}
+-- Joining, leaving, logical address allocation (CEC 10.2.1), and the fates of frames that were sent: retransmission
+-- (CEC 7.1) and the signal free time that is due next (CEC 9.1). That a poll is tried again without limit, and how attempts
+-- are counted, are this profile's own.
+use Rattle.std.specs.Prelude.{ℕ, ◌==◌, ◌+◌, ◌*◌, ◌/◌, ◌%◌, ◌&&◌, ◌||◌, Bool, true, false, not, nat_lt, List, [], ◌∷◌, ◌++◌, length, slice_index, if◌then◌else◌, Option, Some, None, is_some}
 use Rattle.hdmi_core.specs.declared.kind.Kind.{Kind}
 use Rattle.hdmi_core.specs.declared.phys.Phys.{Phys}
 use Rattle.cec_device.specs.declared.place.Place.{Place}
@@ -12,11 +13,11 @@ use Rattle.cec_device.specs.declared.free_time.FreeTime.TheVariants.{Retry, NewI
 use Rattle.cec_device.specs.declared.device.Queued.{Queued}
 use Rattle.cec_device.specs.declared.device.SubmitError.{SubmitError}
 use Rattle.cec_device.specs.declared.device.SubmitError.TheVariants.{QueueFull, OwnAddress, NoAddress, OffWire}
-use Rattle.cec_feature.specs.Kinds.{addresses, is_nowhere, is_switch, second_addresses, type_of}
+use Rattle.cec_feature.specs.Kinds.{addresses, is_nowhere, is_outside, is_switch, second_addresses, type_of}
 use Rattle.cec_feature.specs.Fresh.{fresh_record}
 use Rattle.cec_device.specs.State.{State, held, holds, queued}
 
--- ---- the allocation of addresses, unit after unit
+-- ---- logical address allocation (CEC 10.2.1), unit after unit (own: a box has two)
 
 -- A first unit has settled at an address: then the second one begins with its list, if there is one.
 abbrev pub begins : ℕ → List ℕ → Place
@@ -128,7 +129,7 @@ left d = fresh d.kind d.name d.ports
 
 -- ---- fates
 
--- the free time after a poll
+-- the signal free time after a poll (CEC 9.1)
 abbrev pub class_of_poll : Fate → FreeTime
 class_of_poll Lost = NewInitiator
 class_of_poll Broken = Retry
@@ -142,7 +143,7 @@ ended d = record d { queue = rest_of d.queue; attempts = 0; class = PresentIniti
     rest_of [] = []
     rest_of (q ∷ qs) = qs
 
--- a failed attempt, the sixth of which is the last
+-- retransmission (CEC 7.1: up to five times): a failed attempt, the sixth of which is the last
 abbrev pub failed : State → State
 failed d = if nat_lt d.attempts 5 then record d { attempts = d.attempts + 1; class = Retry } else ended d
 
@@ -200,12 +201,12 @@ abbrev pub is_off : Place → Bool
 is_off Off = true
 is_off _ = false
 
--- the first reason against a frame
+-- the first reason against a frame; a device from outside sends from and to any address (own)
 abbrev pub submit_fault : ℕ → State → List ℕ → Option SubmitError
 submit_fault limit d bytes =
     if is_off d.place then Some OffWire else (
-    if not (settled_at d.place (slice_index bytes 0 / 16)) then Some NoAddress else (
-    if holds d.place (slice_index bytes 0 % 16) then Some OwnAddress else (
+    if not (is_outside d.kind || settled_at d.place (slice_index bytes 0 / 16)) then Some NoAddress else (
+    if not (is_outside d.kind) && holds d.place (slice_index bytes 0 % 16) then Some OwnAddress else (
     if nat_lt (length d.queue) limit then None else Some QueueFull)))
 
 abbrev pub submitted_by : State → List ℕ → ℕ → Option SubmitError → State

@@ -1,4 +1,4 @@
--- Allocation by all fates so far.
+-- Logical address allocation (CEC 10.2.1) by all fates so far.
 use Rattle.std.specs.Prelude.{◌≡◌, ℕ, List, [], ◌∷◌, None}
 use Rattle.hdmi_core.specs.declared.kind.Kind.{Kind}
 use Rattle.hdmi_core.specs.declared.phys.Phys.{Phys}
@@ -12,7 +12,7 @@ abbrev pub place_told : Kind → Place → List Fate → Place
 place_told kind place [] = place
 place_told kind place (fate ∷ fates) = place_told kind (stepped kind place fate) fates
 
--- A device begins at the head of its kind's list, and each fate that it is told moves it by a step, where it polls; so
+-- A device begins at the head of its kind's list, and each fate that it learns moves it by a step, where it polls; so
 -- it stands where all the fates of its polls so far put it.
 pub record PlaceGoesByFates : Type 0 where
   pub joining : (limit number at : ℕ) (phys : Phys) (d : State) → (joined limit d number phys at).place ≡ start_place d.kind phys

@@ -7,9 +7,9 @@ use Rattle.cec_feature.specs.declared.say.Say.TheVariants.{Reply, Cast, Tell, Re
 use Rattle.cec_feature.specs.Effect.{Effect}
 use Rattle.cec_device.specs.State.{State, queued, source}
 
--- How one is queued. A reply or a notice goes to an address below 15 alone, and a refusal answers a frame
--- that was addressed to the device itself, unless it is a refusal (CEC 12.3). What answers a direct frame comes from
--- the address that this one went to.
+-- How one is queued. A reply or a notice goes to an address below 15 alone, and a refusal, which is Feature Abort,
+-- answers a frame that was directly addressed to the device, unless that is a Feature Abort itself (CEC 12.3). What
+-- answers a direct frame comes from the address that this one went to.
 abbrev pub say : ℕ → Heard → Say → State → State
 say limit h (Reply bytes) d = if nat_lt h.from 15 then queued limit h.at (source d.place h.to) h.from bytes d else d
 say limit h (Cast bytes) d = queued limit h.at (source d.place h.to) 15 bytes d

@@ -8,6 +8,7 @@ use crate::device::Device;
 use cec_feature::{Heard, Identity, refuse};
 use cec_frame::{Addr, Frame};
 use cec_opcode::{Decoded, Reason, decode, rule};
+use hdmi_core::Kind;
 
 fn heard_of(header: u8, opcode: u8, operands: &[u8], at: u64) -> Heard
     ensures { result ≡ heard_of header opcode operands.now at }
@@ -36,10 +37,14 @@ impl<const Q: usize> Device<Q> {
         }
     }
 
-    // A direct frame is followed by who holds its destination, and only as the opcode may go.
+    // A directly addressed frame is followed by who holds its destination, a broadcast by all, and each only as the opcode
+    // may go. A device from outside follows none.
     fn is_for(&self, to: Addr, opcode: u8) -> bool
         ensures { result ≡ is_for self.now to opcode }
     {
+        if self.kind == Kind::Outside {
+            return false;
+        }
         let rule = rule(opcode);
         if to.value() == 15 {
             rule.broadcast

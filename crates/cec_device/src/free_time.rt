@@ -1,8 +1,8 @@
-//! How long a device waits before it sends.
+//! How long a device waits before it sends: the signal free time (CEC 9.1).
 ghost use Rattle.std.specs.Prelude.{◌≡◌};
 ghost use Rattle.cec_device.specs.FreeTime.{free_time_of};
 
-/// How long the line has to have been free before a device starts (CEC 9.1).
+/// Signal free time: how long the line has to have been free before a device starts (CEC 9.1).
 #[derive(Clone, Copy, PartialEq, Eq)]
 pub enum FreeTime {
     /// Three bit periods: it sends a frame again.

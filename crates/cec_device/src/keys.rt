@@ -8,7 +8,7 @@ use cec_feature::{Heard, Key, has_key};
 use cec_frame::Addr;
 use thiserror::Error;
 
-/// Why a key is refused.
+/// Why a key is refused, or what a device from outside is told.
 #[derive(Clone, Copy, Debug, Drop, PartialEq, Eq, Error)]
 pub enum KeyError {
     #[error("the device has no such key")]

@@ -1,4 +1,4 @@
-//! Joining and leaving the wire, the allocation of a logical address (CEC 10.2.1), and the fates of frames
+//! Joining and leaving the wire, logical address allocation (CEC 10.2.1), and the fates of frames: retransmission
 //! (CEC 7.1).
 ghost use Rattle.std.specs.Prelude.{◌≡◌, ◌<◌, Some, None, length, MatchResult, IsSome, IsTrue, ◌≤◌, nat_lt};
 ghost use Rattle.std.specs.List.{list_all};
@@ -69,7 +69,7 @@ fn tries(kind: Kind, found: Option<Addr>, list: &[u8]) -> Place
     }
 }
 
-// The same behind the address that was found taken.
+// The same after the address that was found taken.
 fn tries_after(kind: Kind, found: Option<Addr>, taken: u8, list: &[u8]) -> Place
     requires { IsTrue (list_all (λ a. nat_lt a 16) list.now) }
     ensures { result ≡ tries_after kind found taken list.now }
@@ -222,8 +222,8 @@ impl<const Q: usize> Device<Q> {
         self.report_from(second, at);
     }
 
-    /// Joins the wire with its number and its physical address, at `at` microseconds. A switch, and a device
-    /// at F.F.F.F, settles at 15 at once. Any other begins to poll the addresses of its kind in order; a box those
+    /// Joins the wire with its number and its physical address, at `at` microseconds. A switch, a device from outside,
+    /// and a device at F.F.F.F, settles at 15 at once. Any other begins to poll the addresses of its kind in order; a box those
     /// of its recorder, and then those of its player.
     pub fn join(&mut self, number: u8, phys: Phys, at: u64)
         ensures { self.new ≡ joined Q self.old number phys at }
@@ -246,7 +246,7 @@ impl<const Q: usize> Device<Q> {
         self.class = FreeTime::PresentInitiator;
     }
 
-    // A failed attempt. A frame is sent again up to five times.
+    // Retransmission (CEC 7.1): after a failed attempt a frame is sent again, up to five times.
     fn fail(&mut self)
         requires { 0 < length self.old.queue }
         ensures { self.new ≡ failed self.old }
@@ -301,7 +301,7 @@ impl<const Q: usize> Device<Q> {
         }
     }
 
-    /// It is told the fate of what `queue_front` gave, at the close of the round, `at` microseconds.
+    /// It learns the fate of what `queue_front` gave, at the close of the round, `at` microseconds.
     pub fn sent(&mut self, fate: Fate, at: u64)
         requires { IsSome (front_of self.old) }
         ensures { self.new ≡ sent Q self.old fate at }
@@ -335,7 +335,7 @@ impl<const Q: usize> Device<Q> {
 
     /// Queues a frame that somebody hands in. It is refused with `OffWire`, `NoAddress` where the device has
     /// not settled or the frame's initiator is none of its addresses, `OwnAddress` where the frame goes to itself,
-    /// and `QueueFull`, in this order. A refusal changes nothing.
+    /// and `QueueFull`, in this order. A device from outside sends from and to any address. A refusal changes nothing.
     pub fn submit(&mut self, frame: Frame, at: u64) -> Result<(), SubmitError>
         ensures answer { MatchResult result (λ _. submit_fault Q self.old frame ≡ None) (λ fault. submit_fault Q self.old frame ≡ Some fault) }
         ensures queue { self.new ≡ submitted Q self.old frame at }
@@ -343,10 +343,10 @@ impl<const Q: usize> Device<Q> {
         if self.place == Place::Off {
             return Err(SubmitError::OffWire);
         }
-        if !self.is_settled_at(frame.initiator()) {
+        if self.kind != Kind::Outside && !self.is_settled_at(frame.initiator()) {
             return Err(SubmitError::NoAddress);
         }
-        if self.holds(frame.destination()) {
+        if self.kind != Kind::Outside && self.holds(frame.destination()) {
             return Err(SubmitError::OwnAddress);
         }
         if self.queue.len() >= Q {

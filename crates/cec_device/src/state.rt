@@ -1,4 +1,4 @@
-//! What a device tells of itself.
+//! What a device says of itself.
 ghost use Rattle.std.specs.Prelude.{◌≡◌, ◌≤◌, length};
 ghost use Rattle.cec_device.specs.State.{held};
 ghost use Rattle.cec_device.specs.Place.{front_of, ready_of, is_allocating, is_on_wire};

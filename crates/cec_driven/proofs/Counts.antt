@@ -3,7 +3,7 @@ use Rattle.std.proofs.Common.{◌≡◌, ℕ, zero, suc, ◌≤◌, List, [], �
 use Rattle.cec_wave.specs.declared.Stretch.{Stretch}
 use Rattle.cec_wire.specs.declared.Outcome.{Outcome}
 use Rattle.cec_event.specs.declared.event.Event.{Event}
-use Rattle.cec_event.specs.declared.event.Event.TheVariants.{Plug, Unplug, Key, Send}
+use Rattle.cec_event.specs.declared.event.Event.TheVariants.{Plug, Unplug, Key, Send, Outside}
 use Rattle.cec_event.specs.declared.event.EventError.{EventError}
 use Rattle.hdmi_topo.specs.Node.{Node}
 use Rattle.cec_device.specs.State.{State}
@@ -25,6 +25,7 @@ count_unless None at (Plug child parent port) s = length-each_from 0 (moved_by a
 count_unless None at (Unplug child) s = length-each_from 0 (moved_by at _) s.devices
 count_unless None at (Key device key press) s = length-changed device _ s.devices
 count_unless None at (Send device frame) s = length-changed device _ s.devices
+count_unless None at (Outside device act) s = length-changed device _ s.devices
 
 pub count_applied : (at : ℕ) (event : Event) (s t : NetState) → t ≡ applied at event s → length t.devices ≡ length s.devices
 count_applied at event s t e = ap (λ (n : NetState). length n.devices) e ∙ count_unless (event_fault s event) at event s

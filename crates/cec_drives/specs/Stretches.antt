@@ -1,5 +1,6 @@
 -- Who drives the line of a round, as low stretches: what a sender pulls until it is out, 1,500 of each block that a follower
--- acknowledges, and 3,600 of a follower after a fall too early. Each goes by what an outcome tells.
+-- acknowledges (the acknowledge bit, CEC 6.1), and 3,600 of a follower after a fall too early (the low drive, CEC 7.4; its
+-- length own). Each goes by what an outcome says.
 use Rattle.std.specs.Prelude.{ℕ, ◌+◌, ◌*◌, Bool, true, false, not, nat_lt, nat_le, ◌&&◌, if◌then◌else◌, min, List, [], ◌∷◌, ◌++◌, length, slice_get, Option, Some, None}
 use Rattle.std.specs.List.{flat_map, range_with_len}
 use Rattle.cec_wave.specs.declared.Stretch.{Stretch}
@@ -23,7 +24,7 @@ abbrev pub fall_by : ℕ → Option Stretch → Option ℕ
 fall_by at None = None
 fall_by at (Some s) = if nat_lt s.from at then Some s.from else None
 
--- the fall of slot n, counted from 1: that of the line's n-th low stretch behind the start bit's, where it comes before the
+-- the fall of slot n, counted from 1: that of the line's n-th low stretch after the start bit's, where it comes before the
 -- reading's end
 abbrev pub slot_fall : Outcome → ℕ → Option ℕ
 slot_fall o n = fall_by o.reading.at (slice_get o.wave n)
@@ -72,7 +73,7 @@ ack_in o seat out block = ack_by (acknowledges_in o seat out (10 * block)) (slot
 abbrev pub ack_stretches : Outcome → Seat → Option ℕ → List Stretch
 ack_stretches o seat out = flat_map (ack_in o seat out) (range_with_len 1 16)
 
--- ---- who pulls after a fall too early (CEC 7.4): 3,600 from it on, everyone who does not send
+-- ---- low drives, of those who pull after a fall too early (CEC 7.4): 3,600 from it on, everyone who does not send
 
 abbrev pub is_short : Ending → Bool
 is_short Short = true
@@ -97,6 +98,6 @@ abbrev pub drives_from : ℕ → Outcome → ℕ → List Seat → List (List St
 drives_from begin o number [] = []
 drives_from begin o number (seat ∷ seats) = seat_stretches begin o number seat ∷ drives_from begin o (number + 1) seats
 
--- each seat's, and behind them those of the pulses that begin in the round
+-- each seat's, and after them those of the pulses that begin in the round
 abbrev pub drives_of : List Seat → ℕ → List Stretch → Outcome → List (List Stretch)
 drives_of seats begin pulses o = drives_from begin o 0 seats ++ begun_within begin o.rest pulses ∷ []

@@ -59,7 +59,7 @@ fn push_drives(
     push_drives(drives, outcome, number + 1, others, begin);
 }
 
-/// Who drives the line of a round that begins at `begin` and gave this outcome: the stretches of each seat, and behind them
+/// Who drives the line of a round that begins at `begin` and gave this outcome: the stretches of each seat, and after them
 /// those of the pulses that begin in the round, of which there are few.
 pub fn drives_of(
     seats: &[Seat],

@@ -238,7 +238,7 @@ fn breaks_off(outcome: &Outcome, seat: &Seat, out: Option<usize>) -> bool
     is_short(outcome.reading.ending) && seat.plugged && !goes_to(&seat.sends, out, bits.len() + 1)
 }
 
-// Adds the pull of a seat after a fall too early, where it does not send.
+// Adds the low drive of a seat after a fall too early, where it does not send (CEC 7.4).
 fn push_break(drive: &mut Drive, outcome: &Outcome, seat: &Seat, out: Option<usize>)
     requires room { length drive.old < 192 }
     requires early { outcome.now.reading.at ≤ 3000000000000 }
@@ -264,9 +264,9 @@ fn drive_by(outcome: &Outcome, seat: &Seat, begin: u64, out: Option<usize>) -> D
     drive
 }
 
-/// Where the seat of this number pulls in a round that begins at `begin`, by what the round's outcome tells: as a sender
-/// until it is out, 1,500 microseconds of each block that it acknowledges, and 3,600 after a fall too early. A pull that
-/// answers a fall begins a microsecond after it.
+/// Where the seat of this number pulls in a round that begins at `begin`, by what the round's outcome says: as a sender
+/// until it is out, 1,500 microseconds of each block that it acknowledges (CEC 6.1), and a low drive of 3,600 after a fall
+/// too early (CEC 7.4; its length own). A pull that answers a fall begins a microsecond after it.
 pub fn seat_drive(outcome: &Outcome, number: usize, seat: &Seat, begin: u64) -> Drive
     requires begin { begin ≤ 2000000000000 }
     requires early { outcome.now.reading.at ≤ 3000000000000 }

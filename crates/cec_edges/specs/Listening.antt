@@ -57,7 +57,7 @@ abbrev pub AreSending : Line → ℕ → ℕ → List (Option Sender) → Type 0
 AreSending low begin n [] = Unit {0}
 AreSending low begin n (o ∷ senders) = IsSending low begin n o × AreSending low begin n senders
 
--- They were told the line before microsecond n.
+-- They have heard the line before microsecond n.
 pub record AreStanding (l : Listeners) (low : Line) (begin n : ℕ) : Type 0 where
   pub from : begin ≤ n
   pub receiver : StoodBefore l.receiver low n
@@ -71,7 +71,7 @@ IsIdle r = (standing : Standing) → ShowsStanding r standing → standing ≡ I
 abbrev pub IsLevel : Listeners → Type 0
 IsLevel l = l.receiver.is_low ≡ l.receiver.was_low
 
--- ---- what is told
+-- ---- what they hear
 
 abbrev pub tells : Told → Bool
 tells Nothing = false

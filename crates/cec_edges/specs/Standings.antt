@@ -7,7 +7,7 @@ use Rattle.cec_wire.specs.declared.hearing.Place.TheVariants.{StartLow, StartHig
 use Rattle.cec_edges.specs.declared.edge_wire.EdgeWire.{EdgeWire}
 use Rattle.cec_edges.specs.Wired.{EachOf, IsBegun, is_low_in}
 
--- a reading that has been heard to its end, but is told so a microsecond later
+-- a reading that has been heard to its end, which is known a microsecond later
 abbrev pub still_in : List Bool → Standing
 still_in [] = phase.StartHigh
 still_in (bit ∷ bits) = phase.InSlot (length (bit ∷ bits)) (bit ∷ bits)

@@ -122,7 +122,7 @@ pub record IsReceiverIn (w : EdgeWire) (r : Receiver) : Type 0 where
   pub before : w.time ≡ w.begin → EachOf w (λ low. low w.begin ≡ true → StandsOn r (λ u. false) w.begin)
   pub stands : w.begin < w.time → EachOf w (λ low. low w.begin ≡ true → StandsOn r low (w.time - 1))
 
--- A seat's sender sends the seat's frame, and goes on, is out or has stopped by what the line told so far.
+-- A seat's sender sends the seat's frame, and goes on, is out or has stopped by what was heard of the line so far.
 pub record IsSenderIn (w : EdgeWire) (seat : ℕ) (x : Sender) : Type 0 where
   pub whose : (s : Seat) → slice_get w.seats.items seat ≡ Some s → (s.sends ≡ Some x.frame) × (x.begin ≡ w.begin)
   pub stands : w.begin < w.time → EachOf w (λ low. low w.begin ≡ true → SenderStood x low w.time)

@@ -21,7 +21,8 @@ pub struct EdgeWire {
     pulses: ArrayVec<Stretch, 24>,
     time: u64,
     bits: ArrayVec<bool, 160>,
-    /// The seats that go on sending, by these bits: they alone are asked who pulls.
+    /// The seats that go on sending, by these bits (arbitration, CEC 9; acknowledge bit, CEC 6.1): they alone are asked who
+    /// pulls.
     sending: ArrayVec<Seat, 15>,
     /// What they do, for as long as that lasts.
     pull: Pull,
@@ -350,7 +351,7 @@ impl EdgeWire {
         self.time += 1;
     }
 
-    // Hears the next microsecond. Answers whether the line falls or rises in it.
+    // Hears the next microsecond. Returns whether the line falls or rises in it.
     fn hear(&mut self) -> Option<Edge>
         requires begun { IsBegun self.old }
         requires near { self.old.time < self.old.begin + 470000 }

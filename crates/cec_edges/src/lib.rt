@@ -1,4 +1,4 @@
-//! The CEC line from edge to edge: a wire that is told its pulses one by one, and who hears it.
+//! The CEC line from edge to edge: a wire that is given its pulses one by one, and who hears it.
 #![tactic(auto)]
 
 mod edge_wire;

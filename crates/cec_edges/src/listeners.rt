@@ -49,7 +49,7 @@ pub fn sender_at(senders: &[Option<Sender>], place: usize) -> Option<&Sender>
     senders[place].as_ref()
 }
 
-// Whether it tells something.
+// Whether something was heard.
 fn tells(told: Told) -> bool
     ensures { result ≡ tells told }
 {
@@ -68,7 +68,7 @@ fn hear_one(sender: &mut Option<Sender>, told: Told, t: u64)
     }
 }
 
-// Each sender hears what microsecond `t` told.
+// Each sender hears what the receiver reports at microsecond `t`.
 fn hear_all(senders: &mut [Option<Sender>], told: Told, t: u64)
     requires early { t ≤ 3000000000000 }
     ensures { AllHeard told t senders.old senders.new }

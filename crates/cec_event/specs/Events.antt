@@ -1,7 +1,7 @@
 -- What holds of an event (own).
 use Rattle.std.specs.Prelude.{ℕ, ◌<◌, length}
 use Rattle.cec_event.specs.declared.event.Event.{Event}
-use Rattle.cec_event.specs.declared.event.Event.TheVariants.{Plug, Unplug, Key, Send}
+use Rattle.cec_event.specs.declared.event.Event.TheVariants.{Plug, Unplug, Key, Send, Outside}
 
 -- the devices that an event names are among so many
 abbrev pub NamesDevices : ℕ → Event → Type 0
@@ -9,6 +9,7 @@ NamesDevices count (Plug child parent port) = (child < count) × (parent < count
 NamesDevices count (Unplug child) = child < count
 NamesDevices count (Key device key press) = device < count
 NamesDevices count (Send device frame) = device < count
+NamesDevices count (Outside device act) = device < count
 
 -- a frame that is handed in has a block at least
 abbrev pub IsFramedEvent : Event → Type 0

@@ -1,5 +1,5 @@
 //! What happens to the network from outside.
-use cec_device::{KeyError, SubmitError};
+use cec_device::{Act, KeyError, SubmitError};
 use cec_feature::Key;
 use cec_frame::Frame;
 use hdmi_topo::{PlugError, UnplugError};
@@ -27,6 +27,11 @@ pub enum Event {
     Send {
         device: usize,
         frame: Frame,
+    },
+    /// A device from outside is told what it holds, or to drop what it has to send.
+    Outside {
+        device: usize,
+        act: Act,
     },
 }
 
@@ -57,11 +62,15 @@ impl Event {
                 device: *device,
                 frame: frame.copy(),
             },
+            Event::Outside { device, act } => Event::Outside {
+                device: *device,
+                act: *act,
+            },
         }
     }
 }
 
-/// Why an event is refused.
+/// Why an event is refused. What a device from outside is told is refused as a key is.
 #[derive(Clone, Copy, PartialEq, Eq)]
 pub enum EventError {
     Plug(PlugError),

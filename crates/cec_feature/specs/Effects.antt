@@ -50,7 +50,7 @@ only named r e = if named then e else refuses r Unrecognized
 abbrev pub hears : Heard → Record → Effect
 hears h r = does (record r { heard = Some (record { from = h.from; opcode = h.opcode; first = h.first }) }) []
 
--- Deck Status, to who asked to be told
+-- Deck Status, to who asked for it
 abbrev pub to_sub : Option ℕ → DeckInfo → List Say
 to_sub None deck = []
 to_sub (Some sub) deck = Tell sub (0x1b ∷ deck_info_byte deck ∷ []) ∷ []
@@ -67,7 +67,8 @@ is_no_media _ = false
 abbrev pub turned : Record → DeckInfo → Effect
 turned r deck = does (record r { deck = deck }) (notice r deck)
 
--- Standby: what is held down and who is told of the deck are forgotten, and a deck with a medium stops
+-- Standby (CEC 13.3): what is held down and who asked for the deck's status are forgotten, and a deck with a medium stops
+-- (own)
 abbrev pub standby : Record → Record
 standby r = record r { power = false; menu = false; held = None; sub = None; deck = if is_no_media r.deck then r.deck else Stopped }
 
@@ -91,12 +92,12 @@ mode_deck FastReverseMid = Some FastReverse
 mode_deck FastReverseMax = Some FastReverse
 mode_deck (OtherMode other) = None
 
--- Play with a listed mode, or none
+-- Deck Control (CEC 13.7): Play with a listed mode, or none
 abbrev pub plays : Record → Option DeckInfo → Effect
 plays r None = refuses r InvalidOperand
 plays r (Some deck) = if is_no_media r.deck then refuses r WrongMode else does (record r { power = true; deck = deck }) (notice r deck)
 
--- Give Deck Status: the initiator is told from now on, no more, or once
+-- Give Deck Status: the initiator gets it from now on, no more, or once (CEC 13.7)
 abbrev pub deck_asked : Heard → Record → StatusRequest → Effect
 deck_asked h r On = does (record r { sub = Some h.from }) (Reply (0x1b ∷ deck_info_byte r.deck ∷ []) ∷ [])
 deck_asked h r Off = does (record r { sub = None }) []
@@ -107,7 +108,7 @@ deck_asked h r (OtherRequest other) = refuses r InvalidOperand
 abbrev pub wound : Record → DeckInfo → Effect
 wound r deck = if not r.power || is_no_media r.deck then refuses r WrongMode else turned r deck
 
--- Deck Control
+-- Deck Control (CEC 13.7)
 abbrev pub controlled : Record → DeckControlMode → Effect
 controlled r SkipForward = wound r SkippingForward
 controlled r SkipReverse = wound r SkippingReverse
@@ -115,11 +116,11 @@ controlled r Stop = wound r Stopped
 controlled r Eject = if r.power then turned r NoMedia else refuses r WrongMode
 controlled r (OtherControl other) = refuses r InvalidOperand
 
--- Menu Status of a deck that is on
+-- Device Menu Control (CEC 13.12): Menu Status of a deck that is on
 abbrev pub menu_told : Record → Bool → Effect
 menu_told r menu = if r.power then does (record r { menu = menu }) (Reply (0x8e ∷ (if menu then 0 else 1) ∷ []) ∷ []) else refuses r WrongMode
 
--- Menu Request
+-- Menu Request (CEC 13.12)
 abbrev pub menu_asked : Record → MenuRequestType → Effect
 menu_asked r Activate = menu_told r true
 menu_asked r Deactivate = menu_told r false
@@ -134,20 +135,20 @@ written r text =
     if not r.power then refuses r WrongMode else (
     if length text.items == 0 then refuses r InvalidOperand else does (record r { osd = text }) [])
 
--- Set OSD String
+-- OSD Display (CEC 13.10): Set OSD String
 abbrev pub shown : Record → Display → ArrayVec ℕ 16 (Unit {0}) → Effect
 shown r Default text = written r text
 shown r Hold text = written r text
 shown r Clear text = if r.power then does (record r { osd = record { items = [] } }) [] else refuses r WrongMode
 shown r (OtherDisplay other) text = refuses r InvalidOperand
 
--- Set System Audio Mode
+-- System Audio Control (CEC 13.15): Set System Audio Mode
 abbrev pub audio_set : Record → SystemAudio → Effect
 audio_set r AudioOff = does (record r { audio = false }) []
 audio_set r AudioOn = does (record r { audio = true }) []
 audio_set r (OtherAudio other) = refuses r InvalidOperand
 
--- ---- ways through switches
+-- ---- Routing Control (CEC 13.2): ways through switches
 
 -- a switch with this port selects it
 abbrev pub with_port : Bool → ℕ → Record → Option ℕ → Record
@@ -163,11 +164,11 @@ abbrev pub leads : Phys → Option ℕ → List Say
 leads own None = []
 leads own (Some n) = if is_nowhere (below own n) then [] else Cast (0x81 ∷ (below own n).high ∷ (below own n).low ∷ []) ∷ []
 
--- Routing Change and Routing Information: the way leads to an address
+-- Routing Change and Routing Information (CEC 13.2): the way leads to an address
 abbrev pub routed : Kind → Phys → Phys → Record → Effect
 routed kind own to r = does (record r { path = Some to; active = None }) (if is_switch kind && same_phys to own then leads own r.selected else [])
 
--- Set Stream Path: a deck or amplifier at the address becomes the active source
+-- Set Stream Path (CEC 13.2): a deck or amplifier at the address becomes the active source
 abbrev pub streamed : Kind → Phys → ℕ → Phys → Record → Effect
 streamed kind own ports to r =
     if (is_deck kind || is_amp kind) && same_phys to own
@@ -179,21 +180,21 @@ abbrev pub is_active : Option Phys → Phys → Bool
 is_active None p = false
 is_active (Some q) p = same_phys q p
 
--- ---- codes of 44
+-- ---- Remote Control Pass Through (CEC 13.13): codes of User Control Pressed, opcode 44; what each does is own
 
--- a deck with a medium: its state, told
+-- a deck with a medium: its state, reported
 abbrev pub decks : Kind → Record → DeckInfo → Effect
 decks kind r deck = if is_deck kind && not (is_no_media r.deck) then turned r deck else does r []
 
--- an amplifier with audio on tells its volume
+-- an amplifier with system audio mode on reports its volume (CEC 13.15)
 abbrev pub told : Kind → Record → Effect
 told kind r = does r (if is_amp kind && r.audio then Reply (0x7a ∷ volume_status r ∷ []) ∷ [] else [])
 
--- a television or amplifier: its volume, told
+-- a television or amplifier: its volume, reported
 abbrev pub sounds : Kind → Record → Record → Effect
 sounds kind r after = if is_deck kind then does r [] else told kind after
 
--- a deck: its menu, told where it changed
+-- a deck: its menu, reported where it changed
 abbrev pub menus : Kind → Record → Bool → ℕ → Effect
 menus kind r is_change byte = if is_deck kind && is_change then does (record r { menu = not r.menu }) (Tell 0 (0x8e ∷ byte ∷ []) ∷ []) else does r []
 

@@ -14,20 +14,20 @@ use Rattle.cec_feature.specs.declared.keys.VolumeKey.TheVariants.{Up, Down, Mute
 use Rattle.cec_feature.specs.declared.say.Say.{Say}
 use Rattle.cec_feature.specs.declared.say.Say.TheVariants.{Tell, Cast}
 use Rattle.cec_opcode.specs.declared.deck_words.DeckInfo.TheVariants.{Play as Playing, NoMedia, Stop as Stopped}
-use Rattle.cec_feature.specs.Kinds.{is_tv, is_amp, is_deck, is_switch}
+use Rattle.cec_feature.specs.Kinds.{is_tv, is_amp, is_deck, is_switch, is_outside}
 use Rattle.cec_feature.specs.Effect.{Effect, does}
 use Rattle.cec_feature.specs.Effects.{notice, standby, turned, is_active, is_no_media, volume_status}
 use Rattle.cec_feature.specs.Volume.{louder}
 use Rattle.cec_feature.specs.Ways.{below}
 
--- The kinds that have a key. A switch has those of its ports.
+-- The kinds that have a key. A switch has those of its ports, a device from outside has none.
 abbrev pub has_key : Kind → ℕ → Key → Bool
 has_key kind ports Play = is_deck kind
 has_key kind ports Stop = is_deck kind
 has_key kind ports Eject = is_deck kind
 has_key kind ports Load = is_deck kind
 has_key kind ports Menu = is_deck kind
-has_key kind ports Power = true
+has_key kind ports Power = not (is_outside kind)
 has_key kind ports (Watch to) = is_tv kind
 has_key kind ports (Port port) = is_switch kind && (nat_le 1 port && nat_le port ports)
 has_key kind ports (Audio on) = is_tv kind
@@ -48,7 +48,7 @@ voiced Up r = record r { volume = louder r.volume }
 voiced Down r = record r { volume = r.volume - 1 }
 voiced Mute r = record r { mute = not r.mute }
 
--- an amplifier with audio on tells the television its volume
+-- an amplifier with system audio mode on reports its volume to the television (CEC 13.15)
 abbrev pub volume_told : Kind → Record → Effect
 volume_told kind r = does r (if is_amp kind && r.audio then Tell 0 (0x7a ∷ volume_status r ∷ []) ∷ [] else [])
 
@@ -57,7 +57,7 @@ abbrev pub path_bytes : Option Phys → List ℕ
 path_bytes None = 0 ∷ 0 ∷ []
 path_bytes (Some path) = path.high ∷ path.low ∷ []
 
--- System Audio Mode Request, for the path or without one
+-- System Audio Control (CEC 13.15): System Audio Mode Request, for the path or without one
 abbrev pub audio_said : Bool → Option Phys → Say
 audio_said on path = Tell 5 (0x70 ∷ (if on then path_bytes path else []))
 
@@ -65,20 +65,21 @@ audio_said on path = Tell 5 (0x70 ∷ (if on then path_bytes path else []))
 abbrev pub arc_said : Kind → Bool → Say
 arc_said kind on = if is_tv kind then Tell 5 ((if on then 0xc3 else 0xc4) ∷ []) else Tell 0 ((if on then 0xc0 else 0xc5) ∷ [])
 
--- another port is selected, and that is told with both addresses
+-- Routing Control (CEC 13.2): another port is selected, and Routing Change says so with both addresses
 abbrev pub ported : Phys → ℕ → Record → Option ℕ → Effect
 ported own port r None = does (record r { selected = Some port }) []
 ported own port r (Some old) = does (record r { selected = Some port }) (if old == port then [] else
     Cast (0x80 ∷ (below own old).high ∷ (below own old).low ∷ (below own port).high ∷ (below own port).low ∷ []) ∷ [])
 
--- to standby: a television sends all others there, and the active source tells the television
+-- to standby: a television sends all others there (CEC 13.3), and the active source says so to the television, by Inactive
+-- Source
 abbrev pub goes_off : Kind → Phys → Record → Effect
 goes_off kind own r =
     if is_tv kind then does (standby r) (Cast (0x36 ∷ []) ∷ []) else (
     if is_deck kind && is_active r.active own then does (standby (record r { active = None })) (Tell 0 (0x9d ∷ own.high ∷ own.low ∷ []) ∷ [])
     else does (standby r) [])
 
--- the active source, as it tells the television and all
+-- One Touch Play (CEC 13.1): a new active source, as it says to the television, by Image View On, and to all
 abbrev pub taking_over : Phys → Record → Effect
 taking_over own r = does
     (record r { power = true; active = Some own; path = Some own }) (Tell 0 (0x04 ∷ []) ∷ Cast (0x82 ∷ own.high ∷ own.low ∷ []) ∷ [])

@@ -2,7 +2,7 @@
 use Rattle.std.specs.Prelude.{ℕ, ◌==◌, Bool, true, false, ◌&&◌, List, [], ◌∷◌, if◌then◌else◌}
 use Rattle.std.specs.List.{list_any}
 use Rattle.hdmi_core.specs.declared.kind.Kind.{Kind}
-use Rattle.hdmi_core.specs.declared.kind.Kind.TheVariants.{Tv, Amp, Player, Recorder, Switch, Combo}
+use Rattle.hdmi_core.specs.declared.kind.Kind.TheVariants.{Tv, Amp, Player, Recorder, Switch, Combo, Outside}
 use Rattle.hdmi_core.specs.declared.phys.Phys.{Phys}
 
 abbrev pub is_tv : Kind → Bool
@@ -23,6 +23,11 @@ abbrev pub is_switch : Kind → Bool
 is_switch Switch = true
 is_switch _ = false
 
+-- a device from outside, whose behaviour is its driver's (own)
+abbrev pub is_outside : Kind → Bool
+is_outside Outside = true
+is_outside _ = false
+
 -- this address is one of a list
 abbrev pub is_in : List ℕ → ℕ → Bool
 is_in list a = list_any (λ b. b == a) list
@@ -34,8 +39,8 @@ recorders = 1 ∷ 2 ∷ 9 ∷ []
 abbrev pub players : List ℕ
 players = 4 ∷ 8 ∷ 11 ∷ []
 
--- The addresses that a kind's first unit may take, in order (CEC 10.2; 14 for a television, and none for a switch, are
--- own).
+-- The addresses that a kind's first unit may take, in order (CEC 10.2; 14 for a television, and none for a switch and for
+-- a device from outside, are own).
 abbrev pub addresses : Kind → List ℕ
 addresses Tv = 0 ∷ 14 ∷ []
 addresses Recorder = recorders
@@ -43,6 +48,7 @@ addresses Player = players
 addresses Amp = 5 ∷ []
 addresses Switch = []
 addresses Combo = recorders
+addresses Outside = []
 
 -- those that its second unit may take: a box has a player beside its recorder, any other kind has one unit
 abbrev pub second_addresses : Kind → List ℕ
@@ -52,9 +58,10 @@ second_addresses Player = []
 second_addresses Amp = []
 second_addresses Switch = []
 second_addresses Combo = players
+second_addresses Outside = []
 
 -- The device type that Report Physical Address carries (CEC 17, Device Type), by the address that it comes from: the
--- units of a box differ in it.
+-- units of a box differ in it. A device from outside carries none by itself.
 abbrev pub type_of : Kind → ℕ → ℕ
 type_of Tv from = 0
 type_of Recorder from = 1
@@ -62,6 +69,7 @@ type_of Player from = 4
 type_of Amp from = 5
 type_of Switch from = 6
 type_of Combo from = if is_in recorders from then 1 else 4
+type_of Outside from = 6
 
 abbrev pub same_phys : Phys → Phys → Bool
 same_phys p q = (p.high == q.high) && (p.low == q.low)

@@ -1,4 +1,4 @@
-//! What a deck and its menu do (CEC 13.7 and 13.12).
+//! Deck Control (CEC 13.7) and Device Menu Control (CEC 13.12): what a deck and its menu do.
 ghost use Rattle.std.specs.Prelude.{◌≡◌, not};
 ghost use Rattle.cec_feature.specs.Effect.{does, at_most_one};
 ghost use Rattle.cec_feature.specs.Effects.{controlled, deck_asked, is_no_media, menu_asked, menu_told, mode_deck, notice, plays, turned, wound};
@@ -35,7 +35,7 @@ impl Record {
         matches!(self.deck, DeckInfo::NoMedia)
     }
 
-    /// Deck Status for who wants to be told of the deck, where this is another state.
+    /// Deck Status for who asked for it at each change, where this is another state.
     pub(crate) fn notice(&self, deck: DeckInfo) -> Option<Say>
         ensures { at_most_one result ≡ notice self.now deck }
     {

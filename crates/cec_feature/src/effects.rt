@@ -241,7 +241,7 @@ impl Record {
         }
     }
 
-    // The way was changed; a switch that it leads to says where it leads on (CEC 13.2).
+    // Routing Control (CEC 13.2): the way was changed; a switch that it leads to says where it leads on.
     fn route(&mut self, me: Identity, to: Phys) -> Says
         ensures { does self.new result.items ≡ routed me.kind me.phys to self.old }
     {
@@ -300,7 +300,7 @@ impl Record {
         }
     }
 
-    // A television leaves the sound to the amplifier, or takes it back (CEC 13.15).
+    // System Audio Control (CEC 13.15): a television leaves the sound to the amplifier, or takes it back.
     fn set_audio(&mut self, audio: SystemAudio) -> Says
         ensures { does self.new result.items ≡ audio_set self.old audio }
     {
@@ -317,7 +317,7 @@ impl Record {
         }
     }
 
-    // A key of another device's remote.
+    // Remote Control Pass Through (CEC 13.13): a key of another device's remote.
     fn press(&mut self, kind: Kind, code: UserControl) -> Says
         ensures { does self.new result.items ≡ pressed kind code self.old }
     {

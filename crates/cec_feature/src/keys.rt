@@ -41,7 +41,7 @@ pub enum Key {
     Arc { on: bool },
     Volume(VolumeKey),
     Language(Triple),
-    /// A user control code, sent to another device.
+    /// A user control code, sent to another device: Remote Control Pass Through (CEC 13.13).
     Remote { to: Addr, code: UserControl },
 }
 
@@ -74,7 +74,7 @@ pub fn has_key(kind: Kind, ports: Port, key: &Key) -> bool
     let count = ports.value();
     match key {
         Key::Play | Key::Stop | Key::Eject | Key::Load | Key::Menu => is_deck(kind),
-        Key::Power => true,
+        Key::Power => kind != Kind::Outside,
         Key::Port(port) => kind == Kind::Switch && *port >= 1 && *port <= count,
         Key::Arc { .. } | Key::Volume(_) => matches!(kind, Kind::Tv | Kind::Amp),
         Key::Watch(_) | Key::Audio { .. } | Key::Language(_) | Key::Remote { .. } => {
@@ -99,7 +99,7 @@ fn to_amplifier(message: &Message) -> Says
 }
 
 impl Record {
-    // It is the active source, and says so to the television and to all.
+    // One Touch Play (CEC 13.1): it is the active source, and says so to the television and to all.
     fn take_over(&mut self, own: Phys) -> Says
         ensures effect { does self.new result.items ≡ taking_over own self.old }
         ensures len { array_vec_len result ≡ 2 }
@@ -154,7 +154,7 @@ impl Record {
         }
     }
 
-    // A switch says to all which way it now leads (CEC 13.2).
+    // Routing Control (CEC 13.2): a switch says to all which way it now leads.
     fn press_port(&mut self, own: Phys, port: Port) -> Says
         ensures { does self.new result.items ≡ ported own port self.old self.old.selected }
     {
@@ -265,7 +265,7 @@ fn press_arc(kind: Kind, on: bool) -> Says
     }
 }
 
-// A television asks the amplifier for system audio mode, for the path if there is one (CEC 13.15).
+// System Audio Control (CEC 13.15): a television asks the amplifier for system audio mode, for the path if there is one.
 fn press_audio(on: bool, path: Option<Phys>) -> Says
     ensures { result.items ≡ audio_said on path ∷ [] }
 {

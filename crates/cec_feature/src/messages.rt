@@ -43,7 +43,7 @@ pub fn report_of(kind: Kind, phys: Phys, from: Addr) -> Message
             Kind::Recorder => DeviceType::Recorder,
             Kind::Player => DeviceType::Playback,
             Kind::Amp => DeviceType::Audio,
-            Kind::Switch => DeviceType::Switch,
+            Kind::Switch | Kind::Outside => DeviceType::Switch,
             Kind::Combo if is_recorders(from.value()) => DeviceType::Recorder,
             Kind::Combo => DeviceType::Playback,
         },

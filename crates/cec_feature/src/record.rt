@@ -137,7 +137,7 @@ pub struct Record {
     /// The user control code that is held down.
     pub held: Option<u8>,
     pub heard: Option<Note>,
-    /// Who wants to be told of changes of the deck.
+    /// Who asked for the status of the deck at each change.
     pub sub: Option<Addr>,
 }
 

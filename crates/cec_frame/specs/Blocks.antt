@@ -1,4 +1,5 @@
--- The frame that a whole reading tells: the first eight bits of each block of ten slots (CEC 6).
+-- The frame of a complete reading: the first eight bits of each block of ten slots, the header block's and the data
+-- blocks' (CEC 6).
 use Rattle.std.specs.Prelude.{◌≡◌, ℕ, ◌+◌, ◌%◌, ◌==◌, ◌<◌, Bool, false, if◌then◌else◌, List, [], ◌∷◌, length, slice_index_or, Option, Some, None, All}
 use Rattle.cec_frame.specs.declared.Ending.{Ending}
 use Rattle.cec_frame.specs.declared.Ending.TheVariants.{Complete}

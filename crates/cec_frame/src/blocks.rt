@@ -1,4 +1,4 @@
-//! The frame that a reading tells.
+//! The frame of a reading.
 ghost use Rattle.std.specs.Prelude.{◌≡◌, ◌+◌, ◌*◌, ◌≤◌, ◌++◌, length};
 ghost use Rattle.cec_frame.specs.Blocks.{weighed, byte_of, bytes_of, frame_in};
 

@@ -2,7 +2,8 @@
 ghost use Rattle.cec_frame.specs.Arbitration.{AcksDecideNothing, SameWinners};
 ghost use Rattle.cec_frame.specs.Blocks.{FramesAreRead, OwnBitsAreRead};
 
-/// Acknowledge slots decide nothing: with them left out, frames come in the same order, and the same ones win.
+/// Arbitration (CEC 9) goes by all slots but the acknowledge slots: these decide nothing. With them left out, frames come
+/// in the same order, and the same ones win.
 pub fn acknowledge_slots_decide_nothing()
     ensures order { AcksDecideNothing }
     ensures winners { SameWinners }

@@ -16,7 +16,7 @@ use Rattle.cec_wire.specs.declared.Outcome.{Outcome}
 use Rattle.cec_wire.specs.Round.{IsRound, is_within, pulse_pulls, pulled, close_in}
 use Rattle.cec_wire.proofs.Alone.{rounds_are_lone}
 use Rattle.cec_event.specs.declared.event.Event.{Event}
-use Rattle.cec_event.specs.declared.event.Event.TheVariants.{Plug, Unplug, Key, Send}
+use Rattle.cec_event.specs.declared.event.Event.TheVariants.{Plug, Unplug, Key, Send, Outside}
 use Rattle.cec_event.specs.declared.event.EventError.{EventError}
 use Rattle.cec_event.specs.Events.{IsFramedEvent}
 use Rattle.cec_net.specs.Start.{sooner, least_start, first_onset}
@@ -215,6 +215,7 @@ fault_same later s (Plug child parent port) = refl
 fault_same later s (Unplug child) = refl
 fault_same later s (Key device key press) = refl
 fault_same later s (Send device frame) = refl
+fault_same later s (Outside device act) = refl
 
 unless_same : (later : List Stretch) (fault : Option EventError) (at : ℕ) (event : Event) (s : NetState)
     → applied_unless fault at event (with_pulses later s) ≡ with_pulses later (applied_unless fault at event s)
@@ -223,6 +224,7 @@ unless_same later None at (Plug child parent port) s = refl
 unless_same later None at (Unplug child) s = refl
 unless_same later None at (Key device key press) s = refl
 unless_same later None at (Send device frame) s = refl
+unless_same later None at (Outside device act) s = refl
 
 applied_same : (later : List Stretch) (at : ℕ) (event : Event) (s : NetState) → applied at event (with_pulses later s) ≡ with_pulses later (applied at event s)
 applied_same later at event s = ap (λ f. applied_unless f at event (with_pulses later s)) (fault_same later s event) ∙ unless_same later (event_fault s event) at event s

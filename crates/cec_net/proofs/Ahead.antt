@@ -23,6 +23,9 @@ use Rattle.cec_feature.specs.Effect.{Effect}
 use Rattle.cec_device.specs.Effects.{by_decoded, followed, is_for}
 use Rattle.cec_feature.specs.Effects.{effect_of, refuses, heard_of}
 use Rattle.cec_device.specs.Keys.{own_doing, key_fault, keyed_by, keyed}
+use Rattle.cec_device.specs.declared.outside.Act.{Act}
+use Rattle.cec_device.specs.declared.outside.Act.TheVariants.{Hold, Empty}
+use Rattle.cec_device.specs.Outside.{act_fault, acted, acted_by}
 use Rattle.cec_feature.specs.Keys.{pressing, releasing}
 use Rattle.cec_device.specs.Place.{stepped, polled_at, class_of_poll, ended, failed, front_is_poll, frame_sent, sent_by, sent, waited, submit_fault, submitted_by, submitted, front_by, front_of, ready_by, ready_of}
 use Rattle.cec_net.specs.Step.{followed_unless}
@@ -176,6 +179,14 @@ ready-submitted_by b at frame d (Some fault) le h = h
 
 pub ready-submitted : (b limit at : ℕ) (frame : List ℕ) (d : State) → at ≤ b → IsReadyBy b d → IsReadyBy b (submitted limit d frame at)
 ready-submitted b limit at frame d le h = ready-submitted_by b at frame d (submit_fault limit d frame) le h
+
+pub ready-acted : (b : ℕ) (d : State) (act : Act) → IsReadyBy b d → IsReadyBy b (acted d act)
+ready-acted b d act h = by (act_fault d) act
+  where
+    by : (fault : Option KeyError) (act : Act) → IsReadyBy b (acted_by d fault act)
+    by (Some fault) act = h
+    by None (Hold first second) = record { poll = h.poll; queue = h.queue }
+    by None Empty = record { poll = h.poll; queue = All-nil (λ (q : Queued). q.ready ≤ b) }
 
 -- a device that sent has its frame still when it is told what became of it
 pub front-followed_unless : (sends : Bool) (frame : Option (List ℕ)) (at : ℕ) (d : State) → IsSome (front_of d) → IsSome (front_of (followed_unless sends frame at d))

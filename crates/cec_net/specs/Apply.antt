@@ -4,8 +4,9 @@ use Rattle.hdmi_topo.specs.Tree.{plug_fault, plugged, unplug_fault, unplugged}
 use Rattle.cec_device.specs.State.{State}
 use Rattle.cec_device.specs.Place.{submit_fault, submitted}
 use Rattle.cec_device.specs.Keys.{key_fault, keyed}
+use Rattle.cec_device.specs.Outside.{act_fault, acted}
 use Rattle.cec_event.specs.declared.event.Event.{Event}
-use Rattle.cec_event.specs.declared.event.Event.TheVariants.{Plug, Unplug, Key, Send}
+use Rattle.cec_event.specs.declared.event.Event.TheVariants.{Plug, Unplug, Key, Send, Outside}
 use Rattle.cec_event.specs.declared.event.EventError.{EventError}
 use Rattle.cec_event.specs.declared.event.EventError.TheVariants as refused
 use Rattle.cec_net.specs.State.{NetState, rewired}
@@ -16,6 +17,7 @@ event_fault s (Plug child parent port) = option_map refused.Plug (plug_fault s.t
 event_fault s (Unplug child) = option_map refused.Unplug (unplug_fault s.tree child)
 event_fault s (Key device key press) = option_map refused.Key (option_and_then (λ d. key_fault d key) (slice_get s.devices device))
 event_fault s (Send device frame) = option_map refused.Send (option_and_then (λ d. submit_fault 16 d frame) (slice_get s.devices device))
+event_fault s (Outside device act) = option_map refused.Key (option_and_then (λ d. act_fault d) (slice_get s.devices device))
 
 -- the device of this number changed
 abbrev pub changed_at : ℕ → (State → State) → List State → List State
@@ -29,6 +31,7 @@ accepted at (Plug child parent port) s = rewired at (plugged s.tree child parent
 accepted at (Unplug child) s = rewired at (unplugged s.tree child) s
 accepted at (Key device key press) s = record s { devices = changed_at device (λ d. keyed 16 d key press at) s.devices }
 accepted at (Send device frame) s = record s { devices = changed_at device (λ d. submitted 16 d frame at) s.devices }
+accepted at (Outside device act) s = record s { devices = changed_at device (λ d. acted d act) s.devices }
 
 -- A round that was begun is given up by an event; one that is refused changes nothing.
 abbrev pub applied_unless : Option EventError → ℕ → Event → NetState → NetState

@@ -9,7 +9,7 @@ use Rattle.cec_device.specs.Place.{is_on_wire, fresh, joined, left}
 use Rattle.cec_net.specs.Start.{sooner, least_start, first_onset}
 
 -- the tree, its devices by number, the pulses that no round has taken, the end of the last round and that
--- of its last low stretch; and where a round was begun to be taken edge by edge, the instant before which its line was told
+-- of its last low stretch; and where a round was begun to be taken edge by edge, the instant before which its line is given
 pub record NetState : Type 0 where
   pub tree : List Node
   pub devices : List State
@@ -23,7 +23,8 @@ abbrev pub each_from : ℕ → (ℕ → State → State) → List State → List
 each_from n change [] = []
 each_from n change (d ∷ devices) = change n d ∷ each_from (n + 1) change devices
 
--- A device that the tree joins to its root comes on the wire, and one that it no longer joins leaves it.
+-- A device that the tree joins to its root comes on the wire, and one that it no longer joins leaves it, at once: hot plug
+-- detect (HDMI 1.4, 8.5) is not emulated (own).
 abbrev pub moved : ℕ → ℕ → Bool → Option Phys → State → State
 moved at number false (Some address) d = joined 16 d number address at
 moved at number false None d = d

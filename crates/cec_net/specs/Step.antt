@@ -1,4 +1,4 @@
--- What a round does.
+-- What a round does: who contends in it, so that arbitration picks among them (CEC 9), and what it leaves of each device.
 use Rattle.std.specs.Prelude.{◌≡◌, ℕ, ◌==◌, nat_lt, Bool, true, false, if◌then◌else◌, List, map, filter, Option, Some, None}
 use Rattle.std.specs.List.{list_any}
 use Rattle.cec_frame.specs.Blocks.{frame_in}
@@ -40,7 +40,7 @@ followed_unless false (Some frame) at d = followed 16 d frame at
 abbrev pub followed_in : Outcome → ℕ → State → State
 followed_in o number d = followed_unless (is_among o.survivors.items number) (frame_in o.reading) (close_in o) d
 
--- Who contended is told what became of its frame; where others did, who did not has waited.
+-- Who contended learns what became of its frame; where others did, who did not has waited.
 abbrev pub told : Bool → Bool → Fate → ℕ → State → State
 told true others fate at d = sent 16 d fate at
 told false true fate at d = waited d
@@ -75,7 +75,7 @@ pub record IsNextRound (before : NetState) (begin : ℕ) (o : Outcome) (after : 
   pub round : IsRound (seats_of before begin) begin before.pulses o
   pub after_is : after ≡ after_round before begin o
 
--- Whichever way the next round is found, it tells the same, and leads to the same state.
+-- Whichever way the next round is found, it is the same, and leads to the same state.
 abbrev pub OneStep : Type 0
 OneStep = (before : NetState) (begin : ℕ) (o p : Outcome) (after other : NetState) → IsWave o.wave → IsWave p.wave
     → IsNextRound before begin o after → IsNextRound before begin p other → SameOutcome o p × (after ≡ other)

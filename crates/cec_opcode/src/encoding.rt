@@ -254,7 +254,7 @@ pub fn rule(code: u8) -> Rule
     }
 }
 
-/// One list behind another.
+/// One list after another.
 fn joined(front: &[u8], back: &[u8]) -> ArrayVec<u8, 24>
     requires { length front.now + length back.now ≤ 24 }
     ensures { result.items ≡ front.now ++ back.now }

@@ -1,5 +1,6 @@
--- Attempts at a frame (CEC 7.1: a frame that was not acknowledged is sent again, five times at most). An attempt is a
--- reading with a header; those of one header in a row that were not delivered are attempts at one frame (own).
+-- Retransmission: attempts at a frame (CEC 7.1: a frame that was not acknowledged is sent again, five times at most). An
+-- attempt is a reading with a header; those of one header in a row that were not delivered are attempts at one frame
+-- (own).
 use Rattle.std.specs.Prelude.{ℕ, ◌==◌, Bool, nat_lt, ◌&&◌, ◌||◌, if◌then◌else◌, List, length, Option, Some, None}
 use Rattle.cec_frame.specs.declared.Ending.{Ending}
 use Rattle.cec_timing.specs.Spreads.{sum_of}
@@ -14,7 +15,7 @@ no_attempts = record { initiator = 0; destination = 0; failed = 0 }
 abbrev pub attempt_of : Attempts → List Bool → ℕ
 attempt_of a bits = if (a.initiator == initiator_of bits) && (a.destination == destination_of bits) then sum_of a.failed 1 else 1
 
--- a reading without a whole header tells nothing of attempts; a frame that is delivered is over, and so is the look for
+-- a reading without a whole header says nothing of attempts; a frame that is delivered is over, and so is the look for
 -- an address
 abbrev pub after_attempt : Attempts → Ending → List Bool → Attempts
 after_attempt a ending bits =

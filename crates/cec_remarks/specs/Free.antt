@@ -9,7 +9,7 @@ use Rattle.cec_remarks.specs.declared.free.Before.TheVariants.{Nothing, Somebody
 use Rattle.cec_remarks.specs.declared.free.TooSoon.{TooSoon}
 use Rattle.cec_remarks.specs.Header.{initiator_of, is_delivered, seeks_address}
 
--- The initiator tells who sends, but for a device that has no address, or looks for one.
+-- The initiator says who sends, but for a device that has no address, or looks for one.
 abbrev pub is_known : List Bool → Bool
 is_known bits = nat_le 8 (length bits) && (not (seeks_address bits) && not (initiator_of bits == 15))
 

@@ -1,5 +1,5 @@
--- The header of a frame, by the bits of its reading: initiator and destination (CEC 6.1.1), and which of its blocks were
--- taken (CEC 6.1.2). Bits that were not read count as 0.
+-- The header block of a frame, by the bits of its reading: initiator and destination (CEC 6.1.1), and which of its blocks
+-- were taken (CEC 6.1.2). Bits that were not read count as 0.
 use Rattle.std.specs.Prelude.{ℕ, ◌+◌, ◌*◌, ◌/◌, ◌==◌, Bool, false, not, ◌&&◌, List, length, slice_index_or, Option, is_none}
 use mathlib.Core.Bool.{beq}
 use Rattle.cec_frame.specs.Blocks.{weighed}

@@ -1,4 +1,4 @@
-//! Attempts at a frame.
+//! Retransmission: attempts at a frame (CEC 7.1).
 ghost use Rattle.std.specs.Prelude.{◌≡◌, ◌≤◌, length};
 ghost use Rattle.cec_remarks.specs.Attempts.{after_attempt, attempt_of, failure_of, no_attempts};
 

@@ -1,4 +1,4 @@
-//! The signal free time before a frame.
+//! The signal free time before a frame (CEC 9.1).
 ghost use Rattle.std.specs.Prelude.{◌≡◌, ◌≤◌, length};
 ghost use Rattle.cec_remarks.specs.Free.{before_of, due_after, free_due, is_bad_start, is_known, too_soon};
 

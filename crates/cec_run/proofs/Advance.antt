@@ -6,7 +6,7 @@ use Rattle.cec_wire.specs.Round.{close_in}
 use Rattle.cec_asm.specs.declared.script.TimedEvent.{TimedEvent}
 use Rattle.cec_asm.specs.Script.{IsSchedule}
 use Rattle.cec_event.specs.declared.event.Event.{Event}
-use Rattle.cec_event.specs.declared.event.Event.TheVariants.{Plug, Unplug, Key, Send}
+use Rattle.cec_event.specs.declared.event.Event.TheVariants.{Plug, Unplug, Key, Send, Outside}
 use Rattle.cec_event.specs.declared.event.EventError.{EventError}
 use Rattle.cec_net.specs.State.{NetState, next_start}
 use Rattle.cec_net.specs.Apply.{applied, applied_unless, event_fault}
@@ -30,6 +30,7 @@ kept_unless None at (Plug child parent port) s = record { pulses = refl; close =
 kept_unless None at (Unplug child) s = record { pulses = refl; close = refl; rest = refl; count = length-with_plug s.tree child _ }
 kept_unless None at (Key device key press) s = record { pulses = refl; close = refl; rest = refl; count = refl }
 kept_unless None at (Send device frame) s = record { pulses = refl; close = refl; rest = refl; count = refl }
+kept_unless None at (Outside device act) s = record { pulses = refl; close = refl; rest = refl; count = refl }
 
 pub event_keeps : (at : ℕ) (event : Event) (s t : NetState) → t ≡ applied at event s → Kept s t
 event_keeps at event s t e = subst (Kept s) (sym e) (kept_unless (event_fault s event) at event s)

@@ -14,6 +14,8 @@ use Rattle.cec_run.specs.declared.emulate.EmulateError.TheVariants.{Topology, Sc
 use Rattle.cec_run.specs.declared.run.Totals.{Totals}
 use Rattle.cec_words.specs.Cut.{told_count}
 use Rattle.cec_trace.specs.Root.{IsRoot, IsNoRoot}
+use Rattle.cec_trace.specs.declared.root.RootError.{RootError}
+use Rattle.cec_trace.specs.declared.root.RootError.TheVariants as roots
 use Rattle.cec_line.specs.declared.format.Format.{Format}
 use Rattle.cec_line.specs.declared.format.Format.TheVariants.{Edges}
 use Rattle.cec_run.specs.declared.run.Telling.TheVariants.{Line}
@@ -57,6 +59,10 @@ topology_told topologies.Memory = Memory
 abbrev pub script_told : ScriptError → EmulateError
 script_told (scripts.At line cause) = Script line cause
 script_told scripts.Memory = Memory
+
+abbrev pub root_told : RootError → EmulateError
+root_told (roots.Cause cause) = Edid cause
+root_told roots.Memory = Memory
 
 -- and one text of their line in each format
 abbrev pub TextsHaveOneLine : Type 0

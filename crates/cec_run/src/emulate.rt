@@ -1,15 +1,17 @@
 //! From the texts of a topology and a script to the trace of their run.
-ghost use Rattle.std.specs.Prelude.{◌≡◌, ℕ, List, ◌↔◌, true, false, IfOk, IfErr, IsTrue};
+ghost use Rattle.std.specs.Prelude.{◌≡◌, ℕ, List, ◌↔◌, true, false, IfOk, IfErr, IsTrue, option_map};
 ghost use Rattle.std.specs.Io.KnownBytes.{Appends};
+ghost use Rattle.cec_run.specs.declared.run.Telling.TheVariants.{Trace};
 ghost use Rattle.cec_run.specs.Emulate.{IsTraceOf, IsTold, IsCut, is_write};
 
 use crate::run::{Telling, Totals, run, started_net};
 use cec_asm::{
     ScriptCause, ScriptError, TopologyCause, TopologyError, parse_script, parse_topology,
 };
-use cec_trace::{EdidCause, root_of};
+use cec_trace::{EdidCause, RootError, root_on_heap};
+use hdmi_blocks::Edid;
 use hdmi_core::Sink;
-use std::alloc::Global;
+use std::alloc::{AllocError, Global};
 use thiserror::Error;
 
 /// Why there is no trace, or not all of it.
@@ -70,6 +72,32 @@ impl From<EdidCause> for EmulateError {
     }
 }
 
+impl From<RootError> for EmulateError {
+    ghost use Rattle.std.specs.Prelude.{◌≡◌};
+    ghost use Rattle.cec_run.specs.Emulate.{root_told};
+
+    ghost from_gives = { λ r e. e ≡ root_told r };
+
+    fn from(error: RootError) -> EmulateError {
+        match error {
+            RootError::Cause(cause) => EmulateError::Edid(cause),
+            RootError::Memory => EmulateError::Memory,
+        }
+    }
+}
+
+// That a trace is written with this EDID, on the heap: it is large.
+#[inline(never)]
+fn trace_with(alloc: Global, edid: Option<Box<Edid>>) -> Result<Box<Telling>, AllocError>
+    ensures { IfOk result (λ telling. telling.value ≡ Trace (option_map (λ b. b.value) edid)) }
+{
+    let telling = match edid {
+        None => Box::new(alloc, Telling::Trace(None))?,
+        Some(edid) => Box::new(alloc, Telling::Trace(Some(Box::into_inner(edid))))?,
+    };
+    Ok(telling)
+}
+
 /// Runs a script on a topology, and writes the trace of the run: the bytes of that trace and nothing else.
 ///
 /// # Errors
@@ -92,17 +120,14 @@ pub fn emulate<S: Sink>(
 {
     let topology = parse_topology(alloc, topology)?;
     let script = parse_script(alloc, &topology, script)?;
-    let edid = root_of(&topology.edid)?;
+    let edid = root_on_heap(alloc, &topology.edid)?;
+    let Ok(telling) = trace_with(alloc, edid) else {
+        return Err(EmulateError::Memory);
+    };
     let Ok(mut net) = started_net(alloc, topology.tree, &script) else {
         return Err(EmulateError::Memory);
     };
-    match run(
-        out,
-        &mut net,
-        &Telling::Trace(edid),
-        &script.events,
-        script.end,
-    ) {
+    match run(out, &mut net, &telling, &script.events, script.end) {
         Ok(totals) => Ok(totals),
         Err(fault) => Err(EmulateError::Write(fault.count)),
     }

@@ -366,8 +366,6 @@ fn run_turns<S: Sink, W: Wire>(
 /// # Errors
 ///
 /// Want of memory.
-// What is made on the way is kept out of the caller's frame, on which the run stands.
-#[inline(never)]
 pub fn started_net(
     alloc: Global,
     tree: Tree<15>,
@@ -377,8 +375,7 @@ pub fn started_net(
     requires early { All (λ p. p.from ≤ 2000000000000) script.now.pulses.items }
     ensures { IfOk result (λ net. net.value ≡ started tree script.now.pulses.items) }
 {
-    let net = Box::new(alloc, Net::new(tree, EdgeWire::new(), script.to_pulses()))?;
-    Ok(net)
+    Net::on_heap(alloc, tree, &script.pulses)
 }
 
 /// Runs a network to `end`, at most 1,000,000,000,000 microseconds, and writes its trace, or its line in a

@@ -5,6 +5,8 @@ use Rattle.hdmi_blocks.specs.Bytes.{edid_bytes, IsRefused}
 use Rattle.hdmi_blocks.specs.declared.edid.Edid.{Edid as EdidValue}
 use Rattle.cec_trace.specs.declared.root.EdidCause.{EdidCause}
 use Rattle.cec_trace.specs.declared.root.EdidCause.TheVariants.{Edid, NoHdmiBlock}
+use Rattle.cec_trace.specs.declared.root.RootError.{RootError}
+use Rattle.cec_trace.specs.declared.root.RootError.TheVariants.{Cause, Memory}
 
 -- an EDID that is given tells an address: it has an HDMI block
 abbrev pub HasAddress : Option EdidValue → Type 0
@@ -21,3 +23,8 @@ IsRoot (Some bytes) (Some root) = (edid_bytes root ≡ bytes) × IsSome (edid_ad
 abbrev pub IsNoRoot : List ℕ → EdidCause → Type 0
 IsNoRoot bytes (Edid error) = IsRefused bytes error
 IsNoRoot bytes NoHdmiBlock = (root : EdidValue) × (edid_bytes root ≡ bytes) × (edid_address root ≡ None)
+
+-- the same where memory may run out, of which nothing is said
+abbrev pub IsNoRootOf : List ℕ → RootError → Type 0
+IsNoRootOf bytes (Cause cause) = IsNoRoot bytes cause
+IsNoRootOf bytes Memory = Unit {0}

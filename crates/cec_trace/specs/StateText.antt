@@ -3,7 +3,7 @@ use Rattle.std.specs.Prelude.{ℕ, ◌%◌, Bool, true, false, List, [], ◌∷�
 use Rattle.std.specs.Fmt.{decimal}
 use Rattle.std.specs.List.{concat, flat_map}
 use Rattle.hdmi_core.specs.declared.kind.Kind.{Kind}
-use Rattle.hdmi_core.specs.declared.kind.Kind.TheVariants.{Tv, Amp, Player, Recorder, Switch, Combo}
+use Rattle.hdmi_core.specs.declared.kind.Kind.TheVariants.{Tv, Amp, Player, Recorder, Switch, Combo, Outside}
 use Rattle.hdmi_core.specs.declared.phys.Phys.{Phys}
 use Rattle.hdmi_core.specs.Piece.{nibble_text, hex_text, hex_or_dash, phys_text, dash_or, switch_text}
 use Rattle.cec_opcode.specs.declared.message.Triple.{Triple}
@@ -11,6 +11,7 @@ use Rattle.cec_opcode.specs.DeckWords.{deck_info_byte}
 use Rattle.cec_feature.specs.declared.record.Note.{Note}
 use Rattle.cec_device.specs.State.{State, held}
 use Rattle.cec_device.specs.Place.{is_on_wire}
+use Rattle.cec_feature.specs.Kinds.{is_outside}
 use Rattle.std.specs.Prelude.{length}
 
 abbrev pub kind_text : Kind → List ℕ
@@ -20,6 +21,7 @@ kind_text Player = codes "player"
 kind_text Recorder = codes "recorder"
 kind_text Switch = codes "switch"
 kind_text Combo = codes "combo"
+kind_text Outside = codes "outside"
 
 -- A unit's logical address: none off the wire and while it has not settled, and `f` where it settled without one.
 abbrev pub unit_text : Option ℕ → List ℕ
@@ -58,5 +60,24 @@ state_line_of d address language heard = concat (
     ∷ codes " heard=" ∷ heard ∷ codes " sub=" ∷ dash_or (λ n. nibble_text (n % 16)) d.record_of.sub
     ∷ codes " queue=" ∷ decimal (length d.queue) ∷ codes " dropped=" ∷ decimal d.dropped ∷ codes "\n" ∷ [])
 
+-- those that a device from outside holds
+abbrev pub held_text : List (Option ℕ) → List ℕ
+held_text (first ∷ Some second ∷ _) = unit_text first ++ codes "+" ++ unit_text (Some second)
+held_text (first ∷ _) = unit_text first
+held_text [] = []
+
+-- the line of a device from outside, with a text in the place of its record, up to the length of its queue
+abbrev pub outside_line_of : State → List ℕ → List ℕ → List ℕ
+outside_line_of d address unknown = concat (
+    codes "state " ∷ d.name ∷ codes " " ∷ kind_text d.kind ∷ codes " " ∷ address ∷ codes " " ∷ dash_or phys_text (phys_on (is_on_wire d) d.phys)
+    ∷ unknown ∷ decimal (length d.queue) ∷ codes " dropped=" ∷ decimal d.dropped ∷ codes "\n" ∷ [])
+
+-- nobody but its driver knows more of it
+abbrev pub outside_line : State → List ℕ → List ℕ
+outside_line d address =
+    outside_line_of d address (codes " - active=- path=- deck=- menu=- audio=- volume=- mute=- arc=- sel=- lang=- osd=- held=- heard=- sub=- queue=")
+
 abbrev pub state_line : State → List ℕ
-state_line d = state_line_of d (address_text d.kind (held d.place)) (language_bytes d.record_of.language) (dash_or note_text d.record_of.heard)
+state_line d =
+    if is_outside d.kind then outside_line d (held_text (held d.place))
+    else state_line_of d (address_text d.kind (held d.place)) (language_bytes d.record_of.language) (dash_or note_text d.record_of.heard)

@@ -11,7 +11,7 @@ mod trace_text;
 
 pub use edge_text::write_edges;
 pub use port_text::{on_wire, write_ports};
-pub use root::{EdidCause, root_of};
+pub use root::{EdidCause, RootError, root_of, root_on_heap};
 pub use round_text::write_round;
 pub use state_text::write_state;
 pub use trace_text::{write_end, write_event};

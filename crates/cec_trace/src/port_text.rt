@@ -10,7 +10,7 @@ ghost use Rattle.cec_trace.specs.PortText.{lines_of_new, lines_of_ports, name_in
 ghost use Rattle.cec_trace.specs.Root.{HasAddress};
 
 use cec_words::{counted, cut_at};
-use hdmi_blocks::{Edid, edid_to_bytes};
+use hdmi_blocks::Edid;
 use hdmi_core::{Piece, Sink, WriteFault, write_line};
 use hdmi_topo::Tree;
 
@@ -74,10 +74,9 @@ fn write_port<S: Sink>(
     requires addressed { IsSome (edid_address root.now) }
     ensures { WrittenLine (S.contents out.old) (S.contents out.new) (S.is_stuck out.old) (S.is_stuck out.new) (port_line at root.now tree.now device port) result }
 {
-    let Ok(edid) = tree.port_edid(root, device, port) else {
+    let Ok(bytes) = tree.write_port_edid(root, device, port) else {
         unreachable!();
     };
-    let bytes = edid_to_bytes(&edid);
     write_port_of(out, at, name_in(tree, device), port, &bytes)
 }
 

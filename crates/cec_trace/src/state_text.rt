@@ -3,12 +3,16 @@ ghost use Rattle.std.specs.Prelude.{◌≡◌, ℕ, ◌<◌, ◌≤◌, ◌∷�
 ghost use Rattle.std.specs.List.{flat_map};
 ghost use Rattle.hdmi_core.specs.Piece.{phys_text, dash_or};
 ghost use Rattle.hdmi_core.specs.Written.{WrittenLine};
-ghost use Rattle.cec_trace.specs.StateText.{address_text, kind_text, note_text, phys_on, power_text, state_line, state_line_of, unit_text};
+ghost use Rattle.cec_trace.specs.StateText.{address_text, held_text, kind_text, note_text, outside_line, outside_line_of, phys_on, power_text, state_line, state_line_of, unit_text};
 
 use arrayvec::ArrayVec;
 use cec_device::{Device, Note, Port};
 use cec_frame::Addr;
 use hdmi_core::{Kind, Phys, Piece, Sink, WriteFault, hex_digit, write_line};
+
+/// What a device from outside has in the place of its record, of which nobody but its driver knows more.
+const UNKNOWN_RECORD: &str =
+    " - active=- path=- deck=- menu=- audio=- volume=- mute=- arc=- sel=- lang=- osd=- held=- heard=- sub=- queue=";
 
 // The word for a kind of device.
 fn kind_word(kind: Kind) -> &'static str
@@ -21,6 +25,7 @@ fn kind_word(kind: Kind) -> &'static str
         Kind::Recorder => "recorder",
         Kind::Switch => "switch",
         Kind::Combo => "combo",
+        Kind::Outside => "outside",
     }
 }
 
@@ -57,6 +62,23 @@ fn address_bytes(kind: Kind, held: [Option<Addr>; 2]) -> ArrayVec<u8, 3>
         bytes.push(unit_digit(second));
     }
     bytes
+}
+
+// The logical addresses that a device from outside holds.
+fn held_bytes(held: [Option<Addr>; 2]) -> ArrayVec<u8, 3>
+    ensures { result.items ≡ held_text held }
+{
+    let [first, second] = held;
+    let mut bytes = ArrayVec::new();
+    bytes.push(unit_digit(first));
+    match second {
+        None => bytes,
+        Some(_) => {
+            bytes.push(b'+');
+            bytes.push(unit_digit(second));
+            bytes
+        }
+    }
 }
 
 fn number_of(address: Option<Addr>) -> Option<u8>
@@ -157,10 +179,41 @@ fn write_state_of<'a, S: Sink>(
     write_line(out, &pieces)
 }
 
+// Writes the state line of a device from outside, from the texts of its logical addresses and of what is unknown.
+fn write_outside<'a, S: Sink>(
+    out: &mut S,
+    device: &'a Device<16>,
+    address: &'a [u8],
+    unknown: &'a str,
+) -> Result<u128, WriteFault>
+    ensures { WrittenLine (S.contents out.old) (S.contents out.new) (S.is_stuck out.old) (S.is_stuck out.new) (outside_line_of device.now address.now unknown.now) result }
+{
+    let pieces = [
+        Piece::Text("state "),
+        Piece::Bytes(device.name()),
+        Piece::Text(" "),
+        Piece::Text(kind_word(device.kind())),
+        Piece::Text(" "),
+        Piece::Bytes(address),
+        Piece::Text(" "),
+        Piece::PhysOrDash(phys_on_wire(device.is_on_wire(), device.phys())),
+        Piece::Text(unknown),
+        Piece::Decimal(device.queue_len() as u64),
+        Piece::Text(" dropped="),
+        Piece::Decimal(device.dropped()),
+        Piece::Text("\n"),
+    ];
+    write_line(out, &pieces)
+}
+
 /// Writes the state line of a device.
 pub fn write_state<S: Sink>(out: &mut S, device: &Device<16>) -> Result<u128, WriteFault>
     ensures { WrittenLine (S.contents out.old) (S.contents out.new) (S.is_stuck out.old) (S.is_stuck out.new) (state_line device.now) result }
 {
+    if device.kind() == Kind::Outside {
+        let address = held_bytes(device.held());
+        return write_outside(out, device, &address, UNKNOWN_RECORD);
+    }
     let record = device.record();
     let language = [
         record.language.first,

@@ -56,7 +56,7 @@ abbrev pub samples : Place → ℕ → Bool → Bool
 samples (InSlot fall last) t falls = not falls && (t == fall + 1050)
 samples _ t falls = false
 
--- the bit that microsecond t tells
+-- the bit that is sampled at microsecond t
 abbrev pub bit_told : Place → ℕ → Bool → Bool → List Bool
 bit_told place t falls is_low = if samples place t falls then not is_low ∷ [] else []
 
@@ -67,11 +67,11 @@ abbrev pub sends_after : List Bool → Option (List ℕ) → Bool
 sends_after bits None = false
 sends_after bits (Some f) = is_none (out_by bits false (frame_bits f))
 
--- a seat acknowledges in the slot after these bits
+-- a seat acknowledges in the slot after these bits (acknowledge bit, CEC 6.1)
 abbrev pub acks_after : List Bool → Seat → Bool
 acks_after bits seat = seat.plugged && (is_held seat.holds (destination bits) && not (sends_after bits seat.sends))
 
--- a seat pulls after a fall too early, which came after these bits
+-- a seat answers a fall too early, which came after these bits, with a low drive (CEC 7.4)
 abbrev pub breaks_after : List Bool → Seat → Bool
 breaks_after bits seat = seat.plugged && not (sends_after bits seat.sends)
 

@@ -7,7 +7,7 @@ use Rattle.cec_wire.specs.declared.Seat.{Seat}
 use Rattle.cec_wire.specs.declared.Outcome.{Outcome}
 use Rattle.cec_wire.specs.Round.{IsRound}
 
--- two outcomes tell the same: the reading, who was still sending, who was out, the rest and the wave
+-- two outcomes say the same: the reading, who was still sending, who was out, the rest and the wave
 pub record SameOutcome (o p : Outcome) : Type 0 where
   pub begin : o.reading.begin ≡ p.reading.begin
   pub at : o.reading.at ≡ p.reading.at

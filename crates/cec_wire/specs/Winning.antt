@@ -1,4 +1,4 @@
--- What is read as a frame is a winner's frame.
+-- Arbitration (CEC 9): what is read as a frame is a winner's frame.
 use Rattle.std.specs.Prelude.{◌≡◌, ℕ, List, Some, All}
 use Rattle.std.specs.List.{Any}
 use Rattle.cec_wave.specs.declared.Stretch.{Stretch}

@@ -28,7 +28,7 @@ fn is_whole(ending: Ending) -> bool
     }
 }
 
-// The slot that tells a seat's sender to stop, if there is one.
+// The slot at which a seat's sender stops, if there is one.
 fn out_after(bits: &[bool], whole: bool, seat: &Seat) -> Option<usize>
     ensures { result ≡ out_after bits.now whole seat.now.sends }
 {
@@ -38,7 +38,7 @@ fn out_after(bits: &[bool], whole: bool, seat: &Seat) -> Option<usize>
     }
 }
 
-// A seat that is told to stop at `out`, if at all, is still sending after `count` bits.
+// A seat that stops at `out`, if at all, is still sending after `count` bits.
 fn survives(count: usize, seat: &Seat, out: Option<usize>) -> bool
     ensures { (bits : List Bool) (whole : Bool) → length bits ≡ count → out ≡ out_after bits whole seat.now.sends → result ≡ survives bits whole seat.now.sends }
 {
@@ -139,7 +139,7 @@ pub fn outcome_of(
 
 // ---- fates and close
 
-// The last acknowledge slot tells that the frame was taken: 0 for a direct frame, 1 for a broadcast.
+// The last acknowledge bit says that the frame was taken: 0 for a directly addressed frame, 1 for a broadcast (CEC 6.1).
 fn is_taken_up(bits: &[bool]) -> bool
     ensures { result ≡ is_taken_up bits.now }
 {
@@ -167,7 +167,7 @@ fn fate_at_end(ending: Ending, bits: &[bool]) -> Fate
     }
 }
 
-// The fate of a sender, by the slot at which it was out.
+// The fate of a sender, by the slot at which it was out: arbitration is decided in the first four (CEC 9).
 fn fate_by(ending: Ending, bits: &[bool], out: Option<usize>) -> Fate
     ensures { result ≡ fate_by ending bits.now out }
 {

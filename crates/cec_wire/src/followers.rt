@@ -1,4 +1,5 @@
-//! Who follows: who acknowledges a block, who pulls after a fall too early, and for how long.
+//! Followers: who acknowledges a block (the acknowledge bit, CEC 6.1), who answers a fall too early with a low drive (line
+//! error handling, CEC 7.4), and for how long.
 ghost use Rattle.std.specs.Prelude.{◌≡◌, ◌+◌, ◌%◌, ◌==◌, ◌<◌, ◌≤◌, ◌&&◌, not, length, if◌then◌else◌};
 ghost use Rattle.std.specs.List.{list_any};
 ghost use Rattle.cec_bits.specs.Sending.{destination};
@@ -52,7 +53,7 @@ fn is_acknowledged(bits: &[bool], seats: &[Seat]) -> bool
     false
 }
 
-// Some seat pulls after a fall too early.
+// Some seat answers a fall too early with a low drive (CEC 7.4).
 fn is_broken(bits: &[bool], seats: &[Seat]) -> bool
     ensures { result ≡ list_any (breaks_after bits.now) seats.now }
 {

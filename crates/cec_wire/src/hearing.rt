@@ -1,4 +1,4 @@
-//! What a round's line has told, heard microsecond by microsecond.
+//! What was heard of a round's line, microsecond by microsecond.
 ghost use Rattle.std.specs.Prelude.{◌≡◌, ◌+◌, ◌<◌, ◌≤◌, ◌++◌, ◌&&◌, not, true, length};
 ghost use Rattle.cec_bits.specs.Reading.{last_ending};
 

@@ -1,4 +1,4 @@
-//! Laws of rounds.
+//! Laws of rounds: one line, arbitration (CEC 9), the acknowledge bit (CEC 6.1), and how long a round lasts.
 ghost use Rattle.cec_wire.specs.Alone.{RoundsAreLone};
 ghost use Rattle.cec_wire.specs.Bounds.{RoundsAreShort};
 ghost use Rattle.cec_wire.specs.Contend.{AcknowledgedIsZero, AcknowledgersHold, CompleteIsWinners, HasLine, LaterPulses, LosersInside, RoundBelow, SameLine, WinnersLast, WinnersWindow};
@@ -51,17 +51,17 @@ pub fn round_below()
     ensures { RoundBelow }
 {}
 
-/// A complete reading has, acknowledge slots left out, the bits of a winner.
+/// Arbitration (CEC 9): a complete reading has, acknowledge slots left out, the bits of a winner.
 pub fn complete_is_winners()
     ensures { CompleteIsWinners }
 {}
 
-/// What is read of a complete round as its frame is the frame of a winner.
+/// Arbitration (CEC 9): what is read of a complete round as its frame is the frame of a winner.
 pub fn complete_is_read()
     ensures { CompleteIsRead }
 {}
 
-/// Where an acknowledger pulls, the slot is read 0.
+/// Where an acknowledger pulls, the acknowledge bit is read 0 (CEC 6.1).
 pub fn acknowledged_is_zero()
     ensures { AcknowledgedIsZero }
 {}
@@ -101,7 +101,7 @@ pub fn rounds_are_short()
     ensures { RoundsAreShort }
 {}
 
-// ---- what the outcome tells
+// ---- what the outcome says
 
 /// A round has one outcome: the same seats, begin and pulses give one reading, the same survivors and losers,
 /// one rest and one wave.
@@ -114,7 +114,7 @@ pub fn rounds_have_outcomes()
     ensures { RoundsHaveOutcomes }
 {}
 
-/// What an outcome tells of each sender and of its close is what becomes of them in the round.
+/// What an outcome says of each sender and of its close is what becomes of them in the round.
 pub fn fates_told()
     ensures { FatesTold }
 {}

@@ -15,18 +15,19 @@ pub(crate) fn kind_of(word: &str) -> Option<Kind> {
         "recorder" => Some(Kind::Recorder),
         "switch" => Some(Kind::Switch),
         "combo" => Some(Kind::Combo),
+        "outside" => Some(Kind::Outside),
         _ => None,
     }
 }
 
-// The first address of the kind's list, the player's of a box; 15 for a switch.
+// The first address of the kind's list, the player's of a box; 15 for a switch and a device from outside.
 pub(crate) fn own_address(kind: Kind) -> u8 {
     match kind {
         Kind::Tv => 0,
         Kind::Amp => 5,
         Kind::Player | Kind::Combo => 4,
         Kind::Recorder => 1,
-        Kind::Switch => 15,
+        Kind::Switch | Kind::Outside => 15,
     }
 }
 

@@ -2,7 +2,7 @@
 use crate::cases::{bytes_of, check, follow, key_of, phys_of, settled};
 use crate::effect_rows::{BOX, BROADCAST, DIRECT, IGNORED, PRESSED, UNKNOWN};
 use crate::key_rows::{PRESSES, REFUSED, RELEASES};
-use cec_device::{Device, Fate, Port, Record};
+use cec_device::{Act, Device, Fate, Port, Record};
 use cec_frame::{Addr, Frame};
 use hdmi_core::Kind;
 use std::alloc::Global;
@@ -112,6 +112,23 @@ fn key(alloc: Global, device: &mut Device<16>, words: &str, press: bool) -> Opti
     }
 }
 
+fn act(alloc: Global, device: &mut Device<16>, act: Act) -> Option<String> {
+    match device.act(act) {
+        Ok(()) => format!(in alloc; "done").ok(),
+        Err(error) => format!(in alloc; "{error:?}").ok(),
+    }
+}
+
+// Two numbers: the addresses that it is to hold.
+fn hold(alloc: Global, device: &mut Device<16>, words: &str) -> Option<String> {
+    let (first, second) = words.split_once(' ')?;
+    let first: u8 = first.parse().ok()?;
+    let second: u8 = second.parse().ok()?;
+    let first = Addr::new(first % 16);
+    let second = Some(Addr::new(second % 16));
+    act(alloc, device, Act::Hold { first, second })
+}
+
 // The bytes as two digits each, each after a space.
 fn bytes_text(alloc: Global, bytes: &[u8]) -> Option<String> {
     let mut text = String::new(alloc);
@@ -198,6 +215,8 @@ fn told_after(alloc: Global, device: &mut Device<16>, line: &str) -> Option<Stri
         "submit" => submit(alloc, device, words),
         "press" => key(alloc, device, words, true),
         "release" => key(alloc, device, words, false),
+        "hold" => hold(alloc, device, words),
+        "drop" => act(alloc, device, Act::Empty),
         _ => told(alloc, device, doing, words),
     }
 }
@@ -387,6 +406,43 @@ join ffff 0
 held => Some(15) Some(15)
 queue => 0 0";
 
+// ---- devices from outside
+
+const HOLDS: &str = "\
+hold 4 15 => OffWire
+drop => OffWire
+join 1000 0
+held => Some(15) None
+queue => 0 0
+hold 4 8 => done
+held => Some(4) Some(8)
+holds 8 => true
+follow 04 46
+follow 0f 36
+queue => 0 0
+press power => NotForKind
+leave
+held => None None";
+
+const DROPS: &str = "\
+join 1000 0
+submit 44 => queued
+submit 90 04 => queued
+submit f4 46 => queued
+queue => 3 0
+sent broken
+class => 7200
+drop => done
+class => 16800
+queue => 0 0
+submit 48 46 => queued
+front => 48 46";
+
+const NOT_OUTSIDE: &str = "\
+hold 3 15 => NotForKind
+drop => NotForKind
+held => Some(4) None";
+
 /// The runs of devices: what a device is, and then how often which lines are gone through.
 const RUNS: &[(&str, &[(usize, &str)])] = &[
     (
@@ -413,12 +469,16 @@ const RUNS: &[(&str, &[(usize, &str)])] = &[
     ("new box", &[(1, RECORDER_ALONE)]),
     ("new box", &[(1, NEITHER)]),
     ("new box", &[(1, TOO_FAR_BELOW)]),
+    ("new outside", &[(1, HOLDS)]),
+    ("new outside", &[(1, DROPS)]),
+    ("settled player", &[(1, NOT_OUTSIDE)]),
 ];
 
 fn device_of(words: &str) -> Device<16> {
     match words {
         "settled player" => settled(Kind::Player),
         "new player" => Device::new(Kind::Player, b"p1", 0),
+        "new outside" => Device::new(Kind::Outside, b"dut", 0),
         _ => Device::new(Kind::Combo, b"b", 0),
     }
 }

@@ -191,11 +191,29 @@ fn passed_on(
     tree.port_edid(&edid_of(rt, blocks), device, port)
 }
 
-fn port(rt: &(impl Abort + AllocGlobal), tree: &Tree<15>, words: &str) -> String {
-    match passed_on(rt, tree, words) {
-        Ok(edid) => hex_of(rt, &edid),
-        Err(error) => format!(in rt.alloc(); "{error:?}").expect(rt, "a text"),
+fn refused(rt: &(impl Abort + AllocGlobal), error: PortEdidError) -> String {
+    format!(in rt.alloc(); "{error:?}").expect(rt, "a text")
+}
+
+/// The same as bytes, with no EDID as a value between.
+fn written(rt: &(impl Abort + AllocGlobal), tree: &Tree<15>, words: &str) -> String {
+    let (place, blocks) = words.split_once(" of ").expect(rt, "an EDID");
+    let (device, port) = two_numbers(rt, place);
+    let device = usize::from(device);
+    assert!(rt; device < tree.count());
+    match tree.write_port_edid(&edid_of(rt, blocks), device, port) {
+        Ok(bytes) => hex::encode(rt.alloc(), bytes.as_slice()).expect(rt, "hex digits"),
+        Err(error) => refused(rt, error),
     }
+}
+
+fn port(rt: &(impl Abort + AllocGlobal), tree: &Tree<15>, words: &str) -> String {
+    let told = match passed_on(rt, tree, words) {
+        Ok(edid) => hex_of(rt, &edid),
+        Err(error) => refused(rt, error),
+    };
+    assert!(rt; written(rt, tree, words) == told);
+    told
 }
 
 /// What a device in a port learns over DDC.

@@ -1,4 +1,5 @@
--- What an HDMI block means (HDMI 1.4, section 8.3.2), of the bytes behind its physical address.
+-- What an HDMI block, the vendor specific data block of HDMI (VSDB), means (HDMI 1.4, section 8.3.2), of the bytes after
+-- its physical address.
 use Rattle.std.specs.Prelude.{ℕ, ◌+◌, ◌-◌, ◌*◌, ◌/◌, ◌%◌, ◌==◌, ◌&&◌, ◌||◌, nat_le, Bool, if◌then◌else◌, List, [], ◌∷◌, ◌++◌, length, map, take, drop, slice_index, codes}
 use Rattle.std.specs.Fmt.{decimal}
 use Rattle.hdmi_meaning.specs.Notes.{Row, row, when, below, between, is_set, set_words, spaced_words, rest_words}

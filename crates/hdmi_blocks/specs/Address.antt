@@ -1,4 +1,5 @@
--- The physical address that an EDID reports: that of its first HDMI block (HDMI 1.4, sections 8.3.2 and 8.7.2).
+-- The physical address that an EDID reports: that of its first HDMI block, the HDMI VSDB (HDMI 1.4, sections 8.3.2 and
+-- 8.7.2).
 use Rattle.std.specs.Prelude.{Bool, if◌then◌else◌, List, [], ◌∷◌, Option, None, is_some}
 use Rattle.hdmi_cta.specs.Hdmi.{address_of}
 use Rattle.hdmi_cta.specs.declared.raw.Ext.{Ext}

@@ -1,4 +1,4 @@
--- The bytes of a whole EDID (E-EDID Release A, section 2.2.1): the base block, and each extension behind it.
+-- The bytes of a whole EDID (E-EDID Release A, section 2.2.1): the base block, and each extension after it.
 use Rattle.std.specs.Prelude.{◌≡◌, ◌≢◌, ℕ, ◌+◌, ◌*◌, ◌%◌, ◌<◌, ◌==◌, Bool, ◌||◌, IsTrue, List, ◌++◌, length, take, drop, slice_index, sum, flat_map, Some, None, codes}
 use Rattle.std.specs.Fmt.{decimal}
 use Rattle.hdmi_edid.specs.declared.base.BaseError.{BaseError}

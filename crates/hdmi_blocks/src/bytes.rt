@@ -56,7 +56,7 @@ fn block_at(bytes: &[u8], number: usize) -> [u8; 128]
 }
 
 /// Appends a block for which there is room.
-fn append(bytes: &mut ArrayVec<u8, 512>, block: &[u8; 128])
+pub(crate) fn append(bytes: &mut ArrayVec<u8, 512>, block: &[u8; 128])
     requires { array_vec_len bytes.old + 128 ≤ 512 }
     ensures items { bytes.new.items ≡ bytes.old.items ++ block.now }
 {
@@ -70,7 +70,7 @@ fn has_length(bytes: &[u8]) -> bool
     matches!(bytes.len(), 128 | 256 | 384 | 512)
 }
 
-/// Adds the extensions behind the base block, or finds the first that is at fault.
+/// Adds the extensions after the base block, or finds the first that is at fault.
 // They are large, and read where they stand.
 #[inline(never)]
 fn read_extensions(bytes: &[u8], extensions: &mut ArrayVec<Ext, 3>) -> Result<(), EdidError>

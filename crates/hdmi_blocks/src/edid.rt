@@ -5,7 +5,7 @@ use arrayvec::ArrayVec;
 use hdmi_cta::Ext;
 use hdmi_edid::Base;
 
-/// A base block and up to three extensions behind it. Byte 126 of the base block, `base.extensions`, says how many
+/// A base block and up to three extensions after it. Byte 126 of the base block, `base.extensions`, says how many
 /// there are (E-EDID Release A, section 3.11).
 #[derive(Drop)]
 pub struct Edid {

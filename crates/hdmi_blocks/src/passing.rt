@@ -1,16 +1,20 @@
 //! The EDID that is passed on to the device in a port.
-ghost use Rattle.std.specs.Prelude.{◌≡◌, ◌≤◌, ◌<◌, ◌↔◌, None, Some, IsErr, IfOk, length, slice_set, flat_map};
+ghost use Rattle.std.specs.Prelude.{◌≡◌, ◌≤◌, ◌<◌, ◌+◌, ◌*◌, ◌++◌, ◌↔◌, None, Some, IsErr, IfOk, length, slice_set, flat_map};
+ghost use Rattle.arrayvec.specs.ArrayVec.{array_vec_len};
 ghost use Rattle.hdmi_cta.specs.Ext.{ext_bytes};
 ghost use Rattle.hdmi_cta.specs.Hdmi.{address_of};
 ghost use Rattle.hdmi_blocks.specs.Address.{edid_address};
 ghost use Rattle.hdmi_blocks.specs.Bytes.{edid_bytes};
-ghost use Rattle.hdmi_blocks.specs.Passing.{passed_bytes, passed_on_bytes};
+ghost use Rattle.hdmi_blocks.specs.Passing.{passed_bytes, passed_extensions, passed_on_bytes};
 
 use crate::address::first_addressed;
+use crate::bytes::append;
 use crate::edid::Edid;
 use arrayvec::ArrayVec;
 use hdmi_core::Phys;
-use hdmi_cta::{Ext, NoHdmiBlock, with_address, with_audio};
+use hdmi_cta::{
+    Ext, NoHdmiBlock, with_address, with_audio, write_ext, write_with_address, write_with_audio,
+};
 use hdmi_edid::{Base, read_base, write_base};
 
 /// Whose audio an EDID reports when it is passed on.
@@ -29,6 +33,49 @@ fn passed_extension(ext: &Ext, audio: AudioFrom, address: Phys) -> Result<Ext, N
     match audio {
         AudioFrom::Television => with_address(ext, address),
         AudioFrom::Amplifier => with_address(&with_audio(ext), address),
+    }
+}
+
+/// The bytes of that extension.
+fn write_passed(ext: &Ext, audio: AudioFrom, address: Phys) -> Result<[u8; 128], NoHdmiBlock>
+    ensures bytes { IfOk result (λ bytes. bytes ≡ passed_bytes audio address ext.now) }
+    ensures refused { IsErr result ↔ (address_of ext.now ≡ None) }
+{
+    match audio {
+        AudioFrom::Television => write_with_address(ext, address),
+        AudioFrom::Amplifier => write_with_audio(ext, address),
+    }
+}
+
+/// Appends the bytes of extensions for which there is room.
+fn append_extensions(bytes: &mut ArrayVec<u8, 512>, extensions: &[Ext])
+    requires { array_vec_len bytes.old + 128 * length extensions.now ≤ 512 }
+    ensures { bytes.new.items ≡ bytes.old.items ++ flat_map ext_bytes extensions.now }
+{
+    let Some((ext, others)) = extensions.split_first() else {
+        return;
+    };
+    append(bytes, &write_ext(ext));
+    append_extensions(bytes, others);
+}
+
+/// Appends the bytes of extensions for which there is room; the first one that has an HDMI block is passed on.
+fn append_passed(bytes: &mut ArrayVec<u8, 512>, extensions: &[Ext], audio: AudioFrom, address: Phys)
+    requires { array_vec_len bytes.old + 128 * length extensions.now ≤ 512 }
+    ensures { bytes.new.items ≡ bytes.old.items ++ passed_extensions audio address extensions.now }
+{
+    let Some((ext, others)) = extensions.split_first() else {
+        return;
+    };
+    match write_passed(ext, audio, address) {
+        Ok(block) => {
+            append(bytes, &block);
+            append_extensions(bytes, others);
+        }
+        Err(NoHdmiBlock) => {
+            append(bytes, &write_ext(ext));
+            append_passed(bytes, others, audio, address);
+        }
     }
 }
 
@@ -82,5 +129,23 @@ impl Edid {
                 extensions: with_extension(extensions, index, passed),
             }),
         }
+    }
+
+    /// The bytes of the EDID that [`passed_on`](Edid::passed_on) gives: as a value an EDID is large.
+    pub fn write_passed_on(
+        &self,
+        audio: AudioFrom,
+        address: Phys,
+    ) -> Result<ArrayVec<u8, 512>, NoHdmiBlock>
+        ensures bytes { IfOk result (λ bytes. bytes.items ≡ passed_on_bytes audio address self.now) }
+        ensures refused { IsErr result ↔ (edid_address self.now ≡ None) }
+    {
+        if self.address().is_none() {
+            return Err(NoHdmiBlock);
+        }
+        let mut bytes = ArrayVec::new();
+        append(&mut bytes, &write_base(&self.base));
+        append_passed(&mut bytes, self.extensions.as_slice(), audio, address);
+        Ok(bytes)
     }
 }

@@ -10,4 +10,6 @@ pub enum Kind {
     Switch,
     /// A recorder and a player in one box: one device with two logical addresses.
     Combo,
+    /// A device whose behaviour comes from outside: it holds and sends what it is told, and follows nothing.
+    Outside,
 }

@@ -1,4 +1,4 @@
--- The bytes of a data block.
+-- The bytes of a data block (CTA-861, 7.5, the data block collection).
 use Rattle.std.specs.Prelude.{ℕ, ◌+◌, ◌*◌, List, ◌∷◌, length}
 use Rattle.hdmi_cta.specs.declared.block.Block.{Block}
 use Rattle.hdmi_cta.specs.declared.block.BlockKind.{BlockKind}

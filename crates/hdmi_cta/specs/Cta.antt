@@ -1,4 +1,4 @@
--- The bytes of a CTA block.
+-- The bytes of a CTA extension of version 3 (CTA-861, 7.5): the data block collection and detailed timing descriptors.
 use Rattle.std.specs.Prelude.{ℕ, ◌+◌, Bool, ◌||◌, not, nat_lt, List, ◌∷◌, ◌++◌, length, flat_map}
 use Rattle.hdmi_edid.specs.Forms.{is_timing}
 use Rattle.hdmi_edid.specs.Timing.{timing_bytes}
@@ -10,7 +10,7 @@ use Rattle.hdmi_cta.specs.declared.block.Block.{Block}
 abbrev pub is_tail : List ℕ → Bool
 is_tail bytes = nat_lt (length bytes) 18 || not (is_timing bytes)
 
--- flags, data blocks up to the place that the third byte tells, timings, and what is left
+-- flags, data blocks up to the place that the third byte names, timings, and what is left
 abbrev pub cta_front : ℕ → List Block → List Timing → List ℕ → List ℕ
 cta_front flags blocks timings tail =
     2 ∷ 3 ∷ (length (flat_map block_bytes blocks) + 4) ∷ flags ∷ (flat_map block_bytes blocks ++ (flat_map timing_bytes timings ++ tail))

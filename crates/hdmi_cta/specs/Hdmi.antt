@@ -1,4 +1,5 @@
--- The HDMI data block, and the physical address in it (HDMI 1.4, sections 8.3.2 and 8.7.2).
+-- The HDMI vendor specific data block (HDMI VSDB: HDMI 1.4, section 8.3.2; a vendor specific data block of CTA-861, 7.5),
+-- and the physical address in it (HDMI 1.4, section 8.7.2).
 use Rattle.std.specs.Prelude.{ℕ, ◌+◌, ◌==◌, Bool, true, false, ◌&&◌, nat_le, Option, option_map, List, [], length, slice_index, slice_set, take, flat_map, find}
 use Rattle.std.specs.List.{before_first}
 use Rattle.hdmi_cta.specs.Block.{block_bytes}
@@ -10,7 +11,7 @@ use Rattle.hdmi_core.specs.declared.phys.Phys.{Phys}
 use Rattle.hdmi_cta.specs.declared.raw.Ext.{Ext}
 use Rattle.hdmi_cta.specs.declared.raw.Ext.TheVariants.{Cta, Bare, Raw}
 
--- the identifier of HDMI, 000C03, its lowest byte first, and two bytes and more behind it
+-- the identifier of HDMI, 000C03, its lowest byte first, and two bytes and more after it
 abbrev pub has_identifier : List ℕ → Bool
 has_identifier payload =
     nat_le 5 (length payload) && (slice_index payload 0 == 0x03) && (slice_index payload 1 == 0x0c) && (slice_index payload 2 == 0x00)
@@ -23,7 +24,7 @@ is_vendor _ = false
 abbrev pub is_hdmi : Block → Bool
 is_hdmi b = is_vendor b.kind && has_identifier b.payload.items
 
--- the two bytes behind the identifier
+-- the two bytes after the identifier
 abbrev pub phys_at : List ℕ → Phys
 phys_at payload = record { high = slice_index payload 3; low = slice_index payload 4 }
 
@@ -36,7 +37,8 @@ blocks_of (Raw r) = []
 abbrev pub address_of : Ext → Option Phys
 address_of e = option_map (λ b. phys_at b.payload.items) (find is_hdmi (blocks_of e))
 
--- where the address of the first HDMI block stands: behind four bytes, the data blocks before it, its first byte and the identifier
+-- where the address of the first HDMI block stands: after four bytes, the data blocks before it, its first byte and the
+-- identifier
 abbrev pub address_place : List Block → ℕ
 address_place blocks = 8 + length (flat_map block_bytes (before_first is_hdmi blocks))
 

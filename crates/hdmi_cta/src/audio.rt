@@ -1,22 +1,24 @@
 //! The audio that an amplifier passes on in place of the television's.
-ghost use Rattle.std.specs.Prelude.{◌≡◌, ◌≤◌, ◌<◌, ◌+◌, ◌-◌, ◌++◌, ◌==◌, true, Some, length, flat_map, position, find, slice_set, IfSome, IfNone, IsTrue};
+ghost use Rattle.std.specs.Prelude.{◌≡◌, ◌≤◌, ◌<◌, ◌+◌, ◌-◌, ◌++◌, ◌==◌, ◌↔◌, true, None, Some, length, flat_map, position, find, slice_set, IfSome, IfNone, IfOk, IsErr, IsTrue};
 ghost use Rattle.std.specs.List.{before_first, list_all};
 ghost use Rattle.hdmi_edid.specs.Bytes.{are_bytes};
 ghost use Rattle.hdmi_edid.specs.Timing.{timing_bytes};
 ghost use Rattle.hdmi_cta.specs.Block.{block_bytes};
 ghost use Rattle.hdmi_cta.specs.Ext.{ext_bytes};
-ghost use Rattle.hdmi_cta.specs.Hdmi.{is_hdmi, blocks_of, address_of, address_place};
+ghost use Rattle.hdmi_cta.specs.Hdmi.{is_hdmi, blocks_of, address_of, address_place, readdressed};
 ghost use Rattle.hdmi_cta.specs.Audio.{is_audio, amplifier_audio, heard, growth, shrinkage, ends_in_zeros, fitted, heard_bytes, heard_place, IsHeard, IsUnheard};
 
 use crate::block::{Block, BlockKind};
 use crate::cta::Cta;
 use crate::ext::append_timings;
+use crate::hdmi::{NoHdmiBlock, write_with_address};
 use crate::raw::Ext;
 use crate::reading::read_timings;
 use arrayvec::ArrayVec;
+use hdmi_core::Phys;
 use hdmi_edid::{Timing, append};
 
-/// What an amplifier's audio data block tells: eight channels of linear PCM, and six of AC-3.
+/// The short audio descriptors of an amplifier's audio data block: eight channels of linear PCM, and six of AC-3.
 const AMPLIFIER_AUDIO: [u8; 6] = [0x0f, 0x7f, 0x07, 0x15, 0x07, 0x50];
 
 /// The amplifier's audio data block.
@@ -126,7 +128,7 @@ fn fitted(tail: &[u8], less: usize, more: usize) -> ArrayVec<u8, 123>
     bytes
 }
 
-/// The bytes behind the data blocks, with fewer or more zeros at their end.
+/// The bytes after the data blocks, with fewer or more zeros at their end.
 fn moved(timings: &[Timing], tail: &[u8]) -> ArrayVec<u8, 123>
     requires { length (flat_map timing_bytes timings.now) + length tail.now ≤ 123 }
     ensures { result.items ≡ flat_map timing_bytes timings.now ++ tail.now }
@@ -183,6 +185,24 @@ fn amplified(cta: &Cta) -> Option<Cta>
     Some(made_of(cta.flags, blocks, rest.as_slice()))
 }
 
+/// The extension with the amplifier's audio; none where it stays as it is.
+// The frame of the caller is kept free of what is made on the way.
+#[inline(never)]
+fn heard_extension(ext: &Ext) -> Option<Ext>
+    ensures bytes { IfSome result (λ e. ext_bytes e ≡ heard_bytes ext.now) }
+    ensures addressed { IfSome result (λ e. address_of e ≡ address_of ext.now) }
+    ensures place { IfSome result (λ e. address_place (blocks_of e) ≡ heard_place ext.now) }
+    ensures same { IfNone result (ext_bytes ext.now ≡ heard_bytes ext.now) }
+    ensures stays { IfNone result (address_place (blocks_of ext.now) ≡ heard_place ext.now) }
+{
+    if let Ext::Cta(cta) = ext {
+        if let Some(heard) = amplified(cta) {
+            return Some(Ext::Cta(heard));
+        }
+    }
+    None
+}
+
 /// The extension that an amplifier passes on: its first audio block is the amplifier's. What follows moves, zeros
 /// at the end make up for it, and the checksum is mended. Where the tail ends in too few zeros, and where there is
 /// no audio block, the extension stays as it is.
@@ -191,10 +211,20 @@ pub fn with_audio(ext: &Ext) -> Ext
     ensures addressed { address_of result ≡ address_of ext.now }
     ensures place { address_place (blocks_of result) ≡ heard_place ext.now }
 {
-    if let Ext::Cta(cta) = ext {
-        if let Some(heard) = amplified(cta) {
-            return Ext::Cta(heard);
-        }
+    match heard_extension(ext) {
+        None => ext.copy(),
+        Some(heard) => heard,
     }
-    ext.copy()
+}
+
+/// The 128 bytes of the extension that [`with_audio`] gives, with another physical address in its first HDMI block, as
+/// [`write_with_address`] has it.
+pub fn write_with_audio(ext: &Ext, address: Phys) -> Result<[u8; 128], NoHdmiBlock>
+    ensures bytes { IfOk result (λ bytes. bytes ≡ readdressed (heard_bytes ext.now) (heard_place ext.now) address) }
+    ensures refused { IsErr result ↔ (address_of ext.now ≡ None) }
+{
+    match heard_extension(ext) {
+        None => write_with_address(ext, address),
+        Some(heard) => write_with_address(&heard, address),
+    }
 }

@@ -6,8 +6,9 @@ use crate::hdmi::has_identifier;
 use arrayvec::ArrayVec;
 use hdmi_edid::append;
 
-/// What a data block tells, by the tag in the top three bits of its first byte (CTA-861-D, 7.5, the data block
-/// collection). Tag 5 is VESA's display transfer characteristic; tags 0 and 6 are reserved.
+/// What a data block is, by the tag in the top three bits of its first byte (CTA-861-D, 7.5, the data block
+/// collection): an audio data block, a video data block, a vendor specific data block (VSDB), a speaker allocation data
+/// block, or one with an extended tag. Tag 5 is VESA's display transfer characteristic; tags 0 and 6 are reserved.
 #[derive(Clone, Copy, Debug, PartialEq, Eq)]
 pub enum BlockKind {
     Tag0,
@@ -23,7 +24,7 @@ pub enum BlockKind {
 impl BlockKind {
     ghost use Rattle.hdmi_cta.specs.Block.{kind_number};
 
-    /// The kind that a block's first byte tells.
+    /// The kind that a block's first byte names.
     pub fn of_byte(byte: u8) -> BlockKind
         ensures { kind_number result ≡ byte / 32 }
     {
@@ -80,7 +81,7 @@ impl Block {
     ghost use Rattle.hdmi_cta.specs.Audio.{is_audio};
     ghost use Rattle.hdmi_cta.specs.Hdmi.{is_hdmi};
 
-    /// Whether it is an HDMI block: a vendor block of five bytes and more that begins 03 0C 00
+    /// Whether it is an HDMI block (HDMI VSDB): a vendor block of five bytes and more that begins 03 0C 00
     /// (HDMI 1.4, section 8.3.2).
     pub fn is_hdmi(&self) -> bool
         ensures { result ≡ is_hdmi self.now }

@@ -1,4 +1,5 @@
-//! The physical address in an extension: its first HDMI block tells it.
+//! The physical address in an extension, which stands in its first HDMI block: the vendor specific data block of HDMI (HDMI
+//! VSDB: HDMI 1.4, section 8.3.2).
 ghost use Rattle.std.specs.Prelude.{◌≡◌, ◌↔◌, ◌≤◌, ◌<◌, ◌+◌, ◌-◌, None, Some, IfOk, IsErr, IsTrue, IsSome, OnSome, IfSome, MatchOption, length, flat_map, position, slice_set, take};
 ghost use Rattle.hdmi_cta.specs.Block.{block_bytes};
 ghost use Rattle.hdmi_edid.specs.Check.{summed};
@@ -18,7 +19,7 @@ use thiserror::Error;
 pub struct NoHdmiBlock;
 
 /// Whether the payload of a vendor block is HDMI's: it begins with the identifier 00-0C-03, its lowest byte first, and two
-/// bytes of an address stand behind (HDMI 1.4, section 8.3.2).
+/// bytes of an address stand after it (HDMI 1.4, section 8.3.2).
 pub fn has_identifier(payload: &[u8]) -> bool
     ensures { result ≡ has_identifier payload.now }
 {
@@ -102,12 +103,23 @@ fn readdressed(bytes: &[u8; 128], place: usize, address: Phys) -> [u8; 128]
     sealed(&bytes)
 }
 
-/// The physical address that the first HDMI block tells, where there is one.
+/// The physical address that the first HDMI block has, where there is one.
 pub fn hdmi_address(ext: &Ext) -> Option<Phys>
     ensures { result ≡ address_of ext.now }
 {
     let block = blocks_of(ext).iter().find(|block| block.is_hdmi())?;
     Some(address_in(block))
+}
+
+/// The 128 bytes of the extension that [`with_address`] gives: as a value an extension is large.
+pub fn write_with_address(ext: &Ext, address: Phys) -> Result<[u8; 128], NoHdmiBlock>
+    ensures bytes { IfOk result (λ bytes. bytes ≡ readdressed (ext_bytes ext.now) (address_place (blocks_of ext.now)) address) }
+    ensures refused { IsErr result ↔ (address_of ext.now ≡ None) }
+{
+    match address_place(ext) {
+        None => Err(NoHdmiBlock),
+        Some(place) => Ok(readdressed(&write_ext(ext), place, address)),
+    }
 }
 
 /// The extension with another physical address: the two bytes of the address in the first HDMI

@@ -9,11 +9,11 @@ mod hdmi;
 mod raw;
 mod reading;
 
-pub use audio::with_audio;
+pub use audio::{with_audio, write_with_audio};
 pub use block::{Block, BlockKind};
 pub use cta::{Bare, Cta};
 pub use ext::{ExtError, read_ext, write_ext};
-pub use hdmi::{NoHdmiBlock, has_identifier, hdmi_address, with_address};
+pub use hdmi::{NoHdmiBlock, has_identifier, hdmi_address, with_address, write_with_address};
 pub use hdmi_core::{
     Kind, Phys, Piece, Sink, WriteFault, Writes, hex_digit, put_all, write_line, write_pieces,
 };

@@ -9,7 +9,7 @@ use crate::block::{Block, BlockKind};
 use arrayvec::ArrayVec;
 use hdmi_edid::{Timing, part};
 
-/// The data block in front, and the bytes behind it.
+/// The data block in front, and the bytes after it.
 fn first_block(bytes: &[u8]) -> Option<(Block, &[u8])>
     ensures { MatchOption result
         ((b : BlockValue) (ys : List ℕ) → block_bytes b ++ ys ≡ bytes.now → ⊥)
@@ -47,7 +47,7 @@ pub fn read_blocks(bytes: &[u8], blocks: &mut ArrayVec<Block, 123>) -> Option<()
     Some(())
 }
 
-/// The timings in front, up to six, and the bytes behind them.
+/// The timings in front, up to six, and the bytes after them.
 pub fn read_timings(bytes: &[u8]) -> (ArrayVec<Timing, 6>, &[u8])
     requires { length bytes.now ≤ 123 }
     ensures found { flat_map timing_bytes result.0.items ++ result.1.now ≡ bytes.now }

@@ -1,4 +1,5 @@
--- The physical address that a device learns over DDC (HDMI 1.4, section 8.7.2; how it reads is own).
+-- Physical address discovery: the physical address that a device learns over DDC (HDMI 1.4, section 8.7.2; how it reads is
+-- own).
 use Rattle.std.specs.Prelude.{◌≡◌, ℕ, ◌+◌, ◌*◌, ◌/◌, ◌<◌, ◌≤◌, ◌⊎◌, true, false, Some, None, Result, Ok, Err, List, ◌++◌, slice_index, take, replicate}
 use Rattle.hdmi_core.specs.declared.phys.Phys.{Phys}
 use Rattle.hdmi_blocks.specs.Address.{edid_address}
@@ -9,11 +10,11 @@ use Rattle.hdmi_ddc.specs.Bus.{has_segment}
 use Rattle.hdmi_ddc.specs.declared.error.DdcError.{DdcError}
 use Rattle.hdmi_ddc.specs.declared.error.DdcError.TheVariants.{NoAck, Edid, NoHdmiBlock, Length}
 
--- the bytes, and FF behind them
+-- the bytes, and FF after them
 abbrev pub padded : List ℕ → List ℕ
 padded bytes = bytes ++ replicate 512 0xff
 
--- how many blocks byte 126 asks for, behind the first
+-- how many blocks byte 126 asks for, after the first
 abbrev pub asked : List ℕ → ℕ
 asked bytes = slice_index (padded bytes) 126
 

@@ -7,7 +7,7 @@ use arrayvec::ArrayVec;
 use hdmi_blocks::{Edid, edid_to_bytes};
 use std::marker::Model;
 
-/// An EDID of one block to four behind a segment pointer and an offset (E-DDC, section 2.2). A
+/// An EDID of one block to four, read by a segment pointer and an offset (E-DDC, section 2.2). A
 /// segment has 256 bytes; those that are missing in a segment with a block read FF.
 #[derive(Drop)]
 pub struct Ddc {
@@ -90,7 +90,7 @@ impl Ddc {
         self.bytes.as_slice().get(place).copied().unwrap_or(0xff)
     }
 
-    /// Reads the next bytes, and moves the offset behind them. Behind offset 255 stands offset 0 of
+    /// Reads the next bytes, and moves the offset past them. After offset 255 comes offset 0 of
     /// the same segment.
     pub fn read(&mut self, out: &mut [u8])
         ensures bytes { EachIndex out.new (λ k. byte_at self.old.bytes self.old.segment ((self.old.offset + k) % 256) ≡ Some (slice_index out.new k)) }

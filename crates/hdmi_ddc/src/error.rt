@@ -11,7 +11,7 @@ pub enum DdcError {
     /// What was read is no EDID.
     #[error("no EDID")]
     Edid(EdidError),
-    /// The EDID has no HDMI block, so it tells no physical address.
+    /// The EDID has no HDMI block, so it has no physical address.
     #[error("no HDMI block")]
     NoHdmiBlock,
     /// The bytes are not one block to four of 128 bytes each.

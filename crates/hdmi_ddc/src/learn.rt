@@ -1,4 +1,4 @@
-//! What a device learns of its place from the EDID that it reads.
+//! Physical address discovery: what a device learns of its place from the EDID that it reads (HDMI 1.4, section 8.7.2).
 ghost use Rattle.std.specs.Prelude.{◌≡◌, ◌+◌, ◌*◌, ◌/◌, ◌≤◌, ◌<◌, ◌++◌, true, false, Some, IfOk, IfErr, OnOk, take, drop, replicate, length};
 ghost use Rattle.arrayvec.specs.ArrayVec.{array_vec_len};
 ghost use Rattle.hdmi_core.specs.declared.phys.Phys.{Phys as PhysValue};
@@ -72,8 +72,8 @@ fn read_address(ddc: &mut Ddc) -> Result<Phys, DdcError>
 }
 
 /// Reads the EDID, and gives the physical address in its first HDMI block: that of the device which
-/// reads it (HDMI 1.4, section 8.7.2). It reads block 0, and as many blocks behind it as byte 126
-/// tells; more than three are `Edid(Length)` at once. At its end, after a refusal too, it stops, and
+/// reads it (HDMI 1.4, section 8.7.2). It reads block 0, and as many blocks after it as byte 126
+/// says; more than three are `Edid(Length)` at once. At its end, after a refusal too, it stops, and
 /// the offset is 0.
 pub fn learn_address(ddc: &mut Ddc) -> Result<Phys, DdcError>
     ensures after { ddc.new ≡ begun ddc.old.bytes }

@@ -1,11 +1,12 @@
--- The 18 bytes of a descriptor (E-EDID Release A, sections 3.10.2 and 3.10.3). That what fits no form is kept raw is own.
+-- The 18 bytes of a descriptor, a detailed timing descriptor or a display descriptor (E-EDID Release A, sections 3.10.2
+-- and 3.10.3). That what fits no form is kept raw is own.
 use Rattle.std.specs.Prelude.{ℕ, List, ◌∷◌, replicate}
 use Rattle.hdmi_edid.specs.Chars.{text_bytes}
 use Rattle.hdmi_edid.specs.Timing.{timing_bytes}
 use Rattle.hdmi_edid.specs.declared.descriptor.Descriptor.{Descriptor}
 use Rattle.hdmi_edid.specs.declared.descriptor.Descriptor.TheVariants.{Timing, Name, Text, SerialText, Range, Dummy, Raw}
 
--- a tag and the 14 bytes behind it
+-- a tag and the 14 bytes after it
 abbrev pub tagged : ℕ → List ℕ → List ℕ
 tagged tag rest = 0 ∷ 0 ∷ 0 ∷ tag ∷ rest
 

@@ -1,4 +1,4 @@
--- The 18 bytes of a detailed timing (E-EDID Release A, section 3.10.2).
+-- The 18 bytes of a detailed timing descriptor (E-EDID Release A, section 3.10.2).
 use Rattle.std.specs.Prelude.{ℕ, ◌+◌, ◌*◌, ◌/◌, ◌%◌, List, [], ◌∷◌}
 use Rattle.hdmi_edid.specs.declared.timing.Timing.{Timing}
 

@@ -26,7 +26,7 @@ impl Block<128> {
     }
 }
 
-/// The bytes, and their checksum behind them.
+/// The bytes, and their checksum after them.
 fn with_checksum(front: &[u8]) -> [u8; 128]
     requires { length front.now ≡ 127 }
     ensures { result ≡ summed front.now }

@@ -1,4 +1,4 @@
-//! The sum of a block's bytes.
+//! The E-EDID checksum: the sum of a block's bytes (E-EDID Release A, section 3.11).
 ghost use Rattle.std.specs.Prelude.{◌≡◌, ◌+◌, ◌%◌, ◌≤◌, ◌<◌, ◌↔◌, IsTrue, length, sum};
 ghost use Rattle.hdmi_edid.specs.Check.{check_of};
 

@@ -28,7 +28,7 @@ pub struct RawDescriptor {
 /// A descriptor (E-EDID Release A, section 3.10).
 #[derive(Drop)]
 pub enum Descriptor {
-    /// A detailed timing.
+    /// A detailed timing descriptor (section 3.10.2).
     Timing(Timing),
     /// The display's name, tag FC.
     Name(Text),
@@ -63,7 +63,7 @@ fn are_zeros(bytes: &[u8]) -> bool
 impl Descriptor {
     ghost use Rattle.hdmi_edid.specs.Descriptor.{descriptor_bytes};
 
-    /// The descriptor that a tag tells.
+    /// The descriptor that a tag names.
     fn labelled(bytes: &[u8; 18]) -> Option<Descriptor>
         requires { slice_index bytes.now 0 + slice_index bytes.now 1 ≡ 0 }
         ensures { MatchOption result (is_labelled bytes.now ≡ false) (λ d. descriptor_bytes d ≡ bytes.now) }
@@ -122,7 +122,7 @@ impl Descriptor {
     }
 }
 
-/// The 18 bytes of a text behind a tag.
+/// The 18 bytes of a text after a tag.
 fn behind_tag(tag: u8, text: &Text) -> [u8; 18]
     ensures { result ≡ 0 ∷ 0 ∷ 0 ∷ tag ∷ 0 ∷ text_bytes text.now.chars.items }
 {

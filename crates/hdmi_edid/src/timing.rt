@@ -1,4 +1,4 @@
-//! A detailed timing, of 18 bytes (E-EDID Release A, section 3.10.2).
+//! A detailed timing descriptor, of 18 bytes (E-EDID Release A, section 3.10.2).
 ghost use Rattle.std.specs.Prelude.{◌≡◌, ◌<◌, ◌+◌, ◌^◌, MatchOption, slice_index};
 
 /// A detailed timing. Lengths are in pixels and lines, the image's size in millimetres.

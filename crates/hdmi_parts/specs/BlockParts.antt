@@ -1,4 +1,5 @@
--- What the rules ask of data blocks (CTA-861-D, section 7.5; HDMI 1.4, section 8.3.2).
+-- What the rules ask of data blocks (CTA-861-D, section 7.5) and of HDMI's vendor specific data block (VSDB: HDMI 1.4,
+-- section 8.3.2).
 use Rattle.std.specs.Prelude.{ℕ, ◌+◌, ◌*◌, ◌/◌, ◌%◌, ◌==◌, Bool, true, false, ◌&&◌, ◌||◌, not, nat_lt, nat_le, if◌then◌else◌, List, [], ◌∷◌, length, slice_index, take, drop}
 use Rattle.std.specs.List.{list_any}
 use Rattle.hdmi_cta.specs.Audio.{is_audio}

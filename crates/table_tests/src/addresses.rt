@@ -10,6 +10,7 @@ const ROWS: &[(Kind, &[u8], &[u8])] = &[
     (Kind::Amp, &[5], &[]),
     (Kind::Switch, &[], &[]),
     (Kind::Combo, &[1, 2, 9], &[4, 8, 11]),
+    (Kind::Outside, &[], &[]),
 ];
 
 #[test]

@@ -1,4 +1,4 @@
-use Rattle.std.proofs.Common.{rules, ◌≡◌, Ok}
+use Rattle.std.proofs.Common.{rules, ◌≡◌, Ok, option_map}
 use Rattle.cec_asm.specs.Topology.{topology_of, plan_of}
 use Rattle.cec_asm.specs.Script.{IsScriptRead, course_of}
 use Rattle.cec_run.proofs.Accepted.{early, has_device, one_line_of}
@@ -17,8 +17,8 @@ pub returns-clause-cut : goal.returns-clause-cut
 returns-clause-cut g c =
     let plan : topology_of c.args.topology.now ≡ Ok (plan_of c.in_ok-topology.topology) = search rules in
     let course : IsScriptRead c.in_ok-topology.topology.tree c.args.script.now (Ok (course_of c.in_ok-script.script)) = c.in_ok-script.ensures.gives in
-    let due = (texts_have_traces c.args.topology.now c.args.script.now (plan_of c.in_ok-topology.topology) (course_of c.in_ok-script.script) c.in_ok-_edid._edid
+    let due = (texts_have_traces c.args.topology.now c.args.script.now (plan_of c.in_ok-topology.topology) (course_of c.in_ok-script.script) (option_map (λ b. b.value) c.in_ok-_edid._edid)
     (record { plan_is = plan; course_is = course }) c.in_ok-_edid.ensures.read).1 c.args.format in
-    let front = c.in-Err.ensures.cut due.0 due.1 (rw (c.deref_mut.ensures.value, c.in-Ok.ensures, c.deref.ensures.value)
+    let front = c.in-Err.ensures.cut due.0 due.1 (rw (c.deref_mut.ensures.value, c.in-Ok-started_net.ensures, c.deref-2.ensures.value, c.deref.ensures, c.in-Ok.ensures)
     (one_line_of c.args.format c.args.topology.now c.args.script.now due.0 due.1 (plan_of c.in_ok-topology.topology) (course_of c.in_ok-script.script) plan course due.2)) in
     (due.0, due.1, due.2, front.0, front.1, front.2, front.3)

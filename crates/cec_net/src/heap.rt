@@ -1,0 +1,98 @@
+//! A network that is made on the heap: it is large.
+ghost use Rattle.std.specs.Prelude.{◌≡◌, ◌≤◌, ◌<◌, [], length, All, IfOk, None};
+ghost use Rattle.cec_wave.specs.Pulses.{pulses_fault};
+ghost use Rattle.cec_net.specs.State.{each_from, loose, moved_by, started};
+
+use crate::net::Net;
+use crate::wiring::{DEVICES, fill_loose, rewire};
+use arrayvec::ArrayVec;
+use cec_device::Device;
+use cec_edges::EdgeWire;
+use cec_wave::{Pulses, Stretch};
+use hdmi_topo::Tree;
+use std::alloc::{AllocError, Global};
+
+// Each of the next three makes what is large in a frame of its own.
+
+// Room for devices.
+#[inline(never)]
+fn room(alloc: Global) -> Result<Box<ArrayVec<Device<16>, DEVICES>>, AllocError>
+    ensures { IfOk result (λ room. room.value.items ≡ []) }
+{
+    let room = Box::new(alloc, ArrayVec::new())?;
+    Ok(room)
+}
+
+// The devices of a tree at the start of a run.
+fn first_devices(
+    alloc: Global,
+    tree: &Tree<15>,
+) -> Result<Box<ArrayVec<Device<16>, DEVICES>>, AllocError>
+    ensures devices { IfOk result (λ devices. devices.value.items ≡ each_from 0 (moved_by 0 tree.now) (loose tree.now)) }
+    ensures few { IfOk result (λ _. length tree.now ≤ 15) }
+{
+    let mut devices = room(alloc)?;
+    fill_loose(&mut devices, tree);
+    rewire(&mut devices, tree, 0);
+    Ok(devices)
+}
+
+// The network without pulses.
+#[inline(never)]
+fn without_pulses(
+    alloc: Global,
+    tree: Tree<15>,
+    devices: Box<ArrayVec<Device<16>, DEVICES>>,
+) -> Result<Box<Net<EdgeWire>>, AllocError>
+    requires devices { devices.value.items ≡ each_from 0 (moved_by 0 tree) (loose tree) }
+    requires few { length tree ≤ 15 }
+    ensures { IfOk result (λ net. net.value ≡ started tree []) }
+{
+    let net = Net {
+        tree,
+        wire: EdgeWire::new(),
+        close: 0,
+        pulses: Pulses::none(),
+        rest: 0,
+        devices: Box::into_inner(devices),
+        begun: None,
+    };
+    let net = Box::new(alloc, net)?;
+    Ok(net)
+}
+
+impl<W> Net<W> {
+    // Takes the pulses of a run before its first round, in their own place.
+    fn take_pulses(&mut self, pulses: &[Stretch])
+        requires idle { self.old.heard ≡ None }
+        requires fresh { self.old.rest ≡ 0 }
+        requires early { All (λ p. p.from ≤ 2000000000000) pulses.now }
+        requires sparse { pulses_fault pulses.now ≡ None }
+        ensures { self.new ≡ record self.old { pulses = pulses.now } }
+    {
+        self.pulses.become_those(pulses);
+    }
+}
+
+impl Net<EdgeWire> {
+    /// The network that [`new`](Net::new) gives with a new wire, made on the heap.
+    ///
+    /// # Errors
+    ///
+    /// Want of memory.
+    pub fn on_heap(
+        alloc: Global,
+        tree: Tree<15>,
+        pulses: &[Stretch],
+    ) -> Result<Box<Self>, AllocError>
+        requires some { 0 < length tree }
+        requires early { All (λ p. p.from ≤ 2000000000000) pulses.now }
+        requires sparse { pulses_fault pulses.now ≡ None }
+        ensures { IfOk result (λ net. net.value ≡ started tree pulses.now) }
+    {
+        let devices = first_devices(alloc, &tree)?;
+        let mut net = without_pulses(alloc, tree, devices)?;
+        net.take_pulses(pulses);
+        Ok(net)
+    }
+}
