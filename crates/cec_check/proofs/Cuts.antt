@@ -1,10 +1,9 @@
 -- A plain script that ends earlier says the same events before then, the same pulses, and that end.
-use Rattle.std.proofs.Common.{◌≡◌, ℕ, suc, ◌+◌, ◌-◌, ◌^◌, ◌<◌, ◌≤◌, ◌==◌, ◌&&◌, ◌||◌, Bool, true, false, cond, codes, if◌then◌else◌, List, [], ◌∷◌, ◌++◌, length, min, map, filter, nat_lt, nat_le, slice_get, Option, Some, None, is_some, option_map, Result, Ok, Err, All, refl, sym, ap, subst, ◌∙◌, arith, append_assoc, append-nil}
+use Rattle.std.proofs.Common.{◌≡◌, ℕ, suc, ◌+◌, ◌-◌, ◌^◌, ◌<◌, ◌≤◌, ◌==◌, ◌&&◌, Bool, true, false, cond, codes, if◌then◌else◌, List, [], ◌∷◌, ◌++◌, length, min, map, filter, nat_lt, nat_le, slice_get, Option, Some, None, is_some, option_map, Result, Ok, Err, All, refl, sym, ap, subst, ◌∙◌, arith, append_assoc, append-nil}
 use Rattle.std.specs.Str.{bytes_eq}
 use Rattle.std.specs.Fmt.{decimal}
 use Rattle.std.specs.Option.{option_map_or}
 use Rattle.std.specs.List.{flat_map, slice_split, onto_first}
-use Rattle.std.proofs.lemmas.Grind.{common_steps}
 use Rattle.std.proofs.lemmas.Bool.Decides.{nat_tests}
 use Rattle.std.proofs.lemmas.Slice.Eq.{bytes_eq-Decides}
 use Rattle.std.specs.Char.{digit_value}
@@ -19,16 +18,19 @@ use Rattle.cec_feature.specs.declared.keys.Key.{Key as KeyValue}
 use Rattle.cec_text.specs.declared.assembler.AssembleError.{AssembleError}
 use Rattle.cec_words.specs.Lines.{lines_of, is_skipped, without_empty_end}
 use Rattle.cec_words.specs.Number.{number_of}
-use Rattle.cec_words.specs.Words.{words_of, text_of, one_of, two_of, three_of}
+use Rattle.cec_words.specs.Words.{words_of, one_of, two_of, three_of}
 use Rattle.cec_signal.proofs.Numbers.{number_again, some_length}
 use Rattle.cec_signal.proofs.Texts.{Lacks, line_before, more_lack, none_lack, number_lacks, number_plain}
 use Rattle.cec_event.specs.declared.event.Event.{Event}
-use Rattle.cec_event.specs.declared.event.Event.TheVariants.{Plug, Unplug, Key, Send}
+use Rattle.cec_event.specs.declared.event.Event.TheVariants.{Plug, Unplug, Key, Send, Outside}
 use Rattle.cec_asm.specs.Keys.{key_of}
+use Rattle.cec_asm.specs.Holding.{hold_of}
+use Rattle.cec_device.specs.declared.outside.Act.{Act}
+use Rattle.cec_device.specs.declared.outside.Act.TheVariants.{Empty}
 use Rattle.cec_asm.specs.declared.script.TimedEvent.{TimedEvent}
 use Rattle.cec_asm.specs.declared.script.ScriptCause.{ScriptCause}
 use Rattle.cec_asm.specs.declared.script.ScriptCause.TheVariants.{Word, Order, TooMany, End}
-use Rattle.cec_asm.specs.Script.{Course, Notes, ScriptFault, within_limit, time_of, last_time, last_end, scheduled, plug_read, plug_words, unplug_read, unplug_words, key_read, key_words, send_read, event_words, unless_fault, pulsed, pulse_read, pulse_words, end_read, end_words, other_words, ended, no_notes, IsFrameOf, IsSendRead, IsEventRead, IsWordsRead, IsLineRead, IsScriptRead, Onward, AreLinesRead}
+use Rattle.cec_asm.specs.Script.{Course, Notes, ScriptFault, within_limit, time_of, last_time, last_end, scheduled, plug_read, plug_words, unplug_read, unplug_words, key_read, key_words, act_read, hold_words, drop_words, send_read, event_words, unless_fault, pulse_read, pulse_words, end_read, end_words, other_words, ended, no_notes, IsSendRead, IsEventRead, IsWordsRead, IsLineRead, Onward, AreLinesRead}
 use Rattle.cec_expect.specs.Line.{cut_line, cut_script, has_verb, is_before, is_event, is_sooner}
 use Rattle.cec_check.specs.Cuts.{CutsAreRead, cut_course, is_early}
 
@@ -138,6 +140,23 @@ key_words_take : (tree : List Node) (line : ℕ) (press : Bool) (time : List ℕ
 key_words_take tree line press time [] notes next e = cc
 key_words_take tree line press time (name ∷ words) notes next e = key_takes line press (key_of words) (time_of time) (device_named tree name) notes next e
 
+act_takes : (line : ℕ) (act : Option Act) (time device : Option ℕ) (notes next : Notes) → Ok next ≡ act_read notes line act time device
+    → Takes time line (By (λ n. act_read n line act time device)) notes next
+act_takes line None time device notes next e = cc
+act_takes line (Some act) None device notes next e = cc
+act_takes line (Some act) (Some t) None notes next e = cc
+act_takes line (Some act) (Some t) (Some d) notes next e = record { at = t; event = Outside d act; time_is = refl; reads = λ n. refl; now = e }
+
+hold_words_take : (tree : List Node) (line : ℕ) (time : List ℕ) (words : Option (List ℕ × List ℕ)) (notes next : Notes) → Ok next ≡ hold_words tree notes line time words
+    → Takes (time_of time) line (By (λ n. hold_words tree n line time words)) notes next
+hold_words_take tree line time None notes next e = cc
+hold_words_take tree line time (Some w) notes next e = act_takes line (hold_of w.1) (time_of time) (device_named tree w.0) notes next e
+
+drop_words_take : (tree : List Node) (line : ℕ) (time : List ℕ) (word : Option (List ℕ)) (notes next : Notes) → Ok next ≡ drop_words tree notes line time word
+    → Takes (time_of time) line (By (λ n. drop_words tree n line time word)) notes next
+drop_words_take tree line time None notes next e = cc
+drop_words_take tree line time (Some w) notes next e = act_takes line (Some Empty) (time_of time) (device_named tree w) notes next e
+
 -- one of two
 by_either : (b : Bool) (time : Option ℕ) (line : ℕ) (f g : Notes → Result Notes ScriptCause) (notes next : Notes) → (Ok next ≡ f notes → Takes time line (By f) notes next)
     → (Ok next ≡ g notes → Takes time line (By g) notes next) → Ok next ≡ (if b then f notes else g notes) → Takes time line (By (λ n. if b then f n else g n)) notes next
@@ -152,7 +171,9 @@ event_words_take : (tree : List Node) (line : ℕ) (time verb : List ℕ) (words
 event_words_take tree line time verb words notes next e =
     let t = time_of time in
     let fail : Notes → Result Notes ScriptCause = λ n. Err Word in
-    let released : Notes → Result Notes ScriptCause = λ n. if bytes_eq verb (codes "release") then key_words tree n line false time words else fail n in
+    let dropped : Notes → Result Notes ScriptCause = λ n. if bytes_eq verb (codes "drop") then drop_words tree n line time (one_of words) else fail n in
+    let held : Notes → Result Notes ScriptCause = λ n. if bytes_eq verb (codes "hold") then hold_words tree n line time (two_of words) else dropped n in
+    let released : Notes → Result Notes ScriptCause = λ n. if bytes_eq verb (codes "release") then key_words tree n line false time words else held n in
     let pressed : Notes → Result Notes ScriptCause = λ n. if bytes_eq verb (codes "press") then key_words tree n line true time words else released n in
     let unplugged : Notes → Result Notes ScriptCause = λ n. if bytes_eq verb (codes "unplug") then unplug_words tree n line time (one_of words) else pressed n in
     by_either (bytes_eq verb (codes "plug")) t line (λ n. plug_words tree n line time (three_of words)) unplugged notes next
@@ -161,9 +182,13 @@ event_words_take tree line time verb words notes next e =
     (unplug_words_take tree line time (one_of words) notes next)
     (by_either (bytes_eq verb (codes "press")) t line (λ n. key_words tree n line true time words) released notes next
     (key_words_take tree line true time words notes next)
-    (by_either (bytes_eq verb (codes "release")) t line (λ n. key_words tree n line false time words) fail notes next
+    (by_either (bytes_eq verb (codes "release")) t line (λ n. key_words tree n line false time words) held notes next
     (key_words_take tree line false time words notes next)
-    (no_event t line Word notes next)))) e
+    (by_either (bytes_eq verb (codes "hold")) t line (λ n. hold_words tree n line time (two_of words)) dropped notes next
+    (hold_words_take tree line time (two_of words) notes next)
+    (by_either (bytes_eq verb (codes "drop")) t line (λ n. drop_words tree n line time (one_of words)) fail notes next
+    (drop_words_take tree line time (one_of words) notes next)
+    (no_event t line Word notes next)))))) e
 
 send_takes : (line : ℕ) (time device : Option ℕ) (frame : Result (List ℕ) AssembleError) (notes next : Notes) → Ok next ≡ send_read notes line time device frame
     → Takes time line (By (λ n. send_read n line time device frame)) notes next

@@ -1,5 +1,5 @@
 -- A run up to a time is not refused where the whole one is not.
-use Rattle.std.proofs.Common.{◌≡◌, ℕ, ◌≤◌, List, Option, IsSome, Some, None, Result, Ok, Err, ap, sym, subst, ◌∙◌}
+use Rattle.std.proofs.Common.{◌≡◌, ℕ, ◌≤◌, List, Option, IsSome, Some, None, Err, ap, sym, subst, ◌∙◌}
 use Rattle.hdmi_core.specs.declared.phys.Phys.{Phys}
 use Rattle.hdmi_blocks.specs.Address.{edid_address}
 use Rattle.hdmi_blocks.specs.Bytes.{edid_bytes, IsRefused}

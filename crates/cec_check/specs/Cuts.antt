@@ -1,5 +1,5 @@
 -- What a script says that ends earlier (own): the events before then, all pulses, and that end.
-use Rattle.std.specs.Prelude.{◌≡◌, ℕ, ◌≤◌, nat_lt, Bool, List, filter, Result, Ok}
+use Rattle.std.specs.Prelude.{ℕ, ◌≤◌, nat_lt, Bool, List, filter, Ok}
 use Rattle.hdmi_topo.specs.Node.{Node}
 use Rattle.cec_asm.specs.Script.{Course, IsScriptRead}
 use Rattle.cec_asm.specs.declared.script.TimedEvent.{TimedEvent}

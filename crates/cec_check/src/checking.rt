@@ -1,5 +1,5 @@
 //! From the texts of a topology and a script with expectations to their report.
-ghost use Rattle.std.specs.Prelude.{◌≡◌, ◌↔◌, not, true, false, length, filter, IfOk, IfErr, IsTrue};
+ghost use Rattle.std.specs.Prelude.{◌≡◌, ◌↔◌, not, false, length, filter, IfOk, IfErr, IsTrue};
 ghost use Rattle.cec_check.specs.Check.{AreVerdictsOf, IsCheckCut, IsCheckTold, IsChecked, IsReportOf, IsVerdictTold, is_write, tally_of};
 ghost use Rattle.cec_check.specs.Report.{report_as};
 

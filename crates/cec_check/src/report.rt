@@ -1,13 +1,12 @@
 //! The report of a script's expectations, by the trace of its run.
-ghost use Rattle.std.specs.Prelude.{◌≡◌, ◌++◌, ◌∷◌, [], ◌==◌, codes, if◌then◌else◌, OnOk, IfOk, Some, None, length, map};
+ghost use Rattle.std.specs.Prelude.{◌≡◌, ◌++◌, ◌==◌, codes, if◌then◌else◌, OnOk, IfOk, Some, map};
 ghost use Rattle.std.specs.List.{flat_map};
 ghost use Rattle.std.specs.Option.{option_map};
 ghost use Rattle.hdmi_core.specs.Piece.{piece_text};
 ghost use Rattle.cec_words.specs.Lines.{lines_of};
-ghost use Rattle.cec_words.specs.Words.{words_of};
 ghost use Rattle.cec_judge.specs.Judged.{judged};
 ghost use Rattle.cec_judge.specs.Told.{event_as};
-ghost use Rattle.cec_check.specs.Report.{begun, ended, escaped, escaped_byte, remarks, report, report_as, shown_text, shown_line, span_remarks, verdict_word, with_event, with_found, with_line, with_lines, with_refusals, with_test, with_word};
+ghost use Rattle.cec_check.specs.Report.{begun, ended, escaped, escaped_byte, remarks, report, report_as, shown_text, shown_line, span_remarks, verdict_word, with_event, with_line, with_lines, with_refusals, with_test, with_word};
 
 use crate::held::Held;
 use cec_expect::{Form, form_in, unlabelled};

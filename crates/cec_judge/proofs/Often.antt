@@ -1,14 +1,11 @@
 -- How often rounds are seen.
-use Rattle.std.proofs.Common.{◌≡◌, ℕ, zero, suc, ◌+◌, ◌<◌, ◌≤◌, ◌==◌, nat_lt, nat_le, ◌&&◌, Bool, true, false, List, [], ◌∷◌, length, Option, Some, None, refl, sym, ap, ◌∙◌, subst, arith, rules, is_some}
+use Rattle.std.proofs.Common.{◌≡◌, ℕ, ◌≤◌, ◌==◌, nat_lt, Bool, true, false, List, [], ◌∷◌, length, Option, Some, None, arith, rules, is_some}
 use Rattle.std.specs.List.{filter_map, cons_option}
 use Rattle.std.proofs.lemmas.Grind.{common_steps}
-use Rattle.cec_expect.specs.Fits.{fits}
-use Rattle.cec_expect.specs.declared.form.Quantity.TheVariants.{AtLeastOnce, Never, Once}
 use Rattle.cec_words.specs.Lines.{lines_of}
 use Rattle.cec_words.specs.Words.{words_of}
 use Rattle.cec_judge.specs.Told.{RoundLine, round_in}
 use Rattle.cec_judge.specs.Seen.{is_seen, end_by, end_seen, ends_seen}
-use Rattle.cec_judge.specs.Judged.{holds_by, rounds_judged}
 use Rattle.cec_judge.specs.Laws.{LargerSpansHold, NeverIsTheContrary, OnceIsSome}
 use Rattle.cec_judge.specs.declared.seen.Span.{Span}
 

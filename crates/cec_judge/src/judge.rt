@@ -2,11 +2,12 @@
 ghost use Rattle.std.specs.Prelude.{◌≡◌, ◌<◌, ◌^◌, length, map, IfOk};
 ghost use Rattle.std.specs.Option.{option_copied};
 ghost use Rattle.cec_words.specs.Words.{words_behind, words_of};
-ghost use Rattle.cec_expect.specs.Form.{form_as, window_of};
-ghost use Rattle.cec_judge.specs.Judged.{failed, form_expects, form_judged, has_word, has_words, holds_by, instant_at, is_number, is_refusal_expected, is_word, judged, line_expects, line_judged, other_judged, refusal_at, refused_judged, rounds_judged, span_from, span_of, state_judged};
+ghost use Rattle.cec_expect.specs.Form.{window_of};
+ghost use Rattle.cec_judge.specs.Judged.{failed, has_word, has_words, holds_by, instant_at, is_number, is_refusal_expected, is_word, judged, line_expects, line_judged, other_judged, refusal_at, refused_judged, rounds_judged, span_from, span_of, state_judged};
 
-use crate::seen::{Span, rounds_seen};
-use crate::told::{event_at, refusal_in, state_words};
+use crate::index::Index;
+use crate::seen::Span;
+use crate::told::{refusal_in, state_words};
 use cec_expect::{Form, Quantity, Window, event_labelled, form_in, labelled, unlabelled};
 use cec_words::{first_line, first_word};
 use std::alloc::{AllocError, AllocFailed, Global};
@@ -80,13 +81,18 @@ fn holds_by(quantity: Quantity, count: u64) -> bool
     }
 }
 
-fn rounds_judged(trace: &[u8], quantity: Quantity, pattern: &[u8], span: Option<Span>) -> Judged
-    ensures { result ≡ rounds_judged trace.now quantity pattern.now span }
+fn rounds_judged(
+    index: &Index<'_>,
+    quantity: Quantity,
+    pattern: &[u8],
+    span: Option<Span>,
+) -> Judged
+    ensures { result ≡ rounds_judged index.now.trace.now quantity pattern.now span }
 {
     let Some(span) = span else {
         return failed();
     };
-    let seen = rounds_seen(trace, span, pattern);
+    let seen = index.rounds_seen(span, pattern);
     let holds = holds_by(quantity, seen.count);
     Judged {
         holds: Some(holds),
@@ -96,10 +102,10 @@ fn rounds_judged(trace: &[u8], quantity: Quantity, pattern: &[u8], span: Option<
     }
 }
 
-fn refusal_at(trace: &[u8], line: Option<u64>) -> Option<&[u8]>
-    ensures { option_copied result ≡ refusal_at trace.now line }
+fn refusal_at<'a>(index: &Index<'a>, line: Option<u64>) -> Option<&'a [u8]>
+    ensures { option_copied result ≡ refusal_at index.now.trace.now line }
 {
-    match event_at(trace, line?) {
+    match index.event_at(line?) {
         None => None,
         Some(event) => refusal_in(event.outcome),
     }
@@ -114,11 +120,11 @@ fn is_word(word: &[u8], other: Option<&[u8]>) -> bool
     }
 }
 
-fn refused_judged(script: &[u8], trace: &[u8], name: &[u8], word: &[u8]) -> Judged
-    ensures { result ≡ refused_judged script.now trace.now name.now word.now }
+fn refused_judged(script: &[u8], index: &Index<'_>, name: &[u8], word: &[u8]) -> Judged
+    ensures { result ≡ refused_judged script.now index.now.trace.now name.now word.now }
 {
     Judged {
-        holds: Some(is_word(word, refusal_at(trace, event_labelled(script, name)))),
+        holds: Some(is_word(word, refusal_at(index, event_labelled(script, name)))),
         at: None,
         span: None,
         count: 0,
@@ -165,10 +171,10 @@ fn state_judged(state: &[u8], words: &[u8]) -> Judged
     }
 }
 
-fn other_judged(trace: &[u8], number: u64) -> Judged
-    ensures { result ≡ other_judged trace.now number }
+fn other_judged(index: &Index<'_>, number: u64) -> Judged
+    ensures { result ≡ other_judged index.now.trace.now number }
 {
-    let at = match event_at(trace, number) {
+    let at = match index.event_at(number) {
         None => None,
         Some(event) => Some(event.at),
     };
@@ -180,21 +186,27 @@ fn other_judged(trace: &[u8], number: u64) -> Judged
     }
 }
 
-fn line_judged(script: &[u8], trace: &[u8], state: &[u8], above: &[Judged], line: &[u8]) -> Judged
+fn line_judged(
+    script: &[u8],
+    index: &Index<'_>,
+    state: &[u8],
+    above: &[Judged],
+    line: &[u8],
+) -> Judged
     requires { length above.now < 2 ^ 63 }
-    ensures { result ≡ line_judged script.now trace.now state.now above.now line.now }
+    ensures { result ≡ line_judged script.now index.now.trace.now state.now above.now line.now }
 {
     match form_in(unlabelled(line).rest) {
         Err(_) => failed(),
         Ok(form) => match form {
-            Form::Other => other_judged(trace, above.len() as u64 + 1),
+            Form::Other => other_judged(index, above.len() as u64 + 1),
             Form::Rounds {
                 quantity,
                 window,
                 pattern,
-            } => rounds_judged(trace, quantity, pattern, span_of(script, above, window)),
+            } => rounds_judged(index, quantity, pattern, span_of(script, above, window)),
             Form::State { words, .. } => state_judged(state, words),
-            Form::Refused { label, word } => refused_judged(script, trace, label, word),
+            Form::Refused { label, word } => refused_judged(script, index, label, word),
         },
     }
 }
@@ -213,6 +225,7 @@ pub fn all_judged(
 ) -> Result<Vec<Judged>, AllocError>
     ensures { IfOk result (λ found. found.items ≡ judged script.now trace.now (map (λ state. state.items) states.now)) }
 {
+    let index = Index::new(alloc, script, trace)?;
     let mut found = Vec::new(alloc);
     let mut rest = script;
     let mut left = states;
@@ -220,7 +233,7 @@ pub fn all_judged(
         let [state, others @ ..] = left else {
             return Ok(found);
         };
-        let judged = line_judged(script, trace, state, &found, line);
+        let judged = line_judged(script, &index, state, &found, line);
         found.push(judged)?;
         rest = after;
         left = others;

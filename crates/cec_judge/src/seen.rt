@@ -1,11 +1,11 @@
 //! The rounds of a trace in a span of time that meet a pattern.
-ghost use Rattle.std.specs.Prelude.{◌≡◌, ◌∷◌, [], length};
-ghost use Rattle.cec_judge.specs.Seen.{end_by, end_seen, ends_seen, first_of, is_seen, or_first};
+ghost use Rattle.std.specs.Prelude.{◌≡◌, ◌∷◌, [], length, map};
+ghost use Rattle.cec_judge.specs.Index.{ends_among};
+ghost use Rattle.cec_judge.specs.Seen.{end_seen, first_of, is_seen, or_first};
 ghost use Rattle.cec_judge.specs.Told.{round_as};
 
 use crate::told::{RoundLine, round_in};
 use cec_expect::fits;
-use cec_words::first_line;
 
 /// A span of time, in microseconds.
 #[derive(Clone, Copy, Debug, PartialEq, Eq)]
@@ -48,20 +48,20 @@ fn or_first(first: Option<u64>, at: u64) -> Option<u64>
     }
 }
 
-/// How many rounds of a trace began and ended within the span and meet the pattern, and the end of the first.
-pub fn rounds_seen(trace: &[u8], span: Span, pattern: &[u8]) -> Seen
-    ensures count { result.count ≡ length (ends_seen trace.now span pattern.now) }
-    ensures first { result.first ≡ first_of (ends_seen trace.now span pattern.now) }
+/// How many of these rounds began and ended within the span and meet the pattern, and the end of the first.
+pub(crate) fn rounds_seen(rounds: &[RoundLine<'_>], span: Span, pattern: &[u8]) -> Seen
+    ensures count { result.count ≡ length (ends_among (map round_as rounds.now) span pattern.now) }
+    ensures first { result.first ≡ first_of (ends_among (map round_as rounds.now) span pattern.now) }
 {
-    let mut rest = trace;
+    let mut rest = rounds;
     let mut count = 0u64;
     let mut first = None;
-    'lines: while let Some((line, after)) = first_line(rest) {
-        if let Some(at) = end_seen(span, pattern, line) {
+    'rounds: while let [round, others @ ..] = rest {
+        if is_seen(span, pattern, round) {
             count += 1;
-            first = or_first(first, at);
+            first = or_first(first, round.at);
         }
-        rest = after;
+        rest = others;
     }
     Seen { count, first }
 }

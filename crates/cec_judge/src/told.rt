@@ -1,5 +1,5 @@
 //! What the lines of a trace say of rounds, of events and of states.
-ghost use Rattle.std.specs.Prelude.{◌≡◌, ◌+◌, ◌≤◌, length};
+ghost use Rattle.std.specs.Prelude.{◌≡◌};
 ghost use Rattle.std.specs.Option.{option_copied, option_map};
 ghost use Rattle.cec_words.specs.Words.{words_behind, words_of};
 ghost use Rattle.cec_judge.specs.Told.{event_as, event_at, event_in, is_state_of, refusal_in, round_as, round_in, state_line, state_words, told_in};

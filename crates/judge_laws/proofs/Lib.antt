@@ -4,3 +4,5 @@ pub mod Others
 pub mod Names
 pub mod Script
 pub mod Run
+pub mod States
+pub mod Agree

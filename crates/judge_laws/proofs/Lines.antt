@@ -1,5 +1,5 @@
 -- What the lines of a text add to the rounds and events that are read of it.
-use Rattle.std.proofs.Common.{◌≡◌, ◌≢◌, ℕ, ◌^◌, ◌<◌, ◌==◌, Bool, true, false, List, [], ◌∷◌, ◌++◌, length, codes, Option, Some, None, refl, sym, ap, ◌∙◌, subst, arith, append_assoc}
+use Rattle.std.proofs.Common.{◌≡◌, ◌≢◌, ℕ, ◌^◌, ◌<◌, ◌==◌, false, List, [], ◌∷◌, ◌++◌, codes, Option, Some, None, refl, sym, ap, ◌∙◌, subst, arith, append_assoc}
 use Rattle.std.specs.Fmt.{decimal}
 use Rattle.std.specs.Char.{digit_value}
 use Rattle.std.specs.List.{cons_option, filter_map, flat_map}
@@ -34,7 +34,7 @@ adds_nothing f (x ∷ xs) h = adds_two (h x) (adds_nothing f xs h)
 
 -- ---- a line
 
-lacks_feed : (xs : List ℕ) → IsPlain xs → Lacks (λ c. c == 10) xs
+pub lacks_feed : (xs : List ℕ) → IsPlain xs → Lacks (λ c. c == 10) xs
 lacks_feed [] h = none_lack (λ c. c == 10)
 lacks_feed (c ∷ cs) h = more_lack (λ c. c == 10) c cs (other c h.0) (lacks_feed cs h.1)
   where

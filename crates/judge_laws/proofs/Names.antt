@@ -1,6 +1,5 @@
 -- The names of devices stay, whatever they meet.
-use Rattle.std.proofs.Common.{◌≡◌, ℕ, zero, suc, ◌+◌, ◌%◌, ◌<◌, ◌==◌, Bool, true, false, not, ◌&&◌, ◌||◌, nat_lt, if◌then◌else◌, map, List, [], ◌∷◌, ◌++◌, length, Option, Some, None, refl, sym, ap, ap₂, ◌∙◌, subst, arith}
-use Rattle.std.specs.List.{All}
+use Rattle.std.proofs.Common.{◌≡◌, ℕ, zero, suc, ◌+◌, ◌%◌, ◌==◌, Bool, true, false, not, ◌&&◌, nat_lt, if◌then◌else◌, List, [], ◌∷◌, Option, Some, None, refl, ap, ap₂, ◌∙◌}
 use Rattle.cec_opcode.specs.Words.{reason_byte}
 use Rattle.cec_opcode.specs.declared.words.Reason.TheVariants.{Unrecognized}
 use Rattle.cec_opcode.specs.declared.message.Decoded.{Decoded}
@@ -28,9 +27,12 @@ use Rattle.cec_device.specs.State.{State, held, queued, source}
 use Rattle.cec_device.specs.Say.{effected, say, say_all}
 use Rattle.cec_device.specs.Effects.{by_decoded, followed, is_for}
 use Rattle.cec_device.specs.Keys.{key_fault, keyed, keyed_by, own_doing}
+use Rattle.cec_device.specs.declared.outside.Act.{Act}
+use Rattle.cec_device.specs.declared.outside.Act.TheVariants.{Hold, Empty}
+use Rattle.cec_device.specs.Outside.{act_fault, acted, acted_by}
 use Rattle.cec_device.specs.Place.{class_of_poll, ended, failed, frame_sent, front_is_poll, is_on_wire, polled_at, sent_by, stepped, submit_fault, submitted, submitted_by}
 use Rattle.cec_event.specs.declared.event.Event.{Event}
-use Rattle.cec_event.specs.declared.event.Event.TheVariants.{Plug, Unplug, Key as KeyEvent, Send}
+use Rattle.cec_event.specs.declared.event.Event.TheVariants.{Plug, Unplug, Key as KeyEvent, Send, Outside}
 use Rattle.cec_event.specs.declared.event.EventError.{EventError}
 use Rattle.cec_net.specs.Start.{contends}
 use Rattle.cec_net.specs.State.{NetState, each_from}
@@ -78,6 +80,11 @@ name-keyed_by limit at key press d (Some fault) = refl
 name-submitted_by : (at : ℕ) (frame : List ℕ) (d : State) (fault : Option SubmitError) → (submitted_by d frame at fault).name ≡ d.name
 name-submitted_by at frame d None = refl
 name-submitted_by at frame d (Some fault) = refl
+
+name-acted_by : (d : State) (fault : Option KeyError) (act : Act) → (acted_by d fault act).name ≡ d.name
+name-acted_by d (Some fault) act = refl
+name-acted_by d None (Hold first second) = refl
+name-acted_by d None Empty = refl
 
 -- ---- fates
 
@@ -128,6 +135,7 @@ names-unless None at (Plug child parent port) s = names-each 0 at _ s.devices
 names-unless None at (Unplug child) s = names-each 0 at _ s.devices
 names-unless None at (KeyEvent device key press) s = names-changed device (λ d. keyed 16 d key press at) s.devices (λ d. name-keyed_by 16 at key press d (key_fault d key))
 names-unless None at (Send device frame) s = names-changed device (λ d. submitted 16 d frame at) s.devices (λ d. name-submitted_by at frame d (submit_fault 16 d frame))
+names-unless None at (Outside device act) s = names-changed device (λ d. acted d act) s.devices (λ d. name-acted_by d (act_fault d) act)
 
 pub names_applied : (at : ℕ) (event : Event) (s : NetState) → names_of (applied at event s).devices ≡ names_of s.devices
 names_applied at event s = names-unless (event_fault s event) at event s
@@ -150,6 +158,7 @@ tree-unless None at (Plug child parent port) s = names-plug s.tree child _
 tree-unless None at (Unplug child) s = names-plug s.tree child _
 tree-unless None at (KeyEvent device key press) s = refl
 tree-unless None at (Send device frame) s = refl
+tree-unless None at (Outside device act) s = refl
 
 pub tree_applied : (at : ℕ) (event : Event) (s : NetState) → names_in (applied at event s).tree ≡ names_in s.tree
 tree_applied at event s = tree-unless (event_fault s event) at event s

@@ -1,12 +1,11 @@
 -- The lines of a trace that tell no round.
-use Rattle.std.proofs.Common.{◌≡◌, ◌≢◌, ℕ, suc, ◌%◌, ◌^◌, ◌<◌, ◌==◌, ◌&&◌, not, Bool, true, false, if◌then◌else◌, List, [], ◌∷◌, ◌++◌, length, codes, map, slice_get, Option, Some, None, refl, sym, ap, ◌∙◌, subst, arith, append_assoc, append-nil, zero}
+use Rattle.std.proofs.Common.{◌≡◌, ℕ, suc, ◌%◌, ◌^◌, ◌<◌, ◌==◌, ◌&&◌, not, Bool, true, false, if◌then◌else◌, List, [], ◌∷◌, ◌++◌, length, codes, Option, Some, None, refl, sym, ap, ◌∙◌, subst, arith, append_assoc, zero}
 use Rattle.std.specs.Fmt.{decimal}
 use Rattle.std.specs.List.{All, flat_map, list_all, range_with_len}
 use Rattle.std.specs.Option.{option_to_list}
 use Rattle.std.specs.Str.{bytes_eq}
 use Rattle.hdmi_core.specs.declared.kind.Kind.{Kind}
-use Rattle.hdmi_core.specs.declared.kind.Kind.TheVariants.{Tv, Amp, Player, Recorder, Switch, Combo}
-use Rattle.hdmi_core.specs.declared.phys.Phys.{Phys}
+use Rattle.hdmi_core.specs.declared.kind.Kind.TheVariants.{Tv, Amp, Player, Recorder, Switch, Combo, Outside}
 use Rattle.hdmi_core.specs.Piece.{dash_or, hex_or_dash, hex_text, nibble_text, phys_text, switch_text}
 use Rattle.hdmi_blocks.specs.declared.edid.Edid.{Edid}
 use Rattle.hdmi_topo.specs.Node.{Node}
@@ -16,9 +15,8 @@ use Rattle.hdmi_topo.specs.Tree.{ports_of}
 use Rattle.cec_words.specs.Number.{number_of}
 use Rattle.cec_words.specs.Words.{words_of}
 use Rattle.cec_signal.proofs.Numbers.{number_again}
-use Rattle.cec_signal.proofs.Texts.{Lacks, shown}
+use Rattle.cec_signal.proofs.Texts.{shown}
 use Rattle.cec_opcode.specs.DeckWords.{deck_info_byte}
-use Rattle.cec_opcode.specs.declared.message.Triple.{Triple}
 use Rattle.cec_feature.specs.declared.record.Note.{Note}
 use Rattle.cec_device.specs.State.{State, held}
 use Rattle.cec_device.specs.Place as place
@@ -31,9 +29,10 @@ use Rattle.hdmi_topo.specs.declared.plug.UnplugError.TheVariants as unplug
 use Rattle.cec_audit.specs.Kept.{IsPlain}
 use Rattle.cec_audit.proofs.Plain.{plain_codes, plain_decimal, plain_hex, plain_more, plain_nibble, plain_phys}
 use Rattle.cec_trace.specs.PortText.{lines_of_new, lines_of_ports, name_in, port_line, port_line_of, port_lines}
-use Rattle.cec_trace.specs.StateText.{address_text, kind_text, language_bytes, note_text, phys_on, power_text, state_line, unit_text}
+use Rattle.cec_trace.specs.StateText.{address_text, held_text, kind_text, language_bytes, note_text, outside_line, phys_on, power_text, state_line, state_line_of, unit_text}
+use Rattle.cec_feature.specs.Kinds.{is_outside}
 use Rattle.cec_trace.specs.TraceText.{end_line, error_word, event_line}
-use Rattle.cec_judge.specs.Told.{EventLine, RoundLine, event_by, event_in, event_behind, round_by, round_in, told_in}
+use Rattle.cec_judge.specs.Told.{EventLine, RoundLine, event_by, event_in, round_by, round_in, told_in}
 use Rattle.judge_laws.specs.ReadBack.{fault_words}
 use Rattle.judge_laws.proofs.Lines.{Adds, Closed, adds_none, adds_nothing, adds_two, closed_end, closed_last, closed_more, first_word, number_solid, one_word_adds, two_words_add}
 
@@ -71,7 +70,7 @@ silent {text} {r} {e} a h k = subst (λ x. Adds text (option_to_list x) []) h (s
 
 -- ---- plain texts
 
-plain_hexes : (xs : List ℕ) → IsPlain (flat_map hex_text xs)
+pub plain_hexes : (xs : List ℕ) → IsPlain (flat_map hex_text xs)
 plain_hexes [] = tt
 plain_hexes (x ∷ xs) = plain_more (hex_text x) (flat_map hex_text xs) (plain_hex x) (plain_hexes xs)
 
@@ -81,20 +80,21 @@ plain_dash f (Some x) h = h x
 
 -- ---- ports
 
-name_plain : (tree : List Node) (device : ℕ) → All (λ node. IsPlain node.name) tree → IsPlain (name_in tree device)
+pub name_plain : (tree : List Node) (device : ℕ) → All (λ node. IsPlain node.name) tree → IsPlain (name_in tree device)
 name_plain [] device h = tt
 name_plain (node ∷ tree) zero h = h 0 node (omega arith)
 name_plain (node ∷ tree) (suc device) h = name_plain tree device (λ k x l. h (suc k) x (omega arith))
 
+abbrev pub port_tail : (port : ℕ) (name bytes : List ℕ) → IsPlain name → Closed (name ++ (codes " " ++ (decimal port ++ (codes " " ++ (flat_map hex_text bytes ++ (codes "\n" ++ []))))))
+port_tail port name bytes plain =
+    closed_more name plain (closed_more (codes " ") (plain_codes (codes " ") refl) (closed_more (decimal port) (plain_decimal port) (closed_more (codes " ") (plain_codes (codes " ") refl)
+    (closed_more (flat_map hex_text bytes) (plain_hexes bytes) closed_last))))
+
 port_adds : (at port : ℕ) (name bytes : List ℕ) → at < 2 ^ 64 → IsPlain name → Adds (port_line_of at name port bytes) [] []
 port_adds at port name bytes small plain =
+    let tail = port_tail port name bytes plain in
     silent (two_words_add (decimal at) (codes "port") (number_solid at small) (plain_decimal at) (shown (λ b. b == 32) (codes "port") refl) (plain_codes (codes "port") refl) tail)
     (no_end (decimal at) (codes "port") (words_of tail.body) refl) (other_verb (decimal at) (codes "port") (words_of tail.body) refl)
-  where
-    tail : Closed (name ++ (codes " " ++ (decimal port ++ (codes " " ++ (flat_map hex_text bytes ++ (codes "\n" ++ []))))))
-    tail =
-        closed_more name plain (closed_more (codes " ") (plain_codes (codes " ") refl) (closed_more (decimal port) (plain_decimal port) (closed_more (codes " ") (plain_codes (codes " ") refl)
-        (closed_more (flat_map hex_text bytes) (plain_hexes bytes) closed_last))))
 
 new_adds : (at device : ℕ) (root : Edid) (tree : List Node) (was : Bool) → at < 2 ^ 64 → All (λ node. IsPlain node.name) tree → Adds (lines_of_new at root tree was device) [] []
 new_adds at device root tree was small plain = by (is_on_wire tree device && not was)
@@ -117,6 +117,7 @@ plain_kind Player = plain_codes (codes "player") refl
 plain_kind Recorder = plain_codes (codes "recorder") refl
 plain_kind Switch = plain_codes (codes "switch") refl
 plain_kind Combo = plain_codes (codes "combo") refl
+plain_kind Outside = plain_codes (codes "outside") refl
 
 plain_unit : (unit : Option ℕ) → IsPlain (unit_text unit)
 plain_unit unit = plain_dash (λ n. nibble_text (n % 16)) unit (λ n. plain_nibble (n % 16))
@@ -132,9 +133,18 @@ plain_address Recorder [] = tt
 plain_address Recorder (u ∷ us) = plain_unit u
 plain_address Switch [] = tt
 plain_address Switch (u ∷ us) = plain_unit u
+plain_address Outside [] = tt
+plain_address Outside (u ∷ us) = plain_unit u
 plain_address Combo [] = tt
 plain_address Combo (u ∷ []) = plain_unit u
 plain_address Combo (u ∷ v ∷ us) = plain_more (unit_text u ++ codes "+") (unit_text v) (plain_more (unit_text u) (codes "+") (plain_unit u) (plain_codes (codes "+") refl)) (plain_unit v)
+
+plain_held : (units : List (Option ℕ)) → IsPlain (held_text units)
+plain_held [] = tt
+plain_held (u ∷ []) = plain_unit u
+plain_held (u ∷ None ∷ us) = plain_unit u
+plain_held (u ∷ Some v ∷ us) =
+    plain_more (unit_text u ++ codes "+") (unit_text (Some v)) (plain_more (unit_text u) (codes "+") (plain_unit u) (plain_codes (codes "+") refl)) (plain_unit (Some v))
 
 plain_power : (on : Bool) → IsPlain (power_text on)
 plain_power true = plain_codes (codes "on") refl
@@ -158,10 +168,19 @@ plain_note n =
 lit : (xs : List ℕ) {ys : List ℕ} → list_all (λ c. not (c == 10)) xs ≡ true → Closed ys → Closed (xs ++ ys)
 lit xs h k = closed_more xs (plain_codes xs h) k
 
-pub state_adds : (d : State) → IsPlain d.name → Adds (state_line d) [] []
-state_adds d plain =
+-- the line of a device by its parts: the verb, the name, and the rest
+pub record LineTold (name line : List ℕ) : Type 0 where
+  pub body : List ℕ
+  pub plain : IsPlain body
+  pub whole : line ≡ codes "state" ++ 32 ∷ ((name ++ 32 ∷ body) ++ 10 ∷ [])
+
+abbrev pub StateTold : State → Type 0
+StateTold d = LineTold d.name (state_line d)
+
+inside_told : (d : State) → LineTold d.name (state_line_of d (address_text d.kind (held d.place)) (language_bytes d.record_of.language) (dash_or note_text d.record_of.heard))
+inside_told d =
     let tail =
-    closed_more d.name plain (lit (codes " ") refl (closed_more (kind_text d.kind) (plain_kind d.kind) (lit (codes " ") refl
+    closed_more (kind_text d.kind) (plain_kind d.kind) (lit (codes " ") refl
     (closed_more (address_text d.kind (held d.place)) (plain_address d.kind (held d.place)) (lit (codes " ") refl
     (closed_more (dash_or phys_text (phys_on (place.is_on_wire d) d.phys)) (plain_dash phys_text (phys_on (place.is_on_wire d) d.phys) plain_phys) (lit (codes " ") refl
     (closed_more (power_text d.record_of.power) (plain_power d.record_of.power) (lit (codes " active=") refl
@@ -180,9 +199,36 @@ state_adds d plain =
     (closed_more (dash_or note_text d.record_of.heard) (plain_dash note_text d.record_of.heard plain_note) (lit (codes " sub=") refl
     (closed_more (dash_or (λ n. nibble_text (n % 16)) d.record_of.sub) (plain_dash (λ n. nibble_text (n % 16)) d.record_of.sub (λ n. plain_nibble (n % 16))) (lit (codes " queue=") refl
     (closed_more (decimal (length d.queue)) (plain_decimal (length d.queue)) (lit (codes " dropped=") refl
-    (closed_more (decimal d.dropped) (plain_decimal d.dropped) closed_last)))))))))))))))))))))))))))))))))))))))) in
-    silent (one_word_adds (codes "state") (shown (λ b. b == 32) (codes "state") refl) (plain_codes (codes "state") refl) tail) (no_begin (codes "state") (words_of tail.body) refl)
-    (no_event (codes "state") (words_of tail.body) refl)
+    (closed_more (decimal d.dropped) (plain_decimal d.dropped) closed_last)))))))))))))))))))))))))))))))))))))) in
+    record { body = tail.body; plain = tail.plain; whole = ap (λ t. codes "state" ++ 32 ∷ (d.name ++ 32 ∷ t)) tail.same ∙ ap (λ t. codes "state" ++ 32 ∷ t) (sym (append_assoc d.name (32 ∷ tail.body) (10 ∷ []))) }
+
+outside_told : (d : State) → LineTold d.name (outside_line d (held_text (held d.place)))
+outside_told d =
+    let tail =
+    closed_more (kind_text d.kind) (plain_kind d.kind) (lit (codes " ") refl
+    (closed_more (held_text (held d.place)) (plain_held (held d.place)) (lit (codes " ") refl
+    (closed_more (dash_or phys_text (phys_on (place.is_on_wire d) d.phys)) (plain_dash phys_text (phys_on (place.is_on_wire d) d.phys) plain_phys)
+    (lit (codes " - active=- path=- deck=- menu=- audio=- volume=- mute=- arc=- sel=- lang=- osd=- held=- heard=- sub=- queue=") refl
+    (closed_more (decimal (length d.queue)) (plain_decimal (length d.queue)) (lit (codes " dropped=") refl
+    (closed_more (decimal d.dropped) (plain_decimal d.dropped) closed_last)))))))) in
+    record { body = tail.body; plain = tail.plain; whole = ap (λ t. codes "state" ++ 32 ∷ (d.name ++ 32 ∷ t)) tail.same ∙ ap (λ t. codes "state" ++ 32 ∷ t) (sym (append_assoc d.name (32 ∷ tail.body) (10 ∷ []))) }
+
+pub state_told : (d : State) → StateTold d
+state_told d = either (is_outside d.kind)
+  where
+    either : (b : Bool) → LineTold d.name (if b then outside_line d (held_text (held d.place))
+        else state_line_of d (address_text d.kind (held d.place)) (language_bytes d.record_of.language) (dash_or note_text d.record_of.heard))
+    either true = outside_told d
+    either false = inside_told d
+
+pub state_adds : (d : State) → IsPlain d.name → Adds (state_line d) [] []
+state_adds d plain =
+    let told = state_told d in
+    let tail : Closed ((d.name ++ 32 ∷ told.body) ++ 10 ∷ []) =
+    record { body = d.name ++ 32 ∷ told.body; same = refl; plain = plain_more d.name (32 ∷ told.body) plain ((λ e. absurd (omega (arith, e))), told.plain) } in
+    subst (λ t. Adds t [] []) (sym told.whole)
+    (silent (one_word_adds (codes "state") (shown (λ b. b == 32) (codes "state") refl) (plain_codes (codes "state") refl) tail) (no_begin (codes "state") (words_of tail.body) refl)
+    (no_event (codes "state") (words_of tail.body) refl))
 
 pub states_add : (devices : List State) → All (λ d. IsPlain d.name) devices → Adds (flat_map state_line devices) [] []
 states_add [] h = adds_none
@@ -197,7 +243,7 @@ end_adds end small =
 
 -- ---- events
 
-error_plain : (e : EventError) → IsPlain (error_word e) × (words_of (error_word e) ≡ error_word e ∷ [])
+pub error_plain : (e : EventError) → IsPlain (error_word e) × (words_of (error_word e) ≡ error_word e ∷ [])
 error_plain (Plug plug.PortRange) = (plain_codes (codes "port-range") refl, refl)
 error_plain (Plug plug.PortTaken) = (plain_codes (codes "port-taken") refl, refl)
 error_plain (Plug plug.NotLoose) = (plain_codes (codes "not-loose") refl, refl)
@@ -224,11 +270,15 @@ event_line_adds at line outcome a l k words =
     (no_end (decimal at) (codes "event") (words_of k.body) refl)
     (ap (λ ws. event_in (decimal at ∷ codes "event" ∷ ws)) words ∙ event_words at line outcome a l)
 
+abbrev pub event_tail : (line : ℕ) → Closed (decimal line ++ (codes " ok" ++ (codes "\n" ++ [])))
+event_tail line = closed_more (decimal line) (plain_decimal line) (closed_end (codes " ok") (plain_codes (codes " ok") refl))
+
+abbrev pub refusal_tail : (line : ℕ) (error : EventError) → Closed (decimal line ++ (codes " refused " ++ (error_word error ++ (codes "\n" ++ []))))
+refusal_tail line error =
+    closed_more (decimal line) (plain_decimal line) (closed_more (codes " refused ") (plain_codes (codes " refused ") refl) (closed_end (error_word error) (error_plain error).0))
+
 pub event_adds : (at line : ℕ) (fault : Option EventError) → at < 2 ^ 64 → line < 2 ^ 64 → Adds (event_line at line fault) [] (record { at = at; line = line; outcome = fault_words fault } ∷ [])
-event_adds at line None a l =
-    event_line_adds at line (codes "ok" ∷ []) a l (closed_more (decimal line) (plain_decimal line) (closed_end (codes " ok") (plain_codes (codes " ok") refl)))
-    (first_word (decimal line) (codes "ok") (number_solid line l))
+event_adds at line None a l = event_line_adds at line (codes "ok" ∷ []) a l (event_tail line) (first_word (decimal line) (codes "ok") (number_solid line l))
 event_adds at line (Some error) a l =
-    event_line_adds at line (codes "refused" ∷ error_word error ∷ []) a l
-    (closed_more (decimal line) (plain_decimal line) (closed_more (codes " refused ") (plain_codes (codes " refused ") refl) (closed_end (error_word error) (error_plain error).0)))
+    event_line_adds at line (codes "refused" ∷ error_word error ∷ []) a l (refusal_tail line error)
     (first_word (decimal line) (codes "refused " ++ error_word error) (number_solid line l) ∙ ap (λ ws. decimal line ∷ codes "refused" ∷ ws) (error_plain error).1)

@@ -1,7 +1,7 @@
 -- The line of a round is read as that round.
-use Rattle.std.proofs.Common.{◌≡◌, ◌≢◌, ℕ, zero, suc, ◌+◌, ◌^◌, ◌<◌, ◌==◌, Bool, true, false, if◌then◌else◌, List, [], ◌∷◌, ◌++◌, length, codes, map, slice_get, Option, Some, None, refl, sym, ap, ◌∙◌, subst, arith, append_assoc, append-nil}
+use Rattle.std.proofs.Common.{◌≡◌, ℕ, zero, suc, ◌+◌, ◌^◌, ◌<◌, ◌==◌, Bool, true, false, if◌then◌else◌, List, [], ◌∷◌, ◌++◌, length, codes, map, Option, Some, None, refl, sym, ap, ◌∙◌, subst, arith, append_assoc}
 use Rattle.std.specs.Fmt.{decimal}
-use Rattle.std.specs.List.{All, flat_map, join_with_byte}
+use Rattle.std.specs.List.{All, flat_map}
 use Rattle.std.specs.Option.{option_to_list}
 use Rattle.std.specs.Str.{bytes_eq}
 use Rattle.std.proofs.lemmas.Slice.Eq.{bytes_eq-Decides}
@@ -18,11 +18,11 @@ use Rattle.cec_device.specs.State.{State}
 use Rattle.cec_audit.specs.Kept.{IsPlain}
 use Rattle.cec_audit.proofs.OneLine.{plain_reading}
 use Rattle.cec_audit.proofs.Plain.{plain_codes, plain_decimal, plain_more}
-use Rattle.cec_text.specs.ReadingText.{ending_text, reading_text, told_text, verdict_text}
-use Rattle.cec_trace.specs.TraceText.{listed, loser_text, name_at, name_of, round_line}
-use Rattle.cec_judge.specs.Told.{EventLine, RoundLine, behind_complete, event_in, round_by, round_in, told_in}
+use Rattle.cec_text.specs.ReadingText.{ending_text, told_text, verdict_text}
+use Rattle.cec_trace.specs.TraceText.{listed, loser_text, name_at, round_line}
+use Rattle.cec_judge.specs.Told.{EventLine, RoundLine, behind_complete, round_by, round_in, told_in}
 use Rattle.judge_laws.specs.ReadBack.{RoundTold, ending_told, round_read, said}
-use Rattle.judge_laws.proofs.Lines.{Adds, Closed, closed_end, closed_more, closed_word, first_word, number_solid, two_words_add}
+use Rattle.judge_laws.proofs.Lines.{Adds, Closed, closed_end, closed_more, closed_word, number_solid, two_words_add}
 use Rattle.judge_laws.proofs.Others.{other_verb}
 
 -- ---- plain texts
@@ -36,12 +36,12 @@ front_plain : (xs ys : List ℕ) → IsPlain (xs ++ ys) → IsPlain xs
 front_plain [] ys h = tt
 front_plain (x ∷ xs) ys h = (h.0, front_plain xs ys h.1)
 
-name_plain : (devices : List State) (number : ℕ) → All (λ d. IsPlain d.name) devices → IsPlain (name_at devices number)
+pub name_plain : (devices : List State) (number : ℕ) → All (λ d. IsPlain d.name) devices → IsPlain (name_at devices number)
 name_plain [] number h = tt
 name_plain (d ∷ devices) zero h = h 0 d (omega arith)
 name_plain (d ∷ devices) (suc number) h = name_plain devices number (λ k x l. h (suc k) x (omega arith))
 
-loser_plain : (devices : List State) (loser : Loser) → All (λ d. IsPlain d.name) devices → IsPlain (loser_text devices loser)
+pub loser_plain : (devices : List State) (loser : Loser) → All (λ d. IsPlain d.name) devices → IsPlain (loser_text devices loser)
 loser_plain devices loser h =
     plain_more (name_at devices loser.seat) (64 ∷ decimal loser.slot) (name_plain devices loser.seat h) ((λ e. absurd (omega (arith, e))), plain_decimal loser.slot)
 
@@ -49,12 +49,12 @@ commas_plain : {X : Type 0} (f : X → List ℕ) (xs : List X) → ((x : X) → 
 commas_plain f [] h = tt
 commas_plain f (x ∷ xs) h = ((λ e. absurd (omega (arith, e))), plain_more (f x) (flat_map (λ t. 44 ∷ t) (map f xs)) (h x) (commas_plain f xs h))
 
-listed_plain : {X : Type 0} (f : X → List ℕ) (xs : List X) → ((x : X) → IsPlain (f x)) → IsPlain (listed (map f xs))
+pub listed_plain : {X : Type 0} (f : X → List ℕ) (xs : List X) → ((x : X) → IsPlain (f x)) → IsPlain (listed (map f xs))
 listed_plain f [] h = plain_codes (codes "-") refl
 listed_plain f (x ∷ xs) h = plain_more (f x) (flat_map (λ t. 44 ∷ t) (map f xs)) (h x) (commas_plain f xs h)
 
 -- what a reading tells
-told_plain : (r : Reading) → IsPlain (told_text r) × IsPlain (verdict_text r)
+pub told_plain : (r : Reading) → IsPlain (told_text r) × IsPlain (verdict_text r)
 told_plain r =
     let end = told_text r ++ (verdict_text r ++ []) in
     let behind = rest_plain (ending_text r.ending) end (rest_plain (decimal r.at) (ending_text r.ending ++ end) (rest_plain (codes " ") (decimal r.at ++ (ending_text r.ending ++ end))
@@ -62,11 +62,11 @@ told_plain r =
     (front_plain (told_text r) (verdict_text r ++ []) behind, front_plain (verdict_text r) [] (rest_plain (told_text r) (verdict_text r ++ []) behind))
 
 -- behind the ending
-abbrev behind : List State → Outcome → List ℕ
+abbrev pub behind : List State → Outcome → List ℕ
 behind devices o =
     told_text o.reading ++ (verdict_text o.reading ++ (codes " by " ++ (listed (map (name_at devices) o.survivors.items) ++ (codes " out " ++ (listed (map (loser_text devices) o.losers.items) ++ (codes "\n" ++ []))))))
 
-abbrev said_closed : (devices : List State) (o : Outcome) → All (λ d. IsPlain d.name) devices → Closed (behind devices o)
+abbrev pub said_closed : (devices : List State) (o : Outcome) → All (λ d. IsPlain d.name) devices → Closed (behind devices o)
 said_closed devices o h =
     closed_more (told_text o.reading) (told_plain o.reading).0 (closed_more (verdict_text o.reading) (told_plain o.reading).1 (closed_more (codes " by ") (plain_codes (codes " by ") refl)
     (closed_more (listed (map (name_at devices) o.survivors.items)) (listed_plain (name_at devices) o.survivors.items (λ n. name_plain devices n h)) (closed_more (codes " out ") (plain_codes (codes " out ") refl)
@@ -85,7 +85,7 @@ told_again word text = by (words_of text) (omega (arith, length-slice_split (λ 
     by (w ∷ ws) some e = ap (λ t. if bytes_eq word (codes "complete") then t else word ++ 32 ∷ t) e
 
 -- the word of an ending
-ending_word : Ending → List ℕ
+pub ending_word : Ending → List ℕ
 ending_word Complete = codes "complete"
 ending_word Short = codes "short"
 ending_word Silent = codes "silent"
@@ -93,13 +93,13 @@ ending_word BadStart = codes "bad-start"
 ending_word Long = codes "long"
 ending_word Open = codes "open"
 
-record IsEnding (e : Ending) (word : List ℕ) : Type 0 where
+pub record IsEnding (e : Ending) (word : List ℕ) : Type 0 where
   spelled : ending_text e ≡ 32 ∷ (word ++ 32 ∷ [])
   plain : IsPlain word
   words : (text : List ℕ) → words_of (word ++ 32 ∷ text) ≡ word ∷ words_of text
   told : (text : List ℕ) → (if bytes_eq word (codes "complete") then text else word ++ 32 ∷ text) ≡ ending_told e ++ text
 
-is_ending : (e : Ending) → IsEnding e (ending_word e)
+pub is_ending : (e : Ending) → IsEnding e (ending_word e)
 unfolding ending_word
 is_ending Complete = record { spelled = refl; plain = plain_codes (codes "complete") refl; words = λ text. refl; told = λ text. refl }
 is_ending Short = record { spelled = refl; plain = plain_codes (codes "short") refl; words = λ text. refl; told = λ text. refl }
@@ -121,7 +121,7 @@ five a b e t v z =
 spaced : (w z : List ℕ) → (32 ∷ (w ++ 32 ∷ [])) ++ z ≡ 32 ∷ (w ++ 32 ∷ z)
 spaced w z = ap (λ l. 32 ∷ l) (append_assoc w (32 ∷ []) z)
 
-line_is : (devices : List State) (o : Outcome)
+pub line_is : (devices : List State) (o : Outcome)
     → round_line devices o ≡ decimal o.reading.begin ++ 32 ∷ (decimal o.reading.at ++ 32 ∷ (ending_word o.reading.ending ++ 32 ∷ behind devices o))
 line_is devices o =
     let by = codes " by " ++ (listed (map (name_at devices) o.survivors.items) ++ (codes " out " ++ (listed (map (loser_text devices) o.losers.items) ++ (codes "\n" ++ [])))) in
@@ -135,6 +135,10 @@ round_words begin at e text b a =
     ap (λ ws. round_in (decimal begin ∷ decimal at ∷ ws)) ((is_ending e).words text)
     ∙ ap (λ t. round_by (number_of (decimal begin)) (number_of (decimal at)) t) (told_again (ending_word e) text ∙ (is_ending e).told text)
     ∙ rw (number_again begin b, number_again at a) refl
+
+-- behind the times
+abbrev pub round_tail : (devices : List State) (o : Outcome) → All (λ d. IsPlain d.name) devices → Closed (ending_word o.reading.ending ++ 32 ∷ behind devices o)
+round_tail devices o plain = closed_word (ending_word o.reading.ending) (is_ending o.reading.ending).plain (said_closed devices o plain)
 
 -- a number is no verb
 no_verb : (at : ℕ) → at < 2 ^ 64 → bytes_eq (decimal at) (codes "event") ≡ false
@@ -154,7 +158,7 @@ pub round_adds : (r : RoundTold) → All (λ d. IsPlain d.name) r.devices → r.
 round_adds r plain b a =
     let o = r.outcome in
     let word = ending_word o.reading.ending in
-    let tail = closed_word word (is_ending o.reading.ending).plain (said_closed r.devices o plain) in
+    let tail = round_tail r.devices o plain in
     subst (λ t. Adds t (round_read r ∷ []) []) (sym (line_is r.devices o))
     (told_so (two_words_add (decimal o.reading.begin) (decimal o.reading.at) (number_solid o.reading.begin b) (plain_decimal o.reading.begin) (number_solid o.reading.at a) (plain_decimal o.reading.at) tail)
     (round_words o.reading.begin o.reading.at o.reading.ending (said r.devices o) b a)

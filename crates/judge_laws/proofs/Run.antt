@@ -1,7 +1,7 @@
 -- A trace is read back, turn by turn.
 use Rattle.std.proofs.Common.{◌≡◌, ◌≢◌, ℕ, zero, suc, ◌+◌, ◌^◌, ◌<◌, ◌≤◌, ◌==◌, Bool, true, false, nat_lt, max, if◌then◌else◌, List, [], ◌∷◌, ◌++◌, length, map, slice_get, Option, Some, None, refl, sym, ap, ap₂, ◌∙◌, subst, arith, append_assoc, append-nil}
 use Rattle.std.proofs.lemmas.List.{map-append}
-use Rattle.std.specs.List.{All, cons_option, filter_map, flat_map}
+use Rattle.std.specs.List.{All, cons_option, filter_map}
 use Rattle.std.proofs.lemmas.Bool.Decides.{nat_tests}
 use Rattle.std.proofs.lemmas.List.Elements.{All-append, All-cons, All-nil}
 use Rattle.std.proofs.lemmas.Option.{get_or_from_slice_get, slice_get_within}
@@ -17,18 +17,15 @@ use Rattle.cec_signal.proofs.Texts.{Lacks}
 use Rattle.cec_device.specs.State.{State}
 use Rattle.cec_net.specs.State.{NetState, next_start, started}
 use Rattle.cec_net.specs.Apply.{applied, event_fault}
-use Rattle.cec_net.specs.Step.{after_round}
 use Rattle.cec_asm.specs.declared.script.TimedEvent.{TimedEvent}
 use Rattle.cec_asm.proofs.Sound.{scripts_are_sound}
 use Rattle.cec_audit.specs.Kept.{IsPlain}
-use Rattle.cec_trace.specs.PortText.{port_lines}
-use Rattle.cec_trace.specs.StateText.{state_line}
-use Rattle.cec_trace.specs.TraceText.{end_line, event_line, round_line}
+use Rattle.cec_trace.specs.TraceText.{round_line}
 use Rattle.cec_run.specs.declared.run.Telling.TheVariants.{Trace}
 use Rattle.cec_run.specs.declared.run.Totals.{Totals}
 use Rattle.cec_run.specs.declared.run.Turn.{Turn}
 use Rattle.cec_run.specs.declared.run.Turn.TheVariants.{Stop, Apply, Round}
-use Rattle.cec_run.specs.Run.{Config, IsEventTurn, IsRoundTurn, IsTurnBy, Leads, end_told, event_turn, first_time, is_by, round_turn, start, start_told, turn_at, turn_of}
+use Rattle.cec_run.specs.Run.{Config, IsEventTurn, IsTurnBy, Leads, event_turn, first_time, is_by, round_turn, start, start_told, turn_at, turn_of}
 use Rattle.cec_run.specs.RunLine as run_line
 use Rattle.cec_run.specs.Emulate.{IsTraceOf}
 use Rattle.cec_run.proofs.Advance.{round_begins}
@@ -40,7 +37,7 @@ use Rattle.dump_laws.specs.Dumps.{is_word}
 use Rattle.dump_laws.proofs.Head.{name_of}
 use Rattle.driven_laws.specs.Dumps.{names_in}
 use Rattle.driven_laws.proofs.Names.{names_are_words, names_started}
-use Rattle.judge_laws.specs.ReadBack.{EventTold, IsReadBack, LinesTellRounds, RoundTold, TracesAreReadBack, event_read, events_by, events_in, events_told, first_event, round_read, rounds_by, rounds_in, rounds_told}
+use Rattle.judge_laws.specs.ReadBack.{EventTold, LinesTellRounds, RoundTold, TracesAreReadBack, event_read, events_by, events_in, events_told, first_event, round_read, rounds_by, rounds_in, rounds_told}
 use Rattle.judge_laws.proofs.Lines.{Adds, adds_none, adds_two}
 use Rattle.judge_laws.proofs.Names.{names_applied, names_round, tree_applied}
 use Rattle.judge_laws.proofs.Others.{end_adds, event_adds, ports_add, states_add}
@@ -49,17 +46,17 @@ use Rattle.judge_laws.proofs.Script.{lines_are_few}
 
 -- ---- plain names
 
-abbrev ArePlain : List (List ℕ) → Type 0
+abbrev pub ArePlain : List (List ℕ) → Type 0
 ArePlain names = All IsPlain names
 
-unmapped : {X : Type 0} (P : List ℕ → Type 0) (f : X → List ℕ) (xs : List X) → All P (map f xs) → All (λ x. P (f x)) xs
+pub unmapped : {X : Type 0} (P : List ℕ → Type 0) (f : X → List ℕ) (xs : List X) → All P (map f xs) → All (λ x. P (f x)) xs
 unmapped P f [] h = All-nil (λ x. P (f x))
 unmapped P f (x ∷ xs) h = All-cons (λ x. P (f x)) x xs (h 0 (f x) (omega arith)) (unmapped P f xs (λ k y l. h (suc k) y (omega arith)))
 
-device_names : (names : List (List ℕ)) (devices : List State) → names_of devices ≡ names → ArePlain names → All (λ d. IsPlain d.name) devices
+pub device_names : (names : List (List ℕ)) (devices : List State) → names_of devices ≡ names → ArePlain names → All (λ d. IsPlain d.name) devices
 device_names names devices e h = unmapped IsPlain (λ (d : State). d.name) devices (subst ArePlain (sym e) h)
 
-node_names : (names : List (List ℕ)) (tree : List Node) → names_in tree ≡ names → ArePlain names → All (λ n. IsPlain n.name) tree
+pub node_names : (names : List (List ℕ)) (tree : List Node) → names_in tree ≡ names → ArePlain names → All (λ n. IsPlain n.name) tree
 node_names names tree e h = unmapped IsPlain (λ (n : Node). n.name) tree (subst ArePlain (sym e) h)
 
 lacks_plain : (xs : List ℕ) → Lacks (λ c. c == 10) xs → IsPlain xs
@@ -90,7 +87,7 @@ no_apply end at (Some begin) e = by (nat_lt begin end) e
     by true k = cc
     by false k = cc
 
-applies_before : (end at : ℕ) (s : NetState) (time : Option ℕ) → turn_of end s time ≡ Apply at → at < end
+pub applies_before : (end at : ℕ) (s : NetState) (time : Option ℕ) → turn_of end s time ≡ Apply at → at < end
 applies_before end at s None h = absurd (no_apply end at (next_start s) h)
 applies_before end at s (Some time) h = by_test (is_by (max s.close time) (next_start s)) h
   where
@@ -242,7 +239,7 @@ run_told topology script text totals p =
     Turned (names_in p.plan.tree) p.trace.run.body (start (started p.plan.tree p.course.pulses) p.course.events) p.trace.run.last (rounds_told topology script text totals p) (events_told topology script text totals p)
 
 -- the names of a topology have no line feed
-plain_of : (topology script text : List ℕ) (totals : Totals) → (p : IsTraceOf topology script text totals) → ArePlain (names_in p.plan.tree)
+pub plain_of : (topology script text : List ℕ) (totals : Totals) → (p : IsTraceOf topology script text totals) → ArePlain (names_in p.plan.tree)
 plain_of topology script text totals p = words_plain (names_in p.plan.tree) (names_are_words topology p.plan p.accepted.plan_is)
 
 run_of : (topology script text : List ℕ) (totals : Totals) → (p : IsTraceOf topology script text totals) → length script < 2 ^ 63 → run_told topology script text totals p

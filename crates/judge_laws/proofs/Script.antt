@@ -1,6 +1,6 @@
 -- The events of a script have the numbers of its lines.
-use Rattle.std.proofs.Common.{◌≡◌, ℕ, zero, suc, ◌+◌, ◌^◌, ◌<◌, ◌≤◌, ◌==◌, ◌&&◌, Bool, true, false, cond, min, nat_lt, nat_le, if◌then◌else◌, List, [], ◌∷◌, ◌++◌, length, codes, get_or, Option, Some, None, is_some, Result, Ok, Err, refl, sym, ap, ◌∙◌, subst, arith}
-use Rattle.std.specs.List.{All, count_by, slice_split}
+use Rattle.std.proofs.Common.{◌≡◌, ℕ, suc, ◌+◌, ◌^◌, ◌<◌, ◌≤◌, ◌==◌, ◌&&◌, Bool, true, false, cond, min, nat_lt, nat_le, if◌then◌else◌, List, [], ◌∷◌, ◌++◌, length, codes, get_or, Option, Some, None, is_some, Result, Ok, Err, sym, ap, subst, arith}
+use Rattle.std.specs.List.{All, slice_split}
 use Rattle.std.specs.Str.{bytes_eq}
 use Rattle.std.proofs.lemmas.List.Elements.{All-append, All-cons, All-nil}
 use Rattle.std.proofs.lemmas.List.Splits.{length-slice_split}
@@ -12,16 +12,19 @@ use Rattle.hdmi_topo.specs.Node.{Node}
 use Rattle.hdmi_topo.specs.Tree.{device_named}
 use Rattle.cec_feature.specs.declared.keys.Key.{Key as KeyValue}
 use Rattle.cec_event.specs.declared.event.Event.{Event}
-use Rattle.cec_event.specs.declared.event.Event.TheVariants.{Plug, Unplug, Key, Send}
+use Rattle.cec_event.specs.declared.event.Event.TheVariants.{Plug, Unplug, Key, Send, Outside}
 use Rattle.cec_words.specs.Lines.{is_skipped, lines_of, without_empty_end}
 use Rattle.cec_words.specs.Number.{number_of}
-use Rattle.cec_words.specs.Words.{one_of, text_of, three_of, two_of, words_of}
+use Rattle.cec_words.specs.Words.{one_of, three_of, two_of, words_of}
 use Rattle.cec_text.specs.declared.assembler.AssembleError.{AssembleError}
 use Rattle.cec_asm.specs.Keys.{key_of}
+use Rattle.cec_asm.specs.Holding.{hold_of}
+use Rattle.cec_device.specs.declared.outside.Act.{Act}
+use Rattle.cec_device.specs.declared.outside.Act.TheVariants.{Empty}
 use Rattle.cec_asm.specs.declared.script.ScriptCause.{ScriptCause}
 use Rattle.cec_asm.specs.declared.script.ScriptCause.TheVariants as causes
 use Rattle.cec_asm.specs.declared.script.TimedEvent.{TimedEvent}
-use Rattle.cec_asm.specs.Script.{AreLinesRead, Course, IsEventRead, IsLineRead, IsScriptRead, IsSendRead, IsWordsRead, Notes, Onward, end_read, end_words, ended, event_words, key_read, key_words, last_end, last_time, no_notes, other_words, plug_read, plug_words, pulse_cause, pulse_read, pulse_words, pulsed, scheduled, send_read, time_of, unless_fault, unplug_read, unplug_words}
+use Rattle.cec_asm.specs.Script.{AreLinesRead, Course, IsEventRead, IsLineRead, IsScriptRead, IsSendRead, IsWordsRead, Notes, Onward, end_read, end_words, ended, event_words, key_read, key_words, act_read, hold_words, drop_words, last_end, last_time, no_notes, other_words, plug_read, plug_words, pulse_read, pulse_words, scheduled, send_read, time_of, unless_fault, unplug_read, unplug_words}
 
 -- no event stands below this line
 abbrev pub AreBy : ℕ → List TimedEvent → Type 0
@@ -79,13 +82,32 @@ unfolding Fits
 fits_key_words tree notes line press time [] h = tt
 fits_key_words tree notes line press time (name ∷ words) h = fits_key notes line press (key_of words) (time_of time) (device_named tree name) h
 
+fits_act : (notes : Notes) (line : ℕ) (act : Option Act) (time device : Option ℕ) → AreBy line notes.events → Fits line (act_read notes line act time device)
+unfolding Fits
+fits_act notes line None time device h = tt
+fits_act notes line (Some act) None device h = tt
+fits_act notes line (Some act) (Some time) None h = tt
+fits_act notes line (Some act) (Some time) (Some device) h = fits_scheduled notes line time (Outside device act) h
+
+fits_hold_words : (tree : List Node) (notes : Notes) (line : ℕ) (time : List ℕ) (words : Option (List ℕ × List ℕ)) → AreBy line notes.events → Fits line (hold_words tree notes line time words)
+unfolding Fits
+fits_hold_words tree notes line time None h = tt
+fits_hold_words tree notes line time (Some words) h = fits_act notes line (hold_of words.1) (time_of time) (device_named tree words.0) h
+
+fits_drop_words : (tree : List Node) (notes : Notes) (line : ℕ) (time : List ℕ) (words : Option (List ℕ)) → AreBy line notes.events → Fits line (drop_words tree notes line time words)
+unfolding Fits
+fits_drop_words tree notes line time None h = tt
+fits_drop_words tree notes line time (Some word) h = fits_act notes line (Some Empty) (time_of time) (device_named tree word) h
+
 fits_event_words : (tree : List Node) (notes : Notes) (line : ℕ) (time verb : List ℕ) (words : List (List ℕ)) → AreBy line notes.events → Fits line (event_words tree notes line time verb words)
 unfolding Fits
 fits_event_words tree notes line time verb words h =
     fits_if line (bytes_eq verb (codes "plug")) (plug_words tree notes line time (three_of words)) _ (fits_plug_words tree notes line time (three_of words) h)
     (fits_if line (bytes_eq verb (codes "unplug")) (unplug_words tree notes line time (one_of words)) _ (fits_unplug_words tree notes line time (one_of words) h)
     (fits_if line (bytes_eq verb (codes "press")) (key_words tree notes line true time words) _ (fits_key_words tree notes line true time words h)
-    (fits_if line (bytes_eq verb (codes "release")) (key_words tree notes line false time words) (Err causes.Word) (fits_key_words tree notes line false time words h) tt)))
+    (fits_if line (bytes_eq verb (codes "release")) (key_words tree notes line false time words) _ (fits_key_words tree notes line false time words h)
+    (fits_if line (bytes_eq verb (codes "hold")) (hold_words tree notes line time (two_of words)) _ (fits_hold_words tree notes line time (two_of words) h)
+    (fits_if line (bytes_eq verb (codes "drop")) (drop_words tree notes line time (one_of words)) (Err causes.Word) (fits_drop_words tree notes line time (one_of words) h) tt)))))
 
 fits_send : (notes : Notes) (line : ℕ) (time device : Option ℕ) (frame : Result (List ℕ) AssembleError) → AreBy line notes.events → Fits line (send_read notes line time device frame)
 unfolding Fits

@@ -3,4 +3,7 @@
 
 mod laws;
 
-pub use laws::{lines_tell_rounds, traces_are_read_back};
+pub use laws::{
+    cut_traces_agree, lines_tell_rounds, state_lines_are_read, states_are_of_runs,
+    traces_are_read_back,
+};

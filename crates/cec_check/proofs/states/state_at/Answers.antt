@@ -1,4 +1,4 @@
-use Rattle.std.proofs.Common.{◌≡◌, ℕ, List, subst, ◌∙◌}
+use Rattle.std.proofs.Common.{ℕ, List, subst, ◌∙◌}
 use Rattle.cec_run.specs.Emulate.{IsTold}
 use Rattle.cec_check.proofs.Refusals.{IsWant, not_refused_earlier}
 use Rattle.cec_check.proofs.states.state_at.Goals as goal

@@ -1,0 +1,99 @@
+-- What is read of a trace at once is what is read of it line by line.
+use Rattle.std.proofs.Common.{◌≡◌, ◌≢◌, ℕ, ◌<◌, ◌≤◌, ◌==◌, Bool, true, false, cond, if◌then◌else◌, get_or, List, [], ◌∷◌, length, option_map, is_some, Option, Some, None, refl, sym, ap, ◌∙◌, subst, arith}
+use Rattle.std.specs.Prelude.{replicate, set}
+use Rattle.std.specs.List.{cons_option, filter_map, find}
+use Rattle.std.proofs.lemmas.Bool.Decides.{nat_tests}
+use Rattle.std.proofs.lemmas.List.{get_or-replicate, get_or-set_other, get_or-set_same}
+use Rattle.cec_words.specs.Lines.{lines_of}
+use Rattle.cec_words.specs.Words.{words_of}
+use Rattle.cec_judge.specs.Told.{EventLine, RoundLine, event_as, round_in, rounds_of}
+use Rattle.cec_judge.specs.Seen.{end_by, ends_seen}
+use Rattle.cec_judge.specs.Index.{ends_among, entry, event_of, event_on, or_event}
+use Rattle.cec_judge.specs.declared.seen.Span.{Span}
+use Rattle.cec_judge.specs.declared.told.EventLine.{EventLine as EventRead}
+
+-- ---- rounds
+
+after_none : {X Y Z : Type 0} (g : X → Option Y) (f : Option Y → Option Z) → f None ≡ None → (xs : List X)
+    → filter_map (λ x. f (g x)) xs ≡ filter_map (λ y. f (Some y)) (filter_map g xs)
+after_none {X} {Y} g f none [] = refl
+after_none {X} {Y} g f none (x ∷ xs) = by (g x) (after_none g f none xs)
+  where
+    by : (o : Option Y) → filter_map (λ x. f (g x)) xs ≡ filter_map (λ y. f (Some y)) (filter_map g xs)
+        → cons_option (f o) (filter_map (λ x. f (g x)) xs) ≡ filter_map (λ y. f (Some y)) (cons_option o (filter_map g xs))
+    by None more = ap (λ o. cons_option o (filter_map (λ x. f (g x)) xs)) none ∙ more
+    by (Some y) more = ap (cons_option (f (Some y))) more
+
+pub same_ends : (trace pattern : List ℕ) (span : Span) (rounds : List RoundLine) → rounds ≡ rounds_of trace → ends_among rounds span pattern ≡ ends_seen trace span pattern
+same_ends trace pattern span rounds is =
+    ap (filter_map (λ r. end_by span pattern (Some r))) is ∙ sym (after_none (λ line. round_in (words_of line)) (end_by span pattern) refl (lines_of trace))
+
+-- ---- events
+
+-- no event yet
+pub none_noted : (count number : ℕ) → number < count → entry (replicate count None) number ≡ None
+none_noted count number within = ap (option_map event_as) (get_or-replicate count number None None within)
+
+-- one line more, with an event or without
+pub one_more : (number : ℕ) (before o : Option EventLine) (events : List EventLine)
+    → or_event (or_event before (event_of number o)) (find (λ x. x.line == number) events) ≡ or_event before (find (λ x. x.line == number) (cons_option o events))
+one_more number None None events = refl
+one_more number (Some first) None events = refl
+one_more number (Some first) (Some e) events = refl
+one_more number None (Some e) events = by (e.line == number)
+  where
+    by : (b : Bool) → or_event (if b then Some e else None) (find (λ x. x.line == number) events) ≡ cond b (Some e) (find (λ x. x.line == number) events)
+    by true = refl
+    by false = refl
+
+pub no_more : (number : ℕ) (before : Option EventLine) (events : List EventLine) → events ≡ [] → or_event before (find (λ x. x.line == number) events) ≡ before
+no_more number None events none = ap (find (λ (x : EventLine). x.line == number)) none
+no_more number (Some first) events none = refl
+
+same : (a b : ℕ) → (a == b) ≡ true → a ≡ b
+same a b h = grind (arith, nat_tests)
+
+other : (a b : ℕ) → (a == b) ≡ false → b ≢ a
+other a b h = grind (arith, nat_tests)
+
+pub unless : (o : Option EventLine) → o ≡ or_event o None
+unless None = refl
+unless (Some x) = refl
+
+-- an event that was put into the table
+pub put_noted : (events : List (Option EventRead)) (e : EventRead) (number : ℕ) → e.line < length events → is_some (get_or events e.line None) ≡ false
+    → entry (set events e.line (Some e)) number ≡ or_event (entry events number) (event_on number (event_as e))
+put_noted events e number within empty = by (e.line == number) refl
+  where
+    first : (o : Option EventRead) → is_some o ≡ false → Some (event_as e) ≡ or_event (option_map event_as o) (Some (event_as e))
+    first None h = refl
+    first (Some x) h = cc
+
+    by : (b : Bool) → (e.line == number) ≡ b → entry (set events e.line (Some e)) number ≡ or_event (entry events number) (if b then Some (event_as e) else None)
+    by true k =
+        subst (λ n. entry (set events e.line (Some e)) n ≡ or_event (entry events n) (Some (event_as e))) (same e.line number k)
+        (ap (option_map event_as) (get_or-set_same events e.line (Some e) None within)
+        ∙ first (get_or events e.line None) empty)
+    by false k =
+        ap (option_map event_as) (get_or-set_other events e.line number (Some e) None (other e.line number k)) ∙ unless (entry events number)
+
+there : (o : Option EventRead) (e : EventLine) → is_some o ≡ true → option_map event_as o ≡ or_event (option_map event_as o) (Some e)
+there None e h = cc
+there (Some x) e h = refl
+
+-- an event that was not: one stands before it, or its line has no place
+pub taken_noted : (events : List (Option EventRead)) (e : EventRead) (number : ℕ) → is_some (get_or events e.line None) ≡ true
+    → entry events number ≡ or_event (entry events number) (event_on number (event_as e))
+taken_noted events e number taken = by (e.line == number) refl
+  where
+    by : (b : Bool) → (e.line == number) ≡ b → entry events number ≡ or_event (entry events number) (if b then Some (event_as e) else None)
+    by true k = subst (λ n. entry events n ≡ or_event (entry events n) (Some (event_as e))) (same e.line number k) (there (get_or events e.line None) (event_as e) taken)
+    by false k = unless (entry events number)
+
+pub past_noted : (events : List (Option EventRead)) (e : EventRead) (number : ℕ) → number < length events → length events ≤ e.line
+    → entry events number ≡ or_event (entry events number) (event_on number (event_as e))
+past_noted events e number within past = by (e.line == number) refl
+  where
+    by : (b : Bool) → (e.line == number) ≡ b → entry events number ≡ or_event (entry events number) (if b then Some (event_as e) else None)
+    by true k = let is = same e.line number k in absurd (omega (arith, within, past, is))
+    by false k = unless (entry events number)

@@ -1,0 +1,15 @@
+use Rattle.std.proofs.Common.{◌≡◌, ap, ◌∙◌, length, map}
+use Rattle.cec_judge.specs.Told.{round_as, rounds_of}
+use Rattle.cec_judge.specs.Seen.{first_of}
+use Rattle.cec_judge.proofs.Indexed.{same_ends}
+use Rattle.cec_judge.proofs.index.Index.rounds_seen.Goals as goal
+
+pub returns-clause-count : goal.returns-clause-count
+returns-clause-count c =
+    let same : map round_as c.deref.result.now ≡ rounds_of c.args.self.now.trace.now = ap (map round_as) c.deref.ensures.value ∙ c.args.self.now.rounds_are in
+    c.rounds_seen.ensures.count ∙ ap length (same_ends c.args.self.now.trace.now c.args.pattern.now c.args.span (map round_as c.deref.result.now) same)
+
+pub returns-clause-first : goal.returns-clause-first
+returns-clause-first c =
+    let same : map round_as c.deref.result.now ≡ rounds_of c.args.self.now.trace.now = ap (map round_as) c.deref.ensures.value ∙ c.args.self.now.rounds_are in
+    c.rounds_seen.ensures.first ∙ ap first_of (same_ends c.args.self.now.trace.now c.args.pattern.now c.args.span (map round_as c.deref.result.now) same)

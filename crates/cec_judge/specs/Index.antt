@@ -1,0 +1,28 @@
+-- The rounds and the events of a trace, read once (own).
+use Rattle.std.specs.Prelude.{ℕ, ◌==◌, if◌then◌else◌, get_or, List, Option, Some, None, option_map}
+use Rattle.std.specs.List.{filter_map}
+use Rattle.cec_judge.specs.Told.{EventLine, RoundLine, event_as}
+use Rattle.cec_judge.specs.Seen.{end_by}
+use Rattle.cec_judge.specs.declared.seen.Span.{Span}
+use Rattle.cec_judge.specs.declared.told.EventLine.{EventLine as EventRead}
+
+-- the ends of those of these rounds that are seen, in order
+abbrev pub ends_among : List RoundLine → Span → List ℕ → List ℕ
+ends_among rounds span pattern = filter_map (λ r. end_by span pattern (Some r)) rounds
+
+-- one event, or else another
+abbrev pub or_event : Option EventLine → Option EventLine → Option EventLine
+or_event None other = other
+or_event (Some e) other = Some e
+
+-- an event, where it is of this line
+abbrev pub event_on : ℕ → EventLine → Option EventLine
+event_on number e = if e.line == number then Some e else None
+
+abbrev pub event_of : ℕ → Option EventLine → Option EventLine
+event_of number None = None
+event_of number (Some e) = event_on number e
+
+-- the event that a table has of a line
+abbrev pub entry : List (Option EventRead) → ℕ → Option EventLine
+entry events number = option_map event_as (get_or events number None)

@@ -1,0 +1,128 @@
+-- A run that ends earlier agrees with the whole one before then, and tells the states that a script speaks of.
+use Rattle.std.proofs.Common.{◌≡◌, ℕ, ◌≤◌, Bool, true, false, cond, List, [], ◌∷◌, ◌++◌, filter, length, nat_lt, nat_le, Result, Ok, refl, sym, ap, subst, ◌∙◌, arith, append-nil}
+use Rattle.std.proofs.lemmas.Bool.Decides.{nat_tests}
+use Rattle.std.proofs.lemmas.List.Elements.{All-nil, All-weaker, filter_passes}
+use Rattle.cec_wave.specs.declared.Stretch.{Stretch}
+use Rattle.cec_asm.specs.Topology.{Plan}
+use Rattle.cec_asm.specs.Script.{Course, IsSchedule, IsScriptRead, ScriptFault}
+use Rattle.cec_asm.specs.declared.script.TimedEvent.{TimedEvent}
+use Rattle.cec_asm.proofs.OneReading.{one_script}
+use Rattle.cec_asm.proofs.Sound.{scripts_are_sound}
+use Rattle.cec_run.specs.declared.run.Totals.{Totals}
+use Rattle.cec_run.specs.Emulate.{IsTraceOf}
+use Rattle.cec_run.proofs.Accepted.{one_plan}
+use Rattle.cec_live.specs.Causal.{AgreeBefore}
+use Rattle.cec_live.proofs.Causality.{traces_are_causal}
+use Rattle.cec_expect.specs.Line.{cut_script}
+use Rattle.cec_check.specs.Cuts.{cut_course, is_early}
+use Rattle.cec_check.proofs.Cuts.{cuts_are_read}
+use Rattle.judge_laws.specs.States.{CutTracesAgree, IsStateLine, StatesAreOfRuns, device_of}
+use Rattle.judge_laws.proofs.States.{state_lines_are_read}
+
+-- at the time or later
+abbrev is_late : ℕ → TimedEvent → Bool
+is_late time event = nat_le time event.at
+
+no_early : (at time : ℕ) → time ≤ at → nat_lt at time ≡ false
+no_early at time h = grind (arith, nat_tests)
+
+late : (at time : ℕ) → time ≤ at → nat_le time at ≡ true
+late at time h = grind (arith, nat_tests)
+
+no_late : (at time : ℕ) → nat_lt at time ≡ true → nat_le time at ≡ false
+no_late at time h = grind (arith, nat_tests)
+
+from_there : (at time : ℕ) → nat_lt at time ≡ false → time ≤ at
+from_there at time h = grind (arith, nat_tests)
+
+late_there : (at time : ℕ) → nat_le time at ≡ true → time ≤ at
+late_there at time h = grind (arith, nat_tests)
+
+-- of events from a time on none is early
+none_early : (time count end from : ℕ) (events : List TimedEvent) → IsSchedule count end from events → time ≤ from → (filter (is_early time) events ≡ []) × (filter (is_late time) events ≡ events)
+none_early time count end from [] s h = (refl, refl)
+none_early time count end from (event ∷ events) s h =
+    let on : time ≤ event.at = omega (arith, s.0, h) in
+    let rest = none_early time count end event.at events s.3 on in (
+      ap (λ b. cond b (event ∷ filter (is_early time) events) (filter (is_early time) events)) (no_early event.at time on) ∙ rest.0,
+      ap (λ b. cond b (event ∷ filter (is_late time) events) (filter (is_late time) events)) (late event.at time on) ∙ ap (λ es. event ∷ es) rest.1,
+    )
+
+-- events in order are the early ones, and then the late ones
+parted_events : (time count end from : ℕ) (events : List TimedEvent) → IsSchedule count end from events → events ≡ filter (is_early time) events ++ filter (is_late time) events
+parted_events time count end from [] s = refl
+parted_events time count end from (event ∷ events) s = by (nat_lt event.at time) refl (parted_events time count end event.at events s.3)
+  where
+    early_of : List TimedEvent
+    early_of = filter (is_early time) events
+
+    late_of : List TimedEvent
+    late_of = filter (is_late time) events
+
+    by : (b : Bool) → nat_lt event.at time ≡ b → events ≡ filter (is_early time) events ++ filter (is_late time) events
+        → event ∷ events ≡ filter (is_early time) (event ∷ events) ++ filter (is_late time) (event ∷ events)
+    by true e again =
+        sym (ap (λ b. cond b (event ∷ filter (is_early time) events) (filter (is_early time) events) ++ filter (is_late time) (event ∷ events)) e
+        ∙ ap (λ b. (event ∷ filter (is_early time) events) ++ cond b (event ∷ filter (is_late time) events) (filter (is_late time) events)) (no_late event.at time e)
+        ∙ ap (λ es. event ∷ es) (sym again))
+    by false e again =
+        let on = from_there event.at time e in
+        let rest = none_early time count end event.at events s.3 on in
+        sym (ap (λ b. cond b (event ∷ filter (is_early time) events) (filter (is_early time) events) ++ filter (is_late time) (event ∷ events)) e
+        ∙ ap (λ es. es ++ filter (is_late time) (event ∷ events)) rest.0
+        ∙ ap (λ b. cond b (event ∷ filter (is_late time) events) (filter (is_late time) events)) (late event.at time on)
+        ∙ ap (λ es. event ∷ es) rest.1)
+
+same_course : (a b : Course) → ◌≡◌ {A = Result Course ScriptFault} (Ok a) (Ok b) → a ≡ b
+same_course a b e = cc
+
+-- the texts of the cut script spell the same topology, and the course that ends at the time
+same_plan : (topology script other x y : List ℕ) (s t : Totals) → (p : IsTraceOf topology script x s) → (q : IsTraceOf topology other y t) → q.plan ≡ p.plan
+same_plan topology script other x y s t p q = one_plan topology p.plan q.plan p.accepted.plan_is q.accepted.plan_is
+
+cut_is : (topology script x y : List ℕ) (s t : Totals) (time : ℕ) → time ≤ 1000000000000 → (p : IsTraceOf topology script x s) → (q : IsTraceOf topology (cut_script time script) y t)
+    → q.course ≡ cut_course time p.course
+cut_is topology script x y s t time low p q =
+    let read = cuts_are_read p.plan.tree time script p.course low p.accepted.course_is in
+    let other = subst (λ (l : Plan). IsScriptRead l.tree (cut_script time script) (Ok q.course)) (same_plan topology script (cut_script time script) x y s t p q) q.accepted.course_is in
+    same_course q.course (cut_course time p.course) (one_script p.plan.tree (cut_script time script) (cut_course time p.course) (Ok q.course) read other)
+
+pub states_are_of_runs : StatesAreOfRuns
+states_are_of_runs topology plain text totals time device state low p s = record {
+  plan_is = same_plan topology plain (cut_script time plain) text s.trace totals s.totals p s.run;
+  course_is = cut_is topology plain text s.trace totals s.totals time low p s.run;
+  line = subst (IsStateLine (device_of device s.run.trace.run.last.net.devices)) (sym s.state_is)
+      (state_lines_are_read topology (cut_script time plain) s.trace s.totals s.run device);
+}
+
+pub cut_traces_agree : CutTracesAgree
+cut_traces_agree topology script x y s t time low p within q =
+    let course = cut_is topology script x y s t time low p q in
+    let sound = scripts_are_sound p.plan.tree script p.course p.accepted.course_is in
+    let agree : AgreeBefore time p.course q.course = record {
+      events = filter (is_early time) p.course.events;
+      pulses = p.course.pulses;
+      first = record {
+        more = filter (is_late time) p.course.events;
+        later = [];
+        events_are = parted_events time (length p.plan.tree) p.course.end 0 p.course.events sound.schedule;
+        pulses_are = sym (append-nil p.course.pulses);
+        comes = record {
+          scheduled = All-weaker (λ (e : TimedEvent). is_late time e ≡ true) (λ (e : TimedEvent). time ≤ e.at) (λ e l. late_there e.at time l) (filter (is_late time) p.course.events) (filter_passes (is_late time) p.course.events);
+          begun = All-nil (λ (p : Stretch). time ≤ p.from);
+          over = within;
+        };
+      };
+      second = record {
+        more = [];
+        later = [];
+        events_are = ap (λ (c : Course). c.events) course ∙ sym (append-nil (filter (is_early time) p.course.events));
+        pulses_are = ap (λ (c : Course). c.pulses) course ∙ sym (append-nil p.course.pulses);
+        comes = record {
+          scheduled = All-nil (λ (e : TimedEvent). time ≤ e.at);
+          begun = All-nil (λ (p : Stretch). time ≤ p.from);
+          over = subst (λ n. time ≤ n) (sym (ap (λ (c : Course). c.end) course)) (omega arith);
+        };
+      };
+    } in
+    traces_are_causal topology script (cut_script time script) x y s t time p q agree

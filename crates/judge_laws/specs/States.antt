@@ -1,0 +1,54 @@
+-- The states that a script speaks of are those of its run, cut at their time (own).
+use Rattle.std.specs.Prelude.{◌≡◌, ℕ, ◌≤◌, codes, List, [], ◌++◌, filter, Option, Some, None}
+use Rattle.std.specs.List.{find}
+use Rattle.std.specs.Str.{bytes_eq}
+use Rattle.cec_device.specs.State.{State}
+use Rattle.cec_net.specs.State.{started}
+use Rattle.cec_trace.specs.StateText.{state_line}
+use Rattle.cec_run.specs.declared.run.Telling.TheVariants.{Trace}
+use Rattle.cec_run.specs.declared.run.Totals.{Totals}
+use Rattle.cec_run.specs.Run.{Config, start}
+use Rattle.cec_run.specs.Emulate.{IsTraceOf}
+use Rattle.cec_live.specs.Certain.{AllBefore}
+use Rattle.cec_live.specs.Causal.{BeginsWith, before_told}
+use Rattle.cec_expect.specs.Line.{cut_script}
+use Rattle.cec_judge.specs.Told.{state_line as line_read}
+use Rattle.cec_check.specs.Cuts.{cut_course, is_early}
+use Rattle.cec_check.specs.States.{IsStateAt}
+
+-- ---- the state lines of a trace
+
+-- the first device of a name
+abbrev pub device_of : List ℕ → List State → Option State
+device_of name devices = find (λ d. bytes_eq d.name name) devices
+
+-- a device's state line without its line feed; of no device, nothing
+abbrev pub IsStateLine : Option State → List ℕ → Type 0
+IsStateLine None line = line ≡ []
+IsStateLine (Some d) line = line ++ codes "\n" ≡ state_line d
+
+-- The line of a name that is read of a trace tells the state of the device of that name at the end of the run, and of a name that
+-- no device has none is read.
+abbrev pub StateLinesAreRead : Type 0
+StateLinesAreRead = (topology script text : List ℕ) (totals : Totals) → (p : IsTraceOf topology script text totals) → (name : List ℕ)
+    → IsStateLine (device_of name p.trace.run.last.net.devices) (line_read text name)
+
+-- ---- runs that end earlier
+
+-- The state that a script speaks of, of a device at a time, is told by a run of the same topology: of the script's events before
+-- the time and all its pulses, which ends at the time. It is the device's state at the end of that run.
+pub record IsStateOfRun (topology plain text : List ℕ) (totals : Totals) (time : ℕ) (device state : List ℕ) (p : IsTraceOf topology plain text totals) (s : IsStateAt topology plain time device state) : Type 0 where
+  pub plan_is : s.run.plan ≡ p.plan
+  pub course_is : s.run.course ≡ cut_course time p.course
+  pub line : IsStateLine (device_of device s.run.trace.run.last.net.devices) state
+
+abbrev pub StatesAreOfRuns : Type 0
+StatesAreOfRuns = (topology plain text : List ℕ) (totals : Totals) (time : ℕ) (device state : List ℕ) → time ≤ 1000000000000
+    → (p : IsTraceOf topology plain text totals) → (s : IsStateAt topology plain time device state) → IsStateOfRun topology plain text totals time device state p s
+
+-- That run is the whole one up to the time: both traces begin with the text of all turns that are over before then.
+abbrev pub CutTracesAgree : Type 0
+CutTracesAgree = (topology script x y : List ℕ) (s t : Totals) (time : ℕ) → time ≤ 1000000000000 → (p : IsTraceOf topology script x s) → time ≤ p.course.end
+    → IsTraceOf topology (cut_script time script) y t
+    → (body : List ℕ) × (last : Config) × AllBefore (Trace p.edid) time (start (started p.plan.tree p.course.pulses) (filter (is_early time) p.course.events)) body last
+    × BeginsWith (before_told (Trace p.edid) p.plan.tree p.course.pulses body) x × BeginsWith (before_told (Trace p.edid) p.plan.tree p.course.pulses body) y
