@@ -7,7 +7,7 @@ from model import model
 
 
 MAXDIFF = int(os.environ.get('MODEL_MAX', '5'))
-KINDS6 = ['tv', 'amp', 'player', 'recorder', 'switch', 'combo', 'combo']
+KINDS6 = ['tv', 'amp', 'player', 'recorder', 'switch', 'combo', 'combo', 'outside']
 
 
 def prog(program, args, data):
@@ -228,7 +228,7 @@ def gen_key(r, kind, near=None):
           'remote %s %s' % (r.choice('45118'), r.choice(['power', 'volume-up', 'mute', 'play', 'stop', 'root-menu', 'exit', 'power-on', 'power-off', 'pause']))]
     amp = ['power', 'arc on', 'arc off', 'volume-up', 'volume-down', 'mute']
     sw = ['power', 'port %d' % r.choice([0, 1, 2, 3, 4, 15, 255, 300])] + ['port %d' % r.choice([1, 2, 3])] * 3
-    by = {'combo': deck, 'tv': tv, 'amp': amp, 'player': deck, 'recorder': deck, 'switch': sw}
+    by = {'outside': deck, 'combo': deck, 'tv': tv, 'amp': amp, 'player': deck, 'recorder': deck, 'switch': sw}
     if r.random() < .07: kind = r.choice(KINDS6)
     return r.choice(by[kind])
 
@@ -245,6 +245,20 @@ def addresses(topo):
     return res
 
 
+def gen_act(r, name, las, near):
+    """what a device from outside is told"""
+    k = r.random()
+    if k < .1: return 'drop ' + name
+    if k < .4:
+        a = '%x' % r.choice((las or [4]) + [0, 4, 8, 14]) if r.random() < .7 else '%x' % r.randrange(15)
+        b = '%x' % r.randrange(14)
+        a = 'e' if a == 'f' else a
+        return 'hold %s %s' % (name, r.choice([a, a, '-', a + '+' + (b if b != a else 'e' if a != 'e' else '0')]))
+    src = r.choice((las or [4]) + [4, 8, 15, None])
+    if k < .55: return 'send %s %x>%x' % (name, *[r.choice([4, 8, 0, 5])] * 2)
+    return 'send %s %s' % (name, gen_frame(r, src, r.choice((las or [0]) + [15, None]), near))
+
+
 def gen_script(r, topo, names, ports, kinds, feat=False):
     adr = addresses(topo)
     las = [a for a, p in adr.values() if a is not None]
@@ -258,6 +272,9 @@ def gen_script(r, topo, names, ports, kinds, feat=False):
         t += r.choice([0, 0, 1, 1000, 40000, 160000, 160000, 300000]) if not feat else r.choice([0, 1, 20000, 90000, 160000, 160000, 250000])
         i = r.randrange(len(names))
         k = r.random()
+        if (kinds[i] == 'outside' and r.random() < .7) or r.random() < .01:
+            ls.append('at %d %s' % (t, gen_act(r, names[i], las, near)))
+            continue
         if k < (.06 if feat else .2):
             j = r.randrange(len(names))
             if r.random() < .5: ls.append('at %d unplug %s' % (t, names[i]))

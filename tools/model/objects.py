@@ -46,7 +46,7 @@ def state(words):
     for name, word in zip(STATE, words):
         value = word.split('=')[-1]
         if name in SWITCHES:
-            told[name] = value == 'on'
+            told[name] = None if value == '-' else value == 'on'
         elif name in NUMBERS:
             told[name] = None if value == '-' else int(value)
         elif name == 'logical_addresses':

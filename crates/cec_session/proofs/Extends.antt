@@ -13,12 +13,15 @@ use Rattle.cec_words.specs.Words.{words_of, one_of, two_of, three_of}
 use Rattle.cec_words.specs.Number.{number_of}
 use Rattle.cec_text.specs.declared.assembler.AssembleError.{AssembleError}
 use Rattle.cec_asm.specs.Keys.{key_of}
+use Rattle.cec_asm.specs.Holding.{hold_of}
+use Rattle.cec_device.specs.declared.outside.Act.{Act}
+use Rattle.cec_device.specs.declared.outside.Act.TheVariants.{Empty}
 use Rattle.cec_event.specs.declared.event.Event.{Event}
-use Rattle.cec_event.specs.declared.event.Event.TheVariants.{Plug, Unplug, Key, Send}
+use Rattle.cec_event.specs.declared.event.Event.TheVariants.{Plug, Unplug, Key, Send, Outside}
 use Rattle.cec_asm.specs.declared.script.TimedEvent.{TimedEvent}
 use Rattle.cec_asm.specs.declared.script.ScriptCause.{ScriptCause}
 use Rattle.cec_asm.specs.declared.script.ScriptCause.TheVariants.{Word, Number, Name, Frame, Order, TooMany, End}
-use Rattle.cec_asm.specs.Script.{Notes, time_of, last_time, last_end, scheduled, plug_read, plug_words, unplug_read, unplug_words, key_read, key_words, send_read, event_words, pulse_cause, unless_fault, pulse_read, pulse_words, end_read, end_words, other_words, IsSendRead, IsEventRead, IsWordsRead, IsLineRead}
+use Rattle.cec_asm.specs.Script.{Notes, time_of, last_time, last_end, scheduled, plug_read, plug_words, unplug_read, unplug_words, key_read, key_words, act_read, hold_words, drop_words, send_read, event_words, pulse_cause, unless_fault, pulse_read, pulse_words, end_read, end_words, other_words, IsSendRead, IsEventRead, IsWordsRead, IsLineRead}
 use Rattle.cec_session.specs.Note.{Extends}
 
 -- ---- what a line adds
@@ -119,12 +122,28 @@ key_words-adds : (tree : List Node) (notes : Notes) (line : ℕ) (press : Bool) 
 key_words-adds tree notes line press time [] = adds_err notes Word
 key_words-adds tree notes line press time (name ∷ words) = key_read-adds notes line press (key_of words) (time_of time) (device_named tree name)
 
+act_read-adds : (notes : Notes) (line : ℕ) (act : Option Act) (time device : Option ℕ) → Adds notes (act_read notes line act time device)
+act_read-adds notes line None time device = adds_err notes Word
+act_read-adds notes line (Some act) None device = adds_err notes Number
+act_read-adds notes line (Some act) (Some time) None = adds_err notes Name
+act_read-adds notes line (Some act) (Some time) (Some device) = scheduled-adds notes line time (Outside device act)
+
+hold_words-adds : (tree : List Node) (notes : Notes) (line : ℕ) (time : List ℕ) (words : Option (List ℕ × List ℕ)) → Adds notes (hold_words tree notes line time words)
+hold_words-adds tree notes line time None = adds_err notes Word
+hold_words-adds tree notes line time (Some words) = act_read-adds notes line (hold_of words.1) (time_of time) (device_named tree words.0)
+
+drop_words-adds : (tree : List Node) (notes : Notes) (line : ℕ) (time : List ℕ) (words : Option (List ℕ)) → Adds notes (drop_words tree notes line time words)
+drop_words-adds tree notes line time None = adds_err notes Word
+drop_words-adds tree notes line time (Some word) = act_read-adds notes line (Some Empty) (time_of time) (device_named tree word)
+
 event_words-adds : (tree : List Node) (notes : Notes) (line : ℕ) (time verb : List ℕ) (words : List (List ℕ)) → Adds notes (event_words tree notes line time verb words)
 event_words-adds tree notes line time verb words =
     adds_if notes (bytes_eq verb (codes "plug")) _ _ (plug_words-adds tree notes line time (three_of words))
     (adds_if notes (bytes_eq verb (codes "unplug")) _ _ (unplug_words-adds tree notes line time (one_of words))
     (adds_if notes (bytes_eq verb (codes "press")) _ _ (key_words-adds tree notes line true time words)
-    (adds_if notes (bytes_eq verb (codes "release")) _ _ (key_words-adds tree notes line false time words) (adds_err notes Word))))
+    (adds_if notes (bytes_eq verb (codes "release")) _ _ (key_words-adds tree notes line false time words)
+    (adds_if notes (bytes_eq verb (codes "hold")) _ _ (hold_words-adds tree notes line time (two_of words))
+    (adds_if notes (bytes_eq verb (codes "drop")) _ _ (drop_words-adds tree notes line time (one_of words)) (adds_err notes Word))))))
 
 send_read-adds : (notes : Notes) (line : ℕ) (time device : Option ℕ) (frame : Result (List ℕ) AssembleError) → Adds notes (send_read notes line time device frame)
 send_read-adds notes line None device frame = adds_err notes Number

@@ -5,3 +5,4 @@ pub mod Wholly
 pub mod Answering
 pub mod NoteCalls
 pub mod Kept
+pub mod Still

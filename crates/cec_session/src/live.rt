@@ -9,7 +9,7 @@ use crate::turns::{go_on, soonest, write_last_lines};
 use cec_asm::{Draft, ScriptCause, TimedEvent};
 use cec_edges::EdgeWire;
 use cec_net::Net;
-use cec_run::{Totals, first_time};
+use cec_run::{Totals, Turn, first_time, next_turn};
 use cec_step_text::behind;
 use cec_trace::write_ports;
 use cec_wave::Pulses;
@@ -101,13 +101,14 @@ fn shown(device: Option<usize>) -> Step
 }
 
 impl Live {
-    ghost use Rattle.std.specs.Prelude.{ℕ, ◌<◌, ◌≤◌, ◌++◌, IfSome, MatchOption, Result, is_some, length, None};
+    ghost use Rattle.std.specs.Prelude.{ℕ, ◌<◌, ◌≤◌, ◌++◌, true, IfSome, MatchOption, Result, is_some, length, None};
     ghost use Rattle.cec_asm.specs.Script.{IsLineRead, Notes};
     ghost use Rattle.cec_asm.specs.declared.script.ScriptCause.{ScriptCause as ScriptCauseValue};
     ghost use Rattle.cec_trace.specs.Root.{HasAddress};
     ghost use Rattle.cec_words.specs.Cut.{WrittenText};
     ghost use Rattle.cec_run.specs.declared.run.Telling.TheVariants.{Trace};
-    ghost use Rattle.cec_run.specs.Run.{end_told, start_told};
+    ghost use Rattle.cec_run.specs.declared.run.Turn.TheVariants.{Stop};
+    ghost use Rattle.cec_run.specs.Run.{end_told, start_told, turn_at};
     ghost use Rattle.cec_session.specs.declared.live.Step.TheVariants.{Finish, Go, Show};
     ghost use Rattle.cec_session.specs.Note.{IsSettled};
     ghost use Rattle.cec_session.specs.Session.{IsSoonest, IsStep, NamesShown, after_to, after_wait, begun, numbered, standing, step_to, step_wait, taken_line, with_standing};
@@ -218,8 +219,29 @@ impl Live {
         }
     }
 
-    // Goes on, and writes what is told.
+    // Whether no turn begins before the horizon.
+    fn is_still(&self) -> bool
+        ensures { result ≡ true → turn_at self.now.horizon self.now.place ≡ Stop }
+    {
+        match next_turn(self.horizon, &self.net, first_time(self.left())) {
+            Turn::Stop => true,
+            Turn::Apply(_) | Turn::Round(_) => false,
+        }
+    }
+
+    // Goes on, and writes what is told. The network is large: it is not copied where no turn begins.
+    #[tactic(auto, using(crate::proofs::Still::still))]
     fn go<S: Sink>(&mut self, out: &mut S, ended: bool) -> Result<u128, WriteFault>
+        ensures { IsGone ended self.old self.new (S.contents out.old) (S.contents out.new) (S.is_stuck out.old) (S.is_stuck out.new) result }
+    {
+        if self.is_still() {
+            return Ok(0);
+        }
+        self.go_ahead(out, ended)
+    }
+
+    // Goes on on a copy of the network, and keeps that where what is told was written.
+    fn go_ahead<S: Sink>(&mut self, out: &mut S, ended: bool) -> Result<u128, WriteFault>
         ensures { IsGone ended self.old self.new (S.contents out.old) (S.contents out.new) (S.is_stuck out.old) (S.is_stuck out.new) result }
     {
         let mut ahead = self.net.copy();

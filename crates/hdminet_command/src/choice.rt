@@ -24,8 +24,12 @@ pub enum Refused {
 /// What the input of a choice is to be.
 pub fn input_of(choice: Choice) -> Input {
     match choice {
-        Choice::Check(_) => Input::Test,
+        Choice::Check(_) | Choice::Json(Objects::Test) => Input::Test,
+        Choice::CheckCapture { .. } | Choice::Json(Objects::CaptureTest { .. }) => {
+            Input::CaptureTest
+        }
         Choice::Run { .. } | Choice::Step | Choice::Json(Objects::Trace { .. }) => Input::Network,
+        Choice::Live => Input::Session,
         Choice::Asm | Choice::Dis | Choice::Mon { .. } | Choice::Json(Objects::Capture { .. }) => {
             Input::Lines
         }
@@ -142,15 +146,22 @@ fn add_run<'a>(
     program.subcommand(run)
 }
 
-// Adds the command that tests a network.
+// Adds the command that tests a network or a capture.
 fn add_check<'a>(alloc: Global, program: Command<'a>) -> Result<Command<'a>, AllocError> {
     let check = plain_command(alloc, "check", help::CHECK_ABOUT, help::CHECK_HELP);
-    program.subcommand(with_flags(alloc, check, help::CHECK_FLAGS)?)
+    let check = with_flags(alloc, check, help::CHECK_FLAGS)?;
+    let check = with_values(alloc, check, help::CHECK_VALUES)?;
+    program.subcommand(check)
 }
 
 // Adds the command that steps through a run.
 fn add_step<'a>(alloc: Global, program: Command<'a>) -> Result<Command<'a>, AllocError> {
     program.subcommand(plain_command(alloc, "step", help::STEP_ABOUT, help::STEP_HELP))
+}
+
+// Adds the command that answers a script line by line.
+fn add_live<'a>(alloc: Global, program: Command<'a>) -> Result<Command<'a>, AllocError> {
+    program.subcommand(plain_command(alloc, "live", help::LIVE_ABOUT, help::LIVE_HELP))
 }
 
 // Adds the command that reads texts of frames.
@@ -193,6 +204,7 @@ fn command<'a>(
     let program = add_run(alloc, program, run_help)?;
     let program = add_check(alloc, program)?;
     let program = add_step(alloc, program)?;
+    let program = add_live(alloc, program)?;
     let program = add_asm(alloc, program, asm_help)?;
     let program = add_dis(alloc, program)?;
     let program = add_mon(alloc, program)?;

@@ -8,7 +8,7 @@ pub const EXPLAIN_FLAG: &str =
 
 /// What follows a refused command line that has `--explain`.
 pub const EXPLAINED: &str =
-    "  the subcommands are run, check, step, asm, dis, mon and edid; each reads standard input, as `hdminet run < FILE`\n";
+    "  the subcommands are run, check, step, live, asm, dis, mon and edid; each reads standard input, as `hdminet run < FILE`\n";
 
 pub const OVERVIEW: &str = "\
 With --explain a fault is followed by the line of the input, the word at fault, and what would be right.
@@ -32,6 +32,9 @@ Examples, of which the folder examples/ has the inputs and outputs:
       a network under test: `ok 1 - ..` for each line of its script that says what is to happen
   ./hdminet step < examples/arbitration.steps
       two devices send at once: the line of that round edge by edge, and where each device then stands
+  ./hdminet live
+      a network as a co-process: each line of its script is answered as it comes, as by
+      examples/live/active-source.py
   ./hdminet asm < examples/frames.txt
       `4>f active-source 1.0.0.0` gives `4f821000`
   ./hdminet dis < examples/frames.hex
@@ -88,7 +91,8 @@ The input has two parts, parted by a line `script`. Lines that are empty or begi
 skipped. Words stand one space apart. Times are microseconds.
 
 The topology declares the devices and how they are plugged together at the start:
-  device NAME KIND PORTS        KIND is tv, amp, player, recorder, switch or combo; PORTS is 0 to 15
+  device NAME KIND PORTS        KIND is tv, amp, player, recorder, switch, combo or outside;
+                                PORTS is 0 to 15
   plug CHILD PARENT PORT        into a port of a device declared above, counted from 1
   edid HEX                      the television's EDID, once at most; its ports pass it on
 
@@ -98,6 +102,9 @@ The script says what happens, in the order of its times, and when the run ends:
   at T press NAME KEY
   at T release NAME KEY
   at T send NAME FRAME          a frame as `hdminet asm` takes it
+  at T hold NAME ADDRS          of a device from outside: ADDRS is -, or one or two logical addresses
+                                of 0 to e, as 4 or 1+4
+  at T drop NAME                of a device from outside: it drops what it has to send
   pulse T WIDTH                 the line is pulled low from outside: 1 to 10000 microseconds, each
                                 at least 25000 after the end of the one above, at most 4096
   end T                         the last line
@@ -145,7 +152,7 @@ Faults: `topology line N: CAUSE`, `script line N: CAUSE`, `edid: CAUSE`, `no scr
 from the first line of its part, and nothing is written to standard output then. The causes of
 topologies and scripts are listed below; of a script there is also `frame` and the cause of
 `hdminet asm`. CAUSE of an EDID is length, count, base header, base checksum, base revision, base maker,
-ext 1 checksum or no-hdmi-block.
+ext N checksum (N is 1 to 3) or no-hdmi-block.
 
 Exit status: 0 done; 1 input refused; 2 command line refused; 3 a read or write fault, or input
 past 1048576 bytes; 4 no memory.";
@@ -167,10 +174,36 @@ pub const CHECK_FLAGS: &[(&str, &str)] = &[
         "plain",
         "Prints the input without labels and expectations, for run, in place of the report",
     ),
+    (
+        "json",
+        "Prints each line of the report as an object of JSON; not with --trace or --plain",
+    ),
+    ("capture", "Tests a capture in place of a run"),
+];
+
+/// Those that take a value, with what stands for it.
+pub const CHECK_VALUES: &[(&str, &str, &str)] = &[
+    (
+        "from",
+        "FORM",
+        "Reads a capture as edges, vcd, pin or csv; where it is left out its first line says which",
+    ),
+    (
+        "signal",
+        "NAME",
+        "Reads the wire of this name in a vcd or csv; where it is left out the first",
+    ),
+    (
+        "glitch",
+        "MICROSECONDS",
+        "Passes over pulses and gaps of a capture that are shorter; 50 is safe",
+    ),
 ];
 
 pub const CHECK_RULES: &str = "
-  of --trace and --plain one is given at most
+  of --trace, --plain, --json and --capture one is given at most, but for --json with --capture
+  --from, --signal and --glitch go with --capture alone; --from takes edges, vcd, pin or csv; --glitch a
+  number of microseconds; --signal goes with vcd and csv alone
 ";
 
 pub const CHECK_HELP: &str = "\
@@ -212,6 +245,25 @@ for line, whose run the report speaks of:
 
 Where a test fails, the status is 1 and standard error has `hdminet: failed tests N`; the report is written.
 
+One time of the script may be a range, T..U or T..U/S: each microsecond from T to U, or one in S. Then each
+instant of the range takes its place in turn, and the output has a line for each longest stretch of instants
+at which the same tests hold, so that a race shows by the microsecond:
+  at 4840000..5000000 press p2 play
+gives of examples/race.sweep
+  4840000..4931599 not-ok ok
+  4931600..4945250 ok not-ok
+  4945251..4999999 not-ok not-ok
+  5000000..5000000 ok not-ok
+Where a test fails at any of them, the status is 1 and standard error has `failed tests in the range`.
+With --trace and --plain no time is a range.
+
+With --capture the input is expectations, a line `capture`, and a capture in any form that `hdminet mon`
+reads, of which they are to hold. Here `label NAME at T` names an instant, and the other lines are
+expectations of rounds; a round says what its reading says in the lines of mon --from-start:
+  (cat film.expect; echo capture; cat film.vcd) | hdminet check --capture --glitch 50
+
+With --json each line of the report is an object of JSON.
+
 Faults: those of `hdminet run`, and then `script line N: CAUSE` for the first label or expectation at fault;
 nothing is written then. CAUSE is the first of these that applies:
   word       no such expectation; a pattern of no or more than 160 bytes, or with more than four `*`; nothing
@@ -221,6 +273,10 @@ nothing is written then. CAUSE is the first of these that applies:
   label      a label that is empty or stands above already; one that no line above has; for a refusal, one
              that is no event's
   order      a window ends before it begins, or the time of a state is past `end`
+  range      a second range
+The faults of a range come first of all; a script that is refused at an instant T of it has ` at T` behind
+its fault. With --capture they are `no capture line`, `line N: CAUSE` of the capture as those of hdminet
+mon, and `expectations line N: CAUSE`.
 
 Exit status: 0 all tests hold; 1 a test failed, or input refused; 2 command line refused; 3 a read or write
 fault, or input past 1048576 bytes; 4 no memory.";
@@ -262,6 +318,44 @@ Faults: those of `hdminet run`; then `no steps line`, or `steps line N` for the 
 step, where N counts from the line behind `steps`. Nothing is written then.
 
 Exit status: 0 done; 1 input refused; 2 command line refused; 3 a read or write fault, or input
+past 1048576 bytes; 4 no memory.";
+
+pub const LIVE_ABOUT: &str =
+    "Runs a network whose script comes line by line, and answers each line";
+
+pub const LIVE_HELP: &str = "\
+The input is a topology, a line `script`, and then lines, each of which is answered before the next
+one is read. For each it writes what of the trace is certain by then, and one line of answer.
+  a line of a script      as of `hdminet run`, for the horizon or later; the horizon is 0 at first
+  run to T                sets the horizon to T microseconds: what is over before T is written
+  wait                    sets it to where one more event or round is over, if nothing else comes
+  show NAME               the answer is the state line of a device
+  end T                   the rest of the trace; then the session is over
+Answers:
+  = H                     the line is taken; the horizon
+  = H idle                after `wait`: nothing comes any more, unless a line does
+  = state NAME ...        after `show`
+  ! N CAUSE               line N behind `script` is refused, for a cause of scripts, or last `past`:
+                          it is for an instant before the horizon. It changes nothing
+Without the answers, what is written is the trace that `hdminet run` writes of the lines taken.
+
+An example, `>` before what is sent:
+  > device tv tv 1
+  > script
+  > run to 50000
+  12000 39150 complete 0>0 nack by tv out -
+  = 50000
+  > wait
+  55500 178650 complete 0>f report-physical-address 0.0.0.0 tv ok by tv out -
+  = 178651
+  > wait
+  = 178651 idle
+
+Faults: before `script` those of `hdminet run`; then `script line N: end` where the input ends
+before `end T`, and `script line N: too-long` for a line of more than 4096 bytes. What was written
+before stays.
+
+Exit status: 0 done; 1 input refused; 2 command line refused; 3 a read or write fault, or a topology
 past 1048576 bytes; 4 no memory.";
 
 pub const ASM_ABOUT: &str = "Writes texts of CEC frames in hex";

@@ -21,8 +21,12 @@ pub enum Input {
     Network,
     /// The same with a script that may have labels and expectations.
     Test,
+    /// Expectations, a line `capture` and a capture.
+    CaptureTest,
     /// Lines of their own: frames or edges.
     Lines,
+    /// Lines that are answered as they come. None of them is kept.
+    Session,
     /// The bytes of an EDID.
     EdidBytes,
     /// The text of an EDID.
@@ -255,10 +259,16 @@ fn add_edid_hints(draft: &mut Draft, cause: &str, input: &[u8]) {
     }
 }
 
+// Whether the line is missing that parts an input whose first part is a text.
+fn is_line_missing(cause: &str) -> bool {
+    cause == "no script line" || cause == "no capture line"
+}
+
 // What is odd about the input.
 fn add_input_hints(draft: &mut Draft, what: Input, fault: Fault<'_>, input: &[u8]) {
     match (what, fault.part) {
-        (_, Part::Program) if fault.cause != "no script line" => {}
+        (_, Part::Program) if !is_line_missing(fault.cause) => {}
+        (Input::Session, _) => {}
         (Input::EdidBytes, _) => add_edid_hints(draft, fault.cause, input),
         (Input::EdidText, _) => {
             add_hints(draft, of_text(input).as_slice());

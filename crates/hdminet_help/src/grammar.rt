@@ -14,6 +14,8 @@ pub const SCRIPT: &[&str] = &[
     "at T plug CHILD PARENT PORT",
     "at T unplug CHILD",
     "at T send NAME FRAME",
+    "at T hold NAME ADDRS",
+    "at T drop NAME",
     "pulse T WIDTH",
     "end T",
 ];
@@ -25,6 +27,8 @@ pub const TEST: &[&str] = &[
     "at T plug CHILD PARENT PORT",
     "at T unplug CHILD",
     "at T send NAME FRAME",
+    "at T hold NAME ADDRS",
+    "at T drop NAME",
     "pulse T WIDTH",
     "end T",
     "label NAME LINE",
@@ -68,7 +72,9 @@ pub const STEP_WORDS: &[&str] = &[
 ];
 
 /// The words that stand for a KIND.
-pub const KINDS: &[&str] = &["tv", "amp", "player", "recorder", "switch", "combo"];
+pub const KINDS: &[&str] = &[
+    "tv", "amp", "player", "recorder", "switch", "combo", "outside",
+];
 
 /// The words that a KEY is, or begins with.
 pub const KEYS: &[&str] = &[
@@ -91,7 +97,8 @@ pub const KEYS: &[&str] = &[
 
 /// The words of topologies and scripts that stand for themselves.
 pub const KEYWORDS: &[&str] = &[
-    "device", "plug", "edid", "script", "at", "press", "release", "send", "unplug", "pulse", "end",
+    "device", "plug", "edid", "script", "at", "press", "release", "send", "hold", "drop", "unplug",
+    "pulse", "end",
 ];
 
 /// The words that the lines of an EDID's text begin with.
@@ -143,9 +150,24 @@ fn is_digit(byte: u8) -> bool {
     byte.is_ascii_digit() || (b'a'..=b'f').contains(&byte)
 }
 
+// Whether a byte is a logical address of a device: 0 to e.
+fn is_address(byte: u8) -> bool {
+    is_digit(byte) && byte != b'f'
+}
+
 // Whether a word is an opcode: two hex digits in lower case.
 fn is_opcode(word: &str) -> bool {
     word.len() == 2 && word.bytes().all(is_digit)
+}
+
+// Whether a word says what a device from outside holds: `-`, or one or two logical addresses.
+fn is_held(word: &str) -> bool {
+    match word.as_bytes() {
+        b"-" => true,
+        [one] => is_address(*one),
+        [first, b'+', second] => is_address(*first) && is_address(*second) && first != second,
+        _ => false,
+    }
 }
 
 // Whether a word may stand where a form has another.
@@ -154,6 +176,7 @@ fn fits(wanted: &str, word: &str) -> bool {
         "KIND" => KINDS.contains(&word),
         "KEY" => KEYS.contains(&word),
         "XX" => is_opcode(word),
+        "ADDRS" => is_held(word),
         _ => is_value(wanted) || wanted == word,
     }
 }

@@ -72,11 +72,20 @@ pub fn lines_before(part: Part, input: &[u8]) -> usize {
     }
 }
 
+// How many lines of an input stand before the lines of a part of it.
+fn lines_in(what: Input, part: Part, input: &[u8]) -> usize {
+    match (what, part) {
+        (Input::CaptureTest, Part::Lines) => lines_to(input, 0, "capture"),
+        _ => lines_before(part, input),
+    }
+}
+
 // The line that a fault with no number is about.
 fn place_without_number<'a>(input: &'a [u8], what: Input, fault: Fault<'_>) -> Option<Place<'a>> {
     match fault.cause {
         "no script line" => find_like(input, "script"),
         "no steps line" => find_like(input, "steps"),
+        "no capture line" => find_like(input, "capture"),
         _ if fault.part == Part::Edid && (what == Input::Network || what == Input::Test) => {
             find_like(input, "edid ")
         }
@@ -87,8 +96,12 @@ fn place_without_number<'a>(input: &'a [u8], what: Input, fault: Fault<'_>) -> O
 /// Where a fault stands in a whole input.
 pub fn place_of<'a>(input: &'a [u8], what: Input, fault: Fault<'_>) -> Option<Place<'a>> {
     match fault.line {
+        _ if what == Input::Session => None,
         Some(_) if fault.cause == "no-root" => None,
-        Some(line) => line_of(input, lines_before(fault.part, input).saturating_add(line)),
+        Some(line) => line_of(
+            input,
+            lines_in(what, fault.part, input).saturating_add(line),
+        ),
         None => place_without_number(input, what, fault),
     }
 }

@@ -8,7 +8,7 @@ pub type Row = (&'static str, &'static str);
 pub const TOPOLOGY: &[Row] = &[
     (
         "word",
-        "KIND is tv, amp, player, recorder, switch or combo; words stand one space apart; `edid` comes once",
+        "KIND is tv, amp, player, recorder, switch, combo or outside; words stand one space apart; `edid` comes once",
     ),
     (
         "number",
@@ -76,7 +76,7 @@ pub const SCRIPT: &[Row] = &[
     ),
 ];
 
-/// The causes of expectations and labels.
+/// The causes of expectations, labels and ranges.
 const EXPECTATIONS: &[Row] = &[
     (
         "word",
@@ -94,6 +94,10 @@ const EXPECTATIONS: &[Row] = &[
     (
         "order",
         "a window does not end before it begins: U is T or later; the time of a state is not past `end`",
+    ),
+    (
+        "range",
+        "one time of a script may be a range, `T..U` or `T..U/S`; another line has one already",
     ),
 ];
 
@@ -220,8 +224,12 @@ const PROGRAM: &[Row] = &[
         "a line `steps`, and nothing else on it, parts the script from the commands",
     ),
     (
+        "no capture line",
+        "a line `capture`, and nothing else on it, parts the expectations from the capture",
+    ),
+    (
         "input too long",
-        "standard input has at most 1048576 bytes, a capture with `mon --from` 67108864",
+        "standard input has at most 1048576 bytes, a capture with `--from` 67108864",
     ),
     (
         "read fault",
@@ -248,9 +256,11 @@ fn right_in(rows: &[Row], cause: &str) -> Option<&'static str> {
     None
 }
 
-fn rows_of(part: Part) -> &'static [Row] {
-    match part {
+// The rows of a fault's part. The range of a line with a label is one of an expectation, since no other script has any.
+fn rows_of(fault: Fault<'_>) -> &'static [Row] {
+    match fault.part {
         Part::Topology => TOPOLOGY,
+        Part::Labelled if fault.cause == "range" => EXPECTATIONS,
         Part::Script | Part::Labelled => SCRIPT,
         Part::Expectation => EXPECTATIONS,
         Part::Steps => STEPS,
@@ -263,5 +273,5 @@ fn rows_of(part: Part) -> &'static [Row] {
 
 /// What would be right in place of a fault.
 pub fn right(fault: Fault<'_>) -> Option<&'static str> {
-    right_in(rows_of(fault.part), fault.cause)
+    right_in(rows_of(fault), fault.cause)
 }

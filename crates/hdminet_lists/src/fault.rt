@@ -9,7 +9,7 @@ pub enum Part {
     Script,
     /// A line of the script of a test, which may have a label.
     Labelled,
-    /// An expectation or a label of that script.
+    /// An expectation or a label, of that script or of a capture.
     Expectation,
     /// A frame that a line of the script sends.
     ScriptFrame,
@@ -39,6 +39,7 @@ const PARTS: &[(&str, Part)] = &[
     ("topology line ", Part::Topology),
     ("script line ", Part::Script),
     ("steps line ", Part::Steps),
+    ("expectations line ", Part::Expectation),
     ("line ", Part::Lines),
     ("edid", Part::Edid),
     ("text", Part::EdidText),

@@ -19,6 +19,7 @@ const KINDS: &[(&str, Kind)] = &[
     ("recorder", Kind::Recorder),
     ("switch", Kind::Switch),
     ("combo", Kind::Combo),
+    ("outside", Kind::Outside),
 ];
 
 const ADDRESS: Phys = Phys {

@@ -4,3 +4,4 @@ pub mod ServedLemmas
 pub mod CaptureLemmas
 pub mod ObjectLemmas
 pub mod TestLemmas
+pub mod LiveLemmas

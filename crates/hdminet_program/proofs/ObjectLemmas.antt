@@ -1,9 +1,7 @@
 -- Objects of lines that are held.
 use Rattle.std.proofs.Common.{◌≡◌, ℕ, List, [], Option, Some, refl, subst}
 use Rattle.std.specs.Io.KnownBytes.{Appends}
-use Rattle.cec_json.specs.Object.{AreObjects}
-use Rattle.cec_words.specs.Lines.{lines_of}
-use Rattle.hdminet_program.specs.Done.{Writes, WritesLines}
+use Rattle.hdminet_program.specs.Done.{AreObjectsOf, Writes, WritesLines}
 use Rattle.hdminet_words.specs.declared.choice.Choice.TheVariants.{Json}
 use Rattle.hdminet_words.specs.declared.choice.Objects.{Objects}
 
@@ -12,9 +10,9 @@ pub all_held : (old new : Option (List ℕ)) (bytes text : List ℕ) → old ≡
 all_held old new bytes text e f a = rw (e, f) at a
 
 pub objects_done : (objects : Objects) (name input bytes text : List ℕ) (old new before after : Option (List ℕ)) → WritesLines objects name input old new → old ≡ Some [] → new ≡ Some bytes
-    → AreObjects (lines_of bytes) text → Appends before after text → Writes (Json objects) name input before after
+    → AreObjectsOf objects bytes text → Appends before after text → Writes (Json objects) name input before after
 objects_done objects name input bytes text old new before after lines e f are now = (
   text,
-  (lines.0, lines.1, subst (λ (t : List ℕ). AreObjects (lines_of t) text) (all_held old new bytes lines.0 e f lines.2) are),
+  (lines.0, lines.1, subst (λ (t : List ℕ). AreObjectsOf objects t text) (all_held old new bytes lines.0 e f lines.2) are),
   now,
 )

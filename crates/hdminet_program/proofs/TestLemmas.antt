@@ -1,10 +1,17 @@
--- A report, and behind it the remarks of a trace.
-use Rattle.std.proofs.Common.{◌≡◌, ℕ, List, ◌++◌, Option, not, length, filter, refl, sym, ap, subst, ◌∙◌}
+-- What is written of a test: a report, a report and behind it the remarks of a trace, stretches, the report of a capture.
+use Rattle.std.proofs.Common.{◌≡◌, ℕ, Bool, true, List, ◌++◌, Option, None, Ok, inl, inr, not, length, filter, refl, sym, ap, subst, ◌∙◌}
 use Rattle.std.specs.Io.KnownBytes.{Appends}
+use Rattle.cec_capture_check.specs.Check.{IsCaptureChecked, capture_report}
 use Rattle.cec_check.specs.Check.{IsChecked}
 use Rattle.cec_check.specs.declared.checking.Tally.{Tally}
+use Rattle.cec_signal.specs.Edges.{Captured}
+use Rattle.cec_sweep.specs.Script.{range_of}
+use Rattle.cec_sweep.specs.Stretches.{stretches_text}
+use Rattle.cec_sweep.specs.Sweep.{IsSwept}
 use Rattle.hdmi_core.proofs.CutShort.{Appends-trans}
-use Rattle.hdminet_program.specs.Tests.{AreRemarksOf, WritesTest}
+use Rattle.hdminet_program.specs.CaptureTests.{WritesPassedBy}
+use Rattle.hdminet_program.specs.Captures.{without_short}
+use Rattle.hdminet_program.specs.Tests.{AreRemarksOf, WritesPassed, WritesTest}
 use Rattle.hdminet_words.specs.declared.choice.TestView.TheVariants as views
 
 pub traced : (topology script remarks put : List ℕ) (old middle new : Option (List ℕ)) (tally : Tally) → IsChecked topology script old middle tally
@@ -14,3 +21,22 @@ traced topology script remarks put old middle new tally checked are same written
     let holds : length (filter not r.verdicts) ≡ 0 = sym (ap (λ t. t.failed) checked.2) ∙ none in
     let more : Appends middle new remarks = subst (λ t. Appends middle new t) same written in
     (r.text ++ remarks, (r.text, remarks, (r, checked.1, holds, refl), are, refl), Appends-trans old middle new r.text remarks checked.3 more)
+
+-- the report of a script without a range
+pub reported : (topology script : List ℕ) (old middle new : Option (List ℕ)) → range_of script ≡ Ok None → middle ≡ old → WritesPassed topology script middle new
+    → WritesTest views.Report topology script old new
+reported topology script old middle new none same written =
+    (written.0, inl (none, written.1), subst (λ o. Appends o new written.0) same written.2)
+
+-- the stretches of one that has a range
+pub swept : (topology script : List ℕ) (old new : Option (List ℕ)) (holds : Bool) → IsSwept topology script old new holds → holds ≡ true
+    → WritesTest views.Report topology script old new
+swept topology script old new holds are all = (stretches_text are.0, inr (are.0, are.1, sym are.2 ∙ all, refl), are.3)
+
+-- the report of a capture, by the one that it is without short pulses and gaps
+pub passed_by : (expectations : List ℕ) (glitch : ℕ) (whole kept : Captured) (old new : Option (List ℕ)) (tally : Tally) → kept ≡ without_short glitch whole
+    → IsCaptureChecked expectations kept old new tally → tally.failed ≡ 0 → WritesPassedBy expectations glitch whole old new
+passed_by expectations glitch whole kept old new tally same checked none =
+    let is : IsCaptureChecked expectations (without_short glitch whole) old new tally = subst (λ k. IsCaptureChecked expectations k old new tally) same checked in
+    let hold : length (filter not (capture_report expectations (without_short glitch whole)).verdicts) ≡ 0 = sym (ap (λ t. t.failed) is.tally_is) ∙ none in
+    ((capture_report expectations (without_short glitch whole)).text, record { accepted = is.accepted; hold = hold; report = refl }, is.written)

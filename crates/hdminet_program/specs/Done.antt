@@ -1,5 +1,6 @@
 -- What the program does for a choice, an input and what it writes (own).
-use Rattle.std.specs.Prelude.{◌≡◌, ℕ, Bool, true, ◌⊎◌, List, Option, None, IfSome, MatchOption, codes}
+use Rattle.std.specs.Prelude.{◌≡◌, ℕ, Bool, true, if◌then◌else◌, ◌⊎◌, List, take, Option, None, IfSome, MatchOption, codes}
+use Rattle.std.specs.Str.{bytes_eq}
 use Rattle.std.specs.List.{flat_map}
 use Rattle.std.specs.Io.KnownBytes.{Appends}
 use Rattle.cec_dis.specs.Lines.{first_fault, line_text}
@@ -7,6 +8,9 @@ use Rattle.cec_driven.specs.Emulate.{IsDrivesOf}
 use Rattle.cec_json.specs.Object.{AreObjects}
 use Rattle.cec_line.specs.declared.format.Format.{Format}
 use Rattle.cec_line.specs.declared.format.Format.TheVariants as formats
+use Rattle.cec_report_json.specs.Object.{AreReportObjects}
+use Rattle.cec_report_json.specs.declared.object.Report.{Report as ReportKind}
+use Rattle.cec_report_json.specs.declared.object.Report.TheVariants as kinds
 use Rattle.cec_run.specs.Emulate.{IsLineOf, IsTraceOf}
 use Rattle.cec_run.specs.declared.run.Totals.{Totals}
 use Rattle.cec_step.specs.StepRun.{AreStepsOf}
@@ -16,20 +20,19 @@ use Rattle.hdminet_words.specs.Line.{asked_by}
 use Rattle.hdminet_words.specs.MonFlags.{signal_in}
 use Rattle.hdminet_words.specs.declared.choice.Asked.{Asked}
 use Rattle.hdminet_words.specs.declared.choice.Choice.{Choice}
-use Rattle.hdminet_words.specs.declared.choice.Choice.TheVariants.{Run, Check, Step, Asm, Dis, Mon, Json, Edid}
+use Rattle.hdminet_words.specs.declared.choice.Choice.TheVariants.{Run, Check, CheckCapture, Step, Live, Asm, Dis, Mon, Json, Edid}
 use Rattle.hdminet_words.specs.declared.choice.Objects.{Objects}
 use Rattle.hdminet_words.specs.declared.choice.Objects.TheVariants as of
 use Rattle.hdminet_words.specs.declared.choice.Listing.{Listing}
 use Rattle.hdminet_words.specs.declared.choice.Listing.TheVariants.{Trace, Edges, Vcd, Pin, Csv, Drives}
 use Rattle.hdminet_words.specs.declared.choice.TestView.{TestView}
+use Rattle.hdminet_words.specs.declared.choice.TestView.TheVariants.{Report}
+use Rattle.hdminet_program.specs.CaptureTests.{IsCaptureTest}
 use Rattle.hdminet_program.specs.Captures.{IsHeard, form_of, name_of, report_of}
 use Rattle.hdminet_program.specs.Edids.{IsShown, IsTold}
-use Rattle.hdminet_program.specs.Parted.{IsParted}
+use Rattle.hdminet_program.specs.Live.{IsLiveDone}
+use Rattle.hdminet_program.specs.Parted.{IsParted, IsRunInput}
 use Rattle.hdminet_program.specs.Tests.{IsTestOf}
-
--- the input of a run is a topology and a script, with the line `script` between them
-abbrev pub IsRunInput : List ℕ → List ℕ → List ℕ → Type 0
-IsRunInput input topology script = IsParted (codes "script") input topology script
 
 -- this text with these counts is the trace of the run that the input spells
 pub record IsRunDone (input text : List ℕ) (totals : Totals) : Type 0 where
@@ -82,21 +85,40 @@ IsListed Drives input text totals = IsDrivenDone input text totals
 abbrev pub AreLines : Objects → List ℕ → List ℕ → List ℕ → Type 0
 AreLines (of.Trace strict) name input text = (totals : Totals) × IsRunDone input text totals × (strict ≡ true → totals.refused ≡ 0)
 AreLines (of.Capture form glitch report) name input text = IsHeard (form_of form input) name glitch (report_of report (form_of form input)) input text
+AreLines of.Test name input text = IsTestDone Report input text
+AreLines (of.CaptureTest form glitch) name input text = IsCaptureTest form name glitch input text
 
 -- they are written, and nothing else
 abbrev pub WritesLines : Objects → List ℕ → List ℕ → Option (List ℕ) → Option (List ℕ) → Type 0
 WritesLines objects name input old new = (text : List ℕ) × AreLines objects name input text × Appends old new text
+
+-- the report of one run begins with its version, a sweep with an instant
+abbrev pub report_kind : List ℕ → ReportKind
+report_kind lines = if bytes_eq (take 3 lines) (codes "TAP") then kinds.Expectations else kinds.Sweep
+
+-- a text is the objects of these lines
+abbrev pub AreObjectsOf : Objects → List ℕ → List ℕ → Type 0
+AreObjectsOf (of.Trace strict) lines text = AreObjects (lines_of lines) text
+AreObjectsOf (of.Capture form glitch report) lines text = AreObjects (lines_of lines) text
+AreObjectsOf of.Test lines text = AreReportObjects (report_kind lines) (lines_of lines) text
+AreObjectsOf (of.CaptureTest form glitch) lines text = AreReportObjects kinds.Expectations (lines_of lines) text
+
+-- they are written, and nothing else
+abbrev pub WritesObjects : Objects → List ℕ → Option (List ℕ) → Option (List ℕ) → Type 0
+WritesObjects objects lines old new = (text : List ℕ) × AreObjectsOf objects lines text × Appends old new text
 
 -- The text that a choice makes of an input; of a capture, of the wire of a name. A strict run is one whose events were all
 -- taken.
 abbrev pub IsDone : Choice → List ℕ → List ℕ → List ℕ → Type 0
 IsDone (Run listing strict) name input text = (totals : Totals) × IsListed listing input text totals × (strict ≡ true → totals.refused ≡ 0)
 IsDone (Check view) name input text = IsTestDone view input text
+IsDone (CheckCapture form glitch) name input text = IsCaptureTest form name glitch input text
 IsDone Step name input text = AreStepsDone input text
+IsDone Live name input text = IsLiveDone input text
 IsDone Asm name input text = (frames : List (List ℕ)) × AreTextsOf (told (lines_of input)) frames × (text ≡ flat_map frame_line frames)
 IsDone Dis name input text = (first_fault 1 (lines_of input) ≡ None) × (text ≡ flat_map line_text (lines_of input))
 IsDone (Mon form glitch report) name input text = IsHeard (form_of form input) name glitch (report_of report (form_of form input)) input text
-IsDone (Json objects) name input text = (lines : List ℕ) × AreLines objects name input lines × AreObjects (lines_of lines) text
+IsDone (Json objects) name input text = (lines : List ℕ) × AreLines objects name input lines × AreObjectsOf objects lines text
 IsDone (Edid source view) name input text = (bytes : List ℕ) × IsTold source input bytes × IsShown view bytes text
 
 -- a choice is done for an input: its text is written, and nothing else

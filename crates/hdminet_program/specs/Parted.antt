@@ -1,5 +1,5 @@
 -- Parts of an input, with a line between them (own).
-use Rattle.std.specs.Prelude.{◌≡◌, ◌≢◌, ℕ, ◌⊎◌, List, [], ◌∷◌, ◌++◌, All}
+use Rattle.std.specs.Prelude.{◌≡◌, ◌≢◌, ℕ, ◌⊎◌, List, [], ◌∷◌, ◌++◌, All, codes}
 use Rattle.std.specs.List.{flat_map}
 
 -- a line without its end
@@ -17,3 +17,11 @@ pub record AreOtherLines (mark text : List ℕ) : Type 0 where
 pub record IsParted (mark text before after : List ℕ) : Type 0 where
   pub earlier : AreOtherLines mark before
   pub at : (text ≡ before ++ mark ++ 10 ∷ after) ⊎ ((text ≡ before ++ mark) × (after ≡ []))
+
+-- the input of a run is a topology and a script, with the line `script` between them
+abbrev pub IsRunInput : List ℕ → List ℕ → List ℕ → Type 0
+IsRunInput input topology script = IsParted (codes "script") input topology script
+
+-- the input of a test of a capture is its expectations and the capture, with the line `capture` between them
+abbrev pub IsCaptureInput : List ℕ → List ℕ → List ℕ → Type 0
+IsCaptureInput input expectations capture = IsParted (codes "capture") input expectations capture

@@ -1,5 +1,5 @@
 -- What is written of a test (own): a topology, and a script with expectations.
-use Rattle.std.specs.Prelude.{◌≡◌, ℕ, not, length, filter, List, ◌++◌, Option, None, codes}
+use Rattle.std.specs.Prelude.{◌≡◌, ℕ, true, not, length, filter, List, ◌++◌, ◌⊎◌, Option, None, Ok, codes}
 use Rattle.std.specs.Io.KnownBytes.{Appends}
 use Rattle.std.specs.List.{flat_map}
 use Rattle.cec_check.specs.Check.{IsReportOf}
@@ -8,6 +8,9 @@ use Rattle.cec_expect.specs.Faults.{first_fault}
 use Rattle.cec_expect.specs.Line.{plain_script}
 use Rattle.cec_run.specs.Emulate.{IsTraceOf}
 use Rattle.cec_run.specs.declared.run.Totals.{Totals}
+use Rattle.cec_sweep.specs.Script.{range_of}
+use Rattle.cec_sweep.specs.Stretches.{Stretch, all_hold, stretches_text}
+use Rattle.cec_sweep.specs.Sweep.{IsSweepOf}
 use Rattle.cec_words.specs.Lines.{lines_of}
 use Rattle.hdminet_words.specs.declared.choice.TestView.{TestView}
 use Rattle.hdminet_words.specs.declared.choice.TestView.TheVariants as views
@@ -28,6 +31,14 @@ AreRemarksOf topology script remarks =
 abbrev pub IsPassed : List ℕ → List ℕ → List ℕ → Type 0
 IsPassed topology script text = (r : Report) × IsReportOf topology script r × (length (filter not r.verdicts) ≡ 0) × (text ≡ r.text)
 
+-- the stretches of the instants of its range, at each of which each test holds
+abbrev pub AreHeld : List ℕ → List ℕ → List ℕ → Type 0
+AreHeld topology script text = (stretches : List Stretch) × IsSweepOf topology script stretches × (all_hold stretches ≡ true) × (text ≡ stretches_text stretches)
+
+-- the report of a script without a range, or the stretches of its range
+abbrev pub IsReported : List ℕ → List ℕ → List ℕ → Type 0
+IsReported topology script text = ((range_of script ≡ Ok None) × IsPassed topology script text) ⊎ AreHeld topology script text
+
 -- the report, and behind it the trace
 abbrev pub IsTraced : List ℕ → List ℕ → List ℕ → Type 0
 IsTraced topology script text =
@@ -39,10 +50,14 @@ IsPlain topology script text = (first_fault topology script ≡ None) × (text �
 
 -- this text is what is asked for of a test
 abbrev pub IsTestOf : TestView → List ℕ → List ℕ → List ℕ → Type 0
-IsTestOf views.Report topology script text = IsPassed topology script text
+IsTestOf views.Report topology script text = IsReported topology script text
 IsTestOf views.Traced topology script text = IsTraced topology script text
 IsTestOf views.Plain topology script text = IsPlain topology script text
 
 -- it is written, and nothing else
 abbrev pub WritesTest : TestView → List ℕ → List ℕ → Option (List ℕ) → Option (List ℕ) → Type 0
 WritesTest view topology script old new = (text : List ℕ) × IsTestOf view topology script text × Appends old new text
+
+-- the report of one run is written, and nothing else
+abbrev pub WritesPassed : List ℕ → List ℕ → Option (List ℕ) → Option (List ℕ) → Type 0
+WritesPassed topology script old new = (text : List ℕ) × IsPassed topology script text × Appends old new text

@@ -15,8 +15,8 @@ use hdminet_words::{Form, Report};
 use std::alloc::{AllocError, Global};
 use std::fmt::Write;
 
-// The form of a capture: what is asked for, or else what its first line tells.
-fn form_of(form: Option<Form>, input: &[u8]) -> CaptureForm
+/// The form of a capture: what is asked for, or else what its first line tells.
+pub fn form_of(form: Option<Form>, input: &[u8]) -> CaptureForm
     ensures { result ≡ form_of form input.now }
 {
     match form {
@@ -41,8 +41,8 @@ fn report_of(report: Option<Report>, form: CaptureForm) -> Report
     }
 }
 
-// A capture without pulses and gaps that are too short.
-fn without_short(alloc: Global, glitch: u64, whole: Capture) -> Result<Capture, AllocError>
+/// A capture without pulses and gaps that are too short.
+pub fn without_short(alloc: Global, glitch: u64, whole: Capture) -> Result<Capture, AllocError>
     ensures edges { IfOk result (λ c. c.edges ≡ kept glitch whole.edges) }
     ensures end { IfOk result (λ c. c.end ≡ whole.end) }
 {

@@ -1,19 +1,20 @@
 //! What is told of a test: whether a run is as the expectations of its script have it.
-ghost use Rattle.std.specs.Prelude.{◌≡◌, ◌++◌, OnOk, IfOk};
-ghost use Rattle.hdminet_program.specs.Tests.{AreRemarksOf, WritesTest, remark_line, trace_remarks};
+ghost use Rattle.std.specs.Prelude.{◌≡◌, ◌++◌, true, OnOk, IfOk};
+ghost use Rattle.hdminet_program.specs.Tests.{AreRemarksOf, WritesPassed, WritesTest, remark_line, trace_remarks};
 
 use crate::fault::Fault;
 use cec_check::{CheckError, Tally, check};
 use cec_expect::{first_fault, plain_script};
 use cec_json::Held;
 use cec_run::emulate::{EmulateError, emulate};
+use cec_sweep::{SweepError, sweep};
 use cec_words::first_line;
 use hdmi_core::{Piece, Sink, put_all, write_pieces};
 use hdminet_words::TestView;
 use std::alloc::{AllocError, Global};
 
-// Nothing, unless a test of a report failed.
-fn passed(tally: Tally) -> Result<(), Fault>
+/// Nothing, unless a test of a report failed.
+pub fn passed(tally: Tally) -> Result<(), Fault>
     ensures { OnOk result (tally.failed ≡ 0) }
 {
     if tally.failed > 0 {
@@ -22,7 +23,32 @@ fn passed(tally: Tally) -> Result<(), Fault>
     Ok(())
 }
 
-// Writes the report.
+// Nothing, unless a test failed at an instant of a range.
+fn held_throughout(holds: bool) -> Result<(), Fault>
+    ensures { OnOk result (holds ≡ true) }
+{
+    if holds {
+        Ok(())
+    } else {
+        Err(Fault::SweepFailed)
+    }
+}
+
+// Writes the report of one run.
+#[inline(never)]
+fn write_report<W: Sink>(
+    alloc: Global,
+    topology: &[u8],
+    script: &[u8],
+    out: &mut W,
+) -> Result<(), Fault>
+    ensures { OnOk result (WritesPassed topology.now script.now (W.contents out.old) (W.contents out.new)) }
+{
+    let tally = check(alloc, topology, script, out)?;
+    passed(tally)
+}
+
+// Writes the stretches of the script's range, or the report where it has none.
 #[inline(never)]
 fn write_tests<W: Sink>(
     alloc: Global,
@@ -32,8 +58,13 @@ fn write_tests<W: Sink>(
 ) -> Result<(), Fault>
     ensures { OnOk result (WritesTest TestView.Report topology.now script.now (W.contents out.old) (W.contents out.new)) }
 {
-    let tally = check(alloc, topology, script, out)?;
-    passed(tally)
+    match sweep(alloc, topology, script, out) {
+        Ok(holds) => held_throughout(holds),
+        Err(error) => match error {
+            SweepError::NoRange => write_report(alloc, topology, script, out),
+            error => Err(Fault::from(error)),
+        },
+    }
 }
 
 // Appends a line of a trace as a remark.

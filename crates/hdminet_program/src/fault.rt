@@ -1,13 +1,16 @@
 //! Why the program did not do what it was asked.
 ghost use Rattle.std.specs.Prelude.{◌<◌};
 
+use cec_capture_check::CaptureCheckError;
 use cec_check::{CheckError, Tally};
+use cec_dialogue::SessionError;
 use cec_dis::DisError;
 use cec_expect::ExpectFault;
 use cec_formats::CaptureError;
 use cec_run::Totals;
 use cec_run::emulate::EmulateError;
 use cec_step::step_run::StepRunError;
+use cec_sweep::{RangeFault, SweepError};
 use cec_text::FrameLinesError;
 use hdmi_convert::{EdidToTextError, PassOnError, TextToHexError};
 use hdmi_core::WriteFault;
@@ -28,6 +31,8 @@ pub enum Fault {
     NoScriptLine,
     #[error("no steps line")]
     NoStepsLine,
+    #[error("no capture line")]
+    NoCaptureLine,
     /// A strict run refused events of its script. All of its output was written.
     #[error("refused events {}", .0.refused)]
     EventsRefused(Totals),
@@ -35,9 +40,24 @@ pub enum Fault {
     Emulate(#[from] EmulateError),
     #[error("script {0}")]
     Expect(ExpectFault),
+    #[error("expectations {0}")]
+    CaptureExpect(ExpectFault),
+    /// A script was to be swept, and no time of it is a range.
+    #[error("no range")]
+    NoRange,
+    #[error("script {0}")]
+    Range(RangeFault),
+    /// The first instant of a range with which the script is refused, and why.
+    #[error("{error} at {instant}")]
+    AtInstant { instant: u64, error: CheckError },
     /// Tests of a report failed. All of it was written.
     #[error("failed tests {}", .0.failed)]
     TestsFailed(Tally),
+    /// Tests failed at instants of a range. All stretches were written.
+    #[error("failed tests in the range")]
+    SweepFailed,
+    #[error(transparent)]
+    Session(#[from] SessionError),
     #[error("steps line {0}")]
     Steps(u64),
     #[error(transparent)]
@@ -83,6 +103,28 @@ impl From<CheckError> for Fault {
     }
 }
 
+impl From<CaptureCheckError> for Fault {
+    fn from(error: CaptureCheckError) -> Fault {
+        match error {
+            CaptureCheckError::Expect(fault) => Fault::CaptureExpect(fault),
+            CaptureCheckError::Write(count) => Fault::Write(WriteFault { count }),
+            CaptureCheckError::Memory => Fault::Memory(AllocError),
+        }
+    }
+}
+
+impl From<SweepError> for Fault {
+    fn from(error: SweepError) -> Fault {
+        match error {
+            SweepError::NoRange => Fault::NoRange,
+            SweepError::Range(fault) => Fault::Range(fault),
+            SweepError::At { instant, error } => Fault::AtInstant { instant, error },
+            SweepError::Write(count) => Fault::Write(WriteFault { count }),
+            SweepError::Memory => Fault::Memory(AllocError),
+        }
+    }
+}
+
 impl Fault {
     /// Why the words of the command line were not to be had.
     pub fn of_words(error: io::Error) -> Fault {
@@ -101,6 +143,9 @@ impl Fault {
             Fault::TooLong
             | Fault::Read
             | Fault::Write(_)
+            | Fault::Session(SessionError::Read)
+            | Fault::Session(SessionError::TooLong)
+            | Fault::Session(SessionError::Write(_))
             | Fault::Emulate(EmulateError::Write(_))
             | Fault::Frames(FrameLinesError::Write(_))
             | Fault::Dis(DisError::Write(_))
@@ -109,14 +154,22 @@ impl Fault {
             | Fault::PassOn(PassOnError::Write(_)) => 3,
             Fault::Memory(_)
             | Fault::Emulate(EmulateError::Memory)
+            | Fault::Session(SessionError::Memory)
             | Fault::Capture(CaptureError::Memory)
             | Fault::TextToHex(TextToHexError::Memory) => 4,
             Fault::NoScriptLine
             | Fault::NoStepsLine
+            | Fault::NoCaptureLine
             | Fault::EventsRefused(_)
             | Fault::Expect(_)
+            | Fault::CaptureExpect(_)
+            | Fault::NoRange
+            | Fault::Range(_)
+            | Fault::AtInstant { .. }
             | Fault::TestsFailed(_)
+            | Fault::SweepFailed
             | Fault::Steps(_)
+            | Fault::Session(_)
             | Fault::Emulate(_)
             | Fault::Frames(FrameLinesError::Line(_))
             | Fault::Dis(DisError::Line(_))

@@ -2,9 +2,12 @@
 #![tactic(auto)]
 
 mod capture;
+mod capture_test;
 mod edid;
 mod expectations;
 mod fault;
+mod live;
+mod parts;
 pub mod program;
 
 pub use fault::Fault;

@@ -1,32 +1,37 @@
 //! The program over a reader and two sinks.
-ghost use Rattle.std.specs.Prelude.{◌≡◌, ◌<◌, ◌≤◌, true, [], OnOk, IfOk, IfSome, Ok, map, string_bytes};
+ghost use Rattle.std.specs.Prelude.{◌≡◌, ◌≢◌, ◌<◌, ◌≤◌, true, [], OnOk, IfOk, IfSome, Ok, map, string_bytes};
 ghost use Rattle.std.specs.Io.KnownBytes.{Keeps};
 ghost use Rattle.hdmi_core.specs.Buffered.{below};
-ghost use Rattle.hdminet_program.specs.Parted.{IsParted};
-ghost use Rattle.hdminet_program.specs.Done.{AreServed, IsAllOf, IsHelp, IsRunInput, IsServed, Writes, WritesLine, WritesLines};
+ghost use Rattle.hdminet_program.specs.Done.{AreServed, IsAllOf, IsHelp, IsServed, Writes, WritesLine, WritesLines, WritesObjects, report_kind};
+ghost use Rattle.hdminet_program.specs.CaptureTests.{WritesCaptureTest};
 ghost use Rattle.hdminet_program.specs.Captures.{name_of};
+ghost use Rattle.hdminet_program.specs.Live.{Lives};
 ghost use Rattle.hdminet_words.specs.MonFlags.{signal_in};
 
 use crate::capture::{monitor, tell_lost};
+use crate::capture_test::write_capture_test;
 use crate::edid::{edid, explain_lack, explain_rules};
 use crate::expectations::write_test;
 use crate::fault::Fault;
+use crate::live::live;
+use crate::parts::{capture_parts, parted, parts};
 use arrayvec::ArrayString;
 use cec_check::Tally;
 use cec_dis::dis_lines;
 use cec_driven::emulate_drives;
 use cec_json::{Held, write_objects};
 use cec_line::Format;
+use cec_report_json::{Report as ReportKind, write_report_objects};
 use cec_run::Totals;
 use cec_run::emulate::emulate;
 use cec_run::line::emulate_line;
 use cec_step::step_run::step_run;
 use cec_text::asm_lines;
-use cec_words::{behind, len_before};
+use cec_words::before;
 use hdmi_core::{Buffered, Sink, put_all};
 use hdminet_command::{Refused, choose, input_of};
 use hdminet_help::{counts, explain};
-use hdminet_words::{Asked, Choice, Listing, Objects, TestView, View, signal_in};
+use hdminet_words::{Asked, Choice, Form, Listing, Objects, TestView, View, signal_in};
 use std::alloc::{AllocError, Global};
 use std::fmt::Write;
 use std::io::Read;
@@ -40,13 +45,23 @@ const CAPTURE_LIMIT: usize = 67_108_864;
 // The longest input of a choice, in bytes.
 fn limit_of(choice: Choice) -> usize {
     match choice {
-        Choice::Mon { form: Some(_), .. } | Choice::Json(Objects::Capture { form: Some(_), .. }) =>
-            CAPTURE_LIMIT,
+        Choice::Mon { form: Some(_), .. }
+        | Choice::CheckCapture { form: Some(_), .. }
+        | Choice::Json(
+            Objects::Capture { form: Some(_), .. } | Objects::CaptureTest { form: Some(_), .. },
+        ) => CAPTURE_LIMIT,
         Choice::Mon { form: None, .. }
-        | Choice::Json(Objects::Trace { .. } | Objects::Capture { form: None, .. })
+        | Choice::CheckCapture { form: None, .. }
+        | Choice::Json(
+            Objects::Trace { .. }
+            | Objects::Test
+            | Objects::Capture { form: None, .. }
+            | Objects::CaptureTest { form: None, .. },
+        )
         | Choice::Run { .. }
         | Choice::Check(_)
         | Choice::Step
+        | Choice::Live
         | Choice::Asm
         | Choice::Dis
         | Choice::Edid { .. } => LIMIT,
@@ -77,32 +92,6 @@ fn read_input<R: Read>(alloc: Global, limit: usize, input: &mut R) -> Result<Vec
         }
     }
     Err(Fault::TooLong)
-}
-
-// The text before the first line that reads so, and the text after it.
-fn parted<'a>(text: &'a [u8], mark: &[u8]) -> Option<(&'a [u8], &'a [u8])>
-    ensures { IfSome result (λ p. IsParted mark.now text.now p.0.now p.1.now) }
-{
-    let mut start = 0;
-    'lines: while start < text.len() {
-        let rest = &text[start..];
-        let length = len_before(rest, b'\n');
-        if &rest[..length] == mark {
-            return Some((&text[..start], behind(rest, length + 1)));
-        }
-        if length == rest.len() {
-            return None;
-        }
-        start += length + 1;
-    }
-    None
-}
-
-// The text before the first line `script`, and the text after it.
-fn parts(text: &[u8]) -> Result<(&[u8], &[u8]), Fault>
-    ensures { IfOk result (λ p. IsRunInput text.now p.0.now p.1.now) }
-{
-    parted(text, b"script").ok_or(Fault::NoScriptLine)
 }
 
 // The counts of a run, unless it is strict and an event was refused.
@@ -177,6 +166,21 @@ fn test<W: Sink>(
 }
 
 #[inline(never)]
+fn test_capture<W: Sink>(
+    alloc: Global,
+    form: Option<Form>,
+    signal: &[u8],
+    glitch: u64,
+    input: &[u8],
+    out: &mut W,
+) -> Result<Option<Totals>, Fault>
+    ensures { OnOk result (WritesCaptureTest form signal.now glitch input.now (W.contents out.old) (W.contents out.new)) }
+{
+    write_capture_test(alloc, form, signal, glitch, input, out)?;
+    Ok(None)
+}
+
+#[inline(never)]
 fn step<W: Sink>(alloc: Global, input: &[u8], out: &mut W) -> Result<Option<Totals>, Fault>
     ensures { OnOk result (Writes Choice.Step [] input.now (W.contents out.old) (W.contents out.new)) }
 {
@@ -222,6 +226,35 @@ fn write_lines<W: Sink>(
             monitor(alloc, form, signal, glitch, report, input, out)?;
             Ok(None)
         }
+        Objects::Test => test(alloc, TestView::Report, input, out),
+        Objects::CaptureTest { form, glitch } => {
+            test_capture(alloc, form, signal, glitch, input, out)
+        }
+    }
+}
+
+// Which report lines are of: that of one run begins with its version, a sweep with an instant.
+fn report_kind(lines: &[u8]) -> ReportKind
+    ensures { result ≡ report_kind lines.now }
+{
+    if before(lines, 3) == b"TAP".as_slice() {
+        ReportKind::Expectations
+    } else {
+        ReportKind::Sweep
+    }
+}
+
+// Writes the objects of lines.
+fn write_objects_of<W: Sink>(objects: Objects, lines: &[u8], out: &mut W) -> Result<(), Fault>
+    ensures { OnOk result (WritesObjects objects lines.now (W.contents out.old) (W.contents out.new)) }
+{
+    match objects {
+        Objects::Trace { .. } => Ok(write_objects(lines, out)?),
+        Objects::Capture { .. } => Ok(write_objects(lines, out)?),
+        Objects::Test => Ok(write_report_objects(report_kind(lines), lines, out)?),
+        Objects::CaptureTest { .. } => {
+            Ok(write_report_objects(ReportKind::Expectations, lines, out)?)
+        }
     }
 }
 
@@ -241,7 +274,7 @@ fn write_json<W: Sink>(
     if held.is_full() {
         return Err(Fault::Memory(AllocError));
     }
-    write_objects(held.bytes(), out)?;
+    write_objects_of(objects, held.bytes(), out)?;
     done
 }
 
@@ -253,6 +286,7 @@ fn perform<W: Sink>(
     input: &[u8],
     out: &mut W,
 ) -> Result<Option<Totals>, Fault>
+    requires { choice ≢ Choice.Live }
     ensures { OnOk result (Writes choice signal.now input.now (W.contents out.old) (W.contents out.new)) }
 {
     match choice {
@@ -265,7 +299,11 @@ fn perform<W: Sink>(
             Listing::Drives => run_to_drives(alloc, strict, input, out),
         },
         Choice::Check(view) => test(alloc, view, input, out),
+        Choice::CheckCapture { form, glitch } => {
+            test_capture(alloc, form, signal, glitch, input, out)
+        }
         Choice::Step => step(alloc, input, out),
+        Choice::Live => unreachable!(),
         Choice::Asm => assemble(input, out),
         Choice::Dis => disassemble(input, out),
         Choice::Mon {
@@ -311,11 +349,23 @@ fn counts_of(alloc: Global, totals: &Totals) -> Result<String, AllocError> {
     counts(alloc, totals.rounds, totals.complete, totals.refused)
 }
 
+// Where more of a test is to be seen.
+fn more_of(choice: Choice) -> &'static str {
+    match choice {
+        Choice::CheckCapture { .. } | Choice::Json(Objects::CaptureTest { .. }) => {
+            "`hdminet mon --from-start` prints the readings of the capture"
+        }
+        _ => "with --trace the trace of the run follows the report",
+    }
+}
+
 // The line of a report whose tests did not all hold, for `--explain`.
-fn tests_of(alloc: Global, tally: Tally) -> Result<String, AllocError> {
+fn tests_of(alloc: Global, choice: Choice, tally: Tally) -> Result<String, AllocError> {
     format!(in alloc;
-        "  tests {}, failed tests {}; with --trace the trace of the run follows the report\n",
-        tally.count, tally.failed
+        "  tests {}, failed tests {}; {}\n",
+        tally.count,
+        tally.failed,
+        more_of(choice)
     )
 }
 
@@ -344,6 +394,22 @@ fn lack_of(
     }
 }
 
+// What to do with a sweep whose tests did not hold at all instants, for `--explain`.
+fn stretches_of(alloc: Global) -> Result<String, AllocError> {
+    String::from_str(
+        alloc,
+        "  with an instant of a stretch in the place of the range the report of that run is written\n",
+    )
+}
+
+// The line of a fault, but for an instant of a range: what would be right is the same at each of them.
+fn line_of(alloc: Global, fault: &Fault) -> Result<String, AllocError> {
+    match fault {
+        Fault::AtInstant { error, .. } => format!(in alloc; "{error}"),
+        _ => format!(in alloc; "{fault}"),
+    }
+}
+
 // What follows the line of a fault with `--explain`.
 #[inline(never)]
 fn explanation(
@@ -354,10 +420,11 @@ fn explanation(
 ) -> Result<String, AllocError> {
     match fault {
         Fault::EventsRefused(totals) => counts_of(alloc, totals),
-        Fault::TestsFailed(tally) => tests_of(alloc, *tally),
+        Fault::TestsFailed(tally) => tests_of(alloc, choice, *tally),
+        Fault::SweepFailed => stretches_of(alloc),
         Fault::RuleFails => rules_of(alloc, choice, input),
         _ => {
-            let line = format!(in alloc; "{fault}")?;
+            let line = line_of(alloc, fault)?;
             let mut text = explain(alloc, input_of(choice), line.as_str(), input)?;
             text.push_str(lack_of(alloc, choice, fault, input)?.as_str())?;
             Ok(text)
@@ -372,11 +439,34 @@ fn add_help<E: Sink>(text: Result<String, AllocError>, err: &mut E) {
     }
 }
 
+// Names the lines of a capture before which events were lost.
+fn tell_lost_of<E: Sink>(alloc: Global, choice: Choice, input: &[u8], err: &mut E) {
+    match choice {
+        Choice::Mon { form, .. } | Choice::Json(Objects::Capture { form, .. }) => {
+            tell_lost(alloc, form, input, err);
+        }
+        Choice::CheckCapture { form, .. } | Choice::Json(Objects::CaptureTest { form, .. }) => {
+            if let Ok((_, taken)) = capture_parts(input) {
+                tell_lost(alloc, form, taken, err);
+            }
+        }
+        _ => {}
+    }
+}
+
+// Names them where a test of the capture failed.
+fn tell_lost_by<E: Sink>(alloc: Global, choice: Choice, fault: &Fault, input: &[u8], err: &mut E) {
+    if let Fault::TestsFailed(_) = fault {
+        tell_lost_of(alloc, choice, input, err);
+    }
+}
+
 // Writes the line of a fault, and what follows it.
 fn report<E: Sink>(alloc: Global, asked: Asked, fault: &Fault, input: &[u8], err: &mut E) -> u8
     ensures { 0 < result }
 {
     let status = tell(fault, err);
+    tell_lost_by(alloc, asked.choice, fault, input, err);
     if asked.explains {
         add_help(explanation(alloc, asked.choice, fault, input), err);
     }
@@ -386,12 +476,7 @@ fn report<E: Sink>(alloc: Global, asked: Asked, fault: &Fault, input: &[u8], err
 // Writes what there is to say besides of what was done: events that a capture lost, and with `--explain` the counts of a run
 // and what the rules ask that an EDID breaks.
 fn remark<E: Sink>(alloc: Global, asked: Asked, totals: Option<Totals>, input: &[u8], err: &mut E) {
-    match asked.choice {
-        Choice::Mon { form, .. } | Choice::Json(Objects::Capture { form, .. }) => {
-            tell_lost(alloc, form, input, err);
-        }
-        _ => {}
-    }
+    tell_lost_of(alloc, asked.choice, input, err);
     if !asked.explains {
         return;
     }
@@ -435,6 +520,7 @@ fn answer<W: Sink, E: Sink>(
     out: &mut Buffered<W>,
     err: &mut E,
 ) -> u8
+    requires { asked.choice ≢ Choice.Live }
     ensures { result ≡ 0 → Writes asked.choice signal.now input.now (⟦<Buffered<W> as Sink>⟧.contents out.old) (W.contents (below out.new)) }
 {
     let done = perform(alloc, asked.choice, signal, input, out);
@@ -447,7 +533,41 @@ fn answer<W: Sink, E: Sink>(
     }
 }
 
-// Does what is asked for with what there is to read. Answers the exit status.
+// Answers the lines of an input as they come, and tells how it went. Answers the exit status.
+fn serve_lines<R: Read, W: Sink, E: Sink>(
+    alloc: Global,
+    asked: Asked,
+    input: &mut R,
+    out: &mut Buffered<W>,
+    err: &mut E,
+) -> u8
+    ensures { result ≡ 0 → Lives (R.remaining input.old) (⟦<Buffered<W> as Sink>⟧.contents out.old) (W.contents (below out.new)) }
+{
+    match live(alloc, input, out) {
+        Ok(()) => 0,
+        Err(fault) => report(alloc, asked, &fault, b"", err),
+    }
+}
+
+// Does what is asked for with all there is to read. Answers the exit status.
+fn serve_whole<R: Read, W: Sink, E: Sink>(
+    alloc: Global,
+    asked: Asked,
+    signal: &[u8],
+    input: &mut R,
+    out: &mut Buffered<W>,
+    err: &mut E,
+) -> u8
+    requires { asked.choice ≢ Choice.Live }
+    ensures { result ≡ 0 → IsServed (R.remaining input.old) (⟦<Buffered<W> as Sink>⟧.contents out.old) (W.contents (below out.new)) asked.choice signal.now }
+{
+    match read_input(alloc, limit_of(asked.choice), input) {
+        Ok(input) => answer(alloc, asked, signal, &input, out, err),
+        Err(fault) => report(alloc, asked, &fault, b"", err),
+    }
+}
+
+// Does what is asked for. Answers the exit status.
 fn serve<R: Read, W: Sink, E: Sink>(
     alloc: Global,
     asked: Asked,
@@ -458,9 +578,9 @@ fn serve<R: Read, W: Sink, E: Sink>(
 ) -> u8
     ensures { result ≡ 0 → IsServed (R.remaining input.old) (⟦<Buffered<W> as Sink>⟧.contents out.old) (W.contents (below out.new)) asked.choice signal.now }
 {
-    match read_input(alloc, limit_of(asked.choice), input) {
-        Ok(input) => answer(alloc, asked, signal, &input, out, err),
-        Err(fault) => report(alloc, asked, &fault, b"", err),
+    match asked.choice {
+        Choice::Live => serve_lines(alloc, asked, input, out, err),
+        _ => serve_whole(alloc, asked, signal, input, out, err),
     }
 }
 

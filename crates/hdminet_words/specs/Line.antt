@@ -9,7 +9,7 @@ use Rattle.hdminet_words.specs.declared.choice.Asked.{Asked}
 use Rattle.hdminet_words.specs.declared.choice.Choice.{Choice}
 use Rattle.hdminet_words.specs.declared.choice.Choice.TheVariants as choices
 use Rattle.hdminet_words.specs.declared.subcommand.Subcommand.{Subcommand}
-use Rattle.hdminet_words.specs.declared.subcommand.Subcommand.TheVariants.{Run, Check, Step, Asm, Dis, Mon, Edid}
+use Rattle.hdminet_words.specs.declared.subcommand.Subcommand.TheVariants.{Run, Check, Step, Live, Asm, Dis, Mon, Edid}
 
 -- the subcommand of a word
 abbrev pub subcommand_of : List ℕ → Option Subcommand
@@ -17,6 +17,7 @@ subcommand_of word =
     if bytes_eq word (codes "run") then Some Run
     else if bytes_eq word (codes "check") then Some Check
     else if bytes_eq word (codes "step") then Some Step
+    else if bytes_eq word (codes "live") then Some Live
     else if bytes_eq word (codes "asm") then Some Asm
     else if bytes_eq word (codes "dis") then Some Dis
     else if bytes_eq word (codes "mon") then Some Mon
@@ -32,8 +33,9 @@ only_explained choice words = None
 -- what a subcommand with these flags asks for
 abbrev pub asked_of : Subcommand → List (List ℕ) → Option Asked
 asked_of Run words = option_and_then run_asked (run_flags (record { edges = false; format = None; drives = false; strict = false; json = false; explains = false; waits = false }) words)
-asked_of Check words = option_and_then check_asked (check_flags (record { plain = false; trace = false; explains = false }) words)
+asked_of Check words = option_and_then check_asked (check_flags (record { plain = false; trace = false; json = false; capture = false; form = None; named = false; glitch = None; explains = false; waits = None }) words)
 asked_of Step words = only_explained choices.Step words
+asked_of Live words = only_explained choices.Live words
 asked_of Asm words = only_explained choices.Asm words
 asked_of Dis words = only_explained choices.Dis words
 asked_of Mon words = option_and_then mon_asked (mon_flags (record { form = None; named = false; glitch = None; start = None; audit = false; timing = false; json = false; explains = false; waits = None }) words)

@@ -1,15 +1,25 @@
 //! The flags of `check`.
 ghost use Rattle.std.specs.Prelude.{◌≡◌, map, string_bytes};
-ghost use Rattle.hdminet_words.specs.CheckFlags.{check_asked, check_flags, test_view, with_check_flag};
+ghost use Rattle.hdminet_words.specs.CheckFlags.{capture_choice, check_asked, check_choice, check_flags, has_capture_flag, of_capture, of_run, run_choice, test_view, with_check_flag, with_check_value};
 
-use crate::choice::{Asked, Choice, TestView};
+use crate::choice::{Asked, Choice, Form, Objects, TestView};
+use crate::mon_flags::{MonValue, form_of, has_names};
+use cec_words::number_in;
 
 /// The flags that `check` was given.
 #[derive(Clone, Copy, Debug)]
 pub struct CheckFlags {
     pub plain: bool,
     pub trace: bool,
+    pub json: bool,
+    pub capture: bool,
+    pub form: Option<Form>,
+    /// Whether `--signal` names a wire, which `signal_in` returns.
+    pub named: bool,
+    pub glitch: Option<u64>,
     pub explains: bool,
+    /// The flag whose value comes next.
+    pub waits: Option<MonValue>,
 }
 
 impl CheckFlags {
@@ -17,8 +27,43 @@ impl CheckFlags {
     pub const NONE: CheckFlags = CheckFlags {
         plain: false,
         trace: false,
+        json: false,
+        capture: false,
+        form: None,
+        named: false,
+        glitch: None,
         explains: false,
+        waits: None,
     };
+}
+
+// The flags with the value of the last.
+fn with_check_value(flags: CheckFlags, value: MonValue, word: &str) -> Option<CheckFlags>
+    ensures { result ≡ with_check_value flags value word.now }
+{
+    match value {
+        MonValue::From => {
+            let form = form_of(word)?;
+            Some(CheckFlags {
+                form: Some(form),
+                waits: None,
+                ..flags
+            })
+        }
+        MonValue::Signal => Some(CheckFlags {
+            named: true,
+            waits: None,
+            ..flags
+        }),
+        MonValue::Glitch => {
+            let glitch = number_in(word.as_bytes())?;
+            Some(CheckFlags {
+                glitch: Some(glitch),
+                waits: None,
+                ..flags
+            })
+        }
+    }
 }
 
 // The flags with one more. Each stands once at most.
@@ -34,6 +79,26 @@ fn with_check_flag(flags: CheckFlags, word: &str) -> Option<CheckFlags>
             trace: true,
             ..flags
         }),
+        "--json" if !flags.json => Some(CheckFlags {
+            json: true,
+            ..flags
+        }),
+        "--capture" if !flags.capture => Some(CheckFlags {
+            capture: true,
+            ..flags
+        }),
+        "--from" if flags.form.is_none() => Some(CheckFlags {
+            waits: Some(MonValue::From),
+            ..flags
+        }),
+        "--signal" if !flags.named => Some(CheckFlags {
+            waits: Some(MonValue::Signal),
+            ..flags
+        }),
+        "--glitch" if flags.glitch.is_none() => Some(CheckFlags {
+            waits: Some(MonValue::Glitch),
+            ..flags
+        }),
         "--explain" if !flags.explains => Some(CheckFlags {
             explains: true,
             ..flags
@@ -42,17 +107,20 @@ fn with_check_flag(flags: CheckFlags, word: &str) -> Option<CheckFlags>
     }
 }
 
-/// The flags with those that these words are.
+/// The flags with those that these words are, and their values.
 pub fn check_flags(flags: CheckFlags, words: &[String]) -> Option<CheckFlags>
     ensures { result ≡ check_flags flags (map string_bytes words.now) }
 {
     match words {
         [] => Some(flags),
-        [word, rest @ ..] => check_flags(with_check_flag(flags, word.as_str())?, rest),
+        [word, rest @ ..] => match flags.waits {
+            Some(value) => check_flags(with_check_value(flags, value, word.as_str())?, rest),
+            None => check_flags(with_check_flag(flags, word.as_str())?, rest),
+        },
     }
 }
 
-// What is written of a test. The plain script has no trace behind it.
+// What is written of a run. The plain script has no trace behind it.
 fn test_view(plain: bool, trace: bool) -> Option<TestView>
     ensures { result ≡ test_view plain trace }
 {
@@ -64,13 +132,75 @@ fn test_view(plain: bool, trace: bool) -> Option<TestView>
     }
 }
 
+// Whether a flag speaks of a capture.
+fn has_capture_flag(flags: &CheckFlags) -> bool
+    ensures { result ≡ has_capture_flag flags.now }
+{
+    flags.form.is_some() || flags.named || flags.glitch.is_some()
+}
+
+// The report of a test of a capture, or its objects.
+fn capture_choice(json: bool, form: Option<Form>, glitch: u64) -> Choice
+    ensures { result ≡ capture_choice json form glitch }
+{
+    if json {
+        Choice::Json(Objects::CaptureTest { form, glitch })
+    } else {
+        Choice::CheckCapture { form, glitch }
+    }
+}
+
+// A report of a capture alone is written.
+fn of_capture(flags: &CheckFlags) -> Option<Choice>
+    ensures { result ≡ of_capture flags.now }
+{
+    if flags.plain || flags.trace || (flags.named && !has_names(flags.form)) {
+        return None;
+    }
+    Some(capture_choice(flags.json, flags.form, flags.glitch.unwrap_or(0)))
+}
+
+// What is written of a test of a run. Objects are those of its report alone.
+fn run_choice(json: bool, view: TestView) -> Option<Choice>
+    ensures { result ≡ run_choice json view }
+{
+    match view {
+        TestView::Report if json => Some(Choice::Json(Objects::Test)),
+        _ if json => None,
+        view => Some(Choice::Check(view)),
+    }
+}
+
+fn of_run(flags: &CheckFlags) -> Option<Choice>
+    ensures { result ≡ of_run flags.now }
+{
+    if has_capture_flag(flags) {
+        return None;
+    }
+    let view = test_view(flags.plain, flags.trace)?;
+    run_choice(flags.json, view)
+}
+
+fn check_choice(flags: &CheckFlags) -> Option<Choice>
+    ensures { result ≡ check_choice flags.now }
+{
+    if flags.capture {
+        of_capture(flags)
+    } else {
+        of_run(flags)
+    }
+}
+
 /// What `check` with these flags asks for.
 pub fn check_asked(flags: &CheckFlags) -> Option<Asked>
     ensures { result ≡ check_asked flags.now }
 {
-    let view = test_view(flags.plain, flags.trace)?;
+    if flags.waits.is_some() {
+        return None;
+    }
+    let choice = check_choice(flags)?;
     Some(Asked {
-        choice: Choice::Check(view),
+        choice,
         explains: flags.explains,
     })
 }

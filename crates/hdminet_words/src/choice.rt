@@ -68,6 +68,13 @@ pub enum Objects {
         glitch: u64,
         report: Option<Report>,
     },
+    /// The lines of the report of a test of a run.
+    Test,
+    /// The lines of the report of a test of a capture.
+    CaptureTest {
+        form: Option<Form>,
+        glitch: u64,
+    },
 }
 
 /// What an EDID is read from.
@@ -126,8 +133,16 @@ pub enum Choice {
     },
     /// A test of a run.
     Check(TestView),
+    /// A test of a capture. Its first line tells its form where none is given; pulses and gaps shorter than so many microseconds
+    /// are passed over.
+    CheckCapture {
+        form: Option<Form>,
+        glitch: u64,
+    },
     /// Steps of a run, edge by edge and round by round.
     Step,
+    /// A session: a run whose script comes line by line, each answered as it comes.
+    Live,
     /// The bytes of frames, from their texts.
     Asm,
     /// The texts of frames, from their bytes in hex.

@@ -34,6 +34,7 @@ fn asked_of(subcommand: Subcommand, words: &[String]) -> Option<Asked>
         Subcommand::Run => run_asked(&run_flags(RunFlags::NONE, words)?),
         Subcommand::Check => check_asked(&check_flags(CheckFlags::NONE, words)?),
         Subcommand::Step => only_explained(Choice::Step, words),
+        Subcommand::Live => only_explained(Choice::Live, words),
         Subcommand::Asm => only_explained(Choice::Asm, words),
         Subcommand::Dis => only_explained(Choice::Dis, words),
         Subcommand::Mon => mon_asked(&mon_flags(MonFlags::NONE, words)?),

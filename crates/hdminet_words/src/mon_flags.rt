@@ -5,7 +5,7 @@ ghost use Rattle.hdminet_words.specs.MonFlags.{form_of, has_names, is_misfit, jo
 use crate::choice::{Asked, Choice, Form, Objects, Report};
 use cec_words::{before, behind, number_in};
 
-/// A flag of `mon` that a value follows.
+/// A flag of a capture that a value follows.
 #[derive(Clone, Copy, Debug)]
 pub enum MonValue {
     From,
@@ -45,8 +45,8 @@ impl MonFlags {
     };
 }
 
-// The form of a capture that a word names.
-fn form_of(word: &str) -> Option<Form>
+/// The form of a capture that a word names.
+pub fn form_of(word: &str) -> Option<Form>
     ensures { result ≡ form_of word.now }
 {
     match word {
@@ -145,8 +145,8 @@ pub fn mon_flags(flags: MonFlags, words: &[String]) -> Option<MonFlags>
     }
 }
 
-// Whether the wires of a capture may have names: those of edge files and of pin events have none.
-fn has_names(form: Option<Form>) -> bool
+/// Whether the wires of a capture may have names: those of edge files and of pin events have none.
+pub fn has_names(form: Option<Form>) -> bool
     ensures { result ≡ has_names form }
 {
     match form {

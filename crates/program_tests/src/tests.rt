@@ -24,6 +24,8 @@ mod hostile;
 mod limits;
 mod refused_texts;
 mod runs;
+mod sessions;
+mod sweeps;
 mod trees;
 
 /// A writer that takes what it is handed, or, where its room is bounded, one byte at a time, and fails once that is full.

@@ -16,7 +16,7 @@ end 5
                     ^^^^^
   a line here reads `device NAME KIND PORTS`
   `playr`: did you mean `player`?
-  KIND is tv, amp, player, recorder, switch or combo; words stand one space apart; `edid` comes once
+  KIND is tv, amp, player, recorder, switch, combo or outside; words stand one space apart; `edid` comes once
 --
 DEVICE tv tv 4
 script
@@ -26,7 +26,7 @@ end 5
           ^^^^^^
   a line here reads `device NAME KIND PORTS`, `plug CHILD PARENT PORT`, `edid HEX`
   `DEVICE`: did you mean `device`?
-  KIND is tv, amp, player, recorder, switch or combo; words stand one space apart; `edid` comes once
+  KIND is tv, amp, player, recorder, switch, combo or outside; words stand one space apart; `edid` comes once
 --
 \u{feff}device tv tv 4
 script
@@ -36,7 +36,7 @@ end 5
           ^^^^^^^^^
   this line has bytes that are no printable text; `.` stands for each
   a line here reads `device NAME KIND PORTS`, `plug CHILD PARENT PORT`, `edid HEX`
-  KIND is tv, amp, player, recorder, switch or combo; words stand one space apart; `edid` comes once
+  KIND is tv, amp, player, recorder, switch, combo or outside; words stand one space apart; `edid` comes once
   the input begins with a byte order mark, ef bb bf, which is no part of the text
 --
 device tv tv 4\r
@@ -110,7 +110,7 @@ end 9
                      ^^
   this line has a tab; words stand one space apart
   this line ends with a space
-  a line here reads `at T press NAME KEY`, `at T release NAME KEY`, `at T plug CHILD PARENT PORT`, `at T unplug CHILD`, `at T send NAME FRAME`
+  a line here reads `at T press NAME KEY`, `at T release NAME KEY`, `at T plug CHILD PARENT PORT`, `at T unplug CHILD`, `at T send NAME FRAME`, `at T hold NAME ADDRS`, `at T drop NAME`
   words stand one space apart, and nothing follows the last one
 --
 device tv tv 4
@@ -143,7 +143,7 @@ end 9
 => script line 1: word
   line 3: expect from 0 to 5 short
           ^^^^^^
-  a line here reads `at T press NAME KEY`, `at T release NAME KEY`, `at T plug CHILD PARENT PORT`, `at T unplug CHILD`, `at T send NAME FRAME`, `pulse T WIDTH`, `end T`
+  a line here reads `at T press NAME KEY`, `at T release NAME KEY`, `at T plug CHILD PARENT PORT`, `at T unplug CHILD`, `at T send NAME FRAME`, `at T hold NAME ADDRS`, `at T drop NAME`, `pulse T WIDTH`, `end T`
   labels and expectations are read by `hdminet check`
   words stand one space apart, and nothing follows the last one
 --
@@ -409,7 +409,7 @@ end 9
 => script line 1: word
   line 3: expct none from 0 to 5 short
           ^^^^^
-  a line here reads `at T press NAME KEY`, `at T release NAME KEY`, `at T plug CHILD PARENT PORT`, `at T unplug CHILD`, `at T send NAME FRAME`, `pulse T WIDTH`, `end T`, `label NAME LINE`, `expect within D of NAME PATTERN`, `expect from T to U PATTERN`, `expect state T NAME WORD`, `expect refused NAME WORD`
+  a line here reads `at T press NAME KEY`, `at T release NAME KEY`, `at T plug CHILD PARENT PORT`, `at T unplug CHILD`, `at T send NAME FRAME`, `at T hold NAME ADDRS`, `at T drop NAME`, `pulse T WIDTH`, `end T`, `label NAME LINE`, `expect within D of NAME PATTERN`, `expect from T to U PATTERN`, `expect state T NAME WORD`, `expect refused NAME WORD`
   `expct`: did you mean `expect`?
   words stand one space apart, and nothing follows the last one
 --

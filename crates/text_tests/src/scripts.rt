@@ -1,7 +1,7 @@
 //! What a topology and a script say, and why one is refused.
 use crate::cases::{bytes_of, case_holds};
 use cec_asm::{Script, ScriptError, TimedEvent, Topology, parse_script, parse_topology};
-use cec_device::{Key, VolumeKey};
+use cec_device::{Act, Key, VolumeKey};
 use cec_net::Event;
 use cec_opcode::UserControl;
 use std::alloc::Global;
@@ -49,6 +49,18 @@ at 5 press p1 remote 4 44 => line 1: word
 at 5 release p1 => line 1: word
 at 5 send => line 1: word
 at 5 send p1 => line 1: word
+at 5 hold p1 => line 1: word
+at 5 hold p1 f => line 1: word
+at 5 hold p1 A => line 1: word
+at 5 hold p1 4+ => line 1: word
+at 5 hold p1 4+4 => line 1: word
+at 5 hold p1 4+f => line 1: word
+at 5 hold p1 4-8 => line 1: word
+at 5 hold p1 1+4+8 => line 1: word
+at 5 hold p1 4 8 => line 1: word
+at x hold p1 15 => line 1: word
+at 5 drop => line 1: word
+at 5 drop p1 4 => line 1: word
 at x send frob => line 1: word
 pulse => line 1: word
 pulse 5 => line 1: word
@@ -211,7 +223,24 @@ plug p1 tv 300 => plug 1 into port 255 of 0
 unplug p1 => unplug 1
 press tv menu => press menu of 0
 release p1 menu => release menu of 1
-send p1 4>0 set-osd-name \"a  b\" => send from 1";
+send p1 4>0 set-osd-name \"a  b\" => send from 1
+hold p1 - => hold none at 1
+hold p1 e => hold 14 at 1
+hold p1 1+4 => hold 1 and 4 at 1
+drop tv => drop at 0";
+
+// The name of each hold that is listed.
+fn hold_name(act: &Act) -> &'static str {
+    let Act::Hold { first, second } = act else {
+        return "another act";
+    };
+    match (first.value(), second.map(|address| address.value())) {
+        (15, None) => "hold none at 1",
+        (14, None) => "hold 14 at 1",
+        (1, Some(4)) => "hold 1 and 4 at 1",
+        _ => "another hold",
+    }
+}
 
 // The name of each of the events that are listed.
 fn event_name(event: &Event) -> &'static str {
@@ -235,6 +264,11 @@ fn event_name(event: &Event) -> &'static str {
         Event::Send { device: 1, frame } if frame.bytes() == b"\x40\x47a  b".as_slice() => {
             "send from 1"
         }
+        Event::Outside { device: 1, act } => hold_name(act),
+        Event::Outside {
+            device: 0,
+            act: Act::Empty,
+        } => "drop at 0",
         _ => "another event",
     }
 }

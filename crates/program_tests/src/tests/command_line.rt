@@ -21,6 +21,8 @@ check --help =>   expect refused NAME WORD
 check --help =>   ok 2 - line 3: expect once within 200000 of on 4>f active-source 1.0.0.0 ok
 check --help => --trace
 check --help => --plain
+check --help => --capture
+check --help =>   4931600..4945250 ok not-ok
 --help =>   check
 run --help =>   watch PA       tv
 asm --help => 4f821000
@@ -30,6 +32,8 @@ mon --help => --from-idle
 mon --help => --signal
 mon --help => 0 T joined -
 edid --help => --meaning
+live --help =>   = H idle
+--help =>   ./hdminet live;
 dis --help => 4f:82:10:00      4>f active-source 1.0.0.0
 edid --help =>   made 10 2011 
 edid --help => --text
@@ -105,7 +109,21 @@ mon --json --audit
 mon --timing --json
 mon --json --json
 step --json
-check --json
+live --json
+live room.net
+check --json --trace
+check --plain --json
+check --json --json
+check --from vcd
+check --signal CEC
+check --glitch 50
+check --capture --trace
+check --capture --plain
+check --capture --capture
+check --capture --from wav
+check --capture --from
+check --capture --signal CEC --from pin
+check --capture --glitch few
 check --edges
 check --strict
 check --trace --plain

@@ -448,6 +448,25 @@ const CAPTURE_AUDIT: &str = "\
   bit total 2400..2400 mean 2400 of 58
 ";
 
+const CAPTURE_EXPECT: &str = "\
+label up at 12000
+label polled expect once within 30000 of up 0>0 nack
+expect once within 200000 of polled 0>f report-physical-address 0.0.0.0 tv ok
+expect none from 0 to 200000 bad-start
+expect once from 200000 to 500000 bad-start
+expect once from 200000 to 500000 silent 1
+";
+
+const CAPTURE_TESTED: &str = "\
+TAP version 13
+ok 1 - line 2: label polled expect once within 30000 of up 0>0 nack
+ok 2 - line 3: expect once within 200000 of polled 0>f report-physical-address 0.0.0.0 tv ok
+ok 3 - line 4: expect none from 0 to 200000 bad-start
+ok 4 - line 5: expect once from 200000 to 500000 bad-start
+ok 5 - line 6: expect once from 200000 to 500000 silent 1
+1..5
+";
+
 const CAPTURES: &[Case<'static>] = &[
     Case {
         name: "capture.edges",
@@ -514,4 +533,52 @@ const CAPTURES: &[Case<'static>] = &[
 #[test]
 fn each_capture_gives_its_output(rt: HostRuntime) {
     gives_each(&rt, CAPTURES);
+}
+
+const TESTED: &[Case<'static>] = &[
+    Case {
+        name: "capture.edges, tested",
+        line: "check --capture",
+        input: CAPTURE_EDGES,
+        want: CAPTURE_TESTED,
+    },
+    Case {
+        name: "capture.gtkwave.vcd, tested",
+        line: "check --capture",
+        input: CAPTURE_GTKWAVE_VCD,
+        want: CAPTURE_TESTED,
+    },
+    Case {
+        name: "capture.sigrok.vcd, tested",
+        line: "check --capture",
+        input: CAPTURE_SIGROK_VCD,
+        want: CAPTURE_TESTED,
+    },
+    Case {
+        name: "capture.pin, tested",
+        line: "check --capture",
+        input: CAPTURE_PIN,
+        want: CAPTURE_TESTED,
+    },
+    Case {
+        name: "capture.csv, tested",
+        line: "check --capture",
+        input: CAPTURE_CSV,
+        want: CAPTURE_TESTED,
+    },
+];
+
+#[test]
+fn each_capture_is_as_expected(rt: HostRuntime) {
+    for case in TESTED {
+        let input = format!(in rt.alloc(); "{CAPTURE_EXPECT}capture\n{}", case.input);
+        let input = input.expect(&rt, "an input");
+        gives(
+            &rt,
+            case.line,
+            case.name,
+            input.as_str().as_bytes(),
+            case.want,
+        );
+    }
 }

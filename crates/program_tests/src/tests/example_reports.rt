@@ -1,5 +1,6 @@
 //! The networks under test of examples/, each with its report. tools/example-tests writes this file.
 use super::expectations::fails_tests;
+use super::sweeps::fails_in_range;
 use super::*;
 
 const FILM_TEST: &str = "\
@@ -114,6 +115,30 @@ not ok 3 - line 4: refused not-for-kind
 1..3
 ";
 
+const RACE_SWEEP: &str = "\
+# Two players on one television. The second play key is pressed every 50 microseconds from 4840000 up to 5000000, where the first
+# one is: within three frames' time the television is woken in time or not, and its question of a second later is answered or not.
+device tv tv 4
+device p1 player 0
+device p2 player 0
+plug p1 tv 1
+plug p2 tv 2
+script
+at 4840000..5000000/50 press p2 play
+label key at 5000000 press p1 play
+expect within 60000 of key 4>0 image-view-on ack
+label ask at 6000000 send tv 0>f request-active-source
+expect within 300000 of ask *>f active-source
+end 7000000
+";
+
+const RACE_STRETCHES: &str = "\
+4840000..4931550 not-ok ok
+4931600..4945250 ok not-ok
+4945300..4999950 not-ok not-ok
+5000000..5000000 ok not-ok
+";
+
 const REPORTS: &[Case<'static>] = &[
     Case {
         name: "film",
@@ -160,4 +185,9 @@ fn each_failure_gives_its_report(rt: HostRuntime) {
     for case in FAILURES {
         fails_tests(&rt, case.line, case.input.as_bytes(), case.want);
     }
+}
+
+#[test]
+fn each_sweep_gives_its_stretches(rt: HostRuntime) {
+    fails_in_range(&rt, "check", RACE_SWEEP.as_bytes(), RACE_STRETCHES);
 }

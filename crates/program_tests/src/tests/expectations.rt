@@ -47,7 +47,7 @@ expect => script line 2: end
 ";
 
 /// The input of a test over a television.
-fn over_television(rt: &(impl Abort + AllocGlobal), script: &str) -> String {
+pub(super) fn over_television(rt: &(impl Abort + AllocGlobal), script: &str) -> String {
     let script = with_lines(rt, script);
     let script = script.as_str();
     format!(in rt.alloc(); "device tv tv 4\nscript\n{script}\n").expect(rt, "an input")

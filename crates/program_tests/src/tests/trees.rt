@@ -260,6 +260,62 @@ state r4 recorder 1 2.2.0.0 on active=- path=- deck=1a menu=off audio=off volume
 5000000 end
 ";
 
+/// A device from outside beside a player: it polls, holds what it found, and then what the player has too.
+const OUTSIDE: &str = "\
+device tv tv 4
+device dut outside 1
+device p1 player 0
+plug dut tv 1
+plug p1 tv 2
+";
+
+const OUTSIDE_SCRIPT: &str = "\
+at 500000 send dut 4>4
+at 700000 send dut 8>8
+at 900000 hold dut 8
+at 900000 send dut 8>f report-physical-address 1.0.0.0 playback
+at 1200000 hold tv 3
+at 1200000 drop p1
+at 1200000 press dut power
+at 1300000 send tv 0>8 give-device-power-status
+at 1500000 send dut 4>4
+at 1500001 send dut 9>0 image-view-on
+at 1600000 hold dut 4+8
+at 1700000 send dut 0>4 give-osd-name
+at 1700000 drop dut
+end 3000000
+";
+
+const OUTSIDE_TRACE: &str = "\
+12000 39150 complete 0>0 nack by tv out -
+50706 77856 complete 4>4 nack by p1 out -
+89406 212556 complete 0>f report-physical-address 0.0.0.0 tv ok by tv out -
+224106 347256 complete 4>f report-physical-address 2.0.0.0 playback ok by p1 out -
+500000 event 1 ok
+500000 527150 complete 4>4 ack by dut out -
+700000 event 2 ok
+700000 727150 complete 8>8 nack by dut out -
+900000 event 3 ok
+900000 event 4 ok
+900000 1023150 complete 8>f report-physical-address 1.0.0.0 playback ok by dut out -
+1200000 event 5 refused not-for-kind
+1200000 event 6 refused not-for-kind
+1200000 event 7 refused not-for-kind
+1300000 event 8 ok
+1300000 1351150 complete 0>8 give-device-power-status ack by tv out -
+1500000 event 9 ok
+1500000 1527150 complete 4>4 ack by dut out -
+1527600 event 10 ok
+1544400 1595550 complete 9>0 image-view-on ack by dut out -
+1600000 event 11 ok
+1700000 event 12 ok
+1700000 event 13 ok
+state tv tv 0 0.0.0.0 on active=- path=- deck=1a menu=off audio=off volume=20 mute=off arc=off sel=- lang=656e67 osd=- held=- heard=8:84:10 sub=- queue=0 dropped=0
+state dut outside 4+8 1.0.0.0 - active=- path=- deck=- menu=- audio=- volume=- mute=- arc=- sel=- lang=- osd=- held=- heard=- sub=- queue=0 dropped=0
+state p1 player 4 2.0.0.0 on active=- path=- deck=1a menu=off audio=off volume=20 mute=off arc=off sel=- lang=656e67 osd=- held=- heard=8:84:10 sub=- queue=0 dropped=0
+3000000 end
+";
+
 const TREES: &[Traced<'static>] = &[
     Traced {
         name: "four players find three addresses",
@@ -302,6 +358,13 @@ const TREES: &[Traced<'static>] = &[
         script: TREE_SCRIPT,
         trace: TREE_TRACE,
         counted: "rounds 39, complete rounds 39, refused events 0",
+    },
+    Traced {
+        name: "a device from outside does what it is told",
+        topology: OUTSIDE,
+        script: OUTSIDE_SCRIPT,
+        trace: OUTSIDE_TRACE,
+        counted: "rounds 10, complete rounds 10, refused events 3",
     },
 ];
 

@@ -1,0 +1,201 @@
+#!/usr/bin/env python3
+"""tests/live.py [PROGRAM]: drives `hdminet live` as a co-process, which no test of the gate can. PROGRAM is
+crates/hdminet/out/hdminet, which ./hdminet builds, where none is given. The last line is 'live: N passed, M failed'."""
+import os
+import random
+import select
+import signal
+import subprocess
+import sys
+
+TOP = os.path.dirname(os.path.dirname(os.path.realpath(__file__)))
+PROGRAM = os.path.realpath(sys.argv[1]) if len(sys.argv) > 1 else os.path.join(TOP, 'crates/hdminet/out/hdminet')
+ROOM = 'device tv tv 4\ndevice p1 player 0\nplug p1 tv 1\nscript\n'
+OWN = ('run', 'wait', 'show')
+
+
+class Session:
+    """A session, and what was sent and told in it."""
+
+    def __init__(self, start):
+        self.live = subprocess.Popen([PROGRAM, 'live'], stdin=subprocess.PIPE, stdout=subprocess.PIPE, stderr=subprocess.PIPE)
+        self.send(start)
+        self.script, self.trace = [], []
+
+    def send(self, text):
+        self.live.stdin.write(text.encode())
+        self.live.stdin.flush()
+
+    def is_quiet(self, seconds=0.05):
+        """Nothing comes."""
+        return not select.select([self.live.stdout], [], [], seconds)[0]
+
+    def answer(self):
+        """What comes up to an answer."""
+        told = []
+        while True:
+            got = self.live.stdout.readline().decode()
+            if not got or got[0] in '=!':
+                return told, got
+            told.append(got)
+
+    def ask(self, line):
+        self.send(line + '\n')
+        told, answer = self.answer()
+        self.script.append('' if line.split(' ')[0] in OWN or answer[:1] != '=' else line)
+        self.trace += told
+        return answer
+
+    def ended(self):
+        """The status, what is still told, and the fault, once the input has come to its end."""
+        rest, fault = self.live.communicate()
+        return self.live.returncode, rest.decode(), fault.decode()
+
+
+def run(text):
+    return subprocess.run([PROGRAM, 'run'], input=text.encode(), stdout=subprocess.PIPE).stdout.decode()
+
+
+def answers_at_once():
+    """Each answer comes while the driver's end of the pipe is open, and none before its line is whole."""
+    s = Session(ROOM)
+    right = s.is_quiet()
+    s.send('run to 400')
+    right = right and s.is_quiet()
+    s.send('000\n')
+    told, answer = s.answer()
+    right = right and len(told) == 4 and answer == '= 400000\n'
+    right = right and s.ask('wait') == '= 400000 idle\n' and s.ask('frob') == '! 3 word\n'
+    right = right and s.ask('run to 399999') == '! 4 past\n' and s.ask('show p1').startswith('= state p1 player 4 1.0.0.0 on ')
+    right = right and s.ask('end 400000') == '= 400000\n' and s.ended() == (0, '', '')
+    return right
+
+
+def ends_early():
+    """A driver that goes away leaves its front."""
+    s = Session(ROOM)
+    right = s.ask('run to 50000') == '= 50000\n' and s.trace == ['12000 39150 complete 0>0 nack by tv out -\n']
+    return right and s.ended() == (1, '', 'hdminet: script line 2: end\n')
+
+
+def has_faults():
+    """The faults before `script` are those of `run`."""
+    right = True
+    for text in ['', 'device tv tv 4\n', 'device tv tv 4\nfrob\nscript\n', 'edid 00\ndevice tv tv 4\nscript\n', 'script\n']:
+        ran = [subprocess.run([PROGRAM, word], input=(text + 'end 5\n' if 'script' in text else text).encode(), capture_output=True) for word in ('run', 'live')]
+        right = right and ran[0].returncode == ran[1].returncode == 1 and ran[0].stderr == ran[1].stderr and ran[1].stdout == b''
+    return right
+
+
+def closed():
+    """A driver that stops reading ends the session with the count of what was written."""
+    s = Session(ROOM)
+    s.ask('run to 50000')
+    s.live.stdout.close()
+    s.send('run to 400000\n')
+    fault = s.live.stderr.read().decode()
+    s.live.stdin.close()
+    return s.live.wait() == 3 and fault == 'hdminet: write fault after 50 bytes\n'
+
+
+def instant(line):
+    numbers = [word for word in line.split() if word.isdigit()]
+    return int(numbers[0]) if numbers else 0
+
+
+def in_order(script):
+    """The lines of a script in the order of their times, `end` last."""
+    lines = [line for line in script if line and not line.startswith('#')]
+    return sorted((line for line in lines if not line.startswith('end ')), key=instant) + [line for line in lines if line.startswith('end ')]
+
+
+def is_trace(text, seed):
+    """A script, cut into a session at random with other lines between, tells what `run` writes of the lines that were taken."""
+    numbers = random.Random(seed)
+    topology, script = text.split('script\n', 1)
+    s = Session(topology + 'script\n')
+    now = 0
+    for line in in_order(script.split('\n')):
+        while numbers.random() < 0.7:
+            kind = numbers.randrange(5)
+            if kind == 0:
+                s.ask(numbers.choice(['frob', 'show nobody', 'pulse 1 1 1', 'run to x', '# \u00e9', '']))
+            elif kind == 1:
+                s.ask('pulse %d %d' % (now + numbers.choice([0, 1, 24999, 25000]), numbers.choice([0, 1, 600, 10000])))
+            elif kind == 2 and now < instant(line):
+                answer = s.ask('wait')
+                if int(answer.split()[1]) > instant(line):
+                    now = int(answer.split()[1])
+                    break
+                now = int(answer.split()[1])
+            else:
+                now = numbers.randint(now, max(now, instant(line)))
+                s.ask('run to %d' % now)
+        s.ask(line)
+    if s.live.poll() is None and not s.script[-1].startswith('end '):
+        s.ask('end 1000000000')
+    right = s.ended() == (0, '', '')
+    return right and ''.join(s.trace) == run(topology + 'script\n' + ''.join(line + '\n' for line in s.script))
+
+
+def examples_cut():
+    right = True
+    for name in sorted(os.listdir(os.path.join(TOP, 'examples'))):
+        if name.endswith('.net'):
+            with open(os.path.join(TOP, 'examples', name)) as file:
+                text = file.read()
+            for seed in range(20):
+                if not is_trace(text, seed):
+                    print('live: %s, cut by %d, is another trace' % (name, seed))
+                    right = False
+    return right
+
+
+def driver():
+    """The driver in Python ends well, and its room was asked and answered."""
+    ran = subprocess.run([os.path.join(TOP, 'examples/live/active-source.py'), PROGRAM], capture_output=True, text=True)
+    return ran.returncode == 0 and ran.stdout.count(' give-osd-name ') >= 2 and ran.stdout.count(' set-osd-name ') >= 2
+
+
+def is_right(name):
+    """A driver of examples/live ends with status 0."""
+    ran = subprocess.run([os.path.join(TOP, 'examples/live', name), PROGRAM], capture_output=True, text=True)
+    return ran.returncode == 0
+
+
+def device_under_test():
+    """A device from outside polls, claims an address, and answers in time."""
+    return is_right('dut.py')
+
+
+def claimed_twice():
+    """A device from outside claims an address that another one holds."""
+    return is_right('claims.py')
+
+
+def shell():
+    """The driver in bash goes through its room."""
+    ran = subprocess.run([os.path.join(TOP, 'examples/live/room.sh'), PROGRAM], capture_output=True, text=True)
+    lines = ran.stdout.split('\n')
+    told = [line for line in lines if line and line[0] not in '=!']
+    want = run(ROOM + 'at 1000000 press p1 play\nend 2000000\n')
+    return ran.returncode == 0 and ''.join(line + '\n' for line in told) == want and any(line.startswith('= state tv ') for line in lines)
+
+
+def main():
+    if not os.access(PROGRAM, os.X_OK):
+        sys.exit('live: no program at %s: start ./hdminet once' % PROGRAM)
+    signal.alarm(600)
+    passed = failed = 0
+    for test in [answers_at_once, ends_early, has_faults, closed, examples_cut, driver, device_under_test, claimed_twice, shell]:
+        if test():
+            passed += 1
+        else:
+            failed += 1
+            print('live: failed: %s' % test.__name__)
+    print('live: %d passed, %d failed' % (passed, failed))
+    sys.exit(failed > 0)
+
+
+if __name__ == '__main__':
+    main()
