@@ -109,9 +109,9 @@ def in_order(script):
     return sorted((line for line in lines if not line.startswith('end ')), key=instant) + [line for line in lines if line.startswith('end ')]
 
 
-def is_trace(text, seed):
+def is_trace(text, start):
     """A script, cut into a session at random with other lines between, tells what `run` writes of the lines that were taken."""
-    numbers = random.Random(seed)
+    numbers = random.Random(start)
     topology, script = text.split('script\n', 1)
     s = Session(topology + 'script\n')
     now = 0
@@ -144,9 +144,9 @@ def examples_cut():
         if name.endswith('.net'):
             with open(os.path.join(TOP, 'examples', name)) as file:
                 text = file.read()
-            for seed in range(20):
-                if not is_trace(text, seed):
-                    print('live: %s, cut by %d, is another trace' % (name, seed))
+            for start in range(20):
+                if not is_trace(text, start):
+                    print('live: %s, cut by %d, is another trace' % (name, start))
                     right = False
     return right
 

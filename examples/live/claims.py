@@ -7,19 +7,11 @@ prints the trace. Its status is 0 where the room did so, and `hdminet run` write
 
 import sys
 
-from room import Room, rounds
-
-TOPOLOGY = """\
-device tv tv 2
-device p1 player 0
-device dut outside 0
-plug p1 tv 1
-plug dut tv 2
-"""
+from room import WITH_SEAT, Room, rounds
 
 
 def main():
-    room = Room(sys.argv[1], TOPOLOGY)
+    room = Room(sys.argv[1], WITH_SEAT)
     # The player has looked for its address by now, and holds 4. The device under test acknowledges what goes to 4 too.
     room.ask("run to 400000")
     room.ask("at 500000 hold dut 4")

@@ -9,15 +9,7 @@ sent."""
 
 import sys
 
-from room import Room, rounds
-
-TOPOLOGY = """\
-device tv tv 2
-device p1 player 0
-device dut outside 0
-plug p1 tv 1
-plug dut tv 2
-"""
+from room import WITH_SEAT, Room, rounds
 
 # The logical addresses of a playback device, in the order in which it looks for one (CEC 10.2.1).
 PLAYBACK = "48b"
@@ -67,7 +59,7 @@ class DeviceUnderTest:
 
 
 def main():
-    room = Room(sys.argv[1], TOPOLOGY)
+    room = Room(sys.argv[1], WITH_SEAT)
     dut = DeviceUnderTest(room)
     dut.now = 400000
     dut.claim()

@@ -2,6 +2,15 @@
 
 import subprocess
 
+# A television, a player, and a seat for a device under test.
+WITH_SEAT = """\
+device tv tv 2
+device p1 player 0
+device dut outside 0
+plug p1 tv 1
+plug dut tv 2
+"""
+
 
 class Room:
     """An emulated room that is driven line by line."""
