@@ -1,8 +1,8 @@
 #!/usr/bin/env python3
 """python3 compare.py PROGRAM KIND COUNT START: random inputs of KIND through PROGRAM and the model; prints differences.
-KIND: run feat wire edges mon step asm edid edtext check ways expect json odd."""
+KIND: run feat wire edges mon step asm edid edtext check ways expect sweep json odd."""
 import os, random, re, subprocess, sys, time
-import wire, edid, net
+import wire, edid, net, sweep
 from model import model
 
 
@@ -724,7 +724,7 @@ def gen_expect(r):
         if slips and r.random() < .3:
             label, word = r.choice(slips)
             body = 'expect refused %s %s' % (label, word if r.random() < .8 else r.choice(REFUSALS))
-        elif STATES and r.random() < .15:
+        elif r.random() < .15:
             body = gen_state(r, trace, end)
         if r.random() < .3:
             label = 'e%d' % len(labels)
@@ -763,8 +763,6 @@ def gen_expect(r):
     return ['check'], topology + '\nscript\n' + '\n'.join(lines) + r.choice(['\n', '\n', ''])
 
 
-# expectations of states, where the program has them
-STATES = bool(os.environ.get('MODEL_STATES'))
 
 
 def gen_state(r, trace, end):
@@ -773,6 +771,32 @@ def gen_state(r, trace, end):
     words = [w if r.random() < .9 else r.choice(['on', 'active=-', 'volume=20', 'standby', w + 'x', w[:-1]]) for w in r.sample(state[1:], r.choice([1, 1, 2, 4]))]
     at = r.choice([end, end, end - 1, r.randrange(end + 1), r.randrange(end + 1), end + 1 if r.random() < .1 else 1])
     return 'expect state %d %s %s' % (at, state[1] if r.random() < .98 else 'nosuch', ' '.join(words))
+
+
+def sweep_word(r, time):
+    """a range about a time, of a few instants; seldom one at fault"""
+    step = r.choice([1, 1, 1, 2, 7, 1000, 30000])
+    first = max(0, time + r.choice([0, 0, -1, -2, -5, 1]) * step)
+    word = '%d..%d' % (first, first + r.choice([0, 1, 2, 4, 6]) * step + r.choice([0, 0, step // 2]))
+    if step > 1: word += '/%d' % step
+    if r.random() < .9: return word
+    return r.choice(['..', '5..', '..5', '9..8', '5..6/0', '5..6/', '5..06', '05..6', '5..6/01', '5...6', '5..1000000000001', '5..6..7', '5.6', word + '/', word + '.', word + '/1/1'])
+
+
+def gen_sweep(r):
+    """a run with expectations and a range in the place of a time, now and then of a second one"""
+    args, text = gen_expect(r)
+    topology, script = text.split('\nscript\n', 1)
+    lines = script.split('\n')
+    places = [(i, place) for i, line in enumerate(lines) for place in sweep.time_places(line.encode('latin1', 'replace').split(b' '))]
+    for _ in range(r.choice([1, 1, 1, 1, 1, 1, 1, 1, 0, 2])):
+        if not places: break
+        i, place = r.choice(places)
+        words = lines[i].split(' ')
+        if place < len(words):
+            words[place] = sweep_word(r, int(words[place]) if re.fullmatch('[0-9]{1,12}', words[place]) else 5)
+            lines[i] = ' '.join(words)
+    return args + r.choice([[], [], ['--json']]), topology + '\nscript\n' + '\n'.join(lines)
 
 
 def gen_odd(r):
@@ -815,8 +839,8 @@ def gen_odd(r):
 
 
 def gen_json(r):
-    """lines of runs and of captures as objects"""
-    a, d = r.choice([gen_run, gen_feat, gen_wire, gen_mon])(r)
+    """lines of runs, of captures and of reports as objects"""
+    a, d = r.choice([gen_run, gen_feat, gen_wire, gen_mon] + ([gen_expect] if os.environ.get('MODEL_EXPECT') else []))(r)
     return [w for w in a if w != '--edges'] + ['--json'], d
 
 
@@ -826,7 +850,7 @@ def small_run(r):
 
 
 ODD = [gen_run, small_run, small_run, gen_asm, gen_edidcmd, gen_edtext] + ([] if os.environ.get('MODEL_NO_MON') else [gen_mon]) + ([] if os.environ.get('MODEL_NO_STEP') else [gen_step]) + ([gen_expect] if os.environ.get('MODEL_EXPECT') else [])
-GEN = dict(ops=gen_ops, amp=gen_amp, run=gen_run, feat=gen_feat, wire=gen_wire, edges=gen_edges, mon=gen_mon, step=gen_step, asm=gen_asm, edid=gen_edidcmd, edtext=gen_edtext, check=gen_check, ways=gen_ways, expect=gen_expect, json=gen_json, odd=gen_odd)
+GEN = dict(ops=gen_ops, amp=gen_amp, run=gen_run, feat=gen_feat, wire=gen_wire, edges=gen_edges, mon=gen_mon, step=gen_step, asm=gen_asm, edid=gen_edidcmd, edtext=gen_edtext, check=gen_check, ways=gen_ways, expect=gen_expect, sweep=gen_sweep, json=gen_json, odd=gen_odd)
 
 
 def main():

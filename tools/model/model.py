@@ -1,7 +1,7 @@
 #!/usr/bin/env python3
 """python3 model.py SUB [flag] < input: the model as a program; fault text on standard error."""
 import sys
-import check, expectations, net, objects, wire, edid
+import check, net, objects, sweep, wire, edid
 
 LIMIT = 1048576
 
@@ -13,9 +13,10 @@ def model(args, data):
     sub = args[0] if args else 'run'
     if '--json' in args:
         status, out, fault = model([word for word in args if word != '--json'], data)
-        return status, objects.objects(out, objects.report_told_of if sub == 'check' else objects.told_of), fault
+        told_of = objects.told_of if sub != 'check' else objects.report_told_of if out.startswith(b'TAP') else objects.stretch_told_of
+        return status, objects.objects(out, told_of), fault
     if sub == 'run': return net.run(data, '--edges' in args)
-    if sub == 'check': return expectations.check(data)
+    if sub == 'check': return sweep.check(data)
     if sub == 'step': return net.step(data)
     if sub == 'mon': return wire.mon(data)
     if sub == 'asm': return wire.asm(data)

@@ -99,6 +99,12 @@ def report_told_of(line):
     return told_of(line[2:])
 
 
+def stretch_told_of(line):
+    stretch, *verdicts = line.split(' ')
+    first, last = stretch.split('..')
+    return {'type': 'stretch', 'from': int(first), 'to': int(last), 'holds': [verdict == 'ok' for verdict in verdicts]}
+
+
 def objects(text, told=told_of):
     """the objects of a text's lines"""
     return ''.join(json.dumps({'line': line, **told(line)}, separators=(',', ':')) + '\n' for line in text.decode().splitlines()).encode()

@@ -1,0 +1,92 @@
+"""Sweeps of scripts with expectations: a plain model."""
+import expectations
+from net import Fault, parts
+from wire import T_LIMIT, lines_of, number
+
+
+def time_places(words):
+    """the places of words in which a time stands: after a verb, and in the window of an expectation"""
+    first = 2 if words[0] == b'label' else 0
+    rest = words[first:]
+    if not rest:
+        return []
+    if rest[0] in (b'at', b'pulse', b'end'):
+        return [first + 1]
+    if rest[0] != b'expect':
+        return []
+    window = 2 if rest[1:2] in ([b'none'], [b'once']) else 1
+    word = rest[window:window + 1]
+    if word == [b'from']:
+        return [first + window + 1] + ([first + window + 3] if rest[window + 2:window + 3] == [b'to'] else [])
+    return [first + window + 1] if word in ([b'within'], [b'state']) else []
+
+
+def is_range(word):
+    point = word.find(b'.')
+    return point >= 0 and word[point + 1:point + 2] == b'.'
+
+
+def ranges_of(line):
+    """the places of its words that are meant as ranges"""
+    words = line.split(b' ')
+    return [i for i in time_places(words) if i < len(words) and is_range(words[i])]
+
+
+def instants_of(word):
+    """the instants of a range, or its cause"""
+    first, rest = word.split(b'..', 1)
+    last, slash, step = rest.partition(b'/')
+    first, last = number(first, T_LIMIT), number(last, T_LIMIT)
+    step = number(step) if slash else 1
+    if first is None or last is None or not step:
+        return 'number'
+    return range(first, last + 1, step) if first <= last else 'order'
+
+
+def range_in(script):
+    """the instants of the script's range, None where it has none; raises the first fault"""
+    found = None
+    for n, line in enumerate(lines_of(script), 1):
+        for place in ranges_of(line):
+            it = instants_of(line.split(b' ')[place])
+            if not isinstance(it, str) and found is not None:
+                it = 'range'
+            if isinstance(it, str):
+                raise Fault('script line %d: %s' % (n, it))
+            found = it
+    return found
+
+
+def at_instant(script, instant):
+    out = []
+    for line in lines_of(script):
+        words = line.split(b' ')
+        for place in ranges_of(line):
+            words[place] = b'%d' % instant
+        out.append(b' '.join(words) + b'\n')
+    return b''.join(out)
+
+
+def check(data):
+    """(status, output, fault) of `check`, with a range or without one"""
+    try:
+        script = parts(data)[1]
+        instants = range_in(script)
+    except Fault as f:
+        return 1, b'', f.args[0]
+    if instants is None:
+        return expectations.check(data)
+    head = data[:len(data) - len(script)]
+    stretches = []
+    for instant in instants:
+        status, report, fault = expectations.check(head + at_instant(script, instant))
+        if not report:
+            return status, b'', '%s at %d' % (fault, instant)
+        verdicts = [b'ok' if line.startswith(b'ok ') else b'not-ok' for line in report.split(b'\n') if line.startswith((b'ok ', b'not ok '))]
+        if stretches and stretches[-1][2] == verdicts:
+            stretches[-1][1] = instant
+        else:
+            stretches.append([instant, instant, verdicts])
+    out = b''.join(b' '.join([b'%d..%d' % (first, last)] + verdicts) + b'\n' for first, last, verdicts in stretches)
+    failed = any(b'not-ok' in verdicts for _, _, verdicts in stretches)
+    return int(failed), out, 'failed tests in the range' if failed else ''
