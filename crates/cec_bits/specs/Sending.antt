@@ -44,7 +44,8 @@ is_whole (Some end) = has_all end.ending
 
 -- a sender of these bits stops at slot n: in an acknowledge slot that does not end the reading a directly addressed block
 -- was read 1 or a broadcast block 0; in another slot it read another bit, as where it loses arbitration (`whole`: the last
--- bit ends the reading)
+-- bit ends the reading). The destination is the one that was read: as long as a sender sends, it is its own. Acknowledge
+-- slots are judged too, as the standard has it; that they decide nothing between two senders is proved.
 abbrev pub is_out_by : List Bool → Bool → List Bool → ℕ → Bool
 is_out_by bits whole sent n =
     if n % 10 == 0

@@ -44,6 +44,8 @@ pub record IsHeard (seats : List Seat) (begin : ℕ) (pulses : List Stretch) (t 
   pub sent : AreSentWell seats
   pub heard : EachLine seats begin pulses t (λ low. heard_of seats low begin (t - begin) ≡ h)
 
+-- This and `Listens` are asked for by calls and are no invariant of the type: they speak of every line that the round can still
+-- have, and a caller has them from the call before, with no test.
 abbrev pub IsBegun : EdgeWire → Type 0
 IsBegun w = IsHeard w.seats.items w.begin w.pulses.items w.time (heard_by w)
 

@@ -41,7 +41,7 @@ form_as (forms.Refused label word) = Refused label.now word.now
 
 -- ---- patterns
 
--- 1 to 160 bytes with at most four `*`
+-- 1 to 160 bytes with at most four `*`: a pattern is followed byte by byte, and each `*` in one word multiplies the ways
 abbrev pub stars : List ℕ → ℕ
 stars text = length (filter (λ b. b == 42) text)
 

@@ -7,7 +7,8 @@ use Rattle.cec_device.specs.FreeTime.{free_time_of}
 
 -- Where the line is high since `rest`, a device may start at t: it is on the wire, what it has to send is
 -- ready, the line has been high for its signal free time, and a poll by which it looks for an address starts
--- where the remainder by 16 is the device's number (own).
+-- where the remainder by 16 is the device's number (own). It counts from the rest and not from the close: what is ready at the
+-- close is ready less than the shortest free time after the rest, so no start depends on which of the two is taken.
 pub record MayStart (rest : ℕ) (d : State) (t : ℕ) : Type 0 where
   pub plugged : is_on_wire d ≡ true
   pub ready : IsSomeAnd (ready_of d) (λ ready. ready ≤ t)

@@ -19,7 +19,8 @@ use std::alloc::{AllocError, Global};
 use std::marker::Model;
 use std::mem;
 
-/// How many rounds a search leaps over at once.
+/// How many rounds a search leaps over at once, while none of them is looked for. Only the rounds of the last leap are run
+/// twice, with a copy of the position before each.
 const LEAP: u32 = 64;
 
 /// A run of a script on a topology, and where it stands. A position is large: a step is worked out in places that are lent

@@ -1,4 +1,6 @@
 -- How long a round takes at most, where its last stretch begins, and how many pulses begin in it. (own)
+-- The bounds follow from the longest reading, a follower's pull of 3,600 and a pulse of 10,000: a round is over 13,600 after its
+-- reading's end. No definition of a round, a reading or a run names the width of a pulse.
 use Rattle.std.specs.Prelude.{ℕ, ◌+◌, ◌≤◌, Bool, nat_le, ◌&&◌, List, length, filter, All}
 use Rattle.cec_wave.specs.declared.Stretch.{Stretch}
 use Rattle.cec_wave.specs.Line.{line_of, IsWave}

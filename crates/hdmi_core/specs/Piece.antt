@@ -23,6 +23,8 @@ abbrev pub dash_or : {T : Type 0} → (T → List ℕ) → Option T → List ℕ
 dash_or text None = codes "-"
 dash_or text (Some x) = text x
 
+-- Two hex digits for each byte, and a dash for none. A line of an EDID's text has the same by another definition, which goes by
+-- the laws of the library that reads hex back.
 abbrev pub hex_or_dash : List ℕ → List ℕ
 hex_or_dash [] = codes "-"
 hex_or_dash (x ∷ xs) = flat_map hex_text (x ∷ xs)

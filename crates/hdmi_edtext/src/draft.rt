@@ -23,7 +23,7 @@ pub struct Whole {
 }
 
 /// Whole blocks, and an open CTA block: its flags, data blocks and timings so far, and how many bytes are left for
-/// more.
+/// more. The whole blocks stand in it, so that what a line adds is said once, of the whole draft.
 #[derive(Drop)]
 pub struct Opened {
     pub whole: Whole,
