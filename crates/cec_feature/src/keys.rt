@@ -4,8 +4,10 @@ ghost use Rattle.arrayvec.specs.ArrayVec.{array_vec_len};
 ghost use Rattle.cec_opcode.specs.Table.{spelling};
 ghost use Rattle.cec_feature.specs.declared.say.Say.TheVariants.{Tell};
 ghost use Rattle.cec_feature.specs.Effect.{does};
+ghost use Rattle.cec_feature.specs.KeyWords.{word_of_key};
 ghost use Rattle.cec_feature.specs.Keys.{arc_said, audio_said, code_of, has_key, ported, pressing, releasing, taking_over, voiced};
 
+use crate::key_word::KeyWord;
 use crate::kinds::{Identity, is_deck};
 use crate::messages::{
     active_source, address, arc_command, arc_request, menu_status, report_audio_status,
@@ -43,6 +45,31 @@ pub enum Key {
     Language(Triple),
     /// A user control code, sent to another device: Remote Control Pass Through (CEC 13.13).
     Remote { to: Addr, code: UserControl },
+}
+
+impl Key {
+    /// The word that it is, or begins with, in a script.
+    pub fn word(&self) -> KeyWord
+        ensures { result ≡ word_of_key self.now }
+    {
+        match self {
+            Key::Play => KeyWord::Play,
+            Key::Stop => KeyWord::Stop,
+            Key::Eject => KeyWord::Eject,
+            Key::Load => KeyWord::Load,
+            Key::Menu => KeyWord::Menu,
+            Key::Power => KeyWord::Power,
+            Key::Watch(_) => KeyWord::Watch,
+            Key::Port(_) => KeyWord::Port,
+            Key::Audio { .. } => KeyWord::Audio,
+            Key::Arc { .. } => KeyWord::Arc,
+            Key::Volume(VolumeKey::Up) => KeyWord::VolumeUp,
+            Key::Volume(VolumeKey::Down) => KeyWord::VolumeDown,
+            Key::Volume(VolumeKey::Mute) => KeyWord::Mute,
+            Key::Language(_) => KeyWord::Language,
+            Key::Remote { .. } => KeyWord::Remote,
+        }
+    }
 }
 
 /// The keys of the sound.

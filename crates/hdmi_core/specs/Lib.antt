@@ -3,3 +3,4 @@ pub mod Buffered
 pub mod Piece
 pub mod Written
 pub mod Phys
+pub mod Kind
