@@ -9,9 +9,7 @@ ghost use Rattle.cec_feature.specs.Keys.{arc_said, audio_said, code_of, has_key,
 
 use crate::key_word::KeyWord;
 use crate::kinds::{Identity, is_deck};
-use crate::messages::{
-    active_source, address, arc_command, arc_request, menu_status, report_audio_status,
-};
+use crate::messages::{active_source, arc_command, arc_request, menu_status, report_audio_status};
 use crate::record::{Port, Record};
 use crate::say::{DataBlocks, Say, Says, both, cast, silence, tell};
 use crate::ways::below;
@@ -170,9 +168,7 @@ impl Record {
             Kind::Player | Kind::Recorder | Kind::Combo if self.active == Some(me.phys) => {
                 self.active = None;
                 self.fall_asleep();
-                to_television(&Message::InactiveSource {
-                    address: address(me.phys),
-                })
+                to_television(&Message::InactiveSource { address: me.phys })
             }
             _ => {
                 self.fall_asleep();
@@ -189,8 +185,8 @@ impl Record {
         self.selected = Some(port);
         match old {
             Some(old) if old != port => cast(&Message::RoutingChange {
-                from: address(below(own, old)),
-                to: address(below(own, port)),
+                from: below(own, old),
+                to: below(own, port),
             }),
             _ => silence(),
         }
@@ -251,9 +247,7 @@ impl Record {
             Key::Power => self.press_power(me),
             Key::Watch(to) => {
                 self.path = Some(to);
-                cast(&Message::SetStreamPath {
-                    address: address(to),
-                })
+                cast(&Message::SetStreamPath { address: to })
             }
             Key::Port(port) => self.press_port(me.phys, Port::new(port)),
             Key::Audio { on } => press_audio(on, self.path),
@@ -297,6 +291,6 @@ fn press_audio(on: bool, path: Option<Phys>) -> Says
     ensures { result.items ≡ audio_said on path ∷ [] }
 {
     let path = path.unwrap_or(Phys { high: 0, low: 0 });
-    let address = if on { Some(address(path)) } else { None };
+    let address = if on { Some(path) } else { None };
     to_amplifier(&Message::SystemAudioModeRequest { address })
 }
