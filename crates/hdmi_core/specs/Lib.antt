@@ -4,3 +4,4 @@ pub mod Piece
 pub mod Written
 pub mod Phys
 pub mod Kind
+pub mod Bytes
