@@ -2,3 +2,4 @@ pub mod KeyLemmas
 pub mod Reading
 pub mod Sound
 pub mod OneReading
+pub mod KeyTexts

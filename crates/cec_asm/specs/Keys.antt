@@ -11,6 +11,9 @@ use Rattle.cec_opcode.specs.declared.word_set.WordSet.TheVariants as sets
 use Rattle.cec_feature.specs.declared.keys.Key.{Key}
 use Rattle.cec_feature.specs.declared.keys.Key.TheVariants.{Play, Stop, Eject, Load, Menu, Power, Watch, Port, Audio, Arc, Volume, Language, Remote}
 use Rattle.cec_feature.specs.declared.keys.VolumeKey.TheVariants.{Up, Down, Mute}
+use Rattle.cec_feature.specs.KeyWords.{key_named}
+use Rattle.cec_feature.specs.declared.key_word.KeyWord.{KeyWord}
+use Rattle.cec_feature.specs.declared.key_word.KeyWord.TheVariants as key_words
 use Rattle.cec_words.specs.Words.{one_of, two_of, three_of}
 use Rattle.hdmi_core.specs.Phys.{digit_value, is_hex_digit, phys_of}
 use Rattle.cec_words.specs.Number.{number_of}
@@ -18,18 +21,17 @@ use Rattle.cec_asm.specs.declared.script.ScriptCause.{ScriptCause}
 use Rattle.cec_asm.specs.declared.script.ScriptCause.TheVariants.{Word, Number}
 
 -- the keys of one word
-abbrev pub plain_key : List ℕ → Option Key
-plain_key word =
-    if bytes_eq word (codes "play") then Some Play
-    else if bytes_eq word (codes "stop") then Some Stop
-    else if bytes_eq word (codes "eject") then Some Eject
-    else if bytes_eq word (codes "load") then Some Load
-    else if bytes_eq word (codes "menu") then Some Menu
-    else if bytes_eq word (codes "power") then Some Power
-    else if bytes_eq word (codes "volume-up") then Some (Volume Up)
-    else if bytes_eq word (codes "volume-down") then Some (Volume Down)
-    else if bytes_eq word (codes "mute") then Some (Volume Mute)
-    else None
+abbrev pub key_alone : KeyWord → Result Key ScriptCause
+key_alone key_words.Play = Ok Play
+key_alone key_words.Stop = Ok Stop
+key_alone key_words.Eject = Ok Eject
+key_alone key_words.Load = Ok Load
+key_alone key_words.Menu = Ok Menu
+key_alone key_words.Power = Ok Power
+key_alone key_words.VolumeUp = Ok (Volume Up)
+key_alone key_words.VolumeDown = Ok (Volume Down)
+key_alone key_words.Mute = Ok (Volume Mute)
+key_alone _ = Err Word
 
 abbrev pub switch_of : List ℕ → Option Bool
 switch_of word = if bytes_eq word (codes "on") then Some true else if bytes_eq word (codes "off") then Some false else None
@@ -70,14 +72,13 @@ port_key None = Err Number
 port_key (Some port) = Ok (Port (min port 255))
 
 -- `watch PA`, `port N`, `audio on`, `audio off`, `arc on`, `arc off`, `language LLL`
-abbrev pub key_with : List ℕ → List ℕ → Result Key ScriptCause
-key_with word value =
-    if bytes_eq word (codes "watch") then known (option_map Watch (phys_of value))
-    else if bytes_eq word (codes "port") then port_key (number_of value)
-    else if bytes_eq word (codes "audio") then known (option_map Audio (switch_of value))
-    else if bytes_eq word (codes "arc") then known (option_map Arc (switch_of value))
-    else if bytes_eq word (codes "language") then known (option_map Language (language_of value))
-    else Err Word
+abbrev pub key_with : KeyWord → List ℕ → Result Key ScriptCause
+key_with key_words.Watch value = known (option_map Watch (phys_of value))
+key_with key_words.Port value = port_key (number_of value)
+key_with key_words.Audio value = known (option_map Audio (switch_of value))
+key_with key_words.Arc value = known (option_map Arc (switch_of value))
+key_with key_words.Language value = known (option_map Language (language_of value))
+key_with _ value = Err Word
 
 -- `remote D CODE`
 abbrev pub remote_by : Option ℕ → Option UserControl → Result Key ScriptCause
@@ -85,13 +86,18 @@ remote_by None code = Err Word
 remote_by (Some to) None = Err Word
 remote_by (Some to) (Some code) = Ok (Remote to code)
 
-abbrev pub remote_key : List ℕ → List ℕ → List ℕ → Result Key ScriptCause
-remote_key word to code = if bytes_eq word (codes "remote") then remote_by (destination_of to) (control_of code) else Err Word
+abbrev pub remote_key : KeyWord → List ℕ → List ℕ → Result Key ScriptCause
+remote_key key_words.Remote to code = remote_by (destination_of to) (control_of code)
+remote_key _ to code = Err Word
+
+abbrev pub if_named : Option KeyWord → (KeyWord → Result Key ScriptCause) → Result Key ScriptCause
+if_named None read = Err Word
+if_named (Some word) read = read word
 
 abbrev pub key_by : Option (List ℕ) → Option (List ℕ × List ℕ) → Option (List ℕ × List ℕ × List ℕ) → Result Key ScriptCause
-key_by (Some word) two three = known (plain_key word)
-key_by None (Some words) three = key_with words.0 words.1
-key_by None None (Some words) = remote_key words.0 words.1 words.2
+key_by (Some word) two three = if_named (key_named word) key_alone
+key_by None (Some two) three = if_named (key_named two.0) (λ word. key_with word two.1)
+key_by None None (Some three) = if_named (key_named three.0) (λ word. remote_key word three.1 three.2)
 key_by None None None = Err Word
 
 -- the key of some words, or the first cause for which they are none

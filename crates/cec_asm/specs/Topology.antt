@@ -4,8 +4,8 @@ use Rattle.std.specs.Prelude.{◌≡◌, ℕ, ◌+◌, ◌==◌, ◌||◌, not, 
 use Rattle.std.specs.Str.{bytes_eq}
 use Rattle.std.specs.Result.{result_ok}
 use Rattle.hex.specs.Hex.{decode_of}
+use Rattle.hdmi_core.specs.Kind.{kind_named}
 use Rattle.hdmi_core.specs.declared.kind.Kind.{Kind}
-use Rattle.hdmi_core.specs.declared.kind.Kind.TheVariants.{Tv, Amp, Player, Recorder, Switch, Combo, Outside}
 use Rattle.hdmi_topo.specs.Name.{is_name}
 use Rattle.hdmi_topo.specs.Node.{Node}
 use Rattle.hdmi_topo.specs.Tree.{device_named, has_root, add_fault, added, plug_fault, plugged}
@@ -45,17 +45,6 @@ topology_cause PortTaken = codes "port-taken"
 topology_cause NotLoose = codes "not-loose"
 topology_cause Loop = codes "loop"
 topology_cause Hex = codes "hex"
-
-abbrev pub kind_named : List ℕ → Option Kind
-kind_named word =
-    if bytes_eq word (codes "tv") then Some Tv
-    else if bytes_eq word (codes "amp") then Some Amp
-    else if bytes_eq word (codes "player") then Some Player
-    else if bytes_eq word (codes "recorder") then Some Recorder
-    else if bytes_eq word (codes "switch") then Some Switch
-    else if bytes_eq word (codes "combo") then Some Combo
-    else if bytes_eq word (codes "outside") then Some Outside
-    else None
 
 -- the causes that a tree's refusals give
 abbrev pub add_cause : AddError → TopologyCause

@@ -3,40 +3,37 @@ ghost use Rattle.std.specs.Prelude.{◌≡◌, ◌≤◌, ◌<◌, IsTrue, optio
 ghost use Rattle.std.specs.List.{list_all};
 ghost use Rattle.std.specs.Char.{is_ascii_lowercase};
 ghost use Rattle.std.specs.Option.{option_copied};
+ghost use Rattle.cec_feature.specs.KeyWords.{key_named};
 ghost use Rattle.cec_words.specs.Number.{number_of};
 ghost use Rattle.cec_words.specs.Words.{words_behind};
-ghost use Rattle.cec_asm.specs.Keys.{plain_key, switch_of, language_of, destination_of, code_of, control_of, known, port_key, key_with, remote_by, remote_key, key_of};
+ghost use Rattle.cec_asm.specs.Keys.{key_alone, switch_of, language_of, destination_of, code_of, control_of, known, port_key, key_with, remote_by, remote_key, if_named, key_of};
 
 use crate::script::ScriptCause;
-use cec_device::{Key, VolumeKey};
+use cec_feature::{Key, KeyWord, VolumeKey};
 use cec_frame::Addr;
 use cec_opcode::{Triple, UserControl, WordSet};
 use cec_words::{number_in, one_word, three_words, two_words};
 use hdmi_core::{Phys, digit_value, is_hex_digit};
 
-fn plain_key(word: &[u8]) -> Option<Key>
-    ensures { result ≡ plain_key word.now }
+fn key_alone(word: KeyWord) -> Result<Key, ScriptCause>
+    ensures { result ≡ key_alone word }
 {
-    if word == b"play".as_slice() {
-        Some(Key::Play)
-    } else if word == b"stop".as_slice() {
-        Some(Key::Stop)
-    } else if word == b"eject".as_slice() {
-        Some(Key::Eject)
-    } else if word == b"load".as_slice() {
-        Some(Key::Load)
-    } else if word == b"menu".as_slice() {
-        Some(Key::Menu)
-    } else if word == b"power".as_slice() {
-        Some(Key::Power)
-    } else if word == b"volume-up".as_slice() {
-        Some(Key::Volume(VolumeKey::Up))
-    } else if word == b"volume-down".as_slice() {
-        Some(Key::Volume(VolumeKey::Down))
-    } else if word == b"mute".as_slice() {
-        Some(Key::Volume(VolumeKey::Mute))
-    } else {
-        None
+    match word {
+        KeyWord::Play => Ok(Key::Play),
+        KeyWord::Stop => Ok(Key::Stop),
+        KeyWord::Eject => Ok(Key::Eject),
+        KeyWord::Load => Ok(Key::Load),
+        KeyWord::Menu => Ok(Key::Menu),
+        KeyWord::Power => Ok(Key::Power),
+        KeyWord::VolumeUp => Ok(Key::Volume(VolumeKey::Up)),
+        KeyWord::VolumeDown => Ok(Key::Volume(VolumeKey::Down)),
+        KeyWord::Mute => Ok(Key::Volume(VolumeKey::Mute)),
+        KeyWord::Port
+        | KeyWord::Watch
+        | KeyWord::Language
+        | KeyWord::Audio
+        | KeyWord::Arc
+        | KeyWord::Remote => Err(ScriptCause::Word),
     }
 }
 
@@ -108,21 +105,25 @@ fn port_key(word: &[u8]) -> Result<Key, ScriptCause>
     }
 }
 
-fn key_with(word: &[u8], value: &[u8]) -> Result<Key, ScriptCause>
-    ensures { result ≡ key_with word.now value.now }
+fn key_with(word: KeyWord, value: &[u8]) -> Result<Key, ScriptCause>
+    ensures { result ≡ key_with word value.now }
 {
-    if word == b"watch".as_slice() {
-        known(Phys::read(value).map(Key::Watch))
-    } else if word == b"port".as_slice() {
-        port_key(value)
-    } else if word == b"audio".as_slice() {
-        known(switch_in(value).map(|on| Key::Audio { on }))
-    } else if word == b"arc".as_slice() {
-        known(switch_in(value).map(|on| Key::Arc { on }))
-    } else if word == b"language".as_slice() {
-        known(language_in(value).map(Key::Language))
-    } else {
-        Err(ScriptCause::Word)
+    match word {
+        KeyWord::Watch => known(Phys::read(value).map(Key::Watch)),
+        KeyWord::Port => port_key(value),
+        KeyWord::Audio => known(switch_in(value).map(|on| Key::Audio { on })),
+        KeyWord::Arc => known(switch_in(value).map(|on| Key::Arc { on })),
+        KeyWord::Language => known(language_in(value).map(Key::Language)),
+        KeyWord::Play
+        | KeyWord::Stop
+        | KeyWord::Eject
+        | KeyWord::Load
+        | KeyWord::Menu
+        | KeyWord::Power
+        | KeyWord::VolumeUp
+        | KeyWord::VolumeDown
+        | KeyWord::Mute
+        | KeyWord::Remote => Err(ScriptCause::Word),
     }
 }
 
@@ -138,13 +139,41 @@ fn remote_by(to: Option<Addr>, code: Option<UserControl>) -> Result<Key, ScriptC
     Ok(Key::Remote { to, code })
 }
 
-fn remote_key(word: &[u8], to: &[u8], code: &[u8]) -> Result<Key, ScriptCause>
-    ensures { result ≡ remote_key word.now to.now code.now }
+fn remote_key(word: KeyWord, to: &[u8], code: &[u8]) -> Result<Key, ScriptCause>
+    ensures { result ≡ remote_key word to.now code.now }
 {
-    if word == b"remote".as_slice() {
+    if word == KeyWord::Remote {
         remote_by(destination_in(to), control_in(code))
     } else {
         Err(ScriptCause::Word)
+    }
+}
+
+// A key of one word, of a word and what it takes, and of a word and two that it takes.
+fn key_of_one(word: &[u8]) -> Result<Key, ScriptCause>
+    ensures { result ≡ if_named (key_named word.now) key_alone }
+{
+    match KeyWord::named(word) {
+        Some(word) => key_alone(word),
+        None => Err(ScriptCause::Word),
+    }
+}
+
+fn key_of_two(word: &[u8], value: &[u8]) -> Result<Key, ScriptCause>
+    ensures { result ≡ if_named (key_named word.now) (λ word. key_with word value.now) }
+{
+    match KeyWord::named(word) {
+        Some(word) => key_with(word, value),
+        None => Err(ScriptCause::Word),
+    }
+}
+
+fn key_of_three(word: &[u8], to: &[u8], code: &[u8]) -> Result<Key, ScriptCause>
+    ensures { result ≡ if_named (key_named word.now) (λ word. remote_key word to.now code.now) }
+{
+    match KeyWord::named(word) {
+        Some(word) => remote_key(word, to, code),
+        None => Err(ScriptCause::Word),
     }
 }
 
@@ -153,13 +182,13 @@ pub fn key_in(rest: Option<&[u8]>) -> Result<Key, ScriptCause>
     ensures { result ≡ key_of (words_behind (option_copied rest.entry)) }
 {
     if let Some(word) = one_word(rest) {
-        return known(plain_key(word));
+        return key_of_one(word);
     }
     if let Some((word, value)) = two_words(rest) {
-        return key_with(word, value);
+        return key_of_two(word, value);
     }
     if let Some((word, to, code)) = three_words(rest) {
-        return remote_key(word, to, code);
+        return key_of_three(word, to, code);
     }
     Err(ScriptCause::Word)
 }

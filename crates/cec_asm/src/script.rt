@@ -12,15 +12,12 @@ use cec_device::Act;
 use cec_event::Event;
 use cec_frame::Frame;
 use cec_text::{AssembleError, assemble, frames_are_whole};
-use cec_wave::{MOST_PULSES, PulsesError, Stretch, stretch_fault};
+use cec_wave::{LATEST_EVENT, MOST_PULSES, PulsesError, Stretch, stretch_fault};
 use cec_words::{first_line, first_word, is_skipped, number_in, one_word, three_words, two_words};
 use hdmi_topo::Tree;
 use std::alloc::{AllocFailed, Global};
 use std::fmt::{self, Write};
 use thiserror::Error;
-
-/// Times of a script are at most this many microseconds.
-const LATEST: u64 = 1_000_000_000_000;
 
 /// Widths of pulses above this many microseconds count as this many.
 const WIDEST_COUNTED: u64 = 65_535;
@@ -141,7 +138,11 @@ fn time_in(word: &[u8]) -> Option<u64>
     ensures { result ≡ time_of word.now }
 {
     let time = number_in(word)?;
-    if time > LATEST { None } else { Some(time) }
+    if time > LATEST_EVENT {
+        None
+    } else {
+        Some(time)
+    }
 }
 
 fn last_time(events: &[TimedEvent]) -> u64

@@ -2,7 +2,7 @@
 ghost use Rattle.std.specs.Prelude.{◌≡◌, ℕ, ◌+◌, ◌<◌, List, [], ◌∷◌, ◌++◌, Result, Ok, Err, Some};
 ghost use Rattle.std.specs.Option.{option_copied};
 ghost use Rattle.cec_words.specs.Words.{words_behind, one_of, three_of};
-ghost use Rattle.cec_asm.specs.Topology.{Plan, plan_of, kind_named, device_line, plug_line, edid_line, line_read, topology_of, error_at, GivesLine, GivesTopology};
+ghost use Rattle.cec_asm.specs.Topology.{Plan, plan_of, device_line, plug_line, edid_line, line_read, topology_of, error_at, GivesLine, GivesTopology};
 
 use cec_words::{first_line, first_word, is_skipped, number_in, one_word, three_words};
 use hdmi_core::Kind;
@@ -119,28 +119,6 @@ pub struct Topology {
     pub edid: Option<Vec<u8>>,
 }
 
-fn kind_named(word: &[u8]) -> Option<Kind>
-    ensures { result ≡ kind_named word.now }
-{
-    if word == b"tv".as_slice() {
-        Some(Kind::Tv)
-    } else if word == b"amp".as_slice() {
-        Some(Kind::Amp)
-    } else if word == b"player".as_slice() {
-        Some(Kind::Player)
-    } else if word == b"recorder".as_slice() {
-        Some(Kind::Recorder)
-    } else if word == b"switch".as_slice() {
-        Some(Kind::Switch)
-    } else if word == b"combo".as_slice() {
-        Some(Kind::Combo)
-    } else if word == b"outside".as_slice() {
-        Some(Kind::Outside)
-    } else {
-        None
-    }
-}
-
 /// Takes the words behind `device`.
 fn add_device(topology: &mut Topology, rest: Option<&[u8]>) -> Result<(), LineError>
     ensures { GivesLine (plan_of topology.new) result (device_line (plan_of topology.old) (three_of (words_behind (option_copied rest.entry)))) }
@@ -148,7 +126,7 @@ fn add_device(topology: &mut Topology, rest: Option<&[u8]>) -> Result<(), LineEr
     let Some((name, kind, ports)) = three_words(rest) else {
         return Err(LineError::Cause(TopologyCause::Word));
     };
-    let Some(kind) = kind_named(kind) else {
+    let Some(kind) = Kind::named(kind) else {
         return Err(LineError::Cause(TopologyCause::Word));
     };
     let Some(ports) = number_in(ports) else {

@@ -3,14 +3,11 @@ ghost use Rattle.std.specs.Prelude.{◌≡◌};
 
 use crate::row::{Row, Time, instant_of, row_of, since};
 use cec_signal::Track;
-use cec_wave::Edge;
+use cec_wave::{Edge, LATEST_INSTANT};
 use thiserror::Error;
 
 /// How long a capture goes on after its last row, in microseconds, since the form has no end.
 const ENDS_AFTER: u64 = 10_000;
-
-/// The latest instant of a capture, in microseconds.
-const LATEST: u64 = 2_000_000_000_000;
 
 /// What is wrong with a line.
 #[derive(Clone, Copy, Debug, PartialEq, Eq, Error)]
@@ -110,7 +107,10 @@ impl Reader {
         if self.is_again {
             self.track.at()
         } else {
-            self.track.at().saturating_add(ENDS_AFTER).min(LATEST)
+            self.track
+                .at()
+                .saturating_add(ENDS_AFTER)
+                .min(LATEST_INSTANT)
         }
     }
 

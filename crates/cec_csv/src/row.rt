@@ -4,10 +4,8 @@ ghost use Rattle.cec_csv.specs.Csv.{instant_of, level_of, nanos_of, row_of, sign
 
 use crate::fields::{field_at, first_field, trimmed, without_return};
 use cec_signal::decimals_in;
+use cec_wave::LATEST_INSTANT;
 use cec_words::{before, behind, byte_at, len_before, number_in};
-
-/// The latest instant of a capture, in microseconds.
-const LATEST: u128 = 2_000_000_000_000;
 
 /// The most whole seconds of a time.
 const MOST_SECONDS: u64 = 9_999_999_999;
@@ -105,7 +103,7 @@ pub fn since(first: Time, time: Time) -> Option<u128>
 pub fn instant_of(since: u128) -> Option<u64>
     ensures { result ≡ instant_of since }
 {
-    if since > LATEST * 1_000 {
+    if since > u128::from(LATEST_INSTANT) * 1_000 {
         return None;
     }
     Some(((since + 999) / 1_000) as u64)

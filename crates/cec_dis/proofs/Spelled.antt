@@ -4,7 +4,7 @@ use Rattle.std.specs.List.{flat_map}
 use Rattle.std.proofs.lemmas.Bool.Decides.{nat_tests}
 use borrow.Author.Tests.{ltb-true}
 use Rattle.hdmi_core.specs.Piece.{hex_text}
-use Rattle.cec_text.specs.FrameReading.{are_bytes}
+use Rattle.hdmi_core.specs.Bytes.{are_bytes}
 use Rattle.cec_dis.specs.Bytes.{byte_of, bytes_from, is_digit, is_mark, is_prefix, lone, value_of, with_byte, with_step}
 use Rattle.cec_dis.specs.Spelling.{AreParts, AssembledFramesAreRead, Part, Spells, SpellingsAreRead, part_bytes, part_text}
 use Rattle.cec_dis.specs.Spelling.Part.{Mark, Byte, Prefixed}

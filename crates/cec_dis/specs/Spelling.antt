@@ -2,7 +2,7 @@
 use Rattle.std.specs.Prelude.{◌≡◌, ℕ, ◌↔◌, true, List, [], ◌∷◌, Ok}
 use Rattle.std.specs.List.{flat_map}
 use Rattle.hdmi_core.specs.Piece.{hex_text}
-use Rattle.cec_text.specs.FrameReading.{are_bytes}
+use Rattle.hdmi_core.specs.Bytes.{are_bytes}
 use Rattle.cec_dis.specs.Bytes.{byte_of, bytes_from, is_digit, is_mark, is_prefix}
 use Rattle.cec_dis.specs.declared.bytes.Place.TheVariants.{Between}
 

@@ -6,7 +6,7 @@ ghost use Rattle.cec_wire.specs.Machine.{next_place, bit_told, held_after, recor
 
 use crate::listeners::{Listeners, sender_at};
 use arrayvec::ArrayVec;
-use cec_bits::{Receiver, Sender};
+use cec_bits::{Receiver, Sender, copied_bits};
 use cec_wave::{Edge, Pulses, Stretch};
 use cec_wire::{
     Outcome, Place, Pull, Recorder, Seat, Wire, ending, held_until, is_any_low, is_pulsed,
@@ -51,16 +51,6 @@ fn copied_pulses(pulses: &[Stretch]) -> ArrayVec<Stretch, 24>
     ensures { result.items ≡ pulses.now }
 {
     match ArrayVec::try_from(pulses) {
-        Ok(kept) => kept,
-        Err(_) => unreachable!(),
-    }
-}
-
-fn copied_bits(bits: &[bool]) -> ArrayVec<bool, 160>
-    requires { length bits.now ≤ 160 }
-    ensures { result.items ≡ bits.now }
-{
-    match ArrayVec::try_from(bits) {
         Ok(kept) => kept,
         Err(_) => unreachable!(),
     }

@@ -6,6 +6,7 @@ ghost use Rattle.cec_words.specs.Number.{number_of};
 ghost use Rattle.cec_expect.specs.Form.{IsEarly, IsForm, are_words, between, expectation_in, form_in, is_pattern, is_window, parts_as, parts_in, refused_by, rounds_by, rounds_in, stars, state_in, timed, within};
 ghost use Rattle.cec_words.specs.Words.{two_of};
 
+use cec_wave::LATEST_EVENT;
 use cec_words::{first_word, number_in, two_words};
 use thiserror::Error;
 
@@ -29,9 +30,6 @@ pub enum ExpectCause {
     #[error("order")]
     Order,
 }
-
-/// Times of states are at most this many microseconds, as those of scripts.
-const LATEST: u64 = 1_000_000_000_000;
 
 /// How often a round is expected.
 #[derive(Clone, Copy, Debug, PartialEq, Eq)]
@@ -206,7 +204,7 @@ fn timed<'a>(time: &[u8], device: &'a [u8], words: &'a [u8]) -> Result<Form<'a>,
     match number_in(time) {
         None => Err(ExpectCause::Number),
         Some(time) => {
-            if time > LATEST {
+            if time > LATEST_EVENT {
                 Err(ExpectCause::Number)
             } else {
                 Ok(Form::State {

@@ -1,1 +1,2 @@
+pub mod KeyWordLemmas
 pub mod MessageLemmas

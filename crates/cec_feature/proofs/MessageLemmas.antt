@@ -3,7 +3,8 @@ use Rattle.std.proofs.Common.{◌≡◌, ℕ, ◌<◌, true, [], ◌∷◌, refl
 use Rattle.std.proofs.lemmas.Bool.Decides.{nat_tests}
 use Rattle.cec_opcode.specs.Words.{status_at}
 use Rattle.cec_opcode.specs.Table.{decoded, row_of, spelling}
-use Rattle.cec_opcode.specs.Laws.{KeepsOperands, SaysOperands, are_bytes}
+use Rattle.hdmi_core.specs.Bytes.{are_bytes}
+use Rattle.cec_opcode.specs.Laws.{KeepsOperands, SaysOperands}
 use Rattle.cec_opcode.specs.declared.message.Message.{Message}
 use Rattle.cec_opcode.specs.declared.message.Message.TheVariants.{ReportAudioStatus}
 use Rattle.cec_opcode.specs.declared.message.Decoded.TheVariants.{Known}

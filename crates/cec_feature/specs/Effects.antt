@@ -2,7 +2,6 @@
 -- CEC 17, and a kind that a line does not name refuses the message (CEC 12.3). Which kinds a line names, and what
 -- it does where the standard leaves that open, are this profile's own.
 use Rattle.std.specs.Prelude.{ℕ, ◌==◌, ◌+◌, ◌-◌, ◌%◌, ◌/◌, Bool, true, false, not, ◌&&◌, ◌||◌, nat_lt, nat_le, List, [], ◌∷◌, length, if◌then◌else◌, Option, Some, None}
-use Rattle.cec_opcode.specs.declared.message.Address.{Address}
 use Rattle.cec_opcode.specs.declared.message.Message.{Message}
 use Rattle.cec_opcode.specs.declared.message.Message.TheVariants.{FeatureAbort, ImageViewOn, TextViewOn, GiveDeckStatus, DeckStatus, Standby, Play, DeckControl, UserControlPressed, UserControlReleased, GiveOsdName, SystemAudioModeRequest, GiveAudioStatus, RoutingChange, ActiveSource, GivePhysicalAddress, ReportPhysicalAddress, SetStreamPath, MenuRequest, InactiveSource, RequestArcInitiation, SetMenuLanguage, SetOsdName, SetOsdString, SetSystemAudioMode, ReportAudioStatus, GiveSystemAudioModeStatus, SystemAudioModeStatus, RoutingInformation, RequestActiveSource, DeviceVendorId, GiveDeviceVendorId, MenuStatus, GiveDevicePowerStatus, ReportPowerStatus, GetMenuLanguage, CecVersion, GetCecVersion, InitiateArc, ReportArcInitiated, ReportArcTerminated, RequestArcTermination, TerminateArc}
 use Rattle.cec_opcode.specs.ControlWords.{user_control_byte}
@@ -71,10 +70,6 @@ turned r deck = does (record r { deck = deck }) (notice r deck)
 -- (own)
 abbrev pub standby : Record → Record
 standby r = record r { power = false; menu = false; held = None; sub = None; deck = if is_no_media r.deck then r.deck else Stopped }
-
--- a physical address as a message carries it
-abbrev pub phys_of : Address → Phys
-phys_of a = record { high = a.high; low = a.low }
 
 -- Audio Status: bit 7 is set while it is mute
 abbrev pub volume_status : Record → ℕ
@@ -240,12 +235,12 @@ effect_of kind own name ports h r GiveOsdName = does r (Reply (0x47 ∷ name) �
 effect_of kind own name ports h r (SystemAudioModeRequest None) = only (is_amp kind) r (does (record r { audio = false }) (Cast (0x72 ∷ 0 ∷ []) ∷ []))
 effect_of kind own name ports h r (SystemAudioModeRequest (Some address)) = only (is_amp kind) r (does (record r { power = true; audio = true }) (Cast (0x72 ∷ 1 ∷ []) ∷ []))
 effect_of kind own name ports h r GiveAudioStatus = only (is_amp kind) r (does r (Reply (0x7a ∷ volume_status r ∷ []) ∷ []))
-effect_of kind own name ports h r (RoutingChange from to) = routed kind own (phys_of to) r
-effect_of kind own name ports h r (ActiveSource address) = does (selecting kind own ports (phys_of address) (record r { active = Some (phys_of address); path = Some (phys_of address) })) []
-effect_of kind own name ports h r (InactiveSource address) = only (is_tv kind) r (if is_active r.active (phys_of address) then does (record r { active = None }) [] else does r [])
+effect_of kind own name ports h r (RoutingChange from to) = routed kind own to r
+effect_of kind own name ports h r (ActiveSource address) = does (selecting kind own ports address (record r { active = Some address; path = Some address })) []
+effect_of kind own name ports h r (InactiveSource address) = only (is_tv kind) r (if is_active r.active address then does (record r { active = None }) [] else does r [])
 effect_of kind own name ports h r GivePhysicalAddress = does r (Cast (0x84 ∷ own.high ∷ own.low ∷ type_of kind h.to ∷ []) ∷ [])
 effect_of kind own name ports h r (ReportPhysicalAddress address type) = hears h r
-effect_of kind own name ports h r (SetStreamPath address) = streamed kind own ports (phys_of address) r
+effect_of kind own name ports h r (SetStreamPath address) = streamed kind own ports address r
 effect_of kind own name ports h r (MenuRequest request) = only (is_deck kind) r (menu_asked r request)
 effect_of kind own name ports h r (RequestArcInitiation) = only (is_amp kind) r (
     if h.from == 0 then does r (Reply (0xc0 ∷ []) ∷ []) else refuses r Refused)
@@ -256,7 +251,7 @@ effect_of kind own name ports h r (SetSystemAudioMode audio) = only (is_tv kind)
 effect_of kind own name ports h r (ReportAudioStatus status) = hears h r
 effect_of kind own name ports h r GiveSystemAudioModeStatus = only (is_amp kind) r (does r (Reply (0x7e ∷ (if r.audio then 1 else 0) ∷ []) ∷ []))
 effect_of kind own name ports h r (SystemAudioModeStatus audio) = hears h r
-effect_of kind own name ports h r (RoutingInformation address) = routed kind own (phys_of address) r
+effect_of kind own name ports h r (RoutingInformation address) = routed kind own address r
 effect_of kind own name ports h r RequestActiveSource = does r (if r.power && is_active r.active own then Cast (0x82 ∷ own.high ∷ own.low ∷ []) ∷ [] else [])
 effect_of kind own name ports h r (DeviceVendorId vendor) = hears h r
 effect_of kind own name ports h r GiveDeviceVendorId = does r (Cast (0x87 ∷ 0x02 ∷ 0x00 ∷ 0x00 ∷ []) ∷ [])

@@ -5,3 +5,4 @@ pub mod Effect
 pub mod Fresh
 pub mod Effects
 pub mod Keys
+pub mod KeyWords

@@ -8,17 +8,15 @@ ghost use Rattle.cec_feature.specs.Effects.{audio_set, effect_of, hears, pressed
 
 use crate::kinds::{Identity, is_deck};
 use crate::messages::{
-    active_source, address as carried, menu_status, report_audio_status, report_of,
-    report_power_status, set_system_audio_mode, system_audio_mode_status,
+    active_source, menu_status, report_audio_status, report_of, report_power_status,
+    set_system_audio_mode, system_audio_mode_status,
 };
 use crate::record::{Heard, Note, Record, copy_of};
 use crate::say::{Says, cast, refuse, reply, silence, tell};
 use crate::ways::{below, is_nowhere, port_towards};
 use arrayvec::ArrayVec;
 use cec_frame::Addr;
-use cec_opcode::{
-    Address, DeckInfo, Display, Message, Reason, SystemAudio, Triple, UserControl, Version,
-};
+use cec_opcode::{DeckInfo, Display, Message, Reason, SystemAudio, Triple, UserControl, Version};
 use hdmi_core::{Kind, Phys};
 
 /// The vendor that every device reports.
@@ -87,12 +85,12 @@ macro_rules! rows {
             [Amp] (Message::GiveAudioStatus) { reply(&report_audio_status($record.audio_status())) };
             [Tv] (Message::SetSystemAudioMode { audio }) { $record.set_audio(*audio) };
             [Amp] (Message::GiveSystemAudioModeStatus) { reply(&system_audio_mode_status($record.audio)) };
-            [] (Message::RoutingChange { to, .. }) { $record.route($me, phys(to)) };
-            [] (Message::RoutingInformation { address }) { $record.route($me, phys(address)) };
+            [] (Message::RoutingChange { to, .. }) { $record.route($me, *to) };
+            [] (Message::RoutingInformation { address }) { $record.route($me, *address) };
             [] (Message::ActiveSource { address }) {
-                $record.active = Some(phys(address));
-                $record.path = Some(phys(address));
-                $record.select($me, phys(address));
+                $record.active = Some(*address);
+                $record.path = Some(*address);
+                $record.select($me, *address);
                 silence()
             };
             [] (Message::GivePhysicalAddress) { cast(&report_of($me.kind, $me.phys, $heard.to)) };
@@ -103,13 +101,13 @@ macro_rules! rows {
                     silence()
                 }
             };
-            [] (Message::SetStreamPath { address }) { $record.stream($me, phys(address)) };
+            [] (Message::SetStreamPath { address }) { $record.stream($me, *address) };
             [] (Message::GiveDeviceVendorId) { cast(&Message::DeviceVendorId { vendor: VENDOR }) };
             [Player Recorder Combo] (Message::MenuRequest { request }) { $record.ask_menu(*request) };
             [] (Message::GiveDevicePowerStatus) { reply(&report_power_status($record.power)) };
             [Tv] (Message::GetMenuLanguage) { cast(&Message::SetMenuLanguage { language: $record.language }) };
             [Tv] (Message::InactiveSource { address }) {
-                if $record.active == Some(phys(address)) {
+                if $record.active == Some(*address) {
                     $record.active = None;
                 }
                 silence()
@@ -160,15 +158,6 @@ macro_rules! obey_match {
             $($pattern => only!($kinds $me $body),)*
         }
     };
-}
-
-fn phys(address: &Address) -> Phys
-    ensures { result ≡ record { high = address.now.high; low = address.now.low } }
-{
-    Phys {
-        high: address.high,
-        low: address.low,
-    }
 }
 
 // What the television asks for, and nobody else may.
@@ -251,9 +240,7 @@ impl Record {
             if let Some(port) = self.selected {
                 let address = below(me.phys, port);
                 if !is_nowhere(address) {
-                    return cast(&Message::RoutingInformation {
-                        address: carried(address),
-                    });
+                    return cast(&Message::RoutingInformation { address });
                 }
             }
         }

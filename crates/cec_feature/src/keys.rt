@@ -4,12 +4,12 @@ ghost use Rattle.arrayvec.specs.ArrayVec.{array_vec_len};
 ghost use Rattle.cec_opcode.specs.Table.{spelling};
 ghost use Rattle.cec_feature.specs.declared.say.Say.TheVariants.{Tell};
 ghost use Rattle.cec_feature.specs.Effect.{does};
+ghost use Rattle.cec_feature.specs.KeyWords.{word_of_key};
 ghost use Rattle.cec_feature.specs.Keys.{arc_said, audio_said, code_of, has_key, ported, pressing, releasing, taking_over, voiced};
 
+use crate::key_word::KeyWord;
 use crate::kinds::{Identity, is_deck};
-use crate::messages::{
-    active_source, address, arc_command, arc_request, menu_status, report_audio_status,
-};
+use crate::messages::{active_source, arc_command, arc_request, menu_status, report_audio_status};
 use crate::record::{Port, Record};
 use crate::say::{DataBlocks, Say, Says, both, cast, silence, tell};
 use crate::ways::below;
@@ -43,6 +43,31 @@ pub enum Key {
     Language(Triple),
     /// A user control code, sent to another device: Remote Control Pass Through (CEC 13.13).
     Remote { to: Addr, code: UserControl },
+}
+
+impl Key {
+    /// The word that it is, or begins with, in a script.
+    pub fn word(&self) -> KeyWord
+        ensures { result ≡ word_of_key self.now }
+    {
+        match self {
+            Key::Play => KeyWord::Play,
+            Key::Stop => KeyWord::Stop,
+            Key::Eject => KeyWord::Eject,
+            Key::Load => KeyWord::Load,
+            Key::Menu => KeyWord::Menu,
+            Key::Power => KeyWord::Power,
+            Key::Watch(_) => KeyWord::Watch,
+            Key::Port(_) => KeyWord::Port,
+            Key::Audio { .. } => KeyWord::Audio,
+            Key::Arc { .. } => KeyWord::Arc,
+            Key::Volume(VolumeKey::Up) => KeyWord::VolumeUp,
+            Key::Volume(VolumeKey::Down) => KeyWord::VolumeDown,
+            Key::Volume(VolumeKey::Mute) => KeyWord::Mute,
+            Key::Language(_) => KeyWord::Language,
+            Key::Remote { .. } => KeyWord::Remote,
+        }
+    }
 }
 
 /// The keys of the sound.
@@ -143,9 +168,7 @@ impl Record {
             Kind::Player | Kind::Recorder | Kind::Combo if self.active == Some(me.phys) => {
                 self.active = None;
                 self.fall_asleep();
-                to_television(&Message::InactiveSource {
-                    address: address(me.phys),
-                })
+                to_television(&Message::InactiveSource { address: me.phys })
             }
             _ => {
                 self.fall_asleep();
@@ -162,8 +185,8 @@ impl Record {
         self.selected = Some(port);
         match old {
             Some(old) if old != port => cast(&Message::RoutingChange {
-                from: address(below(own, old)),
-                to: address(below(own, port)),
+                from: below(own, old),
+                to: below(own, port),
             }),
             _ => silence(),
         }
@@ -224,9 +247,7 @@ impl Record {
             Key::Power => self.press_power(me),
             Key::Watch(to) => {
                 self.path = Some(to);
-                cast(&Message::SetStreamPath {
-                    address: address(to),
-                })
+                cast(&Message::SetStreamPath { address: to })
             }
             Key::Port(port) => self.press_port(me.phys, Port::new(port)),
             Key::Audio { on } => press_audio(on, self.path),
@@ -270,6 +291,6 @@ fn press_audio(on: bool, path: Option<Phys>) -> Says
     ensures { result.items ≡ audio_said on path ∷ [] }
 {
     let path = path.unwrap_or(Phys { high: 0, low: 0 });
-    let address = if on { Some(address(path)) } else { None };
+    let address = if on { Some(path) } else { None };
     to_amplifier(&Message::SystemAudioModeRequest { address })
 }

@@ -8,28 +8,15 @@ ghost use Rattle.cec_feature.specs.Kinds.{type_of};
 use crate::kinds::is_recorders;
 use cec_frame::Addr;
 use cec_opcode::{
-    Address, AudioStatus, DeviceType, MenuState, Message, Power, SystemAudio,
-    messages_keep_operands,
+    AudioStatus, DeviceType, MenuState, Message, Power, SystemAudio, messages_keep_operands,
 };
 use hdmi_core::{Kind, Phys};
-
-/// A physical address as a message carries it.
-pub(crate) fn address(phys: Phys) -> Address
-    ensures { result ≡ record { high = phys.high; low = phys.low } }
-{
-    Address {
-        high: phys.high,
-        low: phys.low,
-    }
-}
 
 /// Active Source.
 pub(crate) fn active_source(phys: Phys) -> Message
     ensures { spelling result ≡ 0x82 ∷ phys.high ∷ phys.low ∷ [] }
 {
-    Message::ActiveSource {
-        address: address(phys),
-    }
+    Message::ActiveSource { address: phys }
 }
 
 /// Report Physical Address, from this logical address.
@@ -37,7 +24,7 @@ pub fn report_of(kind: Kind, phys: Phys, from: Addr) -> Message
     ensures { spelling result ≡ 0x84 ∷ phys.high ∷ phys.low ∷ type_of kind from ∷ [] }
 {
     Message::ReportPhysicalAddress {
-        address: address(phys),
+        address: phys,
         kind: match kind {
             Kind::Tv => DeviceType::Tv,
             Kind::Recorder => DeviceType::Recorder,

@@ -3,11 +3,8 @@ ghost use Rattle.std.specs.Prelude.{◌≡◌, ℕ, ◌+◌, ◌≤◌, ◌<◌,
 ghost use Rattle.cec_words.specs.Lines.{lines_of};
 ghost use Rattle.cec_mon.specs.EdgeFile.{edge_line_of, marked, time_of};
 
-use cec_wave::Edge;
+use cec_wave::{Edge, LATEST_INSTANT};
 use cec_words::{first_line, is_skipped, number_in, two_words};
-
-/// The latest time of an edge file, in microseconds.
-const LATEST: u64 = 2_000_000_000_000;
 
 /// What a line says.
 #[derive(Clone, Copy, Debug, PartialEq, Eq)]
@@ -31,7 +28,7 @@ fn time_of(word: &[u8]) -> Option<u64>
     ensures { result ≡ time_of word.now }
 {
     match number_in(word) {
-        Some(time) if time <= LATEST => Some(time),
+        Some(time) if time <= LATEST_INSTANT => Some(time),
         _ => None,
     }
 }

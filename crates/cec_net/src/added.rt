@@ -5,10 +5,7 @@ ghost use Rattle.cec_net.specs.Added.{pulse_fault, with_pulse};
 
 use crate::net::Net;
 use arrayvec::ArrayVec;
-use cec_wave::{Pulses, PulsesError, Stretch};
-
-/// The latest instant at which a pulse begins, in microseconds.
-const LATEST: u64 = 2_000_000_000_000;
+use cec_wave::{LATEST_INSTANT, Pulses, PulsesError, Stretch};
 
 /// Room for the most pulses and one more.
 const ROOM: usize = 4097;
@@ -56,7 +53,7 @@ impl<W> Net<W> {
         if pulse.from < self.rest {
             return Err(PulseError::Past);
         }
-        if pulse.from > LATEST {
+        if pulse.from > LATEST_INSTANT {
             return Err(PulseError::Late);
         }
         match more_pulses(&self.pulses, pulse) {

@@ -4,13 +4,14 @@ ghost use Rattle.cec_opcode.specs.Table.{decoded, decoded_of, row_of};
 
 use crate::deck_words::{DeckControlMode, DeckInfo, PlayMode, StatusRequest};
 use crate::encoding::is_raw;
-use crate::message::{Address, Decoded, Message, Triple};
+use crate::message::{Decoded, Message, Triple};
 use crate::rows::rows;
 use crate::screen_words::{Display, MenuRequestType, MenuState};
 use crate::user_control::UserControl;
 use crate::words::{AudioStatus, DeviceType, Power, Reason, SystemAudio, Version};
 use arrayvec::ArrayVec;
 use cec_frame::Frame;
+use hdmi_core::Phys;
 
 // Reads one operand off the front.
 macro_rules! take {
@@ -26,7 +27,7 @@ macro_rules! take {
     ($op:literal, $from:expr, $field:ident : Address, $rest:ident, $then:expr) => {
         match $from {
             [high, low, $rest @ ..] => {
-                let $field = Address { high: *high, low: *low };
+                let $field = Phys { high: *high, low: *low };
                 $then
             }
             _ => Decoded::Short($op),
@@ -72,7 +73,7 @@ macro_rules! read_row {
         match $operands {
             [] => Decoded::Known(Message::$message { $field: None }),
             [high, low, ..] => Decoded::Known(Message::$message {
-                $field: Some(Address { high: *high, low: *low }),
+                $field: Some(Phys { high: *high, low: *low }),
             }),
             _ => Decoded::Short($op),
         }
@@ -86,7 +87,7 @@ macro_rules! read_row {
     ($op:literal, $operands:ident, $message:ident { $field:ident : Address }) => {
         match $operands {
             [high, low, ..] => Decoded::Known(Message::$message {
-                $field: Address { high: *high, low: *low },
+                $field: Phys { high: *high, low: *low },
             }),
             _ => Decoded::Short($op),
         }

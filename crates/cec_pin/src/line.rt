@@ -3,10 +3,8 @@ ghost use Rattle.std.specs.Prelude.{◌≡◌, ◌+◌, ◌*◌, ◌^◌, ◌<�
 ghost use Rattle.cec_pin.specs.Pin.{code_of, event_cut, event_of, fraction_of, instant_of, nanos_of, noted, word_start};
 
 use cec_signal::decimals_in;
+use cec_wave::LATEST_INSTANT;
 use cec_words::{before, behind, byte_at, len_before, number_in};
-
-/// The latest instant of a capture, in microseconds.
-const LATEST: u128 = 2_000_000_000_000;
 
 /// What a line says.
 #[derive(Clone, Copy, Debug, PartialEq, Eq)]
@@ -77,7 +75,7 @@ pub fn instant_of(start: u128, nanos: u128) -> Option<u64>
     ensures { result ≡ instant_of start nanos }
 {
     let since = nanos.saturating_sub(start);
-    if since > LATEST * 1_000 {
+    if since > u128::from(LATEST_INSTANT) * 1_000 {
         return None;
     }
     Some(((since + 999) / 1_000) as u64)

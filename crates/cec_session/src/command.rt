@@ -5,11 +5,9 @@ ghost use Rattle.cec_words.specs.Words.{one_of, two_of, words_behind};
 ghost use Rattle.cec_asm.specs.Script.{time_of};
 ghost use Rattle.cec_session.specs.Command.{command_of, run_words, show_words};
 
+use cec_wave::LATEST_EVENT;
 use cec_words::{first_word, number_in, one_word, two_words};
 use hdmi_topo::Tree;
-
-/// Times are at most this many microseconds, as those of a script.
-pub(crate) const LATEST: u64 = 1_000_000_000_000;
 
 /// What a line of a session is.
 #[derive(Clone, Copy, Debug, PartialEq, Eq)]
@@ -28,7 +26,11 @@ fn time_in(word: &[u8]) -> Option<u64>
     ensures { result ≡ time_of word.now }
 {
     let time = number_in(word)?;
-    if time > LATEST { None } else { Some(time) }
+    if time > LATEST_EVENT {
+        None
+    } else {
+        Some(time)
+    }
 }
 
 // What the words after `run` ask for.

@@ -18,7 +18,6 @@ ghost use Rattle.cec_run.specs.Run.{Config, counted_round, turn_of};
 ghost use Rattle.cec_session.specs.Session.{IsSoonestBy};
 ghost use Rattle.cec_session.specs.Turns.{Goes, IsLate, IsRoundTaken, IsSoon, IsWithin, Keeps};
 
-use crate::command::LATEST;
 use cec_asm::TimedEvent;
 use cec_device::Device;
 use cec_edges::EdgeWire;
@@ -27,6 +26,7 @@ use cec_net::Net;
 use cec_run::{Totals, Turn, apply_event, first_time, next_turn};
 use cec_step_text::{behind, whole};
 use cec_trace::{write_end, write_round, write_state};
+use cec_wave::LATEST_EVENT;
 use cec_wire::Outcome;
 use cec_words::{counted, cut_at};
 use hdmi_blocks::Edid;
@@ -180,7 +180,11 @@ fn soon_after(net: &Net<EdgeWire>, begin: u64) -> Option<u64>
     let outcome = ahead.round_at(begin);
     let _stretches = outcome.wave.as_slice();
     let soon = ahead.close() + 1;
-    if soon > LATEST { None } else { Some(soon) }
+    if soon > LATEST_EVENT {
+        None
+    } else {
+        Some(soon)
+    }
 }
 
 /// The least instant before which one more turn is over, where the next event has this time and nothing else comes.
@@ -188,7 +192,7 @@ pub(crate) fn soonest(net: &Net<EdgeWire>, time: Option<u64>) -> Option<u64>
     requires early { net.now.close ≤ 2000000000000 }
     ensures { IsSoonestBy net.now (turn_of 1000000000000 net.now time) result }
 {
-    match next_turn(LATEST, net, time) {
+    match next_turn(LATEST_EVENT, net, time) {
         Turn::Stop => None,
         Turn::Apply(at) => Some(at + 1),
         Turn::Round(begin) => soon_after(net, begin),

@@ -9,6 +9,3 @@ mod track;
 pub use capture::Capture;
 pub use seconds::{decimals_in, nine_digits};
 pub use track::{GoesBack, Track};
-
-/// The latest instant of a capture, in microseconds.
-pub const LATEST: u64 = 2_000_000_000_000;

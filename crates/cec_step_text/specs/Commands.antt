@@ -1,6 +1,7 @@
 -- Texts of steps (own): lines `edge`, `round`, `until opcode XX`, `until device NAME`, `until break`, `show NAME`.
 use Rattle.std.specs.Prelude.{◌≡◌, ℕ, ◌+◌, ◌-◌, ◌*◌, ◌&&◌, nat_le, if◌then◌else◌, codes, List, [], ◌∷◌, ◌++◌, Option, Some, None, Result, Ok, Err}
 use Rattle.std.specs.Str.{bytes_eq}
+use Rattle.hdmi_core.specs.Phys.{digit_value, is_hex_digit}
 use Rattle.hdmi_topo.specs.Node.{Node}
 use Rattle.hdmi_topo.specs.Tree.{device_named}
 use Rattle.cec_words.specs.Lines.{lines_of, is_skipped}
@@ -12,23 +13,11 @@ use Rattle.cec_step_text.specs.declared.commands.Command.TheVariants.{Edge, Roun
 use Rattle.cec_step_text.specs.declared.commands.CommandsError.{CommandsError}
 use Rattle.cec_step_text.specs.declared.commands.CommandsError.TheVariants.{Line, Memory}
 
--- a hex digit in lower case
-abbrev pub digit_of : ℕ → Option ℕ
-digit_of byte =
-    if nat_le 48 byte && nat_le byte 57 then Some (byte - 48)
-    else if nat_le 97 byte && nat_le byte 102 then Some (byte - 87)
-    else None
-
-abbrev pub byte_by : Option ℕ → Option ℕ → Option ℕ
-byte_by None low = None
-byte_by (Some high) None = None
-byte_by (Some high) (Some low) = Some (high * 16 + low)
-
--- two of them
+-- two hex digits in lower case
 abbrev pub byte_of : List ℕ → Option ℕ
 byte_of [] = None
 byte_of (a ∷ []) = None
-byte_of (a ∷ b ∷ []) = byte_by (digit_of a) (digit_of b)
+byte_of (a ∷ b ∷ []) = if is_hex_digit a && is_hex_digit b then Some (digit_value a * 16 + digit_value b) else None
 byte_of (a ∷ b ∷ c ∷ more) = None
 
 abbrev pub opcode_by : Option ℕ → Option Break

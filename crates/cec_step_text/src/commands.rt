@@ -2,10 +2,11 @@
 ghost use Rattle.std.specs.Prelude.{◌≡◌, ◌+◌, ◌≤◌, IfOk, IfErr, Ok, length};
 ghost use Rattle.std.specs.Option.{option_copied};
 ghost use Rattle.cec_words.specs.Words.{words_behind, words_of, one_of};
-ghost use Rattle.cec_step_text.specs.Commands.{IsFault, alone, break_of, byte_of, command_of, commands_of, device_to, digit_of, no_more, opcode_named, shown_of, until_by};
+ghost use Rattle.cec_step_text.specs.Commands.{IsFault, alone, break_of, byte_of, command_of, commands_of, device_to, no_more, opcode_named, shown_of, until_by};
 
 use crate::break_at::Break;
 use cec_words::{first_line, first_word, is_skipped, one_word};
+use hdmi_core::{digit_value, is_hex_digit};
 use hdmi_topo::Tree;
 use std::alloc::{AllocFailed, Global};
 
@@ -41,31 +42,17 @@ impl<T: Drop> From<AllocFailed<T>> for CommandsError {
     }
 }
 
-fn digit_of(byte: u8) -> Option<u8>
-    ensures { result ≡ digit_of byte }
-{
-    if 48 <= byte && byte <= 57 {
-        Some(byte - 48)
-    } else if 97 <= byte && byte <= 102 {
-        Some(byte - 87)
-    } else {
-        None
-    }
-}
-
 fn byte_of(word: &[u8]) -> Option<u8>
     ensures { result ≡ byte_of word.now }
 {
     let [high, low] = word else {
         return None;
     };
-    let Some(high) = digit_of(*high) else {
-        return None;
-    };
-    let Some(low) = digit_of(*low) else {
-        return None;
-    };
-    Some(high * 16 + low)
+    if is_hex_digit(*high) && is_hex_digit(*low) {
+        Some(digit_value(*high) * 16 + digit_value(*low))
+    } else {
+        None
+    }
 }
 
 fn opcode_named(word: Option<&[u8]>) -> Option<Break>

@@ -2,6 +2,7 @@
 ghost use Rattle.std.specs.Prelude.{◌≡◌, ◌≤◌, ◌<◌, IfSome};
 ghost use Rattle.cec_sweep.specs.Series.{is_range, positive, series_in, series_to, series_until, step_at, timed};
 
+use cec_wave::LATEST_EVENT;
 use cec_words::{before, behind, byte_at, len_before, number_in};
 use std::marker::Model;
 use thiserror::Error;
@@ -19,9 +20,6 @@ pub enum RangeCause {
     #[error("range")]
     Range,
 }
-
-/// The latest time of a script, in microseconds.
-const LATEST: u64 = 1_000_000_000_000;
 
 /// The instants from one to another, one every so many microseconds.
 #[derive(Debug, Drop)]
@@ -84,7 +82,13 @@ fn timed(number: Option<u64>) -> Option<u64>
 {
     match number {
         None => None,
-        Some(time) => { if time <= LATEST { Some(time) } else { None } }
+        Some(time) => {
+            if time <= LATEST_EVENT {
+                Some(time)
+            } else {
+                None
+            }
+        }
     }
 }
 

@@ -2,8 +2,9 @@
 use Rattle.std.specs.Prelude.{ℕ, ◌%◌, Bool, true, false, List, [], ◌∷◌, ◌++◌, if◌then◌else◌, Option, Some, None, codes}
 use Rattle.std.specs.Fmt.{decimal}
 use Rattle.std.specs.List.{concat, flat_map}
+use Rattle.hdmi_core.specs.Kind.{kind_word}
 use Rattle.hdmi_core.specs.declared.kind.Kind.{Kind}
-use Rattle.hdmi_core.specs.declared.kind.Kind.TheVariants.{Tv, Amp, Player, Recorder, Switch, Combo, Outside}
+use Rattle.hdmi_core.specs.declared.kind.Kind.TheVariants.{Combo}
 use Rattle.hdmi_core.specs.declared.phys.Phys.{Phys}
 use Rattle.hdmi_core.specs.Piece.{nibble_text, hex_text, hex_or_dash, phys_text, dash_or, switch_text}
 use Rattle.cec_opcode.specs.declared.message.Triple.{Triple}
@@ -13,15 +14,6 @@ use Rattle.cec_device.specs.State.{State, held}
 use Rattle.cec_device.specs.Place.{is_on_wire}
 use Rattle.cec_feature.specs.Kinds.{is_outside}
 use Rattle.std.specs.Prelude.{length}
-
-abbrev pub kind_text : Kind → List ℕ
-kind_text Tv = codes "tv"
-kind_text Amp = codes "amp"
-kind_text Player = codes "player"
-kind_text Recorder = codes "recorder"
-kind_text Switch = codes "switch"
-kind_text Combo = codes "combo"
-kind_text Outside = codes "outside"
 
 -- A unit's logical address: none off the wire and while it has not settled, and `f` where it settled without one.
 abbrev pub unit_text : Option ℕ → List ℕ
@@ -51,7 +43,7 @@ note_text n = nibble_text (n.from % 16) ++ codes ":" ++ hex_text n.opcode ++ cod
 -- the line, from the text of the logical address, the bytes of the language and the text of what was heard
 abbrev pub state_line_of : State → List ℕ → List ℕ → List ℕ → List ℕ
 state_line_of d address language heard = concat (
-    codes "state " ∷ d.name ∷ codes " " ∷ kind_text d.kind ∷ codes " " ∷ address ∷ codes " " ∷ dash_or phys_text (phys_on (is_on_wire d) d.phys)
+    codes "state " ∷ d.name ∷ codes " " ∷ kind_word d.kind ∷ codes " " ∷ address ∷ codes " " ∷ dash_or phys_text (phys_on (is_on_wire d) d.phys)
     ∷ codes " " ∷ power_text d.record_of.power ∷ codes " active=" ∷ dash_or phys_text d.record_of.active ∷ codes " path=" ∷ dash_or phys_text d.record_of.path
     ∷ codes " deck=" ∷ hex_text (deck_info_byte d.record_of.deck) ∷ codes " menu=" ∷ switch_text d.record_of.menu ∷ codes " audio=" ∷ switch_text d.record_of.audio
     ∷ codes " volume=" ∷ decimal d.record_of.volume ∷ codes " mute=" ∷ switch_text d.record_of.mute ∷ codes " arc=" ∷ switch_text d.record_of.arc
@@ -69,7 +61,7 @@ held_text [] = []
 -- the line of a device from outside, with a text in the place of its record, up to the length of its queue
 abbrev pub outside_line_of : State → List ℕ → List ℕ → List ℕ
 outside_line_of d address unknown = concat (
-    codes "state " ∷ d.name ∷ codes " " ∷ kind_text d.kind ∷ codes " " ∷ address ∷ codes " " ∷ dash_or phys_text (phys_on (is_on_wire d) d.phys)
+    codes "state " ∷ d.name ∷ codes " " ∷ kind_word d.kind ∷ codes " " ∷ address ∷ codes " " ∷ dash_or phys_text (phys_on (is_on_wire d) d.phys)
     ∷ unknown ∷ decimal (length d.queue) ∷ codes " dropped=" ∷ decimal d.dropped ∷ codes "\n" ∷ [])
 
 -- nobody but its driver knows more of it

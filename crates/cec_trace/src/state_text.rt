@@ -3,7 +3,7 @@ ghost use Rattle.std.specs.Prelude.{◌≡◌, ℕ, ◌<◌, ◌≤◌, ◌∷�
 ghost use Rattle.std.specs.List.{flat_map};
 ghost use Rattle.hdmi_core.specs.Piece.{phys_text, dash_or};
 ghost use Rattle.hdmi_core.specs.Written.{WrittenLine};
-ghost use Rattle.cec_trace.specs.StateText.{address_text, held_text, kind_text, note_text, outside_line, outside_line_of, phys_on, power_text, state_line, state_line_of, unit_text};
+ghost use Rattle.cec_trace.specs.StateText.{address_text, held_text, note_text, outside_line, outside_line_of, phys_on, power_text, state_line, state_line_of, unit_text};
 
 use arrayvec::ArrayVec;
 use cec_device::{Device, Note, Port};
@@ -13,21 +13,6 @@ use hdmi_core::{Kind, Phys, Piece, Sink, WriteFault, hex_digit, write_line};
 /// What a device from outside has in the place of its record, of which nobody but its driver knows more.
 const UNKNOWN_RECORD: &str =
     " - active=- path=- deck=- menu=- audio=- volume=- mute=- arc=- sel=- lang=- osd=- held=- heard=- sub=- queue=";
-
-// The word for a kind of device.
-fn kind_word(kind: Kind) -> &'static str
-    ensures { result.now ≡ kind_text kind }
-{
-    match kind {
-        Kind::Tv => "tv",
-        Kind::Amp => "amp",
-        Kind::Player => "player",
-        Kind::Recorder => "recorder",
-        Kind::Switch => "switch",
-        Kind::Combo => "combo",
-        Kind::Outside => "outside",
-    }
-}
 
 fn power_word(is_on: bool) -> &'static str
     ensures { result.now ≡ power_text is_on }
@@ -135,7 +120,7 @@ fn write_state_of<'a, S: Sink>(
         Piece::Text("state "),
         Piece::Bytes(device.name()),
         Piece::Text(" "),
-        Piece::Text(kind_word(device.kind())),
+        Piece::Text(device.kind().word()),
         Piece::Text(" "),
         Piece::Bytes(address),
         Piece::Text(" "),
@@ -192,7 +177,7 @@ fn write_outside<'a, S: Sink>(
         Piece::Text("state "),
         Piece::Bytes(device.name()),
         Piece::Text(" "),
-        Piece::Text(kind_word(device.kind())),
+        Piece::Text(device.kind().word()),
         Piece::Text(" "),
         Piece::Bytes(address),
         Piece::Text(" "),

@@ -9,6 +9,7 @@ use crate::hearing::{Ended, Place};
 use crate::senders::out_slot;
 use crate::{Loser, Outcome, Seat};
 use arrayvec::ArrayVec;
+use cec_bits::copied_bits;
 use cec_frame::{Ending, Fate, Reading};
 use cec_wave::{Stretch, Wave};
 
@@ -92,15 +93,6 @@ pub fn ending(place: Place) -> Ended
         Place::Over(ended) => ended,
         _ => unreachable!(),
     }
-}
-
-fn copied_bits(bits: &[bool]) -> ArrayVec<bool, 160>
-    requires { length bits.now ≤ 160 }
-    ensures { result.items ≡ bits.now }
-{
-    let mut copy = ArrayVec::new();
-    let _ = copy.try_extend_from_slice(bits);
-    copy
 }
 
 // What a round gave that ended so, with these bits read and this wave carried. They are copied where they stay.

@@ -1,6 +1,6 @@
 -- Words of a line (own).
 use Rattle.std.specs.Prelude.{ℕ, ◌==◌, List, [], ◌∷◌, Option, Some, None}
-use Rattle.std.specs.List.{slice_split, join_with_byte}
+use Rattle.std.specs.List.{slice_split, join_with_byte, count_by, before_first}
 
 -- the words of a line, one space apart
 abbrev pub words_of : List ℕ → List (List ℕ)
@@ -33,3 +33,7 @@ three_of [] = None
 -- the text of which these are the words
 abbrev pub text_of : List (List ℕ) → List ℕ
 text_of words = join_with_byte 32 words
+
+-- the spaces before the first quote: a quote and all after it belong to one word
+abbrev pub spaces_unquoted : List ℕ → ℕ
+spaces_unquoted text = count_by (λ b. b == 32) (before_first (λ b. b == 34) text)

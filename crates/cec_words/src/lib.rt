@@ -12,5 +12,5 @@ pub use hex::{hex_at, hex_bytes};
 pub use lines::{first_line, is_skipped};
 pub use number::{number_in, small_number};
 pub use parts::{before, behind, byte_at, joined, len_before};
-pub use words::{first_word, one_word, three_words, two_words};
+pub use words::{first_word, one_word, spaces_unquoted, three_words, two_words};
 pub use written::{counted, cut_at};

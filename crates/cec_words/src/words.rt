@@ -1,9 +1,10 @@
 //! Words of a line.
-ghost use Rattle.std.specs.Prelude.{◌≡◌, ◌∷◌};
+ghost use Rattle.std.specs.Prelude.{◌≡◌, ◌≤◌, ◌==◌, ◌∷◌, length};
+ghost use Rattle.std.specs.List.{count_by};
 ghost use Rattle.std.specs.Option.{option_map, option_copied};
-ghost use Rattle.cec_words.specs.Words.{words_of, words_behind, one_of, two_of, three_of};
+ghost use Rattle.cec_words.specs.Words.{words_of, words_behind, one_of, two_of, three_of, spaces_unquoted};
 
-use crate::parts::position_of;
+use crate::parts::{before, len_before, position_of};
 
 /// The first word of a line, and what stands behind the space after it.
 pub fn first_word(line: &[u8]) -> (&[u8], Option<&[u8]>)
@@ -46,4 +47,19 @@ pub fn three_words(rest: Option<&[u8]>) -> Option<(&[u8], &[u8], &[u8])>
         (third, None) => Some((first, second, third)),
         (_, Some(_)) => None,
     }
+}
+
+fn spaces(text: &[u8]) -> usize
+    ensures count { result ≡ count_by (λ b. b == 32) text.now }
+    ensures most { result ≤ length text.now }
+{
+    text.iter().filter(|byte| **byte == b' ').count()
+}
+
+/// How many spaces stand before the first quote. A quote and all after it belong to one word.
+pub fn spaces_unquoted(text: &[u8]) -> usize
+    ensures count { result ≡ spaces_unquoted text.now }
+    ensures most { result ≤ length text.now }
+{
+    spaces(before(text, len_before(text, b'"')))
 }

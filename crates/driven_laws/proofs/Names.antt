@@ -20,7 +20,8 @@ use Rattle.cec_words.specs.Lines.{is_skipped, lines_of}
 use Rattle.cec_words.specs.Number.{number_of}
 use Rattle.cec_words.specs.Words.{one_of, three_of, words_of}
 use Rattle.cec_vcd.specs.Dump.{is_end, is_space}
-use Rattle.cec_asm.specs.Topology.{Plan, TopologyFault, at_line, bytes_of, device_line, device_read, edid_line, edid_read, kind_named, line_read, lines_read, plug_line, plug_read, topology_of, unless_add, unless_plug, worded}
+use Rattle.hdmi_core.specs.Kind.{kind_named}
+use Rattle.cec_asm.specs.Topology.{Plan, TopologyFault, at_line, bytes_of, device_line, device_read, edid_line, edid_read, line_read, lines_read, plug_line, plug_read, topology_of, unless_add, unless_plug, worded}
 use Rattle.cec_asm.specs.declared.topology.TopologyCause.{TopologyCause}
 use Rattle.cec_asm.specs.declared.topology.TopologyCause.TheVariants as causes
 use Rattle.cec_device.specs.State.{State, frame_of, held, holds, one_more, queued, speaks}

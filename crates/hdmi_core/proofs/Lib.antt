@@ -1,3 +1,4 @@
 pub mod CutShort
 pub mod SinkLemmas
 pub mod PhysTexts
+pub mod KindWords

@@ -3,3 +3,5 @@ pub mod Buffered
 pub mod Piece
 pub mod Written
 pub mod Phys
+pub mod Kind
+pub mod Bytes

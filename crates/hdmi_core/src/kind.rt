@@ -1,4 +1,6 @@
-//! The kinds of device that stand on the wire.
+//! The kinds of device that stand on the wire, and their words.
+ghost use Rattle.std.specs.Prelude.{◌≡◌};
+ghost use Rattle.hdmi_core.specs.Kind.{kind_named, kind_word, kinds};
 
 /// What a device is. Its kind decides the logical addresses it may take and what it does with a frame.
 #[derive(Clone, Copy, Debug, PartialEq, Eq)]
@@ -12,4 +14,42 @@ pub enum Kind {
     Combo,
     /// A device whose behaviour comes from outside: it holds and sends what it is told, and follows nothing.
     Outside,
+}
+
+impl Kind {
+    /// Each kind once.
+    pub const ALL: &'static [Kind] = &[
+        Kind::Tv,
+        Kind::Amp,
+        Kind::Player,
+        Kind::Recorder,
+        Kind::Switch,
+        Kind::Combo,
+        Kind::Outside,
+    ];
+
+    /// The word for it in topologies and traces.
+    pub fn word(self) -> &'static str
+        ensures { result.now ≡ kind_word self }
+    {
+        match self {
+            Kind::Tv => "tv",
+            Kind::Amp => "amp",
+            Kind::Player => "player",
+            Kind::Recorder => "recorder",
+            Kind::Switch => "switch",
+            Kind::Combo => "combo",
+            Kind::Outside => "outside",
+        }
+    }
+
+    /// The kind that a word stands for.
+    pub fn named(word: &[u8]) -> Option<Kind>
+        ensures { result ≡ kind_named word.now }
+    {
+        Kind::ALL
+            .iter()
+            .copied()
+            .find(|kind| kind.word().as_bytes() == word)
+    }
 }

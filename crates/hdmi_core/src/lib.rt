@@ -4,12 +4,14 @@
 
 mod buffered;
 mod kind;
+mod laws;
 mod phys;
 mod piece;
 mod sink;
 
 pub use buffered::Buffered;
 pub use kind::Kind;
+pub use laws::kinds_are_named_by_their_words;
 pub use phys::{Phys, digit_value, is_hex_digit};
 pub use piece::{Piece, hex_digit, write_line, write_pieces};
 pub use sink::{Sink, WriteFault, Writes, put_all};

@@ -1,6 +1,7 @@
 -- The first line at fault: the first that no accepted text has there after the lines before it (own).
 use Rattle.std.specs.Prelude.{◌≡◌, ℕ, suc, ◌+◌, ◌==◌, true, List, [], ◌∷◌, ◌++◌, length, map, take}
-use Rattle.std.specs.List.{count_by, position_or_len}
+use Rattle.std.specs.List.{position_or_len}
+use Rattle.cec_words.specs.Words.{spaces_unquoted}
 use Rattle.hdmi_lines.specs.Formed.{form_of}
 use Rattle.hdmi_edtext.specs.Lines.{edid_lines}
 use Rattle.hdmi_lines.specs.Text.{word_text, line_text}
@@ -38,7 +39,7 @@ first_word front = take (position_or_len (λ c. c == 32) front) front
 
 -- the words, a space between them; a quote and all behind it are one
 abbrev pub word_count : List ℕ → ℕ
-word_count front = suc (count_by (λ c. c == 32) (take (position_or_len (λ c. c == 34) front) front))
+word_count front = suc (spaces_unquoted front)
 
 -- two lines with a line feed, the same first word and as many words
 pub record AreAlike (line other : List ℕ) : Type 0 where

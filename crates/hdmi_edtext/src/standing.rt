@@ -1,11 +1,11 @@
 //! Which lines may stand somewhere, by their words.
-ghost use Rattle.std.specs.Prelude.{◌≡◌, ◌+◌, ◌-◌, ◌<◌, ◌≤◌, ◌^◌, ◌==◌, Some, true, IfSome, MatchBool, length, position, take};
-ghost use Rattle.std.specs.List.{count_by, position_or_len};
+ghost use Rattle.std.specs.Prelude.{◌≡◌, ◌+◌, ◌-◌, ◌<◌, ◌≤◌, ◌^◌, Some, true, IfSome, MatchBool, length};
 ghost use Rattle.hdmi_edtext.specs.Refusal.{first_word, word_count, MayStand};
 ghost use Rattle.hdmi_lines.specs.Text.{word_text};
 ghost use Rattle.hdmi_lines.specs.declared.line.Word.{Word as WordValue};
 
 use crate::place::{Place, has_words, may_begin};
+use cec_words::spaces_unquoted;
 use hdmi_lines::{Word, space_in, word_of};
 
 /// What stands before the first space.
@@ -26,37 +26,12 @@ fn read_word(front: &[u8]) -> Option<Word>
     word_of(first_word(front))
 }
 
-/// Where the first quote stands.
-fn quote_in(text: &[u8]) -> Option<usize>
-    ensures { result ≡ position (λ b. b == 34) text.now }
-{
-    text.iter().position(|byte| *byte == b'"')
-}
-
-/// What stands before the first quote.
-fn before_quote(text: &[u8]) -> &[u8]
-    ensures { result.now ≡ take (position_or_len (λ b. b == 34) text.now) text.now }
-{
-    match quote_in(text) {
-        None => text,
-        Some(end) => &text[..end],
-    }
-}
-
-/// How many spaces there are.
-fn count_spaces(text: &[u8]) -> usize
-    ensures count { result ≡ count_by (λ b. b == 32) text.now }
-    ensures most { result ≤ length text.now }
-{
-    text.iter().filter(|byte| **byte == b' ').count()
-}
-
 /// How many words a line has. A quote and all behind it are one.
 fn count_words(front: &[u8]) -> usize
     requires { length front.now + 1 < 2 ^ 64 }
     ensures { result ≡ word_count front.now }
 {
-    count_spaces(before_quote(front)) + 1
+    spaces_unquoted(front) + 1
 }
 
 /// Whether an accepted text can have a line here with the same first word and as many words.

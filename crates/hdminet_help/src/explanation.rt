@@ -1,14 +1,16 @@
 //! What follows the line of a fault.
 use crate::expectations::{labelled_by, part_of, without_label};
 use crate::grammar::{
-    EDID_WORDS, EXPECTATION_WORDS, EXPECTATIONS, KEYS, KEYWORDS, KINDS, SCRIPT, STEP_WORDS, STEPS,
-    TEST, TOPOLOGY, fitting, most_fitting,
+    EDID_WORDS, EXPECTATION_WORDS, EXPECTATIONS, KEYWORDS, SCRIPT, STEP_WORDS, STEPS, TEST,
+    TOPOLOGY, fitting, most_fitting,
 };
 use crate::hints::{is_shown, of_edid, of_edid_text, of_line, of_text};
 use crate::marks::{Mark, marked};
 use crate::order::add_order;
 use crate::place::{Place, declared_by, is_line_end, place_of};
+use cec_feature::KeyWord;
 use cec_opcode::name;
+use hdmi_core::Kind;
 use hdminet_lists::{
     Draft, Fault, Part, add_frame, is_near, read_fault, right, span_of, word_at, word_count,
 };
@@ -113,11 +115,31 @@ fn add_nearest_opcode(draft: &mut Draft, word: &str) -> bool {
     false
 }
 
+// The first kind of device that a word may have been meant for.
+fn add_nearest_kind(draft: &mut Draft, word: &str) -> bool {
+    for kind in Kind::ALL {
+        if add_near(draft, kind.word(), word) {
+            return true;
+        }
+    }
+    false
+}
+
+// The first word of a key that a word may have been meant for.
+fn add_nearest_key(draft: &mut Draft, word: &str) -> bool {
+    for key in KeyWord::ALL {
+        if add_near(draft, key.text(), word) {
+            return true;
+        }
+    }
+    false
+}
+
 // The word of a topology or a script that a word may have been meant for.
 fn add_nearest_word(draft: &mut Draft, word: &str) -> bool {
     add_nearest(draft, KEYWORDS, word)
-        || add_nearest(draft, KINDS, word)
-        || add_nearest(draft, KEYS, word)
+        || add_nearest_kind(draft, word)
+        || add_nearest_key(draft, word)
 }
 
 // The first name of a device that a word may have been meant for.

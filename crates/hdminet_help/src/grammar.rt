@@ -1,4 +1,6 @@
 //! The forms of the lines of topologies, scripts and steps. A word in capitals stands for a value.
+use cec_feature::KeyWord;
+use hdmi_core::Kind;
 
 /// The lines of a topology.
 pub const TOPOLOGY: &[&str] = &[
@@ -69,30 +71,6 @@ pub const STEPS: &[&str] = &[
 /// The words of steps that stand for themselves.
 pub const STEP_WORDS: &[&str] = &[
     "edge", "round", "until", "opcode", "device", "break", "show",
-];
-
-/// The words that stand for a KIND.
-pub const KINDS: &[&str] = &[
-    "tv", "amp", "player", "recorder", "switch", "combo", "outside",
-];
-
-/// The words that a KEY is, or begins with.
-pub const KEYS: &[&str] = &[
-    "play",
-    "stop",
-    "eject",
-    "load",
-    "menu",
-    "power",
-    "volume-up",
-    "volume-down",
-    "mute",
-    "port",
-    "watch",
-    "language",
-    "audio",
-    "arc",
-    "remote",
 ];
 
 /// The words of topologies and scripts that stand for themselves.
@@ -173,8 +151,8 @@ fn is_held(word: &str) -> bool {
 // Whether a word may stand where a form has another.
 fn fits(wanted: &str, word: &str) -> bool {
     match wanted {
-        "KIND" => KINDS.contains(&word),
-        "KEY" => KEYS.contains(&word),
+        "KIND" => Kind::named(word.as_bytes()).is_some(),
+        "KEY" => KeyWord::named(word.as_bytes()).is_some(),
         "XX" => is_opcode(word),
         "ADDRS" => is_held(word),
         _ => is_value(wanted) || wanted == word,

@@ -15,11 +15,14 @@ pub struct List {
 }
 
 impl List {
-    /// A list of which the label stands, in so many columns.
-    pub fn begin(draft: &mut Draft, label: &str, columns: usize) -> List {
-        draft.add_all(&["  ", label]);
-        draft.add_times(columns.saturating_sub(label.len()), ' ');
-        let indent = columns.max(label.len()).saturating_add(2);
+    /// A list of which the label stands, made of these pieces, in so many columns.
+    pub fn begin(draft: &mut Draft, label: &[&str], columns: usize) -> List {
+        draft.add("  ");
+        let before = draft.len();
+        draft.add_all(label);
+        let length = draft.len().saturating_sub(before);
+        draft.add_times(columns.saturating_sub(length), ' ');
+        let indent = columns.max(length).saturating_add(2);
         List {
             indent,
             column: indent,
@@ -41,7 +44,7 @@ impl List {
 
 /// A label, in so many columns, and the words of a set.
 pub fn list_set(draft: &mut Draft, label: &str, columns: usize, set: WordSet) {
-    let mut list = List::begin(draft, label, columns);
+    let mut list = List::begin(draft, &[label], columns);
     for word in set.words() {
         list.add(draft, word.text);
     }

@@ -11,17 +11,6 @@ use std::alloc::{AllocError, Global};
 /// How many columns the forms of keys and the labels of lists take.
 const LABELS: usize = 14;
 
-/// The kinds with their words.
-const KINDS: &[(&str, Kind)] = &[
-    ("tv", Kind::Tv),
-    ("amp", Kind::Amp),
-    ("player", Kind::Player),
-    ("recorder", Kind::Recorder),
-    ("switch", Kind::Switch),
-    ("combo", Kind::Combo),
-    ("outside", Kind::Outside),
-];
-
 const ADDRESS: Phys = Phys {
     high: 0x10,
     low: 0x00,
@@ -33,36 +22,36 @@ const ENGLISH: Triple = Triple {
     third: b'g',
 };
 
-// The kinds that have a key, which is written so. A switch with a port stands for all switches.
-fn add_key(draft: &mut Draft, form: &str, key: &Key) {
-    let mut list = List::begin(draft, form, LABELS);
-    for (word, kind) in KINDS {
+// The kinds that have a key, which is its word and what it takes. A switch with a port stands for all switches.
+fn add_key(draft: &mut Draft, takes: &str, key: &Key) {
+    let mut list = List::begin(draft, &[key.word().text(), takes], LABELS);
+    for kind in Kind::ALL {
         if has_key(*kind, Port::new(1), key) {
-            list.add(draft, word);
+            list.add(draft, kind.word());
         }
     }
     draft.add("\n");
 }
 
-// Some keys, each with the form that it is written in.
+// Some keys, each with what it takes.
 fn add_keys(draft: &mut Draft, keys: &[(&str, Key)]) {
-    for (form, key) in keys {
-        add_key(draft, form, key);
+    for (takes, key) in keys {
+        add_key(draft, takes, key);
     }
 }
 
 // The keys of one word.
 fn add_plain_keys(draft: &mut Draft) {
     let keys = [
-        ("play", Key::Play),
-        ("stop", Key::Stop),
-        ("eject", Key::Eject),
-        ("load", Key::Load),
-        ("menu", Key::Menu),
-        ("power", Key::Power),
-        ("volume-up", Key::Volume(VolumeKey::Up)),
-        ("volume-down", Key::Volume(VolumeKey::Down)),
-        ("mute", Key::Volume(VolumeKey::Mute)),
+        ("", Key::Play),
+        ("", Key::Stop),
+        ("", Key::Eject),
+        ("", Key::Load),
+        ("", Key::Menu),
+        ("", Key::Power),
+        ("", Key::Volume(VolumeKey::Up)),
+        ("", Key::Volume(VolumeKey::Down)),
+        ("", Key::Volume(VolumeKey::Mute)),
     ];
     add_keys(draft, keys.as_slice());
 }
@@ -72,21 +61,21 @@ fn add_other_keys(draft: &mut Draft) {
     let code = UserControl::Play;
     let to = Addr::new(4);
     let keys = [
-        ("port N", Key::Port(1)),
-        ("watch PA", Key::Watch(ADDRESS)),
-        ("language LLL", Key::Language(ENGLISH)),
-        ("audio on", Key::Audio { on: true }),
-        ("audio off", Key::Audio { on: false }),
-        ("arc on", Key::Arc { on: true }),
-        ("arc off", Key::Arc { on: false }),
-        ("remote D CODE", Key::Remote { to, code }),
+        (" N", Key::Port(1)),
+        (" PA", Key::Watch(ADDRESS)),
+        (" LLL", Key::Language(ENGLISH)),
+        (" on", Key::Audio { on: true }),
+        (" off", Key::Audio { on: false }),
+        (" on", Key::Arc { on: true }),
+        (" off", Key::Arc { on: false }),
+        (" D CODE", Key::Remote { to, code }),
     ];
     add_keys(draft, keys.as_slice());
 }
 
 // The causes of the faults of a part.
 fn add_causes(draft: &mut Draft, part: &str, rows: &[Row]) {
-    let mut list = List::begin(draft, part, LABELS);
+    let mut list = List::begin(draft, &[part], LABELS);
     for (cause, _) in rows {
         list.add(draft, cause);
     }

@@ -13,10 +13,8 @@ use crate::heard::{Heard, Instant, heard_of, heard_refused, instant_of, instant_
 use crate::readings::{ReadingParts, ended_of, put_reading};
 use cec_bits::{Receiver, ReceiverParts};
 use cec_frame::Reading;
+use cec_wave::LATEST_HEARD;
 use hdminet_room::Code;
-
-/// The latest instant, in microseconds.
-pub(crate) const LATEST: u64 = 3_000_000_000_000;
 
 /// A receiver of a line of which nothing is told yet: it is high, and no reading runs.
 #[unsafe(no_mangle)]
@@ -62,7 +60,7 @@ pub extern "C" fn hdminet_receiver_hear(
     let Some(was) = Receiver::of_parts(receiver) else {
         return heard_refused(Code::State);
     };
-    if t > LATEST {
+    if t > LATEST_HEARD {
         return heard_refused(Code::Late);
     }
     let mut next = noted(was, t, is_low);

@@ -10,9 +10,9 @@ ghost use Rattle.hdminet_wire.specs.Heard.{instant_refused, told_in};
 ghost use Rattle.hdminet_wire.specs.Sender.{HasBegun, IsChange, IsLeft, IsNoSender, IsTold, pull_code, pull_told};
 
 use crate::heard::{Heard, Instant, instant_of, instant_refused, told_in};
-use crate::receiver::LATEST;
 use cec_bits::{Sender, SenderParts};
 use cec_frame::Frame;
+use cec_wave::LATEST_HEARD;
 use hdminet_room::{Code, frame_code};
 
 /// Whether a sender pulls the line low.
@@ -40,7 +40,7 @@ pub extern "C" fn hdminet_sender_begin(sender: &mut SenderParts, bytes: &[u8], t
         Ok(frame) => frame,
         Err(error) => return frame_code(error).number(),
     };
-    if t > LATEST {
+    if t > LATEST_HEARD {
         return Code::Late.number();
     }
     *sender = Sender::begin(frame, t).parts();
@@ -66,7 +66,7 @@ pub extern "C" fn hdminet_sender_heard(sender: &mut SenderParts, heard: &Heard, 
     let Some(told) = told_in(*heard) else {
         return Code::Heard.number();
     };
-    if t > LATEST {
+    if t > LATEST_HEARD {
         return Code::Late.number();
     }
     let mut next = was;
@@ -96,7 +96,7 @@ pub extern "C" fn hdminet_sender_pulls(sender: &SenderParts, t: u64) -> Pull
     let Some(sender) = Sender::of_parts(sender) else {
         return pull_refused(Code::State);
     };
-    if t > LATEST {
+    if t > LATEST_HEARD {
         return pull_refused(Code::Late);
     }
     Pull {
@@ -117,7 +117,7 @@ pub extern "C" fn hdminet_sender_next_change(sender: &SenderParts, t: u64) -> In
     let Some(sender) = Sender::of_parts(sender) else {
         return instant_refused(Code::State);
     };
-    if t > LATEST {
+    if t > LATEST_HEARD {
         return instant_refused(Code::Late);
     }
     instant_of(sender.next_change(t))

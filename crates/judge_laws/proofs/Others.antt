@@ -29,7 +29,8 @@ use Rattle.hdmi_topo.specs.declared.plug.UnplugError.TheVariants as unplug
 use Rattle.cec_audit.specs.Kept.{IsPlain}
 use Rattle.cec_audit.proofs.Plain.{plain_codes, plain_decimal, plain_hex, plain_more, plain_nibble, plain_phys}
 use Rattle.cec_trace.specs.PortText.{lines_of_new, lines_of_ports, name_in, port_line, port_line_of, port_lines}
-use Rattle.cec_trace.specs.StateText.{address_text, held_text, kind_text, language_bytes, note_text, outside_line, phys_on, power_text, state_line, state_line_of, unit_text}
+use Rattle.hdmi_core.specs.Kind.{kind_word}
+use Rattle.cec_trace.specs.StateText.{address_text, held_text, language_bytes, note_text, outside_line, phys_on, power_text, state_line, state_line_of, unit_text}
 use Rattle.cec_feature.specs.Kinds.{is_outside}
 use Rattle.cec_trace.specs.TraceText.{end_line, error_word, event_line}
 use Rattle.cec_judge.specs.Told.{EventLine, RoundLine, event_by, event_in, round_by, round_in, told_in}
@@ -110,7 +111,7 @@ ports_add at (Some root) was tree small plain =
 
 -- ---- states
 
-plain_kind : (kind : Kind) → IsPlain (kind_text kind)
+plain_kind : (kind : Kind) → IsPlain (kind_word kind)
 plain_kind Tv = plain_codes (codes "tv") refl
 plain_kind Amp = plain_codes (codes "amp") refl
 plain_kind Player = plain_codes (codes "player") refl
@@ -180,7 +181,7 @@ StateTold d = LineTold d.name (state_line d)
 inside_told : (d : State) → LineTold d.name (state_line_of d (address_text d.kind (held d.place)) (language_bytes d.record_of.language) (dash_or note_text d.record_of.heard))
 inside_told d =
     let tail =
-    closed_more (kind_text d.kind) (plain_kind d.kind) (lit (codes " ") refl
+    closed_more (kind_word d.kind) (plain_kind d.kind) (lit (codes " ") refl
     (closed_more (address_text d.kind (held d.place)) (plain_address d.kind (held d.place)) (lit (codes " ") refl
     (closed_more (dash_or phys_text (phys_on (place.is_on_wire d) d.phys)) (plain_dash phys_text (phys_on (place.is_on_wire d) d.phys) plain_phys) (lit (codes " ") refl
     (closed_more (power_text d.record_of.power) (plain_power d.record_of.power) (lit (codes " active=") refl
@@ -205,7 +206,7 @@ inside_told d =
 outside_told : (d : State) → LineTold d.name (outside_line d (held_text (held d.place)))
 outside_told d =
     let tail =
-    closed_more (kind_text d.kind) (plain_kind d.kind) (lit (codes " ") refl
+    closed_more (kind_word d.kind) (plain_kind d.kind) (lit (codes " ") refl
     (closed_more (held_text (held d.place)) (plain_held (held d.place)) (lit (codes " ") refl
     (closed_more (dash_or phys_text (phys_on (place.is_on_wire d) d.phys)) (plain_dash phys_text (phys_on (place.is_on_wire d) d.phys) plain_phys)
     (lit (codes " - active=- path=- deck=- menu=- audio=- volume=- mute=- arc=- sel=- lang=- osd=- held=- heard=- sub=- queue=") refl

@@ -6,9 +6,7 @@ ghost use Rattle.cec_bits.specs.declared.receiver.Receiver.{Receiver as Receiver
 
 use crate::reading::SLOTS;
 use crate::receiver::{Place, Receiver, copied_bits};
-
-/// The latest instant that a receiver knows, in microseconds.
-const LATEST: u64 = 3_000_000_000_000;
+use cec_wave::LATEST_HEARD;
 
 /// What a receiver keeps, in plain numbers, for callers in other languages.
 #[repr(C)]
@@ -80,7 +78,10 @@ impl Receiver {
         ensures found { IfSome result (λ receiver. ArePartsOf receiver parts.now) }
         ensures there { (receiver : ReceiverValue) → ArePartsOf receiver parts.now → IsSome result }
     {
-        if usize::from(parts.count) >= SLOTS || parts.begin > LATEST || parts.fall > LATEST {
+        if usize::from(parts.count) >= SLOTS
+            || parts.begin > LATEST_HEARD
+            || parts.fall > LATEST_HEARD
+        {
             return None;
         }
         let Some(place) = place_of(parts.place) else {

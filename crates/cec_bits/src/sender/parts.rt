@@ -6,9 +6,7 @@ ghost use Rattle.cec_bits.specs.declared.sender.SenderState.{SenderState as Stat
 
 use crate::sender::{Sender, SenderState};
 use cec_frame::Frame;
-
-/// The latest instant that a sender knows, in microseconds.
-const LATEST: u64 = 3_000_000_000_000;
+use cec_wave::LATEST_HEARD;
 
 /// What a sender keeps, in plain numbers, for callers in other languages.
 #[repr(C)]
@@ -82,7 +80,7 @@ impl Sender {
         ensures found { IfSome result (λ sender. ArePartsOfSender sender parts.now) }
         ensures there { (sender : SenderValue) → ArePartsOfSender sender parts.now → IsSome result }
     {
-        if parts.count > 16 || parts.begin > LATEST || parts.last > LATEST {
+        if parts.count > 16 || parts.begin > LATEST_HEARD || parts.last > LATEST_HEARD {
             return None;
         }
         let state = state_of(parts.state, parts.slot)?;
