@@ -1,6 +1,6 @@
 //! The physical address that an EDID reports.
 ghost use Rattle.std.specs.Prelude.{◌≡◌, position};
-ghost use Rattle.hdmi_blocks.specs.Address.{edid_address, has_address};
+ghost use Rattle.hdmi_blocks.specs.Address.{edid_address, first_address, has_address};
 
 use crate::edid::Edid;
 use hdmi_core::Phys;
@@ -19,15 +19,21 @@ pub fn first_addressed(extensions: &[Ext]) -> Option<usize>
     extensions.iter().position(|ext| has_address(ext))
 }
 
+/// The physical address in the first HDMI block of some extensions, where there is one.
+pub fn first_address(extensions: &[Ext]) -> Option<Phys>
+    ensures { result ≡ first_address extensions.now }
+{
+    match first_addressed(extensions) {
+        None => None,
+        Some(index) => hdmi_address(&extensions[index]),
+    }
+}
+
 impl Edid {
     /// The physical address in the first HDMI block, where there is one.
     pub fn address(&self) -> Option<Phys>
         ensures { result ≡ edid_address self.now }
     {
-        let extensions = self.extensions.as_slice();
-        match first_addressed(extensions) {
-            None => None,
-            Some(index) => hdmi_address(&extensions[index]),
-        }
+        first_address(self.extensions.as_slice())
     }
 }

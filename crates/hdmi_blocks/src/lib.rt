@@ -9,4 +9,4 @@ mod passing;
 
 pub use bytes::{EdidError, edid_from_bytes, edid_to_bytes, read_parts};
 pub use edid::Edid;
-pub use passing::AudioFrom;
+pub use passing::{AudioFrom, write_passed_parts};

@@ -3,11 +3,12 @@ ghost use Rattle.std.specs.Prelude.{◌≡◌, ◌≤◌, ◌<◌, ◌+◌, ◌*
 ghost use Rattle.arrayvec.specs.ArrayVec.{array_vec_len};
 ghost use Rattle.hdmi_cta.specs.Ext.{ext_bytes};
 ghost use Rattle.hdmi_cta.specs.Hdmi.{address_of};
-ghost use Rattle.hdmi_blocks.specs.Address.{edid_address};
+ghost use Rattle.hdmi_edid.specs.Base.{base_bytes};
+ghost use Rattle.hdmi_blocks.specs.Address.{edid_address, first_address};
 ghost use Rattle.hdmi_blocks.specs.Bytes.{edid_bytes};
 ghost use Rattle.hdmi_blocks.specs.Passing.{passed_bytes, passed_extensions, passed_on_bytes};
 
-use crate::address::first_addressed;
+use crate::address::{first_address, first_addressed};
 use crate::bytes::append;
 use crate::edid::Edid;
 use arrayvec::ArrayVec;
@@ -15,7 +16,7 @@ use hdmi_core::Phys;
 use hdmi_cta::{
     Ext, NoHdmiBlock, with_address, with_audio, write_ext, write_with_address, write_with_audio,
 };
-use hdmi_edid::{Base, read_base, write_base};
+use hdmi_edid::{Base, write_base};
 
 /// Whose audio an EDID reports when it is passed on.
 #[derive(Clone, Copy, Debug, PartialEq, Eq)]
@@ -79,11 +80,25 @@ fn append_passed(bytes: &mut ArrayVec<u8, 512>, extensions: &[Ext], audio: Audio
     }
 }
 
-/// The same base block.
-fn copy_of(base: &Base) -> Base
-    ensures { result ≡ base.now }
+/// The bytes of the EDID that a port passes on of the one with this base block and these extensions, as
+/// [`passed_on`](Edid::passed_on) gives it: as one value an EDID is large.
+pub fn write_passed_parts(
+    base: &Base,
+    extensions: &[Ext],
+    audio: AudioFrom,
+    address: Phys,
+) -> Result<ArrayVec<u8, 512>, NoHdmiBlock>
+    requires { length extensions.now ≤ 3 }
+    ensures bytes { IfOk result (λ bytes. bytes.items ≡ base_bytes base.now ++ passed_extensions audio address extensions.now) }
+    ensures refused { IsErr result ↔ (first_address extensions.now ≡ None) }
 {
-    read_base(&write_base(base)).unwrap()
+    if first_address(extensions).is_none() {
+        return Err(NoHdmiBlock);
+    }
+    let mut bytes = ArrayVec::new();
+    append(&mut bytes, &write_base(base));
+    append_passed(&mut bytes, extensions, audio, address);
+    Ok(bytes)
 }
 
 /// The same extensions.
@@ -125,13 +140,13 @@ impl Edid {
         match passed_extension(&extensions[index], audio, address) {
             Err(refused) => Err(refused),
             Ok(passed) => Ok(Edid {
-                base: copy_of(&self.base),
+                base: self.base.copy(),
                 extensions: with_extension(extensions, index, passed),
             }),
         }
     }
 
-    /// The bytes of the EDID that [`passed_on`](Edid::passed_on) gives: as a value an EDID is large.
+    /// The bytes of the EDID that [`passed_on`](Edid::passed_on) gives.
     pub fn write_passed_on(
         &self,
         audio: AudioFrom,
@@ -140,12 +155,6 @@ impl Edid {
         ensures bytes { IfOk result (λ bytes. bytes.items ≡ passed_on_bytes audio address self.now) }
         ensures refused { IsErr result ↔ (edid_address self.now ≡ None) }
     {
-        if self.address().is_none() {
-            return Err(NoHdmiBlock);
-        }
-        let mut bytes = ArrayVec::new();
-        append(&mut bytes, &write_base(&self.base));
-        append_passed(&mut bytes, self.extensions.as_slice(), audio, address);
-        Ok(bytes)
+        write_passed_parts(&self.base, self.extensions.as_slice(), audio, address)
     }
 }

@@ -8,7 +8,7 @@ ghost use Rattle.hdmi_cta.specs.Ext.{ext_bytes};
 ghost use Rattle.hdmi_cta.specs.Hdmi.{is_hdmi, blocks_of, address_of, address_place, readdressed};
 ghost use Rattle.hdmi_cta.specs.Audio.{is_audio, amplifier_audio, heard, growth, shrinkage, ends_in_zeros, fitted, heard_bytes, heard_place, IsHeard, IsUnheard};
 
-use crate::block::{Block, BlockKind};
+use crate::block::{Block, BlockKind, copies_of};
 use crate::cta::Cta;
 use crate::ext::append_timings;
 use crate::hdmi::{NoHdmiBlock, write_with_address};
@@ -32,30 +32,6 @@ fn amplifier_block() -> Block
         kind: BlockKind::Audio,
         payload,
     }
-}
-
-/// The same data block.
-fn copy_of(block: &Block) -> Block
-    ensures { result ≡ block.now }
-{
-    let mut payload = ArrayVec::new();
-    append(&mut payload, block.payload.as_slice());
-    Block {
-        kind: block.kind,
-        payload,
-    }
-}
-
-/// The same data blocks.
-fn copies_of(blocks: &[Block]) -> ArrayVec<Block, 123>
-    requires { length blocks.now ≤ 123 }
-    ensures { result.items ≡ blocks.now }
-{
-    let mut copies = ArrayVec::new();
-    for block in blocks {
-        copies.push(copy_of(block));
-    }
-    copies
 }
 
 /// The first audio block.

@@ -1,5 +1,5 @@
 //! A data block: its kind, and up to 31 bytes.
-ghost use Rattle.std.specs.Prelude.{◌≡◌, ◌<◌, ◌/◌, length, IsTrue};
+ghost use Rattle.std.specs.Prelude.{◌≡◌, ◌<◌, ◌≤◌, ◌/◌, length, IsTrue};
 ghost use Rattle.hdmi_edid.specs.Bytes.{are_bytes};
 
 use crate::hdmi::has_identifier;
@@ -96,6 +96,18 @@ impl Block {
         matches!(self.kind, BlockKind::Audio)
     }
 
+    /// The same data block.
+    pub fn copy(&self) -> Block
+        ensures { result ≡ self.now }
+    {
+        let mut payload = ArrayVec::new();
+        append(&mut payload, self.payload.as_slice());
+        Block {
+            kind: self.kind,
+            payload,
+        }
+    }
+
     /// Its bytes.
     pub fn write(&self) -> ArrayVec<u8, 32>
         ensures { result.items ≡ block_bytes self.now }
@@ -105,4 +117,16 @@ impl Block {
         append(&mut bytes, self.payload.as_slice());
         bytes
     }
+}
+
+/// The same data blocks.
+pub(crate) fn copies_of(blocks: &[Block]) -> ArrayVec<Block, 123>
+    requires { length blocks.now ≤ 123 }
+    ensures { result.items ≡ blocks.now }
+{
+    let mut copies = ArrayVec::new();
+    for block in blocks {
+        copies.push(block.copy());
+    }
+    copies
 }

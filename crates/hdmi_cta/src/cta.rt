@@ -5,9 +5,9 @@ ghost use Rattle.hdmi_edid.specs.Timing.{timing_bytes};
 ghost use Rattle.hdmi_cta.specs.Block.{block_bytes};
 ghost use Rattle.hdmi_cta.specs.Cta.{is_tail};
 
-use crate::block::Block;
+use crate::block::{Block, copies_of};
 use arrayvec::ArrayVec;
-use hdmi_edid::Timing;
+use hdmi_edid::{Timing, append};
 
 /// Data blocks, timings and a tail.
 #[derive(Drop)]
@@ -21,8 +21,26 @@ pub struct Cta {
     ghost bytes_fit: { IsTrue (are_bytes (flags ∷ tail.items)) },
 }
 
+impl Cta {
+    /// The same block.
+    pub fn copy(&self) -> Cta
+        ensures { result ≡ self.now }
+    {
+        let mut timings = ArrayVec::new();
+        let _ = timings.try_extend_from_slice(self.timings.as_slice());
+        let mut tail = ArrayVec::new();
+        append(&mut tail, self.tail.as_slice());
+        Cta {
+            flags: self.flags,
+            blocks: copies_of(self.blocks.as_slice()),
+            timings,
+            tail,
+        }
+    }
+}
+
 /// A tail alone.
-#[derive(Drop)]
+#[derive(Clone, Copy)]
 pub struct Bare {
     pub flags: u8,
     pub tail: [u8; 123],

@@ -144,12 +144,3 @@ fn write_cta(cta: &Cta) -> [u8; 128]
     append(&mut body, cta.tail.as_slice());
     spelled(&[2, 3, end, cta.flags], body.as_slice())
 }
-
-impl Ext {
-    /// The same extension.
-    pub fn copy(&self) -> Ext
-        ensures { result ≡ self.now }
-    {
-        read_ext(&write_ext(self)).unwrap()
-    }
-}

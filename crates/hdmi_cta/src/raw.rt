@@ -8,7 +8,7 @@ ghost use Rattle.hdmi_cta.specs.declared.cta.Bare.{Bare as BareValue};
 use crate::cta::{Bare, Cta};
 
 /// A block whose sum is right, and that is of no form.
-#[derive(Drop)]
+#[derive(Clone, Copy)]
 pub struct RawExt {
     pub bytes: [u8; 128],
     ghost whole: { length bytes ≡ 128 },
@@ -27,6 +27,19 @@ pub enum Ext {
     Bare(Bare),
     /// Any other block.
     Raw(RawExt),
+}
+
+impl Ext {
+    /// The same extension.
+    pub fn copy(&self) -> Ext
+        ensures { result ≡ self.now }
+    {
+        match self {
+            Ext::Cta(cta) => Ext::Cta(cta.copy()),
+            Ext::Bare(bare) => Ext::Bare(*bare),
+            Ext::Raw(raw) => Ext::Raw(*raw),
+        }
+    }
 }
 
 /// A block without data blocks and timings, for the places of an array that hold no extension yet.

@@ -151,6 +151,30 @@ impl Base {
         })
     }
 
+    /// The same base block.
+    pub fn copy(&self) -> Base
+        ensures { result ≡ self.now }
+    {
+        Base {
+            maker: self.maker,
+            product: self.product,
+            serial: self.serial,
+            week: self.week,
+            year: self.year,
+            revision: self.revision,
+            input: self.input,
+            width: self.width,
+            height: self.height,
+            gamma: self.gamma,
+            features: self.features,
+            chroma: self.chroma,
+            established: self.established,
+            standard: self.standard,
+            descriptors: copies_of(&self.descriptors),
+            extensions: self.extensions,
+        }
+    }
+
     /// The header, and bytes 8 to 24.
     fn front(&self) -> ArrayVec<u8, 128>
         ensures items { result.items ≡ header ++ product_bytes self.now }
@@ -209,6 +233,14 @@ impl Revision {
             Revision::Four => [1, 4],
         }
     }
+}
+
+/// The same descriptors.
+fn copies_of(descriptors: &[Descriptor; 4]) -> [Descriptor; 4]
+    ensures { result ≡ descriptors.now }
+{
+    let [first, second, third, fourth] = descriptors;
+    [first.copy(), second.copy(), third.copy(), fourth.copy()]
 }
 
 fn append_standards(block: &mut ArrayVec<u8, 128>, standards: &[Option<Standard>; 8])

@@ -9,7 +9,7 @@ use crate::text::Text;
 use crate::timing::Timing;
 
 /// The limits of a display's ranges, as they are sent.
-#[derive(Drop)]
+#[derive(Clone, Copy)]
 pub struct RangeLimits {
     pub bytes: [u8; 14],
     ghost whole: { length bytes ≡ 14 },
@@ -17,7 +17,7 @@ pub struct RangeLimits {
 }
 
 /// A descriptor of no known form.
-#[derive(Drop)]
+#[derive(Clone, Copy)]
 pub struct RawDescriptor {
     pub bytes: [u8; 18],
     ghost whole: { length bytes ≡ 18 },
@@ -94,6 +94,21 @@ impl Descriptor {
         match Descriptor::labelled(bytes) {
             Some(descriptor) => descriptor,
             None => Descriptor::Raw(RawDescriptor { bytes: *bytes }),
+        }
+    }
+
+    /// The same descriptor.
+    pub fn copy(&self) -> Descriptor
+        ensures { result ≡ self.now }
+    {
+        match self {
+            Descriptor::Timing(timing) => Descriptor::Timing(*timing),
+            Descriptor::Name(text) => Descriptor::Name(text.copy()),
+            Descriptor::Text(text) => Descriptor::Text(text.copy()),
+            Descriptor::SerialText(text) => Descriptor::SerialText(text.copy()),
+            Descriptor::Range(limits) => Descriptor::Range(*limits),
+            Descriptor::Dummy => Descriptor::Dummy,
+            Descriptor::Raw(raw) => Descriptor::Raw(*raw),
         }
     }
 

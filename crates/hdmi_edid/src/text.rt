@@ -3,6 +3,7 @@ ghost use Rattle.std.specs.Prelude.{◌≡◌, ◌≤◌, ◌==◌, IsTrue, fals
 ghost use Rattle.std.specs.List.{prefix_len, list_all};
 ghost use Rattle.hdmi_edid.specs.Chars.{is_char, is_text, is_padding, is_text_form, text_bytes};
 
+use crate::parts::append;
 use arrayvec::ArrayVec;
 
 /// A text of a descriptor: printable ASCII without quotes.
@@ -76,6 +77,15 @@ impl Text {
         let mut chars = ArrayVec::new();
         let _ = chars.try_extend_from_slice(front);
         Some(Text { chars })
+    }
+
+    /// The same text.
+    pub fn copy(&self) -> Text
+        ensures { result ≡ self.now }
+    {
+        let mut chars = ArrayVec::new();
+        append(&mut chars, self.chars.as_slice());
+        Text { chars }
     }
 
     /// Its 13 bytes.

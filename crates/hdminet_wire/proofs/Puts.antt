@@ -1,5 +1,5 @@
 -- What is put into a room, and EDIDs of their parts.
-use Rattle.std.proofs.Common.{drop-drop, refl, zero, suc, [], ◌∷◌, slice_get, append_assoc, length-append, take-append-drop, ◌≡◌, ◌↔◌, ℕ, ◌+◌, ◌<◌, ◌≤◌, ◌++◌, List, length, take, drop, flat_map, inl, inr, Some, None, Result, Ok, IsErr, arith, ap, sym, ◌∙◌, subst}
+use Rattle.std.proofs.Common.{drop-drop, refl, zero, suc, [], ◌∷◌, slice_get, append_assoc, length-append, take-append-drop, ◌≡◌, ◌↔◌, ℕ, ◌+◌, ◌<◌, ◌≤◌, ◌++◌, List, length, take, drop, flat_map, inl, inr, Some, None, Result, Ok, Err, IsErr, arith, ap, sym, ◌∙◌, subst}
 use Rattle.std.proofs.lemmas.Bool.{cases_lt}
 use Rattle.std.proofs.lemmas.Grind.{flat_map-append}
 use Rattle.std.proofs.lemmas.List.{length-drop, take_all}
@@ -10,9 +10,9 @@ use Rattle.hdmi_edid.specs.declared.base.Base.{Base}
 use Rattle.hdmi_cta.specs.Ext.{ext_bytes}
 use Rattle.hdmi_cta.specs.declared.raw.Ext.{Ext}
 use Rattle.hdmi_core.specs.declared.phys.Phys.{Phys}
-use Rattle.hdmi_blocks.specs.Address.{edid_address}
+use Rattle.hdmi_blocks.specs.Address.{edid_address, first_address}
 use Rattle.hdmi_blocks.specs.Bytes.{edid_bytes}
-use Rattle.hdmi_blocks.specs.Passing.{passed_on_bytes}
+use Rattle.hdmi_blocks.specs.Passing.{passed_extensions, passed_on_bytes}
 use Rattle.hdmi_blocks.specs.declared.bytes.EdidError.{EdidError}
 use Rattle.hdmi_blocks.specs.declared.edid.Edid.{Edid}
 use Rattle.hdmi_cta.specs.declared.hdmi.NoHdmiBlock.{NoHdmiBlock}
@@ -39,28 +39,34 @@ pub edid_of : (base : Base) (extensions : ArrayVec Ext) (bytes : List ℕ)
     → base_bytes base ++ flat_map ext_bytes extensions.items ≡ bytes → base.extensions ≡ length extensions.items → length extensions.items ≤ 3 → (e : Edid) × (edid_bytes e ≡ bytes)
 edid_of base extensions bytes spelled counted few = (record { base = base; extensions = extensions; counted = counted; few = few }, spelled)
 
-one_ok : (a b : Edid) → (let r : Result Edid EdidError = Ok a in r) ≡ Ok b → a ≡ b
-one_ok a b e = cc
-
--- an EDID that is passed on is put into the room
-pub passed_put : (x e p : Edid) (audio named : AudioFrom) (address numbered : Phys) (bytes old new : List ℕ) (answer : Answer)
-    → (let r : Result Edid EdidError = Ok x in r) ≡ Ok e → bytes ≡ edid_bytes p → edid_bytes p ≡ passed_on_bytes audio address x → audio ≡ named → address ≡ numbered
-    → IsPut bytes old new answer → IsPut (passed_on_bytes named numbered e) old new answer
-passed_put x e p audio named address numbered bytes old new answer only spelled passed same_audio same_address put =
-    subst (λ y. IsPut (passed_on_bytes named numbered y) old new answer) (one_ok x e only)
-    (subst (λ y. IsPut (passed_on_bytes named y x) old new answer) same_address
-    (subst (λ y. IsPut (passed_on_bytes y address x) old new answer) same_audio
-    (subst (λ y. IsPut y old new answer) (spelled ∙ passed) put)))
-
--- an EDID that is passed on has an address
-pub not_absent : (x e p : Edid) → (let r : Result Edid EdidError = Ok x in r) ≡ Ok e
-    → (IsErr (let r : Result Edid NoHdmiBlock = Ok p in r) ↔ (edid_address x ≡ None)) → edid_address e ≡ None → ⊥
-not_absent x e p only refused none =
-    let is : IsErr (let r : Result Edid NoHdmiBlock = Ok p in r) = refused.1 (ap edid_address (one_ok x e only) ∙ none) in
-    cc
-
 one_base : (a b : Base) → (let r : Result Base EdidError = Ok a in r) ≡ Ok b → a ≡ b
 one_base a b e = cc
+
+-- an EDID that is passed on is put into the room
+pub passed_put : (base : Base) (xs ys : List Ext) (e : Edid) (audio named : AudioFrom) (address numbered : Phys) (bytes old new : List ℕ) (answer : Answer)
+    → (let r : Result Base EdidError = Ok base in r) ≡ Ok e.base → xs ≡ ys → ys ≡ e.extensions.items → bytes ≡ base_bytes base ++ passed_extensions audio address xs
+    → audio ≡ named → address ≡ numbered → IsPut bytes old new answer → IsPut (passed_on_bytes named numbered e) old new answer
+passed_put base xs ys e audio named address numbered bytes old new answer only same listed spelled same_audio same_address put =
+    subst (λ b. IsPut (base_bytes b ++ passed_extensions named numbered e.extensions.items) old new answer) (one_base base e.base only)
+    (subst (λ zs. IsPut (base_bytes base ++ passed_extensions named numbered zs) old new answer) (same ∙ listed)
+    (subst (λ a. IsPut (base_bytes base ++ passed_extensions named a xs) old new answer) same_address
+    (subst (λ a. IsPut (base_bytes base ++ passed_extensions a address xs) old new answer) same_audio
+    (subst (λ y. IsPut y old new answer) spelled put))))
+
+-- an EDID that is passed on has an address
+pub not_absent : (xs ys : List Ext) (e : Edid) (p : ArrayVec ℕ) → xs ≡ ys → ys ≡ e.extensions.items
+    → (IsErr (let r : Result (ArrayVec ℕ) NoHdmiBlock = Ok p in r) ↔ (first_address xs ≡ None)) → edid_address e ≡ None → ⊥
+not_absent xs ys e p same listed refused none =
+    let is : IsErr (let r : Result (ArrayVec ℕ) NoHdmiBlock = Ok p in r) = refused.1 (ap first_address (same ∙ listed) ∙ none) in
+    cc
+
+-- and one with an address is passed on
+pub not_refused : (xs ys : List Ext) (e : Edid) (a : Phys) (cause : NoHdmiBlock) → xs ≡ ys → ys ≡ e.extensions.items
+    → (IsErr (let r : Result (ArrayVec ℕ) NoHdmiBlock = Err cause in r) ↔ (first_address xs ≡ None)) → edid_address e ≡ Some a → ⊥
+not_refused xs ys e a cause same listed refused some =
+    let none : first_address xs ≡ None = refused.0 refl in
+    let is : Some a ≡ None = sym some ∙ sym (ap first_address (same ∙ listed)) ∙ none in
+    cc
 
 -- the text of the parts of an EDID is its text
 pub text_put : (base : Base) (xs ys : List Ext) (e : Edid) (old new : List ℕ) (answer : Answer)

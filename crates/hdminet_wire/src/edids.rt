@@ -12,7 +12,7 @@ ghost use Rattle.hdminet_room.specs.declared.code.Code.TheVariants.{EdidNoHdmiBl
 ghost use Rattle.hdminet_wire.specs.Edids.{IsEdidFound, IsEdidRefused, audio_of, phys_of};
 
 use arrayvec::ArrayVec;
-use hdmi_blocks::{AudioFrom, edid_from_bytes, edid_to_bytes, read_parts};
+use hdmi_blocks::{AudioFrom, read_parts, write_passed_parts};
 use hdmi_core::Phys;
 use hdmi_cta::Ext;
 use hdmi_edid::Base;
@@ -144,12 +144,14 @@ pub extern "C" fn hdminet_edid_port(
     ensures found { result.code ≤ 1 → (e : EdidValue) × (edid_bytes e ≡ bytes.now) }
     ensures refused { 1 < result.code → result.code ≢ number_of EdidNoHdmiBlock → IsEdidRefused bytes.now room.old room.new result }
 {
-    let edid = match edid_from_bytes(bytes) {
-        Ok(edid) => edid,
+    let mut extensions = ArrayVec::new();
+    let base = match read_parts(bytes, &mut extensions) {
+        Ok(base) => base,
         Err(error) => return refused(edid_code(error), 0),
     };
-    match edid.passed_on(audio_of(from_amplifier), phys_of(address)) {
-        Ok(passed) => put(edid_to_bytes(&passed).as_slice(), room),
+    let audio = audio_of(from_amplifier);
+    match write_passed_parts(&base, extensions.as_slice(), audio, phys_of(address)) {
+        Ok(passed) => put(passed.as_slice(), room),
         Err(_) => refused(Code::EdidNoHdmiBlock, 0),
     }
 }

@@ -30,7 +30,7 @@ returns-in-Ok-clause-bytes c =
     let at = first_at old index (ap (position has_address) (sym items) ∙ sym c.first_addressed.ensures ∙ c.in-Some.is) in
     let there = c.index-extensions-index.is ∙ ap (λ xs. get_or xs index x) items in
     let new = c.with_extension.ensures ∙ ap (λ xs. set xs index c.in-Ok.passed) items in
-    ap (λ b. base_bytes b ++ flat_map ext_bytes c.with_extension.result.items) c.copy_of.ensures
+    ap (λ b. base_bytes b ++ flat_map ext_bytes c.with_extension.result.items) c.copy.ensures
     ∙ ap (λ xs. base_bytes c.args.self.now.base ++ flat_map ext_bytes xs) new
     ∙ ap (λ t. base_bytes c.args.self.now.base ++ t) (passed_there c.args.audio c.args.address old index x c.in-Ok.passed at there c.in-Ok.ensures.bytes)
 
