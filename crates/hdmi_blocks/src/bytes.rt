@@ -1,6 +1,5 @@
 //! The bytes of a whole EDID.
 ghost use Rattle.std.specs.Prelude.{◌≡◌, ◌++◌, ◌+◌, ◌*◌, ◌≤◌, IfOk, IfErr, OnOk, OnErr, [], flat_map, length, drop};
-ghost use Rattle.arrayvec.specs.ArrayVec.{array_vec_len};
 ghost use Rattle.hdmi_edid.specs.Base.{base_bytes};
 ghost use Rattle.hdmi_cta.specs.Ext.{ext_bytes};
 ghost use Rattle.hdmi_blocks.specs.Bytes.{HasLength, IsRefused, IsUnsummed, block_at, edid_bytes, has_length};
@@ -9,7 +8,7 @@ ghost use Rattle.hdmi_blocks.specs.declared.edid.Edid.{Edid as EdidValue};
 use crate::edid::Edid;
 use arrayvec::ArrayVec;
 use hdmi_cta::{Ext, ExtError, read_ext, write_ext};
-use hdmi_edid::{Base, BaseError, part, read_base, write_base};
+use hdmi_edid::{Base, BaseError, append, part, read_base, write_base};
 use std::error::Error;
 use std::fmt::{self, Write};
 
@@ -53,14 +52,6 @@ fn block_at(bytes: &[u8], number: usize) -> [u8; 128]
     ensures { result ≡ block_at bytes.now number }
 {
     part(bytes, 128 * number)
-}
-
-/// Appends a block for which there is room.
-pub(crate) fn append(bytes: &mut ArrayVec<u8, 512>, block: &[u8; 128])
-    requires { array_vec_len bytes.old + 128 ≤ 512 }
-    ensures items { bytes.new.items ≡ bytes.old.items ++ block.now }
-{
-    let _ = bytes.try_extend_from_slice(block);
 }
 
 /// Whether there are as many bytes as an EDID can have: one block to four.

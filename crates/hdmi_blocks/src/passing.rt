@@ -9,14 +9,13 @@ ghost use Rattle.hdmi_blocks.specs.Bytes.{edid_bytes};
 ghost use Rattle.hdmi_blocks.specs.Passing.{passed_bytes, passed_extensions, passed_on_bytes};
 
 use crate::address::{first_address, first_addressed};
-use crate::bytes::append;
 use crate::edid::Edid;
 use arrayvec::ArrayVec;
 use hdmi_core::Phys;
 use hdmi_cta::{
     Ext, NoHdmiBlock, with_address, with_audio, write_ext, write_with_address, write_with_audio,
 };
-use hdmi_edid::{Base, write_base};
+use hdmi_edid::{Base, append, write_base};
 
 /// Whose audio an EDID reports when it is passed on.
 #[derive(Clone, Copy, Debug, PartialEq, Eq)]

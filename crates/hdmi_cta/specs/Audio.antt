@@ -1,7 +1,8 @@
 -- The audio that an amplifier passes on in place of the television's (own; CTA-861-D, 7.5.2, lays out an
 -- audio data block, of short audio descriptors of three bytes each).
 use Rattle.std.specs.Prelude.{◌≡◌, ℕ, ◌+◌, ◌-◌, ◌==◌, ◌&&◌, Bool, true, false, nat_le, if◌then◌else◌, List, [], ◌∷◌, ◌++◌, length, take, drop, replicate, flat_map, find}
-use Rattle.std.specs.List.{before_first, list_all}
+use Rattle.std.specs.List.{before_first}
+use Rattle.hdmi_edid.specs.Bytes.{are_zeros}
 use Rattle.hdmi_edid.specs.Check.{summed}
 use Rattle.hdmi_edid.specs.Timing.{timing_bytes}
 use Rattle.hdmi_cta.specs.Block.{block_bytes}
@@ -40,7 +41,7 @@ shrinkage blocks = length (flat_map block_bytes blocks) - length (heard blocks)
 
 -- so many zeros stand at the end
 abbrev pub ends_in_zeros : ℕ → List ℕ → Bool
-ends_in_zeros n bytes = nat_le n (length bytes) && list_all (λ b. b == 0) (drop (length bytes - n) bytes)
+ends_in_zeros n bytes = nat_le n (length bytes) && are_zeros (drop (length bytes - n) bytes)
 
 -- a tail without so many of its last bytes, and with so many zeros more
 abbrev pub fitted : ℕ → ℕ → List ℕ → List ℕ

@@ -1,6 +1,6 @@
 //! The audio that an amplifier passes on in place of the television's.
 ghost use Rattle.std.specs.Prelude.{◌≡◌, ◌≤◌, ◌<◌, ◌+◌, ◌-◌, ◌++◌, ◌==◌, ◌↔◌, true, None, Some, length, flat_map, position, find, slice_set, IfSome, IfNone, IfOk, IsErr, IsTrue};
-ghost use Rattle.std.specs.List.{before_first, list_all};
+ghost use Rattle.std.specs.List.{before_first};
 ghost use Rattle.hdmi_edid.specs.Bytes.{are_bytes};
 ghost use Rattle.hdmi_edid.specs.Timing.{timing_bytes};
 ghost use Rattle.hdmi_cta.specs.Block.{block_bytes};
@@ -16,7 +16,7 @@ use crate::raw::Ext;
 use crate::reading::read_timings;
 use arrayvec::ArrayVec;
 use hdmi_core::Phys;
-use hdmi_edid::{Timing, append};
+use hdmi_edid::{Timing, append, are_zeros};
 
 /// The short audio descriptors of an amplifier's audio data block: eight channels of linear PCM, and six of AC-3.
 const AMPLIFIER_AUDIO: [u8; 6] = [0x0f, 0x7f, 0x07, 0x15, 0x07, 0x50];
@@ -74,13 +74,6 @@ fn growth(blocks: &[Block], index: usize) -> (usize, usize)
         AMPLIFIER_AUDIO.len().saturating_sub(old),
         old.saturating_sub(AMPLIFIER_AUDIO.len()),
     )
-}
-
-/// Whether all bytes are 0.
-fn are_zeros(bytes: &[u8]) -> bool
-    ensures { result ≡ list_all (λ b. b == 0) bytes.now }
-{
-    bytes.iter().all(|byte| *byte == 0)
 }
 
 /// Whether so many zeros stand at the end.

@@ -1,7 +1,7 @@
 -- What descriptors of no known form (E-EDID Release A, section 3.10.3) and extensions that are no CTA block (section 2.2.1)
 -- tell of themselves.
 use Rattle.std.specs.Prelude.{ℕ, ◌==◌, ◌&&◌, ◌||◌, nat_lt, Bool, if◌then◌else◌, List, [], ◌∷◌, ◌++◌, drop, slice_index, codes}
-use Rattle.std.specs.List.{list_all}
+use Rattle.hdmi_edid.specs.Bytes.{are_zeros}
 use Rattle.hdmi_meaning.specs.Notes.{between}
 
 -- ---- descriptors
@@ -34,7 +34,7 @@ tagged_text bytes = tag_name (slice_index bytes 3) ++ characters (slice_index by
 -- all zeros; a tag behind three zeros; or neither
 abbrev pub raw_text : List ℕ → List ℕ
 raw_text bytes =
-    if list_all (λ b. b == 0) bytes then codes "empty"
+    if are_zeros bytes then codes "empty"
     else if (slice_index bytes 0 == 0) && (slice_index bytes 1 == 0) && (slice_index bytes 2 == 0) then tagged_text bytes
     else codes "no tag"
 

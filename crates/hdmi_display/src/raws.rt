@@ -1,12 +1,11 @@
 //! What descriptors of no known form and extensions that are kept as they are tell of themselves.
-ghost use Rattle.std.specs.Prelude.{◌≡◌, ◌≤◌, ◌+◌, ◌==◌, ◌++◌, length, flat_map};
-ghost use Rattle.std.specs.List.{list_all};
+ghost use Rattle.std.specs.Prelude.{◌≡◌, ◌≤◌, ◌+◌, ◌++◌, length, flat_map};
 ghost use Rattle.arrayvec.specs.ArrayVec.{array_vec_len};
 ghost use Rattle.hdmi_meaning.specs.Notes.{indented};
 ghost use Rattle.hdmi_display.specs.Raws.{tag_name, has_characters, characters, tagged_text, raw_text, raw_meanings, cta_text, ext_text, ext_meanings};
 
 use arrayvec::ArrayVec;
-use hdmi_edid::append;
+use hdmi_edid::{append, are_zeros};
 use hdmi_meaning::{NOTE, Note, PAGE, Page, append_between, append_line, behind, byte_at};
 
 /// The only revision of a CTA block whose parts are told apart.
@@ -59,12 +58,6 @@ fn append_tagged(note: &mut Note, bytes: &[u8])
     let tag = byte_at(bytes, 3);
     append(note, tag_name(tag).as_bytes());
     append_characters(note, tag, bytes);
-}
-
-fn are_zeros(bytes: &[u8]) -> bool
-    ensures { result ≡ list_all (λ b. b == 0) bytes.now }
-{
-    bytes.iter().all(|byte| *byte == 0)
 }
 
 fn raw_note(bytes: &[u8]) -> Note

@@ -1,6 +1,6 @@
 -- The forms of a descriptor's 18 bytes (E-EDID Release A, sections 3.10.2 and 3.10.3): a detailed timing has a pixel clock that is not 0.
 use Rattle.std.specs.Prelude.{ℕ, ◌+◌, ◌==◌, Bool, ◌&&◌, ◌||◌, not, nat_lt, List, slice_index, drop}
-use Rattle.std.specs.List.{list_all}
+use Rattle.hdmi_edid.specs.Bytes.{are_zeros}
 use Rattle.hdmi_edid.specs.Chars.{is_text_form}
 
 abbrev pub is_timing : List ℕ → Bool
@@ -17,7 +17,7 @@ abbrev pub is_labelled : List ℕ → Bool
 is_labelled bytes =
     let tag = slice_index bytes 3 in
     (slice_index bytes 2 == 0) && (
-    (is_text_tag tag && has_text bytes) || (tag == 0xfd) || ((tag == 0x10) && list_all (λ b. b == 0) (drop 4 bytes)))
+    (is_text_tag tag && has_text bytes) || (tag == 0xfd) || ((tag == 0x10) && are_zeros (drop 4 bytes)))
 
 abbrev pub fits_no_form : List ℕ → Bool
 fits_no_form bytes = not (is_timing bytes) && not (is_labelled bytes)

@@ -1,10 +1,10 @@
 //! A descriptor, of 18 bytes.
-ghost use Rattle.std.specs.Prelude.{◌≡◌, ◌∷◌, ◌+◌, IsTrue, false, true, length, MatchOption, slice_index, drop, ◌==◌, replicate};
-ghost use Rattle.std.specs.List.{list_all};
+ghost use Rattle.std.specs.Prelude.{◌≡◌, ◌∷◌, ◌+◌, IsTrue, false, true, length, MatchOption, slice_index, drop, replicate};
 ghost use Rattle.hdmi_edid.specs.Bytes.{are_bytes};
 ghost use Rattle.hdmi_edid.specs.Chars.{text_bytes};
 ghost use Rattle.hdmi_edid.specs.Forms.{fits_no_form, has_text, is_labelled};
 
+use crate::parts::are_zeros;
 use crate::text::Text;
 use crate::timing::Timing;
 
@@ -52,12 +52,6 @@ fn text_in(bytes: &[u8; 18]) -> Option<Text>
         return None;
     }
     Text::read(&bytes[5..])
-}
-
-fn are_zeros(bytes: &[u8]) -> bool
-    ensures { result ≡ list_all (λ b. b == 0) bytes.now }
-{
-    bytes.iter().all(|byte| *byte == 0)
 }
 
 impl Descriptor {

@@ -1,6 +1,6 @@
 //! Descriptors, standard timings and data blocks at fault: which they are, and what stands in them.
 use hdmi_cta::{Block, BlockKind, Ext};
-use hdmi_edid::{Base, Standard};
+use hdmi_edid::{Base, Standard, are_zeros};
 use hdmi_parts::some_ill_padding;
 use std::alloc::{AllocError, Global};
 
@@ -26,7 +26,7 @@ pub fn empty_told(alloc: Global, base: &Base) -> Result<Option<String>, AllocErr
     for descriptor in &base.descriptors {
         number = number.saturating_add(1);
         let bytes = descriptor.write();
-        if bytes.iter().all(|byte| *byte == 0) {
+        if are_zeros(&bytes) {
             return Ok(Some(format!(in alloc; "descriptor {number}")?));
         }
     }

@@ -1,7 +1,8 @@
 -- What the rules ask of the base block (E-EDID Release A, section 3, unless another is named).
 use Rattle.std.specs.Prelude.{ℕ, ◌/◌, ◌%◌, ◌==◌, Bool, true, false, ◌&&◌, ◌||◌, nat_le, List, slice_get, slice_index, Option, Some, None}
-use Rattle.std.specs.List.{list_any, list_all}
+use Rattle.std.specs.List.{list_any}
 use Rattle.std.specs.Option.{option_map_or}
+use Rattle.hdmi_edid.specs.Bytes.{are_zeros}
 use Rattle.hdmi_edid.specs.Descriptor.{descriptor_bytes}
 use Rattle.hdmi_edid.specs.declared.base.Base.{Base}
 use Rattle.hdmi_edid.specs.declared.base.Revision.{Revision}
@@ -27,7 +28,7 @@ some_tagged tag b = list_any (λ d. has_tag tag d) b.descriptors
 
 -- 18 zeros
 abbrev pub is_empty : Descriptor → Bool
-is_empty d = list_all (λ b. b == 0) (descriptor_bytes d)
+is_empty d = are_zeros (descriptor_bytes d)
 
 abbrev pub is_timed : Descriptor → Bool
 is_timed (Timing t) = true

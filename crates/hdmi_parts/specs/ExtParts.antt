@@ -1,7 +1,8 @@
 -- What the rules ask of extensions (CTA-861-D, section 7.5, unless another is named).
 use Rattle.std.specs.Prelude.{ℕ, zero, suc, ◌/◌, ◌%◌, ◌==◌, Bool, true, false, ◌&&◌, not, nat_lt, if◌then◌else◌, List, [], ◌∷◌, ◌++◌, length, take, drop, slice_get, slice_index, flat_map, sum_by, count_by}
-use Rattle.std.specs.List.{list_any, list_all}
+use Rattle.std.specs.List.{list_any}
 use Rattle.std.specs.Option.{option_map_or}
+use Rattle.hdmi_edid.specs.Bytes.{are_zeros}
 use Rattle.hdmi_edid.specs.declared.base.Base.{Base}
 use Rattle.hdmi_edid.specs.declared.descriptor.Descriptor.{Descriptor}
 use Rattle.hdmi_edid.specs.declared.descriptor.Descriptor.TheVariants.{Timing as OfTiming}
@@ -29,9 +30,6 @@ begins_with_map xs = option_map_or is_block_map (slice_get xs 0) false
 abbrev pub overscans : Ext → Bool
 overscans (Cta c) = nat_lt c.flags 128
 overscans _ = false
-
-abbrev pub are_zeros : List ℕ → Bool
-are_zeros bytes = list_all (λ b. b == 0) bytes
 
 -- a dummy descriptor: tag 10 and zeros (E-EDID Release A, section 3.10.3)
 abbrev pub is_dummy : List ℕ → Bool

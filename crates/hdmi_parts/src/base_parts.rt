@@ -1,9 +1,9 @@
 //! What the rules ask of the base block.
-ghost use Rattle.std.specs.Prelude.{◌≡◌, ◌==◌};
-ghost use Rattle.std.specs.List.{list_any, list_all};
+ghost use Rattle.std.specs.Prelude.{◌≡◌};
+ghost use Rattle.std.specs.List.{list_any};
 ghost use Rattle.hdmi_parts.specs.BaseParts.{is_three, has_tag, some_tagged, is_empty, is_timed, begins_with_timing, is_continuous, prefers_first, claims_srgb, is_srgb, is_ill_unused, has_established_vga, is_formula, names_formula};
 
-use hdmi_edid::{Base, Chroma, Descriptor, Revision, Standard};
+use hdmi_edid::{Base, Chroma, Descriptor, Revision, Standard, are_zeros};
 
 /// The tag of a descriptor with the serial number.
 pub const SERIAL_TAG: u8 = 0xff;
@@ -24,12 +24,6 @@ fn has_tag(tag: u8, descriptor: &Descriptor) -> bool
 {
     let bytes = descriptor.write();
     bytes[0] == 0 && bytes[1] == 0 && bytes[3] == tag
-}
-
-pub fn are_zeros(bytes: &[u8]) -> bool
-    ensures { result ≡ list_all (λ b. b == 0) bytes.now }
-{
-    bytes.iter().all(|byte| *byte == 0)
 }
 
 fn is_empty(descriptor: &Descriptor) -> bool

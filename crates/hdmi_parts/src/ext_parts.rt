@@ -5,9 +5,9 @@ ghost use Rattle.hdmi_cta.specs.Hdmi.{blocks_of, is_hdmi};
 ghost use Rattle.hdmi_parts.specs.BlockParts.{is_sought};
 ghost use Rattle.hdmi_parts.specs.ExtParts.{is_cta, is_block_map, begins_with_map, overscans, is_dummy, after_dummies, is_padding, has_ill_padding, native_count, hides_sound, some_block, hdmi_count, has_forum_first};
 
-use crate::base_parts::are_zeros;
 use crate::block_parts::{Sought, begins_with_forum, is_sought};
 use hdmi_cta::{Block, Ext};
+use hdmi_edid::are_zeros;
 
 /// The first byte of an extension that is a block map.
 const BLOCK_MAP_TAG: u8 = 0xf0;

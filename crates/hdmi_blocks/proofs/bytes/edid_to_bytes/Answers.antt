@@ -8,7 +8,9 @@ append-requires-in-loop-ext c =
     let items = ap length c.as_slice-ext-items.ensures.value in
     let test = c.loop-ext-test.true in
     let there : c.loop-ext.ext-index < length c.args.edid.now.extensions.items = omega (arith, items, test) in
-    room c.args.edid.now c.loop-ext.ext-index c.loop-ext.bytes.items c.loop-ext.invariant there
+    let room = room c.args.edid.now c.loop-ext.ext-index c.loop-ext.bytes.items c.loop-ext.invariant there in
+    let block = ap length c.write_ext.ensures in
+    (omega arith, omega (arith, room))
 
 pub loop-ext-preserved : goal.loop-ext-preserved
 loop-ext-preserved c =
