@@ -7,7 +7,7 @@ use Rattle.hdmi_lines.specs.declared.line.Line.{Line}
 use Rattle.hdmi_lines.specs.declared.line.Word.{Word}
 use Rattle.hdmi_lines.specs.declared.line.Word.TheVariants.{Edid, Maker, Product, Serial, Made, Input, Size, Gamma, Features, Chroma, Established, Standard, Timing, Name, Text, SerialText, Range, Dummy, Raw, Cta, CtaNone, Tag0, Audio, Video, Vendor, Speakers, Tag5, Tag6, Extended, Hdmi, Tail, Ext}
 use Rattle.hdmi_blocks.specs.declared.edid.Edid.{Edid as WholeEdid}
-use Rattle.hdmi_edtext.specs.Cut.{lines_of}
+use Rattle.hdmi_edtext.specs.Cut.{lines_with_feeds}
 use Rattle.hdmi_edtext.specs.Lines.{edid_lines, edid_text}
 use Rattle.hdmi_edtext.proofs.CutTexts.{line_split, one_line_of}
 use Rattle.hdmi_edtext.proofs.Good.{has_no_feed, Good, EachGood, edid_good}
@@ -35,10 +35,10 @@ no_feed : (t : List ℕ) → has_no_feed (map printable t) ≡ true
 no_feed [] = refl
 no_feed (b ∷ t) = and (not (printable b == 10)) (has_no_feed (map printable t)) (printed b) (no_feed t)
 
-one_below : (t rest : List ℕ) → lines_of (indented t ++ rest) ≡ indented t ∷ lines_of rest
+one_below : (t rest : List ℕ) → lines_with_feeds (indented t ++ rest) ≡ indented t ∷ lines_with_feeds rest
 one_below t rest =
     let w = 32 ∷ 32 ∷ map printable t in
-    ap lines_of (append_assoc w (10 ∷ []) rest) ∙ line_split w rest (no_feed t)
+    ap lines_with_feeds (append_assoc w (10 ∷ []) rest) ∙ line_split w rest (no_feed t)
 
 -- ---- lines below are no plain lines
 
@@ -95,7 +95,7 @@ kept x xs h = at (is_plain x) h
 line_kept : (l : Line) (rest : List ℕ) → Good l → plain_text (line_text l ++ rest) ≡ line_text l ++ plain_text rest
 line_kept l rest good =
     ap (λ ls. flat_map (λ line. line) (filter is_plain ls)) (one_line_of l rest good)
-    ∙ kept (line_text l) (lines_of rest) (word_plain l.word (fields_text l.fields ++ (10 ∷ [])))
+    ∙ kept (line_text l) (lines_with_feeds rest) (word_plain l.word (fields_text l.fields ++ (10 ∷ [])))
 
 -- a text of lines, whatever stands below them
 pub lines_kept : (below : Line → List (List ℕ)) (ls : List Line) → EachGood ls → plain_text (flat_map (λ l. line_text l ++ flat_map indented (below l)) ls) ≡ flat_map line_text ls

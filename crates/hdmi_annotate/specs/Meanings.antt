@@ -8,7 +8,7 @@ use Rattle.hdmi_lines.specs.declared.line.Word.{Word}
 use Rattle.hdmi_lines.specs.declared.line.Word.TheVariants.{Input, Features, Established, Range, Raw, Cta, CtaNone, Audio, Video, Speakers, Vendor, Extended, Ext, Made, Size, Gamma, Chroma, Standard}
 use Rattle.hdmi_lines.specs.declared.line.Fields.{Fields}
 use Rattle.hdmi_lines.specs.declared.line.Fields.TheVariants.{Numbers, Timed, Bytes, Address}
-use Rattle.hdmi_edtext.specs.Cut.{lines_of}
+use Rattle.hdmi_edtext.specs.Cut.{lines_with_feeds}
 use Rattle.hdmi_edtext.specs.Lines.{part_lines}
 use Rattle.hdmi_meaning.specs.Notes.{indented}
 use Rattle.hdmi_meaning.specs.Timings.{timing_meanings}
@@ -78,4 +78,4 @@ is_plain line = not (slice_index line 0 == 32)
 
 -- a text's lines that do not begin with a space, as `grep -v '^ '` leaves them
 abbrev pub plain_text : List ℕ → List ℕ
-plain_text text = flat_map (λ line. line) (filter is_plain (lines_of text))
+plain_text text = flat_map (λ line. line) (filter is_plain (lines_with_feeds text))

@@ -2,7 +2,7 @@
 use Rattle.std.specs.Prelude.{◌≡◌, ℕ, ◌<◌, Bool, true, false, List, length, take, Option, Result, Ok, Err}
 use Rattle.std.specs.Io.KnownBytes.{Appends}
 use Rattle.hdmi_blocks.specs.Bytes.{edid_bytes, IsRefused}
-use Rattle.hdmi_edtext.specs.Cut.{lines_of}
+use Rattle.hdmi_edtext.specs.Cut.{lines_with_feeds}
 use Rattle.hdmi_edtext.specs.Lines.{edid_text}
 use Rattle.hdmi_edtext.specs.Refusal.{IsRefusal}
 use Rattle.hdmi_blocks.specs.declared.edid.Edid.{Edid as EdidValue}
@@ -41,7 +41,7 @@ text_told texts.Memory = hex.Memory
 
 -- the text is no EDID's, for its first line at fault
 abbrev pub IsNoText : List ℕ → TextError → Type 0
-IsNoText text cause = IsRefusal (lines_of text) cause × ((e : EdidValue) → edid_text e ≡ text → ⊥)
+IsNoText text cause = IsRefusal (lines_with_feeds text) cause × ((e : EdidValue) → edid_text e ≡ text → ⊥)
 
 -- The text is an EDID's, which is written in a form, whole or its front; or it is none, and nothing is written. Reading
 -- a text takes no memory.

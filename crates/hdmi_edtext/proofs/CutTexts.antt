@@ -7,7 +7,7 @@ use Rattle.hex.specs.Hex.{encode_lower, encode_with, lower_digits}
 use Rattle.hdmi_edid.proofs.PartLemmas.{both}
 use Rattle.hdmi_core.specs.Piece.{nibble_text, phys_text}
 use Rattle.hdmi_core.specs.declared.phys.Phys.{Phys}
-use Rattle.hdmi_edtext.specs.Cut.{lines_of, onto_line}
+use Rattle.hdmi_edtext.specs.Cut.{lines_with_feeds, onto_line}
 use Rattle.hdmi_lines.specs.Formed.{form_of, FormedFields, are_numbers}
 use Rattle.hdmi_lines.specs.Text.{word_text, number_text, hex_word, fields_text, line_text}
 use Rattle.hdmi_lines.specs.declared.line.Fields.{Fields}
@@ -24,26 +24,26 @@ joined_onto : (b : ℕ) (ls : List (List ℕ)) → flat_map (λ x. x) (onto_line
 joined_onto b [] = refl
 joined_onto b (x ∷ xs) = refl
 
-pub joined : (text : List ℕ) → flat_map (λ x. x) (lines_of text) ≡ text
+pub joined : (text : List ℕ) → flat_map (λ x. x) (lines_with_feeds text) ≡ text
 joined [] = refl
 joined (b ∷ bs) = cases (joined bs) (b == 10)
   where
-    cases : flat_map (λ x. x) (lines_of bs) ≡ bs → (v : Bool) → flat_map (λ x. x) (cond v ((b ∷ []) ∷ lines_of bs) (onto_line b (lines_of bs))) ≡ b ∷ bs
+    cases : flat_map (λ x. x) (lines_with_feeds bs) ≡ bs → (v : Bool) → flat_map (λ x. x) (cond v ((b ∷ []) ∷ lines_with_feeds bs) (onto_line b (lines_with_feeds bs))) ≡ b ∷ bs
     cases h true = ap (λ x. b ∷ x) h
-    cases h false = joined_onto b (lines_of bs) ∙ ap (λ x. b ∷ x) h
+    cases h false = joined_onto b (lines_with_feeds bs) ∙ ap (λ x. b ∷ x) h
 
 pub joined_lines : (ls : List Line) → flat_map (λ x. x) (map line_text ls) ≡ flat_map line_text ls
 joined_lines [] = refl
 joined_lines (l ∷ ls) = ap (λ t. line_text l ++ t) (joined_lines ls)
 
-pub line_split : (w rest : List ℕ) → has_no_feed w ≡ true → lines_of (w ++ (10 ∷ rest)) ≡ (w ++ (10 ∷ [])) ∷ lines_of rest
+pub line_split : (w rest : List ℕ) → has_no_feed w ≡ true → lines_with_feeds (w ++ (10 ∷ rest)) ≡ (w ++ (10 ∷ [])) ∷ lines_with_feeds rest
 line_split [] rest h = refl
 line_split (c ∷ w) rest h =
     let p = both (not (c == 10)) (has_no_feed w) h in
     cases (line_split w rest p.1) (c == 10) p.0
   where
-    cases : lines_of (w ++ (10 ∷ rest)) ≡ (w ++ (10 ∷ [])) ∷ lines_of rest → (v : Bool) → not v ≡ true
-        → cond v ((c ∷ []) ∷ lines_of (w ++ (10 ∷ rest))) (onto_line c (lines_of (w ++ (10 ∷ rest)))) ≡ (c ∷ (w ++ (10 ∷ []))) ∷ lines_of rest
+    cases : lines_with_feeds (w ++ (10 ∷ rest)) ≡ (w ++ (10 ∷ [])) ∷ lines_with_feeds rest → (v : Bool) → not v ≡ true
+        → cond v ((c ∷ []) ∷ lines_with_feeds (w ++ (10 ∷ rest))) (onto_line c (lines_with_feeds (w ++ (10 ∷ rest)))) ≡ (c ∷ (w ++ (10 ∷ []))) ∷ lines_with_feeds rest
     cases e true h = absurd (no h)
       where
         no : false ≡ true → ⊥
@@ -203,14 +203,14 @@ fields_feed form (Timed numbers flags) h k =
     fits OfAddress h = absurd h
     fits OfQuoted h = absurd h
 
-pub one_line_of : (l : Line) (rest : List ℕ) → Good l → lines_of (line_text l ++ rest) ≡ line_text l ∷ lines_of rest
+pub one_line_of : (l : Line) (rest : List ℕ) → Good l → lines_with_feeds (line_text l ++ rest) ≡ line_text l ∷ lines_with_feeds rest
 one_line_of l rest h =
     let w = word_text l.word ++ fields_text l.fields in
     let ok = feed-append (word_text l.word) (fields_text l.fields) (clean_feed (word_text l.word) (word_clean l.word)) (fields_feed (form_of l.word) l.fields h.0 h.1) in
     let whole : w ++ (10 ∷ []) ≡ line_text l = append_assoc (word_text l.word) (fields_text l.fields) (10 ∷ []) in
     let more : w ++ (10 ∷ rest) ≡ line_text l ++ rest = sym (append_assoc w (10 ∷ []) rest) ∙ ap (λ x. x ++ rest) whole in
-    ap lines_of (sym more) ∙ line_split w rest ok ∙ ap (λ x. x ∷ lines_of rest) whole
+    ap lines_with_feeds (sym more) ∙ line_split w rest ok ∙ ap (λ x. x ∷ lines_with_feeds rest) whole
 
-pub lines_again : (ls : List Line) → EachGood ls → lines_of (flat_map line_text ls) ≡ map line_text ls
+pub lines_again : (ls : List Line) → EachGood ls → lines_with_feeds (flat_map line_text ls) ≡ map line_text ls
 lines_again [] h = refl
 lines_again (l ∷ ls) h = one_line_of l (flat_map line_text ls) h.0 ∙ ap (λ x. line_text l ∷ x) (lines_again ls h.1)

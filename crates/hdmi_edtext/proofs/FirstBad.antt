@@ -1,7 +1,7 @@
 -- Where reading stops, the first bad line stands.
 use Rattle.std.proofs.Common.{◌≡◌, ℕ, ◌+◌, ◌≤◌, List, [], ◌∷◌, ◌++◌, length, map, drop, get_or, flat_map, Option, Some, None, ap, subst, arith, sym, ◌∙◌, append_assoc, append-nil, length-append}
 use Rattle.std.proofs.lemmas.List.{length-map, map-append}
-use Rattle.hdmi_edtext.specs.Cut.{lines_of}
+use Rattle.hdmi_edtext.specs.Cut.{lines_with_feeds}
 use Rattle.hdmi_edtext.specs.Drafts.{draft_lines, Follows}
 use Rattle.hdmi_lines.specs.Formed.{Formed}
 use Rattle.hdmi_edtext.specs.Lines.{edid_lines, edid_text}
@@ -143,14 +143,14 @@ no_bad all n b e h = go b.after b.all b.none
     go [] k none = none e (h ∙ k ∙ append-nil b.before)
     go (x ∷ xs) k none = none e xs (h ∙ k)
 
-pub cut_again : (e : Edid) (text : List ℕ) → text ≡ edid_text e → line_texts e ≡ lines_of text
-cut_again e text h = sym (ap lines_of h ∙ lines_again (edid_lines e) (edid_good e))
+pub cut_again : (e : Edid) (text : List ℕ) → text ≡ edid_text e → line_texts e ≡ lines_with_feeds text
+cut_again e text h = sym (ap lines_with_feeds h ∙ lines_again (edid_lines e) (edid_good e))
 
 -- a text whose lines were all told
-pub found_text : (a : Edid) (ls : List Line) (text : List ℕ) → edid_lines a ≡ ls → lines_of text ≡ map line_text ls ++ [] → edid_text a ≡ text
+pub found_text : (a : Edid) (ls : List Line) (text : List ℕ) → edid_lines a ≡ ls → lines_with_feeds text ≡ map line_text ls ++ [] → edid_text a ≡ text
 found_text a ls text h k =
     ap (flat_map line_text) h ∙ sym (joined_lines ls) ∙ ap (flat_map (λ x. x)) (sym (k ∙ append-nil (map line_text ls))) ∙ joined text
 
-pub only_one : (a : Edid) (ls : List Line) (text : List ℕ) → AreTold ls → edid_lines a ≡ ls → lines_of text ≡ map line_text ls ++ [] → (e : Edid) → text ≡ edid_text e → a ≡ e
+pub only_one : (a : Edid) (ls : List Line) (text : List ℕ) → AreTold ls → edid_lines a ≡ ls → lines_with_feeds text ≡ map line_text ls ++ [] → (e : Edid) → text ≡ edid_text e → a ≡ e
 only_one a ls text told h k e is =
     one_lines a e (h ∙ sym (all_told e ls told (cut_again e text is ∙ k ∙ append-nil (map line_text ls))))

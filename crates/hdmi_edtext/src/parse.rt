@@ -1,7 +1,7 @@
 //! Reading an EDID's text.
 ghost use Rattle.std.specs.Prelude.{◌≡◌, ◌<◌, ◌+◌, [], ◌∷◌, IfOk, IfErr, IfSome, Ok, MatchOption, length, position, ◌==◌};
 ghost use Rattle.hdmi_edtext.specs.Lines.{edid_lines, edid_text};
-ghost use Rattle.hdmi_edtext.specs.Cut.{lines_of};
+ghost use Rattle.hdmi_edtext.specs.Cut.{lines_with_feeds};
 ghost use Rattle.hdmi_blocks.specs.declared.edid.Edid.{Edid as EdidValue};
 ghost use Rattle.hdmi_edtext.specs.Refusal.{IsRefusal, IsFaultAt};
 
@@ -47,7 +47,7 @@ fn end_of(text: &[u8]) -> Option<usize>
 
 /// The first line with its line feed, if it has one, and the text behind it. An empty text has none.
 fn first_line(text: &[u8]) -> Option<(&[u8], &[u8])>
-    ensures lines { MatchOption result (lines_of text.now ≡ []) (λ p. lines_of text.now ≡ p.0.now ∷ lines_of p.1.now) }
+    ensures lines { MatchOption result (lines_with_feeds text.now ≡ []) (λ p. lines_with_feeds text.now ≡ p.0.now ∷ lines_with_feeds p.1.now) }
     ensures shorter { IfSome result (λ p. length p.1.now < length text.now) }
 {
     if text.is_empty() {
@@ -64,7 +64,7 @@ fn first_line(text: &[u8]) -> Option<(&[u8], &[u8])>
 pub fn parse_text(_alloc: Global, text: &[u8]) -> Result<Edid, TextError>
     ensures found { IfOk result (λ e. edid_text e ≡ text.now) }
     ensures only { (e : EdidValue) → text.now ≡ edid_text e → result ≡ Ok e }
-    ensures refused { IfErr result (λ e. IsRefusal (lines_of text.now) e) }
+    ensures refused { IfErr result (λ e. IsRefusal (lines_with_feeds text.now) e) }
 {
     let mut draft = Draft::new();
     let mut rest = text;

@@ -1,5 +1,5 @@
 use Rattle.std.proofs.Common.{◌++◌, length, map, Ok, ap, subst, sym, ◌∙◌, arith}
-use Rattle.hdmi_edtext.specs.Cut.{lines_of}
+use Rattle.hdmi_edtext.specs.Cut.{lines_with_feeds}
 use Rattle.hdmi_edtext.specs.Drafts.{draft_lines}
 use Rattle.hdmi_edtext.specs.Refusal.{IsFaultAt}
 use Rattle.hdmi_lines.specs.Text.{line_text}
@@ -12,7 +12,7 @@ loop-line-init c =
     let none = c.new-draft.ensures in
     let len = ap length none in
     record {
-      lines = ap (λ ls. map line_text ls ++ lines_of c.args.text.now) (sym none);
+      lines = ap (λ ls. map line_text ls ++ lines_with_feeds c.args.text.now) (sym none);
       count = omega (arith, len);
       few = omega arith;
       told = no_lines_told (draft_lines c.new-draft.result) none;
@@ -22,9 +22,9 @@ pub returns-in_default-read_line-clause-only : goal.returns-in_default-read_line
 returns-in_default-read_line-clause-only c =
     let i = c.loop-line.invariant in
     let d = c.loop-line.draft in
-    let all = lines_of c.args.text.now in
+    let all = lines_with_feeds c.args.text.now in
     let line = c.in-Some.line.now in
-    let more = lines_of c.in-Some.more.now in
+    let more = lines_with_feeds c.in-Some.more.now in
     let lines = i.lines ∙ ap (λ x. map line_text (draft_lines d) ++ x) c.in-Some.ensures.lines in
     let none = unread (draft_lines d) c.in-Some.line.now c.in_default-read_line.ensures.only in
     λ e h. absurd (no_bad all c.loop-line.number (bad_by d all line more c.loop-line.number i.told lines i.count none) e (cut_again e c.args.text.now h))
@@ -33,9 +33,9 @@ pub returns-in_default-read_line-clause-refused : goal.returns-in_default-read_l
 returns-in_default-read_line-clause-refused c =
     let i = c.loop-line.invariant in
     let d = c.loop-line.draft in
-    let all = lines_of c.args.text.now in
+    let all = lines_with_feeds c.args.text.now in
     let line = c.in-Some.line.now in
-    let more = lines_of c.in-Some.more.now in
+    let more = lines_with_feeds c.in-Some.more.now in
     let lines = i.lines ∙ ap (λ x. map line_text (draft_lines d) ++ x) c.in-Some.ensures.lines in
     let none = unread (draft_lines d) c.in-Some.line.now c.in_default-read_line.ensures.only in
     let at = subst (λ p. IsFaultAt p line c.loop-line.number c.fault.result) c.place-place.ensures c.fault.ensures in
@@ -45,9 +45,9 @@ pub returns-in_default-put-clause-only : goal.returns-in_default-put-clause-only
 returns-in_default-put-clause-only c =
     let i = c.loop-line.invariant in
     let d = c.loop-line.draft in
-    let all = lines_of c.args.text.now in
+    let all = lines_with_feeds c.args.text.now in
     let line = c.in-Some.line.now in
-    let more = lines_of c.in-Some.more.now in
+    let more = lines_with_feeds c.in-Some.more.now in
     let lines = i.lines ∙ ap (λ x. map line_text (draft_lines d) ++ x) c.in-Some.ensures.lines in
     let none = misplaced (draft_lines d) c.in-Some.line.now c.in-Some-read_line.read c.in-Some-read_line.ensures.only c.in_default-put.ensures in
     λ e h. absurd (no_bad all c.loop-line.number (bad_by d all line more c.loop-line.number i.told lines i.count none) e (cut_again e c.args.text.now h))
@@ -56,9 +56,9 @@ pub returns-in_default-put-clause-refused : goal.returns-in_default-put-clause-r
 returns-in_default-put-clause-refused c =
     let i = c.loop-line.invariant in
     let d = c.loop-line.draft in
-    let all = lines_of c.args.text.now in
+    let all = lines_with_feeds c.args.text.now in
     let line = c.in-Some.line.now in
-    let more = lines_of c.in-Some.more.now in
+    let more = lines_with_feeds c.in-Some.more.now in
     let lines = i.lines ∙ ap (λ x. map line_text (draft_lines d) ++ x) c.in-Some.ensures.lines in
     let none = misplaced (draft_lines d) c.in-Some.line.now c.in-Some-read_line.read c.in-Some-read_line.ensures.only c.in_default-put.ensures in
     let at = subst (λ p. IsFaultAt p line c.loop-line.number c.fault-in_default-put.result) c.place-place.ensures c.fault-in_default-put.ensures in
@@ -75,7 +75,7 @@ loop-line-preserved c =
     let count = count_so (draft_lines d) (draft_lines next) read c.loop-line.number i.count c.in-Some-put.ensures in
     let few = few_told next in
     record {
-      lines = lines_so (draft_lines d) (draft_lines next) read line (lines_of c.args.text.now) (lines_of c.in-Some.more.now) lines c.in-Some-put.ensures c.in-Some-read_line.ensures.found;
+      lines = lines_so (draft_lines d) (draft_lines next) read line (lines_with_feeds c.args.text.now) (lines_with_feeds c.in-Some.more.now) lines c.in-Some-put.ensures c.in-Some-read_line.ensures.found;
       count = count;
       few = omega (arith, count, few);
       told = one_more_told (draft_lines d) (draft_lines next) read line i.told c.in-Some-put.ensures c.in-Some-read_line.ensures.found c.in-Some-read_line.ensures.only;
@@ -98,12 +98,12 @@ returns-in-None-clause-only c =
     let i = c.loop-line.invariant in
     let d = c.loop-line.draft in
     let lines = i.lines ∙ ap (λ x. map line_text (draft_lines d) ++ x) c.in_default.ensures.lines in
-    let bad = unfinished d (lines_of c.args.text.now) c.loop-line.number i.told lines i.count c.in-None.ensures in
-    λ e h. absurd (no_bad (lines_of c.args.text.now) c.loop-line.number bad e (cut_again e c.args.text.now h))
+    let bad = unfinished d (lines_with_feeds c.args.text.now) c.loop-line.number i.told lines i.count c.in-None.ensures in
+    λ e h. absurd (no_bad (lines_with_feeds c.args.text.now) c.loop-line.number bad e (cut_again e c.args.text.now h))
 
 pub returns-in-None-clause-refused : goal.returns-in-None-clause-refused
 returns-in-None-clause-refused c =
     let i = c.loop-line.invariant in
     let d = c.loop-line.draft in
     let lines = i.lines ∙ ap (λ x. map line_text (draft_lines d) ++ x) c.in_default.ensures.lines in
-    refusal_at_end d (lines_of c.args.text.now) c.loop-line.number i.told lines i.count c.in-None.ensures
+    refusal_at_end d (lines_with_feeds c.args.text.now) c.loop-line.number i.told lines i.count c.in-None.ensures
