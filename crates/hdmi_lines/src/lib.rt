@@ -5,5 +5,5 @@ mod line;
 mod line_to_text;
 mod text_to_line;
 
-pub use line::{Fields, Form, Line, Word};
+pub use line::{Fields, Form, Line, WORD_TEXTS, Word};
 pub use text_to_line::{read_line, space_in, word_of};

@@ -132,6 +132,12 @@ macro_rules! listed {
     };
 }
 
+macro_rules! spelled {
+    ($unused:expr, $($word:ident $text:literal $form:ident;)*) => {
+        &[$($text,)*]
+    };
+}
+
 macro_rules! form_match {
     ($at:expr, $($word:ident $text:literal $form:ident;)*) => {
         match $at {
@@ -150,6 +156,9 @@ macro_rules! text_match {
 
 /// All words.
 pub const WORDS: [Word; 32] = words!(listed, 0);
+
+/// All words, as they stand in a text.
+pub const WORD_TEXTS: &[&str] = words!(spelled, 0);
 
 impl Word {
     /// What stands behind the word.

@@ -1,6 +1,7 @@
 //! The forms of the lines of topologies, scripts and steps. A word in capitals stands for a value.
 use cec_feature::KeyWord;
 use hdmi_core::Kind;
+use hdmi_lines::WORD_TEXTS;
 
 /// The lines of a topology.
 pub const TOPOLOGY: &[&str] = &[
@@ -80,40 +81,7 @@ pub const KEYWORDS: &[&str] = &[
 ];
 
 /// The words that the lines of an EDID's text begin with.
-pub const EDID_WORDS: &[&str] = &[
-    "edid",
-    "maker",
-    "product",
-    "serial",
-    "made",
-    "input",
-    "size",
-    "gamma",
-    "features",
-    "chroma",
-    "established",
-    "standard",
-    "timing",
-    "name",
-    "text",
-    "serial-text",
-    "range",
-    "dummy",
-    "raw",
-    "cta",
-    "cta-none",
-    "tag0",
-    "audio",
-    "video",
-    "vendor",
-    "speakers",
-    "tag5",
-    "tag6",
-    "extended",
-    "hdmi",
-    "tail",
-    "ext",
-];
+pub const EDID_WORDS: &[&str] = WORD_TEXTS;
 
 // Whether a word of a form stands for a value.
 fn is_value(wanted: &str) -> bool {
