@@ -57,7 +57,7 @@ def limits(b, four):
 
 def is_outside(span, count, per):
     """a rate of count / per is a unit and more outside"""
-    if per == 0:
+    if per == 0 or span[1] == 0 or span[1] < span[0]:
         return False
     return count <= (span[0] - 1) * per or count >= (span[1] + 1) * per
 
@@ -113,6 +113,11 @@ def multichannel(data):
     return any(data[i] >> 3 & 15 == 1 and data[i] & 7 > 1 for i in range(0, len(data) - 2, 3))
 
 
+def is_sound(tag, data):
+    """audio, speakers, or one of the extended tags that tell of audio"""
+    return tag in (1, 4) or tag == 7 and len(data) > 0 and 17 <= data[0] <= 20
+
+
 def is_mixed(count, timings, native_codes):
     """the first timings and the native codes are of several sizes, with one field or with two"""
     sizes = {(t.h_active, t.v_active * (1 + t.interlaced), t.interlaced) for t in timings[:count]}
@@ -153,6 +158,8 @@ def edid_findings(e, is_port):
         yield 'fail', 'no-range-limits'
     if four and not features & 1 and any(d[2] == 0 and d[3] == 0xFD and d[10] in (0, 2, 4) for d in shown):
         yield 'fail', 'gtf-fixed'
+    if any(span[1] < span[0] for spans in limits(b, four) for span in spans):
+        yield 'fail', 'limits-reversed'
     if not four and b[16] in (54, 255):
         yield 'fail', 'week-of-1.4'
     if bool(features & 4) != (chroma(b) == SRGB):
@@ -170,7 +177,8 @@ def edid_findings(e, is_port):
         yield 'warn', 'two-serials'
     if ctas and not b[35] & 0x20 and not any(tag == 2 and {1, 129} & set(data) for tag, data in blocks):
         yield 'fail', 'no-640x480'
-    if len(set(codes)) < len(codes):
+    formats = [c for c in codes if c]
+    if len(set(formats)) < len(formats):
         yield 'fail', 'vic-twice'
     if any(x['flags'] & 15 > len(timings) for x in full):
         yield 'fail', 'native-count'
@@ -179,7 +187,7 @@ def edid_findings(e, is_port):
         yield 'fail', 'native-mixed'
     if any(x['flags'] < 128 for x in full):
         yield 'warn', 'overscan'
-    if any(not x['flags'] & 0x40 and any(tag in (1, 4) for _, tag, _ in x['blocks']) for x in full):
+    if any(not x['flags'] & 0x40 and any(is_sound(tag, data) for _, tag, data in x['blocks']) for x in full):
         yield 'fail', 'no-basic-audio'
     speakers = [data for tag, data in blocks if tag == 4]
     many = any(multichannel(data) for tag, data in blocks if tag == 1)

@@ -23,6 +23,7 @@ RULES = {
     'no-name': 'Missing Display Product Name',
     'no-range-limits': 'Missing Display Range Limits',
     'gtf-fixed': "can't be combined with non-continuous frequencies",
+    'limits-reversed': 'Min (vertical rate|horizontal freq) > max',
     'week-of-1.4': 'EDID 1.3 does not support week',
     'srgb': 'sRGB is signaled, but the chrom|match sRGB, but sRGB',
     'empty-descriptor': 'Use Dummy Descriptor instead of all zeroes',

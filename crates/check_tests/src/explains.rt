@@ -10,6 +10,7 @@ use std::process::Abort;
 pub(crate) const EXPLAINED: &str = "\
 tv => none
 tv 0=01 => none
+tv 113=3d 114=17 => fail limits-reversed/  the greatest rate of range limits is not below the least (E-EDID A, 3.10.3.3)/  here: 61 to 23 Hz, 15 to 68 kHz/
 tv 16=36 => fail week-of-1.4/  in 1.3 the week is at most 53; 54, and 255 for a model year, came with 1.4 (E-EDID A, 3.4.4)/  here: week 54/
 tv 24=0a => fail srgb/  bit 2 of the features is set exactly where the chromaticities are those of sRGB (E-EDID A, 3.6.4)/  here: features 0a/
 tv 93=fe => fail no-name/  a descriptor with tag fc has the product's name (E-EDID A, 3.10.3)/

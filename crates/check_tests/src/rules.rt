@@ -20,6 +20,11 @@ tv 19=04 146=04 118=04 => fail gtf-fixed;
 tv 19=04 146=04 118=01 => none
 tv 19=04 146=04 118=03 => none
 tv 19=04 146=04 118=00 24=0f => none
+tv 113=3d 114=3c => fail limits-reversed;
+tv 113=3d 114=00 => fail limits-reversed;
+tv 115=44 116=43 => fail limits-reversed;
+tv 113=3d 114=17 115=44 116=0f => fail limits-reversed;
+tv 19=04 146=04 118=01 113=3d 114=3c => fail limits-reversed;
 tv 16=35 => none
 tv 16=36 => fail week-of-1.4;
 tv 16=fe => none
@@ -70,6 +75,8 @@ tv 135=05 => none
 tv 134=c1 135=41 => none
 tv 134=c0 135=40 => fail vic-twice;
 tv 134=80 135=00 => none
+tv 134=00 135=00 => none
+tv 134=80 135=80 => fail vic-twice;
 tv 72=023a801871382d40582c450008222100001e 131=f2 => none
 tv 72=023a801871382d40582c450008222100001e 131=f3 => fail native-count;
 tv 72=023a801871382d40582c450008222100001e 131=ff => fail native-count;
@@ -80,6 +87,13 @@ tv 131=b1 => fail no-basic-audio;
 tv 131=b1 137=03 => fail no-basic-audio;
 tv 131=b1 141=03 => fail no-basic-audio;
 tv 131=b1 137=03 141=03 => none
+tv 131=b1 137=03 141=e310 => none
+tv 131=b1 137=03 141=e311 => fail no-basic-audio;
+tv 131=b1 137=03 141=e312 => fail no-basic-audio;
+tv 131=b1 137=03 141=e313 => fail no-basic-audio;
+tv 131=b1 137=03 141=e314 => fail no-basic-audio;
+tv 131=b1 137=03 141=e315 => none
+tv 131=b1 137=03 141=c312 => none
 tv 138=0f => none
 tv 141=03 => none
 tv 138=0f 141=03 => fail speakers;

@@ -41,7 +41,12 @@ tv 115=2d => none
 tv 115=2e => fail timing 2 out-of-range;
 tv 19=04 146=04 118=01 114=3b => warn timing 1 out-of-range;warn timing 2 out-of-range;
 tv 19=04 146=04 118=01 112=02 114=00 => none
-tv 112=02 114=00 => fail timing 1 out-of-range;fail timing 2 out-of-range;
+tv 112=02 114=00 => fail limits-reversed;
+tv 113=00 114=00 => none
+tv 113=00 114=01 => fail timing 1 out-of-range;fail timing 2 out-of-range;
+tv 115=00 116=00 => none
+tv 115=00 116=01 => fail timing 1 out-of-range;fail timing 2 out-of-range;
+tv 19=04 146=04 118=01 112=02 113=3d 114=3c => warn timing 1 out-of-range;warn timing 2 out-of-range;
 tv 19=04 146=04 118=01 112=03 => warn timing 1 out-of-range;warn timing 2 out-of-range;
 tv 19=04 146=04 118=01 112=08 116=00 => none
 tv 19=04 146=04 118=01 112=0c => warn timing 1 out-of-range;warn timing 2 out-of-range;

@@ -11,7 +11,7 @@ use Rattle.hdmi_check.specs.Findings.{rule_findings, timing_findings, edid_findi
 use Rattle.hdmi_check.specs.Laws.{IsAmong, NoneTwice, breaks_at, ListsTheBroken}
 use Rattle.hdmi_check.specs.declared.rule.Origin.{Origin}
 use Rattle.hdmi_check.specs.declared.rule.Rule.{Rule}
-use Rattle.hdmi_check.specs.declared.rule.Rule.TheVariants.{FirstTimingPreferred, PreferredTiming, ProductName, RangeLimits, LimitsAlone, Week, Srgb, NoEmptyDescriptor, UnusedStandard, BlockMap, HdmiRevision, OneSerial, Vga, VideoCodeOnce, NativeCount, NativeSize, Underscan, BasicAudio, Speakers, Padding, VideoCapability, RgbRange, TmdsClock, Address, OneHdmi, HdmiVideoCode, ForumAfterHdmi}
+use Rattle.hdmi_check.specs.declared.rule.Rule.TheVariants.{FirstTimingPreferred, PreferredTiming, ProductName, RangeLimits, LimitsAlone, LimitsOrder, Week, Srgb, NoEmptyDescriptor, UnusedStandard, BlockMap, HdmiRevision, OneSerial, Vga, VideoCodeOnce, NativeCount, NativeSize, Underscan, BasicAudio, Speakers, Padding, VideoCapability, RgbRange, TmdsClock, Address, OneHdmi, HdmiVideoCode, ForumAfterHdmi}
 use Rattle.hdmi_check.specs.declared.rule.TimingRule.{TimingRule}
 use Rattle.hdmi_check.specs.declared.rule.TimingRule.TheVariants.{Clock, Fields, HorizontalBackPorch, VerticalBackPorch, SizeThere, SizeFits, WithinLimits, NearLimits}
 use Rattle.hdmi_check.specs.declared.rule.Finding.{Finding}
@@ -26,28 +26,29 @@ place_of PreferredTiming = 1
 place_of ProductName = 2
 place_of RangeLimits = 3
 place_of LimitsAlone = 4
-place_of Week = 5
-place_of Srgb = 6
-place_of NoEmptyDescriptor = 7
-place_of UnusedStandard = 8
-place_of BlockMap = 9
-place_of HdmiRevision = 10
-place_of OneSerial = 11
-place_of Vga = 12
-place_of VideoCodeOnce = 13
-place_of NativeCount = 14
-place_of NativeSize = 15
-place_of Underscan = 16
-place_of BasicAudio = 17
-place_of Speakers = 18
-place_of Padding = 19
-place_of VideoCapability = 20
-place_of RgbRange = 21
-place_of TmdsClock = 22
-place_of Address = 23
-place_of OneHdmi = 24
-place_of HdmiVideoCode = 25
-place_of ForumAfterHdmi = 26
+place_of LimitsOrder = 5
+place_of Week = 6
+place_of Srgb = 7
+place_of NoEmptyDescriptor = 8
+place_of UnusedStandard = 9
+place_of BlockMap = 10
+place_of HdmiRevision = 11
+place_of OneSerial = 12
+place_of Vga = 13
+place_of VideoCodeOnce = 14
+place_of NativeCount = 15
+place_of NativeSize = 16
+place_of Underscan = 17
+place_of BasicAudio = 18
+place_of Speakers = 19
+place_of Padding = 20
+place_of VideoCapability = 21
+place_of RgbRange = 22
+place_of TmdsClock = 23
+place_of Address = 24
+place_of OneHdmi = 25
+place_of HdmiVideoCode = 26
+place_of ForumAfterHdmi = 27
 
 placed : (rule : Rule) → slice_get rules (place_of rule) ≡ Some rule
 placed FirstTimingPreferred = refl
@@ -55,6 +56,7 @@ placed PreferredTiming = refl
 placed ProductName = refl
 placed RangeLimits = refl
 placed LimitsAlone = refl
+placed LimitsOrder = refl
 placed Week = refl
 placed Srgb = refl
 placed NoEmptyDescriptor = refl

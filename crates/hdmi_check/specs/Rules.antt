@@ -7,17 +7,18 @@ use Rattle.hdmi_cta.specs.declared.raw.Ext.{Ext}
 use Rattle.hdmi_parts.specs.BaseParts.{is_three, some_tagged, is_empty, begins_with_timing, is_continuous, prefers_first, claims_srgb, is_srgb, is_ill_unused, has_established_vga, names_formula}
 use Rattle.hdmi_parts.specs.BlockParts.{lists_vga, is_video_capability, fixes_rgb_range, has_fast_clock, has_wrong_address, has_root_address, is_speakers, is_ill_speakers, has_multichannel_pcm}
 use Rattle.hdmi_parts.specs.ExtParts.{is_cta, begins_with_map, overscans, has_ill_padding, native_count, hides_sound, some_block, hdmi_count, has_forum_first, timings_of}
+use Rattle.hdmi_parts.specs.Limits.{has_reversed_limits}
 use Rattle.hdmi_parts.specs.VideoCodes.{video_codes, repeats, has_lone_code}
 use Rattle.hdmi_native.specs.Natives.{has_mixed_natives}
 use Rattle.hdmi_check.specs.declared.rule.Origin.{Origin}
 use Rattle.hdmi_check.specs.declared.rule.Origin.TheVariants.{Display, Port}
 use Rattle.hdmi_check.specs.declared.rule.Rule.{Rule}
-use Rattle.hdmi_check.specs.declared.rule.Rule.TheVariants.{FirstTimingPreferred, PreferredTiming, ProductName, RangeLimits, LimitsAlone, Week, Srgb, NoEmptyDescriptor, UnusedStandard, BlockMap, HdmiRevision, OneSerial, Vga, VideoCodeOnce, NativeCount, NativeSize, Underscan, BasicAudio, Speakers, Padding, VideoCapability, RgbRange, TmdsClock, Address, OneHdmi, HdmiVideoCode, ForumAfterHdmi}
+use Rattle.hdmi_check.specs.declared.rule.Rule.TheVariants.{FirstTimingPreferred, PreferredTiming, ProductName, RangeLimits, LimitsAlone, LimitsOrder, Week, Srgb, NoEmptyDescriptor, UnusedStandard, BlockMap, HdmiRevision, OneSerial, Vga, VideoCodeOnce, NativeCount, NativeSize, Underscan, BasicAudio, Speakers, Padding, VideoCapability, RgbRange, TmdsClock, Address, OneHdmi, HdmiVideoCode, ForumAfterHdmi}
 
 -- all rules, in the order in which they are looked at
 abbrev pub rules : List Rule
 rules =
-    FirstTimingPreferred ∷ PreferredTiming ∷ ProductName ∷ RangeLimits ∷ LimitsAlone ∷ Week ∷ Srgb ∷ NoEmptyDescriptor ∷ UnusedStandard ∷
+    FirstTimingPreferred ∷ PreferredTiming ∷ ProductName ∷ RangeLimits ∷ LimitsAlone ∷ LimitsOrder ∷ Week ∷ Srgb ∷ NoEmptyDescriptor ∷ UnusedStandard ∷
     BlockMap ∷ HdmiRevision ∷ OneSerial ∷ Vga ∷ VideoCodeOnce ∷ NativeCount ∷ NativeSize ∷ Underscan ∷ BasicAudio ∷ Speakers ∷ Padding ∷
     VideoCapability ∷ RgbRange ∷ TmdsClock ∷ Address ∷ OneHdmi ∷ HdmiVideoCode ∷ ForumAfterHdmi ∷ []
 
@@ -38,6 +39,8 @@ is_broken o ProductName b xs = not (some_tagged 0xfc b)
 is_broken o RangeLimits b xs = (is_three b.revision || is_continuous b) && not (some_tagged 0xfd b)
 -- 1.4: a formula makes timings of any frequency (E-EDID 1.4, section 3.10.3.3)
 is_broken o LimitsAlone b xs = not (is_three b.revision) && not (is_continuous b) && list_any names_formula b.descriptors
+-- the least rate of a display is at most the greatest (section 3.10.3.3)
+is_broken o LimitsOrder b xs = has_reversed_limits b
 -- 1.3 has no model years and no week 54 (section 3.4.4)
 is_broken o Week b xs = is_three b.revision && ((b.week == 54) || (b.week == 255))
 -- the features tell of sRGB where the chromaticities are its own, and only there (section 3.6.4)
@@ -53,7 +56,7 @@ is_broken o HdmiRevision b xs = not (is_three b.revision) && some_block is_hdmi 
 is_broken o OneSerial b xs = nat_lt 0 b.serial && list_any is_cta xs && some_tagged 0xff b
 -- each display of CTA-861 shows 640x480 at 60 Hz (CTA-861-D, section 3.1)
 is_broken o Vga b xs = list_any is_cta xs && not (has_established_vga b) && not (some_block lists_vga xs)
--- a format is listed once (CTA-861-D, section 7.5.1)
+-- a format is listed once (CTA-861-D, section 7.5.1); 0 is none
 is_broken o VideoCodeOnce b xs = repeats (video_codes xs)
 -- no more timings are native than there are (CTA-861-D, section 7.5)
 is_broken o NativeCount b xs = list_any (λ x. nat_lt (length (timings_of b xs)) (native_count x)) xs

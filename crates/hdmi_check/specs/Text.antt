@@ -3,7 +3,7 @@ use Rattle.std.specs.Prelude.{ℕ, Bool, true, false, List, ◌++◌, codes, fla
 use Rattle.std.specs.Fmt.{decimal}
 use Rattle.std.specs.List.{list_any}
 use Rattle.hdmi_check.specs.declared.rule.Rule.{Rule}
-use Rattle.hdmi_check.specs.declared.rule.Rule.TheVariants.{FirstTimingPreferred, PreferredTiming, ProductName, RangeLimits, LimitsAlone, Week, Srgb, NoEmptyDescriptor, UnusedStandard, BlockMap, HdmiRevision, OneSerial, Vga, VideoCodeOnce, NativeCount, NativeSize, Underscan, BasicAudio, Speakers, Padding, VideoCapability, RgbRange, TmdsClock, Address, OneHdmi, HdmiVideoCode, ForumAfterHdmi}
+use Rattle.hdmi_check.specs.declared.rule.Rule.TheVariants.{FirstTimingPreferred, PreferredTiming, ProductName, RangeLimits, LimitsAlone, LimitsOrder, Week, Srgb, NoEmptyDescriptor, UnusedStandard, BlockMap, HdmiRevision, OneSerial, Vga, VideoCodeOnce, NativeCount, NativeSize, Underscan, BasicAudio, Speakers, Padding, VideoCapability, RgbRange, TmdsClock, Address, OneHdmi, HdmiVideoCode, ForumAfterHdmi}
 use Rattle.hdmi_check.specs.declared.rule.Severity.{Severity}
 use Rattle.hdmi_check.specs.declared.rule.Severity.TheVariants.{Fail, Warn}
 use Rattle.hdmi_check.specs.declared.rule.TimingRule.{TimingRule}
@@ -50,6 +50,7 @@ rule_name PreferredTiming = codes "no-preferred-timing"
 rule_name ProductName = codes "no-name"
 rule_name RangeLimits = codes "no-range-limits"
 rule_name LimitsAlone = codes "gtf-fixed"
+rule_name LimitsOrder = codes "limits-reversed"
 rule_name Week = codes "week-of-1.4"
 rule_name Srgb = codes "srgb"
 rule_name NoEmptyDescriptor = codes "empty-descriptor"

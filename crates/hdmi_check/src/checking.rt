@@ -12,26 +12,27 @@ use hdmi_edid::{Base, Timing};
 use hdmi_native::has_mixed_natives;
 use hdmi_parts::{
     NAME_TAG, RANGE_TAG, SERIAL_TAG, Sought, begins_with_map, begins_with_timing, claims_srgb,
-    has_established_vga, hdmi_count, is_continuous, is_out_of_range, is_srgb, is_three,
-    prefers_first, repeats, some_block, some_cta, some_empty, some_formula, some_forum_first,
-    some_hidden_sound, some_ill_padding, some_ill_unused, some_lone_code, some_native,
-    some_overscan, some_tagged, timings_of, video_codes,
+    has_established_vga, has_reversed_limits, hdmi_count, is_continuous, is_out_of_range, is_srgb,
+    is_three, prefers_first, repeats, some_block, some_cta, some_empty, some_formula,
+    some_forum_first, some_hidden_sound, some_ill_padding, some_ill_unused, some_lone_code,
+    some_native, some_overscan, some_tagged, timings_of, video_codes,
 };
 
-/// The most findings of an EDID: 27 rules, and eight for each of 22 timings.
-pub const MAX_FINDINGS: usize = 203;
+/// The most findings of an EDID: 28 rules, and eight for each of 22 timings.
+pub const MAX_FINDINGS: usize = 204;
 /// The least pixel clock of a timing: 10 MHz, in units of 10 kHz.
 const MIN_CLOCK: u16 = 1000;
 /// How much larger or smaller than the display an image may be, in millimetres.
 const SIZE_TOLERANCE: u16 = 9;
 
 /// All rules, in the order in which they are looked at.
-const RULES: [Rule; 27] = [
+const RULES: [Rule; 28] = [
     Rule::FirstTimingPreferred,
     Rule::PreferredTiming,
     Rule::ProductName,
     Rule::RangeLimits,
     Rule::LimitsAlone,
+    Rule::LimitsOrder,
     Rule::Week,
     Rule::Srgb,
     Rule::NoEmptyDescriptor,
@@ -95,6 +96,7 @@ fn is_broken(origin: Origin, rule: Rule, base: &Base, extensions: &[Ext]) -> boo
         Rule::LimitsAlone => {
             !is_three(base.revision) && !is_continuous(base) && some_formula(base)
         }
+        Rule::LimitsOrder => has_reversed_limits(base),
         Rule::Week => is_three(base.revision) && (base.week == 54 || base.week == 255),
         Rule::Srgb => {
             claims_srgb(base) && !is_srgb(base.chroma) || !claims_srgb(base) && is_srgb(base.chroma)
@@ -242,9 +244,9 @@ fn add_edid(
     extensions: &[Ext],
 )
     requires few { length extensions.now ≤ 3 }
-    requires room { array_vec_len found.old + 27 ≤ MAX_FINDINGS }
+    requires room { array_vec_len found.old + 28 ≤ MAX_FINDINGS }
     ensures items { found.new.items ≡ found.old.items ++ edid_findings origin base.now extensions.now }
-    ensures len { array_vec_len found.new ≤ array_vec_len found.old + 27 }
+    ensures len { array_vec_len found.new ≤ array_vec_len found.old + 28 }
 {
     add_rules(found, &RULES, origin, base, extensions);
 }

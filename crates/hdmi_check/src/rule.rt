@@ -13,6 +13,8 @@ pub enum Rule {
     RangeLimits,
     /// A display of some frequencies has limits alone, and no formula for timings.
     LimitsAlone,
+    /// The greatest rate of range limits is not below the least.
+    LimitsOrder,
     /// The week is one of the revision.
     Week,
     /// The features say sRGB where the chromaticities are its own, and only there.

@@ -13,7 +13,7 @@ use hdmi_edid::append;
 /// The bytes that the longest line has room in.
 const LINE: usize = 40;
 /// The bytes that the lines of all findings have room in: a `LINE` for each.
-const TEXT: usize = 8120;
+const TEXT: usize = 8160;
 
 fn rule_severity(rule: Rule) -> Severity
     ensures { result ≡ rule_severity rule }
@@ -70,6 +70,7 @@ fn rule_name(rule: Rule) -> &'static str
         Rule::ProductName => "no-name",
         Rule::RangeLimits => "no-range-limits",
         Rule::LimitsAlone => "gtf-fixed",
+        Rule::LimitsOrder => "limits-reversed",
         Rule::Week => "week-of-1.4",
         Rule::Srgb => "srgb",
         Rule::NoEmptyDescriptor => "empty-descriptor",

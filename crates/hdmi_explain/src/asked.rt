@@ -19,6 +19,9 @@ fn asked_of_base(rule: Rule) -> Option<&'static str> {
         Rule::LimitsAlone => Some(
             "in 1.4 range limits name GTF or CVT only where bit 0 of the features is set (E-EDID 1.4, 3.10.3.3)",
         ),
+        Rule::LimitsOrder => Some(
+            "the greatest rate of range limits is not below the least (E-EDID A, 3.10.3.3)",
+        ),
         Rule::Week => Some(
             "in 1.3 the week is at most 53; 54, and 255 for a model year, came with 1.4 (E-EDID A, 3.4.4)",
         ),
@@ -57,7 +60,7 @@ fn asked_of_extensions(rule: Rule) -> &'static str {
             "bit 7 of a CTA block's flags is set: formats of computers are shown whole (CTA-861-D, 7.5)"
         }
         Rule::BasicAudio => {
-            "bit 6 of a CTA block's flags is set where it has audio or speakers (CTA-861-D, 7.5)"
+            "bit 6 of a CTA block's flags is set where it has audio or speakers, also of extended tags 17 to 20 (CTA-861-D, 7.5)"
         }
         Rule::Speakers => {
             "more than two channels of linear PCM come with a speaker block, of three bytes (CTA-861-D, 7.5.3)"

@@ -7,9 +7,9 @@ use crate::places::{
 use hdmi_check::{Finding, Rule, TimingRule};
 use hdmi_core::Phys;
 use hdmi_cta::{Ext, hdmi_address};
-use hdmi_edid::{Base, Timing};
+use hdmi_edid::{Base, Descriptor, Timing};
 use hdmi_native::{Picture, differs, native_pictures};
-use hdmi_parts::{hdmi_count, native_count, timings_of, video_codes};
+use hdmi_parts::{field_span, hdmi_count, line_span, native_count, timings_of, video_codes};
 use std::alloc::{AllocError, Global};
 
 /// The clock's units, 10 kHz, that are a MHz.
@@ -101,8 +101,24 @@ fn repeated_told(alloc: Global, extensions: &[Ext]) -> Result<Option<String>, Al
 {
     let codes = video_codes(extensions);
     for code in codes.as_slice() {
-        if 1 < count_of(codes.as_slice(), *code) {
+        if 0 < *code && 1 < count_of(codes.as_slice(), *code) {
             return Ok(Some(format!(in alloc; "video code {code}")?));
+        }
+    }
+    Ok(None)
+}
+
+/// The first range limits whose greatest rate is below the least.
+fn limits_told(alloc: Global, base: &Base) -> Result<Option<String>, AllocError> {
+    for descriptor in &base.descriptors {
+        if let Descriptor::Range(limits) = descriptor {
+            let fields = field_span(base.revision, limits);
+            let lines = line_span(base.revision, limits);
+            if fields.greatest < fields.least || lines.greatest < lines.least {
+                let (slow, fast) = (fields.least, fields.greatest);
+                let (low, high) = (lines.least, lines.greatest);
+                return Ok(Some(format!(in alloc; "{slow} to {fast} Hz, {low} to {high} kHz")?));
+            }
         }
     }
     Ok(None)
@@ -122,6 +138,7 @@ fn told_of_edid(
             let features = base.features;
             Ok(Some(format!(in alloc; "features {features:02x}")?))
         }
+        Rule::LimitsOrder => limits_told(alloc, base),
         Rule::Week => {
             let week = base.week;
             Ok(Some(format!(in alloc; "week {week}")?))

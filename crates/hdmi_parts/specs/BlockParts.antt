@@ -48,8 +48,13 @@ is_speakers b = is_speakers_kind b.kind
 abbrev pub is_ill_speakers : Block → Bool
 is_ill_speakers b = is_speakers b && not (length b.payload.items == 3)
 
+-- extended tags 17 to 20: a vendor's audio, HDMI's audio, the room and the places of speakers (CTA-861-G, section 7.5)
+abbrev pub is_extended_audio : Block → Bool
+is_extended_audio b =
+    is_extended_kind b.kind && nat_lt 0 (length b.payload.items) && nat_le 17 (slice_index b.payload.items 0) && nat_le (slice_index b.payload.items 0) 20
+
 abbrev pub is_sound : Block → Bool
-is_sound b = is_audio b || is_speakers b
+is_sound b = is_audio b || is_speakers b || is_extended_audio b
 
 -- the first byte of a format: bits 6 to 3 are 1 for linear PCM, and the low three bits are the channels less 1 (CTA-861-D, section 7.5.2)
 abbrev pub is_multichannel_pcm : ℕ → Bool

@@ -1,5 +1,5 @@
 -- The rates of a detailed timing (E-EDID Release A, section 3.10.2) and the limits that a display has for them (section 3.10.3.3).
-use Rattle.std.specs.Prelude.{ℕ, ◌+◌, ◌*◌, ◌/◌, ◌%◌, ◌==◌, Bool, false, ◌&&◌, ◌||◌, nat_lt, nat_le, if◌then◌else◌, List, slice_index}
+use Rattle.std.specs.Prelude.{ℕ, ◌+◌, ◌*◌, ◌/◌, ◌%◌, ◌==◌, Bool, false, ◌&&◌, ◌||◌, not, nat_lt, nat_le, if◌then◌else◌, List, slice_index}
 use Rattle.std.specs.List.{list_any}
 use Rattle.hdmi_edid.specs.declared.base.Base.{Base}
 use Rattle.hdmi_edid.specs.declared.base.Revision.{Revision}
@@ -19,9 +19,18 @@ line_pixels t = t.horizontal_active + t.horizontal_blanking
 abbrev pub half_lines : Timing → ℕ
 half_lines t = if nat_lt t.flags 128 then 2 * (t.vertical_active + t.vertical_blanking) else 2 * (t.vertical_active + t.vertical_blanking) + 1
 
+-- the greatest is below the least
+abbrev pub is_reversed : Span → Bool
+is_reversed span = nat_lt span.greatest span.least
+
+-- A greatest of 0 limits nothing, nor do limits that are reversed.
+abbrev pub limits_rates : Span → Bool
+limits_rates span = nat_lt 0 span.greatest && not (is_reversed span)
+
 -- A rate of `count / per` is one unit and more below the least or above the greatest. It is no rate where `per` is 0.
 abbrev pub is_outside : Span → ℕ → ℕ → Bool
-is_outside span count per = nat_lt 0 per && (nat_le (count + per) (span.least * per) || nat_le ((span.greatest + 1) * per) count)
+is_outside span count per =
+    limits_rates span && nat_lt 0 per && (nat_le (count + per) (span.least * per) || nat_le ((span.greatest + 1) * per) count)
 
 -- ---- limits
 
@@ -38,6 +47,14 @@ field_span r l = raised r (slice_index l 0 % 4) (slice_index l 1) (slice_index l
 -- in thousands of lines a second
 abbrev pub line_span : Revision → List ℕ → Span
 line_span r l = raised r (slice_index l 0 / 4 % 4) (slice_index l 3) (slice_index l 4)
+
+abbrev pub has_reversed : Revision → Descriptor → Bool
+has_reversed r (Range l) = is_reversed (field_span r l.bytes) || is_reversed (line_span r l.bytes)
+has_reversed r _ = false
+
+-- some limits are reversed
+abbrev pub has_reversed_limits : Base → Bool
+has_reversed_limits b = list_any (has_reversed b.revision) b.descriptors
 
 -- ---- both
 

@@ -23,10 +23,10 @@ video_codes xs = flat_map ext_codes xs
 abbrev pub has_code : List ℕ → ℕ → Bool
 has_code codes code = list_any (λ c. c == code) codes
 
--- a code stands more than once
+-- a code stands more than once; 0 is the code of no format (CTA-861-D, section 4.1, table 3)
 abbrev pub repeats : List ℕ → Bool
 repeats [] = false
-repeats (code ∷ codes) = has_code codes code || repeats codes
+repeats (code ∷ codes) = (nat_lt 0 code && has_code codes code) || repeats codes
 
 -- the video identification code of the format that a code of HDMI stands for; 0 for a code that stands for none
 abbrev pub code_of_hdmi : ℕ → ℕ

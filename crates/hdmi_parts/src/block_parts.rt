@@ -1,12 +1,16 @@
 //! What the rules ask of data blocks.
 ghost use Rattle.std.specs.Prelude.{◌≡◌, ◌≤◌, ◌+◌, length, take};
 ghost use Rattle.std.specs.List.{list_any};
-ghost use Rattle.hdmi_parts.specs.BlockParts.{is_vga_code, lists_vga, is_video_capability, fixes_rgb_range, is_speakers, is_ill_speakers, is_sound, is_multichannel_pcm, lists_multichannel_pcm, has_multichannel_pcm, has_fast_clock, is_hole, is_off_tree, has_wrong_address, has_root_address, is_forum, begins_with_forum, video_place, codes_at, hdmi_codes, is_sought};
+ghost use Rattle.hdmi_parts.specs.BlockParts.{is_vga_code, lists_vga, is_video_capability, fixes_rgb_range, is_speakers, is_ill_speakers, is_extended_audio, is_sound, is_multichannel_pcm, lists_multichannel_pcm, has_multichannel_pcm, has_fast_clock, is_hole, is_off_tree, has_wrong_address, has_root_address, is_forum, begins_with_forum, video_place, codes_at, hdmi_codes, is_sought};
 
 use hdmi_cta::{Block, BlockKind};
 
 /// The greatest clock of HDMI 1.4: 340 MHz, in units of 5 MHz.
 const MAX_TMDS_CLOCK: u8 = 68;
+/// The least extended tag of a block that tells of audio: a vendor's.
+const VENDOR_AUDIO: u8 = 17;
+/// The greatest: the places of speakers.
+const SPEAKER_PLACES: u8 = 20;
 
 /// What a rule looks for among data blocks.
 #[derive(Clone, Copy, Debug, PartialEq, Eq)]
@@ -24,7 +28,7 @@ pub enum Sought {
     WrongAddress,
     /// An HDMI block with the address of the root of a tree.
     RootAddress,
-    /// Audio or speakers.
+    /// Audio or speakers, also of an extended tag.
     Sound,
     Speakers,
     /// A speaker block of another length than it has.
@@ -71,10 +75,21 @@ fn is_ill_speakers(block: &Block) -> bool
     is_speakers(block) && block.payload.len() != 3
 }
 
+/// Whether its extended tag is that of a vendor's audio, of HDMI's audio, of a room or of the places of speakers.
+fn is_extended_audio(block: &Block) -> bool
+    ensures { result ≡ is_extended_audio block.now }
+{
+    let payload = block.payload.as_slice();
+    matches!(block.kind, BlockKind::Extended)
+        && 0 < payload.len()
+        && VENDOR_AUDIO <= payload[0]
+        && payload[0] <= SPEAKER_PLACES
+}
+
 fn is_sound(block: &Block) -> bool
     ensures { result ≡ is_sound block.now }
 {
-    block.is_audio() || is_speakers(block)
+    block.is_audio() || is_speakers(block) || is_extended_audio(block)
 }
 
 /// Whether the first byte of an audio format tells of linear PCM with more than two channels.

@@ -87,13 +87,13 @@ fn has_code(codes: &[u8], code: u8) -> bool
     codes.iter().any(|listed| *listed == code)
 }
 
-/// Whether a code stands more than once.
+/// Whether the code of a format stands more than once.
 pub fn repeats(codes: &[u8]) -> bool
     ensures { result ≡ repeats codes.now }
 {
     match codes {
         [] => false,
-        [code, rest @ ..] => has_code(rest, *code) || repeats(rest),
+        [code, rest @ ..] => 0 < *code && has_code(rest, *code) || repeats(rest),
     }
 }
 

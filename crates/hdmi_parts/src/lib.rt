@@ -20,6 +20,6 @@ pub use ext_parts::{
     begins_with_map, hdmi_count, native_count, some_block, some_cta, some_forum_first,
     some_hidden_sound, some_ill_padding, some_native, some_overscan,
 };
-pub use limits::is_out_of_range;
+pub use limits::{field_span, has_reversed_limits, is_out_of_range, line_span};
 pub use span::Span;
 pub use timings::{MAX_TIMINGS, timings_of};

@@ -1,7 +1,7 @@
 //! The rates of a detailed timing, and the limits that a display has for them.
 ghost use Rattle.std.specs.Prelude.{◌≡◌, ◌<◌, ◌≤◌, ◌^◌};
 ghost use Rattle.std.specs.List.{list_any};
-ghost use Rattle.hdmi_parts.specs.Limits.{line_pixels, half_lines, is_outside, raised, field_span, line_span, is_field_rate_outside, is_line_rate_outside, excludes, is_out_of_range};
+ghost use Rattle.hdmi_parts.specs.Limits.{line_pixels, half_lines, is_reversed, limits_rates, is_outside, raised, field_span, line_span, has_reversed, has_reversed_limits, is_field_rate_outside, is_line_rate_outside, excludes, is_out_of_range};
 
 use crate::span::Span;
 use hdmi_edid::{Base, Descriptor, RangeLimits, Revision, Timing};
@@ -36,6 +36,20 @@ fn half_lines(timing: &Timing) -> u64
     }
 }
 
+/// Whether the greatest rate is below the least.
+fn is_reversed(span: Span) -> bool
+    ensures { result ≡ is_reversed span }
+{
+    span.greatest < span.least
+}
+
+/// Whether a span limits rates: a greatest rate of 0 limits none, nor do limits that are reversed.
+fn limits_rates(span: Span) -> bool
+    ensures { result ≡ limits_rates span }
+{
+    0 < span.greatest && !is_reversed(span)
+}
+
 /// Whether a rate of `count` by `per` is one unit and more outside a span.
 fn is_outside(span: Span, count: u64, per: u64) -> bool
     requires least { span.least < 512 }
@@ -44,7 +58,9 @@ fn is_outside(span: Span, count: u64, per: u64) -> bool
     requires per_fits { per < 2 ^ 32 }
     ensures { result ≡ is_outside span count per }
 {
-    0 < per && (count + per <= span.least * per || (span.greatest + 1) * per <= count)
+    limits_rates(span)
+        && 0 < per
+        && (count + per <= span.least * per || (span.greatest + 1) * per <= count)
 }
 
 /// The span of two bytes, which two bits raise in 1.4.
@@ -67,8 +83,8 @@ fn raised(revision: Revision, bits: u8, least: u8, greatest: u8) -> Span
     }
 }
 
-/// In fields a second.
-fn field_span(revision: Revision, limits: &RangeLimits) -> Span
+/// The limits of the field rate, in fields a second.
+pub fn field_span(revision: Revision, limits: &RangeLimits) -> Span
     ensures value { result ≡ field_span revision limits.now.bytes }
     ensures least { result.least < 512 }
     ensures greatest { result.greatest < 512 }
@@ -77,14 +93,34 @@ fn field_span(revision: Revision, limits: &RangeLimits) -> Span
     raised(revision, bytes[0] % 4, bytes[1], bytes[2])
 }
 
-/// In thousands of lines a second.
-fn line_span(revision: Revision, limits: &RangeLimits) -> Span
+/// The limits of the line rate, in thousands of lines a second.
+pub fn line_span(revision: Revision, limits: &RangeLimits) -> Span
     ensures value { result ≡ line_span revision limits.now.bytes }
     ensures least { result.least < 512 }
     ensures greatest { result.greatest < 512 }
 {
     let bytes = limits.bytes;
     raised(revision, bytes[0] / 4 % 4, bytes[3], bytes[4])
+}
+
+fn has_reversed(revision: Revision, descriptor: &Descriptor) -> bool
+    ensures { result ≡ has_reversed revision descriptor.now }
+{
+    match descriptor {
+        Descriptor::Range(limits) => {
+            is_reversed(field_span(revision, limits)) || is_reversed(line_span(revision, limits))
+        }
+        _ => false,
+    }
+}
+
+/// Whether some range limits of a base block have a greatest rate below the least.
+pub fn has_reversed_limits(base: &Base) -> bool
+    ensures { result ≡ has_reversed_limits base.now }
+{
+    base.descriptors
+        .iter()
+        .any(|descriptor| has_reversed(base.revision, descriptor))
 }
 
 fn is_field_rate_outside(revision: Revision, limits: &RangeLimits, timing: &Timing) -> bool
