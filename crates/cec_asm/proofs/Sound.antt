@@ -27,9 +27,8 @@ use Rattle.cec_event.specs.Events.{NamesDevices, IsFramedEvent}
 use Rattle.cec_event.specs.declared.event.Event.{Event}
 use Rattle.cec_event.specs.declared.event.Event.TheVariants.{Plug, Unplug, Key, Send, Outside}
 use Rattle.cec_asm.specs.declared.script.TimedEvent.{TimedEvent}
-use Rattle.cec_asm.specs.declared.script.ScriptCause.{ScriptCause}
-use Rattle.cec_asm.specs.declared.script.ScriptCause.TheVariants.{Word, Number, Name, Frame, Order, TooMany, End}
-use Rattle.cec_asm.specs.Script.{Course, Notes, within_limit, time_of, last_time, last_end, scheduled, plug_read, plug_words, unplug_read, unplug_words, key_read, key_words, act_read, hold_words, drop_words, send_read, event_words, pulse_cause, unless_fault, pulsed, pulse_read, pulse_words, end_read, end_words, other_words, ended, no_notes, IsFrameOf, IsSendRead, IsEventRead, IsWordsRead, IsLineRead, IsSchedule, AreFramedEvents, IsScript, Onward, AreLinesRead, ScriptsAreSound}
+use Rattle.cec_asm.specs.declared.fault.LineFault.{LineFault}
+use Rattle.cec_asm.specs.Script.{Course, Notes, within_limit, time_of, last_time, last_end, scheduled, plug_read, plug_words, unplug_read, unplug_words, key_read, key_words, act_read, hold_words, drop_words, send_read, event_words, unless_fault, pulsed, pulse_read, pulse_words, end_read, end_words, other_words, ended, no_notes, IsFrameOf, IsSendRead, IsEventRead, IsWordsRead, IsLineRead, IsSchedule, AreFramedEvents, IsScript, Onward, AreLinesRead, ScriptsAreSound}
 
 -- ---- times
 
@@ -149,18 +148,24 @@ pub record AreSound (count : ℕ) (notes : Notes) : Type 0 where
 pub sound_start : (count : ℕ) → AreSound count no_notes
 sound_start count = record { schedule = tt; framed = tt; sparse = refl; early = All-nil IsEarly; ended = λ t e. (cc) }
 
-Keeps : ℕ → Result Notes ScriptCause → Type 0
+Keeps : ℕ → Result Notes LineFault → Type 0
 Keeps count read = (next : Notes) → read ≡ Ok next → AreSound count next
 
-keeps_next : (count : ℕ) (read : Result Notes ScriptCause) (next : Notes) → Keeps count read → read ≡ Ok next → AreSound count next
+keeps_next : (count : ℕ) (read : Result Notes LineFault) (next : Notes) → Keeps count read → read ≡ Ok next → AreSound count next
 unfolding Keeps
 keeps_next count read next k e = k next e
 
-keeps_err : (count : ℕ) (cause : ScriptCause) → Keeps count (Err cause)
-unfolding Keeps
-keeps_err count cause next h = cc
+abbrev is_refused : Result Notes LineFault → Bool
+is_refused (Ok notes) = false
+is_refused (Err fault) = true
 
-keeps_if : (count : ℕ) (b : Bool) (x y : Result Notes ScriptCause) → (b ≡ true → Keeps count x) → (b ≡ false → Keeps count y) → Keeps count (cond b x y)
+-- whatever the fault
+keeps_err : (count : ℕ) (read : Result Notes LineFault) → is_refused read ≡ true → Keeps count read
+unfolding Keeps
+keeps_err count (Ok notes) refused next h = cc
+keeps_err count (Err fault) refused next h = cc
+
+keeps_if : (count : ℕ) (b : Bool) (x y : Result Notes LineFault) → (b ≡ true → Keeps count x) → (b ≡ false → Keeps count y) → Keeps count (cond b x y)
 keeps_if count true x y f g = f refl
 keeps_if count false x y f g = g refl
 
@@ -170,8 +175,8 @@ keeps_ok count notes s next h = let e : notes ≡ next = cc in let P : Notes →
 
 scheduled-keeps : (count : ℕ) (notes : Notes) (line time : ℕ) (event : Event) → AreSound count notes → NamesDevices count event → IsFramedEvent event → Keeps count (scheduled notes line time event)
 scheduled-keeps count notes line time event s known framed =
-    keeps_if count (nat_lt time (last_time notes.events)) _ _ (λ e. keeps_err count Order)
-    (λ on_time. keeps_if count (is_some notes.end) _ _ (λ e. keeps_err count End) (λ unended. keeps_ok count _ (sound_more on_time unended)))
+    keeps_if count (nat_lt time (last_time notes.events)) _ _ (λ e. keeps_err count _ refl)
+    (λ on_time. keeps_if count (is_some notes.end) _ _ (λ e. keeps_err count _ refl) (λ unended. keeps_ok count _ (sound_more on_time unended)))
   where
     sound_more : nat_lt time (last_time notes.events) ≡ false → is_some notes.end ≡ false →
         AreSound count (record notes { events = notes.events ++ record { line = line; at = time; event = event } ∷ [] })
@@ -194,66 +199,66 @@ named-below tree name device h = grind (arith, common_steps)
 
 plug_read-keeps : (count : ℕ) (notes : Notes) (line : ℕ) (time port child parent : Option ℕ) → AreSound count notes →
     ((i : ℕ) → child ≡ Some i → i < count) → ((i : ℕ) → parent ≡ Some i → i < count) → Keeps count (plug_read notes line time port child parent)
-plug_read-keeps count notes line None port child parent s hc hp = keeps_err count Number
-plug_read-keeps count notes line (Some time) None child parent s hc hp = keeps_err count Number
-plug_read-keeps count notes line (Some time) (Some port) None parent s hc hp = keeps_err count Name
-plug_read-keeps count notes line (Some time) (Some port) (Some child) None s hc hp = keeps_err count Name
+plug_read-keeps count notes line None port child parent s hc hp = keeps_err count _ refl
+plug_read-keeps count notes line (Some time) None child parent s hc hp = keeps_err count _ refl
+plug_read-keeps count notes line (Some time) (Some port) None parent s hc hp = keeps_err count _ refl
+plug_read-keeps count notes line (Some time) (Some port) (Some child) None s hc hp = keeps_err count _ refl
 plug_read-keeps count notes line (Some time) (Some port) (Some child) (Some parent) s hc hp =
     scheduled-keeps count notes line time (Plug child parent (min port 255)) s (hc child refl, hp parent refl) tt
 
-plug_words-keeps : (tree : List Node) (notes : Notes) (line : ℕ) (time : List ℕ) (words : Option (List ℕ × List ℕ × List ℕ)) → AreSound (length tree) notes →
-    Keeps (length tree) (plug_words tree notes line time words)
-plug_words-keeps tree notes line time None s = keeps_err (length tree) Word
-plug_words-keeps tree notes line time (Some words) s =
+plug_words-keeps : (tree : List Node) (notes : Notes) (line : ℕ) (time : List ℕ) (many : ℕ) (words : Option (List ℕ × List ℕ × List ℕ)) → AreSound (length tree) notes →
+    Keeps (length tree) (plug_words tree notes line time many words)
+plug_words-keeps tree notes line time many None s = keeps_err (length tree) _ refl
+plug_words-keeps tree notes line time many (Some words) s =
     plug_read-keeps (length tree) notes line (time_of time) (number_of words.2) (device_named tree words.0) (device_named tree words.1) s (named-below tree words.0) (named-below tree words.1)
 
 unplug_read-keeps : (count : ℕ) (notes : Notes) (line : ℕ) (time child : Option ℕ) → AreSound count notes → ((i : ℕ) → child ≡ Some i → i < count) → Keeps count (unplug_read notes line time child)
-unplug_read-keeps count notes line None child s hc = keeps_err count Number
-unplug_read-keeps count notes line (Some time) None s hc = keeps_err count Name
+unplug_read-keeps count notes line None child s hc = keeps_err count _ refl
+unplug_read-keeps count notes line (Some time) None s hc = keeps_err count _ refl
 unplug_read-keeps count notes line (Some time) (Some child) s hc = scheduled-keeps count notes line time (Unplug child) s (hc child refl) tt
 
-unplug_words-keeps : (tree : List Node) (notes : Notes) (line : ℕ) (time : List ℕ) (words : Option (List ℕ)) → AreSound (length tree) notes → Keeps (length tree) (unplug_words tree notes line time words)
-unplug_words-keeps tree notes line time None s = keeps_err (length tree) Word
-unplug_words-keeps tree notes line time (Some word) s = unplug_read-keeps (length tree) notes line (time_of time) (device_named tree word) s (named-below tree word)
+unplug_words-keeps : (tree : List Node) (notes : Notes) (line : ℕ) (time : List ℕ) (many : ℕ) (words : Option (List ℕ)) → AreSound (length tree) notes → Keeps (length tree) (unplug_words tree notes line time many words)
+unplug_words-keeps tree notes line time many None s = keeps_err (length tree) _ refl
+unplug_words-keeps tree notes line time many (Some word) s = unplug_read-keeps (length tree) notes line (time_of time) (device_named tree word) s (named-below tree word)
 
-key_read-keeps : (count : ℕ) (notes : Notes) (line : ℕ) (press : Bool) (key : Result KeyValue ScriptCause) (time device : Option ℕ) → AreSound count notes → ((i : ℕ) → device ≡ Some i → i < count) →
+key_read-keeps : (count : ℕ) (notes : Notes) (line : ℕ) (press : Bool) (key : Result KeyValue LineFault) (time device : Option ℕ) → AreSound count notes → ((i : ℕ) → device ≡ Some i → i < count) →
     Keeps count (key_read notes line press key time device)
-key_read-keeps count notes line press (Err cause) time device s hd = keeps_err count cause
-key_read-keeps count notes line press (Ok key) None device s hd = keeps_err count Number
-key_read-keeps count notes line press (Ok key) (Some time) None s hd = keeps_err count Name
+key_read-keeps count notes line press (Err cause) time device s hd = keeps_err count _ refl
+key_read-keeps count notes line press (Ok key) None device s hd = keeps_err count _ refl
+key_read-keeps count notes line press (Ok key) (Some time) None s hd = keeps_err count _ refl
 key_read-keeps count notes line press (Ok key) (Some time) (Some device) s hd = scheduled-keeps count notes line time (Key device key press) s (hd device refl) tt
 
 key_words-keeps : (tree : List Node) (notes : Notes) (line : ℕ) (press : Bool) (time : List ℕ) (words : List (List ℕ)) → AreSound (length tree) notes → Keeps (length tree) (key_words tree notes line press time words)
-key_words-keeps tree notes line press time [] s = keeps_err (length tree) Word
+key_words-keeps tree notes line press time [] s = keeps_err (length tree) _ refl
 key_words-keeps tree notes line press time (name ∷ words) s =
     key_read-keeps (length tree) notes line press (key_of words) (time_of time) (device_named tree name) s (named-below tree name)
 
 act_read-keeps : (count : ℕ) (notes : Notes) (line : ℕ) (act : Option Act) (time device : Option ℕ) → AreSound count notes → ((i : ℕ) → device ≡ Some i → i < count) →
     Keeps count (act_read notes line act time device)
-act_read-keeps count notes line None time device s hd = keeps_err count Word
-act_read-keeps count notes line (Some act) None device s hd = keeps_err count Number
-act_read-keeps count notes line (Some act) (Some time) None s hd = keeps_err count Name
+act_read-keeps count notes line None time device s hd = keeps_err count _ refl
+act_read-keeps count notes line (Some act) None device s hd = keeps_err count _ refl
+act_read-keeps count notes line (Some act) (Some time) None s hd = keeps_err count _ refl
 act_read-keeps count notes line (Some act) (Some time) (Some device) s hd = scheduled-keeps count notes line time (Outside device act) s (hd device refl) tt
 
-hold_words-keeps : (tree : List Node) (notes : Notes) (line : ℕ) (time : List ℕ) (words : Option (List ℕ × List ℕ)) → AreSound (length tree) notes → Keeps (length tree) (hold_words tree notes line time words)
-hold_words-keeps tree notes line time None s = keeps_err (length tree) Word
-hold_words-keeps tree notes line time (Some words) s =
+hold_words-keeps : (tree : List Node) (notes : Notes) (line : ℕ) (time : List ℕ) (many : ℕ) (words : Option (List ℕ × List ℕ)) → AreSound (length tree) notes → Keeps (length tree) (hold_words tree notes line time many words)
+hold_words-keeps tree notes line time many None s = keeps_err (length tree) _ refl
+hold_words-keeps tree notes line time many (Some words) s =
     act_read-keeps (length tree) notes line (hold_of words.1) (time_of time) (device_named tree words.0) s (named-below tree words.0)
 
-drop_words-keeps : (tree : List Node) (notes : Notes) (line : ℕ) (time : List ℕ) (words : Option (List ℕ)) → AreSound (length tree) notes → Keeps (length tree) (drop_words tree notes line time words)
-drop_words-keeps tree notes line time None s = keeps_err (length tree) Word
-drop_words-keeps tree notes line time (Some word) s =
+drop_words-keeps : (tree : List Node) (notes : Notes) (line : ℕ) (time : List ℕ) (many : ℕ) (words : Option (List ℕ)) → AreSound (length tree) notes → Keeps (length tree) (drop_words tree notes line time many words)
+drop_words-keeps tree notes line time many None s = keeps_err (length tree) _ refl
+drop_words-keeps tree notes line time many (Some word) s =
     act_read-keeps (length tree) notes line (Some Empty) (time_of time) (device_named tree word) s (named-below tree word)
 
 event_words-keeps : (tree : List Node) (notes : Notes) (line : ℕ) (time verb : List ℕ) (words : List (List ℕ)) → AreSound (length tree) notes → Keeps (length tree) (event_words tree notes line time verb words)
 event_words-keeps tree notes line time verb words s =
-    keeps_if (length tree) (bytes_eq verb (codes "plug")) _ _ (λ e. plug_words-keeps tree notes line time (three_of words) s)
-    (λ e. keeps_if (length tree) (bytes_eq verb (codes "unplug")) _ _ (λ e. unplug_words-keeps tree notes line time (one_of words) s)
+    keeps_if (length tree) (bytes_eq verb (codes "plug")) _ _ (λ e. plug_words-keeps tree notes line time (length words) (three_of words) s)
+    (λ e. keeps_if (length tree) (bytes_eq verb (codes "unplug")) _ _ (λ e. unplug_words-keeps tree notes line time (length words) (one_of words) s)
     (λ e. keeps_if (length tree) (bytes_eq verb (codes "press")) _ _ (λ e. key_words-keeps tree notes line true time words s)
     (λ e. keeps_if (length tree) (bytes_eq verb (codes "release")) _ _ (λ e. key_words-keeps tree notes line false time words s)
-    (λ e. keeps_if (length tree) (bytes_eq verb (codes "hold")) _ _ (λ e. hold_words-keeps tree notes line time (two_of words) s)
-    (λ e. keeps_if (length tree) (bytes_eq verb (codes "drop")) _ _ (λ e. drop_words-keeps tree notes line time (one_of words) s)
-    (λ e. keeps_err (length tree) Word))))))
+    (λ e. keeps_if (length tree) (bytes_eq verb (codes "hold")) _ _ (λ e. hold_words-keeps tree notes line time (length words) (two_of words) s)
+    (λ e. keeps_if (length tree) (bytes_eq verb (codes "drop")) _ _ (λ e. drop_words-keeps tree notes line time (length words) (one_of words) s)
+    (λ e. keeps_err (length tree) _ refl))))))
 
 -- a frame has a block
 frame_some : (frame : List ℕ) → is_frame frame ≡ true → 0 < length frame
@@ -262,9 +267,9 @@ frame_some (block ∷ blocks) h = omega arith
 
 send_read-keeps : (count : ℕ) (notes : Notes) (line : ℕ) (time device : Option ℕ) (text : List ℕ) (frame : Result (List ℕ) AssembleError) → AreSound count notes → ((i : ℕ) → device ≡ Some i → i < count) →
     IsFrameOf text frame → Keeps count (send_read notes line time device frame)
-send_read-keeps count notes line None device text frame s hd is = keeps_err count Number
-send_read-keeps count notes line (Some time) None text frame s hd is = keeps_err count Name
-send_read-keeps count notes line (Some time) (Some device) text (Err cause) s hd is = keeps_err count (Frame cause)
+send_read-keeps count notes line None device text frame s hd is = keeps_err count _ refl
+send_read-keeps count notes line (Some time) None text frame s hd is = keeps_err count _ refl
+send_read-keeps count notes line (Some time) (Some device) text (Err cause) s hd is = keeps_err count _ refl
 send_read-keeps count notes line (Some time) (Some device) text (Ok frame) s hd is =
     scheduled-keeps count notes line time (Send device frame) s (hd device refl) (frame_some frame is.0.whole)
 
@@ -295,9 +300,9 @@ within_limit-limit (Some n) time h = grind (arith, nat_tests)
 pulsed-keeps : (count : ℕ) (notes : Notes) (pulse : Stretch) → AreSound count notes → pulse.from ≤ 1000000000000 → Keeps count (pulsed notes pulse)
 pulsed-keeps count notes pulse s within =
     elim (stretch_fault (last_end notes.pulses) pulse) as (λ o. stretch_fault (last_end notes.pulses) pulse ≡ o → Keeps count (unless_fault o notes pulse)) [
-      | Some fault ↦ λ e. keeps_err count (pulse_cause fault)
-      | None ↦ λ e. keeps_if count (nat_le 4096 (length notes.pulses)) _ _ (λ full. keeps_err count TooMany)
-          (λ room. keeps_if count (is_some notes.end) _ _ (λ ended. keeps_err count End)
+      | Some fault ↦ λ e. keeps_err count _ refl
+      | None ↦ λ e. keeps_if count (nat_le 4096 (length notes.pulses)) _ _ (λ full. keeps_err count _ refl)
+          (λ room. keeps_if count (is_some notes.end) _ _ (λ ended. keeps_err count _ refl)
           (λ unended. keeps_ok count _ (record {
             schedule = s.schedule;
             framed = s.framed;
@@ -308,13 +313,13 @@ pulsed-keeps count notes pulse s within =
     ] refl
 
 pulse_read-keeps : (count : ℕ) (notes : Notes) (time width : Option ℕ) → AreSound count notes → ((t : ℕ) → time ≡ Some t → t ≤ 1000000000000) → Keeps count (pulse_read notes time width)
-pulse_read-keeps count notes None width s limit = keeps_err count Number
-pulse_read-keeps count notes (Some time) None s limit = keeps_err count Number
+pulse_read-keeps count notes None width s limit = keeps_err count _ refl
+pulse_read-keeps count notes (Some time) None s limit = keeps_err count _ refl
 pulse_read-keeps count notes (Some time) (Some width) s limit = pulsed-keeps count notes (record { from = time; to = time + min width 65535 }) s (limit time refl)
 
-pulse_words-keeps : (count : ℕ) (notes : Notes) (words : Option (List ℕ × List ℕ)) → AreSound count notes → Keeps count (pulse_words notes words)
-pulse_words-keeps count notes None s = keeps_err count Word
-pulse_words-keeps count notes (Some words) s = pulse_read-keeps count notes (time_of words.0) (number_of words.1) s (within_limit-limit (number_of words.0))
+pulse_words-keeps : (count : ℕ) (notes : Notes) (many : ℕ) (words : Option (List ℕ × List ℕ)) → AreSound count notes → Keeps count (pulse_words notes many words)
+pulse_words-keeps count notes many None s = keeps_err count _ refl
+pulse_words-keeps count notes many (Some words) s = pulse_read-keeps count notes (time_of words.0) (number_of words.1) s (within_limit-limit (number_of words.0))
 
 -- after every event there is
 ends_after : (count time : ℕ) (events : List TimedEvent) → IsSchedule count (last_time events + 1) 0 events → (nat_lt 0 (length events) && nat_le time (last_time events)) ≡ false → IsSchedule count time 0 events
@@ -324,10 +329,10 @@ ends_after count time (event ∷ events) s h =
     IsSchedule-later count (last_time (event ∷ events) + 1) time 0 (event ∷ events) (omega arith) s
 
 end_read-keeps : (count : ℕ) (notes : Notes) (time : Option ℕ) → AreSound count notes → ((t : ℕ) → time ≡ Some t → t ≤ 1000000000000) → Keeps count (end_read notes time)
-end_read-keeps count notes None s limit = keeps_err count Number
+end_read-keeps count notes None s limit = keeps_err count _ refl
 end_read-keeps count notes (Some time) s limit =
-    keeps_if count (is_some notes.end) _ _ (λ e. keeps_err count End)
-    (λ unended. keeps_if count (nat_lt 0 (length notes.events) && nat_le time (last_time notes.events)) _ _ (λ e. keeps_err count End)
+    keeps_if count (is_some notes.end) _ _ (λ e. keeps_err count _ refl)
+    (λ unended. keeps_if count (nat_lt 0 (length notes.events) && nat_le time (last_time notes.events)) _ _ (λ e. keeps_err count _ refl)
     (λ after. keeps_ok count _ (record {
       schedule = s.schedule;
       framed = s.framed;
@@ -337,14 +342,14 @@ end_read-keeps count notes (Some time) s limit =
           subst Ends same (ends_after count time notes.events s.schedule after, limit time refl));
     })))
 
-end_words-keeps : (count : ℕ) (notes : Notes) (words : Option (List ℕ)) → AreSound count notes → Keeps count (end_words notes words)
-end_words-keeps count notes None s = keeps_err count Word
-end_words-keeps count notes (Some word) s = end_read-keeps count notes (time_of word) s (within_limit-limit (number_of word))
+end_words-keeps : (count : ℕ) (notes : Notes) (many : ℕ) (words : Option (List ℕ)) → AreSound count notes → Keeps count (end_words notes many words)
+end_words-keeps count notes many None s = keeps_err count _ refl
+end_words-keeps count notes many (Some word) s = end_read-keeps count notes (time_of word) s (within_limit-limit (number_of word))
 
 other_words-keeps : (count : ℕ) (notes : Notes) (verb : List ℕ) (words : List (List ℕ)) → AreSound count notes → Keeps count (other_words notes verb words)
 other_words-keeps count notes verb words s =
-    keeps_if count (bytes_eq verb (codes "pulse")) _ _ (λ e. pulse_words-keeps count notes (two_of words) s)
-    (λ e. keeps_if count (bytes_eq verb (codes "end")) _ _ (λ e. end_words-keeps count notes (one_of words) s) (λ e. keeps_err count Word))
+    keeps_if count (bytes_eq verb (codes "pulse")) _ _ (λ e. pulse_words-keeps count notes (length words) (two_of words) s)
+    (λ e. keeps_if count (bytes_eq verb (codes "end")) _ _ (λ e. end_words-keeps count notes (length words) (one_of words) s) (λ e. keeps_err count _ refl))
 
 words-keep : (tree : List Node) (notes : Notes) (line : ℕ) (words : List (List ℕ)) (next : Notes) → AreSound (length tree) notes → IsWordsRead tree notes line words (Ok next) → AreSound (length tree) next
 words-keep tree notes line [] next s h = cc
@@ -376,7 +381,7 @@ lines-sound : (tree : List Node) (texts : List (List ℕ)) (line : ℕ) (notes :
 lines-sound tree [] line notes course s h = sound_script (length tree) notes line course s h
 lines-sound tree (text ∷ texts) line notes course s h = step h.0 h.1 h.2 (λ next n. lines-sound tree texts (line + 1) next course n)
   where
-    step : (r : Result Notes ScriptCause) → IsLineRead tree notes line text r → Onward line r (λ next. AreLinesRead tree texts (line + 1) next (Ok course)) (Ok course)
+    step : (r : Result Notes LineFault) → IsLineRead tree notes line text r → Onward line r (λ next. AreLinesRead tree texts (line + 1) next (Ok course)) (Ok course)
         → ((next : Notes) → AreSound (length tree) next → AreLinesRead tree texts (line + 1) next (Ok course) → IsScript (length tree) course) → IsScript (length tree) course
     step (Ok next) l k on = on next (line-keeps tree notes line text next s l) k
     step (Err cause) l k on = cc

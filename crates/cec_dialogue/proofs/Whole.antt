@@ -24,7 +24,7 @@ talked_cut before after s old new (Write count) first = inr (refl, first)
 talked_cut before after s old new Read first = absurd first
 talked_cut before after s old new TooLong first = absurd first
 talked_cut before after s old new NoScriptLine first = absurd first
-talked_cut before after s old new (Topology line cause) first = absurd first
+talked_cut before after s old new (Topology line cause word) first = absurd first
 talked_cut before after s old new (Edid cause) first = absurd first
 talked_cut before after s old new (Script line cause) first = absurd first
 talked_cut before after s old new Memory first = absurd first
@@ -45,7 +45,7 @@ quiet_cut (Write count) e P f = f count
 quiet_cut Read e P f = absurd (false≢true e)
 quiet_cut TooLong e P f = absurd (false≢true e)
 quiet_cut NoScriptLine e P f = absurd (false≢true e)
-quiet_cut (Topology line cause) e P f = absurd (false≢true e)
+quiet_cut (Topology line cause word) e P f = absurd (false≢true e)
 quiet_cut (Edid cause) e P f = absurd (false≢true e)
 quiet_cut (Script line cause) e P f = absurd (false≢true e)
 quiet_cut Memory e P f = absurd (false≢true e)
@@ -63,7 +63,7 @@ answered_is before mid after s old put new topology (Err Read) run a = inr (run,
 answered_is before mid after s old put new topology (Err TooLong) run a = inr (run, a)
 answered_is before mid after s old put new topology (Err Memory) run a = inr (run, a)
 answered_is before mid after s old put new topology (Err NoScriptLine) run a = absurd a
-answered_is before mid after s old put new topology (Err (Topology line cause)) run a = absurd a
+answered_is before mid after s old put new topology (Err (Topology line cause word)) run a = absurd a
 answered_is before mid after s old put new topology (Err (Edid cause)) run a = absurd a
 
 pub session_is : (before mid after : Option (List ℕ)) (s : Session) (old new : Option (List ℕ)) (topology : List ℕ) (result : Result Unit SessionError) → IsOpened before mid topology → HasBegun topology s
@@ -76,7 +76,7 @@ session_is before mid after s old new topology (Err error) opened begins (inr (f
 
 -- the topology is refused
 pub refused_is : (before mid after old : Option (List ℕ)) (topology : List ℕ) (error : SessionError) → IsOpened before mid topology → IsTopologyFault topology error → IsSession before after old old (Err error)
-refused_is before mid after old topology (Topology line cause) opened fault = ((topology, mid, opened, fault), refl)
+refused_is before mid after old topology (Topology line cause word) opened fault = ((topology, mid, opened, fault), refl)
 refused_is before mid after old topology (Edid cause) opened fault = ((topology, mid, opened, fault), refl)
 refused_is before mid after old topology Memory opened fault = inl refl
 refused_is before mid after old topology Read opened fault = absurd fault
@@ -86,7 +86,7 @@ refused_is before mid after old topology (Script line cause) opened fault = absu
 refused_is before mid after old topology (Write count) opened fault = absurd fault
 
 pub refused_quiet : (topology : List ℕ) (error : SessionError) → IsTopologyFault topology error → (let r : Result Unit SessionError = Err error in is_write r) ≡ false
-refused_quiet topology (Topology line cause) fault = refl
+refused_quiet topology (Topology line cause word) fault = refl
 refused_quiet topology (Edid cause) fault = refl
 refused_quiet topology Memory fault = refl
 refused_quiet topology Read fault = absurd fault
@@ -101,7 +101,7 @@ unopened_is before mid after old NoScriptLine none = (none, refl)
 unopened_is before mid after old Read none = inl refl
 unopened_is before mid after old TooLong none = inl refl
 unopened_is before mid after old Memory none = inl refl
-unopened_is before mid after old (Topology line cause) none = absurd none
+unopened_is before mid after old (Topology line cause word) none = absurd none
 unopened_is before mid after old (Edid cause) none = absurd none
 unopened_is before mid after old (Script line cause) none = absurd none
 unopened_is before mid after old (Write count) none = absurd none
@@ -111,7 +111,7 @@ unopened_quiet before mid NoScriptLine none = refl
 unopened_quiet before mid Read none = refl
 unopened_quiet before mid TooLong none = refl
 unopened_quiet before mid Memory none = refl
-unopened_quiet before mid (Topology line cause) none = absurd none
+unopened_quiet before mid (Topology line cause word) none = absurd none
 unopened_quiet before mid (Edid cause) none = absurd none
 unopened_quiet before mid (Script line cause) none = absurd none
 unopened_quiet before mid (Write count) none = absurd none

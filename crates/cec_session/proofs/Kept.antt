@@ -5,7 +5,7 @@ use Rattle.hdmi_topo.specs.Node.{Node}
 use Rattle.cec_incoming.specs.Incoming.{IsWhole}
 use Rattle.cec_incoming.proofs.Coming.{lines_again}
 use Rattle.cec_asm.specs.Script.{Course, Notes, ScriptFault, IsLineRead, AreLinesRead, ended, no_notes}
-use Rattle.cec_asm.specs.declared.script.ScriptCause.{ScriptCause}
+use Rattle.cec_asm.specs.declared.fault.LineFault.{LineFault}
 use Rattle.cec_run.specs.Run.{Config}
 use Rattle.cec_session.specs.declared.answer.Refusal.TheVariants.{Past}
 use Rattle.cec_session.specs.declared.command.Command.{Command}
@@ -84,9 +84,9 @@ taken_reads s line new false t read e stands =
     keeps None = refl
     keeps (Some end) = refl
 
-noted_reads : (s : Session) (line : List ℕ) (read : Result Notes ScriptCause) (t : Session) → IsLineRead s.tree s.notes s.lines line read → t ≡ with_standing s (noted (standing s) read)
+noted_reads : (s : Session) (line : List ℕ) (read : Result Notes LineFault) (t : Session) → IsLineRead s.tree s.notes s.lines line read → t ≡ with_standing s (noted (standing s) read)
     → Reads s (kept_line commands.Script (step_noted (standing s) read) line) t
-noted_reads s line (Err cause) t is stands = refused_reads s t stands
+noted_reads s line (Err fault) t is stands = refused_reads s t stands
 noted_reads s line (Ok new) t is stands = taken_reads s line new (is_late (standing s) new) t is refl stands
 
 step_reads : (s : Session) (command : Command) (line : List ℕ) (step : Step) (t : Session) → IsStepBy s command line step t → Reads s (kept_line command step line) t

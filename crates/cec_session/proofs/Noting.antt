@@ -5,7 +5,7 @@ use Rattle.cec_wave.specs.declared.Stretch.{Stretch}
 use Rattle.cec_net.specs.State.{NetState}
 use Rattle.cec_asm.specs.Script.{Notes, IsLineRead}
 use Rattle.cec_asm.specs.declared.script.TimedEvent.{TimedEvent}
-use Rattle.cec_asm.specs.declared.script.ScriptCause.{ScriptCause}
+use Rattle.cec_asm.specs.declared.fault.LineFault.{LineFault}
 use Rattle.cec_asm.proofs.Sound.{AreSound, line-keeps}
 use Rattle.cec_live.specs.Certain.{with_pulses}
 use Rattle.cec_session.specs.declared.answer.Refusal.TheVariants.{Past}
@@ -152,9 +152,9 @@ kept_taken s new line applied left few r read =
           ∙ ap (λ (es : List TimedEvent). s.place.events ++ es) (sym added);
     }
 
-pub kept : (s : Session) (t : Standing) (line : List ℕ) (applied : ℕ) (read : Result Notes ScriptCause) → s.place.events ≡ drop applied s.notes.events → applied ≤ length s.notes.events → IsReady s
+pub kept : (s : Session) (t : Standing) (line : List ℕ) (applied : ℕ) (read : Result Notes LineFault) → s.place.events ≡ drop applied s.notes.events → applied ≤ length s.notes.events → IsReady s
     → IsLineRead s.tree s.notes s.lines line read → t ≡ noted (standing s) read → IsKept s t applied
-kept s t line applied (Err cause) left few r read e = subst (λ (t : Standing). IsKept s t applied) (sym e) (kept_same s applied left few r)
+kept s t line applied (Err fault) left few r read e = subst (λ (t : Standing). IsKept s t applied) (sym e) (kept_same s applied left few r)
 kept s t line applied (Ok new) left few r read e =
     elim (noted_cases (standing s) new (is_late (standing s) new) refl) [
       | inl same ↦ subst (λ (t : Standing). IsKept s t applied) (sym (e ∙ same)) (kept_same s applied left few r)

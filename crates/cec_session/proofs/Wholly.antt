@@ -12,7 +12,7 @@ use Rattle.cec_net.specs.State.{started}
 use Rattle.cec_net.proofs.Framed.{framed-started}
 use Rattle.cec_asm.specs.Script.{Notes, IsLineRead}
 use Rattle.cec_asm.specs.declared.script.TimedEvent.{TimedEvent}
-use Rattle.cec_asm.specs.declared.script.ScriptCause.{ScriptCause}
+use Rattle.cec_asm.specs.declared.fault.LineFault.{LineFault}
 use Rattle.cec_asm.proofs.Sound.{AreSound, line-keeps, sound_start}
 use Rattle.cec_run.specs.declared.run.Telling.TheVariants.{Trace}
 use Rattle.cec_run.specs.declared.run.Turn.{Turn}
@@ -149,10 +149,10 @@ asked_late edid tree s told line new false e r going read =
     ended None h = subst (λ (end : Option ℕ). EndBy (step_by end) (with_standing s (record { notes = new; horizon = horizon_by s.horizon end; net = record s.place.net { pulses = s.place.net.pulses ++ new_pulses s.notes new } }))) (sym h) h
     ended (Some end) h = subst (λ (end : Option ℕ). EndBy (step_by end) (with_standing s (record { notes = new; horizon = horizon_by s.horizon end; net = record s.place.net { pulses = s.place.net.pulses ++ new_pulses s.notes new } }))) (sym h) h
 
-asked_read : (edid : Option Edid) (tree : List Node) (s : Session) (told line : List ℕ) (read : Result Notes ScriptCause) → SoFar edid tree s told → s.notes.end ≡ None
+asked_read : (edid : Option Edid) (tree : List Node) (s : Session) (told line : List ℕ) (read : Result Notes LineFault) → SoFar edid tree s told → s.notes.end ≡ None
     → IsLineRead s.tree s.notes s.lines line read → Asked edid tree (step_noted (standing s) read) (with_standing s (noted (standing s) read)) told
-asked_read edid tree s told line (Err cause) r going read =
-    subst (λ (t : Session). Asked edid tree (Refuse (Script cause)) t told) (sym (same_standing s)) (record { so_far = r; ended = going })
+asked_read edid tree s told line (Err fault) r going read =
+    subst (λ (t : Session). Asked edid tree (Refuse (Script fault.cause)) t told) (sym (same_standing s)) (record { so_far = r; ended = going })
 asked_read edid tree s told line (Ok new) r going read = asked_late edid tree s told line new (is_late (standing s) new) refl r going read
 
 -- ---- its other lines
