@@ -186,6 +186,10 @@ pulse_fault faults.Close = at_word 1 Close
 pulse_fault faults.Order = at_word 1 Order
 pulse_fault faults.TooMany = at_word 0 TooMany
 
+-- the end of the last pulse
+abbrev pub last_end : List Stretch → Option ℕ
+last_end pulses = option_map (λ pulse. pulse.to) (slice_get pulses (length pulses - 1))
+
 -- a pulse behind the others: narrow and far enough from the last, one of at most 4,096, and no `end` stands above it
 abbrev pub unless_fault : Option PulsesError → Notes → Stretch → Result Notes LineFault
 unless_fault (Some fault) notes pulse = Err (pulse_fault fault)
