@@ -1,4 +1,5 @@
 pub mod KeyLemmas
 pub mod Reading
+pub mod Adding
 pub mod Sound
 pub mod OneReading

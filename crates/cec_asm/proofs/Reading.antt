@@ -37,7 +37,7 @@ gives_send tree notes now line time name frame words result at device r split sa
     (send_words tree notes line time name frame (words_of frame) r (words_of-some frame) (text_of-words_of frame) is))
 
 -- the first of some lines, and those behind it
-pub line_read : (tree : List Node) (texts after : List (List ℕ)) (text : List ℕ) (line : ℕ) (notes next : Notes) (read : Result Course ScriptFault) → texts ≡ text ∷ after → IsLineRead tree notes line text (Ok next)
+pub line_read : (tree : List Node) (texts after : List (List ℕ)) (text : List ℕ) (line : ℕ) (notes next : Notes) (read : Result Course ScriptFault) → texts ≡ text ∷ after → IsLineRead tree notes (length notes.pulses) line text (Ok next)
     → AreLinesRead tree after (line + 1) next read → AreLinesRead tree texts line notes read
 line_read tree texts after text line notes next read split first rest =
     let P : List (List ℕ) → Type 0 = λ t. AreLinesRead tree t line notes read in subst P (sym split) (Ok next, first, rest)

@@ -190,26 +190,27 @@ pulse_fault faults.TooMany = at_word 0 TooMany
 abbrev pub last_end : List Stretch → Option ℕ
 last_end pulses = option_map (λ pulse. pulse.to) (slice_get pulses (length pulses - 1))
 
--- a pulse behind the others: narrow and far enough from the last, one of at most 4,096, and no `end` stands above it
-abbrev pub unless_fault : Option PulsesError → Notes → Stretch → Result Notes LineFault
-unless_fault (Some fault) notes pulse = Err (pulse_fault fault)
-unless_fault None notes pulse =
-    if nat_le 4096 (length notes.pulses) then Err (at_word 0 TooMany)
+-- a pulse behind the others: narrow and far enough from the last, one of at most 4,096 with those that wait, and no `end`
+-- stands above it
+abbrev pub unless_fault : Option PulsesError → Notes → ℕ → Stretch → Result Notes LineFault
+unless_fault (Some fault) notes waiting pulse = Err (pulse_fault fault)
+unless_fault None notes waiting pulse =
+    if nat_le 4096 waiting then Err (at_word 0 TooMany)
     else if is_some notes.end then Err (at_word 0 End)
     else Ok (record notes { pulses = notes.pulses ++ pulse ∷ [] })
 
-abbrev pub pulsed : Notes → Stretch → Result Notes LineFault
-pulsed notes pulse = unless_fault (stretch_fault (last_end notes.pulses) pulse) notes pulse
+abbrev pub pulsed : Notes → ℕ → Stretch → Result Notes LineFault
+pulsed notes waiting pulse = unless_fault (stretch_fault (last_end notes.pulses) pulse) notes waiting pulse
 
 -- `pulse T WIDTH`; a width above 65,535 counts as 65,535
-abbrev pub pulse_read : Notes → Option ℕ → Option ℕ → Result Notes LineFault
-pulse_read notes None width = Err (at_word 1 Number)
-pulse_read notes (Some time) None = Err (at_word 2 Number)
-pulse_read notes (Some time) (Some width) = pulsed notes (record { from = time; to = time + min width 65535 })
+abbrev pub pulse_read : Notes → ℕ → Option ℕ → Option ℕ → Result Notes LineFault
+pulse_read notes waiting None width = Err (at_word 1 Number)
+pulse_read notes waiting (Some time) None = Err (at_word 2 Number)
+pulse_read notes waiting (Some time) (Some width) = pulsed notes waiting (record { from = time; to = time + min width 65535 })
 
-abbrev pub pulse_words : Notes → ℕ → Option (List ℕ × List ℕ) → Result Notes LineFault
-pulse_words notes count None = Err (misfit 1 count 2)
-pulse_words notes count (Some words) = pulse_read notes (time_of words.0) (number_of words.1)
+abbrev pub pulse_words : Notes → ℕ → ℕ → Option (List ℕ × List ℕ) → Result Notes LineFault
+pulse_words notes waiting count None = Err (misfit 1 count 2)
+pulse_words notes waiting count (Some words) = pulse_read notes waiting (time_of words.0) (number_of words.1)
 
 -- `end T`: one alone, after every event
 abbrev pub end_read : Notes → Option ℕ → Result Notes LineFault
@@ -226,22 +227,22 @@ end_words notes count (Some word) = end_read notes (time_of word)
 -- ---- lines
 
 -- the lines that are no events
-abbrev pub other_words : Notes → List ℕ → List (List ℕ) → Result Notes LineFault
-other_words notes verb words =
-    if bytes_eq verb (codes "pulse") then pulse_words notes (length words) (two_of words)
+abbrev pub other_words : Notes → ℕ → List ℕ → List (List ℕ) → Result Notes LineFault
+other_words notes waiting verb words =
+    if bytes_eq verb (codes "pulse") then pulse_words notes waiting (length words) (two_of words)
     else if bytes_eq verb (codes "end") then end_words notes (length words) (one_of words)
     else Err (at_word 0 Word)
 
 -- a line by its words
-abbrev pub IsWordsRead : List Node → Notes → ℕ → List (List ℕ) → Result Notes LineFault → Type 0
-IsWordsRead tree notes line [] read = read ≡ Err (at_word 0 Word)
-IsWordsRead tree notes line (verb ∷ words) read =
-    cond {A = Type 0} (bytes_eq verb (codes "at")) (IsEventRead tree notes line words read) (read ≡ other_words notes verb words)
+abbrev pub IsWordsRead : List Node → Notes → ℕ → ℕ → List (List ℕ) → Result Notes LineFault → Type 0
+IsWordsRead tree notes waiting line [] read = read ≡ Err (at_word 0 Word)
+IsWordsRead tree notes waiting line (verb ∷ words) read =
+    cond {A = Type 0} (bytes_eq verb (codes "at")) (IsEventRead tree notes line words read) (read ≡ other_words notes waiting verb words)
 
--- what a line makes of the notes
-abbrev pub IsLineRead : List Node → Notes → ℕ → List ℕ → Result Notes LineFault → Type 0
-IsLineRead tree notes line text read =
-    cond {A = Type 0} (is_skipped text) (read ≡ Ok notes) (IsWordsRead tree notes line (words_of text) read)
+-- what a line makes of the notes, where so many of their pulses wait to be taken into a round
+abbrev pub IsLineRead : List Node → Notes → ℕ → ℕ → List ℕ → Result Notes LineFault → Type 0
+IsLineRead tree notes waiting line text read =
+    cond {A = Type 0} (is_skipped text) (read ≡ Ok notes) (IsWordsRead tree notes waiting line (words_of text) read)
 
 -- the first line at fault, and its word
 pub record ScriptFault : Type 0 where
@@ -261,12 +262,12 @@ abbrev pub Onward : ℕ → Result Notes LineFault → (Notes → Type 0) → Re
 Onward line (Ok notes) rest read = rest notes
 Onward line (Err fault) rest read = read ≡ Err (fault_at line fault)
 
--- what the lines from this number on make of the notes: a script, or the first fault
+-- what the lines from this number on make of the notes: a script, or the first fault. All pulses of a script wait for its run.
 abbrev pub AreLinesRead : List Node → List (List ℕ) → ℕ → Notes → Result Course ScriptFault → Type 0
 AreLinesRead tree [] line notes read = read ≡ ended notes line notes.end
 AreLinesRead tree (text ∷ texts) line notes read =
     (now : Result Notes LineFault)
-    × IsLineRead tree notes line text now
+    × IsLineRead tree notes (length notes.pulses) line text now
     × Onward line now (λ next. AreLinesRead tree texts (line + 1) next read) read
 
 -- the script of a text for the devices of a tree, or its first fault

@@ -43,7 +43,7 @@ pub enum ScriptCause {
     Order,
     /// A pulse less than 25,000 microseconds after the end of the one above.
     Close,
-    /// A pulse behind 4,096 others.
+    /// A pulse behind 4,096 others that wait.
     TooMany,
     /// No `end`, a line behind it, or one that is not after every event.
     End,
@@ -401,14 +401,14 @@ fn pulse_fault(fault: PulsesError) -> LineFault
     }
 }
 
-fn add_pulse(draft: &mut Draft, pulse: Stretch) -> Result<(), LineError>
-    ensures gives { GivesNotes (notes_of draft.new) result (pulsed (notes_of draft.old) pulse) }
+fn add_pulse(draft: &mut Draft, waiting: usize, pulse: Stretch) -> Result<(), LineError>
+    ensures gives { GivesNotes (notes_of draft.new) result (pulsed (notes_of draft.old) waiting pulse) }
     ensures kept { OnErr result (notes_of draft.new ≡ notes_of draft.old) }
 {
     if let Some(fault) = stretch_fault(last_end(&draft.pulses), pulse) {
         return Err(LineError::Fault(pulse_fault(fault)));
     }
-    if draft.pulses.len() >= MOST_PULSES {
+    if waiting >= MOST_PULSES {
         return Err(LineError::Fault(at_word(0, ScriptCause::TooMany)));
     }
     if draft.end.is_some() {
@@ -419,8 +419,8 @@ fn add_pulse(draft: &mut Draft, pulse: Stretch) -> Result<(), LineError>
 }
 
 /// Takes the words behind `pulse`.
-fn take_pulse(draft: &mut Draft, rest: Option<&[u8]>) -> Result<(), LineError>
-    ensures gives { GivesNotes (notes_of draft.new) result (pulse_words (notes_of draft.old) (length (words_behind (option_copied rest.entry))) (two_of (words_behind (option_copied rest.entry)))) }
+fn take_pulse(draft: &mut Draft, waiting: usize, rest: Option<&[u8]>) -> Result<(), LineError>
+    ensures gives { GivesNotes (notes_of draft.new) result (pulse_words (notes_of draft.old) waiting (length (words_behind (option_copied rest.entry))) (two_of (words_behind (option_copied rest.entry)))) }
     ensures kept { OnErr result (notes_of draft.new ≡ notes_of draft.old) }
 {
     let Some((from, width)) = two_words(rest) else {
@@ -433,7 +433,7 @@ fn take_pulse(draft: &mut Draft, rest: Option<&[u8]>) -> Result<(), LineError>
         return Err(LineError::Fault(at_word(2, ScriptCause::Number)));
     };
     let to = from + width.min(WIDEST_COUNTED);
-    add_pulse(draft, Stretch { from, to })
+    add_pulse(draft, waiting, Stretch { from, to })
 }
 
 /// Takes the word behind `end`.
@@ -512,12 +512,17 @@ fn take_event(
 }
 
 /// Takes the words of a line that is no event.
-fn take_other(draft: &mut Draft, verb: &[u8], rest: Option<&[u8]>) -> Result<(), LineError>
-    ensures gives { GivesNotes (notes_of draft.new) result (other_words (notes_of draft.old) verb.now (words_behind (option_copied rest.entry))) }
+fn take_other(
+    draft: &mut Draft,
+    waiting: usize,
+    verb: &[u8],
+    rest: Option<&[u8]>,
+) -> Result<(), LineError>
+    ensures gives { GivesNotes (notes_of draft.new) result (other_words (notes_of draft.old) waiting verb.now (words_behind (option_copied rest.entry))) }
     ensures kept { OnErr result (notes_of draft.new ≡ notes_of draft.old) }
 {
     if verb == b"pulse".as_slice() {
-        take_pulse(draft, rest)
+        take_pulse(draft, waiting, rest)
     } else if verb == b"end".as_slice() {
         take_end(draft, rest)
     } else {
@@ -525,14 +530,16 @@ fn take_other(draft: &mut Draft, verb: &[u8], rest: Option<&[u8]>) -> Result<(),
     }
 }
 
-/// Takes a line, the one of this number.
+/// Takes a line, the one of this number. So many pulses of the lines before it wait to be taken into a round: all of them,
+/// where the run has not begun.
 pub fn take_line(
     tree: &Tree<15>,
     draft: &mut Draft,
+    waiting: usize,
     number: u64,
     line: &[u8],
 ) -> Result<(), LineError>
-    ensures gives { Gives (notes_of draft.new) result (IsLineRead tree.now (notes_of draft.old) number line.now) }
+    ensures gives { Gives (notes_of draft.new) result (IsLineRead tree.now (notes_of draft.old) waiting number line.now) }
     ensures kept { OnErr result (notes_of draft.new ≡ notes_of draft.old) }
 {
     if is_skipped(line) {
@@ -542,7 +549,7 @@ pub fn take_line(
     if verb == b"at".as_slice() {
         take_event(tree, draft, number, rest)
     } else {
-        take_other(draft, verb, rest)
+        take_other(draft, waiting, verb, rest)
     }
 }
 
@@ -582,7 +589,8 @@ pub fn parse_script(alloc: Global, topology: &Topology, text: &[u8]) -> Result<S
     let mut rest = text;
     let mut number = 1;
     while let Some((line, after)) = first_line(rest) {
-        if let Err(error) = take_line(tree, &mut draft, number, line) {
+        let waiting = draft.pulses.len();
+        if let Err(error) = take_line(tree, &mut draft, waiting, number, line) {
             return Err(error_at(number, error));
         }
         rest = after;

@@ -222,7 +222,7 @@ event_takes tree line time verb words notes next h =
 -- what a line gives, and then one of the script that ends earlier
 record Goes (tree : List Node) (time line : ℕ) (text cut : List ℕ) (notes next : Notes) : Type 0 where
   pub order : AreInOrder next.events
-  pub cut_is : IsLineRead tree (cut_notes time notes) line cut (Ok (cut_notes time next))
+  pub cut_is : IsLineRead tree (cut_notes time notes) (length notes.pulses) line cut (Ok (cut_notes time next))
 
 some_end : (time : ℕ) (end : Option ℕ) → is_some (option_map (λ (t : ℕ). time) end) ≡ is_some end
 some_end time None = refl
@@ -298,7 +298,7 @@ in_limit (Some m) t e = by (nat_lt 1000000000000 m) e
 
 -- a line with an event, where it is not skipped
 event_goes : (tree : List Node) (time line at : ℕ) (text : List ℕ) (event : Event) (notes next : Notes) → AreInOrder notes.events → Taken notes line at event next
-    → ((n : Notes) → IsLineRead tree n line text (scheduled n line at event)) → Goes tree time line text (if nat_lt at time then text else []) notes next
+    → ((n : Notes) → IsLineRead tree n (length n.pulses) line text (scheduled n line at event)) → Goes tree time line text (if nat_lt at time then text else []) notes next
 event_goes tree time line at text event notes next order t reads = record {
   order = subst (λ (n : Notes). AreInOrder n.events) (sym t.next_is) (order_push notes.events (record { line = line; at = at; event = event }) order (not_before at (last_time notes.events) t.after));
   cut_is = by (nat_lt at time) refl;
@@ -307,13 +307,13 @@ event_goes tree time line at text event notes next order t reads = record {
     not_before : (a l : ℕ) → nat_lt a l ≡ false → l ≤ a
     not_before a l h = grind (arith, nat_tests)
 
-    by : (b : Bool) → nat_lt at time ≡ b → IsLineRead tree (cut_notes time notes) line (if b then text else []) (Ok (cut_notes time next))
-    by true e = subst (λ r. IsLineRead tree (cut_notes time notes) line text r) (early_kept notes next line at time event order t e) (reads (cut_notes time notes))
+    by : (b : Bool) → nat_lt at time ≡ b → IsLineRead tree (cut_notes time notes) (length notes.pulses) line (if b then text else []) (Ok (cut_notes time next))
+    by true e = subst (λ r. IsLineRead tree (cut_notes time notes) (length notes.pulses) line text r) (early_kept notes next line at time event order t e) (reads (cut_notes time notes))
     by false e = ap Ok (late_gone notes next line at time event t e)
 
 -- the words of a line that an event's verb begins
 at_goes : (tree : List Node) (time line : ℕ) (text : List ℕ) (words : List (List ℕ)) (notes next : Notes) → AreInOrder notes.events → IsEventRead tree notes line words (Ok next)
-    → ((n : Notes) (read : Result Notes LineFault) → IsEventRead tree n line words read → IsLineRead tree n line text read) → (verb : List ℕ)
+    → ((n : Notes) (read : Result Notes LineFault) → IsEventRead tree n line words read → IsLineRead tree n (length n.pulses) line text read) → (verb : List ℕ)
     → Goes tree time line text (if is_before time (verb ∷ words) then text else []) notes next
 at_goes tree time line text [] notes next order h up verb = cc
 at_goes tree time line text (at ∷ []) notes next order h up verb = cc
@@ -325,7 +325,7 @@ at_goes tree time line text (word ∷ kind ∷ words) notes next order h up verb
 
 -- ---- pulses
 
-pulse_goes : (time : ℕ) (notes next : Notes) (many : ℕ) (words : Option (List ℕ × List ℕ)) → Ok next ≡ pulse_words notes many words → (next.events ≡ notes.events) × (pulse_words (cut_notes time notes) many words ≡ Ok (cut_notes time next))
+pulse_goes : (time : ℕ) (notes next : Notes) (many : ℕ) (words : Option (List ℕ × List ℕ)) → Ok next ≡ pulse_words notes (length notes.pulses) many words → (next.events ≡ notes.events) × (pulse_words (cut_notes time notes) (length notes.pulses) many words ≡ Ok (cut_notes time next))
 pulse_goes time notes next many None e = cc
 pulse_goes time notes next many (Some w) e = read (time_of w.0) (number_of w.1) e
   where
@@ -341,11 +341,11 @@ pulse_goes time notes next many (Some w) e = read (time_of w.0) (number_of w.1) 
         let unended : is_some (option_map (λ (t : ℕ). time) notes.end) ≡ false = some_end time notes.end ∙ p in
         (ap (λ (n : Notes). n.events) same, ap (λ b. if b then Err (at_word 0 End) else Ok (more pulse (cut_notes time notes))) unended ∙ ap (λ (n : Notes). Ok (cut_notes time n)) (sym same))
 
-    faulted : (o : Option PulsesError) (pulse : Stretch) → Ok next ≡ unless_fault o notes pulse → (next.events ≡ notes.events) × (unless_fault o (cut_notes time notes) pulse ≡ Ok (cut_notes time next))
+    faulted : (o : Option PulsesError) (pulse : Stretch) → Ok next ≡ unless_fault o notes (length notes.pulses) pulse → (next.events ≡ notes.events) × (unless_fault o (cut_notes time notes) (length notes.pulses) pulse ≡ Ok (cut_notes time next))
     faulted None pulse e = by (nat_le 4096 (length notes.pulses)) (is_some notes.end) pulse refl e
     faulted (Some fault) pulse e = cc
 
-    read : (from width : Option ℕ) → Ok next ≡ pulse_read notes from width → (next.events ≡ notes.events) × (pulse_read (cut_notes time notes) from width ≡ Ok (cut_notes time next))
+    read : (from width : Option ℕ) → Ok next ≡ pulse_read notes (length notes.pulses) from width → (next.events ≡ notes.events) × (pulse_read (cut_notes time notes) (length notes.pulses) from width ≡ Ok (cut_notes time next))
     read None width e = cc
     read (Some from) None e = cc
     read (Some from) (Some width) e =
@@ -406,38 +406,38 @@ end_cut time notes low unended =
     chosen false false n p q = refl
 
 end_goes : (tree : List Node) (time line : ℕ) (notes next : Notes) (many : ℕ) (word : Option (List ℕ)) → time ≤ 1000000000000 → Ok next ≡ end_words notes many word
-    → (next.events ≡ notes.events) × IsLineRead tree (cut_notes time notes) line (end_line time) (Ok (cut_notes time next))
+    → (next.events ≡ notes.events) × IsLineRead tree (cut_notes time notes) (length notes.pulses) line (end_line time) (Ok (cut_notes time next))
 end_goes tree time line notes next many word low e =
     let given = end_given notes next many word e in
     let read : Ok (cut_notes time next) ≡ end_words (cut_notes time notes) 1 (Some (decimal time)) =
     ap (λ (n : Notes). Ok (cut_notes time n)) given.2 ∙ sym (end_cut time notes low given.1) in
-    let worded : IsWordsRead tree (cut_notes time notes) line (words_of (end_line time)) (Ok (cut_notes time next)) =
-    subst (λ ws. IsWordsRead tree (cut_notes time notes) line ws (Ok (cut_notes time next))) (sym (end_line_words time (omega (arith, low)))) read in (
+    let worded : IsWordsRead tree (cut_notes time notes) (length notes.pulses) line (words_of (end_line time)) (Ok (cut_notes time next)) =
+    subst (λ ws. IsWordsRead tree (cut_notes time notes) (length notes.pulses) line ws (Ok (cut_notes time next))) (sym (end_line_words time (omega (arith, low)))) read in (
       ap (λ (n : Notes). n.events) given.2,
-      subst (λ b. cond {A = Type 0} b (AreSame (cut_notes time next) (cut_notes time notes)) (IsWordsRead tree (cut_notes time notes) line (words_of (end_line time)) (Ok (cut_notes time next)))) (sym (end_line_told time)) worded,
+      subst (λ b. cond {A = Type 0} b (AreSame (cut_notes time next) (cut_notes time notes)) (IsWordsRead tree (cut_notes time notes) (length notes.pulses) line (words_of (end_line time)) (Ok (cut_notes time next)))) (sym (end_line_told time)) worded,
     )
 
 -- ---- a line
 
 -- what a line that is not skipped gives by its words
-told_line : (tree : List Node) (n : Notes) (line : ℕ) (text : List ℕ) (read : Result Notes LineFault) → is_skipped text ≡ false → IsWordsRead tree n line (words_of text) read → IsLineRead tree n line text read
-told_line tree n line text read e h = subst (λ b. cond {A = Type 0} b (read ≡ Ok n) (IsWordsRead tree n line (words_of text) read)) (sym e) h
+told_line : (tree : List Node) (n : Notes) (line : ℕ) (text : List ℕ) (read : Result Notes LineFault) → is_skipped text ≡ false → IsWordsRead tree n (length n.pulses) line (words_of text) read → IsLineRead tree n (length n.pulses) line text read
+told_line tree n line text read e h = subst (λ b. cond {A = Type 0} b (read ≡ Ok n) (IsWordsRead tree n (length n.pulses) line (words_of text) read)) (sym e) h
 
 in_order : (notes next : Notes) → next.events ≡ notes.events → AreInOrder notes.events → AreInOrder next.events
 in_order notes next e order = subst (λ (es : List TimedEvent). AreInOrder es) (sym e) order
 
 -- the words of a line that is no event
 other_goes : (tree : List Node) (time line : ℕ) (text verb : List ℕ) (words : List (List ℕ)) (notes next : Notes) → time ≤ 1000000000000 → AreInOrder notes.events → is_skipped text ≡ false
-    → words_of text ≡ verb ∷ words → bytes_eq verb (codes "at") ≡ false → Ok next ≡ other_words notes verb words
+    → words_of text ≡ verb ∷ words → bytes_eq verb (codes "at") ≡ false → Ok next ≡ other_words notes (length notes.pulses) verb words
     → Goes tree time line text (if bytes_eq verb (codes "end") then end_line time else text) notes next
 other_goes tree time line text verb words notes next low order told split no_at e =
     pulse (bytes_eq verb (codes "pulse")) refl e
   where
-    kept : Ok (cut_notes time next) ≡ other_words (cut_notes time notes) verb words → IsLineRead tree (cut_notes time notes) line text (Ok (cut_notes time next))
+    kept : Ok (cut_notes time next) ≡ other_words (cut_notes time notes) (length notes.pulses) verb words → IsLineRead tree (cut_notes time notes) (length notes.pulses) line text (Ok (cut_notes time next))
     kept r =
-        let worded : IsWordsRead tree (cut_notes time notes) line (verb ∷ words) (Ok (cut_notes time next)) =
-        subst (λ b. cond {A = Type 0} b (IsEventRead tree (cut_notes time notes) line words (Ok (cut_notes time next))) (Ok (cut_notes time next) ≡ other_words (cut_notes time notes) verb words)) (sym no_at) r in
-        told_line tree (cut_notes time notes) line text (Ok (cut_notes time next)) told (subst (λ ws. IsWordsRead tree (cut_notes time notes) line ws (Ok (cut_notes time next))) (sym split) worded)
+        let worded : IsWordsRead tree (cut_notes time notes) (length notes.pulses) line (verb ∷ words) (Ok (cut_notes time next)) =
+        subst (λ b. cond {A = Type 0} b (IsEventRead tree (cut_notes time notes) line words (Ok (cut_notes time next))) (Ok (cut_notes time next) ≡ other_words (cut_notes time notes) (length notes.pulses) verb words)) (sym no_at) r in
+        told_line tree (cut_notes time notes) line text (Ok (cut_notes time next)) told (subst (λ ws. IsWordsRead tree (cut_notes time notes) (length notes.pulses) line ws (Ok (cut_notes time next))) (sym split) worded)
 
     no_end : bytes_eq verb (codes "pulse") ≡ true → bytes_eq verb (codes "end") ≡ false
     no_end p = ap (λ v. bytes_eq v (codes "end")) ((bytes_eq-Decides verb (codes "pulse")).0 p)
@@ -449,12 +449,12 @@ other_goes tree time line text verb words notes next low order told split no_at 
         let g = end_goes tree time line notes next (length words) (one_of words) low e in
         record { order = in_order notes next g.0 order; cut_is = g.1 }
 
-    pulse : (b : Bool) → bytes_eq verb (codes "pulse") ≡ b → Ok next ≡ (if b then pulse_words notes (length words) (two_of words) else if bytes_eq verb (codes "end") then end_words notes (length words) (one_of words) else Err (at_word 0 Word))
+    pulse : (b : Bool) → bytes_eq verb (codes "pulse") ≡ b → Ok next ≡ (if b then pulse_words notes (length notes.pulses) (length words) (two_of words) else if bytes_eq verb (codes "end") then end_words notes (length words) (one_of words) else Err (at_word 0 Word))
         → Goes tree time line text (if bytes_eq verb (codes "end") then end_line time else text) notes next
     pulse true p e =
         let g = pulse_goes time notes next (length words) (two_of words) e in
-        let read : Ok (cut_notes time next) ≡ other_words (cut_notes time notes) verb words =
-        sym (ap (λ b. if b then pulse_words (cut_notes time notes) (length words) (two_of words) else if bytes_eq verb (codes "end") then end_words (cut_notes time notes) (length words) (one_of words) else Err (at_word 0 Word)) p ∙ g.1) in
+        let read : Ok (cut_notes time next) ≡ other_words (cut_notes time notes) (length notes.pulses) verb words =
+        sym (ap (λ b. if b then pulse_words (cut_notes time notes) (length notes.pulses) (length words) (two_of words) else if bytes_eq verb (codes "end") then end_words (cut_notes time notes) (length words) (one_of words) else Err (at_word 0 Word)) p ∙ g.1) in
         subst (λ b. Goes tree time line text (if b then end_line time else text) notes next) (sym (no_end p)) (record { order = in_order notes next g.0 order; cut_is = kept read })
     pulse false p e = end (bytes_eq verb (codes "end")) p refl e
 
@@ -463,31 +463,31 @@ abbrev cut_words : ℕ → List ℕ → List (List ℕ) → List ℕ
 cut_words time text words = if is_event words then (if is_before time words then text else []) else if has_verb (codes "end") words then end_line time else text
 
 words_go : (tree : List Node) (time line : ℕ) (text : List ℕ) (words : List (List ℕ)) (notes next : Notes) → time ≤ 1000000000000 → AreInOrder notes.events → is_skipped text ≡ false → words_of text ≡ words
-    → IsWordsRead tree notes line words (Ok next) → Goes tree time line text (cut_words time text words) notes next
+    → IsWordsRead tree notes (length notes.pulses) line words (Ok next) → Goes tree time line text (cut_words time text words) notes next
 words_go tree time line text [] notes next low order told split h = cc
 words_go tree time line text (verb ∷ words) notes next low order told split h = by (bytes_eq verb (codes "at")) refl h
   where
-    up : bytes_eq verb (codes "at") ≡ true → (n : Notes) (read : Result Notes LineFault) → IsEventRead tree n line words read → IsLineRead tree n line text read
+    up : bytes_eq verb (codes "at") ≡ true → (n : Notes) (read : Result Notes LineFault) → IsEventRead tree n line words read → IsLineRead tree n (length n.pulses) line text read
     up e n read r =
-        let worded : IsWordsRead tree n line (verb ∷ words) read = subst (λ b. cond {A = Type 0} b (IsEventRead tree n line words read) (read ≡ other_words n verb words)) (sym e) r in
-        told_line tree n line text read told (subst (λ ws. IsWordsRead tree n line ws read) (sym split) worded)
+        let worded : IsWordsRead tree n (length n.pulses) line (verb ∷ words) read = subst (λ b. cond {A = Type 0} b (IsEventRead tree n line words read) (read ≡ other_words n (length n.pulses) verb words)) (sym e) r in
+        told_line tree n line text read told (subst (λ ws. IsWordsRead tree n (length n.pulses) line ws read) (sym split) worded)
 
-    by : (b : Bool) → bytes_eq verb (codes "at") ≡ b → cond {A = Type 0} b (IsEventRead tree notes line words (Ok next)) (Ok next ≡ other_words notes verb words)
+    by : (b : Bool) → bytes_eq verb (codes "at") ≡ b → cond {A = Type 0} b (IsEventRead tree notes line words (Ok next)) (Ok next ≡ other_words notes (length notes.pulses) verb words)
         → Goes tree time line text (if b then (if is_before time (verb ∷ words) then text else []) else if bytes_eq verb (codes "end") then end_line time else text) notes next
     by true e h = at_goes tree time line text words notes next order h (up e) verb
     by false e h = other_goes tree time line text verb words notes next low order told split e h
 
-line_goes : (tree : List Node) (time line : ℕ) (text : List ℕ) (notes next : Notes) → time ≤ 1000000000000 → AreInOrder notes.events → IsLineRead tree notes line text (Ok next)
+line_goes : (tree : List Node) (time line : ℕ) (text : List ℕ) (notes next : Notes) → time ≤ 1000000000000 → AreInOrder notes.events → IsLineRead tree notes (length notes.pulses) line text (Ok next)
     → Goes tree time line text (cut_line time text) notes next
 line_goes tree time line text notes next low order h = by (is_skipped text) refl h
   where
-    by : (b : Bool) → is_skipped text ≡ b → cond {A = Type 0} b (AreSame next notes) (IsWordsRead tree notes line (words_of text) (Ok next))
+    by : (b : Bool) → is_skipped text ≡ b → cond {A = Type 0} b (AreSame next notes) (IsWordsRead tree notes (length notes.pulses) line (words_of text) (Ok next))
         → Goes tree time line text (if b then text else cut_words time text (words_of text)) notes next
     by true e h =
         let same = ok_same next notes h in
         record {
           order = subst (λ (n : Notes). AreInOrder n.events) (sym same) order;
-          cut_is = subst (λ b. cond {A = Type 0} b (AreSame (cut_notes time next) (cut_notes time notes)) (IsWordsRead tree (cut_notes time notes) line (words_of text) (Ok (cut_notes time next)))) (sym e) (ap (λ (n : Notes). Ok (cut_notes time n)) same);
+          cut_is = subst (λ b. cond {A = Type 0} b (AreSame (cut_notes time next) (cut_notes time notes)) (IsWordsRead tree (cut_notes time notes) (length notes.pulses) line (words_of text) (Ok (cut_notes time next)))) (sym e) (ap (λ (n : Notes). Ok (cut_notes time n)) same);
         }
     by false e h = words_go tree time line text (words_of text) notes next low order e refl h
 
@@ -505,7 +505,7 @@ lines_go tree time [] line notes course low order h = by notes.end h
     by (Some t) e = ap (λ (c : Course). Ok (cut_course time c)) (same_course course (record { events = notes.events; pulses = notes.pulses; end = t }) e)
 lines_go tree time (text ∷ texts) line notes course low order h = step h.0 h.1 h.2 (λ next o k. lines_go tree time texts (line + 1) next course low o k)
   where
-    step : (now : Result Notes LineFault) → IsLineRead tree notes line text now → Onward line now (λ next. AreLinesRead tree texts (line + 1) next (Ok course)) (Ok course)
+    step : (now : Result Notes LineFault) → IsLineRead tree notes (length notes.pulses) line text now → Onward line now (λ next. AreLinesRead tree texts (line + 1) next (Ok course)) (Ok course)
         → ((next : Notes) → AreInOrder next.events → AreLinesRead tree texts (line + 1) next (Ok course) → AreLinesRead tree (map (cut_line time) texts) (line + 1) (cut_notes time next) (Ok (cut_course time course)))
         → AreLinesRead tree (map (cut_line time) (text ∷ texts)) line (cut_notes time notes) (Ok (cut_course time course))
     step (Err cause) l o later = cc

@@ -10,7 +10,7 @@ use Rattle.cec_asm.specs.Topology.{topology_of, Plan}
 use Rattle.cec_trace.specs.Root.{IsRoot, IsNoRoot}
 use Rattle.cec_net.specs.State.{started}
 use Rattle.cec_run.specs.declared.run.Telling.TheVariants.{Trace}
-use Rattle.cec_run.specs.Run.{start_told}
+use Rattle.cec_run.specs.Run.{IsRunText, start, start_told}
 use Rattle.cec_run.specs.Emulate.{IsTraceOf}
 use Rattle.cec_live.specs.Causal.{before_told}
 use Rattle.cec_session.specs.declared.live.Step.{Step}
@@ -240,11 +240,13 @@ pub record HasRun (before after old new : Option (List ℕ)) : Type 0 where
   pub put : Appends old so_far (first_told first)
 
 -- A session is done: its lines are answered up to `end`, and what they have told, without the answers, is the trace of the
--- topology with the lines of its script, where those that were refused and the session's own ones are emptied.
+-- topology with what the lines of its script say. Where these have no more pulses than a script may have, it is the trace of the
+-- topology with that script, in which the lines that were refused and the session's own ones are emptied.
 pub record IsDone (before after old new : Option (List ℕ)) : Type 0 where
   pub run : HasRun before after old new
   pub over : HasEnded run.mid after run.first run.so_far new
-  pub trace : IsTraceOf run.topology (text_of_lines over.answers.kept) (first_told run.first ++ over.answers.told) over.last.place.totals
+  pub told : IsRunText (Trace run.begins.edid) over.end (start (started run.begins.plan.tree over.last.notes.pulses) over.last.notes.events) (first_told run.first ++ over.answers.told) over.last.place.totals
+  pub trace : length over.last.notes.pulses ≤ 4096 → IsTraceOf run.topology (text_of_lines over.answers.kept) (first_told run.first ++ over.answers.told) over.last.place.totals
 
 -- what is put where a session stops
 abbrev pub IsStopped : Option (List ℕ) → Option (List ℕ) → Option (List ℕ) → Option (List ℕ) → ℕ → ScriptEnd → Type 0

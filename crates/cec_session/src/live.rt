@@ -160,7 +160,7 @@ impl Live {
     fn note(&mut self, line: &[u8]) -> Option<Step>
         requires going { self.old.notes.end ≡ None }
         ensures { MatchOption result (self.new ≡ self.old)
-            (λ step. (read : Result Notes LineFaultValue) × IsLineRead self.old.tree self.old.notes self.old.lines line.now read
+            (λ step. (read : Result Notes LineFaultValue) × IsLineRead self.old.tree self.old.notes (length self.old.place.net.pulses) self.old.lines line.now read
             × IsSettled (standing self.old) read step (standing self.new) × (self.new ≡ with_standing self.old (standing self.new))) }
     {
         note_line(

@@ -142,13 +142,13 @@ pub(crate) fn note_line(
     requires going { draft.old.end ≡ None }
     ensures { MatchOption result
         ((notes_of draft.new ≡ notes_of draft.old) × (horizon.new ≡ horizon.old) × (net.new ≡ net.old))
-        (λ step. (read : Result Notes LineFaultValue) × IsLineRead tree.now (notes_of draft.old) number line.now read
+        (λ step. (read : Result Notes LineFaultValue) × IsLineRead tree.now (notes_of draft.old) (length net.old.pulses) number line.now read
         × IsSettled (record { notes = notes_of draft.old; horizon = horizon.old; net = net.old }) read step
         (record { notes = notes_of draft.new; horizon = horizon.new; net = net.new })) }
 {
     let events = draft.events.len();
     let pulses = draft.pulses.len();
-    match take_line(tree, draft, number, line) {
+    match take_line(tree, draft, net.waiting(), number, line) {
         Ok(()) => Some(settle(draft, events, pulses, net, horizon)),
         Err(error) => refused_by(error),
     }

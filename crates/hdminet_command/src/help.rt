@@ -346,6 +346,7 @@ Answers:
   ! N CAUSE               line N behind `script` is refused, for a cause of scripts, or last `past`:
                           it is for an instant before the horizon. It changes nothing
 Without the answers, what is written is the trace that `hdminet run` writes of the lines taken.
+At most 4096 pulses wait at a time: one that a round has taken counts no more once that is told.
 
 An example, `>` before what is sent:
   > device tv tv 1

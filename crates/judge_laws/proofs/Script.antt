@@ -139,13 +139,13 @@ fits_event tree notes line (time ∷ verb ∷ words) read h r = by (bytes_eq ver
 
 -- ---- the lines that are no events
 
-fits_pulsed : (fault : Option PulsesError) (notes : Notes) (line : ℕ) (pulse : Stretch) → AreBy line notes.events → Fits line (unless_fault fault notes pulse)
+fits_pulsed : (fault : Option PulsesError) (notes : Notes) (line : ℕ) (pulse : Stretch) → AreBy line notes.events → Fits line (unless_fault fault notes (length notes.pulses) pulse)
 unfolding Fits
 fits_pulsed (Some fault) notes line pulse h = tt
 fits_pulsed None notes line pulse h =
     fits_if line (nat_le 4096 (length notes.pulses)) (Err (at_word 0 causes.TooMany)) _ tt (fits_if line (is_some notes.end) (Err (at_word 0 causes.End)) (Ok (record notes { pulses = notes.pulses ++ pulse ∷ [] })) tt h)
 
-fits_pulse : (notes : Notes) (line : ℕ) (time width : Option ℕ) → AreBy line notes.events → Fits line (pulse_read notes time width)
+fits_pulse : (notes : Notes) (line : ℕ) (time width : Option ℕ) → AreBy line notes.events → Fits line (pulse_read notes (length notes.pulses) time width)
 unfolding Fits
 fits_pulse notes line None width h = tt
 fits_pulse notes line (Some time) None h = tt
@@ -153,7 +153,7 @@ fits_pulse notes line (Some time) (Some width) h =
     let pulse : Stretch = record { from = time; to = time + min width 65535 } in
     fits_pulsed (stretch_fault (last_end notes.pulses) pulse) notes line pulse h
 
-fits_pulse_words : (notes : Notes) (line : ℕ) (many : ℕ) (words : Option (List ℕ × List ℕ)) → AreBy line notes.events → Fits line (pulse_words notes many words)
+fits_pulse_words : (notes : Notes) (line : ℕ) (many : ℕ) (words : Option (List ℕ × List ℕ)) → AreBy line notes.events → Fits line (pulse_words notes (length notes.pulses) many words)
 unfolding Fits
 fits_pulse_words notes line many None h = tt
 fits_pulse_words notes line many (Some words) h = fits_pulse notes line (time_of words.0) (number_of words.1) h
@@ -170,28 +170,28 @@ unfolding Fits
 fits_end_words notes line many None h = tt
 fits_end_words notes line many (Some word) h = fits_end notes line (time_of word) h
 
-fits_other : (notes : Notes) (line : ℕ) (verb : List ℕ) (words : List (List ℕ)) → AreBy line notes.events → Fits line (other_words notes verb words)
+fits_other : (notes : Notes) (line : ℕ) (verb : List ℕ) (words : List (List ℕ)) → AreBy line notes.events → Fits line (other_words notes (length notes.pulses) verb words)
 unfolding Fits
 fits_other notes line verb words h =
-    fits_if line (bytes_eq verb (codes "pulse")) (pulse_words notes (length words) (two_of words)) _ (fits_pulse_words notes line (length words) (two_of words) h)
+    fits_if line (bytes_eq verb (codes "pulse")) (pulse_words notes (length notes.pulses) (length words) (two_of words)) _ (fits_pulse_words notes line (length words) (two_of words) h)
     (fits_if line (bytes_eq verb (codes "end")) (end_words notes (length words) (one_of words)) (Err (at_word 0 causes.Word)) (fits_end_words notes line (length words) (one_of words) h) tt)
 
 -- ---- a line, and all lines
 
-fits_words : (tree : List Node) (notes : Notes) (line : ℕ) (words : List (List ℕ)) (read : Result Notes LineFault) → AreBy line notes.events → IsWordsRead tree notes line words read → Fits line read
+fits_words : (tree : List Node) (notes : Notes) (line : ℕ) (words : List (List ℕ)) (read : Result Notes LineFault) → AreBy line notes.events → IsWordsRead tree notes (length notes.pulses) line words read → Fits line read
 unfolding Fits
 fits_words tree notes line [] read h r = fits_as line read (Err (at_word 0 causes.Word)) r tt
 fits_words tree notes line (verb ∷ words) read h r = by (bytes_eq verb (codes "at")) r
   where
-    by : (b : Bool) → cond {A = Type 0} b (IsEventRead tree notes line words read) (read ≡ other_words notes verb words) → Fits line read
+    by : (b : Bool) → cond {A = Type 0} b (IsEventRead tree notes line words read) (read ≡ other_words notes (length notes.pulses) verb words) → Fits line read
     by true k = fits_event tree notes line words read h k
-    by false k = fits_as line read (other_words notes verb words) k (fits_other notes line verb words h)
+    by false k = fits_as line read (other_words notes (length notes.pulses) verb words) k (fits_other notes line verb words h)
 
-fits_line : (tree : List Node) (notes : Notes) (line : ℕ) (text : List ℕ) (read : Result Notes LineFault) → AreBy line notes.events → IsLineRead tree notes line text read → Fits line read
+fits_line : (tree : List Node) (notes : Notes) (line : ℕ) (text : List ℕ) (read : Result Notes LineFault) → AreBy line notes.events → IsLineRead tree notes (length notes.pulses) line text read → Fits line read
 unfolding Fits
 fits_line tree notes line text read h r = by (is_skipped text) r
   where
-    by : (b : Bool) → cond {A = Type 0} b (read ≡ Ok notes) (IsWordsRead tree notes line (words_of text) read) → Fits line read
+    by : (b : Bool) → cond {A = Type 0} b (read ≡ Ok notes) (IsWordsRead tree notes (length notes.pulses) line (words_of text) read) → Fits line read
     by true k = fits_as line read (Ok notes) k h
     by false k = fits_words tree notes line (words_of text) read h k
 
