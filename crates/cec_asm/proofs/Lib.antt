@@ -1,5 +1,6 @@
 pub mod KeyLemmas
 pub mod Reading
+pub mod Adding
 pub mod Sound
 pub mod OneReading
 pub mod KeyTexts

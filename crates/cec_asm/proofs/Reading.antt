@@ -5,9 +5,9 @@ use Rattle.hdmi_topo.specs.Node.{Node}
 use Rattle.hdmi_topo.specs.Tree.{device_named}
 use Rattle.cec_text.specs.declared.assembler.AssembleError.{AssembleError}
 use Rattle.cec_words.specs.Words.{words_of, text_of}
-use Rattle.cec_asm.specs.declared.script.ScriptCause.{ScriptCause}
+use Rattle.cec_asm.specs.declared.fault.LineFault.{LineFault}
 use Rattle.cec_asm.specs.declared.script.LineError.{LineError}
-use Rattle.cec_asm.specs.declared.script.LineError.TheVariants.{Cause, Memory}
+use Rattle.cec_asm.specs.declared.script.LineError.TheVariants.{Fault, Memory}
 use Rattle.cec_words.proofs.PartedLemmas.{words_of-some}
 use Rattle.cec_asm.specs.Script.{Course, Notes, ScriptFault, time_of, send_read, ended, IsFrameOf, IsSendRead, IsLineRead, AreLinesRead, GivesNotes, Gives}
 
@@ -15,10 +15,10 @@ pub text_of-words_of : (text : List ℕ) → text_of (words_of text) ≡ text
 text_of-words_of text = join_with_byte-slice_split 32 text
 
 -- from a value that is read to a relation
-pub gives : (P : Result Notes ScriptCause → Type 0) (now : Notes) (result : Result Unit LineError) (read : Result Notes ScriptCause) → GivesNotes now result read → P read → Gives now result P
+pub gives : (P : Result Notes LineFault → Type 0) (now : Notes) (result : Result Unit LineError) (read : Result Notes LineFault) → GivesNotes now result read → P read → Gives now result P
 gives P now (Ok done) read g p = subst P g p
 gives P now (Err Memory) read g p = tt
-gives P now (Err (Cause cause)) read g p = subst P g p
+gives P now (Err (Fault fault)) read g p = subst P g p
 
 send_words : (tree : List Node) (notes : Notes) (line : ℕ) (time name frame : List ℕ) (words : List (List ℕ)) (r : Result (List ℕ) AssembleError) → 0 < length words → text_of words ≡ frame → IsFrameOf frame r
     → IsSendRead tree notes line time (name ∷ words) (send_read notes line (time_of time) (device_named tree name) r)
@@ -37,7 +37,7 @@ gives_send tree notes now line time name frame words result at device r split sa
     (send_words tree notes line time name frame (words_of frame) r (words_of-some frame) (text_of-words_of frame) is))
 
 -- the first of some lines, and those behind it
-pub line_read : (tree : List Node) (texts after : List (List ℕ)) (text : List ℕ) (line : ℕ) (notes next : Notes) (read : Result Course ScriptFault) → texts ≡ text ∷ after → IsLineRead tree notes line text (Ok next)
+pub line_read : (tree : List Node) (texts after : List (List ℕ)) (text : List ℕ) (line : ℕ) (notes next : Notes) (read : Result Course ScriptFault) → texts ≡ text ∷ after → IsLineRead tree notes (length notes.pulses) line text (Ok next)
     → AreLinesRead tree after (line + 1) next read → AreLinesRead tree texts line notes read
 line_read tree texts after text line notes next read split first rest =
     let P : List (List ℕ) → Type 0 = λ t. AreLinesRead tree t line notes read in subst P (sym split) (Ok next, first, rest)

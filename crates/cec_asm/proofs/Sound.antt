@@ -27,9 +27,9 @@ use Rattle.cec_event.specs.Events.{NamesDevices, IsFramedEvent}
 use Rattle.cec_event.specs.declared.event.Event.{Event}
 use Rattle.cec_event.specs.declared.event.Event.TheVariants.{Plug, Unplug, Key, Send, Outside}
 use Rattle.cec_asm.specs.declared.script.TimedEvent.{TimedEvent}
-use Rattle.cec_asm.specs.declared.script.ScriptCause.{ScriptCause}
-use Rattle.cec_asm.specs.declared.script.ScriptCause.TheVariants.{Word, Number, Name, Frame, Order, TooMany, End}
-use Rattle.cec_asm.specs.Script.{Course, Notes, within_limit, time_of, last_time, last_end, scheduled, plug_read, plug_words, unplug_read, unplug_words, key_read, key_words, act_read, hold_words, drop_words, send_read, event_words, pulse_cause, unless_fault, pulsed, pulse_read, pulse_words, end_read, end_words, other_words, ended, no_notes, IsFrameOf, IsSendRead, IsEventRead, IsWordsRead, IsLineRead, IsSchedule, AreFramedEvents, IsScript, Onward, AreLinesRead, ScriptsAreSound}
+use Rattle.cec_asm.specs.declared.fault.LineFault.{LineFault}
+use Rattle.cec_asm.proofs.Adding.{few_pulses}
+use Rattle.cec_asm.specs.Script.{Course, Notes, within_limit, time_of, last_time, last_end, scheduled, plug_read, plug_words, unplug_read, unplug_words, key_read, key_words, act_read, hold_words, drop_words, send_read, event_words, unless_fault, pulsed, pulse_read, pulse_words, end_read, end_words, other_words, ended, no_notes, IsFrameOf, IsSendRead, IsEventRead, IsWordsRead, IsLineRead, IsSchedule, AreFramedEvents, IsScript, Onward, AreLinesRead, ScriptsAreSound}
 
 -- ---- times
 
@@ -117,21 +117,11 @@ first_fault-append before (first ∷ pulses) pulse h g =
     let parts = no_first (stretch_fault before first) (first_fault (Some first.to) pulses) h in
     both_none (stretch_fault before first) (first_fault (Some first.to) (pulses ++ pulse ∷ [])) parts.0 (first_fault-append (Some first.to) pulses pulse parts.1 g)
 
-few : (pulses : List Stretch) → pulses_fault pulses ≡ None → (length pulses ≤ 4096) × (first_fault None pulses ≡ None)
-few pulses h =
-    elim (nat_lt 4096 (length pulses)) as (λ b. nat_lt 4096 (length pulses) ≡ b → cond b (Some faults.TooMany) (first_fault None pulses) ≡ None → (length pulses ≤ 4096) × (first_fault None pulses ≡ None)) [
-      | true ↦ λ e g. (cc)
-      | false ↦ λ e g. (grind (arith, nat_tests), g)
-    ] refl h
-
 faultless : (pulses : List Stretch) → length pulses ≤ 4096 → first_fault None pulses ≡ None → pulses_fault pulses ≡ None
 faultless pulses h g = let not_many : nat_lt 4096 (length pulses) ≡ false = grind (arith, nat_tests) in rw not_many g
 
-one_more : (pulses : List Stretch) (pulse : Stretch) → pulses_fault pulses ≡ None → stretch_fault (last_end pulses) pulse ≡ None → nat_le 4096 (length pulses) ≡ false → pulses_fault (pulses ++ pulse ∷ []) ≡ None
-one_more pulses pulse h g room =
-    let k = few pulses h in
-    let long : length (pulses ++ pulse ∷ []) ≤ 4096 = grind (arith, nat_tests, common_steps) in
-    faultless (pulses ++ pulse ∷ []) long (first_fault-append None pulses pulse k.1 (ap (λ e. stretch_fault e pulse) (sym (last_end-end_from pulses)) ∙ g))
+one_more : (pulses : List Stretch) (pulse : Stretch) → first_fault None pulses ≡ None → stretch_fault (last_end pulses) pulse ≡ None → first_fault None (pulses ++ pulse ∷ []) ≡ None
+one_more pulses pulse h g = first_fault-append None pulses pulse h (ap (λ e. stretch_fault e pulse) (sym (last_end-end_from pulses)) ∙ g)
 
 -- ---- what the lines so far keep
 
@@ -142,25 +132,31 @@ IsEarly pulse = pulse.from ≤ 1000000000000
 pub record AreSound (count : ℕ) (notes : Notes) : Type 0 where
   pub schedule : IsSchedule count (last_time notes.events + 1) 0 notes.events
   pub framed : AreFramedEvents notes.events
-  pub sparse : pulses_fault notes.pulses ≡ None
+  pub apart : first_fault None notes.pulses ≡ None
   pub early : All IsEarly notes.pulses
   pub ended : (time : ℕ) → notes.end ≡ Some time → IsSchedule count time 0 notes.events × (time ≤ 1000000000000)
 
 pub sound_start : (count : ℕ) → AreSound count no_notes
-sound_start count = record { schedule = tt; framed = tt; sparse = refl; early = All-nil IsEarly; ended = λ t e. (cc) }
+sound_start count = record { schedule = tt; framed = tt; apart = refl; early = All-nil IsEarly; ended = λ t e. (cc) }
 
-Keeps : ℕ → Result Notes ScriptCause → Type 0
+Keeps : ℕ → Result Notes LineFault → Type 0
 Keeps count read = (next : Notes) → read ≡ Ok next → AreSound count next
 
-keeps_next : (count : ℕ) (read : Result Notes ScriptCause) (next : Notes) → Keeps count read → read ≡ Ok next → AreSound count next
+keeps_next : (count : ℕ) (read : Result Notes LineFault) (next : Notes) → Keeps count read → read ≡ Ok next → AreSound count next
 unfolding Keeps
 keeps_next count read next k e = k next e
 
-keeps_err : (count : ℕ) (cause : ScriptCause) → Keeps count (Err cause)
-unfolding Keeps
-keeps_err count cause next h = cc
+abbrev is_refused : Result Notes LineFault → Bool
+is_refused (Ok notes) = false
+is_refused (Err fault) = true
 
-keeps_if : (count : ℕ) (b : Bool) (x y : Result Notes ScriptCause) → (b ≡ true → Keeps count x) → (b ≡ false → Keeps count y) → Keeps count (cond b x y)
+-- whatever the fault
+keeps_err : (count : ℕ) (read : Result Notes LineFault) → is_refused read ≡ true → Keeps count read
+unfolding Keeps
+keeps_err count (Ok notes) refused next h = cc
+keeps_err count (Err fault) refused next h = cc
+
+keeps_if : (count : ℕ) (b : Bool) (x y : Result Notes LineFault) → (b ≡ true → Keeps count x) → (b ≡ false → Keeps count y) → Keeps count (cond b x y)
 keeps_if count true x y f g = f refl
 keeps_if count false x y f g = g refl
 
@@ -170,8 +166,8 @@ keeps_ok count notes s next h = let e : notes ≡ next = cc in let P : Notes →
 
 scheduled-keeps : (count : ℕ) (notes : Notes) (line time : ℕ) (event : Event) → AreSound count notes → NamesDevices count event → IsFramedEvent event → Keeps count (scheduled notes line time event)
 scheduled-keeps count notes line time event s known framed =
-    keeps_if count (nat_lt time (last_time notes.events)) _ _ (λ e. keeps_err count Order)
-    (λ on_time. keeps_if count (is_some notes.end) _ _ (λ e. keeps_err count End) (λ unended. keeps_ok count _ (sound_more on_time unended)))
+    keeps_if count (nat_lt time (last_time notes.events)) _ _ (λ e. keeps_err count _ refl)
+    (λ on_time. keeps_if count (is_some notes.end) _ _ (λ e. keeps_err count _ refl) (λ unended. keeps_ok count _ (sound_more on_time unended)))
   where
     sound_more : nat_lt time (last_time notes.events) ≡ false → is_some notes.end ≡ false →
         AreSound count (record notes { events = notes.events ++ record { line = line; at = time; event = event } ∷ [] })
@@ -184,7 +180,7 @@ scheduled-keeps count notes line time event s known framed =
         record {
           schedule = subst Until (sym last) (IsSchedule-append count (time + 1) 0 notes.events timed (IsSchedule-later count (last_time notes.events + 1) (time + 1) 0 notes.events (omega arith) s.schedule) from_zero (omega arith) known);
           framed = AreFramedEvents-append notes.events timed s.framed framed;
-          sparse = s.sparse;
+          apart = s.apart;
           early = s.early;
           ended = λ t h. (let clash = rw h at unended in cc);
         }
@@ -194,66 +190,66 @@ named-below tree name device h = grind (arith, common_steps)
 
 plug_read-keeps : (count : ℕ) (notes : Notes) (line : ℕ) (time port child parent : Option ℕ) → AreSound count notes →
     ((i : ℕ) → child ≡ Some i → i < count) → ((i : ℕ) → parent ≡ Some i → i < count) → Keeps count (plug_read notes line time port child parent)
-plug_read-keeps count notes line None port child parent s hc hp = keeps_err count Number
-plug_read-keeps count notes line (Some time) None child parent s hc hp = keeps_err count Number
-plug_read-keeps count notes line (Some time) (Some port) None parent s hc hp = keeps_err count Name
-plug_read-keeps count notes line (Some time) (Some port) (Some child) None s hc hp = keeps_err count Name
+plug_read-keeps count notes line None port child parent s hc hp = keeps_err count _ refl
+plug_read-keeps count notes line (Some time) None child parent s hc hp = keeps_err count _ refl
+plug_read-keeps count notes line (Some time) (Some port) None parent s hc hp = keeps_err count _ refl
+plug_read-keeps count notes line (Some time) (Some port) (Some child) None s hc hp = keeps_err count _ refl
 plug_read-keeps count notes line (Some time) (Some port) (Some child) (Some parent) s hc hp =
     scheduled-keeps count notes line time (Plug child parent (min port 255)) s (hc child refl, hp parent refl) tt
 
-plug_words-keeps : (tree : List Node) (notes : Notes) (line : ℕ) (time : List ℕ) (words : Option (List ℕ × List ℕ × List ℕ)) → AreSound (length tree) notes →
-    Keeps (length tree) (plug_words tree notes line time words)
-plug_words-keeps tree notes line time None s = keeps_err (length tree) Word
-plug_words-keeps tree notes line time (Some words) s =
+plug_words-keeps : (tree : List Node) (notes : Notes) (line : ℕ) (time : List ℕ) (many : ℕ) (words : Option (List ℕ × List ℕ × List ℕ)) → AreSound (length tree) notes →
+    Keeps (length tree) (plug_words tree notes line time many words)
+plug_words-keeps tree notes line time many None s = keeps_err (length tree) _ refl
+plug_words-keeps tree notes line time many (Some words) s =
     plug_read-keeps (length tree) notes line (time_of time) (number_of words.2) (device_named tree words.0) (device_named tree words.1) s (named-below tree words.0) (named-below tree words.1)
 
 unplug_read-keeps : (count : ℕ) (notes : Notes) (line : ℕ) (time child : Option ℕ) → AreSound count notes → ((i : ℕ) → child ≡ Some i → i < count) → Keeps count (unplug_read notes line time child)
-unplug_read-keeps count notes line None child s hc = keeps_err count Number
-unplug_read-keeps count notes line (Some time) None s hc = keeps_err count Name
+unplug_read-keeps count notes line None child s hc = keeps_err count _ refl
+unplug_read-keeps count notes line (Some time) None s hc = keeps_err count _ refl
 unplug_read-keeps count notes line (Some time) (Some child) s hc = scheduled-keeps count notes line time (Unplug child) s (hc child refl) tt
 
-unplug_words-keeps : (tree : List Node) (notes : Notes) (line : ℕ) (time : List ℕ) (words : Option (List ℕ)) → AreSound (length tree) notes → Keeps (length tree) (unplug_words tree notes line time words)
-unplug_words-keeps tree notes line time None s = keeps_err (length tree) Word
-unplug_words-keeps tree notes line time (Some word) s = unplug_read-keeps (length tree) notes line (time_of time) (device_named tree word) s (named-below tree word)
+unplug_words-keeps : (tree : List Node) (notes : Notes) (line : ℕ) (time : List ℕ) (many : ℕ) (words : Option (List ℕ)) → AreSound (length tree) notes → Keeps (length tree) (unplug_words tree notes line time many words)
+unplug_words-keeps tree notes line time many None s = keeps_err (length tree) _ refl
+unplug_words-keeps tree notes line time many (Some word) s = unplug_read-keeps (length tree) notes line (time_of time) (device_named tree word) s (named-below tree word)
 
-key_read-keeps : (count : ℕ) (notes : Notes) (line : ℕ) (press : Bool) (key : Result KeyValue ScriptCause) (time device : Option ℕ) → AreSound count notes → ((i : ℕ) → device ≡ Some i → i < count) →
+key_read-keeps : (count : ℕ) (notes : Notes) (line : ℕ) (press : Bool) (key : Result KeyValue LineFault) (time device : Option ℕ) → AreSound count notes → ((i : ℕ) → device ≡ Some i → i < count) →
     Keeps count (key_read notes line press key time device)
-key_read-keeps count notes line press (Err cause) time device s hd = keeps_err count cause
-key_read-keeps count notes line press (Ok key) None device s hd = keeps_err count Number
-key_read-keeps count notes line press (Ok key) (Some time) None s hd = keeps_err count Name
+key_read-keeps count notes line press (Err cause) time device s hd = keeps_err count _ refl
+key_read-keeps count notes line press (Ok key) None device s hd = keeps_err count _ refl
+key_read-keeps count notes line press (Ok key) (Some time) None s hd = keeps_err count _ refl
 key_read-keeps count notes line press (Ok key) (Some time) (Some device) s hd = scheduled-keeps count notes line time (Key device key press) s (hd device refl) tt
 
 key_words-keeps : (tree : List Node) (notes : Notes) (line : ℕ) (press : Bool) (time : List ℕ) (words : List (List ℕ)) → AreSound (length tree) notes → Keeps (length tree) (key_words tree notes line press time words)
-key_words-keeps tree notes line press time [] s = keeps_err (length tree) Word
+key_words-keeps tree notes line press time [] s = keeps_err (length tree) _ refl
 key_words-keeps tree notes line press time (name ∷ words) s =
     key_read-keeps (length tree) notes line press (key_of words) (time_of time) (device_named tree name) s (named-below tree name)
 
 act_read-keeps : (count : ℕ) (notes : Notes) (line : ℕ) (act : Option Act) (time device : Option ℕ) → AreSound count notes → ((i : ℕ) → device ≡ Some i → i < count) →
     Keeps count (act_read notes line act time device)
-act_read-keeps count notes line None time device s hd = keeps_err count Word
-act_read-keeps count notes line (Some act) None device s hd = keeps_err count Number
-act_read-keeps count notes line (Some act) (Some time) None s hd = keeps_err count Name
+act_read-keeps count notes line None time device s hd = keeps_err count _ refl
+act_read-keeps count notes line (Some act) None device s hd = keeps_err count _ refl
+act_read-keeps count notes line (Some act) (Some time) None s hd = keeps_err count _ refl
 act_read-keeps count notes line (Some act) (Some time) (Some device) s hd = scheduled-keeps count notes line time (Outside device act) s (hd device refl) tt
 
-hold_words-keeps : (tree : List Node) (notes : Notes) (line : ℕ) (time : List ℕ) (words : Option (List ℕ × List ℕ)) → AreSound (length tree) notes → Keeps (length tree) (hold_words tree notes line time words)
-hold_words-keeps tree notes line time None s = keeps_err (length tree) Word
-hold_words-keeps tree notes line time (Some words) s =
+hold_words-keeps : (tree : List Node) (notes : Notes) (line : ℕ) (time : List ℕ) (many : ℕ) (words : Option (List ℕ × List ℕ)) → AreSound (length tree) notes → Keeps (length tree) (hold_words tree notes line time many words)
+hold_words-keeps tree notes line time many None s = keeps_err (length tree) _ refl
+hold_words-keeps tree notes line time many (Some words) s =
     act_read-keeps (length tree) notes line (hold_of words.1) (time_of time) (device_named tree words.0) s (named-below tree words.0)
 
-drop_words-keeps : (tree : List Node) (notes : Notes) (line : ℕ) (time : List ℕ) (words : Option (List ℕ)) → AreSound (length tree) notes → Keeps (length tree) (drop_words tree notes line time words)
-drop_words-keeps tree notes line time None s = keeps_err (length tree) Word
-drop_words-keeps tree notes line time (Some word) s =
+drop_words-keeps : (tree : List Node) (notes : Notes) (line : ℕ) (time : List ℕ) (many : ℕ) (words : Option (List ℕ)) → AreSound (length tree) notes → Keeps (length tree) (drop_words tree notes line time many words)
+drop_words-keeps tree notes line time many None s = keeps_err (length tree) _ refl
+drop_words-keeps tree notes line time many (Some word) s =
     act_read-keeps (length tree) notes line (Some Empty) (time_of time) (device_named tree word) s (named-below tree word)
 
 event_words-keeps : (tree : List Node) (notes : Notes) (line : ℕ) (time verb : List ℕ) (words : List (List ℕ)) → AreSound (length tree) notes → Keeps (length tree) (event_words tree notes line time verb words)
 event_words-keeps tree notes line time verb words s =
-    keeps_if (length tree) (bytes_eq verb (codes "plug")) _ _ (λ e. plug_words-keeps tree notes line time (three_of words) s)
-    (λ e. keeps_if (length tree) (bytes_eq verb (codes "unplug")) _ _ (λ e. unplug_words-keeps tree notes line time (one_of words) s)
+    keeps_if (length tree) (bytes_eq verb (codes "plug")) _ _ (λ e. plug_words-keeps tree notes line time (length words) (three_of words) s)
+    (λ e. keeps_if (length tree) (bytes_eq verb (codes "unplug")) _ _ (λ e. unplug_words-keeps tree notes line time (length words) (one_of words) s)
     (λ e. keeps_if (length tree) (bytes_eq verb (codes "press")) _ _ (λ e. key_words-keeps tree notes line true time words s)
     (λ e. keeps_if (length tree) (bytes_eq verb (codes "release")) _ _ (λ e. key_words-keeps tree notes line false time words s)
-    (λ e. keeps_if (length tree) (bytes_eq verb (codes "hold")) _ _ (λ e. hold_words-keeps tree notes line time (two_of words) s)
-    (λ e. keeps_if (length tree) (bytes_eq verb (codes "drop")) _ _ (λ e. drop_words-keeps tree notes line time (one_of words) s)
-    (λ e. keeps_err (length tree) Word))))))
+    (λ e. keeps_if (length tree) (bytes_eq verb (codes "hold")) _ _ (λ e. hold_words-keeps tree notes line time (length words) (two_of words) s)
+    (λ e. keeps_if (length tree) (bytes_eq verb (codes "drop")) _ _ (λ e. drop_words-keeps tree notes line time (length words) (one_of words) s)
+    (λ e. keeps_err (length tree) _ refl))))))
 
 -- a frame has a block
 frame_some : (frame : List ℕ) → is_frame frame ≡ true → 0 < length frame
@@ -262,9 +258,9 @@ frame_some (block ∷ blocks) h = omega arith
 
 send_read-keeps : (count : ℕ) (notes : Notes) (line : ℕ) (time device : Option ℕ) (text : List ℕ) (frame : Result (List ℕ) AssembleError) → AreSound count notes → ((i : ℕ) → device ≡ Some i → i < count) →
     IsFrameOf text frame → Keeps count (send_read notes line time device frame)
-send_read-keeps count notes line None device text frame s hd is = keeps_err count Number
-send_read-keeps count notes line (Some time) None text frame s hd is = keeps_err count Name
-send_read-keeps count notes line (Some time) (Some device) text (Err cause) s hd is = keeps_err count (Frame cause)
+send_read-keeps count notes line None device text frame s hd is = keeps_err count _ refl
+send_read-keeps count notes line (Some time) None text frame s hd is = keeps_err count _ refl
+send_read-keeps count notes line (Some time) (Some device) text (Err cause) s hd is = keeps_err count _ refl
 send_read-keeps count notes line (Some time) (Some device) text (Ok frame) s hd is =
     scheduled-keeps count notes line time (Send device frame) s (hd device refl) (frame_some frame is.0.whole)
 
@@ -292,29 +288,29 @@ within_limit-limit : (o : Option ℕ) (time : ℕ) → within_limit o ≡ Some t
 within_limit-limit None time h = cc
 within_limit-limit (Some n) time h = grind (arith, nat_tests)
 
-pulsed-keeps : (count : ℕ) (notes : Notes) (pulse : Stretch) → AreSound count notes → pulse.from ≤ 1000000000000 → Keeps count (pulsed notes pulse)
-pulsed-keeps count notes pulse s within =
-    elim (stretch_fault (last_end notes.pulses) pulse) as (λ o. stretch_fault (last_end notes.pulses) pulse ≡ o → Keeps count (unless_fault o notes pulse)) [
-      | Some fault ↦ λ e. keeps_err count (pulse_cause fault)
-      | None ↦ λ e. keeps_if count (nat_le 4096 (length notes.pulses)) _ _ (λ full. keeps_err count TooMany)
-          (λ room. keeps_if count (is_some notes.end) _ _ (λ ended. keeps_err count End)
+pulsed-keeps : (count : ℕ) (notes : Notes) (waiting : ℕ) (pulse : Stretch) → AreSound count notes → pulse.from ≤ 1000000000000 → Keeps count (pulsed notes waiting pulse)
+pulsed-keeps count notes waiting pulse s within =
+    elim (stretch_fault (last_end notes.pulses) pulse) as (λ o. stretch_fault (last_end notes.pulses) pulse ≡ o → Keeps count (unless_fault o notes waiting pulse)) [
+      | Some fault ↦ λ e. keeps_err count _ refl
+      | None ↦ λ e. keeps_if count (nat_le 4096 waiting) _ _ (λ full. keeps_err count _ refl)
+          (λ room. keeps_if count (is_some notes.end) _ _ (λ ended. keeps_err count _ refl)
           (λ unended. keeps_ok count _ (record {
             schedule = s.schedule;
             framed = s.framed;
-            sparse = one_more notes.pulses pulse s.sparse e room;
+            apart = one_more notes.pulses pulse s.apart e;
             early = All-append IsEarly notes.pulses (pulse ∷ []) s.early (All-from_recursion IsEarly (pulse ∷ []) (within, tt));
             ended = s.ended;
           })))
     ] refl
 
-pulse_read-keeps : (count : ℕ) (notes : Notes) (time width : Option ℕ) → AreSound count notes → ((t : ℕ) → time ≡ Some t → t ≤ 1000000000000) → Keeps count (pulse_read notes time width)
-pulse_read-keeps count notes None width s limit = keeps_err count Number
-pulse_read-keeps count notes (Some time) None s limit = keeps_err count Number
-pulse_read-keeps count notes (Some time) (Some width) s limit = pulsed-keeps count notes (record { from = time; to = time + min width 65535 }) s (limit time refl)
+pulse_read-keeps : (count : ℕ) (notes : Notes) (waiting : ℕ) (time width : Option ℕ) → AreSound count notes → ((t : ℕ) → time ≡ Some t → t ≤ 1000000000000) → Keeps count (pulse_read notes waiting time width)
+pulse_read-keeps count notes waiting None width s limit = keeps_err count _ refl
+pulse_read-keeps count notes waiting (Some time) None s limit = keeps_err count _ refl
+pulse_read-keeps count notes waiting (Some time) (Some width) s limit = pulsed-keeps count notes waiting (record { from = time; to = time + min width 65535 }) s (limit time refl)
 
-pulse_words-keeps : (count : ℕ) (notes : Notes) (words : Option (List ℕ × List ℕ)) → AreSound count notes → Keeps count (pulse_words notes words)
-pulse_words-keeps count notes None s = keeps_err count Word
-pulse_words-keeps count notes (Some words) s = pulse_read-keeps count notes (time_of words.0) (number_of words.1) s (within_limit-limit (number_of words.0))
+pulse_words-keeps : (count : ℕ) (notes : Notes) (waiting many : ℕ) (words : Option (List ℕ × List ℕ)) → AreSound count notes → Keeps count (pulse_words notes waiting many words)
+pulse_words-keeps count notes waiting many None s = keeps_err count _ refl
+pulse_words-keeps count notes waiting many (Some words) s = pulse_read-keeps count notes waiting (time_of words.0) (number_of words.1) s (within_limit-limit (number_of words.0))
 
 -- after every event there is
 ends_after : (count time : ℕ) (events : List TimedEvent) → IsSchedule count (last_time events + 1) 0 events → (nat_lt 0 (length events) && nat_le time (last_time events)) ≡ false → IsSchedule count time 0 events
@@ -324,62 +320,63 @@ ends_after count time (event ∷ events) s h =
     IsSchedule-later count (last_time (event ∷ events) + 1) time 0 (event ∷ events) (omega arith) s
 
 end_read-keeps : (count : ℕ) (notes : Notes) (time : Option ℕ) → AreSound count notes → ((t : ℕ) → time ≡ Some t → t ≤ 1000000000000) → Keeps count (end_read notes time)
-end_read-keeps count notes None s limit = keeps_err count Number
+end_read-keeps count notes None s limit = keeps_err count _ refl
 end_read-keeps count notes (Some time) s limit =
-    keeps_if count (is_some notes.end) _ _ (λ e. keeps_err count End)
-    (λ unended. keeps_if count (nat_lt 0 (length notes.events) && nat_le time (last_time notes.events)) _ _ (λ e. keeps_err count End)
+    keeps_if count (is_some notes.end) _ _ (λ e. keeps_err count _ refl)
+    (λ unended. keeps_if count (nat_lt 0 (length notes.events) && nat_le time (last_time notes.events)) _ _ (λ e. keeps_err count _ refl)
     (λ after. keeps_ok count _ (record {
       schedule = s.schedule;
       framed = s.framed;
-      sparse = s.sparse;
+      apart = s.apart;
       early = s.early;
       ended = λ t h. (let same : time ≡ t = cc in let Ends : ℕ → Type 0 = λ n. IsSchedule count n 0 notes.events × (n ≤ 1000000000000) in
           subst Ends same (ends_after count time notes.events s.schedule after, limit time refl));
     })))
 
-end_words-keeps : (count : ℕ) (notes : Notes) (words : Option (List ℕ)) → AreSound count notes → Keeps count (end_words notes words)
-end_words-keeps count notes None s = keeps_err count Word
-end_words-keeps count notes (Some word) s = end_read-keeps count notes (time_of word) s (within_limit-limit (number_of word))
+end_words-keeps : (count : ℕ) (notes : Notes) (many : ℕ) (words : Option (List ℕ)) → AreSound count notes → Keeps count (end_words notes many words)
+end_words-keeps count notes many None s = keeps_err count _ refl
+end_words-keeps count notes many (Some word) s = end_read-keeps count notes (time_of word) s (within_limit-limit (number_of word))
 
-other_words-keeps : (count : ℕ) (notes : Notes) (verb : List ℕ) (words : List (List ℕ)) → AreSound count notes → Keeps count (other_words notes verb words)
-other_words-keeps count notes verb words s =
-    keeps_if count (bytes_eq verb (codes "pulse")) _ _ (λ e. pulse_words-keeps count notes (two_of words) s)
-    (λ e. keeps_if count (bytes_eq verb (codes "end")) _ _ (λ e. end_words-keeps count notes (one_of words) s) (λ e. keeps_err count Word))
+other_words-keeps : (count : ℕ) (notes : Notes) (waiting : ℕ) (verb : List ℕ) (words : List (List ℕ)) → AreSound count notes → Keeps count (other_words notes waiting verb words)
+other_words-keeps count notes waiting verb words s =
+    keeps_if count (bytes_eq verb (codes "pulse")) _ _ (λ e. pulse_words-keeps count notes waiting (length words) (two_of words) s)
+    (λ e. keeps_if count (bytes_eq verb (codes "end")) _ _ (λ e. end_words-keeps count notes (length words) (one_of words) s) (λ e. keeps_err count _ refl))
 
-words-keep : (tree : List Node) (notes : Notes) (line : ℕ) (words : List (List ℕ)) (next : Notes) → AreSound (length tree) notes → IsWordsRead tree notes line words (Ok next) → AreSound (length tree) next
-words-keep tree notes line [] next s h = cc
-words-keep tree notes line (verb ∷ words) next s h =
-    by_cond (bytes_eq verb (codes "at")) (IsEventRead tree notes line words (Ok next)) (Ok next ≡ other_words notes verb words) (AreSound (length tree) next)
+words-keep : (tree : List Node) (notes : Notes) (waiting line : ℕ) (words : List (List ℕ)) (next : Notes) → AreSound (length tree) notes → IsWordsRead tree notes waiting line words (Ok next) → AreSound (length tree) next
+words-keep tree notes waiting line [] next s h = cc
+words-keep tree notes waiting line (verb ∷ words) next s h =
+    by_cond (bytes_eq verb (codes "at")) (IsEventRead tree notes line words (Ok next)) (Ok next ≡ other_words notes waiting verb words) (AreSound (length tree) next)
     (λ p. event-keeps tree notes line words next s p)
-    (λ q. keeps_next (length tree) (other_words notes verb words) next (other_words-keeps (length tree) notes verb words s) (sym q)) h
+    (λ q. keeps_next (length tree) (other_words notes waiting verb words) next (other_words-keeps (length tree) notes waiting verb words s) (sym q)) h
 
 -- a line that is taken keeps it
-pub line-keeps : (tree : List Node) (notes : Notes) (line : ℕ) (text : List ℕ) (next : Notes) → AreSound (length tree) notes → IsLineRead tree notes line text (Ok next) → AreSound (length tree) next
-line-keeps tree notes line text next s h =
-    by_cond (is_skipped text) (Ok next ≡ Ok notes) (IsWordsRead tree notes line (words_of text) (Ok next)) (AreSound (length tree) next)
+pub line-keeps : (tree : List Node) (notes : Notes) (waiting line : ℕ) (text : List ℕ) (next : Notes) → AreSound (length tree) notes → IsLineRead tree notes waiting line text (Ok next) → AreSound (length tree) next
+line-keeps tree notes waiting line text next s h =
+    by_cond (is_skipped text) (Ok next ≡ Ok notes) (IsWordsRead tree notes waiting line (words_of text) (Ok next)) (AreSound (length tree) next)
     (λ p. keeps_next (length tree) (Ok notes) next (keeps_ok (length tree) notes s) (sym p))
-    (λ q. words-keep tree notes line (words_of text) next s q) h
+    (λ q. words-keep tree notes waiting line (words_of text) next s q) h
 
 -- what the lines keep at the end is a script
-sound_script : (count : ℕ) (notes : Notes) (line : ℕ) (course : Course) → AreSound count notes → Ok course ≡ ended notes line notes.end → IsScript count course
-sound_script count notes line course s h =
+sound_script : (count : ℕ) (notes : Notes) (line : ℕ) (course : Course) → AreSound count notes → length notes.pulses ≤ 4096 → Ok course ≡ ended notes line notes.end → IsScript count course
+sound_script count notes line course s few h =
     let Is : Course → Type 0 = λ found. IsScript count found in
     elim notes.end as (λ o. notes.end ≡ o → Ok course ≡ ended notes line o → IsScript count course) [
       | None ↦ λ e g. (cc)
       | Some time ↦ λ e g. (
           let r = s.ended time e in
           let same : record { events = notes.events; pulses = notes.pulses; end = time } ≡ course = cc in
-          subst Is same (record { schedule = r.0; framed = s.framed; sparse = (faultless_are_sparse notes.pulses).0 s.sparse; early = s.early; limit = r.1 }))
+          subst Is same (record { schedule = r.0; framed = s.framed; sparse = (faultless_are_sparse notes.pulses).0 (faultless notes.pulses few s.apart); early = s.early; limit = r.1 }))
     ] refl h
 
-lines-sound : (tree : List Node) (texts : List (List ℕ)) (line : ℕ) (notes : Notes) (course : Course) → AreSound (length tree) notes → AreLinesRead tree texts line notes (Ok course) → IsScript (length tree) course
-lines-sound tree [] line notes course s h = sound_script (length tree) notes line course s h
-lines-sound tree (text ∷ texts) line notes course s h = step h.0 h.1 h.2 (λ next n. lines-sound tree texts (line + 1) next course n)
+lines-sound : (tree : List Node) (texts : List (List ℕ)) (line : ℕ) (notes : Notes) (course : Course) → AreSound (length tree) notes → length notes.pulses ≤ 4096 → AreLinesRead tree texts line notes (Ok course)
+    → IsScript (length tree) course
+lines-sound tree [] line notes course s few h = sound_script (length tree) notes line course s few h
+lines-sound tree (text ∷ texts) line notes course s few h = step h.0 h.1 h.2 (λ next n room. lines-sound tree texts (line + 1) next course n room)
   where
-    step : (r : Result Notes ScriptCause) → IsLineRead tree notes line text r → Onward line r (λ next. AreLinesRead tree texts (line + 1) next (Ok course)) (Ok course)
-        → ((next : Notes) → AreSound (length tree) next → AreLinesRead tree texts (line + 1) next (Ok course) → IsScript (length tree) course) → IsScript (length tree) course
-    step (Ok next) l k on = on next (line-keeps tree notes line text next s l) k
-    step (Err cause) l k on = cc
+    step : (r : Result Notes LineFault) → IsLineRead tree notes (length notes.pulses) line text r → Onward line r (λ next. AreLinesRead tree texts (line + 1) next (Ok course)) (Ok course)
+        → ((next : Notes) → AreSound (length tree) next → length next.pulses ≤ 4096 → AreLinesRead tree texts (line + 1) next (Ok course) → IsScript (length tree) course) → IsScript (length tree) course
+    step (Ok next) l k on = on next (line-keeps tree notes (length notes.pulses) line text next s l) (few_pulses tree notes line text next l few) k
+    step (Err fault) l k on = cc
 
 pub scripts_are_sound : ScriptsAreSound
-scripts_are_sound tree text course h = lines-sound tree (lines_of text) 1 no_notes course (sound_start (length tree)) h
+scripts_are_sound tree text course h = lines-sound tree (lines_of text) 1 no_notes course (sound_start (length tree)) (omega arith) h

@@ -1,5 +1,5 @@
 -- Words of keys (own): one word, or a word and what it takes.
-use Rattle.std.specs.Prelude.{ℕ, ◌==◌, nat_lt, Bool, true, false, ◌&&◌, if◌then◌else◌, codes, List, length, min, slice_index, find, option_map, Option, Some, None, Result, Ok, Err}
+use Rattle.std.specs.Prelude.{ℕ, ◌==◌, nat_lt, Bool, true, false, ◌&&◌, if◌then◌else◌, codes, List, [], ◌∷◌, length, min, slice_index, find, option_map, Option, Some, None, Result, Ok, Err}
 use Rattle.std.specs.List.{list_all}
 use Rattle.std.specs.Str.{bytes_eq}
 use Rattle.std.specs.Char.{is_ascii_lowercase}
@@ -17,21 +17,9 @@ use Rattle.cec_feature.specs.declared.key_word.KeyWord.TheVariants as key_words
 use Rattle.cec_words.specs.Words.{one_of, two_of, three_of}
 use Rattle.hdmi_core.specs.Phys.{digit_value, is_hex_digit, phys_of}
 use Rattle.cec_words.specs.Number.{number_of}
-use Rattle.cec_asm.specs.declared.script.ScriptCause.{ScriptCause}
+use Rattle.cec_asm.specs.Fault.{at_word, misfit}
+use Rattle.cec_asm.specs.declared.fault.LineFault.{LineFault}
 use Rattle.cec_asm.specs.declared.script.ScriptCause.TheVariants.{Word, Number}
-
--- the keys of one word
-abbrev pub key_alone : KeyWord → Result Key ScriptCause
-key_alone key_words.Play = Ok Play
-key_alone key_words.Stop = Ok Stop
-key_alone key_words.Eject = Ok Eject
-key_alone key_words.Load = Ok Load
-key_alone key_words.Menu = Ok Menu
-key_alone key_words.Power = Ok Power
-key_alone key_words.VolumeUp = Ok (Volume Up)
-key_alone key_words.VolumeDown = Ok (Volume Down)
-key_alone key_words.Mute = Ok (Volume Mute)
-key_alone _ = Err Word
 
 abbrev pub switch_of : List ℕ → Option Bool
 switch_of word = if bytes_eq word (codes "on") then Some true else if bytes_eq word (codes "off") then Some false else None
@@ -61,45 +49,78 @@ code_of word = byte_in (words_of sets.UserControl) word
 abbrev pub control_of : List ℕ → Option UserControl
 control_of word = option_map user_control_at (code_of word)
 
--- a word is a key's, or no key's
-abbrev pub known : Option Key → Result Key ScriptCause
-known None = Err Word
+-- how many words stand behind a key's first one
+abbrev pub values_of : KeyWord → ℕ
+values_of key_words.Watch = 1
+values_of key_words.Port = 1
+values_of key_words.Language = 1
+values_of key_words.Audio = 1
+values_of key_words.Arc = 1
+values_of key_words.Remote = 2
+values_of _ = 0
+
+-- a key's first word is the line's fifth, behind `at T press NAME`
+abbrev pub unfit_by : Option KeyWord → ℕ → LineFault
+unfit_by None count = at_word 4 Word
+unfit_by (Some word) count = misfit 5 count (values_of word)
+
+-- words that are no key: the first one, where no key has it, and else the first value that is missing or too many
+abbrev pub unfit : List (List ℕ) → LineFault
+unfit [] = at_word 4 Word
+unfit (word ∷ values) = unfit_by (key_named word) (length values)
+
+-- the keys of one word
+abbrev pub key_alone : LineFault → KeyWord → Result Key LineFault
+key_alone fault key_words.Play = Ok Play
+key_alone fault key_words.Stop = Ok Stop
+key_alone fault key_words.Eject = Ok Eject
+key_alone fault key_words.Load = Ok Load
+key_alone fault key_words.Menu = Ok Menu
+key_alone fault key_words.Power = Ok Power
+key_alone fault key_words.VolumeUp = Ok (Volume Up)
+key_alone fault key_words.VolumeDown = Ok (Volume Down)
+key_alone fault key_words.Mute = Ok (Volume Mute)
+key_alone fault _ = Err fault
+
+-- a value is a key's, or none's
+abbrev pub known : Option Key → Result Key LineFault
+known None = Err (at_word 5 Word)
 known (Some key) = Ok key
 
 -- a port above 255 counts as 255
-abbrev pub port_key : Option ℕ → Result Key ScriptCause
-port_key None = Err Number
+abbrev pub port_key : Option ℕ → Result Key LineFault
+port_key None = Err (at_word 5 Number)
 port_key (Some port) = Ok (Port (min port 255))
 
 -- `watch PA`, `port N`, `audio on`, `audio off`, `arc on`, `arc off`, `language LLL`
-abbrev pub key_with : KeyWord → List ℕ → Result Key ScriptCause
-key_with key_words.Watch value = known (option_map Watch (phys_of value))
-key_with key_words.Port value = port_key (number_of value)
-key_with key_words.Audio value = known (option_map Audio (switch_of value))
-key_with key_words.Arc value = known (option_map Arc (switch_of value))
-key_with key_words.Language value = known (option_map Language (language_of value))
-key_with _ value = Err Word
+abbrev pub key_with : LineFault → KeyWord → List ℕ → Result Key LineFault
+key_with fault key_words.Watch value = known (option_map Watch (phys_of value))
+key_with fault key_words.Port value = port_key (number_of value)
+key_with fault key_words.Audio value = known (option_map Audio (switch_of value))
+key_with fault key_words.Arc value = known (option_map Arc (switch_of value))
+key_with fault key_words.Language value = known (option_map Language (language_of value))
+key_with fault _ value = Err fault
 
 -- `remote D CODE`
-abbrev pub remote_by : Option ℕ → Option UserControl → Result Key ScriptCause
-remote_by None code = Err Word
-remote_by (Some to) None = Err Word
+abbrev pub remote_by : Option ℕ → Option UserControl → Result Key LineFault
+remote_by None code = Err (at_word 5 Word)
+remote_by (Some to) None = Err (at_word 6 Word)
 remote_by (Some to) (Some code) = Ok (Remote to code)
 
-abbrev pub remote_key : KeyWord → List ℕ → List ℕ → Result Key ScriptCause
-remote_key key_words.Remote to code = remote_by (destination_of to) (control_of code)
-remote_key _ to code = Err Word
+abbrev pub remote_key : LineFault → KeyWord → List ℕ → List ℕ → Result Key LineFault
+remote_key fault key_words.Remote to code = remote_by (destination_of to) (control_of code)
+remote_key fault _ to code = Err fault
 
-abbrev pub if_named : Option KeyWord → (KeyWord → Result Key ScriptCause) → Result Key ScriptCause
-if_named None read = Err Word
-if_named (Some word) read = read word
+abbrev pub if_named : LineFault → Option KeyWord → (KeyWord → Result Key LineFault) → Result Key LineFault
+if_named fault None read = Err fault
+if_named fault (Some word) read = read word
 
-abbrev pub key_by : Option (List ℕ) → Option (List ℕ × List ℕ) → Option (List ℕ × List ℕ × List ℕ) → Result Key ScriptCause
-key_by (Some word) two three = if_named (key_named word) key_alone
-key_by None (Some two) three = if_named (key_named two.0) (λ word. key_with word two.1)
-key_by None None (Some three) = if_named (key_named three.0) (λ word. remote_key word three.1 three.2)
-key_by None None None = Err Word
+abbrev pub key_by : LineFault → Option (List ℕ) → Option (List ℕ × List ℕ) → Option (List ℕ × List ℕ × List ℕ) → Result Key LineFault
+key_by fault (Some word) two three = if_named fault (key_named word) (key_alone fault)
+key_by fault None (Some two) three = if_named fault (key_named two.0) (λ word. key_with fault word two.1)
+key_by fault None None (Some three) = if_named fault (key_named three.0) (λ word. remote_key fault word three.1 three.2)
+key_by fault None None None = Err fault
 
 -- the key of some words, or the first cause for which they are none
-abbrev pub key_of : List (List ℕ) → Result Key ScriptCause
-key_of words = key_by (one_of words) (two_of words) (three_of words)
+abbrev pub key_of : List (List ℕ) → Result Key LineFault
+key_of words = key_by (unfit words) (one_of words) (two_of words) (three_of words)

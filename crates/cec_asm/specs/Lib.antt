@@ -1,3 +1,4 @@
+pub mod Fault
 pub mod Keys
 pub mod Holding
 pub mod Topology

@@ -17,6 +17,7 @@ use Rattle.cec_text.specs.Refusals.{IsRefused}
 use Rattle.cec_text.specs.declared.assembler.AssembleError.{AssembleError}
 use Rattle.cec_words.specs.Words.{words_of, text_of, one_of, two_of, three_of}
 use Rattle.cec_words.specs.Number.{number_of}
+use Rattle.cec_asm.specs.Fault.{at_word, misfit, frame_word}
 use Rattle.cec_asm.specs.Keys.{key_of}
 use Rattle.cec_asm.specs.Holding.{hold_of}
 use Rattle.cec_device.specs.declared.outside.Act.{Act}
@@ -27,12 +28,13 @@ use Rattle.cec_event.specs.declared.event.Event.TheVariants.{Plug, Unplug, Key, 
 use Rattle.cec_asm.specs.declared.script.TimedEvent.{TimedEvent}
 use Rattle.cec_asm.specs.declared.script.Draft.{Draft}
 use Rattle.cec_asm.specs.declared.course.Script.{Script}
+use Rattle.cec_asm.specs.declared.fault.LineFault.{LineFault}
 use Rattle.cec_asm.specs.declared.script.ScriptCause.{ScriptCause}
 use Rattle.cec_asm.specs.declared.script.ScriptCause.TheVariants.{Word, Number, Name, Frame, Width, Order, Close, TooMany, End}
 use Rattle.cec_asm.specs.declared.script.ScriptError.{ScriptError}
 use Rattle.cec_asm.specs.declared.script.ScriptError.TheVariants as errors
 use Rattle.cec_asm.specs.declared.script.LineError.{LineError}
-use Rattle.cec_asm.specs.declared.script.LineError.TheVariants.{Cause, Memory}
+use Rattle.cec_asm.specs.declared.script.LineError.TheVariants.{Fault, Memory}
 
 -- the words by which a refused line is told
 abbrev pub script_cause : ScriptCause → List ℕ
@@ -83,71 +85,71 @@ last_time events = option_map_or (λ event. event.at) (slice_get events (length 
 -- ---- events
 
 -- an event of this line: its time is not before the last event's, and no `end` stands above it
-abbrev pub scheduled : Notes → ℕ → ℕ → Event → Result Notes ScriptCause
+abbrev pub scheduled : Notes → ℕ → ℕ → Event → Result Notes LineFault
 scheduled notes line time event =
-    if nat_lt time (last_time notes.events) then Err Order
-    else if is_some notes.end then Err End
+    if nat_lt time (last_time notes.events) then Err (at_word 1 Order)
+    else if is_some notes.end then Err (at_word 0 End)
     else Ok (record notes { events = notes.events ++ record { line = line; at = time; event = event } ∷ [] })
 
 -- `at T plug CHILD PARENT PORT`, with what its words say; a port above 255 counts as 255
-abbrev pub plug_read : Notes → ℕ → Option ℕ → Option ℕ → Option ℕ → Option ℕ → Result Notes ScriptCause
-plug_read notes line None port child parent = Err Number
-plug_read notes line (Some time) None child parent = Err Number
-plug_read notes line (Some time) (Some port) None parent = Err Name
-plug_read notes line (Some time) (Some port) (Some child) None = Err Name
+abbrev pub plug_read : Notes → ℕ → Option ℕ → Option ℕ → Option ℕ → Option ℕ → Result Notes LineFault
+plug_read notes line None port child parent = Err (at_word 1 Number)
+plug_read notes line (Some time) None child parent = Err (at_word 5 Number)
+plug_read notes line (Some time) (Some port) None parent = Err (at_word 3 Name)
+plug_read notes line (Some time) (Some port) (Some child) None = Err (at_word 4 Name)
 plug_read notes line (Some time) (Some port) (Some child) (Some parent) = scheduled notes line time (Plug child parent (min port 255))
 
-abbrev pub plug_words : List Node → Notes → ℕ → List ℕ → Option (List ℕ × List ℕ × List ℕ) → Result Notes ScriptCause
-plug_words tree notes line time None = Err Word
-plug_words tree notes line time (Some words) =
+abbrev pub plug_words : List Node → Notes → ℕ → List ℕ → ℕ → Option (List ℕ × List ℕ × List ℕ) → Result Notes LineFault
+plug_words tree notes line time count None = Err (misfit 3 count 3)
+plug_words tree notes line time count (Some words) =
     plug_read notes line (time_of time) (number_of words.2) (device_named tree words.0) (device_named tree words.1)
 
 -- `at T unplug CHILD`
-abbrev pub unplug_read : Notes → ℕ → Option ℕ → Option ℕ → Result Notes ScriptCause
-unplug_read notes line None child = Err Number
-unplug_read notes line (Some time) None = Err Name
+abbrev pub unplug_read : Notes → ℕ → Option ℕ → Option ℕ → Result Notes LineFault
+unplug_read notes line None child = Err (at_word 1 Number)
+unplug_read notes line (Some time) None = Err (at_word 3 Name)
 unplug_read notes line (Some time) (Some child) = scheduled notes line time (Unplug child)
 
-abbrev pub unplug_words : List Node → Notes → ℕ → List ℕ → Option (List ℕ) → Result Notes ScriptCause
-unplug_words tree notes line time None = Err Word
-unplug_words tree notes line time (Some word) = unplug_read notes line (time_of time) (device_named tree word)
+abbrev pub unplug_words : List Node → Notes → ℕ → List ℕ → ℕ → Option (List ℕ) → Result Notes LineFault
+unplug_words tree notes line time count None = Err (misfit 3 count 1)
+unplug_words tree notes line time count (Some word) = unplug_read notes line (time_of time) (device_named tree word)
 
 -- `at T press NAME KEY`, `at T release NAME KEY`
-abbrev pub key_read : Notes → ℕ → Bool → Result KeyValue ScriptCause → Option ℕ → Option ℕ → Result Notes ScriptCause
-key_read notes line press (Err cause) time device = Err cause
-key_read notes line press (Ok key) None device = Err Number
-key_read notes line press (Ok key) (Some time) None = Err Name
+abbrev pub key_read : Notes → ℕ → Bool → Result KeyValue LineFault → Option ℕ → Option ℕ → Result Notes LineFault
+key_read notes line press (Err fault) time device = Err fault
+key_read notes line press (Ok key) None device = Err (at_word 1 Number)
+key_read notes line press (Ok key) (Some time) None = Err (at_word 3 Name)
 key_read notes line press (Ok key) (Some time) (Some device) = scheduled notes line time (Key device key press)
 
-abbrev pub key_words : List Node → Notes → ℕ → Bool → List ℕ → List (List ℕ) → Result Notes ScriptCause
-key_words tree notes line press time [] = Err Word
+abbrev pub key_words : List Node → Notes → ℕ → Bool → List ℕ → List (List ℕ) → Result Notes LineFault
+key_words tree notes line press time [] = Err (at_word 3 Word)
 key_words tree notes line press time (name ∷ words) = key_read notes line press (key_of words) (time_of time) (device_named tree name)
 
 -- `at T hold NAME ADDRS`, `at T drop NAME`
-abbrev pub act_read : Notes → ℕ → Option Act → Option ℕ → Option ℕ → Result Notes ScriptCause
-act_read notes line None time device = Err Word
-act_read notes line (Some act) None device = Err Number
-act_read notes line (Some act) (Some time) None = Err Name
+abbrev pub act_read : Notes → ℕ → Option Act → Option ℕ → Option ℕ → Result Notes LineFault
+act_read notes line None time device = Err (at_word 4 Word)
+act_read notes line (Some act) None device = Err (at_word 1 Number)
+act_read notes line (Some act) (Some time) None = Err (at_word 3 Name)
 act_read notes line (Some act) (Some time) (Some device) = scheduled notes line time (Outside device act)
 
-abbrev pub hold_words : List Node → Notes → ℕ → List ℕ → Option (List ℕ × List ℕ) → Result Notes ScriptCause
-hold_words tree notes line time None = Err Word
-hold_words tree notes line time (Some words) = act_read notes line (hold_of words.1) (time_of time) (device_named tree words.0)
+abbrev pub hold_words : List Node → Notes → ℕ → List ℕ → ℕ → Option (List ℕ × List ℕ) → Result Notes LineFault
+hold_words tree notes line time count None = Err (misfit 3 count 2)
+hold_words tree notes line time count (Some words) = act_read notes line (hold_of words.1) (time_of time) (device_named tree words.0)
 
-abbrev pub drop_words : List Node → Notes → ℕ → List ℕ → Option (List ℕ) → Result Notes ScriptCause
-drop_words tree notes line time None = Err Word
-drop_words tree notes line time (Some word) = act_read notes line (Some Empty) (time_of time) (device_named tree word)
+abbrev pub drop_words : List Node → Notes → ℕ → List ℕ → ℕ → Option (List ℕ) → Result Notes LineFault
+drop_words tree notes line time count None = Err (misfit 3 count 1)
+drop_words tree notes line time count (Some word) = act_read notes line (Some Empty) (time_of time) (device_named tree word)
 
 -- the events whose words say all
-abbrev pub event_words : List Node → Notes → ℕ → List ℕ → List ℕ → List (List ℕ) → Result Notes ScriptCause
+abbrev pub event_words : List Node → Notes → ℕ → List ℕ → List ℕ → List (List ℕ) → Result Notes LineFault
 event_words tree notes line time verb words =
-    if bytes_eq verb (codes "plug") then plug_words tree notes line time (three_of words)
-    else if bytes_eq verb (codes "unplug") then unplug_words tree notes line time (one_of words)
+    if bytes_eq verb (codes "plug") then plug_words tree notes line time (length words) (three_of words)
+    else if bytes_eq verb (codes "unplug") then unplug_words tree notes line time (length words) (one_of words)
     else if bytes_eq verb (codes "press") then key_words tree notes line true time words
     else if bytes_eq verb (codes "release") then key_words tree notes line false time words
-    else if bytes_eq verb (codes "hold") then hold_words tree notes line time (two_of words)
-    else if bytes_eq verb (codes "drop") then drop_words tree notes line time (one_of words)
-    else Err Word
+    else if bytes_eq verb (codes "hold") then hold_words tree notes line time (length words) (two_of words)
+    else if bytes_eq verb (codes "drop") then drop_words tree notes line time (length words) (one_of words)
+    else Err (at_word 2 Word)
 
 -- a text is this frame's and no other's, or no frame's, for this cause
 abbrev pub IsFrameOf : List ℕ → Result (List ℕ) AssembleError → Type 0
@@ -155,112 +157,117 @@ IsFrameOf text (Ok frame) = IsTextOf text frame × ((other : List ℕ) → IsTex
 IsFrameOf text (Err cause) = IsRefused text cause × ((frame : List ℕ) → IsTextOf text frame → ⊥)
 
 -- `at T send NAME FRAME`; the frame's text is all that stands behind the name
-abbrev pub send_read : Notes → ℕ → Option ℕ → Option ℕ → Result (List ℕ) AssembleError → Result Notes ScriptCause
-send_read notes line None device frame = Err Number
-send_read notes line (Some time) None frame = Err Name
-send_read notes line (Some time) (Some device) (Err cause) = Err (Frame cause)
+abbrev pub send_read : Notes → ℕ → Option ℕ → Option ℕ → Result (List ℕ) AssembleError → Result Notes LineFault
+send_read notes line None device frame = Err (at_word 1 Number)
+send_read notes line (Some time) None frame = Err (at_word 3 Name)
+send_read notes line (Some time) (Some device) (Err cause) = Err (at_word (4 + frame_word cause) (Frame cause))
 send_read notes line (Some time) (Some device) (Ok frame) = scheduled notes line time (Send device frame)
 
-abbrev pub IsSendRead : List Node → Notes → ℕ → List ℕ → List (List ℕ) → Result Notes ScriptCause → Type 0
-IsSendRead tree notes line time [] read = read ≡ Err Word
-IsSendRead tree notes line time (name ∷ []) read = read ≡ Err Word
+abbrev pub IsSendRead : List Node → Notes → ℕ → List ℕ → List (List ℕ) → Result Notes LineFault → Type 0
+IsSendRead tree notes line time [] read = read ≡ Err (at_word 3 Word)
+IsSendRead tree notes line time (name ∷ []) read = read ≡ Err (at_word 4 Word)
 IsSendRead tree notes line time (name ∷ word ∷ words) read =
     (frame : Result (List ℕ) AssembleError)
     × IsFrameOf (text_of (word ∷ words)) frame
     × (read ≡ send_read notes line (time_of time) (device_named tree name) frame)
 
 -- the words behind `at`
-abbrev pub IsEventRead : List Node → Notes → ℕ → List (List ℕ) → Result Notes ScriptCause → Type 0
-IsEventRead tree notes line [] read = read ≡ Err Word
-IsEventRead tree notes line (time ∷ []) read = read ≡ Err Word
+abbrev pub IsEventRead : List Node → Notes → ℕ → List (List ℕ) → Result Notes LineFault → Type 0
+IsEventRead tree notes line [] read = read ≡ Err (at_word 1 Word)
+IsEventRead tree notes line (time ∷ []) read = read ≡ Err (at_word 2 Word)
 IsEventRead tree notes line (time ∷ verb ∷ words) read =
     cond {A = Type 0} (bytes_eq verb (codes "send")) (IsSendRead tree notes line time words read) (read ≡ event_words tree notes line time verb words)
 
 -- ---- pulses and the end
 
-abbrev pub pulse_cause : PulsesError → ScriptCause
-pulse_cause faults.Width = Width
-pulse_cause faults.Close = Close
-pulse_cause faults.Order = Order
-pulse_cause faults.TooMany = TooMany
+abbrev pub pulse_fault : PulsesError → LineFault
+pulse_fault faults.Width = at_word 2 Width
+pulse_fault faults.Close = at_word 1 Close
+pulse_fault faults.Order = at_word 1 Order
+pulse_fault faults.TooMany = at_word 0 TooMany
 
 -- the end of the last pulse
 abbrev pub last_end : List Stretch → Option ℕ
 last_end pulses = option_map (λ pulse. pulse.to) (slice_get pulses (length pulses - 1))
 
--- a pulse behind the others: narrow and far enough from the last, one of at most 4,096, and no `end` stands above it
-abbrev pub unless_fault : Option PulsesError → Notes → Stretch → Result Notes ScriptCause
-unless_fault (Some fault) notes pulse = Err (pulse_cause fault)
-unless_fault None notes pulse =
-    if nat_le 4096 (length notes.pulses) then Err TooMany
-    else if is_some notes.end then Err End
+-- a pulse behind the others: narrow and far enough from the last, one of at most 4,096 with those that wait, and no `end`
+-- stands above it
+abbrev pub unless_fault : Option PulsesError → Notes → ℕ → Stretch → Result Notes LineFault
+unless_fault (Some fault) notes waiting pulse = Err (pulse_fault fault)
+unless_fault None notes waiting pulse =
+    if nat_le 4096 waiting then Err (at_word 0 TooMany)
+    else if is_some notes.end then Err (at_word 0 End)
     else Ok (record notes { pulses = notes.pulses ++ pulse ∷ [] })
 
-abbrev pub pulsed : Notes → Stretch → Result Notes ScriptCause
-pulsed notes pulse = unless_fault (stretch_fault (last_end notes.pulses) pulse) notes pulse
+abbrev pub pulsed : Notes → ℕ → Stretch → Result Notes LineFault
+pulsed notes waiting pulse = unless_fault (stretch_fault (last_end notes.pulses) pulse) notes waiting pulse
 
 -- `pulse T WIDTH`; a width above 65,535 counts as 65,535
-abbrev pub pulse_read : Notes → Option ℕ → Option ℕ → Result Notes ScriptCause
-pulse_read notes None width = Err Number
-pulse_read notes (Some time) None = Err Number
-pulse_read notes (Some time) (Some width) = pulsed notes (record { from = time; to = time + min width 65535 })
+abbrev pub pulse_read : Notes → ℕ → Option ℕ → Option ℕ → Result Notes LineFault
+pulse_read notes waiting None width = Err (at_word 1 Number)
+pulse_read notes waiting (Some time) None = Err (at_word 2 Number)
+pulse_read notes waiting (Some time) (Some width) = pulsed notes waiting (record { from = time; to = time + min width 65535 })
 
-abbrev pub pulse_words : Notes → Option (List ℕ × List ℕ) → Result Notes ScriptCause
-pulse_words notes None = Err Word
-pulse_words notes (Some words) = pulse_read notes (time_of words.0) (number_of words.1)
+abbrev pub pulse_words : Notes → ℕ → ℕ → Option (List ℕ × List ℕ) → Result Notes LineFault
+pulse_words notes waiting count None = Err (misfit 1 count 2)
+pulse_words notes waiting count (Some words) = pulse_read notes waiting (time_of words.0) (number_of words.1)
 
 -- `end T`: one alone, after every event
-abbrev pub end_read : Notes → Option ℕ → Result Notes ScriptCause
-end_read notes None = Err Number
+abbrev pub end_read : Notes → Option ℕ → Result Notes LineFault
+end_read notes None = Err (at_word 1 Number)
 end_read notes (Some time) =
-    if is_some notes.end then Err End
-    else if nat_lt 0 (length notes.events) && nat_le time (last_time notes.events) then Err End
+    if is_some notes.end then Err (at_word 0 End)
+    else if nat_lt 0 (length notes.events) && nat_le time (last_time notes.events) then Err (at_word 1 End)
     else Ok (record notes { end = Some time })
 
-abbrev pub end_words : Notes → Option (List ℕ) → Result Notes ScriptCause
-end_words notes None = Err Word
-end_words notes (Some word) = end_read notes (time_of word)
+abbrev pub end_words : Notes → ℕ → Option (List ℕ) → Result Notes LineFault
+end_words notes count None = Err (misfit 1 count 1)
+end_words notes count (Some word) = end_read notes (time_of word)
 
 -- ---- lines
 
 -- the lines that are no events
-abbrev pub other_words : Notes → List ℕ → List (List ℕ) → Result Notes ScriptCause
-other_words notes verb words =
-    if bytes_eq verb (codes "pulse") then pulse_words notes (two_of words)
-    else if bytes_eq verb (codes "end") then end_words notes (one_of words)
-    else Err Word
+abbrev pub other_words : Notes → ℕ → List ℕ → List (List ℕ) → Result Notes LineFault
+other_words notes waiting verb words =
+    if bytes_eq verb (codes "pulse") then pulse_words notes waiting (length words) (two_of words)
+    else if bytes_eq verb (codes "end") then end_words notes (length words) (one_of words)
+    else Err (at_word 0 Word)
 
 -- a line by its words
-abbrev pub IsWordsRead : List Node → Notes → ℕ → List (List ℕ) → Result Notes ScriptCause → Type 0
-IsWordsRead tree notes line [] read = read ≡ Err Word
-IsWordsRead tree notes line (verb ∷ words) read =
-    cond {A = Type 0} (bytes_eq verb (codes "at")) (IsEventRead tree notes line words read) (read ≡ other_words notes verb words)
+abbrev pub IsWordsRead : List Node → Notes → ℕ → ℕ → List (List ℕ) → Result Notes LineFault → Type 0
+IsWordsRead tree notes waiting line [] read = read ≡ Err (at_word 0 Word)
+IsWordsRead tree notes waiting line (verb ∷ words) read =
+    cond {A = Type 0} (bytes_eq verb (codes "at")) (IsEventRead tree notes line words read) (read ≡ other_words notes waiting verb words)
 
--- what a line makes of the notes
-abbrev pub IsLineRead : List Node → Notes → ℕ → List ℕ → Result Notes ScriptCause → Type 0
-IsLineRead tree notes line text read =
-    cond {A = Type 0} (is_skipped text) (read ≡ Ok notes) (IsWordsRead tree notes line (words_of text) read)
+-- what a line makes of the notes, where so many of their pulses wait to be taken into a round
+abbrev pub IsLineRead : List Node → Notes → ℕ → ℕ → List ℕ → Result Notes LineFault → Type 0
+IsLineRead tree notes waiting line text read =
+    cond {A = Type 0} (is_skipped text) (read ≡ Ok notes) (IsWordsRead tree notes waiting line (words_of text) read)
 
--- the first line at fault
+-- the first line at fault, and its word
 pub record ScriptFault : Type 0 where
   pub line : ℕ
   pub cause : ScriptCause
+  pub word : ℕ
+
+abbrev pub fault_at : ℕ → LineFault → ScriptFault
+fault_at line fault = record { line = line; cause = fault.cause; word = fault.word }
 
 -- behind the last line an `end` stands above
 abbrev pub ended : Notes → ℕ → Option ℕ → Result Course ScriptFault
-ended notes line None = Err (record { line = line; cause = End })
+ended notes line None = Err (fault_at line (at_word 0 End))
 ended notes line (Some time) = Ok (record { events = notes.events; pulses = notes.pulses; end = time })
 
-abbrev pub Onward : ℕ → Result Notes ScriptCause → (Notes → Type 0) → Result Course ScriptFault → Type 0
+abbrev pub Onward : ℕ → Result Notes LineFault → (Notes → Type 0) → Result Course ScriptFault → Type 0
 Onward line (Ok notes) rest read = rest notes
-Onward line (Err cause) rest read = read ≡ Err (record { line = line; cause = cause })
+Onward line (Err fault) rest read = read ≡ Err (fault_at line fault)
 
--- what the lines from this number on make of the notes: a script, or the first fault
+-- what the lines from this number on make of the notes: a script, or the first fault. All pulses of a script wait for its run.
 abbrev pub AreLinesRead : List Node → List (List ℕ) → ℕ → Notes → Result Course ScriptFault → Type 0
 AreLinesRead tree [] line notes read = read ≡ ended notes line notes.end
 AreLinesRead tree (text ∷ texts) line notes read =
-    (now : Result Notes ScriptCause)
-    × IsLineRead tree notes line text now
+    (now : Result Notes LineFault)
+    × IsLineRead tree notes (length notes.pulses) line text now
     × Onward line now (λ next. AreLinesRead tree texts (line + 1) next read) read
 
 -- the script of a text for the devices of a tree, or its first fault
@@ -270,26 +277,26 @@ IsScriptRead tree text read = AreLinesRead tree (lines_of text) 1 no_notes read
 -- ---- what the program gives
 
 -- what a part of a line made of the draft is what its words say, unless memory ran out
-abbrev pub GivesNotes : Notes → Result Unit LineError → Result Notes ScriptCause → Type 0
+abbrev pub GivesNotes : Notes → Result Unit LineError → Result Notes LineFault → Type 0
 GivesNotes notes (Ok done) read = read ≡ Ok notes
 GivesNotes notes (Err Memory) read = Unit {0}
-GivesNotes notes (Err (Cause cause)) read = read ≡ Err cause
+GivesNotes notes (Err (Fault fault)) read = read ≡ Err fault
 
 -- the same of what is read by a relation
-abbrev pub Gives : Notes → Result Unit LineError → (Result Notes ScriptCause → Type 0) → Type 0
+abbrev pub Gives : Notes → Result Unit LineError → (Result Notes LineFault → Type 0) → Type 0
 Gives notes (Ok done) IsRead = IsRead (Ok notes)
 Gives notes (Err Memory) IsRead = Unit {0}
-Gives notes (Err (Cause cause)) IsRead = IsRead (Err cause)
+Gives notes (Err (Fault fault)) IsRead = IsRead (Err fault)
 
 -- what is answered is what the text says, unless memory ran out
 abbrev pub GivesScript : List Node → List ℕ → Result Script ScriptError → Type 0
 GivesScript tree text (Ok script) = IsScriptRead tree text (Ok (course_of script))
 GivesScript tree text (Err errors.Memory) = Unit {0}
-GivesScript tree text (Err (errors.At line cause)) = IsScriptRead tree text (Err (record { line = line; cause = cause }))
+GivesScript tree text (Err (errors.At line cause word)) = IsScriptRead tree text (Err (record { line = line; cause = cause; word = word }))
 
 abbrev pub error_at : ℕ → LineError → ScriptError
 error_at line Memory = errors.Memory
-error_at line (Cause cause) = errors.At line cause
+error_at line (Fault fault) = errors.At line fault.cause fault.word
 
 -- ---- what holds of every script
 

@@ -1,22 +1,23 @@
 //! Words of keys.
-ghost use Rattle.std.specs.Prelude.{◌≡◌, ◌≤◌, ◌<◌, IsTrue, option_map};
+ghost use Rattle.std.specs.Prelude.{◌≡◌, ◌≤◌, ◌<◌, IsTrue, option_map, length};
 ghost use Rattle.std.specs.List.{list_all};
 ghost use Rattle.std.specs.Char.{is_ascii_lowercase};
 ghost use Rattle.std.specs.Option.{option_copied};
 ghost use Rattle.cec_feature.specs.KeyWords.{key_named};
 ghost use Rattle.cec_words.specs.Number.{number_of};
 ghost use Rattle.cec_words.specs.Words.{words_behind};
-ghost use Rattle.cec_asm.specs.Keys.{key_alone, switch_of, language_of, destination_of, code_of, control_of, known, port_key, key_with, remote_by, remote_key, if_named, key_of};
+ghost use Rattle.cec_asm.specs.Keys.{key_alone, switch_of, language_of, destination_of, code_of, control_of, known, port_key, values_of, unfit_by, unfit, key_with, remote_by, remote_key, if_named, key_of};
 
+use crate::fault::{LineFault, at_word, misfit};
 use crate::script::ScriptCause;
 use cec_feature::{Key, KeyWord, VolumeKey};
 use cec_frame::Addr;
 use cec_opcode::{Triple, UserControl, WordSet};
-use cec_words::{number_in, one_word, three_words, two_words};
+use cec_words::{first_word, number_in, one_word, three_words, two_words};
 use hdmi_core::{Phys, digit_value, is_hex_digit};
 
-fn key_alone(word: KeyWord) -> Result<Key, ScriptCause>
-    ensures { result ≡ key_alone word }
+fn key_alone(fault: LineFault, word: KeyWord) -> Result<Key, LineFault>
+    ensures { result ≡ key_alone fault word }
 {
     match word {
         KeyWord::Play => Ok(Key::Play),
@@ -33,7 +34,7 @@ fn key_alone(word: KeyWord) -> Result<Key, ScriptCause>
         | KeyWord::Language
         | KeyWord::Audio
         | KeyWord::Arc
-        | KeyWord::Remote => Err(ScriptCause::Word),
+        | KeyWord::Remote => Err(fault),
     }
 }
 
@@ -90,23 +91,61 @@ fn control_in(word: &[u8]) -> Option<UserControl>
     Some(UserControl::from_byte(code_in(word)?))
 }
 
-fn known(key: Option<Key>) -> Result<Key, ScriptCause>
-    ensures { result ≡ known key }
+// How many words stand behind a key's first one.
+fn values_of(word: KeyWord) -> u8
+    ensures value { result ≡ values_of word }
+    ensures few { result ≤ 2 }
 {
-    key.ok_or(ScriptCause::Word)
+    match word {
+        KeyWord::Play
+        | KeyWord::Stop
+        | KeyWord::Eject
+        | KeyWord::Load
+        | KeyWord::Menu
+        | KeyWord::Power
+        | KeyWord::VolumeUp
+        | KeyWord::VolumeDown
+        | KeyWord::Mute => 0,
+        KeyWord::Port
+        | KeyWord::Watch
+        | KeyWord::Language
+        | KeyWord::Audio
+        | KeyWord::Arc => 1,
+        KeyWord::Remote => 2,
+    }
 }
 
-fn port_key(word: &[u8]) -> Result<Key, ScriptCause>
+// Why words are no key, of which others than a key has are left.
+fn unfit(rest: Option<&[u8]>) -> LineFault
+    ensures { result ≡ unfit (words_behind (option_copied rest.entry)) }
+{
+    let Some(rest) = rest else {
+        return at_word(4, ScriptCause::Word);
+    };
+    let (word, values) = first_word(rest);
+    match KeyWord::named(word) {
+        None => at_word(4, ScriptCause::Word),
+        Some(word) => misfit(5, values, values_of(word)),
+    }
+}
+
+fn known(key: Option<Key>) -> Result<Key, LineFault>
+    ensures { result ≡ known key }
+{
+    key.ok_or(at_word(5, ScriptCause::Word))
+}
+
+fn port_key(word: &[u8]) -> Result<Key, LineFault>
     ensures { result ≡ port_key (number_of word.now) }
 {
     match number_in(word) {
         Some(port) => Ok(Key::Port(port.min(255) as u8)),
-        None => Err(ScriptCause::Number),
+        None => Err(at_word(5, ScriptCause::Number)),
     }
 }
 
-fn key_with(word: KeyWord, value: &[u8]) -> Result<Key, ScriptCause>
-    ensures { result ≡ key_with word value.now }
+fn key_with(fault: LineFault, word: KeyWord, value: &[u8]) -> Result<Key, LineFault>
+    ensures { result ≡ key_with fault word value.now }
 {
     match word {
         KeyWord::Watch => known(Phys::read(value).map(Key::Watch)),
@@ -123,72 +162,78 @@ fn key_with(word: KeyWord, value: &[u8]) -> Result<Key, ScriptCause>
         | KeyWord::VolumeUp
         | KeyWord::VolumeDown
         | KeyWord::Mute
-        | KeyWord::Remote => Err(ScriptCause::Word),
+        | KeyWord::Remote => Err(fault),
     }
 }
 
-fn remote_by(to: Option<Addr>, code: Option<UserControl>) -> Result<Key, ScriptCause>
+fn remote_by(to: Option<Addr>, code: Option<UserControl>) -> Result<Key, LineFault>
     ensures { result ≡ remote_by to code }
 {
     let Some(to) = to else {
-        return Err(ScriptCause::Word);
+        return Err(at_word(5, ScriptCause::Word));
     };
     let Some(code) = code else {
-        return Err(ScriptCause::Word);
+        return Err(at_word(6, ScriptCause::Word));
     };
     Ok(Key::Remote { to, code })
 }
 
-fn remote_key(word: KeyWord, to: &[u8], code: &[u8]) -> Result<Key, ScriptCause>
-    ensures { result ≡ remote_key word to.now code.now }
+fn remote_key(fault: LineFault, word: KeyWord, to: &[u8], code: &[u8]) -> Result<Key, LineFault>
+    ensures { result ≡ remote_key fault word to.now code.now }
 {
     if word == KeyWord::Remote {
         remote_by(destination_in(to), control_in(code))
     } else {
-        Err(ScriptCause::Word)
+        Err(fault)
     }
 }
 
 // A key of one word, of a word and what it takes, and of a word and two that it takes.
-fn key_of_one(word: &[u8]) -> Result<Key, ScriptCause>
-    ensures { result ≡ if_named (key_named word.now) key_alone }
+fn key_of_one(fault: LineFault, word: &[u8]) -> Result<Key, LineFault>
+    ensures { result ≡ if_named fault (key_named word.now) (key_alone fault) }
 {
     match KeyWord::named(word) {
-        Some(word) => key_alone(word),
-        None => Err(ScriptCause::Word),
+        Some(word) => key_alone(fault, word),
+        None => Err(fault),
     }
 }
 
-fn key_of_two(word: &[u8], value: &[u8]) -> Result<Key, ScriptCause>
-    ensures { result ≡ if_named (key_named word.now) (λ word. key_with word value.now) }
+fn key_of_two(fault: LineFault, word: &[u8], value: &[u8]) -> Result<Key, LineFault>
+    ensures { result ≡ if_named fault (key_named word.now) (λ word. key_with fault word value.now) }
 {
     match KeyWord::named(word) {
-        Some(word) => key_with(word, value),
-        None => Err(ScriptCause::Word),
+        Some(word) => key_with(fault, word, value),
+        None => Err(fault),
     }
 }
 
-fn key_of_three(word: &[u8], to: &[u8], code: &[u8]) -> Result<Key, ScriptCause>
-    ensures { result ≡ if_named (key_named word.now) (λ word. remote_key word to.now code.now) }
+fn key_of_three(
+    fault: LineFault,
+    word: &[u8],
+    to: &[u8],
+    code: &[u8],
+) -> Result<Key, LineFault>
+    ensures { result ≡ if_named fault (key_named word.now) (λ word. remote_key fault word to.now code.now) }
 {
     match KeyWord::named(word) {
-        Some(word) => remote_key(word, to, code),
-        None => Err(ScriptCause::Word),
+        Some(word) => remote_key(fault, word, to, code),
+        None => Err(fault),
     }
 }
 
-/// The key that the words left say: one word, or a word and what it takes.
-pub fn key_in(rest: Option<&[u8]>) -> Result<Key, ScriptCause>
+/// The key that the words left say: one word, or a word and what it takes. They stand behind four others.
+pub fn key_in(rest: Option<&[u8]>) -> Result<Key, LineFault>
     ensures { result ≡ key_of (words_behind (option_copied rest.entry)) }
 {
+    let fault = unfit(rest);
     if let Some(word) = one_word(rest) {
-        return key_of_one(word);
+        return key_of_one(fault, word);
     }
     if let Some((word, value)) = two_words(rest) {
-        return key_of_two(word, value);
+        return key_of_two(fault, word, value);
     }
     if let Some((word, to, code)) = three_words(rest) {
-        return key_of_three(word, to, code);
+        return key_of_three(fault, word, to, code);
     }
-    Err(ScriptCause::Word)
+    Err(fault)
 }

@@ -1,7 +1,9 @@
 //! The texts that a network is described by: frames, topologies and scripts.
 #![tactic(auto)]
 
+mod counting;
 mod course;
+mod fault;
 mod holding;
 mod keys;
 mod laws;
@@ -11,6 +13,7 @@ mod topology;
 pub use cec_opcode::WordSet;
 pub use cec_text::{AssembleError, assemble, frame_text, write_frame};
 pub use course::Script;
+pub use fault::LineFault;
 pub use laws::{keys_begin_with_their_words, one_script, scripts_are_sound};
 pub use script::{Draft, LineError, ScriptCause, ScriptError, TimedEvent, parse_script, take_line};
 pub use topology::{Topology, TopologyCause, TopologyError, parse_topology};

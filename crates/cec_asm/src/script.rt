@@ -2,9 +2,10 @@
 ghost use Rattle.std.specs.Prelude.{◌≡◌, ℕ, ◌+◌, ◌<◌, ◌≤◌, List, [], ◌∷◌, ◌++◌, length, Result, Ok, Err, Some, None, IfOk, IfSome, OnErr, OnOk};
 ghost use Rattle.std.specs.Option.{option_copied};
 ghost use Rattle.cec_words.specs.Words.{words_behind, one_of, two_of, three_of};
-ghost use Rattle.cec_asm.specs.Script.{Notes, no_notes, notes_of, course_of, time_of, last_time, last_end, scheduled, plug_words, unplug_words, key_words, act_read, hold_words, drop_words, event_words, send_read, pulse_cause, pulsed, pulse_words, end_words, other_words, error_at, IsFrameOf, IsSendRead, IsEventRead, IsLineRead, GivesNotes, Gives, GivesScript, IsScript};
+ghost use Rattle.cec_asm.specs.Script.{Notes, no_notes, notes_of, course_of, time_of, last_time, last_end, scheduled, plug_words, unplug_words, key_words, act_read, hold_words, drop_words, event_words, send_read, pulse_fault, pulsed, pulse_words, end_words, other_words, error_at, IsFrameOf, IsSendRead, IsEventRead, IsLineRead, GivesNotes, Gives, GivesScript, IsScript};
 
 use crate::course::Script;
+use crate::fault::{LineFault, at_word, frame_word, misfit};
 use crate::holding::hold_in;
 use crate::keys::key_in;
 use crate::topology::Topology;
@@ -39,7 +40,7 @@ pub enum ScriptCause {
     Order,
     /// A pulse less than 25,000 microseconds after the end of the one above.
     Close,
-    /// A pulse behind 4,096 others.
+    /// A pulse behind 4,096 others that wait.
     TooMany,
     /// No `end`, a line behind it, or one that is not after every event.
     End,
@@ -69,9 +70,14 @@ impl fmt::Display for ScriptCause {
 /// Why a script's text is refused.
 #[derive(Debug, Drop, Error)]
 pub enum ScriptError {
-    /// The first line at fault, counted from 1, and its cause.
+    /// The first line at fault, counted from 1, its cause, and the word at fault, counted from 0; where a word is missing,
+    /// the number that it would have.
     #[error("line {line}: {cause}")]
-    At { line: u64, cause: ScriptCause },
+    At {
+        line: u64,
+        cause: ScriptCause,
+        word: u8,
+    },
     #[error("no memory")]
     Memory,
 }
@@ -79,19 +85,8 @@ pub enum ScriptError {
 /// Why a line is not taken.
 #[derive(Debug, Drop)]
 pub enum LineError {
-    Cause(ScriptCause),
+    Fault(LineFault),
     Memory,
-}
-
-impl From<ScriptCause> for LineError {
-    ghost use Rattle.std.specs.Prelude.{◌≡◌};
-    ghost use Rattle.cec_asm.specs.declared.script.LineError.TheVariants.{Cause};
-
-    ghost from_gives = { λ cause error. error ≡ Cause cause };
-
-    fn from(cause: ScriptCause) -> LineError {
-        LineError::Cause(cause)
-    }
 }
 
 impl<T: Drop> From<AllocFailed<T>> for LineError {
@@ -169,10 +164,10 @@ fn schedule(draft: &mut Draft, line: u64, time: u64, event: Event) -> Result<(),
     ensures kept { OnErr result (notes_of draft.new ≡ notes_of draft.old) }
 {
     if time < last_time(&draft.events) {
-        return Err(LineError::Cause(ScriptCause::Order));
+        return Err(LineError::Fault(at_word(1, ScriptCause::Order)));
     }
     if draft.end.is_some() {
-        return Err(LineError::Cause(ScriptCause::End));
+        return Err(LineError::Fault(at_word(0, ScriptCause::End)));
     }
     draft.events.push(TimedEvent {
         line,
@@ -190,23 +185,23 @@ fn take_plug(
     time: &[u8],
     rest: Option<&[u8]>,
 ) -> Result<(), LineError>
-    ensures gives { GivesNotes (notes_of draft.new) result (plug_words tree.now (notes_of draft.old) line time.now (three_of (words_behind (option_copied rest.entry)))) }
+    ensures gives { GivesNotes (notes_of draft.new) result (plug_words tree.now (notes_of draft.old) line time.now (length (words_behind (option_copied rest.entry))) (three_of (words_behind (option_copied rest.entry)))) }
     ensures kept { OnErr result (notes_of draft.new ≡ notes_of draft.old) }
 {
     let Some((child, parent, port)) = three_words(rest) else {
-        return Err(LineError::Cause(ScriptCause::Word));
+        return Err(LineError::Fault(misfit(3, rest, 3)));
     };
     let Some(time) = time_in(time) else {
-        return Err(LineError::Cause(ScriptCause::Number));
+        return Err(LineError::Fault(at_word(1, ScriptCause::Number)));
     };
     let Some(port) = number_in(port) else {
-        return Err(LineError::Cause(ScriptCause::Number));
+        return Err(LineError::Fault(at_word(5, ScriptCause::Number)));
     };
     let Some(child) = tree.device_named(child) else {
-        return Err(LineError::Cause(ScriptCause::Name));
+        return Err(LineError::Fault(at_word(3, ScriptCause::Name)));
     };
     let Some(parent) = tree.device_named(parent) else {
-        return Err(LineError::Cause(ScriptCause::Name));
+        return Err(LineError::Fault(at_word(4, ScriptCause::Name)));
     };
     let port = port.min(255) as u8;
     schedule(
@@ -229,17 +224,17 @@ fn take_unplug(
     time: &[u8],
     rest: Option<&[u8]>,
 ) -> Result<(), LineError>
-    ensures gives { GivesNotes (notes_of draft.new) result (unplug_words tree.now (notes_of draft.old) line time.now (one_of (words_behind (option_copied rest.entry)))) }
+    ensures gives { GivesNotes (notes_of draft.new) result (unplug_words tree.now (notes_of draft.old) line time.now (length (words_behind (option_copied rest.entry))) (one_of (words_behind (option_copied rest.entry)))) }
     ensures kept { OnErr result (notes_of draft.new ≡ notes_of draft.old) }
 {
     let Some(child) = one_word(rest) else {
-        return Err(LineError::Cause(ScriptCause::Word));
+        return Err(LineError::Fault(misfit(3, rest, 1)));
     };
     let Some(time) = time_in(time) else {
-        return Err(LineError::Cause(ScriptCause::Number));
+        return Err(LineError::Fault(at_word(1, ScriptCause::Number)));
     };
     let Some(child) = tree.device_named(child) else {
-        return Err(LineError::Cause(ScriptCause::Name));
+        return Err(LineError::Fault(at_word(3, ScriptCause::Name)));
     };
     schedule(draft, line, time, Event::Unplug { child })
 }
@@ -257,18 +252,18 @@ fn take_key(
     ensures kept { OnErr result (notes_of draft.new ≡ notes_of draft.old) }
 {
     let Some(rest) = rest else {
-        return Err(LineError::Cause(ScriptCause::Word));
+        return Err(LineError::Fault(at_word(3, ScriptCause::Word)));
     };
     let (device, rest) = first_word(rest);
     let key = match key_in(rest) {
         Ok(key) => key,
-        Err(cause) => return Err(LineError::Cause(cause)),
+        Err(fault) => return Err(LineError::Fault(fault)),
     };
     let Some(time) = time_in(time) else {
-        return Err(LineError::Cause(ScriptCause::Number));
+        return Err(LineError::Fault(at_word(1, ScriptCause::Number)));
     };
     let Some(device) = tree.device_named(device) else {
-        return Err(LineError::Cause(ScriptCause::Name));
+        return Err(LineError::Fault(at_word(3, ScriptCause::Name)));
     };
     schedule(draft, line, time, Event::Key { device, key, press })
 }
@@ -284,13 +279,13 @@ fn schedule_act(
     ensures kept { OnErr result (notes_of draft.new ≡ notes_of draft.old) }
 {
     let Some(act) = act else {
-        return Err(LineError::Cause(ScriptCause::Word));
+        return Err(LineError::Fault(at_word(4, ScriptCause::Word)));
     };
     let Some(time) = time else {
-        return Err(LineError::Cause(ScriptCause::Number));
+        return Err(LineError::Fault(at_word(1, ScriptCause::Number)));
     };
     let Some(device) = device else {
-        return Err(LineError::Cause(ScriptCause::Name));
+        return Err(LineError::Fault(at_word(3, ScriptCause::Name)));
     };
     schedule(draft, line, time, Event::Outside { device, act })
 }
@@ -303,11 +298,11 @@ fn take_hold(
     time: &[u8],
     rest: Option<&[u8]>,
 ) -> Result<(), LineError>
-    ensures gives { GivesNotes (notes_of draft.new) result (hold_words tree.now (notes_of draft.old) line time.now (two_of (words_behind (option_copied rest.entry)))) }
+    ensures gives { GivesNotes (notes_of draft.new) result (hold_words tree.now (notes_of draft.old) line time.now (length (words_behind (option_copied rest.entry))) (two_of (words_behind (option_copied rest.entry)))) }
     ensures kept { OnErr result (notes_of draft.new ≡ notes_of draft.old) }
 {
     let Some((device, addresses)) = two_words(rest) else {
-        return Err(LineError::Cause(ScriptCause::Word));
+        return Err(LineError::Fault(misfit(3, rest, 2)));
     };
     let act = hold_in(addresses);
     schedule_act(draft, line, act, time_in(time), tree.device_named(device))
@@ -321,11 +316,11 @@ fn take_drop(
     time: &[u8],
     rest: Option<&[u8]>,
 ) -> Result<(), LineError>
-    ensures gives { GivesNotes (notes_of draft.new) result (drop_words tree.now (notes_of draft.old) line time.now (one_of (words_behind (option_copied rest.entry)))) }
+    ensures gives { GivesNotes (notes_of draft.new) result (drop_words tree.now (notes_of draft.old) line time.now (length (words_behind (option_copied rest.entry))) (one_of (words_behind (option_copied rest.entry)))) }
     ensures kept { OnErr result (notes_of draft.new ≡ notes_of draft.old) }
 {
     let Some(device) = one_word(rest) else {
-        return Err(LineError::Cause(ScriptCause::Word));
+        return Err(LineError::Fault(misfit(3, rest, 1)));
     };
     let act = Some(Act::Empty);
     schedule_act(draft, line, act, time_in(time), tree.device_named(device))
@@ -355,14 +350,17 @@ fn schedule_frame(
     ensures kept { OnErr result (notes_of draft.new ≡ notes_of draft.old) }
 {
     let Some(time) = time else {
-        return Err(LineError::Cause(ScriptCause::Number));
+        return Err(LineError::Fault(at_word(1, ScriptCause::Number)));
     };
     let Some(device) = device else {
-        return Err(LineError::Cause(ScriptCause::Name));
+        return Err(LineError::Fault(at_word(3, ScriptCause::Name)));
     };
     match frame {
         Ok(frame) => schedule(draft, line, time, Event::Send { device, frame }),
-        Err(cause) => Err(LineError::Cause(ScriptCause::Frame(cause))),
+        Err(cause) => Err(LineError::Fault(at_word(
+            4 + frame_word(cause),
+            ScriptCause::Frame(cause),
+        ))),
     }
 }
 
@@ -378,11 +376,11 @@ fn take_send(
     ensures kept { OnErr result (notes_of draft.new ≡ notes_of draft.old) }
 {
     let Some(rest) = rest else {
-        return Err(LineError::Cause(ScriptCause::Word));
+        return Err(LineError::Fault(at_word(3, ScriptCause::Word)));
     };
     let (name, frame) = first_word(rest);
     let Some(frame) = frame else {
-        return Err(LineError::Cause(ScriptCause::Word));
+        return Err(LineError::Fault(at_word(4, ScriptCause::Word)));
     };
     schedule_frame(
         draft,
@@ -393,68 +391,68 @@ fn take_send(
     )
 }
 
-fn pulse_cause(fault: PulsesError) -> ScriptCause
-    ensures { result ≡ pulse_cause fault }
+fn pulse_fault(fault: PulsesError) -> LineFault
+    ensures { result ≡ pulse_fault fault }
 {
     match fault {
-        PulsesError::Width => ScriptCause::Width,
-        PulsesError::Close => ScriptCause::Close,
-        PulsesError::Order => ScriptCause::Order,
-        PulsesError::TooMany => ScriptCause::TooMany,
+        PulsesError::Width => at_word(2, ScriptCause::Width),
+        PulsesError::Close => at_word(1, ScriptCause::Close),
+        PulsesError::Order => at_word(1, ScriptCause::Order),
+        PulsesError::TooMany => at_word(0, ScriptCause::TooMany),
     }
 }
 
-fn add_pulse(draft: &mut Draft, pulse: Stretch) -> Result<(), LineError>
-    ensures gives { GivesNotes (notes_of draft.new) result (pulsed (notes_of draft.old) pulse) }
+fn add_pulse(draft: &mut Draft, waiting: usize, pulse: Stretch) -> Result<(), LineError>
+    ensures gives { GivesNotes (notes_of draft.new) result (pulsed (notes_of draft.old) waiting pulse) }
     ensures kept { OnErr result (notes_of draft.new ≡ notes_of draft.old) }
 {
     if let Some(fault) = stretch_fault(last_end(&draft.pulses), pulse) {
-        return Err(LineError::Cause(pulse_cause(fault)));
+        return Err(LineError::Fault(pulse_fault(fault)));
     }
-    if draft.pulses.len() >= MOST_PULSES {
-        return Err(LineError::Cause(ScriptCause::TooMany));
+    if waiting >= MOST_PULSES {
+        return Err(LineError::Fault(at_word(0, ScriptCause::TooMany)));
     }
     if draft.end.is_some() {
-        return Err(LineError::Cause(ScriptCause::End));
+        return Err(LineError::Fault(at_word(0, ScriptCause::End)));
     }
     draft.pulses.push(pulse)?;
     Ok(())
 }
 
 /// Takes the words behind `pulse`.
-fn take_pulse(draft: &mut Draft, rest: Option<&[u8]>) -> Result<(), LineError>
-    ensures gives { GivesNotes (notes_of draft.new) result (pulse_words (notes_of draft.old) (two_of (words_behind (option_copied rest.entry)))) }
+fn take_pulse(draft: &mut Draft, waiting: usize, rest: Option<&[u8]>) -> Result<(), LineError>
+    ensures gives { GivesNotes (notes_of draft.new) result (pulse_words (notes_of draft.old) waiting (length (words_behind (option_copied rest.entry))) (two_of (words_behind (option_copied rest.entry)))) }
     ensures kept { OnErr result (notes_of draft.new ≡ notes_of draft.old) }
 {
     let Some((from, width)) = two_words(rest) else {
-        return Err(LineError::Cause(ScriptCause::Word));
+        return Err(LineError::Fault(misfit(1, rest, 2)));
     };
     let Some(from) = time_in(from) else {
-        return Err(LineError::Cause(ScriptCause::Number));
+        return Err(LineError::Fault(at_word(1, ScriptCause::Number)));
     };
     let Some(width) = number_in(width) else {
-        return Err(LineError::Cause(ScriptCause::Number));
+        return Err(LineError::Fault(at_word(2, ScriptCause::Number)));
     };
     let to = from + width.min(WIDEST_COUNTED);
-    add_pulse(draft, Stretch { from, to })
+    add_pulse(draft, waiting, Stretch { from, to })
 }
 
 /// Takes the word behind `end`.
 fn take_end(draft: &mut Draft, rest: Option<&[u8]>) -> Result<(), LineError>
-    ensures gives { GivesNotes (notes_of draft.new) result (end_words (notes_of draft.old) (one_of (words_behind (option_copied rest.entry)))) }
+    ensures gives { GivesNotes (notes_of draft.new) result (end_words (notes_of draft.old) (length (words_behind (option_copied rest.entry))) (one_of (words_behind (option_copied rest.entry)))) }
     ensures kept { OnErr result (notes_of draft.new ≡ notes_of draft.old) }
 {
     let Some(time) = one_word(rest) else {
-        return Err(LineError::Cause(ScriptCause::Word));
+        return Err(LineError::Fault(misfit(1, rest, 1)));
     };
     let Some(time) = time_in(time) else {
-        return Err(LineError::Cause(ScriptCause::Number));
+        return Err(LineError::Fault(at_word(1, ScriptCause::Number)));
     };
     if draft.end.is_some() {
-        return Err(LineError::Cause(ScriptCause::End));
+        return Err(LineError::Fault(at_word(0, ScriptCause::End)));
     }
     if !draft.events.is_empty() && time <= last_time(&draft.events) {
-        return Err(LineError::Cause(ScriptCause::End));
+        return Err(LineError::Fault(at_word(1, ScriptCause::End)));
     }
     draft.end = Some(time);
     Ok(())
@@ -485,7 +483,7 @@ fn take_words(
     } else if verb == b"drop".as_slice() {
         take_drop(tree, draft, line, time, rest)
     } else {
-        Err(LineError::Cause(ScriptCause::Word))
+        Err(LineError::Fault(at_word(2, ScriptCause::Word)))
     }
 }
 
@@ -500,11 +498,11 @@ fn take_event(
     ensures kept { OnErr result (notes_of draft.new ≡ notes_of draft.old) }
 {
     let Some(rest) = rest else {
-        return Err(LineError::Cause(ScriptCause::Word));
+        return Err(LineError::Fault(at_word(1, ScriptCause::Word)));
     };
     let (time, rest) = first_word(rest);
     let Some(rest) = rest else {
-        return Err(LineError::Cause(ScriptCause::Word));
+        return Err(LineError::Fault(at_word(2, ScriptCause::Word)));
     };
     let (verb, rest) = first_word(rest);
     if verb == b"send".as_slice() {
@@ -515,27 +513,34 @@ fn take_event(
 }
 
 /// Takes the words of a line that is no event.
-fn take_other(draft: &mut Draft, verb: &[u8], rest: Option<&[u8]>) -> Result<(), LineError>
-    ensures gives { GivesNotes (notes_of draft.new) result (other_words (notes_of draft.old) verb.now (words_behind (option_copied rest.entry))) }
+fn take_other(
+    draft: &mut Draft,
+    waiting: usize,
+    verb: &[u8],
+    rest: Option<&[u8]>,
+) -> Result<(), LineError>
+    ensures gives { GivesNotes (notes_of draft.new) result (other_words (notes_of draft.old) waiting verb.now (words_behind (option_copied rest.entry))) }
     ensures kept { OnErr result (notes_of draft.new ≡ notes_of draft.old) }
 {
     if verb == b"pulse".as_slice() {
-        take_pulse(draft, rest)
+        take_pulse(draft, waiting, rest)
     } else if verb == b"end".as_slice() {
         take_end(draft, rest)
     } else {
-        Err(LineError::Cause(ScriptCause::Word))
+        Err(LineError::Fault(at_word(0, ScriptCause::Word)))
     }
 }
 
-/// Takes a line, the one of this number.
+/// Takes a line, the one of this number. So many pulses of the lines before it wait to be taken into a round: all of them,
+/// where the run has not begun.
 pub fn take_line(
     tree: &Tree<15>,
     draft: &mut Draft,
+    waiting: usize,
     number: u64,
     line: &[u8],
 ) -> Result<(), LineError>
-    ensures gives { Gives (notes_of draft.new) result (IsLineRead tree.now (notes_of draft.old) number line.now) }
+    ensures gives { Gives (notes_of draft.new) result (IsLineRead tree.now (notes_of draft.old) waiting number line.now) }
     ensures kept { OnErr result (notes_of draft.new ≡ notes_of draft.old) }
 {
     if is_skipped(line) {
@@ -545,7 +550,7 @@ pub fn take_line(
     if verb == b"at".as_slice() {
         take_event(tree, draft, number, rest)
     } else {
-        take_other(draft, verb, rest)
+        take_other(draft, waiting, verb, rest)
     }
 }
 
@@ -553,7 +558,11 @@ fn error_at(line: u64, error: LineError) -> ScriptError
     ensures { result ≡ error_at line error }
 {
     match error {
-        LineError::Cause(cause) => ScriptError::At { line, cause },
+        LineError::Fault(fault) => ScriptError::At {
+            line,
+            cause: fault.cause,
+            word: fault.word,
+        },
         LineError::Memory => ScriptError::Memory,
     }
 }
@@ -566,8 +575,8 @@ fn error_at(line: u64, error: LineError) -> ScriptError
 ///
 /// # Errors
 ///
-/// `At` with the first line at fault, counted from 1, and the first cause that applies to it; `Memory` where there
-/// is none for the events and the pulses.
+/// `At` with the first line at fault, counted from 1, the first cause that applies to it, and the word at fault; `Memory`
+/// where there is none for the events and the pulses.
 pub fn parse_script(alloc: Global, topology: &Topology, text: &[u8]) -> Result<Script, ScriptError>
     ensures gives { GivesScript topology.now.tree text.now result }
     ensures script { IfOk result (λ script. IsScript (length topology.now.tree) (course_of script)) }
@@ -581,7 +590,8 @@ pub fn parse_script(alloc: Global, topology: &Topology, text: &[u8]) -> Result<S
     let mut rest = text;
     let mut number = 1;
     while let Some((line, after)) = first_line(rest) {
-        if let Err(error) = take_line(tree, &mut draft, number, line) {
+        let waiting = draft.pulses.len();
+        if let Err(error) = take_line(tree, &mut draft, waiting, number, line) {
             return Err(error_at(number, error));
         }
         rest = after;
@@ -591,6 +601,7 @@ pub fn parse_script(alloc: Global, topology: &Topology, text: &[u8]) -> Result<S
         return Err(ScriptError::At {
             line: number,
             cause: ScriptCause::End,
+            word: 0,
         });
     };
     Ok(Script {

@@ -1,9 +1,11 @@
 //! Topologies and their texts.
-ghost use Rattle.std.specs.Prelude.{◌≡◌, ℕ, ◌+◌, ◌<◌, List, [], ◌∷◌, ◌++◌, Result, Ok, Err, Some};
+ghost use Rattle.std.specs.Prelude.{◌≡◌, ℕ, ◌+◌, ◌<◌, ◌≤◌, length, List, [], ◌∷◌, ◌++◌, Result, Ok, Err, Some};
 ghost use Rattle.std.specs.Option.{option_copied};
 ghost use Rattle.cec_words.specs.Words.{words_behind, one_of, three_of};
-ghost use Rattle.cec_asm.specs.Topology.{Plan, plan_of, device_line, plug_line, edid_line, line_read, topology_of, error_at, GivesLine, GivesTopology};
+ghost use Rattle.cec_asm.specs.declared.topology.LineError.TheVariants.{Fault};
+ghost use Rattle.cec_asm.specs.Topology.{Plan, plan_of, at_word, misfit, device_line, plug_line, edid_line, line_read, topology_of, error_at, GivesLine, GivesTopology};
 
+use crate::counting::word_count;
 use cec_words::{first_line, first_word, is_skipped, number_in, one_word, three_words};
 use hdmi_core::Kind;
 use hdmi_topo::{AddError, PlugError, Tree, is_name};
@@ -65,50 +67,76 @@ impl fmt::Display for TopologyCause {
 /// Why a topology's text is refused.
 #[derive(Debug, Drop, Error)]
 pub enum TopologyError {
-    /// The first line at fault, counted from 1, and its cause.
+    /// The first line at fault, counted from 1, its cause, and the word at fault, counted from 0; where a word is missing,
+    /// the number that it would have.
     #[error("line {line}: {cause}")]
-    At { line: u64, cause: TopologyCause },
+    At {
+        line: u64,
+        cause: TopologyCause,
+        word: u8,
+    },
     #[error("no memory")]
     Memory,
+}
+
+/// Why a line is refused, and the word at fault, counted from 0; where a word is missing, the number that it would have.
+#[derive(Clone, Copy, Debug, Drop)]
+struct LineFault {
+    cause: TopologyCause,
+    word: u8,
 }
 
 /// Why a line is not taken.
 #[derive(Debug, Drop)]
 enum LineError {
-    Cause(TopologyCause),
+    Fault(LineFault),
     Memory,
+}
+
+fn at_word(word: u8, cause: TopologyCause) -> LineError
+    ensures { result ≡ Fault (at_word word cause) }
+{
+    LineError::Fault(LineFault { cause, word })
+}
+
+// Of words behind the first one, of which others than so many are left.
+fn misfit(rest: Option<&[u8]>, wanted: u8) -> LineError
+    requires few { wanted ≤ 3 }
+    ensures { result ≡ Fault (misfit (length (words_behind (option_copied rest.entry))) wanted) }
+{
+    at_word(1 + word_count(rest, wanted), TopologyCause::Word)
 }
 
 impl From<AddError> for LineError {
     ghost use Rattle.std.specs.Prelude.{◌≡◌};
-    ghost use Rattle.cec_asm.specs.Topology.{add_cause};
-    ghost use Rattle.cec_asm.specs.declared.topology.LineError.TheVariants.{Cause};
+    ghost use Rattle.cec_asm.specs.Topology.{add_fault_of};
+    ghost use Rattle.cec_asm.specs.declared.topology.LineError.TheVariants.{Fault};
 
-    ghost from_gives = { λ error given. given ≡ Cause (add_cause error) };
+    ghost from_gives = { λ error given. given ≡ Fault (add_fault_of error) };
 
     fn from(error: AddError) -> LineError {
-        LineError::Cause(match error {
-            AddError::Full => TopologyCause::Full,
-            AddError::Name => TopologyCause::Name,
-            AddError::SecondRoot => TopologyCause::SecondRoot,
-        })
+        match error {
+            AddError::Full => at_word(0, TopologyCause::Full),
+            AddError::Name => at_word(1, TopologyCause::Name),
+            AddError::SecondRoot => at_word(2, TopologyCause::SecondRoot),
+        }
     }
 }
 
 impl From<PlugError> for LineError {
     ghost use Rattle.std.specs.Prelude.{◌≡◌};
-    ghost use Rattle.cec_asm.specs.Topology.{plug_cause};
-    ghost use Rattle.cec_asm.specs.declared.topology.LineError.TheVariants.{Cause};
+    ghost use Rattle.cec_asm.specs.Topology.{plug_fault_of};
+    ghost use Rattle.cec_asm.specs.declared.topology.LineError.TheVariants.{Fault};
 
-    ghost from_gives = { λ error given. given ≡ Cause (plug_cause error) };
+    ghost from_gives = { λ error given. given ≡ Fault (plug_fault_of error) };
 
     fn from(error: PlugError) -> LineError {
-        LineError::Cause(match error {
-            PlugError::PortRange => TopologyCause::PortRange,
-            PlugError::PortTaken => TopologyCause::PortTaken,
-            PlugError::NotLoose => TopologyCause::NotLoose,
-            PlugError::Loop => TopologyCause::Loop,
-        })
+        match error {
+            PlugError::PortRange => at_word(3, TopologyCause::PortRange),
+            PlugError::PortTaken => at_word(3, TopologyCause::PortTaken),
+            PlugError::NotLoose => at_word(1, TopologyCause::NotLoose),
+            PlugError::Loop => at_word(2, TopologyCause::Loop),
+        }
     }
 }
 
@@ -121,22 +149,22 @@ pub struct Topology {
 
 /// Takes the words behind `device`.
 fn add_device(topology: &mut Topology, rest: Option<&[u8]>) -> Result<(), LineError>
-    ensures { GivesLine (plan_of topology.new) result (device_line (plan_of topology.old) (three_of (words_behind (option_copied rest.entry)))) }
+    ensures { GivesLine (plan_of topology.new) result (device_line (plan_of topology.old) (length (words_behind (option_copied rest.entry))) (three_of (words_behind (option_copied rest.entry)))) }
 {
     let Some((name, kind, ports)) = three_words(rest) else {
-        return Err(LineError::Cause(TopologyCause::Word));
+        return Err(misfit(rest, 3));
     };
     let Some(kind) = Kind::named(kind) else {
-        return Err(LineError::Cause(TopologyCause::Word));
+        return Err(at_word(2, TopologyCause::Word));
     };
     let Some(ports) = number_in(ports) else {
-        return Err(LineError::Cause(TopologyCause::Number));
+        return Err(at_word(3, TopologyCause::Number));
     };
     if ports > 15 {
-        return Err(LineError::Cause(TopologyCause::Number));
+        return Err(at_word(3, TopologyCause::Number));
     }
     if !is_name(name) || topology.tree.device_named(name).is_some() {
-        return Err(LineError::Cause(TopologyCause::Name));
+        return Err(at_word(1, TopologyCause::Name));
     }
     topology.tree.add(name, kind, ports as u8)?;
     Ok(())
@@ -144,19 +172,19 @@ fn add_device(topology: &mut Topology, rest: Option<&[u8]>) -> Result<(), LineEr
 
 /// Takes the words behind `plug`.
 fn add_plug(topology: &mut Topology, rest: Option<&[u8]>) -> Result<(), LineError>
-    ensures { GivesLine (plan_of topology.new) result (plug_line (plan_of topology.old) (three_of (words_behind (option_copied rest.entry)))) }
+    ensures { GivesLine (plan_of topology.new) result (plug_line (plan_of topology.old) (length (words_behind (option_copied rest.entry))) (three_of (words_behind (option_copied rest.entry)))) }
 {
     let Some((child, parent, port)) = three_words(rest) else {
-        return Err(LineError::Cause(TopologyCause::Word));
+        return Err(misfit(rest, 3));
     };
     let Some(port) = number_in(port) else {
-        return Err(LineError::Cause(TopologyCause::Number));
+        return Err(at_word(3, TopologyCause::Number));
     };
     let Some(child) = topology.tree.device_named(child) else {
-        return Err(LineError::Cause(TopologyCause::Name));
+        return Err(at_word(1, TopologyCause::Name));
     };
     let Some(parent) = topology.tree.device_named(parent) else {
-        return Err(LineError::Cause(TopologyCause::Name));
+        return Err(at_word(2, TopologyCause::Name));
     };
     topology.tree.plug(child, parent, port.min(255) as u8)?;
     Ok(())
@@ -164,16 +192,16 @@ fn add_plug(topology: &mut Topology, rest: Option<&[u8]>) -> Result<(), LineErro
 
 /// Takes the word behind `edid`.
 fn add_edid(alloc: Global, topology: &mut Topology, rest: Option<&[u8]>) -> Result<(), LineError>
-    ensures { GivesLine (plan_of topology.new) result (edid_line (plan_of topology.old) (one_of (words_behind (option_copied rest.entry)))) }
+    ensures { GivesLine (plan_of topology.new) result (edid_line (plan_of topology.old) (length (words_behind (option_copied rest.entry))) (one_of (words_behind (option_copied rest.entry)))) }
 {
     let Some(word) = one_word(rest) else {
-        return Err(LineError::Cause(TopologyCause::Word));
+        return Err(misfit(rest, 1));
     };
     if topology.edid.is_some() {
-        return Err(LineError::Cause(TopologyCause::Word));
+        return Err(at_word(0, TopologyCause::Word));
     }
     if word.is_empty() {
-        return Err(LineError::Cause(TopologyCause::Hex));
+        return Err(at_word(1, TopologyCause::Hex));
     }
     match hex::decode(alloc, word) {
         Ok(bytes) => {
@@ -181,7 +209,7 @@ fn add_edid(alloc: Global, topology: &mut Topology, rest: Option<&[u8]>) -> Resu
             Ok(())
         }
         Err(FromHexError::OutOfMemory) => Err(LineError::Memory),
-        Err(_) => Err(LineError::Cause(TopologyCause::Hex)),
+        Err(_) => Err(at_word(1, TopologyCause::Hex)),
     }
 }
 
@@ -200,7 +228,7 @@ fn take_line(alloc: Global, topology: &mut Topology, line: &[u8]) -> Result<(), 
     } else if verb == b"edid".as_slice() {
         add_edid(alloc, topology, rest)
     } else {
-        Err(LineError::Cause(TopologyCause::Word))
+        Err(at_word(0, TopologyCause::Word))
     }
 }
 
@@ -208,7 +236,11 @@ fn error_at(line: u64, error: LineError) -> TopologyError
     ensures { result ≡ error_at line error }
 {
     match error {
-        LineError::Cause(cause) => TopologyError::At { line, cause },
+        LineError::Fault(fault) => TopologyError::At {
+            line,
+            cause: fault.cause,
+            word: fault.word,
+        },
         LineError::Memory => TopologyError::Memory,
     }
 }
@@ -218,8 +250,8 @@ fn error_at(line: u64, error: LineError) -> TopologyError
 ///
 /// # Errors
 ///
-/// `At` with the first line at fault, counted from 1, and the first cause that applies to it; `Memory` where
-/// there is none.
+/// `At` with the first line at fault, counted from 1, the first cause that applies to it, and the word at fault; `Memory`
+/// where there is none.
 pub fn parse_topology(alloc: Global, text: &[u8]) -> Result<Topology, TopologyError>
     ensures { GivesTopology result (topology_of text.now) }
 {
@@ -240,6 +272,7 @@ pub fn parse_topology(alloc: Global, text: &[u8]) -> Result<Topology, TopologyEr
         return Err(TopologyError::At {
             line: number,
             cause: TopologyCause::NoRoot,
+            word: 0,
         });
     }
     Ok(topology)

@@ -28,7 +28,8 @@ use Rattle.cec_asm.specs.Holding.{hold_of}
 use Rattle.cec_device.specs.declared.outside.Act.{Act}
 use Rattle.cec_device.specs.declared.outside.Act.TheVariants.{Empty}
 use Rattle.cec_asm.specs.declared.script.TimedEvent.{TimedEvent}
-use Rattle.cec_asm.specs.declared.script.ScriptCause.{ScriptCause}
+use Rattle.cec_asm.specs.Fault.{at_word}
+use Rattle.cec_asm.specs.declared.fault.LineFault.{LineFault}
 use Rattle.cec_asm.specs.declared.script.ScriptCause.TheVariants.{Word, Order, TooMany, End}
 use Rattle.cec_asm.specs.Script.{Course, Notes, ScriptFault, within_limit, time_of, last_time, last_end, scheduled, plug_read, plug_words, unplug_read, unplug_words, key_read, key_words, act_read, hold_words, drop_words, send_read, event_words, unless_fault, pulse_read, pulse_words, end_read, end_words, other_words, ended, no_notes, IsSendRead, IsEventRead, IsWordsRead, IsLineRead, Onward, AreLinesRead}
 use Rattle.cec_expect.specs.Line.{cut_line, cut_script, has_verb, is_before, is_event, is_sooner}
@@ -95,7 +96,7 @@ early_end time (event ∷ events) h =
 -- ---- one event's line
 
 -- a line that is read as an event at a time
-record Takes (time : Option ℕ) (line : ℕ) (R : Notes → Result Notes ScriptCause → Type 0) (notes next : Notes) : Type 0 where
+record Takes (time : Option ℕ) (line : ℕ) (R : Notes → Result Notes LineFault → Type 0) (notes next : Notes) : Type 0 where
   pub at : ℕ
   pub event : Event
   pub time_is : time ≡ Some at
@@ -103,7 +104,7 @@ record Takes (time : Option ℕ) (line : ℕ) (R : Notes → Result Notes Script
   pub now : Ok next ≡ scheduled notes line at event
 
 -- what a function of the notes gives
-abbrev By : (Notes → Result Notes ScriptCause) → Notes → Result Notes ScriptCause → Type 0
+abbrev By : (Notes → Result Notes LineFault) → Notes → Result Notes LineFault → Type 0
 By f n read = read ≡ f n
 
 plug_takes : (line : ℕ) (time port child parent : Option ℕ) (notes next : Notes) → Ok next ≡ plug_read notes line time port child parent → Takes time line (By (λ n. plug_read n line time port child parent)) notes next
@@ -113,24 +114,24 @@ plug_takes line (Some t) (Some p) None parent notes next e = cc
 plug_takes line (Some t) (Some p) (Some c) None notes next e = cc
 plug_takes line (Some t) (Some p) (Some c) (Some d) notes next e = record { at = t; event = Plug c d (min p 255); time_is = refl; reads = λ n. refl; now = e }
 
-plug_words_take : (tree : List Node) (line : ℕ) (time : List ℕ) (words : Option (List ℕ × List ℕ × List ℕ)) (notes next : Notes) → Ok next ≡ plug_words tree notes line time words
-    → Takes (time_of time) line (By (λ n. plug_words tree n line time words)) notes next
-plug_words_take tree line time None notes next e = cc
-plug_words_take tree line time (Some w) notes next e = plug_takes line (time_of time) (number_of w.2) (device_named tree w.0) (device_named tree w.1) notes next e
+plug_words_take : (tree : List Node) (line : ℕ) (time : List ℕ) (many : ℕ) (words : Option (List ℕ × List ℕ × List ℕ)) (notes next : Notes) → Ok next ≡ plug_words tree notes line time many words
+    → Takes (time_of time) line (By (λ n. plug_words tree n line time many words)) notes next
+plug_words_take tree line time many None notes next e = cc
+plug_words_take tree line time many (Some w) notes next e = plug_takes line (time_of time) (number_of w.2) (device_named tree w.0) (device_named tree w.1) notes next e
 
 unplug_takes : (line : ℕ) (time child : Option ℕ) (notes next : Notes) → Ok next ≡ unplug_read notes line time child → Takes time line (By (λ n. unplug_read n line time child)) notes next
 unplug_takes line None child notes next e = cc
 unplug_takes line (Some t) None notes next e = cc
 unplug_takes line (Some t) (Some c) notes next e = record { at = t; event = Unplug c; time_is = refl; reads = λ n. refl; now = e }
 
-unplug_words_take : (tree : List Node) (line : ℕ) (time : List ℕ) (word : Option (List ℕ)) (notes next : Notes) → Ok next ≡ unplug_words tree notes line time word
-    → Takes (time_of time) line (By (λ n. unplug_words tree n line time word)) notes next
-unplug_words_take tree line time None notes next e = cc
-unplug_words_take tree line time (Some w) notes next e = unplug_takes line (time_of time) (device_named tree w) notes next e
+unplug_words_take : (tree : List Node) (line : ℕ) (time : List ℕ) (many : ℕ) (word : Option (List ℕ)) (notes next : Notes) → Ok next ≡ unplug_words tree notes line time many word
+    → Takes (time_of time) line (By (λ n. unplug_words tree n line time many word)) notes next
+unplug_words_take tree line time many None notes next e = cc
+unplug_words_take tree line time many (Some w) notes next e = unplug_takes line (time_of time) (device_named tree w) notes next e
 
-key_takes : (line : ℕ) (press : Bool) (key : Result KeyValue ScriptCause) (time device : Option ℕ) (notes next : Notes) → Ok next ≡ key_read notes line press key time device
+key_takes : (line : ℕ) (press : Bool) (key : Result KeyValue LineFault) (time device : Option ℕ) (notes next : Notes) → Ok next ≡ key_read notes line press key time device
     → Takes time line (By (λ n. key_read n line press key time device)) notes next
-key_takes line press (Err cause) time device notes next e = cc
+key_takes line press (Err fault) time device notes next e = cc
 key_takes line press (Ok key) None device notes next e = cc
 key_takes line press (Ok key) (Some t) None notes next e = cc
 key_takes line press (Ok key) (Some t) (Some d) notes next e = record { at = t; event = Key d key press; time_is = refl; reads = λ n. refl; now = e }
@@ -147,48 +148,48 @@ act_takes line (Some act) None device notes next e = cc
 act_takes line (Some act) (Some t) None notes next e = cc
 act_takes line (Some act) (Some t) (Some d) notes next e = record { at = t; event = Outside d act; time_is = refl; reads = λ n. refl; now = e }
 
-hold_words_take : (tree : List Node) (line : ℕ) (time : List ℕ) (words : Option (List ℕ × List ℕ)) (notes next : Notes) → Ok next ≡ hold_words tree notes line time words
-    → Takes (time_of time) line (By (λ n. hold_words tree n line time words)) notes next
-hold_words_take tree line time None notes next e = cc
-hold_words_take tree line time (Some w) notes next e = act_takes line (hold_of w.1) (time_of time) (device_named tree w.0) notes next e
+hold_words_take : (tree : List Node) (line : ℕ) (time : List ℕ) (many : ℕ) (words : Option (List ℕ × List ℕ)) (notes next : Notes) → Ok next ≡ hold_words tree notes line time many words
+    → Takes (time_of time) line (By (λ n. hold_words tree n line time many words)) notes next
+hold_words_take tree line time many None notes next e = cc
+hold_words_take tree line time many (Some w) notes next e = act_takes line (hold_of w.1) (time_of time) (device_named tree w.0) notes next e
 
-drop_words_take : (tree : List Node) (line : ℕ) (time : List ℕ) (word : Option (List ℕ)) (notes next : Notes) → Ok next ≡ drop_words tree notes line time word
-    → Takes (time_of time) line (By (λ n. drop_words tree n line time word)) notes next
-drop_words_take tree line time None notes next e = cc
-drop_words_take tree line time (Some w) notes next e = act_takes line (Some Empty) (time_of time) (device_named tree w) notes next e
+drop_words_take : (tree : List Node) (line : ℕ) (time : List ℕ) (many : ℕ) (word : Option (List ℕ)) (notes next : Notes) → Ok next ≡ drop_words tree notes line time many word
+    → Takes (time_of time) line (By (λ n. drop_words tree n line time many word)) notes next
+drop_words_take tree line time many None notes next e = cc
+drop_words_take tree line time many (Some w) notes next e = act_takes line (Some Empty) (time_of time) (device_named tree w) notes next e
 
 -- one of two
-by_either : (b : Bool) (time : Option ℕ) (line : ℕ) (f g : Notes → Result Notes ScriptCause) (notes next : Notes) → (Ok next ≡ f notes → Takes time line (By f) notes next)
+by_either : (b : Bool) (time : Option ℕ) (line : ℕ) (f g : Notes → Result Notes LineFault) (notes next : Notes) → (Ok next ≡ f notes → Takes time line (By f) notes next)
     → (Ok next ≡ g notes → Takes time line (By g) notes next) → Ok next ≡ (if b then f notes else g notes) → Takes time line (By (λ n. if b then f n else g n)) notes next
 by_either true time line f g notes next h k e = h e
 by_either false time line f g notes next h k e = k e
 
-no_event : (time : Option ℕ) (line : ℕ) (cause : ScriptCause) (notes next : Notes) → Ok next ≡ Err cause → Takes time line (By (λ n. Err cause)) notes next
-no_event time line cause notes next e = cc
+no_event : (time : Option ℕ) (line : ℕ) (fault : LineFault) (notes next : Notes) → Ok next ≡ Err fault → Takes time line (By (λ n. Err fault)) notes next
+no_event time line fault notes next e = cc
 
 event_words_take : (tree : List Node) (line : ℕ) (time verb : List ℕ) (words : List (List ℕ)) (notes next : Notes) → Ok next ≡ event_words tree notes line time verb words
     → Takes (time_of time) line (By (λ n. event_words tree n line time verb words)) notes next
 event_words_take tree line time verb words notes next e =
     let t = time_of time in
-    let fail : Notes → Result Notes ScriptCause = λ n. Err Word in
-    let dropped : Notes → Result Notes ScriptCause = λ n. if bytes_eq verb (codes "drop") then drop_words tree n line time (one_of words) else fail n in
-    let held : Notes → Result Notes ScriptCause = λ n. if bytes_eq verb (codes "hold") then hold_words tree n line time (two_of words) else dropped n in
-    let released : Notes → Result Notes ScriptCause = λ n. if bytes_eq verb (codes "release") then key_words tree n line false time words else held n in
-    let pressed : Notes → Result Notes ScriptCause = λ n. if bytes_eq verb (codes "press") then key_words tree n line true time words else released n in
-    let unplugged : Notes → Result Notes ScriptCause = λ n. if bytes_eq verb (codes "unplug") then unplug_words tree n line time (one_of words) else pressed n in
-    by_either (bytes_eq verb (codes "plug")) t line (λ n. plug_words tree n line time (three_of words)) unplugged notes next
-    (plug_words_take tree line time (three_of words) notes next)
-    (by_either (bytes_eq verb (codes "unplug")) t line (λ n. unplug_words tree n line time (one_of words)) pressed notes next
-    (unplug_words_take tree line time (one_of words) notes next)
+    let fail : Notes → Result Notes LineFault = λ n. Err (at_word 2 Word) in
+    let dropped : Notes → Result Notes LineFault = λ n. if bytes_eq verb (codes "drop") then drop_words tree n line time (length words) (one_of words) else fail n in
+    let held : Notes → Result Notes LineFault = λ n. if bytes_eq verb (codes "hold") then hold_words tree n line time (length words) (two_of words) else dropped n in
+    let released : Notes → Result Notes LineFault = λ n. if bytes_eq verb (codes "release") then key_words tree n line false time words else held n in
+    let pressed : Notes → Result Notes LineFault = λ n. if bytes_eq verb (codes "press") then key_words tree n line true time words else released n in
+    let unplugged : Notes → Result Notes LineFault = λ n. if bytes_eq verb (codes "unplug") then unplug_words tree n line time (length words) (one_of words) else pressed n in
+    by_either (bytes_eq verb (codes "plug")) t line (λ n. plug_words tree n line time (length words) (three_of words)) unplugged notes next
+    (plug_words_take tree line time (length words) (three_of words) notes next)
+    (by_either (bytes_eq verb (codes "unplug")) t line (λ n. unplug_words tree n line time (length words) (one_of words)) pressed notes next
+    (unplug_words_take tree line time (length words) (one_of words) notes next)
     (by_either (bytes_eq verb (codes "press")) t line (λ n. key_words tree n line true time words) released notes next
     (key_words_take tree line true time words notes next)
     (by_either (bytes_eq verb (codes "release")) t line (λ n. key_words tree n line false time words) held notes next
     (key_words_take tree line false time words notes next)
-    (by_either (bytes_eq verb (codes "hold")) t line (λ n. hold_words tree n line time (two_of words)) dropped notes next
-    (hold_words_take tree line time (two_of words) notes next)
-    (by_either (bytes_eq verb (codes "drop")) t line (λ n. drop_words tree n line time (one_of words)) fail notes next
-    (drop_words_take tree line time (one_of words) notes next)
-    (no_event t line Word notes next)))))) e
+    (by_either (bytes_eq verb (codes "hold")) t line (λ n. hold_words tree n line time (length words) (two_of words)) dropped notes next
+    (hold_words_take tree line time (length words) (two_of words) notes next)
+    (by_either (bytes_eq verb (codes "drop")) t line (λ n. drop_words tree n line time (length words) (one_of words)) fail notes next
+    (drop_words_take tree line time (length words) (one_of words) notes next)
+    (no_event t line (at_word 2 Word) notes next)))))) e
 
 send_takes : (line : ℕ) (time device : Option ℕ) (frame : Result (List ℕ) AssembleError) (notes next : Notes) → Ok next ≡ send_read notes line time device frame
     → Takes time line (By (λ n. send_read n line time device frame)) notes next
@@ -205,7 +206,7 @@ send_words_take tree line time (name ∷ word ∷ words) notes next h =
     let s = send_takes line (time_of time) (device_named tree name) h.0 notes next h.2 in
     record { at = s.at; event = s.event; time_is = s.time_is; reads = λ n. (h.0, h.1, s.reads n); now = s.now }
 
-by_cond : (b : Bool) (time : Option ℕ) (line : ℕ) (P Q : Notes → Result Notes ScriptCause → Type 0) (notes next : Notes) → (P notes (Ok next) → Takes time line P notes next)
+by_cond : (b : Bool) (time : Option ℕ) (line : ℕ) (P Q : Notes → Result Notes LineFault → Type 0) (notes next : Notes) → (P notes (Ok next) → Takes time line P notes next)
     → (Q notes (Ok next) → Takes time line Q notes next) → cond {A = Type 0} b (P notes (Ok next)) (Q notes (Ok next)) → Takes time line (λ n read. cond {A = Type 0} b (P n read) (Q n read)) notes next
 by_cond true time line P Q notes next h k e = h e
 by_cond false time line P Q notes next h k e = k e
@@ -221,7 +222,7 @@ event_takes tree line time verb words notes next h =
 -- what a line gives, and then one of the script that ends earlier
 record Goes (tree : List Node) (time line : ℕ) (text cut : List ℕ) (notes next : Notes) : Type 0 where
   pub order : AreInOrder next.events
-  pub cut_is : IsLineRead tree (cut_notes time notes) line cut (Ok (cut_notes time next))
+  pub cut_is : IsLineRead tree (cut_notes time notes) (length notes.pulses) line cut (Ok (cut_notes time next))
 
 some_end : (time : ℕ) (end : Option ℕ) → is_some (option_map (λ (t : ℕ). time) end) ≡ is_some end
 some_end time None = refl
@@ -235,7 +236,7 @@ record Taken (notes : Notes) (line at : ℕ) (event : Event) (next : Notes) : Ty
 
 -- two readings that give the same
 abbrev AreSame : Notes → Notes → Type 0
-AreSame a b = ◌≡◌ {A = Result Notes ScriptCause} (Ok a) (Ok b)
+AreSame a b = ◌≡◌ {A = Result Notes LineFault} (Ok a) (Ok b)
 
 ok_same : (a b : Notes) → AreSame a b → a ≡ b
 ok_same a b e = cc
@@ -246,7 +247,7 @@ taken notes line at event next e = by (nat_lt at (last_time notes.events)) (is_s
     more : Notes
     more = record notes { events = notes.events ++ record { line = line; at = at; event = event } ∷ [] }
 
-    by : (a b : Bool) → nat_lt at (last_time notes.events) ≡ a → is_some notes.end ≡ b → Ok next ≡ (if a then Err Order else if b then Err End else Ok more) → Taken notes line at event next
+    by : (a b : Bool) → nat_lt at (last_time notes.events) ≡ a → is_some notes.end ≡ b → Ok next ≡ (if a then Err (at_word 1 Order) else if b then Err (at_word 0 End) else Ok more) → Taken notes line at event next
     by true b p q e = cc
     by false true p q e = cc
     by false false p q e = record { after = p; open_end = q; next_is = ok_same next more e }
@@ -274,7 +275,7 @@ early_kept notes next line at time event order t early =
     not_after : (a l : ℕ) → l ≤ a → nat_lt a l ≡ false
     not_after a l h = grind (arith, nat_tests)
 
-    chosen : (a b : Bool) (n : Notes) → a ≡ false → b ≡ false → (if a then Err Order else if b then Err End else Ok n) ≡ Ok n
+    chosen : (a b : Bool) (n : Notes) → a ≡ false → b ≡ false → (if a then Err (at_word 1 Order) else if b then Err (at_word 0 End) else Ok n) ≡ Ok n
     chosen true b n p q = cc
     chosen false true n p q = cc
     chosen false false n p q = refl
@@ -297,7 +298,7 @@ in_limit (Some m) t e = by (nat_lt 1000000000000 m) e
 
 -- a line with an event, where it is not skipped
 event_goes : (tree : List Node) (time line at : ℕ) (text : List ℕ) (event : Event) (notes next : Notes) → AreInOrder notes.events → Taken notes line at event next
-    → ((n : Notes) → IsLineRead tree n line text (scheduled n line at event)) → Goes tree time line text (if nat_lt at time then text else []) notes next
+    → ((n : Notes) → IsLineRead tree n (length n.pulses) line text (scheduled n line at event)) → Goes tree time line text (if nat_lt at time then text else []) notes next
 event_goes tree time line at text event notes next order t reads = record {
   order = subst (λ (n : Notes). AreInOrder n.events) (sym t.next_is) (order_push notes.events (record { line = line; at = at; event = event }) order (not_before at (last_time notes.events) t.after));
   cut_is = by (nat_lt at time) refl;
@@ -306,13 +307,13 @@ event_goes tree time line at text event notes next order t reads = record {
     not_before : (a l : ℕ) → nat_lt a l ≡ false → l ≤ a
     not_before a l h = grind (arith, nat_tests)
 
-    by : (b : Bool) → nat_lt at time ≡ b → IsLineRead tree (cut_notes time notes) line (if b then text else []) (Ok (cut_notes time next))
-    by true e = subst (λ r. IsLineRead tree (cut_notes time notes) line text r) (early_kept notes next line at time event order t e) (reads (cut_notes time notes))
+    by : (b : Bool) → nat_lt at time ≡ b → IsLineRead tree (cut_notes time notes) (length notes.pulses) line (if b then text else []) (Ok (cut_notes time next))
+    by true e = subst (λ r. IsLineRead tree (cut_notes time notes) (length notes.pulses) line text r) (early_kept notes next line at time event order t e) (reads (cut_notes time notes))
     by false e = ap Ok (late_gone notes next line at time event t e)
 
 -- the words of a line that an event's verb begins
 at_goes : (tree : List Node) (time line : ℕ) (text : List ℕ) (words : List (List ℕ)) (notes next : Notes) → AreInOrder notes.events → IsEventRead tree notes line words (Ok next)
-    → ((n : Notes) (read : Result Notes ScriptCause) → IsEventRead tree n line words read → IsLineRead tree n line text read) → (verb : List ℕ)
+    → ((n : Notes) (read : Result Notes LineFault) → IsEventRead tree n line words read → IsLineRead tree n (length n.pulses) line text read) → (verb : List ℕ)
     → Goes tree time line text (if is_before time (verb ∷ words) then text else []) notes next
 at_goes tree time line text [] notes next order h up verb = cc
 at_goes tree time line text (at ∷ []) notes next order h up verb = cc
@@ -324,27 +325,27 @@ at_goes tree time line text (word ∷ kind ∷ words) notes next order h up verb
 
 -- ---- pulses
 
-pulse_goes : (time : ℕ) (notes next : Notes) (words : Option (List ℕ × List ℕ)) → Ok next ≡ pulse_words notes words → (next.events ≡ notes.events) × (pulse_words (cut_notes time notes) words ≡ Ok (cut_notes time next))
-pulse_goes time notes next None e = cc
-pulse_goes time notes next (Some w) e = read (time_of w.0) (number_of w.1) e
+pulse_goes : (time : ℕ) (notes next : Notes) (many : ℕ) (words : Option (List ℕ × List ℕ)) → Ok next ≡ pulse_words notes (length notes.pulses) many words → (next.events ≡ notes.events) × (pulse_words (cut_notes time notes) (length notes.pulses) many words ≡ Ok (cut_notes time next))
+pulse_goes time notes next many None e = cc
+pulse_goes time notes next many (Some w) e = read (time_of w.0) (number_of w.1) e
   where
     more : Stretch → Notes → Notes
     more pulse n = record n { pulses = n.pulses ++ pulse ∷ [] }
 
-    by : (a b : Bool) (pulse : Stretch) → is_some notes.end ≡ b → Ok next ≡ (if a then Err TooMany else if b then Err End else Ok (more pulse notes))
-        → (next.events ≡ notes.events) × ((if a then Err TooMany else if is_some (option_map (λ (t : ℕ). time) notes.end) then Err End else Ok (more pulse (cut_notes time notes))) ≡ Ok (cut_notes time next))
+    by : (a b : Bool) (pulse : Stretch) → is_some notes.end ≡ b → Ok next ≡ (if a then Err (at_word 0 TooMany) else if b then Err (at_word 0 End) else Ok (more pulse notes))
+        → (next.events ≡ notes.events) × ((if a then Err (at_word 0 TooMany) else if is_some (option_map (λ (t : ℕ). time) notes.end) then Err (at_word 0 End) else Ok (more pulse (cut_notes time notes))) ≡ Ok (cut_notes time next))
     by true b pulse p e = cc
     by false true pulse p e = cc
     by false false pulse p e =
         let same = ok_same next (more pulse notes) e in
         let unended : is_some (option_map (λ (t : ℕ). time) notes.end) ≡ false = some_end time notes.end ∙ p in
-        (ap (λ (n : Notes). n.events) same, ap (λ b. if b then Err End else Ok (more pulse (cut_notes time notes))) unended ∙ ap (λ (n : Notes). Ok (cut_notes time n)) (sym same))
+        (ap (λ (n : Notes). n.events) same, ap (λ b. if b then Err (at_word 0 End) else Ok (more pulse (cut_notes time notes))) unended ∙ ap (λ (n : Notes). Ok (cut_notes time n)) (sym same))
 
-    faulted : (o : Option PulsesError) (pulse : Stretch) → Ok next ≡ unless_fault o notes pulse → (next.events ≡ notes.events) × (unless_fault o (cut_notes time notes) pulse ≡ Ok (cut_notes time next))
+    faulted : (o : Option PulsesError) (pulse : Stretch) → Ok next ≡ unless_fault o notes (length notes.pulses) pulse → (next.events ≡ notes.events) × (unless_fault o (cut_notes time notes) (length notes.pulses) pulse ≡ Ok (cut_notes time next))
     faulted None pulse e = by (nat_le 4096 (length notes.pulses)) (is_some notes.end) pulse refl e
     faulted (Some fault) pulse e = cc
 
-    read : (from width : Option ℕ) → Ok next ≡ pulse_read notes from width → (next.events ≡ notes.events) × (pulse_read (cut_notes time notes) from width ≡ Ok (cut_notes time next))
+    read : (from width : Option ℕ) → Ok next ≡ pulse_read notes (length notes.pulses) from width → (next.events ≡ notes.events) × (pulse_read (cut_notes time notes) (length notes.pulses) from width ≡ Ok (cut_notes time next))
     read None width e = cc
     read (Some from) None e = cc
     read (Some from) (Some width) e =
@@ -353,11 +354,11 @@ pulse_goes time notes next (Some w) e = read (time_of w.0) (number_of w.1) e
 
 -- ---- the end
 
-end_given : (notes next : Notes) (word : Option (List ℕ)) → Ok next ≡ end_words notes word → (t : ℕ) × (is_some notes.end ≡ false) × (next ≡ record notes { end = Some t })
-end_given notes next None e = cc
-end_given notes next (Some word) e = read (time_of word) e
+end_given : (notes next : Notes) (many : ℕ) (word : Option (List ℕ)) → Ok next ≡ end_words notes many word → (t : ℕ) × (is_some notes.end ≡ false) × (next ≡ record notes { end = Some t })
+end_given notes next many None e = cc
+end_given notes next many (Some word) e = read (time_of word) e
   where
-    by : (a b : Bool) (t : ℕ) → is_some notes.end ≡ a → Ok next ≡ (if a then Err End else if b then Err End else Ok (record notes { end = Some t }))
+    by : (a b : Bool) (t : ℕ) → is_some notes.end ≡ a → Ok next ≡ (if a then Err (at_word 0 End) else if b then Err (at_word 1 End) else Ok (record notes { end = Some t }))
         → (t : ℕ) × (is_some notes.end ≡ false) × (next ≡ record notes { end = Some t })
     by true b t p e = cc
     by false true t p e = cc
@@ -391,7 +392,7 @@ time_again time low =
     let within : nat_lt 1000000000000 time ≡ false = grind (arith, nat_tests) in
     rw (number_again time (omega (arith, low))) (rw within refl)
 
-end_cut : (time : ℕ) (notes : Notes) → time ≤ 1000000000000 → is_some notes.end ≡ false → end_words (cut_notes time notes) (Some (decimal time)) ≡ Ok (record (cut_notes time notes) { end = Some time })
+end_cut : (time : ℕ) (notes : Notes) → time ≤ 1000000000000 → is_some notes.end ≡ false → end_words (cut_notes time notes) 1 (Some (decimal time)) ≡ Ok (record (cut_notes time notes) { end = Some time })
 end_cut time notes low unended =
     let early : (nat_lt 0 (length (filter (is_early time) notes.events)) && nat_le time (last_time (filter (is_early time) notes.events))) ≡ false =
     early_end time (filter (is_early time) notes.events) (filter_passes (is_early time) notes.events) in
@@ -399,61 +400,61 @@ end_cut time notes low unended =
     ∙ chosen (is_some (option_map (λ (t : ℕ). time) notes.end)) (nat_lt 0 (length (filter (is_early time) notes.events)) && nat_le time (last_time (filter (is_early time) notes.events)))
     (record (cut_notes time notes) { end = Some time }) (some_end time notes.end ∙ unended) early
   where
-    chosen : (a b : Bool) (n : Notes) → a ≡ false → b ≡ false → (if a then Err End else if b then Err End else Ok n) ≡ Ok n
+    chosen : (a b : Bool) (n : Notes) → a ≡ false → b ≡ false → (if a then Err (at_word 0 End) else if b then Err (at_word 1 End) else Ok n) ≡ Ok n
     chosen true b n p q = cc
     chosen false true n p q = cc
     chosen false false n p q = refl
 
-end_goes : (tree : List Node) (time line : ℕ) (notes next : Notes) (word : Option (List ℕ)) → time ≤ 1000000000000 → Ok next ≡ end_words notes word
-    → (next.events ≡ notes.events) × IsLineRead tree (cut_notes time notes) line (end_line time) (Ok (cut_notes time next))
-end_goes tree time line notes next word low e =
-    let given = end_given notes next word e in
-    let read : Ok (cut_notes time next) ≡ end_words (cut_notes time notes) (Some (decimal time)) =
+end_goes : (tree : List Node) (time line : ℕ) (notes next : Notes) (many : ℕ) (word : Option (List ℕ)) → time ≤ 1000000000000 → Ok next ≡ end_words notes many word
+    → (next.events ≡ notes.events) × IsLineRead tree (cut_notes time notes) (length notes.pulses) line (end_line time) (Ok (cut_notes time next))
+end_goes tree time line notes next many word low e =
+    let given = end_given notes next many word e in
+    let read : Ok (cut_notes time next) ≡ end_words (cut_notes time notes) 1 (Some (decimal time)) =
     ap (λ (n : Notes). Ok (cut_notes time n)) given.2 ∙ sym (end_cut time notes low given.1) in
-    let worded : IsWordsRead tree (cut_notes time notes) line (words_of (end_line time)) (Ok (cut_notes time next)) =
-    subst (λ ws. IsWordsRead tree (cut_notes time notes) line ws (Ok (cut_notes time next))) (sym (end_line_words time (omega (arith, low)))) read in (
+    let worded : IsWordsRead tree (cut_notes time notes) (length notes.pulses) line (words_of (end_line time)) (Ok (cut_notes time next)) =
+    subst (λ ws. IsWordsRead tree (cut_notes time notes) (length notes.pulses) line ws (Ok (cut_notes time next))) (sym (end_line_words time (omega (arith, low)))) read in (
       ap (λ (n : Notes). n.events) given.2,
-      subst (λ b. cond {A = Type 0} b (AreSame (cut_notes time next) (cut_notes time notes)) (IsWordsRead tree (cut_notes time notes) line (words_of (end_line time)) (Ok (cut_notes time next)))) (sym (end_line_told time)) worded,
+      subst (λ b. cond {A = Type 0} b (AreSame (cut_notes time next) (cut_notes time notes)) (IsWordsRead tree (cut_notes time notes) (length notes.pulses) line (words_of (end_line time)) (Ok (cut_notes time next)))) (sym (end_line_told time)) worded,
     )
 
 -- ---- a line
 
 -- what a line that is not skipped gives by its words
-told_line : (tree : List Node) (n : Notes) (line : ℕ) (text : List ℕ) (read : Result Notes ScriptCause) → is_skipped text ≡ false → IsWordsRead tree n line (words_of text) read → IsLineRead tree n line text read
-told_line tree n line text read e h = subst (λ b. cond {A = Type 0} b (read ≡ Ok n) (IsWordsRead tree n line (words_of text) read)) (sym e) h
+told_line : (tree : List Node) (n : Notes) (line : ℕ) (text : List ℕ) (read : Result Notes LineFault) → is_skipped text ≡ false → IsWordsRead tree n (length n.pulses) line (words_of text) read → IsLineRead tree n (length n.pulses) line text read
+told_line tree n line text read e h = subst (λ b. cond {A = Type 0} b (read ≡ Ok n) (IsWordsRead tree n (length n.pulses) line (words_of text) read)) (sym e) h
 
 in_order : (notes next : Notes) → next.events ≡ notes.events → AreInOrder notes.events → AreInOrder next.events
 in_order notes next e order = subst (λ (es : List TimedEvent). AreInOrder es) (sym e) order
 
 -- the words of a line that is no event
 other_goes : (tree : List Node) (time line : ℕ) (text verb : List ℕ) (words : List (List ℕ)) (notes next : Notes) → time ≤ 1000000000000 → AreInOrder notes.events → is_skipped text ≡ false
-    → words_of text ≡ verb ∷ words → bytes_eq verb (codes "at") ≡ false → Ok next ≡ other_words notes verb words
+    → words_of text ≡ verb ∷ words → bytes_eq verb (codes "at") ≡ false → Ok next ≡ other_words notes (length notes.pulses) verb words
     → Goes tree time line text (if bytes_eq verb (codes "end") then end_line time else text) notes next
 other_goes tree time line text verb words notes next low order told split no_at e =
     pulse (bytes_eq verb (codes "pulse")) refl e
   where
-    kept : Ok (cut_notes time next) ≡ other_words (cut_notes time notes) verb words → IsLineRead tree (cut_notes time notes) line text (Ok (cut_notes time next))
+    kept : Ok (cut_notes time next) ≡ other_words (cut_notes time notes) (length notes.pulses) verb words → IsLineRead tree (cut_notes time notes) (length notes.pulses) line text (Ok (cut_notes time next))
     kept r =
-        let worded : IsWordsRead tree (cut_notes time notes) line (verb ∷ words) (Ok (cut_notes time next)) =
-        subst (λ b. cond {A = Type 0} b (IsEventRead tree (cut_notes time notes) line words (Ok (cut_notes time next))) (Ok (cut_notes time next) ≡ other_words (cut_notes time notes) verb words)) (sym no_at) r in
-        told_line tree (cut_notes time notes) line text (Ok (cut_notes time next)) told (subst (λ ws. IsWordsRead tree (cut_notes time notes) line ws (Ok (cut_notes time next))) (sym split) worded)
+        let worded : IsWordsRead tree (cut_notes time notes) (length notes.pulses) line (verb ∷ words) (Ok (cut_notes time next)) =
+        subst (λ b. cond {A = Type 0} b (IsEventRead tree (cut_notes time notes) line words (Ok (cut_notes time next))) (Ok (cut_notes time next) ≡ other_words (cut_notes time notes) (length notes.pulses) verb words)) (sym no_at) r in
+        told_line tree (cut_notes time notes) line text (Ok (cut_notes time next)) told (subst (λ ws. IsWordsRead tree (cut_notes time notes) (length notes.pulses) line ws (Ok (cut_notes time next))) (sym split) worded)
 
     no_end : bytes_eq verb (codes "pulse") ≡ true → bytes_eq verb (codes "end") ≡ false
     no_end p = ap (λ v. bytes_eq v (codes "end")) ((bytes_eq-Decides verb (codes "pulse")).0 p)
 
-    end : (b : Bool) → bytes_eq verb (codes "pulse") ≡ false → bytes_eq verb (codes "end") ≡ b → Ok next ≡ (if b then end_words notes (one_of words) else Err Word)
+    end : (b : Bool) → bytes_eq verb (codes "pulse") ≡ false → bytes_eq verb (codes "end") ≡ b → Ok next ≡ (if b then end_words notes (length words) (one_of words) else Err (at_word 0 Word))
         → Goes tree time line text (if b then end_line time else text) notes next
     end false p q e = cc
     end true p q e =
-        let g = end_goes tree time line notes next (one_of words) low e in
+        let g = end_goes tree time line notes next (length words) (one_of words) low e in
         record { order = in_order notes next g.0 order; cut_is = g.1 }
 
-    pulse : (b : Bool) → bytes_eq verb (codes "pulse") ≡ b → Ok next ≡ (if b then pulse_words notes (two_of words) else if bytes_eq verb (codes "end") then end_words notes (one_of words) else Err Word)
+    pulse : (b : Bool) → bytes_eq verb (codes "pulse") ≡ b → Ok next ≡ (if b then pulse_words notes (length notes.pulses) (length words) (two_of words) else if bytes_eq verb (codes "end") then end_words notes (length words) (one_of words) else Err (at_word 0 Word))
         → Goes tree time line text (if bytes_eq verb (codes "end") then end_line time else text) notes next
     pulse true p e =
-        let g = pulse_goes time notes next (two_of words) e in
-        let read : Ok (cut_notes time next) ≡ other_words (cut_notes time notes) verb words =
-        sym (ap (λ b. if b then pulse_words (cut_notes time notes) (two_of words) else if bytes_eq verb (codes "end") then end_words (cut_notes time notes) (one_of words) else Err Word) p ∙ g.1) in
+        let g = pulse_goes time notes next (length words) (two_of words) e in
+        let read : Ok (cut_notes time next) ≡ other_words (cut_notes time notes) (length notes.pulses) verb words =
+        sym (ap (λ b. if b then pulse_words (cut_notes time notes) (length notes.pulses) (length words) (two_of words) else if bytes_eq verb (codes "end") then end_words (cut_notes time notes) (length words) (one_of words) else Err (at_word 0 Word)) p ∙ g.1) in
         subst (λ b. Goes tree time line text (if b then end_line time else text) notes next) (sym (no_end p)) (record { order = in_order notes next g.0 order; cut_is = kept read })
     pulse false p e = end (bytes_eq verb (codes "end")) p refl e
 
@@ -462,31 +463,31 @@ abbrev cut_words : ℕ → List ℕ → List (List ℕ) → List ℕ
 cut_words time text words = if is_event words then (if is_before time words then text else []) else if has_verb (codes "end") words then end_line time else text
 
 words_go : (tree : List Node) (time line : ℕ) (text : List ℕ) (words : List (List ℕ)) (notes next : Notes) → time ≤ 1000000000000 → AreInOrder notes.events → is_skipped text ≡ false → words_of text ≡ words
-    → IsWordsRead tree notes line words (Ok next) → Goes tree time line text (cut_words time text words) notes next
+    → IsWordsRead tree notes (length notes.pulses) line words (Ok next) → Goes tree time line text (cut_words time text words) notes next
 words_go tree time line text [] notes next low order told split h = cc
 words_go tree time line text (verb ∷ words) notes next low order told split h = by (bytes_eq verb (codes "at")) refl h
   where
-    up : bytes_eq verb (codes "at") ≡ true → (n : Notes) (read : Result Notes ScriptCause) → IsEventRead tree n line words read → IsLineRead tree n line text read
+    up : bytes_eq verb (codes "at") ≡ true → (n : Notes) (read : Result Notes LineFault) → IsEventRead tree n line words read → IsLineRead tree n (length n.pulses) line text read
     up e n read r =
-        let worded : IsWordsRead tree n line (verb ∷ words) read = subst (λ b. cond {A = Type 0} b (IsEventRead tree n line words read) (read ≡ other_words n verb words)) (sym e) r in
-        told_line tree n line text read told (subst (λ ws. IsWordsRead tree n line ws read) (sym split) worded)
+        let worded : IsWordsRead tree n (length n.pulses) line (verb ∷ words) read = subst (λ b. cond {A = Type 0} b (IsEventRead tree n line words read) (read ≡ other_words n (length n.pulses) verb words)) (sym e) r in
+        told_line tree n line text read told (subst (λ ws. IsWordsRead tree n (length n.pulses) line ws read) (sym split) worded)
 
-    by : (b : Bool) → bytes_eq verb (codes "at") ≡ b → cond {A = Type 0} b (IsEventRead tree notes line words (Ok next)) (Ok next ≡ other_words notes verb words)
+    by : (b : Bool) → bytes_eq verb (codes "at") ≡ b → cond {A = Type 0} b (IsEventRead tree notes line words (Ok next)) (Ok next ≡ other_words notes (length notes.pulses) verb words)
         → Goes tree time line text (if b then (if is_before time (verb ∷ words) then text else []) else if bytes_eq verb (codes "end") then end_line time else text) notes next
     by true e h = at_goes tree time line text words notes next order h (up e) verb
     by false e h = other_goes tree time line text verb words notes next low order told split e h
 
-line_goes : (tree : List Node) (time line : ℕ) (text : List ℕ) (notes next : Notes) → time ≤ 1000000000000 → AreInOrder notes.events → IsLineRead tree notes line text (Ok next)
+line_goes : (tree : List Node) (time line : ℕ) (text : List ℕ) (notes next : Notes) → time ≤ 1000000000000 → AreInOrder notes.events → IsLineRead tree notes (length notes.pulses) line text (Ok next)
     → Goes tree time line text (cut_line time text) notes next
 line_goes tree time line text notes next low order h = by (is_skipped text) refl h
   where
-    by : (b : Bool) → is_skipped text ≡ b → cond {A = Type 0} b (AreSame next notes) (IsWordsRead tree notes line (words_of text) (Ok next))
+    by : (b : Bool) → is_skipped text ≡ b → cond {A = Type 0} b (AreSame next notes) (IsWordsRead tree notes (length notes.pulses) line (words_of text) (Ok next))
         → Goes tree time line text (if b then text else cut_words time text (words_of text)) notes next
     by true e h =
         let same = ok_same next notes h in
         record {
           order = subst (λ (n : Notes). AreInOrder n.events) (sym same) order;
-          cut_is = subst (λ b. cond {A = Type 0} b (AreSame (cut_notes time next) (cut_notes time notes)) (IsWordsRead tree (cut_notes time notes) line (words_of text) (Ok (cut_notes time next)))) (sym e) (ap (λ (n : Notes). Ok (cut_notes time n)) same);
+          cut_is = subst (λ b. cond {A = Type 0} b (AreSame (cut_notes time next) (cut_notes time notes)) (IsWordsRead tree (cut_notes time notes) (length notes.pulses) line (words_of text) (Ok (cut_notes time next)))) (sym e) (ap (λ (n : Notes). Ok (cut_notes time n)) same);
         }
     by false e h = words_go tree time line text (words_of text) notes next low order e refl h
 
@@ -504,7 +505,7 @@ lines_go tree time [] line notes course low order h = by notes.end h
     by (Some t) e = ap (λ (c : Course). Ok (cut_course time c)) (same_course course (record { events = notes.events; pulses = notes.pulses; end = t }) e)
 lines_go tree time (text ∷ texts) line notes course low order h = step h.0 h.1 h.2 (λ next o k. lines_go tree time texts (line + 1) next course low o k)
   where
-    step : (now : Result Notes ScriptCause) → IsLineRead tree notes line text now → Onward line now (λ next. AreLinesRead tree texts (line + 1) next (Ok course)) (Ok course)
+    step : (now : Result Notes LineFault) → IsLineRead tree notes (length notes.pulses) line text now → Onward line now (λ next. AreLinesRead tree texts (line + 1) next (Ok course)) (Ok course)
         → ((next : Notes) → AreInOrder next.events → AreLinesRead tree texts (line + 1) next (Ok course) → AreLinesRead tree (map (cut_line time) texts) (line + 1) (cut_notes time next) (Ok (cut_course time course)))
         → AreLinesRead tree (map (cut_line time) (text ∷ texts)) line (cut_notes time notes) (Ok (cut_course time course))
     step (Err cause) l o later = cc

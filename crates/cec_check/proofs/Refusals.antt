@@ -43,20 +43,20 @@ no_root_refused (Some bytes) (Some root) given cause r is refused =
 
 -- what is left is want of memory
 abbrev pub IsWant : EmulateError → Type 0
-IsWant (Topology line cause) = ⊥
-IsWant (Script line cause) = ⊥
+IsWant (Topology line cause word) = ⊥
+IsWant (Script line cause word) = ⊥
 IsWant (Edid cause) = ⊥
 IsWant (Write count) = Unit {0}
 IsWant Memory = Unit {0}
 
 pub not_refused_earlier : (topology plain text : List ℕ) (time : ℕ) (totals : Totals) (error : EmulateError) → time ≤ 1000000000000 → IsTraceOf topology plain text totals
     → IsTold topology (cut_script time plain) error → IsWant error
-not_refused_earlier topology plain text time totals (Topology line cause) early run told = (let accepted = run.accepted.plan_is in cc)
-not_refused_earlier topology plain text time totals (Script line cause) early run told =
+not_refused_earlier topology plain text time totals (Topology line cause word) early run told = (let accepted = run.accepted.plan_is in cc)
+not_refused_earlier topology plain text time totals (Script line cause word) early run told =
     let same : told.0 ≡ run.plan = one_plan topology run.plan told.0 run.accepted.plan_is told.1 in
-    let refused = subst (λ (p : Plan). IsScriptRead p.tree (cut_script time plain) (Err (record { line = line; cause = cause }))) same told.2 in
+    let refused = subst (λ (p : Plan). IsScriptRead p.tree (cut_script time plain) (Err (record { line = line; cause = cause; word = word }))) same told.2 in
     let read = cuts_are_read run.plan.tree time plain run.course early run.accepted.course_is in
-    let clash = one_script run.plan.tree (cut_script time plain) (cut_course time run.course) (Err (record { line = line; cause = cause })) read refused in
+    let clash = one_script run.plan.tree (cut_script time plain) (cut_course time run.course) (Err (record { line = line; cause = cause; word = word })) read refused in
     cc
 not_refused_earlier topology plain text time totals (Edid cause) early run told =
     let same : told.0 ≡ run.plan = one_plan topology run.plan told.0 run.accepted.plan_is told.2.plan_is in

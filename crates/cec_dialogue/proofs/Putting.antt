@@ -38,7 +38,7 @@ handed_same stuck b (Err (Write count)) quiet = absurd (false≢true (sym quiet)
 handed_same stuck b (Err Read) quiet = record { write = λ e. e; handed = λ e. e }
 handed_same stuck b (Err TooLong) quiet = record { write = λ e. e; handed = λ e. e }
 handed_same stuck b (Err NoScriptLine) quiet = record { write = λ e. e; handed = λ e. e }
-handed_same stuck b (Err (Topology line cause)) quiet = record { write = λ e. e; handed = λ e. e }
+handed_same stuck b (Err (Topology line cause word)) quiet = record { write = λ e. e; handed = λ e. e }
 handed_same stuck b (Err (Edid cause)) quiet = record { write = λ e. e; handed = λ e. e }
 handed_same stuck b (Err (Script line cause)) quiet = record { write = λ e. e; handed = λ e. e }
 handed_same stuck b (Err Memory) quiet = record { write = λ e. e; handed = λ e. e }

@@ -1,13 +1,16 @@
 -- A whole session, from its parts.
-use Rattle.std.proofs.Common.{◌≡◌, ℕ, ◌⊎◌, Bool, true, false, List, ◌++◌, Option, Some, None, Result, Ok, Err, inl, inr, refl, sym, ap, subst, ◌∙◌}
+use Rattle.std.proofs.Common.{◌≡◌, ℕ, ◌⊎◌, Bool, true, false, List, ◌++◌, Option, Some, None, Result, Ok, Err, inl, inr, length, ◌≤◌, refl, sym, ap, subst, ◌∙◌}
 use Rattle.std.proofs.lemmas.Bool.{false≢true}
 use Rattle.hdmi_blocks.specs.declared.edid.Edid.{Edid as EdidValue}
 use Rattle.cec_net.specs.State.{started}
 use Rattle.cec_incoming.specs.Incoming.{text_of_lines}
 use Rattle.cec_asm.specs.Topology.{Plan}
+use Rattle.cec_run.specs.declared.run.Telling.TheVariants.{Trace}
+use Rattle.cec_run.specs.Run.{IsRunText, start}
 use Rattle.cec_run.specs.Emulate.{IsTraceOf}
 use Rattle.cec_session.specs.Session.{Session, begun}
 use Rattle.cec_session.specs.Whole.{AreLines}
+use Rattle.cec_session.proofs.Wholly.{sessions_tell_traces}
 use Rattle.cec_session.proofs.Kept.{sessions_tell_traces_of}
 use Rattle.cec_dialogue.specs.declared.error.SessionError.{SessionError}
 use Rattle.cec_dialogue.specs.declared.error.SessionError.TheVariants.{Read, TooLong, NoScriptLine, Topology, Edid, Script, Write, Memory}
@@ -24,7 +27,7 @@ talked_cut before after s old new (Write count) first = inr (refl, first)
 talked_cut before after s old new Read first = absurd first
 talked_cut before after s old new TooLong first = absurd first
 talked_cut before after s old new NoScriptLine first = absurd first
-talked_cut before after s old new (Topology line cause) first = absurd first
+talked_cut before after s old new (Topology line cause word) first = absurd first
 talked_cut before after s old new (Edid cause) first = absurd first
 talked_cut before after s old new (Script line cause) first = absurd first
 talked_cut before after s old new Memory first = absurd first
@@ -32,11 +35,18 @@ talked_cut before after s old new Memory first = absurd first
 -- ---- the trace
 
 trace_of : (topology : List ℕ) (s : Session) (b : HasBegun topology s) (lines kept : List (List ℕ)) (told text : List ℕ) (t : Session) (end : ℕ) (before after old new : Option (List ℕ)) (a : HaveAnswers before after s old new t)
-    → t.notes.end ≡ Some end → IsTraceOf topology (text_of_lines a.kept) (first_told s ++ a.told) t.place.totals
-trace_of topology s b lines kept told text t end before after old new a ended =
+    → t.notes.end ≡ Some end → length t.notes.pulses ≤ 4096 → IsTraceOf topology (text_of_lines a.kept) (first_told s ++ a.told) t.place.totals
+trace_of topology s b lines kept told text t end before after old new a ended sparse =
     let are : AreLines a.lines (begun b.edid b.plan.tree) a.kept a.told a.text t = subst (λ (s : Session). AreLines a.lines s a.kept a.told a.text t) b.is a.are in
     subst (λ (s : Session). IsTraceOf topology (text_of_lines a.kept) (first_told s ++ a.told) t.place.totals) (sym b.is)
-    (sessions_tell_traces_of topology b.plan b.edid a.lines a.kept a.told a.text t end b.plan_is b.root a.whole a.few are ended)
+    (sessions_tell_traces_of topology b.plan b.edid a.lines a.kept a.told a.text t end b.plan_is b.root a.whole a.few sparse are ended)
+
+run_of : (topology : List ℕ) (s : Session) (b : HasBegun topology s) (t : Session) (end : ℕ) (before after old new : Option (List ℕ)) (a : HaveAnswers before after s old new t)
+    → t.notes.end ≡ Some end → IsRunText (Trace b.edid) end (start (started b.plan.tree t.notes.pulses) t.notes.events) (first_told s ++ a.told) t.place.totals
+run_of topology s b t end before after old new a ended =
+    let are : AreLines a.lines (begun b.edid b.plan.tree) a.kept a.told a.text t = subst (λ (s : Session). AreLines a.lines s a.kept a.told a.text t) b.is a.are in
+    subst (λ (s : Session). IsRunText (Trace b.edid) end (start (started b.plan.tree t.notes.pulses) t.notes.events) (first_told s ++ a.told) t.place.totals) (sym b.is)
+    (sessions_tell_traces b.edid b.plan.tree a.lines a.kept a.told a.text t end are ended)
 
 -- ---- the session
 
@@ -45,7 +55,7 @@ quiet_cut (Write count) e P f = f count
 quiet_cut Read e P f = absurd (false≢true e)
 quiet_cut TooLong e P f = absurd (false≢true e)
 quiet_cut NoScriptLine e P f = absurd (false≢true e)
-quiet_cut (Topology line cause) e P f = absurd (false≢true e)
+quiet_cut (Topology line cause word) e P f = absurd (false≢true e)
 quiet_cut (Edid cause) e P f = absurd (false≢true e)
 quiet_cut (Script line cause) e P f = absurd (false≢true e)
 quiet_cut Memory e P f = absurd (false≢true e)
@@ -55,6 +65,7 @@ answered_is : (before mid after : Option (List ℕ)) (s : Session) (old put new 
 answered_is before mid after s old put new topology (Ok done) run a = record {
   run = run;
   over = a;
+  told = run_of run.topology run.first run.begins a.last a.end run.mid after run.so_far new a.answers a.ended;
   trace = trace_of run.topology run.first run.begins a.answers.lines a.answers.kept a.answers.told a.answers.text a.last a.end run.mid after run.so_far new a.answers a.ended;
 }
 answered_is before mid after s old put new topology (Err (Script line cause)) run a = (run, a)
@@ -63,7 +74,7 @@ answered_is before mid after s old put new topology (Err Read) run a = inr (run,
 answered_is before mid after s old put new topology (Err TooLong) run a = inr (run, a)
 answered_is before mid after s old put new topology (Err Memory) run a = inr (run, a)
 answered_is before mid after s old put new topology (Err NoScriptLine) run a = absurd a
-answered_is before mid after s old put new topology (Err (Topology line cause)) run a = absurd a
+answered_is before mid after s old put new topology (Err (Topology line cause word)) run a = absurd a
 answered_is before mid after s old put new topology (Err (Edid cause)) run a = absurd a
 
 pub session_is : (before mid after : Option (List ℕ)) (s : Session) (old new : Option (List ℕ)) (topology : List ℕ) (result : Result Unit SessionError) → IsOpened before mid topology → HasBegun topology s
@@ -76,7 +87,7 @@ session_is before mid after s old new topology (Err error) opened begins (inr (f
 
 -- the topology is refused
 pub refused_is : (before mid after old : Option (List ℕ)) (topology : List ℕ) (error : SessionError) → IsOpened before mid topology → IsTopologyFault topology error → IsSession before after old old (Err error)
-refused_is before mid after old topology (Topology line cause) opened fault = ((topology, mid, opened, fault), refl)
+refused_is before mid after old topology (Topology line cause word) opened fault = ((topology, mid, opened, fault), refl)
 refused_is before mid after old topology (Edid cause) opened fault = ((topology, mid, opened, fault), refl)
 refused_is before mid after old topology Memory opened fault = inl refl
 refused_is before mid after old topology Read opened fault = absurd fault
@@ -86,7 +97,7 @@ refused_is before mid after old topology (Script line cause) opened fault = absu
 refused_is before mid after old topology (Write count) opened fault = absurd fault
 
 pub refused_quiet : (topology : List ℕ) (error : SessionError) → IsTopologyFault topology error → (let r : Result Unit SessionError = Err error in is_write r) ≡ false
-refused_quiet topology (Topology line cause) fault = refl
+refused_quiet topology (Topology line cause word) fault = refl
 refused_quiet topology (Edid cause) fault = refl
 refused_quiet topology Memory fault = refl
 refused_quiet topology Read fault = absurd fault
@@ -101,7 +112,7 @@ unopened_is before mid after old NoScriptLine none = (none, refl)
 unopened_is before mid after old Read none = inl refl
 unopened_is before mid after old TooLong none = inl refl
 unopened_is before mid after old Memory none = inl refl
-unopened_is before mid after old (Topology line cause) none = absurd none
+unopened_is before mid after old (Topology line cause word) none = absurd none
 unopened_is before mid after old (Edid cause) none = absurd none
 unopened_is before mid after old (Script line cause) none = absurd none
 unopened_is before mid after old (Write count) none = absurd none
@@ -111,7 +122,7 @@ unopened_quiet before mid NoScriptLine none = refl
 unopened_quiet before mid Read none = refl
 unopened_quiet before mid TooLong none = refl
 unopened_quiet before mid Memory none = refl
-unopened_quiet before mid (Topology line cause) none = absurd none
+unopened_quiet before mid (Topology line cause word) none = absurd none
 unopened_quiet before mid (Edid cause) none = absurd none
 unopened_quiet before mid (Script line cause) none = absurd none
 unopened_quiet before mid (Write count) none = absurd none

@@ -10,7 +10,7 @@ use Rattle.cec_asm.specs.Topology.{topology_of, Plan}
 use Rattle.cec_trace.specs.Root.{IsRoot, IsNoRoot}
 use Rattle.cec_net.specs.State.{started}
 use Rattle.cec_run.specs.declared.run.Telling.TheVariants.{Trace}
-use Rattle.cec_run.specs.Run.{start_told}
+use Rattle.cec_run.specs.Run.{IsRunText, start, start_told}
 use Rattle.cec_run.specs.Emulate.{IsTraceOf}
 use Rattle.cec_live.specs.Causal.{before_told}
 use Rattle.cec_session.specs.declared.live.Step.{Step}
@@ -52,7 +52,7 @@ IsOpening before after (Err NoScriptLine) = HasNoScript before
 IsOpening before after (Err Read) = Unit {0}
 IsOpening before after (Err TooLong) = Unit {0}
 IsOpening before after (Err Memory) = Unit {0}
-IsOpening before after (Err (Topology line cause)) = ⊥
+IsOpening before after (Err (Topology line cause word)) = ⊥
 IsOpening before after (Err (Edid cause)) = ⊥
 IsOpening before after (Err (Script line cause)) = ⊥
 IsOpening before after (Err (Write count)) = ⊥
@@ -97,7 +97,7 @@ pub record HasBegun (topology : List ℕ) (s : Session) : Type 0 where
 
 -- or refused
 abbrev pub IsTopologyFault : List ℕ → SessionError → Type 0
-IsTopologyFault topology (Topology line cause) = topology_of topology ≡ Err (record { line = line; cause = cause })
+IsTopologyFault topology (Topology line cause word) = topology_of topology ≡ Err (record { line = line; cause = cause; word = word })
 IsTopologyFault topology (Edid cause) = (plan : Plan) × (topology_of topology ≡ Ok plan) × (bytes : List ℕ) × (plan.edid ≡ Some bytes) × IsNoRoot bytes cause
 IsTopologyFault topology Memory = Unit {0}
 IsTopologyFault topology Read = ⊥
@@ -130,7 +130,7 @@ IsFirstPut s old new (Err (Write count)) = IsCutShort (first_told s) old new
 IsFirstPut s old new (Err Read) = ⊥
 IsFirstPut s old new (Err TooLong) = ⊥
 IsFirstPut s old new (Err NoScriptLine) = ⊥
-IsFirstPut s old new (Err (Topology line cause)) = ⊥
+IsFirstPut s old new (Err (Topology line cause word)) = ⊥
 IsFirstPut s old new (Err (Edid cause)) = ⊥
 IsFirstPut s old new (Err (Script line cause)) = ⊥
 IsFirstPut s old new (Err Memory) = ⊥
@@ -206,7 +206,7 @@ IsAnswering before after s old new (Err Read) = HasGone before s old new
 IsAnswering before after s old new (Err TooLong) = HasGone before s old new
 IsAnswering before after s old new (Err Memory) = HasGone before s old new
 IsAnswering before after s old new (Err NoScriptLine) = ⊥
-IsAnswering before after s old new (Err (Topology line cause)) = ⊥
+IsAnswering before after s old new (Err (Topology line cause word)) = ⊥
 IsAnswering before after s old new (Err (Edid cause)) = ⊥
 
 -- a write failed
@@ -216,7 +216,7 @@ is_write (Err (Write count)) = true
 is_write (Err Read) = false
 is_write (Err TooLong) = false
 is_write (Err NoScriptLine) = false
-is_write (Err (Topology line cause)) = false
+is_write (Err (Topology line cause word)) = false
 is_write (Err (Edid cause)) = false
 is_write (Err (Script line cause)) = false
 is_write (Err Memory) = false
@@ -240,11 +240,13 @@ pub record HasRun (before after old new : Option (List ℕ)) : Type 0 where
   pub put : Appends old so_far (first_told first)
 
 -- A session is done: its lines are answered up to `end`, and what they have told, without the answers, is the trace of the
--- topology with the lines of its script, where those that were refused and the session's own ones are emptied.
+-- topology with what the lines of its script say. Where these have no more pulses than a script may have, it is the trace of the
+-- topology with that script, in which the lines that were refused and the session's own ones are emptied.
 pub record IsDone (before after old new : Option (List ℕ)) : Type 0 where
   pub run : HasRun before after old new
   pub over : HasEnded run.mid after run.first run.so_far new
-  pub trace : IsTraceOf run.topology (text_of_lines over.answers.kept) (first_told run.first ++ over.answers.told) over.last.place.totals
+  pub told : IsRunText (Trace run.begins.edid) over.end (start (started run.begins.plan.tree over.last.notes.pulses) over.last.notes.events) (first_told run.first ++ over.answers.told) over.last.place.totals
+  pub trace : length over.last.notes.pulses ≤ 4096 → IsTraceOf run.topology (text_of_lines over.answers.kept) (first_told run.first ++ over.answers.told) over.last.place.totals
 
 -- what is put where a session stops
 abbrev pub IsStopped : Option (List ℕ) → Option (List ℕ) → Option (List ℕ) → Option (List ℕ) → ℕ → ScriptEnd → Type 0
@@ -266,7 +268,7 @@ IsRefused before error = (topology : List ℕ) × (mid : Option (List ℕ)) × I
 abbrev pub IsSession : Option (List ℕ) → Option (List ℕ) → Option (List ℕ) → Option (List ℕ) → Result Unit SessionError → Type 0
 IsSession before after old new (Ok done) = IsDone before after old new
 IsSession before after old new (Err NoScriptLine) = HasNoScript before × (new ≡ old)
-IsSession before after old new (Err (Topology line cause)) = IsRefused before (Topology line cause) × (new ≡ old)
+IsSession before after old new (Err (Topology line cause word)) = IsRefused before (Topology line cause word) × (new ≡ old)
 IsSession before after old new (Err (Edid cause)) = IsRefused before (Edid cause) × (new ≡ old)
 IsSession before after old new (Err (Script line cause)) = IsStopped before after old new line cause
 IsSession before after old new (Err (Write count)) = IsCut before after old new
@@ -283,7 +285,7 @@ IsHandedOn b (Err (Write count)) = count ≡ handed_count b
 IsHandedOn b (Err Read) = pending b ≡ []
 IsHandedOn b (Err TooLong) = pending b ≡ []
 IsHandedOn b (Err NoScriptLine) = pending b ≡ []
-IsHandedOn b (Err (Topology line cause)) = pending b ≡ []
+IsHandedOn b (Err (Topology line cause word)) = pending b ≡ []
 IsHandedOn b (Err (Edid cause)) = pending b ≡ []
 IsHandedOn b (Err (Script line cause)) = pending b ≡ []
 IsHandedOn b (Err Memory) = pending b ≡ []

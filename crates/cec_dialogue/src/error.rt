@@ -12,15 +12,22 @@ pub enum SessionError {
     TooLong,
     #[error("no script line")]
     NoScriptLine,
-    /// The first line of the topology at fault, counted from 1, and its cause.
+    /// The first line of the topology at fault, counted from 1, its cause, and the word at fault, counted from 0.
     #[error("topology line {line}: {cause}")]
-    Topology { line: u64, cause: TopologyCause },
+    Topology {
+        line: u64,
+        cause: TopologyCause,
+        word: u8,
+    },
     /// The topology's bytes of an EDID are refused.
     #[error("edid: {0}")]
     Edid(EdidCause),
     /// The input ended at this line of the script, counted from 1, before a line `end`; or that line is too long.
     #[error("script line {line}: {cause}")]
-    Script { line: u64, cause: ScriptEnd },
+    Script {
+        line: u64,
+        cause: ScriptEnd,
+    },
     /// A `put` took none. So many bytes were handed on.
     #[error("write fault after {0} bytes")]
     Write(u128),

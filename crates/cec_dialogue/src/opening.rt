@@ -87,8 +87,8 @@ pub(crate) fn begin(alloc: Global, text: &[u8]) -> Result<Live, SessionError>
 {
     let topology = match parse_topology(alloc, text) {
         Ok(topology) => topology,
-        Err(TopologyError::At { line, cause }) => {
-            return Err(SessionError::Topology { line, cause });
+        Err(TopologyError::At { line, cause, word }) => {
+            return Err(SessionError::Topology { line, cause, word });
         }
         Err(TopologyError::Memory) => return Err(SessionError::Memory),
     };

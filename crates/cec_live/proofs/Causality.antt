@@ -3,7 +3,7 @@ use Rattle.std.proofs.Common.{◌≡◌, ℕ, zero, suc, ◌+◌, ◌<◌, ◌�
 use Rattle.std.specs.List.{All}
 use Rattle.std.proofs.lemmas.List.Elements.{All-nil, All-cons, All-head, All-tail}
 use Rattle.cec_wave.specs.declared.Stretch.{Stretch}
-use Rattle.cec_wave.specs.Pulses.{IsNarrow, AreFarApart, AreSparse}
+use Rattle.cec_wave.specs.Pulses.{AreSparse}
 use Rattle.hdmi_topo.specs.Node.{Node}
 use Rattle.hdmi_blocks.specs.declared.edid.Edid.{Edid}
 use Rattle.hdmi_blocks.proofs.OneEdid.{one_edid}
@@ -22,6 +22,7 @@ use Rattle.cec_run.proofs.HasRun.{runs_have_texts}
 use Rattle.cec_run.proofs.Accepted.{one_plan}
 use Rattle.cec_live.specs.Certain.{ComesFrom, AllBefore}
 use Rattle.cec_live.specs.Causal.{BeginsWith, before_told, Continues, AgreeBefore, RunsAreCausal, TracesAreCausal}
+use Rattle.cec_live.proofs.Apart.{front_sparse}
 use Rattle.cec_live.proofs.Certainty.{told_is_front}
 use Rattle.cec_live.proofs.Before.{has_all_before}
 
@@ -35,30 +36,10 @@ runs_are_causal telling tree pulses events until sparse framed =
       all.1,
       all.2,
       λ more later end text totals comes told.
-          told_is_front telling tree pulses later events more until end all.2.turns all.1 all.0 text totals sparse framed comes all.2.leads told,
+          told_is_front telling tree pulses later events more until end all.2.turns all.1 all.0 text totals (sparse.narrow, sparse.far) framed comes all.2.leads told,
     )
 
--- ---- the first of some pulses and events
-
-front_short : (ps qs : List Stretch) → length ps ≤ length (ps ++ qs)
-front_short [] qs = omega arith
-front_short (p ∷ ps) qs = (let rest = front_short ps qs in omega (arith, rest))
-
-front_narrow : (ps qs : List Stretch) → All IsNarrow (ps ++ qs) → All IsNarrow ps
-front_narrow [] qs h = All-nil IsNarrow
-front_narrow (p ∷ ps) qs h = All-cons IsNarrow p ps (All-head IsNarrow p (ps ++ qs) h) (front_narrow ps qs (All-tail IsNarrow p (ps ++ qs) h))
-
-front_far : (ps qs : List Stretch) → AreFarApart (ps ++ qs) → AreFarApart ps
-front_far [] qs h = tt
-front_far (p ∷ []) qs h = tt
-front_far (p ∷ r ∷ ps) qs h = (h.0, front_far (r ∷ ps) qs h.1)
-
-pub front_sparse : (ps qs : List Stretch) → AreSparse (ps ++ qs) → AreSparse ps
-front_sparse ps qs h = record {
-  few = (let short = front_short ps qs in let most = h.few in omega (arith, short, most));
-  narrow = front_narrow ps qs h.narrow;
-  far = front_far ps qs h.far;
-}
+-- ---- the first of some events
 
 pub front_framed : (es fs : List TimedEvent) → AreFramedEvents (es ++ fs) → AreFramedEvents es
 front_framed [] fs h = tt

@@ -1,3 +1,4 @@
+pub mod Apart
 pub mod Certainty
 pub mod Before
 pub mod Causality

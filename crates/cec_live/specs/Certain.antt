@@ -3,7 +3,7 @@ use Rattle.std.specs.Prelude.{◌≡◌, ℕ, zero, suc, ◌≤◌, ◌<◌, Lis
 use Rattle.cec_wave.specs.declared.Stretch.{Stretch}
 use Rattle.cec_wave.specs.Line.{IsWave}
 use Rattle.cec_wire.specs.declared.Outcome.{Outcome}
-use Rattle.cec_wave.specs.Pulses.{AreSparse}
+use Rattle.cec_wave.specs.Pulses.{IsNarrow, AreFarApart}
 use Rattle.hdmi_topo.specs.Node.{Node}
 use Rattle.cec_net.specs.State.{NetState, started}
 use Rattle.cec_net.specs.Framed.{AreFramed}
@@ -15,6 +15,10 @@ use Rattle.cec_run.specs.declared.run.Totals.{Totals}
 use Rattle.cec_run.specs.declared.run.Turn.{Turn}
 use Rattle.cec_run.specs.declared.run.Turn.TheVariants.{Stop, Apply, Round}
 use Rattle.cec_run.specs.Run.{Config, start, start_told, turn_at, IsTurn, IsRunText, Leads}
+
+-- pulses as a script has them, however many
+abbrev pub AreApart : List Stretch → Type 0
+AreApart pulses = All IsNarrow pulses × AreFarApart pulses
 
 -- ---- what may still come
 
@@ -75,19 +79,19 @@ pub record AllBefore (telling : Telling) (until : ℕ) (c : Config) (text : List
 -- that instant or later: they tell the same, and lead to the same place.
 abbrev pub TurnsAreCertain : Type 0
 TurnsAreCertain = (telling : Telling) (until end turns : ℕ) (c d : Config) (text : List ℕ) (events : List TimedEvent) (later : List Stretch)
-    → AreSparse c.net.pulses → AreFramed c.net → AreFramedEvents c.events → ComesFrom until events later end
+    → AreApart c.net.pulses → AreFramed c.net → AreFramedEvents c.events → ComesFrom until events later end
     → LeadsBy telling until turns c text d → Leads telling end turns (with_more events later c) text (with_more events later d)
 
 -- So they are over before each later instant too, with whatever has come by then.
 abbrev pub TurnsStayCertain : Type 0
 TurnsStayCertain = (telling : Telling) (until on turns : ℕ) (c d : Config) (text : List ℕ) (events : List TimedEvent) (later : List Stretch)
-    → AreSparse c.net.pulses → AreFramed c.net → AreFramedEvents c.events → ComesFrom until events later on
+    → AreApart c.net.pulses → AreFramed c.net → AreFramedEvents c.events → ComesFrom until events later on
     → LeadsBy telling until turns c text d → LeadsBy telling on turns (with_more events later c) text (with_more events later d)
 
 -- What is told of a run by them is the front of what every such run tells in the end.
 abbrev pub ToldIsFront : Type 0
 ToldIsFront = (telling : Telling) (tree : List Node) (pulses later : List Stretch) (known events : List TimedEvent) (until end turns : ℕ) (d : Config)
-    (body whole : List ℕ) (totals : Totals) → AreSparse pulses → AreFramedEvents known → ComesFrom until events later end
+    (body whole : List ℕ) (totals : Totals) → AreApart pulses → AreFramedEvents known → ComesFrom until events later end
     → LeadsBy telling until turns (start (started tree pulses) known) body d
     → IsRunText telling end (start (started tree (pulses ++ later)) (known ++ events)) whole totals
     → (more : List ℕ) × (whole ≡ (start_told telling (started tree pulses) ++ body) ++ more)

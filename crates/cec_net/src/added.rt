@@ -1,5 +1,5 @@
 //! Pulses that a network is told of while it runs.
-ghost use Rattle.std.specs.Prelude.{◌≡◌, ◌++◌, ◌∷◌, [], Some, None, MatchResult};
+ghost use Rattle.std.specs.Prelude.{◌≡◌, ◌++◌, ◌∷◌, [], length, Some, None, MatchResult};
 ghost use Rattle.cec_wave.specs.Pulses.{pulses_fault};
 ghost use Rattle.cec_net.specs.Added.{pulse_fault, with_pulse};
 
@@ -37,6 +37,13 @@ fn more_pulses(pulses: &Pulses, pulse: Stretch) -> Result<Pulses, PulsesError>
 }
 
 impl<W> Net<W> {
+    /// How many of the pulses that it was told of no round has taken yet.
+    pub fn waiting(&self) -> usize
+        ensures { result ≡ length self.now.pulses }
+    {
+        self.pulses.as_slice().len()
+    }
+
     /// Tells of one more pulse, after those that are known.
     ///
     /// # Errors

@@ -5,8 +5,8 @@ use Rattle.cec_wave.specs.declared.Stretch.{Stretch}
 use Rattle.hdmi_topo.specs.Node.{Node}
 use Rattle.hdmi_topo.specs.Tree.{has_root}
 use Rattle.cec_words.specs.Lines.{lines_of}
-use Rattle.cec_asm.specs.Topology.{Plan, TopologyFault, topology_of, lines_read, at_line, line_read}
-use Rattle.cec_asm.specs.declared.topology.TopologyCause.{TopologyCause}
+use Rattle.cec_asm.specs.Topology.{Plan, TopologyFault, at_word, fault_at, topology_of, lines_read, at_line, line_read}
+use Rattle.cec_asm.specs.declared.topology.LineFault.{LineFault}
 use Rattle.cec_asm.specs.declared.topology.TopologyCause.TheVariants.{NoRoot}
 use Rattle.cec_asm.specs.Script.{Course, ScriptFault, IsScriptRead}
 use Rattle.cec_asm.proofs.OneReading.{one_script}
@@ -31,14 +31,14 @@ rooted : (lines : List (List ℕ)) (number : ℕ) (plan end : Plan) → lines_re
 rooted [] number plan end h = step (has_root plan.tree) refl h
   where
     none : Result Plan TopologyFault
-    none = Err (record { line = number; cause = NoRoot })
+    none = Err (fault_at number (at_word 0 NoRoot))
 
     step : (b : Bool) → has_root plan.tree ≡ b → (if b then Ok plan else none) ≡ Ok end → has_root end.tree ≡ true
     step true g k = let same : plan ≡ end = cc in ap (λ p. has_root p.tree) (sym same) ∙ g
     step false g k = cc
 rooted (line ∷ lines) number plan end h = step (line_read plan line) (λ next. rooted lines (number + 1) next end) h
   where
-    step : (r : Result Plan TopologyCause) → ((next : Plan) → lines_read lines (number + 1) next ≡ Ok end → has_root end.tree ≡ true)
+    step : (r : Result Plan LineFault) → ((next : Plan) → lines_read lines (number + 1) next ≡ Ok end → has_root end.tree ≡ true)
         → at_line number r (λ next. lines_read lines (number + 1) next) ≡ Ok end → has_root end.tree ≡ true
     step (Ok next) on k = on next k
     step (Err cause) on k = cc

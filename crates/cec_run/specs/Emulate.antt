@@ -53,11 +53,11 @@ abbrev pub TextsHaveOneTrace : Type 0
 TextsHaveOneTrace = (topology script x y : List ℕ) (s t : Totals) → IsTraceOf topology script x s → IsTraceOf topology script y t → (x ≡ y) × (s ≡ t)
 
 abbrev pub topology_told : TopologyError → EmulateError
-topology_told (topologies.At line cause) = Topology line cause
+topology_told (topologies.At line cause word) = Topology line cause word
 topology_told topologies.Memory = Memory
 
 abbrev pub script_told : ScriptError → EmulateError
-script_told (scripts.At line cause) = Script line cause
+script_told (scripts.At line cause word) = Script line cause word
 script_told scripts.Memory = Memory
 
 abbrev pub root_told : RootError → EmulateError
@@ -70,8 +70,8 @@ TextsHaveOneLine = (format : Format) (topology script x y : List ℕ) (s t : Tot
 
 -- when each refusal comes: the topology's, then the script's, then the EDID; of memory nothing is said
 abbrev pub IsTold : List ℕ → List ℕ → EmulateError → Type 0
-IsTold topology script (Topology line cause) = topology_of topology ≡ Err (record { line = line; cause = cause })
-IsTold topology script (Script line cause) = (plan : Plan) × (topology_of topology ≡ Ok plan) × IsScriptRead plan.tree script (Err (record { line = line; cause = cause }))
+IsTold topology script (Topology line cause word) = topology_of topology ≡ Err (record { line = line; cause = cause; word = word })
+IsTold topology script (Script line cause word) = (plan : Plan) × (topology_of topology ≡ Ok plan) × IsScriptRead plan.tree script (Err (record { line = line; cause = cause; word = word }))
 IsTold topology script (Edid cause) = (plan : Plan) × (course : Course) × IsAccepted topology script plan course × (bytes : List ℕ) × (plan.edid ≡ Some bytes) × IsNoRoot bytes cause
 IsTold topology script (Write count) = (plan : Plan) × (course : Course) × IsAccepted topology script plan course × (edid : Option EdidValue) × IsRoot plan.edid edid
 IsTold topology script Memory = Unit {0}
@@ -85,8 +85,8 @@ is_write (Err _) = false
 abbrev pub IsCutText : (List ℕ → Totals → Type 0) → Option (List ℕ) → Option (List ℕ) → EmulateError → Type 0
 IsCutText IsDue old new (Write told) =
     (text : List ℕ) × (totals : Totals) × IsDue text totals × (count : ℕ) × (count < length text) × (told ≡ told_count count) × Appends old new (take count text)
-IsCutText IsDue old new (Topology line cause) = new ≡ old
-IsCutText IsDue old new (Script line cause) = new ≡ old
+IsCutText IsDue old new (Topology line cause word) = new ≡ old
+IsCutText IsDue old new (Script line cause word) = new ≡ old
 IsCutText IsDue old new (Edid cause) = new ≡ old
 IsCutText IsDue old new Memory = new ≡ old
 

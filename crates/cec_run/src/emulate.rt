@@ -17,12 +17,21 @@ use thiserror::Error;
 /// Why there is no trace, or not all of it.
 #[derive(Debug, Drop, Error)]
 pub enum EmulateError {
-    /// The first line of the topology at fault, counted from 1, and its cause.
+    /// The first line of the topology at fault, counted from 1, its cause, and the word at fault, counted from 0; where a
+    /// word is missing, the number that it would have.
     #[error("topology line {line}: {cause}")]
-    Topology { line: u64, cause: TopologyCause },
-    /// The first line of the script at fault, counted from 1, and its cause.
+    Topology {
+        line: u64,
+        cause: TopologyCause,
+        word: u8,
+    },
+    /// The same of the script.
     #[error("script line {line}: {cause}")]
-    Script { line: u64, cause: ScriptCause },
+    Script {
+        line: u64,
+        cause: ScriptCause,
+        word: u8,
+    },
     /// The topology's bytes of an EDID are refused.
     #[error("edid: {0}")]
     Edid(EdidCause),
@@ -41,7 +50,7 @@ impl From<TopologyError> for EmulateError {
 
     fn from(error: TopologyError) -> EmulateError {
         match error {
-            TopologyError::At { line, cause } => EmulateError::Topology { line, cause },
+            TopologyError::At { line, cause, word } => EmulateError::Topology { line, cause, word },
             TopologyError::Memory => EmulateError::Memory,
         }
     }
@@ -55,7 +64,7 @@ impl From<ScriptError> for EmulateError {
 
     fn from(error: ScriptError) -> EmulateError {
         match error {
-            ScriptError::At { line, cause } => EmulateError::Script { line, cause },
+            ScriptError::At { line, cause, word } => EmulateError::Script { line, cause, word },
             ScriptError::Memory => EmulateError::Memory,
         }
     }

@@ -1,11 +1,12 @@
 -- The script of a session is read as its lines were.
-use Rattle.std.proofs.Common.{◌≡◌, ◌≢◌, ℕ, ◌+◌, ◌≤◌, min, Bool, true, false, nat_lt, if◌then◌else◌, List, [], ◌∷◌, length, Option, Some, None, Result, Ok, Err, All, refl, sym, ap, subst, ◌∙◌, arith}
+use Rattle.std.proofs.Common.{◌≡◌, ◌≢◌, ℕ, ◌+◌, ◌≤◌, min, Bool, true, false, nat_lt, if◌then◌else◌, List, [], ◌∷◌, length, length-append, Option, Some, None, Result, Ok, Err, All, refl, sym, ap, subst, ◌∙◌, arith}
 use Rattle.std.proofs.lemmas.List.Elements.{All-cons, All-head, All-nil, All-tail}
 use Rattle.hdmi_topo.specs.Node.{Node}
 use Rattle.cec_incoming.specs.Incoming.{IsWhole}
 use Rattle.cec_incoming.proofs.Coming.{lines_again}
+use Rattle.cec_asm.proofs.Adding.{read_again}
 use Rattle.cec_asm.specs.Script.{Course, Notes, ScriptFault, IsLineRead, AreLinesRead, ended, no_notes}
-use Rattle.cec_asm.specs.declared.script.ScriptCause.{ScriptCause}
+use Rattle.cec_asm.specs.declared.fault.LineFault.{LineFault}
 use Rattle.cec_run.specs.Run.{Config}
 use Rattle.cec_session.specs.declared.answer.Refusal.TheVariants.{Past}
 use Rattle.cec_session.specs.declared.command.Command.{Command}
@@ -15,6 +16,7 @@ use Rattle.cec_session.specs.declared.live.Step.TheVariants.{Refuse, Idle, Show,
 use Rattle.cec_session.specs.Command.{command_of}
 use Rattle.cec_session.specs.Session.{Session, begun, numbered, standing, with_standing, noted, step_noted, step_by, is_late, after_to, after_wait, IsStepBy, IsDue}
 use Rattle.cec_session.specs.Whole.{kept_line, IsLine, AreLines, SessionsTellTracesOf}
+use Rattle.cec_session.proofs.Extends.{line_extends}
 use Rattle.cec_session.proofs.Noting.{taken}
 use Rattle.cec_session.proofs.Wholly.{sessions_tell_traces}
 
@@ -59,7 +61,7 @@ to_stays s (Some time) = by_test (nat_lt time s.horizon)
 record Reads (s : Session) (kept : List ℕ) (t : Session) : Type 0 where
   tree : t.tree ≡ s.tree
   lines : t.lines ≡ s.lines
-  read : IsLineRead s.tree s.notes s.lines kept (Ok t.notes)
+  read : IsLineRead s.tree s.notes (length s.place.net.pulses) s.lines kept (Ok t.notes)
 
 empty_reads : (s t : Session) → Stays s t → Reads s [] t
 empty_reads s t same = record { tree = same.tree; lines = same.lines; read = ap Ok same.notes }
@@ -67,7 +69,7 @@ empty_reads s t same = record { tree = same.tree; lines = same.lines; read = ap 
 refused_reads : (s t : Session) → t ≡ with_standing s (standing s) → Reads s [] t
 refused_reads s t e = empty_reads s t (subst (λ (t : Session). Stays s t) (sym e) (record { tree = refl; lines = refl; notes = refl }))
 
-taken_reads : (s : Session) (line : List ℕ) (new : Notes) (late : Bool) (t : Session) → IsLineRead s.tree s.notes s.lines line (Ok new) → is_late (standing s) new ≡ late
+taken_reads : (s : Session) (line : List ℕ) (new : Notes) (late : Bool) (t : Session) → IsLineRead s.tree s.notes (length s.place.net.pulses) s.lines line (Ok new) → is_late (standing s) new ≡ late
     → t ≡ with_standing s (noted (standing s) (Ok new)) → Reads s (kept_line commands.Script (step_noted (standing s) (Ok new)) line) t
 taken_reads s line new true t read e stands =
     let step : step_noted (standing s) (Ok new) ≡ Refuse Past = ap (λ b. if b then Refuse Past else step_by new.end) e in
@@ -84,9 +86,9 @@ taken_reads s line new false t read e stands =
     keeps None = refl
     keeps (Some end) = refl
 
-noted_reads : (s : Session) (line : List ℕ) (read : Result Notes ScriptCause) (t : Session) → IsLineRead s.tree s.notes s.lines line read → t ≡ with_standing s (noted (standing s) read)
+noted_reads : (s : Session) (line : List ℕ) (read : Result Notes LineFault) (t : Session) → IsLineRead s.tree s.notes (length s.place.net.pulses) s.lines line read → t ≡ with_standing s (noted (standing s) read)
     → Reads s (kept_line commands.Script (step_noted (standing s) read) line) t
-noted_reads s line (Err cause) t is stands = refused_reads s t stands
+noted_reads s line (Err fault) t is stands = refused_reads s t stands
 noted_reads s line (Ok new) t is stands = taken_reads s line new (is_late (standing s) new) t is refl stands
 
 step_reads : (s : Session) (command : Command) (line : List ℕ) (step : Step) (t : Session) → IsStepBy s command line step t → Reads s (kept_line command step line) t
@@ -101,7 +103,7 @@ step_reads s (commands.Show device) line step t (asks, stands) = empty_reads s t
 record Onwards (s : Session) (kept : List ℕ) (t : Session) : Type 0 where
   tree : t.tree ≡ s.tree
   lines : t.lines ≡ s.lines + 1
-  read : IsLineRead s.tree s.notes (s.lines + 1) kept (Ok t.notes)
+  read : IsLineRead s.tree s.notes (length s.place.net.pulses) (s.lines + 1) kept (Ok t.notes)
 
 line_reads : (s t : Session) (line kept told text : List ℕ) → IsLine s line kept told text t → s.lines + 1 ≤ 18446744073709551615 → Onwards s kept t
 line_reads s t line kept told text is few =
@@ -111,21 +113,41 @@ line_reads s t line kept told text is few =
     record {
       tree = after.tree ∙ r.tree;
       lines = after.lines ∙ r.lines ∙ count;
-      read = subst (λ (notes : Notes). IsLineRead s.tree s.notes (s.lines + 1) kept (Ok notes)) (sym after.notes)
-          (subst (λ (kept : List ℕ). IsLineRead s.tree s.notes (s.lines + 1) kept (Ok is.asked.notes)) (sym is.kept_is)
-          (subst (λ (n : ℕ). IsLineRead s.tree s.notes n (kept_line (command_of s.tree line) is.step line) (Ok is.asked.notes)) count r.read));
+      read = subst (λ (notes : Notes). IsLineRead s.tree s.notes (length s.place.net.pulses) (s.lines + 1) kept (Ok notes)) (sym after.notes)
+          (subst (λ (kept : List ℕ). IsLineRead s.tree s.notes (length s.place.net.pulses) (s.lines + 1) kept (Ok is.asked.notes)) (sym is.kept_is)
+          (subst (λ (n : ℕ). IsLineRead s.tree s.notes (length s.place.net.pulses) n (kept_line (command_of s.tree line) is.step line) (Ok is.asked.notes)) count r.read));
     }
 
+-- pulses are taken, and none is taken back
+line_adds : (s t : Session) (line kept told text : List ℕ) → IsLine s line kept told text t → s.lines + 1 ≤ 18446744073709551615 → length s.notes.pulses ≤ length t.notes.pulses
+line_adds s t line kept told text is few =
+    let e = line_extends s.tree s.notes (length s.place.net.pulses) (s.lines + 1) kept t.notes (line_reads s t line kept told text is few).read in
+    let long : length t.notes.pulses ≡ length s.notes.pulses + length e.pulses = ap length e.pulses_are ∙ length-append s.notes.pulses e.pulses in
+    omega (arith, long)
+
+lines_add : (lines kept : List (List ℕ)) (n : ℕ) (s t : Session) (told text : List ℕ) → AreLines lines s kept told text t → s.lines ≡ n → n + length lines ≤ 18446744073709551615
+    → length s.notes.pulses ≤ length t.notes.pulses
+lines_add [] kept n s t told text (nothing, none, empty, same) number few = let long : length t.notes.pulses ≡ length s.notes.pulses = ap (λ (t : Session). length t.notes.pulses) same in omega (arith, long)
+lines_add (line ∷ lines) kept n s t told text (mid, own, others, first, second, more, rest, is, after, kept_is, told_is, text_is) number few =
+    let low : s.lines + 1 ≤ 18446744073709551615 = omega (arith, number, few) in
+    let here = line_adds s mid line own first second is low in
+    let r = line_reads s mid line own first second is low in
+    let there = lines_add lines others (n + 1) mid t more rest after (r.lines ∙ ap (λ k. k + 1) number) (omega (arith, few)) in
+    omega (arith, here, there)
+
 lines_read : (tree : List Node) (lines kept : List (List ℕ)) (n : ℕ) (s t : Session) (told text : List ℕ) (read : Result Course ScriptFault) → AreLines lines s kept told text t → s.tree ≡ tree → s.lines ≡ n
-    → n + length lines ≤ 18446744073709551615 → ((m : ℕ) → AreLinesRead tree [] m t.notes read) → AreLinesRead tree kept (n + 1) s.notes read
-lines_read tree [] kept n s t told text read (nothing, none, empty, same) at number few last =
+    → n + length lines ≤ 18446744073709551615 → length t.notes.pulses ≤ 4096 → ((m : ℕ) → AreLinesRead tree [] m t.notes read) → AreLinesRead tree kept (n + 1) s.notes read
+lines_read tree [] kept n s t told text read (nothing, none, empty, same) at number few sparse last =
     subst (λ (kept : List (List ℕ)). AreLinesRead tree kept (n + 1) s.notes read) (sym nothing)
     (subst (λ (notes : Notes). AreLinesRead tree [] (n + 1) notes read) (ap (λ (t : Session). t.notes) same) (last (n + 1)))
-lines_read tree (line ∷ lines) kept n s t told text read (mid, own, others, first, second, more, rest, is, after, kept_is, told_is, text_is) at number few last =
+lines_read tree (line ∷ lines) kept n s t told text read (mid, own, others, first, second, more, rest, is, after, kept_is, told_is, text_is) at number few sparse last =
     let r = line_reads s mid line own first second is (omega (arith, number, few)) in
-    let there = lines_read tree lines others (n + 1) mid t more rest read after (r.tree ∙ at) (r.lines ∙ ap (λ k. k + 1) number) (omega (arith, few)) last in
-    let here : IsLineRead tree s.notes (n + 1) own (Ok mid.notes) = subst (λ (tree : List Node). IsLineRead tree s.notes (n + 1) own (Ok mid.notes)) at
-    (subst (λ (k : ℕ). IsLineRead s.tree s.notes (k + 1) own (Ok mid.notes)) number r.read) in
+    let there = lines_read tree lines others (n + 1) mid t more rest read after (r.tree ∙ at) (r.lines ∙ ap (λ k. k + 1) number) (omega (arith, few)) sparse last in
+    let most : length mid.notes.pulses ≤ 4096 = (let more = lines_add lines others (n + 1) mid t more rest after (r.lines ∙ ap (λ k. k + 1) number) (omega (arith, few)) in omega (arith, more, sparse)) in
+    let here : IsLineRead tree s.notes (length s.notes.pulses) (n + 1) own (Ok mid.notes) =
+    subst (λ (tree : List Node). IsLineRead tree s.notes (length s.notes.pulses) (n + 1) own (Ok mid.notes)) at
+    (subst (λ (k : ℕ). IsLineRead s.tree s.notes (length s.notes.pulses) (k + 1) own (Ok mid.notes)) number
+    (read_again s.tree s.notes mid.notes (length s.place.net.pulses) (s.lines + 1) own most r.read)) in
     subst (λ (kept : List (List ℕ)). AreLinesRead tree kept (n + 1) s.notes read) (sym kept_is) (Ok mid.notes, here, there)
 
 kept_whole : (step : Step) (line : List ℕ) → IsWhole line → IsWhole (kept_line commands.Script step line)
@@ -149,10 +171,10 @@ all_whole (line ∷ lines) kept s t told text (mid, own, others, first, second, 
     subst (λ (kept : List (List ℕ)). All IsWhole kept) (sym kept_is) (All-cons IsWhole own others here there)
 
 pub sessions_tell_traces_of : SessionsTellTracesOf
-sessions_tell_traces_of topology plan edid lines kept told text t end plan_is root whole few l over =
+sessions_tell_traces_of topology plan edid lines kept told text t end plan_is root whole few sparse l over =
     let course : Course = record { events = t.notes.events; pulses = t.notes.pulses; end = end } in
     let last : (m : ℕ) → Ok course ≡ ended t.notes m t.notes.end = λ m. sym (ap (ended t.notes m) over) in
-    let read = lines_read plan.tree lines kept 0 (begun edid plan.tree) t told text (Ok course) l refl refl (omega (arith, few)) last in
+    let read = lines_read plan.tree lines kept 0 (begun edid plan.tree) t told text (Ok course) l refl refl (omega (arith, few)) sparse last in
     record {
       plan = plan;
       course = course;

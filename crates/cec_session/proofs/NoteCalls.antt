@@ -4,28 +4,28 @@ use Rattle.hdmi_topo.specs.Node.{Node}
 use Rattle.cec_net.specs.State.{NetState}
 use Rattle.cec_asm.specs.Script.{Notes, Gives, IsLineRead}
 use Rattle.cec_asm.specs.declared.script.TimedEvent.{TimedEvent}
-use Rattle.cec_asm.specs.declared.script.ScriptCause.{ScriptCause}
+use Rattle.cec_asm.specs.declared.fault.LineFault.{LineFault}
 use Rattle.cec_asm.specs.declared.script.LineError.{LineError}
-use Rattle.cec_asm.specs.declared.script.LineError.TheVariants.{Cause, Memory}
+use Rattle.cec_asm.specs.declared.script.LineError.TheVariants.{Fault, Memory}
 use Rattle.cec_session.specs.declared.live.Step.{Step}
 use Rattle.cec_session.specs.Note.{IsSettled, refused_by}
 use Rattle.cec_session.specs.Session.{Session, Standing, IsReady, standing, with_standing}
 use Rattle.cec_session.proofs.Noting.{IsKept, kept, kept_same, drop_all}
 
 -- a line that the draft has not taken
-pub refused_note : (tree : List Node) (number : ℕ) (line : List ℕ) (old new : Notes) (horizon : ℕ) (net : NetState) (error : LineError) → Gives new (Err error) (IsLineRead tree old number line) → new ≡ old
+pub refused_note : (tree : List Node) (waiting number : ℕ) (line : List ℕ) (old new : Notes) (horizon : ℕ) (net : NetState) (error : LineError) → Gives new (Err error) (IsLineRead tree old waiting number line) → new ≡ old
     → MatchOption (refused_by error) ((new ≡ old) × (horizon ≡ horizon) × (net ≡ net))
-    (λ step. (read : Result Notes ScriptCause) × IsLineRead tree old number line read
+    (λ step. (read : Result Notes LineFault) × IsLineRead tree old waiting number line read
     × IsSettled (record { notes = old; horizon = horizon; net = net }) read step (record { notes = new; horizon = horizon; net = net }))
-refused_note tree number line old new horizon net Memory gives same = (same, refl, refl)
-refused_note tree number line old new horizon net (Cause cause) gives same =
-    (Err cause, gives, record { asks = refl; stands = ap (λ (n : Notes). let t : Standing = record { notes = n; horizon = horizon; net = net } in t) same })
+refused_note tree waiting number line old new horizon net Memory gives same = (same, refl, refl)
+refused_note tree waiting number line old new horizon net (Fault fault) gives same =
+    (Err fault, gives, record { asks = refl; stands = ap (λ (n : Notes). let t : Standing = record { notes = n; horizon = horizon; net = net } in t) same })
 
 -- what the call of a line gives
 abbrev pub NotedBy : Session → Standing → List ℕ → Option Step → Type 0
 NotedBy s t line result =
     MatchOption result ((t.notes ≡ s.notes) × (t.horizon ≡ s.horizon) × (t.net ≡ s.place.net))
-    (λ step. (read : Result Notes ScriptCause) × IsLineRead s.tree s.notes s.lines line read × IsSettled (standing s) read step t)
+    (λ step. (read : Result Notes LineFault) × IsLineRead s.tree s.notes (length s.place.net.pulses) s.lines line read × IsSettled (standing s) read step t)
 
 same_standing : (s : Session) (t : Standing) → (t.notes ≡ s.notes) × (t.horizon ≡ s.horizon) × (t.net ≡ s.place.net) → t ≡ standing s
 same_standing s t e = λ i. record { notes = e.0 i; horizon = e.1 i; net = e.2 i }
@@ -43,7 +43,7 @@ stays s =
 abbrev pub Noted : Session → Session → List ℕ → Option Step → Type 0
 Noted s v line result =
     MatchOption result (v ≡ s)
-    (λ step. (read : Result Notes ScriptCause) × IsLineRead s.tree s.notes s.lines line read × IsSettled (standing s) read step (standing v) × (v ≡ with_standing s (standing v)))
+    (λ step. (read : Result Notes LineFault) × IsLineRead s.tree s.notes (length s.place.net.pulses) s.lines line read × IsSettled (standing s) read step (standing v) × (v ≡ with_standing s (standing v)))
 
 noted_with : (s : Session) (t : Standing) (line : List ℕ) (result : Option Step) → NotedBy s t line result → Noted s (with_standing s t) line result
 noted_with s t line None e = ap (with_standing s) (same_standing s t e) ∙ stays s

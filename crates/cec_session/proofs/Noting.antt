@@ -5,7 +5,7 @@ use Rattle.cec_wave.specs.declared.Stretch.{Stretch}
 use Rattle.cec_net.specs.State.{NetState}
 use Rattle.cec_asm.specs.Script.{Notes, IsLineRead}
 use Rattle.cec_asm.specs.declared.script.TimedEvent.{TimedEvent}
-use Rattle.cec_asm.specs.declared.script.ScriptCause.{ScriptCause}
+use Rattle.cec_asm.specs.declared.fault.LineFault.{LineFault}
 use Rattle.cec_asm.proofs.Sound.{AreSound, line-keeps}
 use Rattle.cec_live.specs.Certain.{with_pulses}
 use Rattle.cec_session.specs.declared.answer.Refusal.TheVariants.{Past}
@@ -85,10 +85,10 @@ only_one p (q ∷ others) few = absurd (omega (arith, few))
 -- ---- a session stays ready
 
 sound_of : (count : ℕ) (notes : Notes) → AreFit count notes → AreSound count notes
-sound_of count notes f = record { schedule = f.schedule; framed = f.framed; sparse = f.sparse; early = f.early; ended = f.ended }
+sound_of count notes f = record { schedule = f.schedule; framed = f.framed; apart = f.apart; early = f.early; ended = f.ended }
 
 fit_of : (count : ℕ) (notes : Notes) → AreSound count notes → AreFit count notes
-fit_of count notes f = record { schedule = f.schedule; framed = f.framed; sparse = f.sparse; early = f.early; ended = f.ended }
+fit_of count notes f = record { schedule = f.schedule; framed = f.framed; apart = f.apart; early = f.early; ended = f.ended }
 
 noted_cases : (s : Standing) (new : Notes) (late : Bool) → is_late s new ≡ late → (noted s (Ok new) ≡ s) ⊎ (noted s (Ok new) ≡ taken s new)
 noted_cases s new true e = inl (ap (λ b. if b then s else taken s new) e)
@@ -130,11 +130,11 @@ horizon_early count horizon notes None e f early = early
 horizon_early count horizon notes (Some end) e f early = (f.ended end e).1
 
 kept_taken : (s : Session) (new : Notes) (line : List ℕ) (applied : ℕ) → s.place.events ≡ drop applied s.notes.events → applied ≤ length s.notes.events → IsReady s
-    → IsLineRead s.tree s.notes s.lines line (Ok new) → IsKept s (taken (standing s) new) applied
+    → IsLineRead s.tree s.notes (length s.place.net.pulses) s.lines line (Ok new) → IsKept s (taken (standing s) new) applied
 kept_taken s new line applied left few r read =
-    let e = line_extends s.tree s.notes s.lines line new read in
+    let e = line_extends s.tree s.notes (length s.place.net.pulses) s.lines line new read in
     let added : new_events s.notes new ≡ e.events = front_rest new.events s.notes.events e.events e.events_are in
-    let fit = fit_of (length s.tree) new (line-keeps s.tree s.notes s.lines line new (sound_of (length s.tree) s.notes r.fit) read) in
+    let fit = fit_of (length s.tree) new (line-keeps s.tree s.notes (length s.place.net.pulses) s.lines line new (sound_of (length s.tree) s.notes r.fit) read) in
     let long : length new.events ≡ length s.notes.events + length e.events = ap length e.events_are ∙ length-append s.notes.events e.events in
     let place : length (s.place.events ++ new_events s.notes new) ≡ length s.place.events + length e.events =
     ap (λ (es : List TimedEvent). length (s.place.events ++ es)) added ∙ length-append s.place.events e.events in
@@ -152,9 +152,9 @@ kept_taken s new line applied left few r read =
           ∙ ap (λ (es : List TimedEvent). s.place.events ++ es) (sym added);
     }
 
-pub kept : (s : Session) (t : Standing) (line : List ℕ) (applied : ℕ) (read : Result Notes ScriptCause) → s.place.events ≡ drop applied s.notes.events → applied ≤ length s.notes.events → IsReady s
-    → IsLineRead s.tree s.notes s.lines line read → t ≡ noted (standing s) read → IsKept s t applied
-kept s t line applied (Err cause) left few r read e = subst (λ (t : Standing). IsKept s t applied) (sym e) (kept_same s applied left few r)
+pub kept : (s : Session) (t : Standing) (line : List ℕ) (applied : ℕ) (read : Result Notes LineFault) → s.place.events ≡ drop applied s.notes.events → applied ≤ length s.notes.events → IsReady s
+    → IsLineRead s.tree s.notes (length s.place.net.pulses) s.lines line read → t ≡ noted (standing s) read → IsKept s t applied
+kept s t line applied (Err fault) left few r read e = subst (λ (t : Standing). IsKept s t applied) (sym e) (kept_same s applied left few r)
 kept s t line applied (Ok new) left few r read e =
     elim (noted_cases (standing s) new (is_late (standing s) new) refl) [
       | inl same ↦ subst (λ (t : Standing). IsKept s t applied) (sym (e ∙ same)) (kept_same s applied left few r)

@@ -5,19 +5,19 @@ use Rattle.std.proofs.lemmas.List.Elements.{All-nil, All-cons}
 use Rattle.std.proofs.lemmas.List.Prefix.{front_rest}
 use Rattle.std.proofs.lemmas.Bool.Decides.{nat_tests}
 use Rattle.cec_wave.specs.declared.Stretch.{Stretch}
-use Rattle.cec_wave.proofs.Sparse.{faultless_are_sparse}
 use Rattle.hdmi_topo.specs.Node.{Node}
 use Rattle.hdmi_blocks.specs.declared.edid.Edid.{Edid}
 use Rattle.cec_net.specs.State.{started}
 use Rattle.cec_net.proofs.Framed.{framed-started}
 use Rattle.cec_asm.specs.Script.{Notes, IsLineRead}
 use Rattle.cec_asm.specs.declared.script.TimedEvent.{TimedEvent}
-use Rattle.cec_asm.specs.declared.script.ScriptCause.{ScriptCause}
+use Rattle.cec_asm.specs.declared.fault.LineFault.{LineFault}
 use Rattle.cec_asm.proofs.Sound.{AreSound, line-keeps, sound_start}
 use Rattle.cec_run.specs.declared.run.Telling.TheVariants.{Trace}
 use Rattle.cec_run.specs.declared.run.Turn.{Turn}
 use Rattle.cec_run.specs.Run.{Config, start, start_told, end_told, Leads, IsRunText, IsRunTextFrom}
 use Rattle.cec_live.specs.Certain.{ComesFrom, LeadsIf, LeadsBy, with_more}
+use Rattle.cec_live.proofs.Apart.{faultless_are_apart}
 use Rattle.cec_live.proofs.Certainty.{turns_stay_certain, told_is_front}
 use Rattle.cec_live.proofs.Before.{all_on}
 use Rattle.cec_session.specs.declared.answer.Refusal.TheVariants.{Script, Past}
@@ -49,7 +49,7 @@ stay_on : (edid : Option Edid) (tree : List Node) (until on turns count : ℕ) (
     → LeadsBy (Trace edid) on turns (start (started tree (notes.pulses ++ later)) (notes.events ++ events)) told (with_more events later place)
 stay_on edid tree until on turns count notes place told events later sound l comes =
     turns_stay_certain (Trace edid) until on turns (start (started tree notes.pulses) notes.events) place told events later
-    ((faultless_are_sparse notes.pulses).0 sound.sparse) (framed-started tree notes.pulses) sound.framed comes l
+    (faultless_are_apart notes.pulses sound.apart) (framed-started tree notes.pulses) sound.framed comes l
 
 same_place : (place : Config) → with_more [] [] place ≡ place
 same_place place =
@@ -115,10 +115,10 @@ same_standing s =
     ap (λ (es : List TimedEvent). let t : Session = record s { place = record s.place { events = es } } in t)
     (ap (λ (es : List TimedEvent). s.place.events ++ es) (drop_all s.notes.events) ∙ append-nil s.place.events)
 
-asked_taken : (edid : Option Edid) (tree : List Node) (s : Session) (told line : List ℕ) (new : Notes) → SoFar edid tree s told → IsLineRead s.tree s.notes s.lines line (Ok new)
+asked_taken : (edid : Option Edid) (tree : List Node) (s : Session) (told line : List ℕ) (new : Notes) → SoFar edid tree s told → IsLineRead s.tree s.notes (length s.place.net.pulses) s.lines line (Ok new)
     → is_late (standing s) new ≡ false → SoFar edid tree (with_standing s (taken (standing s) new)) told
 asked_taken edid tree s told line new r read late =
-    let e = line_extends s.tree s.notes s.lines line new read in
+    let e = line_extends s.tree s.notes (length s.place.net.pulses) s.lines line new read in
     let events : s.notes.events ++ new_events s.notes new ≡ new.events = ap (λ (es : List TimedEvent). s.notes.events ++ es) (front_rest new.events s.notes.events e.events e.events_are) ∙ sym e.events_are in
     let pulses : s.notes.pulses ++ new_pulses s.notes new ≡ new.pulses = ap (λ (ps : List Stretch). s.notes.pulses ++ ps) (front_rest new.pulses s.notes.pulses e.pulses e.pulses_are) ∙ sym e.pulses_are in
     let on = horizon_by s.horizon new.end in
@@ -129,7 +129,7 @@ asked_taken edid tree s told line new r read late =
       turns = r.turns;
       leads = subst (λ (es : List TimedEvent). LeadsBy (Trace edid) on r.turns (start (started tree new.pulses) es) told place) events
           (subst (λ (ps : List Stretch). LeadsBy (Trace edid) on r.turns (start (started tree ps) (s.notes.events ++ new_events s.notes new)) told place) pulses l);
-      sound = line-keeps s.tree s.notes s.lines line new r.sound read;
+      sound = line-keeps s.tree s.notes (length s.place.net.pulses) s.lines line new r.sound read;
     }
 
 end_taken : (s : Session) (new : Notes) (end : Option ℕ) → new.end ≡ end → EndBy (step_by end) (record s { notes = new; horizon = horizon_by s.horizon end })
@@ -137,7 +137,7 @@ end_taken s new None e = e
 end_taken s new (Some end) e = e
 
 asked_late : (edid : Option Edid) (tree : List Node) (s : Session) (told line : List ℕ) (new : Notes) (late : Bool) → is_late (standing s) new ≡ late → SoFar edid tree s told → s.notes.end ≡ None
-    → IsLineRead s.tree s.notes s.lines line (Ok new) → Asked edid tree (step_noted (standing s) (Ok new)) (with_standing s (noted (standing s) (Ok new))) told
+    → IsLineRead s.tree s.notes (length s.place.net.pulses) s.lines line (Ok new) → Asked edid tree (step_noted (standing s) (Ok new)) (with_standing s (noted (standing s) (Ok new))) told
 asked_late edid tree s told line new true e r going read =
     subst (λ (b : Bool). Asked edid tree (if b then Refuse Past else step_by new.end) (with_standing s (if b then standing s else taken (standing s) new)) told) (sym e)
     (subst (λ (t : Session). Asked edid tree (Refuse Past) t told) (sym (same_standing s)) (record { so_far = r; ended = going }))
@@ -149,10 +149,10 @@ asked_late edid tree s told line new false e r going read =
     ended None h = subst (λ (end : Option ℕ). EndBy (step_by end) (with_standing s (record { notes = new; horizon = horizon_by s.horizon end; net = record s.place.net { pulses = s.place.net.pulses ++ new_pulses s.notes new } }))) (sym h) h
     ended (Some end) h = subst (λ (end : Option ℕ). EndBy (step_by end) (with_standing s (record { notes = new; horizon = horizon_by s.horizon end; net = record s.place.net { pulses = s.place.net.pulses ++ new_pulses s.notes new } }))) (sym h) h
 
-asked_read : (edid : Option Edid) (tree : List Node) (s : Session) (told line : List ℕ) (read : Result Notes ScriptCause) → SoFar edid tree s told → s.notes.end ≡ None
-    → IsLineRead s.tree s.notes s.lines line read → Asked edid tree (step_noted (standing s) read) (with_standing s (noted (standing s) read)) told
-asked_read edid tree s told line (Err cause) r going read =
-    subst (λ (t : Session). Asked edid tree (Refuse (Script cause)) t told) (sym (same_standing s)) (record { so_far = r; ended = going })
+asked_read : (edid : Option Edid) (tree : List Node) (s : Session) (told line : List ℕ) (read : Result Notes LineFault) → SoFar edid tree s told → s.notes.end ≡ None
+    → IsLineRead s.tree s.notes (length s.place.net.pulses) s.lines line read → Asked edid tree (step_noted (standing s) read) (with_standing s (noted (standing s) read)) told
+asked_read edid tree s told line (Err fault) r going read =
+    subst (λ (t : Session). Asked edid tree (Refuse (Script fault.cause)) t told) (sym (same_standing s)) (record { so_far = r; ended = going })
 asked_read edid tree s told line (Ok new) r going read = asked_late edid tree s told line new (is_late (standing s) new) refl r going read
 
 -- ---- its other lines
@@ -274,7 +274,7 @@ sessions_tell_fronts edid tree lines kept told text t l going events later end w
     by_case : Reached edid tree t told → (more : List ℕ) × (whole ≡ (start_told (Trace edid) (started tree t.notes.pulses) ++ told) ++ more)
     by_case (inl (r, none)) =
         told_is_front (Trace edid) tree t.notes.pulses later t.notes.events events t.horizon end r.turns t.place told whole totals
-        ((faultless_are_sparse t.notes.pulses).0 r.sound.sparse) r.sound.framed comes r.leads run
+        (faultless_are_apart t.notes.pulses r.sound.apart) r.sound.framed comes r.leads run
     by_case (inr over) = absurd (not_both t.notes.end t.horizon going over.ended)
 
 pub sessions_tell_traces : SessionsTellTraces

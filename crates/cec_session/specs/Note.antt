@@ -3,9 +3,9 @@ use Rattle.std.specs.Prelude.{◌≡◌, ◌≤◌, List, ◌++◌, length, Opti
 use Rattle.cec_wave.specs.declared.Stretch.{Stretch}
 use Rattle.cec_asm.specs.Script.{Notes}
 use Rattle.cec_asm.specs.declared.script.TimedEvent.{TimedEvent}
-use Rattle.cec_asm.specs.declared.script.ScriptCause.{ScriptCause}
+use Rattle.cec_asm.specs.declared.fault.LineFault.{LineFault}
 use Rattle.cec_asm.specs.declared.script.LineError.{LineError}
-use Rattle.cec_asm.specs.declared.script.LineError.TheVariants.{Cause, Memory}
+use Rattle.cec_asm.specs.declared.script.LineError.TheVariants.{Fault, Memory}
 use Rattle.cec_session.specs.declared.answer.Refusal.TheVariants.{Script}
 use Rattle.cec_session.specs.declared.live.Step.{Step}
 use Rattle.cec_session.specs.declared.live.Step.TheVariants.{Refuse}
@@ -21,11 +21,11 @@ pub record Extends (old new : Notes) : Type 0 where
   pub few_pulses : length pulses ≤ 1
 
 -- the step that it asks for, and what it changes
-pub record IsSettled (s : Standing) (read : Result Notes ScriptCause) (step : Step) (t : Standing) : Type 0 where
+pub record IsSettled (s : Standing) (read : Result Notes LineFault) (step : Step) (t : Standing) : Type 0 where
   pub asks : step ≡ step_noted s read
   pub stands : t ≡ noted s read
 
 -- a line that is not taken is refused, or memory ran out
 abbrev pub refused_by : LineError → Option Step
-refused_by (Cause cause) = Some (Refuse (Script cause))
+refused_by (Fault fault) = Some (Refuse (Script fault.cause))
 refused_by Memory = None

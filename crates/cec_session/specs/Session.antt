@@ -3,7 +3,7 @@ use Rattle.std.specs.Prelude.{◌≡◌, ℕ, ◌+◌, ◌<◌, ◌≤◌, min, 
 use Rattle.std.specs.List.{list_any}
 use Rattle.std.specs.Fmt.{decimal}
 use Rattle.cec_wave.specs.declared.Stretch.{Stretch}
-use Rattle.cec_wave.specs.Pulses.{pulses_fault}
+use Rattle.cec_wave.specs.Pulses.{first_fault}
 use Rattle.cec_wave.specs.Line.{IsWave}
 use Rattle.cec_wire.specs.declared.Outcome.{Outcome}
 use Rattle.hdmi_topo.specs.Node.{Node}
@@ -14,7 +14,7 @@ use Rattle.cec_net.specs.Step.{IsNextRound}
 use Rattle.cec_net.specs.Added.{pulse_fault}
 use Rattle.cec_asm.specs.Script.{Notes, no_notes, last_time, within_limit, script_cause, IsLineRead, IsSchedule, AreFramedEvents}
 use Rattle.cec_asm.specs.declared.script.TimedEvent.{TimedEvent}
-use Rattle.cec_asm.specs.declared.script.ScriptCause.{ScriptCause}
+use Rattle.cec_asm.specs.declared.fault.LineFault.{LineFault}
 use Rattle.cec_asm.specs.declared.script.ScriptCause.TheVariants.{Number, Name}
 use Rattle.cec_trace.specs.Root.{HasAddress}
 use Rattle.cec_trace.specs.StateText.{state_line}
@@ -95,13 +95,13 @@ step_by None = Go
 step_by (Some end) = Finish
 
 -- what the line asks for: it is refused for its own cause, or else because it is too late, or else taken
-abbrev pub step_noted : Standing → Result Notes ScriptCause → Step
-step_noted s (Err cause) = Refuse (Script cause)
+abbrev pub step_noted : Standing → Result Notes LineFault → Step
+step_noted s (Err fault) = Refuse (Script fault.cause)
 step_noted s (Ok new) = if is_late s new then Refuse Past else step_by new.end
 
 -- and what it changes; a refusal changes nothing
-abbrev pub noted : Standing → Result Notes ScriptCause → Standing
-noted s (Err cause) = s
+abbrev pub noted : Standing → Result Notes LineFault → Standing
+noted s (Err fault) = s
 noted s (Ok new) =
     if is_late s new then s else record { notes = new; horizon = horizon_by s.horizon new.end; net = with_pulses (new_pulses s.notes new) s.net }
 
@@ -157,7 +157,7 @@ step_show (Some device) = Show device
 
 abbrev pub IsStepBy : Session → Command → List ℕ → Step → Session → Type 0
 IsStepBy s commands.Script line step t =
-    (read : Result Notes ScriptCause) × IsLineRead s.tree s.notes s.lines line read × (step ≡ step_noted (standing s) read) × (t ≡ with_standing s (noted (standing s) read))
+    (read : Result Notes LineFault) × IsLineRead s.tree s.notes (length s.place.net.pulses) s.lines line read × (step ≡ step_noted (standing s) read) × (t ≡ with_standing s (noted (standing s) read))
 IsStepBy s commands.Wait line step t = (soon : Option ℕ) × IsSoonest s.place soon × (step ≡ step_wait soon) × (t ≡ after_wait s soon)
 IsStepBy s (commands.RunTo time) line step t = (step ≡ step_to s time) × (t ≡ after_to s time)
 IsStepBy s (commands.Show device) line step t = (step ≡ step_show device) × (t ≡ s)
@@ -199,7 +199,7 @@ IsDue Finish s text t =
 pub record AreFit (count : ℕ) (notes : Notes) : Type 0 where
   pub schedule : IsSchedule count (last_time notes.events + 1) 0 notes.events
   pub framed : AreFramedEvents notes.events
-  pub sparse : pulses_fault notes.pulses ≡ None
+  pub apart : first_fault None notes.pulses ≡ None
   pub early : All (λ pulse. pulse.from ≤ 1000000000000) notes.pulses
   pub ended : (time : ℕ) → notes.end ≡ Some time → IsSchedule count time 0 notes.events × (time ≤ 1000000000000)
 

@@ -79,9 +79,10 @@ SessionsTellTraces = (edid : Option Edid) (tree : List Node) (lines kept : List 
 -- ---- the script that was taken
 
 -- So what a session has told is, without the answers, the trace that the topology and its script have, with the lines that were
--- refused and the session's own ones emptied.
+-- refused and the session's own ones emptied: where that script has no more pulses than one may have, for those that a session
+-- has let go count no more.
 abbrev pub SessionsTellTracesOf : Type 0
 SessionsTellTracesOf = (topology : List ℕ) (plan : Plan) (edid : Option Edid) (lines kept : List (List ℕ)) (told text : List ℕ) (t : Session) (end : ℕ)
-    → topology_of topology ≡ Ok plan → IsRoot plan.edid edid → All IsWhole lines → length lines ≤ 18446744073709551615
+    → topology_of topology ≡ Ok plan → IsRoot plan.edid edid → All IsWhole lines → length lines ≤ 18446744073709551615 → length t.notes.pulses ≤ 4096
     → AreLines lines (begun edid plan.tree) kept told text t → t.notes.end ≡ Some end
     → IsTraceOf topology (text_of_lines kept) (before_told (Trace edid) plan.tree [] told) t.place.totals

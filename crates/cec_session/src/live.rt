@@ -103,7 +103,7 @@ fn shown(device: Option<usize>) -> Step
 impl Live {
     ghost use Rattle.std.specs.Prelude.{ℕ, ◌<◌, ◌≤◌, ◌++◌, true, IfSome, MatchOption, Result, is_some, length, None};
     ghost use Rattle.cec_asm.specs.Script.{IsLineRead, Notes};
-    ghost use Rattle.cec_asm.specs.declared.script.ScriptCause.{ScriptCause as ScriptCauseValue};
+    ghost use Rattle.cec_asm.specs.declared.fault.LineFault.{LineFault as LineFaultValue};
     ghost use Rattle.cec_trace.specs.Root.{HasAddress};
     ghost use Rattle.cec_words.specs.Cut.{WrittenText};
     ghost use Rattle.cec_run.specs.declared.run.Telling.TheVariants.{Trace};
@@ -160,7 +160,7 @@ impl Live {
     fn note(&mut self, line: &[u8]) -> Option<Step>
         requires going { self.old.notes.end ≡ None }
         ensures { MatchOption result (self.new ≡ self.old)
-            (λ step. (read : Result Notes ScriptCauseValue) × IsLineRead self.old.tree self.old.notes self.old.lines line.now read
+            (λ step. (read : Result Notes LineFaultValue) × IsLineRead self.old.tree self.old.notes (length self.old.place.net.pulses) self.old.lines line.now read
             × IsSettled (standing self.old) read step (standing self.new) × (self.new ≡ with_standing self.old (standing self.new))) }
     {
         note_line(

@@ -2,7 +2,7 @@
 ghost use Rattle.std.specs.Prelude.{◌≡◌, ℕ, ◌||◌, ◌≤◌, ◌∷◌, [], drop, take, length, nat_lt, if◌then◌else◌, None, Result, Ok, MatchOption};
 ghost use Rattle.std.specs.List.{list_any};
 ghost use Rattle.cec_asm.specs.Script.{IsLineRead, Notes, notes_of};
-ghost use Rattle.cec_asm.specs.declared.script.ScriptCause.{ScriptCause as ScriptCauseValue};
+ghost use Rattle.cec_asm.specs.declared.fault.LineFault.{LineFault as LineFaultValue};
 ghost use Rattle.cec_live.specs.Certain.{with_pulses};
 ghost use Rattle.cec_session.specs.Note.{Extends, IsSettled, refused_by};
 ghost use Rattle.cec_session.specs.Session.{Standing, ends_before, refuses_pulse};
@@ -125,7 +125,7 @@ fn refused_by(error: LineError) -> Option<Step>
     ensures { result ≡ refused_by error }
 {
     match error {
-        LineError::Cause(cause) => Some(Step::Refuse(Refusal::Script(cause))),
+        LineError::Fault(fault) => Some(Step::Refuse(Refusal::Script(fault.cause))),
         LineError::Memory => None,
     }
 }
@@ -142,13 +142,13 @@ pub(crate) fn note_line(
     requires going { draft.old.end ≡ None }
     ensures { MatchOption result
         ((notes_of draft.new ≡ notes_of draft.old) × (horizon.new ≡ horizon.old) × (net.new ≡ net.old))
-        (λ step. (read : Result Notes ScriptCauseValue) × IsLineRead tree.now (notes_of draft.old) number line.now read
+        (λ step. (read : Result Notes LineFaultValue) × IsLineRead tree.now (notes_of draft.old) (length net.old.pulses) number line.now read
         × IsSettled (record { notes = notes_of draft.old; horizon = horizon.old; net = net.old }) read step
         (record { notes = notes_of draft.new; horizon = horizon.new; net = net.new })) }
 {
     let events = draft.events.len();
     let pulses = draft.pulses.len();
-    match take_line(tree, draft, number, line) {
+    match take_line(tree, draft, net.waiting(), number, line) {
         Ok(()) => Some(settle(draft, events, pulses, net, horizon)),
         Err(error) => refused_by(error),
     }

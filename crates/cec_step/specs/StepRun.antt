@@ -107,7 +107,7 @@ AreStepsCut topology script steps old new count =
 abbrev pub IsCutBy : List ℕ → List ℕ → List ℕ → Option (List ℕ) → Option (List ℕ) → StepRunError → Type 0
 IsCutBy topology script steps old new (StepsLine line) = new ≡ old
 IsCutBy topology script steps old new (Run (faults.Write count)) = AreStepsCut topology script steps old new count
-IsCutBy topology script steps old new (Run (faults.Topology line cause)) = new ≡ old
-IsCutBy topology script steps old new (Run (faults.Script line cause)) = new ≡ old
+IsCutBy topology script steps old new (Run (faults.Topology line cause word)) = new ≡ old
+IsCutBy topology script steps old new (Run (faults.Script line cause word)) = new ≡ old
 IsCutBy topology script steps old new (Run (faults.Edid cause)) = new ≡ old
 IsCutBy topology script steps old new (Run faults.Memory) = new ≡ old

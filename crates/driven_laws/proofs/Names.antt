@@ -21,8 +21,8 @@ use Rattle.cec_words.specs.Number.{number_of}
 use Rattle.cec_words.specs.Words.{one_of, three_of, words_of}
 use Rattle.cec_vcd.specs.Dump.{is_end, is_space}
 use Rattle.hdmi_core.specs.Kind.{kind_named}
-use Rattle.cec_asm.specs.Topology.{Plan, TopologyFault, at_line, bytes_of, device_line, device_read, edid_line, edid_read, line_read, lines_read, plug_line, plug_read, topology_of, unless_add, unless_plug, worded}
-use Rattle.cec_asm.specs.declared.topology.TopologyCause.{TopologyCause}
+use Rattle.cec_asm.specs.Topology.{Plan, TopologyFault, at_line, at_word, fault_at, bytes_of, device_line, device_read, edid_line, edid_read, line_read, lines_read, plug_line, plug_read, topology_of, unless_add, unless_plug, worded}
+use Rattle.cec_asm.specs.declared.topology.LineFault.{LineFault}
 use Rattle.cec_asm.specs.declared.topology.TopologyCause.TheVariants as causes
 use Rattle.cec_device.specs.State.{State, frame_of, held, holds, one_more, queued, speaks}
 use Rattle.cec_device.specs.Place.{fresh, is_on_wire, joined, reported_by, reported_from, start_place}
@@ -139,11 +139,11 @@ named_plug (node ∷ tree) (suc child) plug h =
     All-cons (λ (n : Node). is_name n.name ≡ true) node (with_plug tree child plug) (h 0 node (omega arith)) (named_plug tree child plug (λ k x l. h (suc k) x (omega arith)))
 
 -- what is read keeps it
-Keeps : Result Plan TopologyCause → Type 0
+Keeps : Result Plan LineFault → Type 0
 Keeps (Ok plan) = AreNamed plan.tree
 Keeps (Err cause) = Unit {0}
 
-keeps_if : (b : Bool) (r s : Result Plan TopologyCause) → (b ≡ true → Keeps r) → (b ≡ false → Keeps s) → Keeps (if b then r else s)
+keeps_if : (b : Bool) (r s : Result Plan LineFault) → (b ≡ true → Keeps r) → (b ≡ false → Keeps s) → Keeps (if b then r else s)
 keeps_if true r s h k = h refl
 keeps_if false r s h k = k refl
 
@@ -166,17 +166,17 @@ unfolding Keeps
 keeps_device plan name None ports h = tt
 keeps_device plan name (Some kind) None h = tt
 keeps_device plan name (Some kind) (Some ports) h =
-    keeps_if (nat_lt 15 ports) (Err causes.Number) _ (λ e. tt) (λ e.
-    keeps_if (not (is_name name) || is_some (device_named plan.tree name)) (Err causes.Name) _ (λ g. tt) (λ g.
+    keeps_if (nat_lt 15 ports) (Err (at_word 3 causes.Number)) _ (λ e. tt) (λ e.
+    keeps_if (not (is_name name) || is_some (device_named plan.tree name)) (Err (at_word 1 causes.Name)) _ (λ g. tt) (λ g.
     keeps_add (add_fault 15 plan.tree name kind) (record plan { tree = added plan.tree name kind ports })
     (All-append (λ (n : Node). is_name n.name ≡ true) plan.tree (record { name = name; kind = kind; ports = ports; plug = None } ∷ []) h
     (All-cons (λ (n : Node). is_name n.name ≡ true) (record { name = name; kind = kind; ports = ports; plug = None }) []
     (is_named (is_name name) (is_some (device_named plan.tree name)) g) (All-nil (λ (n : Node). is_name n.name ≡ true))))))
 
-keeps_device_line : (plan : Plan) (words : Option (List ℕ × List ℕ × List ℕ)) → AreNamed plan.tree → Keeps (device_line plan words)
+keeps_device_line : (plan : Plan) (many : ℕ) (words : Option (List ℕ × List ℕ × List ℕ)) → AreNamed plan.tree → Keeps (device_line plan many words)
 unfolding Keeps
-keeps_device_line plan None h = tt
-keeps_device_line plan (Some words) h = keeps_device plan words.0 (kind_named words.1) (number_of words.2) h
+keeps_device_line plan many None h = tt
+keeps_device_line plan many (Some words) h = keeps_device plan words.0 (kind_named words.1) (number_of words.2) h
 
 keeps_plug_read : (plan : Plan) (port child parent : Option ℕ) → AreNamed plan.tree → Keeps (plug_read plan port child parent)
 unfolding Keeps
@@ -186,28 +186,28 @@ keeps_plug_read plan (Some port) (Some child) None h = tt
 keeps_plug_read plan (Some port) (Some child) (Some parent) h =
     keeps_plug (plug_fault plan.tree child parent (min port 255)) (record plan { tree = plugged plan.tree child parent (min port 255) }) (named_plug plan.tree child _ h)
 
-keeps_plug_line : (plan : Plan) (words : Option (List ℕ × List ℕ × List ℕ)) → AreNamed plan.tree → Keeps (plug_line plan words)
+keeps_plug_line : (plan : Plan) (many : ℕ) (words : Option (List ℕ × List ℕ × List ℕ)) → AreNamed plan.tree → Keeps (plug_line plan many words)
 unfolding Keeps
-keeps_plug_line plan None h = tt
-keeps_plug_line plan (Some words) h = keeps_plug_read plan (number_of words.2) (device_named plan.tree words.0) (device_named plan.tree words.1) h
+keeps_plug_line plan many None h = tt
+keeps_plug_line plan many (Some words) h = keeps_plug_read plan (number_of words.2) (device_named plan.tree words.0) (device_named plan.tree words.1) h
 
 keeps_edid : (plan : Plan) (bytes : Option (List ℕ)) → AreNamed plan.tree → Keeps (edid_read plan bytes)
 unfolding Keeps
 keeps_edid plan None h = tt
 keeps_edid plan (Some bytes) h = h
 
-keeps_edid_line : (plan : Plan) (word : Option (List ℕ)) → AreNamed plan.tree → Keeps (edid_line plan word)
+keeps_edid_line : (plan : Plan) (many : ℕ) (word : Option (List ℕ)) → AreNamed plan.tree → Keeps (edid_line plan many word)
 unfolding Keeps
-keeps_edid_line plan None h = tt
-keeps_edid_line plan (Some word) h = keeps_if (is_some plan.edid) (Err causes.Word) (edid_read plan (bytes_of word)) (λ e. tt) (λ e. keeps_edid plan (bytes_of word) h)
+keeps_edid_line plan many None h = tt
+keeps_edid_line plan many (Some word) h = keeps_if (is_some plan.edid) (Err (at_word 0 causes.Word)) (edid_read plan (bytes_of word)) (λ e. tt) (λ e. keeps_edid plan (bytes_of word) h)
 
 keeps_worded : (plan : Plan) (words : List (List ℕ)) → AreNamed plan.tree → Keeps (worded plan words)
 unfolding Keeps
 keeps_worded plan [] h = tt
 keeps_worded plan (verb ∷ words) h =
-    keeps_if (bytes_eq verb (codes "device")) (device_line plan (three_of words)) _ (λ e. keeps_device_line plan (three_of words) h) (λ e.
-    keeps_if (bytes_eq verb (codes "plug")) (plug_line plan (three_of words)) _ (λ g. keeps_plug_line plan (three_of words) h) (λ g.
-    keeps_if (bytes_eq verb (codes "edid")) (edid_line plan (one_of words)) (Err causes.Word) (λ k. keeps_edid_line plan (one_of words) h) (λ k. tt)))
+    keeps_if (bytes_eq verb (codes "device")) (device_line plan (length words) (three_of words)) _ (λ e. keeps_device_line plan (length words) (three_of words) h) (λ e.
+    keeps_if (bytes_eq verb (codes "plug")) (plug_line plan (length words) (three_of words)) _ (λ g. keeps_plug_line plan (length words) (three_of words) h) (λ g.
+    keeps_if (bytes_eq verb (codes "edid")) (edid_line plan (length words) (one_of words)) (Err (at_word 0 causes.Word)) (λ k. keeps_edid_line plan (length words) (one_of words) h) (λ k. tt)))
 
 keeps_line : (plan : Plan) (line : List ℕ) → AreNamed plan.tree → Keeps (line_read plan line)
 unfolding Keeps
@@ -218,14 +218,14 @@ unfolding Keeps
 named_lines [] number plan end h e = step (has_root plan.tree) e
   where
     none : Result Plan TopologyFault
-    none = Err (record { line = number; cause = causes.NoRoot })
+    none = Err (fault_at number (at_word 0 causes.NoRoot))
 
     step : (b : Bool) → (if b then Ok plan else none) ≡ Ok end → AreNamed end.tree
     step true k = let same : plan ≡ end = cc in subst (λ (p : Plan). AreNamed p.tree) same h
     step false k = cc
 named_lines (line ∷ lines) number plan end h e = step (line_read plan line) (keeps_line plan line h) (λ next k. named_lines lines (number + 1) next end k) e
   where
-    step : (r : Result Plan TopologyCause) → Keeps r → ((next : Plan) → AreNamed next.tree → lines_read lines (number + 1) next ≡ Ok end → AreNamed end.tree)
+    step : (r : Result Plan LineFault) → Keeps r → ((next : Plan) → AreNamed next.tree → lines_read lines (number + 1) next ≡ Ok end → AreNamed end.tree)
         → at_line number r (λ next. lines_read lines (number + 1) next) ≡ Ok end → AreNamed end.tree
     step (Ok next) k on e = on next k e
     step (Err cause) k on e = cc

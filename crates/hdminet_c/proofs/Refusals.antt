@@ -83,8 +83,8 @@ root_more (roots.Edid cause) = edid_more cause
 root_more roots.NoHdmiBlock = omega arith
 
 run_more : (error : EmulateError) → 1 < (run_answer error).code
-run_more (runs.Topology line cause) = topology_more cause
-run_more (runs.Script line cause) = script_more cause
+run_more (runs.Topology line cause word) = topology_more cause
+run_more (runs.Script line cause word) = script_more cause
 run_more (runs.Edid cause) = root_more cause
 run_more (runs.Write count) = omega arith
 run_more runs.Memory = omega arith

@@ -46,8 +46,8 @@ root_code roots.NoHdmiBlock = EdidNoHdmiBlock
 
 -- a write into memory fails where memory runs out
 abbrev pub run_answer : EmulateError → Answer
-run_answer (runs.Topology line cause) = refusal (topology_code cause) line
-run_answer (runs.Script line cause) = refusal (script_code cause) line
+run_answer (runs.Topology line cause word) = refusal (topology_code cause) line
+run_answer (runs.Script line cause word) = refusal (script_code cause) line
 run_answer (runs.Edid cause) = refusal (root_code cause) 0
 run_answer (runs.Write count) = refusal Memory 0
 run_answer runs.Memory = refusal Memory 0

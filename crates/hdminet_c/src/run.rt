@@ -58,8 +58,8 @@ pub(crate) fn run_refused(error: &EmulateError) -> Answer
     ensures { result ≡ run_answer error.now }
 {
     match error {
-        EmulateError::Topology { line, cause } => refused(topology_code(*cause), *line),
-        EmulateError::Script { line, cause } => refused(script_code(*cause), *line),
+        EmulateError::Topology { line, cause, .. } => refused(topology_code(*cause), *line),
+        EmulateError::Script { line, cause, .. } => refused(script_code(*cause), *line),
         EmulateError::Edid(cause) => refused(root_code(*cause), 0),
         EmulateError::Write(_) | EmulateError::Memory => refused(Code::Memory, 0),
     }

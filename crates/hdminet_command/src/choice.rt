@@ -5,9 +5,8 @@ ghost use Rattle.hdminet_words.specs.Line.{asked_by};
 use crate::help;
 use clap::error::ErrorKind;
 use clap::{Arg, ArgAction, Command, Error};
-use hdminet_help::Input;
-use hdminet_lists::{frame_forms, run_words};
-use hdminet_words::{Asked, Choice, Objects, Source, Subcommand, asked_by, subcommand_of};
+use hdminet_help::{frame_forms, run_words};
+use hdminet_words::{Asked, Subcommand, asked_by, subcommand_of};
 use std::alloc::{AllocError, Global};
 
 /// What is said in place of doing what a command line asks for.
@@ -19,26 +18,6 @@ pub enum Refused {
     Words(String),
     /// Nothing, as memory ran out.
     Memory,
-}
-
-/// What the input of a choice is to be.
-pub fn input_of(choice: Choice) -> Input {
-    match choice {
-        Choice::Check(_) | Choice::Json(Objects::Test) => Input::Test,
-        Choice::CheckCapture { .. } | Choice::Json(Objects::CaptureTest { .. }) => {
-            Input::CaptureTest
-        }
-        Choice::Run { .. } | Choice::Step | Choice::Json(Objects::Trace { .. }) => Input::Network,
-        Choice::Live => Input::Session,
-        Choice::Asm | Choice::Dis | Choice::Mon { .. } | Choice::Json(Objects::Capture { .. }) => {
-            Input::Lines
-        }
-        Choice::Edid { source, .. } => match source {
-            Source::Bytes => Input::EdidBytes,
-            Source::Dump => Input::Lines,
-            Source::Text => Input::EdidText,
-        },
-    }
 }
 
 fn flag<'a>(alloc: Global, name: &'a str, help: &'a str) -> Arg<'a> {
@@ -293,14 +272,28 @@ fn explanation(words: &[String]) -> &'static str {
     }
 }
 
+// What is often meant by words that are refused so: a file's name, of which the input is, and `help`.
+fn meant(error: &str) -> &'static str {
+    if error.starts_with("error: unexpected argument '-") {
+        ""
+    } else if error.starts_with("error: unexpected argument '") {
+        help::FILE_NAME
+    } else if error.starts_with("error: unrecognized subcommand 'help'") {
+        help::HELP_WORD
+    } else {
+        ""
+    }
+}
+
 // What is said of a command line that is not to be done.
 fn said(alloc: Global, error: &Error, words: &[String]) -> Result<Refused, AllocError> {
+    let mut text = format!(in alloc; "{error}")?;
     if error.use_stderr() {
-        let explanation = explanation(words);
-        let text = format!(in alloc; "{error}{explanation}")?;
+        let meant = meant(text.as_str());
+        text.push_str(meant)?;
+        text.push_str(explanation(words))?;
         return Ok(Refused::Words(text));
     }
-    let text = format!(in alloc; "{error}")?;
     Ok(Refused::Help(text))
 }
 

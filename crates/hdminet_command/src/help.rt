@@ -10,6 +10,14 @@ pub const EXPLAIN_FLAG: &str =
 pub const EXPLAINED: &str =
     "  the subcommands are run, check, step, live, asm, dis, mon and edid; each reads standard input, as `hdminet run < FILE`\n";
 
+/// What follows a command line that is refused for a word that is no flag.
+pub const FILE_NAME: &str =
+    "  a file is read as standard input, behind `<`: `hdminet run < FILE`\n";
+
+/// What follows a command line that is refused for the word `help`.
+pub const HELP_WORD: &str =
+    "  the help is `hdminet --help`, and that of a subcommand `hdminet run --help`\n";
+
 pub const OVERVIEW: &str = "\
 With --explain a fault is followed by the line of the input, the word at fault, and what would be right.
 
@@ -338,6 +346,7 @@ Answers:
   ! N CAUSE               line N behind `script` is refused, for a cause of scripts, or last `past`:
                           it is for an instant before the horizon. It changes nothing
 Without the answers, what is written is the trace that `hdminet run` writes of the lines taken.
+At most 4096 pulses wait at a time: one that a round has taken counts no more once that is told.
 
 An example, `>` before what is sent:
   > device tv tv 1

@@ -4,4 +4,4 @@
 mod choice;
 mod help;
 
-pub use choice::{Refused, choose, input_of};
+pub use choice::{Refused, choose};

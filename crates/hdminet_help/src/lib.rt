@@ -1,15 +1,13 @@
-//! What the program says of a fault beyond its one line: the line of the input, the word, and what would be right.
+//! The lists of words in help, from the tables: of frames, of keys with the kinds that have them, of codes, and of causes.
 //!
 //! All of it is text for people, so that tests speak of it and no contract does.
 #![tactic(auto)]
 
-mod edges;
-mod expectations;
-mod explanation;
-mod grammar;
-mod hints;
-mod marks;
-mod order;
-mod place;
+mod draft;
+mod frames;
+mod list;
+mod script_words;
 
-pub use explanation::{Input, counts, explain};
+pub use draft::Draft;
+pub use frames::{add_name, add_shape, frame_forms};
+pub use script_words::{add_keys_of, add_set, run_words};

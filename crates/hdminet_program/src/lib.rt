@@ -5,6 +5,7 @@ mod capture;
 mod capture_test;
 mod edid;
 mod expectations;
+mod explained;
 mod fault;
 mod live;
 mod parts;

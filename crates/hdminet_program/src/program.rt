@@ -12,6 +12,7 @@ use crate::capture::{monitor, tell_lost};
 use crate::capture_test::write_capture_test;
 use crate::edid::{edid, explain_lack, explain_rules};
 use crate::expectations::write_test;
+use crate::explained::{explained, input_of};
 use crate::fault::Fault;
 use crate::live::live;
 use crate::parts::{capture_parts, parted, parts};
@@ -29,8 +30,8 @@ use cec_step::step_run::step_run;
 use cec_text::asm_lines;
 use cec_words::before;
 use hdmi_core::{Buffered, Sink, put_all};
-use hdminet_command::{Refused, choose, input_of};
-use hdminet_help::{counts, explain};
+use hdminet_command::{Refused, choose};
+use hdminet_explain::{counts, explain};
 use hdminet_words::{Asked, Choice, Form, Listing, Objects, TestView, View, signal_in};
 use std::alloc::{AllocError, Global};
 use std::fmt::Write;
@@ -402,12 +403,19 @@ fn stretches_of(alloc: Global) -> Result<String, AllocError> {
     )
 }
 
-// The line of a fault, but for an instant of a range: what would be right is the same at each of them.
-fn line_of(alloc: Global, fault: &Fault) -> Result<String, AllocError> {
-    match fault {
-        Fault::AtInstant { error, .. } => format!(in alloc; "{error}"),
-        _ => format!(in alloc; "{fault}"),
-    }
+// What would be right in place of a fault, and why an EDID has no HDMI block where that is the fault.
+fn explanation_of(
+    alloc: Global,
+    choice: Choice,
+    fault: &Fault,
+    input: &[u8],
+) -> Result<String, AllocError> {
+    let Some(told) = explained(fault) else {
+        return Ok(String::new(alloc));
+    };
+    let mut text = explain(alloc, input_of(choice), told, input)?;
+    text.push_str(lack_of(alloc, choice, fault, input)?.as_str())?;
+    Ok(text)
 }
 
 // What follows the line of a fault with `--explain`.
@@ -423,12 +431,7 @@ fn explanation(
         Fault::TestsFailed(tally) => tests_of(alloc, choice, *tally),
         Fault::SweepFailed => stretches_of(alloc),
         Fault::RuleFails => rules_of(alloc, choice, input),
-        _ => {
-            let line = line_of(alloc, fault)?;
-            let mut text = explain(alloc, input_of(choice), line.as_str(), input)?;
-            text.push_str(lack_of(alloc, choice, fault, input)?.as_str())?;
-            Ok(text)
-        }
+        _ => explanation_of(alloc, choice, fault, input),
     }
 }
 

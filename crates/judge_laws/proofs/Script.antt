@@ -21,7 +21,8 @@ use Rattle.cec_asm.specs.Keys.{key_of}
 use Rattle.cec_asm.specs.Holding.{hold_of}
 use Rattle.cec_device.specs.declared.outside.Act.{Act}
 use Rattle.cec_device.specs.declared.outside.Act.TheVariants.{Empty}
-use Rattle.cec_asm.specs.declared.script.ScriptCause.{ScriptCause}
+use Rattle.cec_asm.specs.Fault.{at_word}
+use Rattle.cec_asm.specs.declared.fault.LineFault.{LineFault}
 use Rattle.cec_asm.specs.declared.script.ScriptCause.TheVariants as causes
 use Rattle.cec_asm.specs.declared.script.TimedEvent.{TimedEvent}
 use Rattle.cec_asm.specs.Script.{AreLinesRead, Course, IsEventRead, IsLineRead, IsScriptRead, IsSendRead, IsWordsRead, Notes, Onward, end_read, end_words, ended, event_words, key_read, key_words, act_read, hold_words, drop_words, last_end, last_time, no_notes, other_words, plug_read, plug_words, pulse_read, pulse_words, scheduled, send_read, time_of, unless_fault, unplug_read, unplug_words}
@@ -30,11 +31,11 @@ use Rattle.cec_asm.specs.Script.{AreLinesRead, Course, IsEventRead, IsLineRead, 
 abbrev pub AreBy : ℕ → List TimedEvent → Type 0
 AreBy line events = All (λ e. e.line ≤ line) events
 
-Fits : ℕ → Result Notes ScriptCause → Type 0
+Fits : ℕ → Result Notes LineFault → Type 0
 Fits line (Ok notes) = AreBy line notes.events
 Fits line (Err cause) = Unit {0}
 
-fits_if : (line : ℕ) (b : Bool) (r s : Result Notes ScriptCause) → Fits line r → Fits line s → Fits line (if b then r else s)
+fits_if : (line : ℕ) (b : Bool) (r s : Result Notes LineFault) → Fits line r → Fits line s → Fits line (if b then r else s)
 fits_if line true r s h k = h
 fits_if line false r s h k = k
 
@@ -42,8 +43,8 @@ fits_scheduled : (notes : Notes) (line time : ℕ) (event : Event) → AreBy lin
 unfolding Fits
 fits_scheduled notes line time event h =
     let e : TimedEvent = record { line = line; at = time; event = event } in
-    fits_if line (nat_lt time (last_time notes.events)) (Err causes.Order) _ tt
-    (fits_if line (is_some notes.end) (Err causes.End) (Ok (record notes { events = notes.events ++ e ∷ [] })) tt
+    fits_if line (nat_lt time (last_time notes.events)) (Err (at_word 1 causes.Order)) _ tt
+    (fits_if line (is_some notes.end) (Err (at_word 0 causes.End)) (Ok (record notes { events = notes.events ++ e ∷ [] })) tt
     (All-append (λ x. x.line ≤ line) notes.events (e ∷ []) h (All-cons (λ x. x.line ≤ line) e [] (omega arith) (All-nil (λ (x : TimedEvent). x.line ≤ line)))))
 
 fits_plug : (notes : Notes) (line : ℕ) (time port child parent : Option ℕ) → AreBy line notes.events → Fits line (plug_read notes line time port child parent)
@@ -54,10 +55,10 @@ fits_plug notes line (Some time) (Some port) None parent h = tt
 fits_plug notes line (Some time) (Some port) (Some child) None h = tt
 fits_plug notes line (Some time) (Some port) (Some child) (Some parent) h = fits_scheduled notes line time (Plug child parent (min port 255)) h
 
-fits_plug_words : (tree : List Node) (notes : Notes) (line : ℕ) (time : List ℕ) (words : Option (List ℕ × List ℕ × List ℕ)) → AreBy line notes.events → Fits line (plug_words tree notes line time words)
+fits_plug_words : (tree : List Node) (notes : Notes) (line : ℕ) (time : List ℕ) (many : ℕ) (words : Option (List ℕ × List ℕ × List ℕ)) → AreBy line notes.events → Fits line (plug_words tree notes line time many words)
 unfolding Fits
-fits_plug_words tree notes line time None h = tt
-fits_plug_words tree notes line time (Some words) h = fits_plug notes line (time_of time) (number_of words.2) (device_named tree words.0) (device_named tree words.1) h
+fits_plug_words tree notes line time many None h = tt
+fits_plug_words tree notes line time many (Some words) h = fits_plug notes line (time_of time) (number_of words.2) (device_named tree words.0) (device_named tree words.1) h
 
 fits_unplug : (notes : Notes) (line : ℕ) (time child : Option ℕ) → AreBy line notes.events → Fits line (unplug_read notes line time child)
 unfolding Fits
@@ -65,12 +66,12 @@ fits_unplug notes line None child h = tt
 fits_unplug notes line (Some time) None h = tt
 fits_unplug notes line (Some time) (Some child) h = fits_scheduled notes line time (Unplug child) h
 
-fits_unplug_words : (tree : List Node) (notes : Notes) (line : ℕ) (time : List ℕ) (words : Option (List ℕ)) → AreBy line notes.events → Fits line (unplug_words tree notes line time words)
+fits_unplug_words : (tree : List Node) (notes : Notes) (line : ℕ) (time : List ℕ) (many : ℕ) (words : Option (List ℕ)) → AreBy line notes.events → Fits line (unplug_words tree notes line time many words)
 unfolding Fits
-fits_unplug_words tree notes line time None h = tt
-fits_unplug_words tree notes line time (Some word) h = fits_unplug notes line (time_of time) (device_named tree word) h
+fits_unplug_words tree notes line time many None h = tt
+fits_unplug_words tree notes line time many (Some word) h = fits_unplug notes line (time_of time) (device_named tree word) h
 
-fits_key : (notes : Notes) (line : ℕ) (press : Bool) (key : Result KeyValue ScriptCause) (time device : Option ℕ) → AreBy line notes.events → Fits line (key_read notes line press key time device)
+fits_key : (notes : Notes) (line : ℕ) (press : Bool) (key : Result KeyValue LineFault) (time device : Option ℕ) → AreBy line notes.events → Fits line (key_read notes line press key time device)
 unfolding Fits
 fits_key notes line press (Err cause) time device h = tt
 fits_key notes line press (Ok key) None device h = tt
@@ -89,25 +90,25 @@ fits_act notes line (Some act) None device h = tt
 fits_act notes line (Some act) (Some time) None h = tt
 fits_act notes line (Some act) (Some time) (Some device) h = fits_scheduled notes line time (Outside device act) h
 
-fits_hold_words : (tree : List Node) (notes : Notes) (line : ℕ) (time : List ℕ) (words : Option (List ℕ × List ℕ)) → AreBy line notes.events → Fits line (hold_words tree notes line time words)
+fits_hold_words : (tree : List Node) (notes : Notes) (line : ℕ) (time : List ℕ) (many : ℕ) (words : Option (List ℕ × List ℕ)) → AreBy line notes.events → Fits line (hold_words tree notes line time many words)
 unfolding Fits
-fits_hold_words tree notes line time None h = tt
-fits_hold_words tree notes line time (Some words) h = fits_act notes line (hold_of words.1) (time_of time) (device_named tree words.0) h
+fits_hold_words tree notes line time many None h = tt
+fits_hold_words tree notes line time many (Some words) h = fits_act notes line (hold_of words.1) (time_of time) (device_named tree words.0) h
 
-fits_drop_words : (tree : List Node) (notes : Notes) (line : ℕ) (time : List ℕ) (words : Option (List ℕ)) → AreBy line notes.events → Fits line (drop_words tree notes line time words)
+fits_drop_words : (tree : List Node) (notes : Notes) (line : ℕ) (time : List ℕ) (many : ℕ) (words : Option (List ℕ)) → AreBy line notes.events → Fits line (drop_words tree notes line time many words)
 unfolding Fits
-fits_drop_words tree notes line time None h = tt
-fits_drop_words tree notes line time (Some word) h = fits_act notes line (Some Empty) (time_of time) (device_named tree word) h
+fits_drop_words tree notes line time many None h = tt
+fits_drop_words tree notes line time many (Some word) h = fits_act notes line (Some Empty) (time_of time) (device_named tree word) h
 
 fits_event_words : (tree : List Node) (notes : Notes) (line : ℕ) (time verb : List ℕ) (words : List (List ℕ)) → AreBy line notes.events → Fits line (event_words tree notes line time verb words)
 unfolding Fits
 fits_event_words tree notes line time verb words h =
-    fits_if line (bytes_eq verb (codes "plug")) (plug_words tree notes line time (three_of words)) _ (fits_plug_words tree notes line time (three_of words) h)
-    (fits_if line (bytes_eq verb (codes "unplug")) (unplug_words tree notes line time (one_of words)) _ (fits_unplug_words tree notes line time (one_of words) h)
+    fits_if line (bytes_eq verb (codes "plug")) (plug_words tree notes line time (length words) (three_of words)) _ (fits_plug_words tree notes line time (length words) (three_of words) h)
+    (fits_if line (bytes_eq verb (codes "unplug")) (unplug_words tree notes line time (length words) (one_of words)) _ (fits_unplug_words tree notes line time (length words) (one_of words) h)
     (fits_if line (bytes_eq verb (codes "press")) (key_words tree notes line true time words) _ (fits_key_words tree notes line true time words h)
     (fits_if line (bytes_eq verb (codes "release")) (key_words tree notes line false time words) _ (fits_key_words tree notes line false time words h)
-    (fits_if line (bytes_eq verb (codes "hold")) (hold_words tree notes line time (two_of words)) _ (fits_hold_words tree notes line time (two_of words) h)
-    (fits_if line (bytes_eq verb (codes "drop")) (drop_words tree notes line time (one_of words)) (Err causes.Word) (fits_drop_words tree notes line time (one_of words) h) tt)))))
+    (fits_if line (bytes_eq verb (codes "hold")) (hold_words tree notes line time (length words) (two_of words)) _ (fits_hold_words tree notes line time (length words) (two_of words) h)
+    (fits_if line (bytes_eq verb (codes "drop")) (drop_words tree notes line time (length words) (one_of words)) (Err (at_word 2 causes.Word)) (fits_drop_words tree notes line time (length words) (one_of words) h) tt)))))
 
 fits_send : (notes : Notes) (line : ℕ) (time device : Option ℕ) (frame : Result (List ℕ) AssembleError) → AreBy line notes.events → Fits line (send_read notes line time device frame)
 unfolding Fits
@@ -116,20 +117,20 @@ fits_send notes line (Some time) None frame h = tt
 fits_send notes line (Some time) (Some device) (Err cause) h = tt
 fits_send notes line (Some time) (Some device) (Ok frame) h = fits_scheduled notes line time (Send device frame) h
 
-fits_as : (line : ℕ) (r s : Result Notes ScriptCause) → r ≡ s → Fits line s → Fits line r
+fits_as : (line : ℕ) (r s : Result Notes LineFault) → r ≡ s → Fits line s → Fits line r
 fits_as line r s e h = subst (Fits line) (sym e) h
 
-fits_send_words : (tree : List Node) (notes : Notes) (line : ℕ) (time : List ℕ) (words : List (List ℕ)) (read : Result Notes ScriptCause) → AreBy line notes.events → IsSendRead tree notes line time words read → Fits line read
+fits_send_words : (tree : List Node) (notes : Notes) (line : ℕ) (time : List ℕ) (words : List (List ℕ)) (read : Result Notes LineFault) → AreBy line notes.events → IsSendRead tree notes line time words read → Fits line read
 unfolding Fits
-fits_send_words tree notes line time [] read h r = fits_as line read (Err causes.Word) r tt
-fits_send_words tree notes line time (name ∷ []) read h r = fits_as line read (Err causes.Word) r tt
+fits_send_words tree notes line time [] read h r = fits_as line read (Err (at_word 3 causes.Word)) r tt
+fits_send_words tree notes line time (name ∷ []) read h r = fits_as line read (Err (at_word 4 causes.Word)) r tt
 fits_send_words tree notes line time (name ∷ word ∷ words) read h r =
     fits_as line read (send_read notes line (time_of time) (device_named tree name) r.0) r.2 (fits_send notes line (time_of time) (device_named tree name) r.0 h)
 
-fits_event : (tree : List Node) (notes : Notes) (line : ℕ) (words : List (List ℕ)) (read : Result Notes ScriptCause) → AreBy line notes.events → IsEventRead tree notes line words read → Fits line read
+fits_event : (tree : List Node) (notes : Notes) (line : ℕ) (words : List (List ℕ)) (read : Result Notes LineFault) → AreBy line notes.events → IsEventRead tree notes line words read → Fits line read
 unfolding Fits
-fits_event tree notes line [] read h r = fits_as line read (Err causes.Word) r tt
-fits_event tree notes line (time ∷ []) read h r = fits_as line read (Err causes.Word) r tt
+fits_event tree notes line [] read h r = fits_as line read (Err (at_word 1 causes.Word)) r tt
+fits_event tree notes line (time ∷ []) read h r = fits_as line read (Err (at_word 2 causes.Word)) r tt
 fits_event tree notes line (time ∷ verb ∷ words) read h r = by (bytes_eq verb (codes "send")) r
   where
     by : (b : Bool) → cond {A = Type 0} b (IsSendRead tree notes line time words read) (read ≡ event_words tree notes line time verb words) → Fits line read
@@ -138,13 +139,13 @@ fits_event tree notes line (time ∷ verb ∷ words) read h r = by (bytes_eq ver
 
 -- ---- the lines that are no events
 
-fits_pulsed : (fault : Option PulsesError) (notes : Notes) (line : ℕ) (pulse : Stretch) → AreBy line notes.events → Fits line (unless_fault fault notes pulse)
+fits_pulsed : (fault : Option PulsesError) (notes : Notes) (line : ℕ) (pulse : Stretch) → AreBy line notes.events → Fits line (unless_fault fault notes (length notes.pulses) pulse)
 unfolding Fits
 fits_pulsed (Some fault) notes line pulse h = tt
 fits_pulsed None notes line pulse h =
-    fits_if line (nat_le 4096 (length notes.pulses)) (Err causes.TooMany) _ tt (fits_if line (is_some notes.end) (Err causes.End) (Ok (record notes { pulses = notes.pulses ++ pulse ∷ [] })) tt h)
+    fits_if line (nat_le 4096 (length notes.pulses)) (Err (at_word 0 causes.TooMany)) _ tt (fits_if line (is_some notes.end) (Err (at_word 0 causes.End)) (Ok (record notes { pulses = notes.pulses ++ pulse ∷ [] })) tt h)
 
-fits_pulse : (notes : Notes) (line : ℕ) (time width : Option ℕ) → AreBy line notes.events → Fits line (pulse_read notes time width)
+fits_pulse : (notes : Notes) (line : ℕ) (time width : Option ℕ) → AreBy line notes.events → Fits line (pulse_read notes (length notes.pulses) time width)
 unfolding Fits
 fits_pulse notes line None width h = tt
 fits_pulse notes line (Some time) None h = tt
@@ -152,45 +153,45 @@ fits_pulse notes line (Some time) (Some width) h =
     let pulse : Stretch = record { from = time; to = time + min width 65535 } in
     fits_pulsed (stretch_fault (last_end notes.pulses) pulse) notes line pulse h
 
-fits_pulse_words : (notes : Notes) (line : ℕ) (words : Option (List ℕ × List ℕ)) → AreBy line notes.events → Fits line (pulse_words notes words)
+fits_pulse_words : (notes : Notes) (line : ℕ) (many : ℕ) (words : Option (List ℕ × List ℕ)) → AreBy line notes.events → Fits line (pulse_words notes (length notes.pulses) many words)
 unfolding Fits
-fits_pulse_words notes line None h = tt
-fits_pulse_words notes line (Some words) h = fits_pulse notes line (time_of words.0) (number_of words.1) h
+fits_pulse_words notes line many None h = tt
+fits_pulse_words notes line many (Some words) h = fits_pulse notes line (time_of words.0) (number_of words.1) h
 
 fits_end : (notes : Notes) (line : ℕ) (time : Option ℕ) → AreBy line notes.events → Fits line (end_read notes time)
 unfolding Fits
 fits_end notes line None h = tt
 fits_end notes line (Some time) h =
-    fits_if line (is_some notes.end) (Err causes.End) _ tt
-    (fits_if line (nat_lt 0 (length notes.events) && nat_le time (last_time notes.events)) (Err causes.End) (Ok (record notes { end = Some time })) tt h)
+    fits_if line (is_some notes.end) (Err (at_word 0 causes.End)) _ tt
+    (fits_if line (nat_lt 0 (length notes.events) && nat_le time (last_time notes.events)) (Err (at_word 1 causes.End)) (Ok (record notes { end = Some time })) tt h)
 
-fits_end_words : (notes : Notes) (line : ℕ) (words : Option (List ℕ)) → AreBy line notes.events → Fits line (end_words notes words)
+fits_end_words : (notes : Notes) (line : ℕ) (many : ℕ) (words : Option (List ℕ)) → AreBy line notes.events → Fits line (end_words notes many words)
 unfolding Fits
-fits_end_words notes line None h = tt
-fits_end_words notes line (Some word) h = fits_end notes line (time_of word) h
+fits_end_words notes line many None h = tt
+fits_end_words notes line many (Some word) h = fits_end notes line (time_of word) h
 
-fits_other : (notes : Notes) (line : ℕ) (verb : List ℕ) (words : List (List ℕ)) → AreBy line notes.events → Fits line (other_words notes verb words)
+fits_other : (notes : Notes) (line : ℕ) (verb : List ℕ) (words : List (List ℕ)) → AreBy line notes.events → Fits line (other_words notes (length notes.pulses) verb words)
 unfolding Fits
 fits_other notes line verb words h =
-    fits_if line (bytes_eq verb (codes "pulse")) (pulse_words notes (two_of words)) _ (fits_pulse_words notes line (two_of words) h)
-    (fits_if line (bytes_eq verb (codes "end")) (end_words notes (one_of words)) (Err causes.Word) (fits_end_words notes line (one_of words) h) tt)
+    fits_if line (bytes_eq verb (codes "pulse")) (pulse_words notes (length notes.pulses) (length words) (two_of words)) _ (fits_pulse_words notes line (length words) (two_of words) h)
+    (fits_if line (bytes_eq verb (codes "end")) (end_words notes (length words) (one_of words)) (Err (at_word 0 causes.Word)) (fits_end_words notes line (length words) (one_of words) h) tt)
 
 -- ---- a line, and all lines
 
-fits_words : (tree : List Node) (notes : Notes) (line : ℕ) (words : List (List ℕ)) (read : Result Notes ScriptCause) → AreBy line notes.events → IsWordsRead tree notes line words read → Fits line read
+fits_words : (tree : List Node) (notes : Notes) (line : ℕ) (words : List (List ℕ)) (read : Result Notes LineFault) → AreBy line notes.events → IsWordsRead tree notes (length notes.pulses) line words read → Fits line read
 unfolding Fits
-fits_words tree notes line [] read h r = fits_as line read (Err causes.Word) r tt
+fits_words tree notes line [] read h r = fits_as line read (Err (at_word 0 causes.Word)) r tt
 fits_words tree notes line (verb ∷ words) read h r = by (bytes_eq verb (codes "at")) r
   where
-    by : (b : Bool) → cond {A = Type 0} b (IsEventRead tree notes line words read) (read ≡ other_words notes verb words) → Fits line read
+    by : (b : Bool) → cond {A = Type 0} b (IsEventRead tree notes line words read) (read ≡ other_words notes (length notes.pulses) verb words) → Fits line read
     by true k = fits_event tree notes line words read h k
-    by false k = fits_as line read (other_words notes verb words) k (fits_other notes line verb words h)
+    by false k = fits_as line read (other_words notes (length notes.pulses) verb words) k (fits_other notes line verb words h)
 
-fits_line : (tree : List Node) (notes : Notes) (line : ℕ) (text : List ℕ) (read : Result Notes ScriptCause) → AreBy line notes.events → IsLineRead tree notes line text read → Fits line read
+fits_line : (tree : List Node) (notes : Notes) (line : ℕ) (text : List ℕ) (read : Result Notes LineFault) → AreBy line notes.events → IsLineRead tree notes (length notes.pulses) line text read → Fits line read
 unfolding Fits
 fits_line tree notes line text read h r = by (is_skipped text) r
   where
-    by : (b : Bool) → cond {A = Type 0} b (read ≡ Ok notes) (IsWordsRead tree notes line (words_of text) read) → Fits line read
+    by : (b : Bool) → cond {A = Type 0} b (read ≡ Ok notes) (IsWordsRead tree notes (length notes.pulses) line (words_of text) read) → Fits line read
     by true k = fits_as line read (Ok notes) k h
     by false k = fits_words tree notes line (words_of text) read h k
 
@@ -206,7 +207,7 @@ unfolding Fits
 lines_by tree [] line notes course h r = subst (AreBy (line + 0)) (sym (ends notes line course notes.end r)) (later_by line (line + 0) notes.events (omega arith) h)
 lines_by tree (text ∷ texts) line notes course h r = by r.0 (fits_line tree notes line text r.0 h r.1) r.2 (λ next k l. lines_by tree texts (line + 1) next course k l)
   where
-    by : (now : Result Notes ScriptCause) → Fits line now → Onward line now (λ next. AreLinesRead tree texts (line + 1) next (Ok course)) (Ok course)
+    by : (now : Result Notes LineFault) → Fits line now → Onward line now (λ next. AreLinesRead tree texts (line + 1) next (Ok course)) (Ok course)
         → ((next : Notes) → AreBy (line + 1) next.events → AreLinesRead tree texts (line + 1) next (Ok course) → AreBy (line + 1 + length texts) course.events)
         → AreBy (line + suc (length texts)) course.events
     by (Ok next) k on more = later_by (line + 1 + length texts) (line + suc (length texts)) course.events (omega arith) (more next (later_by line (line + 1) next.events (omega arith) k) on)

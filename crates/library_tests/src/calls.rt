@@ -177,7 +177,7 @@ fn each_call_writes_its_text(rt: HostRuntime) {
 /// A topology is refused for a word in its first line.
 fn is_word<T: Drop>(answer: Result<T, EmulateError>) -> bool {
     match answer {
-        Err(EmulateError::Topology { line: 1, cause }) => matches!(cause, TopologyCause::Word),
+        Err(EmulateError::Topology { line: 1, cause, .. }) => matches!(cause, TopologyCause::Word),
         _ => false,
     }
 }

@@ -10,4 +10,6 @@ mod faults;
 #[cfg(test)]
 mod pipes;
 #[cfg(test)]
+mod pulses;
+#[cfg(test)]
 mod rooms;

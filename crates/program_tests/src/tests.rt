@@ -18,6 +18,7 @@ mod example_reports;
 mod examples;
 mod expectations;
 mod explained;
+mod explanations;
 mod flags;
 mod frames;
 mod hostile;
@@ -25,6 +26,7 @@ mod limits;
 mod refused_texts;
 mod runs;
 mod sessions;
+mod slips;
 mod sweeps;
 mod trees;
 

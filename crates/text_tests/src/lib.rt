@@ -4,7 +4,7 @@
 #[cfg(test)]
 mod cases;
 #[cfg(test)]
-mod explanations;
+mod lists;
 #[cfg(test)]
 mod messages;
 #[cfg(test)]

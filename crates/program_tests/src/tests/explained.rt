@@ -4,22 +4,22 @@ use std::process::Abort;
 
 /// The words of a command line, an input with `;` for each line feed, and what follows the line of its fault.
 const CASES: &str = "\
-run => device tv tv 4;script;at 5 press tv plya;end 9; =>   line 3: at 5 press tv plya
+run => device tv tv 4;script;at 5 press tv plya;end 9; =>   line 3 of the input: at 5 press tv plya
 run => device tv tv 4\r;script\r;end 9\r; =>   line 2: script.
 run => DEVICE tv tv 4;script;end 9; =>   line 1: DEVICE tv tv 4
-run => device tv tv 4;script;end 9 ; =>   line 3: end 9 
+run => device tv tv 4;script;end 9 ; =>   line 3 of the input: end 9 
 run => device tv\ttv 4;script;end 9; =>   line 1: device tv.tv 4
 run =>  =>   a line `script`, and nothing else on it, parts the topology from the script
-check => device tv tv 4;script;label a at 5 pres tv power;end 9; =>   line 3: label a at 5 pres tv power
-check --trace => device tv tv 4;script;expect none;end 9; =>   line 3: expect none
-check --plain => device tv tv 4;script;expect from 9 to 5 short;end 9; =>   line 3: expect from 9 to 5 short
+check => device tv tv 4;script;label a at 5 pres tv power;end 9; =>   line 3 of the input: label a at 5 pres tv power
+check --trace => device tv tv 4;script;expect none;end 9; =>   line 3 of the input: expect none
+check --plain => device tv tv 4;script;expect from 9 to 5 short;end 9; =>   line 3 of the input: expect from 9 to 5 short
 check =>  =>   a line `script`, and nothing else on it, parts the topology from the script
-check => device tv tv 4;script;at 5..9 press tv power;at 10..12 press tv power;end 20; =>   line 4: at 10..12 press tv power
-check --json => device tv tv 4;script;at 5..20 press tv power;end 9; =>   line 4: end 9
+check => device tv tv 4;script;at 5..9 press tv power;at 10..12 press tv power;end 20; =>   line 4 of the input: at 10..12 press tv power
+check --json => device tv tv 4;script;at 5..20 press tv power;end 9; =>   line 4 of the input: end 9
 check --capture => expect twice from 0 to 9 short;capture;20 end; =>   line 1: expect twice from 0 to 9 short
-check --capture => expect from 0 to 9 short;capture;20 0;10 end; =>   line 4: 10 end
+check --capture => expect from 0 to 9 short;capture;20 0;10 end; =>   line 4 of the input: 10 end
 check --capture => expect from 0 to 9 short;Capture; =>   line 2: Capture
-run --json => device tv tv 4;script;at 5 press tv plya;end 9; =>   line 3: at 5 press tv plya
+run --json => device tv tv 4;script;at 5 press tv plya;end 9; =>   line 3 of the input: at 5 press tv plya
 asm => 4>0 pley forward; =>   line 1: 4>0 pley forward
 asm => 4>4\r; =>   line 1: 4>4.
 asm => 4>0\tplay forward; =>   line 1: 4>0.play forward
@@ -49,11 +49,11 @@ mon => 00ff; =>   line 1: 00ff
 mon => a\u{80}\u{1}; =>   line 1: a...
 mon =>  =>   line 1: 
 step => \u{feff}device tv tv 4;script;end 9;steps; =>   line 1: ...device tv tv 4
-step => device tv tv 4;script;end 9;steps;round\r; =>   line 5: round.
-step => device tv tv 4;script;end 9;steps;edge;until\tbreak; =>   line 6: until.break
-step => device tv tv 4;script;end 9;steps;ROUND; =>   line 5: ROUND
-step => device tv tv 4;script;end 9;steps;round ; =>   line 5: round 
-step => device tv tv 4;script;end 9;steps;show p1; =>   line 5: show p1
+step => device tv tv 4;script;end 9;steps;round\r; =>   line 5 of the input: round.
+step => device tv tv 4;script;end 9;steps;edge;until\tbreak; =>   line 6 of the input: until.break
+step => device tv tv 4;script;end 9;steps;ROUND; =>   line 5 of the input: ROUND
+step => device tv tv 4;script;end 9;steps;round ; =>   line 5 of the input: round 
+step => device tv tv 4;script;end 9;steps;show p1; =>   line 5 of the input: show p1
 step => device tv tv 4;script;end 9; =>   a line `steps`, and nothing else on it, parts the script from the commands
 step => 00ff; =>   a line `script`, and nothing else on it, parts the topology from the script
 step =>  =>   a line `script`, and nothing else on it, parts the topology from the script
@@ -108,4 +108,24 @@ fn a_file_name_is_explained(rt: HostRuntime) {
     let said = said.as_str();
     let explained = said.contains("tv.net") && said.ends_with("as `hdminet run < FILE`\n");
     expect(&rt, refused && explained, "run", said);
+}
+
+/// A command line that is refused, and the last line of what is said of it.
+const MEANT: &str = "\
+run tv.net =>   a file is read as standard input, behind `<`: `hdminet run < FILE`
+mon --audit a.vcd =>   a file is read as standard input, behind `<`: `hdminet run < FILE`
+help =>   the help is `hdminet --help`, and that of a subcommand `hdminet run --help`
+help run =>   the help is `hdminet --help`, and that of a subcommand `hdminet run --help`
+run --bogus => For more information, try '--help'.
+";
+
+#[test]
+fn files_and_help_are_explained_without_a_flag(rt: HostRuntime) {
+    for case in MEANT.lines() {
+        let (line, last) = two_parts(&rt, case);
+        let told = told_of(&rt, line, b"".as_slice(), None);
+        let said = String::from_utf8(told.err).expect(&rt, "a text");
+        let right = said.as_str().lines().last() == Some(last);
+        expect(&rt, told.status == 2 && right, line, last);
+    }
 }

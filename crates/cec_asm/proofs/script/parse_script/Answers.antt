@@ -15,7 +15,7 @@ loop-line-preserved c =
     record {
       reads = λ read rest. c.loop-line.invariant.reads read (
           line_read tree (lines_of c.loop-line.rest.now) (lines_of c.in-Some.after.now) c.in-Some.line.now c.loop-line.number notes next read c.in-Some.ensures.lines c.in_default-take_line.ensures.gives rest);
-      sound = line-keeps tree notes c.loop-line.number c.in-Some.line.now next c.loop-line.invariant.sound c.in_default-take_line.ensures.gives;
+      sound = line-keeps tree notes (length notes.pulses) c.loop-line.number c.in-Some.line.now next c.loop-line.invariant.sound c.in_default-take_line.ensures.gives;
       counts = omega arith;
     }
 

@@ -76,11 +76,21 @@ pub fn of_edid(input: &[u8]) -> [Option<&'static str>; 3] {
     ]
 }
 
+/// Whether an input looks like a hex dump, whose count of bytes says nothing.
+pub fn is_dump(input: &[u8]) -> bool {
+    looks_like_dump(input)
+}
+
+/// Whether a text has bytes, and the last of them is no line feed.
+pub fn lacks_line_feed(text: &[u8]) -> bool {
+    !text.is_empty() && !text.ends_with(b"\n")
+}
+
 /// What is odd about an input that is to be the text of an EDID, beside what is odd about any text.
 pub fn of_edid_text(input: &[u8]) -> [Option<&'static str>; 2] {
     [
         looks_like_dump(input).then_some(HEX_DUMP),
-        (!input.is_empty() && !input.ends_with(b"\n")).then_some(
+        lacks_line_feed(input).then_some(
             "the last line has no line feed; each line of an EDID's text ends with one",
         ),
     ]

@@ -1,5 +1,4 @@
 //! The words of topologies and scripts, from the tables of keys, of user control codes and of causes.
-use crate::causes::{Row, SCRIPT, TOPOLOGY};
 use crate::draft::Draft;
 use crate::list::{List, list_set};
 use cec_feature::{Key, Port, VolumeKey, has_key};
@@ -22,11 +21,36 @@ const ENGLISH: Triple = Triple {
     third: b'g',
 };
 
-// The kinds that have a key, which is its word and what it takes. A switch with a port stands for all switches.
+/// The causes for which a topology is refused.
+const TOPOLOGY: &[&str] = &[
+    "word",
+    "number",
+    "name",
+    "full",
+    "second-root",
+    "no-root",
+    "port-range",
+    "port-taken",
+    "not-loose",
+    "loop",
+    "hex",
+];
+
+/// The causes for which a script is refused, but for `frame` and the cause of a frame.
+const SCRIPT: &[&str] = &[
+    "word", "number", "name", "width", "order", "close", "too-many", "end",
+];
+
+// Whether a kind has a key. A switch with a port stands for all switches.
+fn has(kind: Kind, key: &Key) -> bool {
+    has_key(kind, Port::new(1), key)
+}
+
+// The kinds that have a key, which is its word and what it takes.
 fn add_key(draft: &mut Draft, takes: &str, key: &Key) {
     let mut list = List::begin(draft, &[key.word().text(), takes], LABELS);
     for kind in Kind::ALL {
-        if has_key(*kind, Port::new(1), key) {
+        if has(*kind, key) {
             list.add(draft, kind.word());
         }
     }
@@ -34,15 +58,27 @@ fn add_key(draft: &mut Draft, takes: &str, key: &Key) {
 }
 
 // Some keys, each with what it takes.
-fn add_keys(draft: &mut Draft, keys: &[(&str, Key)]) {
+fn list_keys(draft: &mut Draft, keys: &[(&str, Key)]) {
     for (takes, key) in keys {
         add_key(draft, takes, key);
     }
 }
 
+// The forms of those keys that a kind has, with commas between them, and what stands before the first one.
+fn add_forms<'a>(draft: &mut Draft, kind: Kind, keys: &[(&str, Key)], first: &'a str) -> &'a str {
+    let mut before = first;
+    for (takes, key) in keys {
+        if has(kind, key) {
+            draft.add_all(&[before, "`", key.word().text(), takes, "`"]);
+            before = ", ";
+        }
+    }
+    before
+}
+
 // The keys of one word.
-fn add_plain_keys(draft: &mut Draft) {
-    let keys = [
+fn plain_keys() -> [(&'static str, Key); 9] {
+    [
         ("", Key::Play),
         ("", Key::Stop),
         ("", Key::Eject),
@@ -52,15 +88,14 @@ fn add_plain_keys(draft: &mut Draft) {
         ("", Key::Volume(VolumeKey::Up)),
         ("", Key::Volume(VolumeKey::Down)),
         ("", Key::Volume(VolumeKey::Mute)),
-    ];
-    add_keys(draft, keys.as_slice());
+    ]
 }
 
 // The keys of a word and what it takes.
-fn add_other_keys(draft: &mut Draft) {
+fn other_keys() -> [(&'static str, Key); 8] {
     let code = UserControl::Play;
     let to = Addr::new(4);
-    let keys = [
+    [
         (" N", Key::Port(1)),
         (" PA", Key::Watch(ADDRESS)),
         (" LLL", Key::Language(ENGLISH)),
@@ -69,14 +104,24 @@ fn add_other_keys(draft: &mut Draft) {
         (" on", Key::Arc { on: true }),
         (" off", Key::Arc { on: false }),
         (" D CODE", Key::Remote { to, code }),
-    ];
-    add_keys(draft, keys.as_slice());
+    ]
+}
+
+/// The forms of the keys that a kind has, with commas between them, behind a text.
+pub fn add_keys_of(draft: &mut Draft, kind: Kind, behind: &str) {
+    let before = add_forms(draft, kind, plain_keys().as_slice(), behind);
+    let _ = add_forms(draft, kind, other_keys().as_slice(), before);
+}
+
+/// The words of a set, behind a label, in lines of some columns.
+pub fn add_set(draft: &mut Draft, label: &str, set: WordSet) {
+    list_set(draft, label, label.len(), set);
 }
 
 // The causes of the faults of a part.
-fn add_causes(draft: &mut Draft, part: &str, rows: &[Row]) {
+fn add_causes(draft: &mut Draft, part: &str, causes: &[&str]) {
     let mut list = List::begin(draft, &[part], LABELS);
-    for (cause, _) in rows {
+    for cause in causes {
         list.add(draft, cause);
     }
     draft.add("\n");
@@ -90,8 +135,8 @@ fn add_causes(draft: &mut Draft, part: &str, rows: &[Row]) {
 /// Where memory runs out.
 pub fn run_words(alloc: Global) -> Result<String, AllocError> {
     let mut draft = Draft::new(alloc);
-    add_plain_keys(&mut draft);
-    add_other_keys(&mut draft);
+    list_keys(&mut draft, plain_keys().as_slice());
+    list_keys(&mut draft, other_keys().as_slice());
     list_set(&mut draft, "CODE", LABELS, WordSet::UserControl);
     draft.add("and the causes of faults\n");
     add_causes(&mut draft, "of a topology", TOPOLOGY);

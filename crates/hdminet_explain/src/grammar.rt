@@ -54,6 +54,55 @@ pub const EXPECTATIONS: &[&str] = &[
     "label NAME LINE",
 ];
 
+/// The lines of the expectations of a capture: no event is refused there, and there are no devices whose states it has.
+pub const CAPTURE_EXPECTATIONS: &[&str] = &[
+    "expect within D of NAME PATTERN",
+    "expect from T to U PATTERN",
+    "expect none within D of NAME PATTERN",
+    "expect none from T to U PATTERN",
+    "expect once within D of NAME PATTERN",
+    "expect once from T to U PATTERN",
+    "label NAME at T",
+    "label NAME LINE",
+];
+
+/// The forms of keys.
+pub const KEY_FORMS: &[&str] = &[
+    "play",
+    "stop",
+    "eject",
+    "load",
+    "menu",
+    "power",
+    "volume-up",
+    "volume-down",
+    "mute",
+    "port N",
+    "watch PA",
+    "language LLL",
+    "audio on",
+    "audio off",
+    "arc on",
+    "arc off",
+    "remote D CODE",
+];
+
+/// Words that stand for kinds elsewhere, each with the KIND here.
+pub const OTHER_KINDS: &[(&str, &str)] = &[
+    ("television", "tv"),
+    ("display", "tv"),
+    ("avr", "amp"),
+    ("receiver", "amp"),
+    ("amplifier", "amp"),
+    ("audio-system", "amp"),
+    ("soundbar", "amp"),
+    ("playback", "player"),
+    ("source", "player"),
+    ("recording", "recorder"),
+    ("splitter", "switch"),
+    ("hub", "switch"),
+];
+
 /// The words of expectations and labels that stand for themselves.
 pub const EXPECTATION_WORDS: &[&str] = &[
     "label", "expect", "none", "once", "within", "from", "state", "refused", "of", "to",
@@ -83,8 +132,8 @@ pub const KEYWORDS: &[&str] = &[
 /// The words that the lines of an EDID's text begin with.
 pub const EDID_WORDS: &[&str] = WORD_TEXTS;
 
-// Whether a word of a form stands for a value.
-fn is_value(wanted: &str) -> bool {
+/// Whether a word of a form stands for a value.
+pub fn is_value(wanted: &str) -> bool {
     match wanted.as_bytes().first() {
         Some(byte) => byte.is_ascii_uppercase(),
         None => false,
@@ -147,4 +196,19 @@ pub fn most_fitting(forms: &[&str], line: &str) -> usize {
         most = most.max(fitting(form, line));
     }
     most
+}
+
+/// The word that a line lacks at its end, where one form alone fits all that it has.
+pub fn missing<'a>(forms: &[&'a str], line: &str) -> Option<&'a str> {
+    let count = line.split(' ').count();
+    let mut missing = None;
+    for form in forms {
+        if fitting(form, line) == count {
+            if missing.is_some() {
+                return None;
+            }
+            missing = form.split(' ').nth(count);
+        }
+    }
+    missing
 }

@@ -1,5 +1,5 @@
 //! A line's words, and the words that stand near one.
-use crate::draft::Draft;
+use hdminet_help::Draft;
 use std::alloc::AllocError;
 use strsim::osa_distance;
 
@@ -44,12 +44,30 @@ fn is_one_edit(draft: &mut Draft, known: &str, word: &str) -> bool {
     }
 }
 
-/// Whether a known word is what somebody may have meant by another: the same but for case, or one edit away.
+// A byte as it is compared: in lower case, and `_` as `-`.
+fn plain_byte(byte: u8) -> u8 {
+    if byte == b'_' {
+        b'-'
+    } else {
+        byte.to_ascii_lowercase()
+    }
+}
+
+// Whether two words are the same but for case, and `_` in the place of `-`.
+fn is_same_but_for_case(known: &str, word: &str) -> bool {
+    known.len() == word.len()
+        && known
+            .bytes()
+            .zip(word.bytes())
+            .all(|(one, other)| plain_byte(one) == plain_byte(other))
+}
+
+/// Whether a known word is what somebody may have meant by another: the same but for case and `_`, or one edit away.
 pub fn is_near(draft: &mut Draft, known: &str, word: &str) -> bool {
     if known == word {
         return false;
     }
-    if known.eq_ignore_ascii_case(word) {
+    if is_same_but_for_case(known, word) {
         return true;
     }
     known.len() > 2 && word.len() < 64 && is_one_edit(draft, known, word)

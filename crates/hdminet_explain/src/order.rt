@@ -1,7 +1,8 @@
 //! Which line of a script is earlier than which.
 use crate::expectations::without_label;
-use crate::place::{Place, is_line_end, lines_before};
-use hdminet_lists::{Draft, Part, word_at};
+use crate::place::{Place, is_line_end};
+use crate::words::word_at;
+use hdminet_help::Draft;
 
 /// What an event's line begins with.
 const EVENT: &str = "at ";
@@ -37,13 +38,12 @@ fn end_of(line: &[u8], word: &str) -> Option<u64> {
 
 // The last line of the script before one, that begins with a word.
 fn last_before(place: Place<'_>, word: &str) -> Option<Earlier> {
-    let script = lines_before(Part::Script, place.input);
     let mut last = None;
     let mut number = 0usize;
     let above = place.number.saturating_sub(1);
     for line in place.input.split(is_line_end).take(above) {
         number = number.saturating_add(1);
-        if number > script {
+        if number > place.before {
             if let Some(instant) = end_of(line, word) {
                 last = Some(Earlier { number, instant });
             }
@@ -61,7 +61,7 @@ fn add_earlier_event(draft: &mut Draft, place: Place<'_>) {
     ) {
         writeln!(
             draft,
-            "  the time of line {number}, {instant}, is before that of line {}, {}",
+            "  the time of line {number} of the input, {instant}, is before that of line {}, {}",
             last.number, last.instant
         );
     }
@@ -76,7 +76,7 @@ fn add_earlier_pulse(draft: &mut Draft, place: Place<'_>) {
     ) {
         writeln!(
             draft,
-            "  the pulse of line {number} begins at {instant}, before that of line {} ends, at {}",
+            "  the pulse of line {number} of the input begins at {instant}, before that of line {} ends, at {}",
             last.number, last.instant
         );
     }

@@ -1,7 +1,7 @@
 //! Which word of an edge file's line is at fault.
 use crate::marks::{Mark, from, is_number, is_word, one};
 use crate::place::{Place, is_line_end};
-use hdminet_lists::{word_at, word_count};
+use crate::words::{word_at, word_count};
 
 /// The greatest time of an edge file, in microseconds.
 const LAST_TIME: u64 = 2_000_000_000_000;
@@ -23,7 +23,12 @@ fn is_low_after(is_low: bool, line: &[u8]) -> bool {
 fn is_low_before(place: Place<'_>) -> bool {
     let mut is_low = false;
     let above = place.number.saturating_sub(1);
-    for line in place.input.split(is_line_end).take(above) {
+    for line in place
+        .input
+        .split(is_line_end)
+        .take(above)
+        .skip(place.before)
+    {
         is_low = is_low_after(is_low, line);
     }
     is_low

@@ -1,8 +1,7 @@
 //! The words of frames, from the tables of opcodes.
 use crate::draft::Draft;
 use crate::list::list_set;
-use crate::words::word_at;
-use cec_opcode::{Operand, Operands, WordSet, code_named, name, operands_of};
+use cec_opcode::{Operand, Operands, WordSet, name, operands_of};
 use cec_shape::{frame_shape, set_label};
 use std::alloc::{AllocError, Global};
 
@@ -88,30 +87,24 @@ fn add_operands(draft: &mut Draft, operands: Operands) {
     }
 }
 
-// The opcode whose two hex digits stand behind `op-`.
-fn code_in_digits(word: &str) -> Option<u8> {
-    let digits = word.strip_prefix("op-")?;
-    if digits.len() != 2 {
-        return None;
-    }
-    u8::from_str_radix(digits, 16).ok()
-}
-
 // The form of an opcode's frames, as a text.
 fn text_of(shape: &[u8]) -> &str {
     str::from_utf8(shape).unwrap_or("")
 }
 
-// How the frames of an opcode look, and what its operands are.
-fn add_shape(draft: &mut Draft, code: u8) {
+/// How the frames of an opcode look, and what its operands are; of an opcode without a name, what those of any are.
+pub fn add_shape(draft: &mut Draft, code: Option<u8>) {
+    let Some(code) = code else {
+        return draft.add_line(RAW);
+    };
     if let Some(shape) = frame_shape(code) {
         draft.add_all(&["  a frame here reads `I>D ", text_of(&shape), "`\n"]);
         add_operands(draft, operands_of(code));
     }
 }
 
-// What stands for an opcode that was written by its digits.
-fn add_name(draft: &mut Draft, code: u8, word: &str) {
+/// What stands for an opcode that a word gives by its digits.
+pub fn add_name(draft: &mut Draft, code: u8, word: &str) {
     match name(code) {
         Some(name) => writeln!(
             draft,
@@ -121,32 +114,6 @@ fn add_name(draft: &mut Draft, code: u8, word: &str) {
             draft,
             "  the opcode {code:02x} has no name; `op-{code:02x}` stands for it"
         ),
-    }
-}
-
-// What stands for a word that may be an opcode's digits.
-fn add_named(draft: &mut Draft, word: &str) {
-    if let Some(code) = code_in_digits(word) {
-        add_name(draft, code, word);
-    }
-}
-
-// What the frame of a line would be, whose opcode is this word and which is refused for a cause.
-fn add_frame_of(draft: &mut Draft, cause: &str, word: &str) {
-    match cause {
-        "name" => add_named(draft, word),
-        "count" | "operand" => match code_named(word.as_bytes()) {
-            Some(code) => add_shape(draft, code),
-            None => draft.add_line(RAW),
-        },
-        _ => {}
-    }
-}
-
-/// What the frame of a line would be, whose text begins at a word and is refused for a cause.
-pub fn add_frame(draft: &mut Draft, cause: &str, line: &str, at: usize) {
-    if let Some(word) = word_at(line, at.saturating_add(1)) {
-        add_frame_of(draft, cause, word);
     }
 }
 

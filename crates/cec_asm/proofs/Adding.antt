@@ -1,0 +1,310 @@
+-- A line of a script adds at most one event and one pulse to what was said before, and a pulse where there is room.
+use Rattle.std.proofs.Common.{◌≡◌, ℕ, ◌+◌, ◌<◌, ◌≤◌, ◌&&◌, Bool, true, false, cond, if◌then◌else◌, codes, List, [], ◌∷◌, ◌++◌, length, length-append, max, min, nat_lt, nat_le, Option, Some, None, is_some, Result, Ok, Err, refl, sym, ap, subst, ◌∙◌, arith, append-nil}
+use Rattle.std.specs.Str.{bytes_eq}
+use Rattle.std.proofs.lemmas.Bool.Decides.{nat_tests}
+use Rattle.cec_wave.specs.declared.Stretch.{Stretch}
+use Rattle.cec_wave.specs.declared.PulsesError.{PulsesError}
+use Rattle.cec_wave.specs.Pulses.{stretch_fault}
+use Rattle.hdmi_topo.specs.Node.{Node}
+use Rattle.hdmi_topo.specs.Tree.{device_named}
+use Rattle.cec_feature.specs.declared.keys.Key.{Key as KeyValue}
+use Rattle.cec_words.specs.Lines.{is_skipped}
+use Rattle.cec_words.specs.Words.{words_of, one_of, two_of, three_of}
+use Rattle.cec_words.specs.Number.{number_of}
+use Rattle.cec_text.specs.declared.assembler.AssembleError.{AssembleError}
+use Rattle.cec_asm.specs.Keys.{key_of}
+use Rattle.cec_asm.specs.Holding.{hold_of}
+use Rattle.cec_device.specs.declared.outside.Act.{Act}
+use Rattle.cec_device.specs.declared.outside.Act.TheVariants.{Empty}
+use Rattle.cec_event.specs.declared.event.Event.{Event}
+use Rattle.cec_event.specs.declared.event.Event.TheVariants.{Plug, Unplug, Key, Send, Outside}
+use Rattle.cec_asm.specs.declared.script.TimedEvent.{TimedEvent}
+use Rattle.cec_asm.specs.Fault.{at_word}
+use Rattle.cec_asm.specs.declared.fault.LineFault.{LineFault}
+use Rattle.cec_asm.specs.declared.script.ScriptCause.TheVariants.{Word, TooMany, End}
+use Rattle.cec_asm.specs.Script.{Notes, time_of, last_time, last_end, scheduled, plug_read, plug_words, unplug_read, unplug_words, key_read, key_words, act_read, hold_words, drop_words, send_read, event_words, unless_fault, pulse_read, pulse_words, end_read, end_words, other_words, IsSendRead, IsEventRead, IsWordsRead, IsLineRead}
+
+-- ---- what a line adds
+
+pub record IsMore (waiting : ℕ) (old new : Notes) : Type 0 where
+  pub events : List TimedEvent
+  pub pulses : List Stretch
+  pub events_are : new.events ≡ old.events ++ events
+  pub pulses_are : new.pulses ≡ old.pulses ++ pulses
+  pub few_events : length events ≤ 1
+  pub few_pulses : length pulses ≤ 1
+  pub room : waiting + length pulses ≤ max waiting 4096
+
+with_none : (waiting : ℕ) (notes : Notes) → IsMore waiting notes notes
+with_none waiting notes = record {
+  events = [];
+  pulses = [];
+  events_are = sym (append-nil notes.events);
+  pulses_are = sym (append-nil notes.pulses);
+  few_events = omega arith;
+  few_pulses = omega arith;
+  room = omega arith;
+}
+
+with_event : (waiting : ℕ) (notes : Notes) (event : TimedEvent) → IsMore waiting notes (record notes { events = notes.events ++ event ∷ [] })
+with_event waiting notes event = record {
+  events = event ∷ [];
+  pulses = [];
+  events_are = refl;
+  pulses_are = sym (append-nil notes.pulses);
+  few_events = omega arith;
+  few_pulses = omega arith;
+  room = omega arith;
+}
+
+with_pulse : (waiting : ℕ) (notes : Notes) (pulse : Stretch) → waiting < 4096 → IsMore waiting notes (record notes { pulses = notes.pulses ++ pulse ∷ [] })
+with_pulse waiting notes pulse few = record {
+  events = [];
+  pulses = pulse ∷ [];
+  events_are = sym (append-nil notes.events);
+  pulses_are = refl;
+  few_events = omega arith;
+  few_pulses = omega arith;
+  room = omega (arith, few);
+}
+
+with_end : (waiting : ℕ) (notes : Notes) (time : ℕ) → IsMore waiting notes (record notes { end = Some time })
+with_end waiting notes time = record {
+  events = [];
+  pulses = [];
+  events_are = sym (append-nil notes.events);
+  pulses_are = sym (append-nil notes.pulses);
+  few_events = omega arith;
+  few_pulses = omega arith;
+  room = omega arith;
+}
+
+-- ---- whichever line it is
+
+Adds : ℕ → Notes → Result Notes LineFault → Type 0
+Adds waiting old read = (next : Notes) → read ≡ Ok next → IsMore waiting old next
+
+adds_next : (waiting : ℕ) (old : Notes) (read : Result Notes LineFault) (next : Notes) → Adds waiting old read → read ≡ Ok next → IsMore waiting old next
+unfolding Adds
+adds_next waiting old read next k e = k next e
+
+abbrev is_refused : Result Notes LineFault → Bool
+is_refused (Ok notes) = false
+is_refused (Err fault) = true
+
+-- whatever the fault
+adds_err : (waiting : ℕ) (old : Notes) (read : Result Notes LineFault) → is_refused read ≡ true → Adds waiting old read
+unfolding Adds
+adds_err waiting old (Ok notes) refused next h = cc
+adds_err waiting old (Err fault) refused next h = cc
+
+adds_if : (waiting : ℕ) (old : Notes) (b : Bool) (x y : Result Notes LineFault) → Adds waiting old x → Adds waiting old y → Adds waiting old (cond b x y)
+adds_if waiting old true x y f g = f
+adds_if waiting old false x y f g = g
+
+adds_unless : (waiting : ℕ) (old : Notes) (b : Bool) (x y : Result Notes LineFault) → Adds waiting old x → (b ≡ false → Adds waiting old y) → Adds waiting old (cond b x y)
+adds_unless waiting old true x y f g = f
+adds_unless waiting old false x y f g = g refl
+
+adds_ok : (waiting : ℕ) (old notes : Notes) → IsMore waiting old notes → Adds waiting old (Ok notes)
+unfolding Adds
+adds_ok waiting old notes s next h = let e : notes ≡ next = cc in let P : Notes → Type 0 = λ n. IsMore waiting old n in subst P e s
+
+scheduled-adds : (waiting : ℕ) (notes : Notes) (line time : ℕ) (event : Event) → Adds waiting notes (scheduled notes line time event)
+scheduled-adds waiting notes line time event =
+    adds_if waiting notes (nat_lt time (last_time notes.events)) _ _ (adds_err waiting notes _ refl)
+    (adds_if waiting notes (is_some notes.end) _ _ (adds_err waiting notes _ refl) (adds_ok waiting notes _ (with_event waiting notes (record { line = line; at = time; event = event }))))
+
+plug_read-adds : (waiting : ℕ) (notes : Notes) (line : ℕ) (time port child parent : Option ℕ) → Adds waiting notes (plug_read notes line time port child parent)
+plug_read-adds waiting notes line None port child parent = adds_err waiting notes _ refl
+plug_read-adds waiting notes line (Some time) None child parent = adds_err waiting notes _ refl
+plug_read-adds waiting notes line (Some time) (Some port) None parent = adds_err waiting notes _ refl
+plug_read-adds waiting notes line (Some time) (Some port) (Some child) None = adds_err waiting notes _ refl
+plug_read-adds waiting notes line (Some time) (Some port) (Some child) (Some parent) = scheduled-adds waiting notes line time (Plug child parent (min port 255))
+
+plug_words-adds : (waiting : ℕ) (tree : List Node) (notes : Notes) (line : ℕ) (time : List ℕ) (many : ℕ) (words : Option (List ℕ × List ℕ × List ℕ)) → Adds waiting notes (plug_words tree notes line time many words)
+plug_words-adds waiting tree notes line time many None = adds_err waiting notes _ refl
+plug_words-adds waiting tree notes line time many (Some words) = plug_read-adds waiting notes line (time_of time) (number_of words.2) (device_named tree words.0) (device_named tree words.1)
+
+unplug_read-adds : (waiting : ℕ) (notes : Notes) (line : ℕ) (time child : Option ℕ) → Adds waiting notes (unplug_read notes line time child)
+unplug_read-adds waiting notes line None child = adds_err waiting notes _ refl
+unplug_read-adds waiting notes line (Some time) None = adds_err waiting notes _ refl
+unplug_read-adds waiting notes line (Some time) (Some child) = scheduled-adds waiting notes line time (Unplug child)
+
+unplug_words-adds : (waiting : ℕ) (tree : List Node) (notes : Notes) (line : ℕ) (time : List ℕ) (many : ℕ) (words : Option (List ℕ)) → Adds waiting notes (unplug_words tree notes line time many words)
+unplug_words-adds waiting tree notes line time many None = adds_err waiting notes _ refl
+unplug_words-adds waiting tree notes line time many (Some word) = unplug_read-adds waiting notes line (time_of time) (device_named tree word)
+
+key_read-adds : (waiting : ℕ) (notes : Notes) (line : ℕ) (press : Bool) (key : Result KeyValue LineFault) (time device : Option ℕ) → Adds waiting notes (key_read notes line press key time device)
+key_read-adds waiting notes line press (Err cause) time device = adds_err waiting notes _ refl
+key_read-adds waiting notes line press (Ok key) None device = adds_err waiting notes _ refl
+key_read-adds waiting notes line press (Ok key) (Some time) None = adds_err waiting notes _ refl
+key_read-adds waiting notes line press (Ok key) (Some time) (Some device) = scheduled-adds waiting notes line time (Key device key press)
+
+key_words-adds : (waiting : ℕ) (tree : List Node) (notes : Notes) (line : ℕ) (press : Bool) (time : List ℕ) (words : List (List ℕ)) → Adds waiting notes (key_words tree notes line press time words)
+key_words-adds waiting tree notes line press time [] = adds_err waiting notes _ refl
+key_words-adds waiting tree notes line press time (name ∷ words) = key_read-adds waiting notes line press (key_of words) (time_of time) (device_named tree name)
+
+act_read-adds : (waiting : ℕ) (notes : Notes) (line : ℕ) (act : Option Act) (time device : Option ℕ) → Adds waiting notes (act_read notes line act time device)
+act_read-adds waiting notes line None time device = adds_err waiting notes _ refl
+act_read-adds waiting notes line (Some act) None device = adds_err waiting notes _ refl
+act_read-adds waiting notes line (Some act) (Some time) None = adds_err waiting notes _ refl
+act_read-adds waiting notes line (Some act) (Some time) (Some device) = scheduled-adds waiting notes line time (Outside device act)
+
+hold_words-adds : (waiting : ℕ) (tree : List Node) (notes : Notes) (line : ℕ) (time : List ℕ) (many : ℕ) (words : Option (List ℕ × List ℕ)) → Adds waiting notes (hold_words tree notes line time many words)
+hold_words-adds waiting tree notes line time many None = adds_err waiting notes _ refl
+hold_words-adds waiting tree notes line time many (Some words) = act_read-adds waiting notes line (hold_of words.1) (time_of time) (device_named tree words.0)
+
+drop_words-adds : (waiting : ℕ) (tree : List Node) (notes : Notes) (line : ℕ) (time : List ℕ) (many : ℕ) (words : Option (List ℕ)) → Adds waiting notes (drop_words tree notes line time many words)
+drop_words-adds waiting tree notes line time many None = adds_err waiting notes _ refl
+drop_words-adds waiting tree notes line time many (Some word) = act_read-adds waiting notes line (Some Empty) (time_of time) (device_named tree word)
+
+event_words-adds : (waiting : ℕ) (tree : List Node) (notes : Notes) (line : ℕ) (time verb : List ℕ) (words : List (List ℕ)) → Adds waiting notes (event_words tree notes line time verb words)
+event_words-adds waiting tree notes line time verb words =
+    adds_if waiting notes (bytes_eq verb (codes "plug")) _ _ (plug_words-adds waiting tree notes line time (length words) (three_of words))
+    (adds_if waiting notes (bytes_eq verb (codes "unplug")) _ _ (unplug_words-adds waiting tree notes line time (length words) (one_of words))
+    (adds_if waiting notes (bytes_eq verb (codes "press")) _ _ (key_words-adds waiting tree notes line true time words)
+    (adds_if waiting notes (bytes_eq verb (codes "release")) _ _ (key_words-adds waiting tree notes line false time words)
+    (adds_if waiting notes (bytes_eq verb (codes "hold")) _ _ (hold_words-adds waiting tree notes line time (length words) (two_of words))
+    (adds_if waiting notes (bytes_eq verb (codes "drop")) _ _ (drop_words-adds waiting tree notes line time (length words) (one_of words)) (adds_err waiting notes _ refl))))))
+
+send_read-adds : (waiting : ℕ) (notes : Notes) (line : ℕ) (time device : Option ℕ) (frame : Result (List ℕ) AssembleError) → Adds waiting notes (send_read notes line time device frame)
+send_read-adds waiting notes line None device frame = adds_err waiting notes _ refl
+send_read-adds waiting notes line (Some time) None frame = adds_err waiting notes _ refl
+send_read-adds waiting notes line (Some time) (Some device) (Err cause) = adds_err waiting notes _ refl
+send_read-adds waiting notes line (Some time) (Some device) (Ok frame) = scheduled-adds waiting notes line time (Send device frame)
+
+send-adds : (waiting : ℕ) (tree : List Node) (notes : Notes) (line : ℕ) (time : List ℕ) (words : List (List ℕ)) (next : Notes) → IsSendRead tree notes line time words (Ok next) → IsMore waiting notes next
+send-adds waiting tree notes line time [] next h = cc
+send-adds waiting tree notes line time (name ∷ []) next h = cc
+send-adds waiting tree notes line time (name ∷ word ∷ words) next h =
+    adds_next waiting notes (send_read notes line (time_of time) (device_named tree name) h.0) next (send_read-adds waiting notes line (time_of time) (device_named tree name) h.0) (sym h.2)
+
+-- either way
+by_cond : (b : Bool) (P Q R : Type 0) → (P → R) → (Q → R) → cond {A = Type 0} b P Q → R
+by_cond true P Q R f g h = f h
+by_cond false P Q R f g h = g h
+
+event-adds : (waiting : ℕ) (tree : List Node) (notes : Notes) (line : ℕ) (words : List (List ℕ)) (next : Notes) → IsEventRead tree notes line words (Ok next) → IsMore waiting notes next
+event-adds waiting tree notes line [] next h = cc
+event-adds waiting tree notes line (time ∷ []) next h = cc
+event-adds waiting tree notes line (time ∷ verb ∷ words) next h =
+    by_cond (bytes_eq verb (codes "send")) (IsSendRead tree notes line time words (Ok next)) (Ok next ≡ event_words tree notes line time verb words) (IsMore waiting notes next)
+    (λ p. send-adds waiting tree notes line time words next p)
+    (λ q. adds_next waiting notes (event_words tree notes line time verb words) next (event_words-adds waiting tree notes line time verb words) (sym q)) h
+
+unless_fault-adds : (waiting : ℕ) (fault : Option PulsesError) (notes : Notes) (pulse : Stretch) → Adds waiting notes (unless_fault fault notes waiting pulse)
+unless_fault-adds waiting (Some fault) notes pulse = adds_err waiting notes _ refl
+unless_fault-adds waiting None notes pulse =
+    adds_unless waiting notes (nat_le 4096 waiting) _ _ (adds_err waiting notes _ refl)
+    (λ room. adds_if waiting notes (is_some notes.end) _ _ (adds_err waiting notes _ refl) (adds_ok waiting notes _ (with_pulse waiting notes pulse (grind (arith, nat_tests, room)))))
+
+pulse_read-adds : (waiting : ℕ) (notes : Notes) (time width : Option ℕ) → Adds waiting notes (pulse_read notes waiting time width)
+pulse_read-adds waiting notes None width = adds_err waiting notes _ refl
+pulse_read-adds waiting notes (Some time) None = adds_err waiting notes _ refl
+pulse_read-adds waiting notes (Some time) (Some width) =
+    unless_fault-adds waiting (stretch_fault (last_end notes.pulses) (record { from = time; to = time + min width 65535 })) notes (record { from = time; to = time + min width 65535 })
+
+pulse_words-adds : (waiting : ℕ) (notes : Notes) (many : ℕ) (words : Option (List ℕ × List ℕ)) → Adds waiting notes (pulse_words notes waiting many words)
+pulse_words-adds waiting notes many None = adds_err waiting notes _ refl
+pulse_words-adds waiting notes many (Some words) = pulse_read-adds waiting notes (time_of words.0) (number_of words.1)
+
+end_read-adds : (waiting : ℕ) (notes : Notes) (time : Option ℕ) → Adds waiting notes (end_read notes time)
+end_read-adds waiting notes None = adds_err waiting notes _ refl
+end_read-adds waiting notes (Some time) =
+    adds_if waiting notes (is_some notes.end) _ _ (adds_err waiting notes _ refl)
+    (adds_if waiting notes (nat_lt 0 (length notes.events) && nat_le time (last_time notes.events)) _ _ (adds_err waiting notes _ refl) (adds_ok waiting notes _ (with_end waiting notes time)))
+
+end_words-adds : (waiting : ℕ) (notes : Notes) (many : ℕ) (words : Option (List ℕ)) → Adds waiting notes (end_words notes many words)
+end_words-adds waiting notes many None = adds_err waiting notes _ refl
+end_words-adds waiting notes many (Some word) = end_read-adds waiting notes (time_of word)
+
+other_words-adds : (waiting : ℕ) (notes : Notes) (verb : List ℕ) (words : List (List ℕ)) → Adds waiting notes (other_words notes waiting verb words)
+other_words-adds waiting notes verb words =
+    adds_if waiting notes (bytes_eq verb (codes "pulse")) _ _ (pulse_words-adds waiting notes (length words) (two_of words))
+    (adds_if waiting notes (bytes_eq verb (codes "end")) _ _ (end_words-adds waiting notes (length words) (one_of words)) (adds_err waiting notes _ refl))
+
+words-add : (waiting : ℕ) (tree : List Node) (notes : Notes) (line : ℕ) (words : List (List ℕ)) (next : Notes) → IsWordsRead tree notes waiting line words (Ok next) → IsMore waiting notes next
+words-add waiting tree notes line [] next h = cc
+words-add waiting tree notes line (verb ∷ words) next h =
+    by_cond (bytes_eq verb (codes "at")) (IsEventRead tree notes line words (Ok next)) (Ok next ≡ other_words notes waiting verb words) (IsMore waiting notes next)
+    (λ p. event-adds waiting tree notes line words next p)
+    (λ q. adds_next waiting notes (other_words notes waiting verb words) next (other_words-adds waiting notes verb words) (sym q)) h
+
+-- a line that is taken
+pub line_adds : (waiting : ℕ) (tree : List Node) (notes : Notes) (line : ℕ) (text : List ℕ) (next : Notes) → IsLineRead tree notes waiting line text (Ok next) → IsMore waiting notes next
+line_adds waiting tree notes line text next h =
+    by_cond (is_skipped text) (Ok next ≡ Ok notes) (IsWordsRead tree notes waiting line (words_of text) (Ok next)) (IsMore waiting notes next)
+    (λ p. adds_next waiting notes (Ok notes) next (adds_ok waiting notes notes (with_none waiting notes)) (sym p))
+    (λ q. words-add waiting tree notes line (words_of text) next q) h
+
+-- a script's pulses stay few
+pub few_pulses : (tree : List Node) (notes : Notes) (line : ℕ) (text : List ℕ) (next : Notes) → IsLineRead tree notes (length notes.pulses) line text (Ok next) → length notes.pulses ≤ 4096 → length next.pulses ≤ 4096
+few_pulses tree notes line text next read few =
+    let more = line_adds (length notes.pulses) tree notes line text next read in
+    let long : length next.pulses ≡ length notes.pulses + length more.pulses = ap length more.pulses_are ∙ length-append notes.pulses more.pulses in
+    let room = more.room in omega (arith, long, room, few)
+
+-- ---- with fewer pulses that wait
+
+unless_again : (fault : Option PulsesError) (notes next : Notes) (waiting : ℕ) (pulse : Stretch) → length next.pulses ≤ 4096 → Ok next ≡ unless_fault fault notes waiting pulse
+    → Ok next ≡ unless_fault fault notes (length notes.pulses) pulse
+unless_again (Some fault) notes next waiting pulse few h = h
+unless_again None notes next waiting pulse few h = by_room (nat_le 4096 waiting) h
+  where
+    added : Notes
+    added = record notes { pulses = notes.pulses ++ pulse ∷ [] }
+
+    by_end : (b : Bool) → Ok next ≡ (if b then Err (at_word 0 End) else Ok added) → Ok next ≡ (if nat_le 4096 (length notes.pulses) then Err (at_word 0 TooMany) else if b then Err (at_word 0 End) else Ok added)
+    by_end true k = cc
+    by_end false k =
+        let same : next ≡ added = cc in
+        let long : length next.pulses ≡ length notes.pulses + 1 = ap (λ (n : Notes). length n.pulses) same ∙ length-append notes.pulses (pulse ∷ []) in
+        let room : nat_le 4096 (length notes.pulses) ≡ false = (let l : length notes.pulses < 4096 = omega (arith, long, few) in grind (arith, nat_tests, l)) in
+        rw room k
+
+    by_room : (b : Bool) → Ok next ≡ (if b then Err (at_word 0 TooMany) else if is_some notes.end then Err (at_word 0 End) else Ok added)
+        → Ok next ≡ (if nat_le 4096 (length notes.pulses) then Err (at_word 0 TooMany) else if is_some notes.end then Err (at_word 0 End) else Ok added)
+    by_room true k = cc
+    by_room false k = by_end (is_some notes.end) k
+
+pulse_again : (notes next : Notes) (waiting : ℕ) (time width : Option ℕ) → length next.pulses ≤ 4096 → Ok next ≡ pulse_read notes waiting time width → Ok next ≡ pulse_read notes (length notes.pulses) time width
+pulse_again notes next waiting None width few h = h
+pulse_again notes next waiting (Some time) None few h = h
+pulse_again notes next waiting (Some time) (Some width) few h =
+    unless_again (stretch_fault (last_end notes.pulses) (record { from = time; to = time + min width 65535 })) notes next waiting (record { from = time; to = time + min width 65535 }) few h
+
+pulse_words_again : (notes next : Notes) (waiting many : ℕ) (words : Option (List ℕ × List ℕ)) → length next.pulses ≤ 4096 → Ok next ≡ pulse_words notes waiting many words
+    → Ok next ≡ pulse_words notes (length notes.pulses) many words
+pulse_words_again notes next waiting many None few h = h
+pulse_words_again notes next waiting many (Some words) few h = pulse_again notes next waiting (time_of words.0) (number_of words.1) few h
+
+other_again : (notes next : Notes) (waiting : ℕ) (verb : List ℕ) (words : List (List ℕ)) → length next.pulses ≤ 4096 → Ok next ≡ other_words notes waiting verb words → Ok next ≡ other_words notes (length notes.pulses) verb words
+other_again notes next waiting verb words few h = by_verb (bytes_eq verb (codes "pulse")) h
+  where
+    rest : Result Notes LineFault
+    rest = if bytes_eq verb (codes "end") then end_words notes (length words) (one_of words) else Err (at_word 0 Word)
+
+    by_verb : (b : Bool) → Ok next ≡ (if b then pulse_words notes waiting (length words) (two_of words) else rest) → Ok next ≡ (if b then pulse_words notes (length notes.pulses) (length words) (two_of words) else rest)
+    by_verb true k = pulse_words_again notes next waiting (length words) (two_of words) few k
+    by_verb false k = k
+
+words_again : (tree : List Node) (notes next : Notes) (waiting line : ℕ) (words : List (List ℕ)) → length next.pulses ≤ 4096 → IsWordsRead tree notes waiting line words (Ok next)
+    → IsWordsRead tree notes (length notes.pulses) line words (Ok next)
+words_again tree notes next waiting line [] few h = h
+words_again tree notes next waiting line (verb ∷ words) few h = by_verb (bytes_eq verb (codes "at")) h
+  where
+    by_verb : (b : Bool) → cond {A = Type 0} b (IsEventRead tree notes line words (Ok next)) (Ok next ≡ other_words notes waiting verb words)
+        → cond {A = Type 0} b (IsEventRead tree notes line words (Ok next)) (Ok next ≡ other_words notes (length notes.pulses) verb words)
+    by_verb true k = k
+    by_verb false k = other_again notes next waiting verb words few k
+
+-- a line that is taken is one of a script too, where its pulses are few in all
+pub read_again : (tree : List Node) (notes next : Notes) (waiting line : ℕ) (text : List ℕ) → length next.pulses ≤ 4096 → IsLineRead tree notes waiting line text (Ok next)
+    → IsLineRead tree notes (length notes.pulses) line text (Ok next)
+read_again tree notes next waiting line text few h = by_text (is_skipped text) h
+  where
+    by_text : (b : Bool) → cond {A = Type 0} b (Ok next ≡ Ok notes) (IsWordsRead tree notes waiting line (words_of text) (Ok next))
+        → cond {A = Type 0} b (Ok next ≡ Ok notes) (IsWordsRead tree notes (length notes.pulses) line (words_of text) (Ok next))
+    by_text true k = k
+    by_text false k = words_again tree notes next waiting line (words_of text) few k

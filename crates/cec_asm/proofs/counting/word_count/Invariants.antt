@@ -1,0 +1,14 @@
+use Rattle.std.proofs.Common.{◌≡◌, ◌+◌, ◌-◌, ◌≤◌, length}
+use Rattle.std.specs.Option.{option_copied}
+use Rattle.cec_words.specs.Words.{words_behind}
+use Rattle.cec_asm.proofs.counting.word_count.Given as goal
+
+-- those that are counted and those that are left are all
+abbrev pub invariant-words : goal.invariant-words
+invariant-words l = record {
+  all : l.count + length (words_behind (option_copied l.left)) ≡ length (words_behind (option_copied l.rest));
+  few : l.count ≤ l.most;
+}
+
+abbrev pub decreases-words : goal.decreases-words
+decreases-words l = l.most - l.count

@@ -1,0 +1,23 @@
+//! Counts of words.
+ghost use Rattle.std.specs.Prelude.{◌≡◌, length, min};
+ghost use Rattle.std.specs.Option.{option_copied};
+ghost use Rattle.cec_words.specs.Words.{words_behind};
+
+use cec_words::first_word;
+
+/// How many words are left, or so many where there are more.
+pub fn word_count(rest: Option<&[u8]>, most: u8) -> u8
+    ensures { result ≡ min (length (words_behind (option_copied rest.entry))) most }
+{
+    let mut left = rest;
+    let mut count = 0;
+    'words: while count < most {
+        let Some(line) = left else {
+            return count;
+        };
+        let (_, after) = first_word(line);
+        left = after;
+        count += 1;
+    }
+    count
+}

@@ -1,0 +1,114 @@
+//! The faults of inputs, as the libraries return them.
+use cec_asm::{ScriptCause, TopologyCause};
+use cec_dis::DisCause;
+use cec_expect::ExpectCause;
+use cec_formats::Cause;
+use cec_text::AssembleError;
+use hdmi_blocks::EdidError;
+use hdmi_dump::DumpError;
+
+/// What an input is to be.
+#[derive(Clone, Copy, Debug, PartialEq, Eq)]
+pub enum Input {
+    /// A topology, a line `script` and a script.
+    Network,
+    /// The same with a script that may have labels and expectations.
+    Test,
+    /// Expectations, a line `capture` and a capture.
+    CaptureTest,
+    /// Lines of their own: frames or edges.
+    Lines,
+    /// Lines that are answered as they come. None of them is kept.
+    Session,
+    /// The bytes of an EDID.
+    EdidBytes,
+    /// The text of an EDID.
+    EdidText,
+}
+
+/// What is wrong with a range of instants.
+#[derive(Clone, Copy, Debug, PartialEq, Eq)]
+pub enum RangeSlip {
+    /// A time or a step is no number.
+    Number,
+    /// It ends before it begins.
+    Order,
+    /// It is the second one.
+    Second,
+}
+
+/// Why the program did not do what it was asked. Lines count from 1 in their part of the input, words from 0 in their line;
+/// where a word is missing, its number is the one that it would have.
+#[derive(Clone, Copy, Debug)]
+pub enum Fault {
+    /// A line of a topology.
+    Topology {
+        line: u64,
+        cause: TopologyCause,
+        word: u8,
+    },
+    /// A line of a script. Words are those of the line without its label.
+    Script {
+        line: u64,
+        cause: ScriptCause,
+        word: u8,
+    },
+    /// A line with a label or an expectation, of a script or of a capture.
+    Expectation {
+        line: u64,
+        cause: ExpectCause,
+    },
+    /// A line of a script with a range of instants.
+    Range {
+        line: u64,
+        cause: RangeSlip,
+    },
+    /// A line that is no step.
+    Steps {
+        line: u64,
+    },
+    /// A line that is no frame's text.
+    Frame {
+        line: u64,
+        cause: AssembleError,
+    },
+    /// A line that is no frame in hex.
+    Hex {
+        line: u64,
+        cause: DisCause,
+    },
+    /// A line of a capture.
+    Capture {
+        line: u64,
+        cause: Cause,
+    },
+    /// The bytes of an EDID, of the input or of a topology's line `edid`.
+    Edid(EdidError),
+    /// An EDID of a television that has no HDMI block.
+    NoHdmiBlock,
+    /// No device has such a port.
+    NoPort,
+    /// A line of an EDID's text that has another form.
+    TextSyntax {
+        line: u64,
+    },
+    /// A field of a line of an EDID's text.
+    TextField {
+        line: u64,
+    },
+    /// A text without a hex dump of an EDID.
+    Dump(DumpError),
+    NoScriptLine,
+    NoStepsLine,
+    NoCaptureLine,
+    /// No time of a script is a range.
+    NoRange,
+    InputTooLong,
+    /// A line of a session is.
+    LineTooLong,
+    Read,
+    Write,
+    Memory,
+    /// A word of the command line is none of UTF-8.
+    NotUtf8,
+}

@@ -1,0 +1,74 @@
+//! What the fields of the lines of an EDID's text are.
+
+/// The fields of lines, by the word that each begins with.
+const FIELDS: &[(&str, &str)] = &[
+    ("edid", "the revision is `1.3` or `1.4`"),
+    ("maker", "a maker is three letters, A to Z"),
+    ("product", "a product is a number of at most 65535"),
+    ("serial", "a serial number is one of at most 4294967295"),
+    ("made", "the week is 0 to 255, and the year 1990 to 2245"),
+    ("input", "the byte is two hex digits"),
+    ("size", "each side is 0 to 255 cm"),
+    ("gamma", "the byte is a number, 0 to 255"),
+    ("features", "the byte is two hex digits"),
+    ("chroma", "there are eight numbers, each 0 to 1023"),
+    ("established", "there are three bytes, six hex digits"),
+    (
+        "name",
+        "a text is at most 13 printable characters, in double quotes",
+    ),
+    (
+        "text",
+        "a text is at most 13 printable characters, in double quotes",
+    ),
+    (
+        "serial-text",
+        "a text is at most 13 printable characters, in double quotes",
+    ),
+    (
+        "audio",
+        "a data block has at most 31 bytes, two hex digits each",
+    ),
+    (
+        "video",
+        "a data block has at most 31 bytes, two hex digits each",
+    ),
+    (
+        "vendor",
+        "a data block has at most 31 bytes, two hex digits each",
+    ),
+    (
+        "speakers",
+        "a data block has at most 31 bytes, two hex digits each",
+    ),
+    (
+        "extended",
+        "a data block has at most 31 bytes, two hex digits each",
+    ),
+    (
+        "tag0",
+        "a data block has at most 31 bytes, two hex digits each",
+    ),
+    (
+        "tag5",
+        "a data block has at most 31 bytes, two hex digits each",
+    ),
+    (
+        "tag6",
+        "a data block has at most 31 bytes, two hex digits each",
+    ),
+    (
+        "hdmi",
+        "PA is a physical address, as 1.0.0.0, and at most 26 bytes stand behind it",
+    ),
+];
+
+/// What the fields of a line are that begins with a word.
+pub fn fields_of(word: &str) -> Option<&'static str> {
+    for (known, fields) in FIELDS {
+        if *known == word {
+            return Some(*fields);
+        }
+    }
+    None
+}

@@ -1,0 +1,180 @@
+//! What a line at fault would have to look like.
+use crate::expectations::{as_form, forms_of, plain};
+use crate::fault::{Fault, Input};
+use crate::fields::fields_of;
+use crate::grammar::{SCRIPT, STEPS, TEST, TOPOLOGY, fitting, missing, most_fitting};
+use crate::keys::{add_key, is_of_key};
+use crate::order::add_order;
+use crate::place::Place;
+use crate::words::{word_at, word_count};
+use cec_asm::{ScriptCause, TopologyCause};
+use cec_dis::frame_in;
+use cec_expect::ExpectCause;
+use cec_opcode::code_named;
+use cec_text::{AssembleError, frame_text};
+use hdminet_help::{Draft, add_name, add_shape};
+
+/// The word that a line lacks.
+pub fn add_missing(draft: &mut Draft, word: Option<&str>) {
+    if let Some(word) = word {
+        draft.add_all(&["  ", word, " is missing at the end of the line\n"]);
+    }
+}
+
+// The forms that a line fits as far as any, and the word that it lacks.
+fn add_forms(draft: &mut Draft, forms: &[&str], line: &str) {
+    let most = most_fitting(forms, line);
+    let mut before = "  a line here reads `";
+    for form in forms {
+        if fitting(form, line) == most {
+            draft.add(before);
+            draft.add(form);
+            before = "`, `";
+        }
+    }
+    draft.add("`\n");
+    add_missing(draft, missing(forms, line));
+}
+
+// The forms of a script's lines, which may have labels and expectations among them in a test.
+fn script_forms(what: Input) -> &'static [&'static str] {
+    match what {
+        Input::Test => TEST,
+        _ => SCRIPT,
+    }
+}
+
+// The forms that a script's line could have, and who reads it where it is a test's.
+fn add_script_forms(draft: &mut Draft, what: Input, line: &str) {
+    add_forms(draft, script_forms(what), line);
+    let is_of_test = line.starts_with("label ") || line.starts_with("expect ");
+    if what != Input::Test && is_of_test {
+        draft.add_line("labels and expectations are read by `hdminet check`");
+    }
+}
+
+// What a line of a script would be, by the number of its first word at fault. Returns whether more would be of no use.
+fn add_script_line(
+    draft: &mut Draft,
+    what: Input,
+    place: Place<'_>,
+    line: &str,
+    word: usize,
+) -> bool {
+    let is_key = is_of_key(line, word);
+    if !is_key || word == 4 {
+        add_script_forms(draft, what, line);
+    }
+    is_key && add_key(draft, place, line, word)
+}
+
+// The opcode whose two hex digits stand behind `op-`.
+fn code_in_digits(word: &str) -> Option<u8> {
+    let digits = word.strip_prefix("op-")?;
+    if digits.len() != 2 {
+        return None;
+    }
+    u8::from_str_radix(digits, 16).ok()
+}
+
+// Whether a line has hex of operands that stands in more than one word, behind its first words.
+fn is_spaced_hex(line: &str, operands: usize) -> bool {
+    match word_at(line, operands) {
+        Some(word) => word.starts_with(":") && word_count(line) > operands.saturating_add(1),
+        None => false,
+    }
+}
+
+// What the operands of a frame are whose opcode is a word of a line.
+fn add_operands(draft: &mut Draft, line: &str, at: usize) {
+    if let Some(word) = word_at(line, at) {
+        add_shape(draft, code_named(word.as_bytes()));
+    }
+    if is_spaced_hex(line, at.saturating_add(1)) {
+        draft.add_line("the digits behind `:` stand without spaces");
+    }
+}
+
+// What the opcode of a frame would be, whose digits are a word of a line.
+fn add_opcode(draft: &mut Draft, line: &str, at: usize) {
+    if let Some(word) = word_at(line, at) {
+        if let Some(code) = code_in_digits(word) {
+            add_name(draft, code, word);
+        }
+    }
+}
+
+// The text of a frame that stands in hex.
+fn add_text(draft: &mut Draft, line: &str) {
+    if let Ok(frame) = frame_in(line.as_bytes()) {
+        let text = frame_text(&frame);
+        draft.add_all(&[
+            "  this is a frame in hex, as `hdminet dis` reads it; its text is `",
+            str::from_utf8(&text).unwrap_or(""),
+            "`\n",
+        ]);
+    }
+}
+
+// What the frame of a line would be, which begins at a word and is refused for a cause.
+fn add_frame(draft: &mut Draft, cause: AssembleError, line: &str, at: usize) {
+    let name = at.saturating_add(1);
+    match cause {
+        AssembleError::Address => add_text(draft, line),
+        AssembleError::Name => add_opcode(draft, line, name),
+        AssembleError::Count | AssembleError::Operand => add_operands(draft, line, name),
+        AssembleError::TooLong => {}
+    }
+}
+
+// The forms of a topology's line.
+fn add_topology_forms(draft: &mut Draft, line: &str) {
+    add_forms(draft, TOPOLOGY, line);
+    if line.starts_with("edid ") && word_count(line) > 2 {
+        draft.add_line("HEX is one word: its digits stand without spaces");
+    }
+}
+
+// What the fields of a line of an EDID's text are.
+fn add_fields(draft: &mut Draft, line: &str) {
+    if let Some(word) = word_at(line, 0) {
+        if let Some(fields) = fields_of(word) {
+            draft.add_line(fields);
+        }
+    }
+}
+
+/// The forms that a line could have, or the line that it should not stand behind. Returns whether what would be right in place
+/// of any fault of this cause is of no use then.
+pub fn add_right_forms(
+    draft: &mut Draft,
+    what: Input,
+    place: Place<'_>,
+    fault: Fault,
+    line: &str,
+) -> bool {
+    match fault {
+        Fault::Topology {
+            cause: TopologyCause::Word,
+            ..
+        } => add_topology_forms(draft, line),
+        Fault::Script { cause, word, .. } => match cause {
+            ScriptCause::Word => {
+                let line = plain(what, line);
+                return add_script_line(draft, what, place, line, usize::from(word));
+            }
+            ScriptCause::Order => add_order(draft, place),
+            ScriptCause::Frame(cause) => add_frame(draft, cause, plain(what, line), 4),
+            _ => {}
+        },
+        Fault::Expectation {
+            cause: ExpectCause::Word,
+            ..
+        } => add_forms(draft, forms_of(what), as_form(what, line)),
+        Fault::Steps { .. } => add_forms(draft, STEPS, line),
+        Fault::Frame { cause, .. } => add_frame(draft, cause, line, 0),
+        Fault::TextField { .. } => add_fields(draft, line),
+        _ => {}
+    }
+    false
+}

@@ -1,0 +1,132 @@
+//! Which words of a line are at fault.
+use crate::edges::{in_line, out_of_order};
+use crate::expectations::{behind_label, in_expectation, label_words};
+use crate::fault::{Fault, Input};
+use crate::grammar::{STEPS, most_fitting};
+use crate::place::{Place, is_declared};
+use crate::words::{word_at, word_count};
+use cec_asm::ScriptCause;
+use cec_formats::Cause;
+use cec_text::AssembleError;
+
+/// Words side by side in a line, by their numbers from 0.
+#[derive(Clone, Copy)]
+pub struct Mark {
+    pub first: usize,
+    pub last: usize,
+}
+
+/// One word.
+pub fn one(word: usize) -> Option<Mark> {
+    Some(Mark {
+        first: word,
+        last: word,
+    })
+}
+
+/// All words from one on.
+pub fn from(word: usize) -> Option<Mark> {
+    Some(Mark {
+        first: word,
+        last: usize::MAX,
+    })
+}
+
+/// Whether a word is a decimal number up to a limit, with no sign and no zero before it.
+pub fn is_number(word: &str, limit: u64) -> bool {
+    let is_plain = !word.starts_with("+") && !word.starts_with("0");
+    (is_plain || word == "0") && matches!(word.parse::<u64>(), Ok(number) if number <= limit)
+}
+
+/// Whether a line has this word there.
+pub fn is_word(line: &str, index: usize, text: &str) -> bool {
+    match word_at(line, index) {
+        Some(word) => word == text,
+        None => false,
+    }
+}
+
+// The name of a step's line that no device has.
+fn name_in_steps(place: Place<'_>, line: &str) -> Option<Mark> {
+    let index = if is_word(line, 0, "show") { 1 } else { 2 };
+    match word_at(line, index) {
+        Some(word) if !is_declared(place, word) => one(index),
+        _ => None,
+    }
+}
+
+// The first word that no step has there, or else a name that no device has.
+fn in_steps(place: Place<'_>, line: &str) -> Option<Mark> {
+    let count = most_fitting(STEPS, line);
+    if count < word_count(line) {
+        one(count)
+    } else {
+        name_in_steps(place, line)
+    }
+}
+
+// The words of a frame's text that are at fault for a cause, from this word of a line on.
+fn of_frame(cause: AssembleError, word: usize) -> Option<Mark> {
+    match cause {
+        AssembleError::Address | AssembleError::Name => one(word),
+        AssembleError::Operand | AssembleError::Count | AssembleError::TooLong => from(word),
+    }
+}
+
+// A line that is a frame's text.
+fn in_frame(cause: AssembleError) -> Option<Mark> {
+    match cause {
+        AssembleError::Address => of_frame(cause, 0),
+        AssembleError::Name => of_frame(cause, 1),
+        AssembleError::Operand | AssembleError::Count | AssembleError::TooLong => {
+            of_frame(cause, 2)
+        }
+    }
+}
+
+fn in_script(cause: ScriptCause, word: usize) -> Option<Mark> {
+    match cause {
+        ScriptCause::Frame(cause) => of_frame(cause, word),
+        _ => one(word),
+    }
+}
+
+// The range of a line.
+fn in_range(line: &str) -> Option<Mark> {
+    let mut number = 0usize;
+    for word in line.split(' ') {
+        if word.contains("..") {
+            return one(number);
+        }
+        number = number.saturating_add(1);
+    }
+    None
+}
+
+// A line of a capture.
+fn in_capture(cause: Cause, place: Place<'_>, line: &str) -> Option<Mark> {
+    match cause {
+        Cause::Line => in_line(line),
+        Cause::Order => out_of_order(place, line),
+        _ => None,
+    }
+}
+
+/// The words at fault of a fault's line, as it is shown.
+pub fn marked(what: Input, fault: Fault, place: Place<'_>, line: &str) -> Option<Mark> {
+    match fault {
+        Fault::Topology { word, .. } => one(usize::from(word)),
+        Fault::Script { cause, word, .. } => behind_label(
+            label_words(what, line),
+            in_script(cause, usize::from(word)),
+        ),
+        Fault::Expectation { cause, .. } => in_expectation(what, cause, place, line),
+        Fault::Range { .. } => in_range(line),
+        Fault::Steps { .. } => in_steps(place, line),
+        Fault::Frame { cause, .. } => in_frame(cause),
+        Fault::Capture { cause, .. } => in_capture(cause, place, line),
+        Fault::Edid(_) | Fault::NoHdmiBlock | Fault::TextField { .. } => from(1),
+        Fault::TextSyntax { .. } => one(0),
+        _ => None,
+    }
+}

@@ -1,0 +1,224 @@
+//! What the word at fault may have been meant for.
+use crate::expectations::labelled_by;
+use crate::fault::{Fault, Input};
+use crate::grammar::{EDID_WORDS, EXPECTATION_WORDS, KEYWORDS, OTHER_KINDS, STEP_WORDS};
+use crate::keys::is_of_key;
+use crate::numbers::add_number;
+use crate::place::{Place, declared_by, is_line_end};
+use crate::words::{is_near, word_at};
+use cec_asm::{ScriptCause, TopologyCause};
+use cec_expect::ExpectCause;
+use cec_feature::KeyWord;
+use cec_opcode::{WordSet, name};
+use cec_text::AssembleError;
+use hdmi_core::Kind;
+use hdminet_help::Draft;
+
+/// The words that mute, audio and arc take.
+const SWITCHES: &[&str] = &["on", "off"];
+
+// Suggests a word.
+fn add_suggestion(draft: &mut Draft, near: &str, word: &str) {
+    draft.add_all(&["  `", word, "`: did you mean `", near, "`?\n"]);
+}
+
+// A known word, if another may have been meant for it. Returns whether it may.
+fn add_near(draft: &mut Draft, near: &str, word: &str) -> bool {
+    let is_meant = is_near(draft, near, word);
+    if is_meant {
+        add_suggestion(draft, near, word);
+    }
+    is_meant
+}
+
+// The first of some known words that a word may have been meant for. Returns whether there is one.
+fn add_nearest(draft: &mut Draft, known: &[&str], word: &str) -> bool {
+    for near in known {
+        if add_near(draft, near, word) {
+            return true;
+        }
+    }
+    false
+}
+
+// The first name of an opcode that a word may have been meant for.
+fn add_nearest_opcode(draft: &mut Draft, word: &str) {
+    for code in 0..=u8::MAX {
+        if let Some(near) = name(code) {
+            if add_near(draft, near, word) {
+                return;
+            }
+        }
+    }
+}
+
+// The first code of a remote control that a word may have been meant for.
+fn add_nearest_code(draft: &mut Draft, word: &str) {
+    for code in WordSet::UserControl.words() {
+        if add_near(draft, code.text, word) {
+            return;
+        }
+    }
+}
+
+// The first name of a device that a word may have been meant for. Returns whether there is one.
+fn add_nearest_name(draft: &mut Draft, place: Place<'_>, word: &str) -> bool {
+    let above = place.number.saturating_sub(1);
+    for line in place.input.split(is_line_end).take(above) {
+        if let Some(name) = declared_by(line) {
+            if add_near(draft, name, word) {
+                return true;
+            }
+        }
+    }
+    false
+}
+
+// The first label that a word may have been meant for.
+fn add_nearest_label(draft: &mut Draft, place: Place<'_>, word: &str) {
+    let above = place.number.saturating_sub(1);
+    for line in place.input.split(is_line_end).take(above) {
+        if let Some(name) = labelled_by(line) {
+            if add_near(draft, name, word) {
+                return;
+            }
+        }
+    }
+}
+
+// The first word of a key that a word may have been meant for.
+fn add_nearest_key(draft: &mut Draft, word: &str) {
+    for key in KeyWord::ALL {
+        if add_near(draft, key.text(), word) {
+            return;
+        }
+    }
+}
+
+// The kind that a word may have been meant for: one that is near, or one that is called so elsewhere.
+fn add_nearest_kind(draft: &mut Draft, word: &str) {
+    for kind in Kind::ALL {
+        if add_near(draft, kind.word(), word) {
+            return;
+        }
+    }
+    for (other, kind) in OTHER_KINDS {
+        if word.eq_ignore_ascii_case(other) {
+            return add_suggestion(draft, kind, word);
+        }
+    }
+}
+
+// What a word of a topology may have been meant for, by its number in the line.
+fn of_topology(
+    draft: &mut Draft,
+    place: Place<'_>,
+    cause: TopologyCause,
+    word: &str,
+    number: usize,
+) {
+    match (cause, number) {
+        (TopologyCause::Name, _) => {
+            let _ = add_nearest_name(draft, place, word);
+        }
+        (TopologyCause::Number, _) => add_number(draft, word),
+        (_, 0) => {
+            let _ = add_nearest(draft, KEYWORDS, word);
+        }
+        (_, 2) => add_nearest_kind(draft, word),
+        _ => {}
+    }
+}
+
+// What a word of a key may have been meant for, by the key's first word and its own number in the line.
+fn of_key(draft: &mut Draft, line: &str, word: &str, number: usize) {
+    match (word_at(line, 4), number) {
+        (_, 4) => add_nearest_key(draft, word),
+        (Some("remote"), 6) => add_nearest_code(draft, word),
+        (Some("audio" | "arc"), 5) => {
+            let _ = add_nearest(draft, SWITCHES, word);
+        }
+        _ => {}
+    }
+}
+
+// What a word that a script's line may not have there may have been meant for.
+fn of_script_word(draft: &mut Draft, what: Input, line: &str, word: &str, number: usize) {
+    if is_of_key(line, number) {
+        return of_key(draft, line, word, number);
+    }
+    let is_verb = number == 0 || number == 2;
+    if is_verb && !add_nearest(draft, KEYWORDS, word) && what == Input::Test {
+        let _ = add_nearest(draft, EXPECTATION_WORDS, word);
+    }
+}
+
+// What a word of a script may have been meant for, by its number in the line without a label.
+fn of_script(
+    draft: &mut Draft,
+    what: Input,
+    place: Place<'_>,
+    cause: ScriptCause,
+    line: &str,
+    number: usize,
+) {
+    let Some(word) = word_at(line, number) else {
+        return;
+    };
+    match cause {
+        ScriptCause::Name => {
+            let _ = add_nearest_name(draft, place, word);
+        }
+        ScriptCause::Number => add_number(draft, word),
+        ScriptCause::Word => of_script_word(draft, what, line, word, number),
+        ScriptCause::Frame(AssembleError::Name) => add_nearest_opcode(draft, word),
+        _ => {}
+    }
+}
+
+// What a word of an expectation may have been meant for.
+fn of_expectation(draft: &mut Draft, place: Place<'_>, cause: ExpectCause, word: &str) {
+    match cause {
+        ExpectCause::Label => add_nearest_label(draft, place, word),
+        ExpectCause::Name => {
+            let _ = add_nearest_name(draft, place, word);
+        }
+        ExpectCause::Number => add_number(draft, word),
+        ExpectCause::Word | ExpectCause::Order => {
+            let _ = add_nearest(draft, EXPECTATION_WORDS, word);
+        }
+    }
+}
+
+/// What the word at fault of a line may have been meant for. The line is without the label that it has in a test, and words
+/// are counted so.
+pub fn add_meant(
+    draft: &mut Draft,
+    what: Input,
+    place: Place<'_>,
+    fault: Fault,
+    line: &str,
+    number: usize,
+) {
+    let Some(word) = word_at(line, number) else {
+        return;
+    };
+    match fault {
+        Fault::Topology { cause, .. } => of_topology(draft, place, cause, word, number),
+        Fault::Script { cause, .. } => of_script(draft, what, place, cause, line, number),
+        Fault::Expectation { cause, .. } => of_expectation(draft, place, cause, word),
+        Fault::Steps { .. } => {
+            if !add_nearest(draft, STEP_WORDS, word) {
+                let _ = add_nearest_name(draft, place, word);
+            }
+        }
+        Fault::Frame {
+            cause: AssembleError::Name,
+            ..
+        } => add_nearest_opcode(draft, word),
+        Fault::TextSyntax { .. } => {
+            let _ = add_nearest(draft, EDID_WORDS, word);
+        }
+        _ => {}
+    }
+}

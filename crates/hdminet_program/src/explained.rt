@@ -1,0 +1,203 @@
+//! The faults of the program as they are explained.
+use crate::fault::Fault;
+use cec_asm::ScriptCause;
+use cec_check::CheckError;
+use cec_dialogue::{ScriptEnd, SessionError};
+use cec_dis::DisError;
+use cec_expect::ExpectFault;
+use cec_formats::CaptureError;
+use cec_run::emulate::EmulateError;
+use cec_sweep::{RangeCause, RangeFault};
+use cec_text::FrameLinesError;
+use cec_trace::EdidCause;
+use hdmi_convert::{EdidToTextError, PassOnError, TextToHexError};
+use hdminet_explain::{Fault as Explained, Input, RangeSlip};
+use hdminet_words::{Choice, Objects, Source};
+
+/// What the input of a choice is to be.
+pub fn input_of(choice: Choice) -> Input {
+    match choice {
+        Choice::Check(_) | Choice::Json(Objects::Test) => Input::Test,
+        Choice::CheckCapture { .. } | Choice::Json(Objects::CaptureTest { .. }) => {
+            Input::CaptureTest
+        }
+        Choice::Run { .. } | Choice::Step | Choice::Json(Objects::Trace { .. }) => Input::Network,
+        Choice::Live => Input::Session,
+        Choice::Asm | Choice::Dis | Choice::Mon { .. } | Choice::Json(Objects::Capture { .. }) => {
+            Input::Lines
+        }
+        Choice::Edid { source, .. } => match source {
+            Source::Bytes => Input::EdidBytes,
+            Source::Dump => Input::Lines,
+            Source::Text => Input::EdidText,
+        },
+    }
+}
+
+fn of_root(cause: &EdidCause) -> Explained {
+    match cause {
+        EdidCause::Edid(error) => Explained::Edid(*error),
+        EdidCause::NoHdmiBlock => Explained::NoHdmiBlock,
+    }
+}
+
+fn of_run(error: &EmulateError) -> Explained {
+    match error {
+        EmulateError::Topology { line, cause, word } => Explained::Topology {
+            line: *line,
+            cause: *cause,
+            word: *word,
+        },
+        EmulateError::Script { line, cause, word } => Explained::Script {
+            line: *line,
+            cause: *cause,
+            word: *word,
+        },
+        EmulateError::Edid(cause) => of_root(cause),
+        EmulateError::Write(_) => Explained::Write,
+        EmulateError::Memory => Explained::Memory,
+    }
+}
+
+fn of_expectation(fault: ExpectFault) -> Explained {
+    Explained::Expectation {
+        line: fault.line,
+        cause: fault.cause,
+    }
+}
+
+fn of_test(error: &CheckError) -> Explained {
+    match error {
+        CheckError::Emulate(error) => of_run(error),
+        CheckError::Expect(fault) => of_expectation(*fault),
+        CheckError::Write(_) => Explained::Write,
+        CheckError::Memory => Explained::Memory,
+    }
+}
+
+fn of_range(fault: RangeFault) -> Explained {
+    Explained::Range {
+        line: fault.line,
+        cause: match fault.cause {
+            RangeCause::Number => RangeSlip::Number,
+            RangeCause::Order => RangeSlip::Order,
+            RangeCause::Range => RangeSlip::Second,
+        },
+    }
+}
+
+// No further line was read where the script is at this line.
+fn of_end(line: u64, cause: ScriptEnd) -> Explained {
+    match cause {
+        ScriptEnd::End => Explained::Script {
+            line,
+            cause: ScriptCause::End,
+            word: 0,
+        },
+        ScriptEnd::TooLong => Explained::LineTooLong,
+    }
+}
+
+fn of_session(error: &SessionError) -> Explained {
+    match error {
+        SessionError::Read => Explained::Read,
+        SessionError::TooLong => Explained::InputTooLong,
+        SessionError::NoScriptLine => Explained::NoScriptLine,
+        SessionError::Topology { line, cause, word } => Explained::Topology {
+            line: *line,
+            cause: *cause,
+            word: *word,
+        },
+        SessionError::Edid(cause) => of_root(cause),
+        SessionError::Script { line, cause } => of_end(*line, *cause),
+        SessionError::Write(_) => Explained::Write,
+        SessionError::Memory => Explained::Memory,
+    }
+}
+
+fn of_frames(error: &FrameLinesError) -> Explained {
+    match error {
+        FrameLinesError::Line(fault) => Explained::Frame {
+            line: fault.line,
+            cause: fault.cause,
+        },
+        FrameLinesError::Write(_) => Explained::Write,
+    }
+}
+
+fn of_hex(error: &DisError) -> Explained {
+    match error {
+        DisError::Line(fault) => Explained::Hex {
+            line: fault.line,
+            cause: fault.cause,
+        },
+        DisError::Write(_) => Explained::Write,
+    }
+}
+
+fn of_capture(error: &CaptureError) -> Explained {
+    match error {
+        CaptureError::Fault(fault) => Explained::Capture {
+            line: fault.line,
+            cause: fault.cause,
+        },
+        CaptureError::Memory => Explained::Memory,
+    }
+}
+
+fn of_edid(error: &EdidToTextError) -> Explained {
+    match error {
+        EdidToTextError::Edid(error) => Explained::Edid(*error),
+        EdidToTextError::Write(_) => Explained::Write,
+    }
+}
+
+fn of_edid_text(error: &TextToHexError) -> Explained {
+    match error {
+        TextToHexError::Syntax(line) => Explained::TextSyntax { line: *line as u64 },
+        TextToHexError::Field(line) => Explained::TextField { line: *line as u64 },
+        TextToHexError::Write(_) => Explained::Write,
+        TextToHexError::Memory => Explained::Memory,
+    }
+}
+
+fn of_passing(error: &PassOnError) -> Explained {
+    match error {
+        PassOnError::PortRange => Explained::NoPort,
+        PassOnError::Edid(error) => Explained::Edid(*error),
+        PassOnError::NoHdmiBlock => Explained::NoHdmiBlock,
+        PassOnError::Write(_) => Explained::Write,
+    }
+}
+
+/// A fault as it is explained; None of what was done and is not as it was wanted.
+pub fn explained(fault: &Fault) -> Option<Explained> {
+    let explained = match fault {
+        Fault::NotUtf8 => Explained::NotUtf8,
+        Fault::TooLong => Explained::InputTooLong,
+        Fault::Read => Explained::Read,
+        Fault::NoScriptLine => Explained::NoScriptLine,
+        Fault::NoStepsLine => Explained::NoStepsLine,
+        Fault::NoCaptureLine => Explained::NoCaptureLine,
+        Fault::Emulate(error) => of_run(error),
+        Fault::Expect(fault) | Fault::CaptureExpect(fault) => of_expectation(*fault),
+        Fault::NoRange => Explained::NoRange,
+        Fault::Range(fault) => of_range(*fault),
+        Fault::AtInstant { error, .. } => of_test(error),
+        Fault::Session(error) => of_session(error),
+        Fault::Steps(line) => Explained::Steps { line: *line },
+        Fault::Frames(error) => of_frames(error),
+        Fault::Dis(error) => of_hex(error),
+        Fault::Capture(error) => of_capture(error),
+        Fault::EdidToText(error) => of_edid(error),
+        Fault::TextToHex(error) => of_edid_text(error),
+        Fault::Dump(error) => Explained::Dump(*error),
+        Fault::PassOn(error) => of_passing(error),
+        Fault::Write(_) => Explained::Write,
+        Fault::Memory(_) => Explained::Memory,
+        Fault::EventsRefused(_) | Fault::TestsFailed(_) | Fault::SweepFailed | Fault::RuleFails => {
+            return None;
+        }
+    };
+    Some(explained)
+}
