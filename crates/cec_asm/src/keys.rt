@@ -106,11 +106,7 @@ fn values_of(word: KeyWord) -> u8
         | KeyWord::VolumeUp
         | KeyWord::VolumeDown
         | KeyWord::Mute => 0,
-        KeyWord::Port
-        | KeyWord::Watch
-        | KeyWord::Language
-        | KeyWord::Audio
-        | KeyWord::Arc => 1,
+        KeyWord::Port | KeyWord::Watch | KeyWord::Language | KeyWord::Audio | KeyWord::Arc => 1,
         KeyWord::Remote => 2,
     }
 }
@@ -207,12 +203,7 @@ fn key_of_two(fault: LineFault, word: &[u8], value: &[u8]) -> Result<Key, LineFa
     }
 }
 
-fn key_of_three(
-    fault: LineFault,
-    word: &[u8],
-    to: &[u8],
-    code: &[u8],
-) -> Result<Key, LineFault>
+fn key_of_three(fault: LineFault, word: &[u8], to: &[u8], code: &[u8]) -> Result<Key, LineFault>
     ensures { result ≡ if_named fault (key_named word.now) (λ word. remote_key fault word to.now code.now) }
 {
     match KeyWord::named(word) {

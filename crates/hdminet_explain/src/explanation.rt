@@ -4,13 +4,15 @@ use crate::expectations::{label_words, plain};
 use crate::fault::{Fault, Input};
 use crate::forms::add_right_forms;
 use crate::grammar::EDID_WORDS;
-use crate::hints::{is_dump, is_shown, lacks_line_feed, of_edid, of_edid_text, of_line, of_text};
+use crate::hints::{is_shown, of_edid, of_edid_text, of_line, of_text};
 use crate::marks::{Mark, marked};
 use crate::meant::add_meant;
 use crate::place::{Place, is_line_end, place_of};
 use crate::right::right;
 use crate::words::{span_of, word_at, word_count};
 use hdmi_blocks::EdidError;
+use hdmi_dump::looks_like_dump;
+use hdmi_explain::lacks_line_feed;
 use hdminet_help::Draft;
 use std::alloc::{AllocError, Global};
 
@@ -148,7 +150,7 @@ fn add_place(draft: &mut Draft, what: Input, place: Place<'_>, fault: Fault) -> 
 // What is odd about an input that is to be the bytes of an EDID.
 fn add_edid_hints(draft: &mut Draft, fault: Fault, input: &[u8]) {
     add_hints(draft, of_edid(input).as_slice());
-    if matches!(fault, Fault::Edid(EdidError::Length)) && !is_dump(input) {
+    if matches!(fault, Fault::Edid(EdidError::Length)) && !looks_like_dump(input) {
         add_length(draft, input.len());
     }
 }

@@ -1,5 +1,9 @@
 //! What the fields of the lines of an EDID's text are.
 
+const TEXT: &str = "a text is at most 13 printable characters, in double quotes";
+
+const BLOCK: &str = "a data block has at most 31 bytes, two hex digits each";
+
 /// The fields of lines, by the word that each begins with.
 const FIELDS: &[(&str, &str)] = &[
     ("edid", "the revision is `1.3` or `1.4`"),
@@ -13,50 +17,17 @@ const FIELDS: &[(&str, &str)] = &[
     ("features", "the byte is two hex digits"),
     ("chroma", "there are eight numbers, each 0 to 1023"),
     ("established", "there are three bytes, six hex digits"),
-    (
-        "name",
-        "a text is at most 13 printable characters, in double quotes",
-    ),
-    (
-        "text",
-        "a text is at most 13 printable characters, in double quotes",
-    ),
-    (
-        "serial-text",
-        "a text is at most 13 printable characters, in double quotes",
-    ),
-    (
-        "audio",
-        "a data block has at most 31 bytes, two hex digits each",
-    ),
-    (
-        "video",
-        "a data block has at most 31 bytes, two hex digits each",
-    ),
-    (
-        "vendor",
-        "a data block has at most 31 bytes, two hex digits each",
-    ),
-    (
-        "speakers",
-        "a data block has at most 31 bytes, two hex digits each",
-    ),
-    (
-        "extended",
-        "a data block has at most 31 bytes, two hex digits each",
-    ),
-    (
-        "tag0",
-        "a data block has at most 31 bytes, two hex digits each",
-    ),
-    (
-        "tag5",
-        "a data block has at most 31 bytes, two hex digits each",
-    ),
-    (
-        "tag6",
-        "a data block has at most 31 bytes, two hex digits each",
-    ),
+    ("name", TEXT),
+    ("text", TEXT),
+    ("serial-text", TEXT),
+    ("audio", BLOCK),
+    ("video", BLOCK),
+    ("vendor", BLOCK),
+    ("speakers", BLOCK),
+    ("extended", BLOCK),
+    ("tag0", BLOCK),
+    ("tag5", BLOCK),
+    ("tag6", BLOCK),
     (
         "hdmi",
         "PA is a physical address, as 1.0.0.0, and at most 26 bytes stand behind it",

@@ -1,5 +1,6 @@
 //! What often goes wrong with an input, whatever the fault says.
 use hdmi_dump::looks_like_dump;
+use hdmi_explain::lacks_line_feed;
 
 /// The bytes that some editors put before a text in UTF-8.
 const BYTE_ORDER_MARK: [u8; 3] = [0xef, 0xbb, 0xbf];
@@ -74,16 +75,6 @@ pub fn of_edid(input: &[u8]) -> [Option<&'static str>; 3] {
             "this looks like the text of an EDID, which `edid --text` reads",
         ),
     ]
-}
-
-/// Whether an input looks like a hex dump, whose count of bytes says nothing.
-pub fn is_dump(input: &[u8]) -> bool {
-    looks_like_dump(input)
-}
-
-/// Whether a text has bytes, and the last of them is no line feed.
-pub fn lacks_line_feed(text: &[u8]) -> bool {
-    !text.is_empty() && !text.ends_with(b"\n")
 }
 
 /// What is odd about an input that is to be the text of an EDID, beside what is odd about any text.

@@ -124,8 +124,9 @@ fn files_and_help_are_explained_without_a_flag(rt: HostRuntime) {
     for case in MEANT.lines() {
         let (line, last) = two_parts(&rt, case);
         let told = told_of(&rt, line, b"".as_slice(), None);
+        let refused = told.status == 2 && told.out.is_empty();
         let said = String::from_utf8(told.err).expect(&rt, "a text");
         let right = said.as_str().lines().last() == Some(last);
-        expect(&rt, told.status == 2 && right, line, last);
+        expect(&rt, refused && right, line, last);
     }
 }
