@@ -308,15 +308,24 @@ fn refusal(alloc: Global, error: &Error, words: &[String]) -> Refused {
     }
 }
 
-// What goes with what, in the subcommand that some words name.
+// What goes with what in a subcommand, if it has flags of its own.
+fn rules_of(subcommand: Subcommand) -> Option<&'static str> {
+    match subcommand {
+        Subcommand::Run => Some(help::RUN_RULES),
+        Subcommand::Check => Some(help::CHECK_RULES),
+        Subcommand::Mon => Some(help::MON_RULES),
+        Subcommand::Edid => Some(help::EDID_RULES),
+        Subcommand::Step | Subcommand::Live | Subcommand::Asm | Subcommand::Dis => None,
+    }
+}
+
+// The same in the first such subcommand that some words name.
 fn rules(words: &[String]) -> &'static str {
     for word in words {
-        match subcommand_of(word.as_str()) {
-            Some(Subcommand::Run) => return help::RUN_RULES,
-            Some(Subcommand::Check) => return help::CHECK_RULES,
-            Some(Subcommand::Mon) => return help::MON_RULES,
-            Some(Subcommand::Edid) => return help::EDID_RULES,
-            Some(_) | None => {}
+        if let Some(subcommand) = subcommand_of(word.as_str()) {
+            if let Some(rules) = rules_of(subcommand) {
+                return rules;
+            }
         }
     }
     ""
