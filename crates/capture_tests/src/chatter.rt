@@ -2,7 +2,7 @@
 use cec_formats::{Form, read_capture};
 use cec_mon::watch_capture;
 use cec_signal::Capture;
-use cec_smooth::smoothed;
+use cec_smooth::smooth_edges;
 use hdmi_core::Writes;
 use std::process::Abort;
 
@@ -65,7 +65,7 @@ fn polls_in(rt: &(impl Abort + AllocGlobal), capture: &Capture) -> usize {
 #[test]
 fn chatter_is_left_out(rt: HostRuntime) {
     let capture = polls(&rt);
-    let left = smoothed(rt.alloc(), &capture, 50).expect(&rt, "memory");
+    let left = smooth_edges(rt.alloc(), &capture, 50).expect(&rt, "memory");
     assert_eq!(&rt; polls_in(&rt, &capture), 0);
     assert_eq!(&rt; polls_in(&rt, &left), 16);
 }

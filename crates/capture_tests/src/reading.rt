@@ -4,7 +4,7 @@ use cec_formats::{Form, read_capture};
 use cec_mon::watch_from_idle;
 use cec_pin::lost_lines;
 use cec_signal::Capture;
-use cec_smooth::smoothed;
+use cec_smooth::smooth_edges;
 use hdmi_core::Writes;
 use std::process::Abort;
 
@@ -49,7 +49,7 @@ fn form_of(word: &str, text: &str) -> Form {
 /// A capture without what is shorter than a number.
 fn smooth_text(rt: &(impl Abort + AllocGlobal), capture: &Capture, number: &str) -> String {
     let shortest = number.parse::<u64>().expect(rt, "a number");
-    let left = smoothed(rt.alloc(), capture, shortest).expect(rt, "memory");
+    let left = smooth_edges(rt.alloc(), capture, shortest).expect(rt, "memory");
     capture_text(rt, &left)
 }
 

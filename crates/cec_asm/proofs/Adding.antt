@@ -8,9 +8,9 @@ use Rattle.cec_wave.specs.Pulses.{stretch_fault}
 use Rattle.hdmi_topo.specs.Node.{Node}
 use Rattle.hdmi_topo.specs.Tree.{device_named}
 use Rattle.cec_feature.specs.declared.keys.Key.{Key as KeyValue}
-use Rattle.cec_words.specs.Lines.{is_skipped}
-use Rattle.cec_words.specs.Words.{words_of, one_of, two_of, three_of}
-use Rattle.cec_words.specs.Number.{number_of}
+use Rattle.hdmi_core.specs.Lines.{is_skipped}
+use Rattle.hdmi_core.specs.Words.{words_of, one_of, two_of, three_of}
+use Rattle.hdmi_core.specs.Number.{number_of}
 use Rattle.cec_text.specs.declared.assembler.AssembleError.{AssembleError}
 use Rattle.cec_asm.specs.Keys.{key_of}
 use Rattle.cec_asm.specs.Holding.{hold_of}
@@ -22,7 +22,7 @@ use Rattle.cec_asm.specs.declared.script.TimedEvent.{TimedEvent}
 use Rattle.cec_asm.specs.Fault.{at_word}
 use Rattle.cec_asm.specs.declared.fault.LineFault.{LineFault}
 use Rattle.cec_asm.specs.declared.script.ScriptCause.TheVariants.{Word, TooMany, End}
-use Rattle.cec_asm.specs.Script.{Notes, time_of, last_time, last_end, scheduled, plug_read, plug_words, unplug_read, unplug_words, key_read, key_words, act_read, hold_words, drop_words, send_read, event_words, unless_fault, pulse_read, pulse_words, end_read, end_words, other_words, IsSendRead, IsEventRead, IsWordsRead, IsLineRead}
+use Rattle.cec_asm.specs.Script.{Notes, time_of, last_time, last_end, notes_with_event, plug_read, plug_words, unplug_read, unplug_words, key_read, key_words, act_read, hold_words, drop_words, send_read, event_words, unless_fault, pulse_read, pulse_words, end_read, end_words, other_words, IsSendRead, IsEventRead, IsWordsRead, IsLineRead}
 
 -- ---- what a line adds
 
@@ -110,7 +110,7 @@ adds_ok : (waiting : ℕ) (old notes : Notes) → IsMore waiting old notes → A
 unfolding Adds
 adds_ok waiting old notes s next h = let e : notes ≡ next = cc in let P : Notes → Type 0 = λ n. IsMore waiting old n in subst P e s
 
-scheduled-adds : (waiting : ℕ) (notes : Notes) (line time : ℕ) (event : Event) → Adds waiting notes (scheduled notes line time event)
+scheduled-adds : (waiting : ℕ) (notes : Notes) (line time : ℕ) (event : Event) → Adds waiting notes (notes_with_event notes line time event)
 scheduled-adds waiting notes line time event =
     adds_if waiting notes (nat_lt time (last_time notes.events)) _ _ (adds_err waiting notes _ refl)
     (adds_if waiting notes (is_some notes.end) _ _ (adds_err waiting notes _ refl) (adds_ok waiting notes _ (with_event waiting notes (record { line = line; at = time; event = event }))))

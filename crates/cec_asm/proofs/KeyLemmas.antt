@@ -6,7 +6,7 @@ use Rattle.std.specs.Str.{bytes_eq}
 use Rattle.std.proofs.lemmas.Slice.Eq.{bytes_eq-Decides}
 use Rattle.std.proofs.lemmas.Bool.{eqb-true}
 use Rattle.std.proofs.lemmas.Bool.Decides.{nat_tests}
-use Rattle.cec_opcode.specs.WordSets.{Word, word_of, words_of}
+use Rattle.cec_opcode.specs.WordSets.{NamedByte, word_of, words_of}
 use Rattle.cec_opcode.specs.declared.word_set.WordSet.TheVariants as sets
 use Rattle.cec_asm.specs.Keys.{byte_in, code_of}
 
@@ -19,12 +19,12 @@ and_right true b e = e
 and_right false b e = cc
 
 -- what is found passes the test, and any other that all pass
-found_step : (p q : Word → Bool) (x w : Word) (xs : List Word) (b : Bool) → p x ≡ b → q x ≡ true → ((find p xs ≡ Some w) → (p w ≡ true) × (q w ≡ true)) → cond b (Some x) (find p xs) ≡ Some w
+found_step : (p q : NamedByte → Bool) (x w : NamedByte) (xs : List NamedByte) (b : Bool) → p x ≡ b → q x ≡ true → ((find p xs ≡ Some w) → (p w ≡ true) × (q w ≡ true)) → cond b (Some x) (find p xs) ≡ Some w
     → (p w ≡ true) × (q w ≡ true)
-found_step p q x w xs true e f later h = let same : x ≡ w = cc in let P : Word → Type 0 = λ v. (p v ≡ true) × (q v ≡ true) in subst P same (e, f)
+found_step p q x w xs true e f later h = let same : x ≡ w = cc in let P : NamedByte → Type 0 = λ v. (p v ≡ true) × (q v ≡ true) in subst P same (e, f)
 found_step p q x w xs false e f later h = later h
 
-found_passes : (p q : Word → Bool) (ws : List Word) (w : Word) → list_all q ws ≡ true → find p ws ≡ Some w → (p w ≡ true) × (q w ≡ true)
+found_passes : (p q : NamedByte → Bool) (ws : List NamedByte) (w : NamedByte) → list_all q ws ≡ true → find p ws ≡ Some w → (p w ≡ true) × (q w ≡ true)
 found_passes p q [] w all h = cc
 found_passes p q (x ∷ xs) w all h =
     found_step p q x w xs (p x) refl (and_left (q x) (list_all q xs) all) (found_passes p q xs w (and_right (q x) (list_all q xs) all)) h
@@ -49,13 +49,13 @@ at_text None t h = cc
 at_text (Some found) t h = ap Some (same_bytes found t h)
 
 -- each word gives its byte, and each byte below 256 its word
-abbrev is_back : List Word → Word → Bool
+abbrev is_back : List NamedByte → NamedByte → Bool
 is_back ws w = is_at (byte_in ws w.text) w.code
 
-abbrev is_forth : List Word → Word → Bool
+abbrev is_forth : List NamedByte → NamedByte → Bool
 is_forth ws w = nat_lt w.code 256 && is_text (word_of ws w.code) w.text
 
-byte_of_word : (ws : List Word) (byte : ℕ) (word : List ℕ) → list_all (is_back ws) ws ≡ true → word_of ws byte ≡ Some word → byte_in ws word ≡ Some byte
+byte_of_word : (ws : List NamedByte) (byte : ℕ) (word : List ℕ) → list_all (is_back ws) ws ≡ true → word_of ws byte ≡ Some word → byte_in ws word ≡ Some byte
 byte_of_word ws byte word back h =
     elim (find (λ w. w.code == byte) ws) as (λ o. find (λ w. w.code == byte) ws ≡ o → option_map (λ w. w.text) o ≡ Some word → byte_in ws word ≡ Some byte) [
       | None ↦ λ e g. (cc)
@@ -66,7 +66,7 @@ byte_of_word ws byte word back h =
           sym (ap (byte_in ws) text) ∙ (at_byte (byte_in ws w.text) w.code passes.1 ∙ ap Some code))
     ] refl h
 
-no_byte : (ws : List Word) (word : List ℕ) → list_all (is_forth ws) ws ≡ true → ((byte : ℕ) → byte < 256 → word_of ws byte ≢ Some word) → byte_in ws word ≡ None
+no_byte : (ws : List NamedByte) (word : List ℕ) → list_all (is_forth ws) ws ≡ true → ((byte : ℕ) → byte < 256 → word_of ws byte ≢ Some word) → byte_in ws word ≡ None
 no_byte ws word forth none =
     elim (find (λ w. bytes_eq w.text word) ws) as (λ o. find (λ w. bytes_eq w.text word) ws ≡ o → option_map (λ w. w.code) o ≡ None) [
       | None ↦ λ e. refl

@@ -3,13 +3,13 @@ use Rattle.std.proofs.Common.{◌≡◌, ℕ, List, [], ◌∷◌, Option, Some,
 use Rattle.cec_opcode.specs.declared.user_control.UserControl.{UserControl}
 use Rattle.hdmi_core.specs.Phys.{phys_of}
 use Rattle.hdmi_core.proofs.KindWords.{word_of_found}
-use Rattle.cec_words.specs.Number.{number_of}
+use Rattle.hdmi_core.specs.Number.{number_of}
 use Rattle.cec_feature.specs.declared.keys.Key.{Key}
 use Rattle.cec_feature.specs.declared.keys.Key.TheVariants.{Play, Stop, Eject, Load, Menu, Power, Watch, Port, Audio, Arc, Volume, Language, Remote}
 use Rattle.cec_feature.specs.KeyWords.{key_named, key_text, key_words, word_of_key}
 use Rattle.cec_feature.specs.declared.key_word.KeyWord.{KeyWord}
 use Rattle.cec_feature.specs.declared.key_word.KeyWord.TheVariants as the
-use Rattle.cec_asm.specs.Keys.{control_of, destination_of, if_named, key_alone, key_of, key_with, known, language_of, port_key, remote_by, remote_key, switch_of, unfit}
+use Rattle.cec_asm.specs.Keys.{control_of, destination_of, if_named, key_alone, key_of, key_with, key_or_cause, language_of, port_key, remote_by, remote_key, switch_of, unfit}
 use Rattle.cec_asm.specs.declared.fault.LineFault.{LineFault}
 
 -- the word of a key that these words spell is this one
@@ -36,7 +36,7 @@ alone_has fault the.Audio key e = cc
 alone_has fault the.Arc key e = cc
 alone_has fault the.Remote key e = cc
 
-known_has : {T : Type 0} (word : KeyWord) (make : T → Key) → ((x : T) → word_of_key (make x) ≡ word) → (o : Option T) → HasWord word (known (option_map make o))
+known_has : {T : Type 0} (word : KeyWord) (make : T → Key) → ((x : T) → word_of_key (make x) ≡ word) → (o : Option T) → HasWord word (key_or_cause (option_map make o))
 known_has word make h None key e = cc
 known_has word make h (Some x) key e = same word (make x) (h x) key e
 

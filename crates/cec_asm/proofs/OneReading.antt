@@ -3,9 +3,9 @@ use Rattle.std.proofs.Common.{◌≡◌, ℕ, ◌+◌, Bool, true, false, cond, 
 use Rattle.std.specs.Str.{bytes_eq}
 use Rattle.hdmi_topo.specs.Node.{Node}
 use Rattle.hdmi_topo.specs.Tree.{device_named}
-use Rattle.cec_words.specs.Lines.{lines_of, is_skipped}
+use Rattle.hdmi_core.specs.Lines.{lines_of, is_skipped}
 use Rattle.cec_text.specs.declared.assembler.AssembleError.{AssembleError}
-use Rattle.cec_words.specs.Words.{words_of, text_of}
+use Rattle.hdmi_core.specs.Words.{words_of, text_of}
 use Rattle.cec_asm.specs.declared.fault.LineFault.{LineFault}
 use Rattle.cec_asm.specs.Script.{Course, Notes, ScriptFault, time_of, send_read, event_words, other_words, no_notes, IsFrameOf, IsSendRead, IsEventRead, IsWordsRead, IsLineRead, Onward, AreLinesRead, OneScript}
 

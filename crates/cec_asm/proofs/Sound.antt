@@ -14,11 +14,11 @@ use Rattle.hdmi_topo.specs.Node.{Node}
 use Rattle.hdmi_topo.specs.Tree.{device_named}
 use Rattle.cec_feature.specs.declared.keys.Key.{Key as KeyValue}
 use Rattle.cec_wave.proofs.Sparse.{faultless_are_sparse}
-use Rattle.cec_words.specs.Lines.{lines_of, is_skipped}
+use Rattle.hdmi_core.specs.Lines.{lines_of, is_skipped}
 use Rattle.cec_text.specs.FrameReading.{is_frame}
 use Rattle.cec_text.specs.declared.assembler.AssembleError.{AssembleError}
-use Rattle.cec_words.specs.Words.{words_of, text_of, one_of, two_of, three_of}
-use Rattle.cec_words.specs.Number.{number_of}
+use Rattle.hdmi_core.specs.Words.{words_of, text_of, one_of, two_of, three_of}
+use Rattle.hdmi_core.specs.Number.{number_of}
 use Rattle.cec_asm.specs.Keys.{key_of}
 use Rattle.cec_asm.specs.Holding.{hold_of}
 use Rattle.cec_device.specs.declared.outside.Act.{Act}
@@ -29,7 +29,7 @@ use Rattle.cec_event.specs.declared.event.Event.TheVariants.{Plug, Unplug, Key, 
 use Rattle.cec_asm.specs.declared.script.TimedEvent.{TimedEvent}
 use Rattle.cec_asm.specs.declared.fault.LineFault.{LineFault}
 use Rattle.cec_asm.proofs.Adding.{few_pulses}
-use Rattle.cec_asm.specs.Script.{Course, Notes, within_limit, time_of, last_time, last_end, scheduled, plug_read, plug_words, unplug_read, unplug_words, key_read, key_words, act_read, hold_words, drop_words, send_read, event_words, unless_fault, pulsed, pulse_read, pulse_words, end_read, end_words, other_words, ended, no_notes, IsFrameOf, IsSendRead, IsEventRead, IsWordsRead, IsLineRead, IsSchedule, AreFramedEvents, IsScript, Onward, AreLinesRead, ScriptsAreSound}
+use Rattle.cec_asm.specs.Script.{Course, Notes, within_limit, time_of, last_time, last_end, notes_with_event, plug_read, plug_words, unplug_read, unplug_words, key_read, key_words, act_read, hold_words, drop_words, send_read, event_words, unless_fault, notes_with_pulse, pulse_read, pulse_words, end_read, end_words, other_words, course_at_end, no_notes, IsFrameOf, IsSendRead, IsEventRead, IsWordsRead, IsLineRead, IsSchedule, AreFramedEvents, IsScript, Onward, AreLinesRead, ScriptsAreSound}
 
 -- ---- times
 
@@ -164,7 +164,7 @@ keeps_ok : (count : ℕ) (notes : Notes) → AreSound count notes → Keeps coun
 unfolding Keeps
 keeps_ok count notes s next h = let e : notes ≡ next = cc in let P : Notes → Type 0 = λ n. AreSound count n in subst P e s
 
-scheduled-keeps : (count : ℕ) (notes : Notes) (line time : ℕ) (event : Event) → AreSound count notes → NamesDevices count event → IsFramedEvent event → Keeps count (scheduled notes line time event)
+scheduled-keeps : (count : ℕ) (notes : Notes) (line time : ℕ) (event : Event) → AreSound count notes → NamesDevices count event → IsFramedEvent event → Keeps count (notes_with_event notes line time event)
 scheduled-keeps count notes line time event s known framed =
     keeps_if count (nat_lt time (last_time notes.events)) _ _ (λ e. keeps_err count _ refl)
     (λ on_time. keeps_if count (is_some notes.end) _ _ (λ e. keeps_err count _ refl) (λ unended. keeps_ok count _ (sound_more on_time unended)))
@@ -288,7 +288,7 @@ within_limit-limit : (o : Option ℕ) (time : ℕ) → within_limit o ≡ Some t
 within_limit-limit None time h = cc
 within_limit-limit (Some n) time h = grind (arith, nat_tests)
 
-pulsed-keeps : (count : ℕ) (notes : Notes) (waiting : ℕ) (pulse : Stretch) → AreSound count notes → pulse.from ≤ 1000000000000 → Keeps count (pulsed notes waiting pulse)
+pulsed-keeps : (count : ℕ) (notes : Notes) (waiting : ℕ) (pulse : Stretch) → AreSound count notes → pulse.from ≤ 1000000000000 → Keeps count (notes_with_pulse notes waiting pulse)
 pulsed-keeps count notes waiting pulse s within =
     elim (stretch_fault (last_end notes.pulses) pulse) as (λ o. stretch_fault (last_end notes.pulses) pulse ≡ o → Keeps count (unless_fault o notes waiting pulse)) [
       | Some fault ↦ λ e. keeps_err count _ refl
@@ -357,10 +357,10 @@ line-keeps tree notes waiting line text next s h =
     (λ q. words-keep tree notes waiting line (words_of text) next s q) h
 
 -- what the lines keep at the end is a script
-sound_script : (count : ℕ) (notes : Notes) (line : ℕ) (course : Course) → AreSound count notes → length notes.pulses ≤ 4096 → Ok course ≡ ended notes line notes.end → IsScript count course
+sound_script : (count : ℕ) (notes : Notes) (line : ℕ) (course : Course) → AreSound count notes → length notes.pulses ≤ 4096 → Ok course ≡ course_at_end notes line notes.end → IsScript count course
 sound_script count notes line course s few h =
     let Is : Course → Type 0 = λ found. IsScript count found in
-    elim notes.end as (λ o. notes.end ≡ o → Ok course ≡ ended notes line o → IsScript count course) [
+    elim notes.end as (λ o. notes.end ≡ o → Ok course ≡ course_at_end notes line o → IsScript count course) [
       | None ↦ λ e g. (cc)
       | Some time ↦ λ e g. (
           let r = s.ended time e in

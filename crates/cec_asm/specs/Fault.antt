@@ -9,11 +9,11 @@ use Rattle.cec_asm.specs.declared.script.ScriptCause.TheVariants.{Word}
 abbrev pub at_word : ℕ → ScriptCause → LineFault
 at_word word cause = record { cause = cause; word = word }
 
--- behind so many words stand so many, and others are wanted: the first that is missing or too many
+-- after so many words stand so many, and others are wanted: the first that is missing or too many
 abbrev pub misfit : ℕ → ℕ → ℕ → LineFault
 misfit before count wanted = at_word (before + min count wanted) Word
 
--- the word of a frame's text from which on it is at fault: its addresses, its name, or what stands behind
+-- the word of a frame's text from which on it is at fault: its addresses, its name, or what stands after
 abbrev pub frame_word : AssembleError → ℕ
 frame_word Address = 0
 frame_word NoName = 1

@@ -6,7 +6,7 @@ use Rattle.std.specs.Char.{is_ascii_lowercase}
 use Rattle.cec_opcode.specs.ControlWords.{user_control_at}
 use Rattle.cec_opcode.specs.declared.message.Triple.{Triple}
 use Rattle.cec_opcode.specs.declared.user_control.UserControl.{UserControl}
-use Rattle.cec_opcode.specs.WordSets.{words_of, Word as OperandWord}
+use Rattle.cec_opcode.specs.WordSets.{words_of, NamedByte as OperandWord}
 use Rattle.cec_opcode.specs.declared.word_set.WordSet.TheVariants as sets
 use Rattle.cec_feature.specs.declared.keys.Key.{Key}
 use Rattle.cec_feature.specs.declared.keys.Key.TheVariants.{Play, Stop, Eject, Load, Menu, Power, Watch, Port, Audio, Arc, Volume, Language, Remote}
@@ -14,9 +14,9 @@ use Rattle.cec_feature.specs.declared.keys.VolumeKey.TheVariants.{Up, Down, Mute
 use Rattle.cec_feature.specs.KeyWords.{key_named}
 use Rattle.cec_feature.specs.declared.key_word.KeyWord.{KeyWord}
 use Rattle.cec_feature.specs.declared.key_word.KeyWord.TheVariants as key_words
-use Rattle.cec_words.specs.Words.{one_of, two_of, three_of}
+use Rattle.hdmi_core.specs.Words.{one_of, two_of, three_of}
 use Rattle.hdmi_core.specs.Phys.{digit_value, is_hex_digit, phys_of}
-use Rattle.cec_words.specs.Number.{number_of}
+use Rattle.hdmi_core.specs.Number.{number_of}
 use Rattle.cec_asm.specs.Fault.{at_word, misfit}
 use Rattle.cec_asm.specs.declared.fault.LineFault.{LineFault}
 use Rattle.cec_asm.specs.declared.script.ScriptCause.TheVariants.{Word, Number}
@@ -49,7 +49,7 @@ code_of word = byte_in (words_of sets.UserControl) word
 abbrev pub control_of : List ℕ → Option UserControl
 control_of word = option_map user_control_at (code_of word)
 
--- how many words stand behind a key's first one
+-- how many words stand after a key's first one
 abbrev pub values_of : KeyWord → ℕ
 values_of key_words.Watch = 1
 values_of key_words.Port = 1
@@ -59,7 +59,7 @@ values_of key_words.Arc = 1
 values_of key_words.Remote = 2
 values_of _ = 0
 
--- a key's first word is the line's fifth, behind `at T press NAME`
+-- a key's first word is the line's fifth, after `at T press NAME`
 abbrev pub unfit_by : Option KeyWord → ℕ → LineFault
 unfit_by None count = at_word 4 Word
 unfit_by (Some word) count = misfit 5 count (values_of word)
@@ -83,9 +83,9 @@ key_alone fault key_words.Mute = Ok (Volume Mute)
 key_alone fault _ = Err fault
 
 -- a value is a key's, or none's
-abbrev pub known : Option Key → Result Key LineFault
-known None = Err (at_word 5 Word)
-known (Some key) = Ok key
+abbrev pub key_or_cause : Option Key → Result Key LineFault
+key_or_cause None = Err (at_word 5 Word)
+key_or_cause (Some key) = Ok key
 
 -- a port above 255 counts as 255
 abbrev pub port_key : Option ℕ → Result Key LineFault
@@ -94,11 +94,11 @@ port_key (Some port) = Ok (Port (min port 255))
 
 -- `watch PA`, `port N`, `audio on`, `audio off`, `arc on`, `arc off`, `language LLL`
 abbrev pub key_with : LineFault → KeyWord → List ℕ → Result Key LineFault
-key_with fault key_words.Watch value = known (option_map Watch (phys_of value))
+key_with fault key_words.Watch value = key_or_cause (option_map Watch (phys_of value))
 key_with fault key_words.Port value = port_key (number_of value)
-key_with fault key_words.Audio value = known (option_map Audio (switch_of value))
-key_with fault key_words.Arc value = known (option_map Arc (switch_of value))
-key_with fault key_words.Language value = known (option_map Language (language_of value))
+key_with fault key_words.Audio value = key_or_cause (option_map Audio (switch_of value))
+key_with fault key_words.Arc value = key_or_cause (option_map Arc (switch_of value))
+key_with fault key_words.Language value = key_or_cause (option_map Language (language_of value))
 key_with fault _ value = Err fault
 
 -- `remote D CODE`

@@ -12,11 +12,11 @@ use Rattle.hdmi_topo.specs.Node.{Node}
 use Rattle.hdmi_topo.specs.Tree.{device_named}
 use Rattle.cec_text.specs.Causes.{assemble_cause}
 use Rattle.cec_text.specs.FrameLines.{IsTextOf}
-use Rattle.cec_words.specs.Lines.{lines_of, is_skipped}
+use Rattle.hdmi_core.specs.Lines.{lines_of, is_skipped}
 use Rattle.cec_text.specs.Refusals.{IsRefused}
 use Rattle.cec_text.specs.declared.assembler.AssembleError.{AssembleError}
-use Rattle.cec_words.specs.Words.{words_of, text_of, one_of, two_of, three_of}
-use Rattle.cec_words.specs.Number.{number_of}
+use Rattle.hdmi_core.specs.Words.{words_of, text_of, one_of, two_of, three_of}
+use Rattle.hdmi_core.specs.Number.{number_of}
 use Rattle.cec_asm.specs.Fault.{at_word, misfit, frame_word}
 use Rattle.cec_asm.specs.Keys.{key_of}
 use Rattle.cec_asm.specs.Holding.{hold_of}
@@ -26,17 +26,17 @@ use Rattle.cec_event.specs.Events.{NamesDevices, IsFramedEvent}
 use Rattle.cec_event.specs.declared.event.Event.{Event}
 use Rattle.cec_event.specs.declared.event.Event.TheVariants.{Plug, Unplug, Key, Send, Outside}
 use Rattle.cec_asm.specs.declared.script.TimedEvent.{TimedEvent}
-use Rattle.cec_asm.specs.declared.script.Draft.{Draft}
+use Rattle.cec_asm.specs.declared.script.ScriptDraft.{ScriptDraft}
 use Rattle.cec_asm.specs.declared.course.Script.{Script}
 use Rattle.cec_asm.specs.declared.fault.LineFault.{LineFault}
 use Rattle.cec_asm.specs.declared.script.ScriptCause.{ScriptCause}
 use Rattle.cec_asm.specs.declared.script.ScriptCause.TheVariants.{Word, Number, Name, Frame, Width, Order, Close, TooMany, End}
 use Rattle.cec_asm.specs.declared.script.ScriptError.{ScriptError}
 use Rattle.cec_asm.specs.declared.script.ScriptError.TheVariants as errors
-use Rattle.cec_asm.specs.declared.script.LineError.{LineError}
-use Rattle.cec_asm.specs.declared.script.LineError.TheVariants.{Fault, Memory}
+use Rattle.cec_asm.specs.declared.script.ScriptLineError.{ScriptLineError}
+use Rattle.cec_asm.specs.declared.script.ScriptLineError.TheVariants.{Fault, Memory}
 
--- the words by which a refused line is told
+-- the words by which a refused line is reported
 abbrev pub script_cause : ScriptCause → List ℕ
 script_cause Word = codes "word"
 script_cause Number = codes "number"
@@ -63,7 +63,7 @@ pub record Notes : Type 0 where
   pub pulses : List Stretch
   pub end : Option ℕ
 
-abbrev pub notes_of : Draft → Notes
+abbrev pub notes_of : ScriptDraft → Notes
 notes_of draft = record { events = draft.events.items; pulses = draft.pulses.items; end = draft.end }
 
 -- nothing yet
@@ -85,8 +85,8 @@ last_time events = option_map_or (λ event. event.at) (slice_get events (length 
 -- ---- events
 
 -- an event of this line: its time is not before the last event's, and no `end` stands above it
-abbrev pub scheduled : Notes → ℕ → ℕ → Event → Result Notes LineFault
-scheduled notes line time event =
+abbrev pub notes_with_event : Notes → ℕ → ℕ → Event → Result Notes LineFault
+notes_with_event notes line time event =
     if nat_lt time (last_time notes.events) then Err (at_word 1 Order)
     else if is_some notes.end then Err (at_word 0 End)
     else Ok (record notes { events = notes.events ++ record { line = line; at = time; event = event } ∷ [] })
@@ -97,7 +97,7 @@ plug_read notes line None port child parent = Err (at_word 1 Number)
 plug_read notes line (Some time) None child parent = Err (at_word 5 Number)
 plug_read notes line (Some time) (Some port) None parent = Err (at_word 3 Name)
 plug_read notes line (Some time) (Some port) (Some child) None = Err (at_word 4 Name)
-plug_read notes line (Some time) (Some port) (Some child) (Some parent) = scheduled notes line time (Plug child parent (min port 255))
+plug_read notes line (Some time) (Some port) (Some child) (Some parent) = notes_with_event notes line time (Plug child parent (min port 255))
 
 abbrev pub plug_words : List Node → Notes → ℕ → List ℕ → ℕ → Option (List ℕ × List ℕ × List ℕ) → Result Notes LineFault
 plug_words tree notes line time count None = Err (misfit 3 count 3)
@@ -108,7 +108,7 @@ plug_words tree notes line time count (Some words) =
 abbrev pub unplug_read : Notes → ℕ → Option ℕ → Option ℕ → Result Notes LineFault
 unplug_read notes line None child = Err (at_word 1 Number)
 unplug_read notes line (Some time) None = Err (at_word 3 Name)
-unplug_read notes line (Some time) (Some child) = scheduled notes line time (Unplug child)
+unplug_read notes line (Some time) (Some child) = notes_with_event notes line time (Unplug child)
 
 abbrev pub unplug_words : List Node → Notes → ℕ → List ℕ → ℕ → Option (List ℕ) → Result Notes LineFault
 unplug_words tree notes line time count None = Err (misfit 3 count 1)
@@ -119,7 +119,7 @@ abbrev pub key_read : Notes → ℕ → Bool → Result KeyValue LineFault → O
 key_read notes line press (Err fault) time device = Err fault
 key_read notes line press (Ok key) None device = Err (at_word 1 Number)
 key_read notes line press (Ok key) (Some time) None = Err (at_word 3 Name)
-key_read notes line press (Ok key) (Some time) (Some device) = scheduled notes line time (Key device key press)
+key_read notes line press (Ok key) (Some time) (Some device) = notes_with_event notes line time (Key device key press)
 
 abbrev pub key_words : List Node → Notes → ℕ → Bool → List ℕ → List (List ℕ) → Result Notes LineFault
 key_words tree notes line press time [] = Err (at_word 3 Word)
@@ -130,7 +130,7 @@ abbrev pub act_read : Notes → ℕ → Option Act → Option ℕ → Option ℕ
 act_read notes line None time device = Err (at_word 4 Word)
 act_read notes line (Some act) None device = Err (at_word 1 Number)
 act_read notes line (Some act) (Some time) None = Err (at_word 3 Name)
-act_read notes line (Some act) (Some time) (Some device) = scheduled notes line time (Outside device act)
+act_read notes line (Some act) (Some time) (Some device) = notes_with_event notes line time (Outside device act)
 
 abbrev pub hold_words : List Node → Notes → ℕ → List ℕ → ℕ → Option (List ℕ × List ℕ) → Result Notes LineFault
 hold_words tree notes line time count None = Err (misfit 3 count 2)
@@ -156,12 +156,12 @@ abbrev pub IsFrameOf : List ℕ → Result (List ℕ) AssembleError → Type 0
 IsFrameOf text (Ok frame) = IsTextOf text frame × ((other : List ℕ) → IsTextOf text other → frame ≡ other)
 IsFrameOf text (Err cause) = IsRefused text cause × ((frame : List ℕ) → IsTextOf text frame → ⊥)
 
--- `at T send NAME FRAME`; the frame's text is all that stands behind the name
+-- `at T send NAME FRAME`; the frame's text is all that stands after the name
 abbrev pub send_read : Notes → ℕ → Option ℕ → Option ℕ → Result (List ℕ) AssembleError → Result Notes LineFault
 send_read notes line None device frame = Err (at_word 1 Number)
 send_read notes line (Some time) None frame = Err (at_word 3 Name)
 send_read notes line (Some time) (Some device) (Err cause) = Err (at_word (4 + frame_word cause) (Frame cause))
-send_read notes line (Some time) (Some device) (Ok frame) = scheduled notes line time (Send device frame)
+send_read notes line (Some time) (Some device) (Ok frame) = notes_with_event notes line time (Send device frame)
 
 abbrev pub IsSendRead : List Node → Notes → ℕ → List ℕ → List (List ℕ) → Result Notes LineFault → Type 0
 IsSendRead tree notes line time [] read = read ≡ Err (at_word 3 Word)
@@ -171,7 +171,7 @@ IsSendRead tree notes line time (name ∷ word ∷ words) read =
     × IsFrameOf (text_of (word ∷ words)) frame
     × (read ≡ send_read notes line (time_of time) (device_named tree name) frame)
 
--- the words behind `at`
+-- the words after `at`
 abbrev pub IsEventRead : List Node → Notes → ℕ → List (List ℕ) → Result Notes LineFault → Type 0
 IsEventRead tree notes line [] read = read ≡ Err (at_word 1 Word)
 IsEventRead tree notes line (time ∷ []) read = read ≡ Err (at_word 2 Word)
@@ -190,7 +190,7 @@ pulse_fault faults.TooMany = at_word 0 TooMany
 abbrev pub last_end : List Stretch → Option ℕ
 last_end pulses = option_map (λ pulse. pulse.to) (slice_get pulses (length pulses - 1))
 
--- a pulse behind the others: narrow and far enough from the last, one of at most 4,096 with those that wait, and no `end`
+-- a pulse after the others: narrow and far enough from the last, one of at most 4,096 with those that wait, and no `end`
 -- stands above it
 abbrev pub unless_fault : Option PulsesError → Notes → ℕ → Stretch → Result Notes LineFault
 unless_fault (Some fault) notes waiting pulse = Err (pulse_fault fault)
@@ -199,14 +199,14 @@ unless_fault None notes waiting pulse =
     else if is_some notes.end then Err (at_word 0 End)
     else Ok (record notes { pulses = notes.pulses ++ pulse ∷ [] })
 
-abbrev pub pulsed : Notes → ℕ → Stretch → Result Notes LineFault
-pulsed notes waiting pulse = unless_fault (stretch_fault (last_end notes.pulses) pulse) notes waiting pulse
+abbrev pub notes_with_pulse : Notes → ℕ → Stretch → Result Notes LineFault
+notes_with_pulse notes waiting pulse = unless_fault (stretch_fault (last_end notes.pulses) pulse) notes waiting pulse
 
 -- `pulse T WIDTH`; a width above 65,535 counts as 65,535
 abbrev pub pulse_read : Notes → ℕ → Option ℕ → Option ℕ → Result Notes LineFault
 pulse_read notes waiting None width = Err (at_word 1 Number)
 pulse_read notes waiting (Some time) None = Err (at_word 2 Number)
-pulse_read notes waiting (Some time) (Some width) = pulsed notes waiting (record { from = time; to = time + min width 65535 })
+pulse_read notes waiting (Some time) (Some width) = notes_with_pulse notes waiting (record { from = time; to = time + min width 65535 })
 
 abbrev pub pulse_words : Notes → ℕ → ℕ → Option (List ℕ × List ℕ) → Result Notes LineFault
 pulse_words notes waiting count None = Err (misfit 1 count 2)
@@ -253,10 +253,10 @@ pub record ScriptFault : Type 0 where
 abbrev pub fault_at : ℕ → LineFault → ScriptFault
 fault_at line fault = record { line = line; cause = fault.cause; word = fault.word }
 
--- behind the last line an `end` stands above
-abbrev pub ended : Notes → ℕ → Option ℕ → Result Course ScriptFault
-ended notes line None = Err (fault_at line (at_word 0 End))
-ended notes line (Some time) = Ok (record { events = notes.events; pulses = notes.pulses; end = time })
+-- after the last line an `end` stands above
+abbrev pub course_at_end : Notes → ℕ → Option ℕ → Result Course ScriptFault
+course_at_end notes line None = Err (fault_at line (at_word 0 End))
+course_at_end notes line (Some time) = Ok (record { events = notes.events; pulses = notes.pulses; end = time })
 
 abbrev pub Onward : ℕ → Result Notes LineFault → (Notes → Type 0) → Result Course ScriptFault → Type 0
 Onward line (Ok notes) rest read = rest notes
@@ -264,7 +264,7 @@ Onward line (Err fault) rest read = read ≡ Err (fault_at line fault)
 
 -- what the lines from this number on make of the notes: a script, or the first fault. All pulses of a script wait for its run.
 abbrev pub AreLinesRead : List Node → List (List ℕ) → ℕ → Notes → Result Course ScriptFault → Type 0
-AreLinesRead tree [] line notes read = read ≡ ended notes line notes.end
+AreLinesRead tree [] line notes read = read ≡ course_at_end notes line notes.end
 AreLinesRead tree (text ∷ texts) line notes read =
     (now : Result Notes LineFault)
     × IsLineRead tree notes (length notes.pulses) line text now
@@ -277,13 +277,13 @@ IsScriptRead tree text read = AreLinesRead tree (lines_of text) 1 no_notes read
 -- ---- what the program gives
 
 -- what a part of a line made of the draft is what its words say, unless memory ran out
-abbrev pub GivesNotes : Notes → Result Unit LineError → Result Notes LineFault → Type 0
+abbrev pub GivesNotes : Notes → Result Unit ScriptLineError → Result Notes LineFault → Type 0
 GivesNotes notes (Ok done) read = read ≡ Ok notes
 GivesNotes notes (Err Memory) read = Unit {0}
 GivesNotes notes (Err (Fault fault)) read = read ≡ Err fault
 
 -- the same of what is read by a relation
-abbrev pub Gives : Notes → Result Unit LineError → (Result Notes LineFault → Type 0) → Type 0
+abbrev pub Gives : Notes → Result Unit ScriptLineError → (Result Notes LineFault → Type 0) → Type 0
 Gives notes (Ok done) IsRead = IsRead (Ok notes)
 Gives notes (Err Memory) IsRead = Unit {0}
 Gives notes (Err (Fault fault)) IsRead = IsRead (Err fault)
@@ -294,7 +294,7 @@ GivesScript tree text (Ok script) = IsScriptRead tree text (Ok (course_of script
 GivesScript tree text (Err errors.Memory) = Unit {0}
 GivesScript tree text (Err (errors.At line cause word)) = IsScriptRead tree text (Err (record { line = line; cause = cause; word = word }))
 
-abbrev pub error_at : ℕ → LineError → ScriptError
+abbrev pub error_at : ℕ → ScriptLineError → ScriptError
 error_at line Memory = errors.Memory
 error_at line (Fault fault) = errors.At line fault.cause fault.word
 

@@ -8,22 +8,22 @@ use Rattle.hdmi_core.specs.Kind.{kind_named}
 use Rattle.hdmi_core.specs.declared.kind.Kind.{Kind}
 use Rattle.hdmi_topo.specs.Name.{is_name}
 use Rattle.hdmi_topo.specs.Node.{Node}
-use Rattle.hdmi_topo.specs.Tree.{device_named, has_root, add_fault, added, plug_fault, plugged}
+use Rattle.hdmi_topo.specs.Tree.{device_named, has_root, add_fault, tree_with_device, plug_fault, tree_with_plug}
 use Rattle.hdmi_topo.specs.declared.plug.AddError.{AddError}
 use Rattle.hdmi_topo.specs.declared.plug.AddError.TheVariants as adding
 use Rattle.hdmi_topo.specs.declared.plug.PlugError.{PlugError}
 use Rattle.hdmi_topo.specs.declared.plug.PlugError.TheVariants as plugging
-use Rattle.cec_words.specs.Lines.{lines_of, is_skipped}
-use Rattle.cec_words.specs.Words.{words_of, one_of, three_of}
-use Rattle.cec_words.specs.Number.{number_of}
+use Rattle.hdmi_core.specs.Lines.{lines_of, is_skipped}
+use Rattle.hdmi_core.specs.Words.{words_of, one_of, three_of}
+use Rattle.hdmi_core.specs.Number.{number_of}
 use Rattle.cec_asm.specs.declared.topology.Topology.{Topology}
 use Rattle.cec_asm.specs.declared.topology.TopologyCause.{TopologyCause}
 use Rattle.cec_asm.specs.declared.topology.TopologyCause.TheVariants.{Word, Number, Name, Full, SecondRoot, NoRoot, PortRange, PortTaken, NotLoose, Loop, Hex}
 use Rattle.cec_asm.specs.declared.topology.TopologyError.{TopologyError}
 use Rattle.cec_asm.specs.declared.topology.TopologyError.TheVariants as errors
 use Rattle.cec_asm.specs.declared.topology.LineFault.{LineFault}
-use Rattle.cec_asm.specs.declared.topology.LineError.{LineError}
-use Rattle.cec_asm.specs.declared.topology.LineError.TheVariants.{Fault, Memory}
+use Rattle.cec_asm.specs.declared.topology.TopologyLineError.{TopologyLineError}
+use Rattle.cec_asm.specs.declared.topology.TopologyLineError.TheVariants.{Fault, Memory}
 
 -- a topology without where it lies in memory
 pub record Plan : Type 0 where
@@ -33,7 +33,7 @@ pub record Plan : Type 0 where
 abbrev pub plan_of : Topology → Plan
 plan_of t = record { tree = t.tree; edid = option_map (λ bytes. bytes.items) t.edid }
 
--- the words by which a refused line is told
+-- the words by which a refused line is reported
 abbrev pub topology_cause : TopologyCause → List ℕ
 topology_cause Word = codes "word"
 topology_cause Number = codes "number"
@@ -51,7 +51,7 @@ topology_cause Hex = codes "hex"
 abbrev pub at_word : ℕ → TopologyCause → LineFault
 at_word word cause = record { cause = cause; word = word }
 
--- behind a line's first word stand so many, and others are wanted: the first that is missing or too many
+-- after a line's first word stand so many, and others are wanted: the first that is missing or too many
 abbrev pub misfit : ℕ → ℕ → LineFault
 misfit count wanted = at_word (1 + min count wanted) Word
 
@@ -82,7 +82,7 @@ device_read plan name (Some kind) None = Err (at_word 3 Number)
 device_read plan name (Some kind) (Some ports) =
     if nat_lt 15 ports then Err (at_word 3 Number)
     else if not (is_name name) || is_some (device_named plan.tree name) then Err (at_word 1 Name)
-    else unless_add (add_fault 15 plan.tree name kind) (record plan { tree = added plan.tree name kind ports })
+    else unless_add (add_fault 15 plan.tree name kind) (record plan { tree = tree_with_device plan.tree name kind ports })
 
 abbrev pub device_line : Plan → ℕ → Option (List ℕ × List ℕ × List ℕ) → Result Plan LineFault
 device_line plan count None = Err (misfit count 3)
@@ -94,7 +94,7 @@ plug_read plan None child parent = Err (at_word 3 Number)
 plug_read plan (Some port) None parent = Err (at_word 1 Name)
 plug_read plan (Some port) (Some child) None = Err (at_word 2 Name)
 plug_read plan (Some port) (Some child) (Some parent) =
-    unless_plug (plug_fault plan.tree child parent (min port 255)) (record plan { tree = plugged plan.tree child parent (min port 255) })
+    unless_plug (plug_fault plan.tree child parent (min port 255)) (record plan { tree = tree_with_plug plan.tree child parent (min port 255) })
 
 abbrev pub plug_line : Plan → ℕ → Option (List ℕ × List ℕ × List ℕ) → Result Plan LineFault
 plug_line plan count None = Err (misfit count 3)
@@ -114,16 +114,16 @@ edid_line plan count None = Err (misfit count 1)
 edid_line plan count (Some word) = if is_some plan.edid then Err (at_word 0 Word) else edid_read plan (bytes_of word)
 
 -- a line by its words
-abbrev pub worded : Plan → List (List ℕ) → Result Plan LineFault
-worded plan [] = Err (at_word 0 Word)
-worded plan (verb ∷ words) =
+abbrev pub plan_with_words : Plan → List (List ℕ) → Result Plan LineFault
+plan_with_words plan [] = Err (at_word 0 Word)
+plan_with_words plan (verb ∷ words) =
     if bytes_eq verb (codes "device") then device_line plan (length words) (three_of words)
     else if bytes_eq verb (codes "plug") then plug_line plan (length words) (three_of words)
     else if bytes_eq verb (codes "edid") then edid_line plan (length words) (one_of words)
     else Err (at_word 0 Word)
 
 abbrev pub line_read : Plan → List ℕ → Result Plan LineFault
-line_read plan line = if is_skipped line then Ok plan else worded plan (words_of line)
+line_read plan line = if is_skipped line then Ok plan else plan_with_words plan (words_of line)
 
 -- the first line at fault, and its word
 pub record TopologyFault : Type 0 where
@@ -138,7 +138,7 @@ abbrev pub at_line : ℕ → Result Plan LineFault → (Plan → Result Plan Top
 at_line line (Ok plan) onward = onward plan
 at_line line (Err fault) onward = Err (fault_at line fault)
 
--- lines from this number on; behind the last one a television is there
+-- lines from this number on; after the last one a television is there
 abbrev pub lines_read : List (List ℕ) → ℕ → Plan → Result Plan TopologyFault
 lines_read [] number plan = if has_root plan.tree then Ok plan else Err (fault_at number (at_word 0 NoRoot))
 lines_read (line ∷ lines) number plan = at_line number (line_read plan line) (λ next. lines_read lines (number + 1) next)
@@ -154,11 +154,11 @@ GivesTopology (Err errors.Memory) read = Unit {0}
 GivesTopology (Err (errors.At line cause word)) read = read ≡ Err (record { line = line; cause = cause; word = word })
 
 -- what a line made of the topology is what the line says, unless memory ran out
-abbrev pub GivesLine : Plan → Result Unit LineError → Result Plan LineFault → Type 0
+abbrev pub GivesLine : Plan → Result Unit TopologyLineError → Result Plan LineFault → Type 0
 GivesLine plan (Ok done) read = read ≡ Ok plan
 GivesLine plan (Err Memory) read = Unit {0}
 GivesLine plan (Err (Fault fault)) read = read ≡ Err fault
 
-abbrev pub error_at : ℕ → LineError → TopologyError
+abbrev pub error_at : ℕ → TopologyLineError → TopologyError
 error_at line Memory = errors.Memory
 error_at line (Fault fault) = errors.At line fault.cause fault.word

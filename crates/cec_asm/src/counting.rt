@@ -1,9 +1,9 @@
 //! Counts of words.
 ghost use Rattle.std.specs.Prelude.{◌≡◌, length, min};
 ghost use Rattle.std.specs.Option.{option_copied};
-ghost use Rattle.cec_words.specs.Words.{words_behind};
+ghost use Rattle.hdmi_core.specs.Words.{words_behind};
 
-use cec_words::first_word;
+use hdmi_core::first_word;
 
 /// How many words are left, or so many where there are more.
 pub fn word_count(rest: Option<&[u8]>, most: u8) -> u8

@@ -1,7 +1,7 @@
 //! Which word of a script's line is at fault.
 ghost use Rattle.std.specs.Prelude.{◌≡◌, ◌+◌, ◌≤◌, length};
 ghost use Rattle.std.specs.Option.{option_copied};
-ghost use Rattle.cec_words.specs.Words.{words_behind};
+ghost use Rattle.hdmi_core.specs.Words.{words_behind};
 ghost use Rattle.cec_asm.specs.Fault.{at_word, frame_word, misfit};
 
 use crate::counting::word_count;
@@ -23,7 +23,7 @@ pub fn at_word(word: u8, cause: ScriptCause) -> LineFault
     LineFault { cause, word }
 }
 
-/// Of words behind so many, of which others than so many are left.
+/// Of words after so many, of which others than so many are left.
 pub fn misfit(before: u8, rest: Option<&[u8]>, wanted: u8) -> LineFault
     requires few { before + wanted ≤ 255 }
     ensures { result ≡ misfit before (length (words_behind (option_copied rest.entry))) wanted }

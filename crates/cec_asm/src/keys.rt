@@ -4,17 +4,18 @@ ghost use Rattle.std.specs.List.{list_all};
 ghost use Rattle.std.specs.Char.{is_ascii_lowercase};
 ghost use Rattle.std.specs.Option.{option_copied};
 ghost use Rattle.cec_feature.specs.KeyWords.{key_named};
-ghost use Rattle.cec_words.specs.Number.{number_of};
-ghost use Rattle.cec_words.specs.Words.{words_behind};
-ghost use Rattle.cec_asm.specs.Keys.{key_alone, switch_of, language_of, destination_of, code_of, control_of, known, port_key, values_of, unfit_by, unfit, key_with, remote_by, remote_key, if_named, key_of};
+ghost use Rattle.hdmi_core.specs.Number.{number_of};
+ghost use Rattle.hdmi_core.specs.Words.{words_behind};
+ghost use Rattle.cec_asm.specs.Keys.{key_alone, switch_of, language_of, destination_of, code_of, control_of, key_or_cause, port_key, values_of, unfit_by, unfit, key_with, remote_by, remote_key, if_named, key_of};
 
 use crate::fault::{LineFault, at_word, misfit};
 use crate::script::ScriptCause;
 use cec_feature::{Key, KeyWord, VolumeKey};
 use cec_frame::Addr;
 use cec_opcode::{Triple, UserControl, WordSet};
-use cec_words::{first_word, number_in, one_word, three_words, two_words};
-use hdmi_core::{Phys, digit_value, is_hex_digit};
+use hdmi_core::{
+    Phys, digit_value, first_word, is_hex_digit, number_in, one_word, three_words, two_words,
+};
 
 fn key_alone(fault: LineFault, word: KeyWord) -> Result<Key, LineFault>
     ensures { result ≡ key_alone fault word }
@@ -91,7 +92,7 @@ fn control_in(word: &[u8]) -> Option<UserControl>
     Some(UserControl::from_byte(code_in(word)?))
 }
 
-// How many words stand behind a key's first one.
+// How many words stand after a key's first one.
 fn values_of(word: KeyWord) -> u8
     ensures value { result ≡ values_of word }
     ensures few { result ≤ 2 }
@@ -125,8 +126,8 @@ fn unfit(rest: Option<&[u8]>) -> LineFault
     }
 }
 
-fn known(key: Option<Key>) -> Result<Key, LineFault>
-    ensures { result ≡ known key }
+fn key_or_cause(key: Option<Key>) -> Result<Key, LineFault>
+    ensures { result ≡ key_or_cause key }
 {
     key.ok_or(at_word(5, ScriptCause::Word))
 }
@@ -144,11 +145,11 @@ fn key_with(fault: LineFault, word: KeyWord, value: &[u8]) -> Result<Key, LineFa
     ensures { result ≡ key_with fault word value.now }
 {
     match word {
-        KeyWord::Watch => known(Phys::read(value).map(Key::Watch)),
+        KeyWord::Watch => key_or_cause(Phys::read(value).map(Key::Watch)),
         KeyWord::Port => port_key(value),
-        KeyWord::Audio => known(switch_in(value).map(|on| Key::Audio { on })),
-        KeyWord::Arc => known(switch_in(value).map(|on| Key::Arc { on })),
-        KeyWord::Language => known(language_in(value).map(Key::Language)),
+        KeyWord::Audio => key_or_cause(switch_in(value).map(|on| Key::Audio { on })),
+        KeyWord::Arc => key_or_cause(switch_in(value).map(|on| Key::Arc { on })),
+        KeyWord::Language => key_or_cause(language_in(value).map(Key::Language)),
         KeyWord::Play
         | KeyWord::Stop
         | KeyWord::Eject
@@ -212,7 +213,7 @@ fn key_of_three(fault: LineFault, word: &[u8], to: &[u8], code: &[u8]) -> Result
     }
 }
 
-/// The key that the words left say: one word, or a word and what it takes. They stand behind four others.
+/// The key that the words left say: one word, or a word and what it takes. They stand after four others.
 pub fn key_in(rest: Option<&[u8]>) -> Result<Key, LineFault>
     ensures { result ≡ key_of (words_behind (option_copied rest.entry)) }
 {

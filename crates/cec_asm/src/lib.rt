@@ -15,5 +15,7 @@ pub use cec_text::{AssembleError, assemble, frame_text, write_frame};
 pub use course::Script;
 pub use fault::LineFault;
 pub use laws::{keys_begin_with_their_words, one_script, scripts_are_sound};
-pub use script::{Draft, LineError, ScriptCause, ScriptError, TimedEvent, parse_script, take_line};
+pub use script::{
+    ScriptCause, ScriptDraft, ScriptError, ScriptLineError, TimedEvent, parse_script, take_line,
+};
 pub use topology::{Topology, TopologyCause, TopologyError, parse_topology};

@@ -1,8 +1,8 @@
 //! The texts of scripts.
 ghost use Rattle.std.specs.Prelude.{◌≡◌, ℕ, ◌+◌, ◌<◌, ◌≤◌, List, [], ◌∷◌, ◌++◌, length, Result, Ok, Err, Some, None, IfOk, IfSome, OnErr, OnOk};
 ghost use Rattle.std.specs.Option.{option_copied};
-ghost use Rattle.cec_words.specs.Words.{words_behind, one_of, two_of, three_of};
-ghost use Rattle.cec_asm.specs.Script.{Notes, no_notes, notes_of, course_of, time_of, last_time, last_end, scheduled, plug_words, unplug_words, key_words, act_read, hold_words, drop_words, event_words, send_read, pulse_fault, pulsed, pulse_words, end_words, other_words, error_at, IsFrameOf, IsSendRead, IsEventRead, IsLineRead, GivesNotes, Gives, GivesScript, IsScript};
+ghost use Rattle.hdmi_core.specs.Words.{words_behind, one_of, two_of, three_of};
+ghost use Rattle.cec_asm.specs.Script.{Notes, no_notes, notes_of, course_of, time_of, last_time, last_end, notes_with_event, plug_words, unplug_words, key_words, act_read, hold_words, drop_words, event_words, send_read, pulse_fault, notes_with_pulse, pulse_words, end_words, other_words, error_at, IsFrameOf, IsSendRead, IsEventRead, IsLineRead, GivesNotes, Gives, GivesScript, IsScript};
 
 use crate::course::Script;
 use crate::fault::{LineFault, at_word, frame_word, misfit};
@@ -14,7 +14,7 @@ use cec_event::Event;
 use cec_frame::Frame;
 use cec_text::{AssembleError, assemble, frames_are_whole};
 use cec_wave::{LATEST_EVENT, MOST_PULSES, PulsesError, Stretch, stretch_fault};
-use cec_words::{first_line, first_word, is_skipped, number_in, one_word, three_words, two_words};
+use hdmi_core::{first_line, first_word, is_skipped, number_in, one_word, three_words, two_words};
 use hdmi_topo::Tree;
 use std::alloc::{AllocFailed, Global};
 use std::fmt::{self, Write};
@@ -40,9 +40,9 @@ pub enum ScriptCause {
     Order,
     /// A pulse less than 25,000 microseconds after the end of the one above.
     Close,
-    /// A pulse behind 4,096 others that wait.
+    /// A pulse after 4,096 others that wait.
     TooMany,
-    /// No `end`, a line behind it, or one that is not after every event.
+    /// No `end`, a line after it, or one that is not after every event.
     End,
 }
 
@@ -84,19 +84,19 @@ pub enum ScriptError {
 
 /// Why a line is not taken.
 #[derive(Debug, Drop)]
-pub enum LineError {
+pub enum ScriptLineError {
     Fault(LineFault),
     Memory,
 }
 
-impl<T: Drop> From<AllocFailed<T>> for LineError {
+impl<T: Drop> From<AllocFailed<T>> for ScriptLineError {
     ghost use Rattle.std.specs.Prelude.{◌≡◌};
-    ghost use Rattle.cec_asm.specs.declared.script.LineError.TheVariants.{Memory};
+    ghost use Rattle.cec_asm.specs.declared.script.ScriptLineError.TheVariants.{Memory};
 
     ghost from_gives = { λ _ error. error ≡ Memory };
 
-    fn from(_error: AllocFailed<T>) -> LineError {
-        LineError::Memory
+    fn from(_error: AllocFailed<T>) -> ScriptLineError {
+        ScriptLineError::Memory
     }
 }
 
@@ -110,18 +110,18 @@ pub struct TimedEvent {
 
 /// What the lines so far say.
 #[derive(Drop)]
-pub struct Draft {
+pub struct ScriptDraft {
     pub events: Vec<TimedEvent>,
     pub pulses: Vec<Stretch>,
     pub end: Option<u64>,
 }
 
-impl Draft {
+impl ScriptDraft {
     /// No line yet.
     pub fn new(alloc: Global) -> Self
         ensures { notes_of result ≡ no_notes }
     {
-        Draft {
+        ScriptDraft {
             events: Vec::new(alloc),
             pulses: Vec::new(alloc),
             end: None,
@@ -159,15 +159,20 @@ fn last_end(pulses: &[Stretch]) -> Option<u64>
     }
 }
 
-fn schedule(draft: &mut Draft, line: u64, time: u64, event: Event) -> Result<(), LineError>
-    ensures gives { GivesNotes (notes_of draft.new) result (scheduled (notes_of draft.old) line time event) }
+fn schedule(
+    draft: &mut ScriptDraft,
+    line: u64,
+    time: u64,
+    event: Event,
+) -> Result<(), ScriptLineError>
+    ensures gives { GivesNotes (notes_of draft.new) result (notes_with_event (notes_of draft.old) line time event) }
     ensures kept { OnErr result (notes_of draft.new ≡ notes_of draft.old) }
 {
     if time < last_time(&draft.events) {
-        return Err(LineError::Fault(at_word(1, ScriptCause::Order)));
+        return Err(ScriptLineError::Fault(at_word(1, ScriptCause::Order)));
     }
     if draft.end.is_some() {
-        return Err(LineError::Fault(at_word(0, ScriptCause::End)));
+        return Err(ScriptLineError::Fault(at_word(0, ScriptCause::End)));
     }
     draft.events.push(TimedEvent {
         line,
@@ -177,31 +182,31 @@ fn schedule(draft: &mut Draft, line: u64, time: u64, event: Event) -> Result<(),
     Ok(())
 }
 
-/// Takes the words behind `at T plug`.
+/// Takes the words after `at T plug`.
 fn take_plug(
     tree: &Tree<15>,
-    draft: &mut Draft,
+    draft: &mut ScriptDraft,
     line: u64,
     time: &[u8],
     rest: Option<&[u8]>,
-) -> Result<(), LineError>
+) -> Result<(), ScriptLineError>
     ensures gives { GivesNotes (notes_of draft.new) result (plug_words tree.now (notes_of draft.old) line time.now (length (words_behind (option_copied rest.entry))) (three_of (words_behind (option_copied rest.entry)))) }
     ensures kept { OnErr result (notes_of draft.new ≡ notes_of draft.old) }
 {
     let Some((child, parent, port)) = three_words(rest) else {
-        return Err(LineError::Fault(misfit(3, rest, 3)));
+        return Err(ScriptLineError::Fault(misfit(3, rest, 3)));
     };
     let Some(time) = time_in(time) else {
-        return Err(LineError::Fault(at_word(1, ScriptCause::Number)));
+        return Err(ScriptLineError::Fault(at_word(1, ScriptCause::Number)));
     };
     let Some(port) = number_in(port) else {
-        return Err(LineError::Fault(at_word(5, ScriptCause::Number)));
+        return Err(ScriptLineError::Fault(at_word(5, ScriptCause::Number)));
     };
     let Some(child) = tree.device_named(child) else {
-        return Err(LineError::Fault(at_word(3, ScriptCause::Name)));
+        return Err(ScriptLineError::Fault(at_word(3, ScriptCause::Name)));
     };
     let Some(parent) = tree.device_named(parent) else {
-        return Err(LineError::Fault(at_word(4, ScriptCause::Name)));
+        return Err(ScriptLineError::Fault(at_word(4, ScriptCause::Name)));
     };
     let port = port.min(255) as u8;
     schedule(
@@ -216,111 +221,111 @@ fn take_plug(
     )
 }
 
-/// Takes the word behind `at T unplug`.
+/// Takes the word after `at T unplug`.
 fn take_unplug(
     tree: &Tree<15>,
-    draft: &mut Draft,
+    draft: &mut ScriptDraft,
     line: u64,
     time: &[u8],
     rest: Option<&[u8]>,
-) -> Result<(), LineError>
+) -> Result<(), ScriptLineError>
     ensures gives { GivesNotes (notes_of draft.new) result (unplug_words tree.now (notes_of draft.old) line time.now (length (words_behind (option_copied rest.entry))) (one_of (words_behind (option_copied rest.entry)))) }
     ensures kept { OnErr result (notes_of draft.new ≡ notes_of draft.old) }
 {
     let Some(child) = one_word(rest) else {
-        return Err(LineError::Fault(misfit(3, rest, 1)));
+        return Err(ScriptLineError::Fault(misfit(3, rest, 1)));
     };
     let Some(time) = time_in(time) else {
-        return Err(LineError::Fault(at_word(1, ScriptCause::Number)));
+        return Err(ScriptLineError::Fault(at_word(1, ScriptCause::Number)));
     };
     let Some(child) = tree.device_named(child) else {
-        return Err(LineError::Fault(at_word(3, ScriptCause::Name)));
+        return Err(ScriptLineError::Fault(at_word(3, ScriptCause::Name)));
     };
     schedule(draft, line, time, Event::Unplug { child })
 }
 
-/// Takes the words behind `at T press` or `at T release`.
+/// Takes the words after `at T press` or `at T release`.
 fn take_key(
     tree: &Tree<15>,
-    draft: &mut Draft,
+    draft: &mut ScriptDraft,
     line: u64,
     press: bool,
     time: &[u8],
     rest: Option<&[u8]>,
-) -> Result<(), LineError>
+) -> Result<(), ScriptLineError>
     ensures gives { GivesNotes (notes_of draft.new) result (key_words tree.now (notes_of draft.old) line press time.now (words_behind (option_copied rest.entry))) }
     ensures kept { OnErr result (notes_of draft.new ≡ notes_of draft.old) }
 {
     let Some(rest) = rest else {
-        return Err(LineError::Fault(at_word(3, ScriptCause::Word)));
+        return Err(ScriptLineError::Fault(at_word(3, ScriptCause::Word)));
     };
     let (device, rest) = first_word(rest);
     let key = match key_in(rest) {
         Ok(key) => key,
-        Err(fault) => return Err(LineError::Fault(fault)),
+        Err(fault) => return Err(ScriptLineError::Fault(fault)),
     };
     let Some(time) = time_in(time) else {
-        return Err(LineError::Fault(at_word(1, ScriptCause::Number)));
+        return Err(ScriptLineError::Fault(at_word(1, ScriptCause::Number)));
     };
     let Some(device) = tree.device_named(device) else {
-        return Err(LineError::Fault(at_word(3, ScriptCause::Name)));
+        return Err(ScriptLineError::Fault(at_word(3, ScriptCause::Name)));
     };
     schedule(draft, line, time, Event::Key { device, key, press })
 }
 
 fn schedule_act(
-    draft: &mut Draft,
+    draft: &mut ScriptDraft,
     line: u64,
     act: Option<Act>,
     time: Option<u64>,
     device: Option<usize>,
-) -> Result<(), LineError>
+) -> Result<(), ScriptLineError>
     ensures gives { GivesNotes (notes_of draft.new) result (act_read (notes_of draft.old) line act time device) }
     ensures kept { OnErr result (notes_of draft.new ≡ notes_of draft.old) }
 {
     let Some(act) = act else {
-        return Err(LineError::Fault(at_word(4, ScriptCause::Word)));
+        return Err(ScriptLineError::Fault(at_word(4, ScriptCause::Word)));
     };
     let Some(time) = time else {
-        return Err(LineError::Fault(at_word(1, ScriptCause::Number)));
+        return Err(ScriptLineError::Fault(at_word(1, ScriptCause::Number)));
     };
     let Some(device) = device else {
-        return Err(LineError::Fault(at_word(3, ScriptCause::Name)));
+        return Err(ScriptLineError::Fault(at_word(3, ScriptCause::Name)));
     };
     schedule(draft, line, time, Event::Outside { device, act })
 }
 
-/// Takes the words behind `at T hold`.
+/// Takes the words after `at T hold`.
 fn take_hold(
     tree: &Tree<15>,
-    draft: &mut Draft,
+    draft: &mut ScriptDraft,
     line: u64,
     time: &[u8],
     rest: Option<&[u8]>,
-) -> Result<(), LineError>
+) -> Result<(), ScriptLineError>
     ensures gives { GivesNotes (notes_of draft.new) result (hold_words tree.now (notes_of draft.old) line time.now (length (words_behind (option_copied rest.entry))) (two_of (words_behind (option_copied rest.entry)))) }
     ensures kept { OnErr result (notes_of draft.new ≡ notes_of draft.old) }
 {
     let Some((device, addresses)) = two_words(rest) else {
-        return Err(LineError::Fault(misfit(3, rest, 2)));
+        return Err(ScriptLineError::Fault(misfit(3, rest, 2)));
     };
     let act = hold_in(addresses);
     schedule_act(draft, line, act, time_in(time), tree.device_named(device))
 }
 
-/// Takes the word behind `at T drop`.
+/// Takes the word after `at T drop`.
 fn take_drop(
     tree: &Tree<15>,
-    draft: &mut Draft,
+    draft: &mut ScriptDraft,
     line: u64,
     time: &[u8],
     rest: Option<&[u8]>,
-) -> Result<(), LineError>
+) -> Result<(), ScriptLineError>
     ensures gives { GivesNotes (notes_of draft.new) result (drop_words tree.now (notes_of draft.old) line time.now (length (words_behind (option_copied rest.entry))) (one_of (words_behind (option_copied rest.entry)))) }
     ensures kept { OnErr result (notes_of draft.new ≡ notes_of draft.old) }
 {
     let Some(device) = one_word(rest) else {
-        return Err(LineError::Fault(misfit(3, rest, 1)));
+        return Err(ScriptLineError::Fault(misfit(3, rest, 1)));
     };
     let act = Some(Act::Empty);
     schedule_act(draft, line, act, time_in(time), tree.device_named(device))
@@ -340,47 +345,47 @@ fn read_frame(text: &[u8]) -> Result<Frame, AssembleError>
 }
 
 fn schedule_frame(
-    draft: &mut Draft,
+    draft: &mut ScriptDraft,
     line: u64,
     time: Option<u64>,
     device: Option<usize>,
     frame: Result<Frame, AssembleError>,
-) -> Result<(), LineError>
+) -> Result<(), ScriptLineError>
     ensures gives { GivesNotes (notes_of draft.new) result (send_read (notes_of draft.old) line time device frame) }
     ensures kept { OnErr result (notes_of draft.new ≡ notes_of draft.old) }
 {
     let Some(time) = time else {
-        return Err(LineError::Fault(at_word(1, ScriptCause::Number)));
+        return Err(ScriptLineError::Fault(at_word(1, ScriptCause::Number)));
     };
     let Some(device) = device else {
-        return Err(LineError::Fault(at_word(3, ScriptCause::Name)));
+        return Err(ScriptLineError::Fault(at_word(3, ScriptCause::Name)));
     };
     match frame {
         Ok(frame) => schedule(draft, line, time, Event::Send { device, frame }),
-        Err(cause) => Err(LineError::Fault(at_word(
+        Err(cause) => Err(ScriptLineError::Fault(at_word(
             4 + frame_word(cause),
             ScriptCause::Frame(cause),
         ))),
     }
 }
 
-/// Takes the words behind `at T send`: a name, and behind it a frame's text, spaces and all.
+/// Takes the words after `at T send`: a name, and after it a frame's text, spaces and all.
 fn take_send(
     tree: &Tree<15>,
-    draft: &mut Draft,
+    draft: &mut ScriptDraft,
     line: u64,
     time: &[u8],
     rest: Option<&[u8]>,
-) -> Result<(), LineError>
+) -> Result<(), ScriptLineError>
     ensures gives { Gives (notes_of draft.new) result (IsSendRead tree.now (notes_of draft.old) line time.now (words_behind (option_copied rest.entry))) }
     ensures kept { OnErr result (notes_of draft.new ≡ notes_of draft.old) }
 {
     let Some(rest) = rest else {
-        return Err(LineError::Fault(at_word(3, ScriptCause::Word)));
+        return Err(ScriptLineError::Fault(at_word(3, ScriptCause::Word)));
     };
     let (name, frame) = first_word(rest);
     let Some(frame) = frame else {
-        return Err(LineError::Fault(at_word(4, ScriptCause::Word)));
+        return Err(ScriptLineError::Fault(at_word(4, ScriptCause::Word)));
     };
     schedule_frame(
         draft,
@@ -402,71 +407,75 @@ fn pulse_fault(fault: PulsesError) -> LineFault
     }
 }
 
-fn add_pulse(draft: &mut Draft, waiting: usize, pulse: Stretch) -> Result<(), LineError>
-    ensures gives { GivesNotes (notes_of draft.new) result (pulsed (notes_of draft.old) waiting pulse) }
+fn add_pulse(draft: &mut ScriptDraft, waiting: usize, pulse: Stretch) -> Result<(), ScriptLineError>
+    ensures gives { GivesNotes (notes_of draft.new) result (notes_with_pulse (notes_of draft.old) waiting pulse) }
     ensures kept { OnErr result (notes_of draft.new ≡ notes_of draft.old) }
 {
     if let Some(fault) = stretch_fault(last_end(&draft.pulses), pulse) {
-        return Err(LineError::Fault(pulse_fault(fault)));
+        return Err(ScriptLineError::Fault(pulse_fault(fault)));
     }
     if waiting >= MOST_PULSES {
-        return Err(LineError::Fault(at_word(0, ScriptCause::TooMany)));
+        return Err(ScriptLineError::Fault(at_word(0, ScriptCause::TooMany)));
     }
     if draft.end.is_some() {
-        return Err(LineError::Fault(at_word(0, ScriptCause::End)));
+        return Err(ScriptLineError::Fault(at_word(0, ScriptCause::End)));
     }
     draft.pulses.push(pulse)?;
     Ok(())
 }
 
-/// Takes the words behind `pulse`.
-fn take_pulse(draft: &mut Draft, waiting: usize, rest: Option<&[u8]>) -> Result<(), LineError>
+/// Takes the words after `pulse`.
+fn take_pulse(
+    draft: &mut ScriptDraft,
+    waiting: usize,
+    rest: Option<&[u8]>,
+) -> Result<(), ScriptLineError>
     ensures gives { GivesNotes (notes_of draft.new) result (pulse_words (notes_of draft.old) waiting (length (words_behind (option_copied rest.entry))) (two_of (words_behind (option_copied rest.entry)))) }
     ensures kept { OnErr result (notes_of draft.new ≡ notes_of draft.old) }
 {
     let Some((from, width)) = two_words(rest) else {
-        return Err(LineError::Fault(misfit(1, rest, 2)));
+        return Err(ScriptLineError::Fault(misfit(1, rest, 2)));
     };
     let Some(from) = time_in(from) else {
-        return Err(LineError::Fault(at_word(1, ScriptCause::Number)));
+        return Err(ScriptLineError::Fault(at_word(1, ScriptCause::Number)));
     };
     let Some(width) = number_in(width) else {
-        return Err(LineError::Fault(at_word(2, ScriptCause::Number)));
+        return Err(ScriptLineError::Fault(at_word(2, ScriptCause::Number)));
     };
     let to = from + width.min(WIDEST_COUNTED);
     add_pulse(draft, waiting, Stretch { from, to })
 }
 
-/// Takes the word behind `end`.
-fn take_end(draft: &mut Draft, rest: Option<&[u8]>) -> Result<(), LineError>
+/// Takes the word after `end`.
+fn take_end(draft: &mut ScriptDraft, rest: Option<&[u8]>) -> Result<(), ScriptLineError>
     ensures gives { GivesNotes (notes_of draft.new) result (end_words (notes_of draft.old) (length (words_behind (option_copied rest.entry))) (one_of (words_behind (option_copied rest.entry)))) }
     ensures kept { OnErr result (notes_of draft.new ≡ notes_of draft.old) }
 {
     let Some(time) = one_word(rest) else {
-        return Err(LineError::Fault(misfit(1, rest, 1)));
+        return Err(ScriptLineError::Fault(misfit(1, rest, 1)));
     };
     let Some(time) = time_in(time) else {
-        return Err(LineError::Fault(at_word(1, ScriptCause::Number)));
+        return Err(ScriptLineError::Fault(at_word(1, ScriptCause::Number)));
     };
     if draft.end.is_some() {
-        return Err(LineError::Fault(at_word(0, ScriptCause::End)));
+        return Err(ScriptLineError::Fault(at_word(0, ScriptCause::End)));
     }
     if !draft.events.is_empty() && time <= last_time(&draft.events) {
-        return Err(LineError::Fault(at_word(1, ScriptCause::End)));
+        return Err(ScriptLineError::Fault(at_word(1, ScriptCause::End)));
     }
     draft.end = Some(time);
     Ok(())
 }
 
-/// Takes the words behind `at T VERB`, but for `send`.
+/// Takes the words after `at T VERB`, but for `send`.
 fn take_words(
     tree: &Tree<15>,
-    draft: &mut Draft,
+    draft: &mut ScriptDraft,
     line: u64,
     time: &[u8],
     verb: &[u8],
     rest: Option<&[u8]>,
-) -> Result<(), LineError>
+) -> Result<(), ScriptLineError>
     ensures gives { GivesNotes (notes_of draft.new) result (event_words tree.now (notes_of draft.old) line time.now verb.now (words_behind (option_copied rest.entry))) }
     ensures kept { OnErr result (notes_of draft.new ≡ notes_of draft.old) }
 {
@@ -483,26 +492,26 @@ fn take_words(
     } else if verb == b"drop".as_slice() {
         take_drop(tree, draft, line, time, rest)
     } else {
-        Err(LineError::Fault(at_word(2, ScriptCause::Word)))
+        Err(ScriptLineError::Fault(at_word(2, ScriptCause::Word)))
     }
 }
 
-/// Takes the words behind `at`.
+/// Takes the words after `at`.
 fn take_event(
     tree: &Tree<15>,
-    draft: &mut Draft,
+    draft: &mut ScriptDraft,
     line: u64,
     rest: Option<&[u8]>,
-) -> Result<(), LineError>
+) -> Result<(), ScriptLineError>
     ensures gives { Gives (notes_of draft.new) result (IsEventRead tree.now (notes_of draft.old) line (words_behind (option_copied rest.entry))) }
     ensures kept { OnErr result (notes_of draft.new ≡ notes_of draft.old) }
 {
     let Some(rest) = rest else {
-        return Err(LineError::Fault(at_word(1, ScriptCause::Word)));
+        return Err(ScriptLineError::Fault(at_word(1, ScriptCause::Word)));
     };
     let (time, rest) = first_word(rest);
     let Some(rest) = rest else {
-        return Err(LineError::Fault(at_word(2, ScriptCause::Word)));
+        return Err(ScriptLineError::Fault(at_word(2, ScriptCause::Word)));
     };
     let (verb, rest) = first_word(rest);
     if verb == b"send".as_slice() {
@@ -514,11 +523,11 @@ fn take_event(
 
 /// Takes the words of a line that is no event.
 fn take_other(
-    draft: &mut Draft,
+    draft: &mut ScriptDraft,
     waiting: usize,
     verb: &[u8],
     rest: Option<&[u8]>,
-) -> Result<(), LineError>
+) -> Result<(), ScriptLineError>
     ensures gives { GivesNotes (notes_of draft.new) result (other_words (notes_of draft.old) waiting verb.now (words_behind (option_copied rest.entry))) }
     ensures kept { OnErr result (notes_of draft.new ≡ notes_of draft.old) }
 {
@@ -527,7 +536,7 @@ fn take_other(
     } else if verb == b"end".as_slice() {
         take_end(draft, rest)
     } else {
-        Err(LineError::Fault(at_word(0, ScriptCause::Word)))
+        Err(ScriptLineError::Fault(at_word(0, ScriptCause::Word)))
     }
 }
 
@@ -535,11 +544,11 @@ fn take_other(
 /// where the run has not begun.
 pub fn take_line(
     tree: &Tree<15>,
-    draft: &mut Draft,
+    draft: &mut ScriptDraft,
     waiting: usize,
     number: u64,
     line: &[u8],
-) -> Result<(), LineError>
+) -> Result<(), ScriptLineError>
     ensures gives { Gives (notes_of draft.new) result (IsLineRead tree.now (notes_of draft.old) waiting number line.now) }
     ensures kept { OnErr result (notes_of draft.new ≡ notes_of draft.old) }
 {
@@ -554,16 +563,16 @@ pub fn take_line(
     }
 }
 
-fn error_at(line: u64, error: LineError) -> ScriptError
+fn error_at(line: u64, error: ScriptLineError) -> ScriptError
     ensures { result ≡ error_at line error }
 {
     match error {
-        LineError::Fault(fault) => ScriptError::At {
+        ScriptLineError::Fault(fault) => ScriptError::At {
             line,
             cause: fault.cause,
             word: fault.word,
         },
-        LineError::Memory => ScriptError::Memory,
+        ScriptLineError::Memory => ScriptError::Memory,
     }
 }
 
@@ -582,7 +591,7 @@ pub fn parse_script(alloc: Global, topology: &Topology, text: &[u8]) -> Result<S
     ensures script { IfOk result (λ script. IsScript (length topology.now.tree) (course_of script)) }
 {
     let tree = &topology.tree;
-    let mut draft = Draft {
+    let mut draft = ScriptDraft {
         events: Vec::new(alloc),
         pulses: Vec::new(alloc),
         end: None,

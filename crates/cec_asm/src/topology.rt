@@ -1,13 +1,12 @@
 //! Topologies and their texts.
 ghost use Rattle.std.specs.Prelude.{◌≡◌, ℕ, ◌+◌, ◌<◌, ◌≤◌, length, List, [], ◌∷◌, ◌++◌, Result, Ok, Err, Some};
 ghost use Rattle.std.specs.Option.{option_copied};
-ghost use Rattle.cec_words.specs.Words.{words_behind, one_of, three_of};
-ghost use Rattle.cec_asm.specs.declared.topology.LineError.TheVariants.{Fault};
+ghost use Rattle.hdmi_core.specs.Words.{words_behind, one_of, three_of};
+ghost use Rattle.cec_asm.specs.declared.topology.TopologyLineError.TheVariants.{Fault};
 ghost use Rattle.cec_asm.specs.Topology.{Plan, plan_of, at_word, misfit, device_line, plug_line, edid_line, line_read, topology_of, error_at, GivesLine, GivesTopology};
 
 use crate::counting::word_count;
-use cec_words::{first_line, first_word, is_skipped, number_in, one_word, three_words};
-use hdmi_core::Kind;
+use hdmi_core::{Kind, first_line, first_word, is_skipped, number_in, one_word, three_words};
 use hdmi_topo::{AddError, PlugError, Tree, is_name};
 use hex::FromHexError;
 use std::alloc::Global;
@@ -27,7 +26,7 @@ pub enum TopologyCause {
     Full,
     /// A second television.
     SecondRoot,
-    /// No television, told of the line behind the last.
+    /// No television, told of the line after the last.
     NoRoot,
     /// The parent has no such port.
     PortRange,
@@ -88,33 +87,33 @@ struct LineFault {
 
 /// Why a line is not taken.
 #[derive(Debug, Drop)]
-enum LineError {
+enum TopologyLineError {
     Fault(LineFault),
     Memory,
 }
 
-fn at_word(word: u8, cause: TopologyCause) -> LineError
+fn at_word(word: u8, cause: TopologyCause) -> TopologyLineError
     ensures { result ≡ Fault (at_word word cause) }
 {
-    LineError::Fault(LineFault { cause, word })
+    TopologyLineError::Fault(LineFault { cause, word })
 }
 
-// Of words behind the first one, of which others than so many are left.
-fn misfit(rest: Option<&[u8]>, wanted: u8) -> LineError
+// Of words after the first one, of which others than so many are left.
+fn misfit(rest: Option<&[u8]>, wanted: u8) -> TopologyLineError
     requires few { wanted ≤ 3 }
     ensures { result ≡ Fault (misfit (length (words_behind (option_copied rest.entry))) wanted) }
 {
     at_word(1 + word_count(rest, wanted), TopologyCause::Word)
 }
 
-impl From<AddError> for LineError {
+impl From<AddError> for TopologyLineError {
     ghost use Rattle.std.specs.Prelude.{◌≡◌};
     ghost use Rattle.cec_asm.specs.Topology.{add_fault_of};
-    ghost use Rattle.cec_asm.specs.declared.topology.LineError.TheVariants.{Fault};
+    ghost use Rattle.cec_asm.specs.declared.topology.TopologyLineError.TheVariants.{Fault};
 
     ghost from_gives = { λ error given. given ≡ Fault (add_fault_of error) };
 
-    fn from(error: AddError) -> LineError {
+    fn from(error: AddError) -> TopologyLineError {
         match error {
             AddError::Full => at_word(0, TopologyCause::Full),
             AddError::Name => at_word(1, TopologyCause::Name),
@@ -123,14 +122,14 @@ impl From<AddError> for LineError {
     }
 }
 
-impl From<PlugError> for LineError {
+impl From<PlugError> for TopologyLineError {
     ghost use Rattle.std.specs.Prelude.{◌≡◌};
     ghost use Rattle.cec_asm.specs.Topology.{plug_fault_of};
-    ghost use Rattle.cec_asm.specs.declared.topology.LineError.TheVariants.{Fault};
+    ghost use Rattle.cec_asm.specs.declared.topology.TopologyLineError.TheVariants.{Fault};
 
     ghost from_gives = { λ error given. given ≡ Fault (plug_fault_of error) };
 
-    fn from(error: PlugError) -> LineError {
+    fn from(error: PlugError) -> TopologyLineError {
         match error {
             PlugError::PortRange => at_word(3, TopologyCause::PortRange),
             PlugError::PortTaken => at_word(3, TopologyCause::PortTaken),
@@ -147,8 +146,8 @@ pub struct Topology {
     pub edid: Option<Vec<u8>>,
 }
 
-/// Takes the words behind `device`.
-fn add_device(topology: &mut Topology, rest: Option<&[u8]>) -> Result<(), LineError>
+/// Takes the words after `device`.
+fn add_device(topology: &mut Topology, rest: Option<&[u8]>) -> Result<(), TopologyLineError>
     ensures { GivesLine (plan_of topology.new) result (device_line (plan_of topology.old) (length (words_behind (option_copied rest.entry))) (three_of (words_behind (option_copied rest.entry)))) }
 {
     let Some((name, kind, ports)) = three_words(rest) else {
@@ -170,8 +169,8 @@ fn add_device(topology: &mut Topology, rest: Option<&[u8]>) -> Result<(), LineEr
     Ok(())
 }
 
-/// Takes the words behind `plug`.
-fn add_plug(topology: &mut Topology, rest: Option<&[u8]>) -> Result<(), LineError>
+/// Takes the words after `plug`.
+fn add_plug(topology: &mut Topology, rest: Option<&[u8]>) -> Result<(), TopologyLineError>
     ensures { GivesLine (plan_of topology.new) result (plug_line (plan_of topology.old) (length (words_behind (option_copied rest.entry))) (three_of (words_behind (option_copied rest.entry)))) }
 {
     let Some((child, parent, port)) = three_words(rest) else {
@@ -190,8 +189,12 @@ fn add_plug(topology: &mut Topology, rest: Option<&[u8]>) -> Result<(), LineErro
     Ok(())
 }
 
-/// Takes the word behind `edid`.
-fn add_edid(alloc: Global, topology: &mut Topology, rest: Option<&[u8]>) -> Result<(), LineError>
+/// Takes the word after `edid`.
+fn add_edid(
+    alloc: Global,
+    topology: &mut Topology,
+    rest: Option<&[u8]>,
+) -> Result<(), TopologyLineError>
     ensures { GivesLine (plan_of topology.new) result (edid_line (plan_of topology.old) (length (words_behind (option_copied rest.entry))) (one_of (words_behind (option_copied rest.entry)))) }
 {
     let Some(word) = one_word(rest) else {
@@ -208,13 +211,13 @@ fn add_edid(alloc: Global, topology: &mut Topology, rest: Option<&[u8]>) -> Resu
             topology.edid = Some(bytes);
             Ok(())
         }
-        Err(FromHexError::OutOfMemory) => Err(LineError::Memory),
+        Err(FromHexError::OutOfMemory) => Err(TopologyLineError::Memory),
         Err(_) => Err(at_word(1, TopologyCause::Hex)),
     }
 }
 
 /// Takes a line.
-fn take_line(alloc: Global, topology: &mut Topology, line: &[u8]) -> Result<(), LineError>
+fn take_line(alloc: Global, topology: &mut Topology, line: &[u8]) -> Result<(), TopologyLineError>
     ensures { GivesLine (plan_of topology.new) result (line_read (plan_of topology.old) line.now) }
 {
     if is_skipped(line) {
@@ -232,16 +235,16 @@ fn take_line(alloc: Global, topology: &mut Topology, line: &[u8]) -> Result<(), 
     }
 }
 
-fn error_at(line: u64, error: LineError) -> TopologyError
+fn error_at(line: u64, error: TopologyLineError) -> TopologyError
     ensures { result ≡ error_at line error }
 {
     match error {
-        LineError::Fault(fault) => TopologyError::At {
+        TopologyLineError::Fault(fault) => TopologyError::At {
             line,
             cause: fault.cause,
             word: fault.word,
         },
-        LineError::Memory => TopologyError::Memory,
+        TopologyLineError::Memory => TopologyError::Memory,
     }
 }
 

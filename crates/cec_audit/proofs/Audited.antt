@@ -11,13 +11,13 @@ use Rattle.cec_bits.specs.Readings.{Listed, readings_of}
 use Rattle.cec_bits.specs.Ended.{ended_by}
 use Rattle.cec_bits.specs.Reports.{ended_before}
 use Rattle.cec_bits.proofs.Stood.{was_now}
-use Rattle.cec_words.specs.Cut.{WrittenText}
+use Rattle.hdmi_core.specs.Cut.{WrittenText}
 use Rattle.cec_signal.specs.Edges.{AreInTurn, Captured, EndBy, IsCapture, level_at, line_of_edges}
 use Rattle.cec_signal.proofs.Recording.{before_turn}
 use Rattle.cec_mon.specs.declared.monitor.Monitor.{Monitor as Watcher}
 use Rattle.cec_mon.specs.Monitor.{HeardBefore, FollowsEdge, FollowsEnd}
 use Rattle.cec_audit.specs.Progress.{WritesOn}
-use Rattle.cec_audit.specs.Audit.{Tape, after, after_all, audit_text, first_tape, summary_text, told, told_all}
+use Rattle.cec_audit.specs.Audit.{Tape, after, after_all, audit_text, first_tape, summary_text, line_and_remarks, told_all}
 use Rattle.cec_audit.proofs.Writing.{writes_first}
 
 -- ---- readings, one after another
@@ -29,8 +29,8 @@ after_more t (x ∷ xs) ys = after_more (after x t) xs ys
 pub told_more : (timing : Bool) (t : Tape) (xs ys : List Listed) → told_all timing t (xs ++ ys) ≡ told_all timing t xs ++ told_all timing (after_all t xs) ys
 told_more timing t [] ys = refl
 told_more timing t (x ∷ xs) ys =
-    ap (λ (l : List ℕ). told timing t x ++ l) (told_more timing (after x t) xs ys)
-    ∙ sym (append_assoc (told timing t x) (told_all timing (after x t) xs) (told_all timing (after_all (after x t) xs) ys))
+    ap (λ (l : List ℕ). line_and_remarks timing t x ++ l) (told_more timing (after x t) xs ys)
+    ∙ sym (append_assoc (line_and_remarks timing t x) (told_all timing (after x t) xs) (told_all timing (after_all (after x t) xs) ys))
 
 -- no edge comes past the end
 pub edge_early : (edges : List Edge) (end k : ℕ) (none : Edge) → EndBy end edges → k < length edges → (get_or edges k none).at ≤ end
@@ -67,7 +67,7 @@ audited_first c m timing tape old was so_far is heard first none = record {
   wrote = subst (λ (r : Result ℕ WriteFault). WrittenText old old was was [] r) (sym none) (writes_first old was);
 }
 
--- what is told next, and what is written of it
+-- what is reported next, and what is written of it
 more_written : (timing : Bool) (t tape : Tape) (xs : List Listed) (told : Option Listed) (old mid out : Option (List ℕ)) (was is now : Bool) (p q : Result ℕ WriteFault) → tape ≡ after_all t xs
     → WrittenText old mid was is (told_all timing t xs) p → WritesOn mid out is now (told_all timing tape (option_to_list told)) p q → WrittenText old out was now (told_all timing t (xs ++ option_to_list told)) q
 more_written timing t tape xs told old mid out was is now p q kept wrote next =
@@ -113,10 +113,10 @@ audited_more c left rest m new e told timing tape later old mid out was is now p
     now_is : line_of_edges c.edges e.at ≡ e.low
     now_is = past e.at (omega arith) ∙ before_turn e.low (e.at + 1) rest w.turn.2 e.at (omega arith)
 
-    d : HeardBefore new (line_of_edges c.edges) (e.at + 1) × (ended_by (line_of_edges c.edges) e.at ≡ ended_before (line_of_edges c.edges) w.from ++ option_to_list told)
+    d : HeardBefore new (line_of_edges c.edges) (e.at + 1) × (ended_by (line_of_edges c.edges) e.at ≡ ended_before (line_of_edges c.edges) w.from ++ option_to_list line_and_remarks)
     d = follows (line_of_edges c.edges) w.from w.heard after_it calm now_is
 
-    ended : ended_before (line_of_edges c.edges) (e.at + 1) ≡ ended_before (line_of_edges c.edges) w.from ++ option_to_list told
+    ended : ended_before (line_of_edges c.edges) (e.at + 1) ≡ ended_before (line_of_edges c.edges) w.from ++ option_to_list line_and_remarks
     ended = ap (ended_before (line_of_edges c.edges)) (let x : e.at + 1 ≡ suc e.at = omega arith in x) ∙ d.1
 
 -- the end of a capture

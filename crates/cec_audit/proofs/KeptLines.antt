@@ -4,7 +4,7 @@ use Rattle.std.specs.Fmt.{decimal, digit_glyph, digits, digits_onto}
 use Rattle.std.specs.List.{flat_map}
 use Rattle.std.proofs.lemmas.Bool.Decides.{nat_tests}
 use Rattle.cec_bits.specs.Readings.{Listed, readings_of}
-use Rattle.cec_words.specs.Lines.{lines_of}
+use Rattle.hdmi_core.specs.Lines.{lines_of}
 use Rattle.cec_signal.specs.Edges.{line_of_edges}
 use Rattle.cec_signal.proofs.Texts.{Lacks, line_before, more_lack, none_lack}
 use Rattle.cec_text.specs.ReadingText.{reading_text}

@@ -22,13 +22,13 @@ use Rattle.cec_remarks.specs.declared.requests.Request.{Request}
 use Rattle.cec_remarks.specs.declared.series.Series.{Series}
 use Rattle.cec_audit.specs.Lines.{count_text, counts_text, drive_text, drive_word, failure_text, failure_word, if_late, kind_text, late_text, limit_word, misfit_line, misfit_text, misfits_text, moved_text, request_text, series_text, soon_text, spread_text, timing_text, unknown_text, widths_text}
 use Rattle.cec_remarks.specs.Attempts.{failure_of}
-use Rattle.cec_remarks.specs.Frames.{delivered, sender}
+use Rattle.cec_remarks.specs.Frames.{delivered_frame, sender}
 use Rattle.cec_remarks.specs.Free.{too_soon}
 use Rattle.cec_remarks.specs.Places.{moved_from, unknown_source}
 use Rattle.cec_remarks.specs.Requests.{is_late}
 use Rattle.cec_remarks.specs.Series.{series_over}
 use Rattle.cec_timing.specs.Spreads.{no_widths, with_slots}
-use Rattle.cec_audit.specs.Audit.{Tape, after, after_all, audit_text, come_to, drive_of, first_tape, is_folded, lows_of, reading_misfits, remarks_text, summary_text, times_text, told, told_all}
+use Rattle.cec_audit.specs.Audit.{Tape, after, after_all, audit_text, come_to, drive_of, first_tape, is_folded, lows_of, reading_misfits, remarks_text, summary_text, times_text, line_and_remarks, told_all}
 use Rattle.cec_audit.proofs.Plain.{plain_codes, plain_decimal, plain_hex, plain_more, plain_nibble, plain_phys}
 use Rattle.cec_audit.specs.Kept.{AllRemarks, AreKept, AreRemarks, IsClosed, IsPlain, IsRemark}
 
@@ -229,7 +229,7 @@ times t x =
 below : (timing : Bool) (t : Tape) (x : Listed) → AreRemarks (remarks_text timing t x)
 below timing t x =
     more_remarks
-    (more_remarks (times t x) (more_remarks (moved_remarks (sender (delivered x)) (moved_from (delivered x) t.places)) (unknown_remarks (unknown_source (delivered x) t.places)))) (timing_remarks timing (with_slots x.told.ending x.told.bits 0 (lows_of x t.place) no_widths))
+    (more_remarks (times t x) (more_remarks (moved_remarks (sender (delivered_frame x)) (moved_from (delivered_frame x) t.places)) (unknown_remarks (unknown_source (delivered_frame x) t.places)))) (timing_remarks timing (with_slots x.told.ending x.told.bits 0 (lows_of x t.place) no_widths))
 
 kept_from : (timing : Bool) (t : Tape) (xs : List Listed) (end : List ℕ) → AreRemarks end → AreKept xs (told_all timing t xs ++ end)
 kept_from timing t [] end h = h
@@ -238,7 +238,7 @@ kept_from timing t (x ∷ xs) end h = (
   told_all timing (after x t) xs ++ end,
   below timing (come_to x t) x,
   kept_from timing (after x t) xs end h,
-  append_assoc (told timing t x) (told_all timing (after x t) xs) end,
+  append_assoc (line_and_remarks timing t x) (told_all timing (after x t) xs) end,
 )
 
 pub are_kept : (timing : Bool) (c : Captured) → AreKept (readings_of (line_of_edges c.edges) c.end) (audit_text timing c)

@@ -11,14 +11,14 @@ use Rattle.cec_frame.specs.Blocks.{frame_in}
 use Rattle.cec_frame.specs.declared.Reading.{Reading}
 use Rattle.cec_opcode.specs.Operands.{size_of}
 use Rattle.cec_opcode.specs.Table.{Row, name_of, operands_of, rows}
-use Rattle.cec_opcode.specs.WordSets.{Word as WordRow, word_of, words_of}
+use Rattle.cec_opcode.specs.WordSets.{NamedByte as WordRow, word_of, words_of}
 use Rattle.cec_opcode.specs.declared.operand.Operand.{Operand}
 use Rattle.cec_opcode.specs.declared.operand.Operand.TheVariants.{Byte, Word, Language, Vendor, Address}
 use Rattle.cec_opcode.specs.declared.operand.Operands.{Operands}
 use Rattle.cec_opcode.specs.declared.operand.Operands.TheVariants.{Raw, Nothing, One, Optional, Two, Volume, Text, WordAndText}
 use Rattle.cec_opcode.specs.declared.word_set.WordSet.{WordSet}
 use Rattle.cec_opcode.specs.declared.word_set.WordSet.TheVariants.{Reason, Power, OnOff, DeviceType, StatusRequest, DeckInfo, PlayMode, DeckControl, Display, MenuRequest, MenuState, Version, UserControl}
-use Rattle.cec_text.specs.FrameText.{frame_text, header_text, is_letter, is_text_byte, opcode_text, operand_word, operand_words, operands_text, quoted, raw_text, spaced_word, with_both}
+use Rattle.cec_text.specs.FrameText.{frame_text, header_text, is_letter, is_text_byte, opcode_text, operand_word, operand_words, operands_text, quoted_text, raw_text, spaced_word, with_both}
 use Rattle.cec_text.specs.ReadingText.{bit_digit, bits_text, ending_text, is_broadcast, is_complete, last_bit, reading_text, told_by, told_frame, told_text, verdict_by, verdict_in, verdict_text}
 use Rattle.cec_audit.specs.Kept.{IsPlain}
 use Rattle.cec_audit.proofs.Plain.{plain_codes, plain_decimal, plain_hex, plain_more, plain_nibble, plain_phys}
@@ -112,10 +112,10 @@ plain_texts (x ∷ xs) h = by (nat_le 32 x) (nat_le x 126) (not (x == 34)) refl 
     by true false other e k more = absurd (false≢true k)
     by false top other e k more = absurd (false≢true k)
 
-plain_quoted : (xs : List ℕ) → list_all is_text_byte xs ≡ true → IsPlain (quoted xs)
+plain_quoted : (xs : List ℕ) → list_all is_text_byte xs ≡ true → IsPlain (quoted_text xs)
 plain_quoted xs h = plain_more (codes " \"") (xs ++ codes "\"") (plain_codes (codes " \"") refl) (plain_more xs (codes "\"") (plain_texts xs h) (plain_codes (codes "\"") refl))
 
-plain_if_text : (a b c : Bool) (xs : List ℕ) → c ≡ list_all is_text_byte xs → PlainIf (if a && b && c then Some (quoted xs) else None)
+plain_if_text : (a b c : Bool) (xs : List ℕ) → c ≡ list_all is_text_byte xs → PlainIf (if a && b && c then Some (quoted_text xs) else None)
 plain_if_text true true true xs h = plain_quoted xs (sym h)
 plain_if_text true true false xs h = tt
 plain_if_text true false c xs h = tt
@@ -160,9 +160,9 @@ plain_volume true true n = plain_more (codes " mute ") (decimal n) (plain_codes 
 plain_volume true false n = plain_more (codes " sound ") (decimal n) (plain_codes (codes " sound ") refl) (plain_decimal n)
 plain_volume false muted n = tt
 
-plain_named_text : (a b c : Bool) (o : Option (List ℕ)) (xs : List ℕ) → PlainIf o → c ≡ list_all is_text_byte xs → PlainIf (if a && b && c then option_map (λ w. w ++ quoted xs) o else None)
+plain_named_text : (a b c : Bool) (o : Option (List ℕ)) (xs : List ℕ) → PlainIf o → c ≡ list_all is_text_byte xs → PlainIf (if a && b && c then option_map (λ w. w ++ quoted_text xs) o else None)
 plain_named_text true true true None xs h k = tt
-plain_named_text true true true (Some w) xs h k = plain_more w (quoted xs) h (plain_quoted xs (sym k))
+plain_named_text true true true (Some w) xs h k = plain_more w (quoted_text xs) h (plain_quoted xs (sym k))
 plain_named_text true true false o xs h k = tt
 plain_named_text true false c o xs h k = tt
 plain_named_text false b c o xs h k = tt

@@ -9,7 +9,7 @@ use Rattle.cec_bits.specs.Readings.{Listed, readings_of}
 use Rattle.cec_signal.specs.Edges.{Captured, line_of_edges}
 use Rattle.cec_timing.specs.declared.low.Low.{Low}
 use Rattle.cec_timing.specs.declared.spread.Widths.{Widths}
-use Rattle.cec_timing.specs.Lows.{Place, first_low, gone_to, lows_before, place_at, place_of}
+use Rattle.cec_timing.specs.Lows.{EdgePosition, first_low, gone_to, lows_before, place_at, place_of}
 use Rattle.cec_timing.specs.Misfits.{low_drive}
 use Rattle.cec_timing.specs.Spreads.{no_widths, sum_of, with_slots}
 use Rattle.cec_mon.specs.Watch.{listed_line}
@@ -22,7 +22,7 @@ use Rattle.cec_remarks.specs.declared.requests.Request.{Request}
 use Rattle.cec_remarks.specs.declared.series.Series.{Series}
 use Rattle.cec_remarks.specs.Attempts.{after_attempt, failure_of, no_attempts}
 use Rattle.cec_remarks.specs.Counts.{no_counts, with_reading}
-use Rattle.cec_remarks.specs.Frames.{delivered, sender}
+use Rattle.cec_remarks.specs.Frames.{delivered_frame, sender}
 use Rattle.cec_remarks.specs.Free.{before_of, is_bad_start, too_soon}
 use Rattle.cec_audit.specs.Lines.{counts_text, drive_text, failure_text, late_text, misfits_text, moved_text, series_text, soon_text, timing_text, unknown_text, widths_text}
 use Rattle.cec_remarks.specs.Places.{moved_from, no_places, unknown_source, with_places}
@@ -32,7 +32,7 @@ use Rattle.cec_remarks.specs.Series.{after_start, no_series, series_over}
 -- ---- what is kept of the readings so far
 
 pub record Tape : Type 0 where
-  pub place : Place
+  pub place : EdgePosition
   pub before : Before
   pub attempts : Attempts
   pub series : Series
@@ -59,7 +59,7 @@ abbrev pub falls_until : Ending → ℕ → ℕ
 falls_until Open at = sum_of at 1
 falls_until _ at = at
 
-abbrev pub lows_of : Listed → Place → List Low
+abbrev pub lows_of : Listed → EdgePosition → List Low
 lows_of x p = lows_before (falls_until x.told.ending x.told.at) p.edges
 
 -- the widths that are out of their windows: of bad starts in a row those of the first one
@@ -74,7 +74,7 @@ abbrev pub drive_by : Ending → Option Low → Option ℕ
 drive_by ending None = None
 drive_by ending (Some low) = low_drive ending low
 
-abbrev pub drive_of : Listed → Place → Option ℕ
+abbrev pub drive_of : Listed → EdgePosition → Option ℕ
 drive_of x p = drive_by x.told.ending (first_low (gone_to x.told.at p.since p.edges).edges)
 
 -- what there is to remark of what was before it, of its times and its blocks
@@ -90,27 +90,27 @@ frame_text t frame = moved_text (sender frame) (moved_from frame t.places) ++ un
 -- what there is to remark, in order
 abbrev pub remarks_text : Bool → Tape → Listed → List ℕ
 remarks_text timing t x =
-    times_text t x ++ frame_text t (delivered x) ++ timing_text timing (with_slots x.told.ending x.told.bits 0 (lows_of x t.place) no_widths)
+    times_text t x ++ frame_text t (delivered_frame x) ++ timing_text timing (with_slots x.told.ending x.told.bits 0 (lows_of x t.place) no_widths)
 
 -- what is kept of it
-abbrev pub noted : Listed → Tape → Tape
-noted x t = record {
+abbrev pub tape_after : Listed → Tape → Tape
+tape_after x t = record {
   place = t.place;
   before = before_of x.told.ending x.told.bits;
   attempts = after_attempt t.attempts x.told.ending x.told.bits;
   series = after_start t.series x.told.ending x.begin;
-  waiting = after_frame x.begin x.told.at (delivered x) t.waiting;
-  places = with_places (delivered x) t.places;
+  waiting = after_frame x.begin x.told.at (delivered_frame x) t.waiting;
+  places = with_places (delivered_frame x) t.places;
   counts = with_reading x.told.ending x.told.bits t.counts;
   widths = with_slots x.told.ending x.told.bits 0 (lows_of x t.place) t.widths;
 }
 
 -- its line, and what there is to remark
-abbrev pub told : Bool → Tape → Listed → List ℕ
-told timing t x = listed_line x ++ remarks_text timing (come_to x t) x
+abbrev pub line_and_remarks : Bool → Tape → Listed → List ℕ
+line_and_remarks timing t x = listed_line x ++ remarks_text timing (come_to x t) x
 
 abbrev pub after : Listed → Tape → Tape
-after x t = noted x (come_to x t)
+after x t = tape_after x (come_to x t)
 
 -- ---- readings, one after another
 
@@ -120,7 +120,7 @@ after_all t (x ∷ xs) = after_all (after x t) xs
 
 abbrev pub told_all : Bool → Tape → List Listed → List ℕ
 told_all timing t [] = []
-told_all timing t (x ∷ xs) = told timing t x ++ told_all timing (after x t) xs
+told_all timing t (x ∷ xs) = line_and_remarks timing t x ++ told_all timing (after x t) xs
 
 -- what there is to say of all readings up to an end: the requests that were not answered, the frames of each initiator, and
 -- the widths

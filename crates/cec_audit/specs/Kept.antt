@@ -4,7 +4,7 @@ use Rattle.std.specs.Prelude.{◌≡◌, ◌≢◌, ℕ, ◌==◌, Bool, not, Li
 use Rattle.std.specs.List.{flat_map}
 use Rattle.cec_bits.specs.Readings.{Listed, readings_of}
 use Rattle.cec_signal.specs.Edges.{Captured, line_of_edges}
-use Rattle.cec_words.specs.Lines.{lines_of}
+use Rattle.hdmi_core.specs.Lines.{lines_of}
 use Rattle.cec_mon.specs.Watch.{listed_line, readings_text}
 use Rattle.cec_audit.specs.Audit.{audit_text}
 

@@ -2,22 +2,22 @@
 use Rattle.std.specs.Prelude.{◌≡◌, ℕ, ◌+◌, Bool, true, List, ◌++◌, Option, Result, Ok, Err}
 use Rattle.std.specs.Io.KnownBytes.{Appends}
 use Rattle.hdmi_core.specs.declared.sink.WriteFault.{WriteFault}
-use Rattle.cec_words.specs.Cut.{CutOff, WrittenText, told_count}
+use Rattle.hdmi_core.specs.Cut.{CutOff, WrittenText, told_count}
 
 -- Whatever front of a text was written so far, whole or up to a fault, that front and this text are now.
 pub record WritesOn (mid new : Option (List ℕ)) (was is : Bool) (text : List ℕ) (before after : Result ℕ WriteFault) : Type 0 where
   pub on : (old : Option (List ℕ)) (first : Bool) (front : List ℕ) → WrittenText old mid first was front before → WrittenText old new first is (front ++ text) after
 
 -- the length of a text with its next line, or where that line was cut off
-abbrev pub grown : ℕ → Result ℕ WriteFault → Result ℕ WriteFault
-grown written (Ok count) = Ok (told_count (written + count))
-grown written (Err fault) = Err (record { count = told_count (written + fault.count) })
+abbrev pub length_after : ℕ → Result ℕ WriteFault → Result ℕ WriteFault
+length_after written (Ok count) = Ok (told_count (written + count))
+length_after written (Err fault) = Err (record { count = told_count (written + fault.count) })
 
 abbrev pub result_of : Result ℕ WriteFault → Result (Unit {0}) WriteFault
 result_of (Ok n) = Ok tt
 result_of (Err fault) = Err fault
 
--- a text is written whole, or its front up to a fault, as long as that tells
+-- a text is written whole, or its front up to a fault, as long as that reports
 abbrev pub WritesText : Option (List ℕ) → Option (List ℕ) → Bool → Bool → List ℕ → Result (Unit {0}) WriteFault → Type 0
 WritesText old new was is text (Ok n) = Appends old new text × (is ≡ was)
 WritesText old new was is text (Err fault) = CutOff old new text fault × (is ≡ true)

@@ -24,7 +24,7 @@ pub struct AuditOptions {
 ///
 /// # Errors
 ///
-/// The sink takes no more: then the front of that text was written, as long as the fault tells.
+/// The sink takes no more: then the front of that text was written, as long as the fault reports.
 pub fn audit_capture<S: Sink>(
     capture: &Capture,
     options: AuditOptions,

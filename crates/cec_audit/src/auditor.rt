@@ -2,8 +2,8 @@
 ghost use Rattle.std.specs.Prelude.{◌≡◌, ◌+◌, ◌≤◌, length, option_map};
 ghost use Rattle.std.specs.Option.{option_to_list};
 ghost use Rattle.cec_bits.specs.Reports.{listed_as};
-ghost use Rattle.cec_audit.specs.Audit.{after, after_all, come_to, drive_by, drive_of, falls_until, first_tape, frame_text, is_folded, lows_of, noted, reading_misfits, remarks_text, summary_text, tape_of, times_text, told, told_all};
-ghost use Rattle.cec_remarks.specs.Frames.{delivered};
+ghost use Rattle.cec_audit.specs.Audit.{after, after_all, come_to, drive_by, drive_of, falls_until, first_tape, frame_text, is_folded, lows_of, tape_after, reading_misfits, remarks_text, summary_text, tape_of, times_text, line_and_remarks, told_all};
+ghost use Rattle.cec_remarks.specs.Frames.{delivered_frame};
 ghost use Rattle.cec_audit.specs.Lines.{timing_text};
 ghost use Rattle.cec_audit.specs.Progress.{WritesOn};
 ghost use Rattle.cec_timing.specs.Lows.{place_of};
@@ -17,7 +17,7 @@ use crate::progress::Progress;
 use arrayvec::ArrayVec;
 use cec_frame::{Ending, Reading};
 use cec_remarks::{
-    Attempts, Before, Counts, Places, Series, Waiting, after_frame, count_reading, delivered,
+    Attempts, Before, Counts, Places, Series, Waiting, after_frame, count_reading, delivered_frame,
     is_bad_start, moved_from, no_counts, no_places, note_report, sender, unknown_source,
 };
 use cec_timing::{Cursor, LOWS, Low, Widths, first_low, low_drive, lows_before};
@@ -193,7 +193,7 @@ impl<'a> Auditor<'a> {
     )
         requires lows { lows.now ≡ lows_of (listed_as reading.now) (tape_of self.now).place }
         requires few { length lows.now ≤ 161 }
-        requires frame { frame.now ≡ delivered (listed_as reading.now) }
+        requires frame { frame.now ≡ delivered_frame (listed_as reading.now) }
         ensures { WritesOn (S.contents out.old) (S.contents out.new) (S.is_stuck out.old) (S.is_stuck out.new)
             (remarks_text timing (tape_of self.now) (listed_as reading.now)) progress.old.so_far progress.new.so_far }
     {
@@ -206,8 +206,8 @@ impl<'a> Auditor<'a> {
     fn note(&mut self, reading: &Reading, lows: &[Low], frame: &[u8])
         requires lows { lows.now ≡ lows_of (listed_as reading.now) (tape_of self.old).place }
         requires few { length lows.now ≤ 161 }
-        requires frame { frame.now ≡ delivered (listed_as reading.now) }
-        ensures { tape_of self.new ≡ noted (listed_as reading.now) (tape_of self.old) }
+        requires frame { frame.now ≡ delivered_frame (listed_as reading.now) }
+        ensures { tape_of self.new ≡ tape_after (listed_as reading.now) (tape_of self.old) }
     {
         self.before = Before::after(reading.ending, &reading.bits);
         self.attempts.note(reading.ending, &reading.bits);
@@ -228,11 +228,11 @@ impl<'a> Auditor<'a> {
     )
         ensures kept { tape_of self.new ≡ after (listed_as reading.now) (tape_of self.old) }
         ensures written { WritesOn (S.contents out.old) (S.contents out.new) (S.is_stuck out.old) (S.is_stuck out.new)
-            (told timing (tape_of self.old) (listed_as reading.now)) progress.old.so_far progress.new.so_far }
+            (line_and_remarks timing (tape_of self.old) (listed_as reading.now)) progress.old.so_far progress.new.so_far }
     {
         self.come_to(reading);
         let lows = lows_of(reading, &self.cursor);
-        let frame = delivered(reading);
+        let frame = delivered_frame(reading);
         progress.reading(out, reading);
         self.write_remarks(reading, &lows, &frame, timing, progress, out);
         self.note(reading, &lows, &frame);

@@ -3,12 +3,11 @@ ghost use Rattle.std.specs.Prelude.{◌≡◌, Ok};
 ghost use Rattle.std.specs.List.{flat_map};
 ghost use Rattle.hdmi_core.specs.Piece.{piece_text};
 ghost use Rattle.cec_text.specs.ReadingText.{reading_line};
-ghost use Rattle.cec_audit.specs.Progress.{WritesOn, grown, result_of};
+ghost use Rattle.cec_audit.specs.Progress.{WritesOn, length_after, result_of};
 
 use cec_frame::Reading;
 use cec_text::write_reading;
-use cec_words::{counted, cut_at};
-use hdmi_core::{Piece, Sink, WriteFault, write_line};
+use hdmi_core::{Piece, Sink, WriteFault, counted, cut_at, write_line};
 
 /// How far a text is written: its length so far, or where it was cut off. Once it is cut off nothing more is put.
 #[derive(Debug, Drop)]
@@ -17,8 +16,8 @@ pub(crate) struct Progress {
 }
 
 // The length with the next line, or where that was cut off.
-fn grown(written: u128, line: Result<u128, WriteFault>) -> Result<u128, WriteFault>
-    ensures { result ≡ grown written line }
+fn length_after(written: u128, line: Result<u128, WriteFault>) -> Result<u128, WriteFault>
+    ensures { result ≡ length_after written line }
 {
     match line {
         Ok(count) => Ok(counted(written, count)),
@@ -41,7 +40,7 @@ impl Progress {
         let Ok(written) = self.so_far else {
             return;
         };
-        self.so_far = grown(written, write_line(out, pieces));
+        self.so_far = length_after(written, write_line(out, pieces));
     }
 
     /// Writes the line of a reading.
@@ -51,7 +50,7 @@ impl Progress {
         let Ok(written) = self.so_far else {
             return;
         };
-        self.so_far = grown(written, write_reading(reading, out));
+        self.so_far = length_after(written, write_reading(reading, out));
     }
 
     /// Whether all of it was written, or where it was cut off.

@@ -9,14 +9,14 @@ use Rattle.cec_frame.specs.declared.Ending.{Ending}
 use Rattle.cec_frame.specs.declared.Ending.TheVariants.{Complete, Short, Long}
 use Rattle.cec_bits.specs.declared.After.{After}
 use Rattle.cec_bits.specs.declared.After.TheVariants.{Next, Ends}
-use Rattle.cec_bits.specs.Reading.{next_fall, Read, Slot, Known, known, known_slot, reading_of, read_start, read_slots, read_on, read_then, after_slot, after_fall, after_last, last_ending, last_heard, sample, sampled, start_of}
+use Rattle.cec_bits.specs.Reading.{next_fall, Read, Slot, Known, known_at, known_slot, reading_of, read_start, read_slots, read_on, read_then, after_slot, after_fall, after_last, last_ending, last_heard, sample, bit_sampled_at, start_of}
 use Rattle.cec_bits.proofs.Search.{first_in_none, first_in_some, found_first}
 use Rattle.cec_bits.proofs.Causes.{with_slots, AreSampled, known_front, known_then, late_read, nothing, not_over}
 use Rattle.cec_bits.proofs.Ends.{slots_until}
 
 -- ---- the slot at e, on a line that does not fall up to t
 
-pub quiet_sample : (low : Line) (e : ℕ) → ((u : ℕ) → e < u → u < e + 1051 → is_fall low u ≡ false) → sampled low e ≡ Some (not (low (e + 1050)))
+pub quiet_sample : (low : Line) (e : ℕ) → ((u : ℕ) → e < u → u < e + 1051 → is_fall low u ≡ false) → bit_sampled_at low e ≡ Some (not (low (e + 1050)))
 quiet_sample low e q = ap (sample low e) (first_in_none (is_fall low) (e + 1) 1050 (λ u a b. q u (omega arith) (omega arith)))
 
 pub next_here : (low : Line) (fall t within : ℕ) → ((u : ℕ) → fall < u → u < t → is_fall low u ≡ false) → fall < t → t ≤ fall + within → is_fall low t ≡ true → next_fall low fall within ≡ Some t
@@ -65,25 +65,25 @@ told_more xs bits s h = filter_map-append (λ (x : Slot). x.bit) xs (s ∷ []) �
 
 pub reach_next : (low : Line) (begin left : ℕ) (xs : List Slot) (bits : List Bool) (e f : ℕ) → Reached low begin (suc left) xs bits e
     → after_slot low e (last_ending bits) ≡ Next f → e + 2050 ≤ f
-    → Reached low begin left (xs ++ record { fall = e; bit = sampled low e } ∷ []) (bits ++ option_to_list (sampled low e)) f
+    → Reached low begin left (xs ++ record { fall = e; bit = bit_sampled_at low e } ∷ []) (bits ++ option_to_list (bit_sampled_at low e)) f
 unfolding read_slots
 reach_next low begin left xs bits e f r h far = record {
-  goes = slots_assoc xs slot (read_slots low left (bits ++ option_to_list (sampled low e)) f)
-      ∙ ap (λ a. with_slots xs (read_then slot (read_on (read_slots low left (bits ++ option_to_list (sampled low e))) a))) (sym h)
+  goes = slots_assoc xs slot (read_slots low left (bits ++ option_to_list (bit_sampled_at low e)) f)
+      ∙ ap (λ a. with_slots xs (read_then slot (read_on (read_slots low left (bits ++ option_to_list (bit_sampled_at low e))) a))) (sym h)
       ∙ r.goes;
   told = told_more xs bits slot r.told;
   over = over_more f xs slot (over_later e f xs (omega arith) r.over) far;
 }
   where
     slot : Slot
-    slot = record { fall = e; bit = sampled low e }
+    slot = record { fall = e; bit = bit_sampled_at low e }
 
 -- the reading ends in this slot
 pub ends_so : (low : Line) (begin left : ℕ) (xs : List Slot) (before : List Bool) (e : ℕ) (ending : Ending) (at : ℕ) → Reached low begin (suc left) xs before e → after_slot low e (last_ending before) ≡ Ends ending at
-    → reading_of low begin ≡ record { slots = xs ++ record { fall = e; bit = sampled low e } ∷ []; ending = ending; at = at; until = last_heard ending at }
+    → reading_of low begin ≡ record { slots = xs ++ record { fall = e; bit = bit_sampled_at low e } ∷ []; ending = ending; at = at; until = last_heard ending at }
 unfolding read_slots
 ends_so low begin left xs before e ending at r h =
-    sym r.goes ∙ ap (λ a. with_slots xs (read_then (record { fall = e; bit = sampled low e }) (read_on (read_slots low left (before ++ option_to_list (sampled low e))) a))) h
+    sym r.goes ∙ ap (λ a. with_slots xs (read_then (record { fall = e; bit = bit_sampled_at low e }) (read_on (read_slots low left (before ++ option_to_list (bit_sampled_at low e))) a))) h
 
 -- the 160th slot is a last one
 pub last_full : (bits : List Bool) → length bits ≡ 159 → last_ending bits ≡ None → ⊥
@@ -103,22 +103,22 @@ IsYet : ℕ → After → Type 0
 IsYet t (Next f) = t ≤ f
 IsYet t (Ends ending at) = t ≤ at
 
-none_yet : (low : Line) (left : ℕ) (bits : List Bool) (t : ℕ) (a : After) → IsYet t a → (known t (read_on (read_slots low left bits) a)).slots ≡ []
+none_yet : (low : Line) (left : ℕ) (bits : List Bool) (t : ℕ) (a : After) → IsYet t a → (known_at t (read_on (read_slots low left bits) a)).slots ≡ []
 unfolding IsYet nothing
 none_yet low left bits t (Next f) h = ap (λ (k : Known). k.slots) (late_read t low left bits f h)
 none_yet low left bits t (Ends ending at) h = refl
 
 slots_here : (low : Line) (begin left : ℕ) (xs : List Slot) (bits : List Bool) (e t : ℕ) → Reached low begin (suc left) xs bits e → e < t
-    → known t (reading_of low begin) ≡ record {
-      slots = xs ++ known_slot t (record { fall = e; bit = sampled low e }) ∷ (known t (read_on (read_slots low left (bits ++ option_to_list (sampled low e))) (after_slot low e (last_ending bits)))).slots;
-      ended = (known t (read_on (read_slots low left (bits ++ option_to_list (sampled low e))) (after_slot low e (last_ending bits)))).ended;
+    → known_at t (reading_of low begin) ≡ record {
+      slots = xs ++ known_slot t (record { fall = e; bit = bit_sampled_at low e }) ∷ (known_at t (read_on (read_slots low left (bits ++ option_to_list (bit_sampled_at low e))) (after_slot low e (last_ending bits)))).slots;
+      ended = (known_at t (read_on (read_slots low left (bits ++ option_to_list (bit_sampled_at low e))) (after_slot low e (last_ending bits)))).ended;
     }
 unfolding read_slots
 slots_here low begin left xs bits e t r l =
-    ap (known t) (sym r.goes)
+    ap (known_at t) (sym r.goes)
     ∙ known_front t xs (read_slots low (suc left) bits e) (over_sampled e t xs (omega arith) r.over)
     ∙ ap (λ (n : Known). let m : Known = record { slots = xs ++ n.slots; ended = n.ended } in m)
-    (known_then t (record { fall = e; bit = sampled low e }) (read_on (read_slots low left (bits ++ option_to_list (sampled low e))) (after_slot low e (last_ending bits))) l)
+    (known_then t (record { fall = e; bit = bit_sampled_at low e }) (read_on (read_slots low left (bits ++ option_to_list (bit_sampled_at low e))) (after_slot low e (last_ending bits))) l)
 
 -- what a slot leads to comes later, where the line does not fall before t and no ending is due
 pub record Waits (low : Line) (e t : ℕ) (last : Option Ending) : Type 0 where
@@ -152,18 +152,18 @@ yet low e t (Some ending) w = by_fall (next_fall low e 1050) refl
 
 -- so its slots are those so far, and its own
 pub known_waiting : (low : Line) (begin left : ℕ) (xs : List Slot) (bits : List Bool) (e t : ℕ) → Reached low begin (suc left) xs bits e → Waits low e t (last_ending bits)
-    → (known t (reading_of low begin)).slots ≡ xs ++ known_slot t (record { fall = e; bit = sampled low e }) ∷ []
+    → (known_at t (reading_of low begin)).slots ≡ xs ++ known_slot t (record { fall = e; bit = bit_sampled_at low e }) ∷ []
 known_waiting low begin left xs bits e t r w =
     ap (λ (k : Known). k.slots) (slots_here low begin left xs bits e t r w.after)
-    ∙ ap (λ (ss : List Slot). xs ++ known_slot t (record { fall = e; bit = sampled low e }) ∷ ss)
-    (none_yet low left (bits ++ option_to_list (sampled low e)) t (after_slot low e (last_ending bits)) (yet low e t (last_ending bits) w))
+    ∙ ap (λ (ss : List Slot). xs ++ known_slot t (record { fall = e; bit = bit_sampled_at low e }) ∷ ss)
+    (none_yet low left (bits ++ option_to_list (bit_sampled_at low e)) t (after_slot low e (last_ending bits)) (yet low e t (last_ending bits) w))
 
 -- and where it ends there, too
 pub known_ending : (low : Line) (begin left : ℕ) (xs : List Slot) (bits : List Bool) (e t : ℕ) (ending : Ending) (at : ℕ) → Reached low begin (suc left) xs bits e → e < t
-    → after_slot low e (last_ending bits) ≡ Ends ending at → (known t (reading_of low begin)).slots ≡ xs ++ known_slot t (record { fall = e; bit = sampled low e }) ∷ []
+    → after_slot low e (last_ending bits) ≡ Ends ending at → (known_at t (reading_of low begin)).slots ≡ xs ++ known_slot t (record { fall = e; bit = bit_sampled_at low e }) ∷ []
 known_ending low begin left xs bits e t ending at r l h =
     ap (λ (k : Known). k.slots) (slots_here low begin left xs bits e t r l)
-    ∙ ap (λ a. xs ++ known_slot t (record { fall = e; bit = sampled low e }) ∷ (known t (read_on (read_slots low left (bits ++ option_to_list (sampled low e))) a)).slots) h
+    ∙ ap (λ a. xs ++ known_slot t (record { fall = e; bit = bit_sampled_at low e }) ∷ (known_at t (read_on (read_slots low left (bits ++ option_to_list (bit_sampled_at low e))) a)).slots) h
 
 -- the reading ends no sooner
 at_on : (rest : ℕ → Read) (t : ℕ) (a : After) → IsYet t a → ((f : ℕ) → f ≤ (rest f).at) → t ≤ (read_on rest a).at
@@ -174,6 +174,6 @@ at_on rest t (Ends ending at) h ih = h
 pub ends_later : (low : Line) (begin left : ℕ) (xs : List Slot) (bits : List Bool) (e t : ℕ) → Reached low begin (suc left) xs bits e → Waits low e t (last_ending bits) → t ≤ (reading_of low begin).at
 unfolding read_slots
 ends_later low begin left xs bits e t r w =
-    let x = at_on (read_slots low left (bits ++ option_to_list (sampled low e))) t (after_slot low e (last_ending bits)) (yet low e t (last_ending bits) w)
-    (λ f. let n = not_over low left (bits ++ option_to_list (sampled low e)) f in omega (arith, n, slots_until low left (bits ++ option_to_list (sampled low e)) f)) in
+    let x = at_on (read_slots low left (bits ++ option_to_list (bit_sampled_at low e))) t (after_slot low e (last_ending bits)) (yet low e t (last_ending bits) w)
+    (λ f. let n = not_over low left (bits ++ option_to_list (bit_sampled_at low e)) f in omega (arith, n, slots_until low left (bits ++ option_to_list (bit_sampled_at low e)) f)) in
     rw (ap (λ (q : Read). q.at) (sym r.goes)) x

@@ -4,8 +4,8 @@ use Rattle.std.proofs.lemmas.Bool.Decides.{nat_tests}
 use Rattle.cec_wave.specs.Line.{Line, was_low}
 use Rattle.cec_frame.specs.declared.Ending.{Ending}
 use Rattle.cec_frame.specs.declared.Ending.TheVariants.{Short, Silent, BadStart}
-use Rattle.cec_bits.specs.declared.receiver.Place.{Place}
-use Rattle.cec_bits.specs.declared.receiver.Place.TheVariants.{Rest, StartLow, StartHigh, Unsampled, Sampled}
+use Rattle.cec_bits.specs.declared.receiver.ReceiverState.{ReceiverState}
+use Rattle.cec_bits.specs.declared.receiver.ReceiverState.TheVariants.{Rest, StartLow, StartHigh, Unsampled, Sampled}
 use Rattle.cec_bits.specs.declared.receiver.Told.{Told}
 use Rattle.cec_bits.specs.declared.receiver.Told.TheVariants.{Nothing, Ended}
 use Rattle.cec_bits.specs.Reading.{last_ending}
@@ -26,10 +26,10 @@ no_rise : (b : Bool) → (not b && b) ≡ false
 no_rise true = refl
 no_rise false = refl
 
-abbrev pub hears_by : Place → ℕ → ℕ → List Bool → Hears
+abbrev pub hears_by : ReceiverState → ℕ → ℕ → List Bool → Hears
 hears_by place begin fall bits = record { place = place; begin = begin; fall = fall; bits = bits }
 
-still_at : (low : Line) (n : ℕ) (b : Bool) (place : Place) (begin fall : ℕ) (bits : List Bool) → StandsIn low n place begin fall bits → ((w : ℕ) → wake_of (hears_by place begin fall bits) ≡ Some w → n < w)
+still_at : (low : Line) (n : ℕ) (b : Bool) (place : ReceiverState) (begin fall : ℕ) (bits : List Bool) → StandsIn low n place begin fall bits → ((w : ℕ) → wake_of (hears_by place begin fall bits) ≡ Some w → n < w)
     → hear_at place n false false b (hears_by place begin fall bits) ≡ told_so (hears_by place begin fall bits) Nothing
 unfolding StandsIn
 still_at low n b Rest begin fall bits s w = sym (rw (s.no_begin, s.no_fall, s.no_bits) refl)
@@ -91,7 +91,7 @@ follows_so h new was is_low t told e low before keeps level from quiet edge wake
     ap (λ b. hear_in t b (low t) (hears low t)) c.1 ∙ ap (λ b. hear_in t was b (hears low t)) edge ∙ ap (hear_in t was is_low) (c.0 ∙ sym is) ∙ sym e in
     (sym (kept_heard low t ∙ ap (λ (x : Heard). x.state) heard), sym (told_heard low t ∙ ap (λ (x : Heard). x.told) heard))
 
--- before it nothing is told
+-- before it nothing is reported
 told_calm : (low : Line) (n t : ℕ) (b : Bool) → was_low low n ≡ b → n ≤ t → ((u : ℕ) → n ≤ u → u ≤ t → low u ≡ b) → ((w : ℕ) → wake_of (hears low n) ≡ Some w → t < w) → told_at low t ≡ Nothing
 told_calm low n t b w l q k =
     let c = calm_to low n t b l w (λ u a d. q u a (omega arith)) (λ v e. let x = k v e in omega (arith, x)) in
@@ -114,7 +114,7 @@ stood_calm h was low before t keeps level from quiet wake =
 
 -- ---- how many wakes are left
 
-fewer_at : (t : ℕ) (b : Bool) (place : Place) (begin fall : ℕ) (bits : List Bool) → wake_of (hears_by place begin fall bits) ≡ Some t
+fewer_at : (t : ℕ) (b : Bool) (place : ReceiverState) (begin fall : ℕ) (bits : List Bool) → wake_of (hears_by place begin fall bits) ≡ Some t
     → wakes_left (hear_at place t false false b (hears_by place begin fall bits)).state.place < wakes_left place
 fewer_at t b Rest begin fall bits e = cc
 fewer_at t b StartLow begin fall bits e =
@@ -152,8 +152,8 @@ fewer_so h new was is_low t told e wake level =
 
 -- ---- a second tick at one instant
 
--- an ending that a microsecond without an edge tells
-late_at : (n : ℕ) (b now : Bool) (ending : Ending) (place : Place) (begin fall : ℕ) (bits : List Bool) → (hear_at place n false false b (hears_by place begin fall bits)).told ≡ Ended ending
+-- an ending that a microsecond without an edge reports
+late_at : (n : ℕ) (b now : Bool) (ending : Ending) (place : ReceiverState) (begin fall : ℕ) (bits : List Bool) → (hear_at place n false false b (hears_by place begin fall bits)).told ≡ Ended ending
     → (falls rises : Bool) → (hear_at place n false false b (hears_by place begin fall bits)).state ≡ rest
     × ((hear_at place n falls rises now (hears_by place begin fall bits)).state ≡ starts n falls)
 late_at n b now ending Rest begin fall bits e falls rises = let x : Nothing ≡ Ended ending = e in cc
@@ -258,12 +258,12 @@ told_before low n t b w l q k =
     ∙ ap (λ x. (hear_in t x (low t) (hears low t)).told) c.1 ∙ ap (λ x. (hear_in t b x (hears low t)).told) (q t l)
     ∙ ap (λ (x : Heard). x.told) (heard_same low t b (λ v e. k v (ap wake_of (sym c.0) ∙ e)))
 
--- the wake tells something, and is not past
-pub record WakesNow (n : ℕ) (b : Bool) (place : Place) (begin fall : ℕ) (bits : List Bool) (w : ℕ) : Type 0 where
+-- the wake reports something, and is not past
+pub record WakesNow (n : ℕ) (b : Bool) (place : ReceiverState) (begin fall : ℕ) (bits : List Bool) (w : ℕ) : Type 0 where
   pub from : n ≤ w
   pub tells : (hear_at place w false false b (hears_by place begin fall bits)).told ≢ Nothing
 
-pub wakes_now : (low : Line) (n : ℕ) (b : Bool) (place : Place) (begin fall : ℕ) (bits : List Bool) → StandsIn low n place begin fall bits → (w : ℕ) → wake_of (hears_by place begin fall bits) ≡ Some w → WakesNow n b place begin fall bits w
+pub wakes_now : (low : Line) (n : ℕ) (b : Bool) (place : ReceiverState) (begin fall : ℕ) (bits : List Bool) → StandsIn low n place begin fall bits → (w : ℕ) → wake_of (hears_by place begin fall bits) ≡ Some w → WakesNow n b place begin fall bits w
 unfolding StandsIn
 wakes_now low n b Rest begin fall bits s w e = cc
 wakes_now low n b StartLow begin fall bits s w e =

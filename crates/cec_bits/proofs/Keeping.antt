@@ -4,9 +4,9 @@ use Rattle.std.specs.List.{filter_map}
 use Rattle.std.specs.Option.{option_to_list}
 use Rattle.std.proofs.lemmas.Bool.Decides.{nat_tests}
 use Rattle.cec_wave.specs.Line.{Line, was_low, is_fall, is_rise}
-use Rattle.cec_bits.specs.declared.receiver.Place.{Place}
-use Rattle.cec_bits.specs.declared.receiver.Place.TheVariants.{Rest, StartLow, StartHigh, Unsampled, Sampled}
-use Rattle.cec_bits.specs.Reading.{first_in, next_rise, Slot, known, known_slot, reading_of, read_start, last_ending, sampled, start_of}
+use Rattle.cec_bits.specs.declared.receiver.ReceiverState.{ReceiverState}
+use Rattle.cec_bits.specs.declared.receiver.ReceiverState.TheVariants.{Rest, StartLow, StartHigh, Unsampled, Sampled}
+use Rattle.cec_bits.specs.Reading.{first_in, next_rise, Slot, known_at, known_slot, reading_of, read_start, last_ending, bit_sampled_at, start_of}
 use Rattle.cec_bits.specs.Phase.{Standing, standing_of, standing_from, stands_from, stands_by, in_reading, at_rest}
 use Rattle.cec_bits.specs.Phase as phase
 use Rattle.cec_bits.specs.Hears.{Hears, hear_in, hears}
@@ -65,7 +65,7 @@ begun_runs low t begin b late =
 -- the reading runs at t, with these slots so far
 record RunsSo (low : Line) (t begin : ℕ) (slots : List Slot) : Type 0 where
   runs : running_of low t ≡ Some begin
-  known_by : (known (t + 1) (reading_of low begin)).slots ≡ slots
+  known_by : (known_at (t + 1) (reading_of low begin)).slots ≡ slots
 
 low_runs : (low : Line) (t begin fall : ℕ) (bits : List Bool) → AtStartLow low (t + 1) begin fall bits → RunsSo low t begin []
 low_runs low t begin fall bits s =
@@ -78,7 +78,7 @@ high_runs low t begin fall bits s =
     record { runs = begun_runs low t begin s.begun (start_later low begin t (start_of low begin) d.0 d.1); known_by = start_none low begin t (start_of low begin) d.0 }
 
 slot_runs : (low : Line) (t begin fall : ℕ) (before : List Bool) → (s : AtSlot low (t + 1) begin fall before) → Waits low fall (t + 1) (last_ending before)
-    → RunsSo low t begin (s.xs ++ known_slot (t + 1) (record { fall = fall; bit = sampled low fall }) ∷ [])
+    → RunsSo low t begin (s.xs ++ known_slot (t + 1) (record { fall = fall; bit = bit_sampled_at low fall }) ∷ [])
 slot_runs low t begin fall before s w = record {
   runs = begun_runs low t begin s.begun (let x = ends_later low begin s.left s.xs before fall (t + 1) s.reached w in omega (arith, x));
   known_by = known_waiting low begin s.left s.xs before fall (t + 1) s.reached w;
@@ -96,7 +96,7 @@ kept_so low t begin slots r = ap (kept_by low t) r.runs ∙ ap (kept_in low t be
 -- the standing goes by the reading that runs
 stands_with : Line → ℕ → Option ℕ → Standing
 stands_with low t None = at_rest (low t)
-stands_with low t (Some e) = in_reading low e t (known (t + 1) (reading_of low e)).slots
+stands_with low t (Some e) = in_reading low e t (known_at (t + 1) (reading_of low e)).slots
 
 standing_runs : (low : Line) (t n from : ℕ) → standing_from low t n from ≡ stands_with low t (running_from low t n from)
 unfolding standing_from running_from stands_with
@@ -104,7 +104,7 @@ standing_runs low t zero from = refl
 standing_runs low t (suc n) from = by_fall (λ f. standing_runs low t n f) (first_in (is_fall low) from (t + 1 - from))
   where
     by_end : (e : ℕ) → standing_from low t n ((reading_of low e).until + 1) ≡ stands_with low t (running_from low t n ((reading_of low e).until + 1)) → (b : Bool)
-        → (if b then in_reading low e t (known (t + 1) (reading_of low e)).slots else standing_from low t n ((reading_of low e).until + 1))
+        → (if b then in_reading low e t (known_at (t + 1) (reading_of low e)).slots else standing_from low t n ((reading_of low e).until + 1))
         ≡ stands_with low t (if b then Some e else running_from low t n ((reading_of low e).until + 1))
     by_end e ih true = refl
     by_end e ih false = ih
@@ -133,7 +133,7 @@ last_of : (fall : ℕ) (xs : List Slot) (s : Slot) → last_fall fall (xs ++ s �
 last_of fall [] s = refl
 last_of fall (x ∷ xs) s = last_of x.fall xs s
 
-place_by : ℕ → ℕ → Place
+place_by : ℕ → ℕ → ReceiverState
 place_by told slots = if told == slots then Sampled else Unsampled
 
 kept_slot : (low : Line) (t begin : ℕ) (xs : List Slot) (s : Slot) → kept_in low t begin (xs ++ s ∷ []) ≡ record {
@@ -151,8 +151,8 @@ in_slot : (low : Line) (begin t : ℕ) (xs : List Slot) (s : Slot) → in_readin
 in_slot low begin t [] s = refl
 in_slot low begin t (x ∷ xs) s = refl
 
-slot_keeps : (low : Line) (t begin fall : ℕ) (before bits : List Bool) (place : Place) → (s : AtSlot low (t + 1) begin fall before) → Waits low fall (t + 1) (last_ending before)
-    → (o : Option Bool) → (if nat_lt (fall + 1050) (t + 1) then sampled low fall else None) ≡ o → before ++ option_to_list o ≡ bits
+slot_keeps : (low : Line) (t begin fall : ℕ) (before bits : List Bool) (place : ReceiverState) → (s : AtSlot low (t + 1) begin fall before) → Waits low fall (t + 1) (last_ending before)
+    → (o : Option Bool) → (if nat_lt (fall + 1050) (t + 1) then bit_sampled_at low fall else None) ≡ o → before ++ option_to_list o ≡ bits
     → place_by (length bits) (length before + 1) ≡ place → standing_by (record { place = place; begin = begin; fall = fall; bits = bits }) (low t) ≡ phase.InSlot (length before + 1) bits
     → KeepsSo low t (record { place = place; begin = begin; fall = fall; bits = bits })
 slot_keeps low t begin fall before bits place s w o is bits_is place_is stands_is = record {
@@ -167,18 +167,18 @@ slot_keeps low t begin fall before bits place s w o is bits_is place_is stands_i
 }
   where
     one : Slot
-    one = known_slot (t + 1) (record { fall = fall; bit = sampled low fall })
+    one = known_slot (t + 1) (record { fall = fall; bit = bit_sampled_at low fall })
 
-    runs : RunsSo low t begin (s.xs ++ known_slot (t + 1) (record { fall = fall; bit = sampled low fall }) ∷ [])
+    runs : RunsSo low t begin (s.xs ++ known_slot (t + 1) (record { fall = fall; bit = bit_sampled_at low fall }) ∷ [])
     runs = slot_runs low t begin fall before s w
 
-    told : filter_map (λ (x : Slot). x.bit) (s.xs ++ known_slot (t + 1) (record { fall = fall; bit = sampled low fall }) ∷ []) ≡ bits
-    told = told_more s.xs before (known_slot (t + 1) (record { fall = fall; bit = sampled low fall })) s.reached.told ∙ ap (λ (x : Option Bool). before ++ option_to_list x) is ∙ bits_is
+    told : filter_map (λ (x : Slot). x.bit) (s.xs ++ known_slot (t + 1) (record { fall = fall; bit = bit_sampled_at low fall }) ∷ []) ≡ bits
+    told = told_more s.xs before (known_slot (t + 1) (record { fall = fall; bit = bit_sampled_at low fall })) s.reached.told ∙ ap (λ (x : Option Bool). before ++ option_to_list x) is ∙ bits_is
 
-    count : length (s.xs ++ known_slot (t + 1) (record { fall = fall; bit = sampled low fall }) ∷ []) ≡ length before + 1
-    count = length-append s.xs (known_slot (t + 1) (record { fall = fall; bit = sampled low fall }) ∷ []) ∙ (let x = s.count in let y : length s.xs + 1 ≡ length before + 1 = omega (arith, x) in y)
+    count : length (s.xs ++ known_slot (t + 1) (record { fall = fall; bit = bit_sampled_at low fall }) ∷ []) ≡ length before + 1
+    count = length-append s.xs (known_slot (t + 1) (record { fall = fall; bit = bit_sampled_at low fall }) ∷ []) ∙ (let x = s.count in let y : length s.xs + 1 ≡ length before + 1 = omega (arith, x) in y)
 
-keeps_so : (low : Line) (t : ℕ) (place : Place) (begin fall : ℕ) (bits : List Bool) → StandsIn low (t + 1) place begin fall bits → KeepsSo low t (record { place = place; begin = begin; fall = fall; bits = bits })
+keeps_so : (low : Line) (t : ℕ) (place : ReceiverState) (begin fall : ℕ) (bits : List Bool) → StandsIn low (t + 1) place begin fall bits → KeepsSo low t (record { place = place; begin = begin; fall = fall; bits = bits })
 unfolding StandsIn stands_with place_by
 keeps_so low t Rest begin fall bits s = record {
   kept = ap (kept_by low t) (rest_runs low t begin fall bits s) ∙ sym (rw (s.no_begin, s.no_fall, s.no_bits) refl);
@@ -200,12 +200,12 @@ keeps_so low t StartHigh begin fall bits s =
     }
 keeps_so low t Unsampled begin fall bits s =
     slot_keeps low t begin fall bits bits Unsampled s.slot (record { after = s.slot.after; quiet = s.slot.quiet; early = omega (arith, s.early); plain = λ ending w. s.early })
-    None (let l = s.early in ap (λ b. if b then sampled low fall else None) (let x : nat_lt (fall + 1050) (t + 1) ≡ false = grind (arith, nat_tests) in x)) (append-nil bits)
+    None (let l = s.early in ap (λ b. if b then bit_sampled_at low fall else None) (let x : nat_lt (fall + 1050) (t + 1) ≡ false = grind (arith, nat_tests) in x)) (append-nil bits)
     (ap (λ b. if b then Sampled else Unsampled) (let x : (length bits == length bits + 1) ≡ false = grind (arith, nat_tests) in x)) refl
 keeps_so low t Sampled begin fall bits s =
     let more : length bits ≡ length s.before + 1 = ap (λ (bs : List Bool). length bs) s.told ∙ length-append s.before (not (low (fall + 1050)) ∷ []) in
     slot_keeps low t begin fall s.before bits Sampled s.slot (record { after = s.slot.after; quiet = s.slot.quiet; early = s.early; plain = λ ending w. let x : None ≡ Some ending = sym s.plain ∙ w in cc })
-    (Some (not (low (fall + 1050)))) (let l = s.past in ap (λ b. if b then sampled low fall else None) (let x : nat_lt (fall + 1050) (t + 1) ≡ true = grind (arith, nat_tests) in x)
+    (Some (not (low (fall + 1050)))) (let l = s.past in ap (λ b. if b then bit_sampled_at low fall else None) (let x : nat_lt (fall + 1050) (t + 1) ≡ true = grind (arith, nat_tests) in x)
     ∙ quiet_sample low fall (λ u a b. s.slot.quiet u a (omega (arith, l)))) (sym s.told)
     (ap (λ b. if b then Sampled else Unsampled) (let x : (length bits == length s.before + 1) ≡ true = grind (arith, nat_tests) in x)) (ap (λ n. phase.InSlot n bits) more)
 
@@ -228,7 +228,7 @@ before_heard low (suc t) = kept_heard low t
 pub standings_are_kept : StandingsAreKept
 standings_are_kept low t = let k = heard_keeps low t in ap (λ h. standing_by h (low t)) k.kept ∙ sym k.stands
 
-pub runs_so : (low : Line) (t : ℕ) (place : Place) (begin fall : ℕ) (bits : List Bool) → StandsIn low (t + 1) place begin fall bits → running_of low t ≡ runs_in place begin
+pub runs_so : (low : Line) (t : ℕ) (place : ReceiverState) (begin fall : ℕ) (bits : List Bool) → StandsIn low (t + 1) place begin fall bits → running_of low t ≡ runs_in place begin
 unfolding StandsIn
 runs_so low t Rest begin fall bits s = rest_runs low t begin fall bits s
 runs_so low t StartLow begin fall bits s = (low_runs low t begin fall bits s).runs
@@ -255,7 +255,7 @@ ends_heard low begin = by_start (start_of low begin)
     by_start (Ok f) = slots_heard low 160 [] f
     by_start (Err at) = inr refl
 
-not_all : (low : Line) (begin n : ℕ) → n ≤ (reading_of low begin).at → is_whole (known n (reading_of low begin)).ended ≡ false
+not_all : (low : Line) (begin n : ℕ) → n ≤ (reading_of low begin).at → is_whole (known_at n (reading_of low begin)).ended ≡ false
 not_all low begin n l = by_time (nat_lt (reading_of low begin).until n) refl (ends_heard low begin)
   where
     by_time : (b : Bool) → nat_lt (reading_of low begin).until n ≡ b → ((reading_of low begin).until ≡ (reading_of low begin).at) ⊎ (has_all (reading_of low begin).ending ≡ false)
@@ -264,24 +264,24 @@ not_all low begin n l = by_time (nat_lt (reading_of low begin).until n) refl (en
     by_time true h (inr e) = e
     by_time true h (inl e) = let x : (reading_of low begin).until < n = grind (arith, nat_tests) in absurd (omega (arith, e, x, l))
 
-knows_running : (low : Line) (n begin : ℕ) (bits : List Bool) → (n ≤ (reading_of low begin).at) → known_bits (known n (reading_of low begin)) ≡ bits → Knows low n begin bits false false
+knows_running : (low : Line) (n begin : ℕ) (bits : List Bool) → (n ≤ (reading_of low begin).at) → known_bits (known_at n (reading_of low begin)) ≡ bits → Knows low n begin bits false false
 knows_running low n begin bits l e = record { bits_are = e; whole_is = not_all low begin n l; over_is = let x : nat_lt (reading_of low begin).at n ≡ false = grind (arith, nat_tests) in x }
 
 start_knows : (low : Line) (n begin : ℕ) (bits : List Bool) → bits ≡ [] → ((f : ℕ) → start_of low begin ≡ Ok f → n < f + 1) × ((at : ℕ) → start_of low begin ≡ Err at → n < at + 1) → 1 ≤ n → Knows low n begin bits false false
 start_knows low n begin bits none d l =
     knows_running low n begin bits
     (let x = start_later low begin (n - 1) (start_of low begin) (λ f e. let y = d.0 f e in omega (arith, y, l)) (λ at e. let y = d.1 at e in omega (arith, y, l)) in omega (arith, x))
-    (ap (λ m. known_bits (known m (reading_of low begin))) (let x : n ≡ n - 1 + 1 = omega (arith, l) in x)
+    (ap (λ m. known_bits (known_at m (reading_of low begin))) (let x : n ≡ n - 1 + 1 = omega (arith, l) in x)
     ∙ ap (λ (ss : List Slot). filter_map (λ (x : Slot). x.bit) ss) (start_none low begin (n - 1) (start_of low begin) (λ f e. let y = d.0 f e in omega (arith, y, l))) ∙ sym none)
 
 slot_knows : (low : Line) (n begin fall : ℕ) (before bits : List Bool) → (s : AtSlot low n begin fall before) → Waits low fall n (last_ending before)
-    → before ++ option_to_list (if nat_lt (fall + 1050) n then sampled low fall else None) ≡ bits → Knows low n begin bits false false
+    → before ++ option_to_list (if nat_lt (fall + 1050) n then bit_sampled_at low fall else None) ≡ bits → Knows low n begin bits false false
 slot_knows low n begin fall before bits s w e =
     knows_running low n begin bits (ends_later low begin s.left s.xs before fall n s.reached w)
     (ap (λ (ss : List Slot). filter_map (λ (x : Slot). x.bit) ss) (known_waiting low begin s.left s.xs before fall n s.reached w)
-    ∙ told_more s.xs before (known_slot n (record { fall = fall; bit = sampled low fall })) s.reached.told ∙ e)
+    ∙ told_more s.xs before (known_slot n (record { fall = fall; bit = bit_sampled_at low fall })) s.reached.told ∙ e)
 
-pub running_knows : (low : Line) (n : ℕ) (place : Place) (begin fall : ℕ) (bits : List Bool) (b : ℕ) → StandsIn low n place begin fall bits → runs_in place begin ≡ Some b → Knows low n begin bits false false
+pub running_knows : (low : Line) (n : ℕ) (place : ReceiverState) (begin fall : ℕ) (bits : List Bool) (b : ℕ) → StandsIn low n place begin fall bits → runs_in place begin ≡ Some b → Knows low n begin bits false false
 unfolding StandsIn
 running_knows low n Rest begin fall bits b s e = cc
 running_knows low n StartLow begin fall bits b s e =
@@ -294,8 +294,8 @@ running_knows low n StartHigh begin fall bits b s e =
     start_knows low n begin bits s.no_bits (λ f k. let y = d.0 f k in omega (arith, y), λ at k. let y = d.1 at k in omega (arith, y)) one
 running_knows low n Unsampled begin fall bits b s e =
     slot_knows low n begin fall bits bits s.slot (record { after = s.slot.after; quiet = s.slot.quiet; early = omega (arith, s.early); plain = λ ending w. s.early })
-    (ap (λ c. bits ++ option_to_list (if c then sampled low fall else None)) (let l = s.early in let x : nat_lt (fall + 1050) n ≡ false = grind (arith, nat_tests) in x) ∙ append-nil bits)
+    (ap (λ c. bits ++ option_to_list (if c then bit_sampled_at low fall else None)) (let l = s.early in let x : nat_lt (fall + 1050) n ≡ false = grind (arith, nat_tests) in x) ∙ append-nil bits)
 running_knows low n Sampled begin fall bits b s e =
     slot_knows low n begin fall s.before bits s.slot (record { after = s.slot.after; quiet = s.slot.quiet; early = s.early; plain = λ ending w. let x : None ≡ Some ending = sym s.plain ∙ w in cc })
-    (ap (λ c. s.before ++ option_to_list (if c then sampled low fall else None)) (let l = s.past in let x : nat_lt (fall + 1050) n ≡ true = grind (arith, nat_tests) in x)
+    (ap (λ c. s.before ++ option_to_list (if c then bit_sampled_at low fall else None)) (let l = s.past in let x : nat_lt (fall + 1050) n ≡ true = grind (arith, nat_tests) in x)
     ∙ ap (λ (o : Option Bool). s.before ++ option_to_list o) (quiet_sample low fall (λ u a c. s.slot.quiet u a (omega (arith, s.past)))) ∙ sym s.told)

@@ -9,12 +9,12 @@ use Rattle.cec_frame.specs.declared.Ending.{Ending}
 use Rattle.cec_frame.specs.declared.Ending.TheVariants.{Short, Open}
 use Rattle.cec_bits.specs.declared.After.{After}
 use Rattle.cec_bits.specs.declared.After.TheVariants.{Next, Ends}
-use Rattle.cec_bits.specs.declared.receiver.Place.{Place}
-use Rattle.cec_bits.specs.declared.receiver.Place.TheVariants.{Rest, StartLow, StartHigh, Unsampled, Sampled}
+use Rattle.cec_bits.specs.declared.receiver.ReceiverState.{ReceiverState}
+use Rattle.cec_bits.specs.declared.receiver.ReceiverState.TheVariants.{Rest, StartLow, StartHigh, Unsampled, Sampled}
 use Rattle.cec_bits.specs.declared.receiver.Told.{Told}
 use Rattle.cec_bits.specs.declared.receiver.Told.TheVariants.{Nothing, Bit, Last, Ended}
-use Rattle.cec_bits.specs.Reading.{first_in, next_fall, Read, Slot, known, known_slot, known_slots, reading_of, read_start, read_slots, read_on, after_slot, after_fall, after_last, last_ending, sample, sampled, start_of, bits_of, told_of}
-use Rattle.cec_bits.specs.Readings.{Listed, listed, listed_on, readings_from, readings_of, IsFirstFall}
+use Rattle.cec_bits.specs.Reading.{first_in, next_fall, Read, Slot, known_at, known_slot, known_slots, reading_of, read_start, read_slots, read_on, after_slot, after_fall, after_last, last_ending, sample, bit_sampled_at, start_of, bits_of, told_of}
+use Rattle.cec_bits.specs.Readings.{Listed, reading_from, listed_on, readings_from, readings_of, IsFirstFall}
 use Rattle.cec_bits.specs.Ended.{has_ended, ended_by}
 use Rattle.cec_bits.specs.Hears.{Hears, Heard, hear_in, hears, wake_of}
 use Rattle.cec_bits.specs.Kept.{Sample, sample_in, told_with, told_in, told_at, kept_of, kept_before}
@@ -36,14 +36,14 @@ IsAfter : ℕ → After → Type 0
 IsAfter e (Next f) = e + 1050 < f
 IsAfter e (Ends ending at) = e + 1050 ≤ at
 
-unbroken : (low : Line) (e : ℕ) (b : Bool) → sampled low e ≡ Some b → next_fall low e 1050 ≡ None
+unbroken : (low : Line) (e : ℕ) (b : Bool) → bit_sampled_at low e ≡ Some b → next_fall low e 1050 ≡ None
 unbroken low e b h = by_fall (next_fall low e 1050) h
   where
     by_fall : (o : Option ℕ) → sample low e o ≡ Some b → o ≡ None
     by_fall None k = refl
     by_fall (Some f) k = cc
 
-after_sample : (low : Line) (e : ℕ) (b : Bool) (last : Option Ending) → sampled low e ≡ Some b → IsAfter e (after_slot low e last)
+after_sample : (low : Line) (e : ℕ) (b : Bool) (last : Option Ending) → bit_sampled_at low e ≡ Some b → IsAfter e (after_slot low e last)
 unfolding IsAfter
 after_sample low e b None h = by_fall (next_fall low e 2750) refl
   where
@@ -91,37 +91,37 @@ all_slots low t zero bits e l = refl
 all_slots low t (suc left) bits e l = by_after (after_slot low e (last_ending bits)) refl (λ f k. all_slots low t left bits2 f k)
   where
     bits2 : List Bool
-    bits2 = bits ++ option_to_list (sampled low e)
+    bits2 = bits ++ option_to_list (bit_sampled_at low e)
 
     more : ℕ → Read
-    more f = read_slots low left (bits ++ option_to_list (sampled low e)) f
+    more f = read_slots low left (bits ++ option_to_list (bit_sampled_at low e)) f
 
     begun : e < t
     begun = omega (arith, l, slots_at low (suc left) bits e)
 
-    heard : (b : Bool) → sampled low e ≡ Some b → e + 1050 < t
+    heard : (b : Bool) → bit_sampled_at low e ≡ Some b → e + 1050 < t
     heard b h =
-        let x = sampled_by low e 0 b more (after_slot low e (last_ending bits)) (after_sample low e b (last_ending bits) h) (λ f. slots_at low left (bits ++ option_to_list (sampled low e)) f) in
+        let x = sampled_by low e 0 b more (after_slot low e (last_ending bits)) (after_sample low e b (last_ending bits) h) (λ f. slots_at low left (bits ++ option_to_list (bit_sampled_at low e)) f) in
         omega (arith, x, l)
 
     front : (ss : List Slot) → bits_in (known_slots t ss) ≡ bits_in ss
-        → bits_in (known_slots t (record { fall = e; bit = sampled low e } ∷ ss)) ≡ bits_in (record { fall = e; bit = sampled low e } ∷ ss)
+        → bits_in (known_slots t (record { fall = e; bit = bit_sampled_at low e } ∷ ss)) ≡ bits_in (record { fall = e; bit = bit_sampled_at low e } ∷ ss)
     front ss h =
-        ap (λ c. bits_in (if c then known_slot t (record { fall = e; bit = sampled low e }) ∷ known_slots t ss else [])) (let x = begun in let y : nat_lt e t ≡ true = grind (arith, nat_tests) in y)
-        ∙ one_bit t e (sampled low e) (bits_in (known_slots t ss)) (bits_in ss) h heard
+        ap (λ c. bits_in (if c then known_slot t (record { fall = e; bit = bit_sampled_at low e }) ∷ known_slots t ss else [])) (let x = begun in let y : nat_lt e t ≡ true = grind (arith, nat_tests) in y)
+        ∙ one_bit t e (bit_sampled_at low e) (bits_in (known_slots t ss)) (bits_in ss) h heard
 
     by_after : (a : After) → after_slot low e (last_ending bits) ≡ a → ((f : ℕ) → (more f).at < t → bits_in (known_slots t (more f).slots) ≡ bits_in (more f).slots)
-        → bits_in (known_slots t (record { fall = e; bit = sampled low e } ∷ (read_on more (after_slot low e (last_ending bits))).slots))
-        ≡ bits_in (record { fall = e; bit = sampled low e } ∷ (read_on more (after_slot low e (last_ending bits))).slots)
+        → bits_in (known_slots t (record { fall = e; bit = bit_sampled_at low e } ∷ (read_on more (after_slot low e (last_ending bits))).slots))
+        ≡ bits_in (record { fall = e; bit = bit_sampled_at low e } ∷ (read_on more (after_slot low e (last_ending bits))).slots)
     by_after (Next f) h ih =
         let m : (more f).at < t = omega (arith, l, ap (λ x. (read_on more x).at) h) in
-        subst (λ x. bits_in (known_slots t (record { fall = e; bit = sampled low e } ∷ (read_on more x).slots)) ≡ bits_in (record { fall = e; bit = sampled low e } ∷ (read_on more x).slots)) (sym h)
+        subst (λ x. bits_in (known_slots t (record { fall = e; bit = bit_sampled_at low e } ∷ (read_on more x).slots)) ≡ bits_in (record { fall = e; bit = bit_sampled_at low e } ∷ (read_on more x).slots)) (sym h)
         (front (more f).slots (ih f m))
     by_after (Ends ending at) h ih =
-        subst (λ x. bits_in (known_slots t (record { fall = e; bit = sampled low e } ∷ (read_on more x).slots)) ≡ bits_in (record { fall = e; bit = sampled low e } ∷ (read_on more x).slots)) (sym h)
+        subst (λ x. bits_in (known_slots t (record { fall = e; bit = bit_sampled_at low e } ∷ (read_on more x).slots)) ≡ bits_in (record { fall = e; bit = bit_sampled_at low e } ∷ (read_on more x).slots)) (sym h)
         (front [] refl)
 
-pub all_bits : (low : Line) (e t : ℕ) → (reading_of low e).at < t → known_bits (known t (reading_of low e)) ≡ bits_of (reading_of low e)
+pub all_bits : (low : Line) (e t : ℕ) → (reading_of low e).at < t → known_bits (known_at t (reading_of low e)) ≡ bits_of (reading_of low e)
 unfolding bits_in
 all_bits low e t l = by_start (start_of low e) l
   where
@@ -132,9 +132,9 @@ all_bits low e t l = by_start (start_of low e) l
 -- ---- the list, after the readings that are over
 
 -- readings that are over are kept, and then comes what is left
-past_from : (low : Line) (t : ℕ) (keep : Listed → Bool) (n from : ℕ) (es : List ℕ) (to : ℕ) (xs : List Listed) → ((e : ℕ) → (reading_of low e).at ≤ t → keep (listed low t e) ≡ true)
+past_from : (low : Line) (t : ℕ) (keep : Listed → Bool) (n from : ℕ) (es : List ℕ) (to : ℕ) (xs : List Listed) → ((e : ℕ) → (reading_of low e).at ≤ t → keep (reading_from low t e) ≡ true)
     → t + 1 ≤ n + from → ArePast low (t + 1) from es to → ((m : ℕ) → t + 1 ≤ m + to → filter keep (readings_from low t m to) ≡ xs)
-    → filter keep (readings_from low t n from) ≡ map (listed low t) es ++ xs
+    → filter keep (readings_from low t n from) ≡ map (reading_from low t) es ++ xs
 unfolding readings_from
 past_from low t keep n from [] to xs k l h rest = subst (λ f. filter keep (readings_from low t n f) ≡ xs) h (rest n (omega (arith, l, h)))
 past_from low t keep zero from (e ∷ es) to xs k l h rest = absurd (omega (arith, h.0.after, h.1, l))
@@ -142,8 +142,8 @@ past_from low t keep (suc n) from (e ∷ es) to xs k l h rest =
     let some : first_in (is_fall low) from (t + 1 - from) ≡ Some e = first_in_some (is_fall low) from (t + 1 - from) e h.0.after (omega (arith, h.0.after, h.1)) h.0.falls h.0.quiet in
     let later : List Listed = filter keep (readings_from low t n ((reading_of low e).until + 1)) in
     ap (λ o. filter keep (listed_on low t o (readings_from low t n))) some
-    ∙ ap (λ b. if b then listed low t e ∷ later else later) (k e (omega (arith, h.2)))
-    ∙ ap (λ ys. listed low t e ∷ ys) (past_from low t keep n ((reading_of low e).until + 1) es to xs k (omega (arith, l, h.0.after, begin_by low e)) h.3 rest)
+    ∙ ap (λ b. if b then reading_from low t e ∷ later else later) (k e (omega (arith, h.2)))
+    ∙ ap (λ ys. reading_from low t e ∷ ys) (past_from low t keep n ((reading_of low e).until + 1) es to xs k (omega (arith, l, h.0.after, begin_by low e)) h.3 rest)
 
 -- where the next reading, if one has begun, has not ended, none is left that has
 none_ended : (low : Line) (t to : ℕ) → ((e : ℕ) → IsFirstFall low to e → e ≤ t → t < (reading_of low e).at) → (m : ℕ) → filter (has_ended low t) (readings_from low t m to) ≡ []
@@ -157,16 +157,16 @@ none_ended low t to h (suc m) = by_first (first_in (is_fall low) to (t + 1 - to)
         let d = found_first (is_fall low) to (t + 1 - to) e k in
         let late : t < (reading_of low e).at = h e (record { after = d.after; falls = d.passes; quiet = d.first }) (omega (arith, d.within, d.after)) in
         let later : List Listed = readings_from low t m ((reading_of low e).until + 1) in
-        ap (λ b. if b then listed low t e ∷ filter (has_ended low t) later else filter (has_ended low t) later) (let x : nat_le (reading_of low e).at t ≡ false = grind (arith, nat_tests) in x)
+        ap (λ b. if b then reading_from low t e ∷ filter (has_ended low t) later else filter (has_ended low t) later) (let x : nat_le (reading_of low e).at t ≡ false = grind (arith, nat_tests) in x)
         ∙ ap (filter (has_ended low t)) (none_left low t m ((reading_of low e).until + 1) (omega (arith, at_by low e, late)))
 
 -- the next reading, where it runs
-one_left : (low : Line) (t to e : ℕ) → IsFirstFall low to e → e ≤ t → t < (reading_of low e).at → (m : ℕ) → t + 1 ≤ m + to → readings_from low t m to ≡ listed low t e ∷ []
+one_left : (low : Line) (t to e : ℕ) → IsFirstFall low to e → e ≤ t → t < (reading_of low e).at → (m : ℕ) → t + 1 ≤ m + to → readings_from low t m to ≡ reading_from low t e ∷ []
 unfolding readings_from
 one_left low t to e f b late zero l = absurd (omega (arith, f.after, b, l))
 one_left low t to e f b late (suc m) l =
     ap (λ o. listed_on low t o (readings_from low t m)) (first_in_some (is_fall low) to (t + 1 - to) e f.after (omega (arith, f.after, b)) f.falls f.quiet)
-    ∙ ap (λ (ys : List Listed). listed low t e ∷ ys) (none_left low t m ((reading_of low e).until + 1) (omega (arith, at_by low e, late)))
+    ∙ ap (λ (ys : List Listed). reading_from low t e ∷ ys) (none_left low t m ((reading_of low e).until + 1) (omega (arith, at_by low e, late)))
 
 quiet_left : (low : Line) (t to : ℕ) → ((u : ℕ) → to ≤ u → u < t + 1 → is_fall low u ≡ false) → (m : ℕ) → readings_from low t m to ≡ []
 unfolding readings_from
@@ -174,27 +174,27 @@ quiet_left low t to q zero = refl
 quiet_left low t to q (suc m) =
     ap (λ o. listed_on low t o (readings_from low t m)) (first_in_none (is_fall low) to (t + 1 - to) (λ u a b. q u a (omega (arith, a, b))))
 
-keeps_ended : (low : Line) (t e : ℕ) → (reading_of low e).at ≤ t → has_ended low t (listed low t e) ≡ true
+keeps_ended : (low : Line) (t e : ℕ) → (reading_of low e).at ≤ t → has_ended low t (reading_from low t e) ≡ true
 keeps_ended low t e l = grind (arith, nat_tests)
 
 -- the readings that have ended are those that are over
 ended_past : (low : Line) (t : ℕ) (es : List ℕ) (to : ℕ) → ArePast low (t + 1) 0 es to → ((e : ℕ) → IsFirstFall low to e → e ≤ t → t < (reading_of low e).at)
-    → ended_by low t ≡ map (listed low t) es
+    → ended_by low t ≡ map (reading_from low t) es
 ended_past low t es to over h =
-    past_from low t (has_ended low t) (t + 1) 0 es to [] (λ e l. keeps_ended low t e l) (omega arith) over (λ m l. none_ended low t to h m) ∙ append-nil (map (listed low t) es)
+    past_from low t (has_ended low t) (t + 1) 0 es to [] (λ e l. keeps_ended low t e l) (omega arith) over (λ m l. none_ended low t to h m) ∙ append-nil (map (reading_from low t) es)
 
 all_past : (low : Line) (t : ℕ) (es : List ℕ) (to : ℕ) (xs : List Listed) → ArePast low (t + 1) 0 es to → ((m : ℕ) → t + 1 ≤ m + to → readings_from low t m to ≡ xs)
-    → readings_of low t ≡ map (listed low t) es ++ xs
+    → readings_of low t ≡ map (reading_from low t) es ++ xs
 all_past low t es to xs over h =
     sym (keep_all (readings_of low t))
     ∙ past_from low t (λ x. true) (t + 1) 0 es to xs (λ e l. refl) (omega arith) over (λ m l. keep_all (readings_from low t m to) ∙ h m l)
 
--- what was told of them stays
-same_past : (low : Line) (t from : ℕ) (es : List ℕ) (to : ℕ) → ArePast low (t + 1) from es to → map (listed low (t + 1)) es ≡ map (listed low t) es
+-- what was reported of them stays
+same_past : (low : Line) (t from : ℕ) (es : List ℕ) (to : ℕ) → ArePast low (t + 1) from es to → map (reading_from low (t + 1)) es ≡ map (reading_from low t) es
 same_past low t from [] to h = refl
 same_past low t from (e ∷ es) to h =
-    ap (λ (x : Listed). x ∷ map (listed low (t + 1)) es) (same_told low t (t + 1) e (omega arith) (omega (arith, h.2)))
-    ∙ ap (λ (xs : List Listed). listed low t e ∷ xs) (same_past low t ((reading_of low e).until + 1) es to h.3)
+    ap (λ (x : Listed). x ∷ map (reading_from low (t + 1)) es) (same_told low t (t + 1) e (omega arith) (omega (arith, h.2)))
+    ∙ ap (λ (xs : List Listed). reading_from low t e ∷ xs) (same_past low t ((reading_of low e).until + 1) es to h.3)
 
 map_more : (f : ℕ → Listed) (es : List ℕ) (e : ℕ) → map f (es ++ e ∷ []) ≡ map f es ++ f e ∷ []
 map_more f [] e = refl
@@ -214,9 +214,9 @@ one_fall low to a b f g = elim (cases_lt a b) [
 record Runs (low : Line) (n begin : ℕ) (bits : List Bool) : Type 0 where
   begun : HasBegun low n begin
   late : n ≤ (reading_of low begin).at
-  bits_are : known_bits (known n (reading_of low begin)) ≡ bits
+  bits_are : known_bits (known_at n (reading_of low begin)) ≡ bits
 
-begun_in : (low : Line) (n : ℕ) (place : Place) (begin fall : ℕ) (bits : List Bool) → StandsIn low n place begin fall bits → runs_in place begin ≡ Some begin → HasBegun low n begin
+begun_in : (low : Line) (n : ℕ) (place : ReceiverState) (begin fall : ℕ) (bits : List Bool) → StandsIn low n place begin fall bits → runs_in place begin ≡ Some begin → HasBegun low n begin
 unfolding StandsIn
 begun_in low n Rest begin fall bits s e = cc
 begun_in low n StartLow begin fall bits s e = s.begun
@@ -224,28 +224,28 @@ begun_in low n StartHigh begin fall bits s e = s.begun
 begun_in low n Unsampled begin fall bits s e = s.slot.begun
 begun_in low n Sampled begin fall bits s e = s.slot.begun
 
-runs : (low : Line) (n : ℕ) (place : Place) (begin fall : ℕ) (bits : List Bool) → StandsIn low n place begin fall bits → runs_in place begin ≡ Some begin → Runs low n begin bits
+runs : (low : Line) (n : ℕ) (place : ReceiverState) (begin fall : ℕ) (bits : List Bool) → StandsIn low n place begin fall bits → runs_in place begin ≡ Some begin → Runs low n begin bits
 runs low n place begin fall bits s e =
     let k = running_knows low n place begin fall bits begin s e in
     let over : nat_lt (reading_of low begin).at n ≡ false = k.over_is in
     record { begun = begun_in low n place begin fall bits s e; late = grind (arith, nat_tests); bits_are = k.bits_are }
 
-running_ended : (low : Line) (t begin : ℕ) (bits : List Bool) → (r : Runs low (t + 1) begin bits) → ended_by low t ≡ map (listed low t) r.begun.past
+running_ended : (low : Line) (t begin : ℕ) (bits : List Bool) → (r : Runs low (t + 1) begin bits) → ended_by low t ≡ map (reading_from low t) r.begun.past
 running_ended low t begin bits r =
     ended_past low t r.begun.past r.begun.from r.begun.over
     (λ e f l. subst (λ x. t < (reading_of low x).at) (one_fall low r.begun.from begin e r.begun.first f) (omega (arith, r.late)))
 
--- what is told of it
-open_now : (low : Line) (t begin : ℕ) (bits : List Bool) → Runs low (t + 1) begin bits → listed low t begin ≡ ends_with begin t Open bits
+-- what is reported of it
+open_now : (low : Line) (t begin : ℕ) (bits : List Bool) → Runs low (t + 1) begin bits → reading_from low t begin ≡ ends_with begin t Open bits
 open_now low t begin bits r =
     let late = r.late in
-    ap (λ b. let x : Listed = record { begin = begin; told = if b then told_of (reading_of low begin) else record { bits = filter_map (λ s. s.bit) (known (t + 1) (reading_of low begin)).slots; ending = Open; at = t } } in x)
+    ap (λ b. let x : Listed = record { begin = begin; told = if b then told_of (reading_of low begin) else record { bits = filter_map (λ s. s.bit) (known_at (t + 1) (reading_of low begin)).slots; ending = Open; at = t } } in x)
     (let x : nat_le (reading_of low begin).at t ≡ false = grind (arith, nat_tests) in x)
     ∙ ap (ends_with begin t Open) r.bits_are
 
-ended_now : (low : Line) (t begin : ℕ) (bits : List Bool) → (reading_of low begin).at ≡ t → bits_of (reading_of low begin) ≡ bits → listed low t begin ≡ ends_with begin t (reading_of low begin).ending bits
+ended_now : (low : Line) (t begin : ℕ) (bits : List Bool) → (reading_of low begin).at ≡ t → bits_of (reading_of low begin) ≡ bits → reading_from low t begin ≡ ends_with begin t (reading_of low begin).ending bits
 ended_now low t begin bits at is =
-    ap (λ b. let x : Listed = record { begin = begin; told = if b then told_of (reading_of low begin) else record { bits = filter_map (λ s. s.bit) (known (t + 1) (reading_of low begin)).slots; ending = Open; at = t } } in x)
+    ap (λ b. let x : Listed = record { begin = begin; told = if b then told_of (reading_of low begin) else record { bits = filter_map (λ s. s.bit) (known_at (t + 1) (reading_of low begin)).slots; ending = Open; at = t } } in x)
     (let x : nat_le (reading_of low begin).at t ≡ true = grind (arith, nat_tests) in x)
     ∙ ap (λ (bs : List Bool). ends_with begin (reading_of low begin).at (reading_of low begin).ending bs) is ∙ ap (λ u. ends_with begin u (reading_of low begin).ending bits) at
 
@@ -259,12 +259,12 @@ rest_kept low t begin fall bits s =
 
 running_kept : (low : Line) (t begin : ℕ) (bits : List Bool) → Runs low (t + 1) begin bits → readings_of low t ≡ ended_by low t ++ ends_with begin t Open bits ∷ []
 running_kept low t begin bits r =
-    all_past low t r.begun.past r.begun.from (listed low t begin ∷ []) r.begun.over
+    all_past low t r.begun.past r.begun.from (reading_from low t begin ∷ []) r.begun.over
     (λ m l. one_left low t r.begun.from begin r.begun.first (omega (arith, r.begun.before)) (omega (arith, r.late)) m l)
-    ∙ ap (λ (x : Listed). map (listed low t) r.begun.past ++ x ∷ []) (open_now low t begin bits r)
+    ∙ ap (λ (x : Listed). map (reading_from low t) r.begun.past ++ x ∷ []) (open_now low t begin bits r)
     ∙ ap (λ (xs : List Listed). xs ++ ends_with begin t Open bits ∷ []) (sym (running_ended low t begin bits r))
 
-kept_by_place : (low : Line) (t : ℕ) (place : Place) (begin fall : ℕ) (bits : List Bool) → StandsIn low (t + 1) place begin fall bits
+kept_by_place : (low : Line) (t : ℕ) (place : ReceiverState) (begin fall : ℕ) (bits : List Bool) → StandsIn low (t + 1) place begin fall bits
     → readings_of low t ≡ ended_by low t ++ option_to_list (running_by (record { place = place; begin = begin; fall = fall; bits = bits }) t)
 unfolding StandsIn
 kept_by_place low t Rest begin fall bits s = rest_kept low t begin fall bits s
@@ -303,21 +303,21 @@ going_next low t begin bits r late =
     ∙ sym (running_ended low t begin bits r)
 
 -- where one runs that ends with it
-ending_next : (low : Line) (t begin : ℕ) (bits all : List Bool) → Runs low (t + 1) begin bits → (reading_of low begin).at ≡ t + 1 → known_bits (known (t + 1 + 1) (reading_of low begin)) ≡ all
+ending_next : (low : Line) (t begin : ℕ) (bits all : List Bool) → Runs low (t + 1) begin bits → (reading_of low begin).at ≡ t + 1 → known_bits (known_at (t + 1 + 1) (reading_of low begin)) ≡ all
     → ended_by low (t + 1) ≡ ended_by low t ++ ends_with begin (t + 1) (reading_of low begin).ending all ∷ []
 ending_next low t begin bits all r at is =
     ended_past low (t + 1) (r.begun.past ++ begin ∷ []) ((reading_of low begin).until + 1)
     (past_more low (t + 1 + 1) 0 r.begun.past r.begun.from begin (past_later low (t + 1) 0 r.begun.past r.begun.from r.begun.over) r.begun.first (omega (arith, r.begun.before)) (omega (arith, at)))
     (λ e f l. omega (arith, f.after, l, at, at_by low begin, ends_after low e))
-    ∙ map_more (listed low (t + 1)) r.begun.past begin
-    ∙ ap (λ (xs : List Listed). xs ++ listed low (t + 1) begin ∷ []) (same_past low t 0 r.begun.past r.begun.from r.begun.over ∙ sym (running_ended low t begin bits r))
+    ∙ map_more (reading_from low (t + 1)) r.begun.past begin
+    ∙ ap (λ (xs : List Listed). xs ++ reading_from low (t + 1) begin ∷ []) (same_past low t 0 r.begun.past r.begun.from r.begun.over ∙ sym (running_ended low t begin bits r))
     ∙ ap (λ (x : Listed). ended_by low t ++ x ∷ [])
     (ended_now low (t + 1) begin all at (sym (all_bits low begin (t + 1 + 1) (omega (arith, at))) ∙ is))
 
--- by what was told
+-- by what was reported
 told_next : (low : Line) (t begin : ℕ) (bits : List Bool) (told : Told) → Runs low (t + 1) begin bits → told ≡ told_in low (t + 1) (Some begin) → KnowsEnd low (t + 1) begin bits told
     → ended_by low (t + 1) ≡ ended_by low t ++ option_to_list (ended_of told (t + 1) (Some (ends_with begin (t + 1) Open bits)))
-told_next low t begin bits told r is knows = by_time ((reading_of low begin).at == t + 1) refl (sample_in (t + 1) 1 (known (t + 1 + 1) (reading_of low begin)).slots) told is knows
+told_next low t begin bits told r is knows = by_time ((reading_of low begin).at == t + 1) refl (sample_in (t + 1) 1 (known_at (t + 1 + 1) (reading_of low begin)).slots) told is knows
   where
     none : (x : Told) → ended_of x (t + 1) (Some (ends_with begin (t + 1) Open bits)) ≡ None → (reading_of low begin).at ≢ t + 1
         → ended_by low (t + 1) ≡ ended_by low t ++ option_to_list (ended_of x (t + 1) (Some (ends_with begin (t + 1) Open bits)))
@@ -349,7 +349,7 @@ told_next low t begin bits told r is knows = by_time ((reading_of low begin).at 
     by_time false h (Some s) (Ended ending) e k = cc
 
 -- by the place
-place_next : (low : Line) (t : ℕ) (place : Place) (begin fall : ℕ) (bits : List Bool) (told : Told) → StandsIn low (t + 1) place begin fall bits → told ≡ told_in low (t + 1) (runs_in place begin)
+place_next : (low : Line) (t : ℕ) (place : ReceiverState) (begin fall : ℕ) (bits : List Bool) (told : Told) → StandsIn low (t + 1) place begin fall bits → told ≡ told_in low (t + 1) (runs_in place begin)
     → KnowsEnd low (t + 1) begin bits told
     → ended_by low (t + 1) ≡ ended_by low t ++ option_to_list (ended_of told (t + 1) (running_by (record { place = place; begin = begin; fall = fall; bits = bits }) (t + 1)))
 unfolding StandsIn

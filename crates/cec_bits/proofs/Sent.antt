@@ -11,13 +11,13 @@ use Rattle.cec_wave.specs.Sender.{sender_stretches}
 use Rattle.cec_frame.specs.Bits.{frame_bits}
 use Rattle.cec_frame.specs.declared.Ending.{Ending}
 use Rattle.cec_frame.specs.declared.Ending.TheVariants.{Short, Silent, BadStart}
-use Rattle.cec_bits.specs.declared.receiver.Place.{Place}
-use Rattle.cec_bits.specs.declared.receiver.Place.TheVariants.{Rest, StartLow, StartHigh, Unsampled, Sampled}
+use Rattle.cec_bits.specs.declared.receiver.ReceiverState.{ReceiverState}
+use Rattle.cec_bits.specs.declared.receiver.ReceiverState.TheVariants.{Rest, StartLow, StartHigh, Unsampled, Sampled}
 use Rattle.cec_bits.specs.declared.receiver.Told.{Told}
 use Rattle.cec_bits.specs.declared.receiver.Told.TheVariants.{Nothing, Bit, Last, Ended}
 use Rattle.cec_bits.specs.declared.sender.SenderState.{SenderState}
 use Rattle.cec_bits.specs.declared.sender.SenderState.TheVariants.{Sending, Out, Stopped}
-use Rattle.cec_bits.specs.Reading.{Known, known, reading_of, last_ending}
+use Rattle.cec_bits.specs.Reading.{Known, known_at, reading_of, last_ending}
 use Rattle.cec_bits.specs.Hears.{Hears, Heard, told_so, rest, starts, sample_as, hear_at, hear_in, hears}
 use Rattle.cec_bits.specs.Kept.{running_of, told_at}
 use Rattle.cec_bits.specs.Sends.{sent_in, takes_all, is_out_there, after_told}
@@ -185,7 +185,7 @@ GoesBy begin bits h (Bit slot value) = (runs_in h.place h.begin ≡ Some begin) 
 GoesBy begin bits h (Last value ending) = Unit {0}
 GoesBy begin bits h (Ended ending) = Unit {0}
 
-goes_by : (n : ℕ) (place : Place) (begin fall : ℕ) (bits : List Bool) (falls rises is_low : Bool) (b : ℕ) → runs_in place begin ≡ Some b
+goes_by : (n : ℕ) (place : ReceiverState) (begin fall : ℕ) (bits : List Bool) (falls rises is_low : Bool) (b : ℕ) → runs_in place begin ≡ Some b
     → GoesBy begin bits (hear_at place n falls rises is_low (record { place = place; begin = begin; fall = fall; bits = bits })).state (hear_at place n falls rises is_low (record { place = place; begin = begin; fall = fall; bits = bits })).told
 goes_by n Rest begin fall bits falls rises is_low b e = cc
 goes_by n StartLow begin fall bits falls rises is_low b e = by_tests (nat_lt (begin + 3900) n) rises (nat_lt n (begin + 3500))
@@ -240,7 +240,7 @@ goes_by n Sampled begin fall bits falls rises is_low b e = by_tests (nat_lt (fal
 
 state_known : (low : Line) (n begin : ℕ) (bits : List Bool) (whole over : Bool) (sent : List Bool) → Knows low n begin bits whole over → state_before low begin sent n ≡ state_by (out_by bits whole sent) over
 state_known low n begin bits whole over sent k =
-    ap (λ (bs : List Bool). state_by (out_by bs (is_whole (known n (reading_of low begin)).ended) sent) (nat_lt (reading_of low begin).at n)) k.bits_are
+    ap (λ (bs : List Bool). state_by (out_by bs (is_whole (known_at n (reading_of low begin)).ended) sent) (nat_lt (reading_of low begin).at n)) k.bits_are
     ∙ ap (λ w. state_by (out_by bits w sent) (nat_lt (reading_of low begin).at n)) k.whole_is
     ∙ ap (λ o. state_by (out_by bits whole sent) o) k.over_is
 
@@ -283,7 +283,7 @@ with_none : (o : Option ℕ) (sent : List Bool) → state_by o false ≡ after_t
 with_none (Some m) sent = refl
 with_none None sent = refl
 
--- what n tells of the reading that runs
+-- what n reports of the reading that runs
 tell_state : (low : Line) (n begin : ℕ) (bits : List Bool) (sent : List Bool) (h : Hears) (told : Told) → Knows low n begin bits false false → KnowsEnd low n begin bits told → GoesBy begin bits h told
     → ((bs : List Bool) → runs_in h.place h.begin ≡ Some begin → h.bits ≡ bs → Knows low (n + 1) begin bs false false)
     → state_before low begin sent (n + 1) ≡ after_told sent (state_before low begin sent n) told
@@ -299,7 +299,7 @@ tell_state low n begin bits sent h (Ended ending) k e g later =
     state_known low (n + 1) begin bits false true sent e ∙ with_end (out_by bits false sent) sent ending
     ∙ ap (λ s. after_told sent s (Ended ending)) (sym (state_known low n begin bits false false sent k))
 
-begin_is : (place : Place) (begin b : ℕ) → runs_in place begin ≡ Some b → begin ≡ b
+begin_is : (place : ReceiverState) (begin b : ℕ) → runs_in place begin ≡ Some b → begin ≡ b
 begin_is Rest begin b e = cc
 begin_is StartLow begin b e = cc
 begin_is StartHigh begin b e = cc
@@ -310,7 +310,7 @@ knows_of : (low : Line) (n : ℕ) (h : Hears) (b : ℕ) (bs : List Bool) → Sta
 knows_of low n h b bs s r q =
     subst (λ (x : List Bool). Knows low n b x false false) q (subst (λ x. Knows low n x h.bits false false) (begin_is h.place h.begin b r) (running_knows low n h.place h.begin h.fall h.bits b s r))
 
-tell_at : (low : Line) (n : ℕ) (place : Place) (begin fall : ℕ) (bits : List Bool) (b : ℕ) (sent : List Bool) → StandsIn low n place begin fall bits → 1 ≤ n → runs_in place begin ≡ Some b
+tell_at : (low : Line) (n : ℕ) (place : ReceiverState) (begin fall : ℕ) (bits : List Bool) (b : ℕ) (sent : List Bool) → StandsIn low n place begin fall bits → 1 ≤ n → runs_in place begin ≡ Some b
     → (o : Heard) → hear_in n (was_low low n) (low n) (record { place = place; begin = begin; fall = fall; bits = bits }) ≡ o
     → state_before low b sent (n + 1) ≡ after_told sent (state_before low b sent n) o.told
 tell_at low n place begin fall bits b sent s l e o is =
@@ -376,9 +376,9 @@ begins_so low begin sent =
 -- ---- its pull
 
 pub pulls_so : (low : Line) (begin t last : ℕ) (f : List ℕ) (state : SenderState) → state ≡ state_before low begin (frame_bits f) t → IsBefore state last t
-    → (line_of (sender_stretches begin (frame_bits f)) t && may_pull state last t) ≡ sender_pulls begin (known t (reading_of low begin)) t f
+    → (line_of (sender_stretches begin (frame_bits f)) t && may_pull state last t) ≡ sender_pulls begin (known_at t (reading_of low begin)) t f
 pulls_so low begin t last f state s p =
-    ap (λ b. line_of (sender_stretches begin (frame_bits f)) t && b) (by_out (out_slot (known t (reading_of low begin)) (frame_bits f)) (nat_lt (reading_of low begin).at t) refl state s p)
+    ap (λ b. line_of (sender_stretches begin (frame_bits f)) t && b) (by_out (out_slot (known_at t (reading_of low begin)) (frame_bits f)) (nat_lt (reading_of low begin).at t) refl state s p)
   where
     past : (n : ℕ) → n < t → nat_le t n ≡ false
     past n l = grind (arith, nat_tests)
@@ -393,7 +393,7 @@ pulls_so low begin t last f state s p =
         absurd (omega (arith, until_by low begin, x, y))
     over_on false false h k = refl
 
-    going : (c : Bool) → nat_lt (reading_of low begin).at t ≡ c → goes_on (known t (reading_of low begin)).ended t ≡ not c
+    going : (c : Bool) → nat_lt (reading_of low begin).at t ≡ c → goes_on (known_at t (reading_of low begin)).ended t ≡ not c
     going c h = over_on (nat_lt (reading_of low begin).until t) c refl h
 
     by_state : (s : SenderState) (o : Option ℕ) (c : Bool) → s ≡ state_by o c → IsBefore s last t → may_pull s last t ≡ (is_none o && not c)
@@ -408,5 +408,5 @@ pulls_so low begin t last f state s p =
     by_state Stopped None false e p = cc
 
     by_out : (o : Option ℕ) (c : Bool) → nat_lt (reading_of low begin).at t ≡ c → (s : SenderState) → s ≡ state_by o (nat_lt (reading_of low begin).at t) → IsBefore s last t
-        → may_pull s last t ≡ (is_none o && goes_on (known t (reading_of low begin)).ended t)
+        → may_pull s last t ≡ (is_none o && goes_on (known_at t (reading_of low begin)).ended t)
     by_out o c h s e p = by_state s o c (e ∙ ap (state_by o) h) p ∙ ap (λ b. is_none o && b) (sym (going c h))

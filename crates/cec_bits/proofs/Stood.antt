@@ -9,11 +9,11 @@ use Rattle.cec_frame.specs.declared.Ending.{Ending}
 use Rattle.cec_frame.specs.declared.Ending.TheVariants.{Complete, Short, Silent, BadStart, Long, Open}
 use Rattle.cec_bits.specs.declared.After.{After}
 use Rattle.cec_bits.specs.declared.After.TheVariants.{Next, Ends}
-use Rattle.cec_bits.specs.declared.receiver.Place.{Place}
-use Rattle.cec_bits.specs.declared.receiver.Place.TheVariants.{Rest, StartLow, StartHigh, Unsampled, Sampled}
+use Rattle.cec_bits.specs.declared.receiver.ReceiverState.{ReceiverState}
+use Rattle.cec_bits.specs.declared.receiver.ReceiverState.TheVariants.{Rest, StartLow, StartHigh, Unsampled, Sampled}
 use Rattle.cec_bits.specs.declared.receiver.Told.{Told}
 use Rattle.cec_bits.specs.declared.receiver.Told.TheVariants.{Nothing, Bit, Last, Ended}
-use Rattle.cec_bits.specs.Reading.{next_fall, next_rise, Read, Slot, End, known, known_slot, reading_of, read_start, after_slot, after_fall, after_last, last_ending, last_heard, sampled, start_of, start_rise, start_fall}
+use Rattle.cec_bits.specs.Reading.{next_fall, next_rise, Read, Slot, End, known_at, known_slot, reading_of, read_start, after_slot, after_fall, after_last, last_ending, last_heard, bit_sampled_at, start_of, start_rise, start_fall}
 use Rattle.cec_bits.specs.Readings.{IsFirstFall}
 use Rattle.cec_bits.specs.Hears.{Hears, Heard, told_so, rest, starts, hear_start_low, hear_start_high, hear_unsampled, hear_sampled, sample_as, hear_in, hears}
 use Rattle.cec_bits.specs.Sending.{known_bits, has_all, is_whole}
@@ -104,7 +104,7 @@ pub record AtSampled (low : Line) (n begin fall : ℕ) (bits : List Bool) : Type
   pub past : fall + 1050 < n
   pub early : n ≤ fall + 2751
 
-unfoldable pub StandsIn : Line → ℕ → Place → ℕ → ℕ → List Bool → Type 0
+unfoldable pub StandsIn : Line → ℕ → ReceiverState → ℕ → ℕ → List Bool → Type 0
 StandsIn low n Rest begin fall bits = AtRest low n begin fall bits
 StandsIn low n StartLow begin fall bits = AtStartLow low n begin fall bits
 StandsIn low n StartHigh begin fall bits = AtStartHigh low n begin fall bits
@@ -112,17 +112,17 @@ StandsIn low n Unsampled begin fall bits = AtUnsampled low n begin fall bits
 StandsIn low n Sampled begin fall bits = AtSampled low n begin fall bits
 
 -- the reading that runs before n
-abbrev pub runs_in : Place → ℕ → Option ℕ
+abbrev pub runs_in : ReceiverState → ℕ → Option ℕ
 runs_in Rest begin = None
 runs_in _ begin = Some begin
 
 -- what is known before n of the reading from `begin`: its bits, whether it has all its blocks, and whether it is over
 pub record Knows (low : Line) (n begin : ℕ) (bits : List Bool) (whole over : Bool) : Type 0 where
-  pub bits_are : known_bits (known n (reading_of low begin)) ≡ bits
-  pub whole_is : is_whole (known n (reading_of low begin)).ended ≡ whole
+  pub bits_are : known_bits (known_at n (reading_of low begin)) ≡ bits
+  pub whole_is : is_whole (known_at n (reading_of low begin)).ended ≡ whole
   pub over_is : nat_lt (reading_of low begin).at n ≡ over
 
--- and after an ending that n tells
+-- and after an ending that n reports
 abbrev pub KnowsEnd : Line → ℕ → ℕ → List Bool → Told → Type 0
 KnowsEnd low n begin bits Nothing = Unit {0}
 KnowsEnd low n begin bits (Bit slot value) = Unit {0}
@@ -130,7 +130,7 @@ KnowsEnd low n begin bits (Last value ending) = Knows low (n + 1) begin (bits ++
 KnowsEnd low n begin bits (Ended ending) = Knows low (n + 1) begin bits false true
 
 -- with microsecond n it stands so, and that microsecond told what the reading told
-pub record Steps (low : Line) (n : ℕ) (place : Place) (begin : ℕ) (bits : List Bool) (o : Heard) : Type 0 where
+pub record Steps (low : Line) (n : ℕ) (place : ReceiverState) (begin : ℕ) (bits : List Bool) (o : Heard) : Type 0 where
   pub stands : StandsIn low (n + 1) o.state.place o.state.begin o.state.fall o.state.bits
   pub told : o.told ≡ told_in low n (runs_in place begin)
   pub ends : KnowsEnd low n begin bits o.told
@@ -207,7 +207,7 @@ same_test : (a b : ℕ) → a ≡ b → (a == b) ≡ true
 same_test a b e = grind (arith, nat_tests)
 
 -- a reading that ends with n, in no slot that is sampled then
-ended_told : (low : Line) (n begin : ℕ) (ending : Ending) → (reading_of low begin).at ≡ n → (reading_of low begin).ending ≡ ending → sample_in n 1 (known (n + 1) (reading_of low begin)).slots ≡ None
+ended_told : (low : Line) (n begin : ℕ) (ending : Ending) → (reading_of low begin).at ≡ n → (reading_of low begin).ending ≡ ending → sample_in n 1 (known_at (n + 1) (reading_of low begin)).slots ≡ None
     → Ended ending ≡ told_in low n (Some begin)
 ended_told low n begin ending at kind none =
     sym (ap (λ s. told_with s ((reading_of low begin).at == n) (reading_of low begin).ending) none
@@ -215,7 +215,7 @@ ended_told low n begin ending at kind none =
     ∙ ap (λ e. told_with None true e) kind)
 
 -- a reading that goes on after n
-going_told : (low : Line) (n begin : ℕ) (s : Option Sample) (told : Told) → n < (reading_of low begin).at → sample_in n 1 (known (n + 1) (reading_of low begin)).slots ≡ s
+going_told : (low : Line) (n begin : ℕ) (s : Option Sample) (told : Told) → n < (reading_of low begin).at → sample_in n 1 (known_at (n + 1) (reading_of low begin)).slots ≡ s
     → told ≡ told_with s false (reading_of low begin).ending → told ≡ told_in low n (Some begin)
 going_told low n begin s told late is told_is =
     told_is ∙ sym (ap (λ x. told_with x ((reading_of low begin).at == n) (reading_of low begin).ending) is
@@ -230,17 +230,17 @@ sample_past e n k (x ∷ xs) ys o l =
 
 -- a slot is sampled at n where that is 1,050 after its fall
 sample_slot : (low : Line) (n e : ℕ) (xs : List Slot) → AreOver e xs → e ≤ n
-    → sample_in n 1 (xs ++ known_slot (n + 1) (record { fall = e; bit = sampled low e }) ∷ []) ≡ (if e + 1050 == n then sample_of (1 + length xs) (sampled low e) else None)
-sample_slot low n e xs o l = sample_past e n 1 xs (known_slot (n + 1) (record { fall = e; bit = sampled low e }) ∷ []) o l ∙ by_time (e + 1050 == n) refl
+    → sample_in n 1 (xs ++ known_slot (n + 1) (record { fall = e; bit = bit_sampled_at low e }) ∷ []) ≡ (if e + 1050 == n then sample_of (1 + length xs) (bit_sampled_at low e) else None)
+sample_slot low n e xs o l = sample_past e n 1 xs (known_slot (n + 1) (record { fall = e; bit = bit_sampled_at low e }) ∷ []) o l ∙ by_time (e + 1050 == n) refl
   where
     by_time : (b : Bool) → (e + 1050 == n) ≡ b
-        → (if b then sample_of (1 + length xs) (if nat_lt (e + 1050) (n + 1) then sampled low e else None) else None) ≡ (if b then sample_of (1 + length xs) (sampled low e) else None)
-    by_time true h = ap (λ c. sample_of (1 + length xs) (if c then sampled low e else None)) (let x : nat_lt (e + 1050) (n + 1) ≡ true = grind (arith, nat_tests) in x)
+        → (if b then sample_of (1 + length xs) (if nat_lt (e + 1050) (n + 1) then bit_sampled_at low e else None) else None) ≡ (if b then sample_of (1 + length xs) (bit_sampled_at low e) else None)
+    by_time true h = ap (λ c. sample_of (1 + length xs) (if c then bit_sampled_at low e else None)) (let x : nat_lt (e + 1050) (n + 1) ≡ true = grind (arith, nat_tests) in x)
     by_time false h = refl
 
 -- ---- the start bit
 
-pub start_none : (low : Line) (begin n : ℕ) (s : Result ℕ ℕ) → ((f : ℕ) → s ≡ Ok f → n < f) → (known (n + 1) (read_start low begin s)).slots ≡ []
+pub start_none : (low : Line) (begin n : ℕ) (s : Result ℕ ℕ) → ((f : ℕ) → s ≡ Ok f → n < f) → (known_at (n + 1) (read_start low begin s)).slots ≡ []
 unfolding nothing
 start_none low begin n (Err at) h = refl
 start_none low begin n (Ok f) h = ap (λ k. k.slots) (late_read (n + 1) low 160 [] f (let x = h f refl in omega (arith, x)))
@@ -249,16 +249,16 @@ pub start_later : (low : Line) (begin n : ℕ) (s : Result ℕ ℕ) → ((f : �
 start_later low begin n (Err at) h k = k at refl
 start_later low begin n (Ok f) h k = let x = h f refl in omega (arith, x, not_over low 160 [] f, slots_until low 160 [] f)
 
--- a bad start that is told with n
+-- a bad start that is reported with n
 bad_start : (low : Line) (n begin until : ℕ) → start_of low begin ≡ Err n → min n (begin + 4700) ≡ until
     → ((reading_of low begin).at ≡ n) × ((reading_of low begin).until ≡ until) × (Ended BadStart ≡ told_in low n (Some begin)) × Knows low (n + 1) begin [] false true
 bad_start low n begin until h m = (
   ap (λ (r : Read). r.at) reads,
   ap (λ (r : Read). r.until) reads ∙ m,
-  ended_told low n begin BadStart (ap (λ (r : Read). r.at) reads) (ap (λ (r : Read). r.ending) reads) (ap (λ (r : Read). sample_in n 1 (known (n + 1) r).slots) reads),
+  ended_told low n begin BadStart (ap (λ (r : Read). r.at) reads) (ap (λ (r : Read). r.ending) reads) (ap (λ (r : Read). sample_in n 1 (known_at (n + 1) r).slots) reads),
   record {
-    bits_are = ap (λ (r : Read). known_bits (known (n + 1) r)) reads;
-    whole_is = ap (λ (r : Read). is_whole (known (n + 1) r).ended) reads ∙ none_whole (nat_lt (min n (begin + 4700)) (n + 1));
+    bits_are = ap (λ (r : Read). known_bits (known_at (n + 1) r)) reads;
+    whole_is = ap (λ (r : Read). is_whole (known_at (n + 1) r).ended) reads ∙ none_whole (nat_lt (min n (begin + 4700)) (n + 1));
     over_is = ap (λ (r : Read). nat_lt r.at (n + 1)) reads ∙ (let x : nat_lt n (n + 1) ≡ true = grind (arith, nat_tests) in x);
   },
 )
@@ -460,7 +460,7 @@ high_step low n begin fall bits s = by_late (nat_lt (begin + 4700) n) refl
           };
           told = going_told low n begin None Nothing (let x = ends_later low begin 159 [] bits n (n + 1) reached waits in omega (arith, x))
               (ap (sample_in n 1) (known_waiting low begin 159 [] bits n (n + 1) reached waits) ∙ sample_slot low n n [] tt (omega arith)
-              ∙ ap (λ b. if b then sample_of 1 (sampled low n) else None) (let x : (n + 1050 == n) ≡ false = grind (arith, nat_tests) in x)) refl;
+              ∙ ap (λ b. if b then sample_of 1 (bit_sampled_at low n) else None) (let x : (n + 1050 == n) ≡ false = grind (arith, nat_tests) in x)) refl;
           ends = tt;
         }
 
@@ -502,9 +502,9 @@ high_step low n begin fall bits s = by_late (nat_lt (begin + 4700) n) refl
 
 -- the reading ends with n in this slot
 slot_ends : (low : Line) (n begin fall : ℕ) (before : List Bool) → (s : AtSlot low n begin fall before) → (ending : Ending) → after_slot low fall (last_ending before) ≡ Ends ending n
-    → (sample : Option Sample) → (if fall + 1050 == n then sample_of (1 + length s.xs) (sampled low fall) else None) ≡ sample → (told : Told) → told_with sample true ending ≡ told
+    → (sample : Option Sample) → (if fall + 1050 == n then sample_of (1 + length s.xs) (bit_sampled_at low fall) else None) ≡ sample → (told : Told) → told_with sample true ending ≡ told
     → ((reading_of low begin).at ≡ n) × ((reading_of low begin).until ≡ last_heard ending n) × (told ≡ told_in low n (Some begin))
-    × Knows low (n + 1) begin (before ++ option_to_list (if nat_lt (fall + 1050) (n + 1) then sampled low fall else None)) (has_all ending) true
+    × Knows low (n + 1) begin (before ++ option_to_list (if nat_lt (fall + 1050) (n + 1) then bit_sampled_at low fall else None)) (has_all ending) true
 slot_ends low n begin fall before s ending a sample is told kind = (
   at,
   ap (λ (r : Read). r.until) reads,
@@ -512,20 +512,20 @@ slot_ends low n begin fall before s ending a sample is told kind = (
       ∙ ap (λ b. told_with sample b (reading_of low begin).ending) (same_test (reading_of low begin).at n at)
       ∙ ap (λ (r : Read). told_with sample true r.ending) reads ∙ kind),
   record {
-    bits_are = ap (λ (ss : List Slot). filter_map (λ (x : Slot). x.bit) ss) slots ∙ told_more s.xs before (known_slot (n + 1) (record { fall = fall; bit = sampled low fall })) s.reached.told;
-    whole_is = ap (λ (r : Read). is_whole (known (n + 1) r).ended) reads
+    bits_are = ap (λ (ss : List Slot). filter_map (λ (x : Slot). x.bit) ss) slots ∙ told_more s.xs before (known_slot (n + 1) (record { fall = fall; bit = bit_sampled_at low fall })) s.reached.told;
+    whole_is = ap (λ (r : Read). is_whole (known_at (n + 1) r).ended) reads
         ∙ ap (λ b. let o : Option End = if b then Some (record { ending = ending; at = n; until = last_heard ending n }) else None in is_whole o) (heard_by_then ending);
     over_is = ap (λ m. nat_lt m (n + 1)) at ∙ (let x : nat_lt n (n + 1) ≡ true = grind (arith, nat_tests) in x);
   },
 )
   where
-    reads : reading_of low begin ≡ record { slots = s.xs ++ record { fall = fall; bit = sampled low fall } ∷ []; ending = ending; at = n; until = last_heard ending n }
+    reads : reading_of low begin ≡ record { slots = s.xs ++ record { fall = fall; bit = bit_sampled_at low fall } ∷ []; ending = ending; at = n; until = last_heard ending n }
     reads = ends_so low begin s.left s.xs before fall ending n s.reached a
 
     at : (reading_of low begin).at ≡ n
     at = ap (λ (r : Read). r.at) reads
 
-    slots : (known (n + 1) (reading_of low begin)).slots ≡ s.xs ++ known_slot (n + 1) (record { fall = fall; bit = sampled low fall }) ∷ []
+    slots : (known_at (n + 1) (reading_of low begin)).slots ≡ s.xs ++ known_slot (n + 1) (record { fall = fall; bit = bit_sampled_at low fall }) ∷ []
     slots = known_ending low begin s.left s.xs before fall (n + 1) ending n s.reached (omega (arith, s.after)) a
 
     plainly : nat_lt n (n + 1) ≡ true
@@ -539,13 +539,13 @@ slot_ends low n begin fall before s ending a sample is told kind = (
     heard_by_then Long = plainly
     heard_by_then Open = plainly
 
-    here : sample_in n 1 (known (n + 1) (reading_of low begin)).slots ≡ sample
+    here : sample_in n 1 (known_at (n + 1) (reading_of low begin)).slots ≡ sample
     here = ap (sample_in n 1) slots
         ∙ sample_slot low n fall s.xs s.reached.over (let x = s.after in omega (arith, x)) ∙ is
 
 -- the slot goes on after n
 slot_going : (low : Line) (n begin fall left : ℕ) (xs : List Slot) (before : List Bool) → Reached low begin (suc left) xs before fall → fall ≤ n → Waits low fall (n + 1) (last_ending before)
-    → (sample : Option Sample) → (if fall + 1050 == n then sample_of (1 + length xs) (sampled low fall) else None) ≡ sample → (told : Told)
+    → (sample : Option Sample) → (if fall + 1050 == n then sample_of (1 + length xs) (bit_sampled_at low fall) else None) ≡ sample → (told : Told)
     → ((ending : Ending) → told ≡ told_with sample false ending) → told ≡ told_in low n (Some begin)
 slot_going low n begin fall left xs before r l w sample is told kind =
     going_told low n begin sample told (let x = ends_later low begin left xs before fall (n + 1) r w in omega (arith, x))
@@ -606,10 +606,10 @@ unsampled_step low n begin fall bits s = by_fall (is_fall low n) refl
     breaks : is_fall low n ≡ true → Steps low n Unsampled begin bits (told_so rest (Ended Short))
     breaks f =
         let d = slot_ends low n begin fall bits slot Short (early_fall low n fall (last_ending bits) slot.quiet slot.after s.early f) None
-        (no_sample (fall + 1050 == n) (1 + length slot.xs) (sampled low fall) (ap (sample_at low fall) (next_here low fall n 1050 slot.quiet slot.after s.early f))) (Ended Short) refl in
+        (no_sample (fall + 1050 == n) (1 + length slot.xs) (bit_sampled_at low fall) (ap (sample_at low fall) (next_here low fall n 1050 slot.quiet slot.after s.early f))) (Ended Short) refl in
         record { stands = rests_so low n begin n slot.begun d.0 d.1; told = d.2; ends = knows_so low n begin _ bits false (unsampled_bits (ap (sample_at low fall) (next_here low fall n 1050 slot.quiet slot.after s.early f)) (nat_lt (fall + 1050) (n + 1))) d.3 }
       where
-        unsampled_bits : sampled low fall ≡ None → (b : Bool) → bits ++ option_to_list (if b then sampled low fall else None) ≡ bits
+        unsampled_bits : bit_sampled_at low fall ≡ None → (b : Bool) → bits ++ option_to_list (if b then bit_sampled_at low fall else None) ≡ bits
         unsampled_bits e true = ap (λ (o : Option Bool). bits ++ option_to_list o) e ∙ append-nil bits
         unsampled_bits e false = append-nil bits
 
@@ -622,16 +622,16 @@ unsampled_step low n begin fall bits s = by_fall (is_fall low n) refl
       stands = record { slot = slot_later low n begin fall bits slot f; early = omega arith };
       told = slot_going low n begin fall slot.left slot.xs bits slot.reached (let x = slot.after in omega (arith, x))
           (record { after = omega (arith, slot.after); quiet = quiet_more low fall n slot.quiet f; early = omega arith; plain = λ ending w. omega arith })
-          None (not_now fall n (1 + length slot.xs) (sampled low fall) other) Nothing (λ ending. refl);
+          None (not_now fall n (1 + length slot.xs) (bit_sampled_at low fall) other) Nothing (λ ending. refl);
       ends = tt;
     }
 
-    value : fall + 1050 ≡ n → is_fall low n ≡ false → sampled low fall ≡ Some (not (low n))
+    value : fall + 1050 ≡ n → is_fall low n ≡ false → bit_sampled_at low fall ≡ Some (not (low n))
     value e f = quiet_sample low fall (λ u a b. quiet_more low fall n slot.quiet f u a (omega (arith, e))) ∙ ap (λ m. Some (not (low m))) e
 
-    at_now : fall + 1050 ≡ n → is_fall low n ≡ false → (if fall + 1050 == n then sample_of (1 + length slot.xs) (sampled low fall) else None) ≡ Some (record { slot = length bits + 1; value = not (low n) })
+    at_now : fall + 1050 ≡ n → is_fall low n ≡ false → (if fall + 1050 == n then sample_of (1 + length slot.xs) (bit_sampled_at low fall) else None) ≡ Some (record { slot = length bits + 1; value = not (low n) })
     at_now e f =
-        ap (λ b. if b then sample_of (1 + length slot.xs) (sampled low fall) else None) (let x : (fall + 1050 == n) ≡ true = grind (arith, nat_tests) in x)
+        ap (λ b. if b then sample_of (1 + length slot.xs) (bit_sampled_at low fall) else None) (let x : (fall + 1050 == n) ≡ true = grind (arith, nat_tests) in x)
         ∙ ap (sample_of (1 + length slot.xs)) (value e f)
         ∙ ap (λ k. let o : Option Sample = Some (record { slot = k; value = not (low n) }) in o) (let x = slot.count in let y : 1 + length slot.xs ≡ length bits + 1 = omega (arith, x) in y)
 
@@ -656,8 +656,8 @@ unsampled_step low n begin fall bits s = by_fall (is_fall low n) refl
         (Some (record { slot = length bits + 1; value = not (low n) })) (at_now e f) (Last (not (low n)) ending) refl in
         record { stands = rests_so low n begin n slot.begun d.0 (d.1 ∙ subst IsPlain k (last_plain bits) n); told = d.2; ends = (subst (λ b. Knows low (n + 1) begin (bits ++ not (low n) ∷ []) b true) (last_has bits ending k).0 (knows_so low n begin _ (bits ++ not (low n) ∷ []) (has_all ending) sampled_bits d.3), (last_has bits ending k).1) }
       where
-        sampled_bits : bits ++ option_to_list (if nat_lt (fall + 1050) (n + 1) then sampled low fall else None) ≡ bits ++ not (low n) ∷ []
-        sampled_bits = ap (λ b. bits ++ option_to_list (if b then sampled low fall else None)) (let x : nat_lt (fall + 1050) (n + 1) ≡ true = grind (arith, nat_tests) in x)
+        sampled_bits : bits ++ option_to_list (if nat_lt (fall + 1050) (n + 1) then bit_sampled_at low fall else None) ≡ bits ++ not (low n) ∷ []
+        sampled_bits = ap (λ b. bits ++ option_to_list (if b then bit_sampled_at low fall else None)) (let x : nat_lt (fall + 1050) (n + 1) ≡ true = grind (arith, nat_tests) in x)
             ∙ ap (λ (o : Option Bool). bits ++ option_to_list o) (value e f)
 
     by_time : is_fall low n ≡ false → (b : Bool) → (n == fall + 1050) ≡ b → Steps low n Unsampled begin bits (if b then sample_as (last_ending bits) (not (low n)) h else told_so h Nothing)
@@ -690,14 +690,14 @@ sampled_step low n begin fall bits s = by_late (nat_lt (fall + 2750) n) refl
     plain_yet : (ending : Ending) → last_ending s.before ≡ Some ending → n + 1 ≤ fall + 1050
     plain_yet ending w = let x : None ≡ Some ending = sym s.plain ∙ w in cc
 
-    bit : sampled low fall ≡ Some (not (low (fall + 1050)))
+    bit : bit_sampled_at low fall ≡ Some (not (low (fall + 1050)))
     bit = quiet_sample low fall (λ u a b. slot.quiet u a (omega (arith, s.past)))
 
-    before2 : s.before ++ option_to_list (sampled low fall) ≡ bits
+    before2 : s.before ++ option_to_list (bit_sampled_at low fall) ≡ bits
     before2 = ap (λ (o : Option Bool). s.before ++ option_to_list o) bit ∙ sym s.told
 
-    sampled_bits : s.before ++ option_to_list (if nat_lt (fall + 1050) (n + 1) then sampled low fall else None) ≡ bits
-    sampled_bits = ap (λ b. s.before ++ option_to_list (if b then sampled low fall else None)) (let l = s.past in let x : nat_lt (fall + 1050) (n + 1) ≡ true = grind (arith, nat_tests) in x) ∙ before2
+    sampled_bits : s.before ++ option_to_list (if nat_lt (fall + 1050) (n + 1) then bit_sampled_at low fall else None) ≡ bits
+    sampled_bits = ap (λ b. s.before ++ option_to_list (if b then bit_sampled_at low fall else None)) (let l = s.past in let x : nat_lt (fall + 1050) (n + 1) ≡ true = grind (arith, nat_tests) in x) ∙ before2
 
     more : length bits ≡ length s.before + 1
     more = ap (λ (bs : List Bool). length bs) s.told ∙ length-append s.before (not (low (fall + 1050)) ∷ [])
@@ -706,32 +706,32 @@ sampled_step low n begin fall bits s = by_late (nat_lt (fall + 2750) n) refl
         → Steps low n Sampled begin bits (told_so (record { place = Unsampled; begin = begin; fall = n; bits = bits }) Nothing)
     next_slot zero m r f far a = absurd (last_full s.before (omega arith) s.plain)
     next_slot (suc left) m r f far a =
-        let reached : Reached low begin (suc left) (slot.xs ++ record { fall = fall; bit = sampled low fall } ∷ []) bits n = subst (λ (bs : List Bool). Reached low begin (suc left) (slot.xs ++ record { fall = fall; bit = sampled low fall } ∷ []) bs n) before2
+        let reached : Reached low begin (suc left) (slot.xs ++ record { fall = fall; bit = bit_sampled_at low fall } ∷ []) bits n = subst (λ (bs : List Bool). Reached low begin (suc left) (slot.xs ++ record { fall = fall; bit = bit_sampled_at low fall } ∷ []) bs n) before2
         (reach_next low begin (suc left) slot.xs s.before fall n r a far) in
         record {
           stands = record {
             slot = record {
               begun = begun_later low n begin slot.begun;
-              xs = slot.xs ++ record { fall = fall; bit = sampled low fall } ∷ [];
+              xs = slot.xs ++ record { fall = fall; bit = bit_sampled_at low fall } ∷ [];
               left = left;
               reached = reached;
               room = omega (arith, more, m);
-              count = length-append slot.xs (record { fall = fall; bit = sampled low fall } ∷ []) ∙ (let x : length slot.xs + 1 ≡ length bits = omega (arith, more, slot.count) in x);
+              count = length-append slot.xs (record { fall = fall; bit = bit_sampled_at low fall } ∷ []) ∙ (let x : length slot.xs + 1 ≡ length bits = omega (arith, more, slot.count) in x);
               quiet = λ u a b. absurd (omega arith);
               after = omega arith;
             };
             early = omega arith;
           };
-          told = slot_going low n begin n left (slot.xs ++ record { fall = fall; bit = sampled low fall } ∷ []) bits reached (omega arith)
+          told = slot_going low n begin n left (slot.xs ++ record { fall = fall; bit = bit_sampled_at low fall } ∷ []) bits reached (omega arith)
               (record { after = omega arith; quiet = λ u a b. absurd (omega arith); early = omega arith; plain = λ ending w. omega arith })
-              None (not_now n n (1 + length (slot.xs ++ record { fall = fall; bit = sampled low fall } ∷ [])) (sampled low n) (let x : (n + 1050 == n) ≡ false = grind (arith, nat_tests) in x)) Nothing (λ ending. refl);
+              None (not_now n n (1 + length (slot.xs ++ record { fall = fall; bit = bit_sampled_at low fall } ∷ [])) (bit_sampled_at low n) (let x : (n + 1050 == n) ≡ false = grind (arith, nat_tests) in x)) Nothing (λ ending. refl);
           ends = tt;
         }
 
     by_soon : is_fall low n ≡ true → n ≤ fall + 2750 → (b : Bool) → nat_lt n (fall + 2050) ≡ b
         → Steps low n Sampled begin bits (if b then told_so rest (Ended Short) else told_so (record { place = Unsampled; begin = begin; fall = n; bits = bits }) Nothing)
     by_soon f l true k =
-        let d = slot_ends low n begin fall s.before slot Short (here f l ∙ ap (λ b. let a : After = if b then Ends Short n else Next n in a) k) None (not_now fall n (1 + length slot.xs) (sampled low fall) no) (Ended Short) refl in
+        let d = slot_ends low n begin fall s.before slot Short (here f l ∙ ap (λ b. let a : After = if b then Ends Short n else Next n in a) k) None (not_now fall n (1 + length slot.xs) (bit_sampled_at low fall) no) (Ended Short) refl in
         record { stands = rests_so low n begin n slot.begun d.0 d.1; told = d.2; ends = knows_so low n begin _ bits false sampled_bits d.3 }
     by_soon f l false k =
         next_slot slot.left slot.room slot.reached f (let x : fall + 2050 ≤ n = grind (arith, nat_tests) in x) (here f l ∙ ap (λ b. let a : After = if b then Ends Short n else Next n in a) k)
@@ -743,7 +743,7 @@ sampled_step low n begin fall bits s = by_late (nat_lt (fall + 2750) n) refl
       stands = record { before = s.before; slot = slot_later low n begin fall s.before slot f; told = s.told; plain = s.plain; past = omega (arith, s.past); early = omega arith };
       told = slot_going low n begin fall slot.left slot.xs s.before slot.reached (let x = slot.after in omega (arith, x))
           (record { after = omega (arith, slot.after); quiet = quiet_more low fall n slot.quiet f; early = omega arith; plain = plain_yet })
-          None (not_now fall n (1 + length slot.xs) (sampled low fall) no) Nothing (λ ending. refl);
+          None (not_now fall n (1 + length slot.xs) (bit_sampled_at low fall) no) Nothing (λ ending. refl);
       ends = tt;
     }
 
@@ -755,13 +755,13 @@ sampled_step low n begin fall bits s = by_late (nat_lt (fall + 2750) n) refl
         let at : fall + 2751 ≡ n = omega (arith, l, s.early) in
         let d = slot_ends low n begin fall s.before slot Silent
         (ap (after_slot low fall) s.plain ∙ ap (after_fall fall) (next_none low fall n 2750 slot.quiet l) ∙ ap (λ m. let a : After = Ends Silent m in a) at)
-        None (not_now fall n (1 + length slot.xs) (sampled low fall) no) (Ended Silent) refl in
+        None (not_now fall n (1 + length slot.xs) (bit_sampled_at low fall) no) (Ended Silent) refl in
         record { stands = late_rest low n begin slot.begun d.0 (omega (arith, d.1, at)); told = d.2; ends = knows_so low n begin _ bits false sampled_bits d.3 }
     by_late false k = by_fall (let l : n ≤ fall + 2750 = grind (arith, nat_tests) in l) (is_fall low n) refl
 
 -- ---- any step
 
-pub step : (low : Line) (n : ℕ) (place : Place) (begin fall : ℕ) (bits : List Bool) → StandsIn low n place begin fall bits
+pub step : (low : Line) (n : ℕ) (place : ReceiverState) (begin fall : ℕ) (bits : List Bool) → StandsIn low n place begin fall bits
     → Steps low n place begin bits (hear_in n (was_low low n) (low n) (record { place = place; begin = begin; fall = fall; bits = bits }))
 unfolding StandsIn
 step low n Rest begin fall bits s = record { stands = starts_so low n s.past s.from (past_later low n 0 s.past s.from s.over) s.by s.quiet; told = refl; ends = tt }

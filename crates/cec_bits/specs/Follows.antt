@@ -59,12 +59,12 @@ abbrev pub WakesSo : Receiver → Option ℕ → Type 0
 WakesSo r wake = (low : ℕ → Bool) (t : ℕ) → StoodBefore r low t → ((u : ℕ) → t ≤ u → low u ≡ r.was_low) → IsNextTold low t wake
 
 -- the standing that the code's value names
-abbrev pub shown : code.Standing → Standing
-shown at.Idle = phase.Idle
-shown at.StartLow = phase.StartLow
-shown at.StartHigh = phase.StartHigh
-shown (at.Slot k bits) = phase.InSlot k bits.now
-shown at.WaitHigh = phase.WaitHigh
+abbrev pub standing_by_code : code.Standing → Standing
+standing_by_code at.Idle = phase.Idle
+standing_by_code at.StartLow = phase.StartLow
+standing_by_code at.StartHigh = phase.StartHigh
+standing_by_code (at.Slot k bits) = phase.InSlot k bits.now
+standing_by_code at.WaitHigh = phase.WaitHigh
 
 -- It is that of each line on which the receiver stands.
 abbrev pub ShowsStanding : Receiver → Standing → Type 0

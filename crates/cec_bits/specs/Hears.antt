@@ -4,8 +4,8 @@ use Rattle.std.specs.Prelude.{ℕ, zero, suc, ◌+◌, ◌==◌, Bool, not, nat_
 use Rattle.cec_wave.specs.Line.{Line, was_low}
 use Rattle.cec_frame.specs.declared.Ending.{Ending}
 use Rattle.cec_frame.specs.declared.Ending.TheVariants.{Short, Silent, BadStart}
-use Rattle.cec_bits.specs.declared.receiver.Place.{Place}
-use Rattle.cec_bits.specs.declared.receiver.Place.TheVariants.{Rest, StartLow, StartHigh, Unsampled, Sampled}
+use Rattle.cec_bits.specs.declared.receiver.ReceiverState.{ReceiverState}
+use Rattle.cec_bits.specs.declared.receiver.ReceiverState.TheVariants.{Rest, StartLow, StartHigh, Unsampled, Sampled}
 use Rattle.cec_bits.specs.declared.receiver.Told.{Told}
 use Rattle.cec_bits.specs.declared.receiver.Told.TheVariants.{Nothing, Bit, Last, Ended}
 use Rattle.cec_bits.specs.declared.receiver.Receiver.{Receiver}
@@ -13,7 +13,7 @@ use Rattle.cec_bits.specs.Reading.{last_ending}
 
 -- what is kept: where the reading that runs has come, its fall, the fall of its slot, and the bits sampled so far
 pub record Hears : Type 0 where
-  pub place : Place
+  pub place : ReceiverState
   pub begin : ℕ
   pub fall : ℕ
   pub bits : List Bool
@@ -70,7 +70,7 @@ hear_sampled t falls h =
     else if falls then (if nat_lt t (h.fall + 2050) then told_so rest (Ended Short) else told_so (record h { place = Unsampled; fall = t }) Nothing)
     else told_so h Nothing
 
-abbrev pub hear_at : Place → ℕ → Bool → Bool → Bool → Hears → Heard
+abbrev pub hear_at : ReceiverState → ℕ → Bool → Bool → Bool → Hears → Heard
 hear_at Rest t falls rises is_low h = told_so (starts t falls) Nothing
 hear_at StartLow t falls rises is_low h = hear_start_low t falls rises h
 hear_at StartHigh t falls rises is_low h = hear_start_high t falls h
@@ -90,7 +90,7 @@ hears low (suc n) = (hear_in n (was_low low n) (low n) (hears low n)).state
 abbrev pub wake_of : Hears → Option ℕ
 wake_of h = wake_at h.place h.begin h.fall
   where
-    wake_at : Place → ℕ → ℕ → Option ℕ
+    wake_at : ReceiverState → ℕ → ℕ → Option ℕ
     wake_at Rest begin fall = None
     wake_at StartLow begin fall = Some (begin + 3901)
     wake_at StartHigh begin fall = Some (begin + 4701)
@@ -98,7 +98,7 @@ wake_of h = wake_at h.place h.begin h.fall
     wake_at Sampled begin fall = Some (fall + 2751)
 
 -- how many wakes there can be before the next edge
-abbrev pub wakes_left : Place → ℕ
+abbrev pub wakes_left : ReceiverState → ℕ
 wakes_left Rest = 0
 wakes_left StartLow = 1
 wakes_left StartHigh = 1

@@ -3,11 +3,11 @@ use Rattle.std.specs.Prelude.{◌≡◌, ℕ, zero, suc, ◌+◌, ◌-◌, ◌==
 use Rattle.std.specs.List.{filter_map}
 use Rattle.cec_wave.specs.Line.{Line, is_fall, is_rise}
 use Rattle.cec_frame.specs.declared.Ending.{Ending}
-use Rattle.cec_bits.specs.declared.receiver.Place.{Place}
-use Rattle.cec_bits.specs.declared.receiver.Place.TheVariants.{Rest, StartLow, StartHigh, Unsampled, Sampled}
+use Rattle.cec_bits.specs.declared.receiver.ReceiverState.{ReceiverState}
+use Rattle.cec_bits.specs.declared.receiver.ReceiverState.TheVariants.{Rest, StartLow, StartHigh, Unsampled, Sampled}
 use Rattle.cec_bits.specs.declared.receiver.Told.{Told}
 use Rattle.cec_bits.specs.declared.receiver.Told.TheVariants.{Nothing, Bit, Last, Ended}
-use Rattle.cec_bits.specs.Reading.{first_in, Slot, known, reading_of}
+use Rattle.cec_bits.specs.Reading.{first_in, Slot, known_at, reading_of}
 use Rattle.cec_bits.specs.Phase.{Standing, at_rest, standing_of}
 use Rattle.cec_bits.specs.Phase as phase
 use Rattle.cec_bits.specs.Hears.{Hears, rest}
@@ -45,7 +45,7 @@ kept_in low t e (s ∷ ss) = record {
 
 abbrev pub kept_by : Line → ℕ → Option ℕ → Hears
 kept_by low t None = rest
-kept_by low t (Some e) = kept_in low t e (known (t + 1) (reading_of low e)).slots
+kept_by low t (Some e) = kept_in low t e (known_at (t + 1) (reading_of low e)).slots
 
 abbrev pub kept_of : Line → ℕ → Hears
 kept_of low t = kept_by low t (running_of low t)
@@ -59,7 +59,7 @@ kept_before low (suc t) = kept_of low t
 abbrev pub standing_by : Hears → Bool → Standing
 standing_by h is_low = stands h.place
   where
-    stands : Place → Standing
+    stands : ReceiverState → Standing
     stands Rest = at_rest is_low
     stands StartLow = phase.StartLow
     stands StartHigh = phase.StartHigh
@@ -93,7 +93,7 @@ told_with (Some s) false ending = Bit s.slot s.value
 
 abbrev pub told_in : Line → ℕ → Option ℕ → Told
 told_in low t None = Nothing
-told_in low t (Some e) = told_with (sample_in t 1 (known (t + 1) (reading_of low e)).slots) ((reading_of low e).at == t) (reading_of low e).ending
+told_in low t (Some e) = told_with (sample_in t 1 (known_at (t + 1) (reading_of low e)).slots) ((reading_of low e).at == t) (reading_of low e).ending
 
 -- at 0 nothing has been read
 abbrev pub told_at : Line → ℕ → Told

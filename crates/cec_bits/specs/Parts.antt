@@ -1,7 +1,7 @@
 -- What a receiver and a sender keep, in plain numbers (this profile's own).
 use Rattle.std.specs.Prelude.{◌≡◌, ℕ, length, take}
-use Rattle.cec_bits.specs.declared.receiver.Place.{Place}
-use Rattle.cec_bits.specs.declared.receiver.Place.TheVariants.{Rest, StartLow, StartHigh, Unsampled, Sampled}
+use Rattle.cec_bits.specs.declared.receiver.ReceiverState.{ReceiverState}
+use Rattle.cec_bits.specs.declared.receiver.ReceiverState.TheVariants.{Rest, StartLow, StartHigh, Unsampled, Sampled}
 use Rattle.cec_bits.specs.declared.receiver.Receiver.{Receiver}
 use Rattle.cec_bits.specs.declared.receiver.parts.ReceiverParts.{ReceiverParts}
 use Rattle.cec_bits.specs.declared.sender.SenderState.{SenderState}
@@ -9,7 +9,7 @@ use Rattle.cec_bits.specs.declared.sender.SenderState.TheVariants.{Sending, Out,
 use Rattle.cec_bits.specs.declared.sender.Sender.{Sender}
 use Rattle.cec_bits.specs.declared.sender.parts.SenderParts.{SenderParts}
 
-abbrev pub number_of : Place → ℕ
+abbrev pub number_of : ReceiverState → ℕ
 number_of Rest = 0
 number_of StartLow = 1
 number_of StartHigh = 2

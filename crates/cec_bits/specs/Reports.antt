@@ -5,8 +5,8 @@ use Rattle.cec_wave.specs.Line.{Line}
 use Rattle.cec_frame.specs.declared.Ending.{Ending}
 use Rattle.cec_frame.specs.declared.Ending.TheVariants.{Open}
 use Rattle.cec_frame.specs.declared.Reading.{Reading}
-use Rattle.cec_bits.specs.declared.receiver.Place.{Place}
-use Rattle.cec_bits.specs.declared.receiver.Place.TheVariants.{Rest, StartLow, StartHigh, Unsampled, Sampled}
+use Rattle.cec_bits.specs.declared.receiver.ReceiverState.{ReceiverState}
+use Rattle.cec_bits.specs.declared.receiver.ReceiverState.TheVariants.{Rest, StartLow, StartHigh, Unsampled, Sampled}
 use Rattle.cec_bits.specs.declared.receiver.Told.{Told}
 use Rattle.cec_bits.specs.declared.receiver.Told.TheVariants.{Nothing, Bit, Last, Ended}
 use Rattle.cec_bits.specs.Readings.{Listed, readings_of}
@@ -27,7 +27,7 @@ ends_with begin t ending bits = record { begin = begin; told = record { bits = b
 abbrev pub running_by : Hears → ℕ → Option Listed
 running_by h t = runs_at h.place
   where
-    runs_at : Place → Option Listed
+    runs_at : ReceiverState → Option Listed
     runs_at Rest = None
     runs_at StartLow = Some (ends_with h.begin t Open h.bits)
     runs_at StartHigh = Some (ends_with h.begin t Open h.bits)

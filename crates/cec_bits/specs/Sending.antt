@@ -14,7 +14,7 @@ use Rattle.cec_bits.specs.declared.receiver.Told.TheVariants.{Nothing}
 use Rattle.cec_bits.specs.declared.sender.Sender.{Sender}
 use Rattle.cec_bits.specs.declared.sender.SenderState.{SenderState}
 use Rattle.cec_bits.specs.declared.sender.SenderState.TheVariants.{Sending, Out, Stopped}
-use Rattle.cec_bits.specs.Reading.{End, Known, known, reading_of}
+use Rattle.cec_bits.specs.Reading.{End, Known, known_at, reading_of}
 use Rattle.cec_bits.specs.Kept.{running_of, told_at}
 
 -- ---- what is known
@@ -67,7 +67,7 @@ state_by None false = Sending
 
 -- a sender of these bits before microsecond t of a line, where it sends since `begin`
 abbrev pub state_before : Line → ℕ → List Bool → ℕ → SenderState
-state_before low begin sent t = state_by (out_slot (known t (reading_of low begin)) sent) (nat_lt (reading_of low begin).at t)
+state_before low begin sent t = state_by (out_slot (known_at t (reading_of low begin)) sent) (nat_lt (reading_of low begin).at t)
 
 -- ---- what it pulls
 
@@ -123,7 +123,7 @@ StopsAt old old_last t new last = (new ≡ old) × (last ≡ old_last)
 
 -- In a round it pulls as the round's rule says.
 abbrev pub PullsSo : Sender → ℕ → Bool → Type 0
-PullsSo s t pull = (low : ℕ → Bool) → SenderStood s low t → pull ≡ sender_pulls s.begin (known t (reading_of low s.begin)) t s.frame
+PullsSo s t pull = (low : ℕ → Bool) → SenderStood s low t → pull ≡ sender_pulls s.begin (known_at t (reading_of low s.begin)) t s.frame
 
 abbrev pub ShowsState : Sender → SenderState → Type 0
 ShowsState s state = (low : ℕ → Bool) (t : ℕ) → SenderStood s low t → state ≡ state_before low s.begin (frame_bits s.frame) t

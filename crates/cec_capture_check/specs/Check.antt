@@ -26,7 +26,7 @@ IsCaptureTold text (Expect fault) = first_fault text ≡ Some fault
 IsCaptureTold text (Write count) = first_fault text ≡ None
 IsCaptureTold text Memory = Unit {0}
 
--- what a refusal has written: after a failed write the front of the report, as long as it tells, and else nothing
+-- what a refusal has written: after a failed write the front of the report, as long as it reports, and else nothing
 abbrev pub IsCaptureCut : List ℕ → Captured → Option (List ℕ) → Option (List ℕ) → CaptureCheckError → Type 0
 IsCaptureCut text capture old new (Expect fault) = new ≡ old
 IsCaptureCut text capture old new (Write count) = (count < length (capture_report text capture).text) × Appends old new (take count (capture_report text capture).text)

@@ -1,6 +1,6 @@
 -- The first line of expectations of a capture that is at fault (own). Lines count from 1.
 use Rattle.std.specs.Prelude.{ℕ, ◌+◌, nat_lt, if◌then◌else◌, List, [], ◌∷◌, Option, Some, None}
-use Rattle.cec_words.specs.Lines.{lines_of}
+use Rattle.hdmi_core.specs.Lines.{lines_of}
 use Rattle.cec_expect.specs.Faults.{fault_or, line_fault as expectation_fault}
 use Rattle.cec_expect.specs.declared.form.ExpectCause.{ExpectCause}
 use Rattle.cec_expect.specs.declared.faults.ExpectFault.{ExpectFault}

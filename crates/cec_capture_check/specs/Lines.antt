@@ -2,8 +2,8 @@
 -- stand before it. There are no other lines.
 use Rattle.std.specs.Prelude.{ℕ, ◌||◌, if◌then◌else◌, codes, List, [], ◌∷◌, Option, Some, None}
 use Rattle.std.specs.Str.{bytes_eq}
-use Rattle.cec_words.specs.Number.{number_of}
-use Rattle.cec_words.specs.Words.{words_of, one_of}
+use Rattle.hdmi_core.specs.Number.{number_of}
+use Rattle.hdmi_core.specs.Words.{words_of, one_of}
 use Rattle.cec_expect.specs.Line.{behind_label, has_verb, label_in}
 use Rattle.cec_expect.specs.declared.form.ExpectCause.{ExpectCause}
 use Rattle.cec_expect.specs.declared.form.ExpectCause.TheVariants.{Word, Number}
@@ -29,13 +29,13 @@ abbrev pub time_fault : Option ℕ → Option ExpectCause
 time_fault None = Some Number
 time_fault (Some t) = None
 
--- the words behind `at` are one number, and a label stands before
+-- the words after `at` are one number, and a label stands before
 abbrev pub instant_fault : Option (List ℕ) → Option (List ℕ) → Option ExpectCause
 instant_fault None time = Some Word
 instant_fault (Some label) None = Some Word
 instant_fault (Some label) (Some time) = time_fault (number_of time)
 
--- a capture tells neither refusals nor states
+-- a capture reports neither refusals nor states
 abbrev pub expectation_fault : List (List ℕ) → Option ExpectCause
 expectation_fault words = if has_verb (codes "refused") words || has_verb (codes "state") words then Some Word else None
 

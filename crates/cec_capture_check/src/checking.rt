@@ -6,7 +6,7 @@ ghost use Rattle.cec_check.specs.Report.{report_as};
 
 use crate::faults::first_fault;
 use crate::marks::{no_states, push_marks};
-use cec_check::{Draft, Held, Tally, tally_of, whole_report};
+use cec_check::{Held, ReportDraft, Tally, tally_of, whole_report};
 use cec_expect::ExpectFault;
 use cec_mon::watch_capture;
 use cec_signal::Capture;
@@ -39,7 +39,11 @@ fn capture_trace(alloc: Global, expectations: &[u8], capture: &Capture) -> Resul
     }
 }
 
-fn report_of(alloc: Global, expectations: &[u8], capture: &Capture) -> Result<Draft, AllocError>
+fn report_of(
+    alloc: Global,
+    expectations: &[u8],
+    capture: &Capture,
+) -> Result<ReportDraft, AllocError>
     ensures { IfOk result (λ draft. report_as draft ≡ capture_report expectations.now capture.now) }
 {
     let held = capture_trace(alloc, expectations, capture)?;
@@ -54,7 +58,7 @@ fn report_of(alloc: Global, expectations: &[u8], capture: &Capture) -> Result<Dr
 /// # Errors
 ///
 /// The first line at fault: then nothing was written. A failed write: then the front of the report was written, as long as it
-/// tells.
+/// reports.
 pub fn check_capture<S: Sink>(
     alloc: Global,
     expectations: &[u8],

@@ -1,15 +1,15 @@
 //! Lines of expectations of a capture, and the first one at fault.
 ghost use Rattle.std.specs.Prelude.{◌≡◌, ◌||◌, if◌then◌else◌};
 ghost use Rattle.std.specs.Option.{option_copied};
-ghost use Rattle.cec_words.specs.Lines.{lines_of};
-ghost use Rattle.cec_words.specs.Number.{number_of};
-ghost use Rattle.cec_words.specs.Words.{one_of, words_behind};
+ghost use Rattle.hdmi_core.specs.Lines.{lines_of};
+ghost use Rattle.hdmi_core.specs.Number.{number_of};
+ghost use Rattle.hdmi_core.specs.Words.{one_of, words_behind};
 ghost use Rattle.cec_expect.specs.Line.{has_verb};
 ghost use Rattle.cec_capture_check.specs.Lines.{expectation_fault, instant_fault, instant_of, kind_fault, line_fault, number_by, time_fault};
 ghost use Rattle.cec_capture_check.specs.Faults.{earlier, first_fault, kinds_from};
 
 use cec_expect::{ExpectCause, ExpectFault, unlabelled};
-use cec_words::{first_line, first_word, number_in, one_word};
+use hdmi_core::{first_line, first_word, number_in, one_word};
 
 // Whether this is the first word.
 fn has_verb(verb: &[u8], rest: Option<&[u8]>) -> bool

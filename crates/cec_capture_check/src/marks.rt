@@ -4,7 +4,7 @@ ghost use Rattle.std.specs.Fmt.{decimal};
 ghost use Rattle.cec_capture_check.specs.Marks.{mark_of, marks, no_states};
 
 use crate::faults::instant_of;
-use cec_words::first_line;
+use hdmi_core::first_line;
 use std::alloc::{AllocError, Global};
 
 fn push_decimal(text: &mut Vec<u8>, number: u64) -> Result<(), AllocError>

@@ -16,9 +16,9 @@ use Rattle.cec_wave.specs.declared.PulsesError.{PulsesError}
 use Rattle.cec_wave.specs.Pulses.{stretch_fault}
 use Rattle.cec_feature.specs.declared.keys.Key.{Key as KeyValue}
 use Rattle.cec_text.specs.declared.assembler.AssembleError.{AssembleError}
-use Rattle.cec_words.specs.Lines.{lines_of, is_skipped, without_empty_end}
-use Rattle.cec_words.specs.Number.{number_of}
-use Rattle.cec_words.specs.Words.{words_of, one_of, two_of, three_of}
+use Rattle.hdmi_core.specs.Lines.{lines_of, is_skipped, without_empty_end}
+use Rattle.hdmi_core.specs.Number.{number_of}
+use Rattle.hdmi_core.specs.Words.{words_of, one_of, two_of, three_of}
 use Rattle.cec_signal.proofs.Numbers.{number_again, some_length}
 use Rattle.cec_signal.proofs.Texts.{Lacks, line_before, more_lack, none_lack, number_lacks, number_plain}
 use Rattle.cec_event.specs.declared.event.Event.{Event}
@@ -31,7 +31,7 @@ use Rattle.cec_asm.specs.declared.script.TimedEvent.{TimedEvent}
 use Rattle.cec_asm.specs.Fault.{at_word}
 use Rattle.cec_asm.specs.declared.fault.LineFault.{LineFault}
 use Rattle.cec_asm.specs.declared.script.ScriptCause.TheVariants.{Word, Order, TooMany, End}
-use Rattle.cec_asm.specs.Script.{Course, Notes, ScriptFault, within_limit, time_of, last_time, last_end, scheduled, plug_read, plug_words, unplug_read, unplug_words, key_read, key_words, act_read, hold_words, drop_words, send_read, event_words, unless_fault, pulse_read, pulse_words, end_read, end_words, other_words, ended, no_notes, IsSendRead, IsEventRead, IsWordsRead, IsLineRead, Onward, AreLinesRead}
+use Rattle.cec_asm.specs.Script.{Course, Notes, ScriptFault, within_limit, time_of, last_time, last_end, notes_with_event, plug_read, plug_words, unplug_read, unplug_words, key_read, key_words, act_read, hold_words, drop_words, send_read, event_words, unless_fault, pulse_read, pulse_words, end_read, end_words, other_words, course_at_end, no_notes, IsSendRead, IsEventRead, IsWordsRead, IsLineRead, Onward, AreLinesRead}
 use Rattle.cec_expect.specs.Line.{cut_line, cut_script, has_verb, is_before, is_event, is_sooner}
 use Rattle.cec_check.specs.Cuts.{CutsAreRead, cut_course, is_early}
 
@@ -100,8 +100,8 @@ record Takes (time : Option ℕ) (line : ℕ) (R : Notes → Result Notes LineFa
   pub at : ℕ
   pub event : Event
   pub time_is : time ≡ Some at
-  pub reads : (n : Notes) → R n (scheduled n line at event)
-  pub now : Ok next ≡ scheduled notes line at event
+  pub reads : (n : Notes) → R n (notes_with_event n line at event)
+  pub now : Ok next ≡ notes_with_event notes line at event
 
 -- what a function of the notes gives
 abbrev By : (Notes → Result Notes LineFault) → Notes → Result Notes LineFault → Type 0
@@ -241,7 +241,7 @@ AreSame a b = ◌≡◌ {A = Result Notes LineFault} (Ok a) (Ok b)
 ok_same : (a b : Notes) → AreSame a b → a ≡ b
 ok_same a b e = cc
 
-taken : (notes : Notes) (line at : ℕ) (event : Event) (next : Notes) → Ok next ≡ scheduled notes line at event → Taken notes line at event next
+taken : (notes : Notes) (line at : ℕ) (event : Event) (next : Notes) → Ok next ≡ notes_with_event notes line at event → Taken notes line at event next
 taken notes line at event next e = by (nat_lt at (last_time notes.events)) (is_some notes.end) refl refl e
   where
     more : Notes
@@ -254,7 +254,7 @@ taken notes line at event next e = by (nat_lt at (last_time notes.events)) (is_s
 
 -- an event that is early is kept
 early_kept : (notes next : Notes) (line at time : ℕ) (event : Event) → AreInOrder notes.events → Taken notes line at event next → nat_lt at time ≡ true
-    → scheduled (cut_notes time notes) line at event ≡ Ok (cut_notes time next)
+    → notes_with_event (cut_notes time notes) line at event ≡ Ok (cut_notes time next)
 early_kept notes next line at time event order t early =
     let one : TimedEvent = record { line = line; at = at; event = event } in
     let low : last_time notes.events ≤ at = not_before at (last_time notes.events) t.after in
@@ -298,7 +298,7 @@ in_limit (Some m) t e = by (nat_lt 1000000000000 m) e
 
 -- a line with an event, where it is not skipped
 event_goes : (tree : List Node) (time line at : ℕ) (text : List ℕ) (event : Event) (notes next : Notes) → AreInOrder notes.events → Taken notes line at event next
-    → ((n : Notes) → IsLineRead tree n (length n.pulses) line text (scheduled n line at event)) → Goes tree time line text (if nat_lt at time then text else []) notes next
+    → ((n : Notes) → IsLineRead tree n (length n.pulses) line text (notes_with_event n line at event)) → Goes tree time line text (if nat_lt at time then text else []) notes next
 event_goes tree time line at text event notes next order t reads = record {
   order = subst (λ (n : Notes). AreInOrder n.events) (sym t.next_is) (order_push notes.events (record { line = line; at = at; event = event }) order (not_before at (last_time notes.events) t.after));
   cut_is = by (nat_lt at time) refl;
@@ -321,7 +321,7 @@ at_goes tree time line text (word ∷ kind ∷ words) notes next order h up verb
     let t = event_takes tree line word kind words notes next h in
     let when : number_of word ≡ Some t.at = in_limit (number_of word) t.at t.time_is in
     subst (λ o. Goes tree time line text (if is_sooner time o then text else []) notes next) (sym when)
-    (event_goes tree time line t.at text t.event notes next order (taken notes line t.at t.event next t.now) (λ n. up n (scheduled n line t.at t.event) (t.reads n)))
+    (event_goes tree time line t.at text t.event notes next order (taken notes line t.at t.event next t.now) (λ n. up n (notes_with_event n line t.at t.event) (t.reads n)))
 
 -- ---- pulses
 
@@ -500,7 +500,7 @@ lines_go tree time [] line notes course low order h = by notes.end h
     same_course : (a b : Course) → ◌≡◌ {A = Result Course ScriptFault} (Ok a) (Ok b) → a ≡ b
     same_course a b e = cc
 
-    by : (end : Option ℕ) → Ok course ≡ ended notes line end → Ok (cut_course time course) ≡ ended (cut_notes time notes) line (option_map (λ (t : ℕ). time) end)
+    by : (end : Option ℕ) → Ok course ≡ course_at_end notes line end → Ok (cut_course time course) ≡ course_at_end (cut_notes time notes) line (option_map (λ (t : ℕ). time) end)
     by None e = cc
     by (Some t) e = ap (λ (c : Course). Ok (cut_course time c)) (same_course course (record { events = notes.events; pulses = notes.pulses; end = t }) e)
 lines_go tree time (text ∷ texts) line notes course low order h = step h.0 h.1 h.2 (λ next o k. lines_go tree time texts (line + 1) next course low o k)

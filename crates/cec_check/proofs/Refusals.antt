@@ -5,9 +5,9 @@ use Rattle.hdmi_blocks.specs.Address.{edid_address}
 use Rattle.hdmi_blocks.specs.Bytes.{edid_bytes, IsRefused}
 use Rattle.hdmi_blocks.specs.declared.edid.Edid.{Edid as EdidValue}
 use Rattle.hdmi_blocks.proofs.OneEdid.{not_refused, one_edid}
-use Rattle.cec_trace.specs.Root.{IsNoRoot, IsRoot}
-use Rattle.cec_trace.specs.declared.root.EdidCause.{EdidCause}
-use Rattle.cec_trace.specs.declared.root.EdidCause.TheVariants.{Edid as OfEdid, NoHdmiBlock}
+use Rattle.hdmi_blocks.specs.Root.{IsNoRoot, IsRoot}
+use Rattle.hdmi_blocks.specs.declared.root.EdidCause.{EdidCause}
+use Rattle.hdmi_blocks.specs.declared.root.EdidCause.TheVariants.{Edid as OfEdid, NoHdmiBlock}
 use Rattle.cec_asm.specs.Topology.{Plan}
 use Rattle.cec_asm.specs.Script.{IsScriptRead}
 use Rattle.cec_asm.proofs.OneReading.{one_script}

@@ -1,7 +1,7 @@
 -- What a check of a script answers: its report by the trace of the plain script's run.
 use Rattle.std.specs.Prelude.{◌≡◌, ℕ, ◌<◌, not, Bool, true, false, List, length, filter, take, Option, Some, None, Result, Ok, Err}
 use Rattle.std.specs.Io.KnownBytes.{Appends}
-use Rattle.cec_words.specs.Lines.{lines_of}
+use Rattle.hdmi_core.specs.Lines.{lines_of}
 use Rattle.cec_expect.specs.Line.{plain_script}
 use Rattle.cec_expect.specs.Faults.{first_fault}
 use Rattle.cec_run.specs.Emulate.{IsTraceOf, IsTold}
@@ -39,7 +39,7 @@ IsCheckTold topology script (Expect fault) = (trace : List ℕ) × (totals : Tot
 IsCheckTold topology script (Write count) = (r : Report) × IsReportOf topology script r
 IsCheckTold topology script Memory = Unit {0}
 
--- what a refusal has written: after a failed write the front of the report, as long as it tells, and else nothing
+-- what a refusal has written: after a failed write the front of the report, as long as it reports, and else nothing
 abbrev pub IsCheckCut : List ℕ → List ℕ → Option (List ℕ) → Option (List ℕ) → CheckError → Type 0
 IsCheckCut topology script old new (Write count) =
     (r : Report) × IsReportOf topology script r × (count < length r.text) × Appends old new (take count r.text)

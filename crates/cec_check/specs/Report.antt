@@ -3,25 +3,25 @@
 use Rattle.std.specs.Prelude.{ℕ, ◌+◌, ◌==◌, ◌||◌, Bool, true, false, if◌then◌else◌, codes, length, take, filter, List, [], ◌∷◌, ◌++◌, Option, Some, None, is_some, Result, Ok, Err}
 use Rattle.std.specs.Fmt.{decimal}
 use Rattle.std.specs.List.{concat, flat_map}
-use Rattle.cec_words.specs.Lines.{lines_of}
-use Rattle.cec_words.specs.Words.{words_of}
+use Rattle.hdmi_core.specs.Lines.{lines_of}
+use Rattle.hdmi_core.specs.Words.{words_of}
 use Rattle.cec_expect.specs.Line.{behind_label}
 use Rattle.cec_expect.specs.Form.{Form, form_in}
 use Rattle.cec_expect.specs.Form.Form.{Other, Rounds, State, Refused}
 use Rattle.cec_expect.specs.declared.form.ExpectCause.{ExpectCause}
 use Rattle.cec_judge.specs.Told.{EventLine, event_in, refusal_in}
 use Rattle.cec_judge.specs.Seen.{end_seen}
-use Rattle.cec_judge.specs.Judged.{judged, is_refusal_expected}
+use Rattle.cec_judge.specs.Judged.{verdicts_of, is_refusal_expected}
 use Rattle.cec_judge.specs.declared.seen.Span.{Span}
 use Rattle.cec_judge.specs.declared.judge.Judged.{Judged}
-use Rattle.cec_check.specs.declared.report.Draft.{Draft}
+use Rattle.cec_check.specs.declared.report.ReportDraft.{ReportDraft}
 
 -- the text so far, and of each of its tests, in order, whether it holds
 pub record Report : Type 0 where
   pub text : List ℕ
   pub verdicts : List Bool
 
-abbrev pub report_as : Draft → Report
+abbrev pub report_as : ReportDraft → Report
 report_as d = record { text = d.text.bytes.items; verdicts = d.verdicts.items }
 
 -- ---- tests
@@ -30,8 +30,8 @@ report_as d = record { text = d.text.bytes.items; verdicts = d.verdicts.items }
 abbrev pub escaped_byte : ℕ → List ℕ
 escaped_byte b = if (b == 35) || (b == 92) then 92 ∷ b ∷ [] else b ∷ []
 
-abbrev pub escaped : List ℕ → List ℕ
-escaped text = flat_map escaped_byte text
+abbrev pub escaped_text : List ℕ → List ℕ
+escaped_text text = flat_map escaped_byte text
 
 abbrev pub verdict_word : Bool → List ℕ
 verdict_word true = codes "ok "
@@ -41,7 +41,7 @@ abbrev pub test_start : ℕ → Bool → ℕ → List ℕ → List ℕ
 test_start number holds line front = concat (verdict_word holds ∷ decimal number ∷ codes " - line " ∷ decimal line ∷ codes ": " ∷ front ∷ [])
 
 abbrev pub test_line : ℕ → Bool → ℕ → List ℕ → List ℕ → List ℕ
-test_line number holds line front text = test_start number holds line front ++ escaped text ++ codes "\n"
+test_line number holds line front text = test_start number holds line front ++ escaped_text text ++ codes "\n"
 
 abbrev pub with_test : Report → Bool → ℕ → List ℕ → List ℕ → Report
 with_test r holds line front text = record {
@@ -52,14 +52,14 @@ with_test r holds line front text = record {
 -- ---- what stands below a test that failed
 
 -- the first eight lines of rounds that are seen
-abbrev pub shown : List ℕ → Span → List ℕ → List (List ℕ)
-shown trace span pattern = take 8 (filter (λ line. is_some (end_seen span pattern line)) (lines_of trace))
+abbrev pub shown_rounds : List ℕ → Span → List ℕ → List (List ℕ)
+shown_rounds trace span pattern = take 8 (filter (λ line. is_some (end_seen span pattern line)) (lines_of trace))
 
 abbrev pub shown_line : List ℕ → List ℕ
 shown_line line = codes "# " ++ line ++ codes "\n"
 
 abbrev pub shown_text : List ℕ → Span → List ℕ → List ℕ
-shown_text trace span pattern = flat_map shown_line (shown trace span pattern)
+shown_text trace span pattern = flat_map shown_line (shown_rounds trace span pattern)
 
 abbrev pub seen_line : ℕ → Span → List ℕ
 seen_line count span = concat (codes "# seen " ∷ decimal count ∷ codes " from " ∷ decimal span.from ∷ codes " to " ∷ decimal span.to ∷ codes "\n" ∷ [])
@@ -117,15 +117,15 @@ with_refusals script r (line ∷ lines) = with_refusals script (with_event scrip
 
 -- ---- all
 
-abbrev pub begun : Report
-begun = record { text = codes "TAP version 13\n"; verdicts = [] }
+abbrev pub report_start : Report
+report_start = record { text = codes "TAP version 13\n"; verdicts = [] }
 
 abbrev pub plan_line : ℕ → List ℕ
 plan_line count = concat (codes "1.." ∷ decimal count ∷ codes "\n" ∷ [])
 
-abbrev pub ended : Report → Report
-ended r = record r { text = r.text ++ plan_line (length r.verdicts) }
+abbrev pub report_with_plan : Report → Report
+report_with_plan r = record r { text = r.text ++ plan_line (length r.verdicts) }
 
 -- the report of a script, by the trace of its run and, of each line, the state line that it speaks of
 abbrev pub report : List ℕ → List ℕ → List (List ℕ) → Report
-report script trace states = ended (with_refusals script (with_lines trace begun 1 (lines_of script) states (judged script trace states)) (lines_of trace))
+report script trace states = report_with_plan (with_refusals script (with_lines trace report_start 1 (lines_of script) states (verdicts_of script trace states)) (lines_of trace))

@@ -1,6 +1,6 @@
 -- The states that a script speaks of (own): a device's line with which the run would end, had it ended at a time.
 use Rattle.std.specs.Prelude.{◌≡◌, ℕ, List, [], ◌∷◌, Result, Ok, Err}
-use Rattle.cec_words.specs.Words.{words_of}
+use Rattle.hdmi_core.specs.Words.{words_of}
 use Rattle.cec_expect.specs.Line.{behind_label, cut_script}
 use Rattle.cec_expect.specs.Form.{Form, form_in}
 use Rattle.cec_expect.specs.Form.Form.{Other, Rounds, State, Refused}

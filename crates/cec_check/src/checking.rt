@@ -4,7 +4,7 @@ ghost use Rattle.cec_check.specs.Check.{AreVerdictsOf, IsCheckCut, IsCheckTold, 
 ghost use Rattle.cec_check.specs.Report.{report_as};
 
 use crate::held::Held;
-use crate::report::{Draft, whole_report};
+use crate::report::{ReportDraft, whole_report};
 use crate::states::all_states;
 use cec_expect::{ExpectFault, first_fault, plain_script};
 use cec_run::emulate::{EmulateError, emulate};
@@ -63,7 +63,7 @@ pub fn tally_of(verdicts: &[bool]) -> Tally
 }
 
 // The report of a script, by the trace of its run.
-fn report_of(alloc: Global, topology: &[u8], script: &[u8]) -> Result<Draft, CheckError>
+fn report_of(alloc: Global, topology: &[u8], script: &[u8]) -> Result<ReportDraft, CheckError>
     ensures ok { IfOk result (λ draft. IsReportOf topology.now script.now (report_as draft)) }
     ensures told { IfErr result (IsVerdictTold topology.now script.now) }
 {
@@ -96,7 +96,7 @@ fn report_of(alloc: Global, topology: &[u8], script: &[u8]) -> Result<Draft, Che
 /// # Errors
 ///
 /// Those of `emulate` for the plain script, and then the first line of the script whose label or expectation is at fault: then
-/// nothing was written. A failed write: then the front of the report was written, as long as it tells.
+/// nothing was written. A failed write: then the front of the report was written, as long as it reports.
 pub fn check<S: Sink>(
     alloc: Global,
     topology: &[u8],

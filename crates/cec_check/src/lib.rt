@@ -10,4 +10,4 @@ mod states;
 pub use checking::{CheckError, Tally, check, tally_of, verdicts};
 pub use held::Held;
 pub use laws::{cut_scripts_are_read, tallies_count_verdicts};
-pub use report::{Draft, whole_report};
+pub use report::{ReportDraft, whole_report};

@@ -3,23 +3,22 @@ ghost use Rattle.std.specs.Prelude.{◌≡◌, ◌++◌, ◌==◌, codes, if◌t
 ghost use Rattle.std.specs.List.{flat_map};
 ghost use Rattle.std.specs.Option.{option_map};
 ghost use Rattle.hdmi_core.specs.Piece.{piece_text};
-ghost use Rattle.cec_words.specs.Lines.{lines_of};
-ghost use Rattle.cec_judge.specs.Judged.{judged};
+ghost use Rattle.hdmi_core.specs.Lines.{lines_of};
+ghost use Rattle.cec_judge.specs.Judged.{verdicts_of};
 ghost use Rattle.cec_judge.specs.Told.{event_as};
-ghost use Rattle.cec_check.specs.Report.{begun, ended, escaped, escaped_byte, remarks, report, report_as, shown_text, shown_line, span_remarks, verdict_word, with_event, with_line, with_lines, with_refusals, with_test, with_word};
+ghost use Rattle.cec_check.specs.Report.{report_start, report_with_plan, escaped_text, escaped_byte, remarks, report, report_as, shown_text, shown_line, span_remarks, verdict_word, with_event, with_line, with_lines, with_refusals, with_test, with_word};
 
 use crate::held::Held;
 use cec_expect::{Form, form_in, unlabelled};
 use cec_judge::{
     EventLine, Judged, Span, all_judged, end_seen, event_in, is_refusal_expected, refusal_in,
 };
-use cec_words::first_line;
-use hdmi_core::{Piece, put_all, write_pieces};
+use hdmi_core::{Piece, first_line, put_all, write_pieces};
 use std::alloc::{AllocError, Global};
 
 /// A report that is being made.
 #[derive(Drop)]
-pub struct Draft {
+pub struct ReportDraft {
     pub text: Held,
     /// Whether each of its tests holds, in order.
     pub verdicts: Vec<bool>,
@@ -59,7 +58,7 @@ fn append_byte(out: &mut Held, byte: u8) -> Result<(), AllocError>
 
 // Appends a text with a backslash before each `#` and each backslash.
 fn append_escaped(out: &mut Held, text: &[u8]) -> Result<(), AllocError>
-    ensures { OnOk result (out.new.bytes.items ≡ out.old.bytes.items ++ escaped text.now) }
+    ensures { OnOk result (out.new.bytes.items ≡ out.old.bytes.items ++ escaped_text text.now) }
 {
     let mut rest = text;
     'bytes: while let [byte, others @ ..] = rest {
@@ -77,7 +76,7 @@ fn verdict_word(holds: bool) -> &'static str
 
 // Appends a test.
 fn add_test(
-    draft: &mut Draft,
+    draft: &mut ReportDraft,
     holds: bool,
     line: u64,
     front: &str,
@@ -192,7 +191,7 @@ fn append_remarks(
 
 // Appends the test of a line, where it is an expectation.
 fn add_line(
-    draft: &mut Draft,
+    draft: &mut ReportDraft,
     trace: &[u8],
     state: &[u8],
     number: u64,
@@ -213,7 +212,7 @@ fn add_line(
 
 // Appends the tests of the lines of a script.
 fn add_lines(
-    draft: &mut Draft,
+    draft: &mut ReportDraft,
     script: &[u8],
     trace: &[u8],
     states: &[Vec<u8>],
@@ -241,7 +240,12 @@ fn add_lines(
     Ok(())
 }
 
-fn add_word(draft: &mut Draft, script: &[u8], line: u64, word: &[u8]) -> Result<(), AllocError>
+fn add_word(
+    draft: &mut ReportDraft,
+    script: &[u8],
+    line: u64,
+    word: &[u8],
+) -> Result<(), AllocError>
     ensures { OnOk result (report_as draft.new ≡ with_word script.now (report_as draft.old) line (Some word.now)) }
 {
     if is_refusal_expected(script, line) {
@@ -251,7 +255,11 @@ fn add_word(draft: &mut Draft, script: &[u8], line: u64, word: &[u8]) -> Result<
 }
 
 // Appends the test of an event, where it was refused and no line expects it.
-fn add_event(draft: &mut Draft, script: &[u8], event: Option<EventLine>) -> Result<(), AllocError>
+fn add_event(
+    draft: &mut ReportDraft,
+    script: &[u8],
+    event: Option<EventLine>,
+) -> Result<(), AllocError>
     ensures { OnOk result (report_as draft.new ≡ with_event script.now (report_as draft.old) (option_map event_as event.entry)) }
 {
     let Some(event) = event else {
@@ -264,7 +272,7 @@ fn add_event(draft: &mut Draft, script: &[u8], event: Option<EventLine>) -> Resu
 }
 
 // Appends the tests of refused events.
-fn add_refusals(draft: &mut Draft, script: &[u8], trace: &[u8]) -> Result<(), AllocError>
+fn add_refusals(draft: &mut ReportDraft, script: &[u8], trace: &[u8]) -> Result<(), AllocError>
     ensures { OnOk result (report_as draft.new ≡ with_refusals script.now (report_as draft.old) (lines_of trace.now)) }
 {
     let mut rest = trace;
@@ -275,8 +283,8 @@ fn add_refusals(draft: &mut Draft, script: &[u8], trace: &[u8]) -> Result<(), Al
     Ok(())
 }
 
-fn add_plan(draft: &mut Draft) -> Result<(), AllocError>
-    ensures { OnOk result (report_as draft.new ≡ ended (report_as draft.old)) }
+fn add_plan(draft: &mut ReportDraft) -> Result<(), AllocError>
+    ensures { OnOk result (report_as draft.new ≡ report_with_plan (report_as draft.old)) }
 {
     let count = draft.verdicts.len() as u64;
     append(
@@ -285,12 +293,12 @@ fn add_plan(draft: &mut Draft) -> Result<(), AllocError>
     )
 }
 
-fn begun(alloc: Global) -> Result<Draft, AllocError>
-    ensures { IfOk result (λ draft. report_as draft ≡ begun) }
+fn report_start(alloc: Global) -> Result<ReportDraft, AllocError>
+    ensures { IfOk result (λ draft. report_as draft ≡ report_start) }
 {
     let mut text = Held::new(alloc);
     append_bytes(&mut text, b"TAP version 13\n")?;
-    Ok(Draft {
+    Ok(ReportDraft {
         text,
         verdicts: Vec::new(alloc),
     })
@@ -302,11 +310,11 @@ pub fn whole_report(
     script: &[u8],
     trace: &[u8],
     states: &[Vec<u8>],
-) -> Result<Draft, AllocError>
+) -> Result<ReportDraft, AllocError>
     ensures { IfOk result (λ draft. report_as draft ≡ report script.now trace.now (map (λ state. state.items) states.now)) }
 {
     let found = all_judged(alloc, script, trace, states)?;
-    let mut draft = begun(alloc)?;
+    let mut draft = report_start(alloc)?;
     add_lines(&mut draft, script, trace, states, &found)?;
     add_refusals(&mut draft, script, trace)?;
     add_plan(&mut draft)?;

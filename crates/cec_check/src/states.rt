@@ -1,13 +1,13 @@
 //! The state lines that the lines of a script speak of.
 ghost use Rattle.std.specs.Prelude.{◌≤◌, map, IfOk};
-ghost use Rattle.cec_words.specs.Lines.{lines_of};
+ghost use Rattle.hdmi_core.specs.Lines.{lines_of};
 ghost use Rattle.cec_check.specs.States.{AreStates, IsStateAt, IsStateFor, IsTraced};
 
 use crate::held::Held;
 use cec_expect::{Form, cut_script, form_in, unlabelled};
 use cec_judge::state_line;
 use cec_run::emulate::{EmulateError, emulate};
-use cec_words::first_line;
+use hdmi_core::first_line;
 use std::alloc::{AllocError, Global};
 
 // The state line of a device at the end of a run of the plain script up to a time.

@@ -14,8 +14,8 @@ use Rattle.std.proofs.lemmas.List.Splits.{slice_split_at}
 use Rattle.cec_wave.specs.declared.Edge.{Edge}
 use Rattle.cec_wave.specs.declared.Stretch.{Stretch}
 use Rattle.cec_wave.specs.Line.{covers, line_of, IsWaveFrom}
-use Rattle.cec_words.specs.Lines.{lines_of}
-use Rattle.cec_words.specs.Number.{number_of}
+use Rattle.hdmi_core.specs.Lines.{lines_of}
+use Rattle.hdmi_core.specs.Number.{number_of}
 use Rattle.cec_signal.specs.Edges.{Captured, edges_of}
 use Rattle.cec_signal.specs.Seconds.{decimals_of, nine_digits}
 use Rattle.cec_signal.specs.Track.{differ}
@@ -232,7 +232,7 @@ stretch_reads s at b more edges end after wide low rest number again =
     ∙ ap (with_edges (record { at = s.from; low = true } ∷ [])) (rest (n + 1) (again_by false true)))
     number again
 
--- the level is told again at the end
+-- the level is reported again at the end
 end_reads : (end at : ℕ) (b : Bool) → at ≤ end → end ≤ 2000000000000 → Reads (row_text end 49) at b [] end
 end_reads end at false after low number again =
     ap (λ text. lines_read number (lines_of text) (stood again at false false)) (sym (append-nil (row_text end 49)) ∙ cut_line end 49 [])

@@ -3,13 +3,13 @@ use Rattle.std.proofs.Common.{◌≡◌, ℕ, ◌+◌, ◌*◌, ◌/◌, ◌≤�
 use Rattle.std.specs.Option.{option_to_list}
 use Rattle.std.proofs.lemmas.Bool.Decides.{nat_tests}
 use Rattle.cec_wave.specs.declared.Edge.{Edge}
-use Rattle.cec_words.specs.Lines.{lines_of}
+use Rattle.hdmi_core.specs.Lines.{lines_of}
 use Rattle.cec_signal.specs.Edges.{Captured, EndBy, IsCapture}
-use Rattle.cec_signal.specs.Samples.{Sample, sampled}
-use Rattle.cec_signal.specs.Track.{Moved, differ, last_edge, moved}
+use Rattle.cec_signal.specs.Samples.{Sample, level_in}
+use Rattle.cec_signal.specs.Track.{Moved, differ, last_edge, track_move}
 use Rattle.cec_signal.specs.declared.track.Track.{Track}
 use Rattle.cec_signal.proofs.Recording.{Records, moved_at, records_capture, records_end, records_level, records_line, records_moved}
-use Rattle.cec_csv.specs.Csv.{Step, Stepped, begun, column_of, column_read, edges_in, end_of, ends_after, happened, lines_read, moved_by, moved_to, named_read, or_first, passed_by, read_on, row_of, since, since_by, took_by, with_edges}
+use Rattle.cec_csv.specs.Csv.{Step, Stepped, first_reader, column_of, column_read, edges_in, end_of, ends_after, with_row, lines_read, moved_by, moved_to, named_read, or_first, passed_by, read_on, row_of, since, since_by, took_by, with_edges}
 use Rattle.cec_csv.specs.Sampling.{CsvFilesAreSampled, Level, end_by, level_of, level_told, levels_of, rows_by, rows_in, rows_of}
 use Rattle.cec_csv.specs.declared.row.Row.{Row}
 use Rattle.cec_csv.specs.declared.row.Time.{Time}
@@ -28,10 +28,10 @@ abbrev samples_of : List Level → List Sample
 samples_of [] = []
 samples_of (l ∷ ls) = record { at = rounded l.since; low = l.low } ∷ samples_of ls
 
-sampled_so : (b : Bool) (ls : List Level) (u : ℕ) → sampled b (samples_of ls) u ≡ level_of b ls u
+sampled_so : (b : Bool) (ls : List Level) (u : ℕ) → level_in b (samples_of ls) u ≡ level_of b ls u
 sampled_so b [] u = refl
 sampled_so b (l ∷ ls) u =
-    ap (λ t. sampled (if t then l.low else b) (samples_of ls) u) (rounded_by l.since u) ∙ sampled_so (if nat_le l.since (u * 1000) then l.low else b) ls u
+    ap (λ t. level_in (if t then l.low else b) (samples_of ls) u) (rounded_by l.since u) ∙ sampled_so (if nat_le l.since (u * 1000) then l.low else b) ls u
 
 -- ---- a later end
 
@@ -80,10 +80,10 @@ abbrev GoesBy : Reader → Stepped → Row → Type 0
 GoesBy old (Err c) row = Unit {0}
 GoesBy old (Ok step) row = GoesOn old step row
 
-row_goes : (r : Reader) (row : Row) → GoesBy r (happened row r) row
+row_goes : (r : Reader) (row : Row) → GoesBy r (with_row row r) row
 row_goes r row = by (since (or_first r.first row.time) row.time) refl
   where
-    moves : (nanos : ℕ) → since (or_first r.first row.time) row.time ≡ Some nanos → nanos ≤ 2000000000000000 → (o : Option Moved) → moved (rounded nanos) r.track ≡ o
+    moves : (nanos : ℕ) → since (or_first r.first row.time) row.time ≡ Some nanos → nanos ≤ 2000000000000000 → (o : Option Moved) → track_move (rounded nanos) r.track ≡ o
         → GoesBy r (moved_by (or_first r.first row.time) o row.low r) row
     moves nanos told small None h = tt
     moves nanos told small (Some m) h =
@@ -107,7 +107,7 @@ row_goes r row = by (since (or_first r.first row.time) row.time) refl
     late : (nanos : ℕ) → since (or_first r.first row.time) row.time ≡ Some nanos → (c : Bool) → nat_lt 2000000000000000 nanos ≡ c
         → GoesBy r (moved_to (or_first r.first row.time) (if c then None else Some (rounded nanos)) row.low r) row
     late nanos told true h = tt
-    late nanos told false h = moves nanos told (grind (arith, nat_tests)) (moved (rounded nanos) r.track) refl
+    late nanos told false h = moves nanos told (grind (arith, nat_tests)) (track_move (rounded nanos) r.track) refl
 
     by : (o : Option ℕ) → since (or_first r.first row.time) row.time ≡ o → GoesBy r (since_by (or_first r.first row.time) o row.low r) row
     by None h = tt
@@ -169,13 +169,13 @@ lines_ran number (line ∷ lines) r e time at early h =
         → ((s : Reader) (f : Captured) (t : ℕ) → s.track.at ≡ rounded t → s.track.at ≤ 2000000000000 → lines_read (number + 1) lines s ≡ Ok f → Ran s f t (rows_in s.column lines))
         → Ran r e time (option_to_list o ++ rows_in r.column lines)
     by None k ih = cc
-    by (Some row) k ih = step_by row (happened row r) (row_goes r row) k ih
+    by (Some row) k ih = step_by row (with_row row r) (row_goes r row) k ih
 
-column_ran : (o : Option ℕ) (lines : List (List ℕ)) (e : Captured) → column_read o lines ≡ Ok e → (column : ℕ) × Ran (begun column) e 0 (rows_by o lines)
+column_ran : (o : Option ℕ) (lines : List (List ℕ)) (e : Captured) → column_read o lines ≡ Ok e → (column : ℕ) × Ran (first_reader column) e 0 (rows_by o lines)
 column_ran None lines e h = cc
-column_ran (Some column) lines e h = (column, lines_ran 2 lines (begun column) e 0 refl (omega arith) h)
+column_ran (Some column) lines e h = (column, lines_ran 2 lines (first_reader column) e 0 refl (omega arith) h)
 
-named_ran : (signal : List ℕ) (lines : List (List ℕ)) (e : Captured) → named_read signal lines ≡ Ok e → (column : ℕ) × Ran (begun column) e 0 (rows_of signal lines)
+named_ran : (signal : List ℕ) (lines : List (List ℕ)) (e : Captured) → named_read signal lines ≡ Ok e → (column : ℕ) × Ran (first_reader column) e 0 (rows_of signal lines)
 named_ran signal [] e h = cc
 named_ran signal (line ∷ lines) e h = column_ran (column_of signal line) lines e h
 

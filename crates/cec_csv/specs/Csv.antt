@@ -6,11 +6,11 @@ use Rattle.std.specs.List.{position_or_len, slice_split}
 use Rattle.std.specs.Str.{bytes_eq}
 use Rattle.std.specs.Global.{Vec}
 use Rattle.cec_wave.specs.declared.Edge.{Edge}
-use Rattle.cec_words.specs.Lines.{lines_of}
-use Rattle.cec_words.specs.Number.{number_of}
+use Rattle.hdmi_core.specs.Lines.{lines_of}
+use Rattle.hdmi_core.specs.Number.{number_of}
 use Rattle.cec_signal.specs.Edges.{Captured}
 use Rattle.cec_signal.specs.Seconds.{decimals_of}
-use Rattle.cec_signal.specs.Track.{Moved, begun as line_begun, differ, last_edge, moved, with_level}
+use Rattle.cec_signal.specs.Track.{Moved, first_track as line_begun, differ, last_edge, track_move, with_level}
 use Rattle.cec_csv.specs.declared.row.Row.{Row}
 use Rattle.cec_csv.specs.declared.row.Time.{Time}
 use Rattle.cec_csv.specs.declared.reader.Cause.{Cause}
@@ -35,15 +35,15 @@ field_at zero (field ∷ fields) = Some field
 field_at (suc column) (field ∷ fields) = field_at column fields
 
 -- without the space before a field, and without the carriage return at the end of a line
-abbrev pub trimmed : List ℕ → List ℕ
-trimmed field = if slice_index field 0 == 32 then drop 1 field else field
+abbrev pub field_without_space : List ℕ → List ℕ
+field_without_space field = if slice_index field 0 == 32 then drop 1 field else field
 
 abbrev pub without_return : List ℕ → List ℕ
 without_return line = if slice_index line (length line - 1) == 13 then take (length line - 1) line else line
 
 -- the column of a signal; an empty name stands for the first one
 abbrev pub is_named : List ℕ → List ℕ → Bool
-is_named field signal = (length signal == 0) || bytes_eq (trimmed field) signal
+is_named field signal = (length signal == 0) || bytes_eq (field_without_space field) signal
 
 abbrev pub column_from : ℕ → List ℕ → List (List ℕ) → Option ℕ
 column_from column signal [] = None
@@ -71,12 +71,12 @@ dot_in text = position_or_len (λ b. b == 46) text
 abbrev pub nanos_of : List ℕ → Option ℕ
 nanos_of word = nanos_by (number_of (take (dot_in word) word)) (decimals_of (drop (dot_in word + 1) word))
 
-abbrev pub signed : Bool → ℕ → Time
-signed is_minus nanos = record { is_below = is_minus && nat_lt 0 nanos; nanos = nanos }
+abbrev pub signed_time : Bool → ℕ → Time
+signed_time is_minus nanos = record { is_below = is_minus && nat_lt 0 nanos; nanos = nanos }
 
 abbrev pub signed_by : Bool → Option ℕ → Option Time
 signed_by is_minus None = None
-signed_by is_minus (Some nanos) = Some (signed is_minus nanos)
+signed_by is_minus (Some nanos) = Some (signed_time is_minus nanos)
 
 abbrev pub time_of : List ℕ → Option Time
 time_of word = if slice_index word 0 == 45 then signed_by true (nanos_of (drop 1 word)) else signed_by false (nanos_of word)
@@ -86,7 +86,7 @@ level_of field = if bytes_eq field (codes "0") then Some true else if bytes_eq f
 
 abbrev pub level_by : Option (List ℕ) → Option Bool
 level_by None = None
-level_by (Some field) = level_of (trimmed field)
+level_by (Some field) = level_of (field_without_space field)
 
 abbrev pub row_by : Option Time → Option Bool → Option Row
 row_by None low = None
@@ -121,8 +121,8 @@ instant_of nanos = if nat_lt 2000000000000000 nanos then None else Some ((nanos 
 
 -- ---- where a reader stands
 
-abbrev pub begun : ℕ → Reader
-begun column = record { column = column; first = None; is_again = true; is_low = false; track = line_begun }
+abbrev pub first_reader : ℕ → Reader
+first_reader column = record { column = column; first = None; is_again = true; is_low = false; track = line_begun }
 
 pub record Step : Type 0 where
   pub reader : Reader
@@ -146,7 +146,7 @@ moved_by first (Some m) low r =
 
 abbrev pub moved_to : Time → Option ℕ → Bool → Reader → Stepped
 moved_to first None low r = Err cause.Late
-moved_to first (Some u) low r = moved_by first (moved u r.track) low r
+moved_to first (Some u) low r = moved_by first (track_move u r.track) low r
 
 abbrev pub since_by : Time → Option ℕ → Bool → Reader → Stepped
 since_by first None low r = Err cause.Order
@@ -157,19 +157,19 @@ abbrev pub or_first : Option Time → Time → Time
 or_first None time = time
 or_first (Some first) time = first
 
-abbrev pub happened : Row → Reader → Stepped
-happened row r = since_by (or_first r.first row.time) (since (or_first r.first row.time) row.time) row.low r
+abbrev pub with_row : Row → Reader → Stepped
+with_row row r = since_by (or_first r.first row.time) (since (or_first r.first row.time) row.time) row.low r
 
 abbrev pub took_by : Option Row → Reader → Stepped
 took_by None r = Err cause.Word
-took_by (Some row) r = happened row r
+took_by (Some row) r = with_row row r
 
 abbrev pub took : List ℕ → Reader → Stepped
 took line r = took_by (row_of r.column line) r
 
 -- ---- a file
 
--- the form has no end: a level that is told again ends it, or it goes on for 10,000 microseconds, within the limit
+-- the form has no end: a level that is reported again ends it, or it goes on for 10,000 microseconds, within the limit
 abbrev pub ends_after : Bool → ℕ → ℕ
 ends_after is_again at = if is_again then at else min (at + 10000) 2000000000000
 
@@ -198,7 +198,7 @@ lines_read number (line ∷ lines) r = read_on (passed_by number (took line r)) 
 
 abbrev pub column_read : Option ℕ → List (List ℕ) → Result Captured CsvFault
 column_read None lines = Err (record { line = 1; cause = cause.Signal })
-column_read (Some column) lines = lines_read 2 lines (begun column)
+column_read (Some column) lines = lines_read 2 lines (first_reader column)
 
 abbrev pub named_read : List ℕ → List (List ℕ) → Result Captured CsvFault
 named_read signal [] = Err (record { line = 1; cause = cause.Signal })
@@ -219,7 +219,7 @@ GivesEdges (Ok c) read = read ≡ Ok (record { edges = c.0.items; end = c.1 })
 GivesEdges (Err (Fault fault)) read = read ≡ Err fault
 GivesEdges (Err Memory) read = Unit {0}
 
--- a line was passed: its edges came behind those before
+-- a line was passed: its edges came after those before
 abbrev pub PassesLine : Result Passed CsvFault → List Edge → Result (Unit {0}) CsvError → List Edge → Reader → Type 0
 PassesLine passed old (Ok n) new reader = (more : List Edge) × (new ≡ old ++ more) × (passed ≡ Ok (record { edges = more; reader = reader }))
 PassesLine passed old (Err (Fault fault)) new reader = passed ≡ Err fault

@@ -1,8 +1,8 @@
--- The line that a file tells of: at an instant it has the level of the last row at or before it. Times are nanoseconds here,
+-- The line that a file reports: at an instant it has the level of the last row at or before it. Times are nanoseconds here,
 -- counted from the first row, and nothing is said of edges and faults.
 use Rattle.std.specs.Prelude.{◌≡◌, ℕ, ◌+◌, ◌*◌, ◌/◌, not, Bool, true, false, nat_le, if◌then◌else◌, List, [], ◌∷◌, ◌++◌, Option, Some, None, Ok}
 use Rattle.std.specs.Option.{option_to_list}
-use Rattle.cec_words.specs.Lines.{lines_of}
+use Rattle.hdmi_core.specs.Lines.{lines_of}
 use Rattle.cec_signal.specs.Edges.{Captured, IsCapture, line_of_edges}
 use Rattle.cec_signal.specs.Track.{differ}
 use Rattle.cec_csv.specs.Csv.{column_of, edges_in, ends_after, or_first, row_of, since}
@@ -52,6 +52,6 @@ pub record IsSampled (signal text : List ℕ) (e : Captured) : Type 0 where
   pub capture : IsCapture e.edges e.end
 
 -- A file that is read is its column, sampled: each microsecond has the level at its first instant. The capture ends with the
--- last row, if that tells the level again, or else 10,000 microseconds after it.
+-- last row, if that reports the level again, or else 10,000 microseconds after it.
 abbrev pub CsvFilesAreSampled : Type 0
 CsvFilesAreSampled = (signal text : List ℕ) (e : Captured) → edges_in signal text ≡ Ok e → IsSampled signal text e

@@ -29,7 +29,7 @@ stretch_text s = rows_text s (nine_digits (s.from % 1000000)) (nine_digits (s.to
 abbrev pub changes : List Stretch → List ℕ
 changes ss = flat_map stretch_text ss
 
--- last the level is told again
+-- last the level is reported again
 abbrev pub csv_text : List Stretch → ℕ → List ℕ
 csv_text ss end = head ++ (changes ss ++ row_text end 49)
 

@@ -1,9 +1,9 @@
 //! Fields of a line, with commas between them.
 ghost use Rattle.std.specs.Prelude.{◌≡◌, ◌∷◌, ◌+◌, ◌-◌, ◌<◌, ◌≤◌, ◌==◌, length, position, IfSome};
 ghost use Rattle.std.specs.Option.{option_copied};
-ghost use Rattle.cec_csv.specs.Csv.{column_from, field_at, fields_behind, fields_of, is_named, trimmed, without_return};
+ghost use Rattle.cec_csv.specs.Csv.{column_from, field_at, fields_behind, fields_of, is_named, field_without_space, without_return};
 
-use cec_words::{before, behind, byte_at};
+use hdmi_core::{before, behind, byte_at};
 
 // Where the first comma stands.
 fn comma_in(line: &[u8]) -> Option<usize>
@@ -41,8 +41,8 @@ pub fn field_at(fields: Option<&[u8]>, column: usize) -> Option<&[u8]>
 }
 
 /// A field without the space before it.
-pub fn trimmed(field: &[u8]) -> &[u8]
-    ensures { result.now ≡ trimmed field.now }
+pub fn field_without_space(field: &[u8]) -> &[u8]
+    ensures { result.now ≡ field_without_space field.now }
 {
     if byte_at(field, 0) == b' ' {
         behind(field, 1)
@@ -66,7 +66,7 @@ pub fn without_return(line: &[u8]) -> &[u8]
 fn is_named(field: &[u8], signal: &[u8]) -> bool
     ensures { result ≡ is_named field.now signal.now }
 {
-    signal.is_empty() || trimmed(field) == signal
+    signal.is_empty() || field_without_space(field) == signal
 }
 
 /// The column of a signal among the fields of what is left of a line, counted from 0. An empty name stands for the first.

@@ -41,12 +41,12 @@ pub struct Reader {
 }
 
 impl Reader {
-    ghost use Rattle.cec_csv.specs.Csv.{Takes, begun, end_of, happened, moved_to, took};
+    ghost use Rattle.cec_csv.specs.Csv.{Takes, first_reader, end_of, with_row, moved_to, took};
     ghost use Rattle.cec_signal.specs.Track.{last_edge};
 
     /// A reader before the first row.
     pub fn new(column: usize) -> Self
-        ensures { result ≡ begun column }
+        ensures { result ≡ first_reader column }
     {
         Reader {
             column,
@@ -78,7 +78,7 @@ impl Reader {
 
     // A row. Times are counted from the first one.
     fn take_row(&mut self, row: Row) -> Result<Option<Edge>, Cause>
-        ensures { Takes (happened row self.old) result self.new }
+        ensures { Takes (with_row row self.old) result self.new }
     {
         let first = match self.first {
             None => row.time,
@@ -100,7 +100,7 @@ impl Reader {
         }
     }
 
-    /// The end: the last row, where that tells the level again, or else 10,000 microseconds after it, within the limit.
+    /// The end: the last row, where that reports the level again, or else 10,000 microseconds after it, within the limit.
     pub fn end(&self) -> u64
         ensures { result ≡ end_of self.now }
     {

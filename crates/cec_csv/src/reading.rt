@@ -1,13 +1,13 @@
 //! From a file to the edges of a line.
 ghost use Rattle.std.specs.Prelude.{◌≡◌, ◌+◌, ◌<◌, length};
-ghost use Rattle.cec_words.specs.Lines.{lines_of};
-ghost use Rattle.cec_csv.specs.Csv.{Gives, GivesEdges, PassesLine, begun, column_of, edges_in, lines_read, passed_by, took};
+ghost use Rattle.hdmi_core.specs.Lines.{lines_of};
+ghost use Rattle.cec_csv.specs.Csv.{Gives, GivesEdges, PassesLine, first_reader, column_of, edges_in, lines_read, passed_by, took};
 
 use crate::fields::{column_in, first_field, without_return};
 use crate::reader::{Cause, Reader};
 use cec_signal::Capture;
 use cec_wave::Edge;
-use cec_words::first_line;
+use hdmi_core::first_line;
 use std::alloc::Global;
 use thiserror::Error;
 
@@ -56,7 +56,7 @@ fn read_line(
 
 // Reads the rows of a column.
 fn read_rows(alloc: Global, column: usize, text: &[u8]) -> Result<(Vec<Edge>, u64), CsvError>
-    ensures { GivesEdges result (lines_read 2 (lines_of text.now) (begun column)) }
+    ensures { GivesEdges result (lines_read 2 (lines_of text.now) (first_reader column)) }
 {
     let mut edges = Vec::new(alloc);
     let mut reader = Reader::new(column);
@@ -106,8 +106,8 @@ fn read_edges(alloc: Global, signal: &[u8], text: &[u8]) -> Result<(Vec<Edge>, u
 }
 
 /// Reads a file: the edges of the column of this name, or of the first one where the name is empty. Times are counted from
-/// the first row, and rounded up to whole microseconds; of several rows in one the last counts, and a level that is told
-/// again is no edge. Before the first row the line counts as high. The capture ends with the last row where that tells the
+/// the first row, and rounded up to whole microseconds; of several rows in one the last counts, and a level that is reported
+/// again is no edge. Before the first row the line counts as high. The capture ends with the last row where that reports the
 /// level again, and else 10,000 microseconds after it.
 ///
 /// # Errors

@@ -1,11 +1,11 @@
 //! A row: a time and a level.
 ghost use Rattle.std.specs.Prelude.{◌≡◌, ◌+◌, ◌*◌, ◌^◌, ◌<◌, ◌≤◌, length};
-ghost use Rattle.cec_csv.specs.Csv.{instant_of, level_of, nanos_of, row_of, signed, since, time_of};
+ghost use Rattle.cec_csv.specs.Csv.{instant_of, level_of, nanos_of, row_of, signed_time, since, time_of};
 
-use crate::fields::{field_at, first_field, trimmed, without_return};
+use crate::fields::{field_at, field_without_space, first_field, without_return};
 use cec_signal::decimals_in;
 use cec_wave::LATEST_INSTANT;
-use cec_words::{before, behind, byte_at, len_before, number_in};
+use hdmi_core::{before, behind, byte_at, len_before, number_in};
 
 /// The most whole seconds of a time.
 const MOST_SECONDS: u64 = 9_999_999_999;
@@ -40,8 +40,8 @@ fn nanos_of(word: &[u8]) -> Option<u64>
     Some(whole * 1_000_000_000 + nanos)
 }
 
-fn signed(is_minus: bool, nanos: u64) -> Time
-    ensures { result ≡ signed is_minus nanos }
+fn signed_time(is_minus: bool, nanos: u64) -> Time
+    ensures { result ≡ signed_time is_minus nanos }
 {
     Time {
         is_below: is_minus && nanos > 0,
@@ -55,10 +55,10 @@ fn time_of(word: &[u8]) -> Option<Time>
 {
     if byte_at(word, 0) == b'-' {
         let nanos = nanos_of(behind(word, 1))?;
-        Some(signed(true, nanos))
+        Some(signed_time(true, nanos))
     } else {
         let nanos = nanos_of(word)?;
-        Some(signed(false, nanos))
+        Some(signed_time(false, nanos))
     }
 }
 
@@ -82,7 +82,7 @@ pub fn row_of(column: usize, line: &[u8]) -> Option<Row>
     let (word, fields) = first_field(without_return(line));
     let time = time_of(word)?;
     let field = field_at(fields, column)?;
-    let low = level_of(trimmed(field))?;
+    let low = level_of(field_without_space(field))?;
     Some(Row { time, low })
 }
 

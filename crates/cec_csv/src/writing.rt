@@ -1,13 +1,12 @@
 //! The file of a line.
 ghost use Rattle.std.specs.Prelude.{◌≡◌, ◌+◌, ◌%◌};
 ghost use Rattle.hdmi_core.specs.Written.{WrittenLine};
-ghost use Rattle.cec_words.specs.Cut.{WrittenText};
+ghost use Rattle.hdmi_core.specs.Cut.{WrittenText};
 ghost use Rattle.cec_csv.specs.Text.{changes, head, row_text, rows_text, stretch_text};
 
 use cec_signal::nine_digits;
 use cec_wave::Stretch;
-use cec_words::{counted, cut_at};
-use hdmi_core::{Piece, Sink, WriteFault, write_line};
+use hdmi_core::{Piece, Sink, WriteFault, counted, cut_at, write_line};
 
 /// Writes the names of the columns, and the line high.
 pub fn write_head<S: Sink>(out: &mut S) -> Result<u128, WriteFault>

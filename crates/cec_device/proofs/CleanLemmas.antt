@@ -11,9 +11,9 @@ use Rattle.cec_frame.specs.declared.Fate.{Fate}
 use Rattle.cec_frame.specs.declared.Fate.TheVariants.{Delivered, Unacked, Lost, Broken}
 use Rattle.cec_device.specs.declared.free_time.FreeTime.TheVariants.{Retry}
 use Rattle.cec_device.specs.declared.device.Queued.{Queued}
-use Rattle.cec_device.specs.State.{State, held, holds, queued, speaks, may_speak, source, frame_of, one_more}
+use Rattle.cec_device.specs.State.{State, addresses_held, holds, with_queued, speaks, may_speak, source, frame_of, one_more}
 use Rattle.cec_feature.specs.Kinds.{is_switch, type_of}
-use Rattle.cec_device.specs.Place.{sent_by, polled_at, frame_sent, ended, failed, reported, reported_by, reported_from, stepped, front_is_poll, class_of_poll}
+use Rattle.cec_device.specs.Place.{sent_by, polled_at, frame_sent, after_front, after_failure, with_reports, reported_by, reported_from, place_after_fate, front_is_poll, class_of_poll}
 use Rattle.cec_device.specs.Once.{goes_elsewhere}
 use Rattle.std.proofs.lemmas.Bool.Decides.{nat_tests}
 use Rattle.cec_device.specs.declared.device.SubmitError.TheVariants.{QueueFull, OwnAddress, NoAddress, OffWire}
@@ -24,11 +24,11 @@ use Rattle.cec_opcode.specs.Table.{decoded_of}
 use Rattle.cec_feature.specs.declared.keys.Key.{Key}
 use Rattle.cec_device.specs.declared.keys.KeyError.{KeyError}
 use Rattle.cec_device.specs.declared.device.SubmitError.{SubmitError}
-use Rattle.cec_device.specs.Say.{say, say_all, effected}
+use Rattle.cec_device.specs.Say.{say, say_all, after_effect}
 use Rattle.cec_feature.specs.declared.say.Say.{Say}
 use Rattle.cec_feature.specs.declared.say.Say.TheVariants.{Reply, Cast, Tell, Refuse}
 use Rattle.cec_feature.specs.Effect.{Effect}
-use Rattle.cec_device.specs.Effects.{by_decoded, followed, is_for}
+use Rattle.cec_device.specs.Effects.{by_decoded, after_frame, is_for}
 use Rattle.cec_feature.specs.Effects.{effect_of, refuses, heard_of}
 use Rattle.cec_device.specs.Keys.{own_doing, keyed_by, key_fault}
 use Rattle.cec_feature.specs.Keys.{pressing, releasing}
@@ -93,7 +93,7 @@ two : (b : Bool) (x y : State) → is_clear x ≡ true → is_clear y ≡ true �
 two true x y h k = h
 two false x y h k = k
 
-clean-queued : (limit at from to : ℕ) (bytes : List ℕ) (d : State) → to < 16 → is_clear d ≡ true → is_clear (queued limit at from to bytes d) ≡ true
+clean-queued : (limit at from to : ℕ) (bytes : List ℕ) (d : State) → to < 16 → is_clear d ≡ true → is_clear (with_queued limit at from to bytes d) ≡ true
 clean-queued limit at from to bytes d s k =
     three (not (speaks d) || holds d.place to) (nat_lt (length d.queue) limit) d
     (record d { queue = d.queue ++ record { frame = frame_of from to bytes; ready = at } ∷ [] }) (record d { dropped = one_more d.dropped })
@@ -102,36 +102,36 @@ clean-queued limit at from to bytes d s k =
 clean-reported_from : (limit at : ℕ) (unit : Option ℕ) (d : State) → is_clear d ≡ true → is_clear (reported_from limit at unit d) ≡ true
 clean-reported_from limit at None d k = k
 clean-reported_from limit at (Some from) d k =
-    two (nat_lt from 15 || is_switch d.kind) (queued limit at from 15 (0x84 ∷ d.phys.high ∷ d.phys.low ∷ type_of d.kind from ∷ []) d) d
+    two (nat_lt from 15 || is_switch d.kind) (with_queued limit at from 15 (0x84 ∷ d.phys.high ∷ d.phys.low ∷ type_of d.kind from ∷ []) d) d
     (clean-queued limit at from 15 (0x84 ∷ d.phys.high ∷ d.phys.low ∷ type_of d.kind from ∷ []) d (lit< tt) k) k
 
 clean-reported_by : (limit at : ℕ) (units : List (Option ℕ)) (d : State) → is_clear d ≡ true → is_clear (reported_by limit at units d) ≡ true
 clean-reported_by limit at [] d k = k
 clean-reported_by limit at (unit ∷ units) d k = clean-reported_by limit at units (reported_from limit at unit d) (clean-reported_from limit at unit d k)
 
-pub clean-reported : (limit at : ℕ) (d : State) → is_clear d ≡ true → is_clear (reported limit at d) ≡ true
-clean-reported limit at d k = clean-reported_by limit at (held d.place) d k
+pub clean-reported : (limit at : ℕ) (d : State) → is_clear d ≡ true → is_clear (with_reports limit at d) ≡ true
+clean-reported limit at d k = clean-reported_by limit at (addresses_held d.place) d k
 
-clean-ended : (d : State) (queue : List Queued) → clean_at d.place queue ≡ true → is_clear (ended (record d { queue = queue })) ≡ true
+clean-ended : (d : State) (queue : List Queued) → clean_at d.place queue ≡ true → is_clear (after_front (record d { queue = queue })) ≡ true
 clean-ended d [] k = k
 clean-ended d (q ∷ queue) k = clean-tail d.place q queue k
 
-clean-failed : (d : State) → is_clear d ≡ true → is_clear (failed d) ≡ true
-clean-failed d k = two (nat_lt d.attempts 5) (record d { attempts = d.attempts + 1; class = Retry }) (ended d) k (clean-ended d d.queue k)
+clean-failed : (d : State) → is_clear d ≡ true → is_clear (after_failure d) ≡ true
+clean-failed d k = two (nat_lt d.attempts 5) (record d { attempts = d.attempts + 1; class = Retry }) (after_front d) k (clean-ended d d.queue k)
 
 clean-frame_sent : (fate : Fate) (d : State) → is_clear d ≡ true → is_clear (frame_sent d fate) ≡ true
 clean-frame_sent Lost d k = k
 clean-frame_sent Delivered d k = clean-ended d d.queue k
-clean-frame_sent Unacked d k = two (front_is_poll d.queue) (ended d) (failed d) (clean-ended d d.queue k) (clean-failed d k)
-clean-frame_sent Broken d k = two (front_is_poll d.queue) (record d { class = Retry }) (failed d) k (clean-failed d k)
+clean-frame_sent Unacked d k = two (front_is_poll d.queue) (after_front d) (after_failure d) (clean-ended d d.queue k) (clean-failed d k)
+clean-frame_sent Broken d k = two (front_is_poll d.queue) (record d { class = Retry }) (after_failure d) k (clean-failed d k)
 
 pub clean-sent : (limit at : ℕ) (fate : Fate) (d : State) (place : Place) → d.place ≡ place → clean_at place d.queue ≡ true
     → is_clear (sent_by limit d fate at (polled_at place)) ≡ true
 clean-sent limit at fate d Off e k = clean-frame_sent fate d (rw e k)
 clean-sent limit at fate d (Settled first second) e k = clean-frame_sent fate d (rw e k)
 clean-sent limit at fate d (Polls found a) e k =
-    clean-reported limit at (record d { place = stepped d.kind d.place fate; poll_ready = at; class = class_of_poll fate })
-    (none-clean (stepped d.kind d.place fate) d.queue k)
+    clean-reported limit at (record d { place = place_after_fate d.kind d.place fate; poll_ready = at; class = class_of_poll fate })
+    (none-clean (place_after_fate d.kind d.place fate) d.queue k)
 
 -- a test before something is queued
 kept_then : (b : Bool) (x d : State) → is_clear d ≡ true → (b ≡ true → is_clear x ≡ true) → is_clear (if b then x else d) ≡ true
@@ -147,14 +147,14 @@ below_15 n h = grind (arith, nat_tests)
 
 clean-say : (limit : ℕ) (h : Heard) (s : Say) (d : State) → is_clear d ≡ true → is_clear (say limit h s d) ≡ true
 clean-say limit h (Reply bytes) d k =
-    kept_then (nat_lt h.from 15) (queued limit h.at (source d.place h.to) h.from bytes d) d k
+    kept_then (nat_lt h.from 15) (with_queued limit h.at (source d.place h.to) h.from bytes d) d k
     (λ e. clean-queued limit h.at (source d.place h.to) h.from bytes d (below_15 h.from e) k)
 clean-say limit h (Cast bytes) d k = clean-queued limit h.at (source d.place h.to) 15 bytes d (lit< tt) k
 clean-say limit h (Tell to bytes) d k =
-    kept_then (nat_lt to 15) (queued limit h.at (source d.place h.to) to bytes d) d k
+    kept_then (nat_lt to 15) (with_queued limit h.at (source d.place h.to) to bytes d) d k
     (λ e. clean-queued limit h.at (source d.place h.to) to bytes d (below_15 to e) k)
 clean-say limit h (Refuse reason) d k =
-    kept_then (nat_lt h.to 15 && (nat_lt h.from 15 && not (h.opcode == 0))) (queued limit h.at (source d.place h.to) h.from (0x00 ∷ h.opcode ∷ reason_byte reason ∷ []) d) d k
+    kept_then (nat_lt h.to 15 && (nat_lt h.from 15 && not (h.opcode == 0))) (with_queued limit h.at (source d.place h.to) h.from (0x00 ∷ h.opcode ∷ reason_byte reason ∷ []) d) d k
     (λ e. clean-queued limit h.at (source d.place h.to) h.from (0x00 ∷ h.opcode ∷ reason_byte reason ∷ []) d
     (below_15 h.from (and_left (nat_lt h.from 15) (not (h.opcode == 0)) (and_right (nat_lt h.to 15) (nat_lt h.from 15 && not (h.opcode == 0)) e))) k)
 
@@ -162,7 +162,7 @@ clean-say_all : (limit : ℕ) (h : Heard) (says : List Say) (d : State) → is_c
 clean-say_all limit h [] d k = k
 clean-say_all limit h (s ∷ says) d k = clean-say_all limit h says (say limit h s d) (clean-say limit h s d k)
 
-clean-effected : (limit : ℕ) (h : Heard) (e : Effect) (d : State) → is_clear d ≡ true → is_clear (effected limit h e d) ≡ true
+clean-effected : (limit : ℕ) (h : Heard) (e : Effect) (d : State) → is_clear d ≡ true → is_clear (after_effect limit h e d) ≡ true
 clean-effected limit h e d k = clean-say_all limit h e.says (record d { record_of = e.after }) k
 
 clean-decoded : (limit : ℕ) (h : Heard) (d : State) (said : Decoded) → is_clear d ≡ true → is_clear (by_decoded limit h d said) ≡ true
@@ -171,7 +171,7 @@ clean-decoded limit h d (NoName opcode) k = clean-effected limit h (refuses d.re
 clean-decoded limit h d (Short opcode) k = k
 clean-decoded limit h d Poll k = k
 
-pub clean-followed : (limit at : ℕ) (frame : List ℕ) (d : State) → is_clear d ≡ true → is_clear (followed limit d frame at) ≡ true
+pub clean-followed : (limit at : ℕ) (frame : List ℕ) (d : State) → is_clear d ≡ true → is_clear (after_frame limit d frame at) ≡ true
 clean-followed limit at [] d k = k
 clean-followed limit at (header ∷ []) d k = k
 clean-followed limit at (header ∷ opcode ∷ operands) d k =
@@ -223,18 +223,18 @@ place_then true x d h = h
 place_then false x d h = refl
 
 say-place : (limit : ℕ) (h : Heard) (s : Say) (d : State) → (say limit h s d).place ≡ d.place
-say-place limit h (Reply bytes) d = place_then (nat_lt h.from 15) (queued limit h.at (source d.place h.to) h.from bytes d) d (queued-place limit h.at (source d.place h.to) h.from bytes d)
+say-place limit h (Reply bytes) d = place_then (nat_lt h.from 15) (with_queued limit h.at (source d.place h.to) h.from bytes d) d (queued-place limit h.at (source d.place h.to) h.from bytes d)
 say-place limit h (Cast bytes) d = queued-place limit h.at (source d.place h.to) 15 bytes d
-say-place limit h (Tell to bytes) d = place_then (nat_lt to 15) (queued limit h.at (source d.place h.to) to bytes d) d (queued-place limit h.at (source d.place h.to) to bytes d)
+say-place limit h (Tell to bytes) d = place_then (nat_lt to 15) (with_queued limit h.at (source d.place h.to) to bytes d) d (queued-place limit h.at (source d.place h.to) to bytes d)
 say-place limit h (Refuse reason) d =
-    place_then (nat_lt h.to 15 && (nat_lt h.from 15 && not (h.opcode == 0))) (queued limit h.at (source d.place h.to) h.from (0x00 ∷ h.opcode ∷ reason_byte reason ∷ []) d) d
+    place_then (nat_lt h.to 15 && (nat_lt h.from 15 && not (h.opcode == 0))) (with_queued limit h.at (source d.place h.to) h.from (0x00 ∷ h.opcode ∷ reason_byte reason ∷ []) d) d
     (queued-place limit h.at (source d.place h.to) h.from (0x00 ∷ h.opcode ∷ reason_byte reason ∷ []) d)
 
 say_all-place : (limit : ℕ) (h : Heard) (says : List Say) (d : State) → (say_all limit h says d).place ≡ d.place
 say_all-place limit h [] d = refl
 say_all-place limit h (s ∷ says) d = say_all-place limit h says (say limit h s d) ∙ say-place limit h s d
 
-effected-place : (limit : ℕ) (h : Heard) (e : Effect) (d : State) → (effected limit h e d).place ≡ d.place
+effected-place : (limit : ℕ) (h : Heard) (e : Effect) (d : State) → (after_effect limit h e d).place ≡ d.place
 effected-place limit h e d = say_all-place limit h e.says (record d { record_of = e.after })
 
 decoded-place : (limit : ℕ) (h : Heard) (d : State) (said : Decoded) → (by_decoded limit h d said).place ≡ d.place
@@ -243,7 +243,7 @@ decoded-place limit h d (NoName opcode) = effected-place limit h (refuses d.reco
 decoded-place limit h d (Short opcode) = refl
 decoded-place limit h d Poll = refl
 
-followed-place : (limit at : ℕ) (frame : List ℕ) (d : State) → (followed limit d frame at).place ≡ d.place
+followed-place : (limit at : ℕ) (frame : List ℕ) (d : State) → (after_frame limit d frame at).place ≡ d.place
 followed-place limit at [] d = refl
 followed-place limit at (header ∷ []) d = refl
 followed-place limit at (header ∷ opcode ∷ operands) d =

@@ -9,11 +9,11 @@ use Rattle.cec_device.specs.declared.place.Place.{Place}
 use Rattle.cec_device.specs.declared.place.Place.TheVariants.{Off, Polls, Settled}
 use Rattle.cec_frame.specs.declared.Fate.{Fate}
 use Rattle.cec_frame.specs.declared.Fate.TheVariants.{Delivered, Unacked, Lost, Broken}
-use Rattle.cec_device.specs.State.{State, held, holds, is_held}
+use Rattle.cec_device.specs.State.{State, addresses_held, holds, is_held}
 use Rattle.cec_feature.specs.Kinds.{addresses, is_in, is_nowhere, players, recorders, second_addresses}
-use Rattle.cec_device.specs.Place.{begins, joined, list_of, polled_at, sent, settles, start_place, stepped, submit_fault, submitted, tries, tries_after, unplaced}
-use Rattle.cec_device.specs.Effects.{followed}
-use Rattle.cec_device.specs.Keys.{key_fault, keyed}
+use Rattle.cec_device.specs.Place.{begins, after_joining, list_of, polled_at, after_sending, settles, start_place, place_after_fate, submit_fault, after_submission, tries, tries_after, unregistered}
+use Rattle.cec_device.specs.Effects.{after_frame}
+use Rattle.cec_device.specs.Keys.{key_fault, after_key}
 use Rattle.cec_device.specs.Listed.{HoldsListed, is_listed, listed_at, may_take, unit_addresses}
 use Rattle.cec_device.proofs.CleanLemmas.{keeps_place}
 use Rattle.cec_device.proofs.NumberLemmas.{followed-same, joined-same, keyed-same, sent-same, submitted-same}
@@ -110,7 +110,7 @@ list_own : (kind : Kind) (found : Option ℕ) → list_all (is_in (list_of kind 
 list_own kind None = first_own kind
 list_own kind (Some first) = second_own kind
 
-step_listed : (kind : Kind) (place : Place) (fate : Fate) → listed_at kind place ≡ true → listed_at kind (stepped kind place fate) ≡ true
+step_listed : (kind : Kind) (place : Place) (fate : Fate) → listed_at kind place ≡ true → listed_at kind (place_after_fate kind place fate) ≡ true
 step_listed kind Off fate h = refl
 step_listed kind (Settled first second) fate h = h
 step_listed kind (Polls found a) Unacked h =
@@ -120,7 +120,7 @@ step_listed kind (Polls found a) Delivered h = tried_after_listed kind found a (
 step_listed kind (Polls found a) Lost h = h
 step_listed kind (Polls found a) Broken h = h
 
-unplaced_listed : (kind : Kind) → listed_at kind (unplaced (second_addresses kind)) ≡ true
+unplaced_listed : (kind : Kind) → listed_at kind (unregistered (second_addresses kind)) ≡ true
 unplaced_listed Tv = refl
 unplaced_listed Recorder = refl
 unplaced_listed Player = refl
@@ -131,7 +131,7 @@ unplaced_listed Outside = refl
 
 start_listed : (kind : Kind) (phys : Phys) → listed_at kind (start_place kind phys) ≡ true
 start_listed kind phys =
-    pick kind (is_nowhere phys) (unplaced (second_addresses kind)) (tries kind None (addresses kind)) (unplaced_listed kind)
+    pick kind (is_nowhere phys) (unregistered (second_addresses kind)) (tries kind None (addresses kind)) (unplaced_listed kind)
     (tried_listed kind None (addresses kind) tt (first_own kind))
 
 -- a state of the same kind at a place that is listed
@@ -149,7 +149,7 @@ own list a low h =
 some_same : (a b : ℕ) → Some (Some a) ≡ Some (Some b) → a ≡ b
 some_same a b e = cc
 
-held_listed : (kind : Kind) (place : Place) (unit a : ℕ) → listed_at kind place ≡ true → slice_get (held place) unit ≡ Some (Some a) → a < 15
+held_listed : (kind : Kind) (place : Place) (unit a : ℕ) → listed_at kind place ≡ true → slice_get (addresses_held place) unit ≡ Some (Some a) → a < 15
     → is_in (unit_addresses kind unit) a ≡ true
 held_listed kind Off zero a l e low = cc
 held_listed kind Off (suc zero) a l e low = cc
@@ -186,13 +186,13 @@ lists_apart Switch a h k = cc
 lists_apart Outside a h k = cc
 lists_apart Combo a h k = let e = no_recorder a (players_are a k) in cc
 
-past_two : (place : Place) (unit a : ℕ) → slice_get (held place) (suc (suc unit)) ≡ Some (Some a) → ⊥
+past_two : (place : Place) (unit a : ℕ) → slice_get (addresses_held place) (suc (suc unit)) ≡ Some (Some a) → ⊥
 past_two Off unit a e = cc
 past_two (Polls found b) unit a e = cc
 past_two (Settled first second) unit a e = cc
 
-held_apart : (kind : Kind) (place : Place) (unit other a : ℕ) → listed_at kind place ≡ true → slice_get (held place) unit ≡ Some (Some a)
-    → slice_get (held place) other ≡ Some (Some a) → a < 15 → unit ≡ other
+held_apart : (kind : Kind) (place : Place) (unit other a : ℕ) → listed_at kind place ≡ true → slice_get (addresses_held place) unit ≡ Some (Some a)
+    → slice_get (addresses_held place) other ≡ Some (Some a) → a < 15 → unit ≡ other
 held_apart kind place zero zero a l e f low = refl
 held_apart kind place (suc zero) (suc zero) a l e f low = refl
 held_apart kind place zero (suc zero) a l e f low =
@@ -218,7 +218,7 @@ second_of_two true y h = refl
 second_of_two false true h = refl
 second_of_two false false h = cc
 
-unit_holds : (place : Place) (unit a : ℕ) → slice_get (held place) unit ≡ Some (Some a) → a < 15 → holds place a ≡ true
+unit_holds : (place : Place) (unit a : ℕ) → slice_get (addresses_held place) unit ≡ Some (Some a) → a < 15 → holds place a ≡ true
 unit_holds Off zero a e low = cc
 unit_holds Off (suc zero) a e low = cc
 unit_holds (Polls None b) zero a e low = cc
@@ -232,15 +232,15 @@ unit_holds place (suc (suc unit)) a e low = absurd (past_two place unit a e)
 pub holds_listed : HoldsListed
 holds_listed = record {
   leaving = λ d. refl;
-  joining = λ limit number at phys d. at_place (joined limit d number phys at) d.kind (start_place d.kind phys) (joined-same limit number at phys d).1
+  joining = λ limit number at phys d. at_place (after_joining limit d number phys at) d.kind (start_place d.kind phys) (joined-same limit number at phys d).1
       (place_goes_by_fates.joining limit number at phys d) (start_listed d.kind phys);
-  telling = λ limit at fate d h. at_place (sent limit d fate at) d.kind (stepped d.kind d.place fate) (sent-same limit at fate d (polled_at d.place)).1
+  telling = λ limit at fate d h. at_place (after_sending limit d fate at) d.kind (place_after_fate d.kind d.place fate) (sent-same limit at fate d (polled_at d.place)).1
       (place_goes_by_fates.telling limit at fate d) (step_listed d.kind d.place fate h);
   waiting = λ d h. h;
-  submitting = λ limit at frame d h. at_place (submitted limit d frame at) d.kind d.place (submitted-same d frame at (submit_fault limit d frame)).1
+  submitting = λ limit at frame d h. at_place (after_submission limit d frame at) d.kind d.place (submitted-same d frame at (submit_fault limit d frame)).1
       (keeps_place.submitting limit at frame d) h;
-  following = λ limit at frame d h. at_place (followed limit d frame at) d.kind d.place (followed-same limit at frame d).1 (keeps_place.following limit at frame d) h;
-  keying = λ limit at key press d h. at_place (keyed limit d key press at) d.kind d.place (keyed-same limit at key press d (key_fault d key)).1
+  following = λ limit at frame d h. at_place (after_frame limit d frame at) d.kind d.place (followed-same limit at frame d).1 (keeps_place.following limit at frame d) h;
+  keying = λ limit at key press d h. at_place (after_key limit d key press at) d.kind d.place (keyed-same limit at key press d (key_fault d key)).1
       (keeps_place.keying limit at key press d) h;
   holding = λ d unit a l e low. held_listed d.kind d.place unit a l e low;
   apart = λ d unit other a l e f low. held_apart d.kind d.place unit other a l e f low;

@@ -15,10 +15,10 @@ use Rattle.cec_device.specs.declared.outside.Act.TheVariants.{Hold, Empty}
 use Rattle.cec_opcode.specs.Table.{decoded_of, may_go, rule_of}
 use Rattle.cec_feature.specs.Effects.{heard_of}
 use Rattle.cec_device.specs.State.{State, holds}
-use Rattle.cec_device.specs.Place.{fresh, is_off, is_on_wire, joined, reported, start_place, tries, unplaced}
-use Rattle.cec_device.specs.Effects.{by_decoded, followed}
-use Rattle.cec_device.specs.Keys.{keyed, keyed_by}
-use Rattle.cec_device.specs.Outside.{acted, acted_by, OnlyOutside}
+use Rattle.cec_device.specs.Place.{fresh, is_off, is_on_wire, after_joining, with_reports, start_place, tries, unregistered}
+use Rattle.cec_device.specs.Effects.{by_decoded, after_frame}
+use Rattle.cec_device.specs.Keys.{after_key, keyed_by}
+use Rattle.cec_device.specs.Outside.{after_act, acted_by, OnlyOutside}
 use Rattle.cec_device.proofs.PlaceLemmas.{place_goes_by_fates}
 
 from_outside : (kind : Kind) → is_outside kind ≡ true → kind ≡ Outside
@@ -32,7 +32,7 @@ from_outside Outside e = refl
 
 -- ---- what it is told
 
-acting : (d : State) (act : Act) → is_outside d.kind ≡ false → acted d act ≡ d
+acting : (d : State) (act : Act) → is_outside d.kind ≡ false → after_act d act ≡ d
 acting d act e = by (is_off d.place) (is_outside d.kind) e
   where
     by : (off outside : Bool) → outside ≡ false → acted_by d (if off then Some OffWire else (if outside then None else Some NotForKind)) act ≡ d
@@ -40,7 +40,7 @@ acting d act e = by (is_off d.place) (is_outside d.kind) e
     by false false h = refl
     by false true h = cc
 
-number : (d : State) (act : Act) → (acted d act).number ≡ d.number
+number : (d : State) (act : Act) → (after_act d act).number ≡ d.number
 number d act = by (is_off d.place) (is_outside d.kind) act
   where
     by : (off outside : Bool) (act : Act) → (acted_by d (if off then Some OffWire else (if outside then None else Some NotForKind)) act).number ≡ d.number
@@ -49,7 +49,7 @@ number d act = by (is_off d.place) (is_outside d.kind) act
     by false true (Hold first second) = refl
     by false true Empty = refl
 
-pub acted-kind : (d : State) (act : Act) → (acted d act).kind ≡ d.kind
+pub acted-kind : (d : State) (act : Act) → (after_act d act).kind ≡ d.kind
 acted-kind d act = by (is_off d.place) (is_outside d.kind) act
   where
     by : (off outside : Bool) (act : Act) → (acted_by d (if off then Some OffWire else (if outside then None else Some NotForKind)) act).kind ≡ d.kind
@@ -58,7 +58,7 @@ acted-kind d act = by (is_off d.place) (is_outside d.kind) act
     by false true (Hold first second) = refl
     by false true Empty = refl
 
-wire : (d : State) (act : Act) → is_on_wire (acted d act) ≡ is_on_wire d
+wire : (d : State) (act : Act) → is_on_wire (after_act d act) ≡ is_on_wire d
 wire d act = by (is_off d.place) (is_outside d.kind) act refl
   where
     by : (off outside : Bool) (act : Act) → is_off d.place ≡ off
@@ -70,7 +70,7 @@ wire d act = by (is_off d.place) (is_outside d.kind) act refl
 
 -- ---- what it does not do
 
-following : (limit at : ℕ) (frame : List ℕ) (d : State) → is_outside d.kind ≡ true → followed limit d frame at ≡ d
+following : (limit at : ℕ) (frame : List ℕ) (d : State) → is_outside d.kind ≡ true → after_frame limit d frame at ≡ d
 following limit at [] d e = refl
 following limit at (header ∷ []) d e = refl
 following limit at (header ∷ opcode ∷ operands) d e =
@@ -96,7 +96,7 @@ no_key ports (Volume key) = refl
 no_key ports (Language language) = refl
 no_key ports (Remote to code) = refl
 
-keying : (limit at : ℕ) (key : Key) (press : Bool) (d : State) → is_outside d.kind ≡ true → keyed limit d key press at ≡ d
+keying : (limit at : ℕ) (key : Key) (press : Bool) (d : State) → is_outside d.kind ≡ true → after_key limit d key press at ≡ d
 keying limit at key press d e =
     by (is_off d.place) (has_key d.kind d.ports key) (ap (λ (k : Kind). has_key k d.ports key) (from_outside d.kind e) ∙ no_key d.ports key)
   where
@@ -108,15 +108,15 @@ keying limit at key press d e =
 joining-place : (phys : Phys) → start_place Outside phys ≡ Settled 15 None
 joining-place phys = by (is_nowhere phys)
   where
-    by : (b : Bool) → (if b then unplaced (second_addresses Outside) else tries Outside None (addresses Outside)) ≡ Settled 15 None
+    by : (b : Bool) → (if b then unregistered (second_addresses Outside) else tries Outside None (addresses Outside)) ≡ Settled 15 None
     by true = refl
     by false = refl
 
 joining-queue : (limit number at : ℕ) (phys : Phys) (d : State) (kind : Kind) → kind ≡ Outside
-    → (reported limit at (record (fresh kind d.name d.ports) { number = number; phys = phys; place = start_place kind phys; poll_ready = at })).queue ≡ []
+    → (with_reports limit at (record (fresh kind d.name d.ports) { number = number; phys = phys; place = start_place kind phys; poll_ready = at })).queue ≡ []
 joining-queue limit number at phys d kind e =
-    let P : Kind → Type 0 = λ k. (reported limit at (record (fresh k d.name d.ports) { number = number; phys = phys; place = start_place k phys; poll_ready = at })).queue ≡ [] in
-    let Q : Place → Type 0 = λ p. (reported limit at (record (fresh Outside d.name d.ports) { number = number; phys = phys; place = p; poll_ready = at })).queue ≡ [] in
+    let P : Kind → Type 0 = λ k. (with_reports limit at (record (fresh k d.name d.ports) { number = number; phys = phys; place = start_place k phys; poll_ready = at })).queue ≡ [] in
+    let Q : Place → Type 0 = λ p. (with_reports limit at (record (fresh Outside d.name d.ports) { number = number; phys = phys; place = p; poll_ready = at })).queue ≡ [] in
     subst P (sym e) (subst Q (sym (joining-place phys)) refl)
 
 pub only_outside : OnlyOutside

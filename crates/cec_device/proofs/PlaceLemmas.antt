@@ -8,7 +8,7 @@ use Rattle.cec_frame.specs.declared.Fate.{Fate}
 use Rattle.cec_frame.specs.declared.Fate.TheVariants.{Delivered, Unacked, Lost, Broken}
 use Rattle.cec_device.specs.State.{State}
 use Rattle.cec_feature.specs.Kinds.{addresses, players, second_addresses}
-use Rattle.cec_device.specs.Place.{class_of_poll, place_after, polled_at, searched, second_after, sent_by, settles, stepped, tries}
+use Rattle.cec_device.specs.Place.{class_of_poll, place_after, polled_at, place_after_search, second_after, sent_by, settles, place_after_fate, tries}
 use Rattle.cec_device.proofs.OnceLemmas.{frame_sent-place, reported-place}
 use Rattle.cec_device.proofs.NumberLemmas.{put_on}
 use Rattle.cec_device.specs.PlaceLaw.{place_told, PlaceGoesByFates}
@@ -24,11 +24,11 @@ Goes kind found then = (a : ℕ) (fates : List Fate) → place_told kind (settle
 
 -- a unit's search from some addresses on
 abbrev Searches : Kind → Option ℕ → (ℕ → List Fate → Place) → ℕ → List ℕ → Type 0
-Searches kind found then a rest = (fates : List Fate) → place_told kind (Polls found a) fates ≡ searched (λ b. Polls found b) then (a ∷ rest) fates
+Searches kind found then a rest = (fates : List Fate) → place_told kind (Polls found a) fates ≡ place_after_search (λ b. Polls found b) then (a ∷ rest) fates
 
 -- the last address of a list, and one before the others
 last : (kind : Kind) (found : Option ℕ) (then : ℕ → List Fate → Place) → Goes kind found then → (a : ℕ)
-    → stepped kind (Polls found a) Delivered ≡ settles kind found 15 → Searches kind found then a []
+    → place_after_fate kind (Polls found a) Delivered ≡ settles kind found 15 → Searches kind found then a []
 last kind found then goes a e [] = refl
 last kind found then goes a e (Unacked ∷ fates) = goes a fates
 last kind found then goes a e (Delivered ∷ fates) = rw e (goes 15 fates)
@@ -36,7 +36,7 @@ last kind found then goes a e (Lost ∷ fates) = last kind found then goes a e f
 last kind found then goes a e (Broken ∷ fates) = last kind found then goes a e fates
 
 before : (kind : Kind) (found : Option ℕ) (then : ℕ → List Fate → Place) → Goes kind found then → (a b : ℕ) (rest : List ℕ)
-    → stepped kind (Polls found a) Delivered ≡ Polls found b → Searches kind found then b rest → Searches kind found then a (b ∷ rest)
+    → place_after_fate kind (Polls found a) Delivered ≡ Polls found b → Searches kind found then b rest → Searches kind found then a (b ∷ rest)
 before kind found then goes a b rest e next [] = refl
 before kind found then goes a b rest e next (Unacked ∷ fates) = goes a fates
 before kind found then goes a b rest e next (Delivered ∷ fates) = rw e (next fates)
@@ -71,12 +71,12 @@ by_all Combo =
 
 -- a fate moves a device that polls, by a step
 told-place : (limit at : ℕ) (fate : Fate) (d : State) (place : Place) → d.place ≡ place
-    → (sent_by limit d fate at (polled_at place)).place ≡ stepped d.kind place fate
+    → (sent_by limit d fate at (polled_at place)).place ≡ place_after_fate d.kind place fate
 told-place limit at fate d Off e = frame_sent-place d fate ∙ e
 told-place limit at fate d (Settled first second) e = frame_sent-place d fate ∙ e
 told-place limit at fate d (Polls found a) e =
-    reported-place limit at (record d { place = stepped d.kind d.place fate; poll_ready = at; class = class_of_poll fate })
-    ∙ ap (λ (p : Place). stepped d.kind p fate) e
+    reported-place limit at (record d { place = place_after_fate d.kind d.place fate; poll_ready = at; class = class_of_poll fate })
+    ∙ ap (λ (p : Place). place_after_fate d.kind p fate) e
 
 pub place_goes_by_fates : PlaceGoesByFates
 place_goes_by_fates = record {

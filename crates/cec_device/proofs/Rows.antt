@@ -12,16 +12,16 @@ use Rattle.cec_feature.specs.declared.keys.VolumeKey.TheVariants.{Mute}
 use Rattle.cec_device.specs.declared.keys.KeyError.TheVariants.{NotForKind, OffWire}
 use Rattle.cec_device.specs.declared.device.Queued.{Queued}
 use Rattle.cec_device.specs.State.{State}
-use Rattle.cec_device.specs.Place.{fresh, joined, sent, left, front_of}
-use Rattle.cec_device.specs.Effects.{followed}
-use Rattle.cec_device.specs.Keys.{keyed, key_fault}
+use Rattle.cec_device.specs.Place.{fresh, after_joining, after_sending, after_leaving, front_of}
+use Rattle.cec_device.specs.Effects.{after_frame}
+use Rattle.cec_device.specs.Keys.{after_key, key_fault}
 
 -- a device that has settled at an address, as new
 abbrev device : Kind → ℕ → State
 device kind a = record (fresh kind (0x70 ∷ 0x31 ∷ []) 0) { phys = record { high = 0x10; low = 0x00 }; place = Settled a None }
 
 abbrev after : State → List (List ℕ) → State
-after d frames = fold (λ (s : State) (frame : List ℕ). followed 16 s frame 0) d frames
+after d frames = fold (λ (s : State) (frame : List ℕ). after_frame 16 s frame 0) d frames
 
 abbrev queue : State → List (List ℕ)
 queue d = map (λ (q : Queued). q.frame) d.queue
@@ -58,7 +58,7 @@ row-12 : queue (after (device Player 4) ((0x04 ∷ 0x33 ∷ []) ∷ (0x0f ∷ 0x
     ≡ (0x40 ∷ 0x00 ∷ 0x33 ∷ 0x00 ∷ []) ∷ (0x40 ∷ 0x00 ∷ 0xff ∷ 0x00 ∷ []) ∷ (0x40 ∷ 0x00 ∷ 0x41 ∷ 0x03 ∷ []) ∷ []
 row-12 = refl
 
-player-plays : queue (keyed 16 (device Player 4) Play true 0) ≡ (0x40 ∷ 0x04 ∷ []) ∷ (0x4f ∷ 0x82 ∷ 0x10 ∷ 0x00 ∷ []) ∷ []
+player-plays : queue (after_key 16 (device Player 4) Play true 0) ≡ (0x40 ∷ 0x04 ∷ []) ∷ (0x4f ∷ 0x82 ∷ 0x10 ∷ 0x00 ∷ []) ∷ []
 player-plays = refl
 
 -- ---- the queue
@@ -71,14 +71,14 @@ unfolding names
 seventeen = (refl, refl)
 
 -- one place is left: the Active Source is dropped
-one_place : ((keyed 16 (names 15) Play true 0).dropped ≡ 1) × (length (keyed 16 (names 15) Play true 0).queue ≡ 16)
+one_place : ((after_key 16 (names 15) Play true 0).dropped ≡ 1) × (length (after_key 16 (names 15) Play true 0).queue ≡ 16)
 unfolding names
 one_place = (refl, refl)
 
 -- ---- keys
 
 abbrev keys : State → List (Key × Bool) → State
-keys d presses = fold (λ (s : State) (p : Key × Bool). keyed 16 s p.0 p.1 0) d presses
+keys d presses = fold (λ (s : State) (p : Key × Bool). after_key 16 s p.0 p.1 0) d presses
 
 abbrev switch : State
 switch = record (fresh Switch (0x73 ∷ []) 3) { phys = record { high = 0x10; low = 0x00 }; place = Settled 15 None }
@@ -86,7 +86,7 @@ switch = record (fresh Switch (0x73 ∷ []) 3) { phys = record { high = 0x10; lo
 switch-port : queue (keys switch ((Port 2, true) ∷ (Port 2, true) ∷ (Port 1, false) ∷ [])) ≡ (0xff ∷ 0x80 ∷ 0x11 ∷ 0x00 ∷ 0x12 ∷ 0x00 ∷ []) ∷ []
 switch-port = refl
 
-switch-refuses : (key_fault switch (Port 4) ≡ Some NotForKind) × (key_fault switch Play ≡ Some NotForKind) × (key_fault (left switch) Play ≡ Some OffWire)
+switch-refuses : (key_fault switch (Port 4) ≡ Some NotForKind) × (key_fault switch Play ≡ Some NotForKind) × (key_fault (after_leaving switch) Play ≡ Some OffWire)
 switch-refuses = (refl, refl, refl)
 
 tv-keys : queue (keys (device Tv 0) ((Watch (record { high = 0x10; low = 0x00 }), true) ∷ (Audio true, true) ∷ (Remote 4 PlayCode, true) ∷ (Remote 4 PlayCode, false)
@@ -101,13 +101,13 @@ player-sleeps = refl
 -- ---- allocation
 
 abbrev new-player : State
-new-player = joined 16 (fresh Player (0x70 ∷ []) 0) 1 (record { high = 0x10; low = 0x00 }) 0
+new-player = after_joining 16 (fresh Player (0x70 ∷ []) 0) 1 (record { high = 0x10; low = 0x00 }) 0
 
-player-polls : front_of (sent 16 (sent 16 new-player Delivered 0) Broken 0) ≡ Some (0x88 ∷ [])
+player-polls : front_of (after_sending 16 (after_sending 16 new-player Delivered 0) Broken 0) ≡ Some (0x88 ∷ [])
 player-polls = refl
 
-player-finds_none : (sent 16 (sent 16 (sent 16 new-player Delivered 0) Delivered 0) Delivered 0).place ≡ Settled 15 None
+player-finds_none : (after_sending 16 (after_sending 16 (after_sending 16 new-player Delivered 0) Delivered 0) Delivered 0).place ≡ Settled 15 None
 player-finds_none = refl
 
-player-says_nothing : front_of (sent 16 (sent 16 (sent 16 new-player Delivered 0) Delivered 0) Delivered 0) ≡ None
+player-says_nothing : front_of (after_sending 16 (after_sending 16 (after_sending 16 new-player Delivered 0) Delivered 0) Delivered 0) ≡ None
 player-says_nothing = refl

@@ -8,12 +8,12 @@ use Rattle.cec_feature.specs.declared.record.Heard.{Heard}
 use Rattle.cec_feature.specs.Effects.{effect_of, refuses, heard_of}
 use Rattle.cec_feature.specs.Kinds.{is_outside}
 use Rattle.cec_device.specs.State.{State, holds}
-use Rattle.cec_device.specs.Say.{effected}
+use Rattle.cec_device.specs.Say.{after_effect}
 
 -- what a frame says: too few operands, and a poll, do nothing
 abbrev pub by_decoded : ℕ → Heard → State → Decoded → State
-by_decoded limit h d (Known message) = effected limit h (effect_of d.kind d.phys d.name d.ports h d.record_of message) d
-by_decoded limit h d (NoName opcode) = effected limit h (refuses d.record_of Unrecognized) d
+by_decoded limit h d (Known message) = after_effect limit h (effect_of d.kind d.phys d.name d.ports h d.record_of message) d
+by_decoded limit h d (NoName opcode) = after_effect limit h (refuses d.record_of Unrecognized) d
 by_decoded limit h d _ = d
 
 -- a directly addressed frame is followed by who holds its destination, a broadcast by all (CEC 6.1), and each only as the
@@ -22,9 +22,9 @@ abbrev pub is_for : State → ℕ → ℕ → Bool
 is_for d to opcode = not (is_outside d.kind) && (may_go (rule_of opcode) to && ((to == 15) || holds d.place to))
 
 -- a device after a frame that came whole
-abbrev pub followed : ℕ → State → List ℕ → ℕ → State
-followed limit d (header ∷ opcode ∷ operands) at =
+abbrev pub after_frame : ℕ → State → List ℕ → ℕ → State
+after_frame limit d (header ∷ opcode ∷ operands) at =
     if is_for d (header % 16) opcode
     then by_decoded limit (heard_of header opcode operands at) d (decoded_of (header ∷ opcode ∷ operands))
     else d
-followed limit d _ at = d
+after_frame limit d _ at = d

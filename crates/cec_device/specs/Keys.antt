@@ -7,7 +7,7 @@ use Rattle.cec_device.specs.declared.keys.KeyError.{KeyError}
 use Rattle.cec_device.specs.declared.keys.KeyError.TheVariants.{NotForKind, OffWire}
 use Rattle.cec_device.specs.State.{State}
 use Rattle.cec_device.specs.Place.{is_off}
-use Rattle.cec_device.specs.Say.{effected}
+use Rattle.cec_device.specs.Say.{after_effect}
 
 -- a device's own doing, in answer to no frame
 abbrev pub own_doing : ℕ → Heard
@@ -19,9 +19,9 @@ key_fault d key = if is_off d.place then Some OffWire else (if has_key d.kind d.
 
 abbrev pub keyed_by : ℕ → State → Key → Bool → ℕ → Option KeyError → State
 keyed_by limit d key press at None =
-    effected limit (own_doing at) (if press then pressing d.kind d.phys d.record_of key else releasing d.kind d.record_of key) d
+    after_effect limit (own_doing at) (if press then pressing d.kind d.phys d.record_of key else releasing d.kind d.record_of key) d
 keyed_by limit d key press at (Some fault) = d
 
 -- A key is pressed or released. Where it is refused nothing changes.
-abbrev pub keyed : ℕ → State → Key → Bool → ℕ → State
-keyed limit d key press at = keyed_by limit d key press at (key_fault d key)
+abbrev pub after_key : ℕ → State → Key → Bool → ℕ → State
+after_key limit d key press at = keyed_by limit d key press at (key_fault d key)

@@ -8,10 +8,10 @@ use Rattle.cec_device.specs.declared.place.Place.TheVariants.{Off, Polls, Settle
 use Rattle.cec_frame.specs.declared.Fate.{Fate}
 use Rattle.cec_feature.specs.declared.keys.Key.{Key}
 use Rattle.cec_feature.specs.Kinds.{addresses, is_in, second_addresses}
-use Rattle.cec_device.specs.State.{State, held, holds}
-use Rattle.cec_device.specs.Place.{sent, waited, joined, left, submitted}
-use Rattle.cec_device.specs.Effects.{followed}
-use Rattle.cec_device.specs.Keys.{keyed}
+use Rattle.cec_device.specs.State.{State, addresses_held, holds}
+use Rattle.cec_device.specs.Place.{after_sending, after_waiting, after_joining, after_leaving, after_submission}
+use Rattle.cec_device.specs.Effects.{after_frame}
+use Rattle.cec_device.specs.Keys.{after_key}
 
 -- the addresses that a unit may take
 abbrev pub unit_addresses : Kind → ℕ → List ℕ
@@ -35,17 +35,17 @@ is_listed d = listed_at d.kind d.place
 
 -- each call keeps it, and who is so holds addresses of the lists alone
 pub record HoldsListed : Type 0 where
-  pub leaving : (d : State) → is_listed (left d) ≡ true
-  pub joining : (limit number at : ℕ) (phys : Phys) (d : State) → is_listed (joined limit d number phys at) ≡ true
-  pub telling : (limit at : ℕ) (fate : Fate) (d : State) → is_listed d ≡ true → is_listed (sent limit d fate at) ≡ true
-  pub waiting : (d : State) → is_listed d ≡ true → is_listed (waited d) ≡ true
-  pub submitting : (limit at : ℕ) (frame : List ℕ) (d : State) → is_listed d ≡ true → is_listed (submitted limit d frame at) ≡ true
-  pub following : (limit at : ℕ) (frame : List ℕ) (d : State) → is_listed d ≡ true → is_listed (followed limit d frame at) ≡ true
-  pub keying : (limit at : ℕ) (key : Key) (press : Bool) (d : State) → is_listed d ≡ true → is_listed (keyed limit d key press at) ≡ true
-  pub holding : (d : State) (unit a : ℕ) → is_listed d ≡ true → slice_get (held d.place) unit ≡ Some (Some a) → a < 15
+  pub leaving : (d : State) → is_listed (after_leaving d) ≡ true
+  pub joining : (limit number at : ℕ) (phys : Phys) (d : State) → is_listed (after_joining limit d number phys at) ≡ true
+  pub telling : (limit at : ℕ) (fate : Fate) (d : State) → is_listed d ≡ true → is_listed (after_sending limit d fate at) ≡ true
+  pub waiting : (d : State) → is_listed d ≡ true → is_listed (after_waiting d) ≡ true
+  pub submitting : (limit at : ℕ) (frame : List ℕ) (d : State) → is_listed d ≡ true → is_listed (after_submission limit d frame at) ≡ true
+  pub following : (limit at : ℕ) (frame : List ℕ) (d : State) → is_listed d ≡ true → is_listed (after_frame limit d frame at) ≡ true
+  pub keying : (limit at : ℕ) (key : Key) (press : Bool) (d : State) → is_listed d ≡ true → is_listed (after_key limit d key press at) ≡ true
+  pub holding : (d : State) (unit a : ℕ) → is_listed d ≡ true → slice_get (addresses_held d.place) unit ≡ Some (Some a) → a < 15
       → is_in (unit_addresses d.kind unit) a ≡ true
   -- no two lists of a kind have an address in common, so no two units of a device hold the same one
-  pub apart : (d : State) (unit other a : ℕ) → is_listed d ≡ true → slice_get (held d.place) unit ≡ Some (Some a)
-      → slice_get (held d.place) other ≡ Some (Some a) → a < 15 → unit ≡ other
+  pub apart : (d : State) (unit other a : ℕ) → is_listed d ≡ true → slice_get (addresses_held d.place) unit ≡ Some (Some a)
+      → slice_get (addresses_held d.place) other ≡ Some (Some a) → a < 15 → unit ≡ other
   -- what a unit holds below 15 the device holds
-  pub units : (place : Place) (unit a : ℕ) → slice_get (held place) unit ≡ Some (Some a) → a < 15 → holds place a ≡ true
+  pub units : (place : Place) (unit a : ℕ) → slice_get (addresses_held place) unit ≡ Some (Some a) → a < 15 → holds place a ≡ true

@@ -11,9 +11,9 @@ use Rattle.cec_device.specs.declared.outside.Act.TheVariants.{Hold, Empty}
 use Rattle.cec_feature.specs.declared.keys.Key.{Key}
 use Rattle.cec_feature.specs.Kinds.{is_outside}
 use Rattle.cec_device.specs.State.{State}
-use Rattle.cec_device.specs.Place.{is_off, is_on_wire, joined}
-use Rattle.cec_device.specs.Effects.{followed}
-use Rattle.cec_device.specs.Keys.{keyed}
+use Rattle.cec_device.specs.Place.{is_off, is_on_wire, after_joining}
+use Rattle.cec_device.specs.Effects.{after_frame}
+use Rattle.cec_device.specs.Keys.{after_key}
 
 -- why an act is refused, the first reason
 abbrev pub act_fault : State → Option KeyError
@@ -30,16 +30,16 @@ acted_by d None Empty = record d { queue = []; attempts = 0; class = class_after
 acted_by d (Some fault) act = d
 
 -- It holds other addresses, or drops what it has queued. Where that is refused nothing changes.
-abbrev pub acted : State → Act → State
-acted d act = acted_by d (act_fault d) act
+abbrev pub after_act : State → Act → State
+after_act d act = acted_by d (act_fault d) act
 
 -- Only a device from outside does what it is told so; it follows nothing, has no keys, and says nothing by itself.
 pub record OnlyOutside : Type 0 where
-  pub acting : (d : State) (act : Act) → is_outside d.kind ≡ false → acted d act ≡ d
-  pub following : (limit at : ℕ) (frame : List ℕ) (d : State) → is_outside d.kind ≡ true → followed limit d frame at ≡ d
-  pub keying : (limit at : ℕ) (key : Key) (press : Bool) (d : State) → is_outside d.kind ≡ true → keyed limit d key press at ≡ d
+  pub acting : (d : State) (act : Act) → is_outside d.kind ≡ false → after_act d act ≡ d
+  pub following : (limit at : ℕ) (frame : List ℕ) (d : State) → is_outside d.kind ≡ true → after_frame limit d frame at ≡ d
+  pub keying : (limit at : ℕ) (key : Key) (press : Bool) (d : State) → is_outside d.kind ≡ true → after_key limit d key press at ≡ d
   pub joining : (limit number at : ℕ) (phys : Phys) (d : State) → is_outside d.kind ≡ true
-      → ((joined limit d number phys at).place ≡ Settled 15 None) × ((joined limit d number phys at).queue ≡ [])
+      → ((after_joining limit d number phys at).place ≡ Settled 15 None) × ((after_joining limit d number phys at).queue ≡ [])
   -- what it is told changes neither its number, nor whether it is on the wire
-  pub number : (d : State) (act : Act) → (acted d act).number ≡ d.number
-  pub wire : (d : State) (act : Act) → is_on_wire (acted d act) ≡ is_on_wire d
+  pub number : (d : State) (act : Act) → (after_act d act).number ≡ d.number
+  pub wire : (d : State) (act : Act) → is_on_wire (after_act d act) ≡ is_on_wire d

@@ -15,7 +15,7 @@ use Rattle.cec_device.specs.declared.device.SubmitError.{SubmitError}
 use Rattle.cec_device.specs.declared.device.SubmitError.TheVariants.{QueueFull, OwnAddress, NoAddress, OffWire}
 use Rattle.cec_feature.specs.Kinds.{addresses, is_nowhere, is_outside, is_switch, second_addresses, type_of}
 use Rattle.cec_feature.specs.Fresh.{fresh_record}
-use Rattle.cec_device.specs.State.{State, held, holds, queued}
+use Rattle.cec_device.specs.State.{State, addresses_held, holds, with_queued}
 
 -- ---- logical address allocation (CEC 10.2.1), unit after unit (own: a box has two)
 
@@ -45,42 +45,42 @@ list_of kind None = addresses kind
 list_of kind (Some first) = second_addresses kind
 
 -- where a device stands after the fate of a poll
-abbrev pub polled : Kind → Option ℕ → ℕ → Fate → Place
-polled kind found a Unacked = settles kind found a
-polled kind found a Delivered = tries_after kind found a (list_of kind found)
-polled kind found a _ = Polls found a
+abbrev pub place_after_poll : Kind → Option ℕ → ℕ → Fate → Place
+place_after_poll kind found a Unacked = settles kind found a
+place_after_poll kind found a Delivered = tries_after kind found a (list_of kind found)
+place_after_poll kind found a _ = Polls found a
 
 -- The same by all fates so far: an address whose poll was unacknowledged is held, each one before it was found taken,
 -- and at the end of its list a unit settles at 15.
-abbrev pub searched : (ℕ → Place) → (ℕ → List Fate → Place) → List ℕ → List Fate → Place
-searched polls settled [] fates = settled 15 fates
-searched polls settled (a ∷ rest) [] = polls a
-searched polls settled (a ∷ rest) (Unacked ∷ fates) = settled a fates
-searched polls settled (a ∷ rest) (Delivered ∷ fates) = searched polls settled rest fates
-searched polls settled (a ∷ rest) (Lost ∷ fates) = searched polls settled (a ∷ rest) fates
-searched polls settled (a ∷ rest) (Broken ∷ fates) = searched polls settled (a ∷ rest) fates
+abbrev pub place_after_search : (ℕ → Place) → (ℕ → List Fate → Place) → List ℕ → List Fate → Place
+place_after_search polls settled [] fates = settled 15 fates
+place_after_search polls settled (a ∷ rest) [] = polls a
+place_after_search polls settled (a ∷ rest) (Unacked ∷ fates) = settled a fates
+place_after_search polls settled (a ∷ rest) (Delivered ∷ fates) = place_after_search polls settled rest fates
+place_after_search polls settled (a ∷ rest) (Lost ∷ fates) = place_after_search polls settled (a ∷ rest) fates
+place_after_search polls settled (a ∷ rest) (Broken ∷ fates) = place_after_search polls settled (a ∷ rest) fates
 
 -- the second unit's search, with the fates after those of the first one's
 abbrev pub second_after : List ℕ → ℕ → List Fate → Place
 second_after [] first fates = Settled first None
-second_after (a ∷ rest) first fates = searched (λ b. Polls (Some first) b) (λ second _. Settled first (Some second)) (a ∷ rest) fates
+second_after (a ∷ rest) first fates = place_after_search (λ b. Polls (Some first) b) (λ second _. Settled first (Some second)) (a ∷ rest) fates
 
 abbrev pub place_after : Kind → List Fate → Place
-place_after kind fates = searched (λ a. Polls None a) (second_after (second_addresses kind)) (addresses kind) fates
+place_after kind fates = place_after_search (λ a. Polls None a) (second_after (second_addresses kind)) (addresses kind) fates
 
 -- one step of it
-abbrev pub stepped : Kind → Place → Fate → Place
-stepped kind (Polls found a) fate = polled kind found a fate
-stepped kind place fate = place
+abbrev pub place_after_fate : Kind → Place → Fate → Place
+place_after_fate kind (Polls found a) fate = place_after_poll kind found a fate
+place_after_fate kind place fate = place
 
 -- every unit at 15
-abbrev pub unplaced : List ℕ → Place
-unplaced [] = Settled 15 None
-unplaced (a ∷ rest) = Settled 15 (Some 15)
+abbrev pub unregistered : List ℕ → Place
+unregistered [] = Settled 15 None
+unregistered (a ∷ rest) = Settled 15 (Some 15)
 
 -- where a device stands when it joins
 abbrev pub start_place : Kind → Phys → Place
-start_place kind phys = if is_nowhere phys then unplaced (second_addresses kind) else tries kind None (addresses kind)
+start_place kind phys = if is_nowhere phys then unregistered (second_addresses kind) else tries kind None (addresses kind)
 
 -- a new device
 abbrev pub fresh : Kind → List ℕ → ℕ → State
@@ -103,7 +103,7 @@ fresh kind name ports = record {
 abbrev pub reported_from : ℕ → ℕ → Option ℕ → State → State
 reported_from limit at None d = d
 reported_from limit at (Some from) d =
-    if nat_lt from 15 || is_switch d.kind then queued limit at from 15 (0x84 ∷ d.phys.high ∷ d.phys.low ∷ type_of d.kind from ∷ []) d else d
+    if nat_lt from 15 || is_switch d.kind then with_queued limit at from 15 (0x84 ∷ d.phys.high ∷ d.phys.low ∷ type_of d.kind from ∷ []) d else d
 
 -- one after another
 abbrev pub reported_by : ℕ → ℕ → List (Option ℕ) → State → State
@@ -111,12 +111,12 @@ reported_by limit at [] d = d
 reported_by limit at (unit ∷ units) d = reported_by limit at units (reported_from limit at unit d)
 
 -- the report of each unit, once all have settled; a device that does not speak queues nothing
-abbrev pub reported : ℕ → ℕ → State → State
-reported limit at d = reported_by limit at (held d.place) d
+abbrev pub with_reports : ℕ → ℕ → State → State
+with_reports limit at d = reported_by limit at (addresses_held d.place) d
 
 -- a device that has joined
-abbrev pub joined : ℕ → State → ℕ → Phys → ℕ → State
-joined limit d number phys at = reported limit at (record (fresh d.kind d.name d.ports) {
+abbrev pub after_joining : ℕ → State → ℕ → Phys → ℕ → State
+after_joining limit d number phys at = with_reports limit at (record (fresh d.kind d.name d.ports) {
   number = number;
   phys = phys;
   place = start_place d.kind phys;
@@ -124,8 +124,8 @@ joined limit d number phys at = reported limit at (record (fresh d.kind d.name d
 })
 
 -- a device that leaves is a new one again
-abbrev pub left : State → State
-left d = fresh d.kind d.name d.ports
+abbrev pub after_leaving : State → State
+after_leaving d = fresh d.kind d.name d.ports
 
 -- ---- fates
 
@@ -136,16 +136,16 @@ class_of_poll Broken = Retry
 class_of_poll _ = PresentInitiator
 
 -- the front frame has ended
-abbrev pub ended : State → State
-ended d = record d { queue = rest_of d.queue; attempts = 0; class = PresentInitiator }
+abbrev pub after_front : State → State
+after_front d = record d { queue = rest_of d.queue; attempts = 0; class = PresentInitiator }
   where
     rest_of : List Queued → List Queued
     rest_of [] = []
     rest_of (q ∷ qs) = qs
 
 -- retransmission (CEC 7.1: up to five times): a failed attempt, the sixth of which is the last
-abbrev pub failed : State → State
-failed d = if nat_lt d.attempts 5 then record d { attempts = d.attempts + 1; class = Retry } else ended d
+abbrev pub after_failure : State → State
+after_failure d = if nat_lt d.attempts 5 then record d { attempts = d.attempts + 1; class = Retry } else after_front d
 
 -- a frame without an opcode is a poll
 abbrev pub front_is_poll : List Queued → Bool
@@ -155,9 +155,9 @@ front_is_poll (q ∷ qs) = length q.frame == 1
 -- the fate of a queued frame
 abbrev pub frame_sent : State → Fate → State
 frame_sent d Lost = record d { class = NewInitiator }
-frame_sent d Delivered = ended d
-frame_sent d Unacked = if front_is_poll d.queue then ended d else failed d
-frame_sent d Broken = if front_is_poll d.queue then record d { class = Retry } else failed d
+frame_sent d Delivered = after_front d
+frame_sent d Unacked = if front_is_poll d.queue then after_front d else after_failure d
+frame_sent d Broken = if front_is_poll d.queue then record d { class = Retry } else after_failure d
 
 -- the address that it polls
 abbrev pub polled_at : Place → Option ℕ
@@ -166,15 +166,15 @@ polled_at _ = None
 
 -- the fate of a poll moves it by a step
 abbrev pub poll_sent : ℕ → State → Fate → ℕ → State
-poll_sent limit d fate at = reported limit at (record d { place = stepped d.kind d.place fate; poll_ready = at; class = class_of_poll fate })
+poll_sent limit d fate at = with_reports limit at (record d { place = place_after_fate d.kind d.place fate; poll_ready = at; class = class_of_poll fate })
 
 -- the fate of a poll of an address, or of a queued frame
 abbrev pub sent_by : ℕ → State → Fate → ℕ → Option ℕ → State
 sent_by limit d fate at (Some a) = poll_sent limit d fate at
 sent_by limit d fate at None = frame_sent d fate
 
-abbrev pub sent : ℕ → State → Fate → ℕ → State
-sent limit d fate at = sent_by limit d fate at (polled_at d.place)
+abbrev pub after_sending : ℕ → State → Fate → ℕ → State
+after_sending limit d fate at = sent_by limit d fate at (polled_at d.place)
 
 -- a device that sent last, once another one has sent
 abbrev pub class_after_waiting : FreeTime → FreeTime
@@ -182,8 +182,8 @@ class_after_waiting PresentInitiator = NewInitiator
 class_after_waiting class = class
 
 -- a device that was no contender where others were
-abbrev pub waited : State → State
-waited d = record d { class = class_after_waiting d.class }
+abbrev pub after_waiting : State → State
+after_waiting d = record d { class = class_after_waiting d.class }
 
 -- ---- submit
 
@@ -214,8 +214,8 @@ submitted_by d bytes at None = record d { queue = d.queue ++ record { frame = by
 submitted_by d bytes at (Some fault) = d
 
 -- a frame that is handed in stands last, unless it is refused
-abbrev pub submitted : ℕ → State → List ℕ → ℕ → State
-submitted limit d bytes at = submitted_by d bytes at (submit_fault limit d bytes)
+abbrev pub after_submission : ℕ → State → List ℕ → ℕ → State
+after_submission limit d bytes at = submitted_by d bytes at (submit_fault limit d bytes)
 
 -- ---- what it has to send
 

@@ -28,10 +28,10 @@ pub record State : Type 0 where
 -- ---- who it is on the wire
 
 -- Where each of its units has settled, at 15 where it found no address. A device of one unit has no second one.
-abbrev pub held : Place → List (Option ℕ)
-held Off = None ∷ None ∷ []
-held (Polls found a) = found ∷ None ∷ []
-held (Settled first second) = Some first ∷ second ∷ []
+abbrev pub addresses_held : Place → List (Option ℕ)
+addresses_held Off = None ∷ None ∷ []
+addresses_held (Polls found a) = found ∷ None ∷ []
+addresses_held (Settled first second) = Some first ∷ second ∷ []
 
 -- a unit holds this address, which is below 15
 abbrev pub is_held : Option ℕ → ℕ → Bool
@@ -40,7 +40,7 @@ is_held (Some a) to = (a == to) && nat_lt to 15
 
 -- one of its units holds this address
 abbrev pub holds : Place → ℕ → Bool
-holds place to = list_any (λ unit. is_held unit to) (held place)
+holds place to = list_any (λ unit. is_held unit to) (addresses_held place)
 
 -- the main address of a device that has settled: the second unit's where that is below 15, else the first one's
 abbrev pub main_of : ℕ → Option ℕ → ℕ
@@ -76,8 +76,8 @@ one_more n = min (n + 1) 18446744073709551615
 
 -- A frame of a reply, report or key: last in the queue, or counted as dropped where that is full.
 -- A device that does not speak queues none, and none goes to its own addresses.
-abbrev pub queued : ℕ → ℕ → ℕ → ℕ → List ℕ → State → State
-queued limit at from to bytes d =
+abbrev pub with_queued : ℕ → ℕ → ℕ → ℕ → List ℕ → State → State
+with_queued limit at from to bytes d =
     if not (speaks d) || holds d.place to then d else (
     if nat_lt (length d.queue) limit then record d { queue = d.queue ++ record { frame = frame_of from to bytes; ready = at } ∷ [] }
     else record d { dropped = one_more d.dropped })

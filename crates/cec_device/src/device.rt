@@ -1,6 +1,6 @@
 //! A device: who it is, and what it has to send.
 ghost use Rattle.std.specs.Prelude.{◌≡◌, ◌≢◌, ◌<◌, ◌≤◌, ◌+◌, ◌*◌, ◌==◌, ◌∷◌, [], length, true, false};
-ghost use Rattle.cec_device.specs.State.{queued, speaks, holds, is_held, frame_of, main_of, source, one_more};
+ghost use Rattle.cec_device.specs.State.{with_queued, speaks, holds, is_held, frame_of, main_of, source, one_more};
 ghost use Rattle.cec_device.specs.Say.{say, say_all};
 
 use crate::free_time::FreeTime;
@@ -153,7 +153,7 @@ impl<const Q: usize> Device<Q> {
     /// One that finds the queue full is dropped and counted.
     pub(crate) fn put(&mut self, at: u64, from: Addr, to: Addr, rest: &[u8])
         requires { length rest.now ≤ 15 }
-        ensures { self.new ≡ queued Q at from to rest.now self.old }
+        ensures { self.new ≡ with_queued Q at from to rest.now self.old }
     {
         if !self.speaks() || self.holds(to) {
             return;

@@ -2,7 +2,7 @@
 ghost use Rattle.std.specs.Prelude.{◌≡◌};
 ghost use Rattle.cec_opcode.specs.Table.{decoded_of};
 ghost use Rattle.cec_feature.specs.Effects.{heard_of};
-ghost use Rattle.cec_device.specs.Effects.{by_decoded, followed, is_for};
+ghost use Rattle.cec_device.specs.Effects.{by_decoded, after_frame, is_for};
 
 use crate::device::Device;
 use cec_feature::{Heard, Identity, refuse};
@@ -74,7 +74,7 @@ impl<const Q: usize> Device<Q> {
     /// Follows a frame that came whole, by the opcode table, at `at` microseconds: a direct one where it holds
     /// the destination, and a broadcast. What it answers is ready at that time.
     pub fn follow(&mut self, frame: &Frame, at: u64)
-        ensures { self.new ≡ followed Q self.old frame.now at }
+        ensures { self.new ≡ after_frame Q self.old frame.now at }
     {
         let [header, opcode, operands @ ..] = frame.bytes() else {
             return;

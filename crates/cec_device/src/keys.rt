@@ -1,6 +1,6 @@
 //! Keys of a device that are pressed or released.
 ghost use Rattle.std.specs.Prelude.{◌≡◌, Some, None, MatchResult};
-ghost use Rattle.cec_device.specs.Keys.{own_doing, key_fault, keyed};
+ghost use Rattle.cec_device.specs.Keys.{own_doing, key_fault, after_key};
 
 use crate::device::Device;
 use crate::place::Place;
@@ -35,7 +35,7 @@ impl<const Q: usize> Device<Q> {
     /// `NotForKind` where the device has no such key. A refusal changes nothing.
     pub fn key(&mut self, key: Key, press: bool, at: u64) -> Result<(), KeyError>
         ensures answer { MatchResult result (λ _. key_fault self.old key ≡ None) (λ fault. key_fault self.old key ≡ Some fault) }
-        ensures state { self.new ≡ keyed Q self.old key press at }
+        ensures state { self.new ≡ after_key Q self.old key press at }
     {
         if self.place == Place::Off {
             return Err(KeyError::OffWire);

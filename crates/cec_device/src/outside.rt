@@ -1,6 +1,6 @@
 //! What a device from outside is told.
 ghost use Rattle.std.specs.Prelude.{◌≡◌, Some, None, MatchResult};
-ghost use Rattle.cec_device.specs.Outside.{act_fault, acted, acted_by, class_after_drop, OnlyOutside};
+ghost use Rattle.cec_device.specs.Outside.{act_fault, after_act, acted_by, class_after_drop, OnlyOutside};
 
 use crate::device::Device;
 use crate::free_time::FreeTime;
@@ -47,7 +47,7 @@ impl<const Q: usize> Device<Q> {
     /// where the device is not from outside. A refusal changes nothing.
     pub fn act(&mut self, act: Act) -> Result<(), KeyError>
         ensures answer { MatchResult result (λ _. act_fault self.old ≡ None) (λ fault. act_fault self.old ≡ Some fault) }
-        ensures state { self.new ≡ acted self.old act }
+        ensures state { self.new ≡ after_act self.old act }
     {
         if self.place == Place::Off {
             return Err(KeyError::OffWire);

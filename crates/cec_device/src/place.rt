@@ -3,7 +3,7 @@
 ghost use Rattle.std.specs.Prelude.{◌≡◌, ◌<◌, Some, None, length, MatchResult, IsSome, IsTrue, ◌≤◌, nat_lt};
 ghost use Rattle.std.specs.List.{list_all};
 ghost use Rattle.cec_feature.specs.Kinds.{addresses, second_addresses};
-ghost use Rattle.cec_device.specs.Place.{begins, settles, tries, tries_after, list_of, stepped, class_of_poll, unplaced, polled_at, settled_at, start_place, fresh, reported, reported_from, joined, left, ended, failed, frame_sent, front_is_poll, sent, poll_sent, waited, submit_fault, submitted, front_of, ready_of, is_allocating, is_on_wire};
+ghost use Rattle.cec_device.specs.Place.{begins, settles, tries, tries_after, list_of, place_after_fate, class_of_poll, unregistered, polled_at, settled_at, start_place, fresh, with_reports, reported_from, after_joining, after_leaving, after_front, after_failure, frame_sent, front_is_poll, after_sending, poll_sent, after_waiting, submit_fault, after_submission, front_of, ready_of, is_allocating, is_on_wire};
 
 use crate::device::{Device, Queued, SubmitError};
 use crate::free_time::FreeTime;
@@ -98,8 +98,8 @@ fn place_behind(kind: Kind, found: Option<Addr>, taken: Addr) -> Place
 }
 
 // Where a device stands after the fate of a poll. An address whose poll nobody acknowledged is free: the unit takes it.
-fn stepped(kind: Kind, place: Place, fate: Fate) -> Place
-    ensures { result ≡ stepped kind place fate }
+fn place_after_fate(kind: Kind, place: Place, fate: Fate) -> Place
+    ensures { result ≡ place_after_fate kind place fate }
 {
     match place {
         Place::Polls { found, address } => match fate {
@@ -122,8 +122,8 @@ fn class_of_poll(fate: Fate) -> FreeTime
 }
 
 // Every unit at 15.
-fn unplaced(kind: Kind) -> Place
-    ensures { result ≡ unplaced (second_addresses kind) }
+fn unregistered(kind: Kind) -> Place
+    ensures { result ≡ unregistered (second_addresses kind) }
 {
     let second = match second_addresses(kind) {
         [] => None,
@@ -139,7 +139,7 @@ fn first_place(kind: Kind, phys: Phys) -> Place
     ensures { result ≡ start_place kind phys }
 {
     if is_nowhere(phys) {
-        return unplaced(kind);
+        return unregistered(kind);
     }
     tries(kind, None, addresses(kind))
 }
@@ -187,7 +187,7 @@ impl<const Q: usize> Device<Q> {
 
     /// Leaves the wire: it is a new device again.
     pub fn leave(&mut self)
-        ensures { self.new ≡ left self.old }
+        ensures { self.new ≡ after_leaving self.old }
     {
         self.number = 0;
         self.phys = NOWHERE;
@@ -215,7 +215,7 @@ impl<const Q: usize> Device<Q> {
 
     // Each of its units reports, once all have settled.
     fn report(&mut self, at: u64)
-        ensures { self.new ≡ reported Q at self.old }
+        ensures { self.new ≡ with_reports Q at self.old }
     {
         let [first, second] = self.held();
         self.report_from(first, at);
@@ -226,7 +226,7 @@ impl<const Q: usize> Device<Q> {
     /// and a device at F.F.F.F, settles at 15 at once. Any other begins to poll the addresses of its kind in order; a box those
     /// of its recorder, and then those of its player.
     pub fn join(&mut self, number: u8, phys: Phys, at: u64)
-        ensures { self.new ≡ joined Q self.old number phys at }
+        ensures { self.new ≡ after_joining Q self.old number phys at }
     {
         self.leave();
         self.number = number;
@@ -239,7 +239,7 @@ impl<const Q: usize> Device<Q> {
     // The front frame has ended: it was delivered or is given up.
     fn end_front(&mut self)
         requires { 0 < length self.old.queue }
-        ensures { self.new ≡ ended self.old }
+        ensures { self.new ≡ after_front self.old }
     {
         self.queue.remove(0);
         self.attempts = 0;
@@ -249,7 +249,7 @@ impl<const Q: usize> Device<Q> {
     // Retransmission (CEC 7.1): after a failed attempt a frame is sent again, up to five times.
     fn fail(&mut self)
         requires { 0 < length self.old.queue }
-        ensures { self.new ≡ failed self.old }
+        ensures { self.new ≡ after_failure self.old }
     {
         if self.attempts < 5 {
             self.attempts += 1;
@@ -273,7 +273,7 @@ impl<const Q: usize> Device<Q> {
     fn poll_sent(&mut self, fate: Fate, at: u64)
         ensures { self.new ≡ poll_sent Q self.old fate at }
     {
-        self.place = stepped(self.kind, self.place, fate);
+        self.place = place_after_fate(self.kind, self.place, fate);
         self.poll_ready = at;
         self.class = class_of_poll(fate);
         self.report(at);
@@ -304,7 +304,7 @@ impl<const Q: usize> Device<Q> {
     /// It learns the fate of what `queue_front` gave, at the close of the round, `at` microseconds.
     pub fn sent(&mut self, fate: Fate, at: u64)
         requires { IsSome (front_of self.old) }
-        ensures { self.new ≡ sent Q self.old fate at }
+        ensures { self.new ≡ after_sending Q self.old fate at }
     {
         if self.is_allocating() {
             self.poll_sent(fate, at);
@@ -315,7 +315,7 @@ impl<const Q: usize> Device<Q> {
 
     /// Others have sent, and it was no contender.
     pub fn waited(&mut self)
-        ensures { self.new ≡ waited self.old }
+        ensures { self.new ≡ after_waiting self.old }
     {
         self.class = match self.class {
             FreeTime::PresentInitiator => FreeTime::NewInitiator,
@@ -338,7 +338,7 @@ impl<const Q: usize> Device<Q> {
     /// and `QueueFull`, in this order. A device from outside sends from and to any address. A refusal changes nothing.
     pub fn submit(&mut self, frame: Frame, at: u64) -> Result<(), SubmitError>
         ensures answer { MatchResult result (λ _. submit_fault Q self.old frame ≡ None) (λ fault. submit_fault Q self.old frame ≡ Some fault) }
-        ensures queue { self.new ≡ submitted Q self.old frame at }
+        ensures queue { self.new ≡ after_submission Q self.old frame at }
     {
         if self.place == Place::Off {
             return Err(SubmitError::OffWire);

@@ -1,6 +1,6 @@
 //! What a device says of itself.
 ghost use Rattle.std.specs.Prelude.{◌≡◌, ◌≤◌, length};
-ghost use Rattle.cec_device.specs.State.{held};
+ghost use Rattle.cec_device.specs.State.{addresses_held};
 ghost use Rattle.cec_device.specs.Place.{front_of, ready_of, is_allocating, is_on_wire};
 
 use crate::device::{Device, Queued, framed};
@@ -51,7 +51,7 @@ impl<const Q: usize> Device<Q> {
 
     /// Where each of its units has settled, at 15 where it found no address. A device of one unit has no second one.
     pub fn held(&self) -> [Option<Addr>; 2]
-        ensures { result ≡ held self.now.place }
+        ensures { result ≡ addresses_held self.now.place }
     {
         match self.place {
             Place::Off => [None, None],

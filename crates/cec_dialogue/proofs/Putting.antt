@@ -6,7 +6,7 @@ use Rattle.std.proofs.lemmas.Bool.{false≢true}
 use Rattle.hdmi_core.specs.declared.buffered.Buffered.{Buffered}
 use Rattle.hdmi_core.specs.declared.sink.WriteFault.{WriteFault}
 use Rattle.hdmi_core.specs.Buffered.{handed_count, pending}
-use Rattle.cec_words.specs.Cut.{CutOff}
+use Rattle.hdmi_core.specs.Cut.{CutOff}
 use Rattle.cec_dialogue.specs.declared.error.SessionError.{SessionError}
 use Rattle.cec_dialogue.specs.declared.error.SessionError.TheVariants.{Read, TooLong, NoScriptLine, Topology, Edid, Script, Write, Memory}
 use Rattle.cec_dialogue.specs.Dialogue.{AreHanded, IsCutShort, IsHandedOn, is_write}

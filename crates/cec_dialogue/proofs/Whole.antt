@@ -2,13 +2,13 @@
 use Rattle.std.proofs.Common.{◌≡◌, ℕ, ◌⊎◌, Bool, true, false, List, ◌++◌, Option, Some, None, Result, Ok, Err, inl, inr, length, ◌≤◌, refl, sym, ap, subst, ◌∙◌}
 use Rattle.std.proofs.lemmas.Bool.{false≢true}
 use Rattle.hdmi_blocks.specs.declared.edid.Edid.{Edid as EdidValue}
-use Rattle.cec_net.specs.State.{started}
+use Rattle.cec_net.specs.State.{first_net}
 use Rattle.cec_incoming.specs.Incoming.{text_of_lines}
 use Rattle.cec_asm.specs.Topology.{Plan}
 use Rattle.cec_run.specs.declared.run.Telling.TheVariants.{Trace}
 use Rattle.cec_run.specs.Run.{IsRunText, start}
 use Rattle.cec_run.specs.Emulate.{IsTraceOf}
-use Rattle.cec_session.specs.Session.{Session, begun}
+use Rattle.cec_session.specs.Session.{Session, first_session}
 use Rattle.cec_session.specs.Whole.{AreLines}
 use Rattle.cec_session.proofs.Wholly.{sessions_tell_traces}
 use Rattle.cec_session.proofs.Kept.{sessions_tell_traces_of}
@@ -37,15 +37,15 @@ talked_cut before after s old new Memory first = absurd first
 trace_of : (topology : List ℕ) (s : Session) (b : HasBegun topology s) (lines kept : List (List ℕ)) (told text : List ℕ) (t : Session) (end : ℕ) (before after old new : Option (List ℕ)) (a : HaveAnswers before after s old new t)
     → t.notes.end ≡ Some end → length t.notes.pulses ≤ 4096 → IsTraceOf topology (text_of_lines a.kept) (first_told s ++ a.told) t.place.totals
 trace_of topology s b lines kept told text t end before after old new a ended sparse =
-    let are : AreLines a.lines (begun b.edid b.plan.tree) a.kept a.told a.text t = subst (λ (s : Session). AreLines a.lines s a.kept a.told a.text t) b.is a.are in
+    let are : AreLines a.lines (first_session b.edid b.plan.tree) a.kept a.told a.text t = subst (λ (s : Session). AreLines a.lines s a.kept a.told a.text t) b.is a.are in
     subst (λ (s : Session). IsTraceOf topology (text_of_lines a.kept) (first_told s ++ a.told) t.place.totals) (sym b.is)
     (sessions_tell_traces_of topology b.plan b.edid a.lines a.kept a.told a.text t end b.plan_is b.root a.whole a.few sparse are ended)
 
 run_of : (topology : List ℕ) (s : Session) (b : HasBegun topology s) (t : Session) (end : ℕ) (before after old new : Option (List ℕ)) (a : HaveAnswers before after s old new t)
-    → t.notes.end ≡ Some end → IsRunText (Trace b.edid) end (start (started b.plan.tree t.notes.pulses) t.notes.events) (first_told s ++ a.told) t.place.totals
+    → t.notes.end ≡ Some end → IsRunText (Trace b.edid) end (start (first_net b.plan.tree t.notes.pulses) t.notes.events) (first_told s ++ a.told) t.place.totals
 run_of topology s b t end before after old new a ended =
-    let are : AreLines a.lines (begun b.edid b.plan.tree) a.kept a.told a.text t = subst (λ (s : Session). AreLines a.lines s a.kept a.told a.text t) b.is a.are in
-    subst (λ (s : Session). IsRunText (Trace b.edid) end (start (started b.plan.tree t.notes.pulses) t.notes.events) (first_told s ++ a.told) t.place.totals) (sym b.is)
+    let are : AreLines a.lines (first_session b.edid b.plan.tree) a.kept a.told a.text t = subst (λ (s : Session). AreLines a.lines s a.kept a.told a.text t) b.is a.are in
+    subst (λ (s : Session). IsRunText (Trace b.edid) end (start (first_net b.plan.tree t.notes.pulses) t.notes.events) (first_told s ++ a.told) t.place.totals) (sym b.is)
     (sessions_tell_traces b.edid b.plan.tree a.lines a.kept a.told a.text t end are ended)
 
 -- ---- the session

@@ -4,17 +4,17 @@ use Rattle.std.specs.Io.KnownBytes.{Appends, Consumes, IsAtEnd}
 use Rattle.hdmi_core.specs.declared.buffered.Buffered.{Buffered}
 use Rattle.hdmi_core.specs.Buffered.{handed_count, pending}
 use Rattle.hdmi_blocks.specs.declared.edid.Edid.{Edid as EdidValue}
-use Rattle.cec_words.specs.Lines.{lines_of}
+use Rattle.hdmi_core.specs.Lines.{lines_of}
 use Rattle.cec_incoming.specs.Incoming.{IsWhole, Leads, text_of_lines}
 use Rattle.cec_asm.specs.Topology.{topology_of, Plan}
-use Rattle.cec_trace.specs.Root.{IsRoot, IsNoRoot}
-use Rattle.cec_net.specs.State.{started}
+use Rattle.hdmi_blocks.specs.Root.{IsRoot, IsNoRoot}
+use Rattle.cec_net.specs.State.{first_net}
 use Rattle.cec_run.specs.declared.run.Telling.TheVariants.{Trace}
 use Rattle.cec_run.specs.Run.{IsRunText, start, start_told}
 use Rattle.cec_run.specs.Emulate.{IsTraceOf}
-use Rattle.cec_live.specs.Causal.{before_told}
+use Rattle.causal_laws.specs.Causal.{before_told}
 use Rattle.cec_session.specs.declared.live.Step.{Step}
-use Rattle.cec_session.specs.Session.{Session, begun, IsStep, IsDue}
+use Rattle.cec_session.specs.Session.{Session, first_session, IsStep, IsDue}
 use Rattle.cec_session.specs.Whole.{IsLine, AreLines}
 use Rattle.cec_dialogue.specs.declared.error.ScriptEnd.{ScriptEnd}
 use Rattle.cec_dialogue.specs.declared.error.ScriptEnd.TheVariants as ends
@@ -93,7 +93,7 @@ pub record HasBegun (topology : List ℕ) (s : Session) : Type 0 where
   pub edid : Option EdidValue
   pub plan_is : topology_of topology ≡ Ok plan
   pub root : IsRoot plan.edid edid
-  pub is : s ≡ begun edid plan.tree
+  pub is : s ≡ first_session edid plan.tree
 
 -- or refused
 abbrev pub IsTopologyFault : List ℕ → SessionError → Type 0
@@ -239,13 +239,13 @@ pub record HasRun (before after old new : Option (List ℕ)) : Type 0 where
   pub begins : HasBegun topology first
   pub put : Appends old so_far (first_told first)
 
--- A session is done: its lines are answered up to `end`, and what they have told, without the answers, is the trace of the
+-- A session is done: its lines are answered up to `end`, and what they have reported, without the answers, is the trace of the
 -- topology with what the lines of its script say. Where these have no more pulses than a script may have, it is the trace of the
 -- topology with that script, in which the lines that were refused and the session's own ones are emptied.
 pub record IsDone (before after old new : Option (List ℕ)) : Type 0 where
   pub run : HasRun before after old new
   pub over : HasEnded run.mid after run.first run.so_far new
-  pub told : IsRunText (Trace run.begins.edid) over.end (start (started run.begins.plan.tree over.last.notes.pulses) over.last.notes.events) (first_told run.first ++ over.answers.told) over.last.place.totals
+  pub told : IsRunText (Trace run.begins.edid) over.end (start (first_net run.begins.plan.tree over.last.notes.pulses) over.last.notes.events) (first_told run.first ++ over.answers.told) over.last.place.totals
   pub trace : length over.last.notes.pulses ≤ 4096 → IsTraceOf run.topology (text_of_lines over.answers.kept) (first_told run.first ++ over.answers.told) over.last.place.totals
 
 -- what is put where a session stops

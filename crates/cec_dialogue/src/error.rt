@@ -1,6 +1,6 @@
 //! Why a session has come to no end.
 use cec_asm::TopologyCause;
-use cec_trace::EdidCause;
+use hdmi_blocks::EdidCause;
 use thiserror::Error;
 
 /// Why a session has come to no end.

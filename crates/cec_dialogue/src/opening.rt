@@ -10,7 +10,7 @@ use arrayvec::ArrayVec;
 use cec_asm::{TopologyError, parse_topology};
 use cec_incoming::{LineFault, Lines};
 use cec_session::Live;
-use cec_trace::root_of;
+use hdmi_blocks::root_of;
 use std::alloc::{AllocError, Global};
 use std::io::Read;
 

@@ -5,13 +5,13 @@ use Rattle.std.proofs.lemmas.Bool.Decides.{nat_tests}
 use borrow.Author.Tests.{ltb-true}
 use Rattle.hdmi_core.specs.Piece.{hex_text}
 use Rattle.hdmi_core.specs.Bytes.{are_bytes}
-use Rattle.cec_dis.specs.Bytes.{byte_of, bytes_from, is_digit, is_mark, is_prefix, lone, value_of, with_byte, with_step}
+use Rattle.cec_dis.specs.Bytes.{byte_of, bytes_from, is_digit, is_mark, is_prefix, cause_of_half, value_of, with_byte, with_step}
 use Rattle.cec_dis.specs.Spelling.{AreParts, AssembledFramesAreRead, Part, Spells, SpellingsAreRead, part_bytes, part_text}
 use Rattle.cec_dis.specs.Spelling.Part.{Mark, Byte, Prefixed}
 use Rattle.cec_dis.specs.declared.bytes.DisCause.{DisCause}
 use Rattle.cec_dis.specs.declared.bytes.DisCause.TheVariants.{Digit}
-use Rattle.cec_dis.specs.declared.bytes.Place.{Place}
-use Rattle.cec_dis.specs.declared.bytes.Place.TheVariants.{Between, High, Prefix, HighAfterPrefix}
+use Rattle.cec_dis.specs.declared.bytes.HexState.{HexState}
+use Rattle.cec_dis.specs.declared.bytes.HexState.TheVariants.{Between, High, Prefix, HighAfterPrefix}
 
 and_left : (x y : Bool) → (x && y) ≡ true → x ≡ true
 and_left true y e = refl
@@ -57,7 +57,7 @@ spelled_read text bytes s =
 -- ---- what is read is spelled
 
 -- what the rest of a line spells, after what a place has taken of it
-abbrev SpelledFrom : Place → List ℕ → List ℕ → Type 0
+abbrev SpelledFrom : HexState → List ℕ → List ℕ → Type 0
 SpelledFrom Between cs bytes = Spells cs bytes
 SpelledFrom (High high) cs bytes = is_digit high ≡ true → Spells (high ∷ cs) bytes
 SpelledFrom Prefix cs bytes = (x : ℕ) → is_prefix 48 x ≡ true → Spells (48 ∷ x ∷ cs) bytes
@@ -123,7 +123,7 @@ prefix_x : (h c : ℕ) → is_prefix h c ≡ true → is_prefix 48 c ≡ true
 prefix_x h c e = grind (arith, nat_tests)
 
 high_by : (d p : Bool) (h c : ℕ) (cs bytes : List ℕ) → is_digit h ≡ true → is_digit c ≡ d → is_prefix h c ≡ p
-    → with_step (if d then Ok (Between, Some (byte_of h c)) else (if p then Ok (Prefix, None) else Err (lone c))) (λ next. bytes_from next cs) ≡ Ok bytes
+    → with_step (if d then Ok (Between, Some (byte_of h c)) else (if p then Ok (Prefix, None) else Err (cause_of_half c))) (λ next. bytes_from next cs) ≡ Ok bytes
     → ((others : List ℕ) → bytes_from Between cs ≡ Ok others → Spells cs others)
     → (bytes_from Prefix cs ≡ Ok bytes → (x : ℕ) → is_prefix 48 x ≡ true → Spells (48 ∷ x ∷ cs) bytes)
     → Spells (h ∷ c ∷ cs) bytes
@@ -133,20 +133,20 @@ high_by false true h c cs bytes eh ed ep e two prefix =
 high_by false false h c cs bytes eh ed ep e two prefix = cc
 
 prefix_by : (d : Bool) (x c : ℕ) (cs bytes : List ℕ) → is_prefix 48 x ≡ true → is_digit c ≡ d
-    → with_step (if d then Ok (HighAfterPrefix c, None) else Err (lone c)) (λ next. bytes_from next cs) ≡ Ok bytes
+    → with_step (if d then Ok (HighAfterPrefix c, None) else Err (cause_of_half c)) (λ next. bytes_from next cs) ≡ Ok bytes
     → (bytes_from (HighAfterPrefix c) cs ≡ Ok bytes → (x : ℕ) → is_prefix 48 x ≡ true → is_digit c ≡ true → Spells (48 ∷ x ∷ c ∷ cs) bytes)
     → Spells (48 ∷ x ∷ c ∷ cs) bytes
 prefix_by true x c cs bytes ex ed e high = high e x ex ed
 prefix_by false x c cs bytes ex ed e high = cc
 
 after_by : (d : Bool) (x h c : ℕ) (cs bytes : List ℕ) → is_prefix 48 x ≡ true → is_digit h ≡ true → is_digit c ≡ d
-    → with_step (if d then Ok (Between, Some (byte_of h c)) else Err (lone c)) (λ next. bytes_from next cs) ≡ Ok bytes
+    → with_step (if d then Ok (Between, Some (byte_of h c)) else Err (cause_of_half c)) (λ next. bytes_from next cs) ≡ Ok bytes
     → ((others : List ℕ) → bytes_from Between cs ≡ Ok others → Spells cs others)
     → Spells (48 ∷ x ∷ h ∷ c ∷ cs) bytes
 after_by true x h c cs bytes ex eh ed e two = with_prefix_told x h c cs bytes ex eh ed (joined (byte_of h c) (bytes_from Between cs) bytes e) two
 after_by false x h c cs bytes ex eh ed e two = cc
 
-read_spelled : (cs : List ℕ) (place : Place) (bytes : List ℕ) → bytes_from place cs ≡ Ok bytes → SpelledFrom place cs bytes
+read_spelled : (cs : List ℕ) (place : HexState) (bytes : List ℕ) → bytes_from place cs ≡ Ok bytes → SpelledFrom place cs bytes
 read_spelled [] Between bytes e = (let none : bytes ≡ [] = cc in subst (λ bs. Spells [] bs) (sym none) nothing)
 read_spelled [] (High high) bytes e = cc
 read_spelled [] Prefix bytes e = cc

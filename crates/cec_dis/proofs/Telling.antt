@@ -4,9 +4,9 @@ use Rattle.std.specs.List.{flat_map}
 use Rattle.std.specs.Io.KnownBytes.{Appends}
 use Rattle.hdmi_core.proofs.CutShort.{Appends-trans}
 use Rattle.hdmi_core.specs.declared.sink.WriteFault.{WriteFault}
-use Rattle.cec_words.specs.Cut.{CutOff, WrittenText, told_count}
-use Rattle.cec_words.specs.Lines.{lines_of}
-use Rattle.cec_words.proofs.Cutting.{cut_again, told_parts}
+use Rattle.hdmi_core.specs.Cut.{CutOff, WrittenText, told_count}
+use Rattle.hdmi_core.specs.Lines.{lines_of}
+use Rattle.hdmi_core.proofs.Cutting.{cut_again, told_parts}
 use Rattle.cec_dis.specs.Lines.{WritesLines, fault_of, first_fault, line_frame, line_text}
 use Rattle.cec_dis.specs.declared.bytes.DisCause.{DisCause}
 

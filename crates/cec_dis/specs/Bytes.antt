@@ -3,8 +3,8 @@
 use Rattle.std.specs.Prelude.{ℕ, ◌*◌, ◌+◌, ◌-◌, ◌%◌, ◌==◌, ◌||◌, ◌&&◌, nat_le, Bool, if◌then◌else◌, List, [], ◌∷◌, length, Option, Some, None, Result, Ok, Err}
 use Rattle.cec_dis.specs.declared.bytes.DisCause.{DisCause}
 use Rattle.cec_dis.specs.declared.bytes.DisCause.TheVariants.{Digit, Half, Length}
-use Rattle.cec_dis.specs.declared.bytes.Place.{Place}
-use Rattle.cec_dis.specs.declared.bytes.Place.TheVariants.{Between, High, Prefix, HighAfterPrefix}
+use Rattle.cec_dis.specs.declared.bytes.HexState.{HexState}
+use Rattle.cec_dis.specs.declared.bytes.HexState.TheVariants.{Between, High, Prefix, HighAfterPrefix}
 
 -- what may stand between bytes
 abbrev pub is_mark : ℕ → Bool
@@ -26,22 +26,22 @@ abbrev pub byte_of : ℕ → ℕ → ℕ
 byte_of high low = value_of high * 16 + value_of low
 
 -- a digit is alone: before a mark it is half a byte, else the character is at fault
-abbrev pub lone : ℕ → DisCause
-lone c = if is_mark c then Half else Digit
+abbrev pub cause_of_half : ℕ → DisCause
+cause_of_half c = if is_mark c then Half else Digit
 
 -- where a line stands after one more character, and the byte that it ends
-abbrev pub step : Place → ℕ → Result (Place × Option ℕ) DisCause
+abbrev pub step : HexState → ℕ → Result (HexState × Option ℕ) DisCause
 step Between c = if is_mark c then Ok (Between, None) else (if is_digit c then Ok (High c, None) else Err Digit)
-step (High high) c = if is_digit c then Ok (Between, Some (byte_of high c)) else (if is_prefix high c then Ok (Prefix, None) else Err (lone c))
-step Prefix c = if is_digit c then Ok (HighAfterPrefix c, None) else Err (lone c)
-step (HighAfterPrefix high) c = if is_digit c then Ok (Between, Some (byte_of high c)) else Err (lone c)
+step (High high) c = if is_digit c then Ok (Between, Some (byte_of high c)) else (if is_prefix high c then Ok (Prefix, None) else Err (cause_of_half c))
+step Prefix c = if is_digit c then Ok (HighAfterPrefix c, None) else Err (cause_of_half c)
+step (HighAfterPrefix high) c = if is_digit c then Ok (Between, Some (byte_of high c)) else Err (cause_of_half c)
 
 -- the end of a line
-abbrev pub ended : Place → Result (List ℕ) DisCause
-ended Between = Ok []
-ended (High high) = Err Half
-ended Prefix = Err Half
-ended (HighAfterPrefix high) = Err Half
+abbrev pub bytes_at_end : HexState → Result (List ℕ) DisCause
+bytes_at_end Between = Ok []
+bytes_at_end (High high) = Err Half
+bytes_at_end Prefix = Err Half
+bytes_at_end (HighAfterPrefix high) = Err Half
 
 -- a byte before others
 abbrev pub with_byte : Option ℕ → Result (List ℕ) DisCause → Result (List ℕ) DisCause
@@ -49,13 +49,13 @@ with_byte None bytes = bytes
 with_byte (Some byte) (Ok bytes) = Ok (byte ∷ bytes)
 with_byte (Some byte) (Err cause) = Err cause
 
-abbrev pub with_step : Result (Place × Option ℕ) DisCause → (Place → Result (List ℕ) DisCause) → Result (List ℕ) DisCause
+abbrev pub with_step : Result (HexState × Option ℕ) DisCause → (HexState → Result (List ℕ) DisCause) → Result (List ℕ) DisCause
 with_step (Ok next) rest = with_byte next.1 (rest next.0)
 with_step (Err cause) rest = Err cause
 
 -- the bytes that the rest of a line spells
-abbrev pub bytes_from : Place → List ℕ → Result (List ℕ) DisCause
-bytes_from place [] = ended place
+abbrev pub bytes_from : HexState → List ℕ → Result (List ℕ) DisCause
+bytes_from place [] = bytes_at_end place
 bytes_from place (c ∷ cs) = with_step (step place c) (λ next. bytes_from next cs)
 
 -- a frame has 1 to 16 bytes

@@ -2,8 +2,8 @@
 -- counted. A word of the standard that the text leaves as a byte stands after it as a remark.
 use Rattle.std.specs.Prelude.{◌≡◌, ℕ, ◌+◌, Bool, true, if◌then◌else◌, List, [], ◌∷◌, ◌++◌, codes, Option, Some, None, Result, Ok, Err}
 use Rattle.std.specs.List.{flat_map}
-use Rattle.cec_words.specs.Lines.{is_skipped}
-use Rattle.cec_words.specs.Cut.{CutOff}
+use Rattle.hdmi_core.specs.Lines.{is_skipped}
+use Rattle.hdmi_core.specs.Cut.{CutOff}
 use Rattle.hdmi_core.specs.declared.sink.WriteFault.{WriteFault}
 use Rattle.cec_text.specs.FrameText.{frame_text}
 use Rattle.cec_dis.specs.Bytes.{frame_in}

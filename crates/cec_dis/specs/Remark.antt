@@ -1,10 +1,10 @@
 -- Words of the standard that the texts of frames leave as bytes (HDMI 1.4, CEC 17: operand descriptions; HDMI 2.0, CEC 11).
 -- The spelling is own.
 use Rattle.std.specs.Prelude.{ℕ, ◌==◌, if◌then◌else◌, List, [], ◌∷◌, codes, slice_get, Option, Some, None, option_and_then}
-use Rattle.cec_opcode.specs.WordSets.{Word, word, word_of}
+use Rattle.cec_opcode.specs.WordSets.{NamedByte, word, word_of}
 
 -- opcodes of CEC 2.0, and of CDC
-abbrev pub more_names : List Word
+abbrev pub more_names : List NamedByte
 more_names =
     word 0xa5 (codes "give-features") ∷
     word 0xa6 (codes "report-features") ∷
@@ -14,33 +14,33 @@ more_names =
     []
 
 -- Feature Abort, its second operand: [Abort Reason]
-abbrev pub abort_reasons : List Word
+abbrev pub abort_reasons : List NamedByte
 abort_reasons =
     word 0x05 (codes "undetermined") ∷
     []
 
 -- Report Physical Address, its third operand: [Device Type]
-abbrev pub device_types : List Word
+abbrev pub device_types : List NamedByte
 device_types =
     word 0x07 (codes "video-processor") ∷
     []
 
 -- Report Power Status: [Power Status]
-abbrev pub powers : List Word
+abbrev pub powers : List NamedByte
 powers =
     word 0x02 (codes "standby-to-on") ∷
     word 0x03 (codes "on-to-standby") ∷
     []
 
 -- CEC Version: [CEC Version]
-abbrev pub versions : List Word
+abbrev pub versions : List NamedByte
 versions =
     word 0x04 (codes "1.3a") ∷
     word 0x06 (codes "2.0") ∷
     []
 
 -- Deck Status: [Deck Info]
-abbrev pub deck_states : List Word
+abbrev pub deck_states : List NamedByte
 deck_states =
     word 0x12 (codes "record") ∷
     word 0x13 (codes "play-reverse") ∷
@@ -52,7 +52,7 @@ deck_states =
     []
 
 -- Play: [Play Mode]
-abbrev pub play_modes : List Word
+abbrev pub play_modes : List NamedByte
 play_modes =
     word 0x20 (codes "reverse") ∷
     word 0x15 (codes "slow-forward-min") ∷
@@ -64,7 +64,7 @@ play_modes =
     []
 
 -- Give Tuner Device Status: [Status Request]
-abbrev pub tuner_requests : List Word
+abbrev pub tuner_requests : List NamedByte
 tuner_requests =
     word 0x01 (codes "on") ∷
     word 0x02 (codes "off") ∷
@@ -72,7 +72,7 @@ tuner_requests =
     []
 
 -- Record On: [Record Source Type]
-abbrev pub record_sources : List Word
+abbrev pub record_sources : List NamedByte
 record_sources =
     word 0x01 (codes "own-source") ∷
     word 0x02 (codes "digital-service") ∷
@@ -82,7 +82,7 @@ record_sources =
     []
 
 -- Record Status: [Record Status Info]
-abbrev pub record_states : List Word
+abbrev pub record_states : List NamedByte
 record_states =
     word 0x01 (codes "recording-current-source") ∷
     word 0x02 (codes "recording-digital-service") ∷
@@ -111,7 +111,7 @@ record_states =
     []
 
 -- Timer Cleared Status: [Timer Cleared Status Data]
-abbrev pub timer_cleared : List Word
+abbrev pub timer_cleared : List NamedByte
 timer_cleared =
     word 0x00 (codes "not-cleared-recording") ∷
     word 0x01 (codes "not-cleared-no-match") ∷
@@ -120,7 +120,7 @@ timer_cleared =
     []
 
 -- Set Audio Rate: [Audio Rate]
-abbrev pub audio_rates : List Word
+abbrev pub audio_rates : List NamedByte
 audio_rates =
     word 0x00 (codes "rate-control-off") ∷
     word 0x01 (codes "wide-standard") ∷
@@ -132,7 +132,7 @@ audio_rates =
     []
 
 -- User Control Pressed: [UI Command]
-abbrev pub user_controls : List Word
+abbrev pub user_controls : List NamedByte
 user_controls =
     word 0x05 (codes "right-up") ∷
     word 0x06 (codes "right-down") ∷
@@ -203,7 +203,7 @@ abbrev pub place_of : ℕ → ℕ
 place_of code = if code == 0x00 then 1 else (if code == 0x84 then 2 else 0)
 
 -- the words of that byte
-abbrev pub more_words : ℕ → List Word
+abbrev pub more_words : ℕ → List NamedByte
 more_words code =
     if code == 0x00 then abort_reasons else (
     if code == 0x08 then tuner_requests else (

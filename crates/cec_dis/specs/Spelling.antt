@@ -4,7 +4,7 @@ use Rattle.std.specs.List.{flat_map}
 use Rattle.hdmi_core.specs.Piece.{hex_text}
 use Rattle.hdmi_core.specs.Bytes.{are_bytes}
 use Rattle.cec_dis.specs.Bytes.{byte_of, bytes_from, is_digit, is_mark, is_prefix}
-use Rattle.cec_dis.specs.declared.bytes.Place.TheVariants.{Between}
+use Rattle.cec_dis.specs.declared.bytes.HexState.TheVariants.{Between}
 
 -- a part of a line: a mark, a byte as two digits, or a byte with `0x` before it
 pub data Part : Type 0 where

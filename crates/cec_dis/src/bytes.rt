@@ -1,9 +1,9 @@
 //! The bytes of a frame in hex, as tools print them.
 ghost use Rattle.std.specs.Prelude.{◌≡◌, ◌<◌, ◌≤◌, ◌++◌, ◌∷◌, [], ◌↔◌, ℕ, List, Ok, Err, length, take, IsTrue, MatchOption, MatchResult};
 ghost use Rattle.arrayvec.specs.ArrayVec.{array_vec_len};
-ghost use Rattle.cec_dis.specs.Bytes.{after_arrow, after_arrow_of, byte_of, bytes_from, frame_in, is_arrow, is_digit, is_mark, is_prefix, lone, step, value_of, whole_frame};
+ghost use Rattle.cec_dis.specs.Bytes.{after_arrow, after_arrow_of, byte_of, bytes_from, frame_in, is_arrow, is_digit, is_mark, is_prefix, cause_of_half, step, value_of, whole_frame};
 ghost use Rattle.cec_dis.specs.Kept.{AreBytes, AreKept};
-ghost use Rattle.cec_dis.specs.declared.bytes.Place.TheVariants.{Between};
+ghost use Rattle.cec_dis.specs.declared.bytes.HexState.TheVariants.{Between};
 
 use arrayvec::ArrayVec;
 use cec_frame::Frame;
@@ -25,7 +25,7 @@ pub enum DisCause {
 
 // Where the reading of a line stands.
 #[derive(Clone, Copy, Drop)]
-enum Place {
+enum HexState {
     /// Between two bytes, and at the begin.
     Between,
     /// After the first digit of a byte.
@@ -76,8 +76,8 @@ fn byte_of(high: u8, low: u8) -> u8
 }
 
 // Why a digit is alone before this character.
-fn lone(character: u8) -> DisCause
-    ensures { result ≡ lone character }
+fn cause_of_half(character: u8) -> DisCause
+    ensures { result ≡ cause_of_half character }
 {
     if is_mark(character) {
         DisCause::Half
@@ -87,40 +87,40 @@ fn lone(character: u8) -> DisCause
 }
 
 // Where a line stands after one more character, and the byte that it ends.
-fn step(place: Place, character: u8) -> Result<(Place, Option<u8>), DisCause>
+fn step(place: HexState, character: u8) -> Result<(HexState, Option<u8>), DisCause>
     ensures { result ≡ step place character }
 {
     match place {
-        Place::Between => {
+        HexState::Between => {
             if is_mark(character) {
-                Ok((Place::Between, None))
+                Ok((HexState::Between, None))
             } else if is_digit(character) {
-                Ok((Place::High(character), None))
+                Ok((HexState::High(character), None))
             } else {
                 Err(DisCause::Digit)
             }
         }
-        Place::High(high) => {
+        HexState::High(high) => {
             if is_digit(character) {
-                Ok((Place::Between, Some(byte_of(high, character))))
+                Ok((HexState::Between, Some(byte_of(high, character))))
             } else if is_prefix(high, character) {
-                Ok((Place::Prefix, None))
+                Ok((HexState::Prefix, None))
             } else {
-                Err(lone(character))
+                Err(cause_of_half(character))
             }
         }
-        Place::Prefix => {
+        HexState::Prefix => {
             if is_digit(character) {
-                Ok((Place::HighAfterPrefix(character), None))
+                Ok((HexState::HighAfterPrefix(character), None))
             } else {
-                Err(lone(character))
+                Err(cause_of_half(character))
             }
         }
-        Place::HighAfterPrefix(high) => {
+        HexState::HighAfterPrefix(high) => {
             if is_digit(character) {
-                Ok((Place::Between, Some(byte_of(high, character))))
+                Ok((HexState::Between, Some(byte_of(high, character))))
             } else {
-                Err(lone(character))
+                Err(cause_of_half(character))
             }
         }
     }
@@ -179,7 +179,7 @@ fn read_bytes(text: &[u8]) -> Result<Bytes, DisCause>
         (λ cause. bytes_from Between text.now ≡ Err cause) }
 {
     let mut bytes = Bytes::new();
-    let mut place = Place::Between;
+    let mut place = HexState::Between;
     let mut rest = text;
     'characters: while let Some((character, more)) = first_character(rest) {
         match step(place, character) {
@@ -192,10 +192,10 @@ fn read_bytes(text: &[u8]) -> Result<Bytes, DisCause>
         }
     }
     match place {
-        Place::Between => Ok(bytes),
-        Place::High(_) => Err(DisCause::Half),
-        Place::Prefix => Err(DisCause::Half),
-        Place::HighAfterPrefix(_) => Err(DisCause::Half),
+        HexState::Between => Ok(bytes),
+        HexState::High(_) => Err(DisCause::Half),
+        HexState::Prefix => Err(DisCause::Half),
+        HexState::HighAfterPrefix(_) => Err(DisCause::Half),
     }
 }
 

@@ -2,16 +2,15 @@
 ghost use Rattle.std.specs.Prelude.{◌≡◌, ◌++◌, codes, Ok, Err, Some, None, Option, MatchResult};
 ghost use Rattle.std.specs.List.{flat_map};
 ghost use Rattle.cec_dis.specs.Lines.{Answers, WritesLines, first_fault, frame_line, line_frame, line_text};
-ghost use Rattle.cec_words.specs.Cut.{WrittenText};
-ghost use Rattle.cec_words.specs.Lines.{lines_of};
+ghost use Rattle.hdmi_core.specs.Cut.{WrittenText};
+ghost use Rattle.hdmi_core.specs.Lines.{lines_of};
 ghost use Rattle.hdmi_core.specs.Written.{WrittenLine};
 
 use crate::bytes::{DisCause, frame_in};
 use crate::remarks::remark;
 use cec_frame::Frame;
 use cec_text::frame_text;
-use cec_words::{counted, cut_at, first_line, is_skipped};
-use hdmi_core::{Piece, Sink, WriteFault, write_line};
+use hdmi_core::{Piece, Sink, WriteFault, counted, cut_at, first_line, is_skipped, write_line};
 use thiserror::Error;
 
 /// The first line that has no frame, counted from 1, and why.

@@ -1,19 +1,19 @@
 //! Words of the standard that the texts of frames leave as bytes.
 ghost use Rattle.std.specs.Prelude.{◌≡◌, ◌≤◌, ℕ, length, map, option_copied};
-ghost use Rattle.cec_opcode.specs.WordSets.{spelled, word_of};
+ghost use Rattle.cec_opcode.specs.WordSets.{word_in_code, word_of};
 ghost use Rattle.cec_dis.specs.Remark.{first_of, more_names, more_words, operand_remark, place_of, remark};
 
 use cec_frame::Frame;
-use cec_opcode::Word;
+use cec_opcode::NamedByte;
 
 macro_rules! words {
     ($($byte:literal $text:literal;)*) => {
-        &[$(Word { byte: $byte, text: $text },)*]
+        &[$(NamedByte { byte: $byte, text: $text },)*]
     };
 }
 
 /// Opcodes of CEC 2.0 and of CDC (HDMI 2.0, CEC 11; HDMI 1.4, HEC).
-const NAMES: &[Word] = words! {
+const NAMES: &[NamedByte] = words! {
     0xa5 "give-features";
     0xa6 "report-features";
     0xa7 "request-current-latency";
@@ -22,29 +22,29 @@ const NAMES: &[Word] = words! {
 };
 
 /// Feature Abort, its second operand: [Abort Reason].
-const ABORT_REASONS: &[Word] = words! {
+const ABORT_REASONS: &[NamedByte] = words! {
     0x05 "undetermined";
 };
 
 /// Report Physical Address, its third operand: [Device Type].
-const DEVICE_TYPES: &[Word] = words! {
+const DEVICE_TYPES: &[NamedByte] = words! {
     0x07 "video-processor";
 };
 
 /// Report Power Status: [Power Status].
-const POWERS: &[Word] = words! {
+const POWERS: &[NamedByte] = words! {
     0x02 "standby-to-on";
     0x03 "on-to-standby";
 };
 
 /// CEC Version: [CEC Version].
-const VERSIONS: &[Word] = words! {
+const VERSIONS: &[NamedByte] = words! {
     0x04 "1.3a";
     0x06 "2.0";
 };
 
 /// Deck Status: [Deck Info].
-const DECK_STATES: &[Word] = words! {
+const DECK_STATES: &[NamedByte] = words! {
     0x12 "record";
     0x13 "play-reverse";
     0x15 "slow";
@@ -55,7 +55,7 @@ const DECK_STATES: &[Word] = words! {
 };
 
 /// Play: [Play Mode].
-const PLAY_MODES: &[Word] = words! {
+const PLAY_MODES: &[NamedByte] = words! {
     0x20 "reverse";
     0x15 "slow-forward-min";
     0x16 "slow-forward-mid";
@@ -66,14 +66,14 @@ const PLAY_MODES: &[Word] = words! {
 };
 
 /// Give Tuner Device Status: [Status Request].
-const TUNER_REQUESTS: &[Word] = words! {
+const TUNER_REQUESTS: &[NamedByte] = words! {
     0x01 "on";
     0x02 "off";
     0x03 "once";
 };
 
 /// Record On: [Record Source Type].
-const RECORD_SOURCES: &[Word] = words! {
+const RECORD_SOURCES: &[NamedByte] = words! {
     0x01 "own-source";
     0x02 "digital-service";
     0x03 "analogue-service";
@@ -82,7 +82,7 @@ const RECORD_SOURCES: &[Word] = words! {
 };
 
 /// Record Status: [Record Status Info].
-const RECORD_STATES: &[Word] = words! {
+const RECORD_STATES: &[NamedByte] = words! {
     0x01 "recording-current-source";
     0x02 "recording-digital-service";
     0x03 "recording-analogue-service";
@@ -110,7 +110,7 @@ const RECORD_STATES: &[Word] = words! {
 };
 
 /// Timer Cleared Status: [Timer Cleared Status Data].
-const TIMER_CLEARED: &[Word] = words! {
+const TIMER_CLEARED: &[NamedByte] = words! {
     0x00 "not-cleared-recording";
     0x01 "not-cleared-no-match";
     0x02 "not-cleared-no-information";
@@ -118,7 +118,7 @@ const TIMER_CLEARED: &[Word] = words! {
 };
 
 /// Set Audio Rate: [Audio Rate].
-const AUDIO_RATES: &[Word] = words! {
+const AUDIO_RATES: &[NamedByte] = words! {
     0x00 "rate-control-off";
     0x01 "wide-standard";
     0x02 "wide-fast";
@@ -129,7 +129,7 @@ const AUDIO_RATES: &[Word] = words! {
 };
 
 /// User Control Pressed: [UI Command].
-const USER_CONTROLS: &[Word] = words! {
+const USER_CONTROLS: &[NamedByte] = words! {
     0x05 "right-up";
     0x06 "right-down";
     0x07 "left-up";
@@ -195,8 +195,8 @@ const USER_CONTROLS: &[Word] = words! {
 };
 
 /// The text of the first of these words that stands for a byte.
-fn text_in(words: &[Word], byte: u8) -> Option<&'static str>
-    ensures { option_copied result ≡ word_of (map spelled words.now) byte }
+fn text_in(words: &[NamedByte], byte: u8) -> Option<&'static str>
+    ensures { option_copied result ≡ word_of (map word_in_code words.now) byte }
 {
     let mut rest = words;
     'words: while let [word, others @ ..] = rest {
@@ -220,8 +220,8 @@ fn place_of(opcode: u8) -> usize
 }
 
 // The words of that byte.
-fn more_words(opcode: u8) -> &'static [Word]
-    ensures { map spelled result.now ≡ more_words opcode }
+fn more_words(opcode: u8) -> &'static [NamedByte]
+    ensures { map word_in_code result.now ≡ more_words opcode }
 {
     match opcode {
         0x00 => ABORT_REASONS,

@@ -8,8 +8,8 @@ use Rattle.cec_event.specs.declared.event.EventError.{EventError}
 use Rattle.hdmi_topo.specs.Node.{Node}
 use Rattle.cec_device.specs.State.{State}
 use Rattle.cec_device.specs.Place.{fresh}
-use Rattle.cec_net.specs.State.{NetState, moved_by, started}
-use Rattle.cec_net.specs.Apply.{applied, applied_unless, changed_at, event_fault}
+use Rattle.cec_net.specs.State.{NetState, moved_by, first_net}
+use Rattle.cec_net.specs.Apply.{net_after, applied_unless, changed_at, event_fault}
 use Rattle.cec_net.specs.Step.{after_round, IsNextRound}
 use Rattle.cec_net.proofs.Each.{length-each_from}
 use Rattle.cec_driven.specs.Driven.{names_of}
@@ -27,7 +27,7 @@ count_unless None at (Key device key press) s = length-changed device _ s.device
 count_unless None at (Send device frame) s = length-changed device _ s.devices
 count_unless None at (Outside device act) s = length-changed device _ s.devices
 
-pub count_applied : (at : ℕ) (event : Event) (s t : NetState) → t ≡ applied at event s → length t.devices ≡ length s.devices
+pub count_applied : (at : ℕ) (event : Event) (s t : NetState) → t ≡ net_after at event s → length t.devices ≡ length s.devices
 count_applied at event s t e = ap (λ (n : NetState). length n.devices) e ∙ count_unless (event_fault s event) at event s
 
 pub count_round : (begin : ℕ) (o : Outcome) (s t : NetState) → IsNextRound s begin o t → length t.devices ≡ length s.devices
@@ -37,7 +37,7 @@ length-loose : (tree : List Node) → length (map (λ (node : Node). fresh node.
 length-loose [] = refl
 length-loose (node ∷ tree) = ap suc (length-loose tree)
 
-pub count_started : (tree : List Node) (pulses : List Stretch) → length (started tree pulses).devices ≡ length tree
+pub count_started : (tree : List Node) (pulses : List Stretch) → length (first_net tree pulses).devices ≡ length tree
 count_started tree pulses = length-each_from 0 (moved_by 0 tree) (map (λ (node : Node). fresh node.kind node.name node.ports) tree) ∙ length-loose tree
 
 pub count_names : (devices : List State) → length (names_of devices) ≡ length devices

@@ -3,7 +3,7 @@ use Rattle.std.proofs.Common.{◌≡◌, ℕ, zero, suc, max, List, [], ◌∷�
 use Rattle.cec_wave.specs.declared.Stretch.{Stretch}
 use Rattle.cec_wave.specs.Pulses.{AreSparse}
 use Rattle.hdmi_topo.specs.Node.{Node}
-use Rattle.cec_net.specs.State.{started}
+use Rattle.cec_net.specs.State.{first_net}
 use Rattle.cec_net.specs.Step.{seats_of}
 use Rattle.cec_vcd.specs.Text.{last}
 use Rattle.cec_wires.specs.Wires.{head}
@@ -46,9 +46,9 @@ driven_from end c line totals w =
     )
 
 pub runs_have_drives : (tree : List Node) (pulses : List Stretch) (events : List TimedEvent) (end : ℕ) → AreSparse pulses
-    → (text : List ℕ) × (totals : Totals) × IsDriven end (start (started tree pulses) events) text totals
+    → (text : List ℕ) × (totals : Totals) × IsDriven end (start (first_net tree pulses) events) text totals
 runs_have_drives tree pulses events end sparse =
     let line = runs_have_texts (Line Vcd) tree pulses events end sparse in
-    let c = start (started tree pulses) events in
+    let c = start (first_net tree pulses) events in
     let rest = driven_from end c line.2.rest line.1 line.2.run in
     (head (names_of c.net.devices) ++ rest.0, line.1, record { rest = rest.0; run = rest.1; whole = refl })

@@ -8,7 +8,7 @@ use Rattle.cec_wave.specs.Line.{IsWave}
 use Rattle.cec_wire.specs.declared.Outcome.{Outcome}
 use Rattle.cec_net.specs.State.{NetState}
 use Rattle.cec_net.specs.Step.{seats_of, IsNextRound}
-use Rattle.cec_net.specs.Apply.{applied, event_fault}
+use Rattle.cec_net.specs.Apply.{net_after, event_fault}
 use Rattle.cec_line.specs.Format.{line_round}
 use Rattle.cec_line.specs.declared.format.Format.TheVariants.{Vcd}
 use Rattle.cec_text.specs.ReadingText.{is_complete}
@@ -16,8 +16,8 @@ use Rattle.cec_vcd.specs.Text.{last}
 use Rattle.cec_run.specs.declared.run.Telling.TheVariants.{Line}
 use Rattle.cec_run.specs.declared.run.Totals.{Totals}
 use Rattle.cec_run.specs.declared.run.Turn.TheVariants.{Stop, Apply, Round}
-use Rattle.cec_words.specs.Cut.{CutOff, told_count}
-use Rattle.cec_words.proofs.Cutting.{told_parts, cut_again}
+use Rattle.hdmi_core.specs.Cut.{CutOff, told_count}
+use Rattle.hdmi_core.proofs.Cutting.{told_parts, cut_again}
 use Rattle.cec_run.specs.Run.{Config, turn_at, turn_of, first_time, counted_event, counted_round, IsRoundTurn}
 use Rattle.cec_driven.specs.Driven.{round_drives, IsDrivenBy, IsDrivenTurn, Drives, IsDrivenFrom, RoundDriven}
 use Rattle.cec_run.proofs.Advance.{Brought, round_brings}
@@ -43,7 +43,7 @@ reached_more end c d e old mid new n count m line text r turn len wrote told = r
   counted = told ∙ told_parts n count r.text text r.counted len;
 }
 
--- one of which nothing is told
+-- one of which nothing is reported
 reached_silent : (end : ℕ) (c d e : Config) (old mid : Option (List ℕ)) (n : ℕ) (line : List ℕ) → Reached end c d old mid n → IsDrivenTurn end d line [] e → Reached end c e old mid n
 reached_silent end c d e old mid n line r turn = record {
   turns = suc r.turns;
@@ -84,24 +84,24 @@ last_cut end c d old mid new n inner fault r stops cut told text totals driven =
     let same : text ≡ (r.text ++ tail) ++ [] = whole.0 ∙ sym (append-nil (r.text ++ tail)) in
     subst (λ t. CutOff old new t fault) (sym same) (cut_again old mid new r.text tail [] n inner fault r.counted r.so_far cut told)
 
--- ---- one turn, from what the calls tell
+-- ---- one turn, from what the calls report
 
 event_turn_is : (end at : ℕ) (net : NetState) (e : TimedEvent) (others : List TimedEvent) (totals : Totals) → turn_of end net (first_time (e ∷ others)) ≡ Apply at
     → IsDrivenTurn end (record { net = net; events = e ∷ others; totals = totals }) [] []
-    (record { net = applied at e.event net; events = others; totals = counted_event (event_fault net e.event) totals })
+    (record { net = net_after at e.event net; events = others; totals = counted_event (event_fault net e.event) totals })
 event_turn_is end at net e others totals h =
     subst (λ turn. IsDrivenBy turn (record { net = net; events = e ∷ others; totals = totals }) [] []
-    (record { net = applied at e.event net; events = others; totals = counted_event (event_fault net e.event) totals })) (sym h) ((refl, refl), refl)
+    (record { net = net_after at e.event net; events = others; totals = counted_event (event_fault net e.event) totals })) (sym h) ((refl, refl), refl)
 
 pub after_event : (end at : ℕ) (net new : NetState) (e : TimedEvent) (rest others : List TimedEvent) (totals counted : Totals) (c : Config) (old mid : Option (List ℕ)) (n : ℕ)
-    → rest ≡ e ∷ others → turn_of end net (first_time rest) ≡ Apply at → new ≡ applied at e.event net → counted ≡ counted_event (event_fault net e.event) totals
+    → rest ≡ e ∷ others → turn_of end net (first_time rest) ≡ Apply at → new ≡ net_after at e.event net → counted ≡ counted_event (event_fault net e.event) totals
     → Reached end c (record { net = net; events = rest; totals = totals }) old mid n
     → Reached end c (record { net = new; events = others; totals = counted }) old mid n
 after_event end at net new e rest others totals counted c old mid n split turn step count_is r =
     let come : turn_of end net (first_time (e ∷ others)) ≡ Apply at = subst (λ xs. turn_of end net (first_time xs) ≡ Apply at) split turn in
     let here : Reached end c (record { net = net; events = e ∷ others; totals = totals }) old mid n =
     subst (λ xs. Reached end c (record { net = net; events = xs; totals = totals }) old mid n) split r in
-    let there : Reached end c (record { net = applied at e.event net; events = others; totals = counted_event (event_fault net e.event) totals }) old mid n =
+    let there : Reached end c (record { net = net_after at e.event net; events = others; totals = counted_event (event_fault net e.event) totals }) old mid n =
     reached_silent end c _ _ old mid n [] here (event_turn_is end at net e others totals come) in
     rw (step, count_is) there
 

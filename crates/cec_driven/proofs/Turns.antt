@@ -1,4 +1,4 @@
--- A run has one text of its drives: each turn leads to one place, and tells one text.
+-- A run has one text of its drives: each turn leads to one place, and reports one text.
 use Rattle.std.proofs.Common.{◌≡◌, ℕ, zero, suc, max, List, [], ◌∷◌, ◌++◌, ap, ap₂, ◌∙◌, sym, refl, subst, append_assoc, append-nil}
 use Rattle.cec_wire.specs.declared.Outcome.{Outcome}
 use Rattle.cec_wire.proofs.OneOutcome.{one_outcome}
@@ -92,7 +92,7 @@ front_of_text end n c d line body text totals l w =
     let tail = last (max end w.at_end.net.close) in
     (go.2 ++ tail, w.whole ∙ ap (λ b. b ++ tail) go.4 ∙ append_assoc body go.2 tail)
 
--- and where the run stops there, the text is what is told from there on
+-- and where the run stops there, the text is what is reported from there on
 pub whole_text : (end n : ℕ) (c d : Config) (line body text : List ℕ) (totals : Totals) → Drives end n c line body d → turn_at end d ≡ Stop → IsDrivenFrom end c text totals
     → (text ≡ body ++ last (max end d.net.close)) × (totals ≡ d.totals)
 whole_text end n c d line body text totals l stops w =

@@ -13,7 +13,7 @@ use Rattle.cec_net.specs.Step.{IsNextRound, seats_of}
 use Rattle.cec_net.specs.Progress.{IsProgress}
 use Rattle.cec_text.specs.ReadingText.{is_complete}
 use Rattle.cec_vcd.specs.Text.{last}
-use Rattle.cec_words.specs.Cut.{WrittenText}
+use Rattle.hdmi_core.specs.Cut.{WrittenText}
 use Rattle.hdmi_core.specs.declared.sink.WriteFault.{WriteFault}
 use Rattle.cec_line.specs.declared.format.Format.TheVariants.{Vcd}
 use Rattle.cec_run.specs.declared.run.Telling.TheVariants.{Line}
@@ -30,7 +30,7 @@ names_of devices = map (λ d. d.name) devices
 abbrev pub round_drives : List Seat → ℕ → List Stretch → Outcome → List ℕ
 round_drives seats begin pulses o = wires_text (o.wave ∷ drives_of seats begin pulses o) begin (o.rest + 1 - begin)
 
--- ---- one turn of the run's line, and what is told of its drives: of an event nothing, of a round its drives
+-- ---- one turn of the run's line, and what is reported of its drives: of an event nothing, of a round its drives
 
 abbrev pub IsDrivenBy : Turn → Config → List ℕ → List ℕ → Config → Type 0
 IsDrivenBy Stop c line text d = ⊥
@@ -50,7 +50,7 @@ Drives end (suc turns) c line text d =
     (mid : Config) × (told : List ℕ) × (rest : List ℕ) × (driven : List ℕ) × (left : List ℕ)
     × IsDrivenTurn end c told driven mid × Drives end turns mid rest left d × (line ≡ told ++ rest) × (text ≡ driven ++ left)
 
--- behind the head: the drives of the turns up to where the run stops, and the end, which is not before the last close
+-- after the head: the drives of the turns up to where the run stops, and the end, which is not before the last close
 pub record IsDrivenFrom (end : ℕ) (c : Config) (text : List ℕ) (totals : Totals) : Type 0 where
   pub turns : ℕ
   pub at_end : Config

@@ -2,8 +2,8 @@
 use Rattle.std.specs.Prelude.{ℕ, List, Option}
 use Rattle.cec_asm.specs.Topology.{Plan}
 use Rattle.cec_asm.specs.Script.{Course}
-use Rattle.cec_trace.specs.Root.{IsRoot}
-use Rattle.cec_net.specs.State.{started}
+use Rattle.hdmi_blocks.specs.Root.{IsRoot}
+use Rattle.cec_net.specs.State.{first_net}
 use Rattle.hdmi_blocks.specs.declared.edid.Edid.{Edid}
 use Rattle.cec_run.specs.declared.emulate.EmulateError.{EmulateError}
 use Rattle.cec_run.specs.declared.run.Totals.{Totals}
@@ -18,7 +18,7 @@ pub record IsDrivesOf (topology script text : List ℕ) (totals : Totals) : Type
   pub edid : Option Edid
   pub accepted : IsAccepted topology script plan course
   pub root : IsRoot plan.edid edid
-  pub driven : IsDriven course.end (start (started plan.tree course.pulses) course.events) text totals
+  pub driven : IsDriven course.end (start (first_net plan.tree course.pulses) course.events) text totals
 
 -- what a refusal has written
 abbrev pub IsDrivesCut : List ℕ → List ℕ → Option (List ℕ) → Option (List ℕ) → EmulateError → Type 0

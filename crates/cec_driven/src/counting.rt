@@ -1,7 +1,7 @@
 //! What a run counts.
 ghost use Rattle.std.specs.Prelude.{◌≡◌, ◌<◌, ◌≤◌, length};
 ghost use Rattle.cec_event.specs.Events.{NamesDevices};
-ghost use Rattle.cec_net.specs.Apply.{applied, event_fault};
+ghost use Rattle.cec_net.specs.Apply.{net_after, event_fault};
 ghost use Rattle.cec_run.specs.Run.{counted_event, counted_round};
 ghost use Rattle.cec_text.specs.ReadingText.{is_complete};
 
@@ -15,7 +15,7 @@ pub fn apply_counted<W>(net: &mut Net<W>, totals: &mut Totals, at: u64, event: &
     requires early { at ≤ 2000000000000 }
     requires known { NamesDevices (length net.old.tree) event.now.event }
     requires room { totals.old.refused < 18446744073709551615 }
-    ensures net { net.new ≡ applied at event.now.event net.old }
+    ensures net { net.new ≡ net_after at event.now.event net.old }
     ensures totals { totals.new ≡ counted_event (event_fault net.old event.now.event) totals.old }
 {
     match net.apply(at, event.event.copy()) {

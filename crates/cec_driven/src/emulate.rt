@@ -10,7 +10,7 @@ use cec_edges::EdgeWire;
 use cec_net::Net;
 use cec_run::Totals;
 use cec_run::emulate::EmulateError;
-use cec_trace::root_of;
+use hdmi_blocks::root_of;
 use hdmi_core::Sink;
 use std::alloc::Global;
 
@@ -22,7 +22,7 @@ use std::alloc::Global;
 /// # Errors
 ///
 /// Those of [`emulate`](cec_run::emulate::emulate), in the same order. A failed write: then the front of that text was
-/// written, as long as it tells. Else nothing was written.
+/// written, as long as it reports. Else nothing was written.
 // The network is large: where this stood inside its caller, the caller's frame would hold one for each kind of run.
 #[inline(never)]
 pub fn emulate_drives<S: Sink>(

@@ -1,6 +1,6 @@
 //! The head of the dump: the definitions of its wires.
 ghost use Rattle.std.specs.Prelude.{◌≡◌, ◌+◌, ◌++◌, ◌≤◌, length};
-ghost use Rattle.cec_words.specs.Cut.{WrittenText};
+ghost use Rattle.hdmi_core.specs.Cut.{WrittenText};
 ghost use Rattle.cec_wires.specs.Wires.{closing, head, variables};
 ghost use Rattle.cec_driven.specs.Driven.{names_of};
 
@@ -26,7 +26,7 @@ fn write_devices<S: Sink>(
     }
 }
 
-// Writes the wires of the devices, and what stands behind them.
+// Writes the wires of the devices, and what stands after them.
 fn write_wires<S: Sink>(out: &mut S, devices: &[Device<16>]) -> Result<u128, WriteFault>
     requires { length devices.now ≤ 15 }
     ensures { WrittenText (S.contents out.old) (S.contents out.new) (S.is_stuck out.old) (S.is_stuck out.new)

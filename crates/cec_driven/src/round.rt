@@ -1,6 +1,6 @@
 //! One round, and who drives its line.
 ghost use Rattle.std.specs.Prelude.{◌≡◌, ◌+◌, ◌<◌, ◌≤◌, length, Some};
-ghost use Rattle.cec_words.specs.Cut.{WrittenText};
+ghost use Rattle.hdmi_core.specs.Cut.{WrittenText};
 ghost use Rattle.cec_wire.specs.Bounds.{begun_within};
 ghost use Rattle.cec_net.specs.State.{next_start};
 ghost use Rattle.cec_driven.specs.Driven.{RoundDriven, round_drives};

@@ -2,7 +2,7 @@
 ghost use Rattle.std.specs.Prelude.{◌≡◌, ℕ, ◌≤◌, List, length, true, max, IfOk, IfErr, OnOk, OnErr};
 ghost use Rattle.std.specs.Io.KnownBytes.{Appends};
 ghost use Rattle.cec_asm.specs.Script.{IsSchedule};
-ghost use Rattle.cec_words.specs.Cut.{CutOff, WrittenText};
+ghost use Rattle.hdmi_core.specs.Cut.{CutOff, WrittenText};
 ghost use Rattle.cec_vcd.specs.Text.{last};
 ghost use Rattle.cec_run.specs.declared.run.Totals.{Totals as TotalsRecord};
 ghost use Rattle.cec_run.specs.Run.{start};
@@ -18,8 +18,7 @@ use cec_vcd::write_last;
 use cec_wave::Pulses;
 use cec_wire::Wire;
 use cec_wires::whole;
-use cec_words::{counted, cut_at};
-use hdmi_core::{Sink, WriteFault};
+use hdmi_core::{Sink, WriteFault, counted, cut_at};
 
 // Writes the end: it is not before the last close.
 fn write_end<S: Sink, W>(out: &mut S, net: &Net<W>, end: u64) -> Result<u128, WriteFault>
@@ -79,7 +78,7 @@ fn run_turns<S: Sink, W: Wire>(
 ///
 /// # Errors
 ///
-/// A `put` took none. Its count, which stays at its greatest value, tells how much of the text was written.
+/// A `put` took none. Its count, which stays at its greatest value, says how much of the text was written.
 pub fn run<S: Sink, W: Wire>(
     out: &mut S,
     net: &mut Net<W>,

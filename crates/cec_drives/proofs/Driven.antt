@@ -1,7 +1,7 @@
 -- The line of a round is low exactly where a pulse or one of its seats pulls.
 use Rattle.std.proofs.Common.{◌≡◌, ℕ, ◌+◌, ◌%◌, ◌==◌, Bool, true, false, ◌&&◌, ◌||◌, nat_lt, List, [], ◌∷◌, Option, Some, None, refl, ap, ap₂, ◌∙◌}
 use Rattle.std.specs.List.{list_any, enumerate_from, filter_map, cons_option}
-use Rattle.cec_bits.specs.Reading.{End, Known, known, reading_of, Slot}
+use Rattle.cec_bits.specs.Reading.{End, Known, known_at, reading_of, Slot}
 use Rattle.cec_bits.specs.Sending.{sender_pulls}
 use Rattle.cec_wire.specs.declared.Seat.{Seat}
 use Rattle.cec_wave.specs.Line.{was_low}
@@ -86,4 +86,4 @@ any_pulls (seat ∷ seats) begin k t =
 
 pub lines_are_driven : LinesAreDriven
 lines_are_driven seats begin pulses low frames sparse line t =
-    (same_line seats begin pulses low frames sparse).0 line t ∙ ap (λ b. list_any (pulse_pulls begin (known t (reading_of low begin)).ended (was_low low t) t) pulses || b) (any_pulls seats begin (known t (reading_of low begin)) t)
+    (same_line seats begin pulses low frames sparse).0 line t ∙ ap (λ b. list_any (pulse_pulls begin (known_at t (reading_of low begin)).ended (was_low low t) t) pulses || b) (any_pulls seats begin (known_at t (reading_of low begin)) t)

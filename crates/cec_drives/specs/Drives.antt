@@ -4,7 +4,7 @@ use Rattle.std.specs.List.{list_any}
 use Rattle.cec_wave.specs.declared.Stretch.{Stretch}
 use Rattle.cec_wave.specs.Line.{Line, was_low}
 use Rattle.cec_wave.specs.Pulses.{AreSparse}
-use Rattle.cec_bits.specs.Reading.{Known, known, reading_of}
+use Rattle.cec_bits.specs.Reading.{Known, known_at, reading_of}
 use Rattle.cec_wire.specs.declared.Seat.{Seat}
 use Rattle.cec_wire.specs.Round.{frames_of, pulse_pulls, pulled_by, IsRoundLine}
 use Rattle.cec_wire.specs.Contend.{AreFrames}
@@ -15,11 +15,11 @@ seat_pulls begin k t seat = pulled_by (frames_of (seat ∷ [])) (seat ∷ []) be
 
 -- the line that a seat drives, where the round's line is this one
 abbrev pub seat_line : ℕ → Line → Seat → Line
-seat_line begin low seat t = seat_pulls begin (known t (reading_of low begin)) t seat
+seat_line begin low seat t = seat_pulls begin (known_at t (reading_of low begin)) t seat
 
 -- the line that the pulses drive
 abbrev pub pulse_line : ℕ → List Stretch → Line → Line
-pulse_line begin pulses low t = list_any (pulse_pulls begin (known t (reading_of low begin)).ended (was_low low t) t) pulses
+pulse_line begin pulses low t = list_any (pulse_pulls begin (known_at t (reading_of low begin)).ended (was_low low t) t) pulses
 
 -- The line of a round is low exactly where a pulse or one of its seats pulls.
 abbrev pub LinesAreDriven : Type 0

@@ -9,7 +9,7 @@ use Rattle.cec_wave.specs.Pulses.{AreSparse}
 use Rattle.cec_wire.specs.declared.Seat.{Seat}
 use Rattle.cec_wire.specs.declared.Outcome.{Outcome}
 use Rattle.cec_wire.specs.declared.hearing.Ended.{Ended}
-use Rattle.cec_wire.specs.declared.hearing.Place.TheVariants.{Over}
+use Rattle.cec_wire.specs.declared.hearing.Stage.TheVariants.{Over}
 use Rattle.cec_edges.specs.declared.edge_wire.EdgeWire.{EdgeWire}
 use Rattle.cec_wire.specs.Round.{IsRoundLine}
 use Rattle.cec_wire.specs.Edges.{Heard}

@@ -12,7 +12,7 @@ use Rattle.cec_bits.specs.declared.receiver.Told.TheVariants.{Nothing, Bit, Last
 use Rattle.cec_bits.specs.declared.sender.Sender.{Sender}
 use Rattle.cec_bits.specs.declared.sender.SenderState.{SenderState}
 use Rattle.cec_bits.specs.declared.sender.SenderState.TheVariants.{Sending, Out, Stopped}
-use Rattle.cec_bits.specs.Reading.{known, reading_of, bits_of}
+use Rattle.cec_bits.specs.Reading.{known_at, reading_of, bits_of}
 use Rattle.cec_bits.specs.Hears.{heard_by, rest, wake_of}
 use Rattle.cec_bits.specs.Kept.{kept_before, running_from, running_of, runs_on, told_in, told_at}
 use Rattle.cec_bits.specs.Follows.{StoodBefore, StandsOn, GoesOn}
@@ -60,7 +60,7 @@ runs_after low begin u r l m =
     ∙ ap (λ c. if c then Some begin else running_from low u u ((reading_of low begin).until + 1)) (let y : nat_lt u (reading_of low begin).at ≡ false = grind (arith, nat_tests) in y)
     ∙ none_runs low u u ((reading_of low begin).until + 1) (λ v a b. r.quiet v (omega (arith, a)))
 
--- what is told is told of it
+-- what is reported is told of it
 pub told_of_it : (low : Line) (begin t : ℕ) → IsReadOnce low begin → told_at low t ≢ Nothing → (begin < t) × (running_of low (t - 1) ≡ Some begin)
 told_of_it low begin zero r n = absurd (n refl)
 told_of_it low begin (suc u) r n = elim (cases_lt u begin) [
@@ -76,7 +76,7 @@ told_of_it low begin (suc u) r n = elim (cases_lt u begin) [
 over_state : (low : Line) (begin n : ℕ) (sent : List Bool) → (reading_of low begin).until < n → (reading_of low begin).at < n
     → state_before low begin sent n ≡ state_by (out_by (bits_of (reading_of low begin)) (is_whole (Some (record { ending = (reading_of low begin).ending; at = (reading_of low begin).at; until = (reading_of low begin).until }))) sent) true
 over_state low begin n sent l m =
-    ap (λ (bs : List Bool). state_by (out_by bs (is_whole (known n (reading_of low begin)).ended) sent) (nat_lt (reading_of low begin).at n))
+    ap (λ (bs : List Bool). state_by (out_by bs (is_whole (known_at n (reading_of low begin)).ended) sent) (nat_lt (reading_of low begin).at n))
     (told_bits n (reading_of low begin).until (reading_of low begin).slots (reading_spans low begin).told l)
     ∙ ap (λ c. state_by (out_by (bits_of (reading_of low begin)) (is_whole (if c then Some (record { ending = (reading_of low begin).ending; at = (reading_of low begin).at; until = (reading_of low begin).until }) else None)) sent) (nat_lt (reading_of low begin).at n))
     (let x : nat_lt (reading_of low begin).until n ≡ true = grind (arith, nat_tests) in x)
@@ -267,7 +267,7 @@ begun_sends [] low begin (x ∷ os) h = absurd h
 begun_sends (y ∷ seats) low begin [] h = absurd h
 begun_sends (y ∷ seats) low begin (x ∷ os) h = (one_begins y low begin x h.0, begun_sends seats low begin os h.1)
 
--- a receiver of a line of which nothing is told yet stands on it where it begins
+-- a receiver of a line of which nothing is reported yet stands on it where it begins
 pub begins_standing : (seats : List Seat) (begin : ℕ) (l : Listeners) → heard_by l.receiver ≡ rest → ((low : ℕ → Bool) → StoodBefore l.receiver low 0) → AreBegun seats begin l.senders.items
     → (low : ℕ → Bool) → IsReadOnce low begin → AreStanding l low begin begin
 begins_standing seats begin l none stood h low r =

@@ -7,8 +7,8 @@ use Rattle.cec_wave.specs.Pulses.{AreSparse}
 use Rattle.cec_bits.specs.Reading.{Read, reading_of}
 use Rattle.cec_wire.specs.declared.Seat.{Seat}
 use Rattle.cec_wire.specs.declared.hearing.Ended.{Ended}
-use Rattle.cec_wire.specs.declared.hearing.Place.{Place}
-use Rattle.cec_wire.specs.declared.hearing.Place.TheVariants.{Over}
+use Rattle.cec_wire.specs.declared.hearing.Stage.{Stage}
+use Rattle.cec_wire.specs.declared.hearing.Stage.TheVariants.{Over}
 use Rattle.cec_wire.specs.Round.{IsRoundLine}
 use Rattle.cec_wire.specs.Contend.{AreFrames}
 use Rattle.cec_edges.specs.Wired.{heard_by}
@@ -24,7 +24,7 @@ use Rattle.cec_edges.proofs.Stood.{stands_so}
 was_now : (low : Line) (t : ℕ) → was_low low (t + 1) ≡ low t
 was_now low t = ap (λ b. b && low (t + 1 - 1)) (let x : nat_lt 0 (t + 1) ≡ true = grind (arith, nat_tests) in x) ∙ ap low (let x : t + 1 - 1 ≡ t = omega arith in x)
 
-quiet : (seats : List Seat) (begin : ℕ) (pulses : List Stretch) (low : Line) (t : ℕ) (bits : List Bool) (held : ℕ) (place : Place) → AreFrames seats → AreSparse pulses → IsRoundLine seats begin pulses low
+quiet : (seats : List Seat) (begin : ℕ) (pulses : List Stretch) (low : Line) (t : ℕ) (bits : List Bool) (held : ℕ) (place : Stage) → AreFrames seats → AreSparse pulses → IsRoundLine seats begin pulses low
     → StandsAt seats low begin t bits held place → (e : Ended) → place ≡ Over e → (u : ℕ) → e.until < u → is_fall low u ≡ false
 quiet seats begin pulses low t bits held place frames sparse line s e o u l =
     no_fall_after seats begin pulses low frames sparse line (omega (arith, until_is, at_is, end.soon)) u (omega (arith, until_is))

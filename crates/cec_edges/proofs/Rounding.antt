@@ -9,11 +9,11 @@ use Rattle.cec_wave.specs.declared.Stretch.{Stretch}
 use Rattle.cec_wave.specs.declared.Edge.{Edge}
 use Rattle.cec_wave.specs.Line.{was_low, covers, line_of}
 use Rattle.cec_wave.specs.Pulses.{AreSparse, AreFarApart, IsNarrow}
-use Rattle.cec_bits.specs.Reading.{End, Known, known, reading_of}
+use Rattle.cec_bits.specs.Reading.{End, Known, known_at, reading_of}
 use Rattle.cec_wire.specs.declared.Seat.{Seat}
 use Rattle.cec_wire.specs.declared.Outcome.{Outcome}
 use Rattle.cec_edges.specs.declared.edge_wire.EdgeWire.{EdgeWire}
-use Rattle.cec_wire.specs.Round.{IsRound, pulled, pulse_pulls}
+use Rattle.cec_wire.specs.Round.{IsRound, is_pulled, pulse_pulls}
 use Rattle.cec_edges.specs.Wired.{IsBegun, IsNext, SameRound, Leaves, IsRoundOf, is_silent_in}
 use Rattle.cec_wire.proofs.Lows.{all_head, all_tail}
 use Rattle.cec_edges.proofs.Wiring.{no_later}
@@ -35,12 +35,12 @@ none_taken begin ended was t (p ∷ before) pulses h =
     let e : pulse_pulls begin ended was t p ≡ false = not_taken begin ended was t p (h zero p (omega arith)) in
     rw e (none_taken begin ended was t before pulses (λ k d l. h (suc k) d (omega (arith, l))))
 
-pulled_front : (seats : List Seat) (begin : ℕ) (before pulses : List Stretch) (was : Bool) (k : Known) (t : ℕ) → All (λ p. p.from < begin) before → pulled seats begin pulses was k t ≡ pulled seats begin (before ++ pulses) was k t
+pulled_front : (seats : List Seat) (begin : ℕ) (before pulses : List Stretch) (was : Bool) (k : Known) (t : ℕ) → All (λ p. p.from < begin) before → is_pulled seats begin pulses was k t ≡ is_pulled seats begin (before ++ pulses) was k t
 pulled_front seats begin before pulses was k t h = rw (none_taken begin k.ended was t before pulses h) refl
 
 pub round_front : (seats : List Seat) (begin : ℕ) (before pulses : List Stretch) (o : Outcome) → All (λ p. p.from < begin) before → IsRound seats begin pulses o → IsRound seats begin (before ++ pulses) o
 round_front seats begin before pulses o h r = record {
-  line = λ t. r.line t ∙ pulled_front seats begin before pulses (was_low (line_of o.wave) t) (known t (reading_of (line_of o.wave) begin)) t h;
+  line = λ t. r.line t ∙ pulled_front seats begin before pulses (was_low (line_of o.wave) t) (known_at t (reading_of (line_of o.wave) begin)) t h;
   starts = r.starts;
   ends = r.ends;
   ending = r.ending;

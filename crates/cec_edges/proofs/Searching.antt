@@ -11,8 +11,8 @@ use Rattle.cec_wave.specs.Pulses.{AreSparse, AreFarApart, IsNarrow}
 use Rattle.cec_frame.specs.declared.Ending.TheVariants.{Silent, BadStart}
 use Rattle.cec_wire.specs.declared.Seat.{Seat}
 use Rattle.cec_wire.specs.declared.hearing.Ended.{Ended}
-use Rattle.cec_wire.specs.declared.hearing.Place.{Place}
-use Rattle.cec_wire.specs.declared.hearing.Place.TheVariants.{StartLow, StartHigh, InSlot, Over}
+use Rattle.cec_wire.specs.declared.hearing.Stage.{Stage}
+use Rattle.cec_wire.specs.declared.hearing.Stage.TheVariants.{StartLow, StartHigh, InSlot, Over}
 use Rattle.cec_edges.specs.declared.edge_wire.EdgeWire.{EdgeWire}
 use Rattle.cec_wire.specs.Round.{IsRoundLine}
 use Rattle.cec_wire.specs.Machine.{next_place, over}
@@ -94,12 +94,12 @@ each_later old new P r g l h later low sparse late line =
 -- ---- how long a search lasts
 
 -- with no edge since t, the slot fell before it, and the ending came by then or is near
-abbrev pub IsSoon : ℕ → Place → Type 0
+abbrev pub IsSoon : ℕ → Stage → Type 0
 IsSoon t (InSlot fall last) = fall ≤ t
 IsSoon t (Over e) = e.at ≤ t + 4702
 IsSoon t _ = Unit {0}
 
-soon_first : (seats : List Seat) (low : Line) (begin t : ℕ) (bits : List Bool) (held : ℕ) (place : Place) → StandsAt seats low begin t bits held place → IsSoon t place
+soon_first : (seats : List Seat) (low : Line) (begin t : ℕ) (bits : List Bool) (held : ℕ) (place : Stage) → StandsAt seats low begin t bits held place → IsSoon t place
 unfolding StandsAt
 soon_first seats low begin t bits held StartLow s = tt
 soon_first seats low begin t bits held StartHigh s = tt
@@ -107,7 +107,7 @@ soon_first seats low begin t bits held (InSlot fall last) s = omega (arith, s.af
 soon_first seats low begin t bits held (Over e) s = omega (arith, s.soon, s.past)
 
 -- no edge keeps it so
-soon_next : (t0 begin t : ℕ) (bits : List Bool) (place : Place) → begin ≤ t0 → IsSoon t0 place → IsSoon t0 (next_place begin bits place t false false)
+soon_next : (t0 begin t : ℕ) (bits : List Bool) (place : Stage) → begin ≤ t0 → IsSoon t0 place → IsSoon t0 (next_place begin bits place t false false)
 soon_next t0 begin t bits StartLow l s = by_test (nat_lt (begin + 3900) t)
   where
     by_test : (b : Bool) → IsSoon t0 (if b then over BadStart (begin + 3901) (begin + 3901) else StartLow)
@@ -351,7 +351,7 @@ silent_so seats begin pulses t h i y = by_place h.place refl (stands_in seats be
     p : Bool
     p = pulls seats begin pulses h.place h.bits h.held (is_some h.since) t
 
-    by_place : (place : Place) → h.place ≡ place → StandsAt seats (line_in seats begin pulses) begin t h.bits h.held place → silent_by place t (is_some h.since) (pulls seats begin pulses h.place h.bits h.held (is_some h.since) t) ≡ true
+    by_place : (place : Stage) → h.place ≡ place → StandsAt seats (line_in seats begin pulses) begin t h.bits h.held place → silent_by place t (is_some h.since) (pulls seats begin pulses h.place h.bits h.held (is_some h.since) t) ≡ true
         → (e : Ended) × IsSilent seats begin pulses e t h
     by_place StartLow e s k = cc
     by_place StartHigh e s k = cc
@@ -398,7 +398,7 @@ late_silent seats begin pulses t h i e s x =
         ∙ sym (line_found seats begin pulses [] (line_in seats begin pulses) t (t + 1) h.bits h.held h.place (are_frames seats i.sent) (line_sparse pulses i.sparse) round (no_later (t + 1)) (omega arith) stands.stands)
         ∙ high t (omega arith)
 
-soon_at : (seats : List Seat) (low : Line) (begin t0 t : ℕ) (bits : List Bool) (held : ℕ) (place : Place) → StandsAt seats low begin t bits held place → begin ≤ t0 → IsSoon t0 place → ((e : Ended) → place ≡ Over e → t ≤ e.at + 13600)
+soon_at : (seats : List Seat) (low : Line) (begin t0 t : ℕ) (bits : List Bool) (held : ℕ) (place : Stage) → StandsAt seats low begin t bits held place → begin ≤ t0 → IsSoon t0 place → ((e : Ended) → place ≡ Over e → t ≤ e.at + 13600)
     → (t ≤ t0 + 18302) × (t < begin + 464000)
 unfolding StandsAt
 soon_at seats low begin t0 t bits held StartLow s l n o = (omega (arith, s.early), omega (arith, s.early))

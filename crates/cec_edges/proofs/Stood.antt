@@ -5,7 +5,7 @@ use Rattle.std.specs.Option.{option_to_list}
 use Rattle.std.proofs.lemmas.Bool.Decides.{nat_tests}
 use Rattle.cec_wave.specs.Line.{Line, was_low, is_fall, is_rise}
 use Rattle.cec_frame.specs.declared.Ending.{Ending}
-use Rattle.cec_bits.specs.Reading.{first_in, Read, Slot, End, Known, known, known_slot, reading_of, sampled}
+use Rattle.cec_bits.specs.Reading.{first_in, Read, Slot, End, Known, known_at, known_slot, reading_of, bit_sampled_at}
 use Rattle.cec_bits.specs.Phase.{Standing, standing_of, standing_from, stands_from, stands_by, in_reading, at_rest}
 use Rattle.cec_bits.specs.Phase as phase
 use Rattle.cec_bits.proofs.Search.{first_in_none, first_in_some, Found, found_first}
@@ -13,8 +13,8 @@ use Rattle.cec_bits.proofs.Ends.{until_by}
 use Rattle.cec_bits.proofs.Causes.{known_start_low, known_start_high, known_in_slot, nothing}
 use Rattle.cec_wire.specs.declared.Seat.{Seat}
 use Rattle.cec_wire.specs.declared.hearing.Ended.{Ended}
-use Rattle.cec_wire.specs.declared.hearing.Place.{Place}
-use Rattle.cec_wire.specs.declared.hearing.Place.TheVariants.{StartLow, StartHigh, InSlot, Over}
+use Rattle.cec_wire.specs.declared.hearing.Stage.{Stage}
+use Rattle.cec_wire.specs.declared.hearing.Stage.TheVariants.{StartLow, StartHigh, InSlot, Over}
 use Rattle.cec_edges.specs.Standings.{stands_in, still_in}
 use Rattle.cec_wire.proofs.Walk.{over_sampled, told_more}
 use Rattle.cec_wire.proofs.Afterwards.{AreTold, all_told, told_count, risen}
@@ -44,7 +44,7 @@ standing_now low begin t h l m =
     ap (λ n. standing_from low t n 0) (let x : t + 1 ≡ suc t = omega arith in x) ∙ ap (λ o. stands_from low t o (standing_from low t t)) (first_fall low begin t h l m)
 
 -- what has not ended in what is known goes on
-goes_on_still : (low : Line) (begin t : ℕ) → (known (t + 1) (reading_of low begin)).ended ≡ None → nat_lt t (reading_of low begin).at ≡ true
+goes_on_still : (low : Line) (begin t : ℕ) → (known_at (t + 1) (reading_of low begin)).ended ≡ None → nat_lt t (reading_of low begin).at ≡ true
 goes_on_still low begin t h = by_time (nat_lt (reading_of low begin).until (t + 1)) refl h
   where
     by_time : (b : Bool) → nat_lt (reading_of low begin).until (t + 1) ≡ b
@@ -57,10 +57,10 @@ goes_on_still low begin t h = by_time (nat_lt (reading_of low begin).until (t + 
 
 -- ---- the standing in it
 
-in_open : (low : Line) (begin t : ℕ) (slots : List Slot) → known (t + 1) (reading_of low begin) ≡ record { slots = slots; ended = None } → (later : ℕ → Standing)
+in_open : (low : Line) (begin t : ℕ) (slots : List Slot) → known_at (t + 1) (reading_of low begin) ≡ record { slots = slots; ended = None } → (later : ℕ → Standing)
     → stands_by low t begin (reading_of low begin) later ≡ in_reading low begin t slots
 in_open low begin t slots h later =
-    ap (λ b. if b then in_reading low begin t (known (t + 1) (reading_of low begin)).slots else later ((reading_of low begin).until + 1)) (goes_on_still low begin t (ap (λ (k : Known). k.ended) h))
+    ap (λ b. if b then in_reading low begin t (known_at (t + 1) (reading_of low begin)).slots else later ((reading_of low begin).until + 1)) (goes_on_still low begin t (ap (λ (k : Known). k.ended) h))
     ∙ ap (λ (k : Known). in_reading low begin t k.slots) h
 
 in_slot : (low : Line) (begin t : ℕ) (xs : List Slot) (s : Slot) → in_reading low begin t (xs ++ s ∷ []) ≡ phase.InSlot (length (xs ++ s ∷ [])) (filter_map (λ x. x.bit) (xs ++ s ∷ []))
@@ -93,7 +93,7 @@ late_standing low begin t (x ∷ xs) h l e near told =
     ∙ sym (still_so (filter_map (λ (s : Slot). s.bit) (x ∷ xs)) (omega (arith, n)))
 
 -- A wire that has heard microsecond t stands where the line's readings say; after an ending, where the line does not fall any more
-pub stands_so : (seats : List Seat) (low : Line) (begin t : ℕ) (bits : List Bool) (held : ℕ) (place : Place) → ((u : ℕ) → u < begin → low u ≡ false) → low begin ≡ true → begin ≤ t
+pub stands_so : (seats : List Seat) (low : Line) (begin t : ℕ) (bits : List Bool) (held : ℕ) (place : Stage) → ((u : ℕ) → u < begin → low u ≡ false) → low begin ≡ true → begin ≤ t
     → StandsAt seats low begin (t + 1) bits held place → ((e : Ended) → place ≡ Over e → (u : ℕ) → e.until < u → u ≤ t → is_fall low u ≡ false) → standing_of low t ≡ stands_in place bits t (low t)
 unfolding StandsAt nothing
 stands_so seats low begin t bits held StartLow h l m s o =
@@ -110,19 +110,19 @@ stands_so seats low begin t bits held (InSlot fall last) h l m s o =
     ∙ bits_so (length (s.xs ++ one ∷ [])) (if nat_le (fall + 1050) t then length bits else length bits + 1) (filter_map (λ x. x.bit) (s.xs ++ one ∷ [])) bits (length-append s.xs (one ∷ []) ∙ by_time (nat_le (fall + 1050) t) refl) bits_are
   where
     one : Slot
-    one = known_slot (t + 1) (record { fall = fall; bit = sampled low fall })
+    one = known_slot (t + 1) (record { fall = fall; bit = bit_sampled_at low fall })
 
-    k : known (t + 1) (reading_of low begin) ≡ record { slots = s.xs ++ known_slot (t + 1) (record { fall = fall; bit = sampled low fall }) ∷ []; ended = None }
+    k : known_at (t + 1) (reading_of low begin) ≡ record { slots = s.xs ++ known_slot (t + 1) (record { fall = fall; bit = bit_sampled_at low fall }) ∷ []; ended = None }
     k = known_in_slot low begin (t + 1) fall s.left s.xs s.before s.reached.goes (over_sampled fall (t + 1) s.xs (omega (arith, s.after)) s.reached.over) s.after s.quiet s.early (λ w. s.waits (subst (λ (x : Option Ending). IsSome x) (sym s.ends) w))
 
-    by_sampled : (b : Bool) → s.before ++ option_to_list (if b then sampled low fall else None) ≡ s.before ++ (if b then option_to_list (sampled low fall) else [])
+    by_sampled : (b : Bool) → s.before ++ option_to_list (if b then bit_sampled_at low fall else None) ≡ s.before ++ (if b then option_to_list (bit_sampled_at low fall) else [])
     by_sampled true = refl
     by_sampled false = refl
 
     bits_are : filter_map (λ x. x.bit) (s.xs ++ one ∷ []) ≡ bits
     bits_are = told_more s.xs s.before one s.reached.told ∙ by_sampled (nat_lt (fall + 1050) (t + 1)) ∙ sym s.told
 
-    is_sampled : nat_le (fall + 1050) t ≡ true → sampled low fall ≡ Some (not (low (fall + 1050)))
+    is_sampled : nat_le (fall + 1050) t ≡ true → bit_sampled_at low fall ≡ Some (not (low (fall + 1050)))
     is_sampled e = let x : fall + 1050 ≤ t = grind (arith, nat_tests) in
         ap (λ (y : Option ℕ). elim y as (λ z. Option Bool) [ None ↦ Some (not (low (fall + 1050))) | Some f ↦ None ]) (first_in_none (is_fall low) (fall + 1) 1050 (λ u a b. s.quiet u (omega arith) (omega arith)))
 
@@ -132,11 +132,11 @@ stands_so seats low begin t bits held (InSlot fall last) h l m s o =
     by_time : (b : Bool) → nat_le (fall + 1050) t ≡ b → length s.xs + 1 ≡ (if b then length bits else length bits + 1)
     by_time true e =
         let y : nat_lt (fall + 1050) (t + 1) ≡ true = grind (arith, nat_tests) in
-        let z : length (told_by low fall (t + 1)) ≡ 1 = ap (λ b. length (if b then option_to_list (sampled low fall) else [])) y ∙ ap (λ (x : Option Bool). length (option_to_list x)) (is_sampled e) in
+        let z : length (told_by low fall (t + 1)) ≡ 1 = ap (λ b. length (if b then option_to_list (bit_sampled_at low fall) else [])) y ∙ ap (λ (x : Option Bool). length (option_to_list x)) (is_sampled e) in
         omega (arith, s.count, count, z)
     by_time false e =
         let y : nat_lt (fall + 1050) (t + 1) ≡ false = grind (arith, nat_tests) in
-        let z : length (told_by low fall (t + 1)) ≡ 0 = ap (λ b. length (if b then option_to_list (sampled low fall) else [])) y in
+        let z : length (told_by low fall (t + 1)) ≡ 0 = ap (λ b. length (if b then option_to_list (bit_sampled_at low fall) else [])) y in
         omega (arith, s.count, count, z)
 stands_so seats low begin t bits held (Over e) h l m s o =
     standing_now low begin t h l m ∙ by_end (nat_lt t e.at) refl
@@ -153,12 +153,12 @@ stands_so seats low begin t bits held (Over e) h l m s o =
     by_end : (b : Bool) → nat_lt t e.at ≡ b → stands_by low t begin (reading_of low begin) (standing_from low t t) ≡ (if b then still_in bits else at_rest (low t))
     by_end false past =
         ap (λ (r : Read). stands_by low t begin r (standing_from low t t)) s.reads
-        ∙ ap (λ b. if b then in_reading low begin t (known (t + 1) (record { slots = s.zs; ending = e.ending; at = e.at; until = e.until })).slots else standing_from low t t (e.until + 1)) past
+        ∙ ap (λ b. if b then in_reading low begin t (known_at (t + 1) (record { slots = s.zs; ending = e.ending; at = e.at; until = e.until })).slots else standing_from low t t (e.until + 1)) past
         ∙ rest_from low t t (e.until + 1) (first_in_none (is_fall low) (e.until + 1) (t + 1 - (e.until + 1)) (λ u a b. o e refl u (omega arith) (omega arith)))
     by_end true soon =
         let x : t < e.at = grind (arith, nat_tests) in
-        ap (λ n. if nat_lt t n then in_reading low begin t (known (t + 1) (reading_of low begin)).slots else standing_from low t t ((reading_of low begin).until + 1)) at_is
-        ∙ ap (λ b. if b then in_reading low begin t (known (t + 1) (reading_of low begin)).slots else standing_from low t t ((reading_of low begin).until + 1)) soon
+        ap (λ n. if nat_lt t n then in_reading low begin t (known_at (t + 1) (reading_of low begin)).slots else standing_from low t t ((reading_of low begin).until + 1)) at_is
+        ∙ ap (λ b. if b then in_reading low begin t (known_at (t + 1) (reading_of low begin)).slots else standing_from low t t ((reading_of low begin).until + 1)) soon
         ∙ ap (λ (k : Known). in_reading low begin t k.slots) (s.knows (t + 1) s.past)
         ∙ late_standing low begin t s.zs slots_is (omega (arith, at_is, until_is, x, s.past)) (omega (arith, until_is, x, s.past, s.soon)) (omega (arith, at_is, x, s.past, s.soon))
         (subst AreTold slots_is (all_told low begin (omega (arith, at_is, until_is, x, s.past))))

@@ -7,10 +7,10 @@ use Rattle.cec_wave.specs.declared.Stretch.{Stretch}
 use Rattle.cec_wave.specs.Line.{Line, was_low}
 use Rattle.cec_wave.specs.Pulses.{AreSparse}
 use Rattle.cec_wire.specs.declared.Seat.{Seat}
-use Rattle.cec_wire.specs.declared.hearing.Place.{Place}
-use Rattle.cec_wire.specs.declared.hearing.Place.TheVariants.{StartLow, StartHigh, InSlot, Over}
+use Rattle.cec_wire.specs.declared.hearing.Stage.{Stage}
+use Rattle.cec_wire.specs.declared.hearing.Stage.TheVariants.{StartLow, StartHigh, InSlot, Over}
 use Rattle.cec_wire.specs.Round.{IsRoundLine}
-use Rattle.cec_wire.specs.Machine.{AreSentWell, IsEarly, IsReady, samples, next_place, bit_told, held_after, recorded, low_since}
+use Rattle.cec_wire.specs.Machine.{AreSentWell, IsEarly, IsReady, samples, next_place, bit_told, held_after, wave_after, low_since}
 use Rattle.cec_wire.specs.Edges.{Heard, first_heard, hear_in, heard_of, pulls, sending_by, next_due, wake_after, sends_low, is_pulling, sooner, IsPull, if_later, first_end, begin_of, IsTimely, EachLine}
 use Rattle.cec_edges.specs.Wired.{IsHeard, IsNext}
 use Rattle.cec_wire.proofs.Exists.{made_line, made_round}
@@ -44,7 +44,7 @@ stands_in seats begin pulses t h w =
 pub early_in : (seats : List Seat) (begin : ℕ) (pulses : List Stretch) (t : ℕ) (h : Heard) → IsHeard seats begin pulses t h → IsEarly h.place
 early_in seats begin pulses t h w = is_early seats (line_in seats begin pulses) begin t h.bits h.held h.place (stands_in seats begin pulses t h w).stands w.early
 
-timely_at : (seats : List Seat) (low : Line) (begin t : ℕ) (bits : List Bool) (held : ℕ) (place : Place) → begin ≤ 2000000100000 → StandsAt seats low begin t bits held place → IsTimely place
+timely_at : (seats : List Seat) (low : Line) (begin t : ℕ) (bits : List Bool) (held : ℕ) (place : Stage) → begin ≤ 2000000100000 → StandsAt seats low begin t bits held place → IsTimely place
 unfolding StandsAt
 timely_at seats low begin t bits held StartLow l s = tt
 timely_at seats low begin t bits held StartHigh l s = tt
@@ -163,19 +163,19 @@ heard_next seats begin pulses t h b i e = (
 
 -- ---- what a step leaves
 
-pub heard_made : (seats : List Seat) (begin t : ℕ) (was b : Bool) (h : Heard) (place : Place) (bits : List Bool) (held : ℕ) (wave : List Stretch) (since : Option ℕ)
+pub heard_made : (seats : List Seat) (begin t : ℕ) (was b : Bool) (h : Heard) (place : Stage) (bits : List Bool) (held : ℕ) (wave : List Stretch) (since : Option ℕ)
     → place ≡ next_place begin h.bits h.place t (b && not was) (not b && was) → bits ≡ h.bits ++ bit_told h.place t (b && not was) b → held ≡ held_after seats bits place t h.held
-    → wave ≡ recorded h.wave h.since t b → since ≡ low_since h.since t b → was ≡ is_some h.since
+    → wave ≡ wave_after h.wave h.since t b → since ≡ low_since h.since t b → was ≡ is_some h.since
     → record { place = place; bits = bits; held = held; wave = wave; since = since } ≡ hear_in seats begin t (is_some h.since) b h
 heard_made seats begin t was b h place bits held wave since p i e w s y =
     ap (λ x. made x bits held wave since) p ∙ ap (λ x. made place2 x held wave since) i ∙ ap (λ x. made place2 bits2 x wave since) held_is
-    ∙ ap (λ x. made place2 bits2 (held_after seats bits2 place2 t h.held) x since) w ∙ ap (λ x. made place2 bits2 (held_after seats bits2 place2 t h.held) (recorded h.wave h.since t b) x) s
+    ∙ ap (λ x. made place2 bits2 (held_after seats bits2 place2 t h.held) x since) w ∙ ap (λ x. made place2 bits2 (held_after seats bits2 place2 t h.held) (wave_after h.wave h.since t b) x) s
     ∙ ap (λ c. hear_in seats begin t c b h) y
   where
-    made : Place → List Bool → ℕ → List Stretch → Option ℕ → Heard
+    made : Stage → List Bool → ℕ → List Stretch → Option ℕ → Heard
     made p2 b2 e2 w2 s2 = record { place = p2; bits = b2; held = e2; wave = w2; since = s2 }
 
-    place2 : Place
+    place2 : Stage
     place2 = next_place begin h.bits h.place t (b && not was) (not b && was)
 
     bits2 : List Bool
@@ -209,7 +209,7 @@ end_after : (t wake : ℕ) (ps : List Stretch) → t ≤ wake → t ≤ first_en
 end_after t wake [] l = l
 end_after t wake (p ∷ ps) l = end_after t (sooner wake (if_later t p.to)) ps (sooner_after t wake (if_later t p.to) l (later_after t p.to))
 
-due_after : (seats : List Seat) (low : Line) (begin t : ℕ) (bits : List Bool) (held : ℕ) (place : Place) → StandsAt seats low begin t bits held place → (d : ℕ) → next_due begin place t ≡ Some d → t ≤ d
+due_after : (seats : List Seat) (low : Line) (begin t : ℕ) (bits : List Bool) (held : ℕ) (place : Stage) → StandsAt seats low begin t bits held place → (d : ℕ) → next_due begin place t ≡ Some d → t ≤ d
 unfolding StandsAt
 due_after seats low begin t bits held StartLow s d h = let x : begin + 3901 ≡ d = cc in omega (arith, x, s.early)
 due_after seats low begin t bits held StartHigh s d h = let x : begin + 4700 ≡ d = cc in omega (arith, x, s.early)
@@ -296,7 +296,7 @@ first_made bits wave since b w s =
     made b2 w2 s2 = record { place = StartLow; bits = b2; held = 0; wave = w2; since = s2 }
 
 -- with no edge
-pub place_of_same : (begin : ℕ) (bits : List Bool) (place : Place) (t : ℕ) (a b : Bool) → a ≡ b → next_place begin bits place t (a && not b) (not a && b) ≡ next_place begin bits place t false false
+pub place_of_same : (begin : ℕ) (bits : List Bool) (place : Stage) (t : ℕ) (a b : Bool) → a ≡ b → next_place begin bits place t (a && not b) (not a && b) ≡ next_place begin bits place t false false
 place_of_same begin bits place t true true h = refl
 place_of_same begin bits place t false false h = refl
 place_of_same begin bits place t true false h = cc

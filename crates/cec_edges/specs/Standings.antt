@@ -2,8 +2,8 @@
 use Rattle.std.specs.Prelude.{◌≡◌, ℕ, ◌+◌, ◌-◌, ◌<◌, Bool, true, nat_lt, nat_le, if◌then◌else◌, List, [], ◌∷◌, length}
 use Rattle.cec_bits.specs.Phase.{Standing, at_rest, standing_of}
 use Rattle.cec_bits.specs.Phase as phase
-use Rattle.cec_wire.specs.declared.hearing.Place.{Place}
-use Rattle.cec_wire.specs.declared.hearing.Place.TheVariants.{StartLow, StartHigh, InSlot, Over}
+use Rattle.cec_wire.specs.declared.hearing.Stage.{Stage}
+use Rattle.cec_wire.specs.declared.hearing.Stage.TheVariants.{StartLow, StartHigh, InSlot, Over}
 use Rattle.cec_edges.specs.declared.edge_wire.EdgeWire.{EdgeWire}
 use Rattle.cec_edges.specs.Wired.{EachOf, IsBegun, is_low_in}
 
@@ -13,7 +13,7 @@ still_in [] = phase.StartHigh
 still_in (bit ∷ bits) = phase.InSlot (length (bit ∷ bits)) (bit ∷ bits)
 
 -- at the end of microsecond t, with the line low in it or not
-abbrev pub stands_in : Place → List Bool → ℕ → Bool → Standing
+abbrev pub stands_in : Stage → List Bool → ℕ → Bool → Standing
 stands_in StartLow bits t is_low = phase.StartLow
 stands_in StartHigh bits t is_low = phase.StartHigh
 stands_in (InSlot fall last) bits t is_low = phase.InSlot (if nat_le (fall + 1050) t then length bits else length bits + 1) bits

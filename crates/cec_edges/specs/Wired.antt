@@ -11,8 +11,8 @@ use Rattle.cec_bits.specs.declared.sender.Sender.{Sender}
 use Rattle.cec_bits.specs.Follows.{StandsOn}
 use Rattle.cec_bits.specs.Sending.{SenderStood}
 use Rattle.cec_wire.specs.declared.Seat.{Seat}
-use Rattle.cec_wire.specs.declared.hearing.Place.{Place}
-use Rattle.cec_wire.specs.declared.hearing.Place.TheVariants.{Over}
+use Rattle.cec_wire.specs.declared.hearing.Stage.{Stage}
+use Rattle.cec_wire.specs.declared.hearing.Stage.TheVariants.{Over}
 use Rattle.cec_edges.specs.declared.edge_wire.EdgeWire.{EdgeWire}
 use Rattle.cec_wire.specs.declared.Outcome.{Outcome}
 use Rattle.cec_wire.specs.Round.{IsRoundLine, IsRound}
@@ -70,7 +70,7 @@ EdgeAt low t was None = low t ≡ was
 EdgeAt low t was (Some edge) = (edge.at ≡ t) × (low t ≡ edge.low) × (was ≡ not edge.low)
 
 -- the reading has ended, and nobody pulls any more
-abbrev pub silent_by : Place → ℕ → Bool → Bool → Bool
+abbrev pub silent_by : Stage → ℕ → Bool → Bool → Bool
 silent_by (Over ended) t was is_pulled = nat_lt ended.at t && (not was && not is_pulled)
 silent_by _ t was is_pulled = false
 

@@ -2,14 +2,14 @@
 ghost use Rattle.std.specs.Prelude.{◌≡◌, ◌+◌, ◌<◌, ◌≤◌, ◌++◌, ◌&&◌, not, true, false, length, [], All, take, slice_get, IfSome};
 ghost use Rattle.std.specs.List.{list_any};
 ghost use Rattle.cec_wire.specs.Edges.{sends_low, sends_on, sending_by, is_pulling, IsPull, IsTimely};
-ghost use Rattle.cec_wire.specs.Machine.{next_place, bit_told, held_after, recorded, low_since, samples, sends_until, AreSentWell, IsEarly, IsReady};
+ghost use Rattle.cec_wire.specs.Machine.{next_place, bit_told, held_after, wave_after, low_since, samples, sends_until, AreSentWell, IsEarly, IsReady};
 
 use crate::listeners::{Listeners, sender_at};
 use arrayvec::ArrayVec;
 use cec_bits::{Receiver, Sender, copied_bits};
 use cec_wave::{Edge, Pulses, Stretch};
 use cec_wire::{
-    Outcome, Place, Pull, Recorder, Seat, Wire, ending, held_until, is_any_low, is_pulsed,
+    Outcome, Pull, Recorder, Seat, Stage, Wire, ending, held_until, is_any_low, is_pulsed,
     leave_out, next_wake, outcome_of, pull_at, pulses_until, senders_until, sending_first,
 };
 
@@ -26,7 +26,7 @@ pub struct EdgeWire {
     sending: ArrayVec<Seat, 15>,
     /// What they do, for as long as that lasts.
     pull: Pull,
-    place: Place,
+    place: Stage,
     held: u64,
     recorder: Recorder,
     listeners: Listeners,
@@ -99,7 +99,7 @@ impl EdgeWire {
             bits: ArrayVec::new(),
             sending,
             pull,
-            place: Place::StartLow,
+            place: Stage::StartLow,
             held: 0,
             recorder: Recorder::new(),
             listeners: Listeners::new(seats, start),
@@ -181,7 +181,7 @@ impl EdgeWire {
         self.bits.clear();
         self.sending = sending_first(seats);
         self.pull = pull_at(self.sending.as_slice(), start, start);
-        self.place = Place::StartLow;
+        self.place = Stage::StartLow;
         self.held = 0;
         self.recorder.clear();
     }
@@ -311,7 +311,7 @@ impl EdgeWire {
         ensures place { self.new.place ≡ next_place self.old.begin self.old.bits.items self.old.place self.old.time (is_low && not was) (not is_low && was) }
         ensures bits { self.new.bits.items ≡ self.old.bits.items ++ bit_told self.old.place self.old.time (is_low && not was) is_low }
         ensures held { self.new.held ≡ held_after self.old.seats.items self.new.bits.items self.new.place self.old.time self.old.held }
-        ensures wave { self.new.recorder.wave ≡ recorded self.old.recorder.wave self.old.recorder.low_since self.old.time is_low }
+        ensures wave { self.new.recorder.wave ≡ wave_after self.old.recorder.wave self.old.recorder.low_since self.old.time is_low }
         ensures since { self.new.recorder.low_since ≡ low_since self.old.recorder.low_since self.old.time is_low }
         ensures time { self.new.time ≡ self.old.time + 1 }
         ensures round { SameRound self.old self.new }
@@ -372,7 +372,7 @@ impl EdgeWire {
         ensures { result ≡ is_silent_in self.now }
     {
         match self.place {
-            Place::Over(ended) => {
+            Stage::Over(ended) => {
                 ended.at < self.time && (!self.recorder.was_low() && !self.is_pulled())
             }
             _ => false,

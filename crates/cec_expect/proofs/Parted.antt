@@ -1,7 +1,7 @@
 -- Texts and their words.
 use Rattle.std.proofs.Common.{◌≡◌, ℕ, Bool, false, List, [], ◌∷◌, Option, Some, None, ap, sym, refl, ◌∙◌, subst}
 use Rattle.std.proofs.lemmas.List.Splits.{join_with_byte-slice_split}
-use Rattle.cec_words.specs.Words.{words_of, text_of}
+use Rattle.hdmi_core.specs.Words.{words_of, text_of}
 use Rattle.cec_expect.specs.Line.{is_expectation, plain_words}
 use Rattle.cec_expect.specs.Form.{Parts, parts_in}
 

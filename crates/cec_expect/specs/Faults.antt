@@ -4,9 +4,9 @@
 use Rattle.std.specs.Prelude.{ℕ, ◌+◌, ◌==◌, nat_lt, ◌&&◌, not, codes, Bool, true, false, if◌then◌else◌, length, List, [], ◌∷◌, Option, Some, None, Result, Ok, Err}
 use Rattle.std.specs.Str.{bytes_eq}
 use Rattle.std.specs.List.{list_any}
-use Rattle.cec_words.specs.Lines.{lines_of}
-use Rattle.cec_words.specs.Words.{words_of}
-use Rattle.cec_words.specs.Number.{number_of}
+use Rattle.hdmi_core.specs.Lines.{lines_of}
+use Rattle.hdmi_core.specs.Words.{words_of}
+use Rattle.hdmi_core.specs.Number.{number_of}
 use Rattle.cec_expect.specs.Line.{label_in, behind_label, is_event}
 use Rattle.cec_expect.specs.Form.{Form, Window, form_in}
 use Rattle.cec_expect.specs.Form.Form.{Other, Rounds, State, Refused}
@@ -34,8 +34,8 @@ labelled_from of_events number (line ∷ lines) name =
     else labelled_from of_events (number + 1) lines name
 
 -- the line of a label
-abbrev pub labelled : List ℕ → List ℕ → Option ℕ
-labelled script name = labelled_from false 1 (lines_of script) name
+abbrev pub line_of_label : List ℕ → List ℕ → Option ℕ
+line_of_label script name = labelled_from false 1 (lines_of script) name
 
 -- the line of an event's label
 abbrev pub event_labelled : List ℕ → List ℕ → Option ℕ
@@ -52,7 +52,7 @@ is_line number (Some line) = line == number
 -- a line's own label is no empty word, and stands on no line before
 abbrev pub is_own_label : List ℕ → ℕ → Option (List ℕ) → Bool
 is_own_label script number None = true
-is_own_label script number (Some name) = nat_lt 0 (length name) && is_line number (labelled script name)
+is_own_label script number (Some name) = nat_lt 0 (length name) && is_line number (line_of_label script name)
 
 -- ---- states
 
@@ -83,7 +83,7 @@ ends_before script time = list_any (λ line. is_past time (end_in (behind_label 
 -- ---- lines at fault
 
 abbrev pub window_fault : List ℕ → ℕ → Window → Option ExpectCause
-window_fault script number (Within duration name) = if is_above number (labelled script name) then None else Some Label
+window_fault script number (Within duration name) = if is_above number (line_of_label script name) then None else Some Label
 window_fault script number (From from to) = if nat_lt to from then Some Order else None
 
 abbrev pub form_fault : List ℕ → ℕ → Form → Option ExpectCause

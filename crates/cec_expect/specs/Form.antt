@@ -3,8 +3,8 @@
 use Rattle.std.specs.Prelude.{◌≡◌, ℕ, ◌≤◌, ◌==◌, nat_lt, nat_le, ◌&&◌, not, Bool, if◌then◌else◌, codes, length, filter, List, [], ◌∷◌, Option, Some, None, Result, Ok, Err}
 use Rattle.std.specs.Str.{bytes_eq}
 use Rattle.std.specs.List.{list_all}
-use Rattle.cec_words.specs.Number.{number_of}
-use Rattle.cec_words.specs.Words.{words_of, text_of, two_of}
+use Rattle.hdmi_core.specs.Number.{number_of}
+use Rattle.hdmi_core.specs.Words.{words_of, text_of, two_of}
 use Rattle.cec_expect.specs.declared.form.ExpectCause.{ExpectCause}
 use Rattle.cec_expect.specs.declared.form.ExpectCause.TheVariants.{Word, Number}
 use Rattle.cec_expect.specs.declared.form.Quantity.{Quantity}
@@ -73,10 +73,10 @@ abbrev pub within : Quantity → Option ℕ → Parts → Result Form ExpectCaus
 within quantity None parts = Err Number
 within quantity (Some duration) parts = Ok (Rounds quantity (Within duration parts.second) parts.pattern)
 
-abbrev pub between : Quantity → Option ℕ → Option ℕ → Parts → Result Form ExpectCause
-between quantity None to parts = Err Number
-between quantity (Some from) None parts = Err Number
-between quantity (Some from) (Some to) parts = Ok (Rounds quantity (From from to) parts.pattern)
+abbrev pub rounds_between : Quantity → Option ℕ → Option ℕ → Parts → Result Form ExpectCause
+rounds_between quantity None to parts = Err Number
+rounds_between quantity (Some from) None parts = Err Number
+rounds_between quantity (Some from) (Some to) parts = Ok (Rounds quantity (From from to) parts.pattern)
 
 abbrev pub is_window : List ℕ → List ℕ → Parts → Bool
 is_window kind joint parts = bytes_eq parts.kind kind && bytes_eq parts.joint joint
@@ -86,7 +86,7 @@ rounds_by quantity None = Err Word
 rounds_by quantity (Some parts) =
     if not (is_pattern parts.pattern) then Err Word
     else if is_window (codes "within") (codes "of") parts then within quantity (number_of parts.first) parts
-    else if is_window (codes "from") (codes "to") parts then between quantity (number_of parts.first) (number_of parts.second) parts
+    else if is_window (codes "from") (codes "to") parts then rounds_between quantity (number_of parts.first) (number_of parts.second) parts
     else Err Word
 
 abbrev pub rounds_in : Quantity → List (List ℕ) → Result Form ExpectCause
@@ -98,16 +98,16 @@ rounds_in quantity words = rounds_by quantity (parts_in words)
 abbrev pub are_words : List (List ℕ) → Bool
 are_words words = list_all (λ word. nat_lt 0 (length word)) words
 
-abbrev pub timed : Option ℕ → List ℕ → List (List ℕ) → Result Form ExpectCause
-timed None device words = Err Number
-timed (Some time) device words = if nat_lt 1000000000000 time then Err Number else Ok (State time device words)
+abbrev pub state_at_time : Option ℕ → List ℕ → List (List ℕ) → Result Form ExpectCause
+state_at_time None device words = Err Number
+state_at_time (Some time) device words = if nat_lt 1000000000000 time then Err Number else Ok (State time device words)
 
 -- a time, a device, and at least one word
 abbrev pub state_in : List (List ℕ) → Result Form ExpectCause
 state_in [] = Err Word
 state_in (time ∷ []) = Err Word
 state_in (time ∷ device ∷ []) = Err Word
-state_in (time ∷ device ∷ word ∷ words) = if are_words (word ∷ words) then timed (number_of time) device (word ∷ words) else Err Word
+state_in (time ∷ device ∷ word ∷ words) = if are_words (word ∷ words) then state_at_time (number_of time) device (word ∷ words) else Err Word
 
 -- ---- all
 
@@ -115,7 +115,7 @@ abbrev pub refused_by : Option (List ℕ × List ℕ) → Result Form ExpectCaus
 refused_by None = Err Word
 refused_by (Some words) = Ok (Refused words.0 words.1)
 
--- the words behind `expect`
+-- the words after `expect`
 abbrev pub expectation_in : List (List ℕ) → Result Form ExpectCause
 expectation_in [] = Err Word
 expectation_in (how ∷ words) =

@@ -3,9 +3,9 @@ use Rattle.std.specs.Prelude.{ℕ, nat_lt, Bool, false, if◌then◌else◌, cod
 use Rattle.std.specs.Str.{bytes_eq}
 use Rattle.std.specs.Fmt.{decimal}
 use Rattle.std.specs.List.{flat_map}
-use Rattle.cec_words.specs.Lines.{lines_of, is_skipped}
-use Rattle.cec_words.specs.Number.{number_of}
-use Rattle.cec_words.specs.Words.{words_of, text_of}
+use Rattle.hdmi_core.specs.Lines.{lines_of, is_skipped}
+use Rattle.hdmi_core.specs.Number.{number_of}
+use Rattle.hdmi_core.specs.Words.{words_of, text_of}
 
 abbrev pub first_of : List (List ℕ) → Option (List ℕ)
 first_of [] = None

@@ -2,15 +2,15 @@
 ghost use Rattle.std.specs.Prelude.{◌≡◌, ◌&&◌, if◌then◌else◌, true, false};
 ghost use Rattle.std.specs.List.{list_any};
 ghost use Rattle.std.specs.Option.{option_copied};
-ghost use Rattle.cec_words.specs.Lines.{lines_of};
-ghost use Rattle.cec_words.specs.Words.{words_behind, words_of};
+ghost use Rattle.hdmi_core.specs.Lines.{lines_of};
+ghost use Rattle.hdmi_core.specs.Words.{words_behind, words_of};
 ghost use Rattle.cec_expect.specs.Form.{form_as, window_of};
 ghost use Rattle.cec_expect.specs.Line.{behind_label};
-ghost use Rattle.cec_expect.specs.Faults.{declared_in, end_in, ends_before, event_labelled, first_fault, form_fault, has_label, is_above, is_declared, is_event_line, is_line, is_named, is_own_label, is_past, is_strange, labelled, labelled_from, line_fault, window_fault};
+ghost use Rattle.cec_expect.specs.Faults.{declared_in, end_in, ends_before, event_labelled, first_fault, form_fault, has_label, is_above, is_declared, is_event_line, is_line, is_named, is_own_label, is_past, is_strange, line_of_label, labelled_from, line_fault, window_fault};
 
 use crate::form::{ExpectCause, Form, Window, form_in};
 use crate::line::{has_verb, unlabelled};
-use cec_words::{first_line, first_word, number_in};
+use hdmi_core::{first_line, first_word, number_in};
 use thiserror::Error;
 
 /// The first line of a script at fault, counted from 1, and why.
@@ -58,8 +58,8 @@ fn labelled_in(of_events: bool, script: &[u8], name: &[u8]) -> Option<u64>
 }
 
 /// The first line of a script with this label, counted from 1.
-pub fn labelled(script: &[u8], name: &[u8]) -> Option<u64>
-    ensures { result ≡ labelled script.now name.now }
+pub fn line_of_label(script: &[u8], name: &[u8]) -> Option<u64>
+    ensures { result ≡ line_of_label script.now name.now }
 {
     labelled_in(false, script, name)
 }
@@ -94,7 +94,7 @@ fn is_own_label(script: &[u8], number: u64, label: Option<&[u8]>) -> bool
 {
     match label {
         None => true,
-        Some(name) => !name.is_empty() && is_line(number, labelled(script, name)),
+        Some(name) => !name.is_empty() && is_line(number, line_of_label(script, name)),
     }
 }
 
@@ -172,7 +172,7 @@ fn window_fault(script: &[u8], number: u64, window: Window) -> Option<ExpectCaus
 {
     match window {
         Window::Within { label, .. } => {
-            if is_above(number, labelled(script, label)) {
+            if is_above(number, line_of_label(script, label)) {
                 None
             } else {
                 Some(ExpectCause::Label)

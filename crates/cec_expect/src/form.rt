@@ -1,13 +1,13 @@
 //! What the line of an expectation says.
 ghost use Rattle.std.specs.Prelude.{◌≡◌, ◌≤◌, ◌+◌, length, Some, IfOk};
 ghost use Rattle.std.specs.Option.{option_copied, option_map};
-ghost use Rattle.cec_words.specs.Words.{words_behind, words_of};
-ghost use Rattle.cec_words.specs.Number.{number_of};
-ghost use Rattle.cec_expect.specs.Form.{IsEarly, IsForm, are_words, between, expectation_in, form_in, is_pattern, is_window, parts_as, parts_in, refused_by, rounds_by, rounds_in, stars, state_in, timed, within};
-ghost use Rattle.cec_words.specs.Words.{two_of};
+ghost use Rattle.hdmi_core.specs.Words.{words_behind, words_of};
+ghost use Rattle.hdmi_core.specs.Number.{number_of};
+ghost use Rattle.cec_expect.specs.Form.{IsEarly, IsForm, are_words, rounds_between, expectation_in, form_in, is_pattern, is_window, parts_as, parts_in, refused_by, rounds_by, rounds_in, stars, state_in, state_at_time, within};
+ghost use Rattle.hdmi_core.specs.Words.{two_of};
 
 use cec_wave::LATEST_EVENT;
-use cec_words::{first_word, number_in, two_words};
+use hdmi_core::{first_word, number_in, two_words};
 use thiserror::Error;
 
 /// Why the line of a label or an expectation is refused: the first of these that applies.
@@ -140,8 +140,8 @@ fn within<'a>(quantity: Quantity, parts: &Parts<'a>) -> Result<Form<'a>, ExpectC
     })
 }
 
-fn between<'a>(quantity: Quantity, parts: &Parts<'a>) -> Result<Form<'a>, ExpectCause>
-    ensures is { IsForm (between quantity (number_of parts.now.first.now) (number_of parts.now.second.now) (parts_as parts.now)) result }
+fn rounds_between<'a>(quantity: Quantity, parts: &Parts<'a>) -> Result<Form<'a>, ExpectCause>
+    ensures is { IsForm (rounds_between quantity (number_of parts.now.first.now) (number_of parts.now.second.now) (parts_as parts.now)) result }
     ensures early { IfOk result IsEarly }
 {
     let Some(from) = number_in(parts.first) else {
@@ -166,7 +166,7 @@ fn rounds_by<'a>(quantity: Quantity, parts: &Parts<'a>) -> Result<Form<'a>, Expe
     } else if is_window(b"within", b"of", parts) {
         within(quantity, parts)
     } else if is_window(b"from", b"to", parts) {
-        between(quantity, parts)
+        rounds_between(quantity, parts)
     } else {
         Err(ExpectCause::Word)
     }
@@ -197,8 +197,12 @@ fn are_words(text: &[u8]) -> bool
     true
 }
 
-fn timed<'a>(time: &[u8], device: &'a [u8], words: &'a [u8]) -> Result<Form<'a>, ExpectCause>
-    ensures is { IsForm (timed (number_of time.now) device.now (words_of words.now)) result }
+fn state_at_time<'a>(
+    time: &[u8],
+    device: &'a [u8],
+    words: &'a [u8],
+) -> Result<Form<'a>, ExpectCause>
+    ensures is { IsForm (state_at_time (number_of time.now) device.now (words_of words.now)) result }
     ensures early { IfOk result IsEarly }
 {
     match number_in(time) {
@@ -234,7 +238,7 @@ fn state_in<'a>(rest: Option<&'a [u8]>) -> Result<Form<'a>, ExpectCause>
     };
     let (_word, _words) = first_word(words);
     if are_words(words) {
-        timed(time, device, words)
+        state_at_time(time, device, words)
     } else {
         Err(ExpectCause::Word)
     }

@@ -6,7 +6,7 @@ mod form;
 mod line;
 mod pattern;
 
-pub use faults::{ExpectFault, event_labelled, first_fault, labelled};
+pub use faults::{ExpectFault, event_labelled, first_fault, line_of_label};
 pub use form::{ExpectCause, Form, Quantity, Window, form_in};
 pub use line::{Labelled, cut_script, plain_script, unlabelled};
 pub use pattern::fits;

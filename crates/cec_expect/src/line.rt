@@ -2,10 +2,10 @@
 ghost use Rattle.std.specs.Prelude.{◌≡◌, ◌++◌, ◌∷◌, [], codes, if◌then◌else◌, OnOk, IfOk};
 ghost use Rattle.std.specs.Fmt.{decimal};
 ghost use Rattle.std.specs.Option.{option_copied};
-ghost use Rattle.cec_words.specs.Words.{words_behind, words_of};
+ghost use Rattle.hdmi_core.specs.Words.{words_behind, words_of};
 ghost use Rattle.cec_expect.specs.Line.{behind_label, cut_line, cut_script, has_verb, is_before, label_in, plain_line, plain_script, plain_words};
 
-use cec_words::{first_line, first_word, is_skipped, number_in};
+use hdmi_core::{first_line, first_word, is_skipped, number_in};
 use std::alloc::{AllocError, Global};
 
 /// A line of a script: its label, and the line without it.

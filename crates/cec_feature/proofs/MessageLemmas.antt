@@ -2,7 +2,7 @@
 use Rattle.std.proofs.Common.{◌≡◌, ℕ, ◌<◌, true, [], ◌∷◌, refl, ap, ◌∙◌, arith}
 use Rattle.std.proofs.lemmas.Bool.Decides.{nat_tests}
 use Rattle.cec_opcode.specs.Words.{status_at}
-use Rattle.cec_opcode.specs.Table.{decoded, row_of, spelling}
+use Rattle.cec_opcode.specs.Table.{decoding, row_of, spelling}
 use Rattle.hdmi_core.specs.Bytes.{are_bytes}
 use Rattle.cec_opcode.specs.Laws.{KeepsOperands, SaysOperands}
 use Rattle.cec_opcode.specs.declared.message.Message.{Message}
@@ -20,5 +20,5 @@ Keeps = (code : ℕ) → KeepsOperands code
 
 pub status_spelled : Keeps → (status : ℕ) → status < 256 → spelling (ReportAudioStatus (status_at status)) ≡ 0x7a ∷ status ∷ []
 status_spelled keeps status h =
-    let says : SaysOperands 0x7a (status ∷ []) (decoded 0x7a (status ∷ []) (row_of 0x7a)) = keeps 0x7a (status ∷ []) refl (one_byte status h) refl in
+    let says : SaysOperands 0x7a (status ∷ []) (decoding 0x7a (status ∷ []) (row_of 0x7a)) = keeps 0x7a (status ∷ []) refl (one_byte status h) refl in
     ap spelling (known (ReportAudioStatus (status_at status)) says.message says.said) ∙ says.sent

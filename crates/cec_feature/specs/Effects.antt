@@ -63,8 +63,8 @@ abbrev pub is_no_media : DeckInfo → Bool
 is_no_media NoMedia = true
 is_no_media _ = false
 
-abbrev pub turned : Record → DeckInfo → Effect
-turned r deck = does (record r { deck = deck }) (notice r deck)
+abbrev pub deck_change : Record → DeckInfo → Effect
+deck_change r deck = does (record r { deck = deck }) (notice r deck)
 
 -- Standby (CEC 13.3): what is held down and who asked for the deck's status are forgotten, and a deck with a medium stops
 -- (own)
@@ -101,15 +101,15 @@ deck_asked h r (OtherRequest other) = refuses r InvalidOperand
 
 -- a deck that is on and has a medium
 abbrev pub wound : Record → DeckInfo → Effect
-wound r deck = if not r.power || is_no_media r.deck then refuses r WrongMode else turned r deck
+wound r deck = if not r.power || is_no_media r.deck then refuses r WrongMode else deck_change r deck
 
 -- Deck Control (CEC 13.7)
-abbrev pub controlled : Record → DeckControlMode → Effect
-controlled r SkipForward = wound r SkippingForward
-controlled r SkipReverse = wound r SkippingReverse
-controlled r Stop = wound r Stopped
-controlled r Eject = if r.power then turned r NoMedia else refuses r WrongMode
-controlled r (OtherControl other) = refuses r InvalidOperand
+abbrev pub deck_control : Record → DeckControlMode → Effect
+deck_control r SkipForward = wound r SkippingForward
+deck_control r SkipReverse = wound r SkippingReverse
+deck_control r Stop = wound r Stopped
+deck_control r Eject = if r.power then deck_change r NoMedia else refuses r WrongMode
+deck_control r (OtherControl other) = refuses r InvalidOperand
 
 -- Device Menu Control (CEC 13.12): Menu Status of a deck that is on
 abbrev pub menu_told : Record → Bool → Effect
@@ -125,17 +125,17 @@ menu_asked r (OtherMenu other) = refuses r InvalidOperand
 -- ---- a television's screen and sound
 
 -- a text on the screen of a television that is on
-abbrev pub written : Record → ArrayVec ℕ 16 (Unit {0}) → Effect
-written r text =
+abbrev pub osd_text : Record → ArrayVec ℕ 16 (Unit {0}) → Effect
+osd_text r text =
     if not r.power then refuses r WrongMode else (
     if length text.items == 0 then refuses r InvalidOperand else does (record r { osd = text }) [])
 
 -- OSD Display (CEC 13.10): Set OSD String
-abbrev pub shown : Record → Display → ArrayVec ℕ 16 (Unit {0}) → Effect
-shown r Default text = written r text
-shown r Hold text = written r text
-shown r Clear text = if r.power then does (record r { osd = record { items = [] } }) [] else refuses r WrongMode
-shown r (OtherDisplay other) text = refuses r InvalidOperand
+abbrev pub osd_display : Record → Display → ArrayVec ℕ 16 (Unit {0}) → Effect
+osd_display r Default text = osd_text r text
+osd_display r Hold text = osd_text r text
+osd_display r Clear text = if r.power then does (record r { osd = record { items = [] } }) [] else refuses r WrongMode
+osd_display r (OtherDisplay other) text = refuses r InvalidOperand
 
 -- System Audio Control (CEC 13.15): Set System Audio Mode
 abbrev pub audio_set : Record → SystemAudio → Effect
@@ -160,12 +160,12 @@ leads own None = []
 leads own (Some n) = if is_nowhere (below own n) then [] else Cast (0x81 ∷ (below own n).high ∷ (below own n).low ∷ []) ∷ []
 
 -- Routing Change and Routing Information (CEC 13.2): the way leads to an address
-abbrev pub routed : Kind → Phys → Phys → Record → Effect
-routed kind own to r = does (record r { path = Some to; active = None }) (if is_switch kind && same_phys to own then leads own r.selected else [])
+abbrev pub route_change : Kind → Phys → Phys → Record → Effect
+route_change kind own to r = does (record r { path = Some to; active = None }) (if is_switch kind && same_phys to own then leads own r.selected else [])
 
 -- Set Stream Path (CEC 13.2): a deck or amplifier at the address becomes the active source
-abbrev pub streamed : Kind → Phys → ℕ → Phys → Record → Effect
-streamed kind own ports to r =
+abbrev pub stream_path : Kind → Phys → ℕ → Phys → Record → Effect
+stream_path kind own ports to r =
     if (is_deck kind || is_amp kind) && same_phys to own
     then does (record r { path = Some to; power = true; active = Some to }) (Cast (0x82 ∷ to.high ∷ to.low ∷ []) ∷ [])
     else does (selecting kind own ports to (record r { path = Some to })) []
@@ -179,15 +179,15 @@ is_active (Some q) p = same_phys q p
 
 -- a deck with a medium: its state, reported
 abbrev pub decks : Kind → Record → DeckInfo → Effect
-decks kind r deck = if is_deck kind && not (is_no_media r.deck) then turned r deck else does r []
+decks kind r deck = if is_deck kind && not (is_no_media r.deck) then deck_change r deck else does r []
 
 -- an amplifier with system audio mode on reports its volume (CEC 13.15)
-abbrev pub told : Kind → Record → Effect
-told kind r = does r (if is_amp kind && r.audio then Reply (0x7a ∷ volume_status r ∷ []) ∷ [] else [])
+abbrev pub volume_report : Kind → Record → Effect
+volume_report kind r = does r (if is_amp kind && r.audio then Reply (0x7a ∷ volume_status r ∷ []) ∷ [] else [])
 
 -- a television or amplifier: its volume, reported
 abbrev pub sounds : Kind → Record → Record → Effect
-sounds kind r after = if is_deck kind then does r [] else told kind after
+sounds kind r after = if is_deck kind then does r [] else volume_report kind after
 
 -- a deck: its menu, reported where it changed
 abbrev pub menus : Kind → Record → Bool → ℕ → Effect
@@ -213,8 +213,8 @@ wakes Power = true
 wakes PowerOn = true
 wakes _ = false
 
-abbrev pub pressed : Kind → UserControl → Record → Effect
-pressed kind code r =
+abbrev pub key_press : Kind → UserControl → Record → Effect
+key_press kind code r =
     if r.power then pressed_on kind code (record r { held = Some (user_control_byte code) }) else (
     if wakes code then does (record r { power = true; held = Some (user_control_byte code) }) [] else does r [])
 
@@ -228,30 +228,30 @@ effect_of kind own name ports h r (GiveDeckStatus request) = only (is_deck kind)
 effect_of kind own name ports h r (DeckStatus deck) = hears h r
 effect_of kind own name ports h r Standby = does (standby r) []
 effect_of kind own name ports h r (Play mode) = only (is_deck kind) r (plays r (mode_deck mode))
-effect_of kind own name ports h r (DeckControl control) = only (is_deck kind) r (controlled r control)
-effect_of kind own name ports h r (UserControlPressed code) = only (is_tv kind || (is_deck kind || is_amp kind)) r (pressed kind code r)
+effect_of kind own name ports h r (DeckControl control) = only (is_deck kind) r (deck_control r control)
+effect_of kind own name ports h r (UserControlPressed code) = only (is_tv kind || (is_deck kind || is_amp kind)) r (key_press kind code r)
 effect_of kind own name ports h r UserControlReleased = only (is_tv kind || (is_deck kind || is_amp kind)) r (does (record r { held = None }) [])
 effect_of kind own name ports h r GiveOsdName = does r (Reply (0x47 ∷ name) ∷ [])
 effect_of kind own name ports h r (SystemAudioModeRequest None) = only (is_amp kind) r (does (record r { audio = false }) (Cast (0x72 ∷ 0 ∷ []) ∷ []))
 effect_of kind own name ports h r (SystemAudioModeRequest (Some address)) = only (is_amp kind) r (does (record r { power = true; audio = true }) (Cast (0x72 ∷ 1 ∷ []) ∷ []))
 effect_of kind own name ports h r GiveAudioStatus = only (is_amp kind) r (does r (Reply (0x7a ∷ volume_status r ∷ []) ∷ []))
-effect_of kind own name ports h r (RoutingChange from to) = routed kind own to r
+effect_of kind own name ports h r (RoutingChange from to) = route_change kind own to r
 effect_of kind own name ports h r (ActiveSource address) = does (selecting kind own ports address (record r { active = Some address; path = Some address })) []
 effect_of kind own name ports h r (InactiveSource address) = only (is_tv kind) r (if is_active r.active address then does (record r { active = None }) [] else does r [])
 effect_of kind own name ports h r GivePhysicalAddress = does r (Cast (0x84 ∷ own.high ∷ own.low ∷ type_of kind h.to ∷ []) ∷ [])
 effect_of kind own name ports h r (ReportPhysicalAddress address type) = hears h r
-effect_of kind own name ports h r (SetStreamPath address) = streamed kind own ports address r
+effect_of kind own name ports h r (SetStreamPath address) = stream_path kind own ports address r
 effect_of kind own name ports h r (MenuRequest request) = only (is_deck kind) r (menu_asked r request)
 effect_of kind own name ports h r (RequestArcInitiation) = only (is_amp kind) r (
     if h.from == 0 then does r (Reply (0xc0 ∷ []) ∷ []) else refuses r Refused)
 effect_of kind own name ports h r (SetMenuLanguage language) = only (is_deck kind || is_amp kind) r (if h.from == 0 then does (record r { language = language }) [] else does r [])
 effect_of kind own name ports h r (SetOsdName text) = hears h r
-effect_of kind own name ports h r (SetOsdString display text) = only (is_tv kind) r (shown r display text)
+effect_of kind own name ports h r (SetOsdString display text) = only (is_tv kind) r (osd_display r display text)
 effect_of kind own name ports h r (SetSystemAudioMode audio) = only (is_tv kind) r (audio_set r audio)
 effect_of kind own name ports h r (ReportAudioStatus status) = hears h r
 effect_of kind own name ports h r GiveSystemAudioModeStatus = only (is_amp kind) r (does r (Reply (0x7e ∷ (if r.audio then 1 else 0) ∷ []) ∷ []))
 effect_of kind own name ports h r (SystemAudioModeStatus audio) = hears h r
-effect_of kind own name ports h r (RoutingInformation address) = routed kind own address r
+effect_of kind own name ports h r (RoutingInformation address) = route_change kind own address r
 effect_of kind own name ports h r RequestActiveSource = does r (if r.power && is_active r.active own then Cast (0x82 ∷ own.high ∷ own.low ∷ []) ∷ [] else [])
 effect_of kind own name ports h r (DeviceVendorId vendor) = hears h r
 effect_of kind own name ports h r GiveDeviceVendorId = does r (Cast (0x87 ∷ 0x02 ∷ 0x00 ∷ 0x00 ∷ []) ∷ [])

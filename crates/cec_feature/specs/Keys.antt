@@ -16,7 +16,7 @@ use Rattle.cec_feature.specs.declared.say.Say.TheVariants.{Tell, Cast}
 use Rattle.cec_opcode.specs.declared.deck_words.DeckInfo.TheVariants.{Play as Playing, NoMedia, Stop as Stopped}
 use Rattle.cec_feature.specs.Kinds.{is_tv, is_amp, is_deck, is_switch, is_outside}
 use Rattle.cec_feature.specs.Effect.{Effect, does}
-use Rattle.cec_feature.specs.Effects.{notice, standby, turned, is_active, is_no_media, volume_status}
+use Rattle.cec_feature.specs.Effects.{notice, standby, deck_change, is_active, is_no_media, volume_status}
 use Rattle.cec_feature.specs.Volume.{louder}
 use Rattle.cec_feature.specs.Ways.{below}
 
@@ -43,10 +43,10 @@ code_of Down = VolumeDown
 code_of Mute = MuteCode
 
 -- the record with its sound as the key sets it
-abbrev pub voiced : VolumeKey → Record → Record
-voiced Up r = record r { volume = louder r.volume }
-voiced Down r = record r { volume = r.volume - 1 }
-voiced Mute r = record r { mute = not r.mute }
+abbrev pub sound_after : VolumeKey → Record → Record
+sound_after Up r = record r { volume = louder r.volume }
+sound_after Down r = record r { volume = r.volume - 1 }
+sound_after Mute r = record r { mute = not r.mute }
 
 -- an amplifier with system audio mode on reports its volume to the television (CEC 13.15)
 abbrev pub volume_told : Kind → Record → Effect
@@ -66,9 +66,9 @@ abbrev pub arc_said : Kind → Bool → Say
 arc_said kind on = if is_tv kind then Tell 5 ((if on then 0xc3 else 0xc4) ∷ []) else Tell 0 ((if on then 0xc0 else 0xc5) ∷ [])
 
 -- Routing Control (CEC 13.2): another port is selected, and Routing Change says so with both addresses
-abbrev pub ported : Phys → ℕ → Record → Option ℕ → Effect
-ported own port r None = does (record r { selected = Some port }) []
-ported own port r (Some old) = does (record r { selected = Some port }) (if old == port then [] else
+abbrev pub port_selection : Phys → ℕ → Record → Option ℕ → Effect
+port_selection own port r None = does (record r { selected = Some port }) []
+port_selection own port r (Some old) = does (record r { selected = Some port }) (if old == port then [] else
     Cast (0x80 ∷ (below own old).high ∷ (below own old).low ∷ (below own port).high ∷ (below own port).low ∷ []) ∷ [])
 
 -- to standby: a television sends all others there (CEC 13.3), and the active source says so to the television, by Inactive
@@ -89,17 +89,17 @@ abbrev pub pressing : Kind → Phys → Record → Key → Effect
 pressing kind own r Play = does
     (record r { power = true; active = Some own; path = Some own; deck = if is_no_media r.deck then r.deck else Playing })
     (Tell 0 (0x04 ∷ []) ∷ Cast (0x82 ∷ own.high ∷ own.low ∷ []) ∷ (if is_no_media r.deck then [] else notice r Playing))
-pressing kind own r Stop = if is_no_media r.deck then does r [] else turned r Stopped
-pressing kind own r Eject = turned r NoMedia
-pressing kind own r Load = if is_no_media r.deck then turned r Stopped else does r []
+pressing kind own r Stop = if is_no_media r.deck then does r [] else deck_change r Stopped
+pressing kind own r Eject = deck_change r NoMedia
+pressing kind own r Load = if is_no_media r.deck then deck_change r Stopped else does r []
 pressing kind own r Menu = does (record r { menu = not r.menu }) (Tell 0 (0x8e ∷ (if r.menu then 1 else 0) ∷ []) ∷ [])
 pressing kind own r Power = if r.power then goes_off kind own r else does (record r { power = true }) []
 pressing kind own r (Watch to) = does (record r { path = Some to }) (Cast (0x86 ∷ to.high ∷ to.low ∷ []) ∷ [])
-pressing kind own r (Port port) = ported own port r r.selected
+pressing kind own r (Port port) = port_selection own port r r.selected
 pressing kind own r (Audio on) = does r (audio_said on r.path ∷ [])
 pressing kind own r (Arc on) = does r (arc_said kind on ∷ [])
 pressing kind own r (Volume key) =
-    if is_tv kind && r.audio then does r (Tell 5 (0x44 ∷ user_control_byte (code_of key) ∷ []) ∷ []) else volume_told kind (voiced key r)
+    if is_tv kind && r.audio then does r (Tell 5 (0x44 ∷ user_control_byte (code_of key) ∷ []) ∷ []) else volume_told kind (sound_after key r)
 pressing kind own r (Language language) =
     does (record r { language = language }) (Cast (0x32 ∷ language.first ∷ language.second ∷ language.third ∷ []) ∷ [])
 pressing kind own r (Remote to code) = does r (Tell to (0x44 ∷ user_control_byte code ∷ []) ∷ [])

@@ -1,7 +1,7 @@
 //! Deck Control (CEC 13.7) and Device Menu Control (CEC 13.12): what a deck and its menu do.
 ghost use Rattle.std.specs.Prelude.{◌≡◌, not};
 ghost use Rattle.cec_feature.specs.Effect.{does, at_most_one};
-ghost use Rattle.cec_feature.specs.Effects.{controlled, deck_asked, is_no_media, menu_asked, menu_told, mode_deck, notice, plays, turned, wound};
+ghost use Rattle.cec_feature.specs.Effects.{deck_control, deck_asked, is_no_media, menu_asked, menu_told, mode_deck, notice, plays, deck_change, wound};
 
 use crate::messages::menu_status;
 use crate::record::{Heard, Record};
@@ -50,7 +50,7 @@ impl Record {
 
     /// Turns the deck to a state.
     pub(crate) fn turn(&mut self, deck: DeckInfo) -> Says
-        ensures { does self.new result.items ≡ turned self.old deck }
+        ensures { does self.new result.items ≡ deck_change self.old deck }
     {
         let notice = self.notice(deck);
         self.deck = deck;
@@ -103,7 +103,7 @@ impl Record {
 
     /// Skips, stops or ejects.
     pub(crate) fn control_deck(&mut self, control: DeckControlMode) -> Says
-        ensures { does self.new result.items ≡ controlled self.old control }
+        ensures { does self.new result.items ≡ deck_control self.old control }
     {
         match control {
             DeckControlMode::SkipForward => self.wind(DeckInfo::SkipForward),

@@ -4,7 +4,7 @@ ghost use Rattle.cec_feature.specs.declared.say.Say.TheVariants.{Reply, Refuse};
 ghost use Rattle.cec_opcode.specs.declared.words.Reason.TheVariants.{Refused};
 ghost use Rattle.cec_opcode.specs.Table.{spelling};
 ghost use Rattle.cec_feature.specs.Effect.{does};
-ghost use Rattle.cec_feature.specs.Effects.{audio_set, effect_of, hears, pressed, pressed_on, routed, selecting, shown, standby, streamed, told, volume_status};
+ghost use Rattle.cec_feature.specs.Effects.{audio_set, effect_of, hears, key_press, pressed_on, route_change, selecting, osd_display, standby, stream_path, volume_report, volume_status};
 
 use crate::kinds::{Identity, is_deck};
 use crate::messages::{
@@ -232,7 +232,7 @@ impl Record {
 
     // Routing Control (CEC 13.2): the way was changed; a switch that it leads to says where it leads on.
     fn route(&mut self, me: Identity, to: Phys) -> Says
-        ensures { does self.new result.items ≡ routed me.kind me.phys to self.old }
+        ensures { does self.new result.items ≡ route_change me.kind me.phys to self.old }
     {
         self.path = Some(to);
         self.active = None;
@@ -249,7 +249,7 @@ impl Record {
 
     // The device at the address that a television wants to see becomes the active source (CEC 13.2).
     fn stream(&mut self, me: Identity, to: Phys) -> Says
-        ensures { does self.new result.items ≡ streamed me.kind me.phys me.ports to self.old }
+        ensures { does self.new result.items ≡ stream_path me.kind me.phys me.ports to self.old }
     {
         self.path = Some(to);
         match me.kind {
@@ -267,7 +267,7 @@ impl Record {
 
     // Shows a text on the screen, or none (CEC 13.10).
     fn show(&mut self, display: Display, text: &ArrayVec<u8, 16>) -> Says
-        ensures { does self.new result.items ≡ shown self.old display text.now }
+        ensures { does self.new result.items ≡ osd_display self.old display text.now }
     {
         match display {
             Display::Other(_) => refuse(Reason::InvalidOperand),
@@ -306,7 +306,7 @@ impl Record {
 
     // Remote Control Pass Through (CEC 13.13): a key of another device's remote.
     fn press(&mut self, kind: Kind, code: UserControl) -> Says
-        ensures { does self.new result.items ≡ pressed kind code self.old }
+        ensures { does self.new result.items ≡ key_press kind code self.old }
     {
         if self.power {
             self.held = Some(code.byte());
@@ -359,7 +359,7 @@ impl Record {
 
     // An amplifier with audio on says how loud it is.
     fn tell_volume(&self, kind: Kind) -> Says
-        ensures { does self.now result.items ≡ told kind self.now }
+        ensures { does self.now result.items ≡ volume_report kind self.now }
     {
         if kind == Kind::Amp && self.audio {
             reply(&report_audio_status(self.audio_status()))

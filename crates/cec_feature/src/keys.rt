@@ -5,7 +5,7 @@ ghost use Rattle.cec_opcode.specs.Table.{spelling};
 ghost use Rattle.cec_feature.specs.declared.say.Say.TheVariants.{Tell};
 ghost use Rattle.cec_feature.specs.Effect.{does};
 ghost use Rattle.cec_feature.specs.KeyWords.{word_of_key};
-ghost use Rattle.cec_feature.specs.Keys.{arc_said, audio_said, code_of, has_key, ported, pressing, releasing, taking_over, voiced};
+ghost use Rattle.cec_feature.specs.Keys.{arc_said, audio_said, code_of, has_key, port_selection, pressing, releasing, taking_over, sound_after};
 
 use crate::key_word::KeyWord;
 use crate::kinds::{Identity, is_deck};
@@ -179,7 +179,7 @@ impl Record {
 
     // Routing Control (CEC 13.2): a switch says to all which way it now leads.
     fn press_port(&mut self, own: Phys, port: Port) -> Says
-        ensures { does self.new result.items ≡ ported own port self.old self.old.selected }
+        ensures { does self.new result.items ≡ port_selection own port self.old self.old.selected }
     {
         let old = self.selected;
         self.selected = Some(port);
@@ -193,7 +193,7 @@ impl Record {
     }
 
     fn turn_volume(&mut self, key: VolumeKey)
-        ensures { self.new ≡ voiced key self.old }
+        ensures { self.new ≡ sound_after key self.old }
     {
         match key {
             VolumeKey::Up => self.volume = self.volume.louder(),

@@ -2,7 +2,7 @@
 ghost use Rattle.std.specs.Prelude.{◌≡◌};
 ghost use Rattle.cec_formats.specs.Forms.{form_of, form_of_line, has_names};
 
-use cec_words::{before, byte_at, first_line, len_before, number_in};
+use hdmi_core::{before, byte_at, first_line, len_before, number_in};
 
 /// The form of a capture.
 #[derive(Clone, Copy, Debug, PartialEq, Eq)]

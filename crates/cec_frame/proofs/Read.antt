@@ -3,11 +3,11 @@ use Rattle.std.proofs.Common.{◌≡◌, ℕ, zero, suc, ◌*◌, ◌/◌, ◌%�
 use Rattle.std.specs.Int.{bit_at}
 use Rattle.std.proofs.lemmas.Bool.Decides.{nat_tests}
 use Rattle.cec_frame.specs.Bits.{frame_bits, block_bits}
-use Rattle.cec_frame.specs.Blocks.{weighed, byte_of, bytes_of, AreBytes, OwnBitsAreRead, FramesAreRead}
+use Rattle.cec_frame.specs.Blocks.{bit_value, byte_of, bytes_of, AreBytes, OwnBitsAreRead, FramesAreRead}
 
 -- ---- one byte
 
-weighs : (w x : ℕ) → x < 2 → weighed w (x == 1) ≡ w * x
+weighs : (w x : ℕ) → x < 2 → bit_value w (x == 1) ≡ w * x
 weighs w zero h = omega arith
 weighs w (suc zero) h = omega arith
 weighs w (suc (suc x)) h = absurd (omega arith)

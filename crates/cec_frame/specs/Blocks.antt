@@ -7,13 +7,13 @@ use Rattle.cec_frame.specs.declared.Reading.{Reading}
 use Rattle.cec_frame.specs.Bits.{frame_bits}
 
 -- a bit at a place of this weight
-abbrev pub weighed : ℕ → Bool → ℕ
-weighed weight bit = if bit then weight else 0
+abbrev pub bit_value : ℕ → Bool → ℕ
+bit_value weight bit = if bit then weight else 0
 
 -- a byte's bits, the most significant first (CEC 6.1)
 abbrev pub byte_of : Bool → Bool → Bool → Bool → Bool → Bool → Bool → Bool → ℕ
 byte_of a b c d e f g h =
-    weighed 128 a + weighed 64 b + weighed 32 c + weighed 16 d + (weighed 8 e + weighed 4 f + weighed 2 g + weighed 1 h)
+    bit_value 128 a + bit_value 64 b + bit_value 32 c + bit_value 16 d + (bit_value 8 e + bit_value 4 f + bit_value 2 g + bit_value 1 h)
 
 -- the bytes of the blocks that were read
 abbrev pub bytes_of : List Bool → List ℕ

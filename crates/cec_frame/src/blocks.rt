@@ -1,12 +1,12 @@
 //! The frame of a reading.
 ghost use Rattle.std.specs.Prelude.{◌≡◌, ◌+◌, ◌*◌, ◌≤◌, ◌++◌, length};
-ghost use Rattle.cec_frame.specs.Blocks.{weighed, byte_of, bytes_of, frame_in};
+ghost use Rattle.cec_frame.specs.Blocks.{bit_value, byte_of, bytes_of, frame_in};
 
 use crate::{Ending, Frame, Reading};
 use arrayvec::ArrayVec;
 
-fn weighed(weight: u8, bit: bool) -> u8
-    ensures value { result ≡ weighed weight bit }
+fn bit_value(weight: u8, bit: bool) -> u8
+    ensures value { result ≡ bit_value weight bit }
     ensures within { result ≤ weight }
 {
     if bit { weight } else { 0 }
@@ -20,8 +20,8 @@ fn push_bytes(bits: &[bool], bytes: &mut ArrayVec<u8, 16>)
     let [a, b, c, d, e, f, g, h, _last, _ack, bits @ ..] = bits else {
         return;
     };
-    let high = weighed(128, *a) + weighed(64, *b) + weighed(32, *c) + weighed(16, *d);
-    let low = weighed(8, *e) + weighed(4, *f) + weighed(2, *g) + weighed(1, *h);
+    let high = bit_value(128, *a) + bit_value(64, *b) + bit_value(32, *c) + bit_value(16, *d);
+    let low = bit_value(8, *e) + bit_value(4, *f) + bit_value(2, *g) + bit_value(1, *h);
     bytes.push(high + low);
     push_bytes(bits, bytes);
 }

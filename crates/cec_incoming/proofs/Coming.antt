@@ -6,7 +6,7 @@ use Rattle.std.proofs.lemmas.Bool.Decides.{nat_tests}
 use Rattle.std.proofs.lemmas.List.{drop_all}
 use Rattle.std.proofs.lemmas.List.Elements.{All-append, All-cons, All-head, All-nil, All-tail, All-weaker}
 use Rattle.std.proofs.lemmas.List.Splits.{slice_split_at, length-slice_split}
-use Rattle.cec_words.specs.Lines.{lines_of, without_empty_end}
+use Rattle.hdmi_core.specs.Lines.{lines_of, without_empty_end}
 use Rattle.cec_incoming.specs.Incoming.{IsNext, IsWhole, Leads, text_of_lines}
 
 -- ---- what is left
@@ -73,7 +73,7 @@ ended (Some xs) None new line whole a b = absurd a
 ended (Some xs) (Some ys) None line whole a b = absurd b
 ended (Some xs) (Some ys) (Some zs) line whole a b = ap lines_of (a ∙ ap (λ l. line ++ l) b) ∙ line_before line zs whole
 
--- the input has ended behind a line, or nothing has come
+-- the input has ended after a line, or nothing has come
 pub at_end : (old mid new : Option (List ℕ)) (line : List ℕ) (empty : Bool) → empty ≡ (length line == 0) → IsWhole line → Consumes old mid line → Consumes mid new [] × IsAtEnd new → IsNext old new line (Ok (not empty))
 at_end old mid new [] true e whole a b = start old mid new a b
   where

@@ -2,18 +2,18 @@
 use Rattle.std.specs.Prelude.{◌≡◌, ◌≢◌, ℕ, ◌<◌, Bool, true, false, List, [], ◌∷◌, ◌++◌, drop, length, Option, Some, None, Result, Ok, Err, All}
 use Rattle.std.specs.List.{flat_map}
 use Rattle.std.specs.Io.KnownBytes.{Consumes, IsAtEnd, prepend_known}
-use Rattle.cec_words.specs.Lines.{lines_of}
+use Rattle.hdmi_core.specs.Lines.{lines_of}
 use Rattle.cec_incoming.specs.declared.incoming.Lines.{Lines}
 use Rattle.cec_incoming.specs.declared.incoming.LineFault.{LineFault}
 use Rattle.cec_incoming.specs.declared.incoming.LineFault.TheVariants.{Read, TooLong}
 
 -- what was read and is not handed out
-abbrev pub left : Lines → List ℕ
-left lines = drop lines.handed lines.pending.items
+abbrev pub bytes_left : Lines → List ℕ
+bytes_left lines = drop lines.handed lines.pending.items
 
 -- and then what the reader has, where that is known
 abbrev pub to_come : Lines → Option (List ℕ) → Option (List ℕ)
-to_come lines rest = prepend_known (left lines) rest
+to_come lines rest = prepend_known (bytes_left lines) rest
 
 -- a line has no end in it
 abbrev pub IsWhole : List ℕ → Type 0

@@ -1,6 +1,6 @@
 //! Lines as they come.
 ghost use Rattle.std.specs.Prelude.{◌≡◌, [], ◌∷◌, OnOk};
-ghost use Rattle.cec_incoming.specs.Incoming.{IsByte, IsFilled, IsNext, IsWhole, left, to_come};
+ghost use Rattle.cec_incoming.specs.Incoming.{IsByte, IsFilled, IsNext, IsWhole, bytes_left, to_come};
 
 use arrayvec::ArrayVec;
 use std::io::Read;
@@ -29,7 +29,7 @@ pub struct Lines {
 impl Lines {
     /// Nothing is read yet.
     pub fn new() -> Lines
-        ensures { left result ≡ [] }
+        ensures { bytes_left result ≡ [] }
     {
         Lines {
             pending: ArrayVec::new(),
@@ -39,7 +39,7 @@ impl Lines {
 
     // Reads some more.
     fn fill<R: Read>(&mut self, input: &mut R) -> Result<(), LineFault>
-        ensures { IsFilled (R.remaining input.old) (to_come self.new (R.remaining input.new)) (left self.new) result }
+        ensures { IsFilled (R.remaining input.old) (to_come self.new (R.remaining input.new)) (bytes_left self.new) result }
     {
         let mut buffer = [0u8; 4096];
         match input.read(&mut buffer) {
@@ -55,7 +55,7 @@ impl Lines {
 
     // Reads some more where all was handed out.
     fn ready<R: Read>(&mut self, input: &mut R) -> Result<(), LineFault>
-        ensures { IsFilled (to_come self.old (R.remaining input.old)) (to_come self.new (R.remaining input.new)) (left self.new) result }
+        ensures { IsFilled (to_come self.old (R.remaining input.old)) (to_come self.new (R.remaining input.new)) (bytes_left self.new) result }
     {
         if self.handed < self.pending.len() {
             return Ok(());

@@ -3,33 +3,33 @@ use Rattle.std.proofs.Common.{◌≡◌, ℕ, ◌+◌, ◌<◌, ◌≤◌, Bool,
 use Rattle.std.proofs.lemmas.Grind.{flat_map-append}
 use Rattle.std.proofs.Math.Seq.{take-suc}
 use Rattle.hdmi_core.specs.declared.sink.WriteFault.{WriteFault}
-use Rattle.cec_words.specs.Cut.{WrittenText}
-use Rattle.cec_words.specs.Lines.{lines_of}
-use Rattle.cec_json.specs.Columns.{field, fields, lead, reading_fields, spelled}
-use Rattle.cec_json.specs.Object.{AreBytesOf, AreInOrder, begun, broken_body, bytes_value, complete_body, complete_fields, frame_fields, frame_in, reading_type, seats, typed}
+use Rattle.hdmi_core.specs.Cut.{WrittenText}
+use Rattle.hdmi_core.specs.Lines.{lines_of}
+use Rattle.cec_json.specs.Columns.{field, fields, field_lead, reading_fields, column_parts}
+use Rattle.cec_json.specs.Object.{AreBytesOf, AreInOrder, reading_start, broken_body, bytes_value, complete_body, complete_fields, frame_fields, frame_in, reading_type, seats, type_field}
 use Rattle.cec_json.specs.Parts.{after_byte, after_word, before_byte, before_last, behind_ending, has_seats, told_in, value_of, word}
 use Rattle.cec_json.specs.Progress.{WritesOn}
-use Rattle.cec_json.specs.Values.{code_text, coded, report_value, some_report}
+use Rattle.cec_json.specs.Values.{code_text, code_texts, report_value, some_report}
 use Rattle.cec_json.specs.declared.columns.Column.{Column}
 use Rattle.cec_json.specs.declared.values.Code.{Code}
 use Rattle.cec_json.specs.declared.values.Shape.TheVariants.{Text}
 
 -- one character more
 pub coded_more : (code : Code) (text : List ℕ) (i : ℕ) (x : List ℕ) → i < length text → x ≡ code_text code (get_or text i 0)
-    → coded code (take i text) ++ x ≡ coded code (take (i + 1) text)
+    → code_texts code (take i text) ++ x ≡ code_texts code (take (i + 1) text)
 coded_more code text i x h e =
-    ap (λ (l : List ℕ). coded code (take i text) ++ l) (e ∙ sym (append-nil (code_text code (get_or text i 0))))
+    ap (λ (l : List ℕ). code_texts code (take i text) ++ l) (e ∙ sym (append-nil (code_text code (get_or text i 0))))
     ∙ sym (flat_map-append (code_text code) (take i text) (get_or text i 0 ∷ []))
-    ∙ ap (coded code) (sym (take-suc text i 0 h) ∙ ap (λ (n : ℕ). take n text) (sym (add-one i)))
+    ∙ ap (code_texts code) (sym (take-suc text i 0 h) ∙ ap (λ (n : ℕ). take n text) (sym (add-one i)))
 
 -- a field, and the rest
 pub fields_more : (columns : List Column) (text first told rest : List ℕ) (none : Column) → 1 ≤ length columns → first ≡ word text → told ≡ value_of first → rest ≡ after_word text
-    → field (get_or columns 0 none).name.now (get_or columns 0 none).shape told ++ fields (map spelled (drop 1 columns)) rest ≡ fields (map spelled columns) text
+    → field (get_or columns 0 none).name.now (get_or columns 0 none).shape told ++ fields (map column_parts (drop 1 columns)) rest ≡ fields (map column_parts columns) text
 unfolding fields
 fields_more [] text first told rest none h e f g = absurd (omega arith)
 fields_more (c ∷ cs) text first told rest none h e f g = rw (f, e, g) refl
 
-pub fields_none : (columns : List Column) (text : List ℕ) → length columns < 1 → [] ≡ fields (map spelled columns) text
+pub fields_none : (columns : List Column) (text : List ℕ) → length columns < 1 → [] ≡ fields (map column_parts columns) text
 unfolding fields
 fields_none [] text h = refl
 fields_none (c ∷ cs) text h = absurd (omega arith)
@@ -49,29 +49,29 @@ pub report_is : (word rest a b c : List ℕ) → rest ≡ after_byte 58 word →
 report_is word rest a b c e f g h =
     report_same a b c (before_byte 58 word) (before_byte 58 (after_byte 58 word)) (after_byte 58 (after_byte 58 word)) f (g ∙ ap (before_byte 58) e) (h ∙ ap (after_byte 58) e)
 
-pub begun_is : (line rest name : List ℕ) (is : Bool) → rest ≡ behind_ending line → is ≡ has_seats rest → name ≡ reading_type is → typed name ++ fields reading_fields line ≡ begun line
-begun_is line rest name is e f g = ap (λ (v : List ℕ). typed v ++ fields reading_fields line) (g ∙ ap reading_type (f ∙ ap has_seats e))
+pub begun_is : (line rest name : List ℕ) (is : Bool) → rest ≡ behind_ending line → is ≡ has_seats rest → name ≡ reading_type is → type_field name ++ fields reading_fields line ≡ reading_start line
+begun_is line rest name is e f g = ap (λ (v : List ℕ). type_field v ++ fields reading_fields line) (g ∙ ap reading_type (f ∙ ap has_seats e))
 
 abbrev frame_by : (bytes : Option (List ℕ)) (text initiator destination : List ℕ) → List ℕ
 frame_by bytes text initiator destination =
-    field (codes "frame") Text text ++ field (codes "initiator") Text initiator ++ field (codes "destination") Text destination ++ (lead (codes "bytes") ++ bytes_value bytes)
+    field (codes "frame") Text text ++ field (codes "initiator") Text initiator ++ field (codes "destination") Text destination ++ (field_lead (codes "bytes") ++ bytes_value bytes)
 
 pub frame_is : (bytes : Option (List ℕ)) (text initiator behind destination : List ℕ) → initiator ≡ take 1 text → behind ≡ drop 2 text → destination ≡ take 1 behind
-    → field (codes "frame") Text text ++ field (codes "initiator") Text initiator ++ field (codes "destination") Text destination ++ (lead (codes "bytes") ++ bytes_value bytes) ≡ frame_fields bytes text
+    → field (codes "frame") Text text ++ field (codes "initiator") Text initiator ++ field (codes "destination") Text destination ++ (field_lead (codes "bytes") ++ bytes_value bytes) ≡ frame_fields bytes text
 frame_is bytes text initiator behind destination e f g =
     ap (λ (v : List ℕ). frame_by bytes text v destination) e ∙ ap (λ (v : List ℕ). frame_by bytes text (take 1 text) v) (g ∙ ap (take 1) f)
 
 abbrev whole_by : (line middle rest : List ℕ) → List ℕ
-whole_by line middle rest = begun line ++ middle ++ seats rest
+whole_by line middle rest = reading_start line ++ middle ++ seats rest
 
 pub whole_is : (bytes : Option (List ℕ)) (line rest told : List ℕ) → rest ≡ behind_ending line → told ≡ told_in rest
-    → begun line ++ complete_fields bytes told ++ seats rest ≡ complete_body bytes line
+    → reading_start line ++ complete_fields bytes told ++ seats rest ≡ complete_body bytes line
 whole_is bytes line rest told e f =
     ap (λ (v : List ℕ). whole_by line (complete_fields bytes v) rest) (f ∙ ap told_in e)
     ∙ ap (λ (v : List ℕ). whole_by line (complete_fields bytes (told_in (behind_ending line))) v) e
 
 pub broken_is : (line rest told : List ℕ) → rest ≡ behind_ending line → told ≡ told_in rest
-    → begun line ++ field (codes "bits") Text told ++ seats rest ≡ broken_body line
+    → reading_start line ++ field (codes "bits") Text told ++ seats rest ≡ broken_body line
 broken_is line rest told e f =
     ap (λ (v : List ℕ). whole_by line (field (codes "bits") Text v) rest) (f ∙ ap told_in e)
     ∙ ap (λ (v : List ℕ). whole_by line (field (codes "bits") Text (told_in (behind_ending line))) v) e

@@ -4,8 +4,8 @@ use Rattle.std.proofs.lemmas.Bool.{eqb-true}
 use Rattle.std.proofs.lemmas.Bool.Decides.{nat_tests}
 use Rattle.cec_json.specs.Object.{object}
 use Rattle.cec_json.specs.ReadBack.{LinesAreReadBack, OneLineAnObject, digit, line_of, string_from}
-use Rattle.cec_json.specs.ReadBack.Place.{Char}
-use Rattle.cec_json.specs.Values.{char_text, coded}
+use Rattle.cec_json.specs.ReadBack.StringState.{Char}
+use Rattle.cec_json.specs.Values.{char_text, code_texts}
 use Rattle.cec_json.specs.declared.values.Code.TheVariants as codings
 
 digit_again : (n : ℕ) → digit (cond (nat_lt n 10) (48 + n) (87 + n)) ≡ n
@@ -31,17 +31,17 @@ char_read : (b : ℕ) (rest : List ℕ) → string_from Char (char_text b ++ res
 char_read b rest = char_by (b == 34) (b == 92) (nat_le 32 b && nat_le b 126) b rest refl refl refl
 
 -- a string
-string_read : (line rest : List ℕ) → string_from Char (coded codings.Char line ++ 34 ∷ rest) ≡ line
+string_read : (line rest : List ℕ) → string_from Char (code_texts codings.Char line ++ 34 ∷ rest) ≡ line
 string_read [] rest = refl
 string_read (b ∷ line) rest =
-    ap (string_from Char) (append_assoc (char_text b) (coded codings.Char line) (34 ∷ rest))
-    ∙ char_read b (coded codings.Char line ++ 34 ∷ rest)
+    ap (string_from Char) (append_assoc (char_text b) (code_texts codings.Char line) (34 ∷ rest))
+    ∙ char_read b (code_texts codings.Char line ++ 34 ∷ rest)
     ∙ ap (λ (l : List ℕ). b ∷ l) (string_read line rest)
 
--- the line in an object, with whatever stands behind it
+-- the line in an object, with whatever stands after it
 pub line_read : (line told : List ℕ) → line_of (object line told) ≡ line
 line_read line told =
-    ap (string_from Char) (append_assoc (coded codings.Char line ++ 34 ∷ []) told (codes "}\n") ∙ append_assoc (coded codings.Char line) (34 ∷ []) (told ++ codes "}\n"))
+    ap (string_from Char) (append_assoc (code_texts codings.Char line ++ 34 ∷ []) told (codes "}\n") ∙ append_assoc (code_texts codings.Char line) (34 ∷ []) (told ++ codes "}\n"))
     ∙ string_read line (told ++ codes "}\n")
 
 pub read_back : LinesAreReadBack

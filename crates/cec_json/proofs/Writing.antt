@@ -4,9 +4,9 @@ use Rattle.std.specs.Io.KnownBytes.{Appends}
 use Rattle.hdmi_core.specs.declared.sink.WriteFault.{WriteFault}
 use Rattle.hdmi_core.specs.Written.{WrittenLine}
 use Rattle.hdmi_core.proofs.CutShort.{Appends-trans}
-use Rattle.cec_words.specs.Cut.{CutOff, WrittenText, told_count}
-use Rattle.cec_words.proofs.Cutting.{cut_after, cut_front}
-use Rattle.cec_json.specs.Progress.{WritesOn, WritesText, grown, result_of}
+use Rattle.hdmi_core.specs.Cut.{CutOff, WrittenText, told_count}
+use Rattle.hdmi_core.proofs.Cutting.{cut_after, cut_front}
+use Rattle.cec_json.specs.Progress.{WritesOn, WritesText, length_after, result_of}
 
 -- nothing more is written
 pub writes_none : (mid : Option (List ℕ)) (was : Bool) (before : Result ℕ WriteFault) → WritesOn mid mid was was [] before before
@@ -43,15 +43,15 @@ line_cut mid new was is line written inner cut now sum = record {
     cut_again_here : (old : Option (List ℕ)) (front : List ℕ) → written ≡ told_count (length front) → Appends old mid front → CutOff old new (front ++ line) cut
     cut_again_here old front e before = subst (λ (t : List ℕ). CutOff old new t cut) (append-nil (front ++ line)) (cut_after old mid new front line [] written inner.count cut e before now.0 now.1 sum)
 
-pub writes_grown : (mid new : Option (List ℕ)) (was is : Bool) (line : List ℕ) (written : ℕ) (before after told : Result ℕ WriteFault) → before ≡ Ok written → after ≡ grown written told → WrittenLine mid new was is line told
+pub writes_grown : (mid new : Option (List ℕ)) (was is : Bool) (line : List ℕ) (written : ℕ) (before after told : Result ℕ WriteFault) → before ≡ Ok written → after ≡ length_after written told → WrittenLine mid new was is line told
     → WritesOn mid new was is line before after
 writes_grown mid new was is line written before after told b a now = rw (b, a) (by told now)
   where
-    by : (told : Result ℕ WriteFault) → WrittenLine mid new was is line told → WritesOn mid new was is line (Ok written) (grown written told)
+    by : (told : Result ℕ WriteFault) → WrittenLine mid new was is line told → WritesOn mid new was is line (Ok written) (length_after written told)
     by (Ok count) k = writes_line mid new was is line written count (told_count (written + count)) k refl
     by (Err inner) k = line_cut mid new was is line written inner (record { count = told_count (written + inner.count) }) k refl
 
--- the whole of a text, and what is told of it
+-- the whole of a text, and what is reported of it
 pub writes_all : (old new : Option (List ℕ)) (was is : Bool) (text : List ℕ) (after : Result ℕ WriteFault) → WrittenText old new was is text after → WritesText old new was is text (result_of after)
 writes_all old new was is text (Ok n) w = (w.1, w.2)
 writes_all old new was is text (Err fault) w = w

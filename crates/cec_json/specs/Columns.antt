@@ -6,15 +6,15 @@ use Rattle.cec_json.specs.declared.columns.Column.{Column}
 use Rattle.cec_json.specs.declared.values.Shape.{Shape}
 use Rattle.cec_json.specs.declared.values.Shape.TheVariants.{Number, Text, Switch, Units, Heard}
 
-abbrev pub lead : List ℕ → List ℕ
-lead name = codes ",\"" ++ name ++ codes "\":"
+abbrev pub field_lead : List ℕ → List ℕ
+field_lead name = codes ",\"" ++ name ++ codes "\":"
 
 abbrev pub field : List ℕ → Shape → List ℕ → List ℕ
-field name shape word = lead name ++ value_text shape word
+field name shape word = field_lead name ++ value_text shape word
 
 -- a field by itself
-abbrev pub spelled : Column → List ℕ × Shape
-spelled column = (column.name.now, column.shape)
+abbrev pub column_parts : Column → List ℕ × Shape
+column_parts column = (column.name.now, column.shape)
 
 -- a field for each of the first words of a text
 unfoldable pub fields : List (List ℕ × Shape) → List ℕ → List ℕ
@@ -27,11 +27,11 @@ fields (column ∷ columns) text = field column.0 column.1 (value_of (word text)
 abbrev pub instant : List (List ℕ × Shape)
 instant = (codes "at", Number) ∷ []
 
--- behind `port`
+-- after `port`
 abbrev pub port_fields : List (List ℕ × Shape)
 port_fields = (codes "device", Text) ∷ (codes "port", Number) ∷ (codes "edid", Text) ∷ []
 
--- behind `event`
+-- after `event`
 abbrev pub event_fields : List (List ℕ × Shape)
 event_fields = (codes "script_line", Number) ∷ (codes "verdict", Text) ∷ (codes "cause", Text) ∷ []
 
@@ -39,7 +39,7 @@ event_fields = (codes "script_line", Number) ∷ (codes "verdict", Text) ∷ (co
 abbrev pub reading_fields : List (List ℕ × Shape)
 reading_fields = (codes "begin", Number) ∷ (codes "close", Number) ∷ (codes "ending", Text) ∷ []
 
--- behind `state`
+-- after `state`
 abbrev pub state_fields : List (List ℕ × Shape)
 state_fields =
     (codes "device", Text) ∷ (codes "kind", Text) ∷ (codes "logical_addresses", Units) ∷ (codes "physical_address", Text) ∷ (codes "power", Text)

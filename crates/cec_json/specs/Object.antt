@@ -1,12 +1,12 @@
--- The object of a line of a trace, or of a reading (own): the line itself, what it is, and what it tells.
+-- The object of a line of a trace, or of a reading (own): the line itself, what it is, and what it reports.
 use Rattle.std.specs.Prelude.{◌≡◌, ℕ, Bool, ◌||◌, if◌then◌else◌, List, [], ◌∷◌, ◌++◌, take, drop, Option, Some, None, codes}
 use Rattle.std.specs.List.{flat_map}
 use Rattle.std.specs.Str.{bytes_eq}
 use Rattle.hdmi_core.specs.Piece.{hex_text}
 use Rattle.cec_text.specs.FrameLines.{IsTextOf}
-use Rattle.cec_json.specs.Columns.{event_fields, field, fields, instant, lead, port_fields, reading_fields, state_fields}
+use Rattle.cec_json.specs.Columns.{event_fields, field, fields, instant, field_lead, port_fields, reading_fields, state_fields}
 use Rattle.cec_json.specs.Parts.{after_word, before_last, behind_ending, has_seats, last_word, losers_in, told_in, winners_in, word}
-use Rattle.cec_json.specs.Values.{quoted}
+use Rattle.cec_json.specs.Values.{string_text}
 use Rattle.cec_json.specs.declared.object.Form.{Form}
 use Rattle.cec_json.specs.declared.object.Form.TheVariants as forms
 use Rattle.cec_json.specs.declared.values.Shape.TheVariants.{Text, Names, Losers}
@@ -31,23 +31,23 @@ form_by first second third =
 abbrev pub form_of : List ℕ → Form
 form_of line = form_by (word line) (word (after_word line)) (word (after_word (after_word line)))
 
--- ---- what it tells
+-- ---- what it reports
 
-abbrev pub typed : List ℕ → List ℕ
-typed name = codes ",\"type\":\"" ++ name ++ codes "\""
+abbrev pub type_field : List ℕ → List ℕ
+type_field name = codes ",\"type\":\"" ++ name ++ codes "\""
 
 -- a round, or without those who sent in it a reading
 abbrev pub reading_type : Bool → List ℕ
 reading_type is_round = if is_round then codes "round" else codes "reading"
 
-abbrev pub begun : List ℕ → List ℕ
-begun line = typed (reading_type (has_seats (behind_ending line))) ++ fields reading_fields line
+abbrev pub reading_start : List ℕ → List ℕ
+reading_start line = type_field (reading_type (has_seats (behind_ending line))) ++ fields reading_fields line
 
-abbrev pub named : List ℕ → List ℕ
-named rest = field (codes "by") Names (winners_in rest) ++ field (codes "out") Losers (losers_in rest)
+abbrev pub names_fields : List ℕ → List ℕ
+names_fields rest = field (codes "by") Names (winners_in rest) ++ field (codes "out") Losers (losers_in rest)
 
 abbrev pub seats : List ℕ → List ℕ
-seats rest = if has_seats rest then named rest else []
+seats rest = if has_seats rest then names_fields rest else []
 
 abbrev pub hex_value : List ℕ → List ℕ
 hex_value bytes = codes "\"" ++ flat_map hex_text bytes ++ codes "\""
@@ -61,28 +61,28 @@ bytes_value (Some frame) = hex_value frame
 abbrev pub frame_fields : Option (List ℕ) → List ℕ → List ℕ
 frame_fields bytes text =
     field (codes "frame") Text text ++ field (codes "initiator") Text (take 1 text) ++ field (codes "destination") Text (take 1 (drop 2 text))
-    ++ (lead (codes "bytes") ++ bytes_value bytes)
+    ++ (field_lead (codes "bytes") ++ bytes_value bytes)
 
 abbrev pub complete_fields : Option (List ℕ) → List ℕ → List ℕ
 complete_fields bytes told = frame_fields bytes (before_last told) ++ field (codes "verdict") Text (last_word told)
 
 abbrev pub state_body : List ℕ → List ℕ
-state_body line = typed (codes "state") ++ fields state_fields (after_word line)
+state_body line = type_field (codes "state") ++ fields state_fields (after_word line)
 
 abbrev pub port_body : List ℕ → List ℕ
-port_body line = typed (codes "port") ++ fields instant line ++ fields port_fields (after_word (after_word line))
+port_body line = type_field (codes "port") ++ fields instant line ++ fields port_fields (after_word (after_word line))
 
 abbrev pub event_body : List ℕ → List ℕ
-event_body line = typed (codes "event") ++ fields instant line ++ fields event_fields (after_word (after_word line))
+event_body line = type_field (codes "event") ++ fields instant line ++ fields event_fields (after_word (after_word line))
 
 abbrev pub end_body : List ℕ → List ℕ
-end_body line = typed (codes "end") ++ fields instant line
+end_body line = type_field (codes "end") ++ fields instant line
 
 abbrev pub complete_body : Option (List ℕ) → List ℕ → List ℕ
-complete_body bytes line = begun line ++ complete_fields bytes (told_in (behind_ending line)) ++ seats (behind_ending line)
+complete_body bytes line = reading_start line ++ complete_fields bytes (told_in (behind_ending line)) ++ seats (behind_ending line)
 
 abbrev pub broken_body : List ℕ → List ℕ
-broken_body line = begun line ++ field (codes "bits") Text (told_in (behind_ending line)) ++ seats (behind_ending line)
+broken_body line = reading_start line ++ field (codes "bits") Text (told_in (behind_ending line)) ++ seats (behind_ending line)
 
 abbrev pub body : Form → Option (List ℕ) → List ℕ → List ℕ
 body forms.State bytes line = state_body line
@@ -91,7 +91,7 @@ body forms.Event bytes line = event_body line
 body forms.End bytes line = end_body line
 body forms.Complete bytes line = complete_body bytes line
 body forms.Broken bytes line = broken_body line
-body forms.Other bytes line = typed (codes "other")
+body forms.Other bytes line = type_field (codes "other")
 
 -- ---- the object of a line
 
@@ -103,13 +103,13 @@ AreBytesOf text (Some frame) = IsTextOf text frame
 abbrev pub frame_in : List ℕ → List ℕ
 frame_in line = before_last (told_in (behind_ending line))
 
--- what the object of a line has behind the line
+-- what the object of a line has after the line
 abbrev pub IsTold : List ℕ → List ℕ → Type 0
 IsTold line told = (bytes : Option (List ℕ)) × AreBytesOf (frame_in line) bytes × (told ≡ body (form_of line) bytes line)
 
--- the line, and what it tells
+-- the line, and what it reports
 abbrev pub object : List ℕ → List ℕ → List ℕ
-object line told = codes "{\"line\":" ++ quoted line ++ told ++ codes "}\n"
+object line told = codes "{\"line\":" ++ string_text line ++ told ++ codes "}\n"
 
 abbrev pub IsObject : List ℕ → List ℕ → Type 0
 IsObject line text = (told : List ℕ) × IsTold line told × (text ≡ object line told)

@@ -11,14 +11,14 @@ before_byte byte text = take (position_or_len (λ b. b == byte) text) text
 abbrev pub after_byte : ℕ → List ℕ → List ℕ
 after_byte byte text = drop (suc (position_or_len (λ b. b == byte) text)) text
 
--- the first word, and what stands after the space behind it
+-- the first word, and what stands after the space after it
 abbrev pub word : List ℕ → List ℕ
 word text = before_byte 32 text
 
 abbrev pub after_word : List ℕ → List ℕ
 after_word text = after_byte 32 text
 
--- what a word tells: of one with a name what stands behind `=`
+-- what a word reports: of one with a name what stands after `=`
 abbrev pub value_of : List ℕ → List ℕ
 value_of word = if nat_lt (position_or_len (λ b. b == 61) word) (length word) then after_byte 61 word else word
 
@@ -37,7 +37,7 @@ last_word text = drop (last_space text) text
 abbrev pub before_last : List ℕ → List ℕ
 before_last text = take (last_space text - 1) text
 
--- ---- a reading's line: begin, close, ending, what was told; of a round then `by NAMES out NAMES`
+-- ---- a reading's line: begin, close, ending, what was reported; of a round then `by NAMES out NAMES`
 
 abbrev pub behind_ending : List ℕ → List ℕ
 behind_ending line = after_word (after_word (after_word line))

@@ -7,16 +7,16 @@ abbrev pub digit : ℕ → ℕ
 digit b = if nat_lt b 58 then b - 48 else b - 87
 
 -- where a reader of a string stands: at a character, after a backslash, or before so many digits of a number
-pub data Place : Type 0 where
-  Char : Place
-  Escape : Place
-  First : Place
-  Second : Place
-  High : Place
-  Low : ℕ → Place
+pub data StringState : Type 0 where
+  Char : StringState
+  Escape : StringState
+  First : StringState
+  Second : StringState
+  High : StringState
+  Low : ℕ → StringState
 
 -- the characters of a string up to its closing quote
-abbrev pub string_from : Place → List ℕ → List ℕ
+abbrev pub string_from : StringState → List ℕ → List ℕ
 string_from place [] = []
 string_from Char (b ∷ rest) = if b == 34 then [] else if b == 92 then string_from Escape rest else b ∷ string_from Char rest
 string_from Escape (b ∷ rest) = if b == 117 then string_from First rest else b ∷ string_from Char rest
@@ -25,7 +25,7 @@ string_from Second (b ∷ rest) = string_from High rest
 string_from High (b ∷ rest) = string_from (Low (digit b)) rest
 string_from (Low high) (b ∷ rest) = (high * 16 + digit b) ∷ string_from Char rest
 
--- behind `{"line":"`
+-- after `{"line":"`
 abbrev pub line_of : List ℕ → List ℕ
 line_of object = string_from Char (drop 9 object)
 

@@ -3,7 +3,7 @@ use Rattle.std.specs.Prelude.{ℕ, ◌==◌, nat_le, Bool, ◌&&◌, ◌||◌, i
 use Rattle.std.specs.List.{flat_map}
 use Rattle.std.specs.Str.{bytes_eq}
 use Rattle.hdmi_core.specs.Piece.{hex_text}
-use Rattle.cec_words.specs.Number.{is_numeral}
+use Rattle.hdmi_core.specs.Number.{is_numeral}
 use Rattle.cec_json.specs.Parts.{after_byte, before_byte}
 use Rattle.cec_json.specs.declared.values.Shape.{Shape}
 use Rattle.cec_json.specs.declared.values.Shape.TheVariants.{Number, Text, Switch, Names, Losers, Units, Heard}
@@ -36,19 +36,19 @@ code_text codings.Name b = name_text b
 code_text codings.Loser b = loser_text b
 code_text codings.Unit b = unit_text b
 
-abbrev pub coded : Code → List ℕ → List ℕ
-coded code text = flat_map (code_text code) text
+abbrev pub code_texts : Code → List ℕ → List ℕ
+code_texts code text = flat_map (code_text code) text
 
 -- a string
-abbrev pub quoted : List ℕ → List ℕ
-quoted text = codes "\"" ++ coded codings.Char text ++ codes "\""
+abbrev pub string_text : List ℕ → List ℕ
+string_text text = codes "\"" ++ code_texts codings.Char text ++ codes "\""
 
 -- a word that stands for none, or is not there
 abbrev pub is_none : List ℕ → Bool
 is_none word = (length word == 0) || bytes_eq word (codes "-")
 
 abbrev pub text_value : List ℕ → List ℕ
-text_value word = if is_none word then codes "null" else quoted word
+text_value word = if is_none word then codes "null" else string_text word
 
 abbrev pub number_value : List ℕ → List ℕ
 number_value word = if is_numeral word then word else codes "null"
@@ -57,19 +57,19 @@ abbrev pub switch_value : List ℕ → List ℕ
 switch_value word = if bytes_eq word (codes "on") then codes "true" else if bytes_eq word (codes "off") then codes "false" else codes "null"
 
 abbrev pub some_names : List ℕ → List ℕ
-some_names word = codes "[\"" ++ coded codings.Name word ++ codes "\"]"
+some_names word = codes "[\"" ++ code_texts codings.Name word ++ codes "\"]"
 
 abbrev pub names_value : List ℕ → List ℕ
 names_value word = if is_none word then codes "[]" else some_names word
 
 abbrev pub some_losers : List ℕ → List ℕ
-some_losers word = codes "[{\"device\":\"" ++ coded codings.Loser word ++ codes "}]"
+some_losers word = codes "[{\"device\":\"" ++ code_texts codings.Loser word ++ codes "}]"
 
 abbrev pub losers_value : List ℕ → List ℕ
 losers_value word = if is_none word then codes "[]" else some_losers word
 
 abbrev pub units_value : List ℕ → List ℕ
-units_value word = codes "[" ++ coded codings.Unit word ++ codes "]"
+units_value word = codes "[" ++ code_texts codings.Unit word ++ codes "]"
 
 abbrev pub report_value : List ℕ → List ℕ → List ℕ → List ℕ
 report_value initiator opcode operand =

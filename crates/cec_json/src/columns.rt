@@ -1,6 +1,6 @@
 //! The fields of objects, in order: names, and how words are their values.
 ghost use Rattle.std.specs.Prelude.{◌≡◌, map};
-ghost use Rattle.cec_json.specs.Columns.{field, fields, lead, spelled};
+ghost use Rattle.cec_json.specs.Columns.{field, fields, field_lead, column_parts};
 ghost use Rattle.cec_json.specs.Progress.{WritesOn};
 
 use crate::parts::{after_word, value_of, word};
@@ -26,14 +26,14 @@ pub const AT: &[Column] = columns! {
     "at" Number;
 };
 
-/// Behind `port`.
+/// After `port`.
 pub const PORT: &[Column] = columns! {
     "device" Text;
     "port" Number;
     "edid" Text;
 };
 
-/// Behind `event`.
+/// After `event`.
 pub const EVENT: &[Column] = columns! {
     "script_line" Number;
     "verdict" Text;
@@ -47,7 +47,7 @@ pub const READING: &[Column] = columns! {
     "ending" Text;
 };
 
-/// Behind `state`.
+/// After `state`.
 pub const STATE: &[Column] = columns! {
     "device" Text;
     "kind" Text;
@@ -74,7 +74,7 @@ pub const STATE: &[Column] = columns! {
 
 /// Writes what stands before the value of a field.
 pub fn write_lead<S: Sink>(name: &str, progress: &mut Progress, out: &mut S)
-    ensures { WritesOn (S.contents out.old) (S.contents out.new) (S.is_stuck out.old) (S.is_stuck out.new) (lead name.now) progress.old.so_far progress.new.so_far }
+    ensures { WritesOn (S.contents out.old) (S.contents out.new) (S.is_stuck out.old) (S.is_stuck out.new) (field_lead name.now) progress.old.so_far progress.new.so_far }
 {
     progress.pieces(
         out,
@@ -96,14 +96,14 @@ pub fn write_field<S: Sink>(
     write_value(shape, word, progress, out);
 }
 
-/// Writes a field for each of the first words, of which one with a name has its value behind `=`.
+/// Writes a field for each of the first words, of which one with a name has its value after `=`.
 pub(crate) fn write_fields<S: Sink>(
     columns: &[Column],
     text: &[u8],
     progress: &mut Progress,
     out: &mut S,
 )
-    ensures { WritesOn (S.contents out.old) (S.contents out.new) (S.is_stuck out.old) (S.is_stuck out.new) (fields (map spelled columns.now) text.now) progress.old.so_far progress.new.so_far }
+    ensures { WritesOn (S.contents out.old) (S.contents out.new) (S.is_stuck out.old) (S.is_stuck out.new) (fields (map column_parts columns.now) text.now) progress.old.so_far progress.new.so_far }
 {
     let [column, columns @ ..] = columns else {
         return;

@@ -1,6 +1,6 @@
 //! The object of a line.
 ghost use Rattle.std.specs.Prelude.{◌≡◌, ℕ, List, Option};
-ghost use Rattle.cec_json.specs.Object.{AreBytesOf, IsObject, begun, body, broken_body, bytes_value, complete_body, complete_fields, end_body, event_body, form_by, form_of, frame_fields, frame_in, IsTold, hex_value, is_broken, named, port_body, reading_type, seats, state_body, typed};
+ghost use Rattle.cec_json.specs.Object.{AreBytesOf, IsObject, reading_start, body, broken_body, bytes_value, complete_body, complete_fields, end_body, event_body, form_by, form_of, frame_fields, frame_in, IsTold, hex_value, is_broken, names_fields, port_body, reading_type, seats, state_body, type_field};
 ghost use Rattle.cec_json.specs.Progress.{WritesOn};
 
 use crate::columns::{AT, EVENT, PORT, READING, STATE, write_field, write_fields, write_lead};
@@ -12,8 +12,7 @@ use crate::progress::Progress;
 use crate::values::{Shape, write_quoted};
 use cec_frame::Frame;
 use cec_text::{assemble, frames_are_whole};
-use cec_words::{before, behind};
-use hdmi_core::{Piece, Sink};
+use hdmi_core::{Piece, Sink, before, behind};
 
 /// Which line of a trace, or of readings, it is.
 #[derive(Clone, Copy, Debug)]
@@ -87,7 +86,7 @@ fn frame_of(text: &[u8]) -> Option<Frame>
 
 /// Writes the type of a line.
 pub fn write_type<S: Sink>(name: &str, progress: &mut Progress, out: &mut S)
-    ensures { WritesOn (S.contents out.old) (S.contents out.new) (S.is_stuck out.old) (S.is_stuck out.new) (typed name.now) progress.old.so_far progress.new.so_far }
+    ensures { WritesOn (S.contents out.old) (S.contents out.new) (S.is_stuck out.old) (S.is_stuck out.new) (type_field name.now) progress.old.so_far progress.new.so_far }
 {
     progress.pieces(
         out,
@@ -107,14 +106,14 @@ fn reading_type(is_round: bool) -> &'static str
 
 // Writes what a reading begins with.
 fn write_begun<S: Sink>(line: &[u8], progress: &mut Progress, out: &mut S)
-    ensures { WritesOn (S.contents out.old) (S.contents out.new) (S.is_stuck out.old) (S.is_stuck out.new) (begun line.now) progress.old.so_far progress.new.so_far }
+    ensures { WritesOn (S.contents out.old) (S.contents out.new) (S.is_stuck out.old) (S.is_stuck out.new) (reading_start line.now) progress.old.so_far progress.new.so_far }
 {
     write_type(reading_type(has_seats(behind_ending(line))), progress, out);
     write_fields(READING, line, progress, out);
 }
 
 fn write_named<S: Sink>(rest: &[u8], progress: &mut Progress, out: &mut S)
-    ensures { WritesOn (S.contents out.old) (S.contents out.new) (S.is_stuck out.old) (S.is_stuck out.new) (named rest.now) progress.old.so_far progress.new.so_far }
+    ensures { WritesOn (S.contents out.old) (S.contents out.new) (S.is_stuck out.old) (S.is_stuck out.new) (names_fields rest.now) progress.old.so_far progress.new.so_far }
 {
     write_field("by", Shape::Names, winners_in(rest), progress, out);
     write_field("out", Shape::Losers, losers_in(rest), progress, out);
@@ -218,7 +217,7 @@ fn write_broken<S: Sink>(line: &[u8], progress: &mut Progress, out: &mut S)
     write_seats(rest, progress, out);
 }
 
-// Writes what a line tells.
+// Writes what a line reports.
 fn write_body<S: Sink>(
     form: Form,
     frame: &Option<Frame>,
@@ -239,7 +238,7 @@ fn write_body<S: Sink>(
     }
 }
 
-/// Writes what the object of a line has behind the line: its type, and what it tells.
+/// Writes what the object of a line has after the line: its type, and what it reports.
 pub fn write_told<S: Sink>(line: &[u8], progress: &mut Progress, out: &mut S)
     ensures { (told : List ℕ) × IsTold line.now told
         × WritesOn (S.contents out.old) (S.contents out.new) (S.is_stuck out.old) (S.is_stuck out.new) told progress.old.so_far progress.new.so_far }

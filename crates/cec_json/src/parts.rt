@@ -2,7 +2,7 @@
 ghost use Rattle.std.specs.Prelude.{◌≡◌, ◌≤◌, ◌<◌, length};
 ghost use Rattle.cec_json.specs.Parts.{after_byte, after_word, before_byte, before_last, before_seats, behind_ending, has_seats, last_space, last_word, losers_in, space_in, told_in, value_of, winners_in, word};
 
-use cec_words::{before, behind, len_before};
+use hdmi_core::{before, behind, len_before};
 
 /// What stands before the first byte of this value, or all where there is none.
 pub fn before_byte(byte: u8, text: &[u8]) -> &[u8]
@@ -32,7 +32,7 @@ pub fn after_word(text: &[u8]) -> &[u8]
     after_byte(b' ', text)
 }
 
-/// What a word tells: of one with a name what stands behind `=`.
+/// What a word reports: of one with a name what stands after `=`.
 pub(crate) fn value_of(word: &[u8]) -> &[u8]
     ensures { result.now ≡ value_of word.now }
 {

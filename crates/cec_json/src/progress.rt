@@ -3,10 +3,9 @@ ghost use Rattle.std.specs.Prelude.{◌≡◌, Ok};
 ghost use Rattle.std.specs.List.{flat_map};
 ghost use Rattle.hdmi_core.specs.Piece.{piece_text};
 ghost use Rattle.hdmi_core.specs.Written.{WrittenLine};
-ghost use Rattle.cec_json.specs.Progress.{WritesOn, grown, result_of};
+ghost use Rattle.cec_json.specs.Progress.{WritesOn, length_after, result_of};
 
-use cec_words::{counted, cut_at};
-use hdmi_core::{Piece, Sink, WriteFault, put_all, write_pieces};
+use hdmi_core::{Piece, Sink, WriteFault, counted, cut_at, put_all, write_pieces};
 
 /// How far a text is written. Once it is cut off nothing more is put.
 #[derive(Debug, Drop)]
@@ -16,8 +15,8 @@ pub struct Progress {
 }
 
 // The length with the next part, or where that was cut off.
-fn grown(written: u128, part: Result<u128, WriteFault>) -> Result<u128, WriteFault>
-    ensures { result ≡ grown written part }
+fn length_after(written: u128, part: Result<u128, WriteFault>) -> Result<u128, WriteFault>
+    ensures { result ≡ length_after written part }
 {
     match part {
         Ok(count) => Ok(counted(written, count)),
@@ -48,7 +47,7 @@ impl Progress {
         let Ok(written) = self.so_far else {
             return;
         };
-        self.so_far = grown(written, put_text(out, text));
+        self.so_far = length_after(written, put_text(out, text));
     }
 
     /// Writes a text of parts.
@@ -58,7 +57,7 @@ impl Progress {
         let Ok(written) = self.so_far else {
             return;
         };
-        self.so_far = grown(written, write_pieces(out, pieces));
+        self.so_far = length_after(written, write_pieces(out, pieces));
     }
 
     /// Whether all of it was written, or where it was cut off.

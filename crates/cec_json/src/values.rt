@@ -1,13 +1,12 @@
 //! Words of a line as values of JSON.
 ghost use Rattle.std.specs.Prelude.{◌≡◌, ◌∷◌, [], ◌++◌, ◌≤◌, length};
-ghost use Rattle.cec_json.specs.Values.{char_text, code_text, coded, heard_value, is_none, loser_text, losers_value, name_text, names_value, number_value, quoted, report_value, some_losers, some_names, some_report, switch_value, text_value, unit_text, units_value, value_text};
+ghost use Rattle.cec_json.specs.Values.{char_text, code_text, code_texts, heard_value, is_none, loser_text, losers_value, name_text, names_value, number_value, string_text, report_value, some_losers, some_names, some_report, switch_value, text_value, unit_text, units_value, value_text};
 ghost use Rattle.cec_json.specs.Progress.{WritesOn};
 
 use crate::parts::{after_byte, before_byte};
 use crate::progress::Progress;
 use arrayvec::ArrayVec;
-use cec_words::number_in;
-use hdmi_core::{Sink, hex_digit};
+use hdmi_core::{Sink, hex_digit, number_in};
 
 /// How a word is a value.
 #[derive(Clone, Copy, Debug)]
@@ -131,7 +130,7 @@ pub fn write_char<S: Sink>(byte: u8, progress: &mut Progress, out: &mut S)
 
 // Writes what the characters of a word become.
 fn write_coded<S: Sink>(code: Code, text: &[u8], progress: &mut Progress, out: &mut S)
-    ensures { WritesOn (S.contents out.old) (S.contents out.new) (S.is_stuck out.old) (S.is_stuck out.new) (coded code text.now) progress.old.so_far progress.new.so_far }
+    ensures { WritesOn (S.contents out.old) (S.contents out.new) (S.is_stuck out.old) (S.is_stuck out.new) (code_texts code text.now) progress.old.so_far progress.new.so_far }
 {
     for byte in text {
         progress.text(out, &code_text(code, *byte));
@@ -140,7 +139,7 @@ fn write_coded<S: Sink>(code: Code, text: &[u8], progress: &mut Progress, out: &
 
 /// Writes a string.
 pub fn write_quoted<S: Sink>(text: &[u8], progress: &mut Progress, out: &mut S)
-    ensures { WritesOn (S.contents out.old) (S.contents out.new) (S.is_stuck out.old) (S.is_stuck out.new) (quoted text.now) progress.old.so_far progress.new.so_far }
+    ensures { WritesOn (S.contents out.old) (S.contents out.new) (S.is_stuck out.old) (S.is_stuck out.new) (string_text text.now) progress.old.so_far progress.new.so_far }
 {
     progress.text(out, b"\"");
     write_coded(Code::Char, text, progress, out);

@@ -4,8 +4,8 @@ use Rattle.std.specs.Prelude.{replicate, set}
 use Rattle.std.specs.List.{cons_option, filter_map, find}
 use Rattle.std.proofs.lemmas.Bool.Decides.{nat_tests}
 use Rattle.std.proofs.lemmas.List.{get_or-replicate, get_or-set_other, get_or-set_same}
-use Rattle.cec_words.specs.Lines.{lines_of}
-use Rattle.cec_words.specs.Words.{words_of}
+use Rattle.hdmi_core.specs.Lines.{lines_of}
+use Rattle.hdmi_core.specs.Words.{words_of}
 use Rattle.cec_judge.specs.Told.{EventLine, RoundLine, event_as, round_in, rounds_of}
 use Rattle.cec_judge.specs.Seen.{end_by, ends_seen}
 use Rattle.cec_judge.specs.Index.{ends_among, entry, event_of, event_on, or_event}

@@ -2,8 +2,8 @@
 use Rattle.std.proofs.Common.{◌≡◌, ℕ, ◌≤◌, ◌==◌, nat_lt, Bool, true, false, List, [], ◌∷◌, length, Option, Some, None, arith, rules, is_some}
 use Rattle.std.specs.List.{filter_map, cons_option}
 use Rattle.std.proofs.lemmas.Grind.{common_steps}
-use Rattle.cec_words.specs.Lines.{lines_of}
-use Rattle.cec_words.specs.Words.{words_of}
+use Rattle.hdmi_core.specs.Lines.{lines_of}
+use Rattle.hdmi_core.specs.Words.{words_of}
 use Rattle.cec_judge.specs.Told.{RoundLine, round_in}
 use Rattle.cec_judge.specs.Seen.{is_seen, end_by, end_seen, ends_seen}
 use Rattle.cec_judge.specs.Laws.{LargerSpansHold, NeverIsTheContrary, OnceIsSome}

@@ -1,9 +1,9 @@
--- What a round's line says behind its times.
+-- What a round's line says after its times.
 use Rattle.std.proofs.Common.{◌≡◌, ℕ, true, false, List, ◌∷◌, ap, sym, ◌∙◌}
 use Rattle.std.specs.Prelude.{if◌then◌else◌, codes}
 use Rattle.std.specs.Str.{bytes_eq}
 use Rattle.cec_expect.proofs.Parted.{text_again}
-use Rattle.cec_words.specs.Words.{words_of, text_of}
+use Rattle.hdmi_core.specs.Words.{words_of, text_of}
 use Rattle.cec_judge.specs.Told.{behind_complete, told_in}
 
 pub told_complete : (line : List (List ℕ)) (ending told word : List ℕ) (words : List (List ℕ)) → line ≡ ending ∷ words_of told → words_of told ≡ word ∷ words

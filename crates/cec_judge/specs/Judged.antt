@@ -3,13 +3,13 @@
 use Rattle.std.specs.Prelude.{ℕ, ◌+◌, ◌-◌, ◌^◌, ◌==◌, nat_lt, min, Bool, false, if◌then◌else◌, length, slice_get, List, [], ◌∷◌, ◌++◌, Option, Some, None, Result, Ok, Err}
 use Rattle.std.specs.Str.{bytes_eq}
 use Rattle.std.specs.List.{list_all, list_any}
-use Rattle.cec_words.specs.Lines.{lines_of}
-use Rattle.cec_words.specs.Words.{words_of}
+use Rattle.hdmi_core.specs.Lines.{lines_of}
+use Rattle.hdmi_core.specs.Words.{words_of}
 use Rattle.cec_expect.specs.Line.{behind_label}
 use Rattle.cec_expect.specs.Form.{Form, Window, form_in}
 use Rattle.cec_expect.specs.Form.Form.{Other, Rounds, State, Refused}
 use Rattle.cec_expect.specs.Form.Window.{Within, From}
-use Rattle.cec_expect.specs.Faults.{labelled, event_labelled}
+use Rattle.cec_expect.specs.Faults.{line_of_label, event_labelled}
 use Rattle.cec_expect.specs.declared.form.ExpectCause.{ExpectCause}
 use Rattle.cec_expect.specs.declared.form.Quantity.{Quantity}
 use Rattle.cec_expect.specs.declared.form.Quantity.TheVariants.{AtLeastOnce, Never, Once}
@@ -36,7 +36,7 @@ span_from duration (Some at) = Some (record { from = at; to = min (at + duration
 
 -- a label without an instant leaves no span
 abbrev pub span_of : List ℕ → List Judged → Window → Option Span
-span_of script above (Within duration name) = span_from duration (instant_at above (labelled script name))
+span_of script above (Within duration name) = span_from duration (instant_at above (line_of_label script name))
 span_of script above (From from to) = Some (record { from = from; to = to })
 
 -- ---- expectations of rounds
@@ -56,11 +56,11 @@ rounds_by quantity span count first = record {
 }
 
 -- what fails
-abbrev pub failed : Judged
-failed = record { holds = Some false; at = None; span = None; count = 0 }
+abbrev pub failure : Judged
+failure = record { holds = Some false; at = None; span = None; count = 0 }
 
 abbrev pub rounds_judged : List ℕ → Quantity → List ℕ → Option Span → Judged
-rounds_judged trace quantity pattern None = failed
+rounds_judged trace quantity pattern None = failure
 rounds_judged trace quantity pattern (Some span) =
     rounds_by quantity span (length (ends_seen trace span pattern)) (first_of (ends_seen trace span pattern))
 
@@ -105,7 +105,7 @@ abbrev pub other_judged : List ℕ → ℕ → Judged
 other_judged trace number = record { holds = None; at = event_instant (event_at trace number); span = None; count = 0 }
 
 abbrev pub form_judged : List ℕ → List ℕ → List ℕ → List Judged → Result Form ExpectCause → Judged
-form_judged script trace state above (Err cause) = failed
+form_judged script trace state above (Err cause) = failure
 form_judged script trace state above (Ok Other) = other_judged trace (length above + 1)
 form_judged script trace state above (Ok (Rounds quantity window pattern)) = rounds_judged trace quantity pattern (span_of script above window)
 form_judged script trace state above (Ok (State time device words)) = state_judged state words
@@ -122,8 +122,8 @@ lines_judged script trace above (line ∷ lines) (state ∷ states) =
     lines_judged script trace (above ++ line_judged script trace state above line ∷ []) lines states
 
 -- all lines
-abbrev pub judged : List ℕ → List ℕ → List (List ℕ) → List Judged
-judged script trace states = lines_judged script trace [] (lines_of script) states
+abbrev pub verdicts_of : List ℕ → List ℕ → List (List ℕ) → List Judged
+verdicts_of script trace states = lines_judged script trace [] (lines_of script) states
 
 -- ---- refusals that no line expects
 

@@ -1,8 +1,8 @@
 -- The rounds of a trace in a span of time that meet a pattern (own).
 use Rattle.std.specs.Prelude.{ℕ, nat_le, ◌&&◌, Bool, if◌then◌else◌, List, [], ◌∷◌, Option, Some, None}
 use Rattle.std.specs.List.{filter_map}
-use Rattle.cec_words.specs.Lines.{lines_of}
-use Rattle.cec_words.specs.Words.{words_of}
+use Rattle.hdmi_core.specs.Lines.{lines_of}
+use Rattle.hdmi_core.specs.Words.{words_of}
 use Rattle.cec_expect.specs.Fits.{fits}
 use Rattle.cec_judge.specs.Told.{RoundLine, round_in}
 use Rattle.cec_judge.specs.declared.seen.Span.{Span}

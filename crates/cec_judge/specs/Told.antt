@@ -3,21 +3,21 @@ use Rattle.std.specs.Prelude.{ℕ, ◌==◌, ◌&&◌, Bool, false, if◌then◌
 use Rattle.std.specs.Str.{bytes_eq}
 use Rattle.std.specs.List.{filter_map, find}
 use Rattle.std.specs.Option.{option_copied}
-use Rattle.cec_words.specs.Lines.{lines_of}
-use Rattle.cec_words.specs.Number.{number_of}
-use Rattle.cec_words.specs.Words.{words_of, words_behind, text_of, one_of}
+use Rattle.hdmi_core.specs.Lines.{lines_of}
+use Rattle.hdmi_core.specs.Number.{number_of}
+use Rattle.hdmi_core.specs.Words.{words_of, words_behind, text_of, one_of}
 use Rattle.cec_judge.specs.declared.told.RoundLine.{RoundLine as RoundRead}
 use Rattle.cec_judge.specs.declared.told.EventLine.{EventLine as EventRead}
 
 -- ---- rounds
 
--- a round: when it began and ended, and what its line says behind these times
+-- a round: when it began and ended, and what its line says after these times
 pub record RoundLine : Type 0 where
   pub begin : ℕ
   pub at : ℕ
   pub told : List ℕ
 
--- the words behind the times as a text, without the word `complete`
+-- the words after the times as a text, without the word `complete`
 abbrev pub behind_complete : List ℕ → List (List ℕ) → List ℕ
 behind_complete ending [] = ending
 behind_complete ending (word ∷ words) = if bytes_eq ending (codes "complete") then text_of (word ∷ words) else text_of (ending ∷ word ∷ words)
@@ -91,16 +91,16 @@ is_state_of name [] = false
 is_state_of name (verb ∷ []) = false
 is_state_of name (verb ∷ device ∷ words) = bytes_eq verb (codes "state") && bytes_eq device name
 
--- the first of these lines that tells the state of a device, empty where none does
+-- the first of these lines that reports the state of a device, empty where none does
 abbrev pub state_among : List ℕ → List (List ℕ) → List ℕ
 state_among name [] = []
 state_among name (line ∷ lines) = if is_state_of name (words_of line) then line else state_among name lines
 
--- the line of a trace that tells the state of a device
+-- the line of a trace that reports the state of a device
 abbrev pub state_line : List ℕ → List ℕ → List ℕ
 state_line trace name = state_among name (lines_of trace)
 
--- what it tells: the words behind the name
+-- what it reports: the words after the name
 abbrev pub state_words : List (List ℕ) → List (List ℕ)
 state_words [] = []
 state_words (verb ∷ []) = []

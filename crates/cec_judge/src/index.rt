@@ -1,14 +1,14 @@
 //! The rounds and the events of a trace, read once.
 ghost use Rattle.std.specs.Prelude.{◌≡◌, ℕ, ◌<◌, length, map, IfOk, None};
 ghost use Rattle.std.specs.Option.{option_map};
-ghost use Rattle.cec_words.specs.Words.{words_of};
+ghost use Rattle.hdmi_core.specs.Words.{words_of};
 ghost use Rattle.cec_judge.specs.Told.{event_as, event_at, event_in, round_as, rounds_of};
 ghost use Rattle.cec_judge.specs.Seen.{ends_seen, first_of};
 ghost use Rattle.cec_judge.specs.Index.{entry, event_of, event_on, or_event};
 
 use crate::seen::{Seen, Span, rounds_seen};
 use crate::told::{EventLine, RoundLine, event_at, event_in, round_in};
-use cec_words::first_line;
+use hdmi_core::first_line;
 use std::alloc::{AllocError, AllocFailed, Global};
 
 /// A trace, with its rounds in order, and the events of the first lines of its script, each at the place of its line.

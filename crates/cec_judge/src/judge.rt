@@ -1,15 +1,15 @@
 //! What is found of each line of a script, by the trace.
 ghost use Rattle.std.specs.Prelude.{◌≡◌, ◌<◌, ◌^◌, length, map, IfOk};
 ghost use Rattle.std.specs.Option.{option_copied};
-ghost use Rattle.cec_words.specs.Words.{words_behind, words_of};
+ghost use Rattle.hdmi_core.specs.Words.{words_behind, words_of};
 ghost use Rattle.cec_expect.specs.Form.{window_of};
-ghost use Rattle.cec_judge.specs.Judged.{failed, has_word, has_words, holds_by, instant_at, is_number, is_refusal_expected, is_word, judged, line_expects, line_judged, other_judged, refusal_at, refused_judged, rounds_judged, span_from, span_of, state_judged};
+ghost use Rattle.cec_judge.specs.Judged.{failure, has_word, has_words, holds_by, instant_at, is_number, is_refusal_expected, is_word, verdicts_of, line_expects, line_judged, other_judged, refusal_at, refused_judged, rounds_judged, span_from, span_of, state_judged};
 
 use crate::index::Index;
 use crate::seen::Span;
 use crate::told::{refusal_in, state_words};
-use cec_expect::{Form, Quantity, Window, event_labelled, form_in, labelled, unlabelled};
-use cec_words::{first_line, first_word};
+use cec_expect::{Form, Quantity, Window, event_labelled, form_in, line_of_label, unlabelled};
+use hdmi_core::{first_line, first_word};
 use std::alloc::{AllocError, AllocFailed, Global};
 
 /// What is found of a line.
@@ -27,8 +27,8 @@ pub struct Judged {
 }
 
 // What fails.
-fn failed() -> Judged
-    ensures { result ≡ failed }
+fn failure() -> Judged
+    ensures { result ≡ failure }
 {
     Judged {
         holds: Some(false),
@@ -65,7 +65,7 @@ fn span_of(script: &[u8], above: &[Judged], window: Window) -> Option<Span>
 {
     match window {
         Window::Within { duration, label } => {
-            span_from(duration, instant_at(above, labelled(script, label)))
+            span_from(duration, instant_at(above, line_of_label(script, label)))
         }
         Window::From { from, to } => Some(Span { from, to }),
     }
@@ -90,7 +90,7 @@ fn rounds_judged(
     ensures { result ≡ rounds_judged index.now.trace.now quantity pattern.now span }
 {
     let Some(span) = span else {
-        return failed();
+        return failure();
     };
     let seen = index.rounds_seen(span, pattern);
     let holds = holds_by(quantity, seen.count);
@@ -197,7 +197,7 @@ fn line_judged(
     ensures { result ≡ line_judged script.now index.now.trace.now state.now above.now line.now }
 {
     match form_in(unlabelled(line).rest) {
-        Err(_) => failed(),
+        Err(_) => failure(),
         Ok(form) => match form {
             Form::Other => other_judged(index, above.len() as u64 + 1),
             Form::Rounds {
@@ -223,7 +223,7 @@ pub fn all_judged(
     trace: &[u8],
     states: &[Vec<u8>],
 ) -> Result<Vec<Judged>, AllocError>
-    ensures { IfOk result (λ found. found.items ≡ judged script.now trace.now (map (λ state. state.items) states.now)) }
+    ensures { IfOk result (λ found. found.items ≡ verdicts_of script.now trace.now (map (λ state. state.items) states.now)) }
 {
     let index = Index::new(alloc, script, trace)?;
     let mut found = Vec::new(alloc);

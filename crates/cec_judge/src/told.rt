@@ -1,10 +1,10 @@
 //! What the lines of a trace say of rounds, of events and of states.
 ghost use Rattle.std.specs.Prelude.{◌≡◌};
 ghost use Rattle.std.specs.Option.{option_copied, option_map};
-ghost use Rattle.cec_words.specs.Words.{words_behind, words_of};
+ghost use Rattle.hdmi_core.specs.Words.{words_behind, words_of};
 ghost use Rattle.cec_judge.specs.Told.{event_as, event_at, event_in, is_state_of, refusal_in, round_as, round_in, state_line, state_words, told_in};
 
-use cec_words::{first_line, first_word, number_in, one_word};
+use hdmi_core::{first_line, first_word, number_in, one_word};
 
 /// What the line of a round says.
 #[derive(Clone, Copy)]
@@ -114,7 +114,7 @@ fn is_state_of(name: &[u8], line: &[u8]) -> bool
     verb == b"state".as_slice() && device == name
 }
 
-/// The line of a trace that tells the state of a device, empty where none does.
+/// The line of a trace that reports the state of a device, empty where none does.
 pub fn state_line<'a>(trace: &'a [u8], name: &[u8]) -> &'a [u8]
     ensures { result.now ≡ state_line trace.now name.now }
 {
@@ -128,7 +128,7 @@ pub fn state_line<'a>(trace: &'a [u8], name: &[u8]) -> &'a [u8]
     &[]
 }
 
-/// What a line of a state tells after the device's name.
+/// What a line of a state reports after the device's name.
 pub(crate) fn state_words(line: &[u8]) -> Option<&[u8]>
     ensures { words_behind (option_copied result) ≡ state_words (words_of line.now) }
 {

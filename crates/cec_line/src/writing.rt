@@ -1,13 +1,12 @@
 //! The parts of a file of the line.
 ghost use Rattle.std.specs.Prelude.{◌≡◌, ℕ, Bool, List, Option};
 ghost use Rattle.hdmi_core.specs.Written.{WrittenLine};
-ghost use Rattle.cec_words.specs.Cut.{WrittenText};
+ghost use Rattle.hdmi_core.specs.Cut.{WrittenText};
 ghost use Rattle.cec_line.specs.Format.{line_end, line_round, line_start};
 
 use crate::format::Format;
 use cec_wave::Stretch;
-use cec_words::{counted, cut_at};
-use hdmi_core::{Sink, WriteFault};
+use hdmi_core::{Sink, WriteFault, counted, cut_at};
 
 /// What was returned of a line, as it is returned of a text.
 pub fn as_text(line: Result<u128, WriteFault>) -> Result<u128, WriteFault>
@@ -23,7 +22,7 @@ pub fn as_text(line: Result<u128, WriteFault>) -> Result<u128, WriteFault>
 ///
 /// # Errors
 ///
-/// A `put` took none. The count, which stays at its greatest value, tells how much was written. So it is of the others.
+/// A `put` took none. The count, which stays at its greatest value, says how much was written. So it is of the others.
 pub fn write_start<S: Sink>(out: &mut S, format: Format) -> Result<u128, WriteFault>
     ensures { WrittenText (S.contents out.old) (S.contents out.new) (S.is_stuck out.old) (S.is_stuck out.new) (line_start format) result }
 {

@@ -13,9 +13,9 @@ use Rattle.cec_bits.specs.Ended.{ended_by}
 use Rattle.cec_bits.specs.Reports.{ended_before}
 use Rattle.cec_bits.proofs.Reported.{ended_first}
 use Rattle.cec_bits.proofs.Stood.{was_now}
-use Rattle.cec_words.specs.Cut.{CutOff, WrittenText, told_count}
-use Rattle.cec_words.specs.Lines.{lines_of, is_skipped}
-use Rattle.cec_words.proofs.Cutting.{told_parts, cut_again}
+use Rattle.hdmi_core.specs.Cut.{CutOff, WrittenText, told_count}
+use Rattle.hdmi_core.specs.Lines.{lines_of, is_skipped}
+use Rattle.hdmi_core.proofs.Cutting.{told_parts, cut_again}
 use Rattle.cec_signal.specs.Edges.{level_at, line_of_edges}
 use Rattle.cec_mon.specs.declared.monitor.Monitor.{Monitor as Watcher}
 use Rattle.cec_mon.specs.declared.edge_file.EdgeFault.{EdgeFault}
@@ -133,7 +133,7 @@ watched_first text f lines m old was h rest number level from heard = record {
   flag = refl;
 }
 
--- an edge, and what was told of it
+-- an edge, and what was reported of it
 record Told (f : EdgeFile) (lines next : EdgeLines) (m new : Watcher) (e : EdgeOf) (told : Option Listed) : Type 0 where
   left : EdgeFile
   file : file_left next ≡ Ok left

@@ -14,8 +14,8 @@ use Rattle.cec_bits.specs.Ended.{ended_by}
 use Rattle.cec_bits.specs.Reports.{ended_before}
 use Rattle.cec_bits.proofs.Reported.{ended_first}
 use Rattle.cec_bits.proofs.Stood.{was_now}
-use Rattle.cec_words.specs.Cut.{CutOff, WrittenText, told_count}
-use Rattle.cec_words.proofs.Cutting.{told_parts, cut_again}
+use Rattle.hdmi_core.specs.Cut.{CutOff, WrittenText, told_count}
+use Rattle.hdmi_core.proofs.Cutting.{told_parts, cut_again}
 use Rattle.cec_signal.specs.Edges.{AreInTurn, Captured, EndBy, IsCapture, level_at, line_of_edges}
 use Rattle.cec_signal.proofs.Recording.{before_turn}
 use Rattle.cec_mon.specs.declared.monitor.Monitor.{Monitor as Watcher}
@@ -107,7 +107,7 @@ followed_first t c m old was is heard = record {
   flag = refl;
 }
 
--- an edge, and what was told of it
+-- an edge, and what was reported of it
 record Told (c : Captured) (rest : List Edge) (new : Watcher) (e : Edge) (from : ℕ) (told : Option Listed) : Type 0 where
   level : (u : ℕ) → e.at + 1 ≤ u → line_of_edges c.edges u ≡ level_at e.low rest u
   before : was_low (line_of_edges c.edges) (e.at + 1) ≡ e.low

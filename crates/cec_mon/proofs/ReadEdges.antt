@@ -3,21 +3,21 @@ use Rattle.std.proofs.Common.{◌≡◌, ℕ, ◌+◌, ◌≤◌, ◌&&◌, Bool
 use Rattle.std.specs.Str.{bytes_eq}
 use Rattle.std.proofs.lemmas.Bool.Decides.{nat_tests}
 use Rattle.cec_wave.specs.declared.Edge.{Edge as EdgeOf}
-use Rattle.cec_words.specs.Lines.{lines_of, is_skipped}
-use Rattle.cec_words.specs.Number.{number_of}
-use Rattle.cec_words.specs.Words.{two_of, words_of}
+use Rattle.hdmi_core.specs.Lines.{lines_of, is_skipped}
+use Rattle.hdmi_core.specs.Number.{number_of}
+use Rattle.hdmi_core.specs.Words.{two_of, words_of}
 use Rattle.cec_signal.specs.Edges.{AreInTurn, EndBy, IsCapture}
 use Rattle.cec_mon.specs.declared.edge_file.EdgeFault.{EdgeFault}
 use Rattle.cec_mon.specs.declared.edge_file.EdgeFault.TheVariants as fault
 use Rattle.cec_mon.specs.declared.edge_file.EdgeLine.{EdgeLine}
 use Rattle.cec_mon.specs.declared.edge_file.EdgeLine.TheVariants.{Edge, End}
-use Rattle.cec_mon.specs.EdgeFile.{EdgeFile, edge_line_of, edges_read, end_read, file_of, is_in_turn, line_by, marked, marked_by, read_line, with_edge, with_edges, within}
+use Rattle.cec_mon.specs.EdgeFile.{EdgeFile, edge_line_of, edges_read, end_read, file_of, is_in_turn, line_by, edge_line_at, marked_by, read_line, with_edge, with_edges, within}
 use Rattle.cec_mon.specs.Reading.{GivesEdges, fault_told}
 use Rattle.cec_mon.proofs.Files.{behind, end_none}
 
 -- ---- the end is within the limit
 
-end_within : (t time : ℕ) (mark : List ℕ) → marked time mark ≡ Some (End t) → t ≡ time
+end_within : (t time : ℕ) (mark : List ℕ) → edge_line_at time mark ≡ Some (End t) → t ≡ time
 end_within t time mark h = by (bytes_eq mark (codes "0")) (bytes_eq mark (codes "1")) (bytes_eq mark (codes "end")) h
   where
     by : (a b c : Bool)

@@ -5,8 +5,8 @@ use Rattle.std.proofs.lemmas.Bool.Decides.{nat_tests}
 use Rattle.cec_wave.specs.Line.{Line, was_low}
 use Rattle.cec_frame.specs.declared.Ending.{Ending}
 use Rattle.cec_frame.specs.declared.Ending.TheVariants.{Silent, BadStart}
-use Rattle.cec_bits.specs.declared.receiver.Place.{Place}
-use Rattle.cec_bits.specs.declared.receiver.Place.TheVariants.{Rest, StartLow, StartHigh, Unsampled, Sampled}
+use Rattle.cec_bits.specs.declared.receiver.ReceiverState.{ReceiverState}
+use Rattle.cec_bits.specs.declared.receiver.ReceiverState.TheVariants.{Rest, StartLow, StartHigh, Unsampled, Sampled}
 use Rattle.cec_bits.specs.declared.receiver.Told.{Told}
 use Rattle.cec_bits.specs.declared.receiver.Told.TheVariants.{Nothing, Bit, Last, Ended}
 use Rattle.cec_bits.specs.Reading.{last_ending}
@@ -21,7 +21,7 @@ use Rattle.cec_frame.specs.declared.Reading.{Reading}
 use Rattle.cec_bits.specs.Hears.{heard_by}
 use Rattle.cec_bits.specs.Reports.{listed_as}
 use Rattle.cec_mon.specs.declared.monitor.Monitor.{Monitor as Watcher}
-use Rattle.cec_mon.specs.Monitor.{Microsecond, heard_at, woken_at, woken, woken_again, waited, IsStill, HeardBefore, IsCalm}
+use Rattle.cec_mon.specs.Monitor.{Microsecond, heard_at, woken_at, after_wake, woken_again, after_wakes, IsStill, HeardBefore, IsCalm}
 
 -- ---- what a wake leads to
 
@@ -34,7 +34,7 @@ data Woke (h : Hears) (b : Bool) (w : ℕ) : Type 0 where
   Over : (told : Told) → hear_in w b b h ≡ told_so rest told → (x : Listed) → ended_of told w (running_by h w) ≡ Some x → Woke h b w
   Bitwise : (next : Hears) → (slot : ℕ) → (value : Bool) → hear_in w b b h ≡ told_so next (Bit slot value) → next.place ≡ Sampled → Woke h b w
 
-woke : (b : Bool) (place : Place) (begin fall : ℕ) (bits : List Bool) (w : ℕ) → wake_of (hears_by place begin fall bits) ≡ Some w → Woke (hears_by place begin fall bits) b w
+woke : (b : Bool) (place : ReceiverState) (begin fall : ℕ) (bits : List Bool) (w : ℕ) → wake_of (hears_by place begin fall bits) ≡ Some w → Woke (hears_by place begin fall bits) b w
 woke b Rest begin fall bits w e = cc
 woke b StartLow begin fall bits w e =
     let is : begin + 3901 ≡ w = cc in
@@ -75,7 +75,7 @@ data Left (until : ℕ) (b : Bool) (h : Hears) (m : Microsecond) : Type 0 where
   Calm : m ≡ record { state = h; ended = None } → ((w : ℕ) → wake_of h ≡ Some w → until ≤ w) → Left until b h m
   Woken : (w : ℕ) → wake_of h ≡ Some w → w < until → m ≡ heard_at w b b h → Left until b h m
 
-left : (until : ℕ) (b : Bool) (h : Hears) → Left until b h (woken until b h)
+left : (until : ℕ) (b : Bool) (h : Hears) → Left until b h (after_wake until b h)
 left until b h = by_wake (wake_of h) refl
   where
     by_time : (w : ℕ) → wake_of h ≡ Some w → (c : Bool) → nat_lt w until ≡ c → Left until b h (if c then heard_at w b b h else record { state = h; ended = None })
@@ -102,16 +102,16 @@ rests b h w m x e is ended = by_woke (woke_of b h w e)
         let no : None ≡ Some x = sym none ∙ ended in cc
 
 -- after a second wake none comes before the instant
-done_after : (until : ℕ) (b : Bool) (next : Hears) → next.place ≡ Sampled → (w : ℕ) → wake_of (woken until b next).state ≡ Some w → until ≤ w
+done_after : (until : ℕ) (b : Bool) (next : Hears) → next.place ≡ Sampled → (w : ℕ) → wake_of (after_wake until b next).state ≡ Some w → until ≤ w
 done_after until b next place w e = by_left (left until b next)
   where
-    by_woke : (v : ℕ) → (woken until b next) ≡ heard_at v b b next → wake_of next ≡ Some v → Woke next b v → until ≤ w
+    by_woke : (v : ℕ) → (after_wake until b next) ≡ heard_at v b b next → wake_of next ≡ Some v → Woke next b v → until ≤ w
     by_woke v is f (Over told heard x some) =
-        let at_rest : (woken until b next).state ≡ rest = ap (λ (k : Microsecond). k.state) is ∙ ap (λ (k : Heard). k.state) heard in
+        let at_rest : (after_wake until b next).state ≡ rest = ap (λ (k : Microsecond). k.state) is ∙ ap (λ (k : Heard). k.state) heard in
         let no : None ≡ Some w = sym (ap wake_of at_rest) ∙ e in cc
     by_woke v is f (Bitwise other slot value heard sampled) = absurd (not_bit next.place next.begin next.fall next.bits place heard f)
       where
-        not_bit : (p : Place) (begin fall : ℕ) (bits : List Bool) → p ≡ Sampled → hear_in v b b (hears_by p begin fall bits) ≡ told_so other (Bit slot value) → wake_of (hears_by p begin fall bits) ≡ Some v → ⊥
+        not_bit : (p : ReceiverState) (begin fall : ℕ) (bits : List Bool) → p ≡ Sampled → hear_in v b b (hears_by p begin fall bits) ≡ told_so other (Bit slot value) → wake_of (hears_by p begin fall bits) ≡ Some v → ⊥
         not_bit Sampled begin fall bits q k j =
             let is : fall + 2751 ≡ v = cc in
             let late : nat_lt (fall + 2750) v ≡ true = grind (arith, nat_tests) in
@@ -124,25 +124,25 @@ done_after until b next place w e = by_left (left until b next)
         not_bit StartHigh begin fall bits q k j = cc
         not_bit Unsampled begin fall bits q k j = cc
 
-    by_left : Left until b next (woken until b next) → until ≤ w
+    by_left : Left until b next (after_wake until b next) → until ≤ w
     by_left (Calm is late) = late w (sym (ap (λ (k : Microsecond). wake_of k.state) is) ∙ e)
     by_left (Woken v f before is) = by_woke v is f (woke_of b next v f)
 
-again_done : (until : ℕ) (b : Bool) (h : Hears) → (woken until b h).ended ≡ None → (w : ℕ) → wake_of (woken until b (woken until b h).state).state ≡ Some w → until ≤ w
+again_done : (until : ℕ) (b : Bool) (h : Hears) → (after_wake until b h).ended ≡ None → (w : ℕ) → wake_of (after_wake until b (after_wake until b h).state).state ≡ Some w → until ≤ w
 again_done until b h none w e = by_left (left until b h)
   where
-    by_woke : (v : ℕ) → woken until b h ≡ heard_at v b b h → Woke h b v → until ≤ w
+    by_woke : (v : ℕ) → after_wake until b h ≡ heard_at v b b h → Woke h b v → until ≤ w
     by_woke v is (Over told heard x some) =
-        let ended : (woken until b h).ended ≡ Some x = ap (λ (k : Microsecond). k.ended) is ∙ ap (λ (k : Heard). ended_of k.told v (running_by h v)) heard ∙ some in
+        let ended : (after_wake until b h).ended ≡ Some x = ap (λ (k : Microsecond). k.ended) is ∙ ap (λ (k : Heard). ended_of k.told v (running_by h v)) heard ∙ some in
         let no : None ≡ Some x = sym none ∙ ended in cc
     by_woke v is (Bitwise next slot value heard place) =
-        let state : (woken until b h).state ≡ next = ap (λ (k : Microsecond). k.state) is ∙ ap (λ (k : Heard). k.state) heard in
-        done_after until b next place w (sym (ap (λ s. wake_of (woken until b s).state) state) ∙ e)
+        let state : (after_wake until b h).state ≡ next = ap (λ (k : Microsecond). k.state) is ∙ ap (λ (k : Heard). k.state) heard in
+        done_after until b next place w (sym (ap (λ s. wake_of (after_wake until b s).state) state) ∙ e)
 
-    by_left : Left until b h (woken until b h) → until ≤ w
+    by_left : Left until b h (after_wake until b h) → until ≤ w
     by_left (Calm is late) =
-        let state : (woken until b h).state ≡ h = ap (λ (k : Microsecond). k.state) is in
-        late w (sym (ap (λ s. wake_of (woken until b s).state) state ∙ ap (λ (k : Microsecond). wake_of k.state) is) ∙ e)
+        let state : (after_wake until b h).state ≡ h = ap (λ (k : Microsecond). k.state) is in
+        late w (sym (ap (λ s. wake_of (after_wake until b s).state) state ∙ ap (λ (k : Microsecond). wake_of k.state) is) ∙ e)
     by_left (Woken v f before is) = by_woke v is (woke_of b h v f)
 
 -- ---- on a line
@@ -156,10 +156,10 @@ record Came (low : Line) (n until : ℕ) (b : Bool) (m : Microsecond) : Type 0 w
   level : was_low low to ≡ b
   told : ended_before low to ≡ ended_before low n ++ option_to_list m.ended
 
-came : (low : Line) (n until : ℕ) (b : Bool) (h : Hears) → n ≤ until → h ≡ kept_before low n → was_low low n ≡ b → ((u : ℕ) → n ≤ u → u < until → low u ≡ b) → Came low n until b (woken until b h)
+came : (low : Line) (n until : ℕ) (b : Bool) (h : Hears) → n ≤ until → h ≡ kept_before low n → was_low low n ≡ b → ((u : ℕ) → n ≤ u → u < until → low u ≡ b) → Came low n until b (after_wake until b h)
 came low n until b h l keeps level q = by_left (left until b h)
   where
-    by_left : Left until b h (woken until b h) → Came low n until b (woken until b h)
+    by_left : Left until b h (after_wake until b h) → Came low n until b (after_wake until b h)
     by_left (Calm is late) = record {
       to = n;
       from = omega arith;
@@ -193,27 +193,27 @@ pub record Waits (low : Line) (n until : ℕ) (b : Bool) (m : Microsecond) : Typ
   pub told : ended_before low until ≡ ended_before low n ++ option_to_list m.ended
   pub rests : (x : Listed) → m.ended ≡ Some x → m.state ≡ rest
 
-rests_after : (until : ℕ) (b : Bool) (h : Hears) (x : Listed) → (woken until b h).ended ≡ Some x → (woken until b h).state ≡ rest
+rests_after : (until : ℕ) (b : Bool) (h : Hears) (x : Listed) → (after_wake until b h).ended ≡ Some x → (after_wake until b h).state ≡ rest
 rests_after until b h x e = by_left (left until b h)
   where
-    by_left : Left until b h (woken until b h) → (woken until b h).state ≡ rest
+    by_left : Left until b h (after_wake until b h) → (after_wake until b h).state ≡ rest
     by_left (Calm is late) = let no : None ≡ Some x = sym (ap (λ (k : Microsecond). k.ended) is) ∙ e in cc
-    by_left (Woken w f before is) = rests b h w (woken until b h) x f is e
+    by_left (Woken w f before is) = rests b h w (after_wake until b h) x f is e
 
 no_wake : (h : Hears) (until : ℕ) → h ≡ rest → (w : ℕ) → wake_of h ≡ Some w → until ≤ w
 no_wake h until e w f = let x : None ≡ Some w = sym (ap wake_of e) ∙ f in cc
 
-pub waits : (low : Line) (n until : ℕ) (b : Bool) (h : Hears) → n ≤ until → h ≡ kept_before low n → was_low low n ≡ b → ((u : ℕ) → n ≤ u → u < until → low u ≡ b) → Waits low n until b (waited until b h)
-waits low n until b h l keeps level q = by_first (woken until b h).ended refl
+pub waits : (low : Line) (n until : ℕ) (b : Bool) (h : Hears) → n ≤ until → h ≡ kept_before low n → was_low low n ≡ b → ((u : ℕ) → n ≤ u → u < until → low u ≡ b) → Waits low n until b (after_wakes until b h)
+waits low n until b h l keeps level q = by_first (after_wake until b h).ended refl
   where
-    first : Came low n until b (woken until b h)
+    first : Came low n until b (after_wake until b h)
     first = came low n until b h l keeps level q
 
-    by_first : (o : Option Listed) → (woken until b h).ended ≡ o → Waits low n until b (woken_again until b (woken until b h).state o)
+    by_first : (o : Option Listed) → (after_wake until b h).ended ≡ o → Waits low n until b (woken_again until b (after_wake until b h).state o)
     by_first (Some x) e =
         let c = first in
-        let at_rest : (woken until b h).state ≡ rest = rests_after until b h x e in
-        let s = stays low (woken until b h).state c.to until b c.by c.kept c.level (λ u a d. q u (omega (arith, a, c.from)) d) (no_wake (woken until b h).state until at_rest) in
+        let at_rest : (after_wake until b h).state ≡ rest = rests_after until b h x e in
+        let s = stays low (after_wake until b h).state c.to until b c.by c.kept c.level (λ u a d. q u (omega (arith, a, c.from)) d) (no_wake (after_wake until b h).state until at_rest) in
         record {
           kept = sym s.kept;
           level = s.level;
@@ -222,15 +222,15 @@ waits low n until b h l keeps level q = by_first (woken until b h).ended refl
         }
     by_first None e =
         let c = first in
-        let d = came low c.to until b (woken until b h).state c.by c.kept c.level (λ u a g. q u (omega (arith, a, c.from)) g) in
-        let s = stays low (woken until b (woken until b h).state).state d.to until b d.by d.kept d.level (λ u a g. q u (omega (arith, a, c.from, d.from)) g) (again_done until b h e) in
+        let d = came low c.to until b (after_wake until b h).state c.by c.kept c.level (λ u a g. q u (omega (arith, a, c.from)) g) in
+        let s = stays low (after_wake until b (after_wake until b h).state).state d.to until b d.by d.kept d.level (λ u a g. q u (omega (arith, a, c.from, d.from)) g) (again_done until b h e) in
         record {
           kept = sym s.kept;
           level = s.level;
           told = s.ended ∙ d.told
-              ∙ ap (λ (xs : List Listed). xs ++ option_to_list (woken until b (woken until b h).state).ended)
+              ∙ ap (λ (xs : List Listed). xs ++ option_to_list (after_wake until b (after_wake until b h).state).ended)
               (c.told ∙ ap (λ (o : Option Listed). ended_before low n ++ option_to_list o) e ∙ append-nil (ended_before low n));
-          rests = λ y f. rests_after until b (woken until b h).state y f;
+          rests = λ y f. rests_after until b (after_wake until b h).state y f;
         }
 
 -- ---- an edge, and the end
@@ -249,17 +249,17 @@ pub record Edges (low : Line) (n t : ℕ) (b is : Bool) (m e : Microsecond) : Ty
   pub told : ended_by low t ≡ ended_before low n ++ option_to_list (option_or m.ended e.ended)
 
 pub edges : (low : Line) (n t : ℕ) (b is : Bool) (h : Hears) → n ≤ t → h ≡ kept_before low n → was_low low n ≡ b → ((u : ℕ) → n ≤ u → u < t → low u ≡ b) → low t ≡ is
-    → Edges low n t b is (waited t b h) (heard_at t b is (waited t b h).state)
+    → Edges low n t b is (after_wakes t b h) (heard_at t b is (after_wakes t b h).state)
 edges low n t b is h l keeps level q now =
     let w = waits low n t b h l keeps level q in
-    let k = hearing low (waited t b h).state t b is w.kept w.level now in
+    let k = hearing low (after_wakes t b h).state t b is w.kept w.level now in
     let same : t + 1 ≡ suc t = omega arith in
     record {
       kept = k.kept;
       level = k.level;
       told = sym (ap (ended_before low) same) ∙ k.ended
-          ∙ ap (λ (xs : List Listed). xs ++ option_to_list (heard_at t b is (waited t b h).state).ended) w.told
-          ∙ or_more (ended_before low n) (waited t b h).ended (heard_at t b is (waited t b h).state).ended (λ x e. none_at_rest (waited t b h).state t b is (w.rests x e));
+          ∙ ap (λ (xs : List Listed). xs ++ option_to_list (heard_at t b is (after_wakes t b h).state).ended) w.told
+          ∙ or_more (ended_before low n) (after_wakes t b h).ended (heard_at t b is (after_wakes t b h).state).ended (λ x e. none_at_rest (after_wakes t b h).state t b is (w.rests x e));
     }
 
 -- the end: what was reported, or else what is still kept
@@ -267,14 +267,14 @@ left_by : Option Listed → Option Listed → Option Listed
 left_by a b = option_or a b
 
 pub finishes : (low : Line) (n t : ℕ) (b : Bool) (h : Hears) → n ≤ t + 1 → h ≡ kept_before low n → was_low low n ≡ b → ((u : ℕ) → n ≤ u → u < t + 1 → low u ≡ b)
-    → readings_of low t ≡ ended_before low n ++ option_to_list (option_or (waited (t + 1) b h).ended (running_by (waited (t + 1) b h).state t))
+    → readings_of low t ≡ ended_before low n ++ option_to_list (option_or (after_wakes (t + 1) b h).ended (running_by (after_wakes (t + 1) b h).state t))
 finishes low n t b h l keeps level q =
     let w = waits low n (t + 1) b h l keeps level q in
     let same : t + 1 ≡ suc t = omega arith in
     running_is_kept low t
     ∙ ap (λ k. ended_by low t ++ option_to_list (running_by k t)) (sym (w.kept ∙ ap (kept_before low) same))
-    ∙ ap (λ (xs : List Listed). xs ++ option_to_list (running_by (waited (t + 1) b h).state t)) (sym (ap (ended_before low) same) ∙ w.told)
-    ∙ or_more (ended_before low n) (waited (t + 1) b h).ended (running_by (waited (t + 1) b h).state t)
+    ∙ ap (λ (xs : List Listed). xs ++ option_to_list (running_by (after_wakes (t + 1) b h).state t)) (sym (ap (ended_before low) same) ∙ w.told)
+    ∙ or_more (ended_before low n) (after_wakes (t + 1) b h).ended (running_by (after_wakes (t + 1) b h).state t)
     (λ x e. ap (λ k. running_by k t) (w.rests x e))
 
 -- ---- a monitor
@@ -284,7 +284,7 @@ map_or None b = refl
 map_or (Some x) b = refl
 
 pub edge_told : (low : Line) (n t : ℕ) (falls : Bool) (old mid noted new : Watcher) (w e o : Option Reading) → HeardBefore old low n → n ≤ t → IsCalm old low n t → low t ≡ falls
-    → (let m : Microsecond = record { state = heard_by mid.receiver; ended = option_map listed_as w } in m) ≡ waited t old.receiver.is_low (heard_by old.receiver)
+    → (let m : Microsecond = record { state = heard_by mid.receiver; ended = option_map listed_as w } in m) ≡ after_wakes t old.receiver.is_low (heard_by old.receiver)
     → IsStill mid → mid.receiver.is_low ≡ old.receiver.is_low
     → heard_by noted.receiver ≡ heard_by mid.receiver → noted.receiver.was_low ≡ mid.receiver.was_low → noted.receiver.is_low ≡ falls
     → (let m : Microsecond = record { state = heard_by new.receiver; ended = option_map listed_as e } in m) ≡ heard_at t noted.receiver.was_low noted.receiver.is_low (heard_by noted.receiver)
@@ -293,16 +293,16 @@ pub edge_told : (low : Line) (n t : ℕ) (falls : Bool) (old mid noted new : Wat
 edge_told low n t falls old mid noted new w e o h l calm now first still same keeps was is second level after or =
     let b : Bool = old.receiver.is_low in
     let k = edges low n t old.receiver.is_low falls (heard_by old.receiver) l h.stood.keeps (sym h.stood.level ∙ h.still) (λ u a c. calm u a c ∙ h.still) now in
-    let state : heard_by mid.receiver ≡ (waited t old.receiver.is_low (heard_by old.receiver)).state = ap (λ (m : Microsecond). m.state) first in
+    let state : heard_by mid.receiver ≡ (after_wakes t old.receiver.is_low (heard_by old.receiver)).state = ap (λ (m : Microsecond). m.state) first in
     let mid_is : noted.receiver.was_low ≡ old.receiver.is_low = was ∙ still ∙ same in
-    let made : heard_at t noted.receiver.was_low noted.receiver.is_low (heard_by noted.receiver) ≡ heard_at t old.receiver.is_low falls (waited t old.receiver.is_low (heard_by old.receiver)).state =
+    let made : heard_at t noted.receiver.was_low noted.receiver.is_low (heard_by noted.receiver) ≡ heard_at t old.receiver.is_low falls (after_wakes t old.receiver.is_low (heard_by old.receiver)).state =
     ap (λ x. heard_at t x noted.receiver.is_low (heard_by noted.receiver)) mid_is ∙ ap (λ x. heard_at t old.receiver.is_low x (heard_by noted.receiver)) is
     ∙ ap (heard_at t old.receiver.is_low falls) (keeps ∙ state) in (
       record {
         stood = record { keeps = ap (λ (m : Microsecond). m.state) (second ∙ made) ∙ sym k.kept; level = level ∙ is ∙ sym k.level };
         still = level ∙ sym after;
       },
-      k.told ∙ ap (λ (x : Option Listed). ended_before low n ++ option_to_list (option_or x (heard_at t old.receiver.is_low falls (waited t old.receiver.is_low (heard_by old.receiver)).state).ended))
+      k.told ∙ ap (λ (x : Option Listed). ended_before low n ++ option_to_list (option_or x (heard_at t old.receiver.is_low falls (after_wakes t old.receiver.is_low (heard_by old.receiver)).state).ended))
           (sym (ap (λ (m : Microsecond). m.ended) first))
           ∙ ap (λ (x : Option Listed). ended_before low n ++ option_to_list (option_or (option_map listed_as w) x)) (sym (ap (λ (m : Microsecond). m.ended) (second ∙ made)))
           ∙ ap (λ (x : Option Listed). ended_before low n ++ option_to_list x) (sym (map_or w e))
@@ -310,7 +310,7 @@ edge_told low n t falls old mid noted new w e o h l calm now first still same ke
     )
 
 pub end_told : (low : Line) (n t : ℕ) (old mid : Watcher) (w : Option Reading) → HeardBefore old low n → n ≤ t + 1 → IsCalm old low n (t + 1)
-    → (let m : Microsecond = record { state = heard_by mid.receiver; ended = option_map listed_as w } in m) ≡ waited (t + 1) old.receiver.is_low (heard_by old.receiver)
+    → (let m : Microsecond = record { state = heard_by mid.receiver; ended = option_map listed_as w } in m) ≡ after_wakes (t + 1) old.receiver.is_low (heard_by old.receiver)
     → readings_of low t ≡ ended_before low n ++ option_to_list (option_or (option_map listed_as w) (running_by (heard_by mid.receiver) t))
 end_told low n t old mid w h l calm first =
     finishes low n t old.receiver.is_low (heard_by old.receiver) l h.stood.keeps (sym h.stood.level ∙ h.still) (λ u a c. calm u a c ∙ h.still)

@@ -3,9 +3,9 @@
 use Rattle.std.specs.Prelude.{◌≡◌, ℕ, ◌+◌, ◌<◌, ◌≤◌, Bool, true, false, not, nat_le, ◌&&◌, if◌then◌else◌, List, [], ◌∷◌, length, codes, Option, Some, None, Result, Ok, Err}
 use Rattle.std.specs.Str.{bytes_eq}
 use Rattle.cec_wave.specs.declared.Edge.{Edge as EdgeOf}
-use Rattle.cec_words.specs.Lines.{lines_of, is_skipped}
-use Rattle.cec_words.specs.Number.{number_of}
-use Rattle.cec_words.specs.Words.{words_of, two_of}
+use Rattle.hdmi_core.specs.Lines.{lines_of, is_skipped}
+use Rattle.hdmi_core.specs.Number.{number_of}
+use Rattle.hdmi_core.specs.Words.{words_of, two_of}
 use Rattle.cec_mon.specs.declared.edge_file.EdgeLine.{EdgeLine}
 use Rattle.cec_mon.specs.declared.edge_file.EdgeLine.TheVariants.{Edge, End}
 use Rattle.cec_mon.specs.declared.edge_file.EdgeFault.{EdgeFault}
@@ -22,8 +22,8 @@ within (Some t) = if nat_le t 2000000000000 then Some t else None
 abbrev pub time_of : List ℕ → Option ℕ
 time_of word = within (number_of word)
 
-abbrev pub marked : ℕ → List ℕ → Option EdgeLine
-marked at mark =
+abbrev pub edge_line_at : ℕ → List ℕ → Option EdgeLine
+edge_line_at at mark =
     if bytes_eq mark (codes "0") then Some (Edge (record { at = at; low = true }))
     else if bytes_eq mark (codes "1") then Some (Edge (record { at = at; low = false }))
     else if bytes_eq mark (codes "end") then Some (End at)
@@ -31,7 +31,7 @@ marked at mark =
 
 abbrev pub marked_by : Option ℕ → List ℕ → Option EdgeLine
 marked_by None mark = None
-marked_by (Some at) mark = marked at mark
+marked_by (Some at) mark = edge_line_at at mark
 
 abbrev pub line_by : Option (List ℕ × List ℕ) → Option EdgeLine
 line_by None = None
@@ -111,7 +111,7 @@ ReadsLine number line old (Ok (Edge e)) new = TakesEdge number line old e new
 ReadsLine number line old (Ok (End t)) new = (left_after number line old ≡ Ok (record { edges = []; end = t })) × (old.from ≤ t + 1) × (t ≤ 2000000000000)
 ReadsLine number line old (Err fault) new = left_after number line old ≡ Err fault
 
--- it goes on behind an edge, and counts the lines that it took
+-- it goes on after an edge, and counts the lines that it took
 pub record GoesBehind (old : EdgeLines) (e : EdgeOf) (new : EdgeLines) : Type 0 where
   pub file : file_left old ≡ with_edge e (file_left new)
   pub level : new.is_low ≡ e.low

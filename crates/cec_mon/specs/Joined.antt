@@ -6,7 +6,7 @@ use Rattle.std.specs.Io.KnownBytes.{Appends}
 use Rattle.hdmi_core.specs.declared.sink.WriteFault.{WriteFault}
 use Rattle.cec_wave.specs.Line.{Line}
 use Rattle.cec_bits.specs.Readings.{Listed, readings_of}
-use Rattle.cec_words.specs.Cut.{CutOff}
+use Rattle.hdmi_core.specs.Cut.{CutOff}
 use Rattle.cec_signal.specs.Edges.{Captured, line_of_edges}
 use Rattle.cec_mon.specs.Watch.{listed_line}
 

@@ -25,16 +25,16 @@ abbrev pub woken_at : ℕ → Bool → Hears → Option ℕ → Microsecond
 woken_at until is_low h None = record { state = h; ended = None }
 woken_at until is_low h (Some w) = if nat_lt w until then heard_at w is_low is_low h else record { state = h; ended = None }
 
-abbrev pub woken : ℕ → Bool → Hears → Microsecond
-woken until is_low h = woken_at until is_low h (wake_of h)
+abbrev pub after_wake : ℕ → Bool → Hears → Microsecond
+after_wake until is_low h = woken_at until is_low h (wake_of h)
 
 -- a second wake, where the first one ended no reading
 abbrev pub woken_again : ℕ → Bool → Hears → Option Listed → Microsecond
-woken_again until is_low h None = woken until is_low h
+woken_again until is_low h None = after_wake until is_low h
 woken_again until is_low h (Some x) = record { state = h; ended = Some x }
 
-abbrev pub waited : ℕ → Bool → Hears → Microsecond
-waited until is_low h = woken_again until is_low (woken until is_low h).state (woken until is_low h).ended
+abbrev pub after_wakes : ℕ → Bool → Hears → Microsecond
+after_wakes until is_low h = woken_again until is_low (after_wake until is_low h).state (after_wake until is_low h).ended
 
 -- ---- on a line
 

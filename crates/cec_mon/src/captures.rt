@@ -2,7 +2,7 @@
 ghost use Rattle.std.specs.Prelude.{◌≡◌, ◌≤◌, ◌||◌, option_map};
 ghost use Rattle.std.specs.Option.{option_to_list};
 ghost use Rattle.hdmi_core.specs.Written.{WrittenLine};
-ghost use Rattle.cec_words.specs.Cut.{WrittenText};
+ghost use Rattle.hdmi_core.specs.Cut.{WrittenText};
 ghost use Rattle.cec_bits.specs.Reports.{listed_as};
 ghost use Rattle.cec_signal.specs.Edges.{line_of_edges};
 ghost use Rattle.cec_mon.specs.Joined.{IsJoined, WatchesJoined, WritesJoined, has_joined, idle_by, joined_line, joined_text};
@@ -12,8 +12,7 @@ use crate::monitor::Monitor;
 use crate::watching::write_reported;
 use cec_frame::Reading;
 use cec_signal::Capture;
-use cec_words::{counted, cut_at};
-use hdmi_core::{Piece, Sink, WriteFault, write_line};
+use hdmi_core::{Piece, Sink, WriteFault, counted, cut_at, write_line};
 
 /// Seven nominal bit periods of 2,400 microseconds (HDMI 1.4, CEC 5.2.2), for which the line is high before a reading that is
 /// sure to begin with a start bit. No frame has its line high for so long.
@@ -121,7 +120,7 @@ fn write_from<S: Sink>(capture: &Capture, joined_at: u64, out: &mut S) -> Result
 ///
 /// # Errors
 ///
-/// The sink takes no more: then the front of the readings was written, as long as it tells.
+/// The sink takes no more: then the front of the readings was written, as long as it reports.
 pub fn watch_capture<S: Sink>(capture: &Capture, out: &mut S) -> Result<(), WriteFault>
     ensures { WritesFile (S.contents out.old) (S.contents out.new) (S.is_stuck out.old) (S.is_stuck out.new) (as_file capture.now) result }
 {
@@ -134,7 +133,7 @@ pub fn watch_capture<S: Sink>(capture: &Capture, out: &mut S) -> Result<(), Writ
 ///
 /// # Errors
 ///
-/// The sink takes no more: then the front of the lines was written, as long as it tells.
+/// The sink takes no more: then the front of the lines was written, as long as it reports.
 pub fn watch_from_idle<S: Sink>(capture: &Capture, out: &mut S) -> Result<(), WriteFault>
     ensures { WatchesJoined (S.contents out.old) (S.contents out.new) (S.is_stuck out.old) (S.is_stuck out.new) capture.now result }
 {

@@ -1,10 +1,10 @@
 //! The lines of an edge file.
 ghost use Rattle.std.specs.Prelude.{◌≡◌, ℕ, ◌+◌, ◌≤◌, ◌<◌, false, length};
-ghost use Rattle.cec_words.specs.Lines.{lines_of};
-ghost use Rattle.cec_mon.specs.EdgeFile.{edge_line_of, marked, time_of};
+ghost use Rattle.hdmi_core.specs.Lines.{lines_of};
+ghost use Rattle.cec_mon.specs.EdgeFile.{edge_line_of, edge_line_at, time_of};
 
 use cec_wave::{Edge, LATEST_INSTANT};
-use cec_words::{first_line, is_skipped, number_in, two_words};
+use hdmi_core::{first_line, is_skipped, number_in, two_words};
 
 /// What a line says.
 #[derive(Clone, Copy, Debug, PartialEq, Eq)]
@@ -33,8 +33,8 @@ fn time_of(word: &[u8]) -> Option<u64>
     }
 }
 
-fn marked(at: u64, mark: &[u8]) -> Option<EdgeLine>
-    ensures { result ≡ marked at mark.now }
+fn edge_line_at(at: u64, mark: &[u8]) -> Option<EdgeLine>
+    ensures { result ≡ edge_line_at at mark.now }
 {
     if mark == b"0".as_slice() {
         Some(EdgeLine::Edge(Edge { at, low: true }))
@@ -53,7 +53,7 @@ fn line_in(line: &[u8]) -> Option<EdgeLine>
 {
     let (time, mark) = two_words(Some(line))?;
     let at = time_of(time)?;
-    marked(at, mark)
+    edge_line_at(at, mark)
 }
 
 // A reader of the lines of an edge file: what is left of it, the number of the next line, whether the line of the bus

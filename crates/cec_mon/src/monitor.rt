@@ -45,9 +45,9 @@ pub struct Monitor {
 impl Monitor {
     ghost use Rattle.std.specs.Prelude.{ℕ, Bool, ◌+◌};
     ghost use Rattle.cec_wave.specs.Line.{Line};
-    ghost use Rattle.cec_mon.specs.Monitor.{HeardBefore, IsStill, FollowsEdge, FollowsEnd, Microsecond, heard_at, woken, waited};
+    ghost use Rattle.cec_mon.specs.Monitor.{HeardBefore, IsStill, FollowsEdge, FollowsEnd, Microsecond, heard_at, after_wake, after_wakes};
 
-    /// A monitor of a line of which nothing is told yet.
+    /// A monitor of a line of which nothing is reported yet.
     pub fn new() -> Self
         ensures { (low : Line) → HeardBefore result low 0 }
     {
@@ -73,7 +73,7 @@ impl Monitor {
     fn wake(&mut self, until: u64) -> Option<Reading>
         requires early { until ≤ 2000000000001 }
         ensures heard { IsStill self.old → (let m : Microsecond = record { state = heard_by self.new.receiver; ended = option_map listed_as result } in m)
-            ≡ woken until self.old.receiver.is_low (heard_by self.old.receiver) }
+            ≡ after_wake until self.old.receiver.is_low (heard_by self.old.receiver) }
         ensures still { IsStill self.old → IsStill self.new }
         ensures is { self.new.receiver.is_low ≡ self.old.receiver.is_low }
     {
@@ -88,7 +88,7 @@ impl Monitor {
     fn wait(&mut self, until: u64) -> Option<Reading>
         requires early { until ≤ 2000000000001 }
         ensures heard { IsStill self.old → (let m : Microsecond = record { state = heard_by self.new.receiver; ended = option_map listed_as result } in m)
-            ≡ waited until self.old.receiver.is_low (heard_by self.old.receiver) }
+            ≡ after_wakes until self.old.receiver.is_low (heard_by self.old.receiver) }
         ensures still { IsStill self.old → IsStill self.new }
         ensures is { self.new.receiver.is_low ≡ self.old.receiver.is_low }
     {

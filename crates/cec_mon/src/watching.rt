@@ -3,14 +3,13 @@ ghost use Rattle.std.specs.Prelude.{◌≡◌, ℕ, ◌+◌, ◌<◌, length, Ma
 ghost use Rattle.cec_bits.specs.Reports.{listed_as};
 ghost use Rattle.cec_mon.specs.EdgeFile.{EdgeFile, file_of};
 ghost use Rattle.cec_mon.specs.Watch.{Answers, WritesFile, reported_text, told_so};
-ghost use Rattle.cec_words.specs.Cut.{WrittenText};
+ghost use Rattle.hdmi_core.specs.Cut.{WrittenText};
 
 use crate::edge_file::{EdgeFault, EdgeLine, EdgeLines};
 use crate::monitor::Monitor;
 use cec_frame::Reading;
 use cec_text::write_reading;
-use cec_words::{counted, cut_at};
-use hdmi_core::{Sink, WriteFault};
+use hdmi_core::{Sink, WriteFault, counted, cut_at};
 use std::alloc::Global;
 use thiserror::Error;
 
@@ -112,7 +111,7 @@ fn write_readings<S: Sink>(text: &[u8], out: &mut S) -> Result<(), WriteFault>
 /// # Errors
 ///
 /// `Line` or `Order` with the first line at fault: then nothing was written. `Write` where the sink takes no more:
-/// then the front of the readings was written, as long as it tells. Lines that are empty or begin with `#` are
+/// then the front of the readings was written, as long as it reports. Lines that are empty or begin with `#` are
 /// skipped, but counted. `Memory` never comes.
 pub fn watch<S: Sink>(_alloc: Global, text: &[u8], out: &mut S) -> Result<(), WatchError>
     ensures { Answers (S.contents out.old) (S.contents out.new) (S.is_stuck out.old) (S.is_stuck out.new) text.now result }

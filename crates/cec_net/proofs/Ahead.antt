@@ -15,19 +15,19 @@ use Rattle.cec_frame.specs.declared.Fate.TheVariants.{Delivered, Unacked, Lost, 
 use Rattle.cec_device.specs.declared.free_time.FreeTime.TheVariants.{Retry}
 use Rattle.cec_device.specs.declared.device.Queued.{Queued}
 use Rattle.cec_device.specs.declared.device.SubmitError.{SubmitError}
-use Rattle.cec_device.specs.State.{State, queued, speaks, holds, frame_of, source, one_more}
-use Rattle.cec_device.specs.Say.{say, say_all, effected}
+use Rattle.cec_device.specs.State.{State, with_queued, speaks, holds, frame_of, source, one_more}
+use Rattle.cec_device.specs.Say.{say, say_all, after_effect}
 use Rattle.cec_feature.specs.declared.say.Say.{Say}
 use Rattle.cec_feature.specs.declared.say.Say.TheVariants.{Reply, Cast, Tell, Refuse}
 use Rattle.cec_feature.specs.Effect.{Effect}
-use Rattle.cec_device.specs.Effects.{by_decoded, followed, is_for}
+use Rattle.cec_device.specs.Effects.{by_decoded, after_frame, is_for}
 use Rattle.cec_feature.specs.Effects.{effect_of, refuses, heard_of}
-use Rattle.cec_device.specs.Keys.{own_doing, key_fault, keyed_by, keyed}
+use Rattle.cec_device.specs.Keys.{own_doing, key_fault, keyed_by, after_key}
 use Rattle.cec_device.specs.declared.outside.Act.{Act}
 use Rattle.cec_device.specs.declared.outside.Act.TheVariants.{Hold, Empty}
-use Rattle.cec_device.specs.Outside.{act_fault, acted, acted_by}
+use Rattle.cec_device.specs.Outside.{act_fault, after_act, acted_by}
 use Rattle.cec_feature.specs.Keys.{pressing, releasing}
-use Rattle.cec_device.specs.Place.{stepped, polled_at, class_of_poll, ended, failed, front_is_poll, frame_sent, sent_by, sent, waited, submit_fault, submitted_by, submitted, front_by, front_of, ready_by, ready_of}
+use Rattle.cec_device.specs.Place.{place_after_fate, polled_at, class_of_poll, after_front, after_failure, front_is_poll, frame_sent, sent_by, after_sending, after_waiting, submit_fault, submitted_by, after_submission, front_by, front_of, ready_by, ready_of}
 use Rattle.cec_net.specs.Step.{followed_unless}
 use Rattle.cec_net.specs.Sound.{IsReadyBy}
 use Rattle.cec_net.proofs.Ready.{ready-queued, ready-reported}
@@ -64,7 +64,7 @@ two_longer true q d y z h k = omega arith
 two_longer false true d y z h k = h
 two_longer false false d y z h k = k
 
-ahead-queued : (b limit at from to : ℕ) (bytes : List ℕ) (d : State) → at ≤ b → IsAhead b d (queued limit at from to bytes d)
+ahead-queued : (b limit at from to : ℕ) (bytes : List ℕ) (d : State) → at ≤ b → IsAhead b d (with_queued limit at from to bytes d)
 ahead-queued b limit at from to bytes d le =
     let last : List Queued = record { frame = frame_of from to bytes; ready = at } ∷ [] in
     let y : State = record d { queue = d.queue ++ last } in
@@ -76,11 +76,11 @@ ahead-queued b limit at from to bytes d le =
     }
 
 ahead-say : (b limit : ℕ) (h : Heard) (s : Say) (d : State) → h.at ≤ b → IsAhead b d (say limit h s d)
-ahead-say b limit h (Reply bytes) d le = ahead-then b (nat_lt h.from 15) d (queued limit h.at (source d.place h.to) h.from bytes d) (ahead-queued b limit h.at (source d.place h.to) h.from bytes d le)
+ahead-say b limit h (Reply bytes) d le = ahead-then b (nat_lt h.from 15) d (with_queued limit h.at (source d.place h.to) h.from bytes d) (ahead-queued b limit h.at (source d.place h.to) h.from bytes d le)
 ahead-say b limit h (Cast bytes) d le = ahead-queued b limit h.at (source d.place h.to) 15 bytes d le
-ahead-say b limit h (Tell to bytes) d le = ahead-then b (nat_lt to 15) d (queued limit h.at (source d.place h.to) to bytes d) (ahead-queued b limit h.at (source d.place h.to) to bytes d le)
+ahead-say b limit h (Tell to bytes) d le = ahead-then b (nat_lt to 15) d (with_queued limit h.at (source d.place h.to) to bytes d) (ahead-queued b limit h.at (source d.place h.to) to bytes d le)
 ahead-say b limit h (Refuse reason) d le =
-    ahead-then b (nat_lt h.to 15 && (nat_lt h.from 15 && not (h.opcode == 0))) d (queued limit h.at (source d.place h.to) h.from (0x00 ∷ h.opcode ∷ reason_byte reason ∷ []) d)
+    ahead-then b (nat_lt h.to 15 && (nat_lt h.from 15 && not (h.opcode == 0))) d (with_queued limit h.at (source d.place h.to) h.from (0x00 ∷ h.opcode ∷ reason_byte reason ∷ []) d)
     (ahead-queued b limit h.at (source d.place h.to) h.from (0x00 ∷ h.opcode ∷ reason_byte reason ∷ []) d le)
 
 ahead-say_all : (b limit : ℕ) (h : Heard) (says : List Say) (d : State) → h.at ≤ b → IsAhead b d (say_all limit h says d)
@@ -88,9 +88,9 @@ ahead-say_all b limit h [] d le = ahead-same b d
 ahead-say_all b limit h (s ∷ says) d le =
     ahead-trans b d (say limit h s d) (say_all limit h says (say limit h s d)) (ahead-say b limit h s d le) (ahead-say_all b limit h says (say limit h s d) le)
 
-ahead-effected : (b limit : ℕ) (h : Heard) (e : Effect) (d : State) → h.at ≤ b → IsAhead b d (effected limit h e d)
+ahead-effected : (b limit : ℕ) (h : Heard) (e : Effect) (d : State) → h.at ≤ b → IsAhead b d (after_effect limit h e d)
 ahead-effected b limit h e d le =
-    ahead-trans b d (record d { record_of = e.after }) (effected limit h e d)
+    ahead-trans b d (record d { record_of = e.after }) (after_effect limit h e d)
     (record { ready = λ r. record { poll = r.poll; queue = r.queue }; place = refl; longer = omega arith })
     (ahead-say_all b limit h e.says (record d { record_of = e.after }) le)
 
@@ -100,7 +100,7 @@ ahead-decoded b limit h d (NoName opcode) le = ahead-effected b limit h (refuses
 ahead-decoded b limit h d (Short opcode) le = ahead-same b d
 ahead-decoded b limit h d Poll le = ahead-same b d
 
-pub ahead-followed : (b limit at : ℕ) (frame : List ℕ) (d : State) → at ≤ b → IsAhead b d (followed limit d frame at)
+pub ahead-followed : (b limit at : ℕ) (frame : List ℕ) (d : State) → at ≤ b → IsAhead b d (after_frame limit d frame at)
 ahead-followed b limit at [] d le = ahead-same b d
 ahead-followed b limit at (header ∷ []) d le = ahead-same b d
 ahead-followed b limit at (header ∷ opcode ∷ operands) d le =
@@ -112,7 +112,7 @@ ahead-keyed_by b limit at key press d None le =
     ahead-effected b limit (own_doing at) (if press then pressing d.kind d.phys d.record_of key else releasing d.kind d.record_of key) d le
 ahead-keyed_by b limit at key press d (Some fault) le = ahead-same b d
 
-pub ahead-keyed : (b limit at : ℕ) (key : Key) (press : Bool) (d : State) → at ≤ b → IsAhead b d (keyed limit d key press at)
+pub ahead-keyed : (b limit at : ℕ) (key : Key) (press : Bool) (d : State) → at ≤ b → IsAhead b d (after_key limit d key press at)
 ahead-keyed b limit at key press d le = ahead-keyed_by b limit at key press d (key_fault d key) le
 
 -- ---- the front frame
@@ -145,30 +145,30 @@ two_ready : (b : ℕ) (t : Bool) (x y : State) → IsReadyBy b x → IsReadyBy b
 two_ready b true x y h k = h
 two_ready b false x y h k = k
 
-ready-ended : (b : ℕ) (d : State) (queue : List Queued) → d.poll_ready ≤ b → All (λ x. x.ready ≤ b) queue → IsReadyBy b (ended (record d { queue = queue }))
+ready-ended : (b : ℕ) (d : State) (queue : List Queued) → d.poll_ready ≤ b → All (λ x. x.ready ≤ b) queue → IsReadyBy b (after_front (record d { queue = queue }))
 ready-ended b d [] p q = record { poll = p; queue = All-nil (λ (x : Queued). x.ready ≤ b) }
 ready-ended b d (x ∷ queue) p q = record { poll = p; queue = λ k y l. q (suc k) y (omega arith) }
 
-ready-failed : (b : ℕ) (d : State) → IsReadyBy b d → IsReadyBy b (failed d)
+ready-failed : (b : ℕ) (d : State) → IsReadyBy b d → IsReadyBy b (after_failure d)
 ready-failed b d h =
-    two_ready b (nat_lt d.attempts 5) (record d { attempts = d.attempts + 1; class = Retry }) (ended d)
+    two_ready b (nat_lt d.attempts 5) (record d { attempts = d.attempts + 1; class = Retry }) (after_front d)
     (record { poll = h.poll; queue = h.queue }) (ready-ended b d d.queue h.poll h.queue)
 
 ready-frame_sent : (b : ℕ) (fate : Fate) (d : State) → IsReadyBy b d → IsReadyBy b (frame_sent d fate)
 ready-frame_sent b Lost d h = record { poll = h.poll; queue = h.queue }
 ready-frame_sent b Delivered d h = ready-ended b d d.queue h.poll h.queue
-ready-frame_sent b Unacked d h = two_ready b (front_is_poll d.queue) (ended d) (failed d) (ready-ended b d d.queue h.poll h.queue) (ready-failed b d h)
-ready-frame_sent b Broken d h = two_ready b (front_is_poll d.queue) (record d { class = Retry }) (failed d) (record { poll = h.poll; queue = h.queue }) (ready-failed b d h)
+ready-frame_sent b Unacked d h = two_ready b (front_is_poll d.queue) (after_front d) (after_failure d) (ready-ended b d d.queue h.poll h.queue) (ready-failed b d h)
+ready-frame_sent b Broken d h = two_ready b (front_is_poll d.queue) (record d { class = Retry }) (after_failure d) (record { poll = h.poll; queue = h.queue }) (ready-failed b d h)
 
 ready-sent_by : (b limit at : ℕ) (fate : Fate) (d : State) (p : Option ℕ) → at ≤ b → IsReadyBy b d → IsReadyBy b (sent_by limit d fate at p)
 ready-sent_by b limit at fate d None le h = ready-frame_sent b fate d h
 ready-sent_by b limit at fate d (Some a) le h =
-    ready-reported b limit at (record d { place = stepped d.kind d.place fate; poll_ready = at; class = class_of_poll fate }) le (record { poll = le; queue = h.queue })
+    ready-reported b limit at (record d { place = place_after_fate d.kind d.place fate; poll_ready = at; class = class_of_poll fate }) le (record { poll = le; queue = h.queue })
 
-pub ready-sent : (b limit at : ℕ) (fate : Fate) (d : State) → at ≤ b → IsReadyBy b d → IsReadyBy b (sent limit d fate at)
+pub ready-sent : (b limit at : ℕ) (fate : Fate) (d : State) → at ≤ b → IsReadyBy b d → IsReadyBy b (after_sending limit d fate at)
 ready-sent b limit at fate d le h = ready-sent_by b limit at fate d (polled_at d.place) le h
 
-pub ready-waited : (b : ℕ) (d : State) → IsReadyBy b d → IsReadyBy b (waited d)
+pub ready-waited : (b : ℕ) (d : State) → IsReadyBy b d → IsReadyBy b (after_waiting d)
 ready-waited b d h = record { poll = h.poll; queue = h.queue }
 
 ready-submitted_by : (b at : ℕ) (frame : List ℕ) (d : State) (fault : Option SubmitError) → at ≤ b → IsReadyBy b d → IsReadyBy b (submitted_by d frame at fault)
@@ -177,10 +177,10 @@ ready-submitted_by b at frame d None le h =
     record { poll = h.poll; queue = All-append Early d.queue (record { frame = frame; ready = at } ∷ []) h.queue (All-cons Early (record { frame = frame; ready = at }) [] le (All-nil Early)) }
 ready-submitted_by b at frame d (Some fault) le h = h
 
-pub ready-submitted : (b limit at : ℕ) (frame : List ℕ) (d : State) → at ≤ b → IsReadyBy b d → IsReadyBy b (submitted limit d frame at)
+pub ready-submitted : (b limit at : ℕ) (frame : List ℕ) (d : State) → at ≤ b → IsReadyBy b d → IsReadyBy b (after_submission limit d frame at)
 ready-submitted b limit at frame d le h = ready-submitted_by b at frame d (submit_fault limit d frame) le h
 
-pub ready-acted : (b : ℕ) (d : State) (act : Act) → IsReadyBy b d → IsReadyBy b (acted d act)
+pub ready-acted : (b : ℕ) (d : State) (act : Act) → IsReadyBy b d → IsReadyBy b (after_act d act)
 ready-acted b d act h = by (act_fault d) act
   where
     by : (fault : Option KeyError) (act : Act) → IsReadyBy b (acted_by d fault act)
@@ -192,4 +192,4 @@ ready-acted b d act h = by (act_fault d) act
 pub front-followed_unless : (sends : Bool) (frame : Option (List ℕ)) (at : ℕ) (d : State) → IsSome (front_of d) → IsSome (front_of (followed_unless sends frame at d))
 front-followed_unless sends None at d h = h
 front-followed_unless true (Some frame) at d h = h
-front-followed_unless false (Some frame) at d h = front-ahead at d (followed 16 d frame at) (ahead-followed at 16 at frame d (omega arith)) h
+front-followed_unless false (Some frame) at d h = front-ahead at d (after_frame 16 d frame at) (ahead-followed at 16 at frame d (omega arith)) h

@@ -7,18 +7,18 @@ use Rattle.cec_wave.specs.declared.Stretch.{Stretch}
 use Rattle.cec_wave.proofs.Kept.{sparse-filter}
 use Rattle.cec_event.specs.declared.event.Event.{Event}
 use Rattle.cec_net.specs.State.{NetState}
-use Rattle.cec_net.specs.Apply.{applied}
+use Rattle.cec_net.specs.Apply.{net_after}
 use Rattle.cec_net.specs.Step.{after_round}
 use Rattle.cec_net.specs.Line.{Happens, Goes}
 use Rattle.cec_net.specs.Few.{RunsAreShort}
 use Rattle.cec_net.proofs.Lines.{kept, sparse_kept}
 use Rattle.cec_net.proofs.Progress.{ComeLater, progress}
 
-later_kept : (at : ℕ) (event : Event) (s : NetState) → ComeLater s.rest s.pulses → ComeLater (applied at event s).rest (applied at event s).pulses
+later_kept : (at : ℕ) (event : Event) (s : NetState) → ComeLater s.rest s.pulses → ComeLater (net_after at event s).rest (net_after at event s).pulses
 later_kept at event s h =
     let k = kept at event s in
-    let rested : ComeLater (applied at event s).rest s.pulses = subst (λ rest. ComeLater rest s.pulses) (sym k.rest) h in
-    subst (λ (ps : List Stretch). ComeLater (applied at event s).rest ps) (sym k.pulses) rested
+    let rested : ComeLater (net_after at event s).rest s.pulses = subst (λ rest. ComeLater rest s.pulses) (sym k.rest) h in
+    subst (λ (ps : List Stretch). ComeLater (net_after at event s).rest ps) (sym k.pulses) rested
 
 -- the pulses that are left come after the rest
 later_after : (rest : ℕ) (pulses : List Stretch) → ComeLater rest (filter (λ p. nat_lt rest p.from) pulses)
@@ -28,9 +28,9 @@ pub runs_are_short : RunsAreShort
 runs_are_short s t [] end sparse later m b = omega arith
 runs_are_short s t (Happens at event ∷ ms) end sparse later m b =
     let k = kept at event s in
-    let left : length (applied at event s).pulses ≡ length s.pulses = ap length k.pulses in
-    let rest : (applied at event s).rest ≡ s.rest = k.rest in
-    let more = runs_are_short (applied at event s) t ms end (sparse_kept at event s sparse) (later_kept at event s later) m.1 b in
+    let left : length (net_after at event s).pulses ≡ length s.pulses = ap length k.pulses in
+    let rest : (net_after at event s).rest ≡ s.rest = k.rest in
+    let more = runs_are_short (net_after at event s) t ms end (sparse_kept at event s sparse) (later_kept at event s later) m.1 b in
     omega (arith, more, left, rest)
 runs_are_short s t (Goes begin o ∷ ms) end sparse later m b =
     let p = progress s begin o sparse later m.0.begins m.0.wave m.0.round in

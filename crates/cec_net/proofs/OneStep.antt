@@ -5,7 +5,7 @@ use Rattle.cec_wire.specs.OneOutcome.{SameOutcome}
 use Rattle.cec_wire.proofs.OneOutcome.{one_outcome}
 use Rattle.cec_net.specs.Step.{seats_of, after_round, OneStep}
 
--- outcomes that tell the same are one
+-- outcomes that report the same are one
 same_is : (o p : Outcome) → SameOutcome o p → o ≡ p
 same_is o p h = λ i. record {
   reading = record { begin = h.begin i; at = h.at i; ending = h.ending i; bits = record { items = h.bits i } };

@@ -5,12 +5,12 @@ use Rattle.std.proofs.lemmas.List.Elements.{All-nil, All-cons, All-append}
 use Rattle.hdmi_core.specs.declared.phys.Phys.{Phys}
 use Rattle.hdmi_core.specs.declared.kind.Kind.{Kind}
 use Rattle.cec_device.specs.declared.device.Queued.{Queued}
-use Rattle.cec_device.specs.State.{State, held, queued, speaks, holds, frame_of, one_more}
+use Rattle.cec_device.specs.State.{State, addresses_held, with_queued, speaks, holds, frame_of, one_more}
 use Rattle.cec_feature.specs.Kinds.{is_switch, type_of}
-use Rattle.cec_device.specs.Place.{is_on_wire, fresh, start_place, reported, reported_by, reported_from, joined, left}
+use Rattle.cec_device.specs.Place.{is_on_wire, fresh, start_place, with_reports, reported_by, reported_from, after_joining, after_leaving}
 use Rattle.hdmi_topo.specs.Node.{Node}
 use Rattle.hdmi_topo.specs.Path.{address_of}
-use Rattle.cec_net.specs.State.{each_from, moved, moved_by, loose}
+use Rattle.cec_net.specs.State.{each_from, after_move, moved_by, loose}
 use Rattle.cec_net.specs.Sound.{IsReadyBy}
 
 either_ready : (b : ℕ) (p q : Bool) (x y z : State) → IsReadyBy b x → IsReadyBy b y → IsReadyBy b z → IsReadyBy b (if p then x else (if q then y else z))
@@ -21,7 +21,7 @@ either_ready b false false x y z h i j = j
 pub ready-later : (b c : ℕ) (d : State) → b ≤ c → IsReadyBy b d → IsReadyBy c d
 ready-later b c d le h = record { poll = omega (arith, h.poll); queue = λ k q l. (let m = h.queue k q l in omega arith) }
 
-pub ready-queued : (b limit at from to : ℕ) (bytes : List ℕ) (d : State) → at ≤ b → IsReadyBy b d → IsReadyBy b (queued limit at from to bytes d)
+pub ready-queued : (b limit at from to : ℕ) (bytes : List ℕ) (d : State) → at ≤ b → IsReadyBy b d → IsReadyBy b (with_queued limit at from to bytes d)
 ready-queued b limit at from to bytes d le h =
     let last : List Queued = record { frame = frame_of from to bytes; ready = at } ∷ [] in
     let Early : Queued → Type 0 = λ q. q.ready ≤ b in
@@ -35,8 +35,8 @@ ready-reported_from b limit at None d le h = h
 ready-reported_from b limit at (Some from) d le h =
     either (nat_lt from 15 || is_switch d.kind) (ready-queued b limit at from 15 (0x84 ∷ d.phys.high ∷ d.phys.low ∷ type_of d.kind from ∷ []) d le h)
   where
-    either : (t : Bool) → IsReadyBy b (queued limit at from 15 (0x84 ∷ d.phys.high ∷ d.phys.low ∷ type_of d.kind from ∷ []) d)
-        → IsReadyBy b (if t then queued limit at from 15 (0x84 ∷ d.phys.high ∷ d.phys.low ∷ type_of d.kind from ∷ []) d else d)
+    either : (t : Bool) → IsReadyBy b (with_queued limit at from 15 (0x84 ∷ d.phys.high ∷ d.phys.low ∷ type_of d.kind from ∷ []) d)
+        → IsReadyBy b (if t then with_queued limit at from 15 (0x84 ∷ d.phys.high ∷ d.phys.low ∷ type_of d.kind from ∷ []) d else d)
     either true k = k
     either false k = h
 
@@ -45,16 +45,16 @@ ready-reported_by b limit at [] d le h = h
 ready-reported_by b limit at (unit ∷ units) d le h =
     ready-reported_by b limit at units (reported_from limit at unit d) le (ready-reported_from b limit at unit d le h)
 
-pub ready-reported : (b limit at : ℕ) (d : State) → at ≤ b → IsReadyBy b d → IsReadyBy b (reported limit at d)
-ready-reported b limit at d le h = ready-reported_by b limit at (held d.place) d le h
+pub ready-reported : (b limit at : ℕ) (d : State) → at ≤ b → IsReadyBy b d → IsReadyBy b (with_reports limit at d)
+ready-reported b limit at d le h = ready-reported_by b limit at (addresses_held d.place) d le h
 
-pub ready-left : (b : ℕ) (d : State) → IsReadyBy b (left d)
+pub ready-left : (b : ℕ) (d : State) → IsReadyBy b (after_leaving d)
 ready-left b d = record { poll = omega arith; queue = All-nil (λ (q : Queued). q.ready ≤ b) }
 
 pub ready-fresh : (b : ℕ) (kind : Kind) (name : List ℕ) (ports : ℕ) → IsReadyBy b (fresh kind name ports)
 ready-fresh b kind name ports = record { poll = omega arith; queue = All-nil (λ (q : Queued). q.ready ≤ b) }
 
-pub ready-joined : (b limit number at : ℕ) (phys : Phys) (d : State) → at ≤ b → IsReadyBy b (joined limit d number phys at)
+pub ready-joined : (b limit number at : ℕ) (phys : Phys) (d : State) → at ≤ b → IsReadyBy b (after_joining limit d number phys at)
 ready-joined b limit number at phys d le =
     let new : State = record (fresh d.kind d.name d.ports) {
       number = number;
@@ -64,7 +64,7 @@ ready-joined b limit number at phys d le =
     } in
     ready-reported b limit at new le (record { poll = le; queue = All-nil (λ (q : Queued). q.ready ≤ b) })
 
-pub ready-moved : (b at number : ℕ) (plugged : Bool) (address : Option Phys) (d : State) → at ≤ b → IsReadyBy b d → IsReadyBy b (moved at number plugged address d)
+pub ready-moved : (b at number : ℕ) (plugged : Bool) (address : Option Phys) (d : State) → at ≤ b → IsReadyBy b d → IsReadyBy b (after_move at number plugged address d)
 ready-moved b at number false (Some address) d le h = ready-joined b 16 number at address d le
 ready-moved b at number false None d le h = h
 ready-moved b at number true (Some address) d le h = h

@@ -6,7 +6,7 @@ use Rattle.std.proofs.lemmas.Bool.Decides.{nat_tests}
 use Rattle.cec_wave.specs.declared.Stretch.{Stretch}
 use Rattle.cec_wave.specs.Line.{line_of, covers, was_low}
 use Rattle.cec_wave.specs.Pulses.{AreSparse}
-use Rattle.cec_bits.specs.Reading.{known, reading_of}
+use Rattle.cec_bits.specs.Reading.{known_at, reading_of}
 use Rattle.cec_wire.specs.declared.Outcome.{Outcome}
 use Rattle.cec_wire.specs.Round.{is_within, pulse_pulls}
 use Rattle.cec_wire.proofs.Alone.{rounds_are_lone, in_all}
@@ -64,18 +64,18 @@ taken_one s begin o sparse g p i l = λ t a b. subst (λ u. line_of o.wave u ≡
     later : begin ≤ p.from
     later = begins_by s begin sparse g.begins p i
 
-    pulls : (t : ℕ) → p.from ≤ t → t < p.to → (is_within (known t (reading_of (line_of o.wave) begin)).ended p.from || was_low (line_of o.wave) t) ≡ true → line_of o.wave t ≡ true
+    pulls : (t : ℕ) → p.from ≤ t → t < p.to → (is_within (known_at t (reading_of (line_of o.wave) begin)).ended p.from || was_low (line_of o.wave) t) ≡ true → line_of o.wave t ≡ true
     pulls t a b h =
         let own : covers p t ≡ true = covers_own p t a b in
         let started : nat_le begin p.from ≡ true = (let m : begin ≤ p.from = later in grind (arith, nat_tests)) in
-        let pull : pulse_pulls begin (known t (reading_of (line_of o.wave) begin)).ended (was_low (line_of o.wave) t) t p ≡ true = rw (own, started, h) refl in
-        g.round.line t ∙ true_or _ _ (any_in (pulse_pulls begin (known t (reading_of (line_of o.wave) begin)).ended (was_low (line_of o.wave) t) t) s.pulses p i pull)
+        let pull : pulse_pulls begin (known_at t (reading_of (line_of o.wave) begin)).ended (was_low (line_of o.wave) t) t p ≡ true = rw (own, started, h) refl in
+        g.round.line t ∙ true_or _ _ (any_in (pulse_pulls begin (known_at t (reading_of (line_of o.wave) begin)).ended (was_low (line_of o.wave) t) t) s.pulses p i pull)
 
     -- before the reading is over
-    early : p.from ≤ until → (is_within (known p.from (reading_of (line_of o.wave) begin)).ended p.from || was_low (line_of o.wave) p.from) ≡ true
+    early : p.from ≤ until → (is_within (known_at p.from (reading_of (line_of o.wave) begin)).ended p.from || was_low (line_of o.wave) p.from) ≡ true
     early m =
         let still : nat_lt until p.from ≡ false = grind (arith, nat_tests) in
-        true_or (is_within (known p.from (reading_of (line_of o.wave) begin)).ended p.from) (was_low (line_of o.wave) p.from)
+        true_or (is_within (known_at p.from (reading_of (line_of o.wave) begin)).ended p.from) (was_low (line_of o.wave) p.from)
         (ap (λ b. is_within (if b then Some (record { ending = (reading_of (line_of o.wave) begin).ending; at = (reading_of (line_of o.wave) begin).at; until = until }) else None) p.from) still)
 
     was-low : (t : ℕ) → 0 < t → line_of o.wave (t - 1) ≡ true → was_low (line_of o.wave) t ≡ true
@@ -95,14 +95,14 @@ taken_one s begin o sparse g p i l = λ t a b. subst (λ u. line_of o.wave u ≡
     step zero b =
         let e : p.from ≡ p.from + 0 = omega arith in
         subst (λ u. line_of o.wave u ≡ true) e (pulls p.from (omega arith) (omega (arith, b)) (elim (cases_lt until p.from) [
-          | inl lt ↦ or_true (is_within (known p.from (reading_of (line_of o.wave) begin)).ended p.from) (was_low (line_of o.wave) p.from) (touching lt)
+          | inl lt ↦ or_true (is_within (known_at p.from (reading_of (line_of o.wave) begin)).ended p.from) (was_low (line_of o.wave) p.from) (touching lt)
           | inr ge ↦ early ge
         ]))
     step (suc n) b =
         let before : line_of o.wave (p.from + n) ≡ true = step n (omega (arith, b)) in
         let same : p.from + n ≡ p.from + suc n - 1 = omega arith in
         let was : was_low (line_of o.wave) (p.from + suc n) ≡ true = was-low (p.from + suc n) (omega arith) (subst (λ u. line_of o.wave u ≡ true) same before) in
-        pulls (p.from + suc n) (omega arith) b (or_true (is_within (known (p.from + suc n) (reading_of (line_of o.wave) begin)).ended p.from) (was_low (line_of o.wave) (p.from + suc n)) was)
+        pulls (p.from + suc n) (omega arith) b (or_true (is_within (known_at (p.from + suc n) (reading_of (line_of o.wave) begin)).ended p.from) (was_low (line_of o.wave) (p.from + suc n)) was)
 
 left_one : (s : NetState) (begin : ℕ) (o : Outcome) → AreSparse s.pulses → AreFramed s → GoesFrom s begin o → (p : Stretch) → o.rest < p.from → IsAfter (line_of o.wave) p
 left_one s begin o sparse framed g p l t a =

@@ -5,7 +5,7 @@ use Rattle.hdmi_core.specs.declared.phys.Phys.{Phys}
 use Rattle.hdmi_topo.specs.Node.{Node}
 use Rattle.hdmi_topo.specs.Path.{address_of}
 use Rattle.cec_device.specs.State.{State}
-use Rattle.cec_device.specs.Place.{is_on_wire, fresh, joined, left}
+use Rattle.cec_device.specs.Place.{is_on_wire, fresh, after_joining, after_leaving}
 use Rattle.cec_net.specs.Start.{sooner, least_start, first_onset}
 
 -- the tree, its devices by number, the pulses that no round has taken, the end of the last round and that
@@ -25,25 +25,25 @@ each_from n change (d ∷ devices) = change n d ∷ each_from (n + 1) change dev
 
 -- A device that the tree joins to its root comes on the wire, and one that it no longer joins leaves it, at once: hot plug
 -- detect (HDMI 1.4, 8.5) is not emulated (own).
-abbrev pub moved : ℕ → ℕ → Bool → Option Phys → State → State
-moved at number false (Some address) d = joined 16 d number address at
-moved at number false None d = d
-moved at number true (Some address) d = d
-moved at number true None d = left d
+abbrev pub after_move : ℕ → ℕ → Bool → Option Phys → State → State
+after_move at number false (Some address) d = after_joining 16 d number address at
+after_move at number false None d = d
+after_move at number true (Some address) d = d
+after_move at number true None d = after_leaving d
 
 abbrev pub moved_by : ℕ → List Node → ℕ → State → State
-moved_by at tree number d = moved at number (is_on_wire d) (address_of tree number) d
+moved_by at tree number d = after_move at number (is_on_wire d) (address_of tree number) d
 
-abbrev pub rewired : ℕ → List Node → NetState → NetState
-rewired at tree s = record s { tree = tree; devices = each_from 0 (moved_by at tree) s.devices }
+abbrev pub with_tree : ℕ → List Node → NetState → NetState
+with_tree at tree s = record s { tree = tree; devices = each_from 0 (moved_by at tree) s.devices }
 
 -- a tree's devices, all off the wire
 abbrev pub loose : List Node → List State
 loose tree = map (λ node. fresh node.kind node.name node.ports) tree
 
 -- A run begins at 0, where the devices that the tree joins come on the wire.
-abbrev pub started : List Node → List Stretch → NetState
-started tree pulses = rewired 0 tree (record { tree = tree; devices = loose tree; pulses = pulses; close = 0; rest = 0; heard = None })
+abbrev pub first_net : List Node → List Stretch → NetState
+first_net tree pulses = with_tree 0 tree (record { tree = tree; devices = loose tree; pulses = pulses; close = 0; rest = 0; heard = None })
 
 -- the begin of the next round: the least start of a device, or the onset of the next pulse where that is sooner
 abbrev pub next_start : NetState → Option ℕ

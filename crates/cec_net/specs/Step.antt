@@ -8,9 +8,9 @@ use Rattle.cec_wire.specs.Round.{IsRound, fate_in, close_in}
 use Rattle.cec_wire.specs.OneOutcome.{SameOutcome}
 use Rattle.cec_wave.specs.Line.{IsWave}
 use Rattle.cec_frame.specs.declared.Fate.{Fate}
-use Rattle.cec_device.specs.State.{State, held}
-use Rattle.cec_device.specs.Place.{front_of, is_on_wire, sent, waited}
-use Rattle.cec_device.specs.Effects.{followed}
+use Rattle.cec_device.specs.State.{State, addresses_held}
+use Rattle.cec_device.specs.Place.{front_of, is_on_wire, after_sending, after_waiting}
+use Rattle.cec_device.specs.Effects.{after_frame}
 use Rattle.cec_net.specs.Start.{contends}
 use Rattle.cec_net.specs.State.{NetState, each_from}
 
@@ -21,7 +21,7 @@ abbrev pub sent_in : ℕ → ℕ → State → Option (List ℕ)
 sent_in rest begin d = if contends rest begin d then front_of d else None
 
 abbrev pub seat_of : ℕ → ℕ → State → Seat
-seat_of rest begin d = record { plugged = is_on_wire d; holds = held d.place; sends = sent_in rest begin d }
+seat_of rest begin d = record { plugged = is_on_wire d; holds = addresses_held d.place; sends = sent_in rest begin d }
 
 abbrev pub seats_of : NetState → ℕ → List Seat
 seats_of s begin = map (seat_of s.rest begin) s.devices
@@ -35,21 +35,21 @@ is_among seats seat = list_any (λ other. other == seat) seats
 abbrev pub followed_unless : Bool → Option (List ℕ) → ℕ → State → State
 followed_unless sends None at d = d
 followed_unless true (Some frame) at d = d
-followed_unless false (Some frame) at d = followed 16 d frame at
+followed_unless false (Some frame) at d = after_frame 16 d frame at
 
 abbrev pub followed_in : Outcome → ℕ → State → State
 followed_in o number d = followed_unless (is_among o.survivors.items number) (frame_in o.reading) (close_in o) d
 
 -- Who contended learns what became of its frame; where others did, who did not has waited.
-abbrev pub told : Bool → Bool → Fate → ℕ → State → State
-told true others fate at d = sent 16 d fate at
-told false true fate at d = waited d
-told false false fate at d = d
+abbrev pub after_fate : Bool → Bool → Fate → ℕ → State → State
+after_fate true others fate at d = after_sending 16 d fate at
+after_fate false true fate at d = after_waiting d
+after_fate false false fate at d = d
 
 -- `own` where the device contends, `any` where some device does
 abbrev pub device_after : Bool → Bool → Outcome → ℕ → State → State
 device_after own any o number d =
-    if is_on_wire d then told own any (fate_in o number) (close_in o) (followed_in o number d) else d
+    if is_on_wire d then after_fate own any (fate_in o number) (close_in o) (followed_in o number d) else d
 
 -- some device starts at `begin`
 abbrev pub is_contended : ℕ → ℕ → List State → Bool

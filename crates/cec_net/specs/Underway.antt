@@ -1,4 +1,4 @@
--- A round that was begun, and whose line is told edge by edge (own).
+-- A round that was begun, and whose line is reported edge by edge (own).
 use Rattle.std.specs.Prelude.{◌≡◌, ℕ, ◌-◌, ◌≤◌, Bool, false, nat_lt, if◌then◌else◌, List, ◌++◌, All, Option, Some, None}
 use Rattle.std.specs.Option.{ForSome}
 use Rattle.cec_wave.specs.declared.Stretch.{Stretch}
@@ -15,11 +15,11 @@ use Rattle.cec_net.specs.Step.{seats_of}
 abbrev pub OfRound : NetState → (ℕ → ℕ → (ℕ → Bool) → Type 0) → Type 0
 OfRound s P = (begin heard : ℕ) (low : ℕ → Bool) → next_start s ≡ Some begin → s.heard ≡ Some heard → IsRoundLine (seats_of s begin) begin s.pulses low → P begin heard low
 
--- where each receiver stands by what was told of the line before an instant; before the first edge the line is high
+-- where each receiver stands by what was reported of the line before an instant; before the first edge the line is high
 abbrev pub standing_told : Line → ℕ → ℕ → Standing
 standing_told low begin heard = if nat_lt begin heard then standing_of low (heard - 1) else at_rest false
 
--- ---- the wire that tells it
+-- ---- the wire that reports it
 
 -- with no round begun
 abbrev pub idle : NetState → NetState

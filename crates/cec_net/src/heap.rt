@@ -1,7 +1,7 @@
 //! A network that is made on the heap: it is large.
 ghost use Rattle.std.specs.Prelude.{◌≡◌, ◌≤◌, ◌<◌, [], length, All, IfOk, None};
 ghost use Rattle.cec_wave.specs.Pulses.{pulses_fault};
-ghost use Rattle.cec_net.specs.State.{each_from, loose, moved_by, started};
+ghost use Rattle.cec_net.specs.State.{each_from, loose, moved_by, first_net};
 
 use crate::net::Net;
 use crate::wiring::{DEVICES, fill_loose, rewire};
@@ -46,7 +46,7 @@ fn without_pulses(
 ) -> Result<Box<Net<EdgeWire>>, AllocError>
     requires devices { devices.value.items ≡ each_from 0 (moved_by 0 tree) (loose tree) }
     requires few { length tree ≤ 15 }
-    ensures { IfOk result (λ net. net.value ≡ started tree []) }
+    ensures { IfOk result (λ net. net.value ≡ first_net tree []) }
 {
     let net = Net {
         tree,
@@ -88,7 +88,7 @@ impl Net<EdgeWire> {
         requires some { 0 < length tree }
         requires early { All (λ p. p.from ≤ 2000000000000) pulses.now }
         requires sparse { pulses_fault pulses.now ≡ None }
-        ensures { IfOk result (λ net. net.value ≡ started tree pulses.now) }
+        ensures { IfOk result (λ net. net.value ≡ first_net tree pulses.now) }
     {
         let devices = first_devices(alloc, &tree)?;
         let mut net = without_pulses(alloc, tree, devices)?;

@@ -71,7 +71,7 @@ fn copied_wire(wire: &Option<EdgeWire>) -> Option<EdgeWire>
 
 impl Net<EdgeWire> {
     ghost use Rattle.std.specs.Prelude.{MatchBool, Some, None, IsSome};
-    ghost use Rattle.cec_bits.specs.Follows.{shown};
+    ghost use Rattle.cec_bits.specs.Follows.{standing_by_code};
     ghost use Rattle.cec_net.specs.State.{next_start};
     ghost use Rattle.cec_net.specs.Step.{IsNextRound};
     ghost use Rattle.cec_net.specs.Progress.{IsProgress};
@@ -139,12 +139,12 @@ impl Net<EdgeWire> {
         edge
     }
 
-    /// Where the receiver of a device stands in a round that was begun, by what was told of its line so far. The
+    /// Where the receiver of a device stands in a round that was begun, by what was reported of its line so far. The
     /// device's number is below the count.
     pub fn standing_of(&self, number: usize) -> Standing<'_>
         requires underway { IsSome self.now.heard }
         requires known { number < length self.now.tree }
-        ensures { OfRound self.now (λ begin heard low. shown result ≡ standing_told low begin heard) }
+        ensures { OfRound self.now (λ begin heard low. standing_by_code result ≡ standing_told low begin heard) }
     {
         let _pulses = self.pulses.as_slice();
         match &self.begun {

@@ -3,7 +3,7 @@ use Rattle.std.proofs.Common.{◌≡◌, ◌≢◌, ℕ, ◌==◌, ◌<◌, Bool
 use Rattle.std.specs.List.{list_all}
 use Rattle.std.specs.Str.{bytes_eq}
 use Rattle.cec_opcode.specs.Naming.{byte_of}
-use Rattle.cec_opcode.specs.WordSets.{Word, word_of, words_of}
+use Rattle.cec_opcode.specs.WordSets.{NamedByte, word_of, words_of}
 use Rattle.cec_opcode.specs.Table.{name_of, rows}
 use Rattle.cec_opcode.proofs.TextLemmas.{named, names_of}
 use Rattle.std.proofs.lemmas.Bool.{false≢true}
@@ -17,8 +17,8 @@ is_found None text = false
 is_found (Some t) text = bytes_eq t text
 
 -- each word is the one of its byte
-abbrev pub each_own : List Word → List Word → Bool
-each_own all ws = list_all (λ (w : Word). is_found (word_of all w.code) w.text) ws
+abbrev pub each_own : List NamedByte → List NamedByte → Bool
+each_own all ws = list_all (λ (w : NamedByte). is_found (word_of all w.code) w.text) ws
 
 own : (o : Option (List ℕ)) (text : List ℕ) → is_found o text ≡ true → o ≡ Some text
 own None text h = cc
@@ -32,43 +32,43 @@ and_right : (a b : Bool) → (a && b) ≡ true → b ≡ true
 and_right true b h = h
 and_right false b h = cc
 
-found_step : (all : List Word) (w : Word) (text : List ℕ) (code : ℕ) (b : Bool) (rest : Option Word) → bytes_eq w.text text ≡ b
-    → is_found (word_of all w.code) w.text ≡ true → (option_map (λ (w : Word). w.code) rest ≡ Some code → word_of all code ≡ Some text)
-    → option_map (λ (w : Word). w.code) (cond b (Some w) rest) ≡ Some code → word_of all code ≡ Some text
+found_step : (all : List NamedByte) (w : NamedByte) (text : List ℕ) (code : ℕ) (b : Bool) (rest : Option NamedByte) → bytes_eq w.text text ≡ b
+    → is_found (word_of all w.code) w.text ≡ true → (option_map (λ (w : NamedByte). w.code) rest ≡ Some code → word_of all code ≡ Some text)
+    → option_map (λ (w : NamedByte). w.code) (cond b (Some w) rest) ≡ Some code → word_of all code ≡ Some text
 found_step all w text code true rest same mine again e =
     let here : w.code ≡ code = cc in
     let is : w.text ≡ text = (bytes_eq-Decides w.text text).0 same in
     ap (word_of all) (sym here) ∙ own (word_of all w.code) w.text mine ∙ ap (λ x. Some x) is
 found_step all w text code false rest same mine again e = again e
 
-pub found_own : (all ws : List Word) (text : List ℕ) (code : ℕ) → each_own all ws ≡ true → byte_of ws text ≡ Some code → word_of all code ≡ Some text
+pub found_own : (all ws : List NamedByte) (text : List ℕ) (code : ℕ) → each_own all ws ≡ true → byte_of ws text ≡ Some code → word_of all code ≡ Some text
 found_own all [] text code h e = cc
 found_own all (w ∷ ws) text code h e =
-    found_step all w text code (bytes_eq w.text text) (find (λ (w : Word). bytes_eq w.text text) ws) refl
+    found_step all w text code (bytes_eq w.text text) (find (λ (w : NamedByte). bytes_eq w.text text) ws) refl
     (and_left (is_found (word_of all w.code) w.text) (each_own all ws) h)
     (found_own all ws text code (and_right (is_found (word_of all w.code) w.text) (each_own all ws) h)) e
 
-none_step : (w : Word) (text : List ℕ) (b d : Bool) (p q : Option Word) → bytes_eq w.text text ≡ b
-    → (option_map (λ (w : Word). w.code) p ≡ None → option_map (λ (w : Word). w.text) q ≡ Some text → ⊥)
-    → option_map (λ (w : Word). w.code) (cond b (Some w) p) ≡ None → option_map (λ (w : Word). w.text) (cond d (Some w) q) ≡ Some text → ⊥
+none_step : (w : NamedByte) (text : List ℕ) (b d : Bool) (p q : Option NamedByte) → bytes_eq w.text text ≡ b
+    → (option_map (λ (w : NamedByte). w.code) p ≡ None → option_map (λ (w : NamedByte). w.text) q ≡ Some text → ⊥)
+    → option_map (λ (w : NamedByte). w.code) (cond b (Some w) p) ≡ None → option_map (λ (w : NamedByte). w.text) (cond d (Some w) q) ≡ Some text → ⊥
 none_step w text true d p q same again e h = cc
 none_step w text false true p q same again e h =
     let is : w.text ≡ text = cc in
     false≢true (sym same ∙ (bytes_eq-Decides w.text text).1 is)
 none_step w text false false p q same again e h = again e h
 
-pub none_named : (ws : List Word) (text : List ℕ) (code : ℕ) → byte_of ws text ≡ None → word_of ws code ≡ Some text → ⊥
+pub none_named : (ws : List NamedByte) (text : List ℕ) (code : ℕ) → byte_of ws text ≡ None → word_of ws code ≡ Some text → ⊥
 none_named [] text code e h = cc
 none_named (w ∷ ws) text code e h =
-    none_step w text (bytes_eq w.text text) (w.code == code) (find (λ (w : Word). bytes_eq w.text text) ws) (find (λ (w : Word). w.code == code) ws) refl
+    none_step w text (bytes_eq w.text text) (w.code == code) (find (λ (w : NamedByte). bytes_eq w.text text) ws) (find (λ (w : NamedByte). w.code == code) ws) refl
     (none_named ws text code) e h
 
 -- the word that is found, in a set whose words are each the one of its byte
-pub found_if : (ws : List Word) (text : List ℕ) (o : Option ℕ) → each_own ws ws ≡ true → o ≡ byte_of ws text → IfSome o (λ code. word_of ws code ≡ Some text)
+pub found_if : (ws : List NamedByte) (text : List ℕ) (o : Option ℕ) → each_own ws ws ≡ true → o ≡ byte_of ws text → IfSome o (λ code. word_of ws code ≡ Some text)
 found_if ws text None h e = tt
 found_if ws text (Some code) h e = found_own ws ws text code h (sym e)
 
-pub none_if : (ws : List Word) (text : List ℕ) (o : Option ℕ) → o ≡ byte_of ws text → IfNone o ((code : ℕ) → code < 256 → word_of ws code ≢ Some text)
+pub none_if : (ws : List NamedByte) (text : List ℕ) (o : Option ℕ) → o ≡ byte_of ws text → IfNone o ((code : ℕ) → code < 256 → word_of ws code ≢ Some text)
 none_if ws text None e = λ code small h. none_named ws text code (sym e) h
 none_if ws text (Some code) e = tt
 

@@ -1,24 +1,24 @@
 -- The words of the operands that have words (CEC operand descriptions; the spelling is own).
 use Rattle.std.specs.Prelude.{ℕ, ◌==◌, Bool, not, Option, List, [], ◌∷◌, codes, find, option_map}
 use Rattle.std.specs.List.{list_any}
-use Rattle.cec_opcode.specs.declared.word_set.Word.{Word as CodeWord}
+use Rattle.cec_opcode.specs.declared.word_set.NamedByte.{NamedByte as CodeWord}
 use Rattle.cec_opcode.specs.declared.word_set.WordSet.{WordSet}
 use Rattle.cec_opcode.specs.declared.word_set.WordSet.TheVariants.{Reason, Power, OnOff, DeviceType, StatusRequest, DeckInfo, PlayMode, DeckControl, Display, MenuRequest, MenuState, Version, UserControl}
 
 -- a byte and the word that stands for it
-pub record Word : Type 0 where
+pub record NamedByte : Type 0 where
   pub code : ℕ
   pub text : List ℕ
 
-abbrev pub word : ℕ → List ℕ → Word
+abbrev pub word : ℕ → List ℕ → NamedByte
 word code text = record { code = code; text = text }
 
 -- the same of the code
-abbrev pub spelled : CodeWord → Word
-spelled w = word w.byte w.text.now
+abbrev pub word_in_code : CodeWord → NamedByte
+word_in_code w = word w.byte w.text.now
 
 -- the words of each set
-abbrev pub words_of : WordSet → List Word
+abbrev pub words_of : WordSet → List NamedByte
 words_of Reason =
     word 0 (codes "unrecognized") ∷
     word 1 (codes "wrong-mode") ∷
@@ -120,7 +120,7 @@ words_of UserControl =
     []
 
 -- the word of a byte
-abbrev pub word_of : List Word → ℕ → Option (List ℕ)
+abbrev pub word_of : List NamedByte → ℕ → Option (List ℕ)
 word_of words byte = option_map (λ w. w.text) (find (λ w. w.code == byte) words)
 
 -- no word of the set stands for this byte

@@ -1,6 +1,6 @@
 //! From frames to messages.
 ghost use Rattle.std.specs.Prelude.{◌≡◌, ◌≤◌, ◌+◌, length};
-ghost use Rattle.cec_opcode.specs.Table.{decoded, decoded_of, row_of};
+ghost use Rattle.cec_opcode.specs.Table.{decoding, decoded_of, row_of};
 
 use crate::deck_words::{DeckControlMode, DeckInfo, PlayMode, StatusRequest};
 use crate::encoding::is_raw;
@@ -147,7 +147,7 @@ fn list(bytes: &[u8]) -> ArrayVec<u8, 16>
 
 fn decode_operands(code: u8, operands: &[u8]) -> Decoded
     requires { length operands.now ≤ 16 }
-    ensures { result ≡ decoded code operands.now (row_of code) }
+    ensures { result ≡ decoding code operands.now (row_of code) }
 {
     rows!(decode_match, code, operands)
 }

@@ -7,7 +7,7 @@ use crate::message::{Message, Triple};
 use crate::operand::{Operand, Operands};
 use crate::row::Rule;
 use crate::rows::rows;
-use crate::word_set::{Word, WordSet, byte_in};
+use crate::word_set::{NamedByte, WordSet, byte_in};
 use arrayvec::ArrayVec;
 use cec_frame::{Addr, Frame};
 use thiserror::Error;
@@ -28,12 +28,12 @@ pub enum EncodeError {
 
 macro_rules! names {
     ($unused:expr, $more:ident, { $($op:literal $name:literal $to:ident $message:ident $fields:tt;)* } { $($raw:literal $raw_name:literal;)* }) => {
-        &[$(Word { byte: $op, text: $name },)* $(Word { byte: $raw, text: $raw_name },)*]
+        &[$(NamedByte { byte: $op, text: $name },)* $(NamedByte { byte: $raw, text: $raw_name },)*]
     };
 }
 
 /// The opcodes that have a name.
-const NAMES: &[Word] = rows!(names, 0, unused);
+const NAMES: &[NamedByte] = rows!(names, 0, unused);
 
 macro_rules! name_match {
     ($at:expr, $unused:ident, { $($op:literal $name:literal $to:ident $message:ident $fields:tt;)* } { $($raw:literal $raw_name:literal;)* }) => {

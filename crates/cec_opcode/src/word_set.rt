@@ -1,11 +1,11 @@
 //! The sets of words that stand for an operand byte: each word once, with its byte and its name in the code.
 ghost use Rattle.std.specs.Prelude.{◌≡◌, ◌≢◌, ◌≤◌, ◌<◌, ◌↔◌, ℕ, option_copied, length, map, IfSome, IfNone, IsTrue};
 ghost use Rattle.cec_opcode.specs.Naming.{byte_of};
-ghost use Rattle.cec_opcode.specs.WordSets.{spelled, word_of, words_of};
+ghost use Rattle.cec_opcode.specs.WordSets.{word_in_code, word_of, words_of};
 
 /// A byte, and the word that stands for it.
 #[derive(Clone, Copy)]
-pub struct Word {
+pub struct NamedByte {
     pub byte: u8,
     pub text: &'static str,
 }
@@ -189,43 +189,43 @@ macro_rules! to_code {
 
 macro_rules! table {
     (() $($code:literal $variant:ident $word:literal;)*) => {
-        &[$(Word { byte: $code, text: $word },)*]
+        &[$(NamedByte { byte: $code, text: $word },)*]
     };
 }
 
-const REASONS: &[Word] = words!(Reason table);
+const REASONS: &[NamedByte] = words!(Reason table);
 
-const POWERS: &[Word] = words!(Power table);
+const POWERS: &[NamedByte] = words!(Power table);
 
-const ON_OFF: &[Word] = words!(SystemAudio table);
+const ON_OFF: &[NamedByte] = words!(SystemAudio table);
 
-const DEVICE_TYPES: &[Word] = words!(DeviceType table);
+const DEVICE_TYPES: &[NamedByte] = words!(DeviceType table);
 
-const STATUS_REQUESTS: &[Word] = words!(StatusRequest table);
+const STATUS_REQUESTS: &[NamedByte] = words!(StatusRequest table);
 
-const DECK_STATES: &[Word] = words!(DeckInfo table);
+const DECK_STATES: &[NamedByte] = words!(DeckInfo table);
 
-const PLAY_MODES: &[Word] = words!(PlayMode table);
+const PLAY_MODES: &[NamedByte] = words!(PlayMode table);
 
-const DECK_CONTROLS: &[Word] = words!(DeckControlMode table);
+const DECK_CONTROLS: &[NamedByte] = words!(DeckControlMode table);
 
-const DISPLAYS: &[Word] = words!(Display table);
+const DISPLAYS: &[NamedByte] = words!(Display table);
 
-const MENU_REQUESTS: &[Word] = words!(MenuRequestType table);
+const MENU_REQUESTS: &[NamedByte] = words!(MenuRequestType table);
 
-const MENU_STATES: &[Word] = words!(MenuState table);
+const MENU_STATES: &[NamedByte] = words!(MenuState table);
 
-const VERSIONS: &[Word] = words!(Version table);
+const VERSIONS: &[NamedByte] = words!(Version table);
 
-const USER_CONTROLS: &[Word] = words!(UserControl table);
+const USER_CONTROLS: &[NamedByte] = words!(UserControl table);
 
 pub(crate) use from_code;
 pub(crate) use to_code;
 pub(crate) use words;
 
 /// The text of the first of these words that stands for a byte.
-pub(crate) fn text_in(words: &[Word], byte: u8) -> Option<&'static str>
-    ensures { option_copied result ≡ word_of (map spelled words.now) byte }
+pub(crate) fn text_in(words: &[NamedByte], byte: u8) -> Option<&'static str>
+    ensures { option_copied result ≡ word_of (map word_in_code words.now) byte }
 {
     let mut rest = words;
     while let [word, others @ ..] = rest {
@@ -238,8 +238,8 @@ pub(crate) fn text_in(words: &[Word], byte: u8) -> Option<&'static str>
 }
 
 /// The byte of the first of these words that has this text.
-pub(crate) fn byte_in(words: &[Word], text: &[u8]) -> Option<u8>
-    ensures { result ≡ byte_of (map spelled words.now) text.now }
+pub(crate) fn byte_in(words: &[NamedByte], text: &[u8]) -> Option<u8>
+    ensures { result ≡ byte_of (map word_in_code words.now) text.now }
 {
     let mut rest = words;
     while let [word, others @ ..] = rest {
@@ -253,8 +253,8 @@ pub(crate) fn byte_in(words: &[Word], text: &[u8]) -> Option<u8>
 
 impl WordSet {
     /// Its words.
-    pub fn words(self) -> &'static [Word]
-        ensures { map spelled result.now ≡ words_of self }
+    pub fn words(self) -> &'static [NamedByte]
+        ensures { map word_in_code result.now ≡ words_of self }
     {
         match self {
             WordSet::Reason => REASONS,

@@ -1,7 +1,7 @@
 -- Lines of a pin file, one after another.
 use Rattle.std.proofs.Common.{◌≡◌, ℕ, ◌+◌, List, ◌∷◌, ◌++◌, Result, Ok, Err, refl, sym, ap, ◌∙◌, append_assoc}
 use Rattle.cec_wave.specs.declared.Edge.{Edge}
-use Rattle.cec_words.specs.Lines.{lines_of}
+use Rattle.hdmi_core.specs.Lines.{lines_of}
 use Rattle.cec_signal.specs.Edges.{Captured}
 use Rattle.cec_pin.specs.Pin.{lines_read, passed_by, read_on, took, with_edges}
 use Rattle.cec_pin.specs.declared.reading.PinFault.{PinFault}

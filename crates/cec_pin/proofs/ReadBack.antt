@@ -13,7 +13,7 @@ use Rattle.std.proofs.lemmas.List.Elements.{All-append}
 use Rattle.cec_wave.specs.declared.Edge.{Edge}
 use Rattle.cec_wave.specs.declared.Stretch.{Stretch}
 use Rattle.cec_wave.specs.Line.{covers, line_of, IsWaveFrom}
-use Rattle.cec_words.specs.Lines.{is_skipped, lines_of}
+use Rattle.hdmi_core.specs.Lines.{is_skipped, lines_of}
 use Rattle.cec_signal.specs.Edges.{Captured, edges_of}
 use Rattle.cec_signal.specs.Seconds.{nine_digits}
 use Rattle.cec_signal.proofs.Decimals.{decimals_again}
@@ -22,7 +22,7 @@ use Rattle.cec_signal.proofs.Moving.{due, track_at}
 use Rattle.cec_signal.proofs.Numbers.{number_again, some_length}
 use Rattle.cec_signal.proofs.Texts as texts
 use Rattle.cec_signal.proofs.Texts.{line_before}
-use Rattle.cec_pin.specs.Pin.{begun, code_of, dot_in, event_by, event_cut, event_of, fraction_of, happened, instant_of, lines_read, moved_by, moved_to, nanos_by, passed_by, read_on, took, with_edges}
+use Rattle.cec_pin.specs.Pin.{first_reader, code_of, dot_in, event_by, event_cut, event_of, fraction_of, after_event, instant_of, lines_read, moved_by, moved_to, nanos_by, passed_by, read_on, took, with_edges}
 use Rattle.cec_pin.specs.Text.{event_line, event_text, head, round_text, stretch_text, PinFilesAreReadBack}
 use Rattle.cec_pin.specs.declared.reader.Reader.{Reader}
 use Rattle.cec_pin.specs.declared.reading.PinFault.{PinFault}
@@ -106,7 +106,7 @@ event_stood : (t level : ℕ) (low : Bool) (at : ℕ) (was is : Bool) → t ≤ 
 event_stood t level low at was is early code =
     let digits = (decimal_is_IsNumeral (t / 1000000) (omega arith)).0.1 in
     let told : is_skipped (event_line t level) ≡ false = skipped_by (decimal (t / 1000000)) _ (decimal_nonempty (t / 1000000) (omega arith)) digits in
-    rw told (ap (λ e. happened e (stood at was is)) (event_ok t level (Some low) early code) ∙ ap (λ i. moved_to i (Some low) (stood at was is)) (instant_ok t early))
+    rw told (ap (λ e. after_event e (stood at was is)) (event_ok t level (Some low) early code) ∙ ap (λ i. moved_to i (Some low) (stood at was is)) (instant_ok t early))
 
 event_taken : (t level : ℕ) (low : Bool) (k : Reader) → k ≡ stood k.track.at k.track.was_low k.track.is_low → t ≤ 2000000000000 → ((nanos : ℕ) → event_by (Some nanos) (code_of (level ∷ [])) ≡ Some (record { nanos = nanos; low = Some low }))
     → took (event_line t level) k ≡ moved_to (Some t) (Some low) k
@@ -166,7 +166,7 @@ stretch_reads s at b more edges end after wide low rest number =
     told_line (number + 1) s.to 49 false more (stood s.from false true) (stood s.to true false) (Some (record { at = s.from; low = true })) refl low refl rise_code (move_told s.to s.from true false wide)
     ∙ ap (with_edges (record { at = s.from; low = true } ∷ [])) (rest (number + 1 + 1)))
 
--- the level is told again
+-- the level is reported again
 again_reads : (u at : ℕ) (b : Bool) (more : List ℕ) (edges : List Edge) (end : ℕ) → at ≤ u → u ≤ 2000000000000
     → ((c : Bool) → (c ≡ true → b ≡ true) → (c ≡ true → at ≡ u) → Reads more u c edges end) → Reads (event_text u 49 ++ more) at b edges end
 again_reads u at false more edges end after low rest number =
@@ -196,7 +196,7 @@ EndsBy end (s ∷ ss) = (s.to ≤ end) × EndsBy end ss
 abbrev flat : List (List Stretch) → List Stretch
 flat rounds = flat_map (λ ss. ss) rounds
 
--- the stretches of a round behind its first one
+-- the stretches of a round after its first one
 rest_reads : (ss others : List Stretch) (at : ℕ) (more : List ℕ) (edges : List Edge) (end : ℕ) → IsWaveFrom (at + 1) (ss ++ others) → EndsBy end (ss ++ others) → at ≤ end → end ≤ 2000000000000
     → ((to : ℕ) → IsWaveFrom (to + 1) others → EndsBy end others → to ≤ end → Reads more to true edges end)
     → Reads (flat_map stretch_text ss ++ more) at true (edges_of ss ++ edges) end
@@ -263,7 +263,7 @@ head_line number line rest t u all h = line_in number line rest t u None (shown 
 abbrev still : Reader
 still = stood 0 false false
 
-head_read : (more : List ℕ) → lines_read 1 (lines_of (head ++ more)) begun ≡ lines_read 8 (lines_of more) still
+head_read : (more : List ℕ) → lines_read 1 (lines_of (head ++ more)) first_reader ≡ lines_read 8 (lines_of more) still
 head_read more =
     let t7 = codes "0.000000000 1" ++ 10 ∷ more in
     let t6 = codes "# phys_addr f.f.f.f" ++ 10 ∷ t7 in

@@ -3,13 +3,13 @@ use Rattle.std.proofs.Common.{◌≡◌, ℕ, ◌+◌, ◌-◌, ◌*◌, ◌/◌
 use Rattle.std.specs.Option.{option_to_list}
 use Rattle.std.proofs.lemmas.Bool.Decides.{nat_tests}
 use Rattle.cec_wave.specs.declared.Edge.{Edge}
-use Rattle.cec_words.specs.Lines.{lines_of, is_skipped}
+use Rattle.hdmi_core.specs.Lines.{lines_of, is_skipped}
 use Rattle.cec_signal.specs.Edges.{Captured, IsCapture}
-use Rattle.cec_signal.specs.Samples.{Sample, sampled}
-use Rattle.cec_signal.specs.Track.{Moved, last_edge, moved}
+use Rattle.cec_signal.specs.Samples.{Sample, level_in}
+use Rattle.cec_signal.specs.Track.{Moved, last_edge, track_move}
 use Rattle.cec_signal.specs.declared.track.Track.{Track}
 use Rattle.cec_signal.proofs.Recording.{Records, moved_at, records_capture, records_end, records_level, records_line, records_moved}
-use Rattle.cec_pin.specs.Pin.{Step, Stepped, begun, edges_in, event_of, happened, leveled, lines_read, moved_by, moved_to, noted, passed_by, read_on, started, took, with_edges}
+use Rattle.cec_pin.specs.Pin.{Step, Stepped, first_reader, edges_in, event_of, after_event, track_with_level, lines_read, moved_by, moved_to, start_in_comment, passed_by, read_on, reader_with_start, took, with_edges}
 use Rattle.cec_pin.specs.Sampling.{Level, PinFilesAreSampled, event_in, last_time, level_by, level_of, level_told, levels_in, or_start, start_behind, time_by}
 use Rattle.cec_pin.specs.declared.line.Event.{Event}
 use Rattle.cec_pin.specs.declared.reader.Reader.{Reader}
@@ -31,10 +31,10 @@ samples_both : (a b : List Level) → samples_of (a ++ b) ≡ samples_of a ++ sa
 samples_both [] b = refl
 samples_both (l ∷ a) b = ap (λ ss. record { at = rounded l.since; low = l.low } ∷ ss) (samples_both a b)
 
-sampled_so : (b : Bool) (ls : List Level) (u : ℕ) → sampled b (samples_of ls) u ≡ level_of b ls u
+sampled_so : (b : Bool) (ls : List Level) (u : ℕ) → level_in b (samples_of ls) u ≡ level_of b ls u
 sampled_so b [] u = refl
 sampled_so b (l ∷ ls) u =
-    ap (λ t. sampled (if t then l.low else b) (samples_of ls) u) (rounded_by l.since u) ∙ sampled_so (if nat_le l.since (u * 1000) then l.low else b) ls u
+    ap (λ t. level_in (if t then l.low else b) (samples_of ls) u) (rounded_by l.since u) ∙ sampled_so (if nat_le l.since (u * 1000) then l.low else b) ls u
 
 -- ---- a line
 
@@ -50,11 +50,11 @@ abbrev GoesBy : Track → Stepped → ℕ → ℕ → Option Level → Type 0
 GoesBy old (Err c) start time level = Unit {0}
 GoesBy old (Ok step) start time level = Goes old step start time level
 
-event_goes : (r : Reader) (e : Event) → GoesBy r.track (happened (Some e) r) r.start (e.nanos - r.start) (level_told (e.nanos - r.start) e.low)
+event_goes : (r : Reader) (e : Event) → GoesBy r.track (after_event (Some e) r) r.start (e.nanos - r.start) (level_told (e.nanos - r.start) e.low)
 event_goes r e = late (nat_lt 2000000000000000 (e.nanos - r.start)) refl
   where
-    told : (low : Option Bool) (m : Moved) → moved (rounded (e.nanos - r.start)) r.track ≡ Some m → e.nanos - r.start ≤ 2000000000000000
-        → Goes r.track (record { reader = record { start = r.start; track = leveled low m.track }; edge = m.edge }) r.start (e.nanos - r.start) (level_told (e.nanos - r.start) low)
+    told : (low : Option Bool) (m : Moved) → track_move (rounded (e.nanos - r.start)) r.track ≡ Some m → e.nanos - r.start ≤ 2000000000000000
+        → Goes r.track (record { reader = record { start = r.start; track = track_with_level low m.track }; edge = m.edge }) r.start (e.nanos - r.start) (level_told (e.nanos - r.start) low)
     told None m h small =
         let at = moved_at (rounded (e.nanos - r.start)) r.track m h in
         record {
@@ -74,7 +74,7 @@ event_goes r e = late (nat_lt 2000000000000000 (e.nanos - r.start)) refl
               (subst (λ n. Records m.track edges (record { at = n; low = low } ∷ samples) end) at (records_level m.track low edges samples end k));
         }
 
-    moves : (o : Option Moved) → moved (rounded (e.nanos - r.start)) r.track ≡ o → e.nanos - r.start ≤ 2000000000000000
+    moves : (o : Option Moved) → track_move (rounded (e.nanos - r.start)) r.track ≡ o → e.nanos - r.start ≤ 2000000000000000
         → GoesBy r.track (moved_by o e.low r) r.start (e.nanos - r.start) (level_told (e.nanos - r.start) e.low)
     moves None h small = tt
     moves (Some m) h small = told e.low m h small
@@ -82,24 +82,24 @@ event_goes r e = late (nat_lt 2000000000000000 (e.nanos - r.start)) refl
     late : (c : Bool) → nat_lt 2000000000000000 (e.nanos - r.start) ≡ c
         → GoesBy r.track (moved_to (if c then None else Some (rounded (e.nanos - r.start))) e.low r) r.start (e.nanos - r.start) (level_told (e.nanos - r.start) e.low)
     late true h = tt
-    late false h = moves (moved (rounded (e.nanos - r.start)) r.track) refl (grind (arith, nat_tests))
+    late false h = moves (track_move (rounded (e.nanos - r.start)) r.track) refl (grind (arith, nat_tests))
 
 line_goes : (r : Reader) (line : List ℕ) (time : ℕ) → r.track.at ≡ rounded time → r.track.at ≤ 2000000000000
     → GoesBy r.track (took line r) (start_behind line r.start) (time_by r.start (event_in line) time) (level_by r.start (event_in line))
 line_goes r line time at early = by (is_skipped line)
   where
-    comment : (o : Option ℕ) → GoesBy r.track (Ok (record { reader = started o r; edge = None })) (or_start o r.start) time None
+    comment : (o : Option ℕ) → GoesBy r.track (Ok (record { reader = reader_with_start o r; edge = None })) (or_start o r.start) time None
     comment None = record { start_is = refl; at = at; early = early; more = λ edges samples end k. k }
     comment (Some n) = record { start_is = refl; at = at; early = early; more = λ edges samples end k. k }
 
-    event : (o : Option Event) → GoesBy r.track (happened o r) r.start (time_by r.start o time) (level_by r.start o)
+    event : (o : Option Event) → GoesBy r.track (after_event o r) r.start (time_by r.start o time) (level_by r.start o)
     event None = tt
     event (Some e) = event_goes r e
 
     by : (c : Bool)
-        → GoesBy r.track (if c then Ok (record { reader = started (noted line) r; edge = None }) else happened (event_of line) r) (if c then or_start (noted line) r.start else r.start)
+        → GoesBy r.track (if c then Ok (record { reader = reader_with_start (start_in_comment line) r; edge = None }) else after_event (event_of line) r) (if c then or_start (start_in_comment line) r.start else r.start)
         (time_by r.start (if c then None else event_of line) time) (level_by r.start (if c then None else event_of line))
-    by true = comment (noted line)
+    by true = comment (start_in_comment line)
     by false = event (event_of line)
 
 -- ---- a file
@@ -144,7 +144,7 @@ lines_ran number (line ∷ lines) r e time at early h =
 
 pub pin_files_are_sampled : PinFilesAreSampled
 pin_files_are_sampled text e h =
-    let ran = lines_ran 1 (lines_of text) begun e 0 refl (omega arith) h in
+    let ran = lines_ran 1 (lines_of text) first_reader e 0 refl (omega arith) h in
     let ls = levels_in 0 (lines_of text) in
     record {
       line = λ u. records_line e.edges (samples_of ls) e.end ran.records u ∙ sampled_so false ls u;

@@ -1,7 +1,7 @@
 -- Events that were lost (v4l-utils, `--store-pin`): the next event's code has 65,536 added.
 use Rattle.std.specs.Prelude.{ℕ, ◌+◌, ◌++◌, ◌&&◌, Bool, false, nat_le, if◌then◌else◌, List, [], ◌∷◌, drop, Option, Some, None}
-use Rattle.cec_words.specs.Lines.{is_skipped}
-use Rattle.cec_words.specs.Number.{number_of}
+use Rattle.hdmi_core.specs.Lines.{is_skipped}
+use Rattle.hdmi_core.specs.Number.{number_of}
 use Rattle.cec_pin.specs.Pin.{dot_in}
 
 abbrev pub is_lost_code : Option ℕ → Bool

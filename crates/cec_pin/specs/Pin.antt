@@ -6,11 +6,11 @@ use Rattle.std.specs.List.{position_or_len}
 use Rattle.std.specs.Str.{bytes_eq}
 use Rattle.std.specs.Global.{Vec}
 use Rattle.cec_wave.specs.declared.Edge.{Edge}
-use Rattle.cec_words.specs.Lines.{lines_of, is_skipped}
-use Rattle.cec_words.specs.Number.{number_of}
+use Rattle.hdmi_core.specs.Lines.{lines_of, is_skipped}
+use Rattle.hdmi_core.specs.Number.{number_of}
 use Rattle.cec_signal.specs.Edges.{Captured}
 use Rattle.cec_signal.specs.Seconds.{decimals_of}
-use Rattle.cec_signal.specs.Track.{Moved, begun as line_begun, last_edge, moved, with_level}
+use Rattle.cec_signal.specs.Track.{Moved, first_track as line_begun, last_edge, track_move, with_level}
 use Rattle.cec_signal.specs.declared.track.Track.{Track}
 use Rattle.cec_pin.specs.declared.line.Event.{Event}
 use Rattle.cec_pin.specs.declared.reader.Cause.{Cause}
@@ -68,13 +68,13 @@ abbrev pub word_start : List ℕ → Option ℕ
 word_start word = nanos_of (take (dot_in word) word) (drop (dot_in word + 1) word)
 
 -- a comment that gives the start
-abbrev pub noted : List ℕ → Option ℕ
-noted line = if bytes_eq (take 18 line) (codes "# start_monotonic ") then word_start (drop 18 line) else None
+abbrev pub start_in_comment : List ℕ → Option ℕ
+start_in_comment line = if bytes_eq (take 18 line) (codes "# start_monotonic ") then word_start (drop 18 line) else None
 
 -- ---- where a reader stands
 
-abbrev pub begun : Reader
-begun = record { start = 0; track = line_begun }
+abbrev pub first_reader : Reader
+first_reader = record { start = 0; track = line_begun }
 
 pub record Step : Type 0 where
   pub reader : Reader
@@ -88,29 +88,29 @@ abbrev pub Takes : Stepped → Result (Option Edge) Cause → Reader → Type 0
 Takes stepped (Ok edge) new = stepped ≡ Ok (record { reader = new; edge = edge })
 Takes stepped (Err fault) new = stepped ≡ Err fault
 
-abbrev pub leveled : Option Bool → Track → Track
-leveled None t = t
-leveled (Some low) t = with_level low t
+abbrev pub track_with_level : Option Bool → Track → Track
+track_with_level None t = t
+track_with_level (Some low) t = with_level low t
 
 abbrev pub moved_by : Option Moved → Option Bool → Reader → Stepped
 moved_by None low r = Err cause.Order
-moved_by (Some m) low r = Ok (record { reader = record { start = r.start; track = leveled low m.track }; edge = m.edge })
+moved_by (Some m) low r = Ok (record { reader = record { start = r.start; track = track_with_level low m.track }; edge = m.edge })
 
 -- an event of another pin is a time alone
 abbrev pub moved_to : Option ℕ → Option Bool → Reader → Stepped
 moved_to None low r = Err cause.Late
-moved_to (Some u) low r = moved_by (moved u r.track) low r
+moved_to (Some u) low r = moved_by (track_move u r.track) low r
 
-abbrev pub happened : Option Event → Reader → Stepped
-happened None r = Err cause.Word
-happened (Some e) r = moved_to (instant_of r.start e.nanos) e.low r
+abbrev pub after_event : Option Event → Reader → Stepped
+after_event None r = Err cause.Word
+after_event (Some e) r = moved_to (instant_of r.start e.nanos) e.low r
 
-abbrev pub started : Option ℕ → Reader → Reader
-started None r = r
-started (Some start) r = record r { start = start }
+abbrev pub reader_with_start : Option ℕ → Reader → Reader
+reader_with_start None r = r
+reader_with_start (Some start) r = record r { start = start }
 
 abbrev pub took : List ℕ → Reader → Stepped
-took line r = if is_skipped line then Ok (record { reader = started (noted line) r; edge = None }) else happened (event_of line) r
+took line r = if is_skipped line then Ok (record { reader = reader_with_start (start_in_comment line) r; edge = None }) else after_event (event_of line) r
 
 -- ---- a file
 
@@ -136,7 +136,7 @@ lines_read number [] r = Ok (record { edges = option_to_list (last_edge r.track)
 lines_read number (line ∷ lines) r = read_on (passed_by number (took line r)) (lines_read (number + 1) lines)
 
 abbrev pub edges_in : List ℕ → Result Captured PinFault
-edges_in text = lines_read 1 (lines_of text) begun
+edges_in text = lines_read 1 (lines_of text) first_reader
 
 -- a capture is what is read, and a fault is the one of the text; of memory nothing is said
 abbrev pub Gives : Result Captured PinError → Result Captured PinFault → Type 0
@@ -150,7 +150,7 @@ GivesEdges (Ok c) read = read ≡ Ok (record { edges = c.0.items; end = c.1 })
 GivesEdges (Err (Fault fault)) read = read ≡ Err fault
 GivesEdges (Err Memory) read = Unit {0}
 
--- a line was passed: its edges came behind those before
+-- a line was passed: its edges came after those before
 abbrev pub PassesLine : Result Passed PinFault → List Edge → Result (Unit {0}) PinError → List Edge → Reader → Type 0
 PassesLine passed old (Ok n) new reader = (more : List Edge) × (new ≡ old ++ more) × (passed ≡ Ok (record { edges = more; reader = reader }))
 PassesLine passed old (Err (Fault fault)) new reader = passed ≡ Err fault

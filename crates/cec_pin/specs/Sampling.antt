@@ -1,10 +1,10 @@
--- The line that a pin file tells of: at an instant it has the level of the last event of the CEC pin at or before it. Times
+-- The line that a pin file reports: at an instant it has the level of the last event of the CEC pin at or before it. Times
 -- are nanoseconds here, and nothing is said of edges and faults.
 use Rattle.std.specs.Prelude.{◌≡◌, ℕ, ◌+◌, ◌-◌, ◌*◌, ◌/◌, Bool, false, nat_le, if◌then◌else◌, List, [], ◌∷◌, ◌++◌, Option, Some, None, Ok}
 use Rattle.std.specs.Option.{option_to_list}
-use Rattle.cec_words.specs.Lines.{lines_of, is_skipped}
+use Rattle.hdmi_core.specs.Lines.{lines_of, is_skipped}
 use Rattle.cec_signal.specs.Edges.{Captured, IsCapture, line_of_edges}
-use Rattle.cec_pin.specs.Pin.{edges_in, event_of, noted}
+use Rattle.cec_pin.specs.Pin.{edges_in, event_of, start_in_comment}
 use Rattle.cec_pin.specs.declared.line.Event.{Event}
 
 -- from a time on, counted from the start, the line is low or not
@@ -16,9 +16,9 @@ abbrev pub or_start : Option ℕ → ℕ → ℕ
 or_start None start = start
 or_start (Some noted) start = noted
 
--- the start of what stands behind a line
+-- the start of what stands after a line
 abbrev pub start_behind : List ℕ → ℕ → ℕ
-start_behind line start = if is_skipped line then or_start (noted line) start else start
+start_behind line start = if is_skipped line then or_start (start_in_comment line) start else start
 
 abbrev pub event_in : List ℕ → Option Event
 event_in line = if is_skipped line then None else event_of line

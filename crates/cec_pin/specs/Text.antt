@@ -23,7 +23,7 @@ event_text t level = concat (decimal (t / 1000000) ∷ codes "." ∷ nine_digits
 abbrev pub stretch_text : Stretch → List ℕ
 stretch_text s = event_text s.from 48 ++ event_text s.to 49
 
--- before the line of a round the level is told again, since cec-ctl ends a message only so
+-- before the line of a round the level is reported again, since cec-ctl ends a message only so
 abbrev pub again : List Stretch → List ℕ
 again [] = []
 again (s ∷ ss) = event_text (s.from - 1) 49

@@ -1,10 +1,10 @@
 //! A line of a file of pin events.
 ghost use Rattle.std.specs.Prelude.{◌≡◌, ◌+◌, ◌*◌, ◌^◌, ◌<◌, ◌≤◌, length};
-ghost use Rattle.cec_pin.specs.Pin.{code_of, event_cut, event_of, fraction_of, instant_of, nanos_of, noted, word_start};
+ghost use Rattle.cec_pin.specs.Pin.{code_of, event_cut, event_of, fraction_of, instant_of, nanos_of, start_in_comment, word_start};
 
 use cec_signal::decimals_in;
 use cec_wave::LATEST_INSTANT;
-use cec_words::{before, behind, byte_at, len_before, number_in};
+use hdmi_core::{before, behind, byte_at, len_before, number_in};
 
 /// What a line says.
 #[derive(Clone, Copy, Debug, PartialEq, Eq)]
@@ -90,8 +90,8 @@ fn time_in(word: &[u8]) -> Option<u128>
 }
 
 /// The start that a comment gives, if it gives one.
-pub fn noted(line: &[u8]) -> Option<u128>
-    ensures { result ≡ noted line.now }
+pub fn start_in_comment(line: &[u8]) -> Option<u128>
+    ensures { result ≡ start_in_comment line.now }
 {
     if before(line, 18) == b"# start_monotonic ".as_slice() {
         time_in(behind(line, 18))

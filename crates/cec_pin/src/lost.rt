@@ -1,9 +1,9 @@
 //! Events that were lost.
 ghost use Rattle.std.specs.Prelude.{◌≡◌, ◌+◌, ◌++◌, ◌∷◌, [], if◌then◌else◌, IfOk};
-ghost use Rattle.cec_words.specs.Lines.{lines_of};
+ghost use Rattle.hdmi_core.specs.Lines.{lines_of};
 ghost use Rattle.cec_pin.specs.Lost.{is_lost, lost_in};
 
-use cec_words::{behind, first_line, is_skipped, len_before, number_in};
+use hdmi_core::{behind, first_line, is_skipped, len_before, number_in};
 use std::alloc::{AllocError, Global};
 
 // Whether a line is an event before which others were lost.

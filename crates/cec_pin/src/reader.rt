@@ -1,10 +1,10 @@
 //! A reader of a file of pin events, line by line.
 ghost use Rattle.std.specs.Prelude.{◌≡◌};
 
-use crate::line::{event_of, instant_of, noted};
+use crate::line::{event_of, instant_of, start_in_comment};
 use cec_signal::Track;
 use cec_wave::Edge;
-use cec_words::is_skipped;
+use hdmi_core::is_skipped;
 use thiserror::Error;
 
 /// What is wrong with a line.
@@ -30,12 +30,12 @@ pub struct Reader {
 }
 
 impl Reader {
-    ghost use Rattle.cec_pin.specs.Pin.{Takes, begun, moved_to, took};
+    ghost use Rattle.cec_pin.specs.Pin.{Takes, first_reader, moved_to, took};
     ghost use Rattle.cec_signal.specs.Track.{last_edge};
 
     /// A reader at the front of a file.
     pub fn new() -> Self
-        ensures { result ≡ begun }
+        ensures { result ≡ first_reader }
     {
         Reader {
             start: 0,
@@ -66,7 +66,7 @@ impl Reader {
         ensures { Takes (took line.now self.old) result self.new }
     {
         if is_skipped(line) {
-            if let Some(start) = noted(line) {
+            if let Some(start) = start_in_comment(line) {
                 self.start = start;
             }
             return Ok(None);

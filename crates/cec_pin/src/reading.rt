@@ -5,7 +5,7 @@ ghost use Rattle.cec_pin.specs.Pin.{Gives, GivesEdges, PassesLine, edges_in, pas
 use crate::reader::{Cause, Reader};
 use cec_signal::Capture;
 use cec_wave::Edge;
-use cec_words::first_line;
+use hdmi_core::first_line;
 use std::alloc::Global;
 use thiserror::Error;
 
@@ -74,7 +74,7 @@ fn read_edges(alloc: Global, text: &[u8]) -> Result<(Vec<Edge>, u64), PinError>
 }
 
 /// Reads a file of pin events. Times are counted from its `# start_monotonic`, or from 0 without one, and rounded up to whole
-/// microseconds; of several events in one the last counts, and a level that is told again is none. Before its first event
+/// microseconds; of several events in one the last counts, and a level that is reported again is none. Before its first event
 /// the line counts as high. The capture ends with the last event.
 ///
 /// # Errors

@@ -1,13 +1,12 @@
 //! The events of a round.
 ghost use Rattle.std.specs.Prelude.{◌≡◌, ◌++◌, ◌+◌, ◌-◌, ◌≤◌, length};
 ghost use Rattle.std.specs.List.{flat_map};
-ghost use Rattle.cec_words.specs.Cut.{WrittenText};
+ghost use Rattle.hdmi_core.specs.Cut.{WrittenText};
 ghost use Rattle.cec_pin.specs.Text.{again, round_text, stretch_text};
 
 use crate::writing::{write_fall, write_rise};
 use cec_wave::Stretch;
-use cec_words::{counted, cut_at};
-use hdmi_core::{Sink, WriteFault};
+use hdmi_core::{Sink, WriteFault, counted, cut_at};
 
 // Writes the level before the first of these stretches once more.
 fn write_again<S: Sink>(out: &mut S, stretches: &[Stretch]) -> Result<u128, WriteFault>
@@ -50,12 +49,12 @@ fn write_stretches<S: Sink>(out: &mut S, stretches: &[Stretch]) -> Result<u128, 
 }
 
 /// Writes the line of a round, given by its low stretches: that the line is high still a microsecond before its first fall,
-/// since cec-ctl ends a message only at a level that is told again, and then each fall and each rise. Of no stretch it
+/// since cec-ctl ends a message only at a level that is reported again, and then each fall and each rise. Of no stretch it
 /// writes nothing.
 ///
 /// # Errors
 ///
-/// A `put` took none. Its count, which stays at its greatest value, tells how much of that was written.
+/// A `put` took none. Its count, which stays at its greatest value, says how much of that was written.
 pub fn write_round<S: Sink>(out: &mut S, stretches: &[Stretch]) -> Result<u128, WriteFault>
     ensures { WrittenText (S.contents out.old) (S.contents out.new) (S.is_stuck out.old) (S.is_stuck out.new) (round_text stretches.now) result }
 {

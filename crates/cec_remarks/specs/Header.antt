@@ -2,7 +2,7 @@
 -- were taken (CEC 6.1.2). Bits that were not read count as 0.
 use Rattle.std.specs.Prelude.{ℕ, ◌+◌, ◌*◌, ◌/◌, ◌==◌, Bool, false, not, ◌&&◌, List, length, slice_index_or, Option, is_none}
 use mathlib.Core.Bool.{beq}
-use Rattle.cec_frame.specs.Blocks.{weighed}
+use Rattle.cec_frame.specs.Blocks.{bit_value}
 use Rattle.cec_frame.specs.declared.Ending.{Ending}
 use Rattle.cec_text.specs.ReadingText.{is_complete}
 use Rattle.cec_bits.specs.Reading.{first_in}
@@ -11,7 +11,7 @@ use Rattle.cec_bits.specs.Sending.{bit_read}
 -- the number of four bits from a place on, counted from 0
 abbrev pub nibble_at : List Bool → ℕ → ℕ
 nibble_at bits k =
-    weighed 8 (slice_index_or bits k false) + weighed 4 (slice_index_or bits (k + 1) false) + weighed 2 (slice_index_or bits (k + 2) false) + weighed 1 (slice_index_or bits (k + 3) false)
+    bit_value 8 (slice_index_or bits k false) + bit_value 4 (slice_index_or bits (k + 1) false) + bit_value 2 (slice_index_or bits (k + 2) false) + bit_value 1 (slice_index_or bits (k + 3) false)
 
 abbrev pub initiator_of : List Bool → ℕ
 initiator_of bits = nibble_at bits 0

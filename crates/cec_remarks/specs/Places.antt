@@ -7,11 +7,11 @@ use Rattle.cec_remarks.specs.Frames.{opcode_of, sender}
 abbrev pub phys_in : ℕ → List ℕ → Option Phys
 phys_in opcode frame = if (opcode_of frame == opcode) && nat_lt 3 (length frame) then Some (record { high = slice_index frame 2; low = slice_index frame 3 }) else None
 
-abbrev pub reported : List ℕ → Option Phys
-reported frame = phys_in 0x84 frame
+abbrev pub reported_address : List ℕ → Option Phys
+reported_address frame = phys_in 0x84 frame
 
-abbrev pub claimed : List ℕ → Option Phys
-claimed frame = phys_in 0x82 frame
+abbrev pub claimed_address : List ℕ → Option Phys
+claimed_address frame = phys_in 0x82 frame
 
 -- ---- what each logical address reported last
 
@@ -23,9 +23,9 @@ with_report initiator None places = places
 with_report initiator (Some phys) places = slice_set places initiator (Some phys)
 
 abbrev pub with_places : List ℕ → List (Option Phys) → List (Option Phys)
-with_places frame places = with_report (sender frame) (reported frame) places
+with_places frame places = with_report (sender frame) (reported_address frame) places
 
--- ---- two addresses for one device: `  1 reported 1.0.0.0 before`
+-- ---- two addresses for one device: `  1 reported_address 1.0.0.0 before`
 
 abbrev pub same_phys : Phys → Phys → Bool
 same_phys a b = (a.high == b.high) && (a.low == b.low)
@@ -40,9 +40,9 @@ other_by initiator None places = None
 other_by initiator (Some phys) places = if initiator == 15 then None else other_than (slice_index_or places initiator None) phys
 
 abbrev pub moved_from : List ℕ → List (Option Phys) → Option Phys
-moved_from frame places = other_by (sender frame) (reported frame) places
+moved_from frame places = other_by (sender frame) (reported_address frame) places
 
--- ---- an active source that nobody reported: `  nobody reported 2.0.0.0`
+-- ---- an active source that nobody reported: `  nobody reported_address 2.0.0.0`
 
 abbrev pub is_place : Option Phys → Phys → Bool
 is_place None phys = false
@@ -57,4 +57,4 @@ unknown_by None places = None
 unknown_by (Some phys) places = if is_reported places phys then None else Some phys
 
 abbrev pub unknown_source : List ℕ → List (Option Phys) → Option Phys
-unknown_source frame places = unknown_by (claimed frame) places
+unknown_source frame places = unknown_by (claimed_address frame) places

@@ -1,12 +1,12 @@
 //! The bytes of a frame that was delivered.
 ghost use Rattle.std.specs.Prelude.{◌≡◌, ◌<◌};
 ghost use Rattle.cec_bits.specs.Reports.{listed_as};
-ghost use Rattle.cec_remarks.specs.Frames.{bytes_or_none, delivered, opcode_of, receiver, sender};
+ghost use Rattle.cec_remarks.specs.Frames.{bytes_or_none, delivered_frame, opcode_of, receiver, sender};
 
 use crate::header::is_delivered;
 use arrayvec::ArrayVec;
 use cec_frame::{Frame, Reading};
-use cec_words::byte_at;
+use hdmi_core::byte_at;
 
 /// The initiator, in the high half of the header.
 pub fn sender(frame: &[u8]) -> u8
@@ -41,8 +41,8 @@ fn bytes_or_none(frame: &Option<Frame>) -> ArrayVec<u8, 16>
 }
 
 /// The bytes of a reading's frame, where it was delivered, and else none.
-pub fn delivered(reading: &Reading) -> ArrayVec<u8, 16>
-    ensures { result.items ≡ delivered (listed_as reading.now) }
+pub fn delivered_frame(reading: &Reading) -> ArrayVec<u8, 16>
+    ensures { result.items ≡ delivered_frame (listed_as reading.now) }
 {
     if !is_delivered(reading.ending, &reading.bits) {
         return ArrayVec::new();

@@ -14,7 +14,7 @@ mod series;
 
 pub use attempts::{Attempts, Failure};
 pub use counts::{Count, Counts, count_reading, no_counts};
-pub use frames::{delivered, sender};
+pub use frames::{delivered_frame, sender};
 pub use free::{Before, TooSoon, is_bad_start};
 pub use places::{Places, moved_from, no_places, note_report, unknown_source};
 pub use requests::{Request, WAITING, Waiting, after_frame};

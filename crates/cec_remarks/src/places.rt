@@ -5,8 +5,7 @@ ghost use Rattle.cec_remarks.specs.Places.{is_place, is_reported, moved_from, no
 
 use crate::frames::{opcode_of, sender};
 use cec_frame::Addr;
-use cec_words::byte_at;
-use hdmi_core::Phys;
+use hdmi_core::{Phys, byte_at};
 
 /// The opcodes of Report Physical Address and Active Source.
 const REPORT: u8 = 0x84;

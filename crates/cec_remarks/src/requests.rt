@@ -6,7 +6,7 @@ ghost use Rattle.cec_remarks.specs.Requests.{after_frame, answer_to, is_answer, 
 use crate::frames::{opcode_of, receiver, sender};
 use arrayvec::ArrayVec;
 use cec_frame::Addr;
-use cec_words::byte_at;
+use hdmi_core::byte_at;
 
 /// The longest time in which an answer comes (CEC 9.2), in microseconds.
 const ANSWER: u64 = 1_000_000;

@@ -3,7 +3,7 @@ use Rattle.std.proofs.Common.{◌≡◌, ℕ, ◌<◌, ◌≤◌, Bool, List, []
 use Rattle.std.proofs.lemmas.Grind.{flat_map-append}
 use Rattle.hdmi_core.specs.declared.sink.WriteFault.{WriteFault}
 use Rattle.cec_json.specs.Progress.{WritesOn}
-use Rattle.cec_json.specs.Values.{code_text, coded}
+use Rattle.cec_json.specs.Values.{code_text, code_texts}
 use Rattle.cec_json.specs.declared.values.Code.TheVariants.{Char}
 use Rattle.cec_json.proofs.Writing.{writes_as, writes_none, writes_two}
 use Rattle.cec_report_json.specs.Stretch.{verdict_value, verdicts}
@@ -31,19 +31,19 @@ front_all f e = writes_as (sym (f.parts ∙ ap (λ (l : List ℕ). f.front ++ l)
 -- ---- characters of a test
 
 coded_byte : (escaped now : Bool) (rest : List ℕ) (b : ℕ) → now ≡ is_escape escaped b
-    → coded Char (plain_from escaped (b ∷ rest)) ≡ coded Char (plain_byte escaped b) ++ coded Char (plain_from now rest)
+    → code_texts Char (plain_from escaped (b ∷ rest)) ≡ code_texts Char (plain_byte escaped b) ++ code_texts Char (plain_from now rest)
 coded_byte escaped now rest b e =
     flat_map-append (code_text Char) (plain_byte escaped b) (plain_from (is_escape escaped b) rest)
-    ∙ ap (λ (v : Bool). coded Char (plain_byte escaped b) ++ coded Char (plain_from v rest)) (sym e)
+    ∙ ap (λ (v : Bool). code_texts Char (plain_byte escaped b) ++ code_texts Char (plain_from v rest)) (sym e)
 
 -- one byte more
 pub byte_more : {whole : List ℕ} {a b c : Option (List ℕ)} {s t u : Bool} {p q r : Result ℕ WriteFault} → (escaped now : Bool) (text : List ℕ) → 1 ≤ length text → now ≡ is_escape escaped (get_or text 0 0)
-    → Front whole (coded Char (plain_from escaped text)) a b s t p q → WritesOn b c t u (coded Char (plain_byte escaped (get_or text 0 0))) q r
-    → Front whole (coded Char (plain_from now (drop 1 text))) a c s u p r
+    → Front whole (code_texts Char (plain_from escaped text)) a b s t p q → WritesOn b c t u (code_texts Char (plain_byte escaped (get_or text 0 0))) q r
+    → Front whole (code_texts Char (plain_from now (drop 1 text))) a c s u p r
 byte_more escaped now [] h e f on = absurd (omega arith)
-byte_more escaped now (n ∷ text) h e f on = front_more (coded Char (plain_byte escaped n)) (coded Char (plain_from now text)) f (coded_byte escaped now text n e) on
+byte_more escaped now (n ∷ text) h e f on = front_more (code_texts Char (plain_byte escaped n)) (code_texts Char (plain_from now text)) f (coded_byte escaped now text n e) on
 
-pub bytes_none : (escaped : Bool) (text : List ℕ) → length text < 1 → coded Char (plain_from escaped text) ≡ []
+pub bytes_none : (escaped : Bool) (text : List ℕ) → length text < 1 → code_texts Char (plain_from escaped text) ≡ []
 bytes_none escaped [] h = refl
 bytes_none escaped (n ∷ text) h = absurd (omega arith)
 

@@ -1,9 +1,9 @@
--- What a line of a form tells, part by part.
+-- What a line of a form reports, part by part.
 use Rattle.std.proofs.Common.{◌≡◌, ℕ, Bool, false, true, if◌then◌else◌, List, ◌∷◌, ◌++◌, drop, codes, Option, Result, sym, ap, subst, ◌∙◌}
 use Rattle.hdmi_core.specs.declared.sink.WriteFault.{WriteFault}
-use Rattle.cec_words.specs.Words.{words_of}
-use Rattle.cec_json.specs.Columns.{field, lead}
-use Rattle.cec_json.specs.Object.{typed}
+use Rattle.hdmi_core.specs.Words.{words_of}
+use Rattle.cec_json.specs.Columns.{field, field_lead}
+use Rattle.cec_json.specs.Object.{type_field}
 use Rattle.cec_json.specs.Parts.{after_word, before_byte, word}
 use Rattle.cec_json.specs.Progress.{WritesOn}
 use Rattle.cec_json.specs.declared.values.Shape.TheVariants.{Number}
@@ -22,18 +22,18 @@ pub then_is : (b : Bool) (x y : List ℕ) → b ≡ true → x ≡ (if b then x 
 then_is b x y e = ap (λ (v : Bool). if v then x else y) (sym e)
 
 abbrev place_by : (line holds text : List ℕ) → List ℕ
-place_by line holds text = field (codes "script_line") Number line ++ lead (codes "holds") ++ holds ++ text_fields text
+place_by line holds text = field (codes "script_line") Number line ++ field_lead (codes "holds") ++ holds ++ text_fields text
 
 pub place_is : (holds : Bool) (place line told text : List ℕ) → line ≡ before_byte 58 place → told ≡ truth holds → text ≡ after_word place
-    → field (codes "script_line") Number line ++ lead (codes "holds") ++ told ++ text_fields text ≡ place_fields holds place
+    → field (codes "script_line") Number line ++ field_lead (codes "holds") ++ told ++ text_fields text ≡ place_fields holds place
 place_is holds place line told text e f g =
     ap (λ (v : List ℕ). place_by v told text) e ∙ ap (λ (v : List ℕ). place_by (before_byte 58 place) v text) f ∙ ap (λ (v : List ℕ). place_by (before_byte 58 place) (truth holds) v) g
 
 abbrev test_by : (holds : Bool) (number place : List ℕ) → List ℕ
-test_by holds number place = typed (codes "test") ++ field (codes "test") Number number ++ place_fields holds place
+test_by holds number place = type_field (codes "test") ++ field (codes "test") Number number ++ place_fields holds place
 
 pub test_is : (holds : Bool) (rest number first second place : List ℕ) → number ≡ word rest → first ≡ after_word rest → second ≡ after_word first → place ≡ after_word second
-    → typed (codes "test") ++ field (codes "test") Number number ++ place_fields holds place ≡ test_told holds rest
+    → type_field (codes "test") ++ field (codes "test") Number number ++ place_fields holds place ≡ test_told holds rest
 test_is holds rest number first second place e f g h =
     ap (λ (v : List ℕ). test_by holds v place) e ∙ ap (λ (v : List ℕ). test_by holds (word rest) v) (h ∙ ap after_word (g ∙ ap after_word f))
 
@@ -45,9 +45,9 @@ seen_is rest seen start from end to e f g h i =
     ∙ ap (λ (v : List ℕ). window_told (word rest) (word (after_two rest)) v) (i ∙ ap word (h ∙ ap after_two f))
 
 abbrev stretch_by : (range : List ℕ) (words : List (List ℕ)) → List ℕ
-stretch_by range words = typed (codes "stretch") ++ range_fields range ++ lead (codes "holds") ++ verdicts_value words
+stretch_by range words = type_field (codes "stretch") ++ range_fields range ++ field_lead (codes "holds") ++ verdicts_value words
 
 pub stretch_is : (line range first : List ℕ) (words : List (List ℕ)) → words_of line ≡ first ∷ words → range ≡ word line
-    → typed (codes "stretch") ++ range_fields range ++ lead (codes "holds") ++ verdicts_value words ≡ stretch_told line
+    → type_field (codes "stretch") ++ range_fields range ++ field_lead (codes "holds") ++ verdicts_value words ≡ stretch_told line
 stretch_is line range first words e f =
     ap (λ (v : List ℕ). stretch_by v words) f ∙ ap (λ (v : List (List ℕ)). stretch_by (word line) (drop 1 v)) (sym e)

@@ -1,8 +1,8 @@
--- The object of a line of a report (own): the line itself, what it is, and what it tells.
+-- The object of a line of a report (own): the line itself, what it is, and what it reports.
 use Rattle.std.specs.Prelude.{◌≡◌, ℕ, true, false, if◌then◌else◌, codes, take, drop, List, ◌++◌}
 use Rattle.std.specs.Str.{bytes_eq}
 use Rattle.cec_json.specs.Columns.{field}
-use Rattle.cec_json.specs.Object.{AreInOrder, IsTold, object, typed}
+use Rattle.cec_json.specs.Object.{AreInOrder, IsTold, object, type_field}
 use Rattle.cec_json.specs.Parts.{after_word, word}
 use Rattle.cec_json.specs.declared.values.Shape.TheVariants.{Number}
 use Rattle.cec_report_json.specs.TestLine.{test_told}
@@ -15,7 +15,7 @@ use Rattle.cec_report_json.specs.declared.object.Report.TheVariants as reports
 
 -- ---- which line it is
 
--- by the word behind `#`; what is none of a report's is one of a trace
+-- by the word after `#`; what is none of a report's is one of a trace
 abbrev pub remark_form : List ℕ → Form
 remark_form word =
     if bytes_eq word (codes "seen") then forms.Window
@@ -40,28 +40,28 @@ abbrev pub form_of : Report → List ℕ → Form
 form_of reports.Expectations line = test_form (word line) (word (after_word line)) (take 3 line)
 form_of reports.Sweep line = sweep_form (word line)
 
--- ---- what it tells
+-- ---- what it reports
 
 -- `TAP version 13`
 abbrev pub version_told : List ℕ → List ℕ
-version_told line = typed (codes "version") ++ field (codes "version") Number (word (after_word (after_word line)))
+version_told line = type_field (codes "version") ++ field (codes "version") Number (word (after_word (after_word line)))
 
 -- `1..N`
 abbrev pub plan_told : List ℕ → List ℕ
-plan_told line = typed (codes "plan") ++ field (codes "tests") Number (drop 3 line)
+plan_told line = type_field (codes "plan") ++ field (codes "tests") Number (drop 3 line)
 
--- what stands behind the line; of a line of a trace, what its own object has there
+-- what stands after the line; of a line of a trace, what its own object has there
 abbrev pub IsToldAs : Form → List ℕ → List ℕ → Type 0
 IsToldAs forms.Version line told = told ≡ version_told line
 IsToldAs forms.Passed line told = told ≡ test_told true (after_word line)
 IsToldAs forms.Failed line told = told ≡ test_told false (after_word (after_word line))
 IsToldAs forms.Window line told = told ≡ seen_told (after_word (after_word line))
 IsToldAs forms.NoWindow line told = told ≡ no_window_told
-IsToldAs forms.Trace line told = told ≡ typed (codes "trace")
+IsToldAs forms.Trace line told = told ≡ type_field (codes "trace")
 IsToldAs forms.Shown line told = IsTold (after_word line) told
 IsToldAs forms.Plan line told = told ≡ plan_told line
 IsToldAs forms.Stretch line told = told ≡ stretch_told line
-IsToldAs forms.Other line told = told ≡ typed (codes "other")
+IsToldAs forms.Other line told = told ≡ type_field (codes "other")
 
 -- ---- the object of a line
 

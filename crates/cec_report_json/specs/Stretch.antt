@@ -1,10 +1,10 @@
--- What the line of a stretch tells (own): `A..B ok not-ok`.
+-- What the line of a stretch reports (own): `A..B ok not-ok`.
 use Rattle.std.specs.Prelude.{ℕ, ◌&&◌, Bool, if◌then◌else◌, codes, drop, List, [], ◌∷◌, ◌++◌}
 use Rattle.std.specs.Str.{bytes_eq}
-use Rattle.cec_words.specs.Number.{is_numeral}
-use Rattle.cec_words.specs.Words.{words_of}
-use Rattle.cec_json.specs.Columns.{field, lead}
-use Rattle.cec_json.specs.Object.{typed}
+use Rattle.hdmi_core.specs.Number.{is_numeral}
+use Rattle.hdmi_core.specs.Words.{words_of}
+use Rattle.cec_json.specs.Columns.{field, field_lead}
+use Rattle.cec_json.specs.Object.{type_field}
 use Rattle.cec_json.specs.Parts.{after_byte, before_byte, word}
 use Rattle.cec_json.specs.declared.values.Shape.TheVariants.{Number}
 
@@ -32,4 +32,4 @@ abbrev pub range_fields : List ℕ → List ℕ
 range_fields range = field (codes "from") Number (first_instant range) ++ field (codes "to") Number (last_instant range)
 
 abbrev pub stretch_told : List ℕ → List ℕ
-stretch_told line = typed (codes "stretch") ++ range_fields (word line) ++ lead (codes "holds") ++ verdicts_value (drop 1 (words_of line))
+stretch_told line = type_field (codes "stretch") ++ range_fields (word line) ++ field_lead (codes "holds") ++ verdicts_value (drop 1 (words_of line))

@@ -1,15 +1,15 @@
--- What the line of a test tells (Test Anything Protocol, version 13; the text behind the number is own).
+-- What the line of a test reports (Test Anything Protocol, version 13; the text after the number is own).
 use Rattle.std.specs.Prelude.{ℕ, ◌==◌, ◌&&◌, not, Bool, true, false, if◌then◌else◌, codes, List, [], ◌∷◌, ◌++◌}
 use Rattle.std.specs.Str.{bytes_eq}
-use Rattle.cec_json.specs.Columns.{field, lead}
-use Rattle.cec_json.specs.Object.{typed}
+use Rattle.cec_json.specs.Columns.{field, field_lead}
+use Rattle.cec_json.specs.Object.{type_field}
 use Rattle.cec_json.specs.Parts.{after_word, before_byte, word}
-use Rattle.cec_json.specs.Values.{quoted}
+use Rattle.cec_json.specs.Values.{string_text}
 use Rattle.cec_json.specs.declared.values.Shape.TheVariants.{Number, Text}
 
 -- ---- the text, as the line of the script has it
 
--- a backslash that stands for the byte behind it
+-- a backslash that stands for the byte after it
 abbrev pub is_escape : Bool → ℕ → Bool
 is_escape escaped b = not escaped && (b == 92)
 
@@ -34,7 +34,7 @@ abbrev pub refused_fields : List ℕ → List ℕ
 refused_fields text = codes ",\"expectation\":null" ++ field (codes "refused") Text (after_word text)
 
 abbrev pub expected_fields : List ℕ → List ℕ
-expected_fields text = lead (codes "expectation") ++ quoted (plain text) ++ codes ",\"refused\":null"
+expected_fields text = field_lead (codes "expectation") ++ string_text (plain text) ++ codes ",\"refused\":null"
 
 abbrev pub text_fields : List ℕ → List ℕ
 text_fields text = if bytes_eq (word text) (codes "refused") then refused_fields text else expected_fields text
@@ -42,8 +42,8 @@ text_fields text = if bytes_eq (word text) (codes "refused") then refused_fields
 -- `L: TEXT`
 abbrev pub place_fields : Bool → List ℕ → List ℕ
 place_fields holds place =
-    field (codes "script_line") Number (before_byte 58 place) ++ lead (codes "holds") ++ truth holds ++ text_fields (after_word place)
+    field (codes "script_line") Number (before_byte 58 place) ++ field_lead (codes "holds") ++ truth holds ++ text_fields (after_word place)
 
 -- `N - line L: TEXT`
 abbrev pub test_told : Bool → List ℕ → List ℕ
-test_told holds rest = typed (codes "test") ++ field (codes "test") Number (word rest) ++ place_fields holds (after_word (after_word (after_word rest)))
+test_told holds rest = type_field (codes "test") ++ field (codes "test") Number (word rest) ++ place_fields holds (after_word (after_word (after_word rest)))

@@ -1,14 +1,14 @@
--- What the line of a window tells (own): how many rounds were seen in it, and its two instants.
+-- What the line of a window reports (own): how many rounds were seen in it, and its two instants.
 use Rattle.std.specs.Prelude.{ℕ, codes, List, [], ◌++◌}
 use Rattle.cec_json.specs.Columns.{field}
-use Rattle.cec_json.specs.Object.{typed}
+use Rattle.cec_json.specs.Object.{type_field}
 use Rattle.cec_json.specs.Parts.{after_word, word}
 use Rattle.cec_json.specs.declared.values.Shape.TheVariants.{Number}
 
 abbrev pub window_told : List ℕ → List ℕ → List ℕ → List ℕ
-window_told seen from to = typed (codes "window") ++ field (codes "seen") Number seen ++ field (codes "from") Number from ++ field (codes "to") Number to
+window_told seen from to = type_field (codes "window") ++ field (codes "seen") Number seen ++ field (codes "from") Number from ++ field (codes "to") Number to
 
--- the word behind the next one
+-- the word after the next one
 abbrev pub after_two : List ℕ → List ℕ
 after_two text = after_word (after_word text)
 

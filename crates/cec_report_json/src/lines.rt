@@ -1,19 +1,18 @@
 //! The objects of the lines of a report.
 ghost use Rattle.std.specs.Prelude.{◌≡◌, ℕ, List, length};
-ghost use Rattle.cec_words.specs.Lines.{lines_of};
+ghost use Rattle.hdmi_core.specs.Lines.{lines_of};
 ghost use Rattle.cec_json.specs.Progress.{WritesText};
 ghost use Rattle.cec_report_json.specs.Object.{AreReportObjects};
 
 use crate::object::{Report, write_report_object};
 use cec_json::Progress;
-use cec_words::first_line;
-use hdmi_core::{Sink, WriteFault};
+use hdmi_core::{Sink, WriteFault, first_line};
 
 /// Writes the object of each line of a report, a line each.
 ///
 /// # Errors
 ///
-/// The sink takes no more: then the front of the objects was written, as long as it tells.
+/// The sink takes no more: then the front of the objects was written, as long as it reports.
 pub fn write_report_objects<S: Sink>(
     report: Report,
     text: &[u8],

@@ -9,8 +9,7 @@ use crate::window::{write_no_window, write_seen};
 use cec_json::{
     Progress, Shape, after_word, word, write_field, write_quoted, write_told, write_type,
 };
-use cec_words::{before, behind};
-use hdmi_core::Sink;
+use hdmi_core::{Sink, before, behind};
 
 /// Which report the lines are of.
 #[derive(Clone, Copy, Debug)]
@@ -112,7 +111,7 @@ fn write_plan<S: Sink>(line: &[u8], progress: &mut Progress, out: &mut S)
     write_field("tests", Shape::Number, behind(line, 3), progress, out);
 }
 
-// Writes what a line of a form tells.
+// Writes what a line of a form reports.
 fn write_told_as<S: Sink>(form: Form, line: &[u8], progress: &mut Progress, out: &mut S)
     ensures { (told : List ℕ) × IsToldAs form line.now told
         × WritesOn (S.contents out.old) (S.contents out.new) (S.is_stuck out.old) (S.is_stuck out.new) told progress.old.so_far progress.new.so_far }

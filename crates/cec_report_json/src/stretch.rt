@@ -1,16 +1,15 @@
 //! Stretches of a sweep.
 ghost use Rattle.std.specs.Prelude.{◌≡◌, ◌++◌, [], length};
 ghost use Rattle.std.specs.Option.{option_copied};
-ghost use Rattle.cec_words.specs.Number.{is_numeral};
-ghost use Rattle.cec_words.specs.Words.{words_behind, words_of};
+ghost use Rattle.hdmi_core.specs.Number.{is_numeral};
+ghost use Rattle.hdmi_core.specs.Words.{words_behind, words_of};
 ghost use Rattle.cec_json.specs.Progress.{WritesOn};
 ghost use Rattle.cec_report_json.specs.Stretch.{first_instant, is_stretch, last_instant, range_fields, stretch_told, verdict_value, verdicts, verdicts_value};
 
 use cec_json::{
     Progress, Shape, after_byte, before_byte, word, write_field, write_lead, write_type,
 };
-use cec_words::{first_word, number_in};
-use hdmi_core::Sink;
+use hdmi_core::{Sink, first_word, number_in};
 
 fn first_instant(range: &[u8]) -> &[u8]
     ensures { result.now ≡ first_instant range.now }
@@ -86,7 +85,7 @@ fn write_range<S: Sink>(range: &[u8], progress: &mut Progress, out: &mut S)
     write_field("to", Shape::Number, last_instant(range), progress, out);
 }
 
-/// Writes what the line of a stretch tells.
+/// Writes what the line of a stretch reports.
 pub(crate) fn write_stretch<S: Sink>(line: &[u8], progress: &mut Progress, out: &mut S)
     ensures { WritesOn (S.contents out.old) (S.contents out.new) (S.is_stuck out.old) (S.is_stuck out.new) (stretch_told line.now) progress.old.so_far progress.new.so_far }
 {

@@ -1,7 +1,7 @@
 //! Tests of a report.
 ghost use Rattle.std.specs.Prelude.{◌≡◌, length};
 ghost use Rattle.cec_json.specs.Progress.{WritesOn};
-ghost use Rattle.cec_json.specs.Values.{coded};
+ghost use Rattle.cec_json.specs.Values.{code_texts};
 ghost use Rattle.cec_json.specs.declared.values.Code.TheVariants.{Char};
 ghost use Rattle.cec_report_json.specs.TestLine.{expected_fields, is_escape, place_fields, plain, plain_byte, refused_fields, test_told, text_fields, truth};
 
@@ -16,10 +16,10 @@ fn is_escape(escaped: bool, byte: u8) -> bool
     !escaped && byte == b'\\'
 }
 
-// Writes a byte, unless it is a backslash that stands for the one behind it, and returns whether it is.
+// Writes a byte, unless it is a backslash that stands for the one after it, and returns whether it is.
 fn write_byte<S: Sink>(escaped: bool, byte: u8, progress: &mut Progress, out: &mut S) -> bool
     ensures escape { result ≡ is_escape escaped byte }
-    ensures written { WritesOn (S.contents out.old) (S.contents out.new) (S.is_stuck out.old) (S.is_stuck out.new) (coded Char (plain_byte escaped byte)) progress.old.so_far progress.new.so_far }
+    ensures written { WritesOn (S.contents out.old) (S.contents out.new) (S.is_stuck out.old) (S.is_stuck out.new) (code_texts Char (plain_byte escaped byte)) progress.old.so_far progress.new.so_far }
 {
     if is_escape(escaped, byte) {
         return true;
@@ -30,7 +30,7 @@ fn write_byte<S: Sink>(escaped: bool, byte: u8, progress: &mut Progress, out: &m
 
 // Writes the characters of the text of a test, as the line of the script has it.
 fn write_plain<S: Sink>(text: &[u8], progress: &mut Progress, out: &mut S)
-    ensures { WritesOn (S.contents out.old) (S.contents out.new) (S.is_stuck out.old) (S.is_stuck out.new) (coded Char (plain text.now)) progress.old.so_far progress.new.so_far }
+    ensures { WritesOn (S.contents out.old) (S.contents out.new) (S.is_stuck out.old) (S.is_stuck out.new) (code_texts Char (plain text.now)) progress.old.so_far progress.new.so_far }
 {
     let mut rest = text;
     let mut escaped = false;
@@ -74,7 +74,7 @@ fn write_text<S: Sink>(text: &[u8], progress: &mut Progress, out: &mut S)
     }
 }
 
-// Writes what `L: TEXT` tells.
+// Writes what `L: TEXT` reports.
 fn write_place<S: Sink>(holds: bool, place: &[u8], progress: &mut Progress, out: &mut S)
     ensures { WritesOn (S.contents out.old) (S.contents out.new) (S.is_stuck out.old) (S.is_stuck out.new) (place_fields holds place.now) progress.old.so_far progress.new.so_far }
 {
@@ -85,7 +85,7 @@ fn write_place<S: Sink>(holds: bool, place: &[u8], progress: &mut Progress, out:
     write_text(after_word(place), progress, out);
 }
 
-/// Writes what `N - line L: TEXT` tells of a test that holds or not.
+/// Writes what `N - line L: TEXT` indicates a test that holds or not.
 pub(crate) fn write_test<S: Sink>(holds: bool, rest: &[u8], progress: &mut Progress, out: &mut S)
     ensures { WritesOn (S.contents out.old) (S.contents out.new) (S.is_stuck out.old) (S.is_stuck out.new) (test_told holds rest.now) progress.old.so_far progress.new.so_far }
 {

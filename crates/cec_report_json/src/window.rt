@@ -21,7 +21,7 @@ fn after_two(text: &[u8]) -> &[u8]
     after_word(after_word(text))
 }
 
-/// Writes what `N from A to B` tells.
+/// Writes what `N from A to B` reports.
 pub(crate) fn write_seen<S: Sink>(rest: &[u8], progress: &mut Progress, out: &mut S)
     ensures { WritesOn (S.contents out.old) (S.contents out.new) (S.is_stuck out.old) (S.is_stuck out.new) (seen_told rest.now) progress.old.so_far progress.new.so_far }
 {

@@ -4,17 +4,17 @@ use Rattle.std.specs.List.{All}
 use Rattle.cec_wave.specs.declared.Stretch.{Stretch}
 use Rattle.hdmi_topo.specs.Node.{Node}
 use Rattle.hdmi_topo.specs.Tree.{has_root}
-use Rattle.cec_words.specs.Lines.{lines_of}
+use Rattle.hdmi_core.specs.Lines.{lines_of}
 use Rattle.cec_asm.specs.Topology.{Plan, TopologyFault, at_word, fault_at, topology_of, lines_read, at_line, line_read}
 use Rattle.cec_asm.specs.declared.topology.LineFault.{LineFault}
 use Rattle.cec_asm.specs.declared.topology.TopologyCause.TheVariants.{NoRoot}
 use Rattle.cec_asm.specs.Script.{Course, ScriptFault, IsScriptRead}
 use Rattle.cec_asm.proofs.OneReading.{one_script}
-use Rattle.cec_net.specs.State.{started}
+use Rattle.cec_net.specs.State.{first_net}
 use Rattle.cec_run.specs.declared.run.Totals.{Totals}
 use Rattle.hdmi_blocks.specs.declared.edid.Edid.{Edid}
 use Rattle.hdmi_blocks.proofs.OneEdid.{one_edid}
-use Rattle.cec_trace.specs.Root.{IsRoot}
+use Rattle.hdmi_blocks.specs.Root.{IsRoot}
 use Rattle.cec_run.specs.declared.run.Telling.{Telling}
 use Rattle.cec_line.specs.declared.format.Format.{Format}
 use Rattle.cec_run.specs.declared.run.Telling.TheVariants.{Trace, Line}
@@ -76,34 +76,34 @@ one_course topology script plan other course otherwise a b =
 -- a run of texts is that of what they spell
 one_run_of : (topology script text : List ℕ) (totals : Totals) (plan : Plan) (course : Course) (telling : Telling) → topology_of topology ≡ Ok plan → IsScriptRead plan.tree script (Ok course)
     → (other : Plan) (otherwise : Course) → IsAccepted topology script other otherwise
-    → IsRunText telling otherwise.end (start (started other.tree otherwise.pulses) otherwise.events) text totals
-    → IsRunText telling course.end (start (started plan.tree course.pulses) course.events) text totals
+    → IsRunText telling otherwise.end (start (first_net other.tree otherwise.pulses) otherwise.events) text totals
+    → IsRunText telling course.end (start (first_net plan.tree course.pulses) course.events) text totals
 one_run_of topology script text totals plan course telling t s other otherwise accepted told =
     let p : other ≡ plan = one_plan topology plan other t accepted.plan_is in
     let read : IsScriptRead plan.tree script (Ok otherwise) = subst (λ (q : Plan). IsScriptRead q.tree script (Ok otherwise)) p accepted.course_is in
     let k : otherwise ≡ course = same_ok otherwise course (Ok otherwise) (one_script plan.tree script course (Ok otherwise) s read) refl in
-    subst (λ (c : Course). IsRunText telling c.end (start (started plan.tree c.pulses) c.events) text totals) k
-    (subst (λ (q : Plan). IsRunText telling otherwise.end (start (started q.tree otherwise.pulses) otherwise.events) text totals) p told)
+    subst (λ (c : Course). IsRunText telling c.end (start (first_net plan.tree c.pulses) c.events) text totals) k
+    (subst (λ (q : Plan). IsRunText telling otherwise.end (start (first_net q.tree otherwise.pulses) otherwise.events) text totals) p told)
 
 -- texts spell one topology, one EDID and one script
 pub one_trace_of : (topology script text : List ℕ) (totals : Totals) (plan : Plan) (course : Course) (edid : Option Edid) → topology_of topology ≡ Ok plan → IsScriptRead plan.tree script (Ok course)
-    → IsRoot plan.edid edid → IsTraceOf topology script text totals → IsTrace edid course.end (start (started plan.tree course.pulses) course.events) text totals
+    → IsRoot plan.edid edid → IsTraceOf topology script text totals → IsTrace edid course.end (start (first_net plan.tree course.pulses) course.events) text totals
 one_trace_of topology script text totals plan course edid t s e w =
     let r : w.edid ≡ edid = one_root plan.edid w.edid edid (subst (λ q. IsRoot q.edid w.edid) (one_plan topology plan w.plan t w.accepted.plan_is) w.root) e in
-    subst (λ x. IsTrace x course.end (start (started plan.tree course.pulses) course.events) text totals) r
+    subst (λ x. IsTrace x course.end (start (first_net plan.tree course.pulses) course.events) text totals) r
     (one_run_of topology script text totals plan course (Trace w.edid) t s w.plan w.course w.accepted w.trace)
 
 pub one_line_of : (format : Format) (topology script text : List ℕ) (totals : Totals) (plan : Plan) (course : Course) → topology_of topology ≡ Ok plan → IsScriptRead plan.tree script (Ok course)
-    → IsLineOf format topology script text totals → IsRunText (Line format) course.end (start (started plan.tree course.pulses) course.events) text totals
+    → IsLineOf format topology script text totals → IsRunText (Line format) course.end (start (first_net plan.tree course.pulses) course.events) text totals
 one_line_of format topology script text totals plan course t s w =
     one_run_of topology script text totals plan course (Line format) t s w.plan w.course w.accepted w.line
 
 pub texts_have_one_trace : TextsHaveOneTrace
 texts_have_one_trace topology script x y s t p q =
-    one_trace p.edid p.course.end (start (started p.plan.tree p.course.pulses) p.course.events) x y s t p.trace
+    one_trace p.edid p.course.end (start (first_net p.plan.tree p.course.pulses) p.course.events) x y s t p.trace
     (one_trace_of topology script y t p.plan p.course p.edid p.accepted.plan_is p.accepted.course_is p.root q)
 
 pub texts_have_one_line : TextsHaveOneLine
 texts_have_one_line format topology script x y s t p q =
-    one_run_text (Line format) p.course.end (start (started p.plan.tree p.course.pulses) p.course.events) x y s t p.line
+    one_run_text (Line format) p.course.end (start (first_net p.plan.tree p.course.pulses) p.course.events) x y s t p.line
     (one_line_of format topology script y t p.plan p.course p.accepted.plan_is p.accepted.course_is q)

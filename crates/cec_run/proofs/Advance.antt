@@ -9,7 +9,7 @@ use Rattle.cec_event.specs.declared.event.Event.{Event}
 use Rattle.cec_event.specs.declared.event.Event.TheVariants.{Plug, Unplug, Key, Send, Outside}
 use Rattle.cec_event.specs.declared.event.EventError.{EventError}
 use Rattle.cec_net.specs.State.{NetState, next_start}
-use Rattle.cec_net.specs.Apply.{applied, applied_unless, event_fault}
+use Rattle.cec_net.specs.Apply.{net_after, applied_unless, event_fault}
 use Rattle.cec_net.specs.Progress.{IsProgress}
 use Rattle.cec_net.proofs.Soundness.{length-with_plug}
 use Rattle.cec_run.specs.declared.run.Totals.{Totals}
@@ -32,7 +32,7 @@ kept_unless None at (Key device key press) s = record { pulses = refl; close = r
 kept_unless None at (Send device frame) s = record { pulses = refl; close = refl; rest = refl; count = refl }
 kept_unless None at (Outside device act) s = record { pulses = refl; close = refl; rest = refl; count = refl }
 
-pub event_keeps : (at : ℕ) (event : Event) (s t : NetState) → t ≡ applied at event s → Kept s t
+pub event_keeps : (at : ℕ) (event : Event) (s t : NetState) → t ≡ net_after at event s → Kept s t
 event_keeps at event s t e = subst (Kept s) (sym e) (kept_unless (event_fault s event) at event s)
 
 -- the events that are left

@@ -1,7 +1,7 @@
 -- Why a run has few rounds.
 use Rattle.std.proofs.Common.{◌≡◌, ℕ, zero, suc, ◌+◌, Bool, true, false, List, [], ◌∷◌, length, Option, Some, None, refl, sym, ap, ◌∙◌, subst, arith}
 use Rattle.cec_event.specs.declared.event.EventError.{EventError}
-use Rattle.cec_net.specs.State.{NetState, started}
+use Rattle.cec_net.specs.State.{NetState, first_net}
 use Rattle.cec_net.specs.Line.{Move, Happens, Goes, Moves, rounds_of}
 use Rattle.cec_net.specs.Few.{BeginBefore}
 use Rattle.cec_net.proofs.Few.{runs_are_short}
@@ -62,7 +62,7 @@ counted telling end (suc turns) c d text l f = by_turn telling end (turn_at end 
 
 pub runs_short : RunsAreShort
 runs_short telling tree pulses events end text totals sparse framed trace =
-    let m = counted telling end trace.run.turns (start (started tree pulses) events) trace.run.last trace.run.body trace.run.leads framed in
-    let few = runs_are_short (started tree pulses) trace.run.last.net m.moves end sparse (λ k p l. omega arith) m.goes m.before in
+    let m = counted telling end trace.run.turns (start (first_net tree pulses) events) trace.run.last trace.run.body trace.run.leads framed in
+    let few = runs_are_short (first_net tree pulses) trace.run.last.net m.moves end sparse (λ k p l. omega arith) m.goes m.before in
     let told : totals.rounds ≡ trace.run.last.totals.rounds = ap (λ (x : Totals). x.rounds) trace.run.counts in
     omega (arith, few, told, m.counts, sparse.few)

@@ -9,8 +9,8 @@ use Rattle.cec_wire.specs.declared.Outcome.{Outcome}
 use Rattle.cec_wire.proofs.HasOutcome.{rounds_have_outcomes}
 use Rattle.cec_asm.specs.declared.script.TimedEvent.{TimedEvent}
 use Rattle.cec_asm.proofs.Sound.{scripts_are_sound}
-use Rattle.cec_net.specs.State.{NetState, next_start, started}
-use Rattle.cec_net.specs.Apply.{applied, event_fault}
+use Rattle.cec_net.specs.State.{NetState, next_start, first_net}
+use Rattle.cec_net.specs.Apply.{net_after, event_fault}
 use Rattle.cec_net.specs.Step.{after_round, seats_of}
 use Rattle.cec_net.proofs.Progress.{ComeLater, progress}
 use Rattle.cec_text.specs.ReadingText.{is_complete}
@@ -67,15 +67,15 @@ no_event end at (Some begin) e = by_test (nat_lt begin end) e
 event_step : (telling : Telling) (end at : ℕ) (c : Config) (events : List TimedEvent) → c.events ≡ events → turn_at end c ≡ Apply at → Fit c.net → HaveRests telling end c → HasRest telling end c
 event_step telling end at c [] same e fit go = absurd (no_event end at (next_start c.net) (sym (ap (λ (xs : List TimedEvent). turn_of end c.net (first_time xs)) same) ∙ e))
 event_step telling end at c (x ∷ xs) same e fit go =
-    let d : Config = record { net = applied at x.event c.net; events = xs; totals = counted_event (event_fault c.net x.event) c.totals } in
+    let d : Config = record { net = net_after at x.event c.net; events = xs; totals = counted_event (event_fault c.net x.event) c.totals } in
     let line = event_told telling at x c.net in
-    let kept = event_keeps at x.event c.net (applied at x.event c.net) refl in
+    let kept = event_keeps at x.event c.net (net_after at x.event c.net) refl in
     let turn : IsTurnBy telling (Apply at) c line d = subst (λ (es : List TimedEvent). IsEventTurn telling at es c line d) (sym same) (refl, refl) in
     let count : length c.events ≡ suc (length xs) = ap length same in
-    let rested : ComeLater (applied at x.event c.net).rest c.net.pulses = subst (λ rest. ComeLater rest c.net.pulses) (sym kept.rest) fit.later in
+    let rested : ComeLater (net_after at x.event c.net).rest c.net.pulses = subst (λ rest. ComeLater rest c.net.pulses) (sym kept.rest) fit.later in
     in_front telling end c d line (subst (λ t. IsTurnBy telling t c line d) (sym e) turn)
     (go d (omega (arith, count, kept.rest))
-    (record { sparse = subst (λ (ps : List Stretch). AreSparse ps) (sym kept.pulses) fit.sparse; later = subst (λ (ps : List Stretch). ComeLater (applied at x.event c.net).rest ps) (sym kept.pulses) rested }))
+    (record { sparse = subst (λ (ps : List Stretch). AreSparse ps) (sym kept.pulses) fit.sparse; later = subst (λ (ps : List Stretch). ComeLater (net_after at x.event c.net).rest ps) (sym kept.pulses) rested }))
 
 -- the pulses that are left come after the rest
 later_after : (rest : ℕ) (pulses : List Stretch) → ComeLater rest (filter (λ p. nat_lt rest p.from) pulses)
@@ -108,7 +108,7 @@ has_rest telling end (suc n) c few fit = some_step telling end c (turn_at end c)
 
 pub runs_have_texts : RunsHaveTexts
 runs_have_texts telling tree pulses events end sparse =
-    let c = start (started tree pulses) events in
+    let c = start (first_net tree pulses) events in
     let rest = has_rest telling end (size end c) c (omega arith) (record { sparse = sparse; later = λ k p l. omega arith }) in
     (start_told telling c.net ++ rest.0, rest.1, record { rest = rest.0; run = rest.2; whole = refl })
 

@@ -4,8 +4,8 @@ use Rattle.cec_wave.specs.Line.{line_of, IsWave}
 use Rattle.cec_bits.specs.Readings.{readings_of}
 use Rattle.cec_wire.specs.declared.Outcome.{Outcome}
 use Rattle.cec_wire.specs.Alone.{outcome_listed}
-use Rattle.cec_net.specs.State.{NetState, started}
-use Rattle.cec_net.specs.Apply.{applied}
+use Rattle.cec_net.specs.State.{NetState, first_net}
+use Rattle.cec_net.specs.Apply.{net_after}
 use Rattle.cec_net.specs.Step.{after_round}
 use Rattle.cec_net.specs.Line.{Move, Happens, Goes, Moves, rounds_of, run_wave}
 use Rattle.cec_net.proofs.Framed.{framed-started}
@@ -33,7 +33,7 @@ by_event telling at [] c d last text os t same f k =
     subst (λ (s : NetState). IsMoved s last.net os) (ap (λ (x : Config). x.net) t.1) m
 by_event telling at (e ∷ events) c d last text os t same f k =
     let m : IsMoved d.net last.net os = k (subst AreFramedEvents (sym (ap (λ (x : Config). x.events) t.1)) f.1) in
-    let n : IsMoved (applied at e.event c.net) last.net os = subst (λ (s : NetState). IsMoved s last.net os) (ap (λ (x : Config). x.net) t.1) m in
+    let n : IsMoved (net_after at e.event c.net) last.net os = subst (λ (s : NetState). IsMoved s last.net os) (ap (λ (x : Config). x.net) t.1) m in
     record { moves = Happens at e.event ∷ n.moves; goes = (f.0, n.goes); rounds = n.rounds }
 
 -- some turn, and then the rest
@@ -58,10 +58,10 @@ moved telling end (suc turns) c d text l f =
 
 pub runs_read : RunsAreRead
 runs_read telling tree pulses events end turns text d sparse framed leads =
-    let m = moved telling end turns (start (started tree pulses) events) d text leads framed in
+    let m = moved telling end turns (start (first_net tree pulses) events) d text leads framed in
     record {
-      wave = subst (λ (os : List Outcome). IsWave (run_wave os)) m.rounds (runs_are_waves (started tree pulses) d.net m.moves sparse (framed-started tree pulses) m.goes);
-      over = λ u l. subst (λ (os : List Outcome). line_of (run_wave os) u ≡ false) m.rounds (runs_over (started tree pulses) d.net m.moves sparse (framed-started tree pulses) m.goes u (omega (arith, l)));
+      wave = subst (λ (os : List Outcome). IsWave (run_wave os)) m.rounds (runs_are_waves (first_net tree pulses) d.net m.moves sparse (framed-started tree pulses) m.goes);
+      over = λ u l. subst (λ (os : List Outcome). line_of (run_wave os) u ≡ false) m.rounds (runs_over (first_net tree pulses) d.net m.moves sparse (framed-started tree pulses) m.goes u (omega (arith, l)));
       readings = subst (λ (os : List Outcome). readings_of (line_of (run_wave os)) (max end d.net.close) ≡ map outcome_listed os) m.rounds
-          (runs_are_read (started tree pulses) d.net m.moves (max end d.net.close) sparse (framed-started tree pulses) m.goes (omega arith));
+          (runs_are_read (first_net tree pulses) d.net m.moves (max end d.net.close) sparse (framed-started tree pulses) m.goes (omega arith));
     }

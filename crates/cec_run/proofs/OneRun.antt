@@ -11,7 +11,7 @@ use Rattle.cec_wire.specs.declared.Outcome.{Outcome}
 use Rattle.cec_wire.specs.Round.{close_in}
 use Rattle.cec_wire.proofs.Bounds.{rounds_are_short}
 use Rattle.cec_wire.proofs.OneOutcome.{one_outcome}
-use Rattle.cec_net.specs.State.{NetState, started}
+use Rattle.cec_net.specs.State.{NetState, first_net}
 use Rattle.cec_net.specs.Step.{after_round, seats_of}
 use Rattle.cec_asm.specs.declared.script.TimedEvent.{TimedEvent}
 use Rattle.cec_asm.specs.Topology.{Plan}
@@ -88,14 +88,14 @@ pub texts_have_one_run : TextsHaveOneRun
 texts_have_one_run format topology script x y s t p q =
     let plan : p.plan ≡ q.plan = sym (one_plan topology p.plan q.plan p.accepted.plan_is q.accepted.plan_is) in
     let course : p.course ≡ q.course = one_course topology script p.plan q.plan p.course q.course p.accepted q.accepted in
-    let here : (told : IsRunText (Line format) p.course.end (start (started p.plan.tree p.course.pulses) p.course.events) y t)
-    → (s ≡ t) × (rounds_of_trace topology script x s p ≡ rounds_told (Line format) p.course.end (start (started p.plan.tree p.course.pulses) p.course.events) y t told) = λ told. (
-    let one = one_run (Trace p.edid) (Line format) p.course.end (start (started p.plan.tree p.course.pulses) p.course.events) x y s t p.trace told in (one.totals, one.rounds)
+    let here : (told : IsRunText (Line format) p.course.end (start (first_net p.plan.tree p.course.pulses) p.course.events) y t)
+    → (s ≡ t) × (rounds_of_trace topology script x s p ≡ rounds_told (Line format) p.course.end (start (first_net p.plan.tree p.course.pulses) p.course.events) y t told) = λ told. (
+    let one = one_run (Trace p.edid) (Line format) p.course.end (start (first_net p.plan.tree p.course.pulses) p.course.events) x y s t p.trace told in (one.totals, one.rounds)
     ) in
-    let there = subst (λ (c : Course). (told : IsRunText (Line format) c.end (start (started p.plan.tree c.pulses) c.events) y t)
-    → (s ≡ t) × (rounds_of_trace topology script x s p ≡ rounds_told (Line format) c.end (start (started p.plan.tree c.pulses) c.events) y t told)) course here in
-    subst (λ (a : Plan). (told : IsRunText (Line format) q.course.end (start (started a.tree q.course.pulses) q.course.events) y t)
-    → (s ≡ t) × (rounds_of_trace topology script x s p ≡ rounds_told (Line format) q.course.end (start (started a.tree q.course.pulses) q.course.events) y t told)) plan there q.line
+    let there = subst (λ (c : Course). (told : IsRunText (Line format) c.end (start (first_net p.plan.tree c.pulses) c.events) y t)
+    → (s ≡ t) × (rounds_of_trace topology script x s p ≡ rounds_told (Line format) c.end (start (first_net p.plan.tree c.pulses) c.events) y t told)) course here in
+    subst (λ (a : Plan). (told : IsRunText (Line format) q.course.end (start (first_net a.tree q.course.pulses) q.course.events) y t)
+    → (s ≡ t) × (rounds_of_trace topology script x s p ≡ rounds_told (Line format) q.course.end (start (first_net a.tree q.course.pulses) q.course.events) y t told)) plan there q.line
 
 -- ---- the parts of a trace
 
@@ -167,4 +167,4 @@ soon_after telling end (suc turns) c d text l h = soon_after telling end turns l
 
 pub runs_close_soon : RunsCloseSoon
 runs_close_soon telling tree pulses events end turns text d sparse leads =
-    (soon_after telling end turns (start (started tree pulses) events) d text leads (record { sparse = sparse; close = omega arith })).close
+    (soon_after telling end turns (start (first_net tree pulses) events) d text leads (record { sparse = sparse; close = omega arith })).close

@@ -3,7 +3,7 @@ use Rattle.std.proofs.Common.{◌≡◌, ℕ, zero, suc, ◌+◌, ◌<◌, Bool,
 use Rattle.std.specs.List.{flat_map, range_with_len}
 use Rattle.cec_asm.specs.declared.script.TimedEvent.{TimedEvent}
 use Rattle.cec_net.specs.State.{NetState}
-use Rattle.cec_net.specs.Apply.{applied}
+use Rattle.cec_net.specs.Apply.{net_after}
 use Rattle.hdmi_blocks.specs.declared.edid.Edid.{Edid}
 use Rattle.hdmi_topo.specs.Node.{Node}
 use Rattle.hdmi_topo.specs.Path.{is_on_wire}
@@ -23,12 +23,12 @@ same_lines at (Some root) f g tree h =
     (λ k b. ap (λ was. lines_of_new at root tree was k) (h k (omega arith)))
 
 -- what came onto the wire by an event is told by what was on it before
-pub event_ports : (at : ℕ) (edid : Option Edid) (e : TimedEvent) (s t : NetState) (before after : List Node) (was : List Bool) → t ≡ applied at e.event s → before ≡ s.tree → after ≡ t.tree
+pub event_ports : (at : ℕ) (edid : Option Edid) (e : TimedEvent) (s t : NetState) (before after : List Node) (was : List Bool) → t ≡ net_after at e.event s → before ≡ s.tree → after ≡ t.tree
     → ((k : ℕ) → k < length before → get_or was k false ≡ is_on_wire before k)
-    → port_lines at edid (λ device. get_or was device false) after ≡ port_lines at edid (is_on_wire s.tree) (applied at e.event s).tree
+    → port_lines at edid (λ device. get_or was device false) after ≡ port_lines at edid (is_on_wire s.tree) (net_after at e.event s).tree
 event_ports at edid e s t before after was step b a told =
     let kept = event_keeps at e.event s t step in
     let count : length after ≡ length before = ap length a ∙ kept.count ∙ sym (ap length b) in
-    let tree : after ≡ (applied at e.event s).tree = a ∙ ap (λ (x : NetState). x.tree) step in
+    let tree : after ≡ (net_after at e.event s).tree = a ∙ ap (λ (x : NetState). x.tree) step in
     same_lines at edid (λ device. get_or was device false) (is_on_wire s.tree) after (λ k h. told k (omega (arith, h, count)) ∙ ap (λ (x : List Node). is_on_wire x k) b)
     ∙ ap (port_lines at edid (is_on_wire s.tree)) tree

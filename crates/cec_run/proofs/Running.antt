@@ -5,14 +5,14 @@ use Rattle.hdmi_core.specs.declared.sink.WriteFault.{WriteFault}
 use Rattle.hdmi_core.proofs.CutShort.{Appends-trans}
 use Rattle.cec_asm.specs.declared.script.TimedEvent.{TimedEvent}
 use Rattle.cec_net.specs.State.{NetState}
-use Rattle.cec_net.specs.Apply.{applied, event_fault}
+use Rattle.cec_net.specs.Apply.{net_after, event_fault}
 use Rattle.cec_run.specs.declared.run.Totals.{Totals}
 use Rattle.cec_run.specs.declared.run.Turn.TheVariants.{Stop, Apply, Round}
-use Rattle.cec_words.specs.Cut.{CutOff, told_count}
+use Rattle.hdmi_core.specs.Cut.{CutOff, told_count}
 use Rattle.cec_run.specs.declared.run.Telling.{Telling}
 use Rattle.cec_run.specs.Run.{Config, turn_at, turn_of, first_time, counted_event, IsTurnBy, IsTurn, IsRoundTurn, Leads, IsRunTextFrom, event_told, end_told}
 use Rattle.cec_run.proofs.Turns.{one_more, front_of_text, whole_text}
-use Rattle.cec_words.proofs.Cutting.{told_parts, cut_again}
+use Rattle.hdmi_core.proofs.Cutting.{told_parts, cut_again}
 
 pub record Reached (telling : Telling) (end : ℕ) (c d : Config) (old new : Option (List ℕ)) (written : ℕ) : Type 0 where
   pub turns : ℕ
@@ -63,10 +63,10 @@ last_cut telling end c d old mid new n inner fault r stops cut told text totals 
 -- an event's turn
 pub event_turn_is : (telling : Telling) (end at : ℕ) (net : NetState) (e : TimedEvent) (others : List TimedEvent) (totals : Totals) → turn_of end net (first_time (e ∷ others)) ≡ Apply at
     → IsTurn telling end (record { net = net; events = e ∷ others; totals = totals }) (event_told telling at e net)
-    (record { net = applied at e.event net; events = others; totals = counted_event (event_fault net e.event) totals })
+    (record { net = net_after at e.event net; events = others; totals = counted_event (event_fault net e.event) totals })
 event_turn_is telling end at net e others totals h =
     subst (λ turn. IsTurnBy telling turn (record { net = net; events = e ∷ others; totals = totals }) (event_told telling at e net)
-    (record { net = applied at e.event net; events = others; totals = counted_event (event_fault net e.event) totals })) (sym h) (refl, refl)
+    (record { net = net_after at e.event net; events = others; totals = counted_event (event_fault net e.event) totals })) (sym h) (refl, refl)
 
 -- a round's turn
 pub round_turn_is : (telling : Telling) (end begin : ℕ) (net after : NetState) (events : List TimedEvent) (totals counted : Totals) (line : List ℕ) → turn_of end net (first_time events) ≡ Round begin
@@ -75,10 +75,10 @@ pub round_turn_is : (telling : Telling) (end begin : ℕ) (net after : NetState)
 round_turn_is telling end begin net after events totals counted line h turn =
     subst (λ t. IsTurnBy telling t (record { net = net; events = events; totals = totals }) line (record { net = after; events = events; totals = counted })) (sym h) (turn, refl)
 
--- ---- one turn, from what the calls tell
+-- ---- one turn, from what the calls report
 
 pub after_event : (telling : Telling) (end at : ℕ) (net new : NetState) (e : TimedEvent) (rest others : List TimedEvent) (totals counted : Totals) (c : Config) (old mid out : Option (List ℕ)) (n count m : ℕ)
-    → rest ≡ e ∷ others → turn_of end net (first_time rest) ≡ Apply at → new ≡ applied at e.event net → counted ≡ counted_event (event_fault net e.event) totals
+    → rest ≡ e ∷ others → turn_of end net (first_time rest) ≡ Apply at → new ≡ net_after at e.event net → counted ≡ counted_event (event_fault net e.event) totals
     → Reached telling end c (record { net = net; events = rest; totals = totals }) old mid n
     → count ≡ told_count (length (event_told telling at e net)) → Appends mid out (event_told telling at e net) → m ≡ told_count (n + count)
     → Reached telling end c (record { net = new; events = others; totals = counted }) old out m
@@ -86,7 +86,7 @@ after_event telling end at net new e rest others totals counted c old mid out n 
     let come : turn_of end net (first_time (e ∷ others)) ≡ Apply at = subst (λ xs. turn_of end net (first_time xs) ≡ Apply at) split turn in
     let here : Reached telling end c (record { net = net; events = e ∷ others; totals = totals }) old mid n =
     subst (λ xs. Reached telling end c (record { net = net; events = xs; totals = totals }) old mid n) split r in
-    let there : Reached telling end c (record { net = applied at e.event net; events = others; totals = counted_event (event_fault net e.event) totals }) old out m =
+    let there : Reached telling end c (record { net = net_after at e.event net; events = others; totals = counted_event (event_fault net e.event) totals }) old out m =
     reached_more telling end c _ _ old mid out n count m _ here (event_turn_is telling end at net e others totals come) len wrote told in
     rw (step, count_is) there
 

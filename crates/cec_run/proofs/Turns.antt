@@ -1,4 +1,4 @@
--- A run writes one text: each turn leads to one place and tells one text.
+-- A run writes one text: each turn leads to one place and reports one text.
 use Rattle.std.proofs.Common.{◌≡◌, ℕ, zero, suc, List, [], ◌∷◌, ◌++◌, ap, ap₂, ◌∙◌, sym, refl, subst, append_assoc, append-nil}
 use Rattle.cec_wire.specs.declared.Outcome.{Outcome}
 use Rattle.cec_wire.specs.OneOutcome.{SameOutcome}
@@ -14,7 +14,7 @@ use Rattle.cec_run.specs.declared.run.Telling.TheVariants.{Trace}
 use Rattle.cec_text.specs.ReadingText.{is_complete}
 use Rattle.cec_run.specs.Run.{Config, turn_at, counted_round, IsEventTurn, IsRoundTurn, IsTurnBy, IsTurn, Leads, IsRunTextFrom, start_told, round_told, end_told, OneRunText, OneTrace}
 
--- outcomes that tell the same are one
+-- outcomes that report the same are one
 pub same_outcome : (o p : Outcome) → SameOutcome o p → o ≡ p
 same_outcome o p s = λ i. record {
   reading = record { begin = s.begin i; at = s.at i; ending = s.ending i; bits = record { items = s.bits i } };
@@ -86,7 +86,7 @@ front_of_text telling end n c d body text totals l w =
     let go = leads_on telling end n w.turns c d w.last body w.body l w.leads w.stops in
     (go.1 ++ end_told telling end w.last.net, w.whole ∙ ap (λ b. b ++ end_told telling end w.last.net) go.3 ∙ append_assoc body go.1 _)
 
--- and where the run stops there, the text is what is told from there on
+-- and where the run stops there, the text is what is reported from there on
 pub whole_text : (telling : Telling) (end n : ℕ) (c d : Config) (body text : List ℕ) (totals : Totals) → Leads telling end n c body d → turn_at end d ≡ Stop → IsRunTextFrom telling end c text totals
     → (text ≡ body ++ end_told telling end d.net) × (totals ≡ d.totals)
 whole_text telling end n c d body text totals l stops w =

@@ -5,7 +5,7 @@ use Rattle.std.specs.List.{flat_map}
 use Rattle.cec_wave.specs.declared.Stretch.{Stretch}
 use Rattle.cec_wire.specs.declared.Outcome.{Outcome}
 use Rattle.cec_net.specs.Line.{run_wave}
-use Rattle.cec_net.specs.State.{started}
+use Rattle.cec_net.specs.State.{first_net}
 use Rattle.cec_asm.specs.declared.script.TimedEvent.{TimedEvent}
 use Rattle.cec_line.specs.Format.{line_start, line_round, line_end}
 use Rattle.cec_line.specs.declared.format.Format.{Format}
@@ -23,12 +23,12 @@ use Rattle.cec_run.proofs.Lines.{runs_read}
 abbrev waves : List Outcome → List (List Stretch)
 waves os = map (λ o. o.wave) os
 
--- what is told of the rounds of two parts of a run
+-- what is reported of the rounds of two parts of a run
 two_parts : (f : List Stretch → List ℕ) (xs ys : List Outcome) → flat_map f (waves (xs ++ ys)) ≡ flat_map f (waves xs) ++ flat_map f (waves ys)
 two_parts f [] ys = refl
 two_parts f (x ∷ xs) ys = ap (λ l. f x.wave ++ l) (two_parts f xs ys) ∙ sym (append_assoc (f x.wave) (flat_map f (waves xs)) (flat_map f (waves ys)))
 
--- of an event nothing is told
+-- of an event nothing is reported
 no_text : (format : Format) (at : ℕ) (events : List TimedEvent) (c d : Config) (text : List ℕ) → IsEventTurn (Line format) at events c text d → text ≡ []
 no_text format at [] c d text t = t.0
 no_text format at (e ∷ events) c d text t = t.0
@@ -50,7 +50,7 @@ pub lines_are_of_the_rounds : LinesAreOfTheRounds
 lines_are_of_the_rounds format tree pulses events end text totals sparse framed told = record {
   read = runs_read (Line format) tree pulses events end told.run.turns told.run.body told.run.last sparse framed told.run.leads;
   whole = told.whole ∙ ap (λ b. line_start format ++ b) (told.run.whole ∙ ap (λ b. b ++ line_end format (max end told.run.last.net.close))
-      (line_in format end told.run.turns (start (started tree pulses) events) told.run.last told.run.body told.run.leads));
+      (line_in format end told.run.turns (start (first_net tree pulses) events) told.run.last told.run.body told.run.leads));
 }
 
 -- the edges of rounds are those of the line that they make
@@ -64,5 +64,5 @@ edges_are_the_line tree pulses events end text totals sparse framed told =
     record {
       read = all.read;
       whole = all.whole ∙ ap (λ b. b ++ end_line (max end told.run.last.net.close)) (edges_of_waves
-          (rounds_in (Line Edges) end told.run.turns (start (started tree pulses) events) told.run.body told.run.last told.run.leads));
+          (rounds_in (Line Edges) end told.run.turns (start (first_net tree pulses) events) told.run.body told.run.last told.run.leads));
     }

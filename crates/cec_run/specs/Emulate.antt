@@ -7,15 +7,15 @@ use Rattle.cec_asm.specs.declared.topology.TopologyError.{TopologyError}
 use Rattle.cec_asm.specs.declared.topology.TopologyError.TheVariants as topologies
 use Rattle.cec_asm.specs.declared.script.ScriptError.{ScriptError}
 use Rattle.cec_asm.specs.declared.script.ScriptError.TheVariants as scripts
-use Rattle.cec_net.specs.State.{started}
+use Rattle.cec_net.specs.State.{first_net}
 use Rattle.hdmi_blocks.specs.declared.edid.Edid.{Edid as EdidValue}
 use Rattle.cec_run.specs.declared.emulate.EmulateError.{EmulateError}
 use Rattle.cec_run.specs.declared.emulate.EmulateError.TheVariants.{Topology, Script, Edid, Write, Memory}
 use Rattle.cec_run.specs.declared.run.Totals.{Totals}
-use Rattle.cec_words.specs.Cut.{told_count}
-use Rattle.cec_trace.specs.Root.{IsRoot, IsNoRoot}
-use Rattle.cec_trace.specs.declared.root.RootError.{RootError}
-use Rattle.cec_trace.specs.declared.root.RootError.TheVariants as roots
+use Rattle.hdmi_core.specs.Cut.{told_count}
+use Rattle.hdmi_blocks.specs.Root.{IsRoot, IsNoRoot}
+use Rattle.hdmi_blocks.specs.declared.root.RootError.{RootError}
+use Rattle.hdmi_blocks.specs.declared.root.RootError.TheVariants as roots
 use Rattle.cec_line.specs.declared.format.Format.{Format}
 use Rattle.cec_line.specs.declared.format.Format.TheVariants.{Edges}
 use Rattle.cec_run.specs.declared.run.Telling.TheVariants.{Line}
@@ -33,7 +33,7 @@ pub record IsTraceOf (topology script text : List ℕ) (totals : Totals) : Type 
   pub edid : Option EdidValue
   pub accepted : IsAccepted topology script plan course
   pub root : IsRoot plan.edid edid
-  pub trace : IsTrace edid course.end (start (started plan.tree course.pulses) course.events) text totals
+  pub trace : IsTrace edid course.end (start (first_net plan.tree course.pulses) course.events) text totals
 
 -- the line of the run that the texts spell, and its end, in a format
 pub record IsLineOf (format : Format) (topology script text : List ℕ) (totals : Totals) : Type 0 where
@@ -42,13 +42,13 @@ pub record IsLineOf (format : Format) (topology script text : List ℕ) (totals 
   pub edid : Option EdidValue
   pub accepted : IsAccepted topology script plan course
   pub root : IsRoot plan.edid edid
-  pub line : IsRunText (Line format) course.end (start (started plan.tree course.pulses) course.events) text totals
+  pub line : IsRunText (Line format) course.end (start (first_net plan.tree course.pulses) course.events) text totals
 
 -- its edges
 abbrev pub IsEdgeTraceOf : List ℕ → List ℕ → List ℕ → Totals → Type 0
 IsEdgeTraceOf topology script text totals = IsLineOf Edges topology script text totals
 
--- the texts of a topology and a script have one trace, and one count of what it tells
+-- the texts of a topology and a script have one trace, and one count of what it reports
 abbrev pub TextsHaveOneTrace : Type 0
 TextsHaveOneTrace = (topology script x y : List ℕ) (s t : Totals) → IsTraceOf topology script x s → IsTraceOf topology script y t → (x ≡ y) × (s ≡ t)
 

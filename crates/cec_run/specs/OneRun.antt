@@ -6,11 +6,11 @@ use Rattle.cec_wave.specs.Pulses.{AreSparse}
 use Rattle.cec_wire.specs.declared.Outcome.{Outcome}
 use Rattle.hdmi_topo.specs.Node.{Node}
 use Rattle.cec_asm.specs.declared.script.TimedEvent.{TimedEvent}
-use Rattle.cec_net.specs.State.{NetState, started}
+use Rattle.cec_net.specs.State.{NetState, first_net}
 use Rattle.cec_device.specs.State.{State}
 use Rattle.hdmi_blocks.specs.declared.edid.Edid.{Edid}
 use Rattle.cec_text.specs.ReadingText.{reading_text}
-use Rattle.cec_trace.specs.TraceText.{listed, name_at, loser_text}
+use Rattle.cec_trace.specs.TraceText.{comma_list, name_at, loser_text}
 use Rattle.cec_run.specs.declared.run.Telling.{Telling}
 use Rattle.cec_line.specs.declared.format.Format.{Format}
 use Rattle.cec_run.specs.declared.run.Telling.TheVariants.{Trace, Line}
@@ -19,11 +19,11 @@ use Rattle.cec_run.specs.Run.{Config, start, start_told, end_told, event_text, L
 use Rattle.cec_run.specs.RunLine.{rounds_in}
 use Rattle.cec_run.specs.Emulate.{IsTraceOf, IsLineOf}
 
--- the rounds that a run's text tells, in order
+-- the rounds that a run's text reports, in order
 abbrev pub rounds_told : (telling : Telling) (end : ℕ) (c : Config) (text : List ℕ) (totals : Totals) → IsRunText telling end c text totals → List Outcome
 rounds_told telling end c text totals told = rounds_in telling end told.run.turns c told.run.body told.run.last told.run.leads
 
--- two texts tell as many turns, which end in one state, and the same rounds, in order: the same readings, survivors, losers and lines
+-- two texts report as many turns, which end in one state, and the same rounds, in order: the same readings, survivors, losers and lines
 pub record IsOneRun (telling other : Telling) (end : ℕ) (c : Config) (x y : List ℕ) (s t : Totals) (p : IsRunText telling end c x s) (q : IsRunText other end c y t) : Type 0 where
   pub totals : s ≡ t
   pub turns : p.run.turns ≡ q.run.turns
@@ -39,11 +39,11 @@ OneRun = (telling other : Telling) (end : ℕ) (c : Config) (x y : List ℕ) (s 
 
 abbrev pub rounds_of_trace : (topology script text : List ℕ) (totals : Totals) → IsTraceOf topology script text totals → List Outcome
 rounds_of_trace topology script text totals w =
-    rounds_told (Trace w.edid) w.course.end (start (started w.plan.tree w.course.pulses) w.course.events) text totals w.trace
+    rounds_told (Trace w.edid) w.course.end (start (first_net w.plan.tree w.course.pulses) w.course.events) text totals w.trace
 
 abbrev pub rounds_of_line : (format : Format) (topology script text : List ℕ) (totals : Totals) → IsLineOf format topology script text totals → List Outcome
 rounds_of_line format topology script text totals w =
-    rounds_told (Line format) w.course.end (start (started w.plan.tree w.course.pulses) w.course.events) text totals w.line
+    rounds_told (Line format) w.course.end (start (first_net w.plan.tree w.course.pulses) w.course.events) text totals w.line
 
 -- The trace and the line, in any format, of a topology and a script have the same counts, and tell the same rounds, in order.
 abbrev pub TextsHaveOneRun : Type 0
@@ -52,15 +52,15 @@ TextsHaveOneRun = (format : Format) (topology script x y : List ℕ) (s t : Tota
 
 -- ---- the parts of a trace
 
--- what is told of an event, or a round's line, by the devices after it
+-- what is reported of an event, or a round's line, by the devices after it
 pub data Part : Type 0 where
   OfEvent : (at : ℕ) → (event : TimedEvent) → (before : NetState) → Part
   OfRound : (devices : List State) → (outcome : Outcome) → Part
 
--- what stands behind the reading in a round's line
+-- what stands after the reading in a round's line
 abbrev pub by_and_out : List State → Outcome → List ℕ
 by_and_out devices o =
-    concat (codes " by " ∷ listed (map (name_at devices) o.survivors.items) ∷ codes " out " ∷ listed (map (loser_text devices) o.losers.items) ∷ codes "\n" ∷ [])
+    concat (codes " by " ∷ comma_list (map (name_at devices) o.survivors.items) ∷ codes " out " ∷ comma_list (map (loser_text devices) o.losers.items) ∷ codes "\n" ∷ [])
 
 abbrev pub part_text : Option Edid → Part → List ℕ
 part_text edid (OfEvent at e before) = event_text edid at e before
@@ -70,7 +70,7 @@ abbrev pub part_rounds : Part → List Outcome
 part_rounds (OfEvent at e before) = []
 part_rounds (OfRound devices o) = o ∷ []
 
--- a trace is made of these parts, one after another, between what the start and what the end tells; and these are its rounds
+-- a trace is made of these parts, one after another, between what the start and what the end reports; and these are its rounds
 pub record IsMadeOf (edid : Option Edid) (end : ℕ) (first last : NetState) (text : List ℕ) (os : List Outcome) : Type 0 where
   pub parts : List Part
   pub whole : text ≡ start_told (Trace edid) first ++ (flat_map (part_text edid) parts ++ end_told (Trace edid) end last)
@@ -85,4 +85,4 @@ TracesHaveParts = (edid : Option Edid) (end : ℕ) (c : Config) (text : List ℕ
 -- The last round closes at most 458,461 microseconds after the script's end.
 abbrev pub RunsCloseSoon : Type 0
 RunsCloseSoon = (telling : Telling) (tree : List Node) (pulses : List Stretch) (events : List TimedEvent) (end turns : ℕ) (text : List ℕ) (d : Config)
-    → AreSparse pulses → Leads telling end turns (start (started tree pulses) events) text d → d.net.close ≤ end + 458461
+    → AreSparse pulses → Leads telling end turns (start (first_net tree pulses) events) text d → d.net.close ≤ end + 458461

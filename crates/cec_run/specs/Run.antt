@@ -5,7 +5,7 @@ use Rattle.std.specs.List.{flat_map}
 use Rattle.cec_wave.specs.Line.{IsWave}
 use Rattle.cec_wire.specs.declared.Outcome.{Outcome}
 use Rattle.cec_net.specs.State.{NetState, next_start}
-use Rattle.cec_net.specs.Apply.{applied, event_fault}
+use Rattle.cec_net.specs.Apply.{net_after, event_fault}
 use Rattle.cec_net.specs.Step.{IsNextRound}
 use Rattle.cec_net.specs.Progress.{IsProgress}
 use Rattle.cec_event.specs.declared.event.EventError.{EventError}
@@ -21,11 +21,11 @@ use Rattle.hdmi_topo.specs.Path.{is_on_wire}
 use Rattle.cec_trace.specs.StateText.{state_line}
 use Rattle.cec_trace.specs.PortText.{port_lines}
 use Rattle.cec_device.specs.State.{State}
-use Rattle.cec_words.specs.Cut.{WrittenText}
+use Rattle.hdmi_core.specs.Cut.{WrittenText}
 use Rattle.cec_text.specs.ReadingText.{is_complete}
 use Rattle.cec_trace.specs.TraceText.{event_line, round_line, end_line}
 use Rattle.cec_line.specs.Format.{line_start, line_round, line_end}
-use Rattle.cec_trace.specs.Root.{HasAddress}
+use Rattle.hdmi_blocks.specs.Root.{HasAddress}
 
 -- where a run stands: the network, the events that are left, and what is counted so far
 pub record Config : Type 0 where
@@ -65,9 +65,9 @@ first_time (e ∷ events) = Some e.at
 abbrev pub turn_at : ℕ → Config → Turn
 turn_at end c = turn_of end c.net (first_time c.events)
 
--- ---- what is told
+-- ---- what is reported
 
--- the EDID that ports pass on, where it is given, tells an address
+-- the EDID that ports pass on, where it is given, has an address
 abbrev pub HasAddressTold : Telling → Type 0
 HasAddressTold (Trace edid) = HasAddress edid
 HasAddressTold (Line format) = Unit {0}
@@ -77,9 +77,9 @@ abbrev pub start_told : Telling → NetState → List ℕ
 start_told (Trace edid) s = port_lines 0 edid (λ device. false) s.tree
 start_told (Line format) s = line_start format
 
--- an event's line, and behind it the port lines of the devices that come onto the wire by it
+-- an event's line, and after it the port lines of the devices that come onto the wire by it
 abbrev pub event_text : Option Edid → ℕ → TimedEvent → NetState → List ℕ
-event_text edid at e s = event_line at e.line (event_fault s e.event) ++ port_lines at edid (is_on_wire s.tree) (applied at e.event s).tree
+event_text edid at e s = event_line at e.line (event_fault s e.event) ++ port_lines at edid (is_on_wire s.tree) (net_after at e.event s).tree
 
 -- of an event: its text, and nothing of the line
 abbrev pub event_told : Telling → ℕ → TimedEvent → NetState → List ℕ
@@ -96,7 +96,7 @@ abbrev pub end_told : Telling → ℕ → NetState → List ℕ
 end_told (Trace edid) end s = flat_map state_line s.devices ++ end_line end
 end_told (Line format) end s = line_end format (max end s.close)
 
--- ---- one turn, and what it tells
+-- ---- one turn, and what it reports
 
 abbrev pub counted_event : Option EventError → Totals → Totals
 counted_event None t = t
@@ -110,9 +110,9 @@ abbrev pub IsEventTurn : Telling → ℕ → List TimedEvent → Config → List
 IsEventTurn telling at [] c text d = (text ≡ []) × (d ≡ c)
 IsEventTurn telling at (e ∷ events) c text d =
     (text ≡ event_told telling at e c.net)
-    × (d ≡ record { net = applied at e.event c.net; events = events; totals = counted_event (event_fault c.net e.event) c.totals })
+    × (d ≡ record { net = net_after at e.event c.net; events = events; totals = counted_event (event_fault c.net e.event) c.totals })
 
--- the round begins then, gives some outcome, and its text tells that outcome
+-- the round begins then, gives some outcome, and its text says that outcome
 pub record IsRoundTurn (telling : Telling) (begin : ℕ) (before : NetState) (t : Totals) (text : List ℕ) (after : NetState) (u : Totals) : Type 0 where
   pub outcome : Outcome
   pub wave : IsWave outcome.wave
@@ -136,7 +136,7 @@ Leads telling end zero c text d = (text ≡ []) × (d ≡ c)
 Leads telling end (suc turns) c text d =
     (mid : Config) × (told : List ℕ) × (rest : List ℕ) × IsTurn telling end c told mid × Leads telling end turns mid rest d × (text ≡ told ++ rest)
 
--- what the turns up to where the run stops tell, and what the end tells
+-- what the turns up to where the run stops tell, and what the end reports
 pub record IsRunTextFrom (telling : Telling) (end : ℕ) (c : Config) (text : List ℕ) (totals : Totals) : Type 0 where
   pub turns : ℕ
   pub last : Config
@@ -146,7 +146,7 @@ pub record IsRunTextFrom (telling : Telling) (end : ℕ) (c : Config) (text : Li
   pub whole : text ≡ body ++ end_told telling end last.net
   pub counts : totals ≡ last.totals
 
--- what the start tells, and then that
+-- what the start reports, and then that
 pub record IsRunText (telling : Telling) (end : ℕ) (c : Config) (text : List ℕ) (totals : Totals) : Type 0 where
   pub rest : List ℕ
   pub run : IsRunTextFrom telling end c rest totals
@@ -165,7 +165,7 @@ IsTrace edid = IsRunText (Trace edid)
 abbrev pub OneTrace : Type 0
 OneTrace = (edid : Option Edid) (end : ℕ) (c : Config) (x y : List ℕ) (s t : Totals) → IsTrace edid end c x s → IsTrace edid end c y t → (x ≡ y) × (s ≡ t)
 
--- a round was run from one state to the next, and what it tells was written
+-- a round was run from one state to the next, and what it reports was written
 pub record RoundWritten (telling : Telling) (before after : NetState) (t u : Totals) (old new : Option (List ℕ)) (was is : Bool) (result : Result ℕ WriteFault) : Type 0 where
   pub begin : ℕ
   pub text : List ℕ

@@ -7,7 +7,7 @@ use Rattle.cec_bits.specs.Readings.{readings_of}
 use Rattle.cec_wire.specs.declared.Outcome.{Outcome}
 use Rattle.cec_wire.specs.Alone.{outcome_listed}
 use Rattle.cec_net.specs.Line.{run_wave}
-use Rattle.cec_net.specs.State.{started}
+use Rattle.cec_net.specs.State.{first_net}
 use Rattle.hdmi_topo.specs.Node.{Node}
 use Rattle.cec_asm.specs.Script.{AreFramedEvents}
 use Rattle.cec_asm.specs.declared.script.TimedEvent.{TimedEvent}
@@ -29,7 +29,7 @@ rounds_by telling Stop c text d t = []
 rounds_by telling (Apply at) c text d t = []
 rounds_by telling (Round begin) c text d t = t.0.outcome ∷ []
 
--- the rounds of a run, in order: those that its text tells
+-- the rounds of a run, in order: those that its text reports
 abbrev pub rounds_in : (telling : Telling) (end turns : ℕ) (c : Config) (text : List ℕ) (d : Config) → Leads telling end turns c text d → List Outcome
 rounds_in telling end zero c text d l = []
 rounds_in telling end (suc turns) c text d l = rounds_by telling (turn_at end c) c l.1 l.0 l.3 ++ rounds_in telling end turns l.0 l.2 d l.4
@@ -43,8 +43,8 @@ pub record IsRead (os : List Outcome) (end : ℕ) : Type 0 where
 
 abbrev pub RunsAreRead : Type 0
 RunsAreRead = (telling : Telling) (tree : List Node) (pulses : List Stretch) (events : List TimedEvent) (end turns : ℕ) (text : List ℕ) (d : Config)
-    → AreSparse pulses → AreFramedEvents events → (leads : Leads telling end turns (start (started tree pulses) events) text d)
-    → IsRead (rounds_in telling end turns (start (started tree pulses) events) text d leads) (max end d.net.close)
+    → AreSparse pulses → AreFramedEvents events → (leads : Leads telling end turns (start (first_net tree pulses) events) text d)
+    → IsRead (rounds_in telling end turns (start (first_net tree pulses) events) text d leads) (max end d.net.close)
 
 -- The text of a run's line in a format is that of its rounds, one after another, and of an end that is the later of the
 -- script's end and the last close; and cut there, the line that the rounds make has their readings, in order, each once.
@@ -54,8 +54,8 @@ pub record IsLineText (format : Format) (os : List Outcome) (end : ℕ) (text : 
 
 abbrev pub LinesAreOfTheRounds : Type 0
 LinesAreOfTheRounds = (format : Format) (tree : List Node) (pulses : List Stretch) (events : List TimedEvent) (end : ℕ) (text : List ℕ) (totals : Totals)
-    → AreSparse pulses → AreFramedEvents events → (told : IsRunText (Line format) end (start (started tree pulses) events) text totals)
-    → IsLineText format (rounds_in (Line format) end told.run.turns (start (started tree pulses) events) told.run.body told.run.last told.run.leads) (max end told.run.last.net.close) text
+    → AreSparse pulses → AreFramedEvents events → (told : IsRunText (Line format) end (start (first_net tree pulses) events) text totals)
+    → IsLineText format (rounds_in (Line format) end told.run.turns (start (first_net tree pulses) events) told.run.body told.run.last told.run.leads) (max end told.run.last.net.close) text
 
 -- In an edge file that is the text of the whole line.
 pub record IsEdgeText (os : List Outcome) (end : ℕ) (text : List ℕ) : Type 0 where
@@ -64,11 +64,11 @@ pub record IsEdgeText (os : List Outcome) (end : ℕ) (text : List ℕ) : Type 0
 
 abbrev pub EdgesAreTheLine : Type 0
 EdgesAreTheLine = (tree : List Node) (pulses : List Stretch) (events : List TimedEvent) (end : ℕ) (text : List ℕ) (totals : Totals)
-    → AreSparse pulses → AreFramedEvents events → (told : IsRunText (Line Edges) end (start (started tree pulses) events) text totals)
-    → IsEdgeText (rounds_in (Line Edges) end told.run.turns (start (started tree pulses) events) told.run.body told.run.last told.run.leads) (max end told.run.last.net.close) text
+    → AreSparse pulses → AreFramedEvents events → (told : IsRunText (Line Edges) end (start (first_net tree pulses) events) text totals)
+    → IsEdgeText (rounds_in (Line Edges) end told.run.turns (start (first_net tree pulses) events) told.run.body told.run.last told.run.leads) (max end told.run.last.net.close) text
 
 -- A run ends: it has at most one round for each 7,200 microseconds (CEC 9.1, the shortest signal free time) before its end,
 -- and one more for each of 4,096 pulses.
 abbrev pub RunsAreShort : Type 0
 RunsAreShort = (telling : Telling) (tree : List Node) (pulses : List Stretch) (events : List TimedEvent) (end : ℕ) (text : List ℕ) (totals : Totals)
-    → AreSparse pulses → AreFramedEvents events → IsRunText telling end (start (started tree pulses) events) text totals → totals.rounds ≤ end / 7200 + 4096
+    → AreSparse pulses → AreFramedEvents events → IsRunText telling end (start (first_net tree pulses) events) text totals → totals.rounds ≤ end / 7200 + 4096

@@ -16,7 +16,7 @@ use std::alloc::Global;
 /// # Errors
 ///
 /// Those of [`emulate`](crate::emulate::emulate), in the same order. A failed write: then the front of the edge file
-/// was written, as long as it tells. Else nothing was written.
+/// was written, as long as it reports. Else nothing was written.
 pub fn emulate_edges<S: Sink>(
     alloc: Global,
     topology: &[u8],

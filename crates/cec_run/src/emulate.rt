@@ -8,8 +8,7 @@ use crate::run::{Telling, Totals, run, started_net};
 use cec_asm::{
     ScriptCause, ScriptError, TopologyCause, TopologyError, parse_script, parse_topology,
 };
-use cec_trace::{EdidCause, RootError, root_on_heap};
-use hdmi_blocks::Edid;
+use hdmi_blocks::{Edid, EdidCause, RootError, root_on_heap};
 use hdmi_core::Sink;
 use std::alloc::{AllocError, Global};
 use thiserror::Error;
@@ -113,7 +112,7 @@ fn trace_with(alloc: Global, edid: Option<Box<Edid>>) -> Result<Box<Telling>, Al
 ///
 /// The first line of the topology, and then of the script, that is at fault, and its cause; then the cause for
 /// which the topology's EDID is refused; want of memory: then nothing was written. A failed write: then the front
-/// of the trace was written, as long as it tells.
+/// of the trace was written, as long as it reports.
 // The network is large: where this stood inside its caller, the caller's frame would hold one for each kind of run.
 #[inline(never)]
 pub fn emulate<S: Sink>(

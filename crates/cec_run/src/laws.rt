@@ -22,7 +22,7 @@ pub fn texts_have_one_line()
     ensures { TextsHaveOneLine }
 {}
 
-/// The texts of a topology and a script have one trace, and one count of what it tells.
+/// The texts of a topology and a script have one trace, and one count of what it reports.
 pub fn texts_have_one_trace()
     ensures { TextsHaveOneTrace }
 {}
@@ -78,8 +78,8 @@ pub fn texts_have_traces()
     ensures { TextsHaveTraces }
 {}
 
-/// A trace is what the start tells, then what is told of each event and the line of each round, in order, and then
-/// what the end tells.
+/// A trace is what the start reports, then what is reported of each event and the line of each round, in order, and then
+/// what the end reports.
 pub fn traces_have_parts()
     ensures { TracesHaveParts }
 {}

@@ -4,15 +4,15 @@ ghost use Rattle.std.specs.List.{flat_map};
 ghost use Rattle.std.specs.Io.KnownBytes.{Appends};
 ghost use Rattle.hdmi_core.specs.Written.{WrittenLine};
 ghost use Rattle.cec_asm.specs.Script.{IsSchedule};
-ghost use Rattle.cec_net.specs.State.{next_start, started};
+ghost use Rattle.cec_net.specs.State.{next_start, first_net};
 ghost use Rattle.cec_run.specs.declared.run.Totals.{Totals as TotalsRecord};
 ghost use Rattle.cec_event.specs.Events.{NamesDevices};
-ghost use Rattle.cec_net.specs.Apply.{applied, event_fault};
-ghost use Rattle.cec_words.specs.Cut.{CutOff, WrittenText, told_count};
+ghost use Rattle.cec_net.specs.Apply.{net_after, event_fault};
+ghost use Rattle.hdmi_core.specs.Cut.{CutOff, WrittenText, told_count};
 ghost use Rattle.cec_trace.specs.StateText.{state_line};
 ghost use Rattle.cec_text.specs.ReadingText.{is_complete};
 ghost use Rattle.cec_trace.specs.TraceText.{event_line, end_line};
-ghost use Rattle.cec_trace.specs.Root.{HasAddress};
+ghost use Rattle.hdmi_blocks.specs.Root.{HasAddress};
 ghost use Rattle.cec_run.specs.Run.{HasAddressTold, IsRunText, IsRunTextFrom, RoundWritten, counted_event, counted_round, end_told, event_text, event_told, event_turn, first_time, round_told, round_turn, start, start_told, turn_of};
 
 use cec_asm::{Script, TimedEvent};
@@ -24,9 +24,8 @@ use cec_line::{Format, as_text};
 use cec_net::Net;
 use cec_trace::{on_wire, write_end, write_event, write_ports, write_round, write_state};
 use cec_wire::{Outcome, Wire};
-use cec_words::{counted, cut_at};
 use hdmi_blocks::Edid;
-use hdmi_core::{Sink, WriteFault};
+use hdmi_core::{Sink, WriteFault, counted, cut_at};
 use hdmi_topo::Tree;
 use std::alloc::{AllocError, Global};
 
@@ -113,7 +112,7 @@ fn apply_counted<W>(
     requires early { at ≤ 2000000000000 }
     requires known { NamesDevices (length net.old.tree) event.now.event }
     requires room { totals.old.refused < 18446744073709551615 }
-    ensures net { net.new ≡ applied at event.now.event net.old }
+    ensures net { net.new ≡ net_after at event.now.event net.old }
     ensures totals { totals.new ≡ counted_event (event_fault net.old event.now.event) totals.old }
     ensures fault { result ≡ event_fault net.old event.now.event }
 {
@@ -137,7 +136,7 @@ fn apply_alone<S: Sink, W>(
     requires early { at ≤ 2000000000000 }
     requires known { NamesDevices (length net.old.tree) event.now.event }
     requires room { totals.old.refused < 18446744073709551615 }
-    ensures net { net.new ≡ applied at event.now.event net.old }
+    ensures net { net.new ≡ net_after at event.now.event net.old }
     ensures totals { totals.new ≡ counted_event (event_fault net.old event.now.event) totals.old }
     ensures line { WrittenLine (S.contents out.old) (S.contents out.new) (S.is_stuck out.old) (S.is_stuck out.new)
         (event_line at event.now.line (event_fault net.old event.now.event)) result }
@@ -159,7 +158,7 @@ pub fn apply_event<S: Sink, W>(
     requires early { at ≤ 2000000000000 }
     requires known { NamesDevices (length net.old.tree) event.now.event }
     requires room { totals.old.refused < 18446744073709551615 }
-    ensures net { net.new ≡ applied at event.now.event net.old }
+    ensures net { net.new ≡ net_after at event.now.event net.old }
     ensures totals { totals.new ≡ counted_event (event_fault net.old event.now.event) totals.old }
     ensures text { WrittenText (S.contents out.old) (S.contents out.new) (S.is_stuck out.old) (S.is_stuck out.new)
         (event_text edid.now at event.now net.old) result }
@@ -174,7 +173,7 @@ pub fn apply_event<S: Sink, W>(
     }
 }
 
-// Applies an event, and writes what is told of it.
+// Applies an event, and writes what is reported of it.
 fn apply_told<S: Sink, W>(
     out: &mut S,
     net: &mut Net<W>,
@@ -187,7 +186,7 @@ fn apply_told<S: Sink, W>(
     requires early { at ≤ 2000000000000 }
     requires known { NamesDevices (length net.old.tree) event.now.event }
     requires room { totals.old.refused < 18446744073709551615 }
-    ensures net { net.new ≡ applied at event.now.event net.old }
+    ensures net { net.new ≡ net_after at event.now.event net.old }
     ensures totals { totals.new ≡ counted_event (event_fault net.old event.now.event) totals.old }
     ensures text { WrittenText (S.contents out.old) (S.contents out.new) (S.is_stuck out.old) (S.is_stuck out.new)
         (event_told telling.now at event.now net.old) result }
@@ -220,7 +219,7 @@ fn counted_round(totals: Totals, ending: Ending) -> Totals
     }
 }
 
-// Writes what is told of a round.
+// Writes what is reported of a round.
 fn write_round_told<S: Sink>(
     out: &mut S,
     telling: &Telling,
@@ -236,7 +235,7 @@ fn write_round_told<S: Sink>(
     }
 }
 
-// Runs the next round, which begins at `begin`, and writes what is told of it.
+// Runs the next round, which begins at `begin`, and writes what is reported of it.
 fn run_round<S: Sink, W: Wire>(
     out: &mut S,
     net: &mut Net<W>,
@@ -285,7 +284,7 @@ fn write_last_lines<S: Sink>(
     }
 }
 
-// Writes what is told at the start.
+// Writes what is reported at the start.
 fn write_start_told<S: Sink, W>(
     out: &mut S,
     telling: &Telling,
@@ -300,7 +299,7 @@ fn write_start_told<S: Sink, W>(
     }
 }
 
-// Writes what is told at the end.
+// Writes what is reported at the end.
 fn write_end_told<S: Sink, W>(
     out: &mut S,
     telling: &Telling,
@@ -315,7 +314,7 @@ fn write_end_told<S: Sink, W>(
     }
 }
 
-// Runs a network to `end`, and writes what is told of it but for the start.
+// Runs a network to `end`, and writes what is reported of it but for the start.
 fn run_turns<S: Sink, W: Wire>(
     out: &mut S,
     net: &mut Net<W>,
@@ -373,7 +372,7 @@ pub fn started_net(
 ) -> Result<Box<Net<EdgeWire>>, AllocError>
     requires some { 0 < length tree }
     requires early { All (λ p. p.from ≤ 2000000000000) script.now.pulses.items }
-    ensures { IfOk result (λ net. net.value ≡ started tree script.now.pulses.items) }
+    ensures { IfOk result (λ net. net.value ≡ first_net tree script.now.pulses.items) }
 {
     Net::on_heap(alloc, tree, &script.pulses)
 }
@@ -384,7 +383,7 @@ pub fn started_net(
 ///
 /// # Errors
 ///
-/// A `put` took none. Its count, which stays at its greatest value, tells how much of the text was written.
+/// A `put` took none. Its count, which stays at its greatest value, says how much of the text was written.
 pub fn run<S: Sink, W: Wire>(
     out: &mut S,
     net: &mut Net<W>,

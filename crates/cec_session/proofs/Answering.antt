@@ -1,10 +1,10 @@
--- What is due of a step that goes on, from what was told and the answer.
+-- What is due of a step that goes on, from what was reported and the answer.
 use Rattle.std.proofs.Common.{◌≡◌, ℕ, ◌∙◌, Bool, true, false, List, ◌++◌, slice_get, codes, Option, Some, Result, Ok, Err, ap, sym, refl, subst}
 use Rattle.hdmi_core.specs.declared.sink.WriteFault.{WriteFault}
 use Rattle.cec_device.specs.State.{State}
 use Rattle.cec_trace.specs.StateText.{state_line}
-use Rattle.cec_words.specs.Cut.{CutOff, WrittenText}
-use Rattle.cec_words.proofs.Cutting.{cut_front}
+use Rattle.hdmi_core.specs.Cut.{CutOff, WrittenText}
+use Rattle.hdmi_core.proofs.Cutting.{cut_front}
 use Rattle.cec_run.specs.declared.run.Telling.TheVariants.{Trace}
 use Rattle.cec_run.specs.Run.{Config, end_told}
 use Rattle.cec_session.specs.declared.live.Step.{Step}
@@ -14,14 +14,14 @@ use Rattle.cec_session.specs.Session.{Session, IsDue, taken_line}
 use Rattle.cec_session.specs.Taken.{IsAnswered}
 use Rattle.cec_session.proofs.Going.{goes_one}
 
--- the text after what is told, by where the session then stands
+-- the text after what is reported, by where the session then stands
 abbrev IsWhole : Bool → (Session → List ℕ) → Session → Session → Option (List ℕ) → Option (List ℕ) → Bool → Bool → Result ℕ WriteFault → Type 0
 IsWhole ended tail s t old new was is (Ok count) =
     (told : List ℕ) × (place : Config) × Goes s.edid ended s.horizon s.place told place × (t ≡ record s { place = place }) × WrittenText old new was is (told ++ tail t) (Ok count)
 IsWhole ended tail s t old new was is (Err fault) =
     ((told : List ℕ) (place : Config) → Goes s.edid ended s.horizon s.place told place → CutOff old new (told ++ tail (record s { place = place })) fault) × (is ≡ true)
 
--- what was told was written, and the tail after it whole or not
+-- what was reported was written, and the tail after it whole or not
 pub whole_is : (ended : Bool) (tail : Session → List ℕ) (s t : Session) (old new : Option (List ℕ)) (was is : Bool) (told : List ℕ) (place : Config) (result : Result ℕ WriteFault)
     → Goes s.edid ended s.horizon s.place told place → t ≡ record s { place = place } → WrittenText old new was is (told ++ tail t) result → IsWhole ended tail s t old new was is result
 whole_is ended tail s t old new was is told place (Ok count) goes same w = (told, place, goes, same, w)
@@ -34,7 +34,7 @@ whole_is ended tail s t old new was is told place (Err fault) goes same w = (
   w.1,
 )
 
--- what is told was cut off
+-- what is reported was cut off
 pub whole_cut : (ended : Bool) (tail : Session → List ℕ) (s t : Session) (old new : Option (List ℕ)) (was is : Bool) (fault : WriteFault)
     → ((told : List ℕ) (place : Config) → Goes s.edid ended s.horizon s.place told place → CutOff old new told fault) × (is ≡ true) → IsWhole ended tail s t old new was is (Err fault)
 whole_cut ended tail s t old new was is fault cut = (

@@ -7,27 +7,27 @@ use Rattle.hdmi_blocks.specs.declared.edid.Edid.{Edid}
 use Rattle.cec_asm.specs.declared.script.TimedEvent.{TimedEvent}
 use Rattle.cec_event.specs.declared.event.EventError.{EventError}
 use Rattle.cec_net.specs.State.{NetState}
-use Rattle.cec_net.specs.Apply.{applied, event_fault}
-use Rattle.cec_words.specs.Cut.{CutOff, told_count}
-use Rattle.cec_words.proofs.Cutting.{told_parts, cut_again}
+use Rattle.cec_net.specs.Apply.{net_after, event_fault}
+use Rattle.hdmi_core.specs.Cut.{CutOff, told_count}
+use Rattle.hdmi_core.proofs.Cutting.{told_parts, cut_again}
 use Rattle.cec_run.specs.declared.run.Telling.TheVariants.{Trace}
 use Rattle.cec_run.specs.declared.run.Totals.{Totals}
 use Rattle.cec_run.specs.declared.run.Turn.TheVariants.{Stop, Apply, Round}
 use Rattle.cec_run.specs.Run.{Config, turn_at, turn_of, first_time, counted_event, event_text, IsTurn, IsRoundTurn, RoundWritten}
 use Rattle.cec_run.proofs.Running.{event_turn_is, round_turn_is}
 use Rattle.cec_run.proofs.Turns.{no_turn}
-use Rattle.cec_live.specs.Certain.{LeadsIf, IsHeldBy}
-use Rattle.cec_live.proofs.Before.{NoTurn, all_begin, ends, held_ends, one_more_if}
+use Rattle.causal_laws.specs.Certain.{LeadsIf, IsHeldBy}
+use Rattle.causal_laws.proofs.Before.{NoTurn, all_begin, ends, held_ends, one_more_if}
 use Rattle.cec_asm.specs.Script.{IsSchedule}
 use Rattle.cec_session.specs.Turns.{IsTold, IsLast, IsLate, IsSoon, IsRoundTaken, Goes}
 
--- ---- no turn is told after the last
+-- ---- no turn is reported after the last
 
 pub no_more : (edid : Option Edid) (ended : Bool) (until : ℕ) (c : Config) → IsLast ended until c → NoTurn (IsTold ended until) (Trace edid) until c
 no_more edid false until c last = held_ends (Trace edid) until c last
 no_more edid true until c last = λ line d turn over. no_turn (Trace edid) until c line d last turn
 
--- so what is told is one text
+-- so what is reported is one text
 pub goes_one : (edid : Option Edid) (ended : Bool) (until : ℕ) (c d e : Config) (text other : List ℕ) → Goes edid ended until c text d → Goes edid ended until c other e → (text ≡ other) × (d ≡ e)
 goes_one edid ended until c d e text other a b =
     let go = all_begin (IsTold ended until) (Trace edid) until a.turns b.turns c d e text other a.leads b.leads (no_more edid ended until e b.last) in
@@ -71,7 +71,7 @@ told_event false until at e = tt
 told_event true until at e = tt
 
 pub after_event : (edid : Option Edid) (ended : Bool) (until at : ℕ) (net new : NetState) (e : TimedEvent) (rest others : List TimedEvent) (totals counted : Totals) (c : Config) (old mid out : Option (List ℕ)) (n count m : ℕ)
-    → rest ≡ e ∷ others → turn_of until net (first_time rest) ≡ Apply at → new ≡ applied at e.event net → counted ≡ counted_event (event_fault net e.event) totals
+    → rest ≡ e ∷ others → turn_of until net (first_time rest) ≡ Apply at → new ≡ net_after at e.event net → counted ≡ counted_event (event_fault net e.event) totals
     → Told edid ended until c (record { net = net; events = rest; totals = totals }) old mid n
     → count ≡ told_count (length (event_text edid at e net)) → Appends mid out (event_text edid at e net) → m ≡ told_count (n + count)
     → Told edid ended until c (record { net = new; events = others; totals = counted }) old out m
@@ -79,7 +79,7 @@ after_event edid ended until at net new e rest others totals counted c old mid o
     let come : turn_of until net (first_time (e ∷ others)) ≡ Apply at = subst (λ xs. turn_of until net (first_time xs) ≡ Apply at) split turn in
     let here : Told edid ended until c (record { net = net; events = e ∷ others; totals = totals }) old mid n =
     subst (λ xs. Told edid ended until c (record { net = net; events = xs; totals = totals }) old mid n) split r in
-    let next : Config = record { net = applied at e.event net; events = others; totals = counted_event (event_fault net e.event) totals } in
+    let next : Config = record { net = net_after at e.event net; events = others; totals = counted_event (event_fault net e.event) totals } in
     let there : Told edid ended until c next old out m =
     told_more edid ended until c _ next old mid out n count m (event_text edid at e net) here (event_turn_is (Trace edid) until at net e others totals come)
     (subst (λ t. IsTold ended until t next) (sym come) (told_event ended until at next)) len wrote told in
@@ -94,7 +94,7 @@ cut_event edid ended until at net e rest others totals c old mid out n inner fau
     let come : turn_of until net (first_time (e ∷ others)) ≡ Apply at = subst (λ xs. turn_of until net (first_time xs) ≡ Apply at) split turn in
     let here : Told edid ended until c (record { net = net; events = e ∷ others; totals = totals }) old mid n =
     subst (λ xs. Told edid ended until c (record { net = net; events = xs; totals = totals }) old mid n) split r in
-    let next : Config = record { net = applied at e.event net; events = others; totals = counted_event (event_fault net e.event) totals } in
+    let next : Config = record { net = net_after at e.event net; events = others; totals = counted_event (event_fault net e.event) totals } in
     cut_told edid ended until c _ next old mid out n inner fault (event_text edid at e net) here (event_turn_is (Trace edid) until at net e others totals come)
     (subst (λ t. IsTold ended until t next) (sym come) (told_event ended until at next)) cut told text last goes
 

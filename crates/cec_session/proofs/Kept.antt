@@ -5,7 +5,7 @@ use Rattle.hdmi_topo.specs.Node.{Node}
 use Rattle.cec_incoming.specs.Incoming.{IsWhole}
 use Rattle.cec_incoming.proofs.Coming.{lines_again}
 use Rattle.cec_asm.proofs.Adding.{read_again}
-use Rattle.cec_asm.specs.Script.{Course, Notes, ScriptFault, IsLineRead, AreLinesRead, ended, no_notes}
+use Rattle.cec_asm.specs.Script.{Course, Notes, ScriptFault, IsLineRead, AreLinesRead, course_at_end, no_notes}
 use Rattle.cec_asm.specs.declared.fault.LineFault.{LineFault}
 use Rattle.cec_run.specs.Run.{Config}
 use Rattle.cec_session.specs.declared.answer.Refusal.TheVariants.{Past}
@@ -14,7 +14,7 @@ use Rattle.cec_session.specs.declared.command.Command.TheVariants as commands
 use Rattle.cec_session.specs.declared.live.Step.{Step}
 use Rattle.cec_session.specs.declared.live.Step.TheVariants.{Refuse, Idle, Show, Go, Finish}
 use Rattle.cec_session.specs.Command.{command_of}
-use Rattle.cec_session.specs.Session.{Session, begun, numbered, standing, with_standing, noted, step_noted, step_by, is_late, after_to, after_wait, IsStepBy, IsDue}
+use Rattle.cec_session.specs.Session.{Session, first_session, with_line_counted, standing, with_standing, standing_with, step_noted, step_by, is_late, after_to, after_wait, IsStepBy, IsDue}
 use Rattle.cec_session.specs.Whole.{kept_line, IsLine, AreLines, SessionsTellTracesOf}
 use Rattle.cec_session.proofs.Extends.{line_extends}
 use Rattle.cec_session.proofs.Noting.{taken}
@@ -70,15 +70,15 @@ refused_reads : (s t : Session) → t ≡ with_standing s (standing s) → Reads
 refused_reads s t e = empty_reads s t (subst (λ (t : Session). Stays s t) (sym e) (record { tree = refl; lines = refl; notes = refl }))
 
 taken_reads : (s : Session) (line : List ℕ) (new : Notes) (late : Bool) (t : Session) → IsLineRead s.tree s.notes (length s.place.net.pulses) s.lines line (Ok new) → is_late (standing s) new ≡ late
-    → t ≡ with_standing s (noted (standing s) (Ok new)) → Reads s (kept_line commands.Script (step_noted (standing s) (Ok new)) line) t
+    → t ≡ with_standing s (standing_with (standing s) (Ok new)) → Reads s (kept_line commands.Script (step_noted (standing s) (Ok new)) line) t
 taken_reads s line new true t read e stands =
     let step : step_noted (standing s) (Ok new) ≡ Refuse Past = ap (λ b. if b then Refuse Past else step_by new.end) e in
-    let same : noted (standing s) (Ok new) ≡ standing s = ap (λ b. if b then standing s else taken (standing s) new) e in
+    let same : standing_with (standing s) (Ok new) ≡ standing s = ap (λ b. if b then standing s else taken (standing s) new) e in
     subst (λ (step : Step). Reads s (kept_line commands.Script step line) t) (sym step)
     (refused_reads s t (stands ∙ ap (with_standing s) same))
 taken_reads s line new false t read e stands =
     let step : step_noted (standing s) (Ok new) ≡ step_by new.end = ap (λ b. if b then Refuse Past else step_by new.end) e in
-    let same : noted (standing s) (Ok new) ≡ taken (standing s) new = ap (λ b. if b then standing s else taken (standing s) new) e in
+    let same : standing_with (standing s) (Ok new) ≡ taken (standing s) new = ap (λ b. if b then standing s else taken (standing s) new) e in
     subst (λ (step : Step). Reads s (kept_line commands.Script step line) t) (sym step) (subst (λ (kept : List ℕ). Reads s kept t) (sym (keeps new.end))
     (subst (λ (t : Session). Reads s line t) (sym (stands ∙ ap (with_standing s) same)) (record { tree = refl; lines = refl; read = read })))
   where
@@ -86,7 +86,7 @@ taken_reads s line new false t read e stands =
     keeps None = refl
     keeps (Some end) = refl
 
-noted_reads : (s : Session) (line : List ℕ) (read : Result Notes LineFault) (t : Session) → IsLineRead s.tree s.notes (length s.place.net.pulses) s.lines line read → t ≡ with_standing s (noted (standing s) read)
+noted_reads : (s : Session) (line : List ℕ) (read : Result Notes LineFault) (t : Session) → IsLineRead s.tree s.notes (length s.place.net.pulses) s.lines line read → t ≡ with_standing s (standing_with (standing s) read)
     → Reads s (kept_line commands.Script (step_noted (standing s) read) line) t
 noted_reads s line (Err fault) t is stands = refused_reads s t stands
 noted_reads s line (Ok new) t is stands = taken_reads s line new (is_late (standing s) new) t is refl stands
@@ -107,7 +107,7 @@ record Onwards (s : Session) (kept : List ℕ) (t : Session) : Type 0 where
 
 line_reads : (s t : Session) (line kept told text : List ℕ) → IsLine s line kept told text t → s.lines + 1 ≤ 18446744073709551615 → Onwards s kept t
 line_reads s t line kept told text is few =
-    let r = step_reads (numbered s) (command_of s.tree line) line is.step is.asked is.asks in
+    let r = step_reads (with_line_counted s) (command_of s.tree line) line is.step is.asked is.asks in
     let after = due_stays is.step is.asked t text is.due in
     let count : min (s.lines + 1) 18446744073709551615 ≡ s.lines + 1 = omega arith in
     record {
@@ -173,15 +173,15 @@ all_whole (line ∷ lines) kept s t told text (mid, own, others, first, second, 
 pub sessions_tell_traces_of : SessionsTellTracesOf
 sessions_tell_traces_of topology plan edid lines kept told text t end plan_is root whole few sparse l over =
     let course : Course = record { events = t.notes.events; pulses = t.notes.pulses; end = end } in
-    let last : (m : ℕ) → Ok course ≡ ended t.notes m t.notes.end = λ m. sym (ap (ended t.notes m) over) in
-    let read = lines_read plan.tree lines kept 0 (begun edid plan.tree) t told text (Ok course) l refl refl (omega (arith, few)) sparse last in
+    let last : (m : ℕ) → Ok course ≡ course_at_end t.notes m t.notes.end = λ m. sym (ap (course_at_end t.notes m) over) in
+    let read = lines_read plan.tree lines kept 0 (first_session edid plan.tree) t told text (Ok course) l refl refl (omega (arith, few)) sparse last in
     record {
       plan = plan;
       course = course;
       edid = edid;
       accepted = record {
         plan_is = plan_is;
-        course_is = subst (λ (kept : List (List ℕ)). AreLinesRead plan.tree kept 1 no_notes (Ok course)) (sym (lines_again kept (all_whole lines kept (begun edid plan.tree) t told text l whole))) read;
+        course_is = subst (λ (kept : List (List ℕ)). AreLinesRead plan.tree kept 1 no_notes (Ok course)) (sym (lines_again kept (all_whole lines kept (first_session edid plan.tree) t told text l whole))) read;
       };
       root = root;
       trace = sessions_tell_traces edid plan.tree lines kept told text t end l over;

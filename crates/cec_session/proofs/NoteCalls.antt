@@ -5,15 +5,15 @@ use Rattle.cec_net.specs.State.{NetState}
 use Rattle.cec_asm.specs.Script.{Notes, Gives, IsLineRead}
 use Rattle.cec_asm.specs.declared.script.TimedEvent.{TimedEvent}
 use Rattle.cec_asm.specs.declared.fault.LineFault.{LineFault}
-use Rattle.cec_asm.specs.declared.script.LineError.{LineError}
-use Rattle.cec_asm.specs.declared.script.LineError.TheVariants.{Fault, Memory}
+use Rattle.cec_asm.specs.declared.script.ScriptLineError.{ScriptLineError}
+use Rattle.cec_asm.specs.declared.script.ScriptLineError.TheVariants.{Fault, Memory}
 use Rattle.cec_session.specs.declared.live.Step.{Step}
 use Rattle.cec_session.specs.Note.{IsSettled, refused_by}
 use Rattle.cec_session.specs.Session.{Session, Standing, IsReady, standing, with_standing}
 use Rattle.cec_session.proofs.Noting.{IsKept, kept, kept_same, drop_all}
 
 -- a line that the draft has not taken
-pub refused_note : (tree : List Node) (waiting number : ℕ) (line : List ℕ) (old new : Notes) (horizon : ℕ) (net : NetState) (error : LineError) → Gives new (Err error) (IsLineRead tree old waiting number line) → new ≡ old
+pub refused_note : (tree : List Node) (waiting number : ℕ) (line : List ℕ) (old new : Notes) (horizon : ℕ) (net : NetState) (error : ScriptLineError) → Gives new (Err error) (IsLineRead tree old waiting number line) → new ≡ old
     → MatchOption (refused_by error) ((new ≡ old) × (horizon ≡ horizon) × (net ≡ net))
     (λ step. (read : Result Notes LineFault) × IsLineRead tree old waiting number line read
     × IsSettled (record { notes = old; horizon = horizon; net = net }) read step (record { notes = new; horizon = horizon; net = net }))

@@ -7,11 +7,11 @@ use Rattle.cec_asm.specs.Script.{Notes, IsLineRead}
 use Rattle.cec_asm.specs.declared.script.TimedEvent.{TimedEvent}
 use Rattle.cec_asm.specs.declared.fault.LineFault.{LineFault}
 use Rattle.cec_asm.proofs.Sound.{AreSound, line-keeps}
-use Rattle.cec_live.specs.Certain.{with_pulses}
+use Rattle.causal_laws.specs.Certain.{with_pulses}
 use Rattle.cec_session.specs.declared.answer.Refusal.TheVariants.{Past}
 use Rattle.cec_session.specs.declared.live.Step.TheVariants.{Refuse, Go, Finish}
 use Rattle.cec_session.specs.Note.{Extends, IsSettled}
-use Rattle.cec_session.specs.Session.{Session, Standing, AreFit, IsReady, standing, with_standing, noted, step_by, is_late, is_past, refuses_pulse, horizon_by, new_events, new_pulses}
+use Rattle.cec_session.specs.Session.{Session, Standing, AreFit, IsReady, standing, with_standing, standing_with, step_by, is_late, is_past, refuses_pulse, horizon_by, new_events, new_pulses}
 use Rattle.cec_session.proofs.Extends.{line_extends, front_all}
 
 -- ---- what becomes of a line
@@ -90,7 +90,7 @@ sound_of count notes f = record { schedule = f.schedule; framed = f.framed; apar
 fit_of : (count : ℕ) (notes : Notes) → AreSound count notes → AreFit count notes
 fit_of count notes f = record { schedule = f.schedule; framed = f.framed; apart = f.apart; early = f.early; ended = f.ended }
 
-noted_cases : (s : Standing) (new : Notes) (late : Bool) → is_late s new ≡ late → (noted s (Ok new) ≡ s) ⊎ (noted s (Ok new) ≡ taken s new)
+noted_cases : (s : Standing) (new : Notes) (late : Bool) → is_late s new ≡ late → (standing_with s (Ok new) ≡ s) ⊎ (standing_with s (Ok new) ≡ taken s new)
 noted_cases s new true e = inl (ap (λ b. if b then s else taken s new) e)
 noted_cases s new false e = inr (ap (λ b. if b then s else taken s new) e)
 
@@ -153,7 +153,7 @@ kept_taken s new line applied left few r read =
     }
 
 pub kept : (s : Session) (t : Standing) (line : List ℕ) (applied : ℕ) (read : Result Notes LineFault) → s.place.events ≡ drop applied s.notes.events → applied ≤ length s.notes.events → IsReady s
-    → IsLineRead s.tree s.notes (length s.place.net.pulses) s.lines line read → t ≡ noted (standing s) read → IsKept s t applied
+    → IsLineRead s.tree s.notes (length s.place.net.pulses) s.lines line read → t ≡ standing_with (standing s) read → IsKept s t applied
 kept s t line applied (Err fault) left few r read e = subst (λ (t : Standing). IsKept s t applied) (sym e) (kept_same s applied left few r)
 kept s t line applied (Ok new) left few r read e =
     elim (noted_cases (standing s) new (is_late (standing s) new) refl) [

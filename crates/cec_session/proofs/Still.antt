@@ -1,9 +1,9 @@
--- A session at rest: no turn begins before its horizon, so nothing is told.
+-- A session at rest: no turn begins before its horizon, so nothing is reported.
 use Rattle.std.proofs.Common.{◌≡◌, ℕ, Bool, true, false, List, [], Option, Some, None, Ok, refl, sym, subst, append-nil}
 use Rattle.std.specs.Io.KnownBytes.{Appends}
 use Rattle.cec_run.specs.declared.run.Turn.TheVariants.{Stop}
 use Rattle.cec_run.specs.Run.{Config, turn_at}
-use Rattle.cec_live.specs.Certain.{IsHeldBy}
+use Rattle.causal_laws.specs.Certain.{IsHeldBy}
 use Rattle.cec_session.specs.Session.{Session}
 use Rattle.cec_session.specs.Taken.{IsGone}
 use Rattle.cec_session.specs.Turns.{IsLast}

@@ -1,4 +1,4 @@
--- What the lines of a session have told is the front of the trace, and in the end that trace.
+-- What the lines of a session have reported is the front of the trace, and in the end that trace.
 use Rattle.std.proofs.Common.{◌≡◌, ℕ, zero, suc, ◌≤◌, ◌||◌, ◌⊎◌, max, Bool, true, false, nat_lt, if◌then◌else◌, List, [], ◌∷◌, ◌++◌, length, inl, inr, Option, Some, None, Result, Ok, Err, refl, sym, ap, ap₂, subst, ◌∙◌, arith, append-nil, append_assoc}
 use Rattle.std.specs.List.{All, list_any}
 use Rattle.std.proofs.lemmas.List.Elements.{All-nil, All-cons}
@@ -7,7 +7,7 @@ use Rattle.std.proofs.lemmas.Bool.Decides.{nat_tests}
 use Rattle.cec_wave.specs.declared.Stretch.{Stretch}
 use Rattle.hdmi_topo.specs.Node.{Node}
 use Rattle.hdmi_blocks.specs.declared.edid.Edid.{Edid}
-use Rattle.cec_net.specs.State.{started}
+use Rattle.cec_net.specs.State.{first_net}
 use Rattle.cec_net.proofs.Framed.{framed-started}
 use Rattle.cec_asm.specs.Script.{Notes, IsLineRead}
 use Rattle.cec_asm.specs.declared.script.TimedEvent.{TimedEvent}
@@ -16,10 +16,10 @@ use Rattle.cec_asm.proofs.Sound.{AreSound, line-keeps, sound_start}
 use Rattle.cec_run.specs.declared.run.Telling.TheVariants.{Trace}
 use Rattle.cec_run.specs.declared.run.Turn.{Turn}
 use Rattle.cec_run.specs.Run.{Config, start, start_told, end_told, Leads, IsRunText, IsRunTextFrom}
-use Rattle.cec_live.specs.Certain.{ComesFrom, LeadsIf, LeadsBy, with_more}
-use Rattle.cec_live.proofs.Apart.{faultless_are_apart}
-use Rattle.cec_live.proofs.Certainty.{turns_stay_certain, told_is_front}
-use Rattle.cec_live.proofs.Before.{all_on}
+use Rattle.causal_laws.specs.Certain.{ComesFrom, LeadsIf, LeadsBy, with_more}
+use Rattle.causal_laws.proofs.Apart.{faultless_are_apart}
+use Rattle.causal_laws.proofs.Certainty.{turns_stay_certain, told_is_front}
+use Rattle.causal_laws.proofs.Before.{all_on}
 use Rattle.cec_session.specs.declared.answer.Refusal.TheVariants.{Script, Past}
 use Rattle.cec_session.specs.declared.command.Command.{Command}
 use Rattle.cec_session.specs.declared.command.Command.TheVariants as commands
@@ -27,7 +27,7 @@ use Rattle.cec_session.specs.declared.live.Step.{Step}
 use Rattle.cec_session.specs.declared.live.Step.TheVariants.{Refuse, Idle, Show, Go, Finish}
 use Rattle.cec_session.specs.Turns.{IsTold, Goes}
 use Rattle.cec_session.specs.Command.{command_of}
-use Rattle.cec_session.specs.Session.{Session, Standing, begun, numbered, standing, with_standing, noted, step_noted, step_by, step_to, after_to, step_wait, after_wait, step_show, is_late, is_past, refuses_pulse, ends_before, horizon_by, new_events, new_pulses, IsStepBy, IsDue}
+use Rattle.cec_session.specs.Session.{Session, Standing, first_session, with_line_counted, standing, with_standing, standing_with, step_noted, step_by, step_to, after_to, step_wait, after_wait, step_show, is_late, is_past, refuses_pulse, ends_before, horizon_by, new_events, new_pulses, IsStepBy, IsDue}
 use Rattle.cec_session.specs.Whole.{told_of, AreLines, SessionsTellFronts, SessionsTellTraces}
 use Rattle.cec_session.proofs.Extends.{line_extends}
 use Rattle.cec_session.proofs.Noting.{taken, drop_all}
@@ -37,18 +37,18 @@ use Rattle.cec_session.proofs.Noting.{taken, drop_all}
 record SoFar (edid : Option Edid) (tree : List Node) (s : Session) (told : List ℕ) : Type 0 where
   edid_is : s.edid ≡ edid
   turns : ℕ
-  leads : LeadsBy (Trace edid) s.horizon turns (start (started tree s.notes.pulses) s.notes.events) told s.place
+  leads : LeadsBy (Trace edid) s.horizon turns (start (first_net tree s.notes.pulses) s.notes.events) told s.place
   sound : AreSound (length s.tree) s.notes
 
-so_far_start : (edid : Option Edid) (tree : List Node) → SoFar edid tree (begun edid tree) []
+so_far_start : (edid : Option Edid) (tree : List Node) → SoFar edid tree (first_session edid tree) []
 so_far_start edid tree = record { edid_is = refl; turns = zero; leads = (refl, refl); sound = sound_start (length tree) }
 
 -- what comes for the horizon or later leaves it
 stay_on : (edid : Option Edid) (tree : List Node) (until on turns count : ℕ) (notes : Notes) (place : Config) (told : List ℕ) (events : List TimedEvent) (later : List Stretch) → AreSound count notes
-    → LeadsBy (Trace edid) until turns (start (started tree notes.pulses) notes.events) told place → ComesFrom until events later on
-    → LeadsBy (Trace edid) on turns (start (started tree (notes.pulses ++ later)) (notes.events ++ events)) told (with_more events later place)
+    → LeadsBy (Trace edid) until turns (start (first_net tree notes.pulses) notes.events) told place → ComesFrom until events later on
+    → LeadsBy (Trace edid) on turns (start (first_net tree (notes.pulses ++ later)) (notes.events ++ events)) told (with_more events later place)
 stay_on edid tree until on turns count notes place told events later sound l comes =
-    turns_stay_certain (Trace edid) until on turns (start (started tree notes.pulses) notes.events) place told events later
+    turns_stay_certain (Trace edid) until on turns (start (first_net tree notes.pulses) notes.events) place told events later
     (faultless_are_apart notes.pulses sound.apart) (framed-started tree notes.pulses) sound.framed comes l
 
 same_place : (place : Config) → with_more [] [] place ≡ place
@@ -63,9 +63,9 @@ raised edid tree s told horizon r le =
     record {
       edid_is = r.edid_is;
       turns = r.turns;
-      leads = subst (λ (c : Config). LeadsBy (Trace edid) horizon r.turns (start (started tree s.notes.pulses) s.notes.events) told c) (same_place s.place)
-          (subst (λ (es : List TimedEvent). LeadsBy (Trace edid) horizon r.turns (start (started tree s.notes.pulses) es) told (with_more [] [] s.place)) (append-nil s.notes.events)
-          (subst (λ (ps : List Stretch). LeadsBy (Trace edid) horizon r.turns (start (started tree ps) (s.notes.events ++ [])) told (with_more [] [] s.place)) (append-nil s.notes.pulses) l));
+      leads = subst (λ (c : Config). LeadsBy (Trace edid) horizon r.turns (start (first_net tree s.notes.pulses) s.notes.events) told c) (same_place s.place)
+          (subst (λ (es : List TimedEvent). LeadsBy (Trace edid) horizon r.turns (start (first_net tree s.notes.pulses) es) told (with_more [] [] s.place)) (append-nil s.notes.events)
+          (subst (λ (ps : List Stretch). LeadsBy (Trace edid) horizon r.turns (start (first_net tree ps) (s.notes.events ++ [])) told (with_more [] [] s.place)) (append-nil s.notes.pulses) l));
       sound = r.sound;
     }
 
@@ -127,8 +127,8 @@ asked_taken edid tree s told line new r read late =
     record {
       edid_is = r.edid_is;
       turns = r.turns;
-      leads = subst (λ (es : List TimedEvent). LeadsBy (Trace edid) on r.turns (start (started tree new.pulses) es) told place) events
-          (subst (λ (ps : List Stretch). LeadsBy (Trace edid) on r.turns (start (started tree ps) (s.notes.events ++ new_events s.notes new)) told place) pulses l);
+      leads = subst (λ (es : List TimedEvent). LeadsBy (Trace edid) on r.turns (start (first_net tree new.pulses) es) told place) events
+          (subst (λ (ps : List Stretch). LeadsBy (Trace edid) on r.turns (start (first_net tree ps) (s.notes.events ++ new_events s.notes new)) told place) pulses l);
       sound = line-keeps s.tree s.notes (length s.place.net.pulses) s.lines line new r.sound read;
     }
 
@@ -137,7 +137,7 @@ end_taken s new None e = e
 end_taken s new (Some end) e = e
 
 asked_late : (edid : Option Edid) (tree : List Node) (s : Session) (told line : List ℕ) (new : Notes) (late : Bool) → is_late (standing s) new ≡ late → SoFar edid tree s told → s.notes.end ≡ None
-    → IsLineRead s.tree s.notes (length s.place.net.pulses) s.lines line (Ok new) → Asked edid tree (step_noted (standing s) (Ok new)) (with_standing s (noted (standing s) (Ok new))) told
+    → IsLineRead s.tree s.notes (length s.place.net.pulses) s.lines line (Ok new) → Asked edid tree (step_noted (standing s) (Ok new)) (with_standing s (standing_with (standing s) (Ok new))) told
 asked_late edid tree s told line new true e r going read =
     subst (λ (b : Bool). Asked edid tree (if b then Refuse Past else step_by new.end) (with_standing s (if b then standing s else taken (standing s) new)) told) (sym e)
     (subst (λ (t : Session). Asked edid tree (Refuse Past) t told) (sym (same_standing s)) (record { so_far = r; ended = going }))
@@ -150,7 +150,7 @@ asked_late edid tree s told line new false e r going read =
     ended (Some end) h = subst (λ (end : Option ℕ). EndBy (step_by end) (with_standing s (record { notes = new; horizon = horizon_by s.horizon end; net = record s.place.net { pulses = s.place.net.pulses ++ new_pulses s.notes new } }))) (sym h) h
 
 asked_read : (edid : Option Edid) (tree : List Node) (s : Session) (told line : List ℕ) (read : Result Notes LineFault) → SoFar edid tree s told → s.notes.end ≡ None
-    → IsLineRead s.tree s.notes (length s.place.net.pulses) s.lines line read → Asked edid tree (step_noted (standing s) read) (with_standing s (noted (standing s) read)) told
+    → IsLineRead s.tree s.notes (length s.place.net.pulses) s.lines line read → Asked edid tree (step_noted (standing s) read) (with_standing s (standing_with (standing s) read)) told
 asked_read edid tree s told line (Err fault) r going read =
     subst (λ (t : Session). Asked edid tree (Refuse (Script fault.cause)) t told) (sym (same_standing s)) (record { so_far = r; ended = going })
 asked_read edid tree s told line (Ok new) r going read = asked_late edid tree s told line new (is_late (standing s) new) refl r going read
@@ -191,14 +191,14 @@ asked_by edid tree s told line (commands.Show device) step t r going (asks, stan
     subst (λ (step : Step). Asked edid tree step t told) (sym asks)
     (subst (λ (t : Session). Asked edid tree (step_show device) t told) (sym stands) (asked_show edid tree s told device r going))
 
-counted : (edid : Option Edid) (tree : List Node) (s : Session) (told : List ℕ) → SoFar edid tree s told → SoFar edid tree (numbered s) told
+counted : (edid : Option Edid) (tree : List Node) (s : Session) (told : List ℕ) → SoFar edid tree s told → SoFar edid tree (with_line_counted s) told
 counted edid tree s told r = record { edid_is = r.edid_is; turns = r.turns; leads = r.leads; sound = r.sound }
 
 -- ---- what is due of a step
 
 -- the whole trace was told
 record Over (edid : Option Edid) (tree : List Node) (s : Session) (told : List ℕ) : Type 0 where
-  run : IsRunTextFrom (Trace edid) s.horizon (start (started tree s.notes.pulses) s.notes.events) told s.place.totals
+  run : IsRunTextFrom (Trace edid) s.horizon (start (first_net tree s.notes.pulses) s.notes.events) told s.place.totals
   ended : s.notes.end ≡ Some s.horizon
 
 abbrev Reached : Option Edid → List Node → Session → List ℕ → Type 0
@@ -224,19 +224,19 @@ due_reached edid tree s t told text (Show device) a due = still edid tree s t to
 due_reached edid tree s t told text Go a (first, place, goes, is, stands) =
     let r = a.so_far in
     let here : Goes edid false s.horizon s.place first place = subst (λ (e : Option Edid). Goes e false s.horizon s.place first place) r.edid_is goes in
-    let all = all_on (IsTold false s.horizon) (Trace edid) s.horizon r.turns here.turns (start (started tree s.notes.pulses) s.notes.events) s.place place told first r.leads here.leads in
+    let all = all_on (IsTold false s.horizon) (Trace edid) s.horizon r.turns here.turns (start (first_net tree s.notes.pulses) s.notes.events) s.place place told first r.leads here.leads in
     subst (λ (t : Session). Reached edid tree t (told ++ first)) (sym stands) (inl (record { edid_is = r.edid_is; turns = all.0; leads = all.1; sound = r.sound }, a.ended))
 due_reached edid tree s t told text Finish a (first, place, goes, is, stands) =
     let r = a.so_far in
     let here : Goes edid true s.horizon s.place first place = subst (λ (e : Option Edid). Goes e true s.horizon s.place first place) r.edid_is goes in
-    let before = any_turns (IsTold false s.horizon) edid s.horizon r.turns (start (started tree s.notes.pulses) s.notes.events) s.place told r.leads in
-    let all = all_on (IsTold true s.horizon) (Trace edid) s.horizon r.turns here.turns (start (started tree s.notes.pulses) s.notes.events) s.place place told first before here.leads in
+    let before = any_turns (IsTold false s.horizon) edid s.horizon r.turns (start (first_net tree s.notes.pulses) s.notes.events) s.place told r.leads in
+    let all = all_on (IsTold true s.horizon) (Trace edid) s.horizon r.turns here.turns (start (first_net tree s.notes.pulses) s.notes.events) s.place place told first before here.leads in
     let last = end_told (Trace s.edid) s.horizon place.net in
-    let run : IsRunTextFrom (Trace edid) s.horizon (start (started tree s.notes.pulses) s.notes.events) (told ++ (first ++ last)) place.totals = record {
+    let run : IsRunTextFrom (Trace edid) s.horizon (start (first_net tree s.notes.pulses) s.notes.events) (told ++ (first ++ last)) place.totals = record {
       turns = all.0;
       last = place;
       body = told ++ first;
-      leads = leads_of edid s.horizon all.0 (start (started tree s.notes.pulses) s.notes.events) place (told ++ first) all.1;
+      leads = leads_of edid s.horizon all.0 (start (first_net tree s.notes.pulses) s.notes.events) place (told ++ first) all.1;
       stops = here.last;
       whole = sym (append_assoc told first last);
       counts = refl;
@@ -258,20 +258,20 @@ all_lines edid tree [] kept s t before told text r (nothing, none, empty, same) 
     (subst (λ (told : List ℕ). Reached edid tree s (before ++ told)) (sym none) (subst (λ (text : List ℕ). Reached edid tree s text) (sym (append-nil before)) r))
 all_lines edid tree (line ∷ lines) kept s t before told text (inr over) (mid, here, there, first, second, more, rest, is, after, kept_is, told_is, text_is) = absurd (not_both s.notes.end s.horizon is.goes_on over.ended)
 all_lines edid tree (line ∷ lines) kept s t before told text (inl (so_far, going)) (mid, own, others, first, second, more, rest, is, after, kept_is, told_is, text_is) =
-    let asked = asked_by edid tree (numbered s) before line (command_of s.tree line) is.step is.asked (counted edid tree s before so_far) going is.asks in
+    let asked = asked_by edid tree (with_line_counted s) before line (command_of s.tree line) is.step is.asked (counted edid tree s before so_far) going is.asks in
     let here : Reached edid tree mid (before ++ first) =
     subst (λ (told : List ℕ). Reached edid tree mid (before ++ told)) (sym is.told_is) (due_reached edid tree is.asked mid before second is.step asked is.due) in
     let there = all_lines edid tree lines others mid t (before ++ first) more rest here after in
     subst (λ (text : List ℕ). Reached edid tree t text) (append_assoc before first more ∙ ap (λ (text : List ℕ). before ++ text) (sym told_is)) there
 
-reached : (edid : Option Edid) (tree : List Node) (lines kept : List (List ℕ)) (told text : List ℕ) (t : Session) → AreLines lines (begun edid tree) kept told text t → Reached edid tree t told
-reached edid tree lines kept told text t l = all_lines edid tree lines kept (begun edid tree) t [] told text (inl (so_far_start edid tree, refl)) l
+reached : (edid : Option Edid) (tree : List Node) (lines kept : List (List ℕ)) (told text : List ℕ) (t : Session) → AreLines lines (first_session edid tree) kept told text t → Reached edid tree t told
+reached edid tree lines kept told text t l = all_lines edid tree lines kept (first_session edid tree) t [] told text (inl (so_far_start edid tree, refl)) l
 
 pub sessions_tell_fronts : SessionsTellFronts
 sessions_tell_fronts edid tree lines kept told text t l going events later end whole totals comes run =
     by_case (reached edid tree lines kept told text t l)
   where
-    by_case : Reached edid tree t told → (more : List ℕ) × (whole ≡ (start_told (Trace edid) (started tree t.notes.pulses) ++ told) ++ more)
+    by_case : Reached edid tree t told → (more : List ℕ) × (whole ≡ (start_told (Trace edid) (first_net tree t.notes.pulses) ++ told) ++ more)
     by_case (inl (r, none)) =
         told_is_front (Trace edid) tree t.notes.pulses later t.notes.events events t.horizon end r.turns t.place told whole totals
         (faultless_are_apart t.notes.pulses r.sound.apart) r.sound.framed comes r.leads run
@@ -281,9 +281,9 @@ pub sessions_tell_traces : SessionsTellTraces
 sessions_tell_traces edid tree lines kept told text t end l ended = by_case (reached edid tree lines kept told text t l)
   where
     by_case : Reached edid tree t told
-        → IsRunText (Trace edid) end (start (started tree t.notes.pulses) t.notes.events) (start_told (Trace edid) (started tree t.notes.pulses) ++ told) t.place.totals
+        → IsRunText (Trace edid) end (start (first_net tree t.notes.pulses) t.notes.events) (start_told (Trace edid) (first_net tree t.notes.pulses) ++ told) t.place.totals
     by_case (inl (r, none)) = absurd (not_both t.notes.end end none ended)
     by_case (inr over) =
-        subst (λ (end : ℕ). IsRunText (Trace edid) end (start (started tree t.notes.pulses) t.notes.events)
-        (start_told (Trace edid) (started tree t.notes.pulses) ++ told) t.place.totals) (some_same t.notes.end t.horizon end over.ended ended)
+        subst (λ (end : ℕ). IsRunText (Trace edid) end (start (first_net tree t.notes.pulses) t.notes.events)
+        (start_told (Trace edid) (first_net tree t.notes.pulses) ++ told) t.place.totals) (some_same t.notes.end t.horizon end over.ended ended)
         (record { rest = told; run = over.run; whole = refl })

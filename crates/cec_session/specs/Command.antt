@@ -4,7 +4,7 @@ use Rattle.std.specs.Prelude.{ℕ, List, [], ◌∷◌, codes, if◌then◌else�
 use Rattle.std.specs.Str.{bytes_eq}
 use Rattle.hdmi_topo.specs.Node.{Node}
 use Rattle.hdmi_topo.specs.Tree.{device_named}
-use Rattle.cec_words.specs.Words.{words_of, one_of, two_of}
+use Rattle.hdmi_core.specs.Words.{words_of, one_of, two_of}
 use Rattle.cec_asm.specs.Script.{time_of}
 use Rattle.cec_session.specs.declared.command.Command.{Command}
 use Rattle.cec_session.specs.declared.command.Command.TheVariants.{Script, Wait, RunTo, Show}

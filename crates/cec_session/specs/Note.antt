@@ -4,12 +4,12 @@ use Rattle.cec_wave.specs.declared.Stretch.{Stretch}
 use Rattle.cec_asm.specs.Script.{Notes}
 use Rattle.cec_asm.specs.declared.script.TimedEvent.{TimedEvent}
 use Rattle.cec_asm.specs.declared.fault.LineFault.{LineFault}
-use Rattle.cec_asm.specs.declared.script.LineError.{LineError}
-use Rattle.cec_asm.specs.declared.script.LineError.TheVariants.{Fault, Memory}
+use Rattle.cec_asm.specs.declared.script.ScriptLineError.{ScriptLineError}
+use Rattle.cec_asm.specs.declared.script.ScriptLineError.TheVariants.{Fault, Memory}
 use Rattle.cec_session.specs.declared.answer.Refusal.TheVariants.{Script}
 use Rattle.cec_session.specs.declared.live.Step.{Step}
 use Rattle.cec_session.specs.declared.live.Step.TheVariants.{Refuse}
-use Rattle.cec_session.specs.Session.{Standing, step_noted, noted}
+use Rattle.cec_session.specs.Session.{Standing, step_noted, standing_with}
 
 -- one event at most, and one pulse at most
 pub record Extends (old new : Notes) : Type 0 where
@@ -23,9 +23,9 @@ pub record Extends (old new : Notes) : Type 0 where
 -- the step that it asks for, and what it changes
 pub record IsSettled (s : Standing) (read : Result Notes LineFault) (step : Step) (t : Standing) : Type 0 where
   pub asks : step ≡ step_noted s read
-  pub stands : t ≡ noted s read
+  pub stands : t ≡ standing_with s read
 
 -- a line that is not taken is refused, or memory ran out
-abbrev pub refused_by : LineError → Option Step
+abbrev pub refused_by : ScriptLineError → Option Step
 refused_by (Fault fault) = Some (Refuse (Script fault.cause))
 refused_by Memory = None

@@ -9,20 +9,20 @@ use Rattle.cec_wire.specs.declared.Outcome.{Outcome}
 use Rattle.hdmi_topo.specs.Node.{Node}
 use Rattle.hdmi_blocks.specs.declared.edid.Edid.{Edid}
 use Rattle.cec_device.specs.State.{State}
-use Rattle.cec_net.specs.State.{NetState, started}
+use Rattle.cec_net.specs.State.{NetState, first_net}
 use Rattle.cec_net.specs.Step.{IsNextRound}
 use Rattle.cec_net.specs.Added.{pulse_fault}
 use Rattle.cec_asm.specs.Script.{Notes, no_notes, last_time, within_limit, script_cause, IsLineRead, IsSchedule, AreFramedEvents}
 use Rattle.cec_asm.specs.declared.script.TimedEvent.{TimedEvent}
 use Rattle.cec_asm.specs.declared.fault.LineFault.{LineFault}
 use Rattle.cec_asm.specs.declared.script.ScriptCause.TheVariants.{Number, Name}
-use Rattle.cec_trace.specs.Root.{HasAddress}
+use Rattle.hdmi_blocks.specs.Root.{HasAddress}
 use Rattle.cec_trace.specs.StateText.{state_line}
 use Rattle.cec_run.specs.declared.run.Telling.TheVariants.{Trace}
 use Rattle.cec_run.specs.declared.run.Turn.{Turn}
 use Rattle.cec_run.specs.declared.run.Turn.TheVariants.{Stop, Apply, Round}
 use Rattle.cec_run.specs.Run.{Config, start, turn_at, end_told}
-use Rattle.cec_live.specs.Certain.{with_pulses}
+use Rattle.causal_laws.specs.Certain.{with_pulses}
 use Rattle.cec_session.specs.declared.command.Command.{Command}
 use Rattle.cec_session.specs.declared.command.Command.TheVariants as commands
 use Rattle.cec_session.specs.declared.answer.Refusal.{Refusal}
@@ -45,12 +45,12 @@ pub record Session : Type 0 where
   pub place : Config
 
 -- before its first line
-abbrev pub begun : Option Edid → List Node → Session
-begun edid tree = record { edid = edid; tree = tree; notes = no_notes; horizon = 0; lines = 0; place = start (started tree []) [] }
+abbrev pub first_session : Option Edid → List Node → Session
+first_session edid tree = record { edid = edid; tree = tree; notes = no_notes; horizon = 0; lines = 0; place = start (first_net tree []) [] }
 
 -- a line has come; the count stays at its greatest value
-abbrev pub numbered : Session → Session
-numbered s = record s { lines = min (s.lines + 1) 18446744073709551615 }
+abbrev pub with_line_counted : Session → Session
+with_line_counted s = record s { lines = min (s.lines + 1) 18446744073709551615 }
 
 -- ---- a line of the script
 
@@ -100,9 +100,9 @@ step_noted s (Err fault) = Refuse (Script fault.cause)
 step_noted s (Ok new) = if is_late s new then Refuse Past else step_by new.end
 
 -- and what it changes; a refusal changes nothing
-abbrev pub noted : Standing → Result Notes LineFault → Standing
-noted s (Err fault) = s
-noted s (Ok new) =
+abbrev pub standing_with : Standing → Result Notes LineFault → Standing
+standing_with s (Err fault) = s
+standing_with s (Ok new) =
     if is_late s new then s else record { notes = new; horizon = horizon_by s.horizon new.end; net = with_pulses (new_pulses s.notes new) s.net }
 
 abbrev pub standing : Session → Standing
@@ -128,7 +128,7 @@ after_to s (Some time) = if nat_lt time s.horizon then s else record s { horizon
 
 -- ---- `wait`
 
--- the least horizon at which one more turn is told, if nothing else comes: one microsecond after an event is applied or a round
+-- the least horizon at which one more turn is reported, if nothing else comes: one microsecond after an event is applied or a round
 -- closes. There is none where nothing comes by 1,000,000,000,000.
 abbrev pub IsSoonestBy : NetState → Turn → Option ℕ → Type 0
 IsSoonestBy net Stop soon = soon ≡ None
@@ -157,14 +157,14 @@ step_show (Some device) = Show device
 
 abbrev pub IsStepBy : Session → Command → List ℕ → Step → Session → Type 0
 IsStepBy s commands.Script line step t =
-    (read : Result Notes LineFault) × IsLineRead s.tree s.notes (length s.place.net.pulses) s.lines line read × (step ≡ step_noted (standing s) read) × (t ≡ with_standing s (noted (standing s) read))
+    (read : Result Notes LineFault) × IsLineRead s.tree s.notes (length s.place.net.pulses) s.lines line read × (step ≡ step_noted (standing s) read) × (t ≡ with_standing s (standing_with (standing s) read))
 IsStepBy s commands.Wait line step t = (soon : Option ℕ) × IsSoonest s.place soon × (step ≡ step_wait soon) × (t ≡ after_wait s soon)
 IsStepBy s (commands.RunTo time) line step t = (step ≡ step_to s time) × (t ≡ after_to s time)
 IsStepBy s (commands.Show device) line step t = (step ≡ step_show device) × (t ≡ s)
 
 -- each line counts, and asks for a step
 abbrev pub IsStep : Session → List ℕ → Step → Session → Type 0
-IsStep s line step t = IsStepBy (numbered s) (command_of s.tree line) line step t
+IsStep s line step t = IsStepBy (with_line_counted s) (command_of s.tree line) line step t
 
 -- ---- what is due
 

@@ -2,15 +2,15 @@
 use Rattle.std.specs.Prelude.{◌≡◌, ℕ, Bool, true, List, length, Option, Result, Ok, Err}
 use Rattle.std.specs.Io.KnownBytes.{Appends}
 use Rattle.hdmi_core.specs.declared.sink.WriteFault.{WriteFault}
-use Rattle.cec_words.specs.Cut.{CutOff, WrittenText, told_count}
+use Rattle.hdmi_core.specs.Cut.{CutOff, WrittenText, told_count}
 use Rattle.cec_run.specs.Run.{Config}
 use Rattle.cec_session.specs.Turns.{Goes}
 use Rattle.cec_session.specs.declared.live.Step.{Step}
 use Rattle.cec_session.specs.declared.live.LiveError.{LiveError}
 use Rattle.cec_session.specs.declared.live.LiveError.TheVariants.{Write, Memory}
-use Rattle.cec_session.specs.Session.{Session, numbered, IsStep, IsDue}
+use Rattle.cec_session.specs.Session.{Session, with_line_counted, IsStep, IsDue}
 
--- a session went on: all turns that are told from where it stood were written, and nothing else has changed; or a fault cut
+-- a session went on: all turns that are reported from where it stood were written, and nothing else has changed; or a fault cut
 -- their text off
 abbrev pub IsGone : Bool → Session → Session → Option (List ℕ) → Option (List ℕ) → Bool → Bool → Result ℕ WriteFault → Type 0
 IsGone ended s t old new was is (Ok told) =
@@ -30,7 +30,7 @@ IsLineTaken s line t old new was is (Ok told) =
     (step : Step) × (asked : Session) × IsStep s line step asked × IsAnswered step asked t old new was is (Ok told)
 IsLineTaken s line t old new was is (Err (Write count)) =
     (step : Step) × (asked : Session) × IsStep s line step asked × IsAnswered step asked t old new was is (Err (record { count = count }))
-IsLineTaken s line t old new was is (Err Memory) = (t ≡ numbered s) × (new ≡ old) × (is ≡ was)
+IsLineTaken s line t old new was is (Err Memory) = (t ≡ with_line_counted s) × (new ≡ old) × (is ≡ was)
 
 -- memory ran out
 abbrev pub IsOfMemory : Result ℕ LiveError → Type 0

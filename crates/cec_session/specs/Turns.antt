@@ -1,4 +1,4 @@
--- The turns that a session tells (this profile's own).
+-- The turns that a session reports (this profile's own).
 use Rattle.std.specs.Prelude.{◌≡◌, ℕ, ◌+◌, ◌<◌, ◌≤◌, Bool, true, false, List, length, Option, Some, None, Result, Ok, Err}
 use Rattle.cec_wave.specs.Line.{IsWave}
 use Rattle.cec_wire.specs.declared.Outcome.{Outcome}
@@ -11,19 +11,19 @@ use Rattle.cec_run.specs.declared.run.Totals.{Totals}
 use Rattle.cec_run.specs.declared.run.Turn.{Turn}
 use Rattle.cec_run.specs.declared.run.Turn.TheVariants.{Stop}
 use Rattle.cec_run.specs.Run.{Config, turn_at, RoundWritten}
-use Rattle.cec_live.specs.Certain.{IsOverBy, LeadsIf, IsHeld}
+use Rattle.causal_laws.specs.Certain.{IsOverBy, LeadsIf, IsHeld}
 
 -- What a turn has to be to be told: while more lines may come, over before the horizon; once the script has ended, each is.
 abbrev pub IsTold : Bool → ℕ → Turn → Config → Type 0
 IsTold false until turn after = IsOverBy until turn after
 IsTold true until turn after = Unit {0}
 
--- no further turn is told
+-- no further turn is reported
 abbrev pub IsLast : Bool → ℕ → Config → Type 0
 IsLast false until c = IsHeld until c
 IsLast true until c = turn_at until c ≡ Stop
 
--- all turns that are told from one place on, and their texts one after another
+-- all turns that are reported from one place on, and their texts one after another
 pub record Goes (edid : Option Edid) (ended : Bool) (until : ℕ) (c : Config) (text : List ℕ) (d : Config) : Type 0 where
   pub turns : ℕ
   pub leads : LeadsIf (IsTold ended until) (Trace edid) until turns c text d

@@ -1,25 +1,25 @@
--- Whole sessions: what their lines have told of the trace, and the script that they are (this profile's own).
+-- Whole sessions: what their lines have reported of the trace, and the script that they are (this profile's own).
 use Rattle.std.specs.Prelude.{◌≡◌, ℕ, ◌≤◌, List, [], ◌∷◌, ◌++◌, length, Option, Some, None, Ok, All}
 use Rattle.cec_wave.specs.declared.Stretch.{Stretch}
 use Rattle.hdmi_topo.specs.Node.{Node}
 use Rattle.hdmi_blocks.specs.declared.edid.Edid.{Edid}
-use Rattle.cec_net.specs.State.{started}
+use Rattle.cec_net.specs.State.{first_net}
 use Rattle.cec_incoming.specs.Incoming.{IsWhole, text_of_lines}
 use Rattle.cec_asm.specs.Topology.{topology_of, Plan}
 use Rattle.cec_asm.specs.declared.script.TimedEvent.{TimedEvent}
-use Rattle.cec_trace.specs.Root.{IsRoot}
+use Rattle.hdmi_blocks.specs.Root.{IsRoot}
 use Rattle.cec_run.specs.declared.run.Telling.TheVariants.{Trace}
 use Rattle.cec_run.specs.declared.run.Totals.{Totals}
 use Rattle.cec_run.specs.Run.{start, end_told, IsRunText}
 use Rattle.cec_run.specs.Emulate.{IsTraceOf}
-use Rattle.cec_live.specs.Certain.{ComesFrom}
-use Rattle.cec_live.specs.Causal.{BeginsWith, before_told}
+use Rattle.causal_laws.specs.Certain.{ComesFrom}
+use Rattle.causal_laws.specs.Causal.{BeginsWith, before_told}
 use Rattle.cec_session.specs.declared.command.Command.{Command}
 use Rattle.cec_session.specs.declared.command.Command.TheVariants as commands
 use Rattle.cec_session.specs.declared.live.Step.{Step}
 use Rattle.cec_session.specs.declared.live.Step.TheVariants.{Refuse, Idle, Show, Go, Finish}
 use Rattle.cec_session.specs.Command.{command_of}
-use Rattle.cec_session.specs.Session.{Session, begun, IsStep, IsDue}
+use Rattle.cec_session.specs.Session.{Session, first_session, IsStep, IsDue}
 
 -- what is due of a step without its answer: lines of the trace
 abbrev pub told_of : (step : Step) (s : Session) (text : List ℕ) (t : Session) → IsDue step s text t → List ℕ
@@ -62,27 +62,27 @@ AreLines (line ∷ lines) s kept told text t =
     (mid : Session) × (here : List ℕ) × (there : List (List ℕ)) × (first : List ℕ) × (second : List ℕ) × (more : List ℕ) × (rest : List ℕ)
     × IsLine s line here first second mid × AreLines lines mid there more rest t × (kept ≡ here ∷ there) × (told ≡ first ++ more) × (text ≡ second ++ rest)
 
--- While a session goes on, what its lines have told, without the answers, is the front of the trace of every run that may still
+-- While a session goes on, what its lines have reported, without the answers, is the front of the trace of every run that may still
 -- come of the lines that were taken.
 abbrev pub SessionsTellFronts : Type 0
-SessionsTellFronts = (edid : Option Edid) (tree : List Node) (lines kept : List (List ℕ)) (told text : List ℕ) (t : Session) → AreLines lines (begun edid tree) kept told text t → t.notes.end ≡ None
+SessionsTellFronts = (edid : Option Edid) (tree : List Node) (lines kept : List (List ℕ)) (told text : List ℕ) (t : Session) → AreLines lines (first_session edid tree) kept told text t → t.notes.end ≡ None
     → (events : List TimedEvent) (later : List Stretch) (end : ℕ) (whole : List ℕ) (totals : Totals) → ComesFrom t.horizon events later end
-    → IsRunText (Trace edid) end (start (started tree (t.notes.pulses ++ later)) (t.notes.events ++ events)) whole totals
+    → IsRunText (Trace edid) end (start (first_net tree (t.notes.pulses ++ later)) (t.notes.events ++ events)) whole totals
     → BeginsWith (before_told (Trace edid) tree t.notes.pulses told) whole
 
 -- And once it has ended it is that trace.
 abbrev pub SessionsTellTraces : Type 0
-SessionsTellTraces = (edid : Option Edid) (tree : List Node) (lines kept : List (List ℕ)) (told text : List ℕ) (t : Session) (end : ℕ) → AreLines lines (begun edid tree) kept told text t
+SessionsTellTraces = (edid : Option Edid) (tree : List Node) (lines kept : List (List ℕ)) (told text : List ℕ) (t : Session) (end : ℕ) → AreLines lines (first_session edid tree) kept told text t
     → t.notes.end ≡ Some end
-    → IsRunText (Trace edid) end (start (started tree t.notes.pulses) t.notes.events) (before_told (Trace edid) tree t.notes.pulses told) t.place.totals
+    → IsRunText (Trace edid) end (start (first_net tree t.notes.pulses) t.notes.events) (before_told (Trace edid) tree t.notes.pulses told) t.place.totals
 
 -- ---- the script that was taken
 
--- So what a session has told is, without the answers, the trace that the topology and its script have, with the lines that were
+-- So what a session has reported is, without the answers, the trace that the topology and its script have, with the lines that were
 -- refused and the session's own ones emptied: where that script has no more pulses than one may have, for those that a session
 -- has let go count no more.
 abbrev pub SessionsTellTracesOf : Type 0
 SessionsTellTracesOf = (topology : List ℕ) (plan : Plan) (edid : Option Edid) (lines kept : List (List ℕ)) (told text : List ℕ) (t : Session) (end : ℕ)
     → topology_of topology ≡ Ok plan → IsRoot plan.edid edid → All IsWhole lines → length lines ≤ 18446744073709551615 → length t.notes.pulses ≤ 4096
-    → AreLines lines (begun edid plan.tree) kept told text t → t.notes.end ≡ Some end
+    → AreLines lines (first_session edid plan.tree) kept told text t → t.notes.end ≡ Some end
     → IsTraceOf topology (text_of_lines kept) (before_told (Trace edid) plan.tree [] told) t.place.totals

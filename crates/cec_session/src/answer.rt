@@ -3,7 +3,7 @@ ghost use Rattle.std.specs.Prelude.{◌≡◌, ◌++◌, codes};
 ghost use Rattle.cec_asm.specs.Script.{script_cause};
 ghost use Rattle.cec_text.specs.Causes.{assemble_cause};
 ghost use Rattle.cec_trace.specs.StateText.{state_line};
-ghost use Rattle.cec_words.specs.Cut.{WrittenText};
+ghost use Rattle.hdmi_core.specs.Cut.{WrittenText};
 ghost use Rattle.cec_session.specs.Session.{idle_line, refusal_cause, refused_line, taken_line};
 
 use cec_asm::{AssembleError, ScriptCause};

@@ -1,12 +1,12 @@
 //! The lines of a session that are no lines of a script.
 ghost use Rattle.std.specs.Prelude.{◌≡◌};
 ghost use Rattle.std.specs.Option.{option_copied, option_map};
-ghost use Rattle.cec_words.specs.Words.{one_of, two_of, words_behind};
+ghost use Rattle.hdmi_core.specs.Words.{one_of, two_of, words_behind};
 ghost use Rattle.cec_asm.specs.Script.{time_of};
 ghost use Rattle.cec_session.specs.Command.{command_of, run_words, show_words};
 
 use cec_wave::LATEST_EVENT;
-use cec_words::{first_word, number_in, one_word, two_words};
+use hdmi_core::{first_word, number_in, one_word, two_words};
 use hdmi_topo::Tree;
 
 /// What a line of a session is.

@@ -1,7 +1,7 @@
 //! Laws of whole sessions.
 ghost use Rattle.cec_session.specs.Whole.{SessionsTellFronts, SessionsTellTraces, SessionsTellTracesOf};
 
-/// While a session goes on, what its lines have told, without the answers, is the front of the trace of every run that may
+/// While a session goes on, what its lines have reported, without the answers, is the front of the trace of every run that may
 /// still come of the lines that were taken.
 pub fn sessions_tell_fronts()
     ensures { SessionsTellFronts }
@@ -12,7 +12,7 @@ pub fn sessions_tell_traces()
     ensures { SessionsTellTraces }
 {}
 
-/// What a session has told is the trace that its topology has with its script, with the lines that were refused and the
+/// What a session has reported is the trace that its topology has with its script, with the lines that were refused and the
 /// session's own ones emptied.
 pub fn sessions_tell_traces_of()
     ensures { SessionsTellTracesOf }

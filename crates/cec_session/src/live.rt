@@ -6,7 +6,7 @@ use crate::answer::{Refusal, write_idle, write_refused, write_shown, write_taken
 use crate::command::{Command, command_in};
 use crate::note::{events_after, note_line};
 use crate::turns::{go_on, soonest, write_last_lines};
-use cec_asm::{Draft, ScriptCause, TimedEvent};
+use cec_asm::{ScriptCause, ScriptDraft, TimedEvent};
 use cec_edges::EdgeWire;
 use cec_net::Net;
 use cec_run::{Totals, Turn, first_time, next_turn};
@@ -54,7 +54,7 @@ pub struct Live {
     tree: Tree<15>,
     net: Net<EdgeWire>,
     /// What the lines that were taken say.
-    draft: Draft,
+    draft: ScriptDraft,
     /// How many events were applied.
     applied: usize,
     totals: Totals,
@@ -104,21 +104,21 @@ impl Live {
     ghost use Rattle.std.specs.Prelude.{ℕ, ◌<◌, ◌≤◌, ◌++◌, true, IfSome, MatchOption, Result, is_some, length, None};
     ghost use Rattle.cec_asm.specs.Script.{IsLineRead, Notes};
     ghost use Rattle.cec_asm.specs.declared.fault.LineFault.{LineFault as LineFaultValue};
-    ghost use Rattle.cec_trace.specs.Root.{HasAddress};
-    ghost use Rattle.cec_words.specs.Cut.{WrittenText};
+    ghost use Rattle.hdmi_blocks.specs.Root.{HasAddress};
+    ghost use Rattle.hdmi_core.specs.Cut.{WrittenText};
     ghost use Rattle.cec_run.specs.declared.run.Telling.TheVariants.{Trace};
     ghost use Rattle.cec_run.specs.declared.run.Turn.TheVariants.{Stop};
     ghost use Rattle.cec_run.specs.Run.{end_told, start_told, turn_at};
     ghost use Rattle.cec_session.specs.declared.live.Step.TheVariants.{Finish, Go, Show};
     ghost use Rattle.cec_session.specs.Note.{IsSettled};
-    ghost use Rattle.cec_session.specs.Session.{IsSoonest, IsStep, NamesShown, after_to, after_wait, begun, numbered, standing, step_to, step_wait, taken_line, with_standing};
+    ghost use Rattle.cec_session.specs.Session.{IsSoonest, IsStep, NamesShown, after_to, after_wait, first_session, with_line_counted, standing, step_to, step_wait, taken_line, with_standing};
     ghost use Rattle.cec_session.specs.Taken.{IsAnswered, IsGone, IsLineTaken, IsOfMemory};
 
     /// A run before its first line. The television's EDID, where it is given, has an HDMI block.
     pub fn new(alloc: Global, tree: Tree<15>, edid: Option<Edid>) -> Live
         requires some { 0 < length tree }
         requires addressed { HasAddress edid }
-        ensures { result ≡ begun edid tree }
+        ensures { result ≡ first_session edid tree }
     {
         let Ok(none) = Pulses::new(&[]) else {
             unreachable!();
@@ -127,7 +127,7 @@ impl Live {
             edid,
             tree: tree.copy(),
             net: Net::new(tree, EdgeWire::new(), none),
-            draft: Draft::new(alloc),
+            draft: ScriptDraft::new(alloc),
             applied: 0,
             totals: Totals::default(),
             horizon: 0,
@@ -207,7 +207,7 @@ impl Live {
     // What a line asks for. None where memory ran out; then the line counts, and nothing else has changed.
     fn step(&mut self, line: &[u8]) -> Option<Step>
         requires going { self.old.notes.end ≡ None }
-        ensures step { MatchOption result (self.new ≡ numbered self.old) (λ step. IsStep self.old line.now step self.new) }
+        ensures step { MatchOption result (self.new ≡ with_line_counted self.old) (λ step. IsStep self.old line.now step self.new) }
         ensures shown { IfSome result (λ step. NamesShown (length self.new.tree) step) }
     {
         self.lines = self.lines.saturating_add(1);
@@ -229,7 +229,7 @@ impl Live {
         }
     }
 
-    // Goes on, and writes what is told. The network is large: it is not copied where no turn begins.
+    // Goes on, and writes what is reported. The network is large: it is not copied where no turn begins.
     #[tactic(auto, using(crate::proofs::Still::still))]
     fn go<S: Sink>(&mut self, out: &mut S, ended: bool) -> Result<u128, WriteFault>
         ensures { IsGone ended self.old self.new (S.contents out.old) (S.contents out.new) (S.is_stuck out.old) (S.is_stuck out.new) result }
@@ -240,7 +240,7 @@ impl Live {
         self.go_ahead(out, ended)
     }
 
-    // Goes on on a copy of the network, and keeps that where what is told was written.
+    // Goes on on a copy of the network, and keeps that where what is reported was written.
     fn go_ahead<S: Sink>(&mut self, out: &mut S, ended: bool) -> Result<u128, WriteFault>
         ensures { IsGone ended self.old self.new (S.contents out.old) (S.contents out.new) (S.is_stuck out.old) (S.is_stuck out.new) result }
     {

@@ -3,7 +3,7 @@ ghost use Rattle.std.specs.Prelude.{◌≡◌, ℕ, ◌||◌, ◌≤◌, ◌∷�
 ghost use Rattle.std.specs.List.{list_any};
 ghost use Rattle.cec_asm.specs.Script.{IsLineRead, Notes, notes_of};
 ghost use Rattle.cec_asm.specs.declared.fault.LineFault.{LineFault as LineFaultValue};
-ghost use Rattle.cec_live.specs.Certain.{with_pulses};
+ghost use Rattle.causal_laws.specs.Certain.{with_pulses};
 ghost use Rattle.cec_session.specs.Note.{Extends, IsSettled, refused_by};
 ghost use Rattle.cec_session.specs.Session.{Standing, ends_before, refuses_pulse};
 ghost use Rattle.cec_session.specs.declared.answer.Refusal.TheVariants.{Past};
@@ -11,7 +11,7 @@ ghost use Rattle.cec_session.specs.declared.live.Step.TheVariants.{Refuse};
 
 use crate::answer::Refusal;
 use crate::live::Step;
-use cec_asm::{Draft, LineError, TimedEvent, take_line};
+use cec_asm::{ScriptDraft, ScriptLineError, TimedEvent, take_line};
 use cec_edges::EdgeWire;
 use cec_net::Net;
 use cec_wave::Stretch;
@@ -29,7 +29,7 @@ fn after<T>(items: &[T], count: usize) -> &[T]
 }
 
 /// The events after the first ones.
-pub(crate) fn events_after(draft: &Draft, count: usize) -> &[TimedEvent]
+pub(crate) fn events_after(draft: &ScriptDraft, count: usize) -> &[TimedEvent]
     ensures { result.now ≡ drop count draft.now.events.items }
 {
     after(&draft.events, count)
@@ -73,7 +73,7 @@ fn add_pulse(net: &mut Net<EdgeWire>, pulses: &[Stretch]) -> bool
 }
 
 // Whether what came after so many events and pulses, or an end, is for an instant before the horizon.
-fn is_past(draft: &Draft, events: usize, pulses: usize, horizon: u64) -> bool
+fn is_past(draft: &ScriptDraft, events: usize, pulses: usize, horizon: u64) -> bool
     ensures { result ≡ (list_any (λ e. nat_lt e.at horizon) (drop events draft.now.events.items)
         || (list_any (λ p. nat_lt p.from horizon) (drop pulses draft.now.pulses.items) || ends_before horizon draft.now.end)) }
 {
@@ -83,7 +83,7 @@ fn is_past(draft: &Draft, events: usize, pulses: usize, horizon: u64) -> bool
 }
 
 // Takes a line back, before which there were so many events and pulses and no end, and refuses it.
-fn take_back(draft: &mut Draft, events: usize, pulses: usize) -> Step
+fn take_back(draft: &mut ScriptDraft, events: usize, pulses: usize) -> Step
     ensures notes { notes_of draft.new ≡ record { events = take events draft.old.events.items; pulses = take pulses draft.old.pulses.items; end = None } }
     ensures step { result ≡ Refuse Past }
 {
@@ -95,7 +95,7 @@ fn take_back(draft: &mut Draft, events: usize, pulses: usize) -> Step
 
 // What becomes of a line that the draft has taken, before which there were so many events and pulses and no end.
 fn settle(
-    draft: &mut Draft,
+    draft: &mut ScriptDraft,
     events: usize,
     pulses: usize,
     net: &mut Net<EdgeWire>,
@@ -121,19 +121,19 @@ fn settle(
     }
 }
 
-fn refused_by(error: LineError) -> Option<Step>
+fn refused_by(error: ScriptLineError) -> Option<Step>
     ensures { result ≡ refused_by error }
 {
     match error {
-        LineError::Fault(fault) => Some(Step::Refuse(Refusal::Script(fault.cause))),
-        LineError::Memory => None,
+        ScriptLineError::Fault(fault) => Some(Step::Refuse(Refusal::Script(fault.cause))),
+        ScriptLineError::Memory => None,
     }
 }
 
 /// Takes a line of the script, the one of this number. None where memory ran out; then nothing has changed.
 pub(crate) fn note_line(
     tree: &Tree<15>,
-    draft: &mut Draft,
+    draft: &mut ScriptDraft,
     net: &mut Net<EdgeWire>,
     horizon: &mut u64,
     number: u64,

@@ -1,4 +1,4 @@
-//! The turns that a session tells.
+//! The turns that a session reports.
 ghost use Rattle.std.specs.Prelude.{◌≡◌, ℕ, ◌+◌, ◌++◌, ◌<◌, ◌≤◌, List, drop, length, true, false, Option, Some, None, IfOk, IfErr, IfSome, OnOk, OnErr, MatchOption};
 ghost use Rattle.std.specs.List.{flat_map};
 ghost use Rattle.std.specs.Io.KnownBytes.{Appends};
@@ -10,10 +10,10 @@ ghost use Rattle.cec_net.specs.Progress.{IsProgress};
 ghost use Rattle.cec_net.specs.State.{NetState, next_start};
 ghost use Rattle.cec_net.specs.Step.{IsNextRound};
 ghost use Rattle.cec_text.specs.ReadingText.{is_complete};
-ghost use Rattle.cec_trace.specs.Root.{HasAddress};
+ghost use Rattle.hdmi_blocks.specs.Root.{HasAddress};
 ghost use Rattle.cec_trace.specs.StateText.{state_line};
 ghost use Rattle.cec_trace.specs.TraceText.{end_line};
-ghost use Rattle.cec_words.specs.Cut.{CutOff, WrittenText, told_count};
+ghost use Rattle.hdmi_core.specs.Cut.{CutOff, WrittenText, told_count};
 ghost use Rattle.cec_run.specs.Run.{Config, counted_round, turn_of};
 ghost use Rattle.cec_session.specs.Session.{IsSoonestBy};
 ghost use Rattle.cec_session.specs.Turns.{Goes, IsLate, IsRoundTaken, IsSoon, IsWithin, Keeps};
@@ -28,9 +28,8 @@ use cec_step_text::{behind, whole};
 use cec_trace::{write_end, write_round, write_state};
 use cec_wave::LATEST_EVENT;
 use cec_wire::Outcome;
-use cec_words::{counted, cut_at};
 use hdmi_blocks::Edid;
-use hdmi_core::{Sink, WriteFault};
+use hdmi_core::{Sink, WriteFault, counted, cut_at};
 
 /// How far a run has gone on.
 #[derive(Clone, Copy, Debug)]
@@ -106,7 +105,7 @@ fn take_round<S: Sink>(
     }
 }
 
-/// Goes on with a run while its turns are told: those that are over before `until` where the script has not ended, and else
+/// Goes on with a run while its turns are reported: those that are over before `until` where the script has not ended, and else
 /// all that begin before it. Writes what the trace has of them.
 ///
 /// # Errors

@@ -3,13 +3,13 @@ use Rattle.std.proofs.Common.{◌≡◌, ℕ, ◌<◌, ◌≤◌, ◌&&◌, not,
 use Rattle.std.proofs.lemmas.Bool.Decides.{nat_tests}
 use Rattle.cec_wave.specs.declared.Edge.{Edge}
 use Rattle.cec_signal.specs.declared.track.Track.{Track}
-use Rattle.cec_signal.specs.Track.{differ, moved}
+use Rattle.cec_signal.specs.Track.{differ, track_move}
 
 abbrev pub track_at : ℕ → Bool → Bool → Track
 track_at at was_low is_low = record { at = at; was_low = was_low; is_low = is_low }
 
 -- the line did not turn
-pub move_kept : (t at : ℕ) (b : Bool) → at ≤ t → moved t (track_at at b b) ≡ Some (record { track = track_at t b b; edge = None })
+pub move_kept : (t at : ℕ) (b : Bool) → at ≤ t → track_move t (track_at at b b) ≡ Some (record { track = track_at t b b; edge = None })
 move_kept t at b after = same b
   where
     late : nat_lt t at ≡ false
@@ -19,11 +19,11 @@ move_kept t at b after = same b
     quiet true = grind (arith, nat_tests)
     quiet false = grind (arith, nat_tests)
 
-    same : (b : Bool) → moved t (track_at at b b) ≡ Some (record { track = track_at t b b; edge = None })
+    same : (b : Bool) → track_move t (track_at at b b) ≡ Some (record { track = track_at t b b; edge = None })
     same b = rw (late, quiet b) refl
 
 -- it turned at the instant before
-pub move_told : (t at : ℕ) (b : Bool) → at < t → moved t (track_at at (not b) b) ≡ Some (record { track = track_at t b b; edge = Some (record { at = at; low = b }) })
+pub move_told : (t at : ℕ) (b : Bool) → at < t → track_move t (track_at at (not b) b) ≡ Some (record { track = track_at t b b; edge = Some (record { at = at; low = b }) })
 move_told t at b after = told b
   where
     late : nat_lt t at ≡ false
@@ -32,12 +32,12 @@ move_told t at b after = told b
     later : nat_lt at t ≡ true
     later = grind (arith, nat_tests)
 
-    told : (b : Bool) → moved t (track_at at (not b) b) ≡ Some (record { track = track_at t b b; edge = Some (record { at = at; low = b }) })
+    told : (b : Bool) → track_move t (track_at at (not b) b) ≡ Some (record { track = track_at t b b; edge = Some (record { at = at; low = b }) })
     told true = rw (late, later) refl
     told false = rw (late, later) refl
 
 -- the same instant
-pub move_same : (t : ℕ) (was is : Bool) → moved t (track_at t was is) ≡ Some (record { track = track_at t was is; edge = None })
+pub move_same : (t : ℕ) (was is : Bool) → track_move t (track_at t was is) ≡ Some (record { track = track_at t was is; edge = None })
 move_same t was is = rw same refl
   where
     same : nat_lt t t ≡ false

@@ -5,13 +5,13 @@ use Rattle.std.proofs.lemmas.Bool.Decides.{nat_tests}
 use Rattle.cec_wave.specs.declared.Edge.{Edge}
 use Rattle.cec_signal.specs.declared.track.Track.{Track}
 use Rattle.cec_signal.specs.Edges.{AreInTurn, EndBy, IsCapture, level_at, line_of_edges}
-use Rattle.cec_signal.specs.Samples.{Sample, sampled}
-use Rattle.cec_signal.specs.Track.{Moved, begun, differ, last_edge, moved, with_level}
+use Rattle.cec_signal.specs.Samples.{Sample, level_in}
+use Rattle.cec_signal.specs.Track.{Moved, first_track, differ, last_edge, track_move, with_level}
 
--- what is told from a track on, and the edges that are made of it, up to the last instant
+-- what is reported from a track on, and the edges that are made of it, up to the last instant
 pub record Records (t : Track) (edges : List Edge) (samples : List Sample) (end : ℕ) : Type 0 where
-  pub level : (u : ℕ) → t.at ≤ u → level_at t.was_low edges u ≡ sampled t.is_low samples u
-  pub quiet : (b : Bool) (u : ℕ) → u < t.at → sampled b samples u ≡ b
+  pub level : (u : ℕ) → t.at ≤ u → level_at t.was_low edges u ≡ level_in t.is_low samples u
+  pub quiet : (b : Bool) (u : ℕ) → u < t.at → level_in b samples u ≡ b
   pub turn : AreInTurn t.was_low t.at edges
   pub ends : EndBy end edges
   pub late : t.at ≤ end
@@ -28,7 +28,7 @@ pub sooner_turn : (b : Bool) (from before : ℕ) (es : List Edge) → before ≤
 sooner_turn b from before [] l h = tt
 sooner_turn b from before (e ∷ es) l h = let k = h.1 in (h.0, omega arith, h.2)
 
--- ---- nothing more is told
+-- ---- nothing more is reported
 
 end_level : (at u : ℕ) (was is : Bool) → at ≤ u → level_at was (option_to_list (last_edge (record { at = at; was_low = was; is_low = is }))) u ≡ is
 end_level at u was is l = by was is
@@ -67,8 +67,8 @@ records_end t = record {
 
 pub records_level : (t : Track) (low : Bool) (edges : List Edge) (samples : List Sample) (end : ℕ) → Records (with_level low t) edges samples end → Records t edges (record { at = t.at; low = low } ∷ samples) end
 records_level t low edges samples end r = record {
-  level = λ u l. r.level u l ∙ ap (λ b. sampled (if b then low else t.is_low) samples u) (sym (here u l));
-  quiet = λ b u l. ap (λ c. sampled (if c then low else b) samples u) (later u l) ∙ r.quiet b u l;
+  level = λ u l. r.level u l ∙ ap (λ b. level_in (if b then low else t.is_low) samples u) (sym (here u l));
+  quiet = λ b u l. ap (λ c. level_in (if c then low else b) samples u) (later u l) ∙ r.quiet b u l;
   turn = r.turn;
   ends = r.ends;
   late = r.late;
@@ -107,7 +107,7 @@ moved_on t u edges samples end l d r = record {
     past : (v : ℕ) → t.at ≤ v → nat_lt v t.at ≡ false
     past v h = grind (arith, nat_tests)
 
-    by : (v : ℕ) (c : Bool) → nat_lt v u ≡ c → level_at t.is_low edges v ≡ sampled t.is_low samples v
+    by : (v : ℕ) (c : Bool) → nat_lt v u ≡ c → level_at t.is_low edges v ≡ level_in t.is_low samples v
     by v true h = let k : v < u = grind (arith, nat_tests) in before_turn t.is_low u edges r.turn v k ∙ sym (r.quiet t.is_low v k)
     by v false h = r.level v (grind (arith, nat_tests))
 
@@ -121,13 +121,13 @@ moved_still t u edges samples end l d r = record {
   late = let k = r.late in omega arith;
 }
   where
-    by : (v : ℕ) → t.at ≤ v → (c : Bool) → nat_lt v u ≡ c → level_at t.was_low edges v ≡ sampled t.is_low samples v
+    by : (v : ℕ) → t.at ≤ v → (c : Bool) → nat_lt v u ≡ c → level_at t.was_low edges v ≡ level_in t.is_low samples v
     by v h true e =
         let k : v < u = grind (arith, nat_tests) in
         before_turn t.was_low u edges r.turn v k ∙ same_level t.was_low t.is_low (d (omega arith)) ∙ sym (r.quiet t.is_low v k)
     by v h false e = r.level v (grind (arith, nat_tests))
 
-pub moved_at : (u : ℕ) (t : Track) (m : Moved) → moved u t ≡ Some m → m.track.at ≡ u
+pub moved_at : (u : ℕ) (t : Track) (m : Moved) → track_move u t ≡ Some m → m.track.at ≡ u
 moved_at u t m h = by (nat_lt u t.at) (nat_lt t.at u && differ t.was_low t.is_low) h
   where
     by : (c d : Bool)
@@ -141,7 +141,7 @@ moved_at u t m h = by (nat_lt u t.at) (nat_lt t.at u && differ t.was_low t.is_lo
         let is : record { track = record t { at = u }; edge = None } ≡ m = cc in
         sym (ap (λ (x : Moved). x.track.at) is)
 
-pub records_moved : (u : ℕ) (t : Track) (m : Moved) (edges : List Edge) (samples : List Sample) (end : ℕ) → moved u t ≡ Some m → Records m.track edges samples end → Records t (option_to_list m.edge ++ edges) samples end
+pub records_moved : (u : ℕ) (t : Track) (m : Moved) (edges : List Edge) (samples : List Sample) (end : ℕ) → track_move u t ≡ Some m → Records m.track edges samples end → Records t (option_to_list m.edge ++ edges) samples end
 records_moved u t m edges samples end h r = by (nat_lt u t.at) refl h
   where
     -- it turned at the instant before, or not
@@ -177,8 +177,8 @@ records_moved u t m edges samples end h r = by (nat_lt u t.at) refl h
 
 -- ---- from the begin on
 
-pub records_capture : (edges : List Edge) (samples : List Sample) (end : ℕ) → end ≤ 2000000000000 → Records begun edges samples end → IsCapture edges end
+pub records_capture : (edges : List Edge) (samples : List Sample) (end : ℕ) → end ≤ 2000000000000 → Records first_track edges samples end → IsCapture edges end
 records_capture edges samples end low r = record { turn = r.turn; ends = r.ends; early = low }
 
-pub records_line : (edges : List Edge) (samples : List Sample) (end : ℕ) → Records begun edges samples end → (u : ℕ) → line_of_edges edges u ≡ sampled false samples u
+pub records_line : (edges : List Edge) (samples : List Sample) (end : ℕ) → Records first_track edges samples end → (u : ℕ) → line_of_edges edges u ≡ level_in false samples u
 records_line edges samples end r u = r.level u (omega arith)

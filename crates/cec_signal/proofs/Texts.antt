@@ -9,7 +9,7 @@ use Rattle.std.proofs.lemmas.Bool.Decides.{nat_tests}
 use Rattle.std.proofs.lemmas.Bool.{false≢true}
 use Rattle.std.proofs.lemmas.List.Splits.{slice_split_at, length-slice_split}
 use Rattle.std.proofs.lemmas.List.Elements.{All-cons}
-use Rattle.cec_words.specs.Lines.{lines_of, without_empty_end}
+use Rattle.hdmi_core.specs.Lines.{lines_of, without_empty_end}
 
 -- no byte of a text is one of these
 abbrev pub Lacks : (ℕ → Bool) → List ℕ → Type 0

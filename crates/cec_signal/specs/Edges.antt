@@ -1,4 +1,4 @@
--- The edges of a captured line, and the line that they tell (own).
+-- The edges of a captured line, and the line that they report (own).
 use Rattle.std.specs.Prelude.{◌≡◌, ℕ, ◌+◌, ◌≤◌, Bool, true, false, not, nat_lt, if◌then◌else◌, List, [], ◌∷◌}
 use Rattle.cec_wave.specs.declared.Edge.{Edge}
 use Rattle.cec_wave.specs.declared.Stretch.{Stretch}

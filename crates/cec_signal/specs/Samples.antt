@@ -1,4 +1,4 @@
--- What is told of a line, instant by instant (own).
+-- What is reported of a line, instant by instant (own).
 use Rattle.std.specs.Prelude.{ℕ, Bool, nat_le, if◌then◌else◌, List, [], ◌∷◌}
 
 -- from an instant on the line has a level
@@ -7,6 +7,6 @@ pub record Sample : Type 0 where
   pub low : Bool
 
 -- the level in microsecond u: that of the last sample at u or before it
-abbrev pub sampled : Bool → List Sample → ℕ → Bool
-sampled is_low [] u = is_low
-sampled is_low (s ∷ ss) u = sampled (if nat_le s.at u then s.low else is_low) ss u
+abbrev pub level_in : Bool → List Sample → ℕ → Bool
+level_in is_low [] u = is_low
+level_in is_low (s ∷ ss) u = level_in (if nat_le s.at u then s.low else is_low) ss u

@@ -5,9 +5,9 @@ use Rattle.cec_wave.specs.declared.Edge.{Edge}
 use Rattle.cec_signal.specs.declared.track.Track.{Track}
 use Rattle.cec_signal.specs.declared.track.GoesBack.{GoesBack}
 
--- before anything is told the line is high
-abbrev pub begun : Track
-begun = record { at = 0; was_low = false; is_low = false }
+-- before anything is reported the line is high
+abbrev pub first_track : Track
+first_track = record { at = 0; was_low = false; is_low = false }
 
 abbrev pub with_level : Bool → Track → Track
 with_level low t = record t { is_low = low }
@@ -20,10 +20,10 @@ pub record Moved : Type 0 where
   pub track : Track
   pub edge : Option Edge
 
--- A later instant is come to; none goes back. A microsecond has the level that is told last of it: where the line changed,
--- its edge is known once the microsecond is over. A level that is told again is no edge.
-abbrev pub moved : ℕ → Track → Option Moved
-moved u t =
+-- A later instant is come to; none goes back. A microsecond has the level that is reported last of it: where the line changed,
+-- its edge is known once the microsecond is over. A level that is reported again is no edge.
+abbrev pub track_move : ℕ → Track → Option Moved
+track_move u t =
     if nat_lt u t.at then None
     else if nat_lt t.at u && differ t.was_low t.is_low then Some (record { track = record t { at = u; was_low = t.is_low }; edge = Some (record { at = t.at; low = t.is_low }) })
     else Some (record { track = record t { at = u }; edge = None })
@@ -34,5 +34,5 @@ last_edge t = if differ t.was_low t.is_low then Some (record { at = t.at; low = 
 
 -- a refusal changes nothing
 abbrev pub Moves : ℕ → Track → Result (Option Edge) GoesBack → Track → Type 0
-Moves u old (Ok edge) new = moved u old ≡ Some (record { track = new; edge = edge })
-Moves u old (Err back) new = (moved u old ≡ None) × (new ≡ old)
+Moves u old (Ok edge) new = track_move u old ≡ Some (record { track = new; edge = edge })
+Moves u old (Err back) new = (track_move u old ≡ None) × (new ≡ old)

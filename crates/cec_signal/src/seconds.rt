@@ -4,7 +4,7 @@ ghost use Rattle.std.specs.List.{list_all};
 ghost use Rattle.std.specs.Char.{is_ascii_digit};
 ghost use Rattle.cec_signal.specs.Seconds.{decimals_of, digit_at, nine_digits};
 
-use cec_words::byte_at;
+use hdmi_core::byte_at;
 
 fn digit_at(text: &[u8], place: usize) -> u64
     ensures value { result ≡ digit_at text.now place }

@@ -1,6 +1,6 @@
 //! From levels and instants to edges.
 ghost use Rattle.std.specs.Prelude.{◌≡◌};
-ghost use Rattle.cec_signal.specs.Track.{Moves, begun, differ, last_edge, with_level};
+ghost use Rattle.cec_signal.specs.Track.{Moves, first_track, differ, last_edge, with_level};
 
 use cec_wave::Edge;
 
@@ -26,9 +26,9 @@ fn differ(one: bool, other: bool) -> bool
 }
 
 impl Track {
-    /// The begin of a line, which is high before anything is told of it.
+    /// The begin of a line, which is high before anything is reported of it.
     pub fn new() -> Self
-        ensures { result ≡ begun }
+        ensures { result ≡ first_track }
     {
         Track {
             at: 0,

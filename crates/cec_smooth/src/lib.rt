@@ -5,4 +5,4 @@ mod laws;
 mod smoothing;
 
 pub use laws::smoothing_keeps_what_is_long;
-pub use smoothing::smoothed;
+pub use smoothing::smooth_edges;

@@ -2,7 +2,7 @@
 ghost use Rattle.std.specs.Prelude.{◌≡◌, ◌∷◌, ◌++◌, List, IfOk};
 ghost use Rattle.std.specs.Option.{option_to_list};
 ghost use Rattle.cec_wave.specs.declared.Edge.{Edge as EdgeOf};
-ghost use Rattle.cec_smooth.specs.Smooth.{smoothed};
+ghost use Rattle.cec_smooth.specs.Smooth.{smooth_edges};
 
 use cec_signal::Capture;
 use cec_wave::Edge;
@@ -16,7 +16,7 @@ fn take(
     shortest: u64,
 ) -> Result<Option<Edge>, AllocError>
     ensures { IfOk result (λ next. (rest : List EdgeOf)
-        → kept.old.items ++ smoothed shortest (option_to_list held ++ edge ∷ rest) ≡ kept.new.items ++ smoothed shortest (option_to_list next ++ rest)) }
+        → kept.old.items ++ smooth_edges shortest (option_to_list held ++ edge ∷ rest) ≡ kept.new.items ++ smooth_edges shortest (option_to_list next ++ rest)) }
 {
     let Some(before) = held else {
         return Ok(Some(edge));
@@ -44,8 +44,8 @@ fn close(kept: &mut Vec<Edge>, held: Option<Edge>) -> Result<(), AllocError>
 /// # Errors
 ///
 /// No memory.
-pub fn smoothed(alloc: Global, capture: &Capture, shortest: u64) -> Result<Capture, AllocError>
-    ensures edges { IfOk result (λ c. c.edges ≡ smoothed shortest capture.now.edges) }
+pub fn smooth_edges(alloc: Global, capture: &Capture, shortest: u64) -> Result<Capture, AllocError>
+    ensures edges { IfOk result (λ c. c.edges ≡ smooth_edges shortest capture.now.edges) }
     ensures end { IfOk result (λ c. c.end ≡ capture.now.end) }
 {
     let edges = capture.edges();

@@ -10,13 +10,13 @@ use Rattle.hdmi_core.specs.declared.sink.WriteFault.{WriteFault}
 use Rattle.hdmi_core.proofs.CutShort.{Appends-trans}
 use Rattle.hdmi_topo.specs.Node.{Node}
 use Rattle.hdmi_topo.specs.Tree.{device_named}
-use Rattle.cec_words.specs.Cut.{WrittenText, told_count}
-use Rattle.cec_words.specs.Lines.{lines_of, is_skipped}
-use Rattle.cec_words.specs.Words.{words_of, one_of}
-use Rattle.cec_words.proofs.Cutting.{cut_behind, told_parts}
+use Rattle.hdmi_core.specs.Cut.{WrittenText, told_count}
+use Rattle.hdmi_core.specs.Lines.{lines_of, is_skipped}
+use Rattle.hdmi_core.specs.Words.{words_of, one_of}
+use Rattle.hdmi_core.proofs.Cutting.{cut_behind, told_parts}
 use Rattle.cec_wire.specs.declared.Outcome.{Outcome}
 use Rattle.cec_net.specs.State.{NetState}
-use Rattle.cec_net.specs.Apply.{applied}
+use Rattle.cec_net.specs.Apply.{net_after}
 use Rattle.cec_asm.specs.declared.script.TimedEvent.{TimedEvent}
 use Rattle.cec_run.specs.declared.run.Turn.{Turn}
 use Rattle.cec_run.specs.declared.run.Turn.TheVariants as turns
@@ -25,7 +25,7 @@ use Rattle.cec_run.proofs.Advance.{event_keeps}
 use Rattle.cec_step_text.specs.declared.break_at.Break.{Break}
 use Rattle.cec_step_text.specs.declared.commands.Command.{Command}
 use Rattle.cec_step_text.specs.declared.commands.Command.TheVariants.{Edge, Round, Until, Show}
-use Rattle.cec_step_text.specs.Commands.{alone, break_of, command_of, commands_of, lines_read, onward, show_by, shown_of, until_by, worded}
+use Rattle.cec_step_text.specs.Commands.{command_alone, break_of, command_of, commands_of, lines_read, onward, show_by, shown_of, until_by, command_of_words}
 use Rattle.cec_step.specs.Steps.{Point, Steps, IsEdgeStepBy, IsRoundStep, IsTaken, Skips, device_count, passed_by, passed_from}
 use Rattle.cec_step.specs.Ready.{InsideIf}
 use Rattle.cec_step.specs.declared.stepper.StepError.TheVariants.{Ended}
@@ -37,8 +37,8 @@ passed_count : (end : ℕ) (s : NetState) (es : List TimedEvent) (first : Bool) 
 unfolding passed_from
 passed_count end s [] first = refl
 passed_count end s (e ∷ es) first =
-    by (turn_of end s (Some e.at)) (λ at. passed_from end (applied at e.event s) es first)
-    (λ at. passed_count end (applied at e.event s) es first ∙ (event_keeps at e.event s (applied at e.event s) refl).count)
+    by (turn_of end s (Some e.at)) (λ at. passed_from end (net_after at e.event s) es first)
+    (λ at. passed_count end (net_after at e.event s) es first ∙ (event_keeps at e.event s (net_after at e.event s) refl).count)
   where
     by : (t : Turn) (on : ℕ → Point) → ((at : ℕ) → length (on at).net.tree ≡ length s.tree) → length (passed_by t (record { net = s; events = e ∷ es; is_first = first }) on).net.tree ≡ length s.tree
     by (turns.Apply at) on h = h at
@@ -154,7 +154,7 @@ shown_names : (tree : List Node) (word : Option (List ℕ)) → Named (length tr
 shown_names tree None = tt
 shown_names tree (Some name) = show_names tree name (device_named tree name) refl
 
-alone_names : (count : ℕ) (words : List (List ℕ)) (command : Command) → NamesDevice count command → Named count (alone words command)
+alone_names : (count : ℕ) (words : List (List ℕ)) (command : Command) → NamesDevice count command → Named count (command_alone words command)
 alone_names count [] command h = h
 alone_names count (word ∷ words) command h = tt
 
@@ -166,7 +166,7 @@ one_names : (count : ℕ) (b : Bool) (x y : Option Command) → Named count x �
 one_names count true x y h k = h
 one_names count false x y h k = k
 
-worded_names : (tree : List Node) (words : List (List ℕ)) → Named (length tree) (worded tree words)
+worded_names : (tree : List Node) (words : List (List ℕ)) → Named (length tree) (command_of_words tree words)
 worded_names tree [] = tt
 worded_names tree (verb ∷ words) =
     let count = length tree in

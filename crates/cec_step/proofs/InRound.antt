@@ -1,13 +1,13 @@
--- A round that is told edge by edge: its first edge, one behind another, and its end.
+-- A round that is reported edge by edge: its first edge, one after another, and its end.
 use Rattle.std.proofs.Common.{◌≡◌, ℕ, ◌+◌, ◌<◌, Bool, true, false, List, [], ◌∷◌, length, inl, inr, IsSome, Option, Some, None, Result, Ok, Err, ap, ◌∙◌, sym, refl, subst, arith}
 use Rattle.cec_wave.specs.declared.Edge.{Edge}
 use Rattle.cec_wave.specs.Line.{IsWave}
 use Rattle.cec_wire.specs.declared.Outcome.{Outcome}
 use Rattle.cec_wire.specs.Edges.{IsNextEdge}
 use Rattle.hdmi_core.specs.declared.sink.WriteFault.{WriteFault}
-use Rattle.cec_words.specs.Cut.{WrittenText}
+use Rattle.hdmi_core.specs.Cut.{WrittenText}
 use Rattle.cec_net.specs.State.{NetState, next_start}
-use Rattle.cec_net.specs.Apply.{applied}
+use Rattle.cec_net.specs.Apply.{net_after}
 use Rattle.cec_net.specs.Step.{IsNextRound}
 use Rattle.cec_net.specs.Progress.{IsProgress}
 use Rattle.cec_net.specs.Underway.{OfRound, standing_told}
@@ -17,11 +17,11 @@ use Rattle.cec_run.specs.declared.run.Turn.TheVariants.{Stop, Apply, Round}
 use Rattle.cec_run.specs.Run.{turn_of, first_time}
 use Rattle.cec_run.proofs.Advance.{round_begins, same_begin}
 use Rattle.cec_step.specs.declared.position.Position.{Position}
-use Rattle.cec_step.specs.declared.position.Course.{Course}
+use Rattle.cec_step.specs.declared.position.RunInput.{RunInput}
 use Rattle.cec_step.specs.declared.stepper.StepError.{StepError}
 use Rattle.cec_step.specs.declared.stepper.StepError.TheVariants.{Write}
 use Rattle.cec_step_text.specs.EdgeText.{edge_line}
-use Rattle.cec_step.specs.Steps.{Point, Run, Steps, IsEdgeStep, IsEdgeStepBy, IsFirstEdge, IsFirstStep, IsNoEdge, IsNoEdgeBy, IsOver, IsRoundStep, IsTaken, in_round, passed, passed_by, passed_from}
+use Rattle.cec_step.specs.Steps.{Point, Run, Steps, IsEdgeStep, IsEdgeStepBy, IsFirstEdge, IsFirstStep, IsNoEdge, IsNoEdgeBy, IsOver, IsRoundStep, IsTaken, in_round, after_events, passed_by, passed_from}
 use Rattle.cec_step.specs.Ready.{Begins, InsideIf, IsInside, IsReady, begun_in, point_of, run_of}
 use Rattle.cec_step.proofs.Passing.{ready_event}
 use Rattle.cec_step.proofs.Rounds.{ready_round}
@@ -31,16 +31,16 @@ ready_from : (end : ℕ) (s : NetState) (es : List TimedEvent) (first : Bool) �
 unfolding passed_from
 ready_from end s [] first r = r
 ready_from end s (e ∷ es) first r =
-    by (turn_of end s (Some e.at)) (λ at. passed_from end (applied at e.event s) es first)
-    (λ at. ready_from end (applied at e.event s) es first (ready_event end at (record { net = s; events = e ∷ es; is_first = first }) (applied at e.event s) first e es refl refl r))
+    by (turn_of end s (Some e.at)) (λ at. passed_from end (net_after at e.event s) es first)
+    (λ at. ready_from end (net_after at e.event s) es first (ready_event end at (record { net = s; events = e ∷ es; is_first = first }) (net_after at e.event s) first e es refl refl r))
   where
     by : (t : Turn) (on : ℕ → Point) → ((at : ℕ) → IsReady end (on at)) → IsReady end (passed_by t (record { net = s; events = e ∷ es; is_first = first }) on)
     by (Apply at) on h = h at
     by Stop on h = r
     by (Round begin) on h = r
 
--- a run is ready behind its events
-pub ready_passed : (end : ℕ) (p : Point) → IsReady end p → IsReady end (passed end p)
+-- a run is ready after its events
+pub ready_passed : (end : ℕ) (p : Point) → IsReady end p → IsReady end (after_events end p)
 ready_passed end p r = ready_from end p.net p.events p.is_first r
 
 -- a round has a device still
@@ -52,7 +52,7 @@ some_inside end p q r i = subst (λ n. 0 < n) (sym (ap (λ (x : Point). length x
 pub begun_inside : (end : ℕ) (p q : Point) (e : Edge) → Begins end p e q → IsInside end p q
 begun_inside end p q e b = record { begin = b.begin; heard = e.at + 1; turn = b.turn; told = b.told }
 
--- a text tells an edge
+-- a text reports an edge
 abbrev pub Tells : NetState → Edge → List ℕ → Type 0
 Tells net e text = OfRound net (λ begin heard low. text ≡ edge_line net.devices e (standing_told low begin heard))
 
@@ -60,7 +60,7 @@ pub tells_at : (p q : Position) (e : Edge) (text : List ℕ) → p ≡ q → Tel
 tells_at p q e text same line = subst (λ (x : Position). Tells x.net e text) same line
 
 -- a round that was begun from a copy of a position, in the run that a stepper shows
-pub begins_from : (course : Course) (run : Run) (copy here next : Position) (e : Edge) → run_of course ≡ run → copy ≡ here
+pub begins_from : (course : RunInput) (run : Run) (copy here next : Position) (e : Edge) → run_of course ≡ run → copy ≡ here
     → Begins course.end (point_of course.events.items copy) e (point_of course.events.items next) → Begins run.end (point_of run.events here) e (point_of run.events next)
 begins_from course run copy here next e shown same begins =
     subst (λ (r : Run). Begins r.end (point_of r.events here) e (point_of r.events next)) shown
@@ -94,7 +94,7 @@ pub record IsIn (s : Steps) (inside : Position) : Type 0 where
   pub ready : IsReady s.run.end s.last
   pub round : IsInside s.run.end s.last (point_of s.run.events inside)
 
-pub is_in : (course : Course) (last inside : Position) (b : Bool) → IsSome (begun_in b (point_of course.events.items inside)) → IsReady course.end (point_of course.events.items last)
+pub is_in : (course : RunInput) (last inside : Position) (b : Bool) → IsSome (begun_in b (point_of course.events.items inside)) → IsReady course.end (point_of course.events.items last)
     → InsideIf b course.end (point_of course.events.items last) (point_of course.events.items inside)
     → IsIn (steps (run_of course) (point_of course.events.items last) (begun_in b (point_of course.events.items inside))) inside
 is_in course last inside true some r i = record { net = refl; ready = r; round = i }
@@ -124,20 +124,20 @@ pub ends : (end : ℕ) (p i : Point) (n t : NetState) (h b : ℕ) (o : Outcome) 
     → next_start n ≡ Some b → IsNextRound n b o t → IsProgress n b t
     → IsRoundStep end p o (record { net = t; events = i.events; is_first = false }) × IsReady end (record { net = t; events = i.events; is_first = false })
 ends end p i n t h b o r inside told wave begins next progress =
-    let s = (passed end p).net in
+    let s = (after_events end p).net in
     let there : n ≡ record s { heard = Some h } = told ∙ ap (λ (x : Point). record x.net { heard = Some h }) inside.told in
     let round : IsNextRound s b o t = plain_round s t h b o (subst (λ (m : NetState). IsNextRound m b o t) there next) in
     let later : IsProgress s b t = plain_progress s t h b (subst (λ (m : NetState). IsProgress m b t) there progress) in
-    let events : i.events ≡ (passed end p).events = ap (λ (x : Point). x.events) inside.told in
-    let first = round_begins end s (first_time (passed end p).events) inside.begin inside.turn in
+    let events : i.events ≡ (after_events end p).events = ap (λ (x : Point). x.events) inside.told in
+    let first = round_begins end s (first_time (after_events end p).events) inside.begin inside.turn in
     let begin : next_start s ≡ Some b = subst (λ (m : NetState). next_start m ≡ Some b) there begins in
     let same : b ≡ inside.begin = same_begin (sym begin ∙ first.0) in
-    let ready = ready_round end b (passed end p) o t (ready_passed end p r) (omega (arith, same, first.1)) round later in (
+    let ready = ready_round end b (after_events end p) o t (ready_passed end p r) (omega (arith, same, first.1)) round later in (
       record { begin = inside.begin; turn = inside.turn; wave = wave; next = subst (λ x. IsNextRound s x o t) same round; left = events; later = refl },
       subst (λ es. IsReady end (record { net = t; events = es; is_first = false })) (sym events) ready,
     )
 
--- the first edge behind it
+-- the first edge after it
 pub taken_behind : (s t : Steps) (net : NetState) (o : Outcome) (q : Point) (old new : Option (List ℕ)) (r : Result ℕ StepError) → s.begun ≡ Some net
     → OfRound net (λ begin heard low. IsNextEdge low heard None) → IsRoundStep s.run.end s.last o q
     → IsTaken (IsFirstStep s q) (IsOver s.run.end q) s t old new r → IsTaken (IsEdgeStep s) (IsNoEdge s) s t old new r

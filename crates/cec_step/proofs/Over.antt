@@ -6,7 +6,7 @@ use Rattle.cec_step.specs.declared.stepper.StepError.{StepError}
 use Rattle.cec_step.specs.declared.stepper.StepError.TheVariants.{Ended, Write}
 use Rattle.cec_step.specs.Over.{OverIf, is_ended}
 use Rattle.cec_step.specs.Ready.{begun_in, point_of, run_of}
-use Rattle.cec_step.specs.declared.position.Course.{Course}
+use Rattle.cec_step.specs.declared.position.RunInput.{RunInput}
 use Rattle.cec_step.specs.declared.position.Position.{Position}
 use Rattle.cec_step.specs.Steps.{Point, Run, Steps, IsNever, IsNoEdge, IsNoEdgeBy, IsOver, IsTaken}
 
@@ -27,7 +27,7 @@ no_edge s None is none over = subst (λ x. IsNoEdgeBy s x) (sym is) over
 no_edge s (Some net) is none over = cc
 
 -- where the events before the next round were passed from the last one, and none comes
-pub over_found : (P : ℕ → Type 0) (course : Course) (s : Steps) (copy place : Position) (found : Option ℕ) (b : Bool) → run_of course ≡ s.run → copy ≡ place → point_of s.run.events place ≡ s.last
+pub over_found : (P : ℕ → Type 0) (course : RunInput) (s : Steps) (copy place : Position) (found : Option ℕ) (b : Bool) → run_of course ≡ s.run → copy ≡ place → point_of s.run.events place ≡ s.last
     → is_some s.begun ≡ false → MatchOption found (IsOver course.end (point_of course.events.items copy)) P → is_some found ≡ not b → OverIf b s
 over_found P course s copy place None true shown same last none over is =
     let here : IsOver course.end (point_of course.events.items place) = subst (λ (p : Position). IsOver course.end (point_of course.events.items p)) same over in

@@ -18,13 +18,13 @@ use Rattle.cec_run.specs.declared.run.Turn.TheVariants.{Stop, Apply, Round}
 use Rattle.cec_run.specs.Run.{first_time}
 use Rattle.cec_run.proofs.Advance.{event_keeps, round_begins}
 use Rattle.cec_step.specs.declared.position.Position.{Position}
-use Rattle.cec_step.specs.Steps.{Point, IsOver, turn_at, passed, passed_from, passed_text}
+use Rattle.cec_step.specs.Steps.{Point, IsOver, turn_at, after_events, passed_from, passed_text}
 use Rattle.cec_step.specs.Ready.{Begins, IsReady, Passes, first_text, point_of}
 use Rattle.cec_step.proofs.Passing.{passed_event, passed_event_text, passed_round, passed_stop}
 use Rattle.cec_step.proofs.Edges.{has_edge}
 
 -- one event more
-pub pass_more : (end at : ℕ) (es : List TimedEvent) (p q : Position) → turn_at end (point_of es p) ≡ Apply at → Passes at es p q → passed end (point_of es q) ≡ passed end (point_of es p)
+pub pass_more : (end at : ℕ) (es : List TimedEvent) (p q : Position) → turn_at end (point_of es p) ≡ Apply at → Passes at es p q → after_events end (point_of es q) ≡ after_events end (point_of es p)
 pass_more end at es p q turn m =
     sym (passed_event end at p.net q.net (drop p.applied es) p.is_first m.event (drop q.applied es) m.split turn m.step ∙ ap (λ f. passed_from end q.net (drop q.applied es) f) (sym m.first))
 
@@ -38,10 +38,10 @@ text_more edid end at es p q turn m =
     ∙ ap (λ xs. first_text edid at p.net xs ++ passed_text edid end (point_of es q)) (sym m.split)
 
 -- no event comes any more
-pub over_round : (end begin : ℕ) (es : List TimedEvent) (p : Position) → turn_at end (point_of es p) ≡ Round begin → point_of es p ≡ passed end (point_of es p)
+pub over_round : (end begin : ℕ) (es : List TimedEvent) (p : Position) → turn_at end (point_of es p) ≡ Round begin → point_of es p ≡ after_events end (point_of es p)
 over_round end begin es p turn = sym (passed_round end begin p.net (drop p.applied es) p.is_first turn)
 
-pub over_stop : (end : ℕ) (es : List TimedEvent) (p : Position) → turn_at end (point_of es p) ≡ Stop → point_of es p ≡ passed end (point_of es p)
+pub over_stop : (end : ℕ) (es : List TimedEvent) (p : Position) → turn_at end (point_of es p) ≡ Stop → point_of es p ≡ after_events end (point_of es p)
 over_stop end es p turn = sym (passed_stop end p.net (drop p.applied es) p.is_first turn)
 
 -- after a round a run is ready still
@@ -62,24 +62,24 @@ same_number : (x y : ℕ) → Some x ≡ Some y → x ≡ y
 same_number x y e = cc
 
 -- the first edge of the round that was begun
-pub begins_at : (end begin : ℕ) (p q : Point) (s t u : NetState) (edge : Option Edge) → turn_at end (passed end p) ≡ Round begin → (passed end p).net ≡ s → AreSparse s.pulses
+pub begins_at : (end begin : ℕ) (p q : Point) (s t u : NetState) (edge : Option Edge) → turn_at end (after_events end p) ≡ Round begin → (after_events end p).net ≡ s → AreSparse s.pulses
     → (x : ℕ) → next_start s ≡ Some x → t ≡ record s { heard = Some x } → OfRound t (λ b heard low. IsNextEdge low heard edge)
     → (heard : ℕ) → u ≡ record t { heard = Some heard } → IfSome edge (λ e. e.at + 1 ≡ heard)
-    → q ≡ record (passed end p) { net = u } → MatchOption edge (IsOver end p) (λ e. Begins end p e q)
+    → q ≡ record (after_events end p) { net = u } → MatchOption edge (IsOver end p) (λ e. Begins end p e q)
 begins_at end begin p q s t u None turn same sparse x next begun edge heard told at is =
     let line = has_line (seats_of s x) x s.pulses in
     let here : OfRound (record s { heard = Some x }) (λ b heard low. IsNextEdge low heard None) = subst (λ y. OfRound y (λ b heard low. IsNextEdge low heard None)) begun edge in
     absurd (has_edge s x line.0 next sparse line.1 (here x x line.0 next refl line.1))
 begins_at end begin p q s t u (Some e) turn same sparse x next begun edge heard told at is =
-    let first : (next_start (passed end p).net ≡ Some begin) × (begin < end) = round_begins end (passed end p).net (first_time (passed end p).events) begin turn in
+    let first : (next_start (after_events end p).net ≡ Some begin) × (begin < end) = round_begins end (after_events end p).net (first_time (after_events end p).events) begin turn in
     let one : x ≡ begin = same_number x begin (sym next ∙ ap next_start (sym same) ∙ first.0) in
-    let in_round : t ≡ record (passed end p).net { heard = Some begin } =
+    let in_round : t ≡ record (after_events end p).net { heard = Some begin } =
     begun ∙ ap (λ (y : ℕ). record s { heard = Some y }) one ∙ ap (λ (y : NetState). record y { heard = Some begin }) (sym same) in
-    let last : u ≡ record (passed end p).net { heard = Some (e.at + 1) } =
-    told ∙ ap (λ (y : NetState). record y { heard = Some heard }) in_round ∙ ap (λ (h : ℕ). record (passed end p).net { heard = Some h }) (sym at) in
+    let last : u ≡ record (after_events end p).net { heard = Some (e.at + 1) } =
+    told ∙ ap (λ (y : NetState). record y { heard = Some heard }) in_round ∙ ap (λ (h : ℕ). record (after_events end p).net { heard = Some h }) (sym at) in
     record {
       begin = begin;
       turn = turn;
       first = subst (λ y. OfRound y (λ b heard low. IsNextEdge low heard (Some e))) in_round edge;
-      told = is ∙ ap (λ (y : NetState). record (passed end p) { net = y }) last;
+      told = is ∙ ap (λ (y : NetState). record (after_events end p) { net = y }) last;
     }

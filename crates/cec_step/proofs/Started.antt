@@ -2,20 +2,20 @@
 use Rattle.std.proofs.Common.{◌≡◌, ℕ, ◌<◌, ◌≤◌, true, List, length, Option, IsSome, Some, None, ap, ◌∙◌, sym, subst, arith}
 use Rattle.hdmi_topo.specs.Node.{Node}
 use Rattle.cec_asm.specs.Script.{Course, IsScript}
-use Rattle.cec_net.specs.State.{NetState, started}
+use Rattle.cec_net.specs.State.{NetState, first_net}
 use Rattle.hdmi_core.specs.declared.phys.Phys.{Phys}
 use Rattle.hdmi_blocks.specs.Address.{edid_address}
 use Rattle.hdmi_blocks.specs.Bytes.{edid_bytes, IsRefused}
 use Rattle.hdmi_blocks.specs.declared.edid.Edid.{Edid}
 use Rattle.hdmi_blocks.proofs.OneEdid.{not_refused, one_edid}
-use Rattle.cec_trace.specs.Root.{HasAddress, IsNoRoot, IsRoot}
-use Rattle.cec_trace.specs.declared.root.EdidCause.{EdidCause}
-use Rattle.cec_trace.specs.declared.root.EdidCause.TheVariants.{Edid as OfEdid, NoHdmiBlock}
+use Rattle.hdmi_blocks.specs.Root.{HasAddress, IsNoRoot, IsRoot}
+use Rattle.hdmi_blocks.specs.declared.root.EdidCause.{EdidCause}
+use Rattle.hdmi_blocks.specs.declared.root.EdidCause.TheVariants.{Edid as OfEdid, NoHdmiBlock}
 use Rattle.cec_asm.specs.declared.script.TimedEvent.{TimedEvent}
 use Rattle.cec_step.specs.Steps.{Point, Run, Steps}
 use Rattle.cec_step.specs.Ready.{IsReady}
 
--- a television's EDID tells an address
+-- a television's EDID has an address
 pub has_address : (bytes : Option (List ℕ)) (root : Option Edid) → IsRoot bytes root → HasAddress root
 has_address None root r = subst HasAddress (sym r) tt
 has_address (Some bytes) None r = absurd r
@@ -47,7 +47,7 @@ stepper_at run p = record { run = run; last = p; begun = None }
 
 -- at its start a run is ready
 pub ready_start : (tree : List Node) (course : Course) → 0 < length tree → IsScript (length tree) course
-    → IsReady course.end (record { net = started tree course.pulses; events = course.events; is_first = true })
+    → IsReady course.end (record { net = first_net tree course.pulses; events = course.events; is_first = true })
 ready_start tree course some script =
     let none : 0 ≤ 2000000000000 = omega arith in
     record { some = some; early = script.limit; sparse = script.sparse; closed = none; schedule = (0, script.schedule) }

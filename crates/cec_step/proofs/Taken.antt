@@ -2,14 +2,14 @@
 use Rattle.std.proofs.Common.{◌≡◌, ℕ, zero, suc, ◌⊎◌, inl, inr, Bool, true, List, slice_get, Option, Some, Result, Ok, Err, ap, ◌∙◌, sym, refl, subst, arith}
 use Rattle.cec_wire.specs.declared.Outcome.{Outcome}
 use Rattle.hdmi_core.specs.declared.sink.WriteFault.{WriteFault}
-use Rattle.cec_words.specs.Cut.{WrittenText}
+use Rattle.hdmi_core.specs.Cut.{WrittenText}
 use Rattle.cec_device.specs.State.{State}
 use Rattle.cec_trace.specs.StateText.{state_line}
 use Rattle.cec_step_text.specs.declared.break_at.Break.{Break}
 use Rattle.cec_step_text.specs.Stops.{stops}
 use Rattle.cec_step.specs.declared.stepper.StepError.{StepError}
 use Rattle.cec_step.specs.declared.stepper.StepError.TheVariants.{Ended, Write}
-use Rattle.cec_step.specs.declared.position.Course.{Course}
+use Rattle.cec_step.specs.declared.position.RunInput.{RunInput}
 use Rattle.cec_step.specs.declared.position.Position.{Position}
 use Rattle.cec_step.specs.Ready.{Brings, point_of, run_of}
 use Rattle.cec_step.specs.Steps.{Point, Run, Steps, IsNever, IsOver, IsRound, IsRoundStep, IsShown, IsTaken, IsUntil, Skips, after_round, shown_net, step_text}
@@ -47,7 +47,7 @@ shown_cut s device d old new was is fault error found same ((count, short, told,
     let here : IsTaken (IsShown s device) ⊥ s s old new (Err (Write fault.count)) = (refl, state_line d, s, (d, found, refl, refl), count, short, told, wrote) in
     subst (λ x. IsTaken (IsShown s device) ⊥ s s old new (Err x)) (sym same) here
 
--- rounds behind others, none of which stops a search
+-- rounds after others, none of which stops a search
 pub skips_then : (end : ℕ) (at : Break) (n m : ℕ) (p mid q : Point) → Skips end at n p mid → Skips end at m mid q → (rounds : ℕ) × Skips end at rounds p q
 skips_then end at n zero p mid q h k = (n, subst (λ x. Skips end at n p x) (sym k) h)
 skips_then end at n (suc m) p mid q h (next, o, skips, step, other) =
@@ -60,13 +60,13 @@ brings_then end counter p mid q (inl (none, same)) k = subst (λ x. Brings end x
 brings_then end counter p mid q (inr h) k = record { before = h.before; later = omega (arith, h.later, k.later) }
 
 -- a round from a copy of a position, in the run that a stepper shows
-pub step_from : (course : Course) (run : Run) (copy here next : Position) (o : Outcome) → run_of course ≡ run → copy ≡ here
+pub step_from : (course : RunInput) (run : Run) (copy here next : Position) (o : Outcome) → run_of course ≡ run → copy ≡ here
     → IsRoundStep course.end (point_of course.events.items copy) o (point_of course.events.items next) → IsRoundStep run.end (point_of run.events here) o (point_of run.events next)
 step_from course run copy here next o shown same step =
     subst (λ (r : Run). IsRoundStep r.end (point_of r.events here) o (point_of r.events next)) shown
     (subst (λ (p : Position). IsRoundStep course.end (point_of course.events.items p) o (point_of course.events.items next)) same step)
 
-pub brings_from : (course : Course) (run : Run) (copy here next : Position) → run_of course ≡ run → copy ≡ here
+pub brings_from : (course : RunInput) (run : Run) (copy here next : Position) → run_of course ≡ run → copy ≡ here
     → Brings course.end (point_of course.events.items copy) (point_of course.events.items next) → Brings run.end (point_of run.events here) (point_of run.events next)
 brings_from course run copy here next shown same brings =
     subst (λ (r : Run). Brings r.end (point_of r.events here) (point_of r.events next)) shown

@@ -3,7 +3,7 @@ use Rattle.std.proofs.Common.{◌≡◌, ℕ, zero, suc, ◌+◌, Bool, true, fa
 use Rattle.cec_wire.specs.declared.Outcome.{Outcome}
 use Rattle.cec_asm.specs.declared.script.TimedEvent.{TimedEvent}
 use Rattle.cec_net.specs.State.{NetState}
-use Rattle.cec_net.specs.Apply.{applied, event_fault}
+use Rattle.cec_net.specs.Apply.{net_after, event_fault}
 use Rattle.cec_event.specs.declared.event.EventError.{EventError}
 use Rattle.cec_text.specs.ReadingText.{is_complete}
 use Rattle.hdmi_blocks.specs.declared.edid.Edid.{Edid}
@@ -16,10 +16,10 @@ use Rattle.cec_run.specs.Run.{Config, IsRunTextFrom, IsTrace, IsTurn, Leads, cou
 use Rattle.cec_trace.specs.TraceText.{round_line}
 use Rattle.cec_run.proofs.Turns.{front_of_text}
 use Rattle.cec_run.proofs.Running.{event_turn_is, round_turn_is}
-use Rattle.cec_step.specs.Steps.{IsOver, IsRoundStep, Point, Run, passed, passed_by, passed_from, passed_text, passed_text_from, start_by, start_text, step_text, text_by}
+use Rattle.cec_step.specs.Steps.{IsOver, IsRoundStep, Point, Run, after_events, passed_by, passed_from, passed_text, passed_text_from, start_by, start_text, step_text, text_by}
 use Rattle.cec_step.specs.Trace.{Rounds, RoundsAreTheTrace, first_point, rest_text}
 
--- turns behind others
+-- turns after others
 leads_then : (telling : Telling) (end n m : ℕ) (c mid d : Config) (text more : List ℕ) → Leads telling end n c text mid → Leads telling end m mid more d
     → (turns : ℕ) × Leads telling end turns c (text ++ more) d
 leads_then telling end zero m c mid d text more l next =
@@ -45,7 +45,7 @@ same_rounds (Some fault) totals = refl
 
 passing_by : (edid : Option Edid) (end : ℕ) (s : NetState) (e : TimedEvent) (es : List TimedEvent) (first : Bool) (totals : Totals) (t : Turn) (told : ℕ → List ℕ) (on : ℕ → Point)
     → turn_of end s (Some e.at) ≡ t
-    → ((at : ℕ) → Passing edid end (record { net = applied at e.event s; events = es; totals = counted_event (event_fault s e.event) totals }) (told at) (on at))
+    → ((at : ℕ) → Passing edid end (record { net = net_after at e.event s; events = es; totals = counted_event (event_fault s e.event) totals }) (told at) (on at))
     → Passing edid end (record { net = s; events = e ∷ es; totals = totals }) (text_by t (λ at. event_text edid at e s ++ told at))
     (passed_by t (record { net = s; events = e ∷ es; is_first = first }) on)
 passing_by edid end s e es first totals (Apply at) told on turn h =
@@ -54,7 +54,7 @@ passing_by edid end s e es first totals (Apply at) told on turn h =
       turns = suc r.turns;
       totals = r.totals;
       leads = (
-        record { net = applied at e.event s; events = es; totals = counted_event (event_fault s e.event) totals },
+        record { net = net_after at e.event s; events = es; totals = counted_event (event_fault s e.event) totals },
         event_text edid at e s,
         told at,
         event_turn_is (Trace edid) end at s e es totals turn,
@@ -71,12 +71,12 @@ passing : (edid : Option Edid) (end : ℕ) (s : NetState) (es : List TimedEvent)
 unfolding passed_from passed_text_from
 passing edid end s [] first totals = record { turns = zero; totals = totals; leads = (refl, refl); counts = refl }
 passing edid end s (e ∷ es) first totals =
-    passing_by edid end s e es first totals (turn_of end s (Some e.at)) (λ at. passed_text_from edid end (applied at e.event s) es) (λ at. passed_from end (applied at e.event s) es first) refl
-    (λ at. passing edid end (applied at e.event s) es first (counted_event (event_fault s e.event) totals))
+    passing_by edid end s e es first totals (turn_of end s (Some e.at)) (λ at. passed_text_from edid end (net_after at e.event s) es) (λ at. passed_from end (net_after at e.event s) es first) refl
+    (λ at. passing edid end (net_after at e.event s) es first (counted_event (event_fault s e.event) totals))
 
 -- ---- a round
 
--- what is told of a round with the events before it, but for the start
+-- what is reported of a round with the events before it, but for the start
 abbrev turn_text : Run → Point → Outcome → Point → List ℕ
 turn_text run p o q = passed_text run.edid run.end p ++ round_line q.net.devices o
 
@@ -93,7 +93,7 @@ record Turned (run : Run) (c : Config) (text : List ℕ) (q : Point) : Type 0 wh
 turned : (run : Run) (p q : Point) (o : Outcome) (totals : Totals) → IsRoundStep run.end p o q → Turned run (config p totals) (turn_text run p o q) q
 turned run p q o totals step =
     let before = passing run.edid run.end p.net p.events p.is_first totals in
-    let here = passed run.end p in
+    let here = after_events run.end p in
     let line = round_line q.net.devices o in
     let counted = counted_round (is_complete o.reading.ending) before.totals in
     let turn : IsTurn (Trace run.edid) run.end (config here before.totals) line (record { net = q.net; events = here.events; totals = counted }) =
@@ -112,7 +112,7 @@ turned run p q o totals step =
 
 -- ---- rounds
 
--- Behind the rounds of a stepper the run stands where the stepper does. What is due at the start is told before the first one.
+-- After the rounds of a stepper the run stands where the stepper does. What is due at the start is reported before the first one.
 record Led (run : Run) (net : NetState) (rounds : ℕ) (text : List ℕ) (q : Point) : Type 0 where
   turns : ℕ
   body : List ℕ
@@ -171,7 +171,7 @@ ends : (run : Run) (net : NetState) (rounds : ℕ) (text : List ℕ) (last : Poi
     → (totals : Totals) × IsTrace run.edid run.end (start net run.events) (text ++ rest_text run last) totals × (totals.rounds ≡ rounds)
 ends run net rounds text last h over =
     let r = led run net rounds text last h in
-    let here = passed run.end last in
+    let here = after_events run.end last in
     let before = passing run.edid run.end last.net last.events last.is_first r.totals in
     let told = start_told (Trace run.edid) net in
     let events = passed_text run.edid run.end last in

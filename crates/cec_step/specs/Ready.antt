@@ -8,22 +8,22 @@ use Rattle.cec_wave.specs.declared.Edge.{Edge}
 use Rattle.cec_wire.specs.Edges.{IsNextEdge}
 use Rattle.cec_net.specs.Underway.{OfRound}
 use Rattle.hdmi_blocks.specs.declared.edid.Edid.{Edid}
-use Rattle.cec_net.specs.Apply.{applied}
+use Rattle.cec_net.specs.Apply.{net_after}
 use Rattle.cec_run.specs.Run.{event_text}
 use Rattle.cec_run.specs.declared.run.Turn.TheVariants.{Round}
 use Rattle.cec_step.specs.declared.position.Position.{Position}
-use Rattle.cec_step.specs.declared.position.Course.{Course}
+use Rattle.cec_step.specs.declared.position.RunInput.{RunInput}
 use Rattle.cec_wire.specs.declared.Outcome.{Outcome}
 use Rattle.cec_step_text.specs.declared.break_at.Break.{Break}
 use Rattle.cec_step_text.specs.Stops.{stops}
-use Rattle.cec_step.specs.Steps.{Point, Run, Steps, IsRoundStep, Skips, turn_at, passed}
+use Rattle.cec_step.specs.Steps.{Point, Run, Steps, IsRoundStep, Skips, turn_at, after_events}
 
 -- where a position stands in a run with these events
 abbrev pub point_of : List TimedEvent → Position → Point
 point_of events p = record { net = p.net; events = drop p.applied events; is_first = p.is_first }
 
 -- what a run in the code is made of
-abbrev pub run_of : Course → Run
+abbrev pub run_of : RunInput → Run
 run_of course = record { edid = course.edid; events = course.events.items; end = course.end }
 
 -- times stay below the limits, and the events that are left come in their order, before the end
@@ -34,12 +34,12 @@ pub record IsReady (end : ℕ) (p : Point) : Type 0 where
   pub closed : p.net.close ≤ 2000000000000
   pub schedule : (from : ℕ) × IsSchedule (length p.net.tree) end from p.events
 
--- a position in the round that comes next, whose line was told before an instant
+-- a position in the round that comes next, whose line was reported before an instant
 pub record IsInside (end : ℕ) (p q : Point) : Type 0 where
   pub begin : ℕ
   pub heard : ℕ
-  pub turn : turn_at end (passed end p) ≡ Round begin
-  pub told : q ≡ record (passed end p) { net = record (passed end p).net { heard = Some heard } }
+  pub turn : turn_at end (after_events end p) ≡ Round begin
+  pub told : q ≡ record (after_events end p) { net = record (after_events end p).net { heard = Some heard } }
 
 abbrev pub InsideIf : Bool → ℕ → Point → Point → Type 0
 InsideIf false end p q = Unit {0}
@@ -53,10 +53,10 @@ begun_in true q = Some q.net
 pub record Passes (at : ℕ) (events : List TimedEvent) (p q : Position) : Type 0 where
   pub event : TimedEvent
   pub split : drop p.applied events ≡ event ∷ drop q.applied events
-  pub step : q.net ≡ applied at event.event p.net
+  pub step : q.net ≡ net_after at event.event p.net
   pub first : q.is_first ≡ p.is_first
 
--- what is told of the first of these events
+-- what is reported of the first of these events
 abbrev pub first_text : Option Edid → ℕ → NetState → List TimedEvent → List ℕ
 first_text edid at s [] = []
 first_text edid at s (event ∷ events) = event_text edid at event s
@@ -69,9 +69,9 @@ pub record Brings (end : ℕ) (p q : Point) : Type 0 where
 -- the next round was begun, and this is the first edge of its line
 pub record Begins (end : ℕ) (p : Point) (edge : Edge) (q : Point) : Type 0 where
   pub begin : ℕ
-  pub turn : turn_at end (passed end p) ≡ Round begin
-  pub first : OfRound (record (passed end p).net { heard = Some begin }) (λ begin heard low. IsNextEdge low heard (Some edge))
-  pub told : q ≡ record (passed end p) { net = record (passed end p).net { heard = Some (edge.at + 1) } }
+  pub turn : turn_at end (after_events end p) ≡ Round begin
+  pub first : OfRound (record (after_events end p).net { heard = Some begin }) (λ begin heard low. IsNextEdge low heard (Some edge))
+  pub told : q ≡ record (after_events end p) { net = record (after_events end p).net { heard = Some (edge.at + 1) } }
 
 -- the round that a search found: its outcome, and the positions before and after it
 pub record IsFound (s : Steps) (at : Break) (before : Position) (outcome : Outcome) (after : Position) : Type 0 where

@@ -2,12 +2,12 @@
 use Rattle.std.specs.Prelude.{◌≡◌, ℕ, ◌<◌, ◌⊎◌, Bool, false, List, [], ◌∷◌, ◌++◌, codes, Option, Result, Ok, Err}
 use Rattle.cec_asm.specs.Topology.{Plan}
 use Rattle.cec_asm.specs.Script.{Course}
-use Rattle.cec_net.specs.State.{started}
+use Rattle.cec_net.specs.State.{first_net}
 use Rattle.hdmi_core.specs.declared.sink.WriteFault.{WriteFault}
 use Rattle.hdmi_blocks.specs.declared.edid.Edid.{Edid as EdidValue}
-use Rattle.cec_words.specs.Cut.{CutOff, WrittenText}
+use Rattle.hdmi_core.specs.Cut.{CutOff, WrittenText}
 use Rattle.cec_run.specs.Emulate.{IsAccepted, IsTold, is_write as is_run_write}
-use Rattle.cec_trace.specs.Root.{IsRoot}
+use Rattle.hdmi_blocks.specs.Root.{IsRoot}
 use Rattle.cec_run.specs.declared.emulate.EmulateError.TheVariants as faults
 use Rattle.cec_step_text.specs.declared.commands.Command.{Command}
 use Rattle.cec_step_text.specs.declared.commands.Command.TheVariants.{Edge, Round, Until, Show}
@@ -77,7 +77,7 @@ pub record AreSteps (topology script steps : List ℕ) (commands : List Command)
   pub accepted : IsAccepted topology script plan course
   pub root : IsRoot plan.edid edid
   pub commands_are : commands_of plan.tree steps ≡ Ok commands
-  pub starts : s ≡ begun_at edid course (started plan.tree course.pulses)
+  pub starts : s ≡ begun_at edid course (first_net plan.tree course.pulses)
 
 -- the whole text that is due
 pub record AreStepsOf (topology script steps text : List ℕ) : Type 0 where

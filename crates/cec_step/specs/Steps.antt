@@ -7,13 +7,13 @@ use Rattle.cec_wire.specs.declared.Outcome.{Outcome}
 use Rattle.cec_wire.specs.Edges.{IsNextEdge}
 use Rattle.cec_device.specs.State.{State}
 use Rattle.cec_net.specs.State.{NetState}
-use Rattle.cec_net.specs.Apply.{applied}
+use Rattle.cec_net.specs.Apply.{net_after}
 use Rattle.cec_net.specs.Step.{IsNextRound}
 use Rattle.cec_net.specs.Underway.{OfRound, standing_told}
 use Rattle.cec_asm.specs.declared.script.TimedEvent.{TimedEvent}
 use Rattle.cec_asm.specs.Script.{Course}
 use Rattle.hdmi_blocks.specs.declared.edid.Edid.{Edid}
-use Rattle.cec_words.specs.Cut.{told_count}
+use Rattle.hdmi_core.specs.Cut.{told_count}
 use Rattle.cec_run.specs.declared.run.Turn.{Turn}
 use Rattle.cec_run.specs.declared.run.Turn.TheVariants.{Stop, Apply, Round}
 use Rattle.cec_run.specs.Run.{turn_of, first_time, event_text}
@@ -55,10 +55,10 @@ passed_by (Round begin) here on = here
 unfoldable pub passed_from : ℕ → NetState → List TimedEvent → Bool → Point
 passed_from end s [] first = record { net = s; events = []; is_first = first }
 passed_from end s (e ∷ events) first =
-    passed_by (turn_of end s (Some e.at)) (record { net = s; events = e ∷ events; is_first = first }) (λ at. passed_from end (applied at e.event s) events first)
+    passed_by (turn_of end s (Some e.at)) (record { net = s; events = e ∷ events; is_first = first }) (λ at. passed_from end (net_after at e.event s) events first)
 
-abbrev pub passed : ℕ → Point → Point
-passed end p = passed_from end p.net p.events p.is_first
+abbrev pub after_events : ℕ → Point → Point
+after_events end p = passed_from end p.net p.events p.is_first
 
 abbrev pub text_by : Turn → (ℕ → List ℕ) → List ℕ
 text_by (Apply at) told = told at
@@ -69,7 +69,7 @@ text_by (Round begin) told = []
 unfoldable pub passed_text_from : Option Edid → ℕ → NetState → List TimedEvent → List ℕ
 passed_text_from edid end s [] = []
 passed_text_from edid end s (e ∷ events) =
-    text_by (turn_of end s (Some e.at)) (λ at. event_text edid at e s ++ passed_text_from edid end (applied at e.event s) events)
+    text_by (turn_of end s (Some e.at)) (λ at. event_text edid at e s ++ passed_text_from edid end (net_after at e.event s) events)
 
 abbrev pub passed_text : Option Edid → ℕ → Point → List ℕ
 passed_text edid end p = passed_text_from edid end p.net p.events
@@ -87,19 +87,19 @@ start_text edid p = start_by p.is_first edid p.net
 -- The next round with the events before it gives this outcome, and leads from one point to another.
 pub record IsRoundStep (end : ℕ) (p : Point) (o : Outcome) (q : Point) : Type 0 where
   pub begin : ℕ
-  pub turn : turn_at end (passed end p) ≡ Round begin
+  pub turn : turn_at end (after_events end p) ≡ Round begin
   pub wave : IsWave o.wave
-  pub next : IsNextRound (passed end p).net begin o q.net
-  pub left : q.events ≡ (passed end p).events
+  pub next : IsNextRound (after_events end p).net begin o q.net
+  pub left : q.events ≡ (after_events end p).events
   pub later : q.is_first ≡ false
 
--- what the trace has of it, behind the line of the round before
+-- what the trace has of it, after the line of the round before
 abbrev pub step_text : Run → Point → Outcome → Point → List ℕ
 step_text run p o q = (start_text run.edid p ++ passed_text run.edid run.end p) ++ round_line q.net.devices o
 
 -- no round comes any more
 abbrev pub IsOver : ℕ → Point → Type 0
-IsOver end p = turn_at end (passed end p) ≡ Stop
+IsOver end p = turn_at end (after_events end p) ≡ Stop
 
 -- ---- a stepper
 
@@ -194,8 +194,8 @@ IsSilent net = OfRound net (λ begin heard low. IsNextEdge low heard None)
 -- the first edge of the next round
 pub record IsFirstEdge (end : ℕ) (p : Point) (text : List ℕ) (after : NetState) : Type 0 where
   pub begin : ℕ
-  pub turn : turn_at end (passed end p) ≡ Round begin
-  pub edge : IsEdge (record (passed end p).net { heard = Some begin }) text after
+  pub turn : turn_at end (after_events end p) ≡ Round begin
+  pub edge : IsEdge (record (after_events end p).net { heard = Some begin }) text after
 
 abbrev pub in_round : Steps → Point → NetState → Steps
 in_round s p net = record s { last = p; begun = Some net }

@@ -5,7 +5,7 @@ use Rattle.cec_net.specs.State.{NetState}
 use Rattle.cec_run.specs.declared.run.Totals.{Totals}
 use Rattle.cec_run.specs.declared.run.Telling.TheVariants.{Trace}
 use Rattle.cec_run.specs.Run.{IsTrace, end_told, start}
-use Rattle.cec_step.specs.Steps.{IsOver, IsRoundStep, Point, Run, passed, passed_text, start_text, step_text}
+use Rattle.cec_step.specs.Steps.{IsOver, IsRoundStep, Point, Run, after_events, passed_text, start_text, step_text}
 
 -- rounds one after another, and what a stepper writes of them
 abbrev pub Rounds : Run → ℕ → Point → List ℕ → Point → Type 0
@@ -16,11 +16,11 @@ Rounds run (suc rounds) p text q =
 abbrev pub first_point : Run → NetState → Point
 first_point run net = record { net = net; events = run.events; is_first = true }
 
--- what the trace has behind the last round: the lines of the events after it, and what the end tells
+-- what the trace has after the last round: the lines of the events after it, and what the end reports
 abbrev pub rest_text : Run → Point → List ℕ
-rest_text run p = (start_text run.edid p ++ passed_text run.edid run.end p) ++ end_told (Trace run.edid) run.end (passed run.end p).net
+rest_text run p = (start_text run.edid p ++ passed_text run.edid run.end p) ++ end_told (Trace run.edid) run.end (after_events run.end p).net
 
--- However many rounds are taken, the trace begins with what a stepper writes of them. Behind all of them it has the rest.
+-- However many rounds are taken, the trace begins with what a stepper writes of them. After all of them it has the rest.
 pub record RoundsAreTheTrace : Type 0 where
   pub front : (run : Run) (net : NetState) (rounds : ℕ) (text : List ℕ) (last : Point) → Rounds run rounds (first_point run net) text last
       → (whole : List ℕ) (totals : Totals) → IsTrace run.edid run.end (start net run.events) whole totals → (more : List ℕ) × (whole ≡ text ++ more)

@@ -2,11 +2,11 @@
 ghost use Rattle.std.specs.Prelude.{◌≡◌, ℕ, ◌+◌, ◌++◌, ◌<◌, ◌≤◌, List, drop, length, MatchOption, IfSome, IsSome};
 ghost use Rattle.cec_net.specs.Underway.{OfRound, standing_told};
 ghost use Rattle.cec_step_text.specs.EdgeText.{edge_line};
-ghost use Rattle.cec_words.specs.Cut.{WrittenText};
+ghost use Rattle.hdmi_core.specs.Cut.{WrittenText};
 ghost use Rattle.cec_run.specs.declared.run.Turn.TheVariants.{Apply, Round, Stop};
-ghost use Rattle.cec_trace.specs.Root.{HasAddress};
+ghost use Rattle.hdmi_blocks.specs.Root.{HasAddress};
 ghost use Rattle.cec_step.specs.Ready.{Begins, Brings, IsReady, Passes, first_text, point_of};
-ghost use Rattle.cec_step.specs.Steps.{IsOver, IsRoundStep, passed, passed_text, start_text, turn_at};
+ghost use Rattle.cec_step.specs.Steps.{IsOver, IsRoundStep, after_events, passed_text, start_text, turn_at};
 
 use cec_asm::TimedEvent;
 use cec_edges::EdgeWire;
@@ -15,13 +15,12 @@ use cec_run::{Totals, Turn, apply_event, first_time, next_turn};
 use cec_step_text::{behind, write_edge};
 use cec_trace::write_ports;
 use cec_wave::Edge;
-use cec_words::{counted, cut_at};
 use hdmi_blocks::Edid;
-use hdmi_core::{Sink, WriteFault};
+use hdmi_core::{Sink, WriteFault, counted, cut_at};
 
 /// What a run is made of: the television's EDID, the events in the order of their times, and the end.
 #[derive(Drop)]
-pub(crate) struct Course {
+pub(crate) struct RunInput {
     pub edid: Option<Edid>,
     pub events: Vec<TimedEvent>,
     pub end: u64,
@@ -37,7 +36,7 @@ pub(crate) struct Position {
     pub is_first: bool,
 }
 
-impl Course {
+impl RunInput {
     // The events that are left after so many.
     fn left(&self, applied: usize) -> &[TimedEvent]
         ensures { result.now ≡ drop applied self.now.events.items }
@@ -72,7 +71,7 @@ impl Position {
     }
 
     // What comes next in the run.
-    fn turn(&self, course: &Course) -> Turn
+    fn turn(&self, course: &RunInput) -> Turn
         ensures { result ≡ turn_at course.now.end (point_of course.now.events.items self.now) }
     {
         let left = course.left(self.applied);
@@ -80,7 +79,7 @@ impl Position {
     }
 
     // Applies the next event, which comes at this instant.
-    fn pass_event(&mut self, course: &Course, at: u64)
+    fn pass_event(&mut self, course: &RunInput, at: u64)
         requires turn { turn_at course.now.end (point_of course.now.events.items self.old) ≡ Apply at }
         requires ready { IsReady course.now.end (point_of course.now.events.items self.old) }
         ensures point { Passes at course.now.events.items self.old self.new }
@@ -95,12 +94,12 @@ impl Position {
     }
 
     /// Applies the events that come before the next round. Returns when that round begins; None where no round comes.
-    pub fn pass_events(&mut self, course: &Course) -> Option<u64>
+    pub fn pass_events(&mut self, course: &RunInput) -> Option<u64>
         requires { IsReady course.now.end (point_of course.now.events.items self.old) }
-        ensures point { point_of course.now.events.items self.new ≡ passed course.now.end (point_of course.now.events.items self.old) }
+        ensures point { point_of course.now.events.items self.new ≡ after_events course.now.end (point_of course.now.events.items self.old) }
         ensures comes { MatchOption result
             (IsOver course.now.end (point_of course.now.events.items self.old))
-            (λ begin. turn_at course.now.end (passed course.now.end (point_of course.now.events.items self.old)) ≡ Round begin) }
+            (λ begin. turn_at course.now.end (after_events course.now.end (point_of course.now.events.items self.old)) ≡ Round begin) }
         ensures rest { self.new.net.rest ≡ self.old.net.rest }
         ensures ready { IsReady course.now.end (point_of course.now.events.items self.new) }
     {
@@ -114,7 +113,7 @@ impl Position {
     }
 
     /// Runs the events and the round that come next. None where no round comes.
-    pub fn pass_round(&mut self, course: &Course) -> Option<RoundReport>
+    pub fn pass_round(&mut self, course: &RunInput) -> Option<RoundReport>
         requires { IsReady course.now.end (point_of course.now.events.items self.old) }
         ensures step { MatchOption result
             (IsOver course.now.end (point_of course.now.events.items self.old))
@@ -131,7 +130,7 @@ impl Position {
 
     /// Begins the round that comes next, with the events before it. Returns the first edge of its line; None where no
     /// round comes.
-    pub fn begin_round(&mut self, course: &Course) -> Option<Edge>
+    pub fn begin_round(&mut self, course: &RunInput) -> Option<Edge>
         requires { IsReady course.now.end (point_of course.now.events.items self.old) }
         ensures { MatchOption result
             (IsOver course.now.end (point_of course.now.events.items self.old))
@@ -147,7 +146,7 @@ impl Position {
     // Applies the next event, and writes its lines.
     fn write_event<S: Sink>(
         &mut self,
-        course: &Course,
+        course: &RunInput,
         at: u64,
         out: &mut S,
     ) -> Result<u128, WriteFault>
@@ -169,7 +168,7 @@ impl Position {
     }
 
     // Applies the events that come before the next round, and writes their lines.
-    fn write_events<S: Sink>(&mut self, course: &Course, out: &mut S) -> Result<u128, WriteFault>
+    fn write_events<S: Sink>(&mut self, course: &RunInput, out: &mut S) -> Result<u128, WriteFault>
         requires ready { IsReady course.now.end (point_of course.now.events.items self.old) }
         requires addressed { HasAddress course.now.edid }
         ensures { WrittenText (S.contents out.old) (S.contents out.new) (S.is_stuck out.old) (S.is_stuck out.new)
@@ -189,7 +188,7 @@ impl Position {
     }
 
     // Writes the lines that are due before any event: those of the ports, before the first round.
-    fn write_start<S: Sink>(&self, course: &Course, out: &mut S) -> Result<u128, WriteFault>
+    fn write_start<S: Sink>(&self, course: &RunInput, out: &mut S) -> Result<u128, WriteFault>
         requires addressed { HasAddress course.now.edid }
         ensures { WrittenText (S.contents out.old) (S.contents out.new) (S.is_stuck out.old) (S.is_stuck out.new)
             (start_text course.now.edid (point_of course.now.events.items self.now)) result }
@@ -204,7 +203,7 @@ impl Position {
     /// Applies the events that come before the next round, and writes what the trace has before that round.
     pub fn write_before<S: Sink>(
         &mut self,
-        course: &Course,
+        course: &RunInput,
         out: &mut S,
     ) -> Result<u128, WriteFault>
         requires ready { IsReady course.now.end (point_of course.now.events.items self.old) }

@@ -9,9 +9,8 @@ use crate::stepper::{StepError, Stepper};
 use cec_asm::{parse_script, parse_topology};
 use cec_run::emulate::EmulateError;
 use cec_step_text::{Command, CommandsError, parse_commands, whole};
-use cec_trace::root_of;
-use cec_words::{counted, cut_at};
-use hdmi_core::{Piece, Sink, WriteFault, write_line};
+use hdmi_blocks::root_of;
+use hdmi_core::{Piece, Sink, WriteFault, counted, cut_at, write_line};
 use std::alloc::Global;
 use thiserror::Error;
 
@@ -98,7 +97,7 @@ fn take_commands<S: Sink>(
 ///
 /// What is refused of the topology, the script and the topology's EDID, as by `emulate`; then the first line of the
 /// steps at fault; want of memory: then nothing was written. A failed write: then the front of the text was written,
-/// as long as it tells.
+/// as long as it reports.
 pub fn step_run<S: Sink>(
     alloc: Global,
     topology: &[u8],

@@ -65,8 +65,8 @@ impl Stepper {
     ghost use Rattle.std.specs.Option.{option_map};
     ghost use Rattle.cec_asm.specs.Script.{IsScript, course_of};
     ghost use Rattle.hdmi_blocks.specs.declared.edid.Edid.{Edid};
-    ghost use Rattle.cec_trace.specs.Root.{IsRoot as IsRootOf};
-    ghost use Rattle.cec_net.specs.State.{started};
+    ghost use Rattle.hdmi_blocks.specs.Root.{IsRoot as IsRootOf};
+    ghost use Rattle.cec_net.specs.State.{first_net};
     ghost use Rattle.cec_step.specs.Steps.{IsEdgeStep, IsNever, IsNoEdge, IsOver, IsRound, IsTaken, IsUntil, IsShown, begun_at, device_count, is_write};
 
     // Whether no round is left, as a step has found.
@@ -76,7 +76,7 @@ impl Stepper {
         self.is_over && !self.walk.is_begun()
     }
 
-    /// Finishes the round that was begun, or the next one, and writes what the trace has of it: its line, behind
+    /// Finishes the round that was begun, or the next one, and writes what the trace has of it: its line, after
     /// those of the events before it.
     ///
     /// # Errors
@@ -154,7 +154,7 @@ impl Stepper {
         requires script { IsScript (length topology.tree) (course_of script) }
         requires root { (edid : Option Edid) × IsRootOf (option_map (λ bytes. bytes.items) topology.edid) edid }
         ensures { IfOk result (λ stepper. (edid : Option Edid) × IsRootOf (option_map (λ bytes. bytes.items) topology.edid) edid
-            × (stepper ≡ begun_at edid (course_of script) (started topology.tree script.pulses.items))) }
+            × (stepper ≡ begun_at edid (course_of script) (first_net topology.tree script.pulses.items))) }
     {
         let walk = Walk::new(alloc, topology, script)?;
         let before = walk.place(alloc)?;

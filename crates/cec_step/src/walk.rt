@@ -1,19 +1,20 @@
 //! Where a run stands, and how its steps lead on.
 ghost use Rattle.std.specs.Prelude.{◌≡◌, ℕ, ◌++◌, Bool, List, Option, Result, Some, IsSome, length};
-ghost use Rattle.cec_words.specs.Cut.{WrittenText};
-ghost use Rattle.cec_trace.specs.Root.{HasAddress};
+ghost use Rattle.hdmi_core.specs.Cut.{WrittenText};
+ghost use Rattle.hdmi_blocks.specs.Root.{HasAddress};
 ghost use Rattle.cec_step.specs.Ready.{IsReady, point_of, run_of};
 ghost use Rattle.cec_step.specs.Steps.{step_text};
 ghost use Rattle.cec_step.specs.declared.stepper.StepError.TheVariants.{Write};
 
-use crate::position::{Course, Position};
+use crate::position::{Position, RunInput};
 use crate::stepper::StepError;
 use cec_asm::{Script, Topology};
 use cec_edges::EdgeWire;
 use cec_net::Net;
 use cec_step_text::{Break, behind, stops, whole};
-use cec_trace::{root_of, write_round, write_state};
+use cec_trace::{write_round, write_state};
 use cec_wire::Outcome;
+use hdmi_blocks::root_of;
 use hdmi_core::{Sink, WriteFault};
 use std::alloc::{AllocError, Global};
 use std::marker::Model;
@@ -27,7 +28,7 @@ const LEAP: u32 = 64;
 /// to it, and where it counts they are exchanged for those in which the run stands.
 #[derive(Drop)]
 pub(crate) struct Walk {
-    course: Course,
+    course: RunInput,
     /// After the last round that was finished, or at the start.
     last: Box<Position>,
     /// In the round that was begun, where one is.
@@ -36,7 +37,7 @@ pub(crate) struct Walk {
 }
 
 impl Model for Walk {
-    ghost use Rattle.cec_trace.specs.Root.{HasAddress};
+    ghost use Rattle.hdmi_blocks.specs.Root.{HasAddress};
     ghost use Rattle.cec_step.specs.Ready.{InsideIf, IsReady, begun_in, point_of, run_of};
     ghost use Rattle.cec_step.specs.Steps.{Steps};
 
@@ -56,7 +57,7 @@ fn step_error(fault: WriteFault) -> StepError
 
 // Writes what the trace has of a round with this outcome, from the position before it to that after it.
 fn write_step<S: Sink>(
-    course: &Course,
+    course: &RunInput,
     before: &mut Position,
     after: &Position,
     outcome: &Outcome,
@@ -78,8 +79,8 @@ impl Walk {
     ghost use Rattle.std.specs.Option.{option_map};
     ghost use Rattle.cec_asm.specs.Script.{IsScript, course_of};
     ghost use Rattle.hdmi_blocks.specs.declared.edid.Edid.{Edid};
-    ghost use Rattle.cec_trace.specs.Root.{IsRoot as IsRootOf};
-    ghost use Rattle.cec_net.specs.State.{started};
+    ghost use Rattle.hdmi_blocks.specs.Root.{IsRoot as IsRootOf};
+    ghost use Rattle.cec_net.specs.State.{first_net};
     ghost use Rattle.cec_step.specs.Over.{OverIf};
     ghost use Rattle.cec_step.specs.Ready.{Brings, IsFound, IsInside};
     ghost use Rattle.cec_step.specs.Steps.{IsEdgeStep, IsNever, IsNoEdge, IsOver, IsRound, IsRoundStep, IsTaken, IsUntil, IsFirstStep, IsShown, Skips, after_round, begun_at, device_count, in_round, is_write, shown_net};
@@ -338,7 +339,7 @@ impl Walk {
         requires script { IsScript (length topology.tree) (course_of script) }
         requires root { (edid : Option Edid) × IsRootOf (option_map (λ bytes. bytes.items) topology.edid) edid }
         ensures { IfOk result (λ walk. (edid : Option Edid) × IsRootOf (option_map (λ bytes. bytes.items) topology.edid) edid
-            × (walk ≡ begun_at edid (course_of script) (started topology.tree script.pulses.items))) }
+            × (walk ≡ begun_at edid (course_of script) (first_net topology.tree script.pulses.items))) }
     {
         let edid = match root_of(&topology.edid) {
             Ok(edid) => edid,
@@ -352,7 +353,7 @@ impl Walk {
         let inside = Box::new(alloc, last.copy())?;
         let last = Box::new(alloc, last)?;
         Ok(Walk {
-            course: Course {
+            course: RunInput {
                 edid,
                 events: script.events,
                 end: script.end,

@@ -4,8 +4,8 @@ use Rattle.std.specs.Str.{bytes_eq}
 use Rattle.hdmi_core.specs.Phys.{digit_value, is_hex_digit}
 use Rattle.hdmi_topo.specs.Node.{Node}
 use Rattle.hdmi_topo.specs.Tree.{device_named}
-use Rattle.cec_words.specs.Lines.{lines_of, is_skipped}
-use Rattle.cec_words.specs.Words.{words_of, one_of}
+use Rattle.hdmi_core.specs.Lines.{lines_of, is_skipped}
+use Rattle.hdmi_core.specs.Words.{words_of, one_of}
 use Rattle.cec_step_text.specs.declared.break_at.Break.{Break}
 use Rattle.cec_step_text.specs.declared.break_at.Break.TheVariants.{Opcode, Device, AnyBreak}
 use Rattle.cec_step_text.specs.declared.commands.Command.{Command}
@@ -40,7 +40,7 @@ abbrev pub no_more : List (List ℕ) → Option Break
 no_more [] = Some AnyBreak
 no_more (word ∷ words) = None
 
--- the words behind `until`
+-- the words after `until`
 abbrev pub break_of : List Node → List (List ℕ) → Option Break
 break_of tree [] = None
 break_of tree (what ∷ words) =
@@ -49,9 +49,9 @@ break_of tree (what ∷ words) =
     else if bytes_eq what (codes "break") then no_more words
     else None
 
-abbrev pub alone : List (List ℕ) → Command → Option Command
-alone [] command = Some command
-alone (word ∷ words) command = None
+abbrev pub command_alone : List (List ℕ) → Command → Option Command
+command_alone [] command = Some command
+command_alone (word ∷ words) command = None
 
 abbrev pub until_by : Option Break → Option Command
 until_by None = None
@@ -61,28 +61,28 @@ abbrev pub show_by : Option ℕ → Option Command
 show_by None = None
 show_by (Some device) = Some (Show device)
 
--- the word behind `show`
+-- the word after `show`
 abbrev pub shown_of : List Node → Option (List ℕ) → Option Command
 shown_of tree None = None
 shown_of tree (Some word) = show_by (device_named tree word)
 
-abbrev pub worded : List Node → List (List ℕ) → Option Command
-worded tree [] = None
-worded tree (verb ∷ words) =
-    if bytes_eq verb (codes "edge") then alone words Edge
-    else if bytes_eq verb (codes "round") then alone words Round
+abbrev pub command_of_words : List Node → List (List ℕ) → Option Command
+command_of_words tree [] = None
+command_of_words tree (verb ∷ words) =
+    if bytes_eq verb (codes "edge") then command_alone words Edge
+    else if bytes_eq verb (codes "round") then command_alone words Round
     else if bytes_eq verb (codes "until") then until_by (break_of tree words)
     else if bytes_eq verb (codes "show") then shown_of tree (one_of words)
     else None
 
 abbrev pub command_of : List Node → List ℕ → Option Command
-command_of tree line = worded tree (words_of line)
+command_of tree line = command_of_words tree (words_of line)
 
 abbrev pub onward : ℕ → List Command → Option Command → (List Command → Result (List Command) ℕ) → Result (List Command) ℕ
 onward line before None on = Err line
 onward line before (Some command) on = on (before ++ command ∷ [])
 
--- the commands of lines from this number on, behind those before, or the first line at fault
+-- the commands of lines from this number on, after those before, or the first line at fault
 abbrev pub lines_read : List Node → List (List ℕ) → ℕ → List Command → Result (List Command) ℕ
 lines_read tree [] number before = Ok before
 lines_read tree (line ∷ lines) number before =

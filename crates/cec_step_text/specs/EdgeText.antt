@@ -1,4 +1,4 @@
--- The line that tells an edge, and where each device then stands (the profile's own text).
+-- The line that reports an edge, and where each device then stands (the profile's own text).
 use Rattle.std.specs.Prelude.{ℕ, Bool, true, false, if◌then◌else◌, List, [], ◌∷◌, ◌++◌, codes}
 use Rattle.std.specs.Fmt.{decimal}
 use Rattle.std.specs.List.{concat, flat_map}

@@ -1,12 +1,11 @@
 //! Texts of steps.
 ghost use Rattle.std.specs.Prelude.{◌≡◌, ◌+◌, ◌≤◌, IfOk, IfErr, Ok, length};
 ghost use Rattle.std.specs.Option.{option_copied};
-ghost use Rattle.cec_words.specs.Words.{words_behind, words_of, one_of};
-ghost use Rattle.cec_step_text.specs.Commands.{IsFault, alone, break_of, byte_of, command_of, commands_of, device_to, no_more, opcode_named, shown_of, until_by};
+ghost use Rattle.hdmi_core.specs.Words.{words_behind, words_of, one_of};
+ghost use Rattle.cec_step_text.specs.Commands.{IsFault, command_alone, break_of, byte_of, command_of, commands_of, device_to, no_more, opcode_named, shown_of, until_by};
 
 use crate::break_at::Break;
-use cec_words::{first_line, first_word, is_skipped, one_word};
-use hdmi_core::{digit_value, is_hex_digit};
+use hdmi_core::{digit_value, first_line, first_word, is_hex_digit, is_skipped, one_word};
 use hdmi_topo::Tree;
 use std::alloc::{AllocFailed, Global};
 
@@ -118,8 +117,8 @@ fn shown_of(tree: &Tree<15>, word: Option<&[u8]>) -> Option<Command>
     }
 }
 
-fn alone(rest: Option<&[u8]>, command: Command) -> Option<Command>
-    ensures { result ≡ alone (words_behind (option_copied rest.entry)) command }
+fn command_alone(rest: Option<&[u8]>, command: Command) -> Option<Command>
+    ensures { result ≡ command_alone (words_behind (option_copied rest.entry)) command }
 {
     match rest {
         None => Some(command),
@@ -135,9 +134,9 @@ fn command_of(tree: &Tree<15>, line: &[u8]) -> Option<Command>
 {
     let (verb, rest) = first_word(line);
     if verb == b"edge".as_slice() {
-        alone(rest, Command::Edge)
+        command_alone(rest, Command::Edge)
     } else if verb == b"round".as_slice() {
-        alone(rest, Command::Round)
+        command_alone(rest, Command::Round)
     } else if verb == b"until".as_slice() {
         until(tree, rest)
     } else if verb == b"show".as_slice() {

@@ -2,8 +2,8 @@
 ghost use Rattle.std.specs.Prelude.{◌≡◌, ℕ, ◌≤◌, ◌∷◌, ◌++◌, [], codes, length};
 ghost use Rattle.std.specs.List.{flat_map};
 ghost use Rattle.hdmi_core.specs.Written.{WrittenLine};
-ghost use Rattle.cec_bits.specs.Follows.{shown};
-ghost use Rattle.cec_words.specs.Cut.{WrittenText};
+ghost use Rattle.cec_bits.specs.Follows.{standing_by_code};
+ghost use Rattle.hdmi_core.specs.Cut.{WrittenText};
 ghost use Rattle.cec_text.specs.ReadingText.{bit_digit, bits_text};
 ghost use Rattle.cec_step_text.specs.EdgeText.{device_text, edge_line, level_text, name_text, slot_text, standing_text};
 
@@ -12,8 +12,7 @@ use arrayvec::ArrayVec;
 use cec_bits::Standing;
 use cec_device::Device;
 use cec_wave::Edge;
-use cec_words::{counted, cut_at};
-use hdmi_core::{Piece, Sink, WriteFault, write_line};
+use hdmi_core::{Piece, Sink, WriteFault, counted, cut_at, write_line};
 
 /// The bits of a frame of sixteen blocks: as many are written at once.
 const MOST_BITS: usize = 160;
@@ -139,7 +138,7 @@ fn write_slot<S: Sink>(out: &mut S, slot: usize, bits: &[bool]) -> Result<u128, 
 
 // Writes where a receiver stands.
 fn write_standing<S: Sink>(out: &mut S, standing: Standing) -> Result<u128, WriteFault>
-    ensures { WrittenText (S.contents out.old) (S.contents out.new) (S.is_stuck out.old) (S.is_stuck out.new) (standing_text (shown standing.entry)) result }
+    ensures { WrittenText (S.contents out.old) (S.contents out.new) (S.is_stuck out.old) (S.is_stuck out.new) (standing_text (standing_by_code standing.entry)) result }
 {
     match standing {
         Standing::Idle => write_word(out, "idle"),
@@ -172,7 +171,7 @@ fn write_plugged<S: Sink>(
     standing: Standing,
 ) -> Result<u128, WriteFault>
     ensures { WrittenText (S.contents out.old) (S.contents out.new) (S.is_stuck out.old) (S.is_stuck out.new)
-        (name_text device.now.name ++ standing_text (shown standing.entry)) result }
+        (name_text device.now.name ++ standing_text (standing_by_code standing.entry)) result }
 {
     match write_name(out, device.name()) {
         Ok(count) => behind(count, write_standing(out, standing)),
@@ -186,7 +185,7 @@ fn write_device<S: Sink>(
     device: &Device<16>,
     standing: Standing,
 ) -> Result<u128, WriteFault>
-    ensures { WrittenText (S.contents out.old) (S.contents out.new) (S.is_stuck out.old) (S.is_stuck out.new) (device_text (shown standing.entry) device.now) result }
+    ensures { WrittenText (S.contents out.old) (S.contents out.new) (S.is_stuck out.old) (S.is_stuck out.new) (device_text (standing_by_code standing.entry) device.now) result }
 {
     if device.is_on_wire() {
         write_plugged(out, device, standing)
@@ -201,7 +200,7 @@ fn write_devices<S: Sink>(
     devices: &[Device<16>],
     standing: Standing,
 ) -> Result<u128, WriteFault>
-    ensures { WrittenText (S.contents out.old) (S.contents out.new) (S.is_stuck out.old) (S.is_stuck out.new) (flat_map (device_text (shown standing.entry)) devices.now) result }
+    ensures { WrittenText (S.contents out.old) (S.contents out.new) (S.is_stuck out.old) (S.is_stuck out.new) (flat_map (device_text (standing_by_code standing.entry)) devices.now) result }
 {
     let mut written = 0;
     for device in devices {
@@ -220,7 +219,7 @@ fn write_rest<S: Sink>(
     standing: Standing,
 ) -> Result<u128, WriteFault>
     ensures { WrittenText (S.contents out.old) (S.contents out.new) (S.is_stuck out.old) (S.is_stuck out.new)
-        (flat_map (device_text (shown standing.entry)) devices.now ++ codes "\n") result }
+        (flat_map (device_text (standing_by_code standing.entry)) devices.now ++ codes "\n") result }
 {
     match write_devices(out, devices, standing) {
         Ok(count) => behind(count, write_word(out, "\n")),
@@ -235,7 +234,7 @@ pub fn write_edge<S: Sink>(
     edge: Edge,
     standing: Standing,
 ) -> Result<u128, WriteFault>
-    ensures { WrittenText (S.contents out.old) (S.contents out.new) (S.is_stuck out.old) (S.is_stuck out.new) (edge_line devices.now edge (shown standing.entry)) result }
+    ensures { WrittenText (S.contents out.old) (S.contents out.new) (S.is_stuck out.old) (S.is_stuck out.new) (edge_line devices.now edge (standing_by_code standing.entry)) result }
 {
     match write_level(out, edge) {
         Ok(count) => behind(count, write_rest(out, devices, standing)),

@@ -6,17 +6,17 @@ use Rattle.std.proofs.lemmas.List.Elements.{All-append, All-cons, All-head, All-
 use Rattle.std.proofs.lemmas.List.Folds.{list_all-append}
 use Rattle.std.proofs.lemmas.Grind.{flat_map-append}
 use Rattle.std.proofs.lemmas.List.{map-append}
-use Rattle.cec_sweep.specs.Series.{Series, counted, instants, instants_of}
-use Rattle.cec_sweep.specs.Stretches.{AreStretches, DifferInTurn, Draft, IsFound, Stretch, all_hold, are_all_ok, are_same, begun, ended, instants_in, longer, next, stretch_line, stretches_text, with_instant}
+use Rattle.cec_sweep.specs.Series.{Series, instants_from, instants, instants_of}
+use Rattle.cec_sweep.specs.Stretches.{AreStretches, DifferInTurn, StretchesDraft, IsFound, Stretch, all_hold, are_all_ok, are_same, first_draft, draft_at_end, instants_in, longer, next, stretch_line, stretches_text, with_instant}
 use lib.Pointwise.{pointwise_decides}
 use Rattle.cec_sweep.proofs.Instants.{counted_next, counted_none, instants_more, one_instant}
 
 -- A draft of the instants of a series up to the last one of its last stretch.
-pub record IsDraft (Found : ℕ → List Bool → Type 0) (s : Series) (d : Draft) : Type 0 where
+pub record IsDraft (Found : ℕ → List Bool → Type 0) (s : Series) (d : StretchesDraft) : Type 0 where
   pub before : List Stretch
   pub count : ℕ
   pub grid : d.last.last ≡ d.last.first + count * s.step
-  pub whole : flat_map (instants_in s.step) before ++ (instants_in s.step d.last ++ counted (d.last.last + s.step) s.step ((s.to - d.last.last) / s.step)) ≡ instants_of s
+  pub whole : flat_map (instants_in s.step) before ++ (instants_in s.step d.last ++ instants_from (d.last.last + s.step) s.step ((s.to - d.last.last) / s.step)) ≡ instants_of s
   pub found : All (IsFound Found s.step) before
   pub found_last : IsFound Found s.step d.last
   pub longest : DifferInTurn (map (λ x. x.verdicts) before ++ d.last.verdicts ∷ [])
@@ -50,7 +50,7 @@ booleans false false = (λ e. refl, λ e. refl)
 
 -- ---- the first instant
 
-pub begun_is : (Found : ℕ → List Bool → Type 0) (s : Series) (vs : List Bool) → 0 < s.step → Found s.from vs → IsDraft Found s (begun s.from vs)
+pub begun_is : (Found : ℕ → List Bool → Type 0) (s : Series) (vs : List Bool) → 0 < s.step → Found s.from vs → IsDraft Found s (first_draft s.from vs)
 begun_is Found s vs moves found = record {
   before = [];
   count = 0;
@@ -65,15 +65,15 @@ begun_is Found s vs moves found = record {
   alone : instants s.step s.from s.from ≡ s.from ∷ []
   alone = one_instant s.step s.from moves
 
-  one_more : (n : ℕ) → s.from ∷ counted (s.from + s.step) s.step n ≡ counted s.from s.step (n + 1)
-  one_more n = let e : suc n ≡ n + 1 = omega arith in ap (counted s.from s.step) e
+  one_more : (n : ℕ) → s.from ∷ instants_from (s.from + s.step) s.step n ≡ instants_from s.from s.step (n + 1)
+  one_more n = let e : suc n ≡ n + 1 = omega arith in ap (instants_from s.from s.step) e
 
-  first_is : instants s.step s.from s.from ++ counted (s.from + s.step) s.step ((s.to - s.from) / s.step) ≡ instants_of s
-  first_is = ap (λ ts. ts ++ counted (s.from + s.step) s.step ((s.to - s.from) / s.step)) alone ∙ one_more ((s.to - s.from) / s.step)
+  first_is : instants s.step s.from s.from ++ instants_from (s.from + s.step) s.step ((s.to - s.from) / s.step) ≡ instants_of s
+  first_is = ap (λ ts. ts ++ instants_from (s.from + s.step) s.step ((s.to - s.from) / s.step)) alone ∙ one_more ((s.to - s.from) / s.step)
 
 -- ---- one more
 
-longer_is : (Found : ℕ → List Bool → Type 0) (s : Series) (d : Draft) → 0 < s.step → d.last.last ≤ s.to → s.step ≤ s.to - d.last.last → Found (d.last.last + s.step) d.last.verdicts
+longer_is : (Found : ℕ → List Bool → Type 0) (s : Series) (d : StretchesDraft) → 0 < s.step → d.last.last ≤ s.to → s.step ≤ s.to - d.last.last → Found (d.last.last + s.step) d.last.verdicts
     → IsDraft Found s d → IsDraft Found s (longer d (d.last.last + s.step))
 longer_is Found s d moves within room found is = record {
   before = is.before;
@@ -90,13 +90,13 @@ longer_is Found s d moves within room found is = record {
   more : instants s.step d.last.first (d.last.last + s.step) ≡ instants_in s.step d.last ++ (d.last.last + s.step) ∷ []
   more = instants_more s.step d.last.first is.count d.last.last moves is.grid
 
-  rest : instants s.step d.last.first (d.last.last + s.step) ++ counted (d.last.last + s.step + s.step) s.step ((s.to - (d.last.last + s.step)) / s.step)
-      ≡ instants_in s.step d.last ++ counted (d.last.last + s.step) s.step ((s.to - d.last.last) / s.step)
-  rest = ap (λ ts. ts ++ counted (d.last.last + s.step + s.step) s.step ((s.to - (d.last.last + s.step)) / s.step)) more
-      ∙ append_assoc (instants_in s.step d.last) ((d.last.last + s.step) ∷ []) (counted (d.last.last + s.step + s.step) s.step ((s.to - (d.last.last + s.step)) / s.step))
+  rest : instants s.step d.last.first (d.last.last + s.step) ++ instants_from (d.last.last + s.step + s.step) s.step ((s.to - (d.last.last + s.step)) / s.step)
+      ≡ instants_in s.step d.last ++ instants_from (d.last.last + s.step) s.step ((s.to - d.last.last) / s.step)
+  rest = ap (λ ts. ts ++ instants_from (d.last.last + s.step + s.step) s.step ((s.to - (d.last.last + s.step)) / s.step)) more
+      ∙ append_assoc (instants_in s.step d.last) ((d.last.last + s.step) ∷ []) (instants_from (d.last.last + s.step + s.step) s.step ((s.to - (d.last.last + s.step)) / s.step))
       ∙ ap (λ ts. instants_in s.step d.last ++ ts) (sym (counted_next s.step d.last.last s.to moves within room))
 
-next_is : (Found : ℕ → List Bool → Type 0) (s : Series) (d : Draft) (vs : List Bool) → 0 < s.step → d.last.last ≤ s.to → s.step ≤ s.to - d.last.last → Found (d.last.last + s.step) vs
+next_is : (Found : ℕ → List Bool → Type 0) (s : Series) (d : StretchesDraft) (vs : List Bool) → 0 < s.step → d.last.last ≤ s.to → s.step ≤ s.to - d.last.last → Found (d.last.last + s.step) vs
     → d.last.verdicts ≢ vs → IsDraft Found s d → IsDraft Found s (next d (d.last.last + s.step) vs)
 next_is Found s d vs moves within room found differs is = record {
   before = is.before ++ d.last ∷ [];
@@ -113,14 +113,14 @@ next_is Found s d vs moves within room found differs is = record {
   alone : instants s.step (d.last.last + s.step) (d.last.last + s.step) ≡ (d.last.last + s.step) ∷ []
   alone = one_instant s.step (d.last.last + s.step) moves
 
-  rest : flat_map (instants_in s.step) (is.before ++ d.last ∷ []) ++ (instants s.step (d.last.last + s.step) (d.last.last + s.step) ++ counted (d.last.last + s.step + s.step) s.step ((s.to - (d.last.last + s.step)) / s.step))
-      ≡ flat_map (instants_in s.step) is.before ++ (instants_in s.step d.last ++ counted (d.last.last + s.step) s.step ((s.to - d.last.last) / s.step))
-  rest = ap (λ ts. flat_map (instants_in s.step) (is.before ++ d.last ∷ []) ++ (ts ++ counted (d.last.last + s.step + s.step) s.step ((s.to - (d.last.last + s.step)) / s.step))) alone
+  rest : flat_map (instants_in s.step) (is.before ++ d.last ∷ []) ++ (instants s.step (d.last.last + s.step) (d.last.last + s.step) ++ instants_from (d.last.last + s.step + s.step) s.step ((s.to - (d.last.last + s.step)) / s.step))
+      ≡ flat_map (instants_in s.step) is.before ++ (instants_in s.step d.last ++ instants_from (d.last.last + s.step) s.step ((s.to - d.last.last) / s.step))
+  rest = ap (λ ts. flat_map (instants_in s.step) (is.before ++ d.last ∷ []) ++ (ts ++ instants_from (d.last.last + s.step + s.step) s.step ((s.to - (d.last.last + s.step)) / s.step))) alone
       ∙ ap (λ ts. flat_map (instants_in s.step) (is.before ++ d.last ∷ []) ++ ts) (sym (counted_next s.step d.last.last s.to moves within room))
-      ∙ ap (λ ts. ts ++ counted (d.last.last + s.step) s.step ((s.to - d.last.last) / s.step)) (flat_map_push (instants_in s.step) is.before d.last)
-      ∙ append_assoc (flat_map (instants_in s.step) is.before) (instants_in s.step d.last) (counted (d.last.last + s.step) s.step ((s.to - d.last.last) / s.step))
+      ∙ ap (λ ts. ts ++ instants_from (d.last.last + s.step) s.step ((s.to - d.last.last) / s.step)) (flat_map_push (instants_in s.step) is.before d.last)
+      ∙ append_assoc (flat_map (instants_in s.step) is.before) (instants_in s.step d.last) (instants_from (d.last.last + s.step) s.step ((s.to - d.last.last) / s.step))
 
-by_same : (Found : ℕ → List Bool → Type 0) (s : Series) (d : Draft) (vs : List Bool) (same : Bool) → 0 < s.step → d.last.last ≤ s.to → s.step ≤ s.to - d.last.last → Found (d.last.last + s.step) vs
+by_same : (Found : ℕ → List Bool → Type 0) (s : Series) (d : StretchesDraft) (vs : List Bool) (same : Bool) → 0 < s.step → d.last.last ≤ s.to → s.step ≤ s.to - d.last.last → Found (d.last.last + s.step) vs
     → (same ≡ true → d.last.verdicts ≡ vs) → (d.last.verdicts ≡ vs → same ≡ true) → IsDraft Found s d
     → IsDraft Found s (cond same (longer d (d.last.last + s.step)) (next d (d.last.last + s.step) vs))
 by_same Found s d vs true moves within room found equal told is =
@@ -128,7 +128,7 @@ by_same Found s d vs true moves within room found equal told is =
 by_same Found s d vs false moves within room found equal told is =
     next_is Found s d vs moves within room found (λ e. absurd (true≢false (sym (told e)))) is
 
-pub more_is : (Found : ℕ → List Bool → Type 0) (s : Series) (d : Draft) (vs : List Bool) → 0 < s.step → d.last.last ≤ s.to → s.step ≤ s.to - d.last.last → Found (d.last.last + s.step) vs
+pub more_is : (Found : ℕ → List Bool → Type 0) (s : Series) (d : StretchesDraft) (vs : List Bool) → 0 < s.step → d.last.last ≤ s.to → s.step ≤ s.to - d.last.last → Found (d.last.last + s.step) vs
     → IsDraft Found s d → IsDraft Found s (with_instant d (d.last.last + s.step) vs)
 more_is Found s d vs moves within room found is =
     let decides = pointwise_decides (λ x y. booleans x y) d.last.verdicts vs in
@@ -136,8 +136,8 @@ more_is Found s d vs moves within room found is =
 
 -- ---- the last instant
 
-pub ended_is : (Found : ℕ → List Bool → Type 0) (s : Series) (d : Draft) → 0 < s.step → s.to - d.last.last < s.step → IsDraft Found s d
-    → (stretches : List Stretch) × AreStretches Found s stretches × ((ended d).text ≡ stretches_text stretches) × (d.holds ≡ all_hold stretches)
+pub ended_is : (Found : ℕ → List Bool → Type 0) (s : Series) (d : StretchesDraft) → 0 < s.step → s.to - d.last.last < s.step → IsDraft Found s d
+    → (stretches : List Stretch) × AreStretches Found s stretches × ((draft_at_end d).text ≡ stretches_text stretches) × (d.holds ≡ all_hold stretches)
 ended_is Found s d moves last is = (is.before ++ d.last ∷ [], are, ap (λ t. t ++ stretch_line d.last) is.text ∙ sym (flat_map_push stretch_line is.before d.last), is.holds ∙ sym (all_hold_push is.before d.last)) where
   all : flat_map (instants_in s.step) (is.before ++ d.last ∷ []) ≡ instants_of s
   all = flat_map_push (instants_in s.step) is.before d.last
@@ -162,33 +162,33 @@ over Found step (x ∷ xs) h =
     (over Found step xs (All-tail (IsFound Found step) x xs h))
 
 -- those before the next instant
-pub over_before : (Found : ℕ → List Bool → Type 0) (s : Series) (d : Draft) → 0 < s.step → d.last.last ≤ s.to → s.step ≤ s.to - d.last.last → IsDraft Found s d
+pub over_before : (Found : ℕ → List Bool → Type 0) (s : Series) (d : StretchesDraft) → 0 < s.step → d.last.last ≤ s.to → s.step ≤ s.to - d.last.last → IsDraft Found s d
     → (before after : List ℕ) × (instants_of s ≡ before ++ (d.last.last + s.step) ∷ after) × All (λ t. (vs : List Bool) × Found t vs) before
 over_before Found s d moves within room is = (
   flat_map (instants_in s.step) (is.before ++ d.last ∷ []),
-  counted (d.last.last + s.step + s.step) s.step ((s.to - (d.last.last + s.step)) / s.step),
+  instants_from (d.last.last + s.step + s.step) s.step ((s.to - (d.last.last + s.step)) / s.step),
   split,
   over Found s.step (is.before ++ d.last ∷ []) (All-push (IsFound Found s.step) is.before d.last is.found is.found_last),
 ) where
-  split : instants_of s ≡ flat_map (instants_in s.step) (is.before ++ d.last ∷ []) ++ (d.last.last + s.step) ∷ counted (d.last.last + s.step + s.step) s.step ((s.to - (d.last.last + s.step)) / s.step)
-  split = sym is.whole ∙ sym (append_assoc (flat_map (instants_in s.step) is.before) (instants_in s.step d.last) (counted (d.last.last + s.step) s.step ((s.to - d.last.last) / s.step)))
-      ∙ ap (λ ts. ts ++ counted (d.last.last + s.step) s.step ((s.to - d.last.last) / s.step)) (sym (flat_map_push (instants_in s.step) is.before d.last))
+  split : instants_of s ≡ flat_map (instants_in s.step) (is.before ++ d.last ∷ []) ++ (d.last.last + s.step) ∷ instants_from (d.last.last + s.step + s.step) s.step ((s.to - (d.last.last + s.step)) / s.step)
+  split = sym is.whole ∙ sym (append_assoc (flat_map (instants_in s.step) is.before) (instants_in s.step d.last) (instants_from (d.last.last + s.step) s.step ((s.to - d.last.last) / s.step)))
+      ∙ ap (λ ts. ts ++ instants_from (d.last.last + s.step) s.step ((s.to - d.last.last) / s.step)) (sym (flat_map_push (instants_in s.step) is.before d.last))
       ∙ ap (λ ts. flat_map (instants_in s.step) (is.before ++ d.last ∷ []) ++ ts) (counted_next s.step d.last.last s.to moves within room)
 
 -- ---- as they are made
 
-pub draft_begun : (Found : ℕ → List Bool → Type 0) (s : Series) (d : Draft) (at : ℕ) (vs : List Bool) → at ≡ s.from → d ≡ begun at vs → 0 < s.step → Found at vs → IsDraft Found s d
+pub draft_begun : (Found : ℕ → List Bool → Type 0) (s : Series) (d : StretchesDraft) (at : ℕ) (vs : List Bool) → at ≡ s.from → d ≡ first_draft at vs → 0 < s.step → Found at vs → IsDraft Found s d
 draft_begun Found s d at vs is made moves found =
-    subst (IsDraft Found s) (sym (made ∙ ap (λ t. begun t vs) is)) (begun_is Found s vs moves (subst (λ t. Found t vs) is found))
+    subst (IsDraft Found s) (sym (made ∙ ap (λ t. first_draft t vs) is)) (begun_is Found s vs moves (subst (λ t. Found t vs) is found))
 
-last_by : (d : Draft) (t : ℕ) (vs : List Bool) (same : Bool) → (cond same (longer d t) (next d t vs)).last.last ≡ t
+last_by : (d : StretchesDraft) (t : ℕ) (vs : List Bool) (same : Bool) → (cond same (longer d t) (next d t vs)).last.last ≡ t
 last_by d t vs true = refl
 last_by d t vs false = refl
 
-pub last_is : (d e : Draft) (t : ℕ) (vs : List Bool) → e ≡ with_instant d t vs → e.last.last ≡ t
-last_is d e t vs made = ap (λ (x : Draft). x.last.last) made ∙ last_by d t vs (are_same d.last.verdicts vs)
+pub last_is : (d e : StretchesDraft) (t : ℕ) (vs : List Bool) → e ≡ with_instant d t vs → e.last.last ≡ t
+last_is d e t vs made = ap (λ (x : StretchesDraft). x.last.last) made ∙ last_by d t vs (are_same d.last.verdicts vs)
 
-pub draft_more : (Found : ℕ → List Bool → Type 0) (s : Series) (d e : Draft) (at step to : ℕ) (vs : List Bool) → step ≡ s.step → to ≡ s.to → d.last.last ≡ at → e ≡ with_instant d (at + step) vs
+pub draft_more : (Found : ℕ → List Bool → Type 0) (s : Series) (d e : StretchesDraft) (at step to : ℕ) (vs : List Bool) → step ≡ s.step → to ≡ s.to → d.last.last ≡ at → e ≡ with_instant d (at + step) vs
     → 0 < s.step → at ≤ to → step ≤ to - at → Found (at + step) vs → IsDraft Found s d → IsDraft Found s e
 draft_more Found s d e at step to vs step_is to_is last made moves within room found is =
     let t : at + step ≡ d.last.last + s.step = omega (arith, step_is, last) in
@@ -196,10 +196,10 @@ draft_more Found s d e at step to vs step_is to_is last made moves within room f
     let more : s.step ≤ s.to - d.last.last = omega (arith, step_is, to_is, last, room) in
     subst (IsDraft Found s) (sym (made ∙ ap (λ u. with_instant d u vs) t)) (more_is Found s d vs moves before more (subst (λ u. Found u vs) t found) is)
 
-pub draft_ended : (Found : ℕ → List Bool → Type 0) (s : Series) (d e : Draft) (at step to : ℕ) → step ≡ s.step → to ≡ s.to → d.last.last ≡ at → e ≡ ended d
+pub draft_ended : (Found : ℕ → List Bool → Type 0) (s : Series) (d e : StretchesDraft) (at step to : ℕ) → step ≡ s.step → to ≡ s.to → d.last.last ≡ at → e ≡ draft_at_end d
     → 0 < s.step → to - at < step → IsDraft Found s d
     → (stretches : List Stretch) × AreStretches Found s stretches × (e.text ≡ stretches_text stretches) × (e.holds ≡ all_hold stretches)
 draft_ended Found s d e at step to step_is to_is last made moves none is =
     let past : s.to - d.last.last < s.step = omega (arith, step_is, to_is, last, none) in
     let done = ended_is Found s d moves past is in
-    (done.0, done.1, ap (λ (x : Draft). x.text) made ∙ done.2, ap (λ (x : Draft). x.holds) made ∙ done.3)
+    (done.0, done.1, ap (λ (x : StretchesDraft). x.text) made ∙ done.2, ap (λ (x : StretchesDraft). x.holds) made ∙ done.3)

@@ -1,27 +1,27 @@
--- Where times stand in the lines of a script (own): behind `at`, `pulse` and `end`, and in the windows of expectations behind
+-- Where times stand in the lines of a script (own): after `at`, `pulse` and `end`, and in the windows of expectations after
 -- `within`, `from`, `to` and `state`; a label may stand before each.
 use Rattle.std.specs.Prelude.{ℕ, ◌||◌, Bool, true, false, if◌then◌else◌, codes, List}
 use Rattle.std.specs.Str.{bytes_eq}
-use Rattle.cec_sweep.specs.declared.places.Place.{Place}
-use Rattle.cec_sweep.specs.declared.places.Place.TheVariants.{Begin, Name, Verb, Expectation, Window, From, To, Time, Other}
+use Rattle.cec_sweep.specs.declared.places.WordRole.{WordRole}
+use Rattle.cec_sweep.specs.declared.places.WordRole.TheVariants.{Begin, Name, Verb, Expectation, Window, From, To, Time, Other}
 
 abbrev pub is_time_verb : List ℕ → Bool
 is_time_verb word = bytes_eq word (codes "at") || bytes_eq word (codes "pulse") || bytes_eq word (codes "end")
 
-abbrev pub behind_verb : List ℕ → Place
+abbrev pub behind_verb : List ℕ → WordRole
 behind_verb word =
     if is_time_verb word then Time
     else if bytes_eq word (codes "expect") then Expectation
     else Other
 
-abbrev pub behind_window : List ℕ → Place
+abbrev pub behind_window : List ℕ → WordRole
 behind_window word =
     if bytes_eq word (codes "from") then From
     else if bytes_eq word (codes "within") || bytes_eq word (codes "state") then Time
     else Other
 
--- the place behind a word
-abbrev pub next_place : Place → List ℕ → Place
+-- the place after a word
+abbrev pub next_place : WordRole → List ℕ → WordRole
 next_place Begin word = if bytes_eq word (codes "label") then Name else behind_verb word
 next_place Name word = Verb
 next_place Verb word = behind_verb word
@@ -32,7 +32,7 @@ next_place To word = if bytes_eq word (codes "to") then Time else Other
 next_place Time word = Other
 next_place Other word = Other
 
-abbrev pub is_time : Place → Bool
+abbrev pub is_time : WordRole → Bool
 is_time Begin = false
 is_time Name = false
 is_time Verb = false

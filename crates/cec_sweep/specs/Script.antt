@@ -3,36 +3,36 @@
 use Rattle.std.specs.Prelude.{ℕ, ◌+◌, ◌==◌, ◌&&◌, Bool, if◌then◌else◌, length, List, [], ◌∷◌, ◌++◌, Option, Some, None, Result, Ok, Err}
 use Rattle.std.specs.Fmt.{decimal}
 use Rattle.std.specs.List.{flat_map}
-use Rattle.cec_words.specs.Lines.{lines_of}
-use Rattle.cec_words.specs.Words.{words_of}
+use Rattle.hdmi_core.specs.Lines.{lines_of}
+use Rattle.hdmi_core.specs.Words.{words_of}
 use Rattle.cec_sweep.specs.Places.{is_time, next_place}
 use Rattle.cec_sweep.specs.Series.{Series, is_range, series_in}
-use Rattle.cec_sweep.specs.declared.places.Place.{Place}
-use Rattle.cec_sweep.specs.declared.places.Place.TheVariants.{Begin}
+use Rattle.cec_sweep.specs.declared.places.WordRole.{WordRole}
+use Rattle.cec_sweep.specs.declared.places.WordRole.TheVariants.{Begin}
 use Rattle.cec_sweep.specs.declared.series.RangeCause.{RangeCause}
 use Rattle.cec_sweep.specs.declared.series.RangeCause.TheVariants.{Range}
 use Rattle.cec_sweep.specs.declared.script.RangeFault.{RangeFault}
 
-abbrev pub is_range_at : Place → List ℕ → Bool
+abbrev pub is_range_at : WordRole → List ℕ → Bool
 is_range_at place word = is_time place && is_range word
 
 -- ---- the range
 
--- a range, behind the one that was seen
-abbrev pub taken : ℕ → Option Series → Result Series RangeCause → Result (Option Series) RangeFault
-taken number seen (Err cause) = Err (record { line = number; cause = cause })
-taken number None (Ok s) = Ok (Some s)
-taken number (Some before) (Ok s) = Err (record { line = number; cause = Range })
+-- a range, after the one that was seen
+abbrev pub with_range : ℕ → Option Series → Result Series RangeCause → Result (Option Series) RangeFault
+with_range number seen (Err cause) = Err (record { line = number; cause = cause })
+with_range number None (Ok s) = Ok (Some s)
+with_range number (Some before) (Ok s) = Err (record { line = number; cause = Range })
 
-abbrev pub with_word : ℕ → Place → Option Series → List ℕ → Result (Option Series) RangeFault
-with_word number place seen word = if is_range_at place word then taken number seen (series_in word) else Ok seen
+abbrev pub with_word : ℕ → WordRole → Option Series → List ℕ → Result (Option Series) RangeFault
+with_word number place seen word = if is_range_at place word then with_range number seen (series_in word) else Ok seen
 
 abbrev pub and_then : Result (Option Series) RangeFault → (Option Series → Result (Option Series) RangeFault) → Result (Option Series) RangeFault
 and_then (Err fault) next = Err fault
 and_then (Ok seen) next = next seen
 
 -- these words of a line, of which the first has this place
-abbrev pub words_ranged : ℕ → Place → Option Series → List (List ℕ) → Result (Option Series) RangeFault
+abbrev pub words_ranged : ℕ → WordRole → Option Series → List (List ℕ) → Result (Option Series) RangeFault
 words_ranged number place seen [] = Ok seen
 words_ranged number place seen (word ∷ words) = and_then (with_word number place seen word) (λ s. words_ranged number (next_place place word) s words)
 
@@ -48,15 +48,15 @@ range_of script = lines_ranged 1 None (lines_of script)
 -- ---- the script at an instant
 
 -- in the place of a range stands the instant
-abbrev pub word_at : ℕ → Place → List ℕ → List ℕ
+abbrev pub word_at : ℕ → WordRole → List ℕ → List ℕ
 word_at t place word = if is_range_at place word then decimal t else word
 
--- a space behind a word, or the end of the line
+-- a space after a word, or the end of the line
 abbrev pub mark_before : List (List ℕ) → List ℕ
 mark_before [] = 10 ∷ []
 mark_before (word ∷ words) = 32 ∷ []
 
-abbrev pub words_at : ℕ → Place → List (List ℕ) → List ℕ
+abbrev pub words_at : ℕ → WordRole → List (List ℕ) → List ℕ
 words_at t place [] = []
 words_at t place (word ∷ words) = (word_at t place word ++ mark_before words) ++ words_at t (next_place place word) words
 

@@ -1,7 +1,7 @@
 -- Series of instants in the place of a time (own): `T..U`, each microsecond from T to U, or `T..U/S`, every S microseconds from T on.
 use Rattle.std.specs.Prelude.{◌≡◌, ℕ, zero, suc, ◌+◌, ◌-◌, ◌/◌, ◌<◌, ◌≤◌, ◌==◌, nat_lt, nat_le, ◌&&◌, Bool, if◌then◌else◌, length, take, drop, slice_index, List, [], ◌∷◌, Option, Some, None, Result, Ok, Err}
 use Rattle.std.specs.List.{position_or_len}
-use Rattle.cec_words.specs.Number.{number_of}
+use Rattle.hdmi_core.specs.Number.{number_of}
 use Rattle.cec_sweep.specs.declared.series.RangeCause.{RangeCause}
 use Rattle.cec_sweep.specs.declared.series.RangeCause.TheVariants.{Number, Order}
 
@@ -18,13 +18,13 @@ pub record IsSeries (s : Series) : Type 0 where
 -- ---- instants
 
 -- so many instants, in order
-abbrev pub counted : ℕ → ℕ → ℕ → List ℕ
-counted from step zero = []
-counted from step (suc n) = from ∷ counted (from + step) step n
+abbrev pub instants_from : ℕ → ℕ → ℕ → List ℕ
+instants_from from step zero = []
+instants_from from step (suc n) = from ∷ instants_from (from + step) step n
 
 -- the instants from one time to another, in order
 abbrev pub instants : ℕ → ℕ → ℕ → List ℕ
-instants step from to = counted from step ((to - from) / step + 1)
+instants step from to = instants_from from step ((to - from) / step + 1)
 
 abbrev pub instants_of : Series → List ℕ
 instants_of s = instants s.step s.from s.to
@@ -40,9 +40,9 @@ abbrev pub is_range : List ℕ → Bool
 is_range word = (slice_index word (place_of 46 word) == 46) && (slice_index word (place_of 46 word + 1) == 46)
 
 -- a time, at most 1,000,000,000,000
-abbrev pub timed : Option ℕ → Option ℕ
-timed None = None
-timed (Some t) = if nat_le t 1000000000000 then Some t else None
+abbrev pub time_in_range : Option ℕ → Option ℕ
+time_in_range None = None
+time_in_range (Some t) = if nat_le t 1000000000000 then Some t else None
 
 abbrev pub positive : Option ℕ → Option ℕ
 positive None = None
@@ -63,8 +63,8 @@ series_by (Some from) (Some to) (Some step) = series_to from to step
 
 -- `U` or `U/S`
 abbrev pub series_until : Option ℕ → List ℕ → Result Series RangeCause
-series_until from text = series_by from (timed (number_of (take (place_of 47 text) text))) (step_at text (place_of 47 text))
+series_until from text = series_by from (time_in_range (number_of (take (place_of 47 text) text))) (step_at text (place_of 47 text))
 
 -- a range: `T..U` or `T..U/S`
 abbrev pub series_in : List ℕ → Result Series RangeCause
-series_in word = series_until (timed (number_of (take (place_of 46 word) word))) (drop (place_of 46 word + 2) word)
+series_in word = series_until (time_in_range (number_of (take (place_of 46 word) word))) (drop (place_of 46 word + 2) word)

@@ -5,7 +5,7 @@ use Rattle.std.specs.Cmp.Lexicographic.{pointwise}
 use Rattle.std.specs.Fmt.{decimal}
 use Rattle.std.specs.List.{All, concat, flat_map, list_all}
 use Rattle.cec_sweep.specs.Series.{Series, instants, instants_of}
-use Rattle.cec_sweep.specs.declared.stretches.Draft.{Draft as DraftMade}
+use Rattle.cec_sweep.specs.declared.stretches.StretchesDraft.{StretchesDraft as DraftMade}
 
 -- from its first instant to its last, and the verdicts of each
 pub record Stretch : Type 0 where
@@ -55,29 +55,29 @@ all_hold stretches = list_all (λ s. are_all_ok s.verdicts) stretches
 -- ---- as they are made
 
 -- the lines of the stretches that have ended, the one that has not, and whether all held so far
-pub record Draft : Type 0 where
+pub record StretchesDraft : Type 0 where
   pub text : List ℕ
   pub last : Stretch
   pub holds : Bool
 
-abbrev pub draft_as : DraftMade → Draft
+abbrev pub draft_as : DraftMade → StretchesDraft
 draft_as d = record { text = d.text.items; last = record { first = d.first; last = d.last; verdicts = d.verdicts.items }; holds = d.holds }
 
 abbrev pub are_same : List Bool → List Bool → Bool
 are_same vs ws = pointwise beq vs ws
 
-abbrev pub begun : ℕ → List Bool → Draft
-begun t vs = record { text = []; last = record { first = t; last = t; verdicts = vs }; holds = are_all_ok vs }
+abbrev pub first_draft : ℕ → List Bool → StretchesDraft
+first_draft t vs = record { text = []; last = record { first = t; last = t; verdicts = vs }; holds = are_all_ok vs }
 
-abbrev pub longer : Draft → ℕ → Draft
+abbrev pub longer : StretchesDraft → ℕ → StretchesDraft
 longer d t = record { text = d.text; last = record { first = d.last.first; last = t; verdicts = d.last.verdicts }; holds = d.holds }
 
-abbrev pub ended : Draft → Draft
-ended d = record { text = d.text ++ stretch_line d.last; last = d.last; holds = d.holds }
+abbrev pub draft_at_end : StretchesDraft → StretchesDraft
+draft_at_end d = record { text = d.text ++ stretch_line d.last; last = d.last; holds = d.holds }
 
-abbrev pub next : Draft → ℕ → List Bool → Draft
-next d t vs = record { text = (ended d).text; last = record { first = t; last = t; verdicts = vs }; holds = d.holds && are_all_ok vs }
+abbrev pub next : StretchesDraft → ℕ → List Bool → StretchesDraft
+next d t vs = record { text = (draft_at_end d).text; last = record { first = t; last = t; verdicts = vs }; holds = d.holds && are_all_ok vs }
 
 -- with one more instant
-abbrev pub with_instant : Draft → ℕ → List Bool → Draft
+abbrev pub with_instant : StretchesDraft → ℕ → List Bool → StretchesDraft
 with_instant d t vs = if are_same d.last.verdicts vs then longer d t else next d t vs

@@ -7,7 +7,7 @@ use Rattle.cec_check.specs.Check.{AreVerdictsOf, IsVerdictTold}
 use Rattle.cec_check.specs.declared.checking.CheckError.{CheckError}
 use Rattle.cec_sweep.specs.Script.{range_of, script_at}
 use Rattle.cec_sweep.specs.Series.{Series, instants_of}
-use Rattle.cec_sweep.specs.Stretches.{AreStretches, Draft, Stretch, all_hold, stretches_text}
+use Rattle.cec_sweep.specs.Stretches.{AreStretches, StretchesDraft, Stretch, all_hold, stretches_text}
 use Rattle.cec_sweep.specs.declared.sweeping.SweepError.{SweepError}
 use Rattle.cec_sweep.specs.declared.sweeping.SweepError.TheVariants.{NoRange, Range, At, Write, Memory}
 
@@ -44,7 +44,7 @@ IsSweepTold topology script (At instant error) = IsRefusedAt topology script ins
 IsSweepTold topology script (Write count) = (stretches : List Stretch) × IsSweepOf topology script stretches
 IsSweepTold topology script Memory = Unit {0}
 
--- what a refusal has written: after a failed write the front of the lines, as long as it tells, and else nothing
+-- what a refusal has written: after a failed write the front of the lines, as long as it reports, and else nothing
 abbrev pub IsSweepCut : List ℕ → List ℕ → Option (List ℕ) → Option (List ℕ) → SweepError → Type 0
 IsSweepCut topology script old new (Write count) =
     (stretches : List Stretch) × IsSweepOf topology script stretches × (count < length (stretches_text stretches)) × Appends old new (take count (stretches_text stretches))
@@ -79,6 +79,6 @@ IsSeriesTold topology script s (Range fault) = ⊥
 IsSeriesTold topology script s (Write count) = ⊥
 
 -- the lines of all stretches
-abbrev pub IsSweptDraft : List ℕ → List ℕ → Series → Draft → Type 0
+abbrev pub IsSweptDraft : List ℕ → List ℕ → Series → StretchesDraft → Type 0
 IsSweptDraft topology script s d =
     (stretches : List Stretch) × AreStretches (AreVerdictsAt topology script) s stretches × (d.text ≡ stretches_text stretches) × (d.holds ≡ all_hold stretches)

@@ -4,14 +4,14 @@ ghost use Rattle.cec_sweep.specs.Places.{behind_verb, behind_window, is_time, is
 
 /// What a word of a line is, by the words before it.
 #[derive(Clone, Copy, Debug, PartialEq, Eq)]
-pub(crate) enum Place {
+pub(crate) enum WordRole {
     /// The first word.
     Begin,
     /// The name of a label.
     Name,
-    /// The first word behind a label.
+    /// The first word after a label.
     Verb,
-    /// The first word behind `expect`.
+    /// The first word after `expect`.
     Expectation,
     /// The first word of a window.
     Window,
@@ -31,76 +31,76 @@ fn is_time_verb(word: &[u8]) -> bool
     word == b"at".as_slice() || word == b"pulse".as_slice() || word == b"end".as_slice()
 }
 
-// What stands behind the first word of a line without its label.
-fn behind_verb(word: &[u8]) -> Place
+// What stands after the first word of a line without its label.
+fn behind_verb(word: &[u8]) -> WordRole
     ensures { result ≡ behind_verb word.now }
 {
     if is_time_verb(word) {
-        Place::Time
+        WordRole::Time
     } else if word == b"expect".as_slice() {
-        Place::Expectation
+        WordRole::Expectation
     } else {
-        Place::Other
+        WordRole::Other
     }
 }
 
-// What stands behind the first word of a window.
-fn behind_window(word: &[u8]) -> Place
+// What stands after the first word of a window.
+fn behind_window(word: &[u8]) -> WordRole
     ensures { result ≡ behind_window word.now }
 {
     if word == b"from".as_slice() {
-        Place::From
+        WordRole::From
     } else if word == b"within".as_slice() || word == b"state".as_slice() {
-        Place::Time
+        WordRole::Time
     } else {
-        Place::Other
+        WordRole::Other
     }
 }
 
-fn behind_expect(word: &[u8]) -> Place
-    ensures { result ≡ next_place Place.Expectation word.now }
+fn behind_expect(word: &[u8]) -> WordRole
+    ensures { result ≡ next_place WordRole.Expectation word.now }
 {
     if word == b"none".as_slice() || word == b"once".as_slice() {
-        Place::Window
+        WordRole::Window
     } else {
         behind_window(word)
     }
 }
 
-fn behind_begin(word: &[u8]) -> Place
-    ensures { result ≡ next_place Place.Begin word.now }
+fn behind_begin(word: &[u8]) -> WordRole
+    ensures { result ≡ next_place WordRole.Begin word.now }
 {
     if word == b"label".as_slice() {
-        Place::Name
+        WordRole::Name
     } else {
         behind_verb(word)
     }
 }
 
-fn behind_from(word: &[u8]) -> Place
-    ensures { result ≡ next_place Place.To word.now }
+fn behind_from(word: &[u8]) -> WordRole
+    ensures { result ≡ next_place WordRole.To word.now }
 {
     if word == b"to".as_slice() {
-        Place::Time
+        WordRole::Time
     } else {
-        Place::Other
+        WordRole::Other
     }
 }
 
-impl Place {
+impl WordRole {
     /// The place of the next word.
-    pub(crate) fn next(self, word: &[u8]) -> Place
+    pub(crate) fn next(self, word: &[u8]) -> WordRole
         ensures { result ≡ next_place self word.now }
     {
         match self {
-            Place::Begin => behind_begin(word),
-            Place::Name => Place::Verb,
-            Place::Verb => behind_verb(word),
-            Place::Expectation => behind_expect(word),
-            Place::Window => behind_window(word),
-            Place::From => Place::To,
-            Place::To => behind_from(word),
-            Place::Time | Place::Other => Place::Other,
+            WordRole::Begin => behind_begin(word),
+            WordRole::Name => WordRole::Verb,
+            WordRole::Verb => behind_verb(word),
+            WordRole::Expectation => behind_expect(word),
+            WordRole::Window => behind_window(word),
+            WordRole::From => WordRole::To,
+            WordRole::To => behind_from(word),
+            WordRole::Time | WordRole::Other => WordRole::Other,
         }
     }
 
@@ -109,14 +109,14 @@ impl Place {
         ensures { result ≡ is_time self }
     {
         match self {
-            Place::From | Place::Time => true,
-            Place::Begin
-            | Place::Name
-            | Place::Verb
-            | Place::Expectation
-            | Place::Window
-            | Place::To
-            | Place::Other => false,
+            WordRole::From | WordRole::Time => true,
+            WordRole::Begin
+            | WordRole::Name
+            | WordRole::Verb
+            | WordRole::Expectation
+            | WordRole::Window
+            | WordRole::To
+            | WordRole::Other => false,
         }
     }
 }

@@ -1,12 +1,12 @@
 //! The range of a script, and the script at an instant of it.
 ghost use Rattle.std.specs.Prelude.{◌≡◌, ◌++◌, ◌&&◌, Ok, Err, Some, None, IfOk, OnOk};
 ghost use Rattle.std.specs.Option.{option_copied};
-ghost use Rattle.cec_words.specs.Words.{words_behind, words_of};
-ghost use Rattle.cec_sweep.specs.Script.{is_range_at, line_at, mark_before, range_of, script_at, taken, with_word, word_at, words_ranged};
+ghost use Rattle.hdmi_core.specs.Words.{words_behind, words_of};
+ghost use Rattle.cec_sweep.specs.Script.{is_range_at, line_at, mark_before, range_of, script_at, with_range, with_word, word_at, words_ranged};
 
-use crate::places::Place;
+use crate::places::WordRole;
 use crate::series::{RangeCause, Series, is_range, series_in};
-use cec_words::{first_line, first_word};
+use hdmi_core::{first_line, first_word};
 use std::alloc::{AllocError, Global};
 use thiserror::Error;
 
@@ -18,19 +18,19 @@ pub struct RangeFault {
     pub cause: RangeCause,
 }
 
-fn is_range_at(place: Place, word: &[u8]) -> bool
+fn is_range_at(place: WordRole, word: &[u8]) -> bool
     ensures { result ≡ is_range_at place word.now }
 {
     place.is_time() && is_range(word)
 }
 
-// A range, behind the one that was seen.
-fn taken(
+// A range, after the one that was seen.
+fn with_range(
     number: u64,
     seen: Option<Series>,
     found: Result<Series, RangeCause>,
 ) -> Result<Option<Series>, RangeFault>
-    ensures { result ≡ taken number seen found }
+    ensures { result ≡ with_range number seen found }
 {
     match found {
         Err(cause) => Err(RangeFault {
@@ -49,14 +49,14 @@ fn taken(
 
 fn with_word(
     number: u64,
-    place: Place,
+    place: WordRole,
     seen: Option<Series>,
     word: &[u8],
 ) -> Result<Option<Series>, RangeFault>
     ensures { result ≡ with_word number place seen word.now }
 {
     if is_range_at(place, word) {
-        taken(number, seen, series_in(word))
+        with_range(number, seen, series_in(word))
     } else {
         Ok(seen)
     }
@@ -67,10 +67,10 @@ fn words_ranged(
     seen: Option<Series>,
     line: &[u8],
 ) -> Result<Option<Series>, RangeFault>
-    ensures { result ≡ words_ranged number Place.Begin seen (words_of line.now) }
+    ensures { result ≡ words_ranged number WordRole.Begin seen (words_of line.now) }
 {
     let mut rest = Some(line);
-    let mut place = Place::Begin;
+    let mut place = WordRole::Begin;
     let mut seen = seen;
     'words: while let Some(text) = rest {
         let (word, others) = first_word(text);
@@ -106,7 +106,7 @@ pub(crate) fn range_of(script: &[u8]) -> Result<Option<Series>, RangeFault>
     Ok(seen)
 }
 
-fn push_word(text: &mut Vec<u8>, at: u64, place: Place, word: &[u8]) -> Result<(), AllocError>
+fn push_word(text: &mut Vec<u8>, at: u64, place: WordRole, word: &[u8]) -> Result<(), AllocError>
     ensures { OnOk result (text.new.items ≡ text.old.items ++ word_at at place word.now) }
 {
     if is_range_at(place, word) {
@@ -117,7 +117,7 @@ fn push_word(text: &mut Vec<u8>, at: u64, place: Place, word: &[u8]) -> Result<(
     }
 }
 
-// What stands behind a word.
+// What stands after a word.
 fn mark_before(others: Option<&[u8]>) -> &'static [u8]
     ensures { result.now ≡ mark_before (words_behind (option_copied others.entry)) }
 {
@@ -134,7 +134,7 @@ fn push_line(text: &mut Vec<u8>, at: u64, line: &[u8]) -> Result<(), AllocError>
     ensures { OnOk result (text.new.items ≡ text.old.items ++ line_at at line.now) }
 {
     let mut rest = Some(line);
-    let mut place = Place::Begin;
+    let mut place = WordRole::Begin;
     'words: while let Some(part) = rest {
         let (word, others) = first_word(part);
         push_word(text, at, place, word)?;

@@ -1,9 +1,9 @@
 //! Series of instants, in the place of a time of a script.
 ghost use Rattle.std.specs.Prelude.{◌≡◌, ◌≤◌, ◌<◌, IfSome};
-ghost use Rattle.cec_sweep.specs.Series.{is_range, positive, series_in, series_to, series_until, step_at, timed};
+ghost use Rattle.cec_sweep.specs.Series.{is_range, positive, series_in, series_to, series_until, step_at, time_in_range};
 
 use cec_wave::LATEST_EVENT;
-use cec_words::{before, behind, byte_at, len_before, number_in};
+use hdmi_core::{before, behind, byte_at, len_before, number_in};
 use std::marker::Model;
 use thiserror::Error;
 
@@ -76,8 +76,8 @@ pub(crate) fn is_range(word: &[u8]) -> bool
 }
 
 // A time within the limit.
-fn timed(number: Option<u64>) -> Option<u64>
-    ensures value { result ≡ timed number }
+fn time_in_range(number: Option<u64>) -> Option<u64>
+    ensures value { result ≡ time_in_range number }
     ensures early { IfSome result (λ time. time ≤ 1000000000000) }
 {
     match number {
@@ -102,7 +102,7 @@ fn positive(number: Option<u64>) -> Option<u64>
     }
 }
 
-// The step behind a slash, or 1 where there is none.
+// The step after a slash, or 1 where there is none.
 fn step_at(text: &[u8], slash: usize) -> Option<u64>
     ensures value { result ≡ step_at text.now slash }
     ensures moves { IfSome result (λ step. 0 < step) }
@@ -133,7 +133,7 @@ fn series_until(from: Option<u64>, text: &[u8]) -> Result<Series, RangeCause>
     let Some(from) = from else {
         return Err(RangeCause::Number);
     };
-    let Some(to) = timed(number_in(before(text, slash))) else {
+    let Some(to) = time_in_range(number_in(before(text, slash))) else {
         return Err(RangeCause::Number);
     };
     let Some(step) = step_at(text, slash) else {
@@ -152,7 +152,7 @@ pub(crate) fn series_in(word: &[u8]) -> Result<Series, RangeCause>
 {
     let point = len_before(word, b'.');
     series_until(
-        timed(number_in(before(word, point))),
+        time_in_range(number_in(before(word, point))),
         behind(word, point + 2),
     )
 }

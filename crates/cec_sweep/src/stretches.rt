@@ -2,13 +2,13 @@
 ghost use Rattle.std.specs.Prelude.{◌≡◌, ◌++◌, ◌&&◌, OnOk};
 ghost use Rattle.std.specs.Fmt.{decimal};
 ghost use Rattle.std.specs.List.{flat_map};
-ghost use Rattle.cec_sweep.specs.Stretches.{are_all_ok, are_same, begun, draft_as, ended, verdict_text, with_instant};
+ghost use Rattle.cec_sweep.specs.Stretches.{are_all_ok, are_same, first_draft, draft_as, draft_at_end, verdict_text, with_instant};
 
 use std::alloc::{AllocError, Global};
 
 /// The stretches of the instants so far: the lines of those that have ended, and the last one.
 #[derive(Drop)]
-pub(crate) struct Draft {
+pub(crate) struct StretchesDraft {
     pub(crate) text: Vec<u8>,
     first: u64,
     last: u64,
@@ -57,13 +57,13 @@ fn push_verdicts(text: &mut Vec<u8>, verdicts: &[bool]) -> Result<(), AllocError
     Ok(())
 }
 
-impl Draft {
+impl StretchesDraft {
     /// One instant.
     pub(crate) fn new(alloc: Global, at: u64, verdicts: Vec<bool>) -> Self
-        ensures { draft_as result ≡ begun at verdicts.items }
+        ensures { draft_as result ≡ first_draft at verdicts.items }
     {
         let holds = are_all_ok(&verdicts);
-        Draft {
+        StretchesDraft {
             text: Vec::new(alloc),
             first: at,
             last: at,
@@ -74,7 +74,7 @@ impl Draft {
 
     /// Writes the line of the last stretch.
     pub(crate) fn end(&mut self) -> Result<(), AllocError>
-        ensures { OnOk result (draft_as self.new ≡ ended (draft_as self.old)) }
+        ensures { OnOk result (draft_as self.new ≡ draft_at_end (draft_as self.old)) }
     {
         push_decimal(&mut self.text, self.first)?;
         self.text.extend_from_slice(b"..")?;

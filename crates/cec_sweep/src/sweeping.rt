@@ -7,7 +7,7 @@ ghost use Rattle.cec_sweep.specs.Sweep.{AreVerdictsAt, IsRefusalAt, IsSweepCut, 
 
 use crate::script::{RangeFault, range_of, script_at};
 use crate::series::Series;
-use crate::stretches::Draft;
+use crate::stretches::StretchesDraft;
 use cec_check::{CheckError, verdicts};
 use hdmi_core::{Sink, put_all};
 use std::alloc::Global;
@@ -58,7 +58,7 @@ fn swept(
     topology: &[u8],
     script: &[u8],
     series: &Series,
-) -> Result<Draft, SweepError>
+) -> Result<StretchesDraft, SweepError>
     ensures ok { IfOk result (λ draft. IsSweptDraft topology.now script.now series.now (draft_as draft)) }
     ensures told { IfErr result (IsSeriesTold topology.now script.now series.now) }
 {
@@ -69,7 +69,7 @@ fn swept(
         Err(error) => return Err(error),
         Ok(first) => first,
     };
-    let mut draft = Draft::new(alloc, at, first);
+    let mut draft = StretchesDraft::new(alloc, at, first);
     'instants: while step <= to - at {
         at += step;
         let found = match verdicts_at(alloc, topology, script, at) {
@@ -94,7 +94,7 @@ fn swept(
 /// # Errors
 ///
 /// No range, or the first line whose range is refused; the first instant at which the script is refused, and why: then nothing
-/// was written. A failed write: then the front of the lines was written, as long as it tells.
+/// was written. A failed write: then the front of the lines was written, as long as it reports.
 pub fn sweep<S: Sink>(
     alloc: Global,
     topology: &[u8],

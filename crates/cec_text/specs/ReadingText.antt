@@ -47,7 +47,7 @@ is_broadcast (Some frame) = slice_index frame 0 % 16 == 15
 abbrev pub last_bit : List Bool → Bool
 last_bit bits = slice_index_or bits (length bits - 1) false
 
--- a complete reading tells its frame, another one its bits
+-- a complete reading reports its frame, another one its bits
 abbrev pub told_by : Bool → Reading → List ℕ
 told_by true r = told_frame (frame_in r)
 told_by false r = bits_text r.bits.items
@@ -62,7 +62,7 @@ told_text r = told_by (is_complete r.ending) r
 abbrev pub verdict_text : Reading → List ℕ
 verdict_text r = verdict_in (is_complete r.ending) r
 
--- a reading's text, from what it tells and its verdict
+-- a reading's text, from what it reports and its verdict
 abbrev pub reading_text_of : Reading → List ℕ → List ℕ → List ℕ
 reading_text_of r told verdict = concat (decimal r.begin ∷ codes " " ∷ decimal r.at ∷ ending_text r.ending ∷ told ∷ verdict ∷ [])
 

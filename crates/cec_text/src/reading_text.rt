@@ -95,7 +95,7 @@ pub fn reading_told(reading: &Reading) -> ArrayVec<u8, 160>
     }
 }
 
-/// Behind a space, whether a complete reading was acknowledged (`ack`, `nack`) or, of a broadcast, not refused
+/// After a space, whether a complete reading was acknowledged (`ack`, `nack`) or, of a broadcast, not refused
 /// (`ok`, `refused`); nothing for another reading.
 pub fn reading_verdict(reading: &Reading) -> &'static str
     ensures { result.now ≡ verdict_text reading.now }

@@ -5,7 +5,7 @@ use Rattle.std.specs.Io.KnownBytes.{Appends}
 use Rattle.std.proofs.lemmas.List.FromFn.{get_or-range_with_len, length-range_with_len}
 use Rattle.std.proofs.lemmas.List.{take_all}
 use Rattle.hdmi_core.proofs.CutShort.{Appends-trans}
-use Rattle.cec_words.specs.Cut.{told_count}
+use Rattle.hdmi_core.specs.Cut.{told_count}
 
 -- numbers that count up
 pub range_item : (a n i x : ℕ) → i < n → x ≡ a + i → get_or (range_with_len a n) i x ≡ x

@@ -1,4 +1,4 @@
--- The lines that tell the edges of the CEC line, as an edge file has them (the profile's own text).
+-- The lines that report the edges of the CEC line, as an edge file has them (the profile's own text).
 use Rattle.std.specs.Prelude.{ℕ, List, [], ◌∷◌, codes}
 use Rattle.std.specs.Fmt.{decimal}
 use Rattle.std.specs.List.{concat, flat_map}

@@ -2,4 +2,3 @@ pub mod StateText
 pub mod TraceText
 pub mod PortText
 pub mod EdgeText
-pub mod Root

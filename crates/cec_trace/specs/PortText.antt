@@ -1,4 +1,4 @@
--- The lines that tell the EDIDs of ports (the profile's own text).
+-- The lines that report the EDIDs of ports (the profile's own text).
 use Rattle.std.specs.Prelude.{ℕ, Bool, not, ◌&&◌, if◌then◌else◌, List, [], ◌∷◌, length, slice_get, Option, Some, None, codes}
 use Rattle.std.specs.Fmt.{decimal}
 use Rattle.std.specs.List.{concat, flat_map, range_with_len}

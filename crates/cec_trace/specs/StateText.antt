@@ -1,4 +1,4 @@
--- The line that tells the state of a device (the profile's own text).
+-- The line that reports the state of a device (the profile's own text).
 use Rattle.std.specs.Prelude.{ℕ, ◌%◌, Bool, true, false, List, [], ◌∷◌, ◌++◌, if◌then◌else◌, Option, Some, None, codes}
 use Rattle.std.specs.Fmt.{decimal}
 use Rattle.std.specs.List.{concat, flat_map}
@@ -10,7 +10,7 @@ use Rattle.hdmi_core.specs.Piece.{nibble_text, hex_text, hex_or_dash, phys_text,
 use Rattle.cec_opcode.specs.declared.message.Triple.{Triple}
 use Rattle.cec_opcode.specs.DeckWords.{deck_info_byte}
 use Rattle.cec_feature.specs.declared.record.Note.{Note}
-use Rattle.cec_device.specs.State.{State, held}
+use Rattle.cec_device.specs.State.{State, addresses_held}
 use Rattle.cec_device.specs.Place.{is_on_wire}
 use Rattle.cec_feature.specs.Kinds.{is_outside}
 use Rattle.std.specs.Prelude.{length}
@@ -71,5 +71,5 @@ outside_line d address =
 
 abbrev pub state_line : State → List ℕ
 state_line d =
-    if is_outside d.kind then outside_line d (held_text (held d.place))
-    else state_line_of d (address_text d.kind (held d.place)) (language_bytes d.record_of.language) (dash_or note_text d.record_of.heard)
+    if is_outside d.kind then outside_line d (held_text (addresses_held d.place))
+    else state_line_of d (address_text d.kind (addresses_held d.place)) (language_bytes d.record_of.language) (dash_or note_text d.record_of.heard)

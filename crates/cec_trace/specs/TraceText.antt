@@ -18,9 +18,9 @@ use Rattle.hdmi_topo.specs.declared.plug.UnplugError.{UnplugError}
 use Rattle.hdmi_topo.specs.declared.plug.UnplugError.TheVariants as unplug
 
 -- texts with commas between them, a dash for none
-abbrev pub listed : List (List ℕ) → List ℕ
-listed [] = codes "-"
-listed (text ∷ texts) = text ++ flat_map (λ t. 44 ∷ t) texts
+abbrev pub comma_list : List (List ℕ) → List ℕ
+comma_list [] = codes "-"
+comma_list (text ∷ texts) = text ++ flat_map (λ t. 44 ∷ t) texts
 
 -- ---- rounds
 
@@ -35,11 +35,11 @@ name_at devices number = name_of (slice_get devices number)
 abbrev pub loser_text : List State → Loser → List ℕ
 loser_text devices loser = name_at devices loser.seat ++ (64 ∷ decimal loser.slot)
 
--- a round's line, by its devices, from what its reading tells and the verdict
+-- a round's line, by its devices, from what its reading reports and the verdict
 abbrev pub round_line_of : List State → Outcome → List ℕ → List ℕ → List ℕ
 round_line_of devices o told verdict = concat (
-    reading_text_of o.reading told verdict ∷ codes " by " ∷ listed (map (name_at devices) o.survivors.items)
-    ∷ codes " out " ∷ listed (map (loser_text devices) o.losers.items) ∷ codes "\n" ∷ [])
+    reading_text_of o.reading told verdict ∷ codes " by " ∷ comma_list (map (name_at devices) o.survivors.items)
+    ∷ codes " out " ∷ comma_list (map (loser_text devices) o.losers.items) ∷ codes "\n" ∷ [])
 
 abbrev pub round_line : List State → Outcome → List ℕ
 round_line devices o = round_line_of devices o (told_text o.reading) (verdict_text o.reading)

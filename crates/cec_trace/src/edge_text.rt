@@ -4,14 +4,13 @@ ghost use Rattle.std.specs.List.{flat_map};
 ghost use Rattle.arrayvec.specs.ArrayVec.{array_vec_len};
 ghost use Rattle.hdmi_core.specs.Piece.{piece_text};
 ghost use Rattle.hdmi_core.specs.Written.{WrittenLine};
-ghost use Rattle.cec_words.specs.Cut.{WrittenText};
+ghost use Rattle.hdmi_core.specs.Cut.{WrittenText};
 ghost use Rattle.cec_trace.specs.EdgeText.{edge_lines, stretch_lines};
 
 use crate::line::{PARTS, add};
 use arrayvec::ArrayVec;
 use cec_wave::Stretch;
-use cec_words::{counted, cut_at};
-use hdmi_core::{Piece, Sink, WriteFault, write_line};
+use hdmi_core::{Piece, Sink, WriteFault, counted, cut_at, write_line};
 
 /// The most stretches whose lines go out in one `put`. A fall and a rise of 13 digits each take 32 bytes.
 const TOGETHER: usize = 32;

@@ -4,14 +4,12 @@
 mod edge_text;
 mod line;
 mod port_text;
-mod root;
 mod round_text;
 mod state_text;
 mod trace_text;
 
 pub use edge_text::write_edges;
 pub use port_text::{on_wire, write_ports};
-pub use root::{EdidCause, RootError, root_of, root_on_heap};
 pub use round_text::write_round;
 pub use state_text::write_state;
 pub use trace_text::{write_end, write_event};

@@ -5,13 +5,12 @@ ghost use Rattle.hdmi_core.specs.Written.{WrittenLine};
 ghost use Rattle.hdmi_blocks.specs.Address.{edid_address};
 ghost use Rattle.hdmi_topo.specs.Path.{is_on_wire};
 ghost use Rattle.hdmi_topo.specs.Tree.{ports_of};
-ghost use Rattle.cec_words.specs.Cut.{WrittenText};
+ghost use Rattle.hdmi_core.specs.Cut.{WrittenText};
 ghost use Rattle.cec_trace.specs.PortText.{lines_of_new, lines_of_ports, name_in, port_line, port_line_of, port_lines};
-ghost use Rattle.cec_trace.specs.Root.{HasAddress};
+ghost use Rattle.hdmi_blocks.specs.Root.{HasAddress};
 
-use cec_words::{counted, cut_at};
 use hdmi_blocks::Edid;
-use hdmi_core::{Piece, Sink, WriteFault, write_line};
+use hdmi_core::{Piece, Sink, WriteFault, counted, cut_at, write_line};
 use hdmi_topo::Tree;
 
 /// Which devices of a tree are on the wire, by number.

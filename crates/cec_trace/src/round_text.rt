@@ -4,7 +4,7 @@ ghost use Rattle.std.specs.List.{flat_map};
 ghost use Rattle.arrayvec.specs.ArrayVec.{array_vec_len};
 ghost use Rattle.hdmi_core.specs.Piece.{piece_text};
 ghost use Rattle.hdmi_core.specs.Written.{WrittenLine};
-ghost use Rattle.cec_trace.specs.TraceText.{listed, loser_text, name_at, round_line, round_line_of};
+ghost use Rattle.cec_trace.specs.TraceText.{comma_list, loser_text, name_at, round_line, round_line_of};
 
 use crate::line::{PARTS, add};
 use arrayvec::ArrayVec;
@@ -32,7 +32,7 @@ fn add_names<'a>(
     numbers: &[usize],
 )
     requires room { array_vec_len line.old + 2 * length numbers.now + 1 ≤ 128 }
-    ensures text { flat_map piece_text line.new.items ≡ flat_map piece_text line.old.items ++ listed (map (name_at devices.now) numbers.now) }
+    ensures text { flat_map piece_text line.new.items ≡ flat_map piece_text line.old.items ++ comma_list (map (name_at devices.now) numbers.now) }
     ensures len { array_vec_len line.new ≤ array_vec_len line.old + 2 * length numbers.now + 1 }
 {
     let Some((first, others)) = numbers.split_first() else {
@@ -64,7 +64,7 @@ fn add_losers<'a>(
     losers: &[Loser],
 )
     requires room { array_vec_len line.old + 4 * length losers.now + 1 ≤ 128 }
-    ensures text { flat_map piece_text line.new.items ≡ flat_map piece_text line.old.items ++ listed (map (loser_text devices.now) losers.now) }
+    ensures text { flat_map piece_text line.new.items ≡ flat_map piece_text line.old.items ++ comma_list (map (loser_text devices.now) losers.now) }
     ensures len { array_vec_len line.new ≤ array_vec_len line.old + 4 * length losers.now + 1 }
 {
     let Some((first, others)) = losers.split_first() else {
@@ -78,7 +78,7 @@ fn add_losers<'a>(
     }
 }
 
-// Writes a round's line, from what its reading tells and the verdict.
+// Writes a round's line, from what its reading reports and the verdict.
 fn write_round_of<'a, S: Sink>(
     out: &mut S,
     devices: &'a [Device<16>],

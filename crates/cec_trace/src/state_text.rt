@@ -1,4 +1,4 @@
-//! The line that tells the state of a device.
+//! The line that reports the state of a device.
 ghost use Rattle.std.specs.Prelude.{◌≡◌, ℕ, ◌<◌, ◌≤◌, ◌∷◌, [], length, Some, None};
 ghost use Rattle.std.specs.List.{flat_map};
 ghost use Rattle.hdmi_core.specs.Piece.{phys_text, dash_or};

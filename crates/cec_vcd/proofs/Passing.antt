@@ -35,7 +35,7 @@ pub line_refused : (number : ℕ) (line : List ℕ) (lines : List (List ℕ)) (s
     → lines_passed number (line ∷ lines) s ≡ Err fault
 line_refused number line lines s fault h = ap (λ p. lines_on p (lines_passed (number + 1) lines)) h
 
--- ---- what is told
+-- ---- what is reported
 
 abbrev pub before : List Edge → Result Captured VcdFault → Result Captured VcdFault
 before edges (Ok e) = Ok (record { edges = edges ++ e.edges; end = e.end })

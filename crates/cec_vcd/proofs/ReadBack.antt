@@ -8,14 +8,14 @@ use Rattle.std.proofs.lemmas.Bool.Decides.{nat_tests}
 use Rattle.cec_wave.specs.declared.Edge.{Edge}
 use Rattle.cec_wave.specs.declared.Stretch.{Stretch}
 use Rattle.cec_wave.specs.Line.{covers, line_of, IsWaveFrom}
-use Rattle.cec_words.specs.Lines.{lines_of}
+use Rattle.hdmi_core.specs.Lines.{lines_of}
 use Rattle.cec_signal.specs.Edges.{Captured, edges_of}
-use Rattle.cec_signal.specs.Track.{begun as line_begun}
+use Rattle.cec_signal.specs.Track.{first_track as line_begun}
 use Rattle.cec_signal.proofs.Moving.{due, move_kept, move_told, move_same, track_at}
 use Rattle.cec_signal.proofs.Numbers.{number_again, some_length}
 use Rattle.cec_signal.proofs.Texts.{Lacks, line_before, shown}
 use Rattle.cec_vcd.specs.Scale.{instant_of}
-use Rattle.cec_vcd.specs.Dump.{State, begun, kept, lines_passed, parts_of, timed, timed_by, told_by, took, words_passed, onto}
+use Rattle.cec_vcd.specs.Dump.{State, first_state, no_edge, lines_passed, parts_of, after_time, timed_by, told_by, took, words_passed, onto}
 use Rattle.cec_vcd.specs.Text.{head, changes, last, DumpsAreReadBack}
 use Rattle.cec_vcd.specs.declared.scale.Scale.{Scale as ScaleOf}
 use Rattle.cec_vcd.specs.declared.scale.Unit.TheVariants.{Microsecond}
@@ -48,12 +48,12 @@ instant_again t low =
     let small : nat_le t 2000000000000 ≡ true = grind (arith, nat_tests) in
     rw (number_again t (omega arith)) (rw (other, small) refl)
 
-time_taken : (t at : ℕ) (was is : Bool) → t ≤ 2000000000000 → took (time_line t) (stood at was is) ≡ timed (Some t) (stood at was is)
+time_taken : (t at : ℕ) (was is : Bool) → t ≤ 2000000000000 → took (time_line t) (stood at was is) ≡ after_time (Some t) (stood at was is)
 time_taken t at was is low =
-    rw (some_length (length (decimal t))) (ap (λ i. timed i (stood at was is)) (instant_again t low))
+    rw (some_length (length (decimal t))) (ap (λ i. after_time i (stood at was is)) (instant_again t low))
 
 -- no edge is told
-time_kept : (t at : ℕ) (b : Bool) → t ≤ 2000000000000 → at ≤ t → took (time_line t) (stood at b b) ≡ kept (stood t b b)
+time_kept : (t at : ℕ) (b : Bool) → t ≤ 2000000000000 → at ≤ t → took (time_line t) (stood at b b) ≡ no_edge (stood t b b)
 time_kept t at b low after = time_taken t at b b low ∙ ap (λ m. timed_by m (stood at b b)) (move_kept t at b after)
 
 -- the edge before is told
@@ -62,13 +62,13 @@ time_told : (t at : ℕ) (b : Bool) → t ≤ 2000000000000 → at < t
 time_told t at b low after = time_taken t at (not b) b low ∙ ap (λ m. timed_by m (stood at (not b) b)) (move_told t at b after)
 
 -- at the same instant it is not
-time_same : (t : ℕ) (was is : Bool) → t ≤ 2000000000000 → took (time_line t) (stood t was is) ≡ kept (stood t was is)
+time_same : (t : ℕ) (was is : Bool) → t ≤ 2000000000000 → took (time_line t) (stood t was is) ≡ no_edge (stood t was is)
 time_same t was is low = time_taken t t was is low ∙ ap (λ m. timed_by m (stood t was is)) (move_same t was is)
 
-falls : (at : ℕ) (was is : Bool) → took (value_line 48) (stood at was is) ≡ kept (stood at was true)
+falls : (at : ℕ) (was is : Bool) → took (value_line 48) (stood at was is) ≡ no_edge (stood at was true)
 falls at was is = refl
 
-rises : (at : ℕ) (was is : Bool) → took (value_line 49) (stood at was is) ≡ kept (stood at was false)
+rises : (at : ℕ) (was is : Bool) → took (value_line 49) (stood at was is) ≡ no_edge (stood at was false)
 rises at was is = refl
 
 -- ---- lines
@@ -197,10 +197,10 @@ declared = record {
   track = line_begun;
 }
 
-head_1 : words_passed 1 (parts_of (codes "$version hdminet $end")) (begun []) ≡ Ok (record { edges = []; state = begun [] })
+head_1 : words_passed 1 (parts_of (codes "$version hdminet $end")) (first_state []) ≡ Ok (record { edges = []; state = first_state [] })
 head_1 = refl
 
-head_2 : words_passed 2 (parts_of (codes "$timescale 1 us $end")) (begun []) ≡ Ok (record { edges = []; state = opened scale })
+head_2 : words_passed 2 (parts_of (codes "$timescale 1 us $end")) (first_state []) ≡ Ok (record { edges = []; state = opened scale })
 head_2 = refl
 
 head_3 : words_passed 3 (parts_of (codes "$scope module hdmi $end")) (opened scale) ≡ Ok (record { edges = []; state = opened scale })
@@ -227,7 +227,7 @@ head_9 = refl
 head_10 : words_passed 10 (parts_of (codes "$end")) (stood 0 false false) ≡ Ok (record { edges = []; state = stood 0 false false })
 head_10 = refl
 
-head_told : (more : List ℕ) → told_by (lines_passed 1 (lines_of (head ++ more)) (begun [])) ≡ told_by (lines_passed 11 (lines_of more) (stood 0 false false))
+head_told : (more : List ℕ) → told_by (lines_passed 1 (lines_of (head ++ more)) (first_state [])) ≡ told_by (lines_passed 11 (lines_of more) (stood 0 false false))
 head_told more =
     let t10 = codes "$end" ++ 10 ∷ more in
     let t9 = codes "1!" ++ 10 ∷ t10 in
@@ -238,8 +238,8 @@ head_told more =
     let t4 = codes "$var wire 1 ! CEC $end" ++ 10 ∷ t5 in
     let t3 = codes "$scope module hdmi $end" ++ 10 ∷ t4 in
     let t2 = codes "$timescale 1 us $end" ++ 10 ∷ t3 in
-    head_line 1 (codes "$version hdminet $end") t2 (begun []) (begun []) refl head_1
-    ∙ head_line 2 (codes "$timescale 1 us $end") t3 (begun []) (opened scale) refl head_2
+    head_line 1 (codes "$version hdminet $end") t2 (first_state []) (first_state []) refl head_1
+    ∙ head_line 2 (codes "$timescale 1 us $end") t3 (first_state []) (opened scale) refl head_2
     ∙ head_line 3 (codes "$scope module hdmi $end") t4 (opened scale) (opened scale) refl head_3
     ∙ head_line 4 (codes "$var wire 1 ! CEC $end") t5 (opened scale) declared refl head_4
     ∙ head_line 5 (codes "$upscope $end") t6 declared declared refl head_5

@@ -7,15 +7,15 @@ use Rattle.std.proofs.lemmas.Bool.{false≢true}
 use Rattle.std.proofs.lemmas.Bool.Decides.{nat_tests}
 use Rattle.std.proofs.lemmas.Slice.Eq.{bytes_eq-Decides}
 use Rattle.cec_wave.specs.declared.Edge.{Edge}
-use Rattle.cec_words.specs.Lines.{lines_of}
-use Rattle.cec_words.specs.Number.{is_numeral, value_of}
+use Rattle.hdmi_core.specs.Lines.{lines_of}
+use Rattle.hdmi_core.specs.Number.{is_numeral, value_of}
 use Rattle.cec_signal.specs.Edges.{Captured, IsCapture}
-use Rattle.cec_signal.specs.Samples.{Sample, sampled}
-use Rattle.cec_signal.specs.Track.{Moved, begun as line_begun, last_edge, moved, with_level}
+use Rattle.cec_signal.specs.Samples.{Sample, level_in}
+use Rattle.cec_signal.specs.Track.{Moved, first_track as line_begun, last_edge, track_move, with_level}
 use Rattle.cec_signal.specs.declared.track.Track.{Track}
 use Rattle.cec_signal.proofs.Recording.{Records, moved_at, records_capture, records_end, records_level, records_line, records_moved}
-use Rattle.cec_vcd.specs.Scale.{counted, counted_word, instant_of, micros, of_unit, unit_of, within}
-use Rattle.cec_vcd.specs.Dump.{Passed, State, Step, Stepped, begun, edges_in, free, in_field, in_section, is_binary, is_end, is_high, is_mark, is_none, is_other_value, kept, keyword, lines_passed, lines_on, named, named_by, onto, parts_of, scalar, scale_begun, scale_made, scale_made_by, step_passed, timed, timed_by, told_by, took, valued, vector_value, words_passed}
+use Rattle.cec_vcd.specs.Scale.{count_times, counted_word, instant_of, micros, of_unit, unit_of, within}
+use Rattle.cec_vcd.specs.Dump.{Passed, State, Step, Stepped, first_state, edges_in, free, in_field, in_section, is_binary, is_end, is_high, is_mark, is_none, is_other_value, no_edge, keyword, lines_passed, lines_on, end_of_definitions, named_by, onto, parts_of, scalar, scale_begun, scale_made, scale_made_by, step_passed, after_time, timed_by, told_by, took, after_value, vector_value, words_passed}
 use Rattle.cec_vcd.specs.Wire.{Change, Part, Wire, DumpsAreSampled, IsSampled, change_by, change_of, changes_in, femtoseconds, first_of, id_after, is_alone, is_by, is_scalar, is_some_word, last_tick, level_of, scale_after, scale_by, section_behind, tick_behind, unit_in, unit_made, wire_by, wire_end, wire_from, wire_in, words_in}
 use Rattle.cec_vcd.specs.declared.scale.Count.{Count}
 use Rattle.cec_vcd.specs.declared.scale.Count.TheVariants.{One, Ten, Hundred}
@@ -52,10 +52,10 @@ samples_both : (sc : ScaleOf) (a b : List Change) → samples_of sc (a ++ b) ≡
 samples_both sc [] b = refl
 samples_both sc (c ∷ a) b = ap (λ l. sample_of sc c ∷ l) (samples_both sc a b)
 
-sampled_so : (sc : ScaleOf) (b : Bool) (cs : List Change) (u : ℕ) → sampled b (samples_of sc cs) u ≡ level_of sc b cs u
+sampled_so : (sc : ScaleOf) (b : Bool) (cs : List Change) (u : ℕ) → level_in b (samples_of sc cs) u ≡ level_of sc b cs u
 sampled_so sc b [] u = refl
 sampled_so sc b (c ∷ cs) u =
-    ap (λ t. sampled (if t then c.low else b) (samples_of sc cs) u) (rounded sc.unit (counted sc.count c.tick) u)
+    ap (λ t. level_in (if t then c.low else b) (samples_of sc cs) u) (rounded sc.unit (count_times sc.count c.tick) u)
     ∙ sampled_so sc (if is_by sc c.tick u then c.low else b) cs u
 
 -- ---- a word among changes
@@ -92,16 +92,16 @@ abbrev GoesBy : Known → Track → Stepped → Option Change → ℕ → Sectio
 GoesBy k old (Err c) change tick x = Unit {0}
 GoesBy k old (Ok step) change tick x = Goes k old step change tick x
 
-quiet : (k : Known) (x : Section) (t : Track) (tick : ℕ) → t.at ≡ micros k.scale tick → t.at ≤ 2000000000000 → GoesBy k t (kept (among k x t)) None tick x
+quiet : (k : Known) (x : Section) (t : Track) (tick : ℕ) → t.at ≡ micros k.scale tick → t.at ≤ 2000000000000 → GoesBy k t (no_edge (among k x t)) None tick x
 quiet k x t tick at early = record { track = t; is = refl; at = at; early = early; more = λ edges samples end r. r }
 
 -- a value
 value_goes : (k : Known) (v : Option Bool) (word : List ℕ) (x : Section) (t : Track) (tick : ℕ) → t.at ≡ micros k.scale tick → t.at ≤ 2000000000000
-    → GoesBy k t (kept (valued v word (among k x t))) (change_by v (bytes_eq word k.id) tick) tick x
+    → GoesBy k t (no_edge (after_value v word (among k x t))) (change_by v (bytes_eq word k.id) tick) tick x
 value_goes k None word x t tick at early = quiet k x t tick at early
 value_goes k (Some low) word x t tick at early = told (bytes_eq word k.id)
   where
-    told : (c : Bool) → GoesBy k t (kept (if c then among k x (with_level low t) else among k x t)) (if c then Some (record { tick = tick; low = low }) else None) tick x
+    told : (c : Bool) → GoesBy k t (no_edge (if c then among k x (with_level low t) else among k x t)) (if c then Some (record { tick = tick; low = low }) else None) tick x
     told false = quiet k x t tick at early
     told true = record {
       track = with_level low t;
@@ -112,20 +112,20 @@ value_goes k (Some low) word x t tick at early = told (bytes_eq word k.id)
     }
 
 scalar_goes : (k : Known) (low : Bool) (rest : List ℕ) (t : Track) (tick : ℕ) → t.at ≡ micros k.scale tick → t.at ≤ 2000000000000
-    → GoesBy k t (kept (scalar low rest (among k section.Free t))) (if not (length rest == 0) then change_by (Some low) (bytes_eq rest k.id) tick else None) tick
+    → GoesBy k t (no_edge (scalar low rest (among k section.Free t))) (if not (length rest == 0) then change_by (Some low) (bytes_eq rest k.id) tick else None) tick
     (if length rest == 0 then section.Value (Some low) else section.Free)
 scalar_goes k low rest t tick at early = by (length rest == 0)
   where
-    by : (c : Bool) → GoesBy k t (kept (if c then among k (section.Value (Some low)) t else valued (Some low) rest (among k section.Free t)))
+    by : (c : Bool) → GoesBy k t (no_edge (if c then among k (section.Value (Some low)) t else after_value (Some low) rest (among k section.Free t)))
         (if not c then change_by (Some low) (bytes_eq rest k.id) tick else None) tick (if c then section.Value (Some low) else section.Free)
     by true = quiet k (section.Value (Some low)) t tick at early
     by false = value_goes k (Some low) rest section.Free t tick at early
 
 -- a time
-time_goes : (k : Known) (word : List ℕ) (t : Track) → GoesBy k t (timed (instant_of k.scale word) (among k section.Free t)) None (value_of word) section.Free
+time_goes : (k : Known) (word : List ℕ) (t : Track) → GoesBy k t (after_time (instant_of k.scale word) (among k section.Free t)) None (value_of word) section.Free
 time_goes k word t = numeral (is_numeral word)
   where
-    moves : (o : Option Moved) → moved (micros k.scale (value_of word)) t ≡ o → micros k.scale (value_of word) ≤ 2000000000000
+    moves : (o : Option Moved) → track_move (micros k.scale (value_of word)) t ≡ o → micros k.scale (value_of word) ≤ 2000000000000
         → GoesBy k t (timed_by o (among k section.Free t)) None (value_of word) section.Free
     moves None e low = tt
     moves (Some m) e low =
@@ -139,16 +139,16 @@ time_goes k word t = numeral (is_numeral word)
         }
 
     limits : (c : Bool) → nat_le (micros k.scale (value_of word)) 2000000000000 ≡ c
-        → GoesBy k t (timed (if c then Some (micros k.scale (value_of word)) else None) (among k section.Free t)) None (value_of word) section.Free
-    limits true e = moves (moved (micros k.scale (value_of word)) t) refl (grind (arith, nat_tests))
+        → GoesBy k t (after_time (if c then Some (micros k.scale (value_of word)) else None) (among k section.Free t)) None (value_of word) section.Free
+    limits true e = moves (track_move (micros k.scale (value_of word)) t) refl (grind (arith, nat_tests))
     limits false e = tt
 
     fits : (c : Bool)
-        → GoesBy k t (timed (if c then None else (if nat_le (micros k.scale (value_of word)) 2000000000000 then Some (micros k.scale (value_of word)) else None)) (among k section.Free t)) None (value_of word) section.Free
+        → GoesBy k t (after_time (if c then None else (if nat_le (micros k.scale (value_of word)) 2000000000000 then Some (micros k.scale (value_of word)) else None)) (among k section.Free t)) None (value_of word) section.Free
     fits true = tt
     fits false = limits (nat_le (micros k.scale (value_of word)) 2000000000000) refl
 
-    numeral : (c : Bool) → GoesBy k t (timed (within k.scale (if c then Some (value_of word) else None)) (among k section.Free t)) None (value_of word) section.Free
+    numeral : (c : Bool) → GoesBy k t (after_time (within k.scale (if c then Some (value_of word) else None)) (among k section.Free t)) None (value_of word) section.Free
     numeral true = fits (value_of word == 18446744073709551615)
     numeral false = tt
 
@@ -166,11 +166,11 @@ same_byte b n h = grind (arith, nat_tests)
 free_goes : (k : Known) (word : List ℕ) (t : Track) (tick : ℕ) → t.at ≡ micros k.scale tick → t.at ≤ 2000000000000 → FreeGoes k word t tick
 free_goes k word t tick at early = dollar (first word == 36) refl
   where
-    mark : (c : Bool) → GoesBy k t (kept (if c then among k section.Free t else among k section.Skipped t)) None tick (if c then section.Free else section.Skipped)
+    mark : (c : Bool) → GoesBy k t (no_edge (if c then among k section.Free t else among k section.Skipped t)) None tick (if c then section.Free else section.Skipped)
     mark true = quiet k section.Free t tick at early
     mark false = quiet k section.Skipped t tick at early
 
-    real : (c : Bool) → GoesBy k t (if c then kept (among k (section.Value None) t) else Err cause.Word) None tick (section.Value None)
+    real : (c : Bool) → GoesBy k t (if c then no_edge (among k (section.Value None) t) else Err cause.Word) None tick (section.Value None)
     real true = quiet k (section.Value None) t tick at early
     real false = tt
 
@@ -232,7 +232,7 @@ word_goes k word x t tick at early rule some = rw (filled (length word == 0) som
     filled true h = cc
     filled false h = refl
 
-    skipped : (c : Bool) → GoesBy k t (if c then kept (among k section.Free t) else kept (among k section.Skipped t)) None tick (if c then section.Free else section.Skipped)
+    skipped : (c : Bool) → GoesBy k t (if c then no_edge (among k section.Free t) else no_edge (among k section.Skipped t)) None tick (if c then section.Free else section.Skipped)
     skipped true = quiet k section.Free t tick at early
     skipped false = quiet k section.Skipped t tick at early
 
@@ -377,8 +377,8 @@ run_some (word ∷ words) s p h = by (length word == 0) refl (λ t q e. run_some
         → ((t : State) (q : Passed) → run words t ≡ Some q → (run (filter is_some_word words) t ≡ Some q) × (list_all is_some_word (filter is_some_word words) ≡ true))
         → (run (if not c then word ∷ filter is_some_word words else filter is_some_word words) s ≡ Some p) × (list_all is_some_word (if not c then word ∷ filter is_some_word words else filter is_some_word words) ≡ true)
     by true e ih =
-        let still : took word s ≡ kept s = ap (λ c. if c then kept s else in_section s.section word s) e in
-        let k : run_by (kept s) (run words) ≡ Some p = ap (λ st. run_by st (run words)) (sym still) ∙ h in
+        let still : took word s ≡ no_edge s = ap (λ c. if c then no_edge s else in_section s.section word s) e in
+        let k : run_by (no_edge s) (run words) ≡ Some p = ap (λ st. run_by st (run words)) (sym still) ∙ h in
         let f = run_after [] (run words s) p k in
         ih s p (f.1 ∙ ap Some (sym f.2))
     by false e ih =
@@ -451,7 +451,7 @@ free_leads : (name : List ℕ) (noted : Option ScaleOf) (own : Option (List ℕ)
 free_leads name noted own candidate scale id word ns oi = dollar (first word == 36) refl
   where
     stays : (x : Section) (p : Option Part) → Defines x p noted own candidate scale id name → ((words : List (List ℕ)) → wire_from name None scale id (word ∷ words) ≡ wire_from name p scale id words)
-        → LeadsBy (kept (defining name x noted own candidate)) name None scale id word
+        → LeadsBy (no_edge (defining name x noted own candidate)) name None scale id word
     stays x p d same =
         inl (record { place = x; noted = noted; own = own; candidate = candidate; is = refl; part_next = p; scale_next = scale; id_next = id; defines = d; same = same })
 
@@ -467,13 +467,13 @@ free_leads name noted own candidate scale id word ns oi = dollar (first word == 
         })
 
     others : (c : Bool) → is_end word ≡ c → (first word == 36) ≡ true → bytes_eq word (codes "$enddefinitions") ≡ false → bytes_eq word (codes "$timescale") ≡ false → bytes_eq word (codes "$var") ≡ false
-        → LeadsBy (if c then kept (defining name section.Free noted own candidate) else kept (defining name section.Skipped noted own candidate)) name None scale id word
+        → LeadsBy (if c then no_edge (defining name section.Free noted own candidate) else no_edge (defining name section.Skipped noted own candidate)) name None scale id word
     others true e h36 c1 c2 c3 = stays section.Free None (ns, oi) (λ words. rw (h36, c1, e) refl)
     others false e h36 c1 c2 c3 =
         stays section.Skipped (Some (record { keyword = word; words = [] })) (λ more. (rw c2 (sym ns), rw c3 (sym oi))) (λ words. rw (h36, c1, e) refl)
 
     variable : (c : Bool) → bytes_eq word (codes "$var") ≡ c → (first word == 36) ≡ true → bytes_eq word (codes "$enddefinitions") ≡ false → bytes_eq word (codes "$timescale") ≡ false
-        → LeadsBy (if c then kept (defining name (section.Variable field.Kind) noted own candidate) else if is_end word then kept (defining name section.Free noted own candidate) else kept (defining name section.Skipped noted own candidate)) name None scale id word
+        → LeadsBy (if c then no_edge (defining name (section.Variable field.Kind) noted own candidate) else if is_end word then no_edge (defining name section.Free noted own candidate) else no_edge (defining name section.Skipped noted own candidate)) name None scale id word
     variable true e h36 c1 c2 =
         let w : word ≡ codes "$var" = is_same word (codes "$var") e in
         stays (section.Variable field.Kind) (Some (record { keyword = word; words = [] })) (ap (λ k. record { keyword = k; words = [] }) w, ns, oi)
@@ -481,8 +481,8 @@ free_leads name noted own candidate scale id word ns oi = dollar (first word == 
     variable false e h36 c1 c2 = others (is_end word) refl h36 c1 c2 e
 
     time_scale : (c : Bool) → bytes_eq word (codes "$timescale") ≡ c → (first word == 36) ≡ true → bytes_eq word (codes "$enddefinitions") ≡ false
-        → LeadsBy (if c then kept (defining name section.Scale noted own candidate) else if bytes_eq word (codes "$var") then kept (defining name (section.Variable field.Kind) noted own candidate)
-        else if is_end word then kept (defining name section.Free noted own candidate) else kept (defining name section.Skipped noted own candidate)) name None scale id word
+        → LeadsBy (if c then no_edge (defining name section.Scale noted own candidate) else if bytes_eq word (codes "$var") then no_edge (defining name (section.Variable field.Kind) noted own candidate)
+        else if is_end word then no_edge (defining name section.Free noted own candidate) else no_edge (defining name section.Skipped noted own candidate)) name None scale id word
     time_scale true e h36 c1 =
         let w : word ≡ codes "$timescale" = is_same word (codes "$timescale") e in
         stays section.Scale (Some (record { keyword = word; words = [] })) (ap (λ k. record { keyword = k; words = [] }) w, ns, oi)
@@ -490,14 +490,14 @@ free_leads name noted own candidate scale id word ns oi = dollar (first word == 
     time_scale false e h36 c1 = variable (bytes_eq word (codes "$var")) refl h36 c1 e
 
     ends : (c : Bool) → bytes_eq word (codes "$enddefinitions") ≡ c → (first word == 36) ≡ true
-        → LeadsBy (if c then named (defining name section.Free noted own candidate) else if bytes_eq word (codes "$timescale") then kept (defining name section.Scale noted own candidate)
-        else if bytes_eq word (codes "$var") then kept (defining name (section.Variable field.Kind) noted own candidate)
-        else if is_end word then kept (defining name section.Free noted own candidate) else kept (defining name section.Skipped noted own candidate)) name None scale id word
+        → LeadsBy (if c then end_of_definitions (defining name section.Free noted own candidate) else if bytes_eq word (codes "$timescale") then no_edge (defining name section.Scale noted own candidate)
+        else if bytes_eq word (codes "$var") then no_edge (defining name (section.Variable field.Kind) noted own candidate)
+        else if is_end word then no_edge (defining name section.Free noted own candidate) else no_edge (defining name section.Skipped noted own candidate)) name None scale id word
     ends true e h36 = names noted own ns oi h36 e
     ends false e h36 = time_scale (bytes_eq word (codes "$timescale")) refl h36 e
 
     dollar : (c : Bool) → (first word == 36) ≡ c
-        → LeadsBy (if c then keyword word (defining name section.Free noted own candidate) else kept (defining name section.Free noted own candidate)) name None scale id word
+        → LeadsBy (if c then keyword word (defining name section.Free noted own candidate) else no_edge (defining name section.Free noted own candidate)) name None scale id word
     dollar true e = ends (bytes_eq word (codes "$enddefinitions")) refl e
     dollar false e = stays section.Free None (ns, oi) (λ words. rw e refl)
 
@@ -514,7 +514,7 @@ abbrev longer : Part → List ℕ → Part
 longer p word = record { keyword = p.keyword; words = p.words ++ word ∷ [] }
 
 goes_on : (name : List ℕ) (x : Section) (p : Part) (noted : Option ScaleOf) (own : Option (List ℕ)) (candidate : List ℕ) (scale : Option ScaleOf) (id : Option (List ℕ)) (word : List ℕ)
-    → is_end word ≡ false → Defines x (Some (longer p word)) noted own candidate scale id name → LeadsBy (kept (defining name x noted own candidate)) name (Some p) scale id word
+    → is_end word ≡ false → Defines x (Some (longer p word)) noted own candidate scale id name → LeadsBy (no_edge (defining name x noted own candidate)) name (Some p) scale id word
 goes_on name x p noted own candidate scale id word e d =
     inl (record {
       place = x;
@@ -538,7 +538,7 @@ id_of_part name p word more id = id_after name (record { keyword = p.keyword; wo
 
 skipped_leads : (name : List ℕ) (p : Part) (noted : Option ScaleOf) (own : Option (List ℕ)) (candidate : List ℕ) (scale : Option ScaleOf) (id : Option (List ℕ)) (word : List ℕ)
     → Defines section.Skipped (Some p) noted own candidate scale id name → (c : Bool) → is_end word ≡ c
-    → LeadsBy (if c then kept (defining name section.Free noted own candidate) else kept (defining name section.Skipped noted own candidate)) name (Some p) scale id word
+    → LeadsBy (if c then no_edge (defining name section.Free noted own candidate) else no_edge (defining name section.Skipped noted own candidate)) name (Some p) scale id word
 skipped_leads name p noted own candidate scale id word d true e =
     let k = d [] in
     let same_part : record { keyword = p.keyword; words = p.words ++ [] } ≡ p = ap (λ (ws : List (List ℕ)). record { keyword = p.keyword; words = ws }) (append-nil p.words) in
@@ -580,7 +580,7 @@ scale_leads name p noted own candidate scale id word is ns oi (Some c) e = alone
         ))
 
     alone : (t : Bool) → (length c.1 == 0) ≡ t
-        → LeadsBy (if t then kept (defining name (section.Unit c.0) noted own candidate) else scale_made c.0 c.1 (defining name section.Scale noted own candidate)) name (Some p) scale id word
+        → LeadsBy (if t then no_edge (defining name (section.Unit c.0) noted own candidate) else scale_made c.0 c.1 (defining name section.Scale noted own candidate)) name (Some p) scale id word
     alone true t =
         goes_on name (section.Unit c.0) p noted own candidate scale id word open_still (word, c, ap (λ (q : Part). longer q word) is, e, t, refl, ns, oi)
     alone false t = with_unit (unit_of c.1) refl t
@@ -612,7 +612,7 @@ chosen false false (Some id) candidate = refl
 name_leads : (name : List ℕ) (is_bit : Bool) (p : Part) (noted : Option ScaleOf) (own : Option (List ℕ)) (candidate : List ℕ) (scale : Option ScaleOf) (id : Option (List ℕ)) (word kind size : List ℕ)
     → p ≡ record { keyword = codes "$var"; words = kind ∷ size ∷ candidate ∷ [] } → is_bit ≡ bytes_eq size (codes "1") → noted ≡ scale → own ≡ id → is_end word ≡ false
     → (t : Bool) → (is_bit && is_none own && ((length name == 0) || bytes_eq word name)) ≡ t
-    → LeadsBy (kept (if t then defining name section.Skipped noted (Some candidate) candidate else defining name section.Skipped noted own candidate)) name (Some p) scale id word
+    → LeadsBy (no_edge (if t then defining name section.Skipped noted (Some candidate) candidate else defining name section.Skipped noted own candidate)) name (Some p) scale id word
 name_leads name is_bit p noted own candidate scale id word kind size is b ns oi e = by
   where
     called_so : (more : List (List ℕ)) → id_of_part name p word more id ≡ (if is_bit && is_none own && ((length name == 0) || bytes_eq word name) then Some candidate else own)
@@ -623,7 +623,7 @@ name_leads name is_bit p noted own candidate scale id word kind size is b ns oi 
         ∙ chosen is_bit ((length name == 0) || bytes_eq word name) own candidate
 
     by : (t : Bool) → (is_bit && is_none own && ((length name == 0) || bytes_eq word name)) ≡ t
-        → LeadsBy (kept (if t then defining name section.Skipped noted (Some candidate) candidate else defining name section.Skipped noted own candidate)) name (Some p) scale id word
+        → LeadsBy (no_edge (if t then defining name section.Skipped noted (Some candidate) candidate else defining name section.Skipped noted own candidate)) name (Some p) scale id word
     by true t =
         goes_on name section.Skipped p noted (Some candidate) candidate scale id word e (λ more. (
           ap (λ (q : Part). scale_of_part q word more scale) is ∙ sym ns,
@@ -636,7 +636,7 @@ name_leads name is_bit p noted own candidate scale id word kind size is b ns oi 
         ))
 
 field_leads : (name : List ℕ) (f : Field) (p : Part) (noted : Option ScaleOf) (own : Option (List ℕ)) (candidate : List ℕ) (scale : Option ScaleOf) (id : Option (List ℕ)) (word : List ℕ)
-    → Defines (section.Variable f) (Some p) noted own candidate scale id name → is_end word ≡ false → LeadsBy (kept (in_field f word (defining name (section.Variable f) noted own candidate))) name (Some p) scale id word
+    → Defines (section.Variable f) (Some p) noted own candidate scale id name → is_end word ≡ false → LeadsBy (no_edge (in_field f word (defining name (section.Variable f) noted own candidate))) name (Some p) scale id word
 field_leads name field.Kind p noted own candidate scale id word d e =
     goes_on name (section.Variable field.Size) p noted own candidate scale id word e (word, ap (λ (q : Part). longer q word) d.0, d.1, d.2)
 field_leads name field.Size p noted own candidate scale id word d e =
@@ -648,7 +648,7 @@ field_leads name (field.Name is_bit) p noted own candidate scale id word d e =
 
 variable_leads : (name : List ℕ) (f : Field) (p : Part) (noted : Option ScaleOf) (own : Option (List ℕ)) (candidate : List ℕ) (scale : Option ScaleOf) (id : Option (List ℕ)) (word : List ℕ)
     → Defines (section.Variable f) (Some p) noted own candidate scale id name → (c : Bool) → is_end word ≡ c
-    → LeadsBy (if c then Err cause.Word else kept (in_field f word (defining name (section.Variable f) noted own candidate))) name (Some p) scale id word
+    → LeadsBy (if c then Err cause.Word else no_edge (in_field f word (defining name (section.Variable f) noted own candidate))) name (Some p) scale id word
 variable_leads name f p noted own candidate scale id word d true e = tt
 variable_leads name f p noted own candidate scale id word d false e = field_leads name f p noted own candidate scale id word d e
 
@@ -691,7 +691,7 @@ record Final (w : Wire) (p : Passed) : Type 0 where
   end : p.state.track.at ≡ wire_end w
   early : p.state.track.at ≤ 2000000000000
 
-zero_counted : (c : Count) → counted c 0 ≡ 0
+zero_counted : (c : Count) → count_times c 0 ≡ 0
 zero_counted One = refl
 zero_counted Ten = refl
 zero_counted Hundred = refl
@@ -743,11 +743,11 @@ defined_ran (word ∷ words) name x part noted own candidate scale id p d all ra
         let r = ih l.place l.part_next l.noted l.own l.candidate l.scale_next l.id_next l.defines there (sym (ap (λ (t : Passed). t.state.is_data) same) ∙ over) in
         (r.0, l.same words ∙ r.1, subst (Final r.0) (sym same) r.2)
 
-sampled_by : (name text : List ℕ) (p : Passed) (e : Captured) → lines_passed 1 (lines_of text) (begun name) ≡ Ok p → told_by (Ok p) ≡ Ok e → (w : Wire) × (wire_in name (words_in text) ≡ Some w) × IsSampled w e
+sampled_by : (name text : List ℕ) (p : Passed) (e : Captured) → lines_passed 1 (lines_of text) (first_state name) ≡ Ok p → told_by (Ok p) ≡ Ok e → (w : Wire) × (wire_in name (words_in text) ≡ Some w) × IsSampled w e
 sampled_by name text p e h k =
     let is : record { edges = p.edges ++ option_to_list (last_edge p.state.track); end = p.state.track.at } ≡ e = cc in
-    let ran = lines_run 1 (lines_of text) (begun name) p h in
-    let some = run_some (flat_map parts_of (lines_of text)) (begun name) p ran.0 in
+    let ran = lines_run 1 (lines_of text) (first_state name) p h in
+    let some = run_some (flat_map parts_of (lines_of text)) (first_state name) p ran.0 in
     let f = defined_ran (words_in text) name section.Free None None None name None None p (refl, refl) some.1 some.0 ran.1 in
     let cs = changes_in f.0.id 0 section.Skipped f.0.words in
     let edges = p.edges ++ option_to_list (last_edge p.state.track) in (
@@ -761,9 +761,9 @@ sampled_by name text p e h k =
     )
 
 pub dumps_are_sampled : DumpsAreSampled
-dumps_are_sampled name text e h = by (lines_passed 1 (lines_of text) (begun name)) refl h
+dumps_are_sampled name text e h = by (lines_passed 1 (lines_of text) (first_state name)) refl h
   where
-    by : (r : Result Passed VcdFault) → lines_passed 1 (lines_of text) (begun name) ≡ r → told_by r ≡ Ok e → (w : Wire) × (wire_in name (words_in text) ≡ Some w) × IsSampled w e
+    by : (r : Result Passed VcdFault) → lines_passed 1 (lines_of text) (first_state name) ≡ r → told_by r ≡ Ok e → (w : Wire) × (wire_in name (words_in text) ≡ Some w) × IsSampled w e
     by (Err f) k told = cc
     by (Ok p) k told = sampled_by name text p e k told
 

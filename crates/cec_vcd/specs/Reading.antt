@@ -20,7 +20,7 @@ GivesEdges (Ok c) read = read ≡ Ok (record { edges = c.0.items; end = c.1 })
 GivesEdges (Err (Fault fault)) read = read ≡ Err fault
 GivesEdges (Err Memory) read = Unit {0}
 
--- a line was passed: its edges came behind those before
+-- a line was passed: its edges came after those before
 abbrev pub PassesLine : Result Passed VcdFault → List Edge → Result (Unit {0}) VcdError → List Edge → State → Type 0
 PassesLine passed old (Ok n) new state = (more : List Edge) × (new ≡ old ++ more) × (passed ≡ Ok (record { edges = more; state = state }))
 PassesLine passed old (Err (Fault fault)) new state = passed ≡ Err fault

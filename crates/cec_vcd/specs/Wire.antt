@@ -1,13 +1,13 @@
--- The wire that a dump tells of, and its line: at an instant it has the level of the last change at or before it
+-- The wire that a dump reports, and its line: at an instant it has the level of the last change at or before it
 -- (IEEE 1364-2005, 18.2). Times are counted in ticks here, and nothing is said of edges, lines of the text and faults.
 use Rattle.std.specs.Prelude.{◌≡◌, ℕ, ◌*◌, ◌==◌, ◌&&◌, ◌||◌, not, Bool, false, nat_le, if◌then◌else◌, List, [], ◌∷◌, ◌++◌, length, drop, slice_index, codes, Option, Some, None, Ok, filter}
 use Rattle.std.specs.List.{flat_map}
 use Rattle.std.specs.Option.{option_to_list}
 use Rattle.std.specs.Str.{bytes_eq}
-use Rattle.cec_words.specs.Lines.{lines_of}
-use Rattle.cec_words.specs.Number.{value_of}
+use Rattle.hdmi_core.specs.Lines.{lines_of}
+use Rattle.hdmi_core.specs.Number.{value_of}
 use Rattle.cec_signal.specs.Edges.{Captured, IsCapture, line_of_edges}
-use Rattle.cec_vcd.specs.Scale.{counted, counted_word, micros, unit_of}
+use Rattle.cec_vcd.specs.Scale.{count_times, counted_word, micros, unit_of}
 use Rattle.cec_vcd.specs.Dump.{edges_in, is_binary, is_end, is_high, is_mark, parts_of, vector_value}
 use Rattle.cec_vcd.specs.declared.scale.Count.{Count}
 use Rattle.cec_vcd.specs.declared.scale.Unit.{Unit as UnitOf}
@@ -25,12 +25,12 @@ words_in text = filter is_some_word (flat_map parts_of (lines_of text))
 
 -- ---- the definitions (18.2.3, declaration commands)
 
--- a section: a keyword, and the words behind it up to `$end`
+-- a section: a keyword, and the words after it up to `$end`
 pub record Part : Type 0 where
   pub keyword : List ℕ
   pub words : List (List ℕ)
 
--- the time scale, the identifier of the wire, and the words behind `$enddefinitions`
+-- the time scale, the identifier of the wire, and the words after `$enddefinitions`
 pub record Wire : Type 0 where
   pub scale : ScaleOf
   pub id : List ℕ
@@ -105,7 +105,7 @@ is_scalar word = (slice_index word 0 == 48) || is_high (slice_index word 0)
 abbrev pub is_alone : List ℕ → Bool
 is_alone word = length (drop 1 word) == 0
 
--- what the word behind a word belongs to
+-- what the word after a word belongs to
 abbrev pub section_behind : Section → List ℕ → Section
 section_behind section.Free word =
     if slice_index word 0 == 36 then (if is_mark word then section.Free else section.Skipped)
@@ -115,7 +115,7 @@ section_behind section.Free word =
 section_behind section.Skipped word = if is_end word then section.Free else section.Skipped
 section_behind _ word = section.Free
 
--- the tick of what stands behind a word: a time is `#` and its number
+-- the tick of what stands after a word: a time is `#` and its number
 abbrev pub tick_behind : Section → List ℕ → ℕ → ℕ
 tick_behind section.Free word tick = if slice_index word 0 == 35 then value_of (drop 1 word) else tick
 tick_behind _ word tick = tick
@@ -152,14 +152,14 @@ femtoseconds Femtosecond = 1
 
 -- a tick is not after the first instant of microsecond u
 abbrev pub is_by : ScaleOf → ℕ → ℕ → Bool
-is_by scale tick u = nat_le (counted scale.count tick * femtoseconds scale.unit) (u * 1000000000)
+is_by scale tick u = nat_le (count_times scale.count tick * femtoseconds scale.unit) (u * 1000000000)
 
 -- the last change that is not after it counts
 abbrev pub level_of : ScaleOf → Bool → List Change → ℕ → Bool
 level_of scale is_low [] u = is_low
 level_of scale is_low (c ∷ cs) u = level_of scale (if is_by scale c.tick u then c.low else is_low) cs u
 
--- before the first change the line is high; behind `$enddefinitions` its section goes on up to `$end`
+-- before the first change the line is high; after `$enddefinitions` its section goes on up to `$end`
 abbrev pub wire_line : Wire → ℕ → Bool
 wire_line w u = level_of w.scale false (changes_in w.id 0 section.Skipped w.words) u
 

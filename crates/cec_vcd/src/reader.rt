@@ -6,7 +6,7 @@ ghost use Rattle.cec_vcd.specs.Dump.{is_high, is_binary, is_other_value, is_mark
 use crate::scale::{Count, Scale, counted_word, instant_of, unit_of};
 use cec_signal::Track;
 use cec_wave::Edge;
-use cec_words::{behind, byte_at};
+use hdmi_core::{behind, byte_at};
 use thiserror::Error;
 
 /// What is wrong with a line of a dump.
@@ -119,13 +119,13 @@ pub struct Reader<'a> {
 }
 
 impl<'a> Reader<'a> {
-    ghost use Rattle.cec_vcd.specs.Dump.{Takes, begun, called, change, definition, free, in_field, in_section, keyword, marked, named, scalar, scale_begun, scale_made, seen, timed, took, valued};
+    ghost use Rattle.cec_vcd.specs.Dump.{Takes, first_state, after_name, change, definition, free, in_field, in_section, keyword, after_mark, end_of_definitions, scalar, scale_begun, scale_made, state_of_reader, after_time, took, after_value};
     ghost use Rattle.cec_vcd.specs.Scale.{counted_word};
     ghost use Rattle.cec_signal.specs.Track.{last_edge};
 
     /// A reader at the front of a dump.
     pub fn new(name: &'a [u8]) -> Self
-        ensures { seen result ≡ begun name.now }
+        ensures { state_of_reader result ≡ first_state name.now }
     {
         Reader {
             name,
@@ -140,7 +140,7 @@ impl<'a> Reader<'a> {
 
     // The value of a variable.
     fn set(&mut self, value: Option<bool>, id: &[u8])
-        ensures { seen self.new ≡ valued value id.now (seen self.old) }
+        ensures { state_of_reader self.new ≡ after_value value id.now (state_of_reader self.old) }
     {
         if let Some(is_low) = value {
             if let Some(own) = self.id {
@@ -151,9 +151,9 @@ impl<'a> Reader<'a> {
         }
     }
 
-    // A value of one bit, and what stands behind it: the identifier of its variable, or nothing, where that comes next.
+    // A value of one bit, and what stands after it: the identifier of its variable, or nothing, where that comes next.
     fn set_scalar(&mut self, is_low: bool, id: &[u8])
-        ensures { seen self.new ≡ scalar is_low id.now (seen self.old) }
+        ensures { state_of_reader self.new ≡ scalar is_low id.now (state_of_reader self.old) }
     {
         if id.is_empty() {
             self.section = Section::Value(Some(is_low));
@@ -164,7 +164,7 @@ impl<'a> Reader<'a> {
 
     // The time of the changes that follow.
     fn go_to(&mut self, instant: Option<u64>) -> Result<Option<Edge>, Cause>
-        ensures { Takes (timed instant (seen self.old)) result (seen self.new) }
+        ensures { Takes (after_time instant (state_of_reader self.old)) result (state_of_reader self.new) }
     {
         let Some(instant) = instant else {
             return Err(Cause::Time);
@@ -177,7 +177,7 @@ impl<'a> Reader<'a> {
 
     // The definitions end.
     fn begin_data(&mut self) -> Result<Option<Edge>, Cause>
-        ensures { Takes (named (seen self.old)) result (seen self.new) }
+        ensures { Takes (end_of_definitions (state_of_reader self.old)) result (state_of_reader self.new) }
     {
         if self.scale.is_none() {
             return Err(Cause::Scale);
@@ -192,7 +192,7 @@ impl<'a> Reader<'a> {
 
     // A keyword of the definitions.
     fn take_definition(&mut self, word: &[u8]) -> Result<Option<Edge>, Cause>
-        ensures { Takes (definition word.now (seen self.old)) result (seen self.new) }
+        ensures { Takes (definition word.now (state_of_reader self.old)) result (state_of_reader self.new) }
     {
         if word == b"$enddefinitions".as_slice() {
             return self.begin_data();
@@ -209,7 +209,7 @@ impl<'a> Reader<'a> {
 
     // A keyword.
     fn take_keyword(&mut self, word: &[u8]) -> Result<Option<Edge>, Cause>
-        ensures { Takes (keyword word.now (seen self.old)) result (seen self.new) }
+        ensures { Takes (keyword word.now (state_of_reader self.old)) result (state_of_reader self.new) }
     {
         if !self.is_data {
             return self.take_definition(word);
@@ -222,7 +222,7 @@ impl<'a> Reader<'a> {
 
     // A change, or a time.
     fn take_change(&mut self, word: &[u8]) -> Result<Option<Edge>, Cause>
-        ensures { Takes (change (slice_index word.now 0) word.now (seen self.old)) result (seen self.new) }
+        ensures { Takes (change (slice_index word.now 0) word.now (state_of_reader self.old)) result (state_of_reader self.new) }
     {
         let mark = byte_at(word, 0);
         if mark == b'#' {
@@ -247,7 +247,7 @@ impl<'a> Reader<'a> {
 
     // A keyword or a change.
     fn take_free(&mut self, word: &[u8]) -> Result<Option<Edge>, Cause>
-        ensures { Takes (free word.now (seen self.old)) result (seen self.new) }
+        ensures { Takes (free word.now (state_of_reader self.old)) result (state_of_reader self.new) }
     {
         if byte_at(word, 0) == b'$' {
             return self.take_keyword(word);
@@ -260,7 +260,7 @@ impl<'a> Reader<'a> {
 
     // The unit of the time scale.
     fn make_scale(&mut self, count: Count, word: &[u8]) -> Result<Option<Edge>, Cause>
-        ensures { Takes (scale_made count word.now (seen self.old)) result (seen self.new) }
+        ensures { Takes (scale_made count word.now (state_of_reader self.old)) result (state_of_reader self.new) }
     {
         match unit_of(word) {
             None => Err(Cause::Scale),
@@ -274,7 +274,7 @@ impl<'a> Reader<'a> {
 
     // The count of the time scale, perhaps with its unit.
     fn take_scale(&mut self, word: &[u8]) -> Result<Option<Edge>, Cause>
-        ensures { Takes (scale_begun (counted_word word.now) (seen self.old)) result (seen self.new) }
+        ensures { Takes (scale_begun (counted_word word.now) (state_of_reader self.old)) result (state_of_reader self.new) }
     {
         match counted_word(word) {
             None => Err(Cause::Scale),
@@ -290,7 +290,7 @@ impl<'a> Reader<'a> {
 
     // The name of a variable.
     fn take_name(&mut self, is_bit: bool, word: &[u8])
-        ensures { seen self.new ≡ called is_bit word.now (seen self.old) }
+        ensures { state_of_reader self.new ≡ after_name is_bit word.now (state_of_reader self.old) }
     {
         if is_bit && self.id.is_none() && (self.name.is_empty() || word == self.name) {
             self.id = Some(self.candidate);
@@ -300,7 +300,7 @@ impl<'a> Reader<'a> {
 
     // A word of a variable's definition.
     fn take_field(&mut self, field: Field, word: &'a [u8])
-        ensures { seen self.new ≡ in_field field word.now (seen self.old) }
+        ensures { state_of_reader self.new ≡ in_field field word.now (state_of_reader self.old) }
     {
         match field {
             Field::Kind => self.section = Section::Variable(Field::Size),
@@ -317,7 +317,7 @@ impl<'a> Reader<'a> {
 
     // The next word, which is not empty.
     fn take_some(&mut self, word: &'a [u8]) -> Result<Option<Edge>, Cause>
-        ensures { Takes (in_section self.old.section word.now (seen self.old)) result (seen self.new) }
+        ensures { Takes (in_section self.old.section word.now (state_of_reader self.old)) result (state_of_reader self.new) }
     {
         match self.section {
             Section::Free => return self.take_free(word),
@@ -344,7 +344,7 @@ impl<'a> Reader<'a> {
 
     /// Takes the next word, and returns the edge that is known by it.
     pub fn take(&mut self, word: &'a [u8]) -> Result<Option<Edge>, Cause>
-        ensures { Takes (took word.now (seen self.old)) result (seen self.new) }
+        ensures { Takes (took word.now (state_of_reader self.old)) result (state_of_reader self.new) }
     {
         if word.is_empty() {
             return Ok(None);
@@ -354,21 +354,21 @@ impl<'a> Reader<'a> {
 
     /// Whether the definitions have ended.
     pub fn is_over(&self) -> bool
-        ensures { result ≡ (seen self.now).is_data }
+        ensures { result ≡ (state_of_reader self.now).is_data }
     {
         self.is_data
     }
 
     /// The last instant.
     pub fn end(&self) -> u64
-        ensures { result ≡ (seen self.now).track.at }
+        ensures { result ≡ (state_of_reader self.now).track.at }
     {
         self.track.at()
     }
 
     /// The edge at the last instant.
     pub fn last(&self) -> Option<Edge>
-        ensures { result ≡ last_edge (seen self.now).track }
+        ensures { result ≡ last_edge (state_of_reader self.now).track }
     {
         self.track.last()
     }

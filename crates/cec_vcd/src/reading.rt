@@ -1,14 +1,14 @@
 //! From a dump to the edges of a line.
 ghost use Rattle.std.specs.Prelude.{◌≡◌, ℕ, ◌+◌, ◌++◌, ◌<◌, List, length, MatchResult};
 ghost use Rattle.cec_wave.specs.declared.Edge.{Edge as EdgeOf};
-ghost use Rattle.cec_vcd.specs.Dump.{edges_in, parts_of, seen, words_passed};
+ghost use Rattle.cec_vcd.specs.Dump.{edges_in, parts_of, state_of_reader, words_passed};
 ghost use Rattle.cec_vcd.specs.Reading.{Gives, GivesEdges, PassesLine};
 
 use crate::reader::{Cause, Reader};
 use crate::words::first_part;
 use cec_signal::Capture;
 use cec_wave::Edge;
-use cec_words::first_line;
+use hdmi_core::first_line;
 use std::alloc::Global;
 use thiserror::Error;
 
@@ -36,7 +36,7 @@ fn read_line<'a>(
     number: u64,
     line: &'a [u8],
 ) -> Result<(), VcdError>
-    ensures { PassesLine (words_passed number (parts_of line.now) (seen reader.old)) edges.old.items result edges.new.items (seen reader.new) }
+    ensures { PassesLine (words_passed number (parts_of line.now) (state_of_reader reader.old)) edges.old.items result edges.new.items (state_of_reader reader.new) }
 {
     let mut left = Some(line);
     'words: while let Some(words) = left {

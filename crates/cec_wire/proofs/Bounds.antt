@@ -12,8 +12,8 @@ use Rattle.cec_bits.proofs.Waves.{falls_of_wave}
 use Rattle.cec_wire.specs.declared.Seat.{Seat}
 use Rattle.cec_wire.specs.declared.Outcome.{Outcome}
 use Rattle.cec_wire.specs.declared.hearing.Ended.{Ended}
-use Rattle.cec_wire.specs.declared.hearing.Place.{Place}
-use Rattle.cec_wire.specs.declared.hearing.Place.TheVariants.{StartLow, StartHigh, InSlot, Over}
+use Rattle.cec_wire.specs.declared.hearing.Stage.{Stage}
+use Rattle.cec_wire.specs.declared.hearing.Stage.TheVariants.{StartLow, StartHigh, InSlot, Over}
 use Rattle.cec_wire.specs.Round.{IsRound, IsRoundLine}
 use Rattle.cec_wire.specs.Contend.{AreFrames}
 use Rattle.cec_wire.specs.Edges.{heard_of}
@@ -34,7 +34,7 @@ ends : (low : Line) (begin : ℕ) → (reading_of low begin).at ≤ begin + 4448
 ends low begin = omega (arith, at_by low begin, reading_bound low begin)
 
 -- so long after the begin the reading is over
-over_by : (seats : List Seat) (low : Line) (begin t : ℕ) (bits : List Bool) (held : ℕ) (place : Place) → StandsAt seats low begin t bits held place → begin + 470000 ≤ t
+over_by : (seats : List Seat) (low : Line) (begin t : ℕ) (bits : List Bool) (held : ℕ) (place : Stage) → StandsAt seats low begin t bits held place → begin + 470000 ≤ t
     → (e : Ended) × AtEnd seats low begin t bits e held
 unfolding StandsAt
 over_by seats low begin t bits held StartLow s l = absurd (omega (arith, s.early))

@@ -9,8 +9,8 @@ use Rattle.cec_bits.specs.Reading.{Read, bits_of, reading_of}
 use Rattle.cec_wire.specs.declared.Seat.{Seat}
 use Rattle.cec_wire.specs.declared.Outcome.{Outcome}
 use Rattle.cec_wire.specs.declared.hearing.Ended.{Ended}
-use Rattle.cec_wire.specs.declared.hearing.Place.{Place}
-use Rattle.cec_wire.specs.declared.hearing.Place.TheVariants.{StartLow, StartHigh, InSlot, Over}
+use Rattle.cec_wire.specs.declared.hearing.Stage.{Stage}
+use Rattle.cec_wire.specs.declared.hearing.Stage.TheVariants.{StartLow, StartHigh, InSlot, Over}
 use Rattle.cec_wire.specs.Round.{IsRound, IsRoundLine, rest_of, survivors_from, losers_from}
 use Rattle.cec_wire.specs.Edges.{Heard, heard_of}
 use Rattle.cec_wire.specs.OneOutcome.{HasOutcome, RoundsHaveOutcomes}
@@ -22,7 +22,7 @@ use Rattle.cec_wire.proofs.Stands.{AtEnd, StandsAt}
 use Rattle.cec_wire.proofs.Still.{high_after}
 
 -- so long after its begin the reading is over
-over_by : (seats : List Seat) (low : Line) (begin t : ℕ) (bits : List Bool) (held : ℕ) (place : Place) → StandsAt seats low begin t bits held place → begin + 470000 ≤ t
+over_by : (seats : List Seat) (low : Line) (begin t : ℕ) (bits : List Bool) (held : ℕ) (place : Stage) → StandsAt seats low begin t bits held place → begin + 470000 ≤ t
     → (e : Ended) × AtEnd seats low begin t bits e held
 unfolding StandsAt
 over_by seats low begin t bits held StartLow s l = absurd (omega (arith, s.early))

@@ -5,7 +5,7 @@ use Rattle.std.proofs.lemmas.Bool.Decides.{nat_tests}
 use Rattle.cec_wave.specs.Line.{Line}
 use Rattle.cec_frame.specs.declared.Ending.{Ending}
 use Rattle.cec_frame.specs.declared.Ending.TheVariants.{Complete, Short, Silent, BadStart, Long, Open}
-use Rattle.cec_bits.specs.Reading.{Slot, End, Known, known, reading_of}
+use Rattle.cec_bits.specs.Reading.{Slot, End, Known, known_at, reading_of}
 use Rattle.cec_wire.specs.declared.Seat.{Seat}
 use Rattle.cec_bits.specs.Sending.{known_bits, is_whole}
 use Rattle.cec_wire.specs.Round.{acknowledges, is_acknowledged, is_broken, sends_in}
@@ -48,25 +48,25 @@ by_test false any u end = grind (arith, nat_tests)
 
 -- in a slot, and after it
 pub acks_now : (seats : List Seat) (low : Line) (begin left : ℕ) (xs : List Slot) (before : List Bool) (e u : ℕ) → Reached low begin (suc left) xs before e → length xs ≡ length before → e < u
-    → (s : Slot) (ended : Option End) → known u (reading_of low begin) ≡ record { slots = xs ++ s ∷ []; ended = ended } → s.fall ≡ e
-    → is_acknowledged seats (known u (reading_of low begin)) u ≡ nat_lt u (acks_until seats before e)
+    → (s : Slot) (ended : Option End) → known_at u (reading_of low begin) ≡ record { slots = xs ++ s ∷ []; ended = ended } → s.fall ≡ e
+    → is_acknowledged seats (known_at u (reading_of low begin)) u ≡ nat_lt u (acks_until seats before e)
 acks_now seats low begin left xs before e u r c l s ended h f =
     ap (λ (k : Known). list_any test (enumerate_from 1 k.slots)) h
-    ∙ any_end test xs s 1 (length before + 1) (omega (arith, c)) (no_acks seats (known u (reading_of low begin)) u xs 1 (done_by e u xs (omega arith) r.over))
-    ∙ ap (λ n. ((length before + 1) % 10 == 0) && (nat_lt u (n + 1500) && list_any (acknowledges (known u (reading_of low begin)) (length before + 1)) seats)) f
+    ∙ any_end test xs s 1 (length before + 1) (omega (arith, c)) (no_acks seats (known_at u (reading_of low begin)) u xs 1 (done_by e u xs (omega arith) r.over))
+    ∙ ap (λ n. ((length before + 1) % 10 == 0) && (nat_lt u (n + 1500) && list_any (acknowledges (known_at u (reading_of low begin)) (length before + 1)) seats)) f
     ∙ within ((length before + 1) % 10 == 0) refl
   where
     test : ℕ × Slot → Bool
-    test slot = (slot.0 % 10 == 0) && (nat_lt u (slot.1.fall + 1500) && list_any (acknowledges (known u (reading_of low begin)) slot.0) seats)
+    test slot = (slot.0 % 10 == 0) && (nat_lt u (slot.1.fall + 1500) && list_any (acknowledges (known_at u (reading_of low begin)) slot.0) seats)
 
     in_time : ((length before + 1) % 10 == 0) ≡ true → (b : Bool) → nat_lt u (e + 1500) ≡ b
-        → (b && list_any (acknowledges (known u (reading_of low begin)) (length before + 1)) seats) ≡ (b && list_any (acks_after before) seats)
-    in_time ten true t = any_agree (acknowledges (known u (reading_of low begin)) (length before + 1)) (acks_after before) seats
+        → (b && list_any (acknowledges (known_at u (reading_of low begin)) (length before + 1)) seats) ≡ (b && list_any (acks_after before) seats)
+    in_time ten true t = any_agree (acknowledges (known_at u (reading_of low begin)) (length before + 1)) (acks_after before) seats
         (λ seat. acks_known low begin left xs before e (length before + 1) u seat r refl ten l (let x : u < e + 1500 = grind (arith, nat_tests) in x))
     in_time ten false t = refl
 
     within : (b : Bool) → ((length before + 1) % 10 == 0) ≡ b
-        → (b && (nat_lt u (e + 1500) && list_any (acknowledges (known u (reading_of low begin)) (length before + 1)) seats)) ≡ nat_lt u (if b && list_any (acks_after before) seats then e + 1500 else 0)
+        → (b && (nat_lt u (e + 1500) && list_any (acknowledges (known_at u (reading_of low begin)) (length before + 1)) seats)) ≡ nat_lt u (if b && list_any (acks_after before) seats then e + 1500 else 0)
     within true ten = in_time ten (nat_lt u (e + 1500)) refl ∙ by_test true (list_any (acks_after before) seats) u (e + 1500)
     within false ten = by_test false (list_any (acks_after before) seats) u (e + 1500)
 

@@ -9,13 +9,13 @@ use Rattle.cec_frame.specs.declared.Ending.{Ending}
 use Rattle.cec_frame.specs.declared.Ending.TheVariants.{Complete, Short, Silent, BadStart, Long}
 use Rattle.cec_bits.specs.declared.After.{After}
 use Rattle.cec_bits.specs.declared.After.TheVariants.{Next, Ends}
-use Rattle.cec_bits.specs.Reading.{next_fall, next_rise, Read, Slot, End, Known, known, known_slot, reading_of, read_start, read_slots, read_on, read_then, after_slot, after_fall, after_last, last_ending, last_heard, sample, sampled, start_of, start_rise, start_fall}
+use Rattle.cec_bits.specs.Reading.{next_fall, next_rise, Read, Slot, End, Known, known_at, known_slot, reading_of, read_start, read_slots, read_on, read_then, after_slot, after_fall, after_last, last_ending, last_heard, sample, bit_sampled_at, start_of, start_rise, start_fall}
 use Rattle.cec_bits.proofs.Search.{first_in_none, first_in_some}
 use Rattle.cec_bits.proofs.Causes.{with_slots, start_risen}
 use Rattle.cec_wire.specs.declared.Seat.{Seat}
 use Rattle.cec_wire.specs.declared.hearing.Ended.{Ended}
-use Rattle.cec_wire.specs.declared.hearing.Place.{Place}
-use Rattle.cec_wire.specs.declared.hearing.Place.TheVariants.{StartLow, StartHigh, InSlot, Over}
+use Rattle.cec_wire.specs.declared.hearing.Stage.{Stage}
+use Rattle.cec_wire.specs.declared.hearing.Stage.TheVariants.{StartLow, StartHigh, InSlot, Over}
 use Rattle.cec_bits.specs.Sending.{known_bits}
 use Rattle.cec_wire.specs.Round.{is_acknowledged, is_broken}
 use Rattle.cec_wire.specs.Machine.{acks_after, over, next_place, after_start_low, after_start_high, after_last_slot, after_other_slot, bit_told, acks_until, held_after, breaks_after, is_short}
@@ -51,7 +51,7 @@ pub record AtStartHigh (low : Line) (begin t : ℕ) (bits : List Bool) (held : �
 
 -- the bit, once it is sampled before t
 abbrev pub told_by : Line → ℕ → ℕ → List Bool
-told_by low fall t = if nat_lt (fall + 1050) t then option_to_list (sampled low fall) else []
+told_by low fall t = if nat_lt (fall + 1050) t then option_to_list (bit_sampled_at low fall) else []
 
 -- in a slot
 pub record AtSlot (seats : List Seat) (low : Line) (begin t : ℕ) (bits : List Bool) (fall : ℕ) (last : Option Ending) (held : ℕ) : Type 0 where
@@ -75,8 +75,8 @@ pub record AtEnd (seats : List Seat) (low : Line) (begin t : ℕ) (bits : List B
   pub zs : List Slot
   pub reads : reading_of low begin ≡ record { slots = zs; ending = e.ending; at = e.at; until = e.until }
   pub told : filter_map (λ (s : Slot). s.bit) zs ≡ bits
-  pub knows : (u : ℕ) → e.until < u → known u (reading_of low begin) ≡ record { slots = zs; ended = Some (end_of e) }
-  pub holds : (u : ℕ) → e.until < u → (is_acknowledged seats (known u (reading_of low begin)) u || is_broken seats (known u (reading_of low begin)) u (known u (reading_of low begin)).ended) ≡ nat_lt u held
+  pub knows : (u : ℕ) → e.until < u → known_at u (reading_of low begin) ≡ record { slots = zs; ended = Some (end_of e) }
+  pub holds : (u : ℕ) → e.until < u → (is_acknowledged seats (known_at u (reading_of low begin)) u || is_broken seats (known_at u (reading_of low begin)) u (known_at u (reading_of low begin)).ended) ≡ nat_lt u held
   pub past : e.until < t
   pub heard : is_short e.ending ≡ true → e.at < t
   pub soon : e.at ≤ e.until + 1
@@ -84,7 +84,7 @@ pub record AtEnd (seats : List Seat) (low : Line) (begin t : ℕ) (bits : List B
   pub near : e.at ≤ begin + 450000
   pub brief : held ≤ e.at + 3600
 
-unfoldable pub StandsAt : List Seat → Line → ℕ → ℕ → List Bool → ℕ → Place → Type 0
+unfoldable pub StandsAt : List Seat → Line → ℕ → ℕ → List Bool → ℕ → Stage → Type 0
 StandsAt seats low begin t bits held StartLow = AtStartLow low begin t bits held
 StandsAt seats low begin t bits held StartHigh = AtStartHigh low begin t bits held
 StandsAt seats low begin t bits held (InSlot fall last) = AtSlot seats low begin t bits fall last held
@@ -123,8 +123,8 @@ bad_start seats low begin t at until bits held none free h m past near = record 
     reads : reading_of low begin ≡ record { slots = []; ending = BadStart; at = at; until = until }
     reads = ap (read_start low begin) h ∙ ap (λ n. let r : Read = record { slots = []; ending = BadStart; at = at; until = n } in r) m
 
-    knows : (u : ℕ) → until < u → known u (reading_of low begin) ≡ record { slots = []; ended = Some (record { ending = BadStart; at = at; until = until }) }
-    knows u l = let e : nat_lt until u ≡ true = grind (arith, nat_tests) in ap (known u) reads ∙ ap (λ b. let k : Known = record { slots = []; ended = if b then Some (record { ending = BadStart; at = at; until = until }) else None } in k) e
+    knows : (u : ℕ) → until < u → known_at u (reading_of low begin) ≡ record { slots = []; ended = Some (record { ending = BadStart; at = at; until = until }) }
+    knows u l = let e : nat_lt until u ≡ true = grind (arith, nat_tests) in ap (known_at u) reads ∙ ap (λ b. let k : Known = record { slots = []; ended = if b then Some (record { ending = BadStart; at = at; until = until }) else None } in k) e
 
 -- ---- a step in the start bit
 
@@ -218,7 +218,7 @@ high_step seats low begin t bits held s = by_fall (is_fall low t) refl
       room = refl;
       count = refl;
       ends = refl;
-      told = none ∙ sym (ap (λ b. if b then option_to_list (sampled low t) else []) (let x : nat_lt (t + 1050) (t + 1) ≡ false = grind (arith, nat_tests) in x));
+      told = none ∙ sym (ap (λ b. if b then option_to_list (bit_sampled_at low t) else []) (let x : nat_lt (t + 1050) (t + 1) ≡ false = grind (arith, nat_tests) in x));
       quiet = λ u a b. absurd (omega arith);
       after = omega arith;
       early = omega arith;
@@ -273,10 +273,10 @@ told_step low fall t before bits told quiet after =
     other : (t == fall + 1050) ≡ false → nat_lt (fall + 1050) t ≡ nat_lt (fall + 1050) (t + 1) → bits_next bits fall t (is_fall low t) (low t) ≡ before ++ told_by low fall (t + 1)
     other e f =
         ap (λ b. bits ++ (if b then not (low t) ∷ [] else [])) (ap (λ b. not (is_fall low t) && b) e ∙ and_false (not (is_fall low t))) ∙ append-nil bits ∙ told
-        ∙ ap (λ b. before ++ (if b then option_to_list (sampled low fall) else [])) f
+        ∙ ap (λ b. before ++ (if b then option_to_list (bit_sampled_at low fall) else [])) f
 
     here : t ≡ fall + 1050 → (f : Bool) → is_fall low t ≡ f → bits_next bits fall t f (low t) ≡ before ++ told_by low fall (t + 1)
-    here e f g = ap (λ bs. bits_next bs fall t f (low t)) so_far ∙ by_fall f g ∙ ap (λ b. before ++ (if b then option_to_list (sampled low fall) else [])) (sym past)
+    here e f g = ap (λ bs. bits_next bs fall t f (low t)) so_far ∙ by_fall f g ∙ ap (λ b. before ++ (if b then option_to_list (bit_sampled_at low fall) else [])) (sym past)
       where
         now : (t == fall + 1050) ≡ true
         now = grind (arith, nat_tests)
@@ -285,9 +285,9 @@ told_step low fall t before bits told quiet after =
         past = grind (arith, nat_tests)
 
         so_far : bits ≡ before
-        so_far = told ∙ ap (λ b. before ++ (if b then option_to_list (sampled low fall) else [])) (let x : nat_lt (fall + 1050) t ≡ false = grind (arith, nat_tests) in x) ∙ append-nil before
+        so_far = told ∙ ap (λ b. before ++ (if b then option_to_list (bit_sampled_at low fall) else [])) (let x : nat_lt (fall + 1050) t ≡ false = grind (arith, nat_tests) in x) ∙ append-nil before
 
-        by_fall : (b : Bool) → is_fall low t ≡ b → bits_next before fall t b (low t) ≡ before ++ option_to_list (sampled low fall)
+        by_fall : (b : Bool) → is_fall low t ≡ b → bits_next before fall t b (low t) ≡ before ++ option_to_list (bit_sampled_at low fall)
         by_fall true k = ap (λ (o : Option Bool). before ++ option_to_list o) (sym (ap (sample low fall) (first_in_some (is_fall low) (fall + 1) 1050 t (omega arith) (omega arith) k (λ u l m. quiet u (omega arith) m))))
         by_fall false k =
             ap (λ b. before ++ (if b then not (low t) ∷ [] else [])) now
@@ -299,23 +299,23 @@ told_step low fall t before bits told quiet after =
 
 -- the reading ends in this slot
 ends_so : (low : Line) (begin left : ℕ) (xs : List Slot) (before : List Bool) (e : ℕ) (ending : Ending) (at : ℕ) → Reached low begin (suc left) xs before e → after_slot low e (last_ending before) ≡ Ends ending at
-    → reading_of low begin ≡ record { slots = xs ++ record { fall = e; bit = sampled low e } ∷ []; ending = ending; at = at; until = last_heard ending at }
+    → reading_of low begin ≡ record { slots = xs ++ record { fall = e; bit = bit_sampled_at low e } ∷ []; ending = ending; at = at; until = last_heard ending at }
 unfolding read_slots
 ends_so low begin left xs before e ending at r h =
-    sym r.goes ∙ ap (λ a. with_slots xs (read_then (record { fall = e; bit = sampled low e }) (read_on (read_slots low left (before ++ option_to_list (sampled low e))) a))) h
+    sym r.goes ∙ ap (λ a. with_slots xs (read_then (record { fall = e; bit = bit_sampled_at low e }) (read_on (read_slots low left (before ++ option_to_list (bit_sampled_at low e))) a))) h
 
 slot_end : (seats : List Seat) (low : Line) (begin t : ℕ) (bits : List Bool) (fall : ℕ) (last : Option Ending) (held : ℕ) → (s : AtSlot seats low begin t bits fall last held)
-    → (ending : Ending) (at : ℕ) (bits2 : List Bool) → after_slot low fall (last_ending s.before) ≡ Ends ending at → last_heard ending at ≡ t → bits2 ≡ s.before ++ option_to_list (sampled low fall)
-    → (fall + 1050 < t + 1) ⊎ (sampled low fall ≡ None) → (is_short ending ≡ true → at ≡ t) → t ≤ at → at ≤ t + 1
+    → (ending : Ending) (at : ℕ) (bits2 : List Bool) → after_slot low fall (last_ending s.before) ≡ Ends ending at → last_heard ending at ≡ t → bits2 ≡ s.before ++ option_to_list (bit_sampled_at low fall)
+    → (fall + 1050 < t + 1) ⊎ (bit_sampled_at low fall ≡ None) → (is_short ending ≡ true → at ≡ t) → t ≤ at → at ≤ t + 1
     → AtEnd seats low begin (t + 1) bits2 (record { ending = ending; at = at; until = t }) (if (at == t) && (is_short ending && list_any (breaks_after bits2) seats) then t + 3600 else held)
 slot_end seats low begin t bits fall last held s ending at bits2 a heard told2 settled short ge le = record {
   zs = s.xs ++ slot ∷ [];
   reads = ends_so low begin s.left s.xs s.before fall ending at s.reached a ∙ ap (λ n. let r : Read = record { slots = s.xs ++ slot ∷ []; ending = ending; at = at; until = n } in r) heard;
   told = told_more s.xs s.before slot s.reached.told ∙ sym told2;
   knows = knows;
-  holds = λ u l. ap (λ b. b || is_broken seats (known u (reading_of low begin)) u (known u (reading_of low begin)).ended)
+  holds = λ u l. ap (λ b. b || is_broken seats (known_at u (reading_of low begin)) u (known_at u (reading_of low begin)).ended)
       (acks_now seats low begin s.left s.xs s.before fall u s.reached s.count (omega (arith, s.after)) slot (Some (record { ending = ending; at = at; until = t })) (knows u l) refl ∙ ap (λ n. nat_lt u n) (sym s.free))
-      ∙ breaks_now seats (known u (reading_of low begin)) bits2 u t at t held ending (ap (λ (k : Known). k.ended) (knows u l))
+      ∙ breaks_now seats (known_at u (reading_of low begin)) bits2 u t at t held ending (ap (λ (k : Known). k.ended) (knows u l))
       (ap known_bits (knows u l) ∙ told_more s.xs s.before slot s.reached.told ∙ sym told2) short brief;
   past = omega arith;
   heard = λ w. omega (arith, short w);
@@ -326,7 +326,7 @@ slot_end seats low begin t bits fall last held s ending at bits2 a heard told2 s
 }
   where
     slot : Slot
-    slot = record { fall = fall; bit = sampled low fall }
+    slot = record { fall = fall; bit = bit_sampled_at low fall }
 
     acks_least : (b : Bool) → (if b then fall + 1500 else 0) ≤ fall + 1500
     acks_least true = omega arith
@@ -342,15 +342,15 @@ slot_end seats low begin t bits fall last held s ending at bits2 a heard told2 s
     known_one : (u : ℕ) → t < u → known_slot u slot ≡ slot
     known_one u l = by_settled settled
       where
-        by_settled : (fall + 1050 < t + 1) ⊎ (sampled low fall ≡ None) → known_slot u slot ≡ slot
-        by_settled (inl h) = let e : nat_lt (fall + 1050) u ≡ true = grind (arith, nat_tests) in ap (λ b. let x : Slot = record { fall = fall; bit = if b then sampled low fall else None } in x) e
+        by_settled : (fall + 1050 < t + 1) ⊎ (bit_sampled_at low fall ≡ None) → known_slot u slot ≡ slot
+        by_settled (inl h) = let e : nat_lt (fall + 1050) u ≡ true = grind (arith, nat_tests) in ap (λ b. let x : Slot = record { fall = fall; bit = if b then bit_sampled_at low fall else None } in x) e
         by_settled (inr h) = none_either (nat_lt (fall + 1050) u)
           where
-            none_either : (b : Bool) → (let x : Slot = record { fall = fall; bit = if b then sampled low fall else None } in x) ≡ slot
+            none_either : (b : Bool) → (let x : Slot = record { fall = fall; bit = if b then bit_sampled_at low fall else None } in x) ≡ slot
             none_either true = refl
             none_either false = ap (λ (o : Option Bool). let x : Slot = record { fall = fall; bit = o } in x) (sym h)
 
-    knows : (u : ℕ) → t < u → known u (reading_of low begin) ≡ record { slots = s.xs ++ slot ∷ []; ended = Some (record { ending = ending; at = at; until = t }) }
+    knows : (u : ℕ) → t < u → known_at u (reading_of low begin) ≡ record { slots = s.xs ++ slot ∷ []; ended = Some (record { ending = ending; at = at; until = t }) }
     knows u l =
         let e : nat_lt t u ≡ true = grind (arith, nat_tests) in
         known_here low begin s.left s.xs s.before fall u s.reached (omega (arith, s.after)) (Ends ending at) a
@@ -360,21 +360,21 @@ slot_end seats low begin t bits fall last held s ending at bits2 a heard told2 s
 
 -- what a fall in the slot told
 told_fall : (seats : List Seat) (low : Line) (begin t : ℕ) (bits : List Bool) (fall : ℕ) (last : Option Ending) (held : ℕ) → (s : AtSlot seats low begin t bits fall last held) → is_fall low t ≡ true
-    → (bits_next bits fall t (is_fall low t) (low t) ≡ s.before ++ option_to_list (sampled low fall)) × ((fall + 1050 < t + 1) ⊎ (sampled low fall ≡ None))
+    → (bits_next bits fall t (is_fall low t) (low t) ≡ s.before ++ option_to_list (bit_sampled_at low fall)) × ((fall + 1050 < t + 1) ⊎ (bit_sampled_at low fall ≡ None))
 told_fall seats low begin t bits fall last held s f =
     elim (cases_lt (fall + 1050) (t + 1)) [
-      | inl l ↦ (told_step low fall t s.before bits s.told s.quiet s.after ∙ ap (λ b. s.before ++ (if b then option_to_list (sampled low fall) else [])) (let x : nat_lt (fall + 1050) (t + 1) ≡ true = grind (arith, nat_tests) in x), inl l)
-      | inr g ↦ (let none : sampled low fall ≡ None = ap (sample low fall) (first_in_some (is_fall low) (fall + 1) 1050 t (omega (arith, s.after)) (omega arith) f (λ u a b. s.quiet u (omega arith) b)) in (
-        told_step low fall t s.before bits s.told s.quiet s.after ∙ ap (λ b. s.before ++ (if b then option_to_list (sampled low fall) else [])) (let x : nat_lt (fall + 1050) (t + 1) ≡ false = grind (arith, nat_tests) in x)
+      | inl l ↦ (told_step low fall t s.before bits s.told s.quiet s.after ∙ ap (λ b. s.before ++ (if b then option_to_list (bit_sampled_at low fall) else [])) (let x : nat_lt (fall + 1050) (t + 1) ≡ true = grind (arith, nat_tests) in x), inl l)
+      | inr g ↦ (let none : bit_sampled_at low fall ≡ None = ap (sample low fall) (first_in_some (is_fall low) (fall + 1) 1050 t (omega (arith, s.after)) (omega arith) f (λ u a b. s.quiet u (omega arith) b)) in (
+        told_step low fall t s.before bits s.told s.quiet s.after ∙ ap (λ b. s.before ++ (if b then option_to_list (bit_sampled_at low fall) else [])) (let x : nat_lt (fall + 1050) (t + 1) ≡ false = grind (arith, nat_tests) in x)
             ∙ ap (λ (o : Option Bool). s.before ++ option_to_list o) (sym none),
         inr none,
       ))
     ]
 
 told_past : (seats : List Seat) (low : Line) (begin t : ℕ) (bits : List Bool) (fall : ℕ) (last : Option Ending) (held : ℕ) → (s : AtSlot seats low begin t bits fall last held) → fall + 1050 < t + 1
-    → bits_next bits fall t (is_fall low t) (low t) ≡ s.before ++ option_to_list (sampled low fall)
+    → bits_next bits fall t (is_fall low t) (low t) ≡ s.before ++ option_to_list (bit_sampled_at low fall)
 told_past seats low begin t bits fall last held s l =
-    told_step low fall t s.before bits s.told s.quiet s.after ∙ ap (λ b. s.before ++ (if b then option_to_list (sampled low fall) else [])) (let x : nat_lt (fall + 1050) (t + 1) ≡ true = grind (arith, nat_tests) in x)
+    told_step low fall t s.before bits s.told s.quiet s.after ∙ ap (λ b. s.before ++ (if b then option_to_list (bit_sampled_at low fall) else [])) (let x : nat_lt (fall + 1050) (t + 1) ≡ true = grind (arith, nat_tests) in x)
 
 quiet_next : (low : Line) (from t : ℕ) → ((u : ℕ) → from < u → u < t → is_fall low u ≡ false) → is_fall low t ≡ false → (u : ℕ) → from < u → u < t + 1 → is_fall low u ≡ false
 quiet_next low from t q e u l m = elim (cases_lt u t) [ inl lt ↦ q u l lt | inr ge ↦ let same : u ≡ t = omega arith in rw same e ]
@@ -429,38 +429,38 @@ slot_next : (seats : List Seat) (low : Line) (begin t : ℕ) (bits : List Bool) 
 slot_next seats low begin t bits fall held s f far = by_left s.left s.room refl s.reached
   where
     before2 : List Bool
-    before2 = s.before ++ option_to_list (sampled low fall)
+    before2 = s.before ++ option_to_list (bit_sampled_at low fall)
 
     slot : Slot
-    slot = record { fall = fall; bit = sampled low fall }
+    slot = record { fall = fall; bit = bit_sampled_at low fall }
 
-    bits2 : bits_next bits fall t (is_fall low t) (low t) ≡ s.before ++ option_to_list (sampled low fall)
+    bits2 : bits_next bits fall t (is_fall low t) (low t) ≡ s.before ++ option_to_list (bit_sampled_at low fall)
     bits2 = told_past seats low begin t bits fall None held s (omega arith)
 
-    same : bits ≡ s.before ++ option_to_list (sampled low fall)
-    same = s.told ∙ ap (λ b. s.before ++ (if b then option_to_list (sampled low fall) else [])) (let x : nat_lt (fall + 1050) t ≡ true = grind (arith, nat_tests) in x)
+    same : bits ≡ s.before ++ option_to_list (bit_sampled_at low fall)
+    same = s.told ∙ ap (λ b. s.before ++ (if b then option_to_list (bit_sampled_at low fall) else [])) (let x : nat_lt (fall + 1050) t ≡ true = grind (arith, nat_tests) in x)
 
     after : after_slot low fall (last_ending s.before) ≡ Next t
     after = ap (after_slot low fall) (sym s.ends) ∙ ap (after_fall fall) (next_here low fall t 2750 s.quiet s.after s.early f)
         ∙ ap (λ b. let a : After = if b then Ends Short t else Next t in a) (let x : nat_lt t (fall + 2050) ≡ false = grind (arith, nat_tests) in x)
 
-    more : length (s.before ++ option_to_list (sampled low fall)) ≡ length s.before + 1
-    more = length-append s.before (option_to_list (sampled low fall)) ∙ ap (λ n. length s.before + n)
-        (one_bit (sampled low fall) (not (low (fall + 1050))) (quiet_sample low fall (λ u a b. s.quiet u a (omega arith))))
+    more : length (s.before ++ option_to_list (bit_sampled_at low fall)) ≡ length s.before + 1
+    more = length-append s.before (option_to_list (bit_sampled_at low fall)) ∙ ap (λ n. length s.before + n)
+        (one_bit (bit_sampled_at low fall) (not (low (fall + 1050))) (quiet_sample low fall (λ u a b. s.quiet u a (omega arith))))
 
     by_left : (left : ℕ) → length s.before + left ≡ 159 → s.left ≡ left → Reached low begin (suc s.left) s.xs s.before fall
         → AtSlot seats low begin (t + 1) (bits_next bits fall t (is_fall low t) (low t)) t (last_ending bits) (if t == t then acks_until seats (bits_next bits fall t (is_fall low t) (low t)) t else held)
     by_left zero n e r = absurd (last_full s.before (omega arith) (sym s.ends))
     by_left (suc left) n e r = record {
-      before = s.before ++ option_to_list (sampled low fall);
+      before = s.before ++ option_to_list (bit_sampled_at low fall);
       xs = s.xs ++ slot ∷ [];
       left = left;
       reached = reach_next low begin (suc left) s.xs s.before fall t (subst (λ k. Reached low begin (suc k) s.xs s.before fall) e r) after far;
       room = omega (arith, more, n);
-      count = length-append s.xs (slot ∷ []) ∙ (let x : length s.xs + 1 ≡ length (s.before ++ option_to_list (sampled low fall)) = omega (arith, more, s.count) in x);
+      count = length-append s.xs (slot ∷ []) ∙ (let x : length s.xs + 1 ≡ length (s.before ++ option_to_list (bit_sampled_at low fall)) = omega (arith, more, s.count) in x);
       ends = ap last_ending same;
-      told = bits2 ∙ sym (append-nil (s.before ++ option_to_list (sampled low fall)))
-          ∙ sym (ap (λ b. (s.before ++ option_to_list (sampled low fall)) ++ (if b then option_to_list (sampled low t) else [])) (let x : nat_lt (t + 1050) (t + 1) ≡ false = grind (arith, nat_tests) in x));
+      told = bits2 ∙ sym (append-nil (s.before ++ option_to_list (bit_sampled_at low fall)))
+          ∙ sym (ap (λ b. (s.before ++ option_to_list (bit_sampled_at low fall)) ++ (if b then option_to_list (bit_sampled_at low t) else [])) (let x : nat_lt (t + 1050) (t + 1) ≡ false = grind (arith, nat_tests) in x));
       quiet = λ u a b. absurd (omega arith);
       after = omega arith;
       early = omega arith;
@@ -574,7 +574,7 @@ end_step seats low begin t bits e held s =
     stays true h = let l : e.at < t = s.heard h in let ne : (e.at == t) ≡ false = grind (arith, nat_tests) in ap (λ c. if c && list_any (breaks_after (bits ++ [])) seats then t + 3600 else held) ne
     stays false h = no_break (e.at == t) (t + 3600) held
 
-pub step : (seats : List Seat) (low : Line) (begin t : ℕ) (bits : List Bool) (held : ℕ) (place : Place) → StandsAt seats low begin t bits held place → (t ≡ begin → is_rise low t ≡ false)
+pub step : (seats : List Seat) (low : Line) (begin t : ℕ) (bits : List Bool) (held : ℕ) (place : Stage) → StandsAt seats low begin t bits held place → (t ≡ begin → is_rise low t ≡ false)
     → StandsAt seats low begin (t + 1) (bits ++ bit_told place t (is_fall low t) (low t))
     (held_after seats (bits ++ bit_told place t (is_fall low t) (low t)) (next_place begin bits place t (is_fall low t) (is_rise low t)) t held) (next_place begin bits place t (is_fall low t) (is_rise low t))
 unfolding StandsAt

@@ -8,12 +8,12 @@ use Rattle.cec_wave.specs.Line.{Line, line_of, covers, was_low, is_rise}
 use Rattle.cec_wave.specs.Pulses.{AreSparse, IsNarrow}
 use Rattle.cec_wave.specs.Sender.{sender_stretches}
 use Rattle.cec_frame.specs.Bits.{frame_bits}
-use Rattle.cec_bits.specs.Reading.{End, Known, known, reading_of}
+use Rattle.cec_bits.specs.Reading.{End, Known, known_at, reading_of}
 use Rattle.cec_bits.proofs.Causes.{known_start_low, nothing}
 use Rattle.cec_wire.specs.declared.Seat.{Seat}
 use Rattle.cec_wire.specs.declared.hearing.Ended.{Ended}
 use Rattle.cec_bits.specs.Sending.{goes_on, out_slot, sender_pulls}
-use Rattle.cec_wire.specs.Round.{winning_frames, pulse_pulls, is_acknowledged, is_broken, pulled, IsRoundLine}
+use Rattle.cec_wire.specs.Round.{winning_frames, pulse_pulls, is_acknowledged, is_broken, is_pulled, IsRoundLine}
 use Rattle.cec_wire.proofs.Differ.{In, in_any}
 use Rattle.cec_wire.proofs.Lows.{far_apart}
 use Rattle.cec_wire.proofs.Lays.{before_start}
@@ -27,10 +27,10 @@ pub high_before : (seats : List Seat) (begin : ℕ) (pulses : List Stretch) (low
 unfolding nothing
 high_before seats begin pulses low line u l = by_low (low u) refl
   where
-    k : known u (reading_of low begin) ≡ nothing
+    k : known_at u (reading_of low begin) ≡ nothing
     k = known_start_low low begin u (omega arith) (λ v a b. absurd (omega arith))
 
-    none_of : pulled seats begin pulses (was_low low u) nothing u ≡ true → ⊥
+    none_of : is_pulled seats begin pulses (was_low low u) nothing u ≡ true → ⊥
     none_of h =
         elim (or_cases (list_any (pulse_pulls begin None (was_low low u) u) pulses) _ h) [
           | inl a ↦ (let r = in_any (pulse_pulls begin None (was_low low u) u) pulses a in
@@ -49,7 +49,7 @@ high_before seats begin pulses low line u l = by_low (low u) refl
 
     by_low : (b : Bool) → low u ≡ b → low u ≡ false
     by_low false e = e
-    by_low true e = absurd (none_of (sym (ap (λ (n : Known). pulled seats begin pulses (was_low low u) n u) k) ∙ sym (line u) ∙ e))
+    by_low true e = absurd (none_of (sym (ap (λ (n : Known). is_pulled seats begin pulses (was_low low u) n u) k) ∙ sym (line u) ∙ e))
 
 -- so the line does not rise as the round begins
 pub no_rise : (seats : List Seat) (begin : ℕ) (pulses : List Stretch) (low : Line) → IsRoundLine seats begin pulses low → (t : ℕ) → t ≡ begin → is_rise low t ≡ false
@@ -87,12 +87,12 @@ pulse_only seats begin pulses low t bits e held line s u l h =
     ]
   where
     k : Known
-    k = known u (reading_of low begin)
+    k = known_at u (reading_of low begin)
 
     past : e.until < u
     past = omega (arith, s.later)
 
-    knows : known u (reading_of low begin) ≡ record { slots = s.zs; ended = Some (end_of e) }
+    knows : known_at u (reading_of low begin) ≡ record { slots = s.zs; ended = Some (end_of e) }
     knows = s.knows u past
 
     made : (list_any (pulse_pulls begin (Some (end_of e)) (was_low low u) u) pulses || (list_any (sender_pulls begin k u) (winning_frames seats) || (is_acknowledged seats k u || is_broken seats k u k.ended))) ≡ true

@@ -1,4 +1,4 @@
--- What an outcome tells of its senders.
+-- What an outcome reports of its senders.
 use Rattle.std.proofs.Common.{◌≡◌, ℕ, zero, suc, ◌+◌, ◌==◌, ◌<◌, Bool, true, false, if◌then◌else◌, max, List, [], ◌∷◌, ◌++◌, length, slice_get, Option, Some, None, refl, arith, ap, ◌∙◌}
 use Rattle.std.proofs.lemmas.Bool.Decides.{nat_tests}
 use Rattle.cec_wave.specs.Line.{line_of}

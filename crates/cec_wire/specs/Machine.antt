@@ -11,40 +11,40 @@ use Rattle.cec_frame.specs.declared.Ending.TheVariants.{Short, Silent, BadStart}
 use Rattle.cec_bits.specs.Reading.{last_ending}
 use Rattle.cec_bits.specs.Sending.{destination, out_by}
 use Rattle.cec_wire.specs.declared.Seat.{Seat}
-use Rattle.cec_wire.specs.declared.hearing.Place.{Place}
-use Rattle.cec_wire.specs.declared.hearing.Place.TheVariants.{StartLow, StartHigh, InSlot, Over}
+use Rattle.cec_wire.specs.declared.hearing.Stage.{Stage}
+use Rattle.cec_wire.specs.declared.hearing.Stage.TheVariants.{StartLow, StartHigh, InSlot, Over}
 use Rattle.cec_wire.specs.Round.{is_held, is_not_before, lost_at}
 use Rattle.cec_wire.specs.declared.Loser.{Loser}
 
 -- ---- where the reading comes with microsecond t
 
-abbrev pub over : Ending → ℕ → ℕ → Place
+abbrev pub over : Ending → ℕ → ℕ → Stage
 over ending at until = Over (record { ending = ending; at = at; until = until })
 
 -- in the start bit, before its rise
-abbrev pub after_start_low : ℕ → ℕ → Bool → Place
+abbrev pub after_start_low : ℕ → ℕ → Bool → Stage
 after_start_low begin t rises =
     if nat_lt (begin + 3900) t then over BadStart (begin + 3901) (begin + 3901)
     else if rises then (if nat_lt t (begin + 3500) then over BadStart t t else StartHigh) else StartLow
 
 -- after the start bit's rise
-abbrev pub after_start_high : ℕ → ℕ → Bool → Place
+abbrev pub after_start_high : ℕ → ℕ → Bool → Stage
 after_start_high begin t falls =
     if falls then (if nat_lt t (begin + 4300) then over BadStart t t else InSlot t None)
     else if t == begin + 4700 then over BadStart (begin + 4701) (begin + 4700) else StartHigh
 
 -- in a slot that ends the reading where nothing breaks it
-abbrev pub after_last_slot : ℕ → Ending → ℕ → Bool → Place
+abbrev pub after_last_slot : ℕ → Ending → ℕ → Bool → Stage
 after_last_slot fall ending t falls =
     if falls then over Short t t else if t == fall + 1050 then over ending t t else InSlot fall (Some ending)
 
 -- in another slot
-abbrev pub after_other_slot : List Bool → ℕ → ℕ → Bool → Place
+abbrev pub after_other_slot : List Bool → ℕ → ℕ → Bool → Stage
 after_other_slot bits fall t falls =
     if falls then (if nat_lt t (fall + 2050) then over Short t t else InSlot t (last_ending bits))
     else if t == fall + 2750 then over Silent (t + 1) t else InSlot fall None
 
-abbrev pub next_place : ℕ → List Bool → Place → ℕ → Bool → Bool → Place
+abbrev pub next_place : ℕ → List Bool → Stage → ℕ → Bool → Bool → Stage
 next_place begin bits StartLow t falls rises = after_start_low begin t rises
 next_place begin bits StartHigh t falls rises = after_start_high begin t falls
 next_place begin bits (InSlot fall None) t falls rises = after_other_slot bits fall t falls
@@ -52,12 +52,12 @@ next_place begin bits (InSlot fall (Some ending)) t falls rises = after_last_slo
 next_place begin bits (Over ended) t falls rises = Over ended
 
 -- whether microsecond t is the sample of the slot that falls there
-abbrev pub samples : Place → ℕ → Bool → Bool
+abbrev pub samples : Stage → ℕ → Bool → Bool
 samples (InSlot fall last) t falls = not falls && (t == fall + 1050)
 samples _ t falls = false
 
 -- the bit that is sampled at microsecond t
-abbrev pub bit_told : Place → ℕ → Bool → Bool → List Bool
+abbrev pub bit_told : Stage → ℕ → Bool → Bool → List Bool
 bit_told place t falls is_low = if samples place t falls then not is_low ∷ [] else []
 
 -- ---- who goes on, by the bits that were read
@@ -86,7 +86,7 @@ abbrev pub acks_until : List Seat → List Bool → ℕ → ℕ
 acks_until seats bits fall = if ((length bits + 1) % 10 == 0) && list_any (acks_after bits) seats then fall + 1500 else 0
 
 -- after microsecond t, which brought the reading to this place; they held it until `held` before
-abbrev pub held_after : List Seat → List Bool → Place → ℕ → ℕ → ℕ
+abbrev pub held_after : List Seat → List Bool → Stage → ℕ → ℕ → ℕ
 held_after seats bits (InSlot fall last) t held = if fall == t then acks_until seats bits fall else held
 held_after seats bits (Over ended) t held =
     if (ended.at == t) && (is_short ended.ending && list_any (breaks_after bits) seats) then t + 3600 else held
@@ -95,20 +95,20 @@ held_after seats bits _ t held = held
 -- ---- who pulls in microsecond t
 
 -- the last microsecond in which a pulse may begin that the round takes
-abbrev pub taken_until : Place → ℕ → ℕ
+abbrev pub taken_until : Stage → ℕ → ℕ
 taken_until (Over ended) t = ended.until
 taken_until _ t = t
 
 -- the last microsecond in which a sender may pull
-abbrev pub sends_until : Place → ℕ → ℕ
+abbrev pub sends_until : Stage → ℕ → ℕ
 sends_until (Over ended) t = ended.at
 sends_until _ t = t
 
-abbrev pub taken : ℕ → ℕ → Bool → ℕ → Stretch → Bool
-taken begin until was t p = covers p t && (nat_le begin p.from && (nat_le p.from until || was))
+abbrev pub takes_pulse : ℕ → ℕ → Bool → ℕ → Stretch → Bool
+takes_pulse begin until was t p = covers p t && (nat_le begin p.from && (nat_le p.from until || was))
 
 -- an instant of a run, in microseconds
-abbrev pub IsEarly : Place → Type 0
+abbrev pub IsEarly : Stage → Type 0
 IsEarly (InSlot fall last) = fall ≤ 3000000000000
 IsEarly _ = Unit {0}
 
@@ -129,10 +129,10 @@ sent_low begin (Some f) t = line_of (sender_stretches begin (frame_bits f)) t
 
 -- ---- the wave so far: whole stretches, and the one that is low still
 
-abbrev pub recorded : List Stretch → Option ℕ → ℕ → Bool → List Stretch
-recorded wave since t true = wave
-recorded wave None t false = wave
-recorded wave (Some from) t false = wave ++ record { from = from; to = t } ∷ []
+abbrev pub wave_after : List Stretch → Option ℕ → ℕ → Bool → List Stretch
+wave_after wave since t true = wave
+wave_after wave None t false = wave
+wave_after wave (Some from) t false = wave ++ record { from = from; to = t } ∷ []
 
 abbrev pub low_since : Option ℕ → ℕ → Bool → Option ℕ
 low_since since t false = None
@@ -162,6 +162,6 @@ abbrev pub losers_by : List Bool → Bool → ℕ → List Seat → List Loser
 losers_by bits whole n [] = []
 losers_by bits whole n (s ∷ ss) = lost_at n (out_after bits whole s.sends) ++ losers_by bits whole (n + 1) ss
 
-abbrev pub IsOver : Place → Type 0
+abbrev pub IsOver : Stage → Type 0
 IsOver (Over ended) = Unit {0}
 IsOver _ = ⊥

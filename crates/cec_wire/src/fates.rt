@@ -5,7 +5,7 @@ ghost use Rattle.cec_wire.specs.Machine.{survives, survivors_by, out_after, lose
 ghost use Rattle.cec_wire.specs.Round.{is_taken_up, fate_at_end, fate_by, out_in, rest_of};
 
 use crate::header::is_broadcast;
-use crate::hearing::{Ended, Place};
+use crate::hearing::{Ended, Stage};
 use crate::senders::out_slot;
 use crate::{Loser, Outcome, Seat};
 use arrayvec::ArrayVec;
@@ -85,12 +85,12 @@ fn rest(wave: &[Stretch], until: u64) -> u64
     rest
 }
 
-pub fn ending(place: Place) -> Ended
+pub fn ending(place: Stage) -> Ended
     requires { IsOver place }
-    ensures { place ≡ Place.Over result }
+    ensures { place ≡ Stage.Over result }
 {
     match place {
-        Place::Over(ended) => ended,
+        Stage::Over(ended) => ended,
         _ => unreachable!(),
     }
 }

@@ -8,7 +8,7 @@ ghost use Rattle.cec_wire.specs.Machine.{acks_after, breaks_after, acks_until, h
 
 use crate::Seat;
 use crate::header::destination;
-use crate::hearing::Place;
+use crate::hearing::Stage;
 use crate::senders::sends;
 use cec_frame::{Addr, Ending};
 
@@ -78,13 +78,13 @@ fn acknowledged_until(seats: &[Seat], bits: &[bool], fall: u64) -> u64
 }
 
 /// How long those who follow hold the line, once microsecond `t` brought the reading to this place.
-pub fn held_until(seats: &[Seat], bits: &[bool], place: Place, t: u64, held: u64) -> u64
+pub fn held_until(seats: &[Seat], bits: &[bool], place: Stage, t: u64, held: u64) -> u64
     requires { t ≤ 3000000000000 }
     ensures { result ≡ held_after seats.now bits.now place t held }
 {
     match place {
-        Place::InSlot(fall, _) if fall == t => acknowledged_until(seats, bits, fall),
-        Place::Over(ended) if ended.at == t && is_short(ended.ending) && is_broken(bits, seats) => t
+        Stage::InSlot(fall, _) if fall == t => acknowledged_until(seats, bits, fall),
+        Stage::Over(ended) if ended.at == t && is_short(ended.ending) && is_broken(bits, seats) => t
             + SHORT_PULL,
         _ => held,
     }

@@ -16,7 +16,7 @@ pub struct Ended {
 
 /// Where a reading has come.
 #[derive(Clone, Copy, Debug, PartialEq, Eq)]
-pub enum Place {
+pub enum Stage {
     /// In the start bit, before its rise.
     StartLow,
     /// After the start bit's rise.
@@ -29,28 +29,28 @@ pub enum Place {
 
 ghost use Rattle.cec_wire.specs.Machine.{after_start_low, after_start_high, after_last_slot, after_other_slot, next_place, samples, bit_told};
 
-fn over(ending: Ending, at: u64, until: u64) -> Place
-    ensures { result ≡ Place.Over (record { ending = ending; at = at; until = until }) }
+fn over(ending: Ending, at: u64, until: u64) -> Stage
+    ensures { result ≡ Stage.Over (record { ending = ending; at = at; until = until }) }
 {
-    Place::Over(Ended { ending, at, until })
+    Stage::Over(Ended { ending, at, until })
 }
 
-fn start_low_at(begin: u64, t: u64, rises: bool) -> Place
+fn start_low_at(begin: u64, t: u64, rises: bool) -> Stage
     requires { begin ≤ 2000000100000 }
     ensures { result ≡ after_start_low begin t rises }
 {
     if t > begin + 3900 {
         over(Ending::BadStart, begin + 3901, begin + 3901)
     } else if !rises {
-        Place::StartLow
+        Stage::StartLow
     } else if t < begin + 3500 {
         over(Ending::BadStart, t, t)
     } else {
-        Place::StartHigh
+        Stage::StartHigh
     }
 }
 
-fn start_high_at(begin: u64, t: u64, falls: bool) -> Place
+fn start_high_at(begin: u64, t: u64, falls: bool) -> Stage
     requires { begin ≤ 2000000100000 }
     ensures { result ≡ after_start_high begin t falls }
 {
@@ -58,16 +58,16 @@ fn start_high_at(begin: u64, t: u64, falls: bool) -> Place
         if t < begin + 4300 {
             over(Ending::BadStart, t, t)
         } else {
-            Place::InSlot(t, None)
+            Stage::InSlot(t, None)
         }
     } else if t == begin + 4700 {
         over(Ending::BadStart, begin + 4701, begin + 4700)
     } else {
-        Place::StartHigh
+        Stage::StartHigh
     }
 }
 
-fn last_slot_at(fall: u64, ending: Ending, t: u64, falls: bool) -> Place
+fn last_slot_at(fall: u64, ending: Ending, t: u64, falls: bool) -> Stage
     requires { fall ≤ 3000000000000 }
     ensures { result ≡ after_last_slot fall ending t falls }
 {
@@ -76,11 +76,11 @@ fn last_slot_at(fall: u64, ending: Ending, t: u64, falls: bool) -> Place
     } else if t == fall + 1050 {
         over(ending, t, t)
     } else {
-        Place::InSlot(fall, Some(ending))
+        Stage::InSlot(fall, Some(ending))
     }
 }
 
-fn other_slot_at(bits: &[bool], fall: u64, t: u64, falls: bool) -> Place
+fn other_slot_at(bits: &[bool], fall: u64, t: u64, falls: bool) -> Stage
     requires { fall ≤ 3000000000000 }
     ensures { result ≡ after_other_slot bits.now fall t falls }
 {
@@ -88,30 +88,30 @@ fn other_slot_at(bits: &[bool], fall: u64, t: u64, falls: bool) -> Place
         if t < fall + 2050 {
             over(Ending::Short, t, t)
         } else {
-            Place::InSlot(t, ending_of(bits))
+            Stage::InSlot(t, ending_of(bits))
         }
     } else if t == fall + 2750 {
         over(Ending::Silent, t + 1, t)
     } else {
-        Place::InSlot(fall, None)
+        Stage::InSlot(fall, None)
     }
 }
 
-impl Place {
+impl Stage {
     ghost use Rattle.cec_wire.specs.Machine.{IsEarly};
 
     /// Where the reading from `begin` comes with microsecond `t`, in which the line falls or rises.
-    pub fn after(self, begin: u64, bits: &[bool], t: u64, falls: bool, rises: bool) -> Place
+    pub fn after(self, begin: u64, bits: &[bool], t: u64, falls: bool, rises: bool) -> Stage
         requires begin { begin ≤ 2000000100000 }
         requires early { IsEarly self }
         ensures { result ≡ next_place begin bits.now self t falls rises }
     {
         match self {
-            Place::StartLow => start_low_at(begin, t, rises),
-            Place::StartHigh => start_high_at(begin, t, falls),
-            Place::InSlot(fall, None) => other_slot_at(bits, fall, t, falls),
-            Place::InSlot(fall, Some(ending)) => last_slot_at(fall, ending, t, falls),
-            Place::Over(ended) => Place::Over(ended),
+            Stage::StartLow => start_low_at(begin, t, rises),
+            Stage::StartHigh => start_high_at(begin, t, falls),
+            Stage::InSlot(fall, None) => other_slot_at(bits, fall, t, falls),
+            Stage::InSlot(fall, Some(ending)) => last_slot_at(fall, ending, t, falls),
+            Stage::Over(ended) => Stage::Over(ended),
         }
     }
 
@@ -121,7 +121,7 @@ impl Place {
         ensures { result ≡ samples self t falls }
     {
         match self {
-            Place::InSlot(fall, _) => !falls && t == fall + 1050,
+            Stage::InSlot(fall, _) => !falls && t == fall + 1050,
             _ => false,
         }
     }

@@ -4,10 +4,10 @@ ghost use Rattle.std.specs.List.{list_any};
 ghost use Rattle.cec_wave.specs.Line.{line_of};
 ghost use Rattle.cec_wave.specs.Sender.{sender_stretches};
 ghost use Rattle.cec_frame.specs.Bits.{frame_bits};
-ghost use Rattle.cec_wire.specs.Machine.{taken, taken_until, sends_until, sent_low};
+ghost use Rattle.cec_wire.specs.Machine.{takes_pulse, taken_until, sends_until, sent_low};
 
 use crate::Seat;
-use crate::hearing::Place;
+use crate::hearing::Stage;
 use cec_frame::Frame;
 use cec_wave::Stretch;
 
@@ -87,7 +87,7 @@ pub fn is_any_low(sending: &[Seat], begin: u64, t: u64) -> bool
 /// Whether a pulse pulls in microsecond `t` that the round takes: one that begins from `start` to
 /// `until`, or any that begins there where the line was low just before.
 pub fn is_pulsed(pulses: &[Stretch], start: u64, until: u64, was_low: bool, t: u64) -> bool
-    ensures { result ≡ list_any (taken start until was_low t) pulses.now }
+    ensures { result ≡ list_any (takes_pulse start until was_low t) pulses.now }
 {
     pulses.iter().any(|pulse| pulse.from <= t
         && t < pulse.to
@@ -95,21 +95,21 @@ pub fn is_pulsed(pulses: &[Stretch], start: u64, until: u64, was_low: bool, t: u
 }
 
 /// The last microsecond in which a pulse begins that the round takes.
-pub fn pulses_until(place: Place, t: u64) -> u64
+pub fn pulses_until(place: Stage, t: u64) -> u64
     ensures { result ≡ taken_until place t }
 {
     match place {
-        Place::Over(ended) => ended.until,
+        Stage::Over(ended) => ended.until,
         _ => t,
     }
 }
 
 /// The last microsecond in which a sender pulls.
-pub fn senders_until(place: Place, t: u64) -> u64
+pub fn senders_until(place: Stage, t: u64) -> u64
     ensures { result ≡ sends_until place t }
 {
     match place {
-        Place::Over(ended) => ended.at,
+        Stage::Over(ended) => ended.at,
         _ => t,
     }
 }

@@ -11,7 +11,7 @@ pub struct Recorder {
 }
 
 impl Recorder {
-    ghost use Rattle.cec_wire.specs.Machine.{recorded, low_since, IsReady};
+    ghost use Rattle.cec_wire.specs.Machine.{wave_after, low_since, IsReady};
 
     /// Nothing was low so far.
     pub fn new() -> Self
@@ -54,7 +54,7 @@ impl Recorder {
     pub fn hear(&mut self, t: u64, is_low: bool)
         requires room { length self.old.wave < 192 }
         requires ready { IsReady self.old.wave self.old.low_since t }
-        ensures wave { self.new.wave ≡ recorded self.old.wave self.old.low_since t is_low }
+        ensures wave { self.new.wave ≡ wave_after self.old.wave self.old.low_since t is_low }
         ensures since { self.new.low_since ≡ low_since self.old.low_since t is_low }
     {
         match (self.low_since, is_low) {

@@ -6,7 +6,7 @@ ghost use Rattle.cec_frame.specs.Bits.{frame_bits};
 ghost use Rattle.cec_wire.specs.Edges.{part_left, sender_part, part_of, next_part, next_due, sooner, if_later, first_end, begin_of, wake_after, sends_low, is_pulling, IsPull, IsTimely};
 
 use crate::Seat;
-use crate::hearing::Place;
+use crate::hearing::Stage;
 use crate::pulling::{FIRST_SLOT, SLOT, START_LOW, low_of};
 use crate::senders::sent_bit;
 use cec_frame::Frame;
@@ -114,21 +114,21 @@ pub fn pull_at(sending: &[Seat], begin: u64, t: u64) -> Pull
 }
 
 // The next instant at which the reading goes on with no edge.
-fn next_due(begin: u64, place: Place, t: u64) -> Option<u64>
+fn next_due(begin: u64, place: Stage, t: u64) -> Option<u64>
     requires early { begin ≤ 2000000100000 }
     requires timely { IsTimely place }
     ensures { result ≡ next_due begin place t }
 {
     match place {
-        Place::StartLow => Some(begin + 3901),
-        Place::StartHigh => Some(begin + 4700),
-        Place::InSlot(fall, None) => Some(if t <= fall + 1050 {
+        Stage::StartLow => Some(begin + 3901),
+        Stage::StartHigh => Some(begin + 4700),
+        Stage::InSlot(fall, None) => Some(if t <= fall + 1050 {
             fall + 1050
         } else {
             fall + 2750
         }),
-        Place::InSlot(fall, Some(_)) => Some(fall + 1050),
-        Place::Over(ended) => {
+        Stage::InSlot(fall, Some(_)) => Some(fall + 1050),
+        Stage::Over(ended) => {
             if t <= ended.at {
                 Some(ended.at + 1)
             } else {
@@ -183,7 +183,7 @@ pub fn next_wake(
     part: u64,
     pulses: &[Stretch],
     next: Option<Stretch>,
-    place: Place,
+    place: Stage,
     held: u64,
     t: u64,
 ) -> u64

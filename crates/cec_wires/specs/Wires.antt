@@ -28,7 +28,7 @@ opening = codes "$version hdminet $end\n$timescale 1 us $end\n$scope module hdmi
 abbrev pub high_at_first : ℕ → List ℕ
 high_at_first number = 49 ∷ id_of number ∷ 10 ∷ []
 
--- behind so many devices: the pulses, and the first level of each wire
+-- after so many devices: the pulses, and the first level of each wire
 abbrev pub closing : ℕ → List ℕ
 closing count =
     codes "$upscope $end\n"

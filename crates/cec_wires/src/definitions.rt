@@ -1,7 +1,7 @@
 //! The definitions of a dump of several wires.
 ghost use Rattle.std.specs.Prelude.{◌≡◌, [], ◌+◌, ◌∷◌, ◌++◌, ◌≤◌, codes};
 ghost use Rattle.std.specs.List.{concat, flat_map, range_with_len};
-ghost use Rattle.cec_words.specs.Cut.{WrittenText};
+ghost use Rattle.hdmi_core.specs.Cut.{WrittenText};
 ghost use Rattle.cec_wires.specs.Wires.{closing, high_at_first, id_of, opening, variable};
 
 use crate::parts::{after, whole};
@@ -41,7 +41,7 @@ fn write_text<S: Sink>(out: &mut S, text: &str) -> Result<u128, WriteFault>
 ///
 /// # Errors
 ///
-/// A `put` took none. The count, which stays at its greatest value, tells how much was written. So it is of the others.
+/// A `put` took none. The count, which stays at its greatest value, says how much was written. So it is of the others.
 pub fn write_opening<S: Sink>(out: &mut S) -> Result<u128, WriteFault>
     ensures { WrittenText (S.contents out.old) (S.contents out.new) (S.is_stuck out.old) (S.is_stuck out.new) opening result }
 {
@@ -113,7 +113,7 @@ fn write_levels<S: Sink>(out: &mut S, count: u8) -> Result<u128, WriteFault>
     }
 }
 
-// Writes what stands behind the wire of the pulses.
+// Writes what stands after the wire of the pulses.
 fn write_first<S: Sink>(out: &mut S, count: u8) -> Result<u128, WriteFault>
     requires { count ≤ 100 }
     ensures { WrittenText (S.contents out.old) (S.contents out.new) (S.is_stuck out.old) (S.is_stuck out.new)
@@ -125,7 +125,7 @@ fn write_first<S: Sink>(out: &mut S, count: u8) -> Result<u128, WriteFault>
     }
 }
 
-// Writes the wire of the pulses, and what stands behind it.
+// Writes the wire of the pulses, and what stands after it.
 fn write_pulses<S: Sink>(out: &mut S, count: u8) -> Result<u128, WriteFault>
     requires { count ≤ 90 }
     ensures { WrittenText (S.contents out.old) (S.contents out.new) (S.is_stuck out.old) (S.is_stuck out.new)
@@ -138,7 +138,7 @@ fn write_pulses<S: Sink>(out: &mut S, count: u8) -> Result<u128, WriteFault>
     }
 }
 
-/// Writes what stands behind so many devices, at most 90: the wire of the pulses, and that each wire is high at first.
+/// Writes what stands after so many devices, at most 90: the wire of the pulses, and that each wire is high at first.
 pub fn write_closing<S: Sink>(out: &mut S, count: u8) -> Result<u128, WriteFault>
     requires { count ≤ 90 }
     ensures { WrittenText (S.contents out.old) (S.contents out.new) (S.is_stuck out.old) (S.is_stuck out.new) (closing count) result }

@@ -3,15 +3,14 @@ ghost use Rattle.std.specs.Prelude.{◌≡◌, [], ◌+◌, ◌-◌, ◌==◌, �
 ghost use Rattle.std.specs.Fmt.{decimal};
 ghost use Rattle.std.specs.List.{concat, list_any};
 ghost use Rattle.cec_wave.specs.Line.{line_of, was_low};
-ghost use Rattle.cec_words.specs.Cut.{WrittenText};
+ghost use Rattle.hdmi_core.specs.Cut.{WrittenText};
 ghost use Rattle.cec_wires.specs.Wires.{change_text, changes_from, id_of, instant_text, turns, wires_text};
 
 use crate::definitions::{id_of, write_bytes};
 use crate::drive::Drive;
 use crate::parts::{after, whole};
 use cec_wave::Stretch;
-use cec_words::{counted, cut_at};
-use hdmi_core::{Piece, Sink, WriteFault, write_line};
+use hdmi_core::{Piece, Sink, WriteFault, counted, cut_at, write_line};
 
 // ---- one wire
 
@@ -211,7 +210,7 @@ fn write_instant<S: Sink>(
 ///
 /// # Errors
 ///
-/// A `put` took none. The count, which stays at its greatest value, tells how much was written.
+/// A `put` took none. The count, which stays at its greatest value, says how much was written.
 pub fn write_wires<S: Sink>(
     out: &mut S,
     line: &[Stretch],

@@ -1,10 +1,9 @@
 //! Texts that are written in parts.
 ghost use Rattle.std.specs.Prelude.{◌≡◌, ◌++◌, ℕ, Bool, List, Option, Ok};
 ghost use Rattle.hdmi_core.specs.Written.{WrittenLine};
-ghost use Rattle.cec_words.specs.Cut.{WrittenText};
+ghost use Rattle.hdmi_core.specs.Cut.{WrittenText};
 
-use cec_words::{counted, cut_at};
-use hdmi_core::WriteFault;
+use hdmi_core::{WriteFault, counted, cut_at};
 
 /// What was returned of a line, as it is returned of a text.
 pub fn whole(line: Result<u128, WriteFault>) -> Result<u128, WriteFault>

@@ -1,4 +1,4 @@
-//! What is told of EDIDs, a case each.
+//! What is reported of EDIDs, a case each.
 use crate::displays::bytes_of;
 use crate::explains::{EXPLAINED, HINTED, explained, hinted};
 use crate::rules::{IN_PORTS, NATIVES, RULES};
@@ -21,7 +21,7 @@ fn holds(rt: &impl Abort, is_right: bool, case: &str) {
     assert!(rt; is_right, "{case}");
 }
 
-/// The lines of what is wrong with an EDID, with `;` for each line feed, or `none`. Whether one fails is as the lines tell.
+/// The lines of what is wrong with an EDID, with `;` for each line feed, or `none`. Whether one fails is as the lines report.
 fn lines_of(rt: &(impl Abort + AllocGlobal), text: &[u8]) -> String {
     let text = str::from_utf8(text).expect(rt, "a text");
     if text.is_empty() {
@@ -41,7 +41,7 @@ fn checked(rt: &(impl Abort + AllocGlobal), words: &str) -> String {
     lines
 }
 
-/// Asserts what is told in each case.
+/// Asserts what is reported in each case.
 fn are_checked(rt: &(impl Abort + AllocGlobal), cases: &str) {
     for case in cases.lines() {
         let (words, want) = parted(rt, case);

@@ -2,8 +2,8 @@
 use crate::displays::bytes_of;
 use hdmi_blocks::AudioFrom;
 use hdmi_convert::{
-    Form, PassOnError, Passing, Place, check_passed_on, edid_to_text, text_to_edid, write_address,
-    write_passed_on,
+    Destination, Form, PassOnError, Passing, check_passed_on, edid_to_text, text_to_edid,
+    write_address, write_passed_on,
 };
 use hdmi_core::{Phys, Writes};
 use std::io::{self, ErrorKind, Write};
@@ -46,10 +46,10 @@ tv 0=01 => edid: base header
 ";
 
 /// A place: an address, or the number of a port.
-fn place_of(rt: &(impl Abort + AllocGlobal), word: &str) -> Place {
+fn place_of(rt: &(impl Abort + AllocGlobal), word: &str) -> Destination {
     match Phys::read(word.as_bytes()) {
-        Some(address) => Place::Address(address),
-        None => Place::Port(u8::from_str_radix(word, 10).expect(rt, "a port")),
+        Some(address) => Destination::Address(address),
+        None => Destination::Port(u8::from_str_radix(word, 10).expect(rt, "a port")),
     }
 }
 
@@ -178,7 +178,7 @@ impl Write for Narrow {
 fn fronts(rt: &(impl Abort + AllocGlobal), room: usize) -> String {
     let tv = bytes_of(rt, "tv 24=0a");
     let passing = Passing {
-        place: Place::Port(3),
+        place: Destination::Port(3),
         audio: AudioFrom::Television,
     };
     let mut passed = Narrow {

@@ -81,7 +81,7 @@ fn sent(device: &mut Device<16>, fate: &str) -> Option<()> {
     Some(())
 }
 
-// Whether this is done, and tells nothing.
+// Whether this is done, and reports nothing.
 fn is_done(device: &mut Device<16>, doing: &str, words: &str) -> bool {
     match doing {
         "join" => return join(device, words).is_some(),
@@ -95,7 +95,7 @@ fn is_done(device: &mut Device<16>, doing: &str, words: &str) -> bool {
     true
 }
 
-// ---- what it tells
+// ---- what it reports
 
 fn submit(alloc: Global, device: &mut Device<16>, words: &str) -> Option<String> {
     let frame = Frame::new(&bytes_of(words, 0)).ok()?;
@@ -221,7 +221,7 @@ fn told_after(alloc: Global, device: &mut Device<16>, line: &str) -> Option<Stri
     }
 }
 
-// A line for each thing that is done, and behind an arrow what is told then.
+// A line for each thing that is done, and after an arrow what is reported then.
 fn goes(rt: &impl Abort, alloc: Global, device: &mut Device<16>, lines: &str) {
     for line in lines.lines() {
         let (doing, wanted) = line.split_once(" => ").unwrap_or((line, ""));

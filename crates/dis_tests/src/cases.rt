@@ -18,7 +18,7 @@ fn holds(rt: &impl Abort, holds: bool, case: &str) {
     assert!(rt; holds, "{case}");
 }
 
-/// Each line by itself has the text behind its arrow, or is refused for that cause.
+/// Each line by itself has the text after its arrow, or is refused for that cause.
 fn are_told(rt: &(impl Abort + AllocGlobal), lines: &str, ending: &str, front: &str) {
     for line in lines.lines() {
         let (input, want) = line.split_once(" => ").expect(rt, line);

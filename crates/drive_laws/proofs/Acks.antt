@@ -10,7 +10,7 @@ use Rattle.cec_wave.specs.Line.{Line, covers, line_of}
 use Rattle.cec_frame.specs.Bits.{frame_bits}
 use Rattle.cec_bits.specs.declared.After.{After}
 use Rattle.cec_bits.specs.declared.After.TheVariants.{Next, Ends}
-use Rattle.cec_bits.specs.Reading.{Known, Slot, known, known_slot, known_slots, reading_of, read_start, read_slots, read_on, after_slot, last_ending, sampled, start_of, bits_of}
+use Rattle.cec_bits.specs.Reading.{Known, Slot, known_at, known_slot, known_slots, reading_of, read_start, read_slots, read_on, after_slot, last_ending, bit_sampled_at, start_of, bits_of}
 use Rattle.cec_bits.specs.Sending.{bit_read, destination, known_bits, is_whole, is_out_by, out_slot}
 use Rattle.cec_wire.specs.declared.Seat.{Seat}
 use Rattle.cec_wire.specs.declared.Outcome.{Outcome}
@@ -28,10 +28,10 @@ use Rattle.drive_laws.proofs.Seats.{Tells}
 few_slots : (low : Line) (left : ℕ) (bits : List Bool) (e : ℕ) → length (read_slots low left bits e).slots ≤ left
 unfolding read_slots
 few_slots low zero bits e = omega arith
-few_slots low (suc left) bits e = by (after_slot low e (last_ending bits)) (λ f. few_slots low left (bits ++ option_to_list (sampled low e)) f)
+few_slots low (suc left) bits e = by (after_slot low e (last_ending bits)) (λ f. few_slots low left (bits ++ option_to_list (bit_sampled_at low e)) f)
   where
-    by : (a : After) → ((f : ℕ) → length (read_slots low left (bits ++ option_to_list (sampled low e)) f).slots ≤ left)
-        → suc (length (read_on (read_slots low left (bits ++ option_to_list (sampled low e))) a).slots) ≤ suc left
+    by : (a : After) → ((f : ℕ) → length (read_slots low left (bits ++ option_to_list (bit_sampled_at low e)) f).slots ≤ left)
+        → suc (length (read_on (read_slots low left (bits ++ option_to_list (bit_sampled_at low e))) a).slots) ≤ suc left
     by (Ends ending at) ih = omega arith
     by (Next f) ih = omega (arith, ih f)
 
@@ -106,14 +106,14 @@ tests bits sent whole k n few ten l h = by (n % 10 == 0) refl
         never false = refl
 
 goes_on_in : (low : Line) (begin t k : ℕ) → AckSlot t (reading_of low begin).slots (reading_of low begin).until k → (sends : Option (List ℕ))
-    → sends_in (known t (reading_of low begin)) sends (k + 1) ≡ goes_to sends (out_of (reading_of low begin) sends) (k + 1)
+    → sends_in (known_at t (reading_of low begin)) sends (k + 1) ≡ goes_to sends (out_of (reading_of low begin) sends) (k + 1)
 goes_on_in low begin t k slot None = refl
 goes_on_in low begin t k slot (Some f) =
     let ss = (reading_of low begin).slots in
     let sent = frame_bits f in
     let now = bits_at t (reading_of low begin).slots in
     let all = bits_at ((reading_of low begin).until + 1) (reading_of low begin).slots in
-    let whole = is_whole (known t (reading_of low begin)).ended in
+    let whole = is_whole (known_at t (reading_of low begin)).ended in
     let whole_all = is_whole (all_known (reading_of low begin)).ended in
     let total : length all ≡ length now + length slot.more = ap length slot.all ∙ length-append now slot.more in
     found_before (is_out_by now whole sent) (leaves now sent) 1 k (length now - k) (length now) (k + 1) (omega arith) (omega (arith, slot.low))
@@ -123,7 +123,7 @@ goes_on_in low begin t k slot (Some f) =
     ∙ ap (λ (b : List Bool). leaves b sent n) slot.all ∙ leaves_more now slot.more sent n l (omega (arith, slot.low))))
 
 acks_same : (low : Line) (begin t k : ℕ) (o : Outcome) (seat : Seat) → Tells low begin o → AckSlot t (reading_of low begin).slots (reading_of low begin).until k
-    → acknowledges (known t (reading_of low begin)) (k + 1) seat ≡ acknowledges_in o seat (out_of (reading_of low begin) seat.sends) (k + 1)
+    → acknowledges (known_at t (reading_of low begin)) (k + 1) seat ≡ acknowledges_in o seat (out_of (reading_of low begin) seat.sends) (k + 1)
 acks_same low begin t k o seat tells slot =
     let now = bits_at t (reading_of low begin).slots in
     let bits : o.reading.bits.items ≡ now ++ slot.more = tells.bits ∙ sym (all_bits low begin) ∙ slot.all in
@@ -223,7 +223,7 @@ ack_slot low begin t k s h l ten =
     record { more = front.0; all = front.1; low = count_low t (reading_of low begin).slots 0 k s (reading_spans low begin).spaced (front_told low begin) h l; ten = ten }
 
 pub ack_line : (low : Line) (begin t : ℕ) (o : Outcome) → Tells low begin o → (seat : Seat)
-    → line_of (ack_stretches o seat (out_of (reading_of low begin) seat.sends)) t ≡ is_acknowledged (seat ∷ []) (known t (reading_of low begin)) t
+    → line_of (ack_stretches o seat (out_of (reading_of low begin) seat.sends)) t ≡ is_acknowledged (seat ∷ []) (known_at t (reading_of low begin)) t
 ack_line low begin t o tells seat = both_ways _ _ there back
   where
     ss : List Slot
@@ -233,10 +233,10 @@ ack_line low begin t o tells seat = both_ways _ _ there back
     out = out_of (reading_of low begin) seat.sends
 
     k_now : Known
-    k_now = known t (reading_of low begin)
+    k_now = known_at t (reading_of low begin)
 
     test : ℕ × Slot → Bool
-    test slot = (slot.0 % 10 == 0) && (nat_lt t (slot.1.fall + 1500) && list_any (acknowledges (known t (reading_of low begin)) slot.0) (seat ∷ []))
+    test slot = (slot.0 % 10 == 0) && (nat_lt t (slot.1.fall + 1500) && list_any (acknowledges (known_at t (reading_of low begin)) slot.0) (seat ∷ []))
 
     and_true : (a b c : Bool) → a ≡ true → b ≡ true → c ≡ true → (a && (b && (c || false))) ≡ true
     and_true true true true f g h = refl
@@ -248,7 +248,7 @@ ack_line low begin t o tells seat = both_ways _ _ there back
     or_left true h = refl
     or_left false h = cc
 
-    there : line_of (ack_stretches o seat out) t ≡ true → is_acknowledged (seat ∷ []) (known t (reading_of low begin)) t ≡ true
+    there : line_of (ack_stretches o seat out) t ≡ true → is_acknowledged (seat ∷ []) (known_at t (reading_of low begin)) t ≡ true
     there h =
         let found = get_any (λ block. line_of (ack_in o seat out block) t) (range_with_len 1 16) (sym (any_flat (λ s. covers s t) (ack_in o seat out) (range_with_len 1 16)) ∙ h) in
         let range = get_range 1 16 found.0 found.1 found.2 in
@@ -262,7 +262,7 @@ ack_line low begin t o tells seat = both_ways _ _ there back
             by_get (Some s) g f = (s, g, (let same : s.fall ≡ fall = cc in same))
 
         by_ack : (block : ℕ) → 1 ≤ block → (b : Bool) → acknowledges_in o seat out (10 * block) ≡ b → (fall : Option ℕ) → slot_fall o (10 * block) ≡ fall
-            → line_of (ack_by b fall) t ≡ true → is_acknowledged (seat ∷ []) (known t (reading_of low begin)) t ≡ true
+            → line_of (ack_by b fall) t ≡ true → is_acknowledged (seat ∷ []) (known_at t (reading_of low begin)) t ≡ true
         by_ack block some false a fall f g = cc
         by_ack block some true a None f g = cc
         by_ack block some true a (Some fall) f g =
@@ -274,14 +274,14 @@ ack_line low begin t o tells seat = both_ways _ _ there back
             let number : 10 * block ≡ k + 1 = omega arith in
             let ten : ((k + 1) % 10 == 0) ≡ true = (let m : (k + 1) % 10 ≡ 0 = omega arith in grind (arith, nat_tests)) in
             let past : slot.0.fall < t = (let p : fall + 1 ≤ t = grind (arith, nat_tests) in omega (arith, slot.2)) in
-            let acks : acknowledges (known t (reading_of low begin)) (k + 1) seat ≡ true =
+            let acks : acknowledges (known_at t (reading_of low begin)) (k + 1) seat ≡ true =
             acks_same low begin t k o seat tells (ack_slot low begin t k slot.0 slot.1 past ten) ∙ ap (acknowledges_in o seat out) (sym number) ∙ a in
             let soon : nat_lt t (slot.0.fall + 1500) ≡ true = ap (λ n. nat_lt t (n + 1500)) slot.2 ∙ within in
             any_get test (enumerate_from 1 (known_slots t ss)) k (k + 1, known_slot t slot.0)
             (get_enumerated (known_slots t ss) 1 k (k + 1) (known_slot t slot.0) (get_known t ss 0 k slot.0 (reading_spans low begin).spaced slot.1 past) (omega arith))
-            (and_true ((k + 1) % 10 == 0) (nat_lt t (slot.0.fall + 1500)) (acknowledges (known t (reading_of low begin)) (k + 1) seat) ten soon acks)
+            (and_true ((k + 1) % 10 == 0) (nat_lt t (slot.0.fall + 1500)) (acknowledges (known_at t (reading_of low begin)) (k + 1) seat) ten soon acks)
 
-    back : is_acknowledged (seat ∷ []) (known t (reading_of low begin)) t ≡ true → line_of (ack_stretches o seat out) t ≡ true
+    back : is_acknowledged (seat ∷ []) (known_at t (reading_of low begin)) t ≡ true → line_of (ack_stretches o seat out) t ≡ true
     back h =
         let found = get_any test (enumerate_from 1 (known_slots t ss)) h in
         let p = found.1 in
@@ -291,7 +291,7 @@ ack_line low begin t o tells seat = both_ways _ _ there back
         let ten : ((found.0 + 1) % 10 == 0) ≡ true = ap (λ n. n % 10 == 0) (sym number) ∙ and_left (p.0 % 10 == 0) _ found.3 in
         let rest = and_right (p.0 % 10 == 0) _ found.3 in
         let soon : nat_lt t (p.1.fall + 1500) ≡ true = and_left (nat_lt t (p.1.fall + 1500)) _ rest in
-        let acks_now : acknowledges (known t (reading_of low begin)) p.0 seat ≡ true = or_left (acknowledges (known t (reading_of low begin)) p.0 seat) (and_right (nat_lt t (p.1.fall + 1500)) _ rest) in
+        let acks_now : acknowledges (known_at t (reading_of low begin)) p.0 seat ≡ true = or_left (acknowledges (known_at t (reading_of low begin)) p.0 seat) (and_right (nat_lt t (p.1.fall + 1500)) _ rest) in
         let few = few_start low begin (start_of low begin) in
         let within = get_within ss found.0 slot.0 slot.1 in
         let tenth : (found.0 + 1) % 10 ≡ 0 = grind (arith, nat_tests) in
@@ -301,7 +301,7 @@ ack_line low begin t o tells seat = both_ways _ _ there back
         tells.slots (10 * block) (omega (arith, whole)) ∙ ap (falls_at ss) (let e : 10 * block - 1 ≡ found.0 = omega (arith, whole) in e) ∙ ap (option_map (λ (s : Slot). s.fall)) slot.1 in
         let acks : acknowledges_in o seat out (10 * block) ≡ true =
         ap (acknowledges_in o seat out) whole ∙ sym (acks_same low begin t found.0 o seat tells (ack_slot low begin t found.0 slot.0 slot.1 slot.3 ten))
-        ∙ ap (λ n. acknowledges (known t (reading_of low begin)) n seat) (sym number) ∙ acks_now in
+        ∙ ap (λ n. acknowledges (known_at t (reading_of low begin)) n seat) (sym number) ∙ acks_now in
         let begun : nat_le (slot.0.fall + 1) t ≡ true = (let l = slot.3 in grind (arith, nat_tests)) in
         let ends : nat_lt t (slot.0.fall + 1500) ≡ true = ap (λ n. nat_lt t (n + 1500)) slot.2 ∙ soon in
         let pulled : line_of (ack_in o seat out block) t ≡ true =

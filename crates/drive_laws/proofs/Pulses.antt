@@ -6,12 +6,12 @@ use Rattle.std.proofs.lemmas.Bool.Decides.{nat_tests}
 use Rattle.cec_wave.specs.declared.Stretch.{Stretch}
 use Rattle.cec_wave.specs.Line.{Line, covers, line_of, was_low, IsWave, IsWaveFrom}
 use Rattle.cec_wave.specs.Pulses.{AreSparse, IsNarrow}
-use Rattle.cec_bits.specs.Reading.{End, known, reading_of}
+use Rattle.cec_bits.specs.Reading.{End, known_at, reading_of}
 use Rattle.cec_wire.specs.declared.Seat.{Seat}
 use Rattle.cec_wire.specs.declared.Outcome.{Outcome}
 use Rattle.cec_wire.specs.Bounds.{begun_within}
 use Rattle.cec_wire.specs.Contend.{AreFrames}
-use Rattle.cec_wire.specs.Round.{is_within, pulled, pulse_pulls, rest_of, winning_frames, is_acknowledged, is_broken, IsRound}
+use Rattle.cec_wire.specs.Round.{is_within, is_pulled, pulse_pulls, rest_of, winning_frames, is_acknowledged, is_broken, IsRound}
 use Rattle.cec_bits.specs.Sending.{sender_pulls}
 use Rattle.cec_wire.proofs.Bounds.{rounds_are_short}
 use Rattle.cec_wire.proofs.Differ.{In, any_in}
@@ -94,7 +94,7 @@ or_second false b e = e
 pub pulses_line : (seats : List Seat) (begin : ℕ) (pulses : List Stretch) (o : Outcome) → AreFrames seats → AreSparse pulses → IsWave o.wave → IsRound seats begin pulses o
     → (t : ℕ) → pulse_line begin pulses (line_of o.wave) t ≡ line_of (begun_within begin o.rest pulses) t
 pulses_line seats begin pulses o frames sparse wave round t =
-    any_agree_in (pulse_pulls begin (known t (reading_of low begin)).ended (was_low low t) t) (λ p. (nat_le begin p.from && nat_le p.from o.rest) && covers p t) pulses one
+    any_agree_in (pulse_pulls begin (known_at t (reading_of low begin)).ended (was_low low t) t) (λ p. (nat_le begin p.from && nat_le p.from o.rest) && covers p t) pulses one
     ∙ sym (any_filter (λ p. covers p t) (λ (p : Stretch). nat_le begin p.from && nat_le p.from o.rest) pulses)
   where
     low : Line
@@ -104,21 +104,21 @@ pulses_line seats begin pulses o frames sparse wave round t =
     until = (reading_of (line_of o.wave) begin).until
 
     -- a pulse that the rule takes at u makes the line low there
-    pulls : (p : Stretch) → In p pulses → (u : ℕ) → pulse_pulls begin (known u (reading_of low begin)).ended (was_low low u) u p ≡ true → low u ≡ true
+    pulls : (p : Stretch) → In p pulses → (u : ℕ) → pulse_pulls begin (known_at u (reading_of low begin)).ended (was_low low u) u p ≡ true → low u ≡ true
     pulls p i u h =
-        round.line u ∙ or_first (list_any (pulse_pulls begin (known u (reading_of low begin)).ended (was_low low u) u) pulses)
-        (list_any (sender_pulls begin (known u (reading_of low begin)) u) (winning_frames seats)
-        || (is_acknowledged seats (known u (reading_of low begin)) u || is_broken seats (known u (reading_of low begin)) u (known u (reading_of low begin)).ended))
-        (any_in (pulse_pulls begin (known u (reading_of low begin)).ended (was_low low u) u) pulses p i h)
+        round.line u ∙ or_first (list_any (pulse_pulls begin (known_at u (reading_of low begin)).ended (was_low low u) u) pulses)
+        (list_any (sender_pulls begin (known_at u (reading_of low begin)) u) (winning_frames seats)
+        || (is_acknowledged seats (known_at u (reading_of low begin)) u || is_broken seats (known_at u (reading_of low begin)) u (known_at u (reading_of low begin)).ended))
+        (any_in (pulse_pulls begin (known_at u (reading_of low begin)).ended (was_low low u) u) pulses p i h)
 
-    within_by : (u from : ℕ) → from ≤ until → is_within (known u (reading_of low begin)).ended from ≡ true
+    within_by : (u from : ℕ) → from ≤ until → is_within (known_at u (reading_of low begin)).ended from ≡ true
     within_by u from h = by (nat_lt until u)
       where
         by : (b : Bool) → is_within (if b then (let some : Option End = Some (record { ending = (reading_of low begin).ending; at = (reading_of low begin).at; until = until }) in some) else None) from ≡ true
         by true = grind (arith, nat_tests)
         by false = refl
 
-    by_within : (from : ℕ) → from ≤ t → is_within (known t (reading_of low begin)).ended from ≡ true → from ≤ until
+    by_within : (from : ℕ) → from ≤ t → is_within (known_at t (reading_of low begin)).ended from ≡ true → from ≤ until
     by_within from h w = by (nat_lt until t) refl w
       where
         by : (b : Bool) → nat_lt until t ≡ b → is_within (if b then (let some : Option End = Some (record { ending = (reading_of low begin).ending; at = (reading_of low begin).at; until = until }) in some) else None) from ≡ true → from ≤ until
@@ -132,8 +132,8 @@ pulses_line seats begin pulses o frames sparse wave round t =
     early_rest : (p : Stretch) → In p pulses → begin ≤ p.from → p.from ≤ until → p.from ≤ o.rest
     early_rest p i later h =
         let c : covers p p.from ≡ true = covers_own p p.from (omega arith) (wide p i) in
-        let l : low p.from ≡ true = pulls p i p.from (three (covers p p.from) (nat_le begin p.from) (is_within (known p.from (reading_of low begin)).ended p.from || was_low low p.from) c (let x : nat_le begin p.from ≡ true = grind (arith, nat_tests) in x)
-        (or_first (is_within (known p.from (reading_of low begin)).ended p.from) (was_low low p.from) (within_by p.from p.from h))) in
+        let l : low p.from ≡ true = pulls p i p.from (three (covers p p.from) (nat_le begin p.from) (is_within (known_at p.from (reading_of low begin)).ended p.from || was_low low p.from) c (let x : nat_le begin p.from ≡ true = grind (arith, nat_tests) in x)
+        (or_first (is_within (known_at p.from (reading_of low begin)).ended p.from) (was_low low p.from) (within_by p.from p.from h))) in
         let past = rest_past until p.from 0 0 o.wave wave h l in
         omega (arith, past, round.rest)
 
@@ -148,13 +148,13 @@ pulses_line seats begin pulses o frames sparse wave round t =
         let c : covers p (p.from + n) ≡ true = covers_own p (p.from + n) (omega arith) (omega arith) in
         let was : was_low low (p.from + n) ≡ true = (let some : nat_lt 0 (p.from + n) ≡ true = grind (arith, nat_tests) in rw some before) in
         let same : p.from + suc n - 1 ≡ p.from + n = omega arith in
-        ap low same ∙ pulls p i (p.from + n) (three (covers p (p.from + n)) (nat_le begin p.from) (is_within (known (p.from + n) (reading_of low begin)).ended p.from || was_low low (p.from + n)) c
-        (let x : nat_le begin p.from ≡ true = grind (arith, nat_tests) in x) (or_second (is_within (known (p.from + n) (reading_of low begin)).ended p.from) (was_low low (p.from + n)) was))
+        ap low same ∙ pulls p i (p.from + n) (three (covers p (p.from + n)) (nat_le begin p.from) (is_within (known_at (p.from + n) (reading_of low begin)).ended p.from || was_low low (p.from + n)) c
+        (let x : nat_le begin p.from ≡ true = grind (arith, nat_tests) in x) (or_second (is_within (known_at (p.from + n) (reading_of low begin)).ended p.from) (was_low low (p.from + n)) was))
 
-    one : (p : Stretch) → In p pulses → pulse_pulls begin (known t (reading_of low begin)).ended (was_low low t) t p ≡ ((nat_le begin p.from && nat_le p.from o.rest) && covers p t)
+    one : (p : Stretch) → In p pulses → pulse_pulls begin (known_at t (reading_of low begin)).ended (was_low low t) t p ≡ ((nat_le begin p.from && nat_le p.from o.rest) && covers p t)
     one p i = both_ways _ _ there back
       where
-        there : pulse_pulls begin (known t (reading_of low begin)).ended (was_low low t) t p ≡ true → ((nat_le begin p.from && nat_le p.from o.rest) && covers p t) ≡ true
+        there : pulse_pulls begin (known_at t (reading_of low begin)).ended (was_low low t) t p ≡ true → ((nat_le begin p.from && nat_le p.from o.rest) && covers p t) ≡ true
         there h =
             let c : covers p t ≡ true = and_left (covers p t) _ h in
             let more = and_right (covers p t) _ h in
@@ -164,7 +164,7 @@ pulses_line seats begin pulses o frames sparse wave round t =
             let past : p.from ≤ t = grind (arith, nat_tests) in
             let rest : p.from ≤ o.rest = elim (cases_lt until p.from) [
               | inr by_then ↦ early_rest p i later by_then
-              | inl after ↦ elim (or_cases (is_within (known t (reading_of low begin)).ended p.from) (was_low low t) (and_right (nat_le begin p.from) _ more)) [
+              | inl after ↦ elim (or_cases (is_within (known_at t (reading_of low begin)).ended p.from) (was_low low t) (and_right (nat_le begin p.from) _ more)) [
                 | inl w ↦ early_rest p i later (by_within p.from past w)
                 | inr was ↦ (let l : low (t - 1) ≡ true = and_right (nat_lt 0 t) (low (t - 1)) was in
                     let all = rounds_are_short.begins seats begin pulses o frames sparse wave round in
@@ -174,7 +174,7 @@ pulses_line seats begin pulses o frames sparse wave round t =
             ] in
             two_one (nat_le begin p.from) (nat_le p.from o.rest) (covers p t) b (let x : nat_le p.from o.rest ≡ true = grind (arith, nat_tests) in x) c
 
-        back : ((nat_le begin p.from && nat_le p.from o.rest) && covers p t) ≡ true → pulse_pulls begin (known t (reading_of low begin)).ended (was_low low t) t p ≡ true
+        back : ((nat_le begin p.from && nat_le p.from o.rest) && covers p t) ≡ true → pulse_pulls begin (known_at t (reading_of low begin)).ended (was_low low t) t p ≡ true
         back h =
             let first = and_left (nat_le begin p.from && nat_le p.from o.rest) (covers p t) h in
             let c : covers p t ≡ true = and_right (nat_le begin p.from && nat_le p.from o.rest) (covers p t) h in
@@ -186,9 +186,9 @@ pulses_line seats begin pulses o frames sparse wave round t =
             let soon : p.from ≤ o.rest = grind (arith, nat_tests) in
             let past : p.from ≤ t = grind (arith, nat_tests) in
             let within : t < p.to = grind (arith, nat_tests) in
-            three (covers p t) (nat_le begin p.from) (is_within (known t (reading_of low begin)).ended p.from || was_low low t) c b (elim (cases_lt until p.from) [
-              | inr by_then ↦ or_first (is_within (known t (reading_of low begin)).ended p.from) (was_low low t) (within_by t p.from by_then)
-              | inl after ↦ or_second (is_within (known t (reading_of low begin)).ended p.from) (was_low low t)
+            three (covers p t) (nat_le begin p.from) (is_within (known_at t (reading_of low begin)).ended p.from || was_low low t) c b (elim (cases_lt until p.from) [
+              | inr by_then ↦ or_first (is_within (known_at t (reading_of low begin)).ended p.from) (was_low low t) (within_by t p.from by_then)
+              | inl after ↦ or_second (is_within (known_at t (reading_of low begin)).ended p.from) (was_low low t)
                   (let l = low_from p i later after soon (t - p.from) (omega arith) in
                   let same : p.from + (t - p.from) - 1 ≡ t - 1 = omega arith in
                   let some : nat_lt 0 t ≡ true = grind (arith, nat_tests) in

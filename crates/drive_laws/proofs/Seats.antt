@@ -10,7 +10,7 @@ use Rattle.cec_wave.specs.Sender.{sender_stretches}
 use Rattle.cec_frame.specs.Bits.{frame_bits}
 use Rattle.cec_frame.specs.declared.Ending.{Ending}
 use Rattle.cec_frame.specs.declared.Ending.TheVariants.{Complete, Short, Silent, BadStart, Long, Open}
-use Rattle.cec_bits.specs.Reading.{Read, End, Known, Slot, known, known_slot, known_slots, reading_of, bits_of}
+use Rattle.cec_bits.specs.Reading.{Read, End, Known, Slot, known_at, known_slot, known_slots, reading_of, bits_of}
 use Rattle.cec_bits.specs.Sending.{bit_read, destination, known_bits, is_whole, is_out_by, out_slot, sender_pulls}
 use Rattle.cec_wire.specs.declared.Seat.{Seat}
 use Rattle.cec_wire.specs.declared.Outcome.{Outcome}
@@ -22,7 +22,7 @@ use Rattle.cec_drives.specs.Stretches.{ack_by, ack_in, ack_stretches, acknowledg
 use Rattle.drive_laws.proofs.Sent.{FrontTold, all_bits, bits_at, found_before, front_told, known_after, last_by, one_known, out_slot_of, stops}
 use Rattle.drive_laws.proofs.Slots.{falls_at}
 
--- what an outcome tells of its reading
+-- what an outcome reports of its reading
 pub record Tells (low : Line) (begin : ℕ) (o : Outcome) : Type 0 where
   pub at : o.reading.at ≡ (reading_of low begin).at
   pub ending : o.reading.ending ≡ (reading_of low begin).ending
@@ -62,7 +62,7 @@ last_same low begin o sent tells None e = tells.at
 last_same low begin o sent tells (Some n) e = ap sample_by (tells.slots n (out_slot_of low begin sent n e).0)
 
 pub sent_line : (low : Line) (begin t : ℕ) (o : Outcome) → Tells low begin o → (sends : Option (List ℕ))
-    → line_of (sent_stretches begin o (out_of (reading_of low begin) sends) sends) t ≡ list_any (sender_pulls begin (known t (reading_of low begin)) t) (cons_option sends [])
+    → line_of (sent_stretches begin o (out_of (reading_of low begin) sends) sends) t ≡ list_any (sender_pulls begin (known_at t (reading_of low begin)) t) (cons_option sends [])
 sent_line low begin t o tells None = refl
 sent_line low begin t o tells (Some f) =
     let sent = frame_bits f in
@@ -70,12 +70,12 @@ sent_line low begin t o tells (Some f) =
     cut_line (last_pull o out) t (sender_stretches begin sent)
     ∙ ap (λ n. line_of (sender_stretches begin sent) t && nat_le t n) (last_same low begin o sent tells out refl)
     ∙ ap (λ b. line_of (sender_stretches begin sent) t && b) (sym (stops low begin t sent))
-    ∙ sym (or_false (sender_pulls begin (known t (reading_of low begin)) t f))
+    ∙ sym (or_false (sender_pulls begin (known_at t (reading_of low begin)) t f))
 
 -- ---- who pulls after a fall too early
 
 pub break_line : (low : Line) (begin t : ℕ) (o : Outcome) → Tells low begin o → (seat : Seat)
-    → line_of (break_stretches o seat (out_of (reading_of low begin) seat.sends)) t ≡ is_broken (seat ∷ []) (known t (reading_of low begin)) t (known t (reading_of low begin)).ended
+    → line_of (break_stretches o seat (out_of (reading_of low begin) seat.sends)) t ≡ is_broken (seat ∷ []) (known_at t (reading_of low begin)) t (known_at t (reading_of low begin)).ended
 break_line low begin t o tells seat = by_ending (reading_of low begin).ending refl
   where
     out : Option ℕ
@@ -93,7 +93,7 @@ break_line low begin t o tells seat = by_ending (reading_of low begin).ending re
         rw none refl
 
     other : (x : Ending) → is_short x ≡ false → (b : Bool)
-        → is_broken (seat ∷ []) (known t (reading_of low begin)) t (if b then Some (record { ending = x; at = (reading_of low begin).at; until = (reading_of low begin).until }) else None) ≡ false
+        → is_broken (seat ∷ []) (known_at t (reading_of low begin)) t (if b then Some (record { ending = x; at = (reading_of low begin).at; until = (reading_of low begin).until }) else None) ≡ false
     other Complete h true = refl
     other Silent h true = refl
     other BadStart h true = refl
@@ -103,13 +103,13 @@ break_line low begin t o tells seat = by_ending (reading_of low begin).ending re
     other x h false = refl
 
     known_end : (x : Ending) → (reading_of low begin).ending ≡ x
-        → (known t (reading_of low begin)).ended ≡ (if nat_lt (reading_of low begin).until t then Some (record { ending = x; at = (reading_of low begin).at; until = (reading_of low begin).until }) else None)
+        → (known_at t (reading_of low begin)).ended ≡ (if nat_lt (reading_of low begin).until t then Some (record { ending = x; at = (reading_of low begin).at; until = (reading_of low begin).until }) else None)
     known_end x e = ap (λ (y : Ending). if nat_lt (reading_of low begin).until t then (let some : Option End = Some (record { ending = y; at = (reading_of low begin).at; until = (reading_of low begin).until }) in some) else None) e
 
     both_none : (x : Ending) → (reading_of low begin).ending ≡ x → is_short x ≡ false
-        → line_of (break_stretches o seat out) t ≡ is_broken (seat ∷ []) (known t (reading_of low begin)) t (known t (reading_of low begin)).ended
+        → line_of (break_stretches o seat out) t ≡ is_broken (seat ∷ []) (known_at t (reading_of low begin)) t (known_at t (reading_of low begin)).ended
     both_none x e h =
-        quiet x e h ∙ sym (ap (is_broken (seat ∷ []) (known t (reading_of low begin)) t) (known_end x e) ∙ other x h (nat_lt (reading_of low begin).until t))
+        quiet x e h ∙ sym (ap (is_broken (seat ∷ []) (known_at t (reading_of low begin)) t) (known_end x e) ∙ other x h (nat_lt (reading_of low begin).until t))
 
     -- who sends to the end
     goes_same : (sends : Option (List ℕ)) (n : ℕ) → goes_to sends (out_of (reading_of low begin) sends) n ≡ sends_in (all_known (reading_of low begin)) sends n
@@ -117,7 +117,7 @@ break_line low begin t o tells seat = by_ending (reading_of low begin).ending re
     goes_same (Some f) n = refl
 
     breaks : (b : Bool) → nat_lt (reading_of low begin).until t ≡ b → (reading_of low begin).ending ≡ Short
-        → line_of (break_stretches o seat out) t ≡ is_broken (seat ∷ []) (known t (reading_of low begin)) t
+        → line_of (break_stretches o seat out) t ≡ is_broken (seat ∷ []) (known_at t (reading_of low begin)) t
         (if b then Some (record { ending = Short; at = (reading_of low begin).at; until = (reading_of low begin).until }) else None)
     breaks b h short = by_time b h
       where
@@ -140,7 +140,7 @@ break_line low begin t o tells seat = by_ending (reading_of low begin).ending re
         cover_is : covers (stretch (o.reading.at + 1) (o.reading.at + 3600)) t ≡ (nat_le ((reading_of low begin).at + 1) t && nat_lt t ((reading_of low begin).at + 3600))
         cover_is = ap (λ n. nat_le (n + 1) t && nat_lt t (n + 3600)) tells.at
 
-        by_time : (b : Bool) → nat_lt (reading_of low begin).until t ≡ b → line_of (break_stretches o seat out) t ≡ is_broken (seat ∷ []) (known t (reading_of low begin)) t
+        by_time : (b : Bool) → nat_lt (reading_of low begin).until t ≡ b → line_of (break_stretches o seat out) t ≡ is_broken (seat ∷ []) (known_at t (reading_of low begin)) t
             (if b then Some (record { ending = Short; at = (reading_of low begin).at; until = (reading_of low begin).until }) else None)
         by_time false g =
             let not_yet : nat_le ((reading_of low begin).at + 1) t ≡ false = grind (arith, nat_tests, until_at) in
@@ -154,7 +154,7 @@ break_line low begin t o tells seat = by_ending (reading_of low begin).ending re
             let now : nat_le ((reading_of low begin).at + 1) t ≡ true = grind (arith, nat_tests, until_at) in
             let k = known_after t low begin past in
             let count : length (known_bits (all_known (reading_of low begin))) ≡ length o.reading.bits.items = ap length (all_bits low begin ∙ sym tells.bits) in
-            let sends : sends_in (known t (reading_of low begin)) seat.sends (length (known_bits (known t (reading_of low begin))) + 1) ≡ goes_to seat.sends out (length o.reading.bits.items + 1) =
+            let sends : sends_in (known_at t (reading_of low begin)) seat.sends (length (known_bits (known_at t (reading_of low begin))) + 1) ≡ goes_to seat.sends out (length o.reading.bits.items + 1) =
             ap (λ (n : Known). sends_in n seat.sends (length (known_bits n) + 1)) k
             ∙ ap (λ n. sends_in (all_known (reading_of low begin)) seat.sends (n + 1)) count ∙ sym (goes_same seat.sends (length o.reading.bits.items + 1)) in
             line_is ∙ ap (λ c. pulls && c) (cover_is ∙ ap (λ c. c && nat_lt t ((reading_of low begin).at + 3600)) now)
@@ -168,10 +168,10 @@ break_line low begin t o tells seat = by_ending (reading_of low begin).ending re
             turned false false = refl
 
     by_ending : (x : Ending) → (reading_of low begin).ending ≡ x
-        → line_of (break_stretches o seat out) t ≡ is_broken (seat ∷ []) (known t (reading_of low begin)) t (known t (reading_of low begin)).ended
+        → line_of (break_stretches o seat out) t ≡ is_broken (seat ∷ []) (known_at t (reading_of low begin)) t (known_at t (reading_of low begin)).ended
     by_ending Complete e = both_none Complete e refl
     by_ending Silent e = both_none Silent e refl
     by_ending BadStart e = both_none BadStart e refl
     by_ending Long e = both_none Long e refl
     by_ending Open e = both_none Open e refl
-    by_ending Short e = breaks (nat_lt (reading_of low begin).until t) refl e ∙ sym (ap (is_broken (seat ∷ []) (known t (reading_of low begin)) t) (known_end Short e))
+    by_ending Short e = breaks (nat_lt (reading_of low begin).until t) refl e ∙ sym (ap (is_broken (seat ∷ []) (known_at t (reading_of low begin)) t) (known_end Short e))

@@ -10,7 +10,7 @@ use Rattle.cec_bits.specs.declared.After.{After}
 use Rattle.cec_bits.specs.declared.After.TheVariants.{Next, Ends}
 use Rattle.cec_frame.specs.declared.Ending.{Ending}
 use Rattle.cec_frame.specs.declared.Ending.TheVariants.{Complete, Short, Silent, BadStart, Long, Open}
-use Rattle.cec_bits.specs.Reading.{after_fall, after_last, last_heard, next_fall, sample, Read, End, Known, Slot, known, known_slot, known_slots, reading_of, read_start, read_slots, read_on, after_slot, last_ending, sampled, start_of, bits_of}
+use Rattle.cec_bits.specs.Reading.{after_fall, after_last, last_heard, next_fall, sample, Read, End, Known, Slot, known_at, known_slot, known_slots, reading_of, read_start, read_slots, read_on, after_slot, last_ending, bit_sampled_at, start_of, bits_of}
 use Rattle.cec_bits.specs.Sending.{bit_read, destination, known_bits, is_whole, has_all, is_out_by, out_by, out_slot, goes_on}
 use Rattle.cec_bits.proofs.Ends.{until_by}
 use Rattle.cec_wire.specs.Round.{all_known, is_not_before}
@@ -29,14 +29,14 @@ FrontTold (s ∷ []) = Unit {0}
 FrontTold (s ∷ x ∷ ss) = ((b : Bool) × (s.bit ≡ Some b)) × FrontTold (x ∷ ss)
 
 front_on : (low : Line) (e left : ℕ) (bits more : List Bool) (a : After) → after_slot low e (last_ending bits) ≡ a
-    → ((f : ℕ) → FrontTold (read_slots low left more f).slots) → FrontTold (record { fall = e; bit = sampled low e } ∷ (read_on (read_slots low left more) a).slots)
+    → ((f : ℕ) → FrontTold (read_slots low left more f).slots) → FrontTold (record { fall = e; bit = bit_sampled_at low e } ∷ (read_on (read_slots low left more) a).slots)
 front_on low e left bits more (Ends ending at) h ih = tt
 front_on low e left bits more (Next f) h ih = step (read_slots low left more f).slots (ih f)
   where
-    here : sampled low e ≡ Some (not (low (e + 1050)))
+    here : bit_sampled_at low e ≡ Some (not (low (e + 1050)))
     here = let n = next_falls low e bits f h in quiet_sample low e (λ u a b. n.quiet u a (omega (arith, n.far)))
 
-    step : (ss : List Slot) → FrontTold ss → FrontTold (record { fall = e; bit = sampled low e } ∷ ss)
+    step : (ss : List Slot) → FrontTold ss → FrontTold (record { fall = e; bit = bit_sampled_at low e } ∷ ss)
     step [] t = tt
     step (x ∷ ss) t = ((not (low (e + 1050)), here), t)
 
@@ -44,8 +44,8 @@ front_slots : (low : Line) (left : ℕ) (bits : List Bool) (e : ℕ) → FrontTo
 unfolding read_slots
 front_slots low zero bits e = tt
 front_slots low (suc left) bits e =
-    front_on low e left bits (bits ++ option_to_list (sampled low e)) (after_slot low e (last_ending bits)) refl
-    (λ f. front_slots low left (bits ++ option_to_list (sampled low e)) f)
+    front_on low e left bits (bits ++ option_to_list (bit_sampled_at low e)) (after_slot low e (last_ending bits)) refl
+    (λ f. front_slots low left (bits ++ option_to_list (bit_sampled_at low e)) f)
 
 front_start : (low : Line) (begin : ℕ) (s : Result ℕ ℕ) → FrontTold (read_start low begin s).slots
 front_start low begin (Ok f) = front_slots low 160 [] f
@@ -179,14 +179,14 @@ later_end s [] until e = absurd e
 later_end s (x ∷ ss) until e = e
 
 whole_at : (low : Line) (e : ℕ) (last : Option Ending) (ending : Ending) (at : ℕ) → after_slot low e last ≡ Ends ending at → has_all ending ≡ true
-    → HasBit (sampled low e) × (e + 1050 ≡ last_heard ending at)
+    → HasBit (bit_sampled_at low e) × (e + 1050 ≡ last_heard ending at)
 whole_at low e None ending at h w = by_fall (next_fall low e 2750) h
   where
-    by_time : (g : ℕ) (b : Bool) → (if b then Ends Short g else Next g) ≡ Ends ending at → HasBit (sampled low e) × (e + 1050 ≡ last_heard ending at)
+    by_time : (g : ℕ) (b : Bool) → (if b then Ends Short g else Next g) ≡ Ends ending at → HasBit (bit_sampled_at low e) × (e + 1050 ≡ last_heard ending at)
     by_time g true k = let x : Short ≡ ending = cc in let y : has_all Short ≡ true = ap has_all x ∙ w in cc
     by_time g false k = cc
 
-    by_fall : (o : Option ℕ) → after_fall e o ≡ Ends ending at → HasBit (sampled low e) × (e + 1050 ≡ last_heard ending at)
+    by_fall : (o : Option ℕ) → after_fall e o ≡ Ends ending at → HasBit (bit_sampled_at low e) × (e + 1050 ≡ last_heard ending at)
     by_fall None k = let x : Silent ≡ ending = cc in let y : has_all Silent ≡ true = ap has_all x ∙ w in cc
     by_fall (Some g) k = by_time g (nat_lt g (e + 2050)) k
 whole_at low e (Some last) ending at h w = by_fall (next_fall low e 1050) refl h
@@ -199,25 +199,25 @@ whole_at low e (Some last) ending at h w = by_fall (next_fall low e 1050) refl h
     heard BadStart n k = refl
     heard Silent n k = cc
 
-    by_fall : (o : Option ℕ) → next_fall low e 1050 ≡ o → after_last e last o ≡ Ends ending at → HasBit (sampled low e) × (e + 1050 ≡ last_heard ending at)
+    by_fall : (o : Option ℕ) → next_fall low e 1050 ≡ o → after_last e last o ≡ Ends ending at → HasBit (bit_sampled_at low e) × (e + 1050 ≡ last_heard ending at)
     by_fall None q k = let y : e + 1050 ≡ at = cc in ((not (low (e + 1050)), ap (sample low e) q), y ∙ heard ending at w)
     by_fall (Some g) q k = let x : Short ≡ ending = cc in let y : has_all Short ≡ true = ap has_all x ∙ w in cc
 
 whole_on : (low : Line) (e left : ℕ) (bits more : List Bool) (a : After) → after_slot low e (last_ending bits) ≡ a
     → ((f : ℕ) → has_all (read_slots low left more f).ending ≡ true → EndsSampled (read_slots low left more f).slots (read_slots low left more f).until)
     → has_all (read_on (read_slots low left more) a).ending ≡ true
-    → EndsSampled (record { fall = e; bit = sampled low e } ∷ (read_on (read_slots low left more) a).slots) (read_on (read_slots low left more) a).until
+    → EndsSampled (record { fall = e; bit = bit_sampled_at low e } ∷ (read_on (read_slots low left more) a).slots) (read_on (read_slots low left more) a).until
 whole_on low e left bits more (Ends ending at) h ih w = whole_at low e (last_ending bits) ending at h w
 whole_on low e left bits more (Next f) h ih w =
-    later_end (record { fall = e; bit = sampled low e }) (read_slots low left more f).slots (read_slots low left more f).until (ih f w)
+    later_end (record { fall = e; bit = bit_sampled_at low e }) (read_slots low left more f).slots (read_slots low left more f).until (ih f w)
 
 whole_slots : (low : Line) (left : ℕ) (bits : List Bool) (e : ℕ) → has_all (read_slots low left bits e).ending ≡ true
     → EndsSampled (read_slots low left bits e).slots (read_slots low left bits e).until
 unfolding read_slots
 whole_slots low zero bits e w = cc
 whole_slots low (suc left) bits e w =
-    whole_on low e left bits (bits ++ option_to_list (sampled low e)) (after_slot low e (last_ending bits)) refl
-    (λ f. whole_slots low left (bits ++ option_to_list (sampled low e)) f) w
+    whole_on low e left bits (bits ++ option_to_list (bit_sampled_at low e)) (after_slot low e (last_ending bits)) refl
+    (λ f. whole_slots low left (bits ++ option_to_list (bit_sampled_at low e)) f) w
 
 whole_start : (low : Line) (begin : ℕ) (s : Result ℕ ℕ) → has_all (read_start low begin s).ending ≡ true → EndsSampled (read_start low begin s).slots (read_start low begin s).until
 whole_start low begin (Ok f) w = whole_slots low 160 [] f w
@@ -255,7 +255,7 @@ told_get until (x ∷ ss) zero s b told h e =
 told_get until (x ∷ ss) (suc k) s b told h e = told_get until ss k s b told.2 h e
 
 -- what is known after a reading is all
-pub known_after : (t : ℕ) (low : Line) (begin : ℕ) → (reading_of low begin).until < t → known t (reading_of low begin) ≡ all_known (reading_of low begin)
+pub known_after : (t : ℕ) (low : Line) (begin : ℕ) → (reading_of low begin).until < t → known_at t (reading_of low begin) ≡ all_known (reading_of low begin)
 known_after t low begin past =
     let r : Read = reading_of low begin in
     let now : nat_lt (reading_of low begin).until t ≡ true = grind (arith, nat_tests) in
@@ -283,14 +283,14 @@ sample_of : (ss : List Slot) (k : ℕ) (s : Slot) → slice_get ss k ≡ Some s 
 sample_of ss k s h = ap (λ (o : Option Slot). sample_by (option_map (λ (x : Slot). x.fall) o)) h
 
 pub stops : (low : Line) (begin t : ℕ) (sent : List Bool)
-    → (is_none (out_slot (known t (reading_of low begin)) sent) && goes_on (known t (reading_of low begin)).ended t)
+    → (is_none (out_slot (known_at t (reading_of low begin)) sent) && goes_on (known_at t (reading_of low begin)).ended t)
     ≡ nat_le t (last_by (reading_of low begin) (out_slot (all_known (reading_of low begin)) sent))
 stops low begin t sent = elim (cases_lt (reading_of low begin).until t) [ inl past ↦ after past | inr by_then ↦ before by_then ]
   where
     r : Read
     r = reading_of low begin
 
-    after : (reading_of low begin).until < t → (is_none (out_slot (known t (reading_of low begin)) sent) && goes_on (known t (reading_of low begin)).ended t)
+    after : (reading_of low begin).until < t → (is_none (out_slot (known_at t (reading_of low begin)) sent) && goes_on (known_at t (reading_of low begin)).ended t)
         ≡ nat_le t (last_by (reading_of low begin) (out_slot (all_known (reading_of low begin)) sent))
     after past =
         ap (λ (k : Known). is_none (out_slot k sent) && goes_on k.ended t) (known_after t low begin past)
@@ -308,7 +308,7 @@ stops low begin t sent = elim (cases_lt (reading_of low begin).until t) [ inl pa
             let stop : nat_le t (s.slot.fall + 1050) ≡ false = grind (arith, nat_tests) in
             sym (ap (λ m. nat_le t m) (sample_of (reading_of low begin).slots (n - 1) s.slot s.there) ∙ stop)
 
-    before : t ≤ (reading_of low begin).until → (is_none (out_slot (known t (reading_of low begin)) sent) && goes_on (known t (reading_of low begin)).ended t)
+    before : t ≤ (reading_of low begin).until → (is_none (out_slot (known_at t (reading_of low begin)) sent) && goes_on (known_at t (reading_of low begin)).ended t)
         ≡ nat_le t (last_by (reading_of low begin) (out_slot (all_known (reading_of low begin)) sent))
     before by_then =
         ap (λ b. is_none (out_by (bits_at t (reading_of low begin).slots) (is_whole (if b then Some (record { ending = (reading_of low begin).ending; at = (reading_of low begin).at; until = (reading_of low begin).until }) else None)) sent)

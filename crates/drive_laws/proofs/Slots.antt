@@ -1,4 +1,4 @@
--- The slots of a reading fall where the low stretches behind the start bit's begin, up to the reading's end.
+-- The slots of a reading fall where the low stretches after the start bit's begin, up to the reading's end.
 use Rattle.std.proofs.Common.{◌≡◌, ℕ, zero, suc, ◌+◌, ◌-◌, ◌==◌, ◌<◌, ◌≤◌, Bool, true, false, not, ◌&&◌, ◌||◌, nat_lt, nat_le, if◌then◌else◌, List, [], ◌∷◌, ◌++◌, map, slice_get, option_map, inl, inr, Option, Some, None, Result, Ok, Err, refl, arith, ap, ap₂, ◌∙◌, sym, subst}
 use Rattle.std.specs.List.{list_any}
 use Rattle.std.specs.Option.{option_to_list}
@@ -10,7 +10,7 @@ use Rattle.cec_frame.specs.declared.Ending.{Ending}
 use Rattle.cec_frame.specs.declared.Ending.TheVariants.{Short, Silent}
 use Rattle.cec_bits.specs.declared.After.{After}
 use Rattle.cec_bits.specs.declared.After.TheVariants.{Next, Ends}
-use Rattle.cec_bits.specs.Reading.{Slot, reading_of, read_start, read_slots, read_on, start_of, start_rise, start_fall, next_rise, next_fall, after_slot, after_fall, after_last, last_ending, sampled}
+use Rattle.cec_bits.specs.Reading.{Slot, reading_of, read_start, read_slots, read_on, start_of, start_rise, start_fall, next_rise, next_fall, after_slot, after_fall, after_last, last_ending, bit_sampled_at}
 use Rattle.cec_bits.proofs.Causes.{not_over}
 use Rattle.cec_bits.proofs.Ends.{slots_until}
 use Rattle.cec_bits.proofs.Search.{Found, found_first, found_none}
@@ -18,7 +18,7 @@ use Rattle.cec_bits.proofs.Waves.{falls_of_wave, no_begin, rises_of_wave}
 use Rattle.cec_wire.proofs.Walk.{next_falls}
 use Rattle.cec_drives.specs.Stretches.{fall_by}
 
--- ---- the falls behind one
+-- ---- the falls after one
 
 -- the line falls where each of these stretches begins, and nowhere between
 abbrev pub Gaps : Line → ℕ → List Stretch → Type 0
@@ -120,13 +120,13 @@ walk : (low : Line) (left : ℕ) (bits : List Bool) (s : Stretch) (rest : List S
 unfolding read_slots
 walk low zero bits s rest g zero = let no : nat_lt s.from s.from ≡ false = grind (arith, nat_tests) in rw no refl
 walk low zero bits s rest g (suc k) = sym (none_before low s.from s.from rest g (λ u l h. absurd (omega arith)) k)
-walk low (suc left) bits s rest g k = by_after (after_slot low s.from (last_ending bits)) refl k (λ x others h j. walk low left (bits ++ option_to_list (sampled low s.from)) x others h j)
+walk low (suc left) bits s rest g k = by_after (after_slot low s.from (last_ending bits)) refl k (λ x others h j. walk low left (bits ++ option_to_list (bit_sampled_at low s.from)) x others h j)
   where
     more : List Bool
-    more = bits ++ option_to_list (sampled low s.from)
+    more = bits ++ option_to_list (bit_sampled_at low s.from)
 
     slot : Slot
-    slot = record { fall = s.from; bit = sampled low s.from }
+    slot = record { fall = s.from; bit = bit_sampled_at low s.from }
 
     by_after : (a : After) → after_slot low s.from (last_ending bits) ≡ a → (k : ℕ)
         → ((x : Stretch) (others : List Stretch) → Gaps low x.from others → (j : ℕ) → falls_at (read_slots low left more x.from).slots j ≡ before (read_slots low left more x.from).at (slice_get (x ∷ others) j))
@@ -230,7 +230,7 @@ start_slots s rest from w st h = by_rise (next_rise low s.from 3900) refl h
         let d = found_first (is_rise low) (s.from + 1) 3900 r q in
         by_early r (nat_lt r (s.from + 3500)) (rise_by s rest from r w d) (omega (arith, d.after)) k
 
--- the k-th slot of the reading, from 0, falls where the k-th stretch behind the first one begins, before the reading's end
+-- the k-th slot of the reading, from 0, falls where the k-th stretch after the first one begins, before the reading's end
 pub slots_fall : (s : Stretch) (rest : List Stretch) (from : ℕ) → IsWaveFrom from (s ∷ rest) → (k : ℕ)
     → falls_at (reading_of (line_of (s ∷ rest)) s.from).slots k ≡ before (reading_of (line_of (s ∷ rest)) s.from).at (slice_get rest k)
 slots_fall s rest from w k = start_slots s rest from w (start_of (line_of (s ∷ rest)) s.from) refl k

@@ -6,7 +6,7 @@ use Rattle.std.proofs.lemmas.Bool.Decides.{nat_tests}
 use Rattle.cec_wave.specs.declared.Stretch.{Stretch}
 use Rattle.cec_wave.specs.Line.{Line, covers, line_of, IsWave}
 use Rattle.cec_wave.specs.Pulses.{AreSparse}
-use Rattle.cec_bits.specs.Reading.{Read, known, reading_of, start_of}
+use Rattle.cec_bits.specs.Reading.{Read, known_at, reading_of, start_of}
 use Rattle.cec_bits.specs.Sending.{sender_pulls}
 use Rattle.cec_bits.proofs.Waves.{quiet}
 use Rattle.cec_wire.specs.declared.Loser.{Loser}
@@ -46,7 +46,7 @@ first_begin (s ∷ rest) begin w l h = (
   ],
 )
 
--- ---- what an outcome tells
+-- ---- what an outcome reports
 
 tells_by : (wave : List Stretch) (begin : ℕ) (o : Outcome) (s : Stretch) (rest : List Stretch) → o.wave ≡ wave → wave ≡ s ∷ rest → s.from ≡ begin → IsWave (s ∷ rest)
     → o.reading.at ≡ (reading_of (line_of wave) begin).at → (n : ℕ) → 1 ≤ n → slot_fall o n ≡ falls_at (reading_of (line_of wave) begin).slots (n - 1)

@@ -45,7 +45,7 @@ fn frame_of(words: &str) -> Option<Frame> {
     Frame::new(&bytes).ok()
 }
 
-// A seat that is plugged: the address that it holds, and what it sends behind a colon.
+// A seat that is plugged: the address that it holds, and what it sends after a colon.
 fn seat_of(word: &str) -> Option<Seat> {
     let (held, sends) = match word.split_once(':') {
         None => (word, None),
@@ -127,7 +127,7 @@ fn put_drive(alloc: Global, text: &mut String, stretches: &[Stretch]) {
     }
 }
 
-// The drive of each seat, one behind another.
+// The drive of each seat, one after another.
 fn drives_text(
     rt: &(impl Abort + AllocGlobal),
     seats: &[Seat],

@@ -11,7 +11,7 @@ use Rattle.cec_wire.specs.declared.Outcome.{Outcome}
 use Rattle.cec_signal.specs.Edges.{Captured, IsCapture, edges_of, line_of_edges}
 use Rattle.hdmi_topo.specs.Node.{Node}
 use Rattle.cec_net.specs.Line.{run_wave}
-use Rattle.cec_net.specs.State.{started}
+use Rattle.cec_net.specs.State.{first_net}
 use Rattle.cec_net.proofs.Framed.{framed-started}
 use Rattle.cec_asm.proofs.Sound.{scripts_are_sound}
 use Rattle.cec_vcd.specs.Dump.{edges_in}
@@ -35,9 +35,9 @@ use Rattle.cec_driven.specs.Driven.{Drives, IsDrivenBy}
 use Rattle.cec_driven.specs.Emulate.{IsDrivesOf}
 use Rattle.cec_driven.proofs.Counts.{count_started}
 use Rattle.cec_driven.proofs.HasDrives.{runs_have_drives}
-use Rattle.cec_capture.proofs.Formats.{is_capture, lines_are_read_back}
-use Rattle.cec_capture.proofs.ReadBack.{same_line}
-use Rattle.dump_laws.specs.Dumps.{Declared, Span, TellsLine, TellsWires, dump_of, level_at, numbered, wire_at}
+use Rattle.capture_laws.proofs.Formats.{is_capture, lines_are_read_back}
+use Rattle.capture_laws.proofs.ReadBack.{same_line}
+use Rattle.dump_laws.specs.Dumps.{Declared, Span, TellsLine, TellsWires, dump_of, level_at, numbered_names, wire_at}
 use Rattle.dump_laws.proofs.ReadHead.{dumps_are_read_as_the_line}
 use Rattle.dump_laws.proofs.Whole.{dumps_tell_their_wires}
 use Rattle.driven_laws.specs.Rounds.{IsRuled, Laid, RoundsAreRuled, RoundsAreTheTraces, drives, rounds_by, rounds_in, rounds_of}
@@ -48,7 +48,7 @@ use Rattle.driven_laws.proofs.Turns.{Stands, Told, all_told, driven_line, span_o
 
 -- ---- a run of accepted texts
 
-stands_started : (tree : List Node) (pulses : List Stretch) → AreSparse pulses → Stands (length tree) 0 (started tree pulses)
+stands_started : (tree : List Node) (pulses : List Stretch) → AreSparse pulses → Stands (length tree) 0 (first_net tree pulses)
 stands_started tree pulses sparse = record {
   sparse = sparse;
   framed = framed-started tree pulses;
@@ -66,7 +66,7 @@ told_of : (topology script text : List ℕ) (totals : Totals) → (p : IsDrivesO
     → Told (length p.plan.tree) p.course.end 0 (rounds_of topology script text totals p) p.driven.run.body p.driven.run.at_end
 told_of topology script text totals p =
     let sound = scripts_are_sound p.plan.tree script p.course p.accepted.course_is in
-    all_told (length p.plan.tree) p.course.end p.driven.run.turns 0 (start (started p.plan.tree p.course.pulses) p.course.events) p.driven.run.at_end p.driven.run.line p.driven.run.body
+    all_told (length p.plan.tree) p.course.end p.driven.run.turns 0 (start (first_net p.plan.tree p.course.pulses) p.course.events) p.driven.run.at_end p.driven.run.line p.driven.run.body
     p.driven.run.drives (stands_started p.plan.tree p.course.pulses sound.sparse) sound.framed
 
 pub rounds_are_ruled : RoundsAreRuled
@@ -103,7 +103,7 @@ same_rounds end (suc turns) c d line text l =
 
 abbrev line_of_run : (topology script text : List ℕ) (totals : Totals) → IsDrivesOf topology script text totals → List ℕ
 line_of_run topology script text totals p =
-    start_told (Line Vcd) (started p.plan.tree p.course.pulses) ++ (p.driven.run.line ++ end_told (Line Vcd) p.course.end p.driven.run.at_end.net)
+    start_told (Line Vcd) (first_net p.plan.tree p.course.pulses) ++ (p.driven.run.line ++ end_told (Line Vcd) p.course.end p.driven.run.at_end.net)
 
 -- it is told by the dump of the line alone
 abbrev its_line : (topology script text : List ℕ) (totals : Totals) → (p : IsDrivesOf topology script text totals) → IsLineOf Vcd topology script (line_of_run topology script text totals p) totals
@@ -119,7 +119,7 @@ its_line topology script text totals p = record {
       turns = p.driven.run.turns;
       last = p.driven.run.at_end;
       body = p.driven.run.line;
-      leads = leads p.course.end p.driven.run.turns (start (started p.plan.tree p.course.pulses) p.course.events) p.driven.run.at_end p.driven.run.line p.driven.run.body p.driven.run.drives;
+      leads = leads p.course.end p.driven.run.turns (start (first_net p.plan.tree p.course.pulses) p.course.events) p.driven.run.at_end p.driven.run.line p.driven.run.body p.driven.run.drives;
       stops = p.driven.run.stops;
       whole = refl;
       counts = p.driven.run.counts;
@@ -129,11 +129,11 @@ its_line topology script text totals p = record {
 }
 
 its_rounds : (topology script text : List ℕ) (totals : Totals) → (p : IsDrivesOf topology script text totals)
-    → run_line.rounds_in (Line Vcd) p.course.end p.driven.run.turns (start (started p.plan.tree p.course.pulses) p.course.events) p.driven.run.line p.driven.run.at_end
-    (leads p.course.end p.driven.run.turns (start (started p.plan.tree p.course.pulses) p.course.events) p.driven.run.at_end p.driven.run.line p.driven.run.body p.driven.run.drives)
+    → run_line.rounds_in (Line Vcd) p.course.end p.driven.run.turns (start (first_net p.plan.tree p.course.pulses) p.course.events) p.driven.run.line p.driven.run.at_end
+    (leads p.course.end p.driven.run.turns (start (first_net p.plan.tree p.course.pulses) p.course.events) p.driven.run.at_end p.driven.run.line p.driven.run.body p.driven.run.drives)
     ≡ outcomes (rounds_of topology script text totals p)
 its_rounds topology script text totals p =
-    same_rounds p.course.end p.driven.run.turns (start (started p.plan.tree p.course.pulses) p.course.events) p.driven.run.at_end p.driven.run.line p.driven.run.body p.driven.run.drives
+    same_rounds p.course.end p.driven.run.turns (start (first_net p.plan.tree p.course.pulses) p.course.events) p.driven.run.at_end p.driven.run.line p.driven.run.body p.driven.run.drives
 
 pub rounds_are_the_traces : RoundsAreTheTraces
 rounds_are_the_traces topology script x y s t p q =
@@ -146,7 +146,7 @@ soon : (topology script text : List ℕ) (totals : Totals) → (p : IsDrivesOf t
 soon topology script text totals p =
     let sound = scripts_are_sound p.plan.tree script p.course p.accepted.course_is in
     let close = runs_close_soon (Line Vcd) p.plan.tree p.course.pulses p.course.events p.course.end p.driven.run.turns p.driven.run.line p.driven.run.at_end sound.sparse
-    (leads p.course.end p.driven.run.turns (start (started p.plan.tree p.course.pulses) p.course.events) p.driven.run.at_end p.driven.run.line p.driven.run.body p.driven.run.drives) in
+    (leads p.course.end p.driven.run.turns (start (first_net p.plan.tree p.course.pulses) p.course.events) p.driven.run.at_end p.driven.run.line p.driven.run.body p.driven.run.drives) in
     let limit = sound.limit in
     omega (arith, close, limit)
 
@@ -211,7 +211,7 @@ exchanged number (name ∷ names) f xs =
 
 -- by what is declared
 by_declared : (number : ℕ) (names : List (List ℕ)) (f : ℕ → Bool) (g : List ℕ → Bool) → ((n : ℕ) → g (id_of n ∷ []) ≡ f n)
-    → list_any (λ (d : Declared). g d.id) (numbered number names) ≡ some_number number names f
+    → list_any (λ (d : Declared). g d.id) (numbered_names number names) ≡ some_number number names f
 by_declared number [] f g h = refl
 by_declared number (name ∷ names) f g h = ap₂ (λ a b. a || b) (h number) (by_declared (number + 1) names f g h)
 

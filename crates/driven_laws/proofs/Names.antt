@@ -11,23 +11,23 @@ use Rattle.hdmi_core.specs.declared.phys.Phys.{Phys}
 use Rattle.hdmi_topo.specs.Name.{is_name, is_name_byte}
 use Rattle.hdmi_topo.specs.Node.{Node}
 use Rattle.hdmi_topo.specs.Path.{address_of}
-use Rattle.hdmi_topo.specs.Tree.{add_fault, added, device_named, has_root, plug_fault, plugged, with_plug}
+use Rattle.hdmi_topo.specs.Tree.{add_fault, tree_with_device, device_named, has_root, plug_fault, tree_with_plug, with_plug}
 use Rattle.hdmi_topo.specs.declared.plug.Plug.{Plug}
 use Rattle.hdmi_topo.specs.declared.plug.AddError.{AddError}
 use Rattle.hdmi_topo.specs.declared.plug.PlugError.{PlugError}
 use Rattle.cec_wave.specs.declared.Stretch.{Stretch}
-use Rattle.cec_words.specs.Lines.{is_skipped, lines_of}
-use Rattle.cec_words.specs.Number.{number_of}
-use Rattle.cec_words.specs.Words.{one_of, three_of, words_of}
+use Rattle.hdmi_core.specs.Lines.{is_skipped, lines_of}
+use Rattle.hdmi_core.specs.Number.{number_of}
+use Rattle.hdmi_core.specs.Words.{one_of, three_of, words_of}
 use Rattle.cec_vcd.specs.Dump.{is_end, is_space}
 use Rattle.hdmi_core.specs.Kind.{kind_named}
-use Rattle.cec_asm.specs.Topology.{Plan, TopologyFault, at_line, at_word, fault_at, bytes_of, device_line, device_read, edid_line, edid_read, line_read, lines_read, plug_line, plug_read, topology_of, unless_add, unless_plug, worded}
+use Rattle.cec_asm.specs.Topology.{Plan, TopologyFault, at_line, at_word, fault_at, bytes_of, device_line, device_read, edid_line, edid_read, line_read, lines_read, plug_line, plug_read, topology_of, unless_add, unless_plug, plan_with_words}
 use Rattle.cec_asm.specs.declared.topology.LineFault.{LineFault}
 use Rattle.cec_asm.specs.declared.topology.TopologyCause.TheVariants as causes
-use Rattle.cec_device.specs.State.{State, frame_of, held, holds, one_more, queued, speaks}
-use Rattle.cec_device.specs.Place.{fresh, is_on_wire, joined, reported_by, reported_from, start_place}
+use Rattle.cec_device.specs.State.{State, frame_of, addresses_held, holds, one_more, with_queued, speaks}
+use Rattle.cec_device.specs.Place.{fresh, is_on_wire, after_joining, reported_by, reported_from, start_place}
 use Rattle.cec_feature.specs.Kinds.{is_switch, type_of}
-use Rattle.cec_net.specs.State.{each_from, loose, moved, moved_by, started}
+use Rattle.cec_net.specs.State.{each_from, loose, after_move, moved_by, first_net}
 use Rattle.cec_driven.specs.Driven.{names_of}
 use Rattle.dump_laws.specs.Dumps.{is_word}
 use Rattle.driven_laws.specs.Dumps.{names_in}
@@ -38,7 +38,7 @@ pub two : (t : Bool) (x y : State) (name : List ℕ) → x.name ≡ name → y.n
 two true x y name h k = h
 two false x y name h k = k
 
-pub name-queued : (limit at from to : ℕ) (bytes : List ℕ) (d : State) → (queued limit at from to bytes d).name ≡ d.name
+pub name-queued : (limit at from to : ℕ) (bytes : List ℕ) (d : State) → (with_queued limit at from to bytes d).name ≡ d.name
 name-queued limit at from to bytes d =
     two (not (speaks d) || holds d.place to) d
     (if nat_lt (length d.queue) limit then record d { queue = d.queue ++ record { frame = frame_of from to bytes; ready = at } ∷ [] } else record d { dropped = one_more d.dropped }) d.name refl
@@ -47,14 +47,14 @@ name-queued limit at from to bytes d =
 name-reported_from : (limit at : ℕ) (unit : Option ℕ) (d : State) → (reported_from limit at unit d).name ≡ d.name
 name-reported_from limit at None d = refl
 name-reported_from limit at (Some from) d =
-    two (nat_lt from 15 || is_switch d.kind) (queued limit at from 15 (0x84 ∷ d.phys.high ∷ d.phys.low ∷ type_of d.kind from ∷ []) d) d d.name
+    two (nat_lt from 15 || is_switch d.kind) (with_queued limit at from 15 (0x84 ∷ d.phys.high ∷ d.phys.low ∷ type_of d.kind from ∷ []) d) d d.name
     (name-queued limit at from 15 (0x84 ∷ d.phys.high ∷ d.phys.low ∷ type_of d.kind from ∷ []) d) refl
 
 pub name-reported_by : (limit at : ℕ) (units : List (Option ℕ)) (d : State) → (reported_by limit at units d).name ≡ d.name
 name-reported_by limit at [] d = refl
 name-reported_by limit at (unit ∷ units) d = name-reported_by limit at units (reported_from limit at unit d) ∙ name-reported_from limit at unit d
 
-name-joined : (limit number at : ℕ) (phys : Phys) (d : State) → (joined limit d number phys at).name ≡ d.name
+name-joined : (limit number at : ℕ) (phys : Phys) (d : State) → (after_joining limit d number phys at).name ≡ d.name
 name-joined limit number at phys d =
     let e : State = record (fresh d.kind d.name d.ports) {
       number = number;
@@ -62,9 +62,9 @@ name-joined limit number at phys d =
       place = start_place d.kind phys;
       poll_ready = at;
     } in
-    name-reported_by limit at (held e.place) e
+    name-reported_by limit at (addresses_held e.place) e
 
-name-moved : (at number : ℕ) (plugged : Bool) (address : Option Phys) (d : State) → (moved at number plugged address d).name ≡ d.name
+name-moved : (at number : ℕ) (plugged : Bool) (address : Option Phys) (d : State) → (after_move at number plugged address d).name ≡ d.name
 name-moved at number false (Some address) d = name-joined 16 number at address d
 name-moved at number false None d = refl
 name-moved at number true (Some address) d = refl
@@ -78,7 +78,7 @@ names-loose : (tree : List Node) → names_of (loose tree) ≡ names_in tree
 names-loose [] = refl
 names-loose (node ∷ tree) = ap (λ xs. node.name ∷ xs) (names-loose tree)
 
-pub names_started : (tree : List Node) (pulses : List Stretch) → names_of (started tree pulses).devices ≡ names_in tree
+pub names_started : (tree : List Node) (pulses : List Stretch) → names_of (first_net tree pulses).devices ≡ names_in tree
 names_started tree pulses = names-each 0 0 tree (loose tree) ∙ names-loose tree
 
 -- ---- a name is one word
@@ -168,7 +168,7 @@ keeps_device plan name (Some kind) None h = tt
 keeps_device plan name (Some kind) (Some ports) h =
     keeps_if (nat_lt 15 ports) (Err (at_word 3 causes.Number)) _ (λ e. tt) (λ e.
     keeps_if (not (is_name name) || is_some (device_named plan.tree name)) (Err (at_word 1 causes.Name)) _ (λ g. tt) (λ g.
-    keeps_add (add_fault 15 plan.tree name kind) (record plan { tree = added plan.tree name kind ports })
+    keeps_add (add_fault 15 plan.tree name kind) (record plan { tree = tree_with_device plan.tree name kind ports })
     (All-append (λ (n : Node). is_name n.name ≡ true) plan.tree (record { name = name; kind = kind; ports = ports; plug = None } ∷ []) h
     (All-cons (λ (n : Node). is_name n.name ≡ true) (record { name = name; kind = kind; ports = ports; plug = None }) []
     (is_named (is_name name) (is_some (device_named plan.tree name)) g) (All-nil (λ (n : Node). is_name n.name ≡ true))))))
@@ -184,7 +184,7 @@ keeps_plug_read plan None child parent h = tt
 keeps_plug_read plan (Some port) None parent h = tt
 keeps_plug_read plan (Some port) (Some child) None h = tt
 keeps_plug_read plan (Some port) (Some child) (Some parent) h =
-    keeps_plug (plug_fault plan.tree child parent (min port 255)) (record plan { tree = plugged plan.tree child parent (min port 255) }) (named_plug plan.tree child _ h)
+    keeps_plug (plug_fault plan.tree child parent (min port 255)) (record plan { tree = tree_with_plug plan.tree child parent (min port 255) }) (named_plug plan.tree child _ h)
 
 keeps_plug_line : (plan : Plan) (many : ℕ) (words : Option (List ℕ × List ℕ × List ℕ)) → AreNamed plan.tree → Keeps (plug_line plan many words)
 unfolding Keeps
@@ -201,7 +201,7 @@ unfolding Keeps
 keeps_edid_line plan many None h = tt
 keeps_edid_line plan many (Some word) h = keeps_if (is_some plan.edid) (Err (at_word 0 causes.Word)) (edid_read plan (bytes_of word)) (λ e. tt) (λ e. keeps_edid plan (bytes_of word) h)
 
-keeps_worded : (plan : Plan) (words : List (List ℕ)) → AreNamed plan.tree → Keeps (worded plan words)
+keeps_worded : (plan : Plan) (words : List (List ℕ)) → AreNamed plan.tree → Keeps (plan_with_words plan words)
 unfolding Keeps
 keeps_worded plan [] h = tt
 keeps_worded plan (verb ∷ words) h =
@@ -211,7 +211,7 @@ keeps_worded plan (verb ∷ words) h =
 
 keeps_line : (plan : Plan) (line : List ℕ) → AreNamed plan.tree → Keeps (line_read plan line)
 unfolding Keeps
-keeps_line plan line h = keeps_if (is_skipped line) (Ok plan) (worded plan (words_of line)) (λ e. h) (λ e. keeps_worded plan (words_of line) h)
+keeps_line plan line h = keeps_if (is_skipped line) (Ok plan) (plan_with_words plan (words_of line)) (λ e. h) (λ e. keeps_worded plan (words_of line) h)
 
 named_lines : (lines : List (List ℕ)) (number : ℕ) (plan end : Plan) → AreNamed plan.tree → lines_read lines number plan ≡ Ok end → AreNamed end.tree
 unfolding Keeps

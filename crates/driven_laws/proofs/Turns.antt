@@ -1,4 +1,4 @@
--- A run, turn by turn: its rounds, and the spans that its dump tells.
+-- A run, turn by turn: its rounds, and the spans that its dump reports.
 use Rattle.std.proofs.Common.{◌≡◌, ℕ, zero, suc, ◌+◌, ◌-◌, ◌<◌, ◌≤◌, Bool, true, false, ◌||◌, nat_lt, min, max, List, [], ◌∷◌, ◌++◌, length, map, Option, Some, None, refl, sym, ap, ap₂, ◌∙◌, subst, arith}
 use Rattle.std.specs.List.{All, filter, list_any}
 use Rattle.std.proofs.lemmas.Bool.Decides.{nat_tests}
@@ -18,7 +18,7 @@ use Rattle.dump_laws.specs.Dumps.{AreSpans, IsWithin, Span, wire_at}
 use Rattle.dump_laws.proofs.Changes.{spans_text}
 use Rattle.cec_net.specs.Start.{first_onset, least_start, sooner}
 use Rattle.cec_net.specs.State.{NetState, next_start}
-use Rattle.cec_net.specs.Apply.{applied}
+use Rattle.cec_net.specs.Apply.{net_after}
 use Rattle.cec_net.specs.Step.{after_round, seats_of}
 use Rattle.cec_net.specs.Framed.{AreFramed}
 use Rattle.cec_net.proofs.Each.{length-each_from}
@@ -49,7 +49,7 @@ pub record Stands (count from : ℕ) (s : NetState) : Type 0 where
   pub closed : s.rest ≤ s.close
   pub seats : length s.devices ≡ count
 
-stands_applied : (count from at : ℕ) (e : TimedEvent) (events : List TimedEvent) (s : NetState) → AreFramedEvents (e ∷ events) → Stands count from s → Stands count from (applied at e.event s)
+stands_applied : (count from at : ℕ) (e : TimedEvent) (events : List TimedEvent) (s : NetState) → AreFramedEvents (e ∷ events) → Stands count from s → Stands count from (net_after at e.event s)
 stands_applied count from at e events s framed h =
     let k = kept at e.event s in
     record {
@@ -58,7 +58,7 @@ stands_applied count from at e events s framed h =
       later = subst (λ (ps : List Stretch). All (λ p. from ≤ p.from) ps) (sym k.pulses) h.later;
       rested = omega (arith, k.rest, h.rested);
       closed = omega (arith, k.rest, k.close, h.closed);
-      seats = count_applied at e.event s (applied at e.event s) refl ∙ h.seats;
+      seats = count_applied at e.event s (net_after at e.event s) refl ∙ h.seats;
     }
 
 stands_event : (count from at : ℕ) (events : List TimedEvent) (c d : Config) (line : List ℕ) → IsEventTurn (Line Vcd) at events c line d → c.events ≡ events
@@ -164,7 +164,7 @@ within r h = record { some = omega (arith, low); before = early; after = late }
 
 -- ---- the whole run
 
--- what is told from where a run stands
+-- what is reported from where a run stands
 pub record Told (count end from : ℕ) (rs : List Laid) (text : List ℕ) (last : Config) : Type 0 where
   pub ruled : All IsRuled rs
   pub seated : All (λ r. length r.seats ≡ count) rs

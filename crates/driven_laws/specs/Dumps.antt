@@ -1,4 +1,4 @@
--- The dump of a run and of who drives its line tells that the line is low exactly where somebody pulls it (own).
+-- The dump of a run and of who drives its line says that the line is low exactly where somebody pulls it (own).
 use Rattle.std.specs.Prelude.{◌≡◌, ℕ, ◌+◌, List, [], ◌∷◌, ◌++◌, drop, map, codes, Option, Some, Ok}
 use Rattle.std.specs.List.{list_any}
 use Rattle.cec_wave.specs.Line.{line_of}
@@ -8,7 +8,7 @@ use Rattle.cec_signal.specs.Edges.{Captured}
 use Rattle.cec_asm.specs.Script.{Course}
 use Rattle.cec_asm.specs.Topology.{Plan}
 use Rattle.cec_net.specs.Line.{run_wave}
-use Rattle.cec_trace.specs.Root.{IsRoot}
+use Rattle.hdmi_blocks.specs.Root.{IsRoot}
 use Rattle.cec_vcd.specs.Dump.{edges_in}
 use Rattle.cec_vcd.specs.Wire.{Wire, wire_in, wire_line, words_in}
 use Rattle.cec_wires.specs.Wires.{id_of}
@@ -16,21 +16,21 @@ use Rattle.cec_line.specs.declared.format.Format.TheVariants.{Vcd}
 use Rattle.cec_run.specs.declared.run.Totals.{Totals}
 use Rattle.cec_run.specs.Emulate.{IsAccepted, IsLineOf}
 use Rattle.cec_driven.specs.Emulate.{IsDrivesOf}
-use Rattle.dump_laws.specs.Dumps.{Declared, declared_in, numbered, wire_at}
+use Rattle.dump_laws.specs.Dumps.{Declared, declared_in, numbered_names, wire_at}
 use Rattle.driven_laws.specs.Rounds.{Laid, drives, rounds_of}
 
 -- the wires that a dump declares below its first one
 abbrev pub below : List ℕ → List Declared
 below text = drop 1 (declared_in (words_in text))
 
--- What a dump tells (IEEE 1364-2005, 18), by its words alone: its first wire is the line, and at every microsecond that is low if
+-- What a dump reports (IEEE 1364-2005, 18), by its words alone: its first wire is the line, and at every microsecond that is low if
 -- and only if one of the wires below it is.
 pub record TellsDrives (names : List (List ℕ)) (rounds : List Laid) (text : List ℕ) : Type 0 where
   pub line : Wire
   pub first : wire_in [] (words_in text) ≡ Some line
   pub driven : (u : ℕ) → wire_line line u ≡ list_any (λ d. wire_line (record line { id = d.id }) u) (below text)
   -- They are a wire for the line, one for each device, and one for the pulses,
-  pub declared : declared_in (words_in text) ≡ numbered 0 (codes "CEC" ∷ (names ++ codes "pulses" ∷ []))
+  pub declared : declared_in (words_in text) ≡ numbered_names 0 (codes "CEC" ∷ (names ++ codes "pulses" ∷ []))
   -- the first is the line of the whole run,
   pub line_is : (u : ℕ) → wire_line line u ≡ line_of (run_wave (map (λ r. r.outcome) rounds)) u
   -- and each of the others is low where its device, or the pulses, pull in some round.
@@ -45,7 +45,7 @@ abbrev pub TextsHaveDrives : Type 0
 TextsHaveDrives = (topology script : List ℕ) (plan : Plan) (course : Course) (edid : Option Edid) → IsAccepted topology script plan course → IsRoot plan.edid edid
     → (text : List ℕ) × (totals : Totals) × IsDrivesOf topology script text totals
 
--- And each of theirs tells the drives of their run.
+-- And each of theirs reports the drives of their run.
 abbrev pub DumpsTellDrives : Type 0
 DumpsTellDrives = (topology script text : List ℕ) (totals : Totals) → (p : IsDrivesOf topology script text totals)
     → TellsDrives (names_in p.plan.tree) (rounds_of topology script text totals p) text

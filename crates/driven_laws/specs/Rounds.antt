@@ -1,4 +1,4 @@
--- The rounds of a run of which a dump tells who drives the line (own).
+-- The rounds of a run of which a dump reports who drives the line (own).
 use Rattle.std.specs.Prelude.{◌≡◌, ℕ, zero, suc, true, List, [], ◌∷◌, ◌++◌, map, All}
 use Rattle.cec_wave.specs.declared.Stretch.{Stretch}
 use Rattle.cec_wave.specs.Line.{IsWave}
@@ -9,7 +9,7 @@ use Rattle.cec_wire.specs.Contend.{AreFrames}
 use Rattle.cec_wire.specs.Lasting.{is_begun}
 use Rattle.cec_wire.specs.Round.{IsRound}
 use Rattle.cec_drives.specs.Stretches.{drives_of}
-use Rattle.cec_net.specs.State.{started}
+use Rattle.cec_net.specs.State.{first_net}
 use Rattle.cec_net.specs.Step.{seats_of}
 use Rattle.cec_run.specs.declared.run.Totals.{Totals}
 use Rattle.cec_run.specs.declared.run.Turn.{Turn}
@@ -41,10 +41,10 @@ abbrev pub rounds_in : (end turns : ℕ) (c : Config) (line text : List ℕ) (d 
 rounds_in end zero c line text d l = []
 rounds_in end (suc turns) c line text d l = rounds_by (turn_at end c) c l.1 l.3 l.0 l.5 ++ rounds_in end turns l.0 l.2 l.4 d l.6
 
--- the rounds of the run whose drives a text tells, in order
+-- the rounds of the run whose drives a text reports, in order
 abbrev pub rounds_of : (topology script text : List ℕ) (totals : Totals) → IsDrivesOf topology script text totals → List Laid
 rounds_of topology script text totals p =
-    rounds_in p.course.end p.driven.run.turns (start (started p.plan.tree p.course.pulses) p.course.events) p.driven.run.line p.driven.run.body p.driven.run.at_end p.driven.run.drives
+    rounds_in p.course.end p.driven.run.turns (start (first_net p.plan.tree p.course.pulses) p.course.events) p.driven.run.line p.driven.run.body p.driven.run.at_end p.driven.run.drives
 
 -- it is one of which `drives_are_the_line` of drive_laws speaks: its seats send frames, pulses are sparse, its line is in order and
 -- is that of a round, and somebody pulls at once
@@ -59,7 +59,7 @@ pub record IsRuled (r : Laid) : Type 0 where
 abbrev pub RoundsAreRuled : Type 0
 RoundsAreRuled = (topology script text : List ℕ) (totals : Totals) → (p : IsDrivesOf topology script text totals) → All IsRuled (rounds_of topology script text totals p)
 
--- And these are the rounds that the trace tells, in order.
+-- And these are the rounds that the trace reports, in order.
 abbrev pub RoundsAreTheTraces : Type 0
 RoundsAreTheTraces = (topology script x y : List ℕ) (s t : Totals) → (p : IsTraceOf topology script x s) → (q : IsDrivesOf topology script y t)
     → (s ≡ t) × (rounds_of_trace topology script x s p ≡ map (λ r. r.outcome) (rounds_of topology script y t q))

@@ -1,4 +1,4 @@
-//! Laws of the dumps that tell who drives the line of a run.
+//! Laws of the dumps that report who drives the line of a run.
 ghost use Rattle.driven_laws.specs.Rounds.{RoundsAreRuled, RoundsAreTheTraces};
 ghost use Rattle.driven_laws.specs.Dumps.{DumpsAreReadAsLines, DumpsTellDrives, TextsHaveDrives};
 
@@ -7,7 +7,7 @@ pub fn rounds_are_ruled()
     ensures { RoundsAreRuled }
 {}
 
-/// The rounds whose drives are told are those that the trace of the same texts tells, in order.
+/// The rounds whose drives are told are those that the trace of the same texts reports, in order.
 pub fn rounds_are_the_traces()
     ensures { RoundsAreTheTraces }
 {}
@@ -17,7 +17,7 @@ pub fn texts_have_drives()
     ensures { TextsHaveDrives }
 {}
 
-/// The dump of a run and of who drives its line tells at every microsecond a line that is low exactly where one of the wires
+/// The dump of a run and of who drives its line reports at every microsecond a line that is low exactly where one of the wires
 /// below it is low.
 pub fn dumps_tell_drives()
     ensures { DumpsTellDrives }

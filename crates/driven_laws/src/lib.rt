@@ -1,4 +1,4 @@
-//! Laws: the dump of a run and of who drives its line tells a line that is low exactly where somebody pulls it.
+//! Laws: the dump of a run and of who drives its line reports a line that is low exactly where somebody pulls it.
 #![tactic(auto)]
 
 mod laws;

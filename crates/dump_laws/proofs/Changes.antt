@@ -1,4 +1,4 @@
--- The changes that a dump's words tell of one of its wires.
+-- The changes that a dump's words indicate one of its wires.
 use Rattle.std.proofs.Common.{◌≡◌, ℕ, zero, suc, ◌+◌, ◌^◌, ◌<◌, ◌≤◌, ◌&&◌, ◌||◌, Bool, true, false, nat_lt, if◌then◌else◌, List, [], ◌∷◌, ◌++◌, refl, sym, ap, ◌∙◌, arith, append_assoc, append-nil}
 use Rattle.std.specs.List.{flat_map, list_any, range_with_len}
 use Rattle.std.specs.Str.{bytes_eq}
@@ -14,7 +14,7 @@ use Rattle.dump_laws.specs.Dumps.{AreSpans, Span, wire_at}
 use Rattle.dump_laws.proofs.Levels.{change_by, micro, own_change, own_changes, span_changes}
 use Rattle.dump_laws.proofs.Words.{change_word, change_words, instant_words, instant_words_by, other_id, own_id, time_words, value_word, value_words, words_instant}
 
--- what words tell of the wire of a number
+-- what words report of the wire of a number
 abbrev pub told : ℕ → ℕ → List (List ℕ) → List Change
 told k tick words = changes_in (id_of k ∷ []) tick section.Free words
 
@@ -130,7 +130,7 @@ spans_told k from end (s ∷ ss) text cs h low rest tick =
     ∙ wires_told k s.wires s.from s.count (spans_text ss ++ text) (span_changes k ss ++ cs) (omega (arith, by, low)) (spans_told k (s.from + s.count) end ss text cs h.2 low rest) tick
     ∙ sym (append_assoc (own_changes (line_of (wire_at k s.wires)) s.from s.count) (span_changes k ss) cs)
 
--- behind the last time nothing comes
+-- after the last time nothing comes
 last_told : (k end : ℕ) → end ≤ 2000000000000 → Tells k (words_in (last end)) []
 last_told k end low tick = ap (told k tick) (time_words end [] (omega (arith, low)))
 

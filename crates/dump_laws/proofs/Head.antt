@@ -8,7 +8,7 @@ use Rattle.cec_signal.proofs.Texts.{Lacks, more_lack, none_lack, shown}
 use Rattle.cec_vcd.specs.Dump.{is_end, is_space, parts_of}
 use Rattle.cec_vcd.specs.Wire.{is_some_word, wire_from, wire_in, words_in}
 use Rattle.cec_wires.specs.Wires.{closing, head, high_at_first, id_of, opening, variable, variables}
-use Rattle.dump_laws.specs.Dumps.{declared_from, declared_in, is_word, numbered}
+use Rattle.dump_laws.specs.Dumps.{declared_from, declared_in, is_word, numbered_names}
 use Rattle.dump_laws.proofs.Levels.{micro}
 use Rattle.dump_laws.proofs.Words.{id_end, id_plain, id_space, line_words, shown_words, words_before}
 
@@ -101,7 +101,7 @@ words_variables number (name ∷ names) rest h =
     ∙ ap (λ ws. variable_words number name ++ ws) (words_variables (number + 1) names rest (λ k x l. h (suc k) x (omega arith)))
     ∙ sym (append_assoc (variable_words number name) (variables_words (number + 1) names) (words_in rest))
 
--- what stands behind the definitions: each wire is high at first
+-- what stands after the definitions: each wire is high at first
 abbrev pub high_text : ℕ → List ℕ → List ℕ
 high_text count rest = codes "#0\n$dumpvars\n" ++ (flat_map high_at_first (range_with_len 0 (count + 2)) ++ (codes "$end\n" ++ rest))
 
@@ -215,13 +215,13 @@ variable_declared : (number : ℕ) (name : List ℕ) (words : List (List ℕ)) �
     → declared_from None (variable_words number name ++ words) ≡ record { id = id_of number ∷ []; name = name } ∷ declared_from None words
 variable_declared number name words h = rw (id_end number, h) refl
 
-last_declared : (count : ℕ) (rest : List ℕ) (number : ℕ) → number ≡ count + 1 → declared_from None (closing_words count rest) ≡ numbered number (codes "pulses" ∷ [])
+last_declared : (count : ℕ) (rest : List ℕ) (number : ℕ) → number ≡ count + 1 → declared_from None (closing_words count rest) ≡ numbered_names number (codes "pulses" ∷ [])
 last_declared count rest number e =
     variable_declared (count + 1) (codes "pulses") (codes "$upscope" ∷ codes "$end" ∷ codes "$enddefinitions" ∷ codes "$end" ∷ words_in (high_text count rest)) refl
     ∙ ap (λ n. record { id = id_of n ∷ []; name = codes "pulses" } ∷ []) (sym e)
 
 variables_declared : (count number : ℕ) (names : List (List ℕ)) (rest : List ℕ) → number + length names ≡ count + 1 → All (λ name. is_word name ≡ true) names
-    → declared_from None (variables_words number names ++ closing_words count rest) ≡ numbered number (names ++ codes "pulses" ∷ [])
+    → declared_from None (variables_words number names ++ closing_words count rest) ≡ numbered_names number (names ++ codes "pulses" ∷ [])
 variables_declared count number [] rest e h = last_declared count rest number (omega (arith, e))
 variables_declared count number (name ∷ names) rest e h =
     ap (declared_from None) (append_assoc (variable_words number name) (variables_words (number + 1) names) (closing_words count rest))
@@ -229,7 +229,7 @@ variables_declared count number (name ∷ names) rest e h =
     ∙ ap (λ ds. record { id = id_of number ∷ []; name = name } ∷ ds) (variables_declared count (number + 1) names rest (omega (arith, e)) (λ k x l. h (suc k) x (omega arith)))
 
 pub head_declared : (names : List (List ℕ)) (rest : List ℕ) → All (λ name. is_word name ≡ true) names
-    → declared_in (words_in (head names ++ rest)) ≡ numbered 0 (codes "CEC" ∷ (names ++ codes "pulses" ∷ []))
+    → declared_in (words_in (head names ++ rest)) ≡ numbered_names 0 (codes "CEC" ∷ (names ++ codes "pulses" ∷ []))
 head_declared names rest h =
     ap declared_in (words_head names rest h)
     ∙ ap (λ ds. record { id = 33 ∷ []; name = codes "CEC" } ∷ ds) (variables_declared (length names) 1 names rest (omega arith) h)

@@ -3,9 +3,9 @@ use Rattle.std.proofs.Common.{◌≡◌, ℕ, suc, ◌+◌, ◌≤◌, ◌==◌,
 use Rattle.std.specs.List.{flat_map, list_all, range_with_len}
 use Rattle.std.specs.Str.{bytes_eq}
 use Rattle.cec_signal.specs.Edges.{Captured}
-use Rattle.cec_signal.specs.Track.{begun as line_begun}
+use Rattle.cec_signal.specs.Track.{first_track as line_begun}
 use Rattle.cec_signal.proofs.Texts.{shown}
-use Rattle.cec_vcd.specs.Dump.{State, begun, edges_in, parts_of, words_passed}
+use Rattle.cec_vcd.specs.Dump.{State, first_state, edges_in, parts_of, words_passed}
 use Rattle.cec_vcd.specs.Text.{last}
 use Rattle.cec_vcd.specs.Wire.{Wire, wire_line}
 use Rattle.cec_vcd.specs.declared.scale.Scale.{Scale as ScaleOf}
@@ -20,7 +20,7 @@ use Rattle.dump_laws.proofs.Whole.{dumps_tell_their_wires}
 use Rattle.dump_laws.proofs.Words.{id_end}
 use Rattle.dump_laws.proofs.Reading.{AllEnd, Reads, highs_read, line_ends, spans_read, stood}
 
--- a line that is written out, and tells no edge
+-- a line that is written out, and reports no edge
 told_ends : (end : ℕ) (line rest : List ℕ) (s t : State) → list_all (λ c. not (c == 10)) line ≡ true
     → ((number : ℕ) → words_passed number (parts_of line) s ≡ Ok (record { edges = []; state = t })) → AllEnd end rest t → AllEnd end (line ++ 10 ∷ rest) s
 told_ends end line rest s t all h more = line_ends end line rest s t [] (shown (λ c. c == 10) line all) h more
@@ -71,7 +71,7 @@ variables_end end asked candidate place (name ∷ names) rest h more =
     (variable_ends end asked candidate place name (variables (place + 1) names ++ rest) (name_of name (h 0 name (omega arith)))
     (variables_end end asked (id_of place ∷ []) (place + 1) names rest (λ k x l. h (suc k) x (omega arith)) more))
 
--- ---- behind them
+-- ---- after them
 
 high_ends : (end : ℕ) (asked candidate : List ℕ) (count : ℕ) (rest : List ℕ) → Reads asked candidate end 0 rest → AllEnd end (high_text count rest) (stood asked candidate line_begun)
 high_ends end asked candidate count rest more =
@@ -103,22 +103,22 @@ closing_ends end asked candidate count rest more =
 abbrev Finds : List ℕ → Type 0
 Finds asked = (number : ℕ) → words_passed number (parts_of (codes "$var wire 1 ! CEC $end")) (opened asked (Some micro)) ≡ Ok (record { edges = []; state = declared asked (33 ∷ []) })
 
-opening_ends : (end : ℕ) (asked rest : List ℕ) → Finds asked → AllEnd end rest (declared asked (33 ∷ [])) → AllEnd end (opening ++ rest) (begun asked)
+opening_ends : (end : ℕ) (asked rest : List ℕ) → Finds asked → AllEnd end rest (declared asked (33 ∷ [])) → AllEnd end (opening ++ rest) (first_state asked)
 opening_ends end asked rest finds more =
     let t5 = codes "$scope module devices $end" ++ 10 ∷ rest in
     let t4 = codes "$var wire 1 ! CEC $end" ++ 10 ∷ t5 in
     let t3 = codes "$scope module hdmi $end" ++ 10 ∷ t4 in
     let t2 = codes "$timescale 1 us $end" ++ 10 ∷ t3 in
-    told_ends end (codes "$version hdminet $end") t2 (begun asked) (begun asked) refl (λ number. refl)
-    (told_ends end (codes "$timescale 1 us $end") t3 (begun asked) (opened asked (Some micro)) refl (λ number. refl)
+    told_ends end (codes "$version hdminet $end") t2 (first_state asked) (first_state asked) refl (λ number. refl)
+    (told_ends end (codes "$timescale 1 us $end") t3 (first_state asked) (opened asked (Some micro)) refl (λ number. refl)
     (told_ends end (codes "$scope module hdmi $end") t4 (opened asked (Some micro)) (opened asked (Some micro)) refl (λ number. refl)
     (told_ends end (codes "$var wire 1 ! CEC $end") t5 (opened asked (Some micro)) (declared asked (33 ∷ [])) refl finds
     (told_ends end (codes "$scope module devices $end") rest (declared asked (33 ∷ [])) (declared asked (33 ∷ [])) refl (λ number. refl) more))))
 
 head_ends : (end : ℕ) (asked : List ℕ) (names : List (List ℕ)) (rest : List ℕ) → Finds asked → All (λ name. is_word name ≡ true) names
-    → Reads asked (id_of (length names + 1) ∷ []) end 0 rest → AllEnd end (head names ++ rest) (begun asked)
+    → Reads asked (id_of (length names + 1) ∷ []) end 0 rest → AllEnd end (head names ++ rest) (first_state asked)
 head_ends end asked names rest finds words more =
-    subst (λ (t : List ℕ). AllEnd end t (begun asked)) (sym (append_assoc opening (variables 1 names ++ closing (length names)) rest))
+    subst (λ (t : List ℕ). AllEnd end t (first_state asked)) (sym (append_assoc opening (variables 1 names ++ closing (length names)) rest))
     (opening_ends end asked ((variables 1 names ++ closing (length names)) ++ rest) finds
     (subst (λ (t : List ℕ). AllEnd end t (declared asked (33 ∷ []))) (sym (append_assoc (variables 1 names) (closing (length names)) rest))
     (variables_end end asked (33 ∷ []) 1 names (closing (length names) ++ rest) words (λ last. closing_ends end asked last (length names) rest more))))

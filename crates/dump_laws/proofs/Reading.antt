@@ -8,13 +8,13 @@ use Rattle.std.proofs.lemmas.Bool.Decides.{nat_tests}
 use Rattle.cec_wave.specs.declared.Edge.{Edge}
 use Rattle.cec_wave.specs.declared.Stretch.{Stretch}
 use Rattle.cec_wave.specs.Line.{line_of}
-use Rattle.cec_words.specs.Lines.{lines_of}
-use Rattle.cec_signal.specs.Track.{Moved, differ, last_edge, moved, with_level}
+use Rattle.hdmi_core.specs.Lines.{lines_of}
+use Rattle.cec_signal.specs.Track.{Moved, differ, last_edge, track_move, with_level}
 use Rattle.cec_signal.specs.declared.track.Track.{Track}
 use Rattle.cec_signal.proofs.Numbers.{number_again, some_length}
 use Rattle.cec_signal.proofs.Texts.{Lacks, line_before}
 use Rattle.cec_vcd.specs.Scale.{instant_of}
-use Rattle.cec_vcd.specs.Dump.{State, kept, lines_passed, parts_of, timed, timed_by, told_by, took, words_passed}
+use Rattle.cec_vcd.specs.Dump.{State, no_edge, lines_passed, parts_of, after_time, timed_by, told_by, took, words_passed}
 use Rattle.cec_vcd.specs.Text.{last}
 use Rattle.cec_vcd.specs.declared.reader.Section.TheVariants as section
 use Rattle.cec_vcd.proofs.Passing.{before, line_told, word_passed}
@@ -70,7 +70,7 @@ Reads asked candidate end at text = (track : Track) → track.at ≤ at → trac
 
 -- a value
 value_taken : (asked candidate : List ℕ) (track : Track) (number : ℕ) (low own : Bool) → bytes_eq (id_of number ∷ []) (33 ∷ []) ≡ own
-    → took (value_word low number) (stood asked candidate track) ≡ kept (stood asked candidate (if own then with_level low track else track))
+    → took (value_word low number) (stood asked candidate track) ≡ no_edge (stood asked candidate (if own then with_level low track else track))
 value_taken asked candidate track number true true e = rw e refl
 value_taken asked candidate track number true false e = rw e refl
 value_taken asked candidate track number false true e = rw e refl
@@ -89,13 +89,13 @@ value_reads asked candidate end at number low rest more track by early =
     (value_taken asked candidate track number low own refl) (more next (omega (arith, same, by)) (omega (arith, same, early)))
 
 -- a time
-came : (t : ℕ) (track : Track) → track.at ≤ t → (m : Moved) × (moved t track ≡ Some m) × (m.track.at ≡ t)
+came : (t : ℕ) (track : Track) → track.at ≤ t → (m : Moved) × (track_move t track ≡ Some m) × (m.track.at ≡ t)
 came t track after = by (nat_lt track.at t && differ track.was_low track.is_low) refl
   where
     late : nat_lt t track.at ≡ false
     late = grind (arith, nat_tests)
 
-    by : (b : Bool) → (nat_lt track.at t && differ track.was_low track.is_low) ≡ b → (m : Moved) × (moved t track ≡ Some m) × (m.track.at ≡ t)
+    by : (b : Bool) → (nat_lt track.at t && differ track.was_low track.is_low) ≡ b → (m : Moved) × (track_move t track ≡ Some m) × (m.track.at ≡ t)
     by true e = (record { track = record track { at = t; was_low = track.is_low }; edge = Some (record { at = track.at; low = track.is_low }) }, rw (late, e) refl, refl)
     by false e = (record { track = record track { at = t }; edge = None }, rw (late, e) refl, refl)
 
@@ -105,9 +105,9 @@ instant_again t low =
     let small : nat_le t 2000000000000 ≡ true = grind (arith, nat_tests) in
     rw (number_again t (omega arith)) (rw (other, small) refl)
 
-time_taken : (asked candidate : List ℕ) (track : Track) (t : ℕ) → t ≤ 2000000000000 → took (time_line t) (stood asked candidate track) ≡ timed (Some t) (stood asked candidate track)
+time_taken : (asked candidate : List ℕ) (track : Track) (t : ℕ) → t ≤ 2000000000000 → took (time_line t) (stood asked candidate track) ≡ after_time (Some t) (stood asked candidate track)
 time_taken asked candidate track t low =
-    rw (some_length (length (decimal t))) (ap (λ i. timed i (stood asked candidate track)) (instant_again t low))
+    rw (some_length (length (decimal t))) (ap (λ i. after_time i (stood asked candidate track)) (instant_again t low))
 
 time_reads : (asked candidate : List ℕ) (end t : ℕ) (rest : List ℕ) (track : Track) → track.at ≤ t → t ≤ end → end ≤ 2000000000000
     → ((next : Track) → next.at ≡ t → AllEnd end rest (stood asked candidate next)) → AllEnd end (time_line t ++ 10 ∷ rest) (stood asked candidate track)

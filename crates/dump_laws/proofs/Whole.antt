@@ -1,4 +1,4 @@
--- A dump of several wires tells each of them.
+-- A dump of several wires reports each of them.
 use Rattle.std.proofs.Common.{◌≡◌, ℕ, ◌+◌, ◌≤◌, false, List, [], ◌∷◌, ◌++◌, length, codes, refl, ap, ◌∙◌}
 use Rattle.std.specs.List.{flat_map, range_with_len}
 use Rattle.cec_vcd.specs.Text.{last}
@@ -10,7 +10,7 @@ use Rattle.dump_laws.proofs.Words.{shown_words}
 use Rattle.dump_laws.proofs.Changes.{body_told, highs_told, spans_text, told}
 use Rattle.dump_laws.proofs.Head.{head_declared, head_wire, high_text}
 
--- ---- behind the definitions
+-- ---- after the definitions
 
 begun_told : (k : ℕ) (rest : List ℕ) → told k 0 (words_in (codes "#0\n$dumpvars\n" ++ rest)) ≡ told k 0 (words_in rest)
 begun_told k rest =

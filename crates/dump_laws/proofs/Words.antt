@@ -9,7 +9,7 @@ use Rattle.std.proofs.lemmas.List.Splits.{slice_split_none}
 use Rattle.std.proofs.lemmas.Slice.Eq.{bytes_eq-Decides}
 use Rattle.cec_wave.specs.declared.Stretch.{Stretch}
 use Rattle.cec_wave.specs.Line.{line_of}
-use Rattle.cec_words.specs.Lines.{lines_of}
+use Rattle.hdmi_core.specs.Lines.{lines_of}
 use Rattle.cec_signal.proofs.Numbers.{some_length}
 use Rattle.cec_signal.proofs.Texts.{Lacks, line_before, more_lack, none_lack, shown}
 use Rattle.cec_vcd.specs.Dump.{is_end, is_space, parts_of}

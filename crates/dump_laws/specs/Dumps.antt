@@ -1,4 +1,4 @@
--- A dump of several wires (IEEE 1364-2005, 18): what it declares, and that it tells each of its wires (own).
+-- A dump of several wires (IEEE 1364-2005, 18): what it declares, and that it reports each of its wires (own).
 use Rattle.std.specs.Prelude.{◌≡◌, ℕ, zero, suc, ◌+◌, ◌<◌, ◌≤◌, ◌==◌, ◌&&◌, ◌||◌, not, Bool, true, false, if◌then◌else◌, List, [], ◌∷◌, ◌++◌, length, slice_index, codes, Option, Some, None, Ok, All, ◌⊎◌}
 use Rattle.std.specs.List.{flat_map, list_all, list_any}
 use Rattle.std.specs.Option.{option_to_list}
@@ -78,9 +78,9 @@ abbrev pub is_word : List ℕ → Bool
 is_word name = not (length name == 0) && (not (is_end name) && list_all (λ b. not (is_space b || (b == 10))) name)
 
 -- the names by their numbers
-abbrev pub numbered : ℕ → List (List ℕ) → List Declared
-numbered number [] = []
-numbered number (name ∷ names) = record { id = id_of number ∷ []; name = name } ∷ numbered (number + 1) names
+abbrev pub numbered_names : ℕ → List (List ℕ) → List Declared
+numbered_names number [] = []
+numbered_names number (name ∷ names) = record { id = id_of number ∷ []; name = name } ∷ numbered_names (number + 1) names
 
 -- the wire of a number is low where some span has it low
 abbrev pub level_at : ℕ → List Span → ℕ → Bool
@@ -92,7 +92,7 @@ pub record TellsWires (names : List (List ℕ)) (spans : List Span) (text : List
   pub line : Wire
   pub first : wire_in [] (words_in text) ≡ Some line
   pub id : line.id ≡ id_of 0 ∷ []
-  pub declared : declared_in (words_in text) ≡ numbered 0 (codes "CEC" ∷ (names ++ codes "pulses" ∷ []))
+  pub declared : declared_in (words_in text) ≡ numbered_names 0 (codes "CEC" ∷ (names ++ codes "pulses" ∷ []))
   pub levels : (number u : ℕ) → wire_line (record line { id = id_of number ∷ [] }) u ≡ level_at number spans u
 
 abbrev pub DumpsTellTheirWires : Type 0

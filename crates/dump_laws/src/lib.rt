@@ -1,4 +1,4 @@
-//! Laws: a dump of several wires tells each of its wires.
+//! Laws: a dump of several wires reports each of its wires.
 #![tactic(auto)]
 
 mod laws;

@@ -605,14 +605,14 @@ fn senders(devices: &[Device], seen: &Read) -> (ArrayVec<usize, 15>, ArrayVec<Lo
     (survivors, losers)
 }
 
-// What was told of the seats is what was read.
+// What was reported of the seats is what was read.
 fn has_senders(outcome: &Outcome, devices: &[Device], seen: &Read) -> bool {
     let (survivors, losers) = senders(devices, seen);
     outcome.survivors.as_slice() == survivors.as_slice()
         && outcome.losers.as_slice() == losers.as_slice()
 }
 
-// What was told of the reading is what was read.
+// What was reported of the reading is what was read.
 fn has_reading(outcome: &Outcome, seen: &Read) -> bool {
     outcome.reading.begin == BEGIN
         && outcome.reading.at == on_wire(seen.end.at)
@@ -650,7 +650,7 @@ fn driven(
     run(rt, alloc, wire, &handed(pulses))
 }
 
-// What was told is right.
+// What was reported is right.
 fn expect(rt: &impl Abort, right: bool, what: &str) {
     assert!(rt; right, "{what}");
 }

@@ -44,7 +44,7 @@ fn frame_of(words: &str) -> Option<Frame> {
     Frame::new(&bytes).ok()
 }
 
-// A seat that is plugged: the addresses that it holds, with a plus between, and what it sends behind a colon.
+// A seat that is plugged: the addresses that it holds, with a plus between, and what it sends after a colon.
 fn seat_of(word: &str) -> Option<Seat> {
     let (held, sends) = match word.split_once(':') {
         None => (word, None),

@@ -1,4 +1,4 @@
-//! What is told of bytes and texts, a case each.
+//! What is reported of bytes and texts, a case each.
 use crate::bases::{self, base_told, letters_told, timing_told};
 use crate::blocks::{self, edid_told, parts_told, passed_on_told};
 use crate::extensions::{self, address_told, addressed_told, heard_told};
@@ -8,7 +8,7 @@ use crate::texts::{self, change_told, fronts_told, refusals_told, text_told};
 use hdmi_blocks::AudioFrom;
 use std::process::Abort;
 
-/// What is told of blocks that are read, or passed on.
+/// What is reported of blocks that are read, or passed on.
 fn blocks_told(rt: &(impl Abort + AllocGlobal), verb: &str, words: &str) -> String {
     match verb {
         "base" => base_told(rt, words),
@@ -25,7 +25,7 @@ fn blocks_told(rt: &(impl Abort + AllocGlobal), verb: &str, words: &str) -> Stri
     }
 }
 
-/// What is told of texts, and otherwise of blocks.
+/// What is reported of texts, and otherwise of blocks.
 fn told(rt: &(impl Abort + AllocGlobal), asked: &str) -> String {
     let (verb, words) = asked.split_once(' ').expect(rt, asked);
     match verb {
@@ -38,7 +38,7 @@ fn told(rt: &(impl Abort + AllocGlobal), asked: &str) -> String {
     }
 }
 
-/// Asserts what is told in each case.
+/// Asserts what is reported in each case.
 fn are_told(rt: &(impl Abort + AllocGlobal), cases: &str) {
     for case in cases.lines() {
         let (asked, want) = parted(rt, case);

@@ -3,7 +3,7 @@ use crate::samples::{block_of, owned};
 use hdmi_edid::{Base, Descriptor, Text, Timing, read_base, write_base};
 use std::process::Abort;
 
-/// Base blocks, and what is told of them: why they are refused; or the maker, the product, the serial number, the year, a part
+/// Base blocks, and what is reported of them: why they are refused; or the maker, the product, the serial number, the year, a part
 /// of red and one of white, the count of extensions, and whether a timing and a name come first. The last has a right checksum
 /// over a wrong version.
 ///

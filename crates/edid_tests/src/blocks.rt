@@ -7,8 +7,8 @@ use hdmi_cta::{Ext, write_ext};
 use hdmi_edid::{Base, write_base};
 use std::process::Abort;
 
-/// How many bytes of which blocks, and what is told of them: why they are refused, or the address of an EDID that returns them.
-/// Then what is told of their parts: how many bytes the parts have, which are the same, or why they are refused and how many
+/// How many bytes of which blocks, and what is reported of them: why they are refused, or the address of an EDID that returns them.
+/// Then what is reported of their parts: how many bytes the parts have, which are the same, or why they are refused and how many
 /// extensions are left then. Last, what a port with the address 1.0.0.0 passes on below a television, and below an amplifier.
 pub(crate) const CASES: &str = "\
 edid 127 tv..0151 speaking..e8 => length
@@ -56,7 +56,7 @@ pub(crate) fn edid_told(rt: &(impl Abort + AllocGlobal), words: &str) -> String 
     }
 }
 
-/// The bytes of a base block and of the extensions behind it.
+/// The bytes of a base block and of the extensions after it.
 fn bytes_of_parts(rt: &(impl Abort + AllocGlobal), base: &Base, extensions: &[Ext]) -> Vec<u8> {
     let mut bytes = Vec::new(rt.alloc());
     bytes

@@ -46,7 +46,7 @@ pub(crate) fn addressed_told(rt: &(impl Abort + AllocGlobal), words: &str) -> St
     hex::encode(rt.alloc(), write_ext(&passed).as_slice()).expect(rt, "hex digits")
 }
 
-/// The address that the first HDMI block of an extension tells.
+/// The address that the first HDMI block of an extension reports.
 pub(crate) fn address_told(rt: &(impl Abort + AllocGlobal), words: &str) -> String {
     let ext = read_ext(&block_of(rt, words)).expect(rt, "an extension");
     format!(in rt.alloc(); "{:?}", hdmi_address(&ext)).expect(rt, "a text")

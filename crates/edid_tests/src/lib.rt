@@ -14,6 +14,8 @@ mod extensions;
 #[cfg(test)]
 mod neighbours;
 #[cfg(test)]
+mod physical_addresses;
+#[cfg(test)]
 mod samples;
 #[cfg(test)]
 mod sinks;

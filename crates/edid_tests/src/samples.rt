@@ -101,7 +101,7 @@ fn wanted(rt: &(impl Abort + AllocGlobal), words: &str) -> String {
     }
 }
 
-/// Asserts that what is told of a case is what its text wants.
+/// Asserts that what is reported of a case is what its text wants.
 pub(crate) fn comes_out(rt: &(impl Abort + AllocGlobal), told: String, want: &str, case: &str) {
     let want = wanted(rt, want);
     holds(rt, told.as_str() == want.as_str(), case);

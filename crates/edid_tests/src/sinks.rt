@@ -64,7 +64,7 @@ fn port_line(bytes: &[u8; 512]) -> [Piece<'_>; 8] {
     ]
 }
 
-/// What is told of one line after another, and the writer's calls and bytes.
+/// What is reported of one line after another, and the writer's calls and bytes.
 fn both_written(first: &[Piece], second: &[Piece]) -> Result<[u128; 4], WriteFault> {
     let mut writer = Counted::new(9, 10_000);
     let mut out = Writes::new(&mut writer);
@@ -86,7 +86,7 @@ fn calls_the_writer_once_a_line(rt: HostRuntime) {
     holds(&rt, long == Ok([1_062, 1_062, 2, 2_124]), "a port's line");
 }
 
-/// What is told of a line that is written in hundreds of bytes, one call of which fails, and how often the writer is called.
+/// What is reported of a line that is written in hundreds of bytes, one call of which fails, and how often the writer is called.
 fn written(line: &[Piece], fails_at: u32) -> (Result<u128, WriteFault>, u32) {
     let mut writer = Counted::new(fails_at, 100);
     let told = write_line(&mut Writes::new(&mut writer), line);

@@ -15,7 +15,7 @@ const EXTENSION_TEXT: &str =
     "cta f1\nvideo 900403\naudio 090707\nspeakers 010000\nhdmi 0.0.0.0 -\ntail -\n";
 
 /// A part of the example's text, what stands in its place, with `;` for each line feed, and why the text is refused then; and
-/// how the refusals of a line are told.
+/// how the refusals of a line are reported.
 pub(crate) const CHANGES: &str = "\
 change made 10 2011 => made 10 2300 => field 5
 change made 10 2011 => made 10 2011 0 => syntax 5

@@ -1,7 +1,7 @@
 -- What a short audio descriptor means (CTA-861-G, section 7.5.2).
 use Rattle.std.specs.Prelude.{ℕ, ◌+◌, ◌*◌, ◌/◌, ◌%◌, ◌==◌, ◌&&◌, ◌||◌, nat_le, Bool, if◌then◌else◌, List, [], ◌∷◌, ◌++◌, codes}
 use Rattle.hex.specs.Hex.{encode_lower}
-use Rattle.hdmi_meaning.specs.Notes.{Row, row, between, counted, spaced_words}
+use Rattle.hdmi_meaning.specs.Notes.{Row, row, text_between, counted_text, spaced_words}
 
 -- byte 1, bits 6 to 3
 abbrev pub format_number : ℕ → ℕ
@@ -52,11 +52,11 @@ abbrev pub channel_count : ℕ → ℕ → ℕ → ℕ
 channel_count first second third =
     if (format_number first == 15) && (extension_number third == 13) then second / 128 * 16 + first / 128 * 8 + first % 8 + 1 else first % 8 + 1
 
--- MPEG-H 3D and AC-4 tell of no channels
+-- MPEG-H 3D and AC-4 indicate no channels
 abbrev pub channels_text : ℕ → ℕ → ℕ → List ℕ
 channels_text first second third =
     if (format_number first == 15) && ((extension_number third == 11) || (extension_number third == 12)) then []
-    else codes ", " ++ counted (channel_count first second third) (codes " channel")
+    else codes ", " ++ counted_text (channel_count first second third) (codes " channel")
 
 -- ---- sampling rates: bits of byte 2
 
@@ -85,7 +85,7 @@ abbrev pub sizes_text : ℕ → List ℕ
 sizes_text third = if third % 8 == 0 then [] else codes ", " ++ (spaced_words size_rows third ++ codes "bits")
 
 abbrev pub bit_rate_text : ℕ → List ℕ
-bit_rate_text third = between (codes ", up to ") (8 * third) (codes " kbit/s")
+bit_rate_text third = text_between (codes ", up to ") (8 * third) (codes " kbit/s")
 
 abbrev pub other_text : ℕ → List ℕ
 other_text third = codes ", byte 3 is " ++ encode_lower (third ∷ [])

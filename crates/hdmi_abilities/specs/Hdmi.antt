@@ -2,7 +2,7 @@
 -- its physical address.
 use Rattle.std.specs.Prelude.{ℕ, ◌+◌, ◌-◌, ◌*◌, ◌/◌, ◌%◌, ◌==◌, ◌&&◌, ◌||◌, nat_le, Bool, if◌then◌else◌, List, [], ◌∷◌, ◌++◌, length, map, take, drop, slice_index, codes}
 use Rattle.std.specs.Fmt.{decimal}
-use Rattle.hdmi_meaning.specs.Notes.{Row, row, when, below, between, is_set, set_words, spaced_words, rest_words}
+use Rattle.hdmi_meaning.specs.Notes.{Row, row, when, below, text_between, is_set, set_words, spaced_words, rest_words}
 use Rattle.hdmi_meaning.specs.Videos.{code_text}
 
 -- ---- capabilities: bytes 6 to 8
@@ -14,16 +14,16 @@ depth_rows =
     row 32 (codes "36") ∷
     row 16 (codes "30") ∷ []
 
--- bit 3 tells that each is there in YCbCr 4:4:4 too
+-- bit 3 says that each is there in YCbCr 4:4:4 too
 abbrev pub also_text : ℕ → List ℕ
 also_text bits = if is_set bits 8 then codes "bits a pixel also in 4:4:4" else codes "bits a pixel"
 
 abbrev pub depth_text : ℕ → List ℕ
 depth_text bits = if bits / 16 % 8 == 0 then when (is_set bits 8) (codes "deep colour in 4:4:4") else codes ", " ++ (spaced_words depth_rows bits ++ also_text bits)
 
--- in units of 5 MHz; 0 tells nothing
+-- in units of 5 MHz; 0 reports nothing
 abbrev pub tmds_text : ℕ → List ℕ
-tmds_text clock = if clock == 0 then [] else between (codes ", TMDS up to ") (5 * clock) (codes " MHz")
+tmds_text clock = if clock == 0 then [] else text_between (codes ", TMDS up to ") (5 * clock) (codes " MHz")
 
 abbrev pub content_rows : List Row
 content_rows =
@@ -55,7 +55,7 @@ named_latency name n = name ++ latency_text n
 abbrev pub latency_words : List ℕ → List ℕ → List ℕ
 latency_words name p = named_latency name (slice_index p 0) ++ named_latency (codes ", audio latency") (slice_index p 1)
 
--- two bytes are there where a bit tells so and the block is long enough
+-- two bytes are there where a bit reports so and the block is long enough
 abbrev pub latency_meanings : Bool → List ℕ → List ℕ → List (List ℕ)
 latency_meanings told name p = if told && nat_le 2 (length p) then below (latency_words name p) else []
 
@@ -63,7 +63,7 @@ latency_meanings told name p = if told && nat_le 2 (length p) then below (latenc
 abbrev pub interlaced_place : ℕ → ℕ
 interlaced_place presence = 3 + 2 * (presence / 128)
 
--- where bit 5 of byte 8 tells of video
+-- where bit 5 of byte 8 indicates video
 abbrev pub video_place : ℕ → ℕ
 video_place presence = interlaced_place presence + 2 * (presence / 64 % 2)
 
@@ -75,7 +75,7 @@ same_code hdmi =
     if hdmi == 1 then 95 else if hdmi == 2 then 94 else if hdmi == 3 then 93 else if hdmi == 4 then 98 else 0
 
 abbrev pub hdmi_text : ℕ → List ℕ
-hdmi_text hdmi = between (codes "HDMI ") hdmi (codes ": ") ++ code_text (same_code hdmi)
+hdmi_text hdmi = text_between (codes "HDMI ") hdmi (codes ": ") ++ code_text (same_code hdmi)
 
 -- bits 4 and 3: what the sizes of the base block are
 abbrev pub image_text : ℕ → List ℕ
@@ -100,7 +100,7 @@ structure_rows =
     row 64 (codes "3D top and bottom") ∷
     row 256 (codes "3D side by side (half)") ∷ []
 
--- bits 6 and 5 tell that two bytes of structures are there
+-- bits 6 and 5 say that two bytes of structures are there
 abbrev pub has_structures : ℕ → List ℕ → Bool
 has_structures flags p = ((flags / 32 % 4 == 1) || (flags / 32 % 4 == 2)) && nat_le 2 (length p)
 

@@ -2,7 +2,7 @@
 ghost use Rattle.std.specs.Prelude.{◌≡◌, ◌≤◌, ◌+◌, ◌*◌, ◌++◌, length, map, flat_map, codes};
 ghost use Rattle.hex.specs.Hex.{encode_lower};
 ghost use Rattle.arrayvec.specs.ArrayVec.{array_vec_len};
-ghost use Rattle.hdmi_meaning.specs.Notes.{indented, spelled};
+ghost use Rattle.hdmi_meaning.specs.Notes.{own_line, row_in_code};
 ghost use Rattle.hdmi_abilities.specs.Audio.{format_number, extension_number, format_name, extension_name, audio_name, channel_count, channels_text, rate_rows, rates_text, size_rows, sizes_text, bit_rate_text, other_text, has_sizes, third_text, audio_text, audio_meanings};
 
 use arrayvec::ArrayVec;
@@ -14,7 +14,7 @@ use hdmi_meaning::{
 
 /// The format of linear PCM.
 const LINEAR_PCM: u8 = 1;
-/// The format that an extension tells.
+/// The format that an extension reports.
 const EXTENDED: u8 = 15;
 /// The extension of MPEG-H 3D audio.
 const MPEG_H: u8 = 11;
@@ -205,7 +205,7 @@ fn audio_note(first: u8, second: u8, third: u8) -> Note
 fn append_left(page: &mut Page, bytes: &[u8])
     requires few { length bytes.now ≤ 2 }
     requires room { array_vec_len page.old + 14 ≤ PAGE }
-    ensures { page.new.items ≡ page.old.items ++ indented (codes "in hex " ++ encode_lower bytes.now) }
+    ensures { page.new.items ≡ page.old.items ++ own_line (codes "in hex " ++ encode_lower bytes.now) }
 {
     let mut note = ArrayVec::new();
     append_named_hex(&mut note, b"in hex ", bytes);
@@ -216,7 +216,7 @@ fn append_left(page: &mut Page, bytes: &[u8])
 /// the sizes of its samples or its greatest bit rate (CTA-861-G, section 7.5.2).
 pub fn append_audio(page: &mut Page, payload: &[u8])
     requires { array_vec_len page.old + 166 * length payload.now ≤ PAGE }
-    ensures { page.new.items ≡ page.old.items ++ flat_map indented (audio_meanings payload.now) }
+    ensures { page.new.items ≡ page.old.items ++ flat_map own_line (audio_meanings payload.now) }
 {
     match payload {
         [first, second, third, rest @ ..] => {

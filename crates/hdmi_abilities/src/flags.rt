@@ -1,7 +1,7 @@
 //! What the flags of a CTA extension mean.
 ghost use Rattle.std.specs.Prelude.{◌≡◌, ◌≤◌, ◌+◌, ◌++◌, flat_map};
 ghost use Rattle.arrayvec.specs.ArrayVec.{array_vec_len};
-ghost use Rattle.hdmi_meaning.specs.Notes.{indented, set_words};
+ghost use Rattle.hdmi_meaning.specs.Notes.{own_line, set_words};
 ghost use Rattle.hdmi_abilities.specs.Flags.{flag_rows, flag_words, flag_meanings};
 
 use arrayvec::ArrayVec;
@@ -40,7 +40,7 @@ fn flag_note(flags: u8) -> Note
 #[tactic(auto, unfolding(crate::specs::Flags::flag_meanings))]
 pub fn append_flags(page: &mut Page, payload: &[u8])
     requires { array_vec_len page.old + 214 ≤ PAGE }
-    ensures { page.new.items ≡ page.old.items ++ flat_map indented (flag_meanings payload.now) }
+    ensures { page.new.items ≡ page.old.items ++ flat_map own_line (flag_meanings payload.now) }
 {
     append_words(page, flag_note(byte_at(payload, 0)).as_slice());
 }

@@ -1,7 +1,7 @@
 //! What an HDMI block, the vendor specific data block of HDMI (VSDB), means (HDMI 1.4, section 8.3.2).
 ghost use Rattle.std.specs.Prelude.{◌≡◌, ◌≤◌, ◌<◌, ◌+◌, ◌*◌, ◌++◌, length, drop, map, flat_map};
 ghost use Rattle.arrayvec.specs.ArrayVec.{array_vec_len};
-ghost use Rattle.hdmi_meaning.specs.Notes.{indented, when, set_words};
+ghost use Rattle.hdmi_meaning.specs.Notes.{own_line, when, set_words};
 ghost use Rattle.hdmi_abilities.specs.Hdmi.{depth_rows, also_text, depth_text, tmds_text, content_rows, capability_words, capability_meanings, latency_text, named_latency, latency_words, latency_meanings, interlaced_place, video_place, same_code, hdmi_text, image_text, video_words, structure_rows, structure_bits, has_structures, left_meanings, structure_line, structure_meanings, stereo_meanings, code_meanings, flag_part, code_part, stereo_part, video_meanings, behind_meanings, presence_of, plain_latencies, interlaced_latencies, video_part, hdmi_meanings};
 
 use arrayvec::ArrayVec;
@@ -135,7 +135,7 @@ fn capability_note(bits: u8, clock: u8, presence: u8) -> Note
 
 fn append_capabilities(page: &mut Page, bytes: &[u8])
     requires { array_vec_len page.old + 420 ≤ PAGE }
-    ensures items { page.new.items ≡ page.old.items ++ flat_map indented (capability_meanings bytes.now) }
+    ensures items { page.new.items ≡ page.old.items ++ flat_map own_line (capability_meanings bytes.now) }
     ensures len { array_vec_len page.new ≤ array_vec_len page.old + 420 }
 {
     let words = capability_note(byte_at(bytes, 0), byte_at(bytes, 1), byte_at(bytes, 2));
@@ -184,7 +184,7 @@ fn latency_note(name: &[u8], bytes: &[u8]) -> Note
 fn append_latencies(page: &mut Page, told: bool, name: &[u8], bytes: &[u8])
     requires short { length name.now ≤ 30 }
     requires room { array_vec_len page.old + 109 ≤ PAGE }
-    ensures items { page.new.items ≡ page.old.items ++ flat_map indented (latency_meanings told name.now bytes.now) }
+    ensures items { page.new.items ≡ page.old.items ++ flat_map own_line (latency_meanings told name.now bytes.now) }
     ensures len { array_vec_len page.new ≤ array_vec_len page.old + 109 }
 {
     if told && 2 <= bytes.len() {
@@ -216,7 +216,7 @@ fn hdmi_note(hdmi: u8) -> Note
 
 fn append_hdmi_codes(page: &mut Page, codes: &[u8])
     requires { array_vec_len page.old + 107 * length codes.now ≤ PAGE }
-    ensures items { page.new.items ≡ page.old.items ++ flat_map indented (map hdmi_text codes.now) }
+    ensures items { page.new.items ≡ page.old.items ++ flat_map own_line (map hdmi_text codes.now) }
     ensures len { array_vec_len page.new ≤ array_vec_len page.old + 107 * length codes.now }
 {
     if let [code, rest @ ..] = codes {
@@ -250,7 +250,7 @@ fn video_note(flags: u8) -> Note
 fn append_left(page: &mut Page, bytes: &[u8])
     requires few { length bytes.now ≤ 128 }
     requires room { array_vec_len page.old + 271 ≤ PAGE }
-    ensures { page.new.items ≡ page.old.items ++ flat_map indented (left_meanings bytes.now) }
+    ensures { page.new.items ≡ page.old.items ++ flat_map own_line (left_meanings bytes.now) }
 {
     let mut words: Note = ArrayVec::new();
     append_rest(&mut words, bytes);
@@ -282,7 +282,7 @@ fn structure_note(bytes: &[u8]) -> Note
 
 fn append_structure_line(page: &mut Page, bytes: &[u8])
     requires { array_vec_len page.old + 321 ≤ PAGE }
-    ensures items { page.new.items ≡ page.old.items ++ flat_map indented (structure_line bytes.now) }
+    ensures items { page.new.items ≡ page.old.items ++ flat_map own_line (structure_line bytes.now) }
     ensures len { array_vec_len page.new ≤ array_vec_len page.old + 321 }
 {
     append_words(page, structure_note(bytes).as_slice());
@@ -291,7 +291,7 @@ fn append_structure_line(page: &mut Page, bytes: &[u8])
 fn append_behind_structures(page: &mut Page, bytes: &[u8])
     requires few { length bytes.now ≤ 128 }
     requires room { array_vec_len page.old + 271 ≤ PAGE }
-    ensures { page.new.items ≡ page.old.items ++ flat_map indented (left_meanings (drop 2 bytes.now)) }
+    ensures { page.new.items ≡ page.old.items ++ flat_map own_line (left_meanings (drop 2 bytes.now)) }
 {
     append_left(page, behind(bytes, 2));
 }
@@ -299,7 +299,7 @@ fn append_behind_structures(page: &mut Page, bytes: &[u8])
 fn append_structures(page: &mut Page, bytes: &[u8])
     requires few { length bytes.now ≤ 128 }
     requires room { array_vec_len page.old + 592 ≤ PAGE }
-    ensures { page.new.items ≡ page.old.items ++ flat_map indented (structure_meanings bytes.now) }
+    ensures { page.new.items ≡ page.old.items ++ flat_map own_line (structure_meanings bytes.now) }
 {
     append_structure_line(page, bytes);
     append_behind_structures(page, bytes);
@@ -314,7 +314,7 @@ fn has_structures(flags: u8, bytes: &[u8]) -> bool
 fn append_stereo(page: &mut Page, flags: u8, bytes: &[u8])
     requires few { length bytes.now ≤ 128 }
     requires room { array_vec_len page.old + 592 ≤ PAGE }
-    ensures { page.new.items ≡ page.old.items ++ flat_map indented (stereo_meanings flags bytes.now) }
+    ensures { page.new.items ≡ page.old.items ++ flat_map own_line (stereo_meanings flags bytes.now) }
 {
     if has_structures(flags, bytes) {
         append_structures(page, bytes);
@@ -326,7 +326,7 @@ fn append_stereo(page: &mut Page, flags: u8, bytes: &[u8])
 fn append_codes(page: &mut Page, count: u8, bytes: &[u8])
     requires few { count < 8 }
     requires room { array_vec_len page.old + 856 ≤ PAGE }
-    ensures items { page.new.items ≡ page.old.items ++ flat_map indented (code_meanings count bytes.now) }
+    ensures items { page.new.items ≡ page.old.items ++ flat_map own_line (code_meanings count bytes.now) }
     ensures len { array_vec_len page.new ≤ array_vec_len page.old + 856 }
 {
     append_hdmi_codes(page, before(bytes, usize::from(count)));
@@ -334,7 +334,7 @@ fn append_codes(page: &mut Page, count: u8, bytes: &[u8])
 
 fn append_flag_part(page: &mut Page, bytes: &[u8])
     requires { array_vec_len page.old + 65 ≤ PAGE }
-    ensures items { page.new.items ≡ page.old.items ++ flat_map indented (flag_part bytes.now) }
+    ensures items { page.new.items ≡ page.old.items ++ flat_map own_line (flag_part bytes.now) }
     ensures len { array_vec_len page.new ≤ array_vec_len page.old + 65 }
 {
     append_words(page, video_note(byte_at(bytes, 0)).as_slice());
@@ -342,7 +342,7 @@ fn append_flag_part(page: &mut Page, bytes: &[u8])
 
 fn append_code_part(page: &mut Page, bytes: &[u8])
     requires { array_vec_len page.old + 856 ≤ PAGE }
-    ensures items { page.new.items ≡ page.old.items ++ flat_map indented (code_part bytes.now) }
+    ensures items { page.new.items ≡ page.old.items ++ flat_map own_line (code_part bytes.now) }
     ensures len { array_vec_len page.new ≤ array_vec_len page.old + 856 }
 {
     append_codes(page, byte_at(bytes, 1) / 32, behind(bytes, 2));
@@ -351,7 +351,7 @@ fn append_code_part(page: &mut Page, bytes: &[u8])
 fn append_stereo_part(page: &mut Page, bytes: &[u8])
     requires few { length bytes.now ≤ 128 }
     requires room { array_vec_len page.old + 592 ≤ PAGE }
-    ensures { page.new.items ≡ page.old.items ++ flat_map indented (stereo_part bytes.now) }
+    ensures { page.new.items ≡ page.old.items ++ flat_map own_line (stereo_part bytes.now) }
 {
     let count = usize::from(byte_at(bytes, 1) / 32);
     append_stereo(page, byte_at(bytes, 0), behind(bytes, 2 + count));
@@ -360,7 +360,7 @@ fn append_stereo_part(page: &mut Page, bytes: &[u8])
 fn append_videos(page: &mut Page, bytes: &[u8])
     requires few { length bytes.now ≤ 128 }
     requires room { array_vec_len page.old + 1600 ≤ PAGE }
-    ensures { page.new.items ≡ page.old.items ++ flat_map indented (video_meanings bytes.now) }
+    ensures { page.new.items ≡ page.old.items ++ flat_map own_line (video_meanings bytes.now) }
 {
     append_flag_part(page, bytes);
     append_code_part(page, bytes);
@@ -370,7 +370,7 @@ fn append_videos(page: &mut Page, bytes: &[u8])
 fn append_behind(page: &mut Page, told: bool, bytes: &[u8])
     requires few { length bytes.now ≤ 128 }
     requires room { array_vec_len page.old + 1600 ≤ PAGE }
-    ensures { page.new.items ≡ page.old.items ++ flat_map indented (behind_meanings told bytes.now) }
+    ensures { page.new.items ≡ page.old.items ++ flat_map own_line (behind_meanings told bytes.now) }
 {
     if told && 2 <= bytes.len() {
         append_videos(page, bytes);
@@ -381,7 +381,7 @@ fn append_behind(page: &mut Page, told: bool, bytes: &[u8])
 
 fn append_plain_latencies(page: &mut Page, bytes: &[u8])
     requires { array_vec_len page.old + 109 ≤ PAGE }
-    ensures items { page.new.items ≡ page.old.items ++ flat_map indented (plain_latencies bytes.now) }
+    ensures items { page.new.items ≡ page.old.items ++ flat_map own_line (plain_latencies bytes.now) }
     ensures len { array_vec_len page.new ≤ array_vec_len page.old + 109 }
 {
     let told = is_set(u32::from(byte_at(bytes, 2)), LATENCIES);
@@ -390,7 +390,7 @@ fn append_plain_latencies(page: &mut Page, bytes: &[u8])
 
 fn append_interlaced_latencies(page: &mut Page, bytes: &[u8])
     requires { array_vec_len page.old + 109 ≤ PAGE }
-    ensures items { page.new.items ≡ page.old.items ++ flat_map indented (interlaced_latencies bytes.now) }
+    ensures items { page.new.items ≡ page.old.items ++ flat_map own_line (interlaced_latencies bytes.now) }
     ensures len { array_vec_len page.new ≤ array_vec_len page.old + 109 }
 {
     let presence = byte_at(bytes, 2);
@@ -407,7 +407,7 @@ fn append_interlaced_latencies(page: &mut Page, bytes: &[u8])
 fn append_video_part(page: &mut Page, bytes: &[u8])
     requires few { length bytes.now ≤ 128 }
     requires room { array_vec_len page.old + 1600 ≤ PAGE }
-    ensures { page.new.items ≡ page.old.items ++ flat_map indented (video_part bytes.now) }
+    ensures { page.new.items ≡ page.old.items ++ flat_map own_line (video_part bytes.now) }
 {
     let presence = byte_at(bytes, 2);
     let place = 3 + 2 * usize::from(presence / 128) + 2 * usize::from(presence / 64 % 2);
@@ -415,13 +415,13 @@ fn append_video_part(page: &mut Page, bytes: &[u8])
     append_behind(page, told, behind(bytes, place));
 }
 
-/// Appends what an HDMI block means, of the bytes behind its physical address: capabilities; latencies, video formats of
-/// HDMI's own codes and 3D where it tells of them; and what is left in hex (HDMI 1.4, section 8.3.2).
+/// Appends what an HDMI block means, of the bytes after its physical address: capabilities; latencies, video formats of
+/// HDMI's own codes and 3D where it indicates them; and what is left in hex (HDMI 1.4, section 8.3.2).
 #[tactic(auto, unfolding(crate::specs::Hdmi::hdmi_meanings))]
 pub fn append_hdmi(page: &mut Page, bytes: &[u8])
     requires few { length bytes.now ≤ 128 }
     requires room { array_vec_len page.old + 2300 ≤ PAGE }
-    ensures { page.new.items ≡ page.old.items ++ flat_map indented (hdmi_meanings bytes.now) }
+    ensures { page.new.items ≡ page.old.items ++ flat_map own_line (hdmi_meanings bytes.now) }
 {
     append_capabilities(page, bytes);
     append_plain_latencies(page, bytes);

@@ -1,7 +1,7 @@
 //! What the bytes of a speaker allocation data block mean.
 ghost use Rattle.std.specs.Prelude.{◌≡◌, ◌≤◌, ◌<◌, ◌+◌, ◌*◌, ◌++◌, length, flat_map};
 ghost use Rattle.arrayvec.specs.ArrayVec.{array_vec_len};
-ghost use Rattle.hdmi_meaning.specs.Notes.{indented, set_words};
+ghost use Rattle.hdmi_meaning.specs.Notes.{own_line, set_words};
 ghost use Rattle.hdmi_abilities.specs.Speakers.{speaker_rows, speaker_bits, speaker_words, speaker_meanings};
 
 use arrayvec::ArrayVec;
@@ -64,7 +64,7 @@ fn speaker_note(payload: &[u8]) -> Note
 pub fn append_speakers(page: &mut Page, payload: &[u8])
     requires few { length payload.now ≤ 128 }
     requires room { array_vec_len page.old + 1071 ≤ PAGE }
-    ensures { page.new.items ≡ page.old.items ++ flat_map indented (speaker_meanings payload.now) }
+    ensures { page.new.items ≡ page.old.items ++ flat_map own_line (speaker_meanings payload.now) }
 {
     append_words(page, speaker_note(payload).as_slice());
 }

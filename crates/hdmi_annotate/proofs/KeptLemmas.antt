@@ -4,14 +4,14 @@ use Rattle.std.proofs.lemmas.Bool.{leb-true}
 use borrow.Author.Tests.{tests}
 use Rattle.hdmi_lines.specs.Text.{word_text, fields_text, line_text}
 use Rattle.hdmi_lines.specs.declared.line.Line.{Line}
-use Rattle.hdmi_lines.specs.declared.line.Word.{Word}
-use Rattle.hdmi_lines.specs.declared.line.Word.TheVariants.{Edid, Maker, Product, Serial, Made, Input, Size, Gamma, Features, Chroma, Established, Standard, Timing, Name, Text, SerialText, Range, Dummy, Raw, Cta, CtaNone, Tag0, Audio, Video, Vendor, Speakers, Tag5, Tag6, Extended, Hdmi, Tail, Ext}
+use Rattle.hdmi_lines.specs.declared.line.Keyword.{Keyword}
+use Rattle.hdmi_lines.specs.declared.line.Keyword.TheVariants.{Edid, Maker, Product, Serial, Made, Input, Size, Gamma, Features, Chroma, Established, Standard, Timing, Name, Text, SerialText, Range, Dummy, Raw, Cta, CtaNone, Tag0, Audio, Video, Vendor, Speakers, Tag5, Tag6, Extended, Hdmi, Tail, Ext}
 use Rattle.hdmi_blocks.specs.declared.edid.Edid.{Edid as WholeEdid}
 use Rattle.hdmi_edtext.specs.Cut.{lines_with_feeds}
 use Rattle.hdmi_edtext.specs.Lines.{edid_lines, edid_text}
 use Rattle.hdmi_edtext.proofs.CutTexts.{line_split, one_line_of}
 use Rattle.hdmi_edtext.proofs.Good.{has_no_feed, Good, EachGood, edid_good}
-use Rattle.hdmi_meaning.specs.Notes.{printable, indented}
+use Rattle.hdmi_meaning.specs.Notes.{printable, own_line}
 use Rattle.hdmi_annotate.specs.Meanings.{is_plain, plain_text, meanings, line_with_meaning}
 use Rattle.hdmi_annotate.specs.EdidMeaning.{meaning_of}
 
@@ -35,23 +35,23 @@ no_feed : (t : List ℕ) → has_no_feed (map printable t) ≡ true
 no_feed [] = refl
 no_feed (b ∷ t) = and (not (printable b == 10)) (has_no_feed (map printable t)) (printed b) (no_feed t)
 
-one_below : (t rest : List ℕ) → lines_with_feeds (indented t ++ rest) ≡ indented t ∷ lines_with_feeds rest
+one_below : (t rest : List ℕ) → lines_with_feeds (own_line t ++ rest) ≡ own_line t ∷ lines_with_feeds rest
 one_below t rest =
     let w = 32 ∷ 32 ∷ map printable t in
     ap lines_with_feeds (append_assoc w (10 ∷ []) rest) ∙ line_split w rest (no_feed t)
 
 -- ---- lines below are no plain lines
 
-all_below : (ts : List (List ℕ)) (rest : List ℕ) → plain_text (flat_map indented ts ++ rest) ≡ plain_text rest
+all_below : (ts : List (List ℕ)) (rest : List ℕ) → plain_text (flat_map own_line ts ++ rest) ≡ plain_text rest
 all_below [] rest = refl
 all_below (t ∷ ts) rest =
-    ap plain_text (append_assoc (indented t) (flat_map indented ts) rest)
-    ∙ ap (λ ls. flat_map (λ line. line) (filter is_plain ls)) (one_below t (flat_map indented ts ++ rest))
+    ap plain_text (append_assoc (own_line t) (flat_map own_line ts) rest)
+    ∙ ap (λ ls. flat_map (λ line. line) (filter is_plain ls)) (one_below t (flat_map own_line ts ++ rest))
     ∙ all_below ts rest
 
 -- ---- lines of the text are
 
-word_plain : (w : Word) (rest : List ℕ) → is_plain (word_text w ++ rest) ≡ true
+word_plain : (w : Keyword) (rest : List ℕ) → is_plain (word_text w ++ rest) ≡ true
 word_plain Edid rest = refl
 word_plain Maker rest = refl
 word_plain Product rest = refl
@@ -98,12 +98,12 @@ line_kept l rest good =
     ∙ kept (line_text l) (lines_with_feeds rest) (word_plain l.word (fields_text l.fields ++ (10 ∷ [])))
 
 -- a text of lines, whatever stands below them
-pub lines_kept : (below : Line → List (List ℕ)) (ls : List Line) → EachGood ls → plain_text (flat_map (λ l. line_text l ++ flat_map indented (below l)) ls) ≡ flat_map line_text ls
+pub lines_kept : (below : Line → List (List ℕ)) (ls : List Line) → EachGood ls → plain_text (flat_map (λ l. line_text l ++ flat_map own_line (below l)) ls) ≡ flat_map line_text ls
 lines_kept below [] good = refl
 lines_kept below (l ∷ ls) good =
-    let more = flat_map (λ l. line_text l ++ flat_map indented (below l)) ls in
-    ap plain_text (append_assoc (line_text l) (flat_map indented (below l)) more)
-    ∙ line_kept l (flat_map indented (below l) ++ more) good.0
+    let more = flat_map (λ l. line_text l ++ flat_map own_line (below l)) ls in
+    ap plain_text (append_assoc (line_text l) (flat_map own_line (below l)) more)
+    ∙ line_kept l (flat_map own_line (below l) ++ more) good.0
     ∙ ap (λ x. line_text l ++ x) (all_below (below l) more ∙ lines_kept below ls good.1)
 
 pub keeps : (e : WholeEdid) → plain_text (meaning_of e) ≡ edid_text e

@@ -9,12 +9,12 @@ use hdmi_blocks::read_parts;
 use hdmi_convert::EdidToTextError;
 use hdmi_core::Sink;
 
-/// Writes the text of the EDID that some bytes spell, and below each line, behind two spaces, what it means.
+/// Writes the text of the EDID that some bytes spell, and below each line, after two spaces, what it means.
 ///
 /// # Errors
 ///
 /// `Edid` with the first reason why they spell none: then nothing was written. `Write` where the sink takes no more:
-/// then the front of the text was written, as long as it tells.
+/// then the front of the text was written, as long as it reports.
 // An EDID and its text are large: the frame of the caller is kept free of them.
 #[inline(never)]
 pub fn edid_to_meaning<S: Sink>(bytes: &[u8], out: &mut S) -> Result<(), EdidToTextError>

@@ -5,7 +5,7 @@ ghost use Rattle.hdmi_edtext.specs.Lines.{edid_text};
 ghost use Rattle.hdmi_annotate.specs.Meanings.{plain_text};
 ghost use Rattle.hdmi_annotate.specs.EdidMeaning.{meaning_of};
 
-/// The lines that do not begin with a space are the EDID's text: so the text with what it means tells the EDID's bytes.
+/// The lines that do not begin with a space are the EDID's text: so the text with what it means reports the EDID's bytes.
 pub fn meaning_keeps_the_text()
     ensures { (e : EdidValue) → plain_text (meaning_of e) ≡ edid_text e }
 {}

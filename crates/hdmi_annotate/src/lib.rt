@@ -1,4 +1,4 @@
-//! An EDID's text, and below each of its lines what that means, behind two spaces.
+//! An EDID's text, and below each of its lines what that means, after two spaces.
 #![tactic(auto)]
 
 mod edid_meaning;

@@ -2,7 +2,7 @@
 //! `append_bytes`, and the same arm of `bytes_meanings`.
 ghost use Rattle.std.specs.Prelude.{◌≡◌, ◌≤◌, ◌++◌, length, flat_map};
 ghost use Rattle.arrayvec.specs.ArrayVec.{array_vec_len};
-ghost use Rattle.hdmi_meaning.specs.Notes.{indented};
+ghost use Rattle.hdmi_meaning.specs.Notes.{own_line};
 ghost use Rattle.hdmi_annotate.specs.Meanings.{bytes_meanings, numbers_meanings, fields_meanings, line_with_meaning};
 
 use hdmi_abilities::{append_audio, append_flags, append_hdmi, append_speakers};
@@ -12,51 +12,51 @@ use hdmi_display::{
 };
 use hdmi_edid::{Base, append};
 use hdmi_extended::{append_extended, append_vendor};
-use hdmi_lines::{Fields, Line, Word};
+use hdmi_lines::{Fields, Keyword, Line};
 use hdmi_meaning::{Page, append_timing, append_video};
 
-/// Appends what bytes behind a word mean.
-fn append_bytes(page: &mut Page, base: &Base, word: Word, bytes: &[u8])
+/// Appends what bytes after a word mean.
+fn append_bytes(page: &mut Page, base: &Base, word: Keyword, bytes: &[u8])
     requires few { length bytes.now ≤ 128 }
     requires room { array_vec_len page.old ≤ 300 }
-    ensures { page.new.items ≡ page.old.items ++ flat_map indented (bytes_meanings base.now word bytes.now) }
+    ensures { page.new.items ≡ page.old.items ++ flat_map own_line (bytes_meanings base.now word bytes.now) }
 {
     match word {
-        Word::Input => append_input(page, base.revision, bytes),
-        Word::Features => append_features(page, base.revision, base.input, bytes),
-        Word::Established => append_established(page, bytes),
-        Word::Range => append_range(page, base.revision, base.features, bytes),
-        Word::Raw => append_raw(page, bytes),
-        Word::Cta | Word::CtaNone => append_flags(page, bytes),
-        Word::Audio => append_audio(page, bytes),
-        Word::Video => append_video(page, bytes),
-        Word::Speakers => append_speakers(page, bytes),
-        Word::Vendor => append_vendor(page, bytes),
-        Word::Extended => append_extended(page, bytes),
-        Word::Ext => append_ext(page, bytes),
+        Keyword::Input => append_input(page, base.revision, bytes),
+        Keyword::Features => append_features(page, base.revision, base.input, bytes),
+        Keyword::Established => append_established(page, bytes),
+        Keyword::Range => append_range(page, base.revision, base.features, bytes),
+        Keyword::Raw => append_raw(page, bytes),
+        Keyword::Cta | Keyword::CtaNone => append_flags(page, bytes),
+        Keyword::Audio => append_audio(page, bytes),
+        Keyword::Video => append_video(page, bytes),
+        Keyword::Speakers => append_speakers(page, bytes),
+        Keyword::Vendor => append_vendor(page, bytes),
+        Keyword::Extended => append_extended(page, bytes),
+        Keyword::Ext => append_ext(page, bytes),
         _ => {}
     }
 }
 
-/// Appends what numbers behind a word mean.
-fn append_numbers(page: &mut Page, base: &Base, word: Word, numbers: &[u32])
+/// Appends what numbers after a word mean.
+fn append_numbers(page: &mut Page, base: &Base, word: Keyword, numbers: &[u32])
     requires { array_vec_len page.old ≤ 300 }
-    ensures { page.new.items ≡ page.old.items ++ flat_map indented (numbers_meanings base.now word numbers.now) }
+    ensures { page.new.items ≡ page.old.items ++ flat_map own_line (numbers_meanings base.now word numbers.now) }
 {
     match word {
-        Word::Made => append_made(page, base.revision, numbers),
-        Word::Size => append_size(page, base.revision, numbers),
-        Word::Gamma => append_gamma(page, numbers),
-        Word::Chroma => append_chroma(page, numbers),
-        Word::Standard => append_standard(page, numbers),
+        Keyword::Made => append_made(page, base.revision, numbers),
+        Keyword::Size => append_size(page, base.revision, numbers),
+        Keyword::Gamma => append_gamma(page, numbers),
+        Keyword::Chroma => append_chroma(page, numbers),
+        Keyword::Standard => append_standard(page, numbers),
         _ => {}
     }
 }
 
-/// Appends what the fields behind a word mean.
-fn append_fields(page: &mut Page, base: &Base, word: Word, fields: &Fields)
+/// Appends what the fields after a word mean.
+fn append_fields(page: &mut Page, base: &Base, word: Keyword, fields: &Fields)
     requires { array_vec_len page.old ≤ 300 }
-    ensures { page.new.items ≡ page.old.items ++ flat_map indented (fields_meanings base.now word fields.now) }
+    ensures { page.new.items ≡ page.old.items ++ flat_map own_line (fields_meanings base.now word fields.now) }
 {
     match fields {
         Fields::Numbers(numbers) => append_numbers(page, base, word, numbers.as_slice()),

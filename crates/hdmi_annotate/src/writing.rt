@@ -11,7 +11,7 @@ use hdmi_edid::Base;
 use hdmi_edtext::line_at;
 use hdmi_meaning::Page;
 
-/// Writes the text of a base block and the extensions behind it line by line, as `write_parts` does, and below each line
+/// Writes the text of a base block and the extensions after it line by line, as `write_parts` does, and below each line
 /// what it means. After a fault the front of the text is written, as long as the fault's count says, and the sink is stuck.
 pub fn write_meaning<S: Sink>(
     base: &Base,

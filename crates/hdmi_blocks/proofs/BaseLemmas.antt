@@ -1,4 +1,4 @@
--- A base block has 128 bytes, and tells at 126 how many extensions follow.
+-- A base block has 128 bytes, and reports at 126 how many extensions follow.
 use Rattle.std.proofs.Common.{◌≡◌, ℕ, zero, suc, ◌+◌, ◌-◌, ◌*◌, nat_le, Option, Some, None, List, [], ◌∷◌, ◌++◌, length, get_or, flat_map, ap, arith, refl, ◌∙◌, append_assoc, length-append}
 use Rattle.std.proofs.lemmas.List.{length-replicate, get_or-append_right}
 use Rattle.std.proofs.lemmas.Bool.{leb-true}
@@ -16,14 +16,14 @@ use Rattle.hdmi_edid.specs.declared.base.Revision.{Revision}
 use Rattle.hdmi_edid.specs.declared.base.Revision.TheVariants.{Three, Four}
 use Rattle.hdmi_edid.specs.declared.descriptor.Descriptor.{Descriptor}
 use Rattle.hdmi_edid.specs.declared.descriptor.Descriptor.TheVariants.{Timing, Name, Text, SerialText, Range, Dummy, Raw}
-use Rattle.hdmi_edid.specs.declared.standard.Standard.{Standard}
+use Rattle.hdmi_edid.specs.declared.standard.StandardTiming.{StandardTiming}
 use Rattle.hdmi_edid.specs.declared.text.Text.{Text as AnyText}
 
 pub length-flat : {X : Type 0} (f : X → List ℕ) (n : ℕ) → ((x : X) → length (f x) ≡ n) → (xs : List X) → length (flat_map f xs) ≡ n * length xs
 length-flat f n each [] = omega arith
 length-flat f n each (x ∷ xs) = omega (arith, length-append (f x) (flat_map f xs), each x, length-flat f n each xs)
 
-standard_len : (s : Option Standard) → length (standard_bytes s) ≡ 2
+standard_len : (s : Option StandardTiming) → length (standard_bytes s) ≡ 2
 standard_len None = refl
 standard_len (Some s) = refl
 

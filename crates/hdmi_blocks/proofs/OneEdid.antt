@@ -17,7 +17,7 @@ use Rattle.hdmi_cta.proofs.OneExt.{one_ext}
 use Rattle.hdmi_cta.specs.Block.{block_bytes}
 use Rattle.hdmi_edid.specs.Timing.{timing_bytes}
 use Rattle.hdmi_cta.specs.Ext.{ext_bytes}
-use Rattle.hdmi_edid.specs.Check.{summed}
+use Rattle.hdmi_edid.specs.Check.{block_with_checksum}
 use Rattle.hdmi_cta.specs.Cta.{cta_front, bare_front}
 use Rattle.hdmi_cta.specs.declared.raw.Ext.{Ext as AnyExt}
 use Rattle.hdmi_cta.specs.declared.raw.Ext.TheVariants.{Cta, Bare, Raw}
@@ -85,7 +85,7 @@ drop_block xs ys h = ap (λ n. drop n (xs ++ ys)) (sym h) ∙ drop_front xs ys
 take_base : (e : Edid) → take 128 (edid_bytes e) ≡ base_bytes e.base
 take_base e = take_block (base_bytes e.base) _ (base_len e.base)
 
-sum_of : (front : List ℕ) → sum (summed front) % 256 ≡ 0
+sum_of : (front : List ℕ) → sum (block_with_checksum front) % 256 ≡ 0
 sum_of front = let e = sum_with front (check_of front) in omega (arith, e)
 
 pub ext_sum : (x : AnyExt) → sum (ext_bytes x) % 256 ≡ 0
@@ -96,7 +96,7 @@ ext_sum (Raw r) = r.checked
 pub exts_len : (xs : List AnyExt) → length (flat_map ext_bytes xs) ≡ 128 * length xs
 exts_len xs = length-flat ext_bytes 128 ext_len xs
 
--- the blocks behind a first one
+-- the blocks after a first one
 behind : (xs ys : List ℕ) (k : ℕ) → length xs ≡ 128 → drop (128 * suc k) (xs ++ ys) ≡ drop (128 * k) ys
 behind xs ys k h =
     let n : 128 * suc k ≡ 128 + 128 * k = omega arith in

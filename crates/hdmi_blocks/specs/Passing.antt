@@ -4,7 +4,7 @@ use Rattle.std.specs.Prelude.{ℕ, if◌then◌else◌, List, [], ◌∷◌, ◌
 use Rattle.hdmi_edid.specs.Base.{base_bytes}
 use Rattle.hdmi_cta.specs.Audio.{heard_bytes, heard_place}
 use Rattle.hdmi_cta.specs.Ext.{ext_bytes}
-use Rattle.hdmi_cta.specs.Hdmi.{blocks_of, address_place, readdressed}
+use Rattle.hdmi_cta.specs.Hdmi.{blocks_of, address_place, bytes_with_address}
 use Rattle.hdmi_cta.specs.declared.raw.Ext.{Ext}
 use Rattle.hdmi_core.specs.declared.phys.Phys.{Phys}
 use Rattle.hdmi_blocks.specs.Address.{has_address}
@@ -14,8 +14,8 @@ use Rattle.hdmi_blocks.specs.declared.passing.AudioFrom.TheVariants.{Television,
 
 -- an extension with another address, and with the amplifier's audio
 abbrev pub passed_bytes : AudioFrom → Phys → Ext → List ℕ
-passed_bytes Television address x = readdressed (ext_bytes x) (address_place (blocks_of x)) address
-passed_bytes Amplifier address x = readdressed (heard_bytes x) (heard_place x) address
+passed_bytes Television address x = bytes_with_address (ext_bytes x) (address_place (blocks_of x)) address
+passed_bytes Amplifier address x = bytes_with_address (heard_bytes x) (heard_place x) address
 
 -- the first extension that has an HDMI block is another, and no other one
 abbrev pub passed_extensions : AudioFrom → Phys → List Ext → List ℕ

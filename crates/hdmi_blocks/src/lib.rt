@@ -6,7 +6,9 @@ mod address;
 mod bytes;
 mod edid;
 mod passing;
+mod root;
 
 pub use bytes::{EdidError, edid_from_bytes, edid_to_bytes, read_parts};
 pub use edid::Edid;
 pub use passing::{AudioFrom, write_passed_parts};
+pub use root::{EdidCause, RootError, root_of, root_on_heap};

@@ -7,7 +7,7 @@ use Rattle.hdmi_cta.specs.declared.raw.Ext.{Ext}
 use Rattle.hdmi_parts.specs.ExtParts.{timings_of}
 use Rattle.hdmi_check.specs.Rules.{rules, is_broken}
 use Rattle.hdmi_check.specs.TimingRules.{timing_rules, breaks}
-use Rattle.hdmi_check.specs.Findings.{rule_findings, timing_findings, edid_findings, one_timing_findings, numbered, findings}
+use Rattle.hdmi_check.specs.Findings.{rule_findings, timing_findings, edid_findings, one_timing_findings, numbered_findings, findings}
 use Rattle.hdmi_check.specs.Laws.{IsAmong, NoneTwice, breaks_at, ListsTheBroken}
 use Rattle.hdmi_check.specs.declared.rule.Origin.{Origin}
 use Rattle.hdmi_check.specs.declared.rule.Rule.{Rule}
@@ -189,51 +189,51 @@ one_number b n t f table e h =
 
 -- ---- those of all timings
 
-numbered_from : (b : Base) (n : ℕ) (ts : List Timing) (f : Finding) → IsAmong f (numbered b n ts) → n ≤ number_in f
+numbered_from : (b : Base) (n : ℕ) (ts : List Timing) (f : Finding) → IsAmong f (numbered_findings b n ts) → n ≤ number_in f
 numbered_from b n [] f h = absurd h
 numbered_from b n (t ∷ ts) f h =
-    elim (among_cases f (one_timing_findings b n t) (numbered b (n + 1) ts) h) [
+    elim (among_cases f (one_timing_findings b n t) (numbered_findings b (n + 1) ts) h) [
       | inl k ↦ (let same = one_number b n t f timing_rules refl k in omega (arith, same))
       | inr k ↦ (let more = numbered_from b (n + 1) ts f k in omega (arith, more))
     ]
 
-timing_from : (b : Base) (n : ℕ) (ts : List Timing) (place m : ℕ) (rule : TimingRule) → m ≡ n + place → IsAmong (OfTiming m rule) (numbered b n ts) → breaks_at b rule ts place ≡ true
+timing_from : (b : Base) (n : ℕ) (ts : List Timing) (place m : ℕ) (rule : TimingRule) → m ≡ n + place → IsAmong (OfTiming m rule) (numbered_findings b n ts) → breaks_at b rule ts place ≡ true
 timing_from b n [] place m rule e h = absurd h
 timing_from b n (t ∷ ts) zero m rule e h =
-    elim (among_cases (OfTiming m rule) (one_timing_findings b n t) (numbered b (n + 1) ts) h) [
+    elim (among_cases (OfTiming m rule) (one_timing_findings b n t) (numbered_findings b (n + 1) ts) h) [
       | inl k ↦ (let same : m ≡ n = omega (arith, e) in
           let P : ℕ → Type 0 = λ i. IsAmong (OfTiming i rule) (one_timing_findings b n t) in
           one_from b n t rule timing_rules refl (subst P same k))
       | inr k ↦ (let more = numbered_from b (n + 1) ts (OfTiming m rule) k in let no : ⊥ = omega (arith, more, e) in absurd no)
     ]
 timing_from b n (t ∷ ts) (suc place) m rule e h =
-    elim (among_cases (OfTiming m rule) (one_timing_findings b n t) (numbered b (n + 1) ts) h) [
+    elim (among_cases (OfTiming m rule) (one_timing_findings b n t) (numbered_findings b (n + 1) ts) h) [
       | inl k ↦ (let same = one_number b n t (OfTiming m rule) timing_rules refl k in let no : ⊥ = omega (arith, same, e) in absurd no)
       | inr k ↦ timing_from b (n + 1) ts place m rule (omega (arith, e)) k
     ]
 
-timing_to : (b : Base) (n : ℕ) (ts : List Timing) (place m : ℕ) (rule : TimingRule) → m ≡ n + place → breaks_at b rule ts place ≡ true → IsAmong (OfTiming m rule) (numbered b n ts)
+timing_to : (b : Base) (n : ℕ) (ts : List Timing) (place m : ℕ) (rule : TimingRule) → m ≡ n + place → breaks_at b rule ts place ≡ true → IsAmong (OfTiming m rule) (numbered_findings b n ts)
 timing_to b n [] place m rule e h = let no : ⊥ = cc in absurd no
 timing_to b n (t ∷ ts) zero m rule e h =
     let same : n ≡ m = omega (arith, e) in
     let P : ℕ → Type 0 = λ i. IsAmong (OfTiming i rule) (one_timing_findings b n t) in
-    among_left (OfTiming m rule) (one_timing_findings b n t) (numbered b (n + 1) ts)
+    among_left (OfTiming m rule) (one_timing_findings b n t) (numbered_findings b (n + 1) ts)
     (subst P same (one_to b n t rule timing_rules refl (every_timing_rule rule) h))
 timing_to b n (t ∷ ts) (suc place) m rule e h =
-    among_right (OfTiming m rule) (one_timing_findings b n t) (numbered b (n + 1) ts)
+    among_right (OfTiming m rule) (one_timing_findings b n t) (numbered_findings b (n + 1) ts)
     (timing_to b (n + 1) ts place m rule (omega (arith, e)) h)
 
-numbered_once : (b : Base) (n : ℕ) (ts : List Timing) → NoneTwice (numbered b n ts)
+numbered_once : (b : Base) (n : ℕ) (ts : List Timing) → NoneTwice (numbered_findings b n ts)
 numbered_once b n [] = tt
 numbered_once b n (t ∷ ts) =
-    none_twice_append (one_timing_findings b n t) (numbered b (n + 1) ts) (one_once b n t timing_rules refl timing_rules_once) (numbered_once b (n + 1) ts)
+    none_twice_append (one_timing_findings b n t) (numbered_findings b (n + 1) ts) (one_once b n t timing_rules refl timing_rules_once) (numbered_once b (n + 1) ts)
     (λ f h k. let same = one_number b n t f timing_rules refl h in let more = numbered_from b (n + 1) ts f k in omega (arith, same, more))
 
 -- ---- all findings
 
 edid_listed : (o : Origin) (b : Base) (xs : List Ext) (rule : Rule) → IsAmong (Edid rule) (findings o b xs) → is_broken o rule b xs ≡ true
 edid_listed o b xs rule h =
-    elim (among_cases (Edid rule) (edid_findings o b xs) (numbered b 1 (timings_of b xs)) h) [
+    elim (among_cases (Edid rule) (edid_findings o b xs) (numbered_findings b 1 (timings_of b xs)) h) [
       | inl k ↦ edid_from o b xs rule rules refl k
       | inr k ↦ (let more = numbered_from b 1 (timings_of b xs) (Edid rule) k in let no : ⊥ = omega (arith, more) in absurd no)
     ]
@@ -248,18 +248,18 @@ not_of_edid o b xs n rule table t h =
 
 pub law : (o : Origin) (b : Base) (xs : List Ext) → ListsTheBroken o b xs
 law o b xs = record {
-  edid = λ rule. ((λ h. edid_listed o b xs rule h), (λ broken. among_left (Edid rule) (edid_findings o b xs) (numbered b 1 (timings_of b xs)) (edid_to o b xs rule rules refl (every_rule rule) broken)));
+  edid = λ rule. ((λ h. edid_listed o b xs rule h), (λ broken. among_left (Edid rule) (edid_findings o b xs) (numbered_findings b 1 (timings_of b xs)) (edid_to o b xs rule rules refl (every_rule rule) broken)));
   timing = λ place rule. (
-    (λ h. elim (among_cases (OfTiming (suc place) rule) (edid_findings o b xs) (numbered b 1 (timings_of b xs)) h) [
+    (λ h. elim (among_cases (OfTiming (suc place) rule) (edid_findings o b xs) (numbered_findings b 1 (timings_of b xs)) h) [
       | inl k ↦ (let no : ⊥ = not_of_edid o b xs (suc place) rule rules refl k in absurd no)
       | inr k ↦ timing_from b 1 (timings_of b xs) place (suc place) rule (omega arith) k
     ]),
-    (λ broken. among_right (OfTiming (suc place) rule) (edid_findings o b xs) (numbered b 1 (timings_of b xs)) (timing_to b 1 (timings_of b xs) place (suc place) rule (omega arith) broken)),
+    (λ broken. among_right (OfTiming (suc place) rule) (edid_findings o b xs) (numbered_findings b 1 (timings_of b xs)) (timing_to b 1 (timings_of b xs) place (suc place) rule (omega arith) broken)),
   );
-  from_one = λ rule h. elim (among_cases (OfTiming 0 rule) (edid_findings o b xs) (numbered b 1 (timings_of b xs)) h) [
+  from_one = λ rule h. elim (among_cases (OfTiming 0 rule) (edid_findings o b xs) (numbered_findings b 1 (timings_of b xs)) h) [
     | inl k ↦ not_of_edid o b xs 0 rule rules refl k
     | inr k ↦ (let more = numbered_from b 1 (timings_of b xs) (OfTiming 0 rule) k in omega (arith, more))
   ];
-  once = none_twice_append (edid_findings o b xs) (numbered b 1 (timings_of b xs)) (edid_once o b xs rules refl rules_once) (numbered_once b 1 (timings_of b xs))
+  once = none_twice_append (edid_findings o b xs) (numbered_findings b 1 (timings_of b xs)) (edid_once o b xs rules refl rules_once) (numbered_once b 1 (timings_of b xs))
       (λ f h k. let zero_there = edid_number o b xs f rules refl h in let more = numbered_from b 1 (timings_of b xs) f k in omega (arith, zero_there, more));
 }

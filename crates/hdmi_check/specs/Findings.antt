@@ -30,9 +30,9 @@ unfoldable pub one_timing_findings : Base → ℕ → Timing → List Finding
 one_timing_findings b number t = timing_findings b number t timing_rules
 
 -- of timings that are numbered from this number on
-abbrev pub numbered : Base → ℕ → List Timing → List Finding
-numbered b number [] = []
-numbered b number (t ∷ ts) = one_timing_findings b number t ++ numbered b (number + 1) ts
+abbrev pub numbered_findings : Base → ℕ → List Timing → List Finding
+numbered_findings b number [] = []
+numbered_findings b number (t ∷ ts) = one_timing_findings b number t ++ numbered_findings b (number + 1) ts
 
 abbrev pub findings : Origin → Base → List Ext → List Finding
-findings o b xs = edid_findings o b xs ++ numbered b 1 (timings_of b xs)
+findings o b xs = edid_findings o b xs ++ numbered_findings b 1 (timings_of b xs)

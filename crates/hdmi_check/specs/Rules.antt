@@ -43,7 +43,7 @@ is_broken o LimitsAlone b xs = not (is_three b.revision) && not (is_continuous b
 is_broken o LimitsOrder b xs = has_reversed_limits b
 -- 1.3 has no model years and no week 54 (section 3.4.4)
 is_broken o Week b xs = is_three b.revision && ((b.week == 54) || (b.week == 255))
--- the features tell of sRGB where the chromaticities are its own, and only there (section 3.6.4)
+-- the features indicate sRGB where the chromaticities are its own, and only there (section 3.6.4)
 is_broken o Srgb b xs = (claims_srgb b && not (is_srgb b.chroma)) || (not (claims_srgb b) && is_srgb b.chroma)
 -- an unused descriptor has the tag 10 (section 3.10.3)
 is_broken o NoEmptyDescriptor b xs = list_any is_empty b.descriptors
@@ -71,7 +71,7 @@ is_broken o BasicAudio b xs = list_any hides_sound xs
 is_broken o Speakers b xs = (some_block has_multichannel_pcm xs && not (some_block is_speakers xs)) || some_block is_ill_speakers xs
 -- zeros follow the timings (CTA-861-D, section 7.5), or whole descriptors that are not used (E-EDID Release A, section 3.10.3) and zeros
 is_broken o Padding b xs = list_any has_ill_padding xs
--- a display of CTA-861 tells its video capabilities (CTA-861-D, section 7.5.6)
+-- a display of CTA-861 reports its video capabilities (CTA-861-D, section 7.5.6)
 is_broken o VideoCapability b xs = list_any is_cta xs && not (some_block is_video_capability xs)
 -- the range of RGB values can be chosen (CTA-861-D, section 7.5.6)
 is_broken o RgbRange b xs = some_block fixes_rgb_range xs

@@ -1,4 +1,4 @@
--- The lines that tell findings (own).
+-- The lines that report findings (own).
 use Rattle.std.specs.Prelude.{ℕ, Bool, true, false, List, ◌++◌, codes, flat_map}
 use Rattle.std.specs.Fmt.{decimal}
 use Rattle.std.specs.List.{list_any}

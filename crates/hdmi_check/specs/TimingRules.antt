@@ -16,7 +16,7 @@ has_zero t =
     (t.horizontal_active == 0) || (t.horizontal_blanking == 0) || (t.horizontal_sync_offset == 0) || (t.horizontal_sync_width == 0) ||
     (t.vertical_active == 0) || (t.vertical_blanking == 0) || (t.vertical_sync_width == 0) || ((t.vertical_sync_offset == 0) && nat_lt t.flags 128)
 
--- the base block tells a size in centimetres (section 3.6.2)
+-- the base block reports a size in centimetres (section 3.6.2)
 abbrev pub has_size : Base → Bool
 has_size b = nat_lt 0 b.width && nat_lt 0 b.height
 

@@ -3,7 +3,7 @@ ghost use Rattle.std.specs.Prelude.{◌≡◌, ◌≤◌, ◌<◌, ◌+◌, ◌*
 ghost use Rattle.arrayvec.specs.ArrayVec.{array_vec_len};
 ghost use Rattle.hdmi_check.specs.Rules.{has_ill_address, is_broken};
 ghost use Rattle.hdmi_check.specs.TimingRules.{has_zero, has_size, differs, breaks};
-ghost use Rattle.hdmi_check.specs.Findings.{rule_findings, timing_findings, edid_findings, one_timing_findings, numbered, findings};
+ghost use Rattle.hdmi_check.specs.Findings.{rule_findings, timing_findings, edid_findings, one_timing_findings, numbered_findings, findings};
 
 use crate::rule::{Finding, Origin, Rule, TimingRule};
 use arrayvec::ArrayVec;
@@ -270,7 +270,7 @@ fn add_timings(
 )
     requires room { array_vec_len found.old + 8 * length timings.now ≤ MAX_FINDINGS }
     requires small { number + length timings.now < 256 }
-    ensures items { found.new.items ≡ found.old.items ++ numbered base.now number timings.now }
+    ensures items { found.new.items ≡ found.old.items ++ numbered_findings base.now number timings.now }
 {
     if let [timing, rest @ ..] = timings {
         add_timing(found, base, number, timing);

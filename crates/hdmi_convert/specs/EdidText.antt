@@ -15,7 +15,7 @@ use Rattle.hdmi_convert.specs.declared.edid_text.EdidToTextError.TheVariants.{Ed
 use Rattle.hdmi_convert.specs.declared.edid_text.TextToHexError.{TextToHexError}
 use Rattle.hdmi_convert.specs.declared.edid_text.TextToHexError.TheVariants as hex
 
--- the front of a text was written, as long as a count tells, and then the sink took none
+-- the front of a text was written, as long as a count reports, and then the sink took none
 abbrev pub IsCutAt : Option (List ℕ) → Option (List ℕ) → Bool → List ℕ → ℕ → Type 0
 IsCutAt old new is text count = (count < length text) × Appends old new (take count text) × (is ≡ true)
 

@@ -6,8 +6,8 @@ use Rattle.hdmi_blocks.specs.Bytes.{edid_bytes, IsRefused}
 use Rattle.hdmi_blocks.specs.Passing.{passed_on_bytes}
 use Rattle.hdmi_blocks.specs.declared.edid.Edid.{Edid as EdidValue}
 use Rattle.hdmi_topo.specs.Path.{nibbles}
-use Rattle.hdmi_convert.specs.declared.passing.Place.{Place}
-use Rattle.hdmi_convert.specs.declared.passing.Place.TheVariants.{Address, Port}
+use Rattle.hdmi_convert.specs.declared.passing.Destination.{Destination}
+use Rattle.hdmi_convert.specs.declared.passing.Destination.TheVariants.{Address, Port}
 use Rattle.hdmi_convert.specs.declared.passing.Passing.{Passing}
 use Rattle.hdmi_convert.specs.declared.passing.PassOnError.{PassOnError}
 use Rattle.hdmi_convert.specs.declared.passing.PassOnError.TheVariants.{PortRange, Edid, NoHdmiBlock, Write}
@@ -26,11 +26,11 @@ address_in own port =
 abbrev pub is_port : ℕ → Bool
 is_port port = nat_lt 0 port && nat_le port 15
 
-abbrev pub is_place : Place → Bool
+abbrev pub is_place : Destination → Bool
 is_place (Address address) = true
 is_place (Port port) = is_port port
 
-abbrev pub place_address : Place → Phys → Phys
+abbrev pub place_address : Destination → Phys → Phys
 place_address (Address address) own = address
 place_address (Port port) own = address_in own port
 

@@ -14,7 +14,7 @@ use hdmi_core::Sink;
 /// # Errors
 ///
 /// `Edid` with the first reason why the bytes spell none: then nothing was written. `Write` where the sink takes no
-/// more: then the front of the lines was written, as long as it tells.
+/// more: then the front of the lines was written, as long as it reports.
 // An EDID and what is found are large: the frame of the caller is kept free of them.
 #[inline(never)]
 pub fn edid_to_findings<S: Sink>(bytes: &[u8], out: &mut S) -> Result<bool, EdidToTextError>

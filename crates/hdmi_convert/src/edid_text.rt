@@ -22,7 +22,7 @@ pub enum EdidToTextError {
     Write(u128),
 }
 
-/// Why the EDID that a text tells is not written.
+/// Why the EDID that a text gives is not written.
 #[derive(Clone, Copy, Debug, Drop, Error, PartialEq, Eq)]
 pub enum TextToHexError {
     /// On this line, from 1, another line would have to stand. Nothing was written.
@@ -70,7 +70,7 @@ impl From<TextError> for TextToHexError {
 /// # Errors
 ///
 /// `Edid` with the first reason why they spell none: then nothing was written. `Write` where the sink takes no more:
-/// then the front of the text was written, as long as it tells.
+/// then the front of the text was written, as long as it reports.
 // An EDID and its text are large: the frame of the caller is kept free of them.
 #[inline(never)]
 pub fn edid_to_text<S: Sink>(bytes: &[u8], out: &mut S) -> Result<(), EdidToTextError>
@@ -88,12 +88,12 @@ pub fn edid_to_text<S: Sink>(bytes: &[u8], out: &mut S) -> Result<(), EdidToText
     }
 }
 
-/// Writes the EDID that a text tells, in a form.
+/// Writes the EDID that a text gives, in a form.
 ///
 /// # Errors
 ///
 /// `Syntax` or `Field` with the first line that no EDID's text has there: then nothing was written. `Write` where the
-/// sink takes no more: then the front of the EDID in that form was written, as long as it tells. Nothing takes memory
+/// sink takes no more: then the front of the EDID in that form was written, as long as it reports. Nothing takes memory
 /// today, so `Memory` does not come.
 // An EDID and its text are large: the frame of the caller is kept free of them.
 #[inline(never)]
@@ -113,7 +113,7 @@ pub fn text_to_edid<S: Sink>(
     }
 }
 
-/// Writes the bytes of the EDID that a text tells, as one line of lower-case hex: `text_to_edid` with `Form::Hex`.
+/// Writes the bytes of the EDID that a text gives, as one line of lower-case hex: `text_to_edid` with `Form::Hex`.
 ///
 /// # Errors
 ///

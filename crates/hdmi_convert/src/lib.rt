@@ -14,4 +14,4 @@ pub use edid_text::{EdidToTextError, TextToHexError, edid_to_text, text_to_edid,
 pub use form::Form;
 pub use laws::{ports_are_those_of_the_tree, televisions_pass_on_as_the_tree};
 pub use passed_on::{check_passed_on, write_address, write_passed_on};
-pub use passing::{PassOnError, Passing, Place};
+pub use passing::{Destination, PassOnError, Passing};

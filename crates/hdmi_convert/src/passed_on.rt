@@ -17,7 +17,7 @@ use hdmi_core::{Phys, Piece, Sink, WriteFault, write_line};
 ///
 /// `PortRange` where no device has such a port, `Edid` with the first reason why the bytes spell none, `NoHdmiBlock` where
 /// it has no HDMI block, in this order: then nothing was written. `Write` where the sink takes no more: then the front of
-/// what was to be written was, as long as it tells.
+/// what was to be written was, as long as it reports.
 #[inline(never)]
 pub fn write_passed_on<S: Sink>(
     bytes: &[u8],
@@ -77,7 +77,7 @@ fn write_address_line<S: Sink>(address: Phys, out: &mut S) -> Result<u128, Write
 /// # Errors
 ///
 /// `Edid` with the first reason why the bytes spell none, `NoHdmiBlock` where it has no HDMI block: then nothing was
-/// written. `Write` where the sink takes no more: then the front of the line was written, as long as it tells.
+/// written. `Write` where the sink takes no more: then the front of the line was written, as long as it reports.
 #[inline(never)]
 pub fn write_address<S: Sink>(bytes: &[u8], out: &mut S) -> Result<(), PassOnError>
     ensures answers { AddressAnswers (S.contents out.old) (S.contents out.new) (S.is_stuck out.old) (S.is_stuck out.new) bytes.now result }

@@ -12,7 +12,7 @@ const LAST_PORT: u8 = 15;
 
 /// Where the device stands that an EDID is passed on to.
 #[derive(Clone, Copy, Debug, PartialEq, Eq)]
-pub enum Place {
+pub enum Destination {
     /// At this address.
     Address(Phys),
     /// In this port, from 1 to 15, of the device that has the EDID's own address.
@@ -22,12 +22,12 @@ pub enum Place {
 /// What is passed on of an EDID.
 #[derive(Clone, Copy, Debug, PartialEq, Eq)]
 pub struct Passing {
-    pub place: Place,
+    pub place: Destination,
     /// Whose audio it has: an amplifier's where one is on the way.
     pub audio: AudioFrom,
 }
 
-/// Why an EDID is not passed on, or tells no address.
+/// Why an EDID is not passed on, or has no address.
 #[derive(Clone, Copy, Debug, PartialEq, Eq, Error)]
 pub enum PassOnError {
     /// No device has a port of this number. Nothing was written.
@@ -76,22 +76,22 @@ fn address_in(own: Phys, port: u8) -> Phys
     }
 }
 
-fn is_place(place: Place) -> bool
+fn is_place(place: Destination) -> bool
     ensures { result ≡ is_place place }
 {
     match place {
-        Place::Address(_) => true,
-        Place::Port(port) => 0 < port && port <= LAST_PORT,
+        Destination::Address(_) => true,
+        Destination::Port(port) => 0 < port && port <= LAST_PORT,
     }
 }
 
-fn place_address(place: Place, own: Phys) -> Phys
+fn place_address(place: Destination, own: Phys) -> Phys
     requires { IsTrue (is_place place) }
     ensures { result ≡ place_address place own }
 {
     match place {
-        Place::Address(address) => address,
-        Place::Port(port) => address_in(own, port),
+        Destination::Address(address) => address,
+        Destination::Port(port) => address_in(own, port),
     }
 }
 

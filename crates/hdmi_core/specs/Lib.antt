@@ -5,3 +5,8 @@ pub mod Written
 pub mod Phys
 pub mod Kind
 pub mod Bytes
+pub mod Lines
+pub mod Words
+pub mod Number
+pub mod Hex
+pub mod Cut

@@ -1,17 +1,29 @@
-//! What both the EDIDs and the CEC wire speak of: kinds of device and physical addresses; and how lines are
-//! written, part by part, to a sink that says how many bytes it took.
+//! What both the EDIDs and the CEC wire speak of: kinds of device and physical addresses; what texts are made of: lines,
+//! words, decimal and hex numbers; and how lines are written, part by part, to a sink that says how many bytes it took.
 #![tactic(auto)]
 
 mod buffered;
+mod hex;
 mod kind;
 mod laws;
+mod lines;
+mod number;
+mod parts;
 mod phys;
 mod piece;
 mod sink;
+mod words;
+mod written;
 
 pub use buffered::Buffered;
+pub use hex::{hex_at, hex_bytes};
 pub use kind::Kind;
 pub use laws::kinds_are_named_by_their_words;
+pub use lines::{first_line, is_skipped};
+pub use number::{number_in, small_number};
+pub use parts::{before, behind, byte_at, joined, len_before};
 pub use phys::{Phys, digit_value, is_hex_digit};
 pub use piece::{Piece, hex_digit, write_line, write_pieces};
 pub use sink::{Sink, WriteFault, Writes, put_all};
+pub use words::{first_word, one_word, spaces_unquoted, three_words, two_words};
+pub use written::{counted, cut_at};

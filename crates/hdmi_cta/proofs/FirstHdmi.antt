@@ -7,27 +7,27 @@ use Rattle.std.specs.List.{find, position, position_or_len, before_first}
 use Rattle.std.specs.Option.{option_map, is_some}
 use Rattle.hdmi_cta.specs.Block.{block_bytes}
 use Rattle.hdmi_cta.specs.Hdmi.{has_identifier, is_vendor, is_hdmi, phys_at, blocks_of, address_of, address_place}
-use Rattle.hdmi_cta.specs.declared.block.Block.{Block}
+use Rattle.hdmi_cta.specs.declared.block.DataBlock.{DataBlock}
 use Rattle.hdmi_cta.specs.declared.raw.Ext.{Ext}
 use Rattle.hdmi_cta.specs.declared.raw.Ext.TheVariants.{Cta, Bare, Raw}
 
--- the first HDMI block, and what stands before and behind it
-pub record IsCut (blocks : List Block) : Type 0 where
-  pub before : List Block
-  pub hdmi : Block
-  pub after : List Block
+-- the first HDMI block, and what stands before and after it
+pub record IsCut (blocks : List DataBlock) : Type 0 where
+  pub before : List DataBlock
+  pub hdmi : DataBlock
+  pub after : List DataBlock
   pub whole : blocks ≡ before ++ hdmi ∷ after
   pub is_one : is_hdmi hdmi ≡ true
   pub place : position_or_len is_hdmi blocks ≡ length before
   pub front : before_first is_hdmi blocks ≡ before
   pub found : find is_hdmi blocks ≡ Some hdmi
-  pub instead : (b : Block) → is_hdmi b ≡ true → find is_hdmi (before ++ b ∷ after) ≡ Some b
+  pub instead : (b : DataBlock) → is_hdmi b ≡ true → find is_hdmi (before ++ b ∷ after) ≡ Some b
 
-pub record HasNone (blocks : List Block) : Type 0 where
+pub record HasNone (blocks : List DataBlock) : Type 0 where
   pub place : position_or_len is_hdmi blocks ≡ length blocks
   pub none : find is_hdmi blocks ≡ None
 
-here : (b : Block) (bs : List Block) → is_hdmi b ≡ true → IsCut (b ∷ bs)
+here : (b : DataBlock) (bs : List DataBlock) → is_hdmi b ≡ true → IsCut (b ∷ bs)
 here b bs h = record {
   before = [];
   hdmi = b;
@@ -40,7 +40,7 @@ here b bs h = record {
   instead = λ c k. rw k refl;
 }
 
-later : (b : Block) (bs : List Block) → is_hdmi b ≡ false → IsCut bs → IsCut (b ∷ bs)
+later : (b : DataBlock) (bs : List DataBlock) → is_hdmi b ≡ false → IsCut bs → IsCut (b ∷ bs)
 later b bs h k = record {
   before = b ∷ k.before;
   hdmi = k.hdmi;
@@ -53,10 +53,10 @@ later b bs h k = record {
   instead = λ c e. rw h (k.instead c e);
 }
 
-nowhere : (b : Block) (bs : List Block) → is_hdmi b ≡ false → HasNone bs → HasNone (b ∷ bs)
+nowhere : (b : DataBlock) (bs : List DataBlock) → is_hdmi b ≡ false → HasNone bs → HasNone (b ∷ bs)
 nowhere b bs h k = record { place = rw (h, one-add) (ap (λ n. suc n) k.place); none = rw h k.none }
 
-pub cut : (blocks : List Block) → HasNone blocks ⊎ IsCut blocks
+pub cut : (blocks : List DataBlock) → HasNone blocks ⊎ IsCut blocks
 cut [] = inl (record { place = refl; none = refl })
 cut (b ∷ bs) = by_test (is_hdmi b) refl (cut bs)
   where
@@ -65,12 +65,12 @@ cut (b ∷ bs) = by_test (is_hdmi b) refl (cut bs)
     by_test false h (inl k) = inl (nowhere b bs h k)
     by_test false h (inr k) = inr (later b bs h k)
 
-none_placed : (blocks : List Block) → HasNone blocks → position is_hdmi blocks ≡ None
+none_placed : (blocks : List DataBlock) → HasNone blocks → position is_hdmi blocks ≡ None
 none_placed blocks h =
     let place = h.place in
     let t : nat_lt (position_or_len is_hdmi blocks) (length blocks) ≡ false = grind (arith, tests) in rw t refl
 
-cut_placed : (blocks : List Block) (k : IsCut blocks) → position is_hdmi blocks ≡ Some (length k.before)
+cut_placed : (blocks : List DataBlock) (k : IsCut blocks) → position is_hdmi blocks ≡ Some (length k.before)
 cut_placed blocks k =
     let place = k.place in
     let len = ap length k.whole in
@@ -79,7 +79,7 @@ cut_placed blocks k =
     rw t (ap (λ n. Some n) k.place)
 
 -- where no place has one, none is found
-pub none_found : (blocks : List Block) → position is_hdmi blocks ≡ None → find is_hdmi blocks ≡ None
+pub none_found : (blocks : List DataBlock) → position is_hdmi blocks ≡ None → find is_hdmi blocks ≡ None
 none_found blocks e = by (cut blocks)
   where
     by : HasNone blocks ⊎ IsCut blocks → find is_hdmi blocks ≡ None
@@ -87,14 +87,14 @@ none_found blocks e = by (cut blocks)
     by (inr k) = let p = cut_placed blocks k in cc
 
 -- the place of the first
-pub cut_at : (blocks : List Block) (i : ℕ) → position is_hdmi blocks ≡ Some i → (k : IsCut blocks) × (i ≡ length k.before)
+pub cut_at : (blocks : List DataBlock) (i : ℕ) → position is_hdmi blocks ≡ Some i → (k : IsCut blocks) × (i ≡ length k.before)
 cut_at blocks i e = by (cut blocks)
   where
     by : HasNone blocks ⊎ IsCut blocks → (k : IsCut blocks) × (i ≡ length k.before)
     by (inl h) = let p = none_placed blocks h in cc
     by (inr k) = let p = cut_placed blocks k in (k, cc)
 
-pub cut_found : (blocks : List Block) (b : Block) → find is_hdmi blocks ≡ Some b → (k : IsCut blocks) × (k.hdmi ≡ b)
+pub cut_found : (blocks : List DataBlock) (b : DataBlock) → find is_hdmi blocks ≡ Some b → (k : IsCut blocks) × (k.hdmi ≡ b)
 cut_found blocks b e = by (cut blocks)
   where
     by : HasNone blocks ⊎ IsCut blocks → (k : IsCut blocks) × (k.hdmi ≡ b)
@@ -112,7 +112,7 @@ pub record IsIdentified (payload : List ℕ) : Type 0 where
   pub second : get_or payload 1 0 ≡ 12
   pub third : get_or payload 2 0 ≡ 0
 
-pub identified : (b : Block) → is_hdmi b ≡ true → IsIdentified b.payload.items
+pub identified : (b : DataBlock) → is_hdmi b ≡ true → IsIdentified b.payload.items
 identified b h =
     let p = b.payload.items in
     let id = both (is_vendor b.kind) (has_identifier p) h in
@@ -146,5 +146,5 @@ placed e i h =
     record {
       room = omega (arith, len, parts, whole, rest, long, most);
       place = ap (λ bs. 8 + length (flat_map block_bytes bs)) (same ∙ sym k.front);
-      there = ap (λ o. is_some (option_map (λ (b : Block). phys_at b.payload.items) o)) k.found;
+      there = ap (λ o. is_some (option_map (λ (b : DataBlock). phys_at b.payload.items) o)) k.found;
     }

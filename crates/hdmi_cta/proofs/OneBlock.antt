@@ -6,7 +6,7 @@ use Rattle.arrayvec.specs.ArrayVec.{ArrayVec}
 use Rattle.hdmi_edid.specs.Bytes.{are_bytes}
 use Rattle.hdmi_edid.proofs.Same.{same}
 use Rattle.hdmi_cta.specs.Block.{kind_number, block_bytes}
-use Rattle.hdmi_cta.specs.declared.block.Block.{Block}
+use Rattle.hdmi_cta.specs.declared.block.DataBlock.{DataBlock}
 use Rattle.hdmi_cta.specs.declared.block.BlockKind.{BlockKind}
 use Rattle.hdmi_cta.specs.declared.block.BlockKind.TheVariants.{Tag0, Audio, Video, Vendor, Speakers, Tag5, Tag6, Extended}
 
@@ -40,10 +40,10 @@ one_kind a b e = sym (kind_again a) ∙ ap kind_at e ∙ kind_again b
 abbrev made : BlockKind × ArrayVec ℕ → Type 0
 made p = (length p.1.items < 32) × IsTrue (are_bytes p.1.items)
 
-abbrev built : (p : BlockKind × ArrayVec ℕ) → made p → Block
+abbrev built : (p : BlockKind × ArrayVec ℕ) → made p → DataBlock
 built p h = record { kind = p.0; payload = p.1; short = h.0; bytes_fit = h.1 }
 
-pub one_front : (a b : Block) (xs ys : List ℕ) → block_bytes a ++ xs ≡ block_bytes b ++ ys → (a ≡ b) × (xs ≡ ys)
+pub one_front : (a b : DataBlock) (xs ys : List ℕ) → block_bytes a ++ xs ≡ block_bytes b ++ ys → (a ≡ b) × (xs ≡ ys)
 one_front a b xs ys e =
     let head : kind_number a.kind * 32 + length a.payload.items ≡ kind_number b.kind * 32 + length b.payload.items = ap (λ t. get_or t 0 0) e in
     let number : kind_number a.kind ≡ kind_number b.kind = omega (arith, a.short, b.short, head) in
@@ -55,7 +55,7 @@ one_front a b xs ys e =
     let prop : (p : BlockKind × ArrayVec ℕ) → IsProp (made p) = λ p. hlevel (le_prop, Bool-set) in
     (same built prop (a.kind, a.payload) (b.kind, b.payload) (a.short, a.bytes_fit) (b.short, b.bytes_fit) pair, parts.1)
 
-pub one_blocks : (xs ys : List Block) → flat_map block_bytes xs ≡ flat_map block_bytes ys → xs ≡ ys
+pub one_blocks : (xs ys : List DataBlock) → flat_map block_bytes xs ≡ flat_map block_bytes ys → xs ≡ ys
 one_blocks [] [] e = refl
 one_blocks [] (y ∷ ys) e = absurd (omega (arith, ap length e))
 one_blocks (x ∷ xs) [] e = absurd (omega (arith, ap length e))
@@ -65,15 +65,15 @@ one_blocks (x ∷ xs) (y ∷ ys) e =
     let others = one_blocks xs ys parts.1 in cc
 
 -- no list of blocks spells blocks and then bytes that begin with none
-pub none_behind : (xs : List Block) (rest : List ℕ) → 0 < length rest → ((b : Block) (ys : List ℕ) → block_bytes b ++ ys ≡ rest → ⊥)
-    → (bs : List Block) → flat_map block_bytes bs ≡ flat_map block_bytes xs ++ rest → ⊥
+pub none_behind : (xs : List DataBlock) (rest : List ℕ) → 0 < length rest → ((b : DataBlock) (ys : List ℕ) → block_bytes b ++ ys ≡ rest → ⊥)
+    → (bs : List DataBlock) → flat_map block_bytes bs ≡ flat_map block_bytes xs ++ rest → ⊥
 none_behind [] rest some none [] e = omega (arith, ap length e)
 none_behind [] rest some none (b ∷ bs) e = none b (flat_map block_bytes bs) e
 none_behind (x ∷ xs) rest some none [] e = omega (arith, ap length e)
 none_behind (x ∷ xs) rest some none (b ∷ bs) e =
     none_behind xs rest some none bs (one_front b x (flat_map block_bytes bs) (flat_map block_bytes xs ++ rest) (e ∙ append_assoc (block_bytes x) (flat_map block_bytes xs) rest)).1
 
-pub same_block : (a b : Block) → a.kind ≡ b.kind → a.payload.items ≡ b.payload.items → a ≡ b
+pub same_block : (a b : DataBlock) → a.kind ≡ b.kind → a.payload.items ≡ b.payload.items → a ≡ b
 same_block a b kind items =
     let payload : a.payload ≡ b.payload = ap (λ t. record { items = t }) items in
     let pair : (a.kind, a.payload) ≡ (b.kind, b.payload) = cc in

@@ -11,7 +11,7 @@ use Rattle.hdmi_cta.specs.Block.{block_bytes}
 use Rattle.hdmi_cta.specs.Cta.{is_tail}
 use Rattle.hdmi_cta.specs.Whole.{cta_bytes, bare_bytes}
 use Rattle.hdmi_cta.specs.Ext.{ext_bytes}
-use Rattle.hdmi_cta.specs.declared.block.Block.{Block}
+use Rattle.hdmi_cta.specs.declared.block.DataBlock.{DataBlock}
 use Rattle.hdmi_cta.specs.declared.cta.Cta.{Cta}
 use Rattle.hdmi_cta.specs.declared.cta.Bare.{Bare}
 use Rattle.hdmi_cta.specs.declared.raw.RawExt.{RawExt}
@@ -22,7 +22,7 @@ use Rattle.hdmi_cta.proofs.OneTimings.{one_timings}
 
 record Plain : Type 0 where
   flags : ℕ
-  blocks : ArrayVec Block
+  blocks : ArrayVec DataBlock
   timings : ArrayVec Timing
   tail : ArrayVec ℕ
 

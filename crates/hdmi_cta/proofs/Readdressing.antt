@@ -11,17 +11,17 @@ use Rattle.hdmi_edid.specs.Bytes.{are_bytes}
 use Rattle.hdmi_edid.specs.Timing.{timing_bytes}
 use Rattle.hdmi_cta.proofs.FirstHdmi.{IsCut, HasNone, cut, both, identified, IsIdentified}
 use Rattle.hdmi_cta.specs.Block.{block_bytes, kind_number}
-use Rattle.hdmi_edid.specs.Check.{check_of, summed}
+use Rattle.hdmi_edid.specs.Check.{check_of, block_with_checksum}
 use Rattle.hdmi_cta.specs.Ext.{ext_bytes}
-use Rattle.hdmi_cta.specs.Hdmi.{has_identifier, is_vendor, is_hdmi, phys_at, blocks_of, address_of, address_place, readdressed}
+use Rattle.hdmi_cta.specs.Hdmi.{has_identifier, is_vendor, is_hdmi, phys_at, blocks_of, address_of, address_place, bytes_with_address}
 use Rattle.hdmi_cta.specs.Whole.{cta_bytes}
-use Rattle.hdmi_cta.specs.declared.block.Block.{Block}
+use Rattle.hdmi_cta.specs.declared.block.DataBlock.{DataBlock}
 use Rattle.hdmi_cta.specs.declared.cta.Cta.{Cta as CtaBlock}
 use Rattle.hdmi_core.specs.declared.phys.Phys.{Phys}
 use Rattle.hdmi_cta.specs.declared.raw.Ext.{Ext}
 use Rattle.hdmi_cta.specs.declared.raw.Ext.TheVariants.{Cta, Bare, Raw}
 
--- two bytes behind a front, and the checksum
+-- two bytes after a front, and the checksum
 set_two : (front : List ℕ) (a b h l : ℕ) (behind : List ℕ) → set (set (front ++ (a ∷ b ∷ behind)) (length front) h) (length front + 1) l ≡ front ++ (h ∷ l ∷ behind)
 set_two front a b h l behind =
     let first : set (front ++ (a ∷ b ∷ behind)) (length front) h ≡ front ++ (h ∷ b ∷ behind) = set_at front a (b ∷ behind) h (length front) refl in
@@ -31,13 +31,13 @@ set_two front a b h l behind =
     ap (λ xs. set xs (length front + 1) l) first ∙ ap (λ xs. set xs (length front + 1) l) (sym regroup) ∙ second ∙ append_assoc front (h ∷ []) (l ∷ behind)
 
 pub readdressed_is : (front : List ℕ) (a b : ℕ) (p : Phys) (behind : List ℕ) → length front + 2 + length behind ≡ 127
-    → readdressed (summed (front ++ (a ∷ b ∷ behind))) (length front) p ≡ summed (front ++ (p.high ∷ p.low ∷ behind))
+    → bytes_with_address (block_with_checksum (front ++ (a ∷ b ∷ behind))) (length front) p ≡ block_with_checksum (front ++ (p.high ∷ p.low ∷ behind))
 readdressed_is front a b p behind len =
     let check = check_of (front ++ (a ∷ b ∷ behind)) in
     let regroup : (front ++ (a ∷ b ∷ behind)) ++ (check ∷ []) ≡ front ++ (a ∷ b ∷ (behind ++ (check ∷ []))) = append_assoc front (a ∷ b ∷ behind) (check ∷ []) in
     let changed = ap (λ xs. set (set xs (length front) p.high) (length front + 1) p.low) regroup ∙ set_two front a b p.high p.low (behind ++ (check ∷ [])) ∙ sym (append_assoc front (p.high ∷ p.low ∷ behind) (check ∷ [])) in
     let size : length (front ++ (p.high ∷ p.low ∷ behind)) ≡ 127 = omega (arith, length-append front (p.high ∷ p.low ∷ behind)) in
-    ap (λ xs. summed (take 127 xs)) changed ∙ ap summed (take_at (front ++ (p.high ∷ p.low ∷ behind)) (check ∷ []) 127 size)
+    ap (λ xs. block_with_checksum (take 127 xs)) changed ∙ ap block_with_checksum (take_at (front ++ (p.high ∷ p.low ∷ behind)) (check ∷ []) 127 size)
 
 -- two numbers written over a slice's part
 pub put_two : (xs : List ℕ) (i n h l : ℕ) → i + 1 < length xs → n ≡ 2 → put_mid i n xs (h ∷ l ∷ []) ≡ set (set xs i h) (i + 1) l
@@ -65,19 +65,19 @@ buf_is number h l mid buf e hh hl len is =
     cc
 
 -- an HDMI block's payload with another address
-abbrev new_payload : Block → Phys → List ℕ
+abbrev new_payload : DataBlock → Phys → List ℕ
 new_payload b p = 3 ∷ 12 ∷ 0 ∷ p.high ∷ p.low ∷ drop 5 b.payload.items
 
-new_len : (b : Block) (p : Phys) → 5 ≤ length b.payload.items → length (new_payload b p) ≡ length b.payload.items
+new_len : (b : DataBlock) (p : Phys) → 5 ≤ length b.payload.items → length (new_payload b p) ≡ length b.payload.items
 new_len b p long = let rest = length-drop 5 b.payload.items in omega (arith, rest)
 
-new_fit : (b : Block) (p : Phys) → p.high < 256 → p.low < 256 → are_bytes (new_payload b p) ≡ true
+new_fit : (b : DataBlock) (p : Phys) → p.high < 256 → p.low < 256 → are_bytes (new_payload b p) ≡ true
 new_fit b p h l =
     let rest = are_bytes-drop 5 b.payload.items b.bytes_fit in
     let low = are_bytes-cons p.low (drop 5 b.payload.items) l rest in
     let high = are_bytes-cons p.high (p.low ∷ drop 5 b.payload.items) h low in high
 
-old_payload : (b : Block) → IsIdentified b.payload.items
+old_payload : (b : DataBlock) → IsIdentified b.payload.items
     → b.payload.items ≡ 3 ∷ 12 ∷ 0 ∷ get_or b.payload.items 3 0 ∷ get_or b.payload.items 4 0 ∷ drop 5 b.payload.items
 old_payload b id =
     let xs = b.payload.items in
@@ -92,10 +92,10 @@ old_payload b id =
     let third = id.third in
     cc
 
-abbrev new_block : (b : Block) (p : Phys) → length (new_payload b p) < 32 → are_bytes (new_payload b p) ≡ true → Block
+abbrev new_block : (b : DataBlock) (p : Phys) → length (new_payload b p) < 32 → are_bytes (new_payload b p) ≡ true → DataBlock
 new_block b p short fit = record { kind = b.kind; payload = record { items = new_payload b p }; short = short; bytes_fit = fit }
 
-new_is_hdmi : (b : Block) (p : Phys) (short : length (new_payload b p) < 32) (fit : are_bytes (new_payload b p) ≡ true) → is_hdmi b ≡ true → is_hdmi (new_block b p short fit) ≡ true
+new_is_hdmi : (b : DataBlock) (p : Phys) (short : length (new_payload b p) < 32) (fit : are_bytes (new_payload b p) ≡ true) → is_hdmi b ≡ true → is_hdmi (new_block b p short fit) ≡ true
 new_is_hdmi b p short fit h =
     let vendor = (both (is_vendor b.kind) (has_identifier b.payload.items) h).0 in
     let long : nat_le 5 (length (new_payload b p)) ≡ true = grind (arith, tests) in
@@ -106,7 +106,7 @@ abbrev front_of : ℕ → ℕ → List ℕ → ℕ → List ℕ
 front_of d flags before head = 2 ∷ 3 ∷ d ∷ flags ∷ (before ++ (head ∷ 3 ∷ 12 ∷ 0 ∷ []))
 
 -- data blocks, cut at an HDMI block's address
-cut_bytes : (before after : List Block) (b : Block) (x y : ℕ) (rest more : List ℕ) → b.payload.items ≡ 3 ∷ 12 ∷ 0 ∷ x ∷ y ∷ rest
+cut_bytes : (before after : List DataBlock) (b : DataBlock) (x y : ℕ) (rest more : List ℕ) → b.payload.items ≡ 3 ∷ 12 ∷ 0 ∷ x ∷ y ∷ rest
     → flat_map block_bytes (before ++ b ∷ after) ++ more
     ≡ (flat_map block_bytes before ++ ((kind_number b.kind * 32 + length b.payload.items) ∷ 3 ∷ 12 ∷ 0 ∷ [])) ++ (x ∷ y ∷ (rest ++ (flat_map block_bytes after ++ more)))
 cut_bytes before after b x y rest more e =
@@ -121,7 +121,7 @@ cut_bytes before after b x y rest more e =
     parted ∙ told ∙ moved ∙ inner ∙ sym outer
 
 -- another block of the same length leaves the length of all
-same_total : (before after : List Block) (a b : Block) → length a.payload.items ≡ length b.payload.items
+same_total : (before after : List DataBlock) (a b : DataBlock) → length a.payload.items ≡ length b.payload.items
     → length (flat_map block_bytes (before ++ a ∷ after)) ≡ length (flat_map block_bytes (before ++ b ∷ after))
 same_total [] after a b e =
     omega (arith, e, length-append (block_bytes a) (flat_map block_bytes after), length-append (block_bytes b) (flat_map block_bytes after))
@@ -131,7 +131,7 @@ same_total (x ∷ xs) after a b e =
 
 pub record IsReaddressed (e : Ext) (p : Phys) : Type 0 where
   pub ext : Ext
-  pub bytes : ext_bytes ext ≡ readdressed (ext_bytes e) (address_place (blocks_of e)) p
+  pub bytes : ext_bytes ext ≡ bytes_with_address (ext_bytes e) (address_place (blocks_of e)) p
   pub address : address_of ext ≡ Some p
 
 in_cta : (c : CtaBlock) (p : Phys) (k : IsCut c.blocks.items) → p.high < 256 → p.low < 256 → IsReaddressed (Cta c) p
@@ -161,24 +161,24 @@ in_cta c p k hi lo =
     let made : CtaBlock = record { flags = c.flags; blocks = record { items = blocks }; timings = c.timings; tail = c.tail; whole = whole; ended = c.ended; bytes_fit = c.bytes_fit } in
     let old_body = ap (λ bs. flat_map block_bytes bs ++ more) parted ∙ cut_bytes k.before k.after b x y rest more (old_payload b id) in
     let new_body = cut_bytes k.before k.after n p.high p.low rest more refl in
-    let old_bytes : cta_bytes c ≡ summed (front_of d c.flags front head ++ (x ∷ y ∷ behind)) = ap (λ z. summed (2 ∷ 3 ∷ d ∷ c.flags ∷ z)) old_body in
-    let new_bytes : cta_bytes made ≡ summed (front_of (length (flat_map block_bytes blocks) + 4) c.flags front (kind_number b.kind * 32 + length (new_payload b p)) ++ (p.high ∷ p.low ∷ behind)) =
-    ap (λ z. summed (2 ∷ 3 ∷ (length (flat_map block_bytes blocks) + 4) ∷ c.flags ∷ z)) new_body in
-    let same_front : summed (front_of (length (flat_map block_bytes blocks) + 4) c.flags front (kind_number b.kind * 32 + length (new_payload b p)) ++ (p.high ∷ p.low ∷ behind))
-    ≡ summed (front_of d c.flags front head ++ (p.high ∷ p.low ∷ behind)) =
-    ap (λ t. summed (front_of (t + 4) c.flags front (kind_number b.kind * 32 + length (new_payload b p)) ++ (p.high ∷ p.low ∷ behind))) total
-    ∙ ap (λ t. summed (front_of d c.flags front (kind_number b.kind * 32 + t) ++ (p.high ∷ p.low ∷ behind))) len in
+    let old_bytes : cta_bytes c ≡ block_with_checksum (front_of d c.flags front head ++ (x ∷ y ∷ behind)) = ap (λ z. block_with_checksum (2 ∷ 3 ∷ d ∷ c.flags ∷ z)) old_body in
+    let new_bytes : cta_bytes made ≡ block_with_checksum (front_of (length (flat_map block_bytes blocks) + 4) c.flags front (kind_number b.kind * 32 + length (new_payload b p)) ++ (p.high ∷ p.low ∷ behind)) =
+    ap (λ z. block_with_checksum (2 ∷ 3 ∷ (length (flat_map block_bytes blocks) + 4) ∷ c.flags ∷ z)) new_body in
+    let same_front : block_with_checksum (front_of (length (flat_map block_bytes blocks) + 4) c.flags front (kind_number b.kind * 32 + length (new_payload b p)) ++ (p.high ∷ p.low ∷ behind))
+    ≡ block_with_checksum (front_of d c.flags front head ++ (p.high ∷ p.low ∷ behind)) =
+    ap (λ t. block_with_checksum (front_of (t + 4) c.flags front (kind_number b.kind * 32 + length (new_payload b p)) ++ (p.high ∷ p.low ∷ behind))) total
+    ∙ ap (λ t. block_with_checksum (front_of d c.flags front (kind_number b.kind * 32 + t) ++ (p.high ∷ p.low ∷ behind))) len in
     let size : length (front_of d c.flags front head) ≡ 8 + length front = omega (arith, length-append front (head ∷ 3 ∷ 12 ∷ 0 ∷ [])) in
     let place : address_place c.blocks.items ≡ length (front_of d c.flags front head) = ap (λ bs. 8 + length (flat_map block_bytes bs)) k.front ∙ sym size in
     let body_len = ap length old_body ∙ length-append (front ++ (head ∷ 3 ∷ 12 ∷ 0 ∷ [])) (x ∷ y ∷ behind) in
     let fill : length (front_of d c.flags front head) + 2 + length behind ≡ 127 =
     omega (arith, all, body_len, length-append (flat_map block_bytes c.blocks.items) more, length-append (flat_map timing_bytes c.timings.items) c.tail.items) in
     let changed = readdressed_is (front_of d c.flags front head) x y p behind fill in
-    let target : readdressed (cta_bytes c) (address_place c.blocks.items) p ≡ cta_bytes made =
-    ap (λ z. readdressed z (address_place c.blocks.items) p) old_bytes
-    ∙ ap (λ z. readdressed (summed (front_of d c.flags front head ++ (x ∷ y ∷ behind))) z p) place ∙ changed ∙ sym same_front ∙ sym new_bytes in
+    let target : bytes_with_address (cta_bytes c) (address_place c.blocks.items) p ≡ cta_bytes made =
+    ap (λ z. bytes_with_address z (address_place c.blocks.items) p) old_bytes
+    ∙ ap (λ z. bytes_with_address (block_with_checksum (front_of d c.flags front head ++ (x ∷ y ∷ behind))) z p) place ∙ changed ∙ sym same_front ∙ sym new_bytes in
     let found = k.instead n (new_is_hdmi b p short fit k.is_one) in
-    record { ext = Cta made; bytes = sym target; address = ap (option_map (λ (v : Block). phys_at v.payload.items)) found }
+    record { ext = Cta made; bytes = sym target; address = ap (option_map (λ (v : DataBlock). phys_at v.payload.items)) found }
 
 pub in_ext : (e : Ext) (p : Phys) → IsSome (address_of e) → p.high < 256 → p.low < 256 → IsReaddressed e p
 in_ext (Cta c) p some hi lo = by (cut c.blocks.items)
@@ -187,7 +187,7 @@ in_ext (Cta c) p some hi lo = by (cut c.blocks.items)
     by (inl h) = absurd (no h.none)
       where
         no : find is_hdmi c.blocks.items ≡ None → ⊥
-        no e = let t = ap (λ o. is_some (option_map (λ (v : Block). phys_at v.payload.items) o)) e in cc
+        no e = let t = ap (λ o. is_some (option_map (λ (v : DataBlock). phys_at v.payload.items) o)) e in cc
     by (inr k) = in_cta c p k hi lo
 in_ext (Bare b) p some hi lo = cc
 in_ext (Raw r) p some hi lo = cc

@@ -1,12 +1,12 @@
--- The parts of a block, one behind another.
+-- The parts of a block, one after another.
 use Rattle.std.proofs.Common.{◌≡◌, ℕ, ◌<◌, ◌≤◌, ◌+◌, ◌-◌, ◌%◌, List, [], ◌∷◌, ◌++◌, length, get_or, drop, take, sum, arith, sym, ◌∙◌, ap, drop-cons, drop-drop, length-drop}
 use Rattle.std.proofs.Math.Seq.{take-add}
 use Rattle.std.proofs.lemmas.List.{take_all, length-take-le}
 use Rattle.hdmi_edid.proofs.PartLemmas.{piece, checked}
-use Rattle.hdmi_edid.specs.Check.{summed}
+use Rattle.hdmi_edid.specs.Check.{block_with_checksum}
 
 pub whole_is : (xs : List ℕ) (a b c d : ℕ) (body : List ℕ) → length xs ≡ 128 → a ≡ get_or xs 0 0 → b ≡ get_or xs 1 0 → c ≡ get_or xs 2 0 → d ≡ get_or xs 3 0
-    → body ≡ take 123 (drop 4 xs) → get_or xs 127 0 < 256 → sum xs % 256 ≡ 0 → summed (a ∷ b ∷ c ∷ d ∷ body) ≡ xs
+    → body ≡ take 123 (drop 4 xs) → get_or xs 127 0 < 256 → sum xs % 256 ≡ 0 → block_with_checksum (a ∷ b ∷ c ∷ d ∷ body) ≡ xs
 whole_is xs a b c d body len ha hb hc hd hbody fits total =
     let none : length (drop 128 xs) ≤ 0 = simp length-drop (omega arith) in
     let end : drop 128 xs ≡ [] = sym (take_all 0 (drop 128 xs) none) in

@@ -3,13 +3,13 @@
 use Rattle.std.specs.Prelude.{◌≡◌, ℕ, ◌+◌, ◌-◌, ◌==◌, ◌&&◌, Bool, true, false, nat_le, if◌then◌else◌, List, [], ◌∷◌, ◌++◌, length, take, drop, replicate, flat_map, find}
 use Rattle.std.specs.List.{before_first}
 use Rattle.hdmi_edid.specs.Bytes.{are_zeros}
-use Rattle.hdmi_edid.specs.Check.{summed}
+use Rattle.hdmi_edid.specs.Check.{block_with_checksum}
 use Rattle.hdmi_edid.specs.Timing.{timing_bytes}
 use Rattle.hdmi_cta.specs.Block.{block_bytes}
 use Rattle.hdmi_cta.specs.Ext.{ext_bytes}
 use Rattle.hdmi_cta.specs.Hdmi.{is_hdmi, blocks_of, address_place}
 use Rattle.hdmi_cta.specs.Whole.{cta_bytes}
-use Rattle.hdmi_cta.specs.declared.block.Block.{Block}
+use Rattle.hdmi_cta.specs.declared.block.DataBlock.{DataBlock}
 use Rattle.hdmi_cta.specs.declared.block.BlockKind.{BlockKind}
 use Rattle.hdmi_cta.specs.declared.block.BlockKind.TheVariants.{Audio}
 use Rattle.hdmi_cta.specs.declared.cta.Cta.{Cta as CtaValue}
@@ -20,7 +20,7 @@ abbrev pub is_audio_kind : BlockKind → Bool
 is_audio_kind Audio = true
 is_audio_kind _ = false
 
-abbrev pub is_audio : Block → Bool
+abbrev pub is_audio : DataBlock → Bool
 is_audio b = is_audio_kind b.kind
 
 -- eight channels of linear PCM, and six of AC-3
@@ -28,36 +28,36 @@ abbrev pub amplifier_audio : List ℕ
 amplifier_audio = 0x26 ∷ 0x0f ∷ 0x7f ∷ 0x07 ∷ 0x15 ∷ 0x07 ∷ 0x50 ∷ []
 
 -- the bytes of data blocks, where the first audio block is the amplifier's
-abbrev pub heard : List Block → List ℕ
-heard [] = []
-heard (b ∷ bs) = if is_audio b then amplifier_audio ++ flat_map block_bytes bs else block_bytes b ++ heard bs
+abbrev pub bytes_with_audio : List DataBlock → List ℕ
+bytes_with_audio [] = []
+bytes_with_audio (b ∷ bs) = if is_audio b then amplifier_audio ++ flat_map block_bytes bs else block_bytes b ++ bytes_with_audio bs
 
 -- by how many bytes the data blocks grow, and by how many they shrink
-abbrev pub growth : List Block → ℕ
-growth blocks = length (heard blocks) - length (flat_map block_bytes blocks)
+abbrev pub growth : List DataBlock → ℕ
+growth blocks = length (bytes_with_audio blocks) - length (flat_map block_bytes blocks)
 
-abbrev pub shrinkage : List Block → ℕ
-shrinkage blocks = length (flat_map block_bytes blocks) - length (heard blocks)
+abbrev pub shrinkage : List DataBlock → ℕ
+shrinkage blocks = length (flat_map block_bytes blocks) - length (bytes_with_audio blocks)
 
 -- so many zeros stand at the end
 abbrev pub ends_in_zeros : ℕ → List ℕ → Bool
 ends_in_zeros n bytes = nat_le n (length bytes) && are_zeros (drop (length bytes - n) bytes)
 
 -- a tail without so many of its last bytes, and with so many zeros more
-abbrev pub fitted : ℕ → ℕ → List ℕ → List ℕ
-fitted less more tail = take (length tail - less) tail ++ replicate more 0
+abbrev pub tail_with : ℕ → ℕ → List ℕ → List ℕ
+tail_with less more tail = take (length tail - less) tail ++ replicate more 0
 
 abbrev pub has_room : CtaValue → Bool
 has_room c = ends_in_zeros (growth c.blocks.items) c.tail.items
 
 -- what follows the data blocks
-abbrev pub moved : CtaValue → List ℕ
-moved c = flat_map timing_bytes c.timings.items ++ fitted (growth c.blocks.items) (shrinkage c.blocks.items) c.tail.items
+abbrev pub bytes_after_blocks : CtaValue → List ℕ
+bytes_after_blocks c = flat_map timing_bytes c.timings.items ++ tail_with (growth c.blocks.items) (shrinkage c.blocks.items) c.tail.items
 
 -- the 128 bytes with the amplifier's audio, where there is room; what follows it moves, and the checksum is mended
 abbrev pub heard_cta : CtaValue → List ℕ
 heard_cta c =
-    if has_room c then summed (2 ∷ 3 ∷ (length (heard c.blocks.items) + 4) ∷ c.flags ∷ (heard c.blocks.items ++ moved c))
+    if has_room c then block_with_checksum (2 ∷ 3 ∷ (length (bytes_with_audio c.blocks.items) + 4) ∷ c.flags ∷ (bytes_with_audio c.blocks.items ++ bytes_after_blocks c))
     else cta_bytes c
 
 abbrev pub heard_bytes : Ext → List ℕ
@@ -67,7 +67,7 @@ heard_bytes (Raw r) = ext_bytes (Raw r)
 
 -- where the address of the first HDMI block stands then
 abbrev pub place_in : CtaValue → ℕ
-place_in c = if has_room c then 8 + length (heard (before_first is_hdmi c.blocks.items)) else address_place c.blocks.items
+place_in c = if has_room c then 8 + length (bytes_with_audio (before_first is_hdmi c.blocks.items)) else address_place c.blocks.items
 
 abbrev pub heard_place : Ext → ℕ
 heard_place (Cta c) = place_in c

@@ -4,14 +4,14 @@ use Rattle.hdmi_edid.specs.Forms.{is_timing}
 use Rattle.hdmi_edid.specs.Timing.{timing_bytes}
 use Rattle.hdmi_edid.specs.declared.timing.Timing.{Timing}
 use Rattle.hdmi_cta.specs.Block.{block_bytes}
-use Rattle.hdmi_cta.specs.declared.block.Block.{Block}
+use Rattle.hdmi_cta.specs.declared.block.DataBlock.{DataBlock}
 
 -- no timing stands in front
 abbrev pub is_tail : List ℕ → Bool
 is_tail bytes = nat_lt (length bytes) 18 || not (is_timing bytes)
 
 -- flags, data blocks up to the place that the third byte names, timings, and what is left
-abbrev pub cta_front : ℕ → List Block → List Timing → List ℕ → List ℕ
+abbrev pub cta_front : ℕ → List DataBlock → List Timing → List ℕ → List ℕ
 cta_front flags blocks timings tail =
     2 ∷ 3 ∷ (length (flat_map block_bytes blocks) + 4) ∷ flags ∷ (flat_map block_bytes blocks ++ (flat_map timing_bytes timings ++ tail))
 

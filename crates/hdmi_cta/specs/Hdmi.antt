@@ -3,8 +3,8 @@
 use Rattle.std.specs.Prelude.{ℕ, ◌+◌, ◌==◌, Bool, true, false, ◌&&◌, nat_le, Option, option_map, List, [], length, slice_index, slice_set, take, flat_map, find}
 use Rattle.std.specs.List.{before_first}
 use Rattle.hdmi_cta.specs.Block.{block_bytes}
-use Rattle.hdmi_edid.specs.Check.{summed}
-use Rattle.hdmi_cta.specs.declared.block.Block.{Block}
+use Rattle.hdmi_edid.specs.Check.{block_with_checksum}
+use Rattle.hdmi_cta.specs.declared.block.DataBlock.{DataBlock}
 use Rattle.hdmi_cta.specs.declared.block.BlockKind.{BlockKind}
 use Rattle.hdmi_cta.specs.declared.block.BlockKind.TheVariants.{Vendor}
 use Rattle.hdmi_core.specs.declared.phys.Phys.{Phys}
@@ -21,14 +21,14 @@ is_vendor Vendor = true
 is_vendor _ = false
 
 -- a vendor block with that identifier
-abbrev pub is_hdmi : Block → Bool
+abbrev pub is_hdmi : DataBlock → Bool
 is_hdmi b = is_vendor b.kind && has_identifier b.payload.items
 
 -- the two bytes after the identifier
 abbrev pub phys_at : List ℕ → Phys
 phys_at payload = record { high = slice_index payload 3; low = slice_index payload 4 }
 
-abbrev pub blocks_of : Ext → List Block
+abbrev pub blocks_of : Ext → List DataBlock
 blocks_of (Cta c) = c.blocks.items
 blocks_of (Bare b) = []
 blocks_of (Raw r) = []
@@ -39,9 +39,9 @@ address_of e = option_map (λ b. phys_at b.payload.items) (find is_hdmi (blocks_
 
 -- where the address of the first HDMI block stands: after four bytes, the data blocks before it, its first byte and the
 -- identifier
-abbrev pub address_place : List Block → ℕ
+abbrev pub address_place : List DataBlock → ℕ
 address_place blocks = 8 + length (flat_map block_bytes (before_first is_hdmi blocks))
 
 -- a block with another address at a place, and its checksum mended (own)
-abbrev pub readdressed : List ℕ → ℕ → Phys → List ℕ
-readdressed bytes place address = summed (take 127 (slice_set (slice_set bytes place address.high) (place + 1) address.low))
+abbrev pub bytes_with_address : List ℕ → ℕ → Phys → List ℕ
+bytes_with_address bytes place address = block_with_checksum (take 127 (slice_set (slice_set bytes place address.high) (place + 1) address.low))

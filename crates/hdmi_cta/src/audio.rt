@@ -5,10 +5,10 @@ ghost use Rattle.hdmi_edid.specs.Bytes.{are_bytes};
 ghost use Rattle.hdmi_edid.specs.Timing.{timing_bytes};
 ghost use Rattle.hdmi_cta.specs.Block.{block_bytes};
 ghost use Rattle.hdmi_cta.specs.Ext.{ext_bytes};
-ghost use Rattle.hdmi_cta.specs.Hdmi.{is_hdmi, blocks_of, address_of, address_place, readdressed};
-ghost use Rattle.hdmi_cta.specs.Audio.{is_audio, amplifier_audio, heard, growth, shrinkage, ends_in_zeros, fitted, heard_bytes, heard_place, IsHeard, IsUnheard};
+ghost use Rattle.hdmi_cta.specs.Hdmi.{is_hdmi, blocks_of, address_of, address_place, bytes_with_address};
+ghost use Rattle.hdmi_cta.specs.Audio.{is_audio, amplifier_audio, bytes_with_audio, growth, shrinkage, ends_in_zeros, tail_with, heard_bytes, heard_place, IsHeard, IsUnheard};
 
-use crate::block::{Block, BlockKind, copies_of};
+use crate::block::{BlockKind, DataBlock, copies_of};
 use crate::cta::Cta;
 use crate::ext::append_timings;
 use crate::hdmi::{NoHdmiBlock, write_with_address};
@@ -22,27 +22,27 @@ use hdmi_edid::{Timing, append, are_zeros};
 const AMPLIFIER_AUDIO: [u8; 6] = [0x0f, 0x7f, 0x07, 0x15, 0x07, 0x50];
 
 /// The amplifier's audio data block.
-fn amplifier_block() -> Block
+fn amplifier_block() -> DataBlock
     ensures bytes { block_bytes result ≡ amplifier_audio }
     ensures audio { is_audio result ≡ true }
 {
     let mut payload = ArrayVec::new();
     append(&mut payload, &AMPLIFIER_AUDIO);
-    Block {
+    DataBlock {
         kind: BlockKind::Audio,
         payload,
     }
 }
 
 /// The first audio block.
-fn first_audio(blocks: &[Block]) -> Option<usize>
+fn first_audio(blocks: &[DataBlock]) -> Option<usize>
     ensures { result ≡ position is_audio blocks.now }
 {
     blocks.iter().position(|block| block.is_audio())
 }
 
 /// Puts a data block in the place of another.
-fn put(blocks: &mut ArrayVec<Block, 123>, index: usize, block: Block)
+fn put(blocks: &mut ArrayVec<DataBlock, 123>, index: usize, block: DataBlock)
     requires { index < length blocks.old.items }
     ensures { blocks.new.items ≡ slice_set blocks.old.items index block }
 {
@@ -50,12 +50,12 @@ fn put(blocks: &mut ArrayVec<Block, 123>, index: usize, block: Block)
 }
 
 /// The same data blocks, where the first audio block is the amplifier's.
-fn heard(blocks: &[Block], index: usize) -> ArrayVec<Block, 123>
+fn bytes_with_audio(blocks: &[DataBlock], index: usize) -> ArrayVec<DataBlock, 123>
     requires few { length blocks.now ≤ 123 }
     requires first { position is_audio blocks.now ≡ Some index }
-    ensures bytes { flat_map block_bytes result.items ≡ heard blocks.now }
+    ensures bytes { flat_map block_bytes result.items ≡ bytes_with_audio blocks.now }
     ensures hdmi { find is_hdmi result.items ≡ find is_hdmi blocks.now }
-    ensures before { flat_map block_bytes (before_first is_hdmi result.items) ≡ heard (before_first is_hdmi blocks.now) }
+    ensures before { flat_map block_bytes (before_first is_hdmi result.items) ≡ bytes_with_audio (before_first is_hdmi blocks.now) }
 {
     let mut copies = copies_of(blocks);
     put(&mut copies, index, amplifier_block());
@@ -63,7 +63,7 @@ fn heard(blocks: &[Block], index: usize) -> ArrayVec<Block, 123>
 }
 
 /// By how many bytes the data blocks grow, and by how many they shrink.
-fn growth(blocks: &[Block], index: usize) -> (usize, usize)
+fn growth(blocks: &[DataBlock], index: usize) -> (usize, usize)
     requires first { position is_audio blocks.now ≡ Some index }
     ensures less { result.0 ≡ growth blocks.now }
     ensures more { result.1 ≡ shrinkage blocks.now }
@@ -85,11 +85,11 @@ fn ends_in_zeros(bytes: &[u8], count: usize) -> bool
 
 /// A tail with fewer or more zeros at its end.
 #[tactic(auto, using(crate::proofs::Hearing::zeros_front))]
-fn fitted(tail: &[u8], less: usize, more: usize) -> ArrayVec<u8, 123>
+fn tail_with(tail: &[u8], less: usize, more: usize) -> ArrayVec<u8, 123>
     requires less { less ≤ length tail.now }
     requires more { more ≤ 25 }
     requires room { (length tail.now - less) + more ≤ 123 }
-    ensures { result.items ≡ fitted less more tail.now }
+    ensures { result.items ≡ tail_with less more tail.now }
 {
     let mut bytes = ArrayVec::new();
     append(&mut bytes, &tail[..tail.len() - less]);
@@ -98,7 +98,7 @@ fn fitted(tail: &[u8], less: usize, more: usize) -> ArrayVec<u8, 123>
 }
 
 /// The bytes after the data blocks, with fewer or more zeros at their end.
-fn moved(timings: &[Timing], tail: &[u8]) -> ArrayVec<u8, 123>
+fn bytes_after_blocks(timings: &[Timing], tail: &[u8]) -> ArrayVec<u8, 123>
     requires { length (flat_map timing_bytes timings.now) + length tail.now ≤ 123 }
     ensures { result.items ≡ flat_map timing_bytes timings.now ++ tail.now }
 {
@@ -120,7 +120,7 @@ fn tail_of(bytes: &[u8]) -> ArrayVec<u8, 123>
 }
 
 /// Data blocks, and the timings and the tail that these bytes spell.
-fn made_of(flags: u8, blocks: ArrayVec<Block, 123>, bytes: &[u8]) -> Cta
+fn made_of(flags: u8, blocks: ArrayVec<DataBlock, 123>, bytes: &[u8]) -> Cta
     requires { length (flat_map block_bytes blocks.items) + length bytes.now ≡ 123 }
     ensures flags { result.flags ≡ flags }
     ensures blocks { result.blocks.items ≡ blocks.items }
@@ -148,9 +148,9 @@ fn amplified(cta: &Cta) -> Option<Cta>
     if !ends_in_zeros(cta.tail.as_slice(), less) {
         return None;
     }
-    let blocks = heard(cta.blocks.as_slice(), index);
-    let tail = fitted(cta.tail.as_slice(), less, more);
-    let rest = moved(cta.timings.as_slice(), tail.as_slice());
+    let blocks = bytes_with_audio(cta.blocks.as_slice(), index);
+    let tail = tail_with(cta.tail.as_slice(), less, more);
+    let rest = bytes_after_blocks(cta.timings.as_slice(), tail.as_slice());
     Some(made_of(cta.flags, blocks, rest.as_slice()))
 }
 
@@ -189,7 +189,7 @@ pub fn with_audio(ext: &Ext) -> Ext
 /// The 128 bytes of the extension that [`with_audio`] gives, with another physical address in its first HDMI block, as
 /// [`write_with_address`] has it.
 pub fn write_with_audio(ext: &Ext, address: Phys) -> Result<[u8; 128], NoHdmiBlock>
-    ensures bytes { IfOk result (λ bytes. bytes ≡ readdressed (heard_bytes ext.now) (heard_place ext.now) address) }
+    ensures bytes { IfOk result (λ bytes. bytes ≡ bytes_with_address (heard_bytes ext.now) (heard_place ext.now) address) }
     ensures refused { IsErr result ↔ (address_of ext.now ≡ None) }
 {
     match heard_extension(ext) {

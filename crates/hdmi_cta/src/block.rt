@@ -60,23 +60,23 @@ impl BlockKind {
 
 /// A data block: its kind and its payload, without the byte of tag and length.
 #[derive(Drop)]
-pub struct Block {
+pub struct DataBlock {
     pub kind: BlockKind,
     pub payload: ArrayVec<u8, 31>,
     ghost short: { length payload.items < 32 },
     ghost bytes_fit: { IsTrue (are_bytes payload.items) },
 }
 
-impl Default for Block {
+impl Default for DataBlock {
     fn default() -> Self {
-        Block {
+        DataBlock {
             kind: BlockKind::Tag0,
             payload: ArrayVec::new(),
         }
     }
 }
 
-impl Block {
+impl DataBlock {
     ghost use Rattle.hdmi_cta.specs.Block.{block_bytes};
     ghost use Rattle.hdmi_cta.specs.Audio.{is_audio};
     ghost use Rattle.hdmi_cta.specs.Hdmi.{is_hdmi};
@@ -97,12 +97,12 @@ impl Block {
     }
 
     /// The same data block.
-    pub fn copy(&self) -> Block
+    pub fn copy(&self) -> DataBlock
         ensures { result ≡ self.now }
     {
         let mut payload = ArrayVec::new();
         append(&mut payload, self.payload.as_slice());
-        Block {
+        DataBlock {
             kind: self.kind,
             payload,
         }
@@ -120,7 +120,7 @@ impl Block {
 }
 
 /// The same data blocks.
-pub(crate) fn copies_of(blocks: &[Block]) -> ArrayVec<Block, 123>
+pub(crate) fn copies_of(blocks: &[DataBlock]) -> ArrayVec<DataBlock, 123>
     requires { length blocks.now ≤ 123 }
     ensures { result.items ≡ blocks.now }
 {

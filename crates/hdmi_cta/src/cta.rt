@@ -5,7 +5,7 @@ ghost use Rattle.hdmi_edid.specs.Timing.{timing_bytes};
 ghost use Rattle.hdmi_cta.specs.Block.{block_bytes};
 ghost use Rattle.hdmi_cta.specs.Cta.{is_tail};
 
-use crate::block::{Block, copies_of};
+use crate::block::{DataBlock, copies_of};
 use arrayvec::ArrayVec;
 use hdmi_edid::{Timing, append};
 
@@ -13,7 +13,7 @@ use hdmi_edid::{Timing, append};
 #[derive(Drop)]
 pub struct Cta {
     pub flags: u8,
-    pub blocks: ArrayVec<Block, 123>,
+    pub blocks: ArrayVec<DataBlock, 123>,
     pub timings: ArrayVec<Timing, 6>,
     pub tail: ArrayVec<u8, 123>,
     ghost whole: { length (flat_map block_bytes blocks.items) + length (flat_map timing_bytes timings.items) + length tail.items ≡ 123 },

@@ -7,12 +7,12 @@ ghost use Rattle.hdmi_cta.specs.Block.{block_bytes};
 ghost use Rattle.hdmi_cta.specs.Cta.{cta_front, is_tail};
 ghost use Rattle.hdmi_cta.specs.Whole.{cta_bytes, bare_bytes};
 ghost use Rattle.hdmi_cta.specs.Ext.{ext_bytes};
-ghost use Rattle.hdmi_edid.specs.Check.{summed};
+ghost use Rattle.hdmi_edid.specs.Check.{block_with_checksum};
 ghost use Rattle.hdmi_cta.specs.declared.cta.Cta.{Cta as CtaValue};
 ghost use Rattle.hdmi_cta.specs.declared.cta.Bare.{Bare as BareValue};
 ghost use Rattle.hdmi_cta.specs.declared.raw.Ext.{Ext as ExtValue};
 
-use crate::block::Block;
+use crate::block::DataBlock;
 use crate::cta::{Bare, Cta};
 use crate::raw::{Ext, RawExt};
 use crate::reading::{read_blocks, read_timings};
@@ -32,11 +32,11 @@ pub enum ExtError {
 /// large, and so read where they stand.
 fn read_cta(
     bytes: &[u8; 128],
-    blocks: &mut ArrayVec<Block, 123>,
+    blocks: &mut ArrayVec<DataBlock, 123>,
 ) -> Option<(ArrayVec<Timing, 6>, ArrayVec<u8, 123>)>
     requires summed { sum bytes.now % 256 ≡ 0 }
     requires fresh { blocks.old.items ≡ [] }
-    ensures found { IfSome result (λ r. summed (cta_front (slice_index bytes.now 3) blocks.new.items r.0.items r.1.items) ≡ bytes.now) }
+    ensures found { IfSome result (λ r. block_with_checksum (cta_front (slice_index bytes.now 3) blocks.new.items r.0.items r.1.items) ≡ bytes.now) }
     ensures whole { IfSome result (λ r. length (flat_map block_bytes blocks.new.items) + length (flat_map timing_bytes r.0.items) + length r.1.items ≡ 123) }
     ensures ended { IfSome result (λ r. IsTrue (is_tail r.1.items)) }
     ensures bytes_fit { IfSome result (λ r. IsTrue (are_bytes (slice_index bytes.now 3 ∷ r.1.items))) }
@@ -94,7 +94,7 @@ pub fn read_ext(bytes: &[u8; 128]) -> Result<Ext, ExtError>
     Ok(Ext::Raw(RawExt { bytes: *bytes }))
 }
 
-fn append_blocks(out: &mut ArrayVec<u8, 123>, blocks: &[Block])
+fn append_blocks(out: &mut ArrayVec<u8, 123>, blocks: &[DataBlock])
     requires { array_vec_len out.old + length (flat_map block_bytes blocks.now) ≤ 123 }
     ensures { out.new.items ≡ out.old.items ++ flat_map block_bytes blocks.now }
 {
@@ -115,7 +115,7 @@ pub fn append_timings(out: &mut ArrayVec<u8, 123>, timings: &[Timing])
 
 fn spelled(head: &[u8; 4], body: &[u8]) -> [u8; 128]
     requires { length body.now ≡ 123 }
-    ensures { result ≡ summed (head.now ++ body.now) }
+    ensures { result ≡ block_with_checksum (head.now ++ body.now) }
 {
     let mut front: ArrayVec<u8, 127> = ArrayVec::new();
     append(&mut front, head);

@@ -2,11 +2,11 @@
 //! VSDB: HDMI 1.4, section 8.3.2).
 ghost use Rattle.std.specs.Prelude.{◌≡◌, ◌↔◌, ◌≤◌, ◌<◌, ◌+◌, ◌-◌, None, Some, IfOk, IsErr, IsTrue, IsSome, OnSome, IfSome, MatchOption, length, flat_map, position, slice_set, take};
 ghost use Rattle.hdmi_cta.specs.Block.{block_bytes};
-ghost use Rattle.hdmi_edid.specs.Check.{summed};
+ghost use Rattle.hdmi_edid.specs.Check.{block_with_checksum};
 ghost use Rattle.hdmi_cta.specs.Ext.{ext_bytes};
-ghost use Rattle.hdmi_cta.specs.Hdmi.{has_identifier, is_hdmi, phys_at, blocks_of, address_of, address_place, readdressed};
+ghost use Rattle.hdmi_cta.specs.Hdmi.{has_identifier, is_hdmi, phys_at, blocks_of, address_of, address_place, bytes_with_address};
 
-use crate::block::Block;
+use crate::block::DataBlock;
 use crate::ext::{read_ext, write_ext};
 use crate::raw::Ext;
 use byteorder::{BigEndian, ByteOrder};
@@ -27,7 +27,7 @@ pub fn has_identifier(payload: &[u8]) -> bool
 }
 
 /// The data blocks of an extension.
-fn blocks_of(ext: &Ext) -> &[Block]
+fn blocks_of(ext: &Ext) -> &[DataBlock]
     ensures { result.now ≡ blocks_of ext.now }
 {
     match ext {
@@ -37,7 +37,7 @@ fn blocks_of(ext: &Ext) -> &[Block]
 }
 
 /// The physical address in an HDMI block.
-fn address_in(block: &Block) -> Phys
+fn address_in(block: &DataBlock) -> Phys
     requires { IsTrue (is_hdmi block.now) }
     ensures { result ≡ phys_at block.now.payload.items }
 {
@@ -47,7 +47,7 @@ fn address_in(block: &Block) -> Phys
 }
 
 /// How many bytes some data blocks take.
-fn spelled_len(blocks: &[Block]) -> usize
+fn spelled_len(blocks: &[DataBlock]) -> usize
     requires { length (flat_map block_bytes blocks.now) ≤ 123 }
     ensures { result ≡ length (flat_map block_bytes blocks.now) }
 {
@@ -59,7 +59,7 @@ fn spelled_len(blocks: &[Block]) -> usize
 }
 
 /// The first HDMI block.
-fn first_hdmi(blocks: &[Block]) -> Option<usize>
+fn first_hdmi(blocks: &[DataBlock]) -> Option<usize>
     ensures { result ≡ position is_hdmi blocks.now }
 {
     blocks.iter().position(|block| block.is_hdmi())
@@ -87,16 +87,16 @@ fn put_address(bytes: &mut [u8], place: usize, address: Phys)
 /// A block with its checksum mended.
 fn sealed(block: &[u8]) -> [u8; 128]
     requires { length block.now ≡ 128 }
-    ensures { result ≡ summed (take 127 block.now) }
+    ensures { result ≡ block_with_checksum (take 127 block.now) }
 {
     let (front, _) = block.split_at(127);
     hdmi_edid::Block::ending(front).bytes
 }
 
 /// A block's bytes with another address at a place, and the checksum mended.
-fn readdressed(bytes: &[u8; 128], place: usize, address: Phys) -> [u8; 128]
+fn bytes_with_address(bytes: &[u8; 128], place: usize, address: Phys) -> [u8; 128]
     requires { place < 126 }
-    ensures { result ≡ readdressed bytes.now place address }
+    ensures { result ≡ bytes_with_address bytes.now place address }
 {
     let mut bytes = *bytes;
     put_address(&mut bytes, place, address);
@@ -113,22 +113,22 @@ pub fn hdmi_address(ext: &Ext) -> Option<Phys>
 
 /// The 128 bytes of the extension that [`with_address`] gives: as a value an extension is large.
 pub fn write_with_address(ext: &Ext, address: Phys) -> Result<[u8; 128], NoHdmiBlock>
-    ensures bytes { IfOk result (λ bytes. bytes ≡ readdressed (ext_bytes ext.now) (address_place (blocks_of ext.now)) address) }
+    ensures bytes { IfOk result (λ bytes. bytes ≡ bytes_with_address (ext_bytes ext.now) (address_place (blocks_of ext.now)) address) }
     ensures refused { IsErr result ↔ (address_of ext.now ≡ None) }
 {
     match address_place(ext) {
         None => Err(NoHdmiBlock),
-        Some(place) => Ok(readdressed(&write_ext(ext), place, address)),
+        Some(place) => Ok(bytes_with_address(&write_ext(ext), place, address)),
     }
 }
 
 /// The extension with another physical address: the two bytes of the address in the first HDMI
 /// block change, and the checksum; all other bytes stay. Without an HDMI block it is refused.
 pub fn with_address(ext: &Ext, address: Phys) -> Result<Ext, NoHdmiBlock>
-    ensures bytes { IfOk result (λ e. ext_bytes e ≡ readdressed (ext_bytes ext.now) (address_place (blocks_of ext.now)) address) }
+    ensures bytes { IfOk result (λ e. ext_bytes e ≡ bytes_with_address (ext_bytes ext.now) (address_place (blocks_of ext.now)) address) }
     ensures addressed { IfOk result (λ e. address_of e ≡ Some address) }
     ensures refused { IsErr result ↔ (address_of ext.now ≡ None) }
 {
     let place = address_place(ext).ok_or(NoHdmiBlock)?;
-    Ok(read_ext(&readdressed(&write_ext(ext), place, address)).unwrap())
+    Ok(read_ext(&bytes_with_address(&write_ext(ext), place, address)).unwrap())
 }

@@ -10,7 +10,7 @@ mod raw;
 mod reading;
 
 pub use audio::{with_audio, write_with_audio};
-pub use block::{Block, BlockKind};
+pub use block::{BlockKind, DataBlock};
 pub use cta::{Bare, Cta};
 pub use ext::{ExtError, read_ext, write_ext};
 pub use hdmi::{NoHdmiBlock, has_identifier, hdmi_address, with_address, write_with_address};

@@ -3,14 +3,14 @@ ghost use Rattle.std.specs.Prelude.{◌≡◌, ◌≤◌, ◌++◌, [], List, �
 ghost use Rattle.hdmi_edid.specs.Timing.{timing_bytes};
 ghost use Rattle.hdmi_cta.specs.Block.{block_bytes};
 ghost use Rattle.hdmi_cta.specs.Cta.{is_tail};
-ghost use Rattle.hdmi_cta.specs.declared.block.Block.{Block as BlockValue};
+ghost use Rattle.hdmi_cta.specs.declared.block.DataBlock.{DataBlock as BlockValue};
 
-use crate::block::{Block, BlockKind};
+use crate::block::{BlockKind, DataBlock};
 use arrayvec::ArrayVec;
 use hdmi_edid::{Timing, part};
 
 /// The data block in front, and the bytes after it.
-fn first_block(bytes: &[u8]) -> Option<(Block, &[u8])>
+fn first_block(bytes: &[u8]) -> Option<(DataBlock, &[u8])>
     ensures { MatchOption result
         ((b : BlockValue) (ys : List ℕ) → block_bytes b ++ ys ≡ bytes.now → ⊥)
         (λ r. block_bytes r.0 ++ r.1.now ≡ bytes.now) }
@@ -23,12 +23,12 @@ fn first_block(bytes: &[u8]) -> Option<(Block, &[u8])>
     let mut payload = ArrayVec::new();
     let _ = payload.try_extend_from_slice(&rest[..len]);
     let kind = BlockKind::of_byte(*head);
-    Some((Block { kind, payload }, &rest[len..]))
+    Some((DataBlock { kind, payload }, &rest[len..]))
 }
 
 /// Puts the data blocks that fill these bytes into an empty list, where there are some. They are large, and so read
 /// where they stand.
-pub fn read_blocks(bytes: &[u8], blocks: &mut ArrayVec<Block, 123>) -> Option<()>
+pub fn read_blocks(bytes: &[u8], blocks: &mut ArrayVec<DataBlock, 123>) -> Option<()>
     requires few { length bytes.now ≤ 123 }
     requires fresh { blocks.old.items ≡ [] }
     ensures found { IfSome result (λ _. flat_map block_bytes blocks.new.items ≡ bytes.now) }

@@ -9,7 +9,7 @@ use borrow.Author.Tests.{tests}
 use Rattle.hdmi_blocks.specs.declared.edid.Edid.{Edid as EdidValue}
 use Rattle.hdmi_blocks.proofs.OneEdid.{one_edid, length_fits, count_fits, not_refused}
 use Rattle.hdmi_ddc.specs.Bus.{has_segment}
-use Rattle.hdmi_ddc.specs.Learn.{asked, blocks_read, CanBeRead, IsUnread, IsUntold, IsLearnt}
+use Rattle.hdmi_ddc.specs.Learn.{extension_count, blocks_read, CanBeRead, IsUnread, IsUntold, IsLearnt}
 use Rattle.hdmi_ddc.specs.declared.error.DdcError.{DdcError}
 use Rattle.hdmi_ddc.specs.declared.error.DdcError.TheVariants.{NoAck, Edid, NoHdmiBlock, Length}
 use Rattle.hdmi_ddc.proofs.Lengths.{edid_length, first_segment}
@@ -24,8 +24,8 @@ learnt bytes blocks can e (Err error) told refused = inr (can, subst (λ (b : Li
 
 -- the bytes of an EDID are read whole
 pub record IsWhole (bytes : List ℕ) : Type 0 where
-  pub few : asked bytes ≤ 3
-  pub len : length bytes ≡ 128 * (asked bytes + 1)
+  pub few : extension_count bytes ≤ 3
+  pub len : length bytes ≡ 128 * (extension_count bytes + 1)
   pub all : blocks_read bytes ≡ bytes
 
 pub whole : (e : EdidValue) → IsWhole (edid_bytes e)
@@ -37,15 +37,15 @@ whole e =
     let most = blocks.most in
     let count : get_or bytes 126 0 * 128 + 128 ≡ length bytes = count_fits e in
     let there : 126 < length bytes = omega arith in
-    let told : asked bytes ≡ get_or bytes 126 0 = get_or_append_left bytes (replicate 512 0xff) 0 126 there in
-    let size : length bytes ≡ 128 * (asked bytes + 1) = omega (arith, told, count) in
-    record { few = omega (arith, told, count, len, most); len = size; all = take_at bytes (replicate 512 0xff) (128 * (asked bytes + 1)) size }
+    let told : extension_count bytes ≡ get_or bytes 126 0 = get_or_append_left bytes (replicate 512 0xff) 0 126 there in
+    let size : length bytes ≡ 128 * (extension_count bytes + 1) = omega (arith, told, count) in
+    record { few = omega (arith, told, count, len, most); len = size; all = take_at bytes (replicate 512 0xff) (128 * (extension_count bytes + 1)) size }
 
-acknowledged : (e : EdidValue) → has_segment (edid_bytes e) (asked (edid_bytes e) / 2) ≡ true
+acknowledged : (e : EdidValue) → has_segment (edid_bytes e) (extension_count (edid_bytes e) / 2) ≡ true
 acknowledged e =
     let len = (whole e).len in
-    let there : 256 * (asked (edid_bytes e) / 2) < length (edid_bytes e) = omega (arith, len) in
-    let t : nat_lt (256 * (asked (edid_bytes e) / 2)) (length (edid_bytes e)) ≡ true = grind (arith, tests) in t
+    let there : 256 * (extension_count (edid_bytes e) / 2) < length (edid_bytes e) = omega (arith, len) in
+    let t : nat_lt (256 * (extension_count (edid_bytes e) / 2)) (length (edid_bytes e)) ≡ true = grind (arith, tests) in t
 
 not_unread : (e : EdidValue) (x : DdcError) → IsUnread (edid_bytes e) x → ⊥
 not_unread e NoAck (inl h) = let t = first_segment (edid_bytes e) (edid_length e) in cc

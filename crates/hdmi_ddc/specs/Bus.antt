@@ -16,5 +16,5 @@ abbrev pub byte_at : List ℕ → ℕ → ℕ → Option ℕ
 byte_at bytes segment offset = if has_segment bytes segment then Some (slice_index_or bytes (256 * segment + offset) 0xff) else None
 
 -- before the first call, and after a stop whose offset was set to 0
-abbrev pub begun : List ℕ → Bus
-begun bytes = record { bytes = bytes; segment = 0; offset = 0 }
+abbrev pub first_bus : List ℕ → Bus
+first_bus bytes = record { bytes = bytes; segment = 0; offset = 0 }

@@ -11,25 +11,25 @@ use Rattle.hdmi_ddc.specs.declared.error.DdcError.{DdcError}
 use Rattle.hdmi_ddc.specs.declared.error.DdcError.TheVariants.{NoAck, Edid, NoHdmiBlock, Length}
 
 -- the bytes, and FF after them
-abbrev pub padded : List ℕ → List ℕ
-padded bytes = bytes ++ replicate 512 0xff
+abbrev pub bytes_with_padding : List ℕ → List ℕ
+bytes_with_padding bytes = bytes ++ replicate 512 0xff
 
 -- how many blocks byte 126 asks for, after the first
-abbrev pub asked : List ℕ → ℕ
-asked bytes = slice_index (padded bytes) 126
+abbrev pub extension_count : List ℕ → ℕ
+extension_count bytes = slice_index (bytes_with_padding bytes) 126
 
 -- the first block and those that it asks for, FF where one is missing
 abbrev pub blocks_read : List ℕ → List ℕ
-blocks_read bytes = take (128 * (asked bytes + 1)) (padded bytes)
+blocks_read bytes = take (128 * (extension_count bytes + 1)) (bytes_with_padding bytes)
 
 -- at most three blocks are asked for, and their segments are acknowledged
 abbrev pub CanBeRead : List ℕ → Type 0
-CanBeRead bytes = (asked bytes ≤ 3) × (has_segment bytes (asked bytes / 2) ≡ true)
+CanBeRead bytes = (extension_count bytes ≤ 3) × (has_segment bytes (extension_count bytes / 2) ≡ true)
 
 -- a segment is not acknowledged; or else too many blocks are asked for
 abbrev pub IsUnread : List ℕ → DdcError → Type 0
-IsUnread bytes NoAck = (has_segment bytes 0 ≡ false) ⊎ ((asked bytes ≤ 3) × (has_segment bytes (asked bytes / 2) ≡ false))
-IsUnread bytes (Edid cause) = (has_segment bytes 0 ≡ true) × (3 < asked bytes) × (cause ≡ EdidLength)
+IsUnread bytes NoAck = (has_segment bytes 0 ≡ false) ⊎ ((extension_count bytes ≤ 3) × (has_segment bytes (extension_count bytes / 2) ≡ false))
+IsUnread bytes (Edid cause) = (has_segment bytes 0 ≡ true) × (3 < extension_count bytes) × (cause ≡ EdidLength)
 IsUnread bytes NoHdmiBlock = ⊥
 IsUnread bytes Length = ⊥
 

@@ -30,11 +30,11 @@ impl Model for Ddc {
 
 impl Ddc {
     ghost use Rattle.hdmi_blocks.specs.Bytes.{has_length};
-    ghost use Rattle.hdmi_ddc.specs.Bus.{Bus, begun, byte_at, has_segment};
+    ghost use Rattle.hdmi_ddc.specs.Bus.{Bus, first_bus, byte_at, has_segment};
 
     /// The DDC of an EDID, at segment 0 and offset 0.
     pub fn new(edid: &Edid) -> Self
-        ensures { result ≡ begun (edid_bytes edid.now) }
+        ensures { result ≡ first_bus (edid_bytes edid.now) }
     {
         Ddc {
             bytes: edid_to_bytes(edid),
@@ -45,7 +45,7 @@ impl Ddc {
 
     /// The DDC of 128, 256, 384 or 512 bytes, at segment 0 and offset 0.
     pub fn over(bytes: &[u8]) -> Result<Self, DdcError>
-        ensures ok { IfOk result (λ d. d ≡ begun bytes.now) }
+        ensures ok { IfOk result (λ d. d ≡ first_bus bytes.now) }
         ensures accepted { IsOk result ↔ IsTrue (has_length bytes.now) }
         ensures refused { IfErr result (λ e. e ≡ DdcError.Length) }
     {

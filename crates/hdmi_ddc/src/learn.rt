@@ -5,8 +5,8 @@ ghost use Rattle.hdmi_core.specs.declared.phys.Phys.{Phys as PhysValue};
 ghost use Rattle.hdmi_blocks.specs.Address.{edid_address};
 ghost use Rattle.hdmi_blocks.specs.Bytes.{edid_bytes};
 ghost use Rattle.hdmi_blocks.specs.declared.edid.Edid.{Edid as EdidValue};
-ghost use Rattle.hdmi_ddc.specs.Bus.{begun, has_segment};
-ghost use Rattle.hdmi_ddc.specs.Learn.{CanBeRead, IsLearnt, IsUnread, IsUntold, blocks_read, padded};
+ghost use Rattle.hdmi_ddc.specs.Bus.{first_bus, has_segment};
+ghost use Rattle.hdmi_ddc.specs.Learn.{CanBeRead, IsLearnt, IsUnread, IsUntold, blocks_read, bytes_with_padding};
 
 use crate::ddc::Ddc;
 use crate::error::DdcError;
@@ -18,7 +18,7 @@ use hdmi_core::Phys;
 fn read_block(ddc: &mut Ddc, block: u8) -> Result<[u8; 128], DdcError>
     requires { block ≤ 3 }
     ensures same { ddc.new.bytes ≡ ddc.old.bytes }
-    ensures read { IfOk result (λ b. (has_segment ddc.old.bytes (block / 2) ≡ true) × (b ≡ take 128 (drop (128 * block) (padded ddc.old.bytes)))) }
+    ensures read { IfOk result (λ b. (has_segment ddc.old.bytes (block / 2) ≡ true) × (b ≡ take 128 (drop (128 * block) (bytes_with_padding ddc.old.bytes)))) }
     ensures refused { IfErr result (λ e. (has_segment ddc.old.bytes (block / 2) ≡ false) × (e ≡ DdcError.NoAck)) }
 {
     ddc.segment(block / 2)?;
@@ -76,7 +76,7 @@ fn read_address(ddc: &mut Ddc) -> Result<Phys, DdcError>
 /// says; more than three are `Edid(Length)` at once. At its end, after a refusal too, it stops, and
 /// the offset is 0.
 pub fn learn_address(ddc: &mut Ddc) -> Result<Phys, DdcError>
-    ensures after { ddc.new ≡ begun ddc.old.bytes }
+    ensures after { ddc.new ≡ first_bus ddc.old.bytes }
     ensures learnt { IsLearnt ddc.old.bytes result }
     ensures told { (e : EdidValue) (address : PhysValue) → ddc.old.bytes ≡ edid_bytes e → edid_address e ≡ Some address → result ≡ Ok address }
 {

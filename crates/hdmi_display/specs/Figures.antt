@@ -3,16 +3,16 @@ use Rattle.std.specs.Prelude.{ℕ, ◌+◌, ◌*◌, ◌/◌, ◌%◌, ◌==◌,
 use Rattle.std.specs.Fmt.{decimal}
 use Rattle.hdmi_edid.specs.declared.base.Revision.{Revision}
 use Rattle.hdmi_edid.specs.declared.base.Revision.TheVariants.{Three, Four}
-use Rattle.hdmi_meaning.specs.Notes.{between, digit, hundredths}
+use Rattle.hdmi_meaning.specs.Notes.{text_between, digit, hundredths}
 use Rattle.hdmi_meaning.specs.Rates.{nearest}
 
 -- ---- week and year of manufacture
 
 -- 0 is no week, and 255 marks a model year in 1.4
 abbrev pub week_text : Revision → ℕ → List ℕ
-week_text Three week = if week == 0 then [] else between (codes "week ") week (codes " of ")
+week_text Three week = if week == 0 then [] else text_between (codes "week ") week (codes " of ")
 week_text Four week =
-    if week == 0 then [] else if week == 255 then codes "model year " else between (codes "week ") week (codes " of ")
+    if week == 0 then [] else if week == 255 then codes "model year " else text_between (codes "week ") week (codes " of ")
 
 unfoldable pub made_text : Revision → ℕ → ℕ → List ℕ
 made_text revision week year = week_text revision week ++ decimal year
@@ -20,13 +20,13 @@ made_text revision week year = week_text revision week ++ decimal year
 -- ---- size
 
 abbrev pub plain_size : ℕ → ℕ → List ℕ
-plain_size width height = between [] width (codes " x ") ++ between [] height (codes " cm")
+plain_size width height = text_between [] width (codes " x ") ++ text_between [] height (codes " cm")
 
 -- a ratio of hundredths between two texts
 unfoldable pub ratio_text : List ℕ → ℕ → List ℕ → List ℕ
 ratio_text before n after = before ++ (hundredths n ++ after)
 
--- in 1.4 one 0 tells that the other is an aspect
+-- in 1.4 one 0 says that the other is an aspect
 abbrev pub aspect_size : Revision → ℕ → ℕ → List ℕ
 aspect_size Three width height = codes "no size"
 aspect_size Four width height =
@@ -73,4 +73,4 @@ standard_height width aspect =
     else width * 9 / 16
 
 unfoldable pub standard_text : ℕ → ℕ → ℕ → List ℕ
-standard_text width aspect rate = between [] width (codes "x") ++ (decimal (standard_height width aspect) ++ between (codes " at ") rate (codes " Hz"))
+standard_text width aspect rate = text_between [] width (codes "x") ++ (decimal (standard_height width aspect) ++ text_between (codes " at ") rate (codes " Hz"))

@@ -2,7 +2,7 @@
 use Rattle.std.specs.Prelude.{ℕ, ◌+◌, ◌*◌, ◌/◌, ◌%◌, ◌==◌, nat_lt, nat_le, if◌then◌else◌, List, [], ◌∷◌, ◌++◌, slice_index, codes}
 use Rattle.hdmi_edid.specs.declared.base.Revision.{Revision}
 use Rattle.hdmi_edid.specs.declared.base.Revision.TheVariants.{Three, Four}
-use Rattle.hdmi_meaning.specs.Notes.{Row, row, when, below, between, is_set, set_words}
+use Rattle.hdmi_meaning.specs.Notes.{Row, row, when, below, text_between, is_set, set_words}
 
 -- ---- input
 
@@ -11,7 +11,7 @@ abbrev pub depth_text : ℕ → List ℕ
 depth_text depth =
     if depth == 0 then []
     else if depth == 7 then codes ", reserved depth"
-    else between (codes ", ") (4 + 2 * depth) (codes " bits a colour")
+    else text_between (codes ", ") (4 + 2 * depth) (codes " bits a colour")
 
 -- bits 3 to 0 of a digital input of 1.4
 abbrev pub interface_text : ℕ → List ℕ

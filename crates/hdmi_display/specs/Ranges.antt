@@ -1,9 +1,9 @@
--- What the limits of a display's ranges mean (E-EDID Release A, section 3.10.3.3), of the 14 bytes behind the tag.
+-- What the limits of a display's ranges mean (E-EDID Release A, section 3.10.3.3), of the 14 bytes after the tag.
 use Rattle.std.specs.Prelude.{ℕ, ◌+◌, ◌-◌, ◌*◌, ◌/◌, ◌%◌, ◌==◌, nat_le, if◌then◌else◌, List, [], ◌∷◌, ◌++◌, slice_index, codes}
 use Rattle.hex.specs.Hex.{encode_lower}
 use Rattle.hdmi_edid.specs.declared.base.Revision.{Revision}
 use Rattle.hdmi_edid.specs.declared.base.Revision.TheVariants.{Three, Four}
-use Rattle.hdmi_meaning.specs.Notes.{Row, row, below, between, hundredths, is_set, set_words, spaced_words}
+use Rattle.hdmi_meaning.specs.Notes.{Row, row, below, text_between, hundredths, is_set, set_words, spaced_words}
 
 -- ---- limits
 
@@ -18,22 +18,22 @@ greatest_rate Four bits rate = if nat_le 2 bits then rate + 255 else rate
 
 abbrev pub field_text : Revision → List ℕ → List ℕ
 field_text r p =
-    between [] (least_rate r (slice_index p 0 % 4) (slice_index p 1)) (codes " to ") ++ between [] (greatest_rate r (slice_index p 0 % 4) (slice_index p 2)) (codes " Hz, ")
+    text_between [] (least_rate r (slice_index p 0 % 4) (slice_index p 1)) (codes " to ") ++ text_between [] (greatest_rate r (slice_index p 0 % 4) (slice_index p 2)) (codes " Hz, ")
 
 abbrev pub line_text : Revision → List ℕ → List ℕ
 line_text r p =
-    between [] (least_rate r (slice_index p 0 / 4 % 4) (slice_index p 3)) (codes " to ") ++ between [] (greatest_rate r (slice_index p 0 / 4 % 4) (slice_index p 4)) (codes " kHz")
+    text_between [] (least_rate r (slice_index p 0 / 4 % 4) (slice_index p 3)) (codes " to ") ++ text_between [] (greatest_rate r (slice_index p 0 / 4 % 4) (slice_index p 4)) (codes " kHz")
 
 -- in units of 10 MHz
 abbrev pub clock_text : ℕ → List ℕ
-clock_text clock = if clock == 0 then [] else between (codes ", up to ") (10 * clock) (codes " MHz")
+clock_text clock = if clock == 0 then [] else text_between (codes ", up to ") (10 * clock) (codes " MHz")
 
 abbrev pub limits_text : Revision → List ℕ → List ℕ
 limits_text r p = field_text r p ++ (line_text r p ++ clock_text (slice_index p 5))
 
 -- ---- formulas
 
--- bit 0 of the features tells whether the default GTF is there
+-- bit 0 of the features says whether the default GTF is there
 abbrev pub gtf_text : ℕ → List ℕ
 gtf_text features = if is_set features 1 then codes ", GTF" else codes ", no formula"
 
@@ -49,16 +49,16 @@ form_name r features form =
 -- start in units of 2 kHz; C and J twice, M with its low byte first, K
 abbrev pub second_text : List ℕ → List ℕ
 second_text p =
-    between (codes "from ") (2 * slice_index p 8) (codes " kHz, C ") ++ (hundredths (50 * slice_index p 9) ++
-    (between (codes ", M ") (slice_index p 10 + 256 * slice_index p 11) (codes ", K ") ++ (between [] (slice_index p 12) (codes ", J ") ++ hundredths (50 * slice_index p 13))))
+    text_between (codes "from ") (2 * slice_index p 8) (codes " kHz, C ") ++ (hundredths (50 * slice_index p 9) ++
+    (text_between (codes ", M ") (slice_index p 10 + 256 * slice_index p 11) (codes ", K ") ++ (text_between [] (slice_index p 12) (codes ", J ") ++ hundredths (50 * slice_index p 13))))
 
 -- version, exact greatest clock and pixels of a line
 abbrev pub cvt_pixels : ℕ → List ℕ
-cvt_pixels pixels = if pixels == 0 then [] else between (codes ", up to ") (8 * pixels) (codes " pixels a line")
+cvt_pixels pixels = if pixels == 0 then [] else text_between (codes ", up to ") (8 * pixels) (codes " pixels a line")
 
 abbrev pub cvt_head : List ℕ → List ℕ
 cvt_head p =
-    between (codes "CVT ") (slice_index p 7 / 16) (codes ".") ++ (between [] (slice_index p 7 % 16) (codes ", up to ") ++
+    text_between (codes "CVT ") (slice_index p 7 / 16) (codes ".") ++ (text_between [] (slice_index p 7 % 16) (codes ", up to ") ++
     (hundredths (1000 * slice_index p 5 - 25 * (slice_index p 8 / 4)) ++ (codes " MHz" ++ cvt_pixels (slice_index p 9 + 256 * (slice_index p 8 % 4)))))
 
 abbrev pub aspect_rows : List Row
@@ -91,7 +91,7 @@ scaling_rows =
     row 16 (codes "vertical stretch") ∷ []
 
 abbrev pub preferred_rate : ℕ → List ℕ
-preferred_rate rate = if rate == 0 then [] else between (codes ", preferred ") rate (codes " Hz")
+preferred_rate rate = if rate == 0 then [] else text_between (codes ", preferred ") rate (codes " Hz")
 
 abbrev pub cvt_words : List ℕ → List ℕ
 cvt_words p =

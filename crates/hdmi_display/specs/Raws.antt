@@ -1,8 +1,8 @@
 -- What descriptors of no known form (E-EDID Release A, section 3.10.3) and extensions that are no CTA block (section 2.2.1)
--- tell of themselves.
+-- indicate themselves.
 use Rattle.std.specs.Prelude.{ℕ, ◌==◌, ◌&&◌, ◌||◌, nat_lt, Bool, if◌then◌else◌, List, [], ◌∷◌, ◌++◌, drop, slice_index, codes}
 use Rattle.hdmi_edid.specs.Bytes.{are_zeros}
-use Rattle.hdmi_meaning.specs.Notes.{between}
+use Rattle.hdmi_meaning.specs.Notes.{text_between}
 
 -- ---- descriptors
 
@@ -31,7 +31,7 @@ characters tag bytes = if has_characters tag then codes ": " ++ drop 5 bytes els
 abbrev pub tagged_text : List ℕ → List ℕ
 tagged_text bytes = tag_name (slice_index bytes 3) ++ characters (slice_index bytes 3) bytes
 
--- all zeros; a tag behind three zeros; or neither
+-- all zeros; a tag after three zeros; or neither
 abbrev pub raw_text : List ℕ → List ℕ
 raw_text bytes =
     if are_zeros bytes then codes "empty"
@@ -43,9 +43,9 @@ raw_meanings bytes = raw_text bytes ∷ []
 
 -- ---- extensions
 
--- A block of CTA-861 is kept raw where its revision is not 3, or where its data blocks and timings are not what byte 2 tells.
+-- A block of CTA-861 is kept raw where its revision is not 3, or where its data blocks and timings are not what byte 2 reports.
 abbrev pub cta_text : ℕ → List ℕ
-cta_text revision = if revision == 3 then codes "CTA-861, data blocks or timings that overrun" else between (codes "CTA-861 of revision ") revision []
+cta_text revision = if revision == 3 then codes "CTA-861, data blocks or timings that overrun" else text_between (codes "CTA-861 of revision ") revision []
 
 abbrev pub ext_text : List ℕ → List ℕ
 ext_text bytes =

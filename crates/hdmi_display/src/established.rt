@@ -1,7 +1,7 @@
 //! What the established timings mean.
 ghost use Rattle.std.specs.Prelude.{◌≡◌, ◌≤◌, ◌+◌, ◌%◌, ◌++◌, flat_map, slice_index};
 ghost use Rattle.arrayvec.specs.ArrayVec.{array_vec_len};
-ghost use Rattle.hdmi_meaning.specs.Notes.{indented, set_lines};
+ghost use Rattle.hdmi_meaning.specs.Notes.{own_line, set_lines};
 ghost use Rattle.hdmi_display.specs.Established.{established_rows, established_bits, own_text, own_meanings, established_meanings};
 
 use arrayvec::ArrayVec;
@@ -49,7 +49,7 @@ fn own_note(bits: u8) -> Note
 
 fn append_own_bits(page: &mut Page, bits: u8)
     requires { array_vec_len page.old + 60 ≤ PAGE }
-    ensures { page.new.items ≡ page.old.items ++ flat_map indented (own_meanings bits) }
+    ensures { page.new.items ≡ page.old.items ++ flat_map own_line (own_meanings bits) }
 {
     if bits != 0 {
         append_line(page, own_note(bits).as_slice());
@@ -58,14 +58,14 @@ fn append_own_bits(page: &mut Page, bits: u8)
 
 fn append_own(page: &mut Page, bytes: &[u8])
     requires { array_vec_len page.old + 60 ≤ PAGE }
-    ensures { page.new.items ≡ page.old.items ++ flat_map indented (own_meanings (slice_index bytes.now 2 % 128)) }
+    ensures { page.new.items ≡ page.old.items ++ flat_map own_line (own_meanings (slice_index bytes.now 2 % 128)) }
 {
     append_own_bits(page, byte_at(bytes, 2) % 128);
 }
 
 fn append_timing_lines(page: &mut Page, bits: u32)
     requires { array_vec_len page.old + 697 ≤ PAGE }
-    ensures items { page.new.items ≡ page.old.items ++ flat_map indented (set_lines established_rows bits) }
+    ensures items { page.new.items ≡ page.old.items ++ flat_map own_line (set_lines established_rows bits) }
     ensures len { array_vec_len page.new ≤ array_vec_len page.old + 697 }
 {
     append_bit_lines(page, ESTABLISHED, bits);
@@ -73,7 +73,7 @@ fn append_timing_lines(page: &mut Page, bits: u32)
 
 fn append_timings(page: &mut Page, bytes: &[u8])
     requires { array_vec_len page.old + 697 ≤ PAGE }
-    ensures items { page.new.items ≡ page.old.items ++ flat_map indented (set_lines established_rows (established_bits bytes.now)) }
+    ensures items { page.new.items ≡ page.old.items ++ flat_map own_line (set_lines established_rows (established_bits bytes.now)) }
     ensures len { array_vec_len page.new ≤ array_vec_len page.old + 697 }
 {
     append_timing_lines(page, established_bits(bytes));
@@ -83,7 +83,7 @@ fn append_timings(page: &mut Page, bytes: &[u8])
 #[tactic(auto, unfolding(crate::specs::Established::established_meanings))]
 pub fn append_established(page: &mut Page, bytes: &[u8])
     requires { array_vec_len page.old + 757 ≤ PAGE }
-    ensures { page.new.items ≡ page.old.items ++ flat_map indented (established_meanings bytes.now) }
+    ensures { page.new.items ≡ page.old.items ++ flat_map own_line (established_meanings bytes.now) }
 {
     append_timings(page, bytes);
     append_own(page, bytes);

@@ -1,7 +1,7 @@
 //! What the numbers of a base block mean.
 ghost use Rattle.std.specs.Prelude.{◌≡◌, ◌≤◌, ◌<◌, ◌+◌, ◌^◌, ◌++◌, length, slice_index};
 ghost use Rattle.arrayvec.specs.ArrayVec.{array_vec_len};
-ghost use Rattle.hdmi_meaning.specs.Notes.{indented};
+ghost use Rattle.hdmi_meaning.specs.Notes.{own_line};
 ghost use Rattle.hdmi_display.specs.Figures.{week_text, made_text, plain_size, ratio_text, aspect_size, size_text, gamma_text, ten_thousandths, coordinate, point_text, chroma_text, standard_height, standard_text};
 
 use arrayvec::ArrayVec;
@@ -47,7 +47,7 @@ fn append_week(note: &mut Note, revision: Revision, week: u64)
 #[tactic(auto, unfolding(crate::specs::Figures::made_text))]
 pub fn append_made(page: &mut Page, revision: Revision, numbers: &[u32])
     requires { array_vec_len page.old + 100 ≤ PAGE }
-    ensures { page.new.items ≡ page.old.items ++ indented (made_text revision (slice_index numbers.now 0) (slice_index numbers.now 1)) }
+    ensures { page.new.items ≡ page.old.items ++ own_line (made_text revision (slice_index numbers.now 0) (slice_index numbers.now 1)) }
 {
     let mut note: Note = ArrayVec::new();
     append_week(&mut note, revision, number_at(numbers, 0));
@@ -111,7 +111,7 @@ fn size_note(revision: Revision, width: u64, height: u64) -> Note
 /// Appends its size, or in 1.4 its aspect where one number is 0 (E-EDID Release A, section 3.6.2).
 pub fn append_size(page: &mut Page, revision: Revision, numbers: &[u32])
     requires { array_vec_len page.old + 100 ≤ PAGE }
-    ensures { page.new.items ≡ page.old.items ++ indented (size_text revision (slice_index numbers.now 0) (slice_index numbers.now 1)) }
+    ensures { page.new.items ≡ page.old.items ++ own_line (size_text revision (slice_index numbers.now 0) (slice_index numbers.now 1)) }
 {
     let note = size_note(revision, number_at(numbers, 0), number_at(numbers, 1));
     append_line(page, note.as_slice());
@@ -135,7 +135,7 @@ fn gamma_note(gamma: u64) -> Note
 /// Appends its gamma (E-EDID Release A, section 3.6.3).
 pub fn append_gamma(page: &mut Page, numbers: &[u32])
     requires { array_vec_len page.old + 100 ≤ PAGE }
-    ensures { page.new.items ≡ page.old.items ++ indented (gamma_text (slice_index numbers.now 0)) }
+    ensures { page.new.items ≡ page.old.items ++ own_line (gamma_text (slice_index numbers.now 0)) }
 {
     append_line(page, gamma_note(number_at(numbers, 0)).as_slice());
 }
@@ -212,7 +212,7 @@ fn chroma_note(numbers: &[u32]) -> Note
 /// Appends the chromaticities of its colours and its white point (E-EDID Release A, section 3.7).
 pub fn append_chroma(page: &mut Page, numbers: &[u32])
     requires { array_vec_len page.old + 250 ≤ PAGE }
-    ensures { page.new.items ≡ page.old.items ++ indented (chroma_text numbers.now) }
+    ensures { page.new.items ≡ page.old.items ++ own_line (chroma_text numbers.now) }
 {
     append_line(page, chroma_note(numbers).as_slice());
 }
@@ -245,7 +245,7 @@ fn standard_note(width: u64, aspect: u64, rate: u64) -> Note
 /// Appends the picture and the rate of a standard timing, of its width, aspect and rate (E-EDID Release A, section 3.9).
 pub fn append_standard(page: &mut Page, numbers: &[u32])
     requires { array_vec_len page.old + 100 ≤ PAGE }
-    ensures { page.new.items ≡ page.old.items ++ indented (standard_text (slice_index numbers.now 0) (slice_index numbers.now 1) (slice_index numbers.now 2)) }
+    ensures { page.new.items ≡ page.old.items ++ own_line (standard_text (slice_index numbers.now 0) (slice_index numbers.now 1) (slice_index numbers.now 2)) }
 {
     let note = standard_note(
         number_at(numbers, 0),

@@ -1,7 +1,7 @@
 //! What the video input definition and the feature bits mean.
 ghost use Rattle.std.specs.Prelude.{◌≡◌, ◌≤◌, ◌<◌, ◌+◌, ◌++◌, length, flat_map};
 ghost use Rattle.arrayvec.specs.ArrayVec.{array_vec_len};
-ghost use Rattle.hdmi_meaning.specs.Notes.{indented, set_words};
+ghost use Rattle.hdmi_meaning.specs.Notes.{own_line, set_words};
 ghost use Rattle.hdmi_edid.specs.declared.base.Revision.TheVariants.{Three, Four};
 ghost use Rattle.hdmi_display.specs.Inputs.{depth_text, interface_text, digital_words, level_text, analog_rows, analog_words, input_words, input_meanings, power_rows, encoding_text, colour_text, shades_text, use_rows, feature_words, feature_meanings};
 
@@ -14,7 +14,7 @@ use hdmi_meaning::{
 
 /// Inputs from here on are digital.
 const DIGITAL: u8 = 128;
-/// The bit of a digital input of 1.3 that tells of DFP.
+/// The bit of a digital input of 1.3 that indicates DFP.
 const DFP: u32 = 1;
 
 const ANALOG: &[Bit] = bit_rows! {
@@ -136,7 +136,7 @@ fn input_note(revision: Revision, input: u8) -> Note
 #[tactic(auto, unfolding(crate::specs::Inputs::input_meanings))]
 pub fn append_input(page: &mut Page, revision: Revision, bytes: &[u8])
     requires { array_vec_len page.old + 240 ≤ PAGE }
-    ensures { page.new.items ≡ page.old.items ++ flat_map indented (input_meanings revision bytes.now) }
+    ensures { page.new.items ≡ page.old.items ++ flat_map own_line (input_meanings revision bytes.now) }
 {
     append_words(page, input_note(revision, byte_at(bytes, 0)).as_slice());
 }
@@ -229,7 +229,7 @@ fn feature_note(revision: Revision, input: u8, features: u8) -> Note
 #[tactic(auto, unfolding(crate::specs::Inputs::feature_meanings))]
 pub fn append_features(page: &mut Page, revision: Revision, input: u8, bytes: &[u8])
     requires { array_vec_len page.old + 274 ≤ PAGE }
-    ensures { page.new.items ≡ page.old.items ++ flat_map indented (feature_meanings revision input bytes.now) }
+    ensures { page.new.items ≡ page.old.items ++ flat_map own_line (feature_meanings revision input bytes.now) }
 {
     append_words(
         page,

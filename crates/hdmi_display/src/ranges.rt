@@ -1,7 +1,7 @@
 //! What the limits of a display's ranges mean.
 ghost use Rattle.std.specs.Prelude.{◌≡◌, ◌≤◌, ◌<◌, ◌+◌, ◌^◌, ◌++◌, length, flat_map};
 ghost use Rattle.arrayvec.specs.ArrayVec.{array_vec_len};
-ghost use Rattle.hdmi_meaning.specs.Notes.{indented, set_words};
+ghost use Rattle.hdmi_meaning.specs.Notes.{own_line, set_words};
 ghost use Rattle.hdmi_display.specs.Ranges.{least_rate, greatest_rate, field_text, line_text, clock_text, limits_text, gtf_text, new_name, form_name, second_text, cvt_pixels, cvt_head, aspect_rows, preferred_text, blanking_rows, scaling_rows, preferred_rate, cvt_words, cvt_meanings, four_meanings, form_meanings, range_text, range_meanings};
 
 use arrayvec::ArrayVec;
@@ -13,7 +13,7 @@ use hdmi_meaning::{
 
 /// What bits of 1.4 add to a rate.
 const OFFSET: u64 = 255;
-/// The bit of the features that tells of the default GTF.
+/// The bit of the features that indicates the default GTF.
 const GTF: u32 = 1;
 /// The form of a second GTF curve.
 const SECOND_GTF: u8 = 2;
@@ -272,7 +272,7 @@ fn cvt_note(bytes: &[u8]) -> Note
 
 fn append_cvt(page: &mut Page, bytes: &[u8])
     requires { array_vec_len page.old + 730 ≤ PAGE }
-    ensures { page.new.items ≡ page.old.items ++ flat_map indented (cvt_meanings bytes.now) }
+    ensures { page.new.items ≡ page.old.items ++ flat_map own_line (cvt_meanings bytes.now) }
 {
     append_line(page, cvt_head(bytes).as_slice());
     append_words(page, cvt_note(bytes).as_slice());
@@ -280,7 +280,7 @@ fn append_cvt(page: &mut Page, bytes: &[u8])
 
 fn append_form(page: &mut Page, revision: Revision, form: u8, bytes: &[u8])
     requires { array_vec_len page.old + 730 ≤ PAGE }
-    ensures { page.new.items ≡ page.old.items ++ flat_map indented (form_meanings revision form bytes.now) }
+    ensures { page.new.items ≡ page.old.items ++ flat_map own_line (form_meanings revision form bytes.now) }
 {
     match (revision, form) {
         (_, SECOND_GTF) => append_line(page, second_note(bytes).as_slice()),
@@ -299,13 +299,13 @@ fn range_note(revision: Revision, features: u8, bytes: &[u8]) -> Note
     note
 }
 
-/// Appends the limits of a display's ranges, of the 14 bytes behind their tag: of field and line rates and of the pixel
-/// clock, and the formula that it has for timings, with its parameters on a line of their own. Bit 0 of the features tells
+/// Appends the limits of a display's ranges, of the 14 bytes after their tag: of field and line rates and of the pixel
+/// clock, and the formula that it has for timings, with its parameters on a line of their own. Bit 0 of the features reports
 /// of the default GTF (E-EDID Release A, section 3.10.3.3).
 #[tactic(auto, unfolding(crate::specs::Ranges::range_meanings))]
 pub fn append_range(page: &mut Page, revision: Revision, features: u8, bytes: &[u8])
     requires { array_vec_len page.old + 910 ≤ PAGE }
-    ensures { page.new.items ≡ page.old.items ++ flat_map indented (range_meanings revision features bytes.now) }
+    ensures { page.new.items ≡ page.old.items ++ flat_map own_line (range_meanings revision features bytes.now) }
 {
     append_line(page, range_note(revision, features, bytes).as_slice());
     append_form(page, revision, byte_at(bytes, 6), bytes);

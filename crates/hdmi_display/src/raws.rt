@@ -1,7 +1,7 @@
-//! What descriptors of no known form and extensions that are kept as they are tell of themselves.
+//! What descriptors of no known form and extensions that are kept as they are report of themselves.
 ghost use Rattle.std.specs.Prelude.{◌≡◌, ◌≤◌, ◌+◌, ◌++◌, length, flat_map};
 ghost use Rattle.arrayvec.specs.ArrayVec.{array_vec_len};
-ghost use Rattle.hdmi_meaning.specs.Notes.{indented};
+ghost use Rattle.hdmi_meaning.specs.Notes.{own_line};
 ghost use Rattle.hdmi_display.specs.Raws.{tag_name, has_characters, characters, tagged_text, raw_text, raw_meanings, cta_text, ext_text, ext_meanings};
 
 use arrayvec::ArrayVec;
@@ -82,7 +82,7 @@ fn raw_note(bytes: &[u8]) -> Note
 pub fn append_raw(page: &mut Page, bytes: &[u8])
     requires few { length bytes.now ≤ 128 }
     requires room { array_vec_len page.old + 160 ≤ PAGE }
-    ensures { page.new.items ≡ page.old.items ++ flat_map indented (raw_meanings bytes.now) }
+    ensures { page.new.items ≡ page.old.items ++ flat_map own_line (raw_meanings bytes.now) }
 {
     append_line(page, raw_note(bytes).as_slice());
 }
@@ -123,7 +123,7 @@ fn ext_note(bytes: &[u8]) -> Note
 #[tactic(auto, unfolding(crate::specs::Raws::ext_meanings))]
 pub fn append_ext(page: &mut Page, bytes: &[u8])
     requires { array_vec_len page.old + 70 ≤ PAGE }
-    ensures { page.new.items ≡ page.old.items ++ flat_map indented (ext_meanings bytes.now) }
+    ensures { page.new.items ≡ page.old.items ++ flat_map own_line (ext_meanings bytes.now) }
 {
     append_line(page, ext_note(bytes).as_slice());
 }

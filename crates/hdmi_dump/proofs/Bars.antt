@@ -4,14 +4,14 @@ use Rattle.std.specs.List.{concat}
 use Rattle.std.proofs.lemmas.Bool.{false≢true}
 use Rattle.std.proofs.lemmas.List.{take-append-drop}
 use Rattle.std.proofs.lemmas.List.Elements.{All-append, All-cons, All-drop, All-head, All-tail, All-take}
-use Rattle.cec_words.specs.Lines.{lines_of}
+use Rattle.hdmi_core.specs.Lines.{lines_of}
 use Rattle.hdmi_dump.specs.declared.digits.Column.{Column}
 use Rattle.hdmi_dump.specs.declared.digits.Column.TheVariants.{Absent, AfterBar}
 use Rattle.hdmi_dump.specs.declared.rows.Form.TheVariants.{Bars, Colon, Plain}
 use Rattle.hdmi_dump.specs.Digits.{is_column, onto, pairs}
-use Rattle.hdmi_dump.specs.Rows.{counted, digits_start, form_of, has_header, has_offset, header, row, row_from}
+use Rattle.hdmi_dump.specs.Rows.{counted_bytes, digits_start, form_of, has_header, has_offset, header, row, row_from}
 use Rattle.hdmi_dump.specs.Dump.{dumped_from, gathered_by}
-use Rattle.hdmi_dump.specs.Printed.{BarsAreRead, bars_line, bars_text, character, offset_text, spaced}
+use Rattle.hdmi_dump.specs.Printed.{BarsAreRead, bars_line, bars_text, character, offset_text, pairs_text}
 use Rattle.hdmi_dump.proofs.DigitFacts.{joins}
 use Rattle.hdmi_dump.proofs.Offsets.{characters_line, fits_first, offset_line, offset_read}
 use Rattle.hdmi_dump.proofs.Pairing.{pairs_blank, pairs_column}
@@ -25,16 +25,16 @@ gap : (c : Column) (xs : List ℕ) → ((ys : List ℕ) → is_column c (32 ∷ 
 gap c xs plain = pairs_blank c 32 (32 ∷ xs) (plain (32 ∷ xs)) refl ∙ pairs_blank c 32 xs (plain xs) refl
 
 abbrev halves : List ℕ → List ℕ → List ℕ
-halves part rest = 32 ∷ 32 ∷ spaced (take 8 part) ++ (32 ∷ 32 ∷ spaced (drop 8 part) ++ (32 ∷ 32 ∷ rest))
+halves part rest = 32 ∷ 32 ∷ pairs_text (take 8 part) ++ (32 ∷ 32 ∷ pairs_text (drop 8 part) ++ (32 ∷ 32 ∷ rest))
 
 halves_read : (c : Column) (part rest : List ℕ) → ((ys : List ℕ) → is_column c (32 ∷ ys) ≡ false) → AreBytes part
     → pairs c (halves part rest) ≡ joins (take 8 part) (joins (drop 8 part) (pairs c rest))
 halves_read c part rest plain h =
     let last = 32 ∷ 32 ∷ rest in
-    let middle = 32 ∷ 32 ∷ spaced (drop 8 part) ++ last in
-    gap c (spaced (take 8 part) ++ middle) plain ∙ spaced_read c (take 8 part) middle plain (All-take (λ b. b < 256) 8 part h)
+    let middle = 32 ∷ 32 ∷ pairs_text (drop 8 part) ++ last in
+    gap c (pairs_text (take 8 part) ++ middle) plain ∙ spaced_read c (take 8 part) middle plain (All-take (λ b. b < 256) 8 part h)
     ∙ ap (joins (take 8 part))
-    (gap c (spaced (drop 8 part) ++ last) plain ∙ spaced_read c (drop 8 part) last plain (All-drop (λ b. b < 256) 8 part h) ∙ ap (joins (drop 8 part)) (gap c rest plain))
+    (gap c (pairs_text (drop 8 part) ++ last) plain ∙ spaced_read c (drop 8 part) last plain (All-drop (λ b. b < 256) 8 part h) ∙ ap (joins (drop 8 part)) (gap c rest plain))
 
 abbrev eight_if : Bool → Option ℕ
 eight_if b = if b then Some 8 else None
@@ -52,8 +52,8 @@ bars_row place part low h =
     let chars = map character part ++ 124 ∷ [] in
     let second : joins (drop 8 part) (pairs AfterBar (124 ∷ chars)) ≡ Some (drop 8 part) =
     ap (joins (drop 8 part)) (pairs_column AfterBar 124 chars refl) ∙ ap Some (append-nil (drop 8 part)) in
-    ap (row_from Bars (bars_line place part)) (bars_start place (spaced (take 8 part) ++ (32 ∷ 32 ∷ spaced (drop 8 part) ++ (32 ∷ 32 ∷ 124 ∷ chars))) low)
-    ∙ ap (counted Bars) (halves_read AfterBar part (124 ∷ chars) (λ ys. refl) h ∙ ap (joins (take 8 part)) second ∙ ap Some (take-append-drop 8 part))
+    ap (row_from Bars (bars_line place part)) (bars_start place (pairs_text (take 8 part) ++ (32 ∷ 32 ∷ pairs_text (drop 8 part) ++ (32 ∷ 32 ∷ 124 ∷ chars))) low)
+    ∙ ap (counted_bytes Bars) (halves_read AfterBar part (124 ∷ chars) (λ ys. refl) h ∙ ap (joins (take 8 part)) second ∙ ap Some (take-append-drop 8 part))
 
 end_row : (place : ℕ) → place < 65536 → row Bars (offset_text place) ≡ Some []
 end_row place h =
@@ -71,13 +71,13 @@ more_line c cs h k = All-cons (λ c. (c == 10) ≡ false) c cs h k
 bars_line_is : (place : ℕ) (part : List ℕ) → place < 65536 → AreBytes part → IsLine (bars_line place part)
 bars_line_is place part low h =
     let chars = map character part ++ 124 ∷ [] in
-    let front = 32 ∷ 32 ∷ spaced (take 8 part) in
-    let back = 32 ∷ 32 ∷ spaced (drop 8 part) in
+    let front = 32 ∷ 32 ∷ pairs_text (take 8 part) in
+    let back = 32 ∷ 32 ∷ pairs_text (drop 8 part) in
     let last = 32 ∷ 32 ∷ 124 ∷ chars in
     let ends : IsLine (124 ∷ []) = more_line 124 [] refl (λ k d m. absurd (omega arith)) in
     both_lines (offset_text place) (front ++ (back ++ last)) (offset_line place low)
-    (both_lines front (back ++ last) (more_line 32 (32 ∷ spaced (take 8 part)) refl (more_line 32 (spaced (take 8 part)) refl (spaced_line (take 8 part) (All-take (λ b. b < 256) 8 part h))))
-    (both_lines back last (more_line 32 (32 ∷ spaced (drop 8 part)) refl (more_line 32 (spaced (drop 8 part)) refl (spaced_line (drop 8 part) (All-drop (λ b. b < 256) 8 part h))))
+    (both_lines front (back ++ last) (more_line 32 (32 ∷ pairs_text (take 8 part)) refl (more_line 32 (pairs_text (take 8 part)) refl (spaced_line (take 8 part) (All-take (λ b. b < 256) 8 part h))))
+    (both_lines back last (more_line 32 (32 ∷ pairs_text (drop 8 part)) refl (more_line 32 (pairs_text (drop 8 part)) refl (spaced_line (drop 8 part) (All-drop (λ b. b < 256) 8 part h))))
     (more_line 32 (32 ∷ 124 ∷ chars) refl (more_line 32 (124 ∷ chars) refl (more_line 124 chars refl (both_lines (map character part) (124 ∷ []) (characters_line part) ends))))))
 
 -- ---- all rows
@@ -115,7 +115,7 @@ not_plain : (part : List ℕ) → AreBytes part → row Plain (bars_line 0 part)
 not_plain part h =
     let none : pairs Absent (halves part (124 ∷ (map character part ++ 124 ∷ []))) ≡ None =
     halves_read Absent part (124 ∷ (map character part ++ 124 ∷ [])) (λ ys. refl) h ∙ ap (λ o. joins (take 8 part) (joins (drop 8 part) o)) (bar_none part) in
-    ap (λ o. counted Plain (onto 0 (onto 0 (onto 0 (onto 0 o))))) none
+    ap (λ o. counted_bytes Plain (onto 0 (onto 0 (onto 0 (onto 0 o))))) none
 
 not_colon : (place : ℕ) (part : List ℕ) → row Colon (bars_line place part) ≡ None
 not_colon place part = row_absent Colon (bars_line place part) (ap (λ b. if b then Some 9 else None) (nor (has_offset (bars_line place part))))

@@ -1,12 +1,12 @@
 -- Other text before a dump is passed over.
 use Rattle.std.proofs.Common.{◌≡◌, ℕ, ◌+◌, ◌%◌, ◌==◌, ◌&&◌, not, nat_lt, Bool, true, false, if◌then◌else◌, List, [], ◌∷◌, ◌++◌, length, Option, Some, None, Result, Ok, Err, All, refl, ap, ◌∙◌, append_assoc}
 use Rattle.std.proofs.lemmas.List.Elements.{All-head, All-tail}
-use Rattle.cec_words.specs.Lines.{lines_of}
+use Rattle.hdmi_core.specs.Lines.{lines_of}
 use Rattle.hdmi_dump.specs.declared.rows.Form.{Form}
 use Rattle.hdmi_dump.specs.declared.dump.DumpError.{DumpError}
 use Rattle.hdmi_dump.specs.declared.dump.DumpError.TheVariants.{Cut, Long}
 use Rattle.hdmi_dump.specs.Rows.{form_of, is_repeat, row}
-use Rattle.hdmi_dump.specs.Dump.{dumped_from, gathered, gathered_by, left_out, repeated, with_row}
+use Rattle.hdmi_dump.specs.Dump.{dumped_from, bytes_of_rows, gathered_by, left_out, with_repeats, with_row}
 use Rattle.hdmi_dump.specs.Printed.{TextBeforeIsPassedOver, text_of}
 use Rattle.hdmi_dump.proofs.Printing.{IsLine, line_before}
 
@@ -27,7 +27,7 @@ row_so : (n m : ℕ) (skips : Bool) (bytes line out : List ℕ) (next : Option (
     → with_row n skips bytes line next p ≡ Ok out → with_row m skips bytes line next q ≡ Ok out
 row_so n m skips bytes line out None p q later h = ended_so (not skips && (length bytes % 128 == 0)) n m bytes out h
 row_so n m skips bytes line out (Some next) p q later h =
-    let now = repeated (left_out skips bytes line) bytes ++ next in
+    let now = with_repeats (left_out skips bytes line) bytes ++ next in
     room_so (nat_lt 512 (length bytes + left_out skips bytes line + length next)) n m now out p q (later now) h
 
 line_so : (repeats : Bool) (n m : ℕ) (skips : Bool) (bytes line out : List ℕ) (next : Option (List ℕ)) (p q : Bool → List ℕ → Bytes) → ((s : Bool) (now : List ℕ) → p s now ≡ Ok out → q s now ≡ Ok out)
@@ -35,10 +35,10 @@ line_so : (repeats : Bool) (n m : ℕ) (skips : Bool) (bytes line out : List ℕ
 line_so true n m skips bytes line out next p q later h = later true bytes h
 line_so false n m skips bytes line out next p q later h = row_so n m skips bytes line out next (p false) (q false) (later false) h
 
-gathered_so : (form : Form) (n m : ℕ) (skips : Bool) (bytes : List ℕ) (lines : List (List ℕ)) (out : List ℕ) → gathered form n skips bytes lines ≡ Ok out → gathered form m skips bytes lines ≡ Ok out
+gathered_so : (form : Form) (n m : ℕ) (skips : Bool) (bytes : List ℕ) (lines : List (List ℕ)) (out : List ℕ) → bytes_of_rows form n skips bytes lines ≡ Ok out → bytes_of_rows form m skips bytes lines ≡ Ok out
 gathered_so form n m skips bytes [] out h = ended_so (not skips && (length bytes % 128 == 0)) n m bytes out h
 gathered_so form n m skips bytes (line ∷ lines) out h =
-    line_so (is_repeat form line) n m skips bytes line out (row form line) (λ s now. gathered form (n + 1) s now lines) (λ s now. gathered form (m + 1) s now lines)
+    line_so (is_repeat form line) n m skips bytes line out (row form line) (λ s now. bytes_of_rows form (n + 1) s now lines) (λ s now. bytes_of_rows form (m + 1) s now lines)
     (λ s now k. gathered_so form (n + 1) (m + 1) s now lines out k) h
 
 form_so : (o : Option Form) (n m : ℕ) (lines : List (List ℕ)) (a b : Bytes) (out : List ℕ) → (a ≡ Ok out → b ≡ Ok out) → gathered_by o n lines a ≡ Ok out → gathered_by o m lines b ≡ Ok out

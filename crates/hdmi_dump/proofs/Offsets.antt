@@ -4,12 +4,12 @@ use Rattle.std.specs.List.{concat}
 use Rattle.std.specs.Char.{is_ascii_hexdigit}
 use Rattle.std.proofs.lemmas.Bool.Decides.{nat_tests}
 use Rattle.std.proofs.lemmas.List.Elements.{All-append, All-cons, All-head, All-tail}
-use Rattle.cec_words.specs.Lines.{lines_of}
+use Rattle.hdmi_core.specs.Lines.{lines_of}
 use Rattle.hdmi_core.specs.Piece.{hex_text}
 use Rattle.hdmi_dump.specs.declared.digits.Column.TheVariants.{AfterGap}
 use Rattle.hdmi_dump.specs.declared.rows.Form.TheVariants.{Colon, Plain}
 use Rattle.hdmi_dump.specs.Digits.{onto, pairs}
-use Rattle.hdmi_dump.specs.Rows.{counted, digits_start, form_of, has_header, has_offset, header, row, row_from}
+use Rattle.hdmi_dump.specs.Rows.{counted_bytes, digits_start, form_of, has_header, has_offset, header, row, row_from}
 use Rattle.hdmi_dump.specs.Printed.{OffsetsAreRead, by_twos, character, colon_line, colon_text, offset_text}
 use Rattle.hdmi_dump.proofs.DigitFacts.{joins, joins_byte, joins_none, mark, mark_hex, pairs_byte, pairs_gap}
 use Rattle.hdmi_dump.proofs.Pairing.{pairs_column}
@@ -54,7 +54,7 @@ colon_row : (place : ℕ) (part : List ℕ) → place < 65536 → AreBytes part 
 colon_row place part low h =
     let rest = by_twos part ++ (32 ∷ 32 ∷ map character part) in
     ap (row_from Colon (colon_line place part)) (colon_start place rest low)
-    ∙ ap (counted Colon) (twos_read part (32 ∷ 32 ∷ map character part) h ∙ ap (joins part) (pairs_column AfterGap 32 (32 ∷ map character part) refl) ∙ ap Some (append-nil part))
+    ∙ ap (counted_bytes Colon) (twos_read part (32 ∷ 32 ∷ map character part) h ∙ ap (joins part) (pairs_column AfterGap 32 (32 ∷ map character part) refl) ∙ ap Some (append-nil part))
 
 -- ---- its line
 

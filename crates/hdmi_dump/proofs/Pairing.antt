@@ -5,7 +5,7 @@ use Rattle.std.proofs.lemmas.List.{take_all, take-append-le}
 use Rattle.std.specs.Option.{option_map}
 use Rattle.std.specs.Char.{is_ascii_hexdigit}
 use Rattle.hdmi_dump.specs.declared.digits.Column.{Column}
-use Rattle.hdmi_dump.specs.Digits.{digit, filled, is_blank, is_column, onto, pairs}
+use Rattle.hdmi_dump.specs.Digits.{digit, bytes_with_row, is_blank, is_column, onto, pairs}
 
 pub pairs_column : (c : Column) (x : ℕ) (xs : List ℕ) → is_column c (x ∷ xs) ≡ true → pairs c (x ∷ xs) ≡ Some []
 pairs_column c x [] h = rw h refl
@@ -63,19 +63,19 @@ pub some_onto : (b : ℕ) (o : Option (List ℕ)) → is_some (onto b o) ≡ is_
 some_onto b None = refl
 some_onto b (Some bytes) = refl
 
-pub filled_onto : (bytes : List ℕ) (b : ℕ) (o : Option (List ℕ)) → filled bytes (onto b o) ≡ filled (bytes ++ b ∷ []) o
+pub filled_onto : (bytes : List ℕ) (b : ℕ) (o : Option (List ℕ)) → bytes_with_row bytes (onto b o) ≡ bytes_with_row (bytes ++ b ∷ []) o
 filled_onto bytes b None = refl
 filled_onto bytes b (Some next) = ap (λ l. Some (take 512 l)) (sym (append_assoc bytes (b ∷ []) next))
 
 -- no more
-pub filled_none : (bytes : List ℕ) → length bytes ≤ 512 → filled bytes (Some []) ≡ Some bytes
+pub filled_none : (bytes : List ℕ) → length bytes ≤ 512 → bytes_with_row bytes (Some []) ≡ Some bytes
 filled_none bytes h = ap Some (ap (take 512) (append-nil bytes) ∙ take_all 512 bytes h)
 
-pub filled_column : (c : Column) (x : ℕ) (xs bytes : List ℕ) → is_column c (x ∷ xs) ≡ true → length bytes ≤ 512 → filled bytes (pairs c (x ∷ xs)) ≡ Some bytes
-filled_column c x xs bytes h fits = ap (filled bytes) (pairs_column c x xs h) ∙ filled_none bytes fits
+pub filled_column : (c : Column) (x : ℕ) (xs bytes : List ℕ) → is_column c (x ∷ xs) ≡ true → length bytes ≤ 512 → bytes_with_row bytes (pairs c (x ∷ xs)) ≡ Some bytes
+filled_column c x xs bytes h fits = ap (bytes_with_row bytes) (pairs_column c x xs h) ∙ filled_none bytes fits
 
 -- no room
-pub filled_full : (bytes : List ℕ) (o : Option (List ℕ)) → IsSome o → length bytes ≡ 512 → filled bytes o ≡ Some bytes
+pub filled_full : (bytes : List ℕ) (o : Option (List ℕ)) → IsSome o → length bytes ≡ 512 → bytes_with_row bytes o ≡ Some bytes
 filled_full bytes None some full = absurd (false≢true some)
 filled_full bytes (Some next) some full =
     let low : 512 ≤ length bytes = omega arith in

@@ -5,7 +5,7 @@ use Rattle.std.specs.Str.{bytes_eq}
 use Rattle.std.proofs.lemmas.Bool.Decides.{nat_tests}
 use Rattle.std.proofs.lemmas.List.Elements.{All-append, All-cons, All-head, All-tail, All-weaker}
 use Rattle.std.proofs.lemmas.List.Splits.{slice_split_at, length-slice_split}
-use Rattle.cec_words.specs.Lines.{lines_of, without_empty_end}
+use Rattle.hdmi_core.specs.Lines.{lines_of, without_empty_end}
 use Rattle.hdmi_core.specs.Piece.{hex_text}
 use Rattle.hdmi_dump.specs.declared.digits.Column.{Column}
 use Rattle.hdmi_dump.specs.declared.digits.Column.TheVariants.{Absent}
@@ -14,9 +14,9 @@ use Rattle.hdmi_dump.specs.declared.rows.Form.TheVariants.{Plain}
 use Rattle.hdmi_dump.specs.declared.dump.DumpError.{DumpError}
 use Rattle.hdmi_dump.specs.declared.dump.DumpError.TheVariants.{Cut, Long}
 use Rattle.hdmi_dump.specs.Digits.{is_column, onto, pairs}
-use Rattle.hdmi_dump.specs.Rows.{counted, form_of, has_header, header, is_repeat, row}
-use Rattle.hdmi_dump.specs.Dump.{dumped, dumped_from, gathered, gathered_by, with_row}
-use Rattle.hdmi_dump.specs.Printed.{IsParted, DigitsAreRead, PairsAreRead, spaced}
+use Rattle.hdmi_dump.specs.Rows.{counted_bytes, form_of, has_header, header, is_repeat, row}
+use Rattle.hdmi_dump.specs.Dump.{edid_in_dump, dumped_from, bytes_of_rows, gathered_by, with_row}
+use Rattle.hdmi_dump.specs.Printed.{IsParted, DigitsAreRead, PairsAreRead, pairs_text}
 use Rattle.hdmi_dump.proofs.DigitFacts.{joins, joins_byte, joins_none, mark, mark_other, pairs_byte, pairs_digits}
 use Rattle.hdmi_dump.proofs.Pairing.{pairs_blank}
 
@@ -51,16 +51,16 @@ AreRows form (line ∷ lines) [] = ⊥
 AreRows form (line ∷ lines) (part ∷ parts) = (is_repeat form line ≡ false) × (row form line ≡ Some part) × AreRows form lines parts
 
 one_more : (form : Form) (number : ℕ) (bytes line part : List ℕ) (lines : List (List ℕ)) → is_repeat form line ≡ false → row form line ≡ Some part → length bytes + length part ≤ 512
-    → gathered form number false bytes (line ∷ lines) ≡ gathered form (number + 1) false (bytes ++ part) lines
+    → bytes_of_rows form number false bytes (line ∷ lines) ≡ bytes_of_rows form (number + 1) false (bytes ++ part) lines
 one_more form number bytes line part lines other is short =
-    let go : List ℕ → Result (List ℕ) DumpError = λ now. gathered form (number + 1) false now lines in
+    let go : List ℕ → Result (List ℕ) DumpError = λ now. bytes_of_rows form (number + 1) false now lines in
     let room : nat_lt 512 (length bytes + 0 + length part) ≡ false = grind (arith, nat_tests) in
-    ap (λ b. if b then gathered form (number + 1) true bytes lines else with_row number false bytes line (row form line) go) other
+    ap (λ b. if b then bytes_of_rows form (number + 1) true bytes lines else with_row number false bytes line (row form line) go) other
     ∙ ap (λ o. with_row number false bytes line o go) is
     ∙ ap (λ b. if b then Err (Long number) else go (bytes ++ part)) room
 
 pub rows_gathered : (form : Form) (lines parts : List (List ℕ)) (number : ℕ) (bytes : List ℕ) → AreRows form lines parts → length (bytes ++ concat parts) ≤ 512 → length (bytes ++ concat parts) % 128 ≡ 0
-    → gathered form number false bytes lines ≡ Ok (bytes ++ concat parts)
+    → bytes_of_rows form number false bytes lines ≡ Ok (bytes ++ concat parts)
 rows_gathered form [] [] number bytes rows most blocks =
     let e : bytes ++ [] ≡ bytes = append-nil bytes in
     let whole : (length bytes % 128 == 0) ≡ true = grind (arith, nat_tests, ap length e) in
@@ -76,7 +76,7 @@ rows_gathered form (line ∷ lines) (part ∷ parts) number bytes rows most bloc
 
 -- a dump of these rows
 pub rows_dumped : (form : Form) (text line part : List ℕ) (lines parts : List (List ℕ)) → lines_of text ≡ line ∷ lines → form_of line ≡ Some form → AreRows form (line ∷ lines) (part ∷ parts)
-    → IsParted part parts → dumped text ≡ Ok (concat (part ∷ parts))
+    → IsParted part parts → edid_in_dump text ≡ Ok (concat (part ∷ parts))
 rows_dumped form text line part lines parts split first rows is =
     ap (dumped_from 1) split ∙ ap (λ o. gathered_by o 1 (line ∷ lines) (dumped_from 2 lines)) first
     ∙ rows_gathered form (line ∷ lines) (part ∷ parts) 1 [] rows is.most is.blocks
@@ -107,10 +107,10 @@ rows_shown show (part ∷ parts) h = (
 )
 
 plain_row : (line part : List ℕ) → pairs Absent line ≡ Some part → row Plain line ≡ Some part
-plain_row line part h = ap (counted Plain) h
+plain_row line part h = ap (counted_bytes Plain) h
 
 plain_dumped : (show : List ℕ → List ℕ) (first : List ℕ) (parts : List (List ℕ)) → IsParted first parts → ((p : List ℕ) → AreBytes p → pairs Absent (show p) ≡ Some p)
-    → ((p : List ℕ) → AreBytes p → IsLine (show p)) → dumped (flat_map (λ p. show p ++ 10 ∷ []) (first ∷ parts)) ≡ Ok (concat (first ∷ parts))
+    → ((p : List ℕ) → AreBytes p → IsLine (show p)) → edid_in_dump (flat_map (λ p. show p ++ 10 ∷ []) (first ∷ parts)) ≡ Ok (concat (first ∷ parts))
 plain_dumped show first parts is reads line =
     let rows : All (λ p. row Plain (show p) ≡ Some p) (first ∷ parts) =
     All-weaker AreBytes (λ p. row Plain (show p) ≡ Some p) (λ p h. plain_row (show p) p (reads p h)) (first ∷ parts) is.bytes in
@@ -134,7 +134,7 @@ digits_are_read first parts is = plain_dumped (flat_map hex_text) first parts is
 
 -- ---- pairs one space apart
 
-pub spaced_read : (c : Column) (bytes rest : List ℕ) → ((xs : List ℕ) → is_column c (32 ∷ xs) ≡ false) → AreBytes bytes → pairs c (spaced bytes ++ rest) ≡ joins bytes (pairs c rest)
+pub spaced_read : (c : Column) (bytes rest : List ℕ) → ((xs : List ℕ) → is_column c (32 ∷ xs) ≡ false) → AreBytes bytes → pairs c (pairs_text bytes ++ rest) ≡ joins bytes (pairs c rest)
 spaced_read c [] rest gap h = sym (joins_none (pairs c rest))
 spaced_read c (b ∷ []) rest gap h = pairs_byte c b rest (All-head (λ b. b < 256) b [] h) ∙ joined (pairs c rest)
   where
@@ -142,20 +142,20 @@ spaced_read c (b ∷ []) rest gap h = pairs_byte c b rest (All-head (λ b. b < 2
     joined None = refl
     joined (Some bytes) = refl
 spaced_read c (b ∷ d ∷ bytes) rest gap h =
-    let more = spaced (d ∷ bytes) ++ rest in
-    ap (pairs c) (append_assoc (hex_text b) (32 ∷ spaced (d ∷ bytes)) rest) ∙ pairs_byte c b (32 ∷ more) (All-head (λ b. b < 256) b (d ∷ bytes) h)
+    let more = pairs_text (d ∷ bytes) ++ rest in
+    ap (pairs c) (append_assoc (hex_text b) (32 ∷ pairs_text (d ∷ bytes)) rest) ∙ pairs_byte c b (32 ∷ more) (All-head (λ b. b < 256) b (d ∷ bytes) h)
     ∙ ap (onto b) (pairs_blank c 32 more (gap more) refl ∙ spaced_read c (d ∷ bytes) rest gap (All-tail (λ b. b < 256) b (d ∷ bytes) h))
     ∙ joins_byte b (d ∷ bytes) (pairs c rest)
 
-pub spaced_line : (bytes : List ℕ) → AreBytes bytes → IsLine (spaced bytes)
+pub spaced_line : (bytes : List ℕ) → AreBytes bytes → IsLine (pairs_text bytes)
 spaced_line [] h = λ k d m. absurd (omega arith)
 spaced_line (b ∷ []) h = byte_line b (All-head (λ b. b < 256) b [] h)
-spaced_line (b ∷ d ∷ bytes) h = All-append (λ c. (c == 10) ≡ false) (hex_text b) (32 ∷ spaced (d ∷ bytes)) (byte_line b (All-head (λ b. b < 256) b (d ∷ bytes) h))
-    (All-cons (λ c. (c == 10) ≡ false) 32 (spaced (d ∷ bytes)) refl (spaced_line (d ∷ bytes) (All-tail (λ b. b < 256) b (d ∷ bytes) h)))
+spaced_line (b ∷ d ∷ bytes) h = All-append (λ c. (c == 10) ≡ false) (hex_text b) (32 ∷ pairs_text (d ∷ bytes)) (byte_line b (All-head (λ b. b < 256) b (d ∷ bytes) h))
+    (All-cons (λ c. (c == 10) ≡ false) 32 (pairs_text (d ∷ bytes)) refl (spaced_line (d ∷ bytes) (All-tail (λ b. b < 256) b (d ∷ bytes) h)))
 
-pairs_read : (bytes : List ℕ) → AreBytes bytes → pairs Absent (spaced bytes) ≡ Some bytes
+pairs_read : (bytes : List ℕ) → AreBytes bytes → pairs Absent (pairs_text bytes) ≡ Some bytes
 pairs_read bytes h =
-    ap (pairs Absent) (sym (append-nil (spaced bytes))) ∙ spaced_read Absent bytes [] (λ xs. refl) h ∙ ap Some (append-nil bytes)
+    ap (pairs Absent) (sym (append-nil (pairs_text bytes))) ∙ spaced_read Absent bytes [] (λ xs. refl) h ∙ ap Some (append-nil bytes)
 
 pub pairs_are_read : PairsAreRead
-pairs_are_read first parts is = plain_dumped spaced first parts is pairs_read spaced_line
+pairs_are_read first parts is = plain_dumped pairs_text first parts is pairs_read spaced_line

@@ -5,15 +5,15 @@ use Rattle.std.specs.Str.{bytes_eq}
 use Rattle.std.proofs.lemmas.Bool.{false≢true}
 use Rattle.hdmi_dump.specs.declared.digits.Column.{Column}
 use Rattle.hdmi_dump.specs.declared.rows.Form.{Form}
-use Rattle.hdmi_dump.specs.Digits.{filled, pairs}
-use Rattle.hdmi_dump.specs.Rows.{column_of, counted, digits_start, has_header, header, may_have, row, row_from}
+use Rattle.hdmi_dump.specs.Digits.{bytes_with_row, pairs}
+use Rattle.hdmi_dump.specs.Rows.{column_of, counted_bytes, digits_start, has_header, header, may_have, row, row_from}
 
 -- the count of a row, from that of its pairs
 abbrev pub chosen : Form → Option ℕ → Option ℕ
 chosen form None = None
 chosen form (Some n) = if may_have form n then Some n else None
 
-counts : (form : Form) (o : Option (List ℕ)) → option_map length (counted form o) ≡ chosen form (option_map length o)
+counts : (form : Form) (o : Option (List ℕ)) → option_map length (counted_bytes form o) ≡ chosen form (option_map length o)
 counts form None = refl
 counts form (Some bytes) = by (may_have form (length bytes))
   where
@@ -39,7 +39,7 @@ counted_some None n h = cc
 counted_some (Some bytes) n h = refl
 
 -- a row's bytes are those of its pairs
-whole : (form : Form) (o : Option (List ℕ)) → IsSome (counted form o) → counted form o ≡ o
+whole : (form : Form) (o : Option (List ℕ)) → IsSome (counted_bytes form o) → counted_bytes form o ≡ o
 whole form None h = refl
 whole form (Some bytes) h = by (may_have form (length bytes)) h
   where
@@ -49,7 +49,7 @@ whole form (Some bytes) h = by (may_have form (length bytes)) h
 
 pub row_pairs : (form : Form) (line : List ℕ) (start : ℕ) → digits_start form line ≡ Some start → IsSome (row form line) → row form line ≡ pairs (column_of form) (drop start line)
 row_pairs form line start h some =
-    let at : row form line ≡ counted form (pairs (column_of form) (drop start line)) = ap (row_from form line) h in
+    let at : row form line ≡ counted_bytes form (pairs (column_of form) (drop start line)) = ap (row_from form line) h in
     at ∙ whole form (pairs (column_of form) (drop start line)) (ap is_some (sym at) ∙ some)
 
 pub row_absent : (form : Form) (line : List ℕ) → digits_start form line ≡ None → row form line ≡ None
@@ -63,7 +63,7 @@ take_again (suc n) (suc m) [] h = refl
 take_again (suc n) (suc m) (x ∷ xs) h = ap (λ l. x ∷ l) (take_again n m xs (omega arith))
 
 -- the header, from the front of a row
-pub header_of : (o : Option (List ℕ)) (bytes : List ℕ) → filled [] o ≡ Some bytes → has_header o ≡ bytes_eq (take 8 bytes) header
+pub header_of : (o : Option (List ℕ)) (bytes : List ℕ) → bytes_with_row [] o ≡ Some bytes → has_header o ≡ bytes_eq (take 8 bytes) header
 header_of None bytes h = cc
 header_of (Some next) bytes h =
     let e : take 512 next ≡ bytes = cc in

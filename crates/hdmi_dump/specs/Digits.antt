@@ -33,9 +33,9 @@ pairs column (x ∷ y ∷ rest) =
     else None
 
 -- bytes, and those of a row, as far as there is room for an EDID of four blocks
-abbrev pub filled : List ℕ → Option (List ℕ) → Option (List ℕ)
-filled bytes None = None
-filled bytes (Some next) = Some (take 512 (bytes ++ next))
+abbrev pub bytes_with_row : List ℕ → Option (List ℕ) → Option (List ℕ)
+bytes_with_row bytes None = None
+bytes_with_row bytes (Some next) = Some (take 512 (bytes ++ next))
 
 -- the number that eight digits spell
 abbrev pub byte_of : List ℕ → ℕ → ℕ

@@ -1,7 +1,7 @@
 -- The hex dump of an EDID in a text: it begins at the first line whose bytes begin with the header, and goes on as far as
 -- the lines are rows of the same form (own).
 use Rattle.std.specs.Prelude.{◌≡◌, ℕ, zero, suc, ◌+◌, ◌-◌, ◌%◌, ◌==◌, ◌&&◌, not, nat_lt, Bool, true, false, if◌then◌else◌, List, [], ◌∷◌, ◌++◌, length, slice_index, Option, Some, None, Result, Ok, Err}
-use Rattle.cec_words.specs.Lines.{lines_of}
+use Rattle.hdmi_core.specs.Lines.{lines_of}
 use Rattle.hdmi_dump.specs.declared.rows.Form.{Form}
 use Rattle.hdmi_dump.specs.declared.dump.DumpError.{DumpError}
 use Rattle.hdmi_dump.specs.declared.dump.DumpError.TheVariants.{NoDump, Cut, Long}
@@ -14,9 +14,9 @@ use Rattle.hdmi_dump.specs.Digits.{offset_of}
 use Rattle.hdmi_dump.specs.Rows.{form_of, is_repeat, row}
 
 -- so many bytes more, each that of the row of sixteen above
-abbrev pub repeated : ℕ → List ℕ → List ℕ
-repeated zero bytes = bytes
-repeated (suc count) bytes = repeated count (bytes ++ slice_index bytes (length bytes - 16) ∷ [])
+abbrev pub with_repeats : ℕ → List ℕ → List ℕ
+with_repeats zero bytes = bytes
+with_repeats (suc count) bytes = with_repeats count (bytes ++ slice_index bytes (length bytes - 16) ∷ [])
 
 -- how many bytes were left out before a row: none, or those up to its offset
 abbrev pub left_out : Bool → List ℕ → List ℕ → ℕ
@@ -24,14 +24,14 @@ left_out false bytes line = 0
 left_out true bytes line = offset_of line - length bytes
 
 -- a dump ends where a block does, and not after rows that were left out
-abbrev pub ended : ℕ → Bool → List ℕ → Result (List ℕ) DumpError
-ended number skips bytes = if not skips && (length bytes % 128 == 0) then Ok bytes else Err (Cut number)
+abbrev pub dump_at_end : ℕ → Bool → List ℕ → Result (List ℕ) DumpError
+dump_at_end number skips bytes = if not skips && (length bytes % 128 == 0) then Ok bytes else Err (Cut number)
 
 abbrev pub with_row : ℕ → Bool → List ℕ → List ℕ → Option (List ℕ) → (List ℕ → Result (List ℕ) DumpError) → Result (List ℕ) DumpError
-with_row number skips bytes line None more = ended number skips bytes
+with_row number skips bytes line None more = dump_at_end number skips bytes
 with_row number skips bytes line (Some next) more =
     if nat_lt 512 (length bytes + left_out skips bytes line + length next) then Err (Long number)
-    else more (repeated (left_out skips bytes line) bytes ++ next)
+    else more (with_repeats (left_out skips bytes line) bytes ++ next)
 
 -- a line of a dump: where it stands for rows that it repeats, or is a row, the dump goes on
 abbrev pub with_line : Form → ℕ → Bool → List ℕ → List ℕ → (Bool → List ℕ → Result (List ℕ) DumpError) → Result (List ℕ) DumpError
@@ -40,21 +40,21 @@ with_line form number skips bytes line more =
     else with_row number skips bytes line (row form line) (more false)
 
 -- the bytes so far, and those of the rows that follow; an EDID has at most 512
-abbrev pub gathered : Form → ℕ → Bool → List ℕ → List (List ℕ) → Result (List ℕ) DumpError
-gathered form number skips bytes [] = ended number skips bytes
-gathered form number skips bytes (line ∷ lines) = with_line form number skips bytes line (λ now_skips now. gathered form (number + 1) now_skips now lines)
+abbrev pub bytes_of_rows : Form → ℕ → Bool → List ℕ → List (List ℕ) → Result (List ℕ) DumpError
+bytes_of_rows form number skips bytes [] = dump_at_end number skips bytes
+bytes_of_rows form number skips bytes (line ∷ lines) = with_line form number skips bytes line (λ now_skips now. bytes_of_rows form (number + 1) now_skips now lines)
 
 abbrev pub gathered_by : Option Form → ℕ → List (List ℕ) → Result (List ℕ) DumpError → Result (List ℕ) DumpError
 gathered_by None number lines later = later
-gathered_by (Some form) number lines later = gathered form number false [] lines
+gathered_by (Some form) number lines later = bytes_of_rows form number false [] lines
 
 abbrev pub dumped_from : ℕ → List (List ℕ) → Result (List ℕ) DumpError
 dumped_from number [] = Err NoDump
 dumped_from number (line ∷ lines) = gathered_by (form_of line) number (line ∷ lines) (dumped_from (number + 1) lines)
 
 -- the bytes of the EDID whose dump a text has, or why there are none; lines are counted from 1
-abbrev pub dumped : List ℕ → Result (List ℕ) DumpError
-dumped text = dumped_from 1 (lines_of text)
+abbrev pub edid_in_dump : List ℕ → Result (List ℕ) DumpError
+edid_in_dump text = dumped_from 1 (lines_of text)
 
 -- whether an EDID begins on some line
 abbrev pub has_dump : List ℕ → Bool
@@ -63,10 +63,10 @@ has_dump text = list_any (λ line. is_some (form_of line)) (lines_of text)
 -- ---- what calls return
 
 -- what a line is to a dump, with what is there after it
-abbrev pub told : ℕ → Taken → Bool → List ℕ → (Bool → List ℕ → Result (List ℕ) DumpError) → Result (List ℕ) DumpError
-told number Row skips bytes more = more skips bytes
-told number TooLong skips bytes more = Err (Long number)
-told number Other skips bytes more = ended number skips bytes
+abbrev pub after_line : ℕ → Taken → Bool → List ℕ → (Bool → List ℕ → Result (List ℕ) DumpError) → Result (List ℕ) DumpError
+after_line number Row skips bytes more = more skips bytes
+after_line number TooLong skips bytes more = Err (Long number)
+after_line number Other skips bytes more = dump_at_end number skips bytes
 
 -- the bytes, or the refusal
 abbrev pub Gives : Result (ArrayVec ℕ 512 (Unit {0})) DumpError → Result (List ℕ) DumpError → Type 0

@@ -3,7 +3,7 @@ use Rattle.std.specs.Prelude.{map, if◌then◌else◌, nat_le, ◌&&◌, ◌/�
 use Rattle.std.specs.List.{concat, flat_map}
 use Rattle.hdmi_core.specs.Piece.{hex_text}
 use Rattle.hdmi_dump.specs.Rows.{form_of, header}
-use Rattle.hdmi_dump.specs.Dump.{dumped}
+use Rattle.hdmi_dump.specs.Dump.{edid_in_dump}
 
 -- The bytes of one to four blocks that begin with the header, parted into lines of which the first has the header.
 pub record IsParted (first : List ℕ) (parts : List (List ℕ)) : Type 0 where
@@ -18,20 +18,20 @@ abbrev pub digits_line : List ℕ → List ℕ
 digits_line part = flat_map hex_text part ++ codes "\n"
 
 abbrev pub DigitsAreRead : Type 0
-DigitsAreRead = (first : List ℕ) (parts : List (List ℕ)) → IsParted first parts → dumped (flat_map digits_line (first ∷ parts)) ≡ Ok (concat (first ∷ parts))
+DigitsAreRead = (first : List ℕ) (parts : List (List ℕ)) → IsParted first parts → edid_in_dump (flat_map digits_line (first ∷ parts)) ≡ Ok (concat (first ∷ parts))
 
 -- ---- pairs one space apart: `edid-decode`, where the line between two blocks has none
 
-abbrev pub spaced : List ℕ → List ℕ
-spaced [] = []
-spaced (b ∷ []) = hex_text b
-spaced (b ∷ c ∷ more) = hex_text b ++ 32 ∷ spaced (c ∷ more)
+abbrev pub pairs_text : List ℕ → List ℕ
+pairs_text [] = []
+pairs_text (b ∷ []) = hex_text b
+pairs_text (b ∷ c ∷ more) = hex_text b ++ 32 ∷ pairs_text (c ∷ more)
 
 abbrev pub pairs_line : List ℕ → List ℕ
-pairs_line part = spaced part ++ codes "\n"
+pairs_line part = pairs_text part ++ codes "\n"
 
 abbrev pub PairsAreRead : Type 0
-PairsAreRead = (first : List ℕ) (parts : List (List ℕ)) → IsParted first parts → dumped (flat_map pairs_line (first ∷ parts)) ≡ Ok (concat (first ∷ parts))
+PairsAreRead = (first : List ℕ) (parts : List (List ℕ)) → IsParted first parts → edid_in_dump (flat_map pairs_line (first ∷ parts)) ≡ Ok (concat (first ∷ parts))
 
 -- ---- `xxd`: an offset and a colon, bytes by twos, and their characters after two spaces
 
@@ -56,20 +56,20 @@ colon_text place [] = []
 colon_text place (part ∷ parts) = colon_line place part ++ 10 ∷ colon_text (place + length part) parts
 
 abbrev pub OffsetsAreRead : Type 0
-OffsetsAreRead = (first : List ℕ) (parts : List (List ℕ)) → IsParted first parts → dumped (colon_text 0 (first ∷ parts)) ≡ Ok (concat (first ∷ parts))
+OffsetsAreRead = (first : List ℕ) (parts : List (List ℕ)) → IsParted first parts → edid_in_dump (colon_text 0 (first ∷ parts)) ≡ Ok (concat (first ∷ parts))
 
 -- ---- `hexdump -C -v`: an offset, pairs one space apart in two halves, characters between bars; at the end the count of bytes
 
 abbrev pub bars_line : ℕ → List ℕ → List ℕ
 bars_line place part =
-    offset_text place ++ (32 ∷ 32 ∷ spaced (take 8 part) ++ (32 ∷ 32 ∷ spaced (drop 8 part) ++ (32 ∷ 32 ∷ 124 ∷ (map character part ++ 124 ∷ []))))
+    offset_text place ++ (32 ∷ 32 ∷ pairs_text (take 8 part) ++ (32 ∷ 32 ∷ pairs_text (drop 8 part) ++ (32 ∷ 32 ∷ 124 ∷ (map character part ++ 124 ∷ []))))
 
 abbrev pub bars_text : ℕ → List (List ℕ) → List ℕ
 bars_text place [] = offset_text place ++ 10 ∷ []
 bars_text place (part ∷ parts) = bars_line place part ++ 10 ∷ bars_text (place + length part) parts
 
 abbrev pub BarsAreRead : Type 0
-BarsAreRead = (first : List ℕ) (parts : List (List ℕ)) → IsParted first parts → dumped (bars_text 0 (first ∷ parts)) ≡ Ok (concat (first ∷ parts))
+BarsAreRead = (first : List ℕ) (parts : List (List ℕ)) → IsParted first parts → edid_in_dump (bars_text 0 (first ∷ parts)) ≡ Ok (concat (first ∷ parts))
 
 -- ---- other text before a dump
 
@@ -82,4 +82,4 @@ abbrev pub text_of : List (List ℕ) → List ℕ
 text_of lines = flat_map (λ line. line ++ 10 ∷ []) lines
 
 abbrev pub TextBeforeIsPassedOver : Type 0
-TextBeforeIsPassedOver = (lines : List (List ℕ)) (text bytes : List ℕ) → AreOthers lines → dumped text ≡ Ok bytes → dumped (text_of lines ++ text) ≡ Ok bytes
+TextBeforeIsPassedOver = (lines : List (List ℕ)) (text bytes : List ℕ) → AreOthers lines → edid_in_dump text ≡ Ok bytes → edid_in_dump (text_of lines ++ text) ≡ Ok bytes

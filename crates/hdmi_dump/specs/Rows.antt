@@ -43,13 +43,13 @@ may_have Bars count = true
 may_have LogPairs count = count == 16
 may_have LogDigits count = count == 16
 
-abbrev pub counted : Form → Option (List ℕ) → Option (List ℕ)
-counted form None = None
-counted form (Some bytes) = if may_have form (length bytes) then Some bytes else None
+abbrev pub counted_bytes : Form → Option (List ℕ) → Option (List ℕ)
+counted_bytes form None = None
+counted_bytes form (Some bytes) = if may_have form (length bytes) then Some bytes else None
 
 abbrev pub row_from : Form → List ℕ → Option ℕ → Option (List ℕ)
 row_from form line None = None
-row_from form line (Some start) = counted form (pairs (column_of form) (drop start line))
+row_from form line (Some start) = counted_bytes form (pairs (column_of form) (drop start line))
 
 -- the bytes of a line, where it is a row of this form
 abbrev pub row : Form → List ℕ → Option (List ℕ)

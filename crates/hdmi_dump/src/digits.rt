@@ -2,10 +2,10 @@
 ghost use Rattle.std.specs.Prelude.{◌≡◌, ◌+◌, ◌*◌, ◌^◌, ◌<◌, ◌≤◌, ◌++◌, length, IsSome, Some};
 ghost use Rattle.std.specs.Option.{option_map};
 ghost use Rattle.arrayvec.specs.ArrayVec.{array_vec_len};
-ghost use Rattle.hdmi_dump.specs.Digits.{byte_of, digit, filled, is_blank, is_column, offset_of, pairs};
+ghost use Rattle.hdmi_dump.specs.Digits.{byte_of, digit, bytes_with_row, is_blank, is_column, offset_of, pairs};
 
 use arrayvec::ArrayVec;
-use cec_words::byte_at;
+use hdmi_core::byte_at;
 
 /// Where the column of characters begins that may follow the digits.
 #[derive(Clone, Copy, Debug, PartialEq, Eq)]
@@ -81,7 +81,7 @@ pub fn pair_count(column: Column, text: &[u8]) -> Option<usize>
 #[tactic(auto, using(crate::proofs::Pairing::pairs_blank, crate::proofs::Pairing::pairs_lone, crate::proofs::Pairing::pairs_some, crate::proofs::Pairing::filled_onto, crate::proofs::Pairing::some_onto, crate::proofs::Pairing::filled_none, crate::proofs::Pairing::filled_column))]
 pub fn push_pairs(column: Column, text: &[u8], bytes: &mut ArrayVec<u8, 512>)
     requires { IsSome (pairs column text.now) }
-    ensures { filled bytes.old.items (pairs column text.now) ≡ Some bytes.new.items }
+    ensures { bytes_with_row bytes.old.items (pairs column text.now) ≡ Some bytes.new.items }
 {
     let mut rest = text;
     'pairs: while !bytes.is_full() {

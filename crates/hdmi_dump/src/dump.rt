@@ -1,7 +1,7 @@
 //! The dump of an EDID in a text.
 ghost use Rattle.std.specs.Prelude.{◌≡◌, ℕ, ◌+◌, ◌^◌, ◌<◌, ◌≤◌, ◌++◌, length, Bool, List, [], MatchOption, true, false, Result, Ok, Err, IfSome, is_some};
-ghost use Rattle.cec_words.specs.Lines.{lines_of};
-ghost use Rattle.hdmi_dump.specs.Dump.{Gives, dumped, ended, gathered, has_dump, left_out, repeated, told, with_line, with_row};
+ghost use Rattle.hdmi_core.specs.Lines.{lines_of};
+ghost use Rattle.hdmi_dump.specs.Dump.{Gives, edid_in_dump, dump_at_end, bytes_of_rows, has_dump, left_out, with_repeats, after_line, with_line, with_row};
 ghost use Rattle.hdmi_dump.specs.Rows.{row};
 ghost use Rattle.hdmi_dump.specs.declared.dump.DumpError.{DumpError as Refusal};
 ghost use Rattle.hdmi_dump.specs.declared.dump.DumpError.TheVariants.{NoDump};
@@ -9,7 +9,7 @@ ghost use Rattle.hdmi_dump.specs.declared.dump.DumpError.TheVariants.{NoDump};
 use crate::digits::offset_of;
 use crate::rows::{Form, form_of, is_repeat, push_row, row_count};
 use arrayvec::ArrayVec;
-use cec_words::{byte_at, first_line};
+use hdmi_core::{byte_at, first_line};
 use thiserror::Error;
 
 /// Why a text has no dump of an EDID. Lines are counted from 1.
@@ -58,7 +58,7 @@ fn left_out(skips: bool, bytes: &[u8], line: &[u8]) -> usize
 #[tactic(auto, using(crate::proofs::Gathering::repeated_more))]
 fn push_repeated(count: usize, bytes: &mut ArrayVec<u8, MOST>)
     requires { length bytes.old.items + count ≤ 512 }
-    ensures { bytes.new.items ≡ repeated count bytes.old.items }
+    ensures { bytes.new.items ≡ with_repeats count bytes.old.items }
 {
     let mut left = count;
     'bytes: while left > 0 {
@@ -70,7 +70,7 @@ fn push_repeated(count: usize, bytes: &mut ArrayVec<u8, MOST>)
 
 // Adds the bytes of a line, where it is a row that has room.
 fn take_row(form: Form, line: &[u8], skips: bool, bytes: &mut ArrayVec<u8, MOST>) -> Taken
-    ensures { (number : ℕ) (more : List ℕ → Result (List ℕ) Refusal) → with_row number skips bytes.old.items line.now (row form line.now) more ≡ told number result skips bytes.new.items (λ _ now. more now) }
+    ensures { (number : ℕ) (more : List ℕ → Result (List ℕ) Refusal) → with_row number skips bytes.old.items line.now (row form line.now) more ≡ after_line number result skips bytes.new.items (λ _ now. more now) }
 {
     let Some(count) = row_count(form, line) else {
         return Taken::Other;
@@ -86,7 +86,7 @@ fn take_row(form: Form, line: &[u8], skips: bool, bytes: &mut ArrayVec<u8, MOST>
 
 // Takes a line of a dump.
 fn take_line(form: Form, line: &[u8], skips: &mut bool, bytes: &mut ArrayVec<u8, MOST>) -> Taken
-    ensures { (number : ℕ) (more : Bool → List ℕ → Result (List ℕ) Refusal) → with_line form number skips.old bytes.old.items line.now more ≡ told number result skips.new bytes.new.items more }
+    ensures { (number : ℕ) (more : Bool → List ℕ → Result (List ℕ) Refusal) → with_line form number skips.old bytes.old.items line.now more ≡ after_line number result skips.new bytes.new.items more }
 {
     if is_repeat(form, line) {
         *skips = true;
@@ -104,7 +104,7 @@ fn take_line(form: Form, line: &[u8], skips: &mut bool, bytes: &mut ArrayVec<u8,
 
 // The bytes of a dump that ends before a line.
 fn end(number: u64, skips: bool, bytes: ArrayVec<u8, MOST>) -> Result<ArrayVec<u8, MOST>, DumpError>
-    ensures { Gives result (ended number skips bytes.items) }
+    ensures { Gives result (dump_at_end number skips bytes.items) }
 {
     if !skips && bytes.len() % BLOCK == 0 {
         Ok(bytes)
@@ -116,7 +116,7 @@ fn end(number: u64, skips: bool, bytes: ArrayVec<u8, MOST>) -> Result<ArrayVec<u
 // The bytes of the dump whose first row begins a text.
 fn gather(form: Form, first: u64, text: &[u8]) -> Result<ArrayVec<u8, MOST>, DumpError>
     requires { first + length text.now < 2 ^ 64 }
-    ensures { Gives result (gathered form first false [] (lines_of text.now)) }
+    ensures { Gives result (bytes_of_rows form first false [] (lines_of text.now)) }
 {
     let mut bytes = ArrayVec::new();
     let mut skips = false;
@@ -136,7 +136,7 @@ fn gather(form: Form, first: u64, text: &[u8]) -> Result<ArrayVec<u8, MOST>, Dum
 
 // The first line that an EDID begins with: its form, its number, and the text from it on.
 fn find(text: &[u8]) -> Option<(Form, u64, &[u8])>
-    ensures found { MatchOption result (dumped text.now ≡ Err NoDump) (λ s. dumped text.now ≡ gathered s.0 s.1 false [] (lines_of s.2.now)) }
+    ensures found { MatchOption result (edid_in_dump text.now ≡ Err NoDump) (λ s. edid_in_dump text.now ≡ bytes_of_rows s.0 s.1 false [] (lines_of s.2.now)) }
     ensures room { IfSome result (λ s. s.1 + length s.2.now < 2 ^ 64) }
     ensures some { is_some result ≡ has_dump text.now }
 {
@@ -163,7 +163,7 @@ fn find(text: &[u8]) -> Option<(Form, u64, &[u8])>
 /// line, or that after the last, before which the dump ends within a block or just after `*`.
 #[inline(never)]
 pub fn dump_bytes(text: &[u8]) -> Result<ArrayVec<u8, MOST>, DumpError>
-    ensures { Gives result (dumped text.now) }
+    ensures { Gives result (edid_in_dump text.now) }
 {
     match find(text) {
         None => Err(DumpError::NoDump),

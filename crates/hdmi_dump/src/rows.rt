@@ -3,12 +3,12 @@ ghost use Rattle.std.specs.Prelude.{◌≡◌, ◌+◌, ◌<◌, ◌≤◌, leng
 ghost use Rattle.std.specs.Option.{option_map};
 ghost use Rattle.std.specs.List.{list_all};
 ghost use Rattle.std.specs.Char.{is_ascii_hexdigit};
-ghost use Rattle.hdmi_dump.specs.Digits.{filled};
+ghost use Rattle.hdmi_dump.specs.Digits.{bytes_with_row};
 ghost use Rattle.hdmi_dump.specs.Rows.{column_of, digits_start, form_of, has_header, has_offset, is_repeat, may_have, row, tail_start};
 
 use crate::digits::{Column, is_blank, pair_count, push_pairs};
 use arrayvec::ArrayVec;
-use cec_words::{before, behind, byte_at};
+use hdmi_core::{before, behind, byte_at};
 
 /// The form of a dump's rows.
 #[derive(Clone, Copy, Debug, PartialEq, Eq)]
@@ -113,7 +113,7 @@ pub fn row_count(form: Form, line: &[u8]) -> Option<usize>
 #[tactic(auto, using(crate::proofs::RowLemmas::row_absent))]
 pub fn push_row(form: Form, line: &[u8], bytes: &mut ArrayVec<u8, 512>)
     requires { IsSome (row form line.now) }
-    ensures { filled bytes.old.items (row form line.now) ≡ Some bytes.new.items }
+    ensures { bytes_with_row bytes.old.items (row form line.now) ≡ Some bytes.new.items }
 {
     let Some(start) = digits_start(form, line) else {
         return;

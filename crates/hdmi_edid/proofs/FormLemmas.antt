@@ -5,12 +5,12 @@ use Rattle.std.specs.List.{list_all}
 use Rattle.std.proofs.lemmas.Bool.{eqb-true}
 use Rattle.hdmi_edid.specs.Chars.{text_bytes, is_text_form}
 use Rattle.hdmi_edid.specs.Forms.{has_text}
-use Rattle.hdmi_edid.specs.Descriptor.{tagged}
+use Rattle.hdmi_edid.specs.Descriptor.{tagged_bytes}
 use Rattle.hdmi_edid.specs.declared.text.Text.{Text}
 
 pub tagged_is : (bytes : List ℕ) (tag : ℕ) (rest : List ℕ) → length bytes ≡ 18
     → get_or bytes 0 0 + get_or bytes 1 0 ≡ 0 → get_or bytes 2 0 ≡ 0 → get_or bytes 3 0 ≡ tag → rest ≡ drop 4 bytes
-    → tagged tag rest ≡ bytes
+    → tagged_bytes tag rest ≡ bytes
 tagged_is bytes tag rest len zeros second third behind =
     let p : 0 < length bytes = omega arith in
     let q : 1 < length bytes = omega arith in

@@ -32,7 +32,7 @@ use Rattle.hdmi_edid.specs.declared.base.Revision.TheVariants.{Three, Four}
 use Rattle.hdmi_edid.specs.declared.chroma.Chroma.{Chroma}
 use Rattle.hdmi_edid.specs.declared.descriptor.Descriptor.{Descriptor}
 use Rattle.hdmi_edid.specs.declared.maker.Maker.{Maker}
-use Rattle.hdmi_edid.specs.declared.standard.Standard.{Standard}
+use Rattle.hdmi_edid.specs.declared.standard.StandardTiming.{StandardTiming}
 
 record Plain : Type 0 where
   maker : Maker
@@ -48,7 +48,7 @@ record Plain : Type 0 where
   features : ℕ
   chroma : Chroma
   established : List ℕ
-  standard : List (Option Standard)
+  standard : List (Option StandardTiming)
   descriptors : List Descriptor
   extensions : ℕ
 
@@ -98,7 +98,7 @@ flat_same f n each one (x ∷ xs) (y ∷ ys) l e =
     let first = one x y parts.0 in
     let others = flat_same f n each one xs ys (omega arith) parts.1 in cc
 
-standard_len : (s : Option Standard) → length (standard_bytes s) ≡ 2
+standard_len : (s : Option StandardTiming) → length (standard_bytes s) ≡ 2
 standard_len None = refl
 standard_len (Some s) = refl
 
@@ -137,7 +137,7 @@ product_same m n h k e = sym (from_le_bytes-to_le_bytes_2 m h) ∙ ap (λ xs. fr
 serial_same : (m n : ℕ) → m < 2 ^ 32 → n < 2 ^ 32 → to_le_bytes w32 m ≡ to_le_bytes w32 n → m ≡ n
 serial_same m n h k e = sym (from_le_bytes-to_le_bytes_4 m h) ∙ ap (λ xs. from_le_bytes w32 xs) e ∙ from_le_bytes-to_le_bytes_4 n k
 
--- the block with its parts one behind another
+-- the block with its parts one after another
 abbrev tail_bytes : Base → List ℕ
 tail_bytes b = chroma_bytes b.chroma ++ (b.established ++ (flat_map standard_bytes b.standard ++ (flat_map descriptor_bytes b.descriptors ++ (b.extensions ∷ check_of (front_bytes b) ∷ []))))
 

@@ -9,7 +9,7 @@ use Rattle.hdmi_edid.specs.Pairs.{low_pairs}
 use Rattle.hdmi_edid.specs.Standard.{standard_bytes}
 use Rattle.hdmi_edid.specs.declared.chroma.Chroma.{Chroma}
 use Rattle.hdmi_edid.specs.declared.chroma.Point.{Point}
-use Rattle.hdmi_edid.specs.declared.standard.Standard.{Standard}
+use Rattle.hdmi_edid.specs.declared.standard.StandardTiming.{StandardTiming}
 
 record Plain : Type 0 where
   width : ℕ
@@ -28,13 +28,13 @@ record IsFit (p : Plain) : Type 0 where
 IsFit_prop : (p : Plain) → IsProp (IsFit p)
 IsFit_prop p = hlevel (le_prop, ℕ_set, Bool-set)
 
-abbrev made : (p : Plain) → IsFit p → Standard
+abbrev made : (p : Plain) → IsFit p → StandardTiming
 made p h = record { width = p.width; aspect = p.aspect; rate = p.rate; least_width = h.least_width; most_width = h.most_width; by_eight = h.by_eight; aspect_fits = h.aspect_fits; least_rate = h.least_rate; most_rate = h.most_rate; used = h.used }
 
-abbrev plain : Standard → Plain
+abbrev plain : StandardTiming → Plain
 plain s = record { width = s.width; aspect = s.aspect; rate = s.rate }
 
-abbrev fit : (s : Standard) → IsFit (plain s)
+abbrev fit : (s : StandardTiming) → IsFit (plain s)
 fit s = record { least_width = s.least_width; most_width = s.most_width; by_eight = s.by_eight; aspect_fits = s.aspect_fits; least_rate = s.least_rate; most_rate = s.most_rate; used = s.used }
 
 widths : (a b : ℕ) → 248 ≤ a → 248 ≤ b → a % 8 ≡ 0 → b % 8 ≡ 0 → a / 8 - 31 ≡ b / 8 - 31 → a ≡ b
@@ -43,7 +43,7 @@ widths a b h k l m e = omega arith
 rates : (a b x y : ℕ) → 60 ≤ x → x < 124 → 60 ≤ y → y < 124 → a * 64 + (x - 60) ≡ b * 64 + (y - 60) → (a ≡ b) × (x ≡ y)
 rates a b x y h k l m e = (omega arith, omega arith)
 
-one_used : (s t : Standard) → standard_bytes (Some s) ≡ standard_bytes (Some t) → s ≡ t
+one_used : (s t : StandardTiming) → standard_bytes (Some s) ≡ standard_bytes (Some t) → s ≡ t
 one_used s t e =
     let e0 = ap (λ xs. get_or xs 0 0) e in
     let e1 = ap (λ xs. get_or xs 1 0) e in
@@ -53,7 +53,7 @@ one_used s t e =
     let all : plain s ≡ plain t = cc in
     same made IsFit_prop (plain s) (plain t) (fit s) (fit t) all
 
-unused : (s : Standard) → standard_bytes (Some s) ≡ 1 ∷ 1 ∷ [] → ⊥
+unused : (s : StandardTiming) → standard_bytes (Some s) ≡ 1 ∷ 1 ∷ [] → ⊥
 unused s e =
     let e0 : s.width / 8 - 31 ≡ 1 = ap (λ xs. get_or xs 0 0) e in
     let e1 : s.aspect * 64 + (s.rate - 60) ≡ 1 = ap (λ xs. get_or xs 1 0) e in
@@ -64,23 +64,23 @@ unused s e =
     let used = rw (eq-eqb _ _ width, eq-eqb _ _ aspect, eq-eqb _ _ rate) at s.used in
     cc
 
-pub one_standard : (a b : Option Standard) → standard_bytes a ≡ standard_bytes b → a ≡ b
+pub one_standard : (a b : Option StandardTiming) → standard_bytes a ≡ standard_bytes b → a ≡ b
 one_standard None None e = refl
 one_standard None (Some t) e = absurd (unused t (sym e))
 one_standard (Some s) None e = absurd (unused s e)
 one_standard (Some s) (Some t) e = ap (λ u. Some u) (one_used s t e)
 
-record Place : Type 0 where
+record Coordinates : Type 0 where
   x : ℕ
   y : ℕ
 
-abbrev made_point : (p : Place) → (p.x < 1024) × (p.y < 1024) → Point
+abbrev made_point : (p : Coordinates) → (p.x < 1024) × (p.y < 1024) → Point
 made_point p h = record { x = p.x; y = p.y; x_fits = h.0; y_fits = h.1 }
 
-PlaceFits_prop : (p : Place) → IsProp ((p.x < 1024) × (p.y < 1024))
+PlaceFits_prop : (p : Coordinates) → IsProp ((p.x < 1024) × (p.y < 1024))
 PlaceFits_prop p = hlevel (le_prop)
 
-abbrev record_of : Point → Place
+abbrev record_of : Point → Coordinates
 record_of p = record { x = p.x; y = p.y }
 
 same_point : (p q : Point) → p.x ≡ q.x → p.y ≡ q.y → p ≡ q

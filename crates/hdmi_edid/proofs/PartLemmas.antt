@@ -1,4 +1,4 @@
--- A block is its parts, one behind another.
+-- A block is its parts, one after another.
 use Rattle.std.proofs.Common.{◌≡◌, ℕ, suc, ◌<◌, ◌≤◌, ◌+◌, ◌%◌, List, [], ◌∷◌, ◌++◌, length, get_or, drop, take, sum, Bool, true, ◌&&◌, arith, refl, sym, ◌∙◌, ap, drop-cons, drop-drop, take-append-drop, append_assoc, length-drop}
 use Rattle.std.proofs.lemmas.List.{take_all}
 use Rattle.std.proofs.Common.{cond, not, Option, Some, None, false}

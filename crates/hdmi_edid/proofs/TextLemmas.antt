@@ -31,7 +31,7 @@ is_padding-is (x ∷ xs) h =
     let parts = both_true (x == 0x0a) (list_all (λ b. b == 0x20) xs) (rw some at h) in
     let first = eqb-true x 0x0a parts.0 in let others = are_spaces xs parts.1 in cc
 
--- the front of a text, and padding behind it
+-- the front of a text, and padding after it
 pub text_again : (xs : List ℕ) (n : ℕ) → length xs ≡ 13 → n ≤ length xs → is_padding (drop n xs) ≡ true → text_bytes (take n xs) ≡ xs
 text_again xs n len le h =
     let rest : drop n xs ≡ padding (length (drop n xs)) = is_padding-is (drop n xs) h in

@@ -1,7 +1,7 @@
 -- The 128 bytes of a base block (E-EDID Release A, section 3.1).
 use Rattle.std.specs.Prelude.{ℕ, ◌-◌, List, [], ◌∷◌, ◌++◌, flat_map}
 use Rattle.std.specs.Int.{w16, w32, to_le_bytes}
-use Rattle.hdmi_edid.specs.Check.{summed}
+use Rattle.hdmi_edid.specs.Check.{block_with_checksum}
 use Rattle.hdmi_edid.specs.Chroma.{chroma_bytes}
 use Rattle.hdmi_edid.specs.Descriptor.{descriptor_bytes}
 use Rattle.hdmi_edid.specs.Header.{header}
@@ -25,4 +25,4 @@ abbrev pub front_bytes : Base → List ℕ
 front_bytes b = header ++ (product_bytes b ++ display_bytes b)
 
 abbrev pub base_bytes : Base → List ℕ
-base_bytes b = summed (front_bytes b)
+base_bytes b = block_with_checksum (front_bytes b)

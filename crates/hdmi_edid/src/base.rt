@@ -14,7 +14,7 @@ use crate::chroma::Chroma;
 use crate::descriptor::Descriptor;
 use crate::maker::Maker;
 use crate::parts::{append, part};
-use crate::standard::Standard;
+use crate::standard::StandardTiming;
 use arrayvec::ArrayVec;
 use thiserror::Error;
 
@@ -72,7 +72,7 @@ pub struct Base {
     /// The established timings as they are sent (section 3.8).
     pub established: [u8; 3],
     /// The standard timings; an unused place is `None` (section 3.9).
-    pub standard: [Option<Standard>; 8],
+    pub standard: [Option<StandardTiming>; 8],
     /// The detailed timings and display descriptors (section 3.10).
     pub descriptors: [Descriptor; 4],
     /// How many blocks follow (section 3.11).
@@ -145,7 +145,7 @@ impl Base {
             features: bytes[24],
             chroma: Chroma::read(&part(bytes, 25)),
             established: part(bytes, 35),
-            standard: Standard::read_all(&part(bytes, 38)),
+            standard: StandardTiming::read_all(&part(bytes, 38)),
             descriptors: read_descriptors(&part(bytes, 54)),
             extensions: bytes[126],
         })
@@ -243,13 +243,13 @@ fn copies_of(descriptors: &[Descriptor; 4]) -> [Descriptor; 4]
     [first.copy(), second.copy(), third.copy(), fourth.copy()]
 }
 
-fn append_standards(block: &mut ArrayVec<u8, 128>, standards: &[Option<Standard>; 8])
+fn append_standards(block: &mut ArrayVec<u8, 128>, standards: &[Option<StandardTiming>; 8])
     requires { array_vec_len block.old ≡ 38 }
     ensures items { block.new.items ≡ block.old.items ++ flat_map standard_bytes standards.now }
     ensures len { array_vec_len block.new ≡ 54 }
 {
     for standard in standards {
-        append(block, &Standard::write(*standard));
+        append(block, &StandardTiming::write(*standard));
     }
 }
 

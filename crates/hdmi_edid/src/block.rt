@@ -1,6 +1,6 @@
 //! A block of bytes whose last one is a checksum.
 ghost use Rattle.std.specs.Prelude.{◌≡◌, ◌+◌, ◌%◌, length, sum};
-ghost use Rattle.hdmi_edid.specs.Check.{summed};
+ghost use Rattle.hdmi_edid.specs.Check.{block_with_checksum};
 
 use crate::checksum::checksum_of;
 use crate::parts::append;
@@ -18,7 +18,7 @@ impl Block<128> {
     /// The block that begins with these 127 bytes and ends with their checksum.
     pub fn ending(front: &[u8]) -> Self
         requires { length front.now ≡ 127 }
-        ensures { result.bytes ≡ summed front.now }
+        ensures { result.bytes ≡ block_with_checksum front.now }
     {
         Block {
             bytes: with_checksum(front),
@@ -29,7 +29,7 @@ impl Block<128> {
 /// The bytes, and their checksum after them.
 fn with_checksum(front: &[u8]) -> [u8; 128]
     requires { length front.now ≡ 127 }
-    ensures { result ≡ summed front.now }
+    ensures { result ≡ block_with_checksum front.now }
 {
     let mut bytes: ArrayVec<u8, 128> = ArrayVec::new();
     append(&mut bytes, front);

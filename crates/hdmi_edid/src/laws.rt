@@ -6,7 +6,7 @@ ghost use Rattle.hdmi_edid.specs.Refusals.{refusal};
 ghost use Rattle.hdmi_edid.specs.Standard.{standard_bytes};
 ghost use Rattle.hdmi_edid.specs.declared.base.Base.{Base};
 ghost use Rattle.hdmi_edid.specs.declared.chroma.Chroma.{Chroma};
-ghost use Rattle.hdmi_edid.specs.declared.standard.Standard.{Standard};
+ghost use Rattle.hdmi_edid.specs.declared.standard.StandardTiming.{StandardTiming};
 ghost use Rattle.hdmi_edid.specs.Maker.{maker_bytes};
 ghost use Rattle.hdmi_edid.specs.Timing.{timing_bytes};
 ghost use Rattle.hdmi_edid.specs.Descriptor.{descriptor_bytes};
@@ -31,7 +31,7 @@ pub fn one_spelling_of_descriptors()
 
 /// Two bytes spell one standard timing at most, or an unused place.
 pub fn one_spelling_of_standards()
-    ensures { (a b : Option Standard) → standard_bytes a ≡ standard_bytes b → a ≡ b }
+    ensures { (a b : Option StandardTiming) → standard_bytes a ≡ standard_bytes b → a ≡ b }
 {}
 
 /// Ten bytes spell the chromaticities of one display at most.

@@ -3,7 +3,7 @@ ghost use Rattle.std.specs.Prelude.{◌≡◌, ◌∷◌, [], ◌≤◌, ◌<◌
 
 /// A standard timing (E-EDID Release A, section 3.9).
 #[derive(Clone, Copy, Debug, PartialEq, Eq)]
-pub struct Standard {
+pub struct StandardTiming {
     /// The width in pixels: a multiple of 8 from 248 to 2288.
     pub width: u16,
     /// The two bits of the aspect ratio.
@@ -19,12 +19,12 @@ pub struct Standard {
     ghost used: { IsTrue (not (width == 256 && aspect == 0 && rate == 61)) },
 }
 
-impl Standard {
-    ghost use Rattle.hdmi_edid.specs.declared.standard.Standard.{Standard as StandardValue};
+impl StandardTiming {
+    ghost use Rattle.hdmi_edid.specs.declared.standard.StandardTiming.{StandardTiming as StandardValue};
     ghost use Rattle.hdmi_edid.specs.Standard.{standard_bytes, standard_numbers};
 
     /// The timing that three numbers are: the width, the bits of the aspect ratio, and the rate.
-    pub fn new(numbers: &[u32]) -> Option<Standard>
+    pub fn new(numbers: &[u32]) -> Option<StandardTiming>
         ensures { MatchOption result ((s : StandardValue) → standard_numbers s ≡ numbers.now → ⊥) (λ s. standard_numbers s ≡ numbers.now) }
     {
         if numbers.len() != 3 {
@@ -40,7 +40,7 @@ impl Standard {
         if width == 256 && aspect == 0 && rate == 61 {
             return None;
         }
-        Some(Standard {
+        Some(StandardTiming {
             width: width as u16,
             aspect: aspect as u8,
             rate: rate as u8,
@@ -59,13 +59,13 @@ impl Standard {
     }
 
     /// The timing that two bytes spell: 01 01 is none.
-    pub fn read(first: u8, second: u8) -> Option<Standard>
+    pub fn read(first: u8, second: u8) -> Option<StandardTiming>
         ensures { standard_bytes result ≡ first ∷ second ∷ [] }
     {
         if first == 1 && second == 1 {
             return None;
         }
-        Some(Standard {
+        Some(StandardTiming {
             width: (u16::from(first) + 31) * 8,
             aspect: second / 64,
             rate: second % 64 + 60,
@@ -73,7 +73,7 @@ impl Standard {
     }
 
     /// The two bytes of a timing or of none.
-    pub fn write(standard: Option<Standard>) -> [u8; 2]
+    pub fn write(standard: Option<StandardTiming>) -> [u8; 2]
         ensures { result ≡ standard_bytes standard }
     {
         match standard {
@@ -86,18 +86,18 @@ impl Standard {
     }
 
     /// The eight timings that 16 bytes spell.
-    pub fn read_all(bytes: &[u8; 16]) -> [Option<Standard>; 8]
+    pub fn read_all(bytes: &[u8; 16]) -> [Option<StandardTiming>; 8]
         ensures { flat_map standard_bytes result ≡ bytes.now }
     {
         [
-            Standard::read(bytes[0], bytes[1]),
-            Standard::read(bytes[2], bytes[3]),
-            Standard::read(bytes[4], bytes[5]),
-            Standard::read(bytes[6], bytes[7]),
-            Standard::read(bytes[8], bytes[9]),
-            Standard::read(bytes[10], bytes[11]),
-            Standard::read(bytes[12], bytes[13]),
-            Standard::read(bytes[14], bytes[15]),
+            StandardTiming::read(bytes[0], bytes[1]),
+            StandardTiming::read(bytes[2], bytes[3]),
+            StandardTiming::read(bytes[4], bytes[5]),
+            StandardTiming::read(bytes[6], bytes[7]),
+            StandardTiming::read(bytes[8], bytes[9]),
+            StandardTiming::read(bytes[10], bytes[11]),
+            StandardTiming::read(bytes[12], bytes[13]),
+            StandardTiming::read(bytes[14], bytes[15]),
         ]
     }
 }

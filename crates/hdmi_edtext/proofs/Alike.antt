@@ -7,7 +7,7 @@ use Rattle.hdmi_edtext.specs.Lines.{edid_lines}
 use Rattle.hdmi_edtext.specs.Refusal.{IsFirstBad, IsRefusal, IsFaultAt, MayStand, HasAlike, first_word, word_count}
 use Rattle.hdmi_lines.specs.Text.{word_text, line_text}
 use Rattle.hdmi_edtext.specs.Words.{place_of, has_words}
-use Rattle.hdmi_edtext.specs.declared.draft.Draft.{Draft}
+use Rattle.hdmi_edtext.specs.declared.draft.EdidDraft.{EdidDraft}
 use Rattle.hdmi_blocks.specs.declared.edid.Edid.{Edid}
 use Rattle.hdmi_edtext.specs.declared.parse.TextError.{TextError}
 use Rattle.hdmi_edtext.specs.declared.parse.TextError.TheVariants.{Syntax, Field, Memory}
@@ -17,7 +17,7 @@ use Rattle.hdmi_edtext.proofs.Samples.{samples, words_of}
 use Rattle.hdmi_edtext.proofs.Stands.{stands}
 use Rattle.hdmi_edtext.proofs.WordTexts.{front_text, first_is, words_are, with_feed, same_front, formed_words}
 
-alike : (d : Draft) (line : List ℕ) → MayStand (place_of d) line → HasAlike (map line_text (draft_lines d)) line
+alike : (d : EdidDraft) (line : List ℕ) → MayStand (place_of d) line → HasAlike (map line_text (draft_lines d)) line
 alike d line m =
     let s = samples d m.word (word_count m.front) m.begins m.words in
     let e = s.follows.0 in
@@ -44,7 +44,7 @@ alike d line m =
       ),
     )
 
-may_stand_so : (d : Draft) (line : List ℕ) → AreTold (draft_lines d) → HasAlike (map line_text (draft_lines d)) line → MayStand (place_of d) line
+may_stand_so : (d : EdidDraft) (line : List ℕ) → AreTold (draft_lines d) → HasAlike (map line_text (draft_lines d)) line → MayStand (place_of d) line
 may_stand_so d line told h =
     let e = h.0 in
     let a = h.1.1.1.1 in
@@ -62,7 +62,7 @@ may_stand_so d line told h =
     }
 
 -- a line at fault
-pub refusal : (d : Draft) (all : List (List ℕ)) (line : List ℕ) (more : List (List ℕ)) (n : ℕ) (x : TextError) → AreTold (draft_lines d) → all ≡ map line_text (draft_lines d) ++ line ∷ more
+pub refusal : (d : EdidDraft) (all : List (List ℕ)) (line : List ℕ) (more : List (List ℕ)) (n : ℕ) (x : TextError) → AreTold (draft_lines d) → all ≡ map line_text (draft_lines d) ++ line ∷ more
     → n ≡ length (draft_lines d) + 1 → ((e : Edid) (behind : List (List ℕ)) → Next e (draft_lines d) line behind → ⊥) → IsFaultAt (place_of d) line n x → IsRefusal all x
 refusal d all line more n (Syntax k) told h count none f =
     let bad : IsFirstBad all k = record {
@@ -91,7 +91,7 @@ refusal d all line more n (Field k) told h count none f =
 refusal d all line more n Memory told h count none f = absurd f
 
 -- the end of a text that is too short
-pub refusal_at_end : (d : Draft) (all : List (List ℕ)) (n : ℕ) → AreTold (draft_lines d) → all ≡ map line_text (draft_lines d) ++ []
+pub refusal_at_end : (d : EdidDraft) (all : List (List ℕ)) (n : ℕ) → AreTold (draft_lines d) → all ≡ map line_text (draft_lines d) ++ []
     → n ≡ length (draft_lines d) + 1 → ((e : Edid) → edid_lines e ≡ draft_lines d → ⊥) → IsRefusal all (Syntax n)
 refusal_at_end d all n told h count none =
     let bad : IsFirstBad all n = record {

@@ -8,7 +8,7 @@ use Rattle.hdmi_edid.proofs.Bytes.{are_bytes-append, are_bytes-take}
 use Rattle.hdmi_edid.specs.Bytes.{are_bytes}
 use Rattle.hdmi_edid.specs.declared.base.Base.{Base}
 use Rattle.hdmi_edid.specs.declared.descriptor.Descriptor.{Descriptor}
-use Rattle.hdmi_edid.specs.declared.standard.Standard.{Standard}
+use Rattle.hdmi_edid.specs.declared.standard.StandardTiming.{StandardTiming}
 use Rattle.hdmi_edtext.specs.Lines.{head_lines, base_lines, standard_line, descriptor_line}
 use Rattle.hdmi_lines.specs.declared.line.Line.{Line}
 use Rattle.hdmi_edtext.proofs.Gets.{get_left, get_right}
@@ -50,7 +50,7 @@ set_line f hs ys xs i n x l at less is =
     mapped (y ∷ ys) zero h = ap (λ t. t ∷ []) is
     mapped (y ∷ ys) (suc i) h = ap (λ t. f y ∷ t) (mapped ys i (omega arith))
 
-pub standard_got : (b : Base) (n : ℕ) (l : Line) → 10 < n → n < 19 → slice_get (base_lines b) n ≡ Some l → (s : Option Standard) × (standard_line s ≡ l)
+pub standard_got : (b : Base) (n : ℕ) (l : Line) → 10 < n → n < 19 → slice_get (base_lines b) n ≡ Some l → (s : Option StandardTiming) × (standard_line s ≡ l)
 standard_got b n l h k e =
     let len = length-map b.standard standard_line in
     let first = get_right (head_lines b) (map standard_line b.standard ++ map descriptor_line b.descriptors) n (n - 11) (omega arith) in

@@ -15,8 +15,8 @@ use Rattle.hdmi_lines.specs.declared.line.Fields.TheVariants.{Nothing, Letters, 
 use Rattle.hdmi_lines.specs.declared.line.Form.{Form}
 use Rattle.hdmi_lines.specs.declared.line.Form.TheVariants.{Empty, Three, One, Two, Eight, Unused, Timing as OfTiming, Hex, Address as OfAddress, Quoted as OfQuoted}
 use Rattle.hdmi_lines.specs.declared.line.Line.{Line}
-use Rattle.hdmi_lines.specs.declared.line.Word.{Word}
-use Rattle.hdmi_lines.specs.declared.line.Word.TheVariants.{Edid, Maker, Product, Serial, Made, Input, Size, Gamma, Features, Chroma, Established, Standard, Timing, Name, Text, SerialText, Range, Dummy, Raw, Cta, CtaNone, Tag0, Audio, Video, Vendor, Speakers, Tag5, Tag6, Extended, Hdmi, Tail, Ext}
+use Rattle.hdmi_lines.specs.declared.line.Keyword.{Keyword}
+use Rattle.hdmi_lines.specs.declared.line.Keyword.TheVariants.{Edid, Maker, Product, Serial, Made, Input, Size, Gamma, Features, Chroma, Established, Standard, Timing, Name, Text, SerialText, Range, Dummy, Raw, Cta, CtaNone, Tag0, Audio, Video, Vendor, Speakers, Tag5, Tag6, Extended, Hdmi, Tail, Ext}
 use Rattle.hdmi_edtext.proofs.Good.{is_clean, are_clean, has_no_feed, PlainFields, Good, EachGood, and, clean-cons}
 
 -- a line of all the characters of some lines
@@ -111,7 +111,7 @@ phys_clean p =
     clean-append (nibble_text (p.high / 16)) (codes "." ++ nibble_text (p.high % 16) ++ codes "." ++ nibble_text (p.low / 16) ++ codes "." ++ nibble_text (p.low % 16)) (nibble_clean (p.high / 16))
     (clean-append (codes ".") (nibble_text (p.high % 16) ++ codes "." ++ nibble_text (p.low / 16) ++ codes "." ++ nibble_text (p.low % 16)) dot b)
 
-pub word_clean : (w : Word) → are_clean (word_text w) ≡ true
+pub word_clean : (w : Keyword) → are_clean (word_text w) ≡ true
 word_clean Edid = refl
 word_clean Maker = refl
 word_clean Product = refl

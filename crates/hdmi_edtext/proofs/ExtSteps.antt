@@ -7,15 +7,15 @@ use Rattle.hdmi_edid.specs.Bytes.{are_bytes}
 use Rattle.hdmi_edid.specs.declared.timing.Timing.{Timing as DetailedTiming}
 use Rattle.hdmi_cta.specs.Block.{block_bytes}
 use Rattle.hdmi_cta.specs.Cta.{is_tail}
-use Rattle.hdmi_cta.specs.declared.block.Block.{Block}
+use Rattle.hdmi_cta.specs.declared.block.DataBlock.{DataBlock}
 use Rattle.hdmi_edtext.specs.Drafts.{whole_lines, draft_lines, opened_lines, Follows, BlockFits, TimingFits, TailFits}
-use Rattle.hdmi_edtext.specs.Lines.{trimmed, bytes_line, block_line, timing_line, tail_line}
-use Rattle.hdmi_edtext.specs.Tails.{padded, fills, ends}
+use Rattle.hdmi_edtext.specs.Lines.{bytes_without_zeros, bytes_line, block_line, timing_line, tail_line}
+use Rattle.hdmi_edtext.specs.Tails.{padded_bytes, fills, ends}
 use Rattle.hdmi_edtext.specs.declared.draft.Opened.{Opened}
 use Rattle.hdmi_edtext.specs.declared.draft.Whole.{Whole}
-use Rattle.hdmi_edtext.specs.declared.draft.Draft.TheVariants.{Opened as OfOpened}
+use Rattle.hdmi_edtext.specs.declared.draft.EdidDraft.TheVariants.{Opened as OfOpened}
 use Rattle.hdmi_lines.specs.declared.line.Line.{Line}
-use Rattle.hdmi_lines.specs.declared.line.Word.TheVariants.{Cta, CtaNone, Tail}
+use Rattle.hdmi_lines.specs.declared.line.Keyword.TheVariants.{Cta, CtaNone, Tail}
 use Rattle.hdmi_edtext.proofs.Fronts.{opened_next, length-timings}
 use Rattle.hdmi_edtext.proofs.LineParts.{same_bytes_line}
 use Rattle.hdmi_edtext.proofs.Sorts.{same_size, not_timing, not_tail, timing_not_tail}
@@ -25,13 +25,13 @@ pub zeros_fit : (n : ℕ) → are_bytes (replicate n 0) ≡ true
 zeros_fit zero = refl
 zeros_fit (suc n) = zeros_fit n
 
-pub padded_fit : (left : ℕ) (bytes : List ℕ) → are_bytes bytes ≡ true → are_bytes (padded left bytes) ≡ true
+pub padded_fit : (left : ℕ) (bytes : List ℕ) → are_bytes bytes ≡ true → are_bytes (padded_bytes left bytes) ≡ true
 padded_fit left bytes h = are_bytes-append bytes (replicate (left - length bytes) 0) h (zeros_fit (left - length bytes))
 
--- a tail's line tells the tail
+-- a tail's line reports the tail
 no_end : (left : ℕ) (bytes : List ℕ) (l : Line) → bytes_line Tail bytes ≡ l → ends left bytes ≡ false → TailFits left l → ⊥
 no_end left bytes l is not t =
-    let same : trimmed t.0 ≡ bytes = same_bytes_line Tail (trimmed t.0) bytes (t.1.0 ∙ sym is) in
+    let same : bytes_without_zeros t.0 ≡ bytes = same_bytes_line Tail (bytes_without_zeros t.0) bytes (t.1.0 ∙ sym is) in
     let yes : ends left bytes ≡ true = ap (ends left) (sym same) ∙ ended_by left t.0 t.1.1.0 t.1.1.1 in
     clash (sym yes ∙ not)
   where
@@ -44,18 +44,18 @@ no_room left t l is less (inr f) = timing_not_tail t f.0 (is ∙ sym f.1.0)
 
 pub no_words : (left : ℕ) (l : Line) → ((t : DetailedTiming) → timing_line t ≡ l → ⊥) → ((bs : List ℕ) → bytes_line Tail bs ≡ l → ⊥) → TimingFits left l ⊎ TailFits left l → ⊥
 no_words left l h k (inl f) = h f.0 f.1.0
-no_words left l h k (inr f) = k (trimmed f.0) f.1.0
+no_words left l h k (inr f) = k (bytes_without_zeros f.0) f.1.0
 
 pub no_tail : (left : ℕ) (bytes : List ℕ) (l : Line) → ((t : DetailedTiming) → timing_line t ≡ l → ⊥) → bytes_line Tail bytes ≡ l → ends left bytes ≡ false → TimingFits left l ⊎ TailFits left l → ⊥
 no_tail left bytes l h is not (inl f) = h f.0 f.1.0
 no_tail left bytes l h is not (inr f) = no_end left bytes l is not f
 
-pub no_block : (left : ℕ) (b : Block) (l : Line) → block_line b ≡ l → left < length (block_bytes b) → BlockFits left l ⊎ (TimingFits left l ⊎ TailFits left l) → ⊥
+pub no_block : (left : ℕ) (b : DataBlock) (l : Line) → block_line b ≡ l → left < length (block_bytes b) → BlockFits left l ⊎ (TimingFits left l ⊎ TailFits left l) → ⊥
 no_block left b l is less (inl f) = let same = same_size f.0 b (f.1.0 ∙ sym is) in let fits = f.1.1 in omega (arith, same, fits, less)
 no_block left b l is less (inr (inl f)) = not_timing b f.0 (is ∙ sym f.1.0)
 no_block left b l is less (inr (inr f)) = not_tail b f.0 (is ∙ sym f.1.0)
 
-pub no_block_line : (left : ℕ) (l : Line) → ((b : Block) → block_line b ≡ l → ⊥) → (TimingFits left l ⊎ TailFits left l → ⊥) → BlockFits left l ⊎ (TimingFits left l ⊎ TailFits left l) → ⊥
+pub no_block_line : (left : ℕ) (l : Line) → ((b : DataBlock) → block_line b ≡ l → ⊥) → (TimingFits left l ⊎ TailFits left l → ⊥) → BlockFits left l ⊎ (TimingFits left l ⊎ TailFits left l) → ⊥
 no_block_line left l h k (inl f) = h f.0 f.1.0
 no_block_line left l h k (inr f) = k f
 
@@ -76,7 +76,7 @@ behind_timings o l some h f = at (opened_next o l f)
 -- the tail that stands alone
 pub no_bare : (bytes tail : List ℕ) (l : Line) → bytes_line Tail bytes ≡ l → fills 123 bytes ≡ false → length tail ≡ 123 → tail_line tail ≡ l → ⊥
 no_bare bytes tail l is not len e =
-    let same : trimmed tail ≡ bytes = same_bytes_line Tail (trimmed tail) bytes (e ∙ sym is) in
+    let same : bytes_without_zeros tail ≡ bytes = same_bytes_line Tail (bytes_without_zeros tail) bytes (e ∙ sym is) in
     let yes : fills 123 bytes ≡ true = ap (fills 123) (sym same) ∙ filled_by 123 tail len in
     clash (sym yes ∙ not)
   where
@@ -88,23 +88,23 @@ lift None A B P Q f g h = f h
 lift (Some x) A B P Q f g h = g x h
 
 -- the tail of an open block
-pub tail_whole : (o : Opened) (bytes tail : List ℕ) → ends o.left bytes ≡ true → tail ≡ padded o.left bytes
+pub tail_whole : (o : Opened) (bytes tail : List ℕ) → ends o.left bytes ≡ true → tail ≡ padded_bytes o.left bytes
     → length (flat_map block_bytes o.blocks.items) + length (flat_map timing_bytes o.timings.items) + length tail ≡ 123
 tail_whole o bytes tail h e =
     let at = ends_is o.left bytes h in
     let len = ap length e ∙ length-padded o.left bytes at.0.fits in
     omega (arith, o.spelled, length-timings o.timings.items, len)
 
-pub tail_ended : (left : ℕ) (bytes tail : List ℕ) → ends left bytes ≡ true → tail ≡ padded left bytes → is_tail tail ≡ true
+pub tail_ended : (left : ℕ) (bytes tail : List ℕ) → ends left bytes ≡ true → tail ≡ padded_bytes left bytes → is_tail tail ≡ true
 tail_ended left bytes tail h e = ap is_tail e ∙ (ends_is left bytes h).1
 
-pub tail_fits : (left flags : ℕ) (bytes tail : List ℕ) → flags < 256 → are_bytes bytes ≡ true → tail ≡ padded left bytes → are_bytes (flags ∷ tail) ≡ true
+pub tail_fits : (left flags : ℕ) (bytes tail : List ℕ) → flags < 256 → are_bytes bytes ≡ true → tail ≡ padded_bytes left bytes → are_bytes (flags ∷ tail) ≡ true
 tail_fits left flags bytes tail h k e = are_bytes-cons flags tail h (ap are_bytes e ∙ padded_fit left bytes k)
 
-same_tail : (left : ℕ) (bytes tail : List ℕ) → fills left bytes ≡ true → tail ≡ padded left bytes → tail_line tail ≡ bytes_line Tail bytes
-same_tail left bytes tail h e = ap (bytes_line Tail) (ap trimmed e ∙ (fills_is left bytes h).same)
+same_tail : (left : ℕ) (bytes tail : List ℕ) → fills left bytes ≡ true → tail ≡ padded_bytes left bytes → tail_line tail ≡ bytes_line Tail bytes
+same_tail left bytes tail h e = ap (bytes_line Tail) (ap bytes_without_zeros e ∙ (fills_is left bytes h).same)
 
-pub tail_told : (o : Opened) (bytes tail : List ℕ) → ends o.left bytes ≡ true → tail ≡ padded o.left bytes
+pub tail_told : (o : Opened) (bytes tail : List ℕ) → ends o.left bytes ≡ true → tail ≡ padded_bytes o.left bytes
     → whole_lines o.whole ++ (bytes_line Cta (o.flags ∷ []) ∷ (map block_line o.blocks.items ++ (map timing_line o.timings.items ++ (tail_line tail ∷ [])))) ≡ draft_lines (OfOpened o) ++ bytes_line Tail bytes ∷ []
 tail_told o bytes tail h e =
     let line = same_tail o.left bytes tail (both _ _ h).0 e in
@@ -114,10 +114,10 @@ tail_told o bytes tail h e =
     ∙ ap (λ ls. whole_lines o.whole ++ (bytes_line Cta (o.flags ∷ []) ∷ ls)) (sym (append_assoc bs ts (bytes_line Tail bytes ∷ [])))
     ∙ sym (append_assoc (whole_lines o.whole) (opened_lines o) (bytes_line Tail bytes ∷ []))
 
-pub bare_whole : (bytes tail : List ℕ) → fills 123 bytes ≡ true → tail ≡ padded 123 bytes → length tail ≡ 123
+pub bare_whole : (bytes tail : List ℕ) → fills 123 bytes ≡ true → tail ≡ padded_bytes 123 bytes → length tail ≡ 123
 bare_whole bytes tail h e = ap length e ∙ length-padded 123 bytes (fills_is 123 bytes h).fits
 
-pub bare_told : (w : Whole) (flags other : ℕ) (bytes tail : List ℕ) → other ≡ flags → fills 123 bytes ≡ true → tail ≡ padded 123 bytes
+pub bare_told : (w : Whole) (flags other : ℕ) (bytes tail : List ℕ) → other ≡ flags → fills 123 bytes ≡ true → tail ≡ padded_bytes 123 bytes
     → whole_lines w ++ (bytes_line CtaNone (other ∷ []) ∷ tail_line tail ∷ []) ≡ (whole_lines w ++ (bytes_line CtaNone (flags ∷ []) ∷ [])) ++ bytes_line Tail bytes ∷ []
 bare_told w flags other bytes tail f h e =
     ap (λ x. whole_lines w ++ (bytes_line CtaNone (x ∷ []) ∷ tail_line tail ∷ [])) f

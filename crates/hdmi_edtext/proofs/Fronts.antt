@@ -1,4 +1,4 @@
--- The lines of an EDID, behind those that were told.
+-- The lines of an EDID, after those that were told.
 use Rattle.std.proofs.Common.{◌≡◌, ℕ, suc, ◌+◌, ◌*◌, ◌<◌, ◌==◌, ◌⊎◌, inl, inr, Bool, true, false, cond, IsTrue, List, [], ◌∷◌, ◌++◌, length, map, take, get_or, drop, Some, slice_get, flat_map, ap, arith, refl, sym, ◌∙◌, length-append, append_assoc, append-nil}
 use Rattle.std.specs.Prelude.{if◌then◌else◌}
 use Rattle.std.proofs.lemmas.List.{length-map, length-take-le}
@@ -8,7 +8,7 @@ use Rattle.hdmi_edid.specs.Timing.{timing_bytes}
 use Rattle.hdmi_cta.proofs.OneBlock.{append_same}
 use Rattle.hdmi_cta.specs.Block.{block_bytes}
 use Rattle.hdmi_cta.specs.Cta.{is_tail}
-use Rattle.hdmi_cta.specs.declared.block.Block.{Block}
+use Rattle.hdmi_cta.specs.declared.block.DataBlock.{DataBlock}
 use Rattle.hdmi_cta.specs.declared.cta.Cta.{Cta as CtaBlock}
 use Rattle.hdmi_cta.specs.declared.raw.Ext.{Ext as AnyExt}
 use Rattle.hdmi_cta.specs.declared.raw.Ext.TheVariants.{Cta as OfCta, Bare as OfBare, Raw as OfRaw}
@@ -17,11 +17,11 @@ use Rattle.hdmi_edtext.specs.Drafts.{whole_lines, draft_lines, opened_lines, Fol
 use Rattle.hdmi_edtext.specs.Lines.{base_lines, bytes_line, block_line, timing_line, tail_line, ext_lines, cta_lines, edid_lines}
 use Rattle.hdmi_edtext.specs.declared.draft.Opened.{Opened}
 use Rattle.hdmi_edtext.specs.declared.draft.Whole.{Whole}
-use Rattle.hdmi_edtext.specs.declared.draft.Draft.TheVariants.{Opened as OfOpened}
+use Rattle.hdmi_edtext.specs.declared.draft.EdidDraft.TheVariants.{Opened as OfOpened}
 use Rattle.hdmi_blocks.specs.declared.edid.Edid.{Edid}
 use Rattle.hdmi_lines.specs.declared.line.Line.{Line}
-use Rattle.hdmi_lines.specs.declared.line.Word.{Word}
-use Rattle.hdmi_lines.specs.declared.line.Word.TheVariants.{Cta, CtaNone, Ext}
+use Rattle.hdmi_lines.specs.declared.line.Keyword.{Keyword}
+use Rattle.hdmi_lines.specs.declared.line.Keyword.TheVariants.{Cta, CtaNone, Ext}
 use Rattle.hdmi_blocks.proofs.BaseLemmas.{length-flat}
 use Rattle.hdmi_edtext.proofs.Gets.{get_right, base_count, in_base}
 use Rattle.hdmi_edtext.proofs.Sorts.{sort_of, block_sort, same_size, not_timing, not_tail, timing_not_tail}
@@ -39,11 +39,11 @@ begun_next b n l h f =
     let len : length (take n (base_lines b)) ≡ n = length-take-le n (base_lines b) (omega (arith, h, base_count b)) in
     (f.0.base, sym (in_base f.0.base f.0.extensions.items n h) ∙ ap (λ ls. slice_get ls n) f.1.1 ∙ get_right (take n (base_lines b)) (l ∷ f.1.0) n 0 (omega (arith, len)))
 
--- the lines of a CTA block behind its first, and more
-abbrev pub body_lines : List Block → List DetailedTiming → List ℕ → List Line → List Line
+-- the lines of a CTA block after its first, and more
+abbrev pub body_lines : List DataBlock → List DetailedTiming → List ℕ → List Line → List Line
 body_lines bs ts tail more = map block_line bs ++ (map timing_line ts ++ (tail_line tail ∷ more))
 
-body_more : (bs : List Block) (ts : List DetailedTiming) (tail : List ℕ) (more : List Line) → body_lines bs ts tail [] ++ more ≡ body_lines bs ts tail more
+body_more : (bs : List DataBlock) (ts : List DetailedTiming) (tail : List ℕ) (more : List Line) → body_lines bs ts tail [] ++ more ≡ body_lines bs ts tail more
 body_more bs ts tail more =
     append_assoc (map block_line bs) (map timing_line ts ++ (tail_line tail ∷ [])) more
     ∙ ap (λ ls. map block_line bs ++ ls) (append_assoc (map timing_line ts) (tail_line tail ∷ []) more)
@@ -53,7 +53,7 @@ abbrev to_tail : List Line → ℕ
 to_tail [] = 0
 to_tail (l ∷ ls) = if sort_of l.word == 2 then 1 else suc (to_tail ls)
 
-abbrev is_raw_word : Word → Bool
+abbrev is_raw_word : Keyword → Bool
 is_raw_word Ext = true
 is_raw_word word = false
 
@@ -69,7 +69,7 @@ past_timings (t ∷ ts) tail more = ap suc (past_timings ts tail more)
 later : (sort n : ℕ) → sort ≡ 0 → cond (sort == 2) 1 (suc n) ≡ suc n
 later sort n e = rw e refl
 
-past_blocks : (bs : List Block) (ls : List Line) → to_tail (map block_line bs ++ ls) ≡ length bs + to_tail ls
+past_blocks : (bs : List DataBlock) (ls : List Line) → to_tail (map block_line bs ++ ls) ≡ length bs + to_tail ls
 past_blocks [] ls = omega arith
 past_blocks (b ∷ bs) ls =
     let rest = past_blocks bs ls in
@@ -143,8 +143,8 @@ whole_next w l h i j f = let x = ext_of f.0 w l f.1.0 f.1.1 in at x.ext x.more x
     at (OfRaw r) more e = j r (first_line _ _ _ _ e)
 
 -- data blocks that were told
-blocks_behind : (bs cs : List Block) (ts : List DetailedTiming) (tail : List ℕ) (more zs : List Line) → body_lines cs ts tail more ≡ map block_line bs ++ zs
-    → (rest : List Block) × ((body_lines rest ts tail more ≡ zs) × (length (flat_map block_bytes cs) ≡ length (flat_map block_bytes bs) + length (flat_map block_bytes rest)))
+blocks_behind : (bs cs : List DataBlock) (ts : List DetailedTiming) (tail : List ℕ) (more zs : List Line) → body_lines cs ts tail more ≡ map block_line bs ++ zs
+    → (rest : List DataBlock) × ((body_lines rest ts tail more ≡ zs) × (length (flat_map block_bytes cs) ≡ length (flat_map block_bytes bs) + length (flat_map block_bytes rest)))
 blocks_behind [] cs ts tail more zs e = (cs, (e, omega arith))
 blocks_behind (b ∷ bs) [] [] tail more zs e = absurd (not_tail b tail (sym (first_line _ _ _ _ e)))
 blocks_behind (b ∷ bs) [] (t ∷ ts) tail more zs e = absurd (not_timing b t (sym (first_line _ _ _ _ e)))
@@ -164,9 +164,9 @@ timings_behind (u ∷ us) (t ∷ ts) tail more zs e =
     let sizes = rest.1.1 in
     (rest.0, (rest.1.0, omega (arith, sizes)))
 
--- what is behind the lines of an open block
+-- what is after the lines of an open block
 pub record Behind (o : Opened) (zs : List Line) : Type 0 where
-  pub blocks : List Block
+  pub blocks : List DataBlock
   pub timings : List DetailedTiming
   pub tail : List ℕ
   pub more : List Line
@@ -184,7 +184,7 @@ cta_behind o c more zs e =
     let rest = blocks_behind o.blocks.items c.blocks.items c.timings.items c.tail.items more _ body in
     at rest.0 o.timings.items refl rest.1.0 rest.1.1
   where
-    at : (rest : List Block) (us : List DetailedTiming) → o.timings.items ≡ us → body_lines rest c.timings.items c.tail.items more ≡ map timing_line us ++ zs
+    at : (rest : List DataBlock) (us : List DetailedTiming) → o.timings.items ≡ us → body_lines rest c.timings.items c.tail.items more ≡ map timing_line us ++ zs
         → length (flat_map block_bytes c.blocks.items) ≡ length (flat_map block_bytes o.blocks.items) + length (flat_map block_bytes rest) → Behind o zs
     at rest [] none lines size =
         let len = ap length none in
@@ -233,7 +233,7 @@ opened_behind o e zs h =
 pub opened_next : (o : Opened) (l : Line) → Follows (draft_lines (OfOpened o)) l → ((o.timings.items ≡ []) × BlockFits o.left l) ⊎ (TimingFits o.left l ⊎ TailFits o.left l)
 opened_next o l f = let b = opened_behind o f.0 (l ∷ f.1.0) f.1.1 in at b.blocks b.timings b.tail b.more b.lines b.size b.ended b.order
   where
-    at : (bs : List Block) (ts : List DetailedTiming) (tail : List ℕ) (more : List Line) → body_lines bs ts tail more ≡ l ∷ f.1.0
+    at : (bs : List DataBlock) (ts : List DetailedTiming) (tail : List ℕ) (more : List Line) → body_lines bs ts tail more ≡ l ∷ f.1.0
         → length (flat_map block_bytes bs) + 18 * length ts + length tail ≡ o.left → IsTrue (is_tail tail) → (o.timings.items ≡ []) ⊎ (bs ≡ [])
         → ((o.timings.items ≡ []) × BlockFits o.left l) ⊎ (TimingFits o.left l ⊎ TailFits o.left l)
     at [] [] tail more lines size ended order = inr (inr (tail, (first_line _ _ _ _ lines, (omega (arith, size), ended))))

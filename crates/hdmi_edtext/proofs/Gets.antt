@@ -5,10 +5,10 @@ use Rattle.std.proofs.lemmas.List.{length-map}
 use Rattle.hdmi_edid.specs.Timing.{timing_bytes}
 use Rattle.hdmi_edid.specs.declared.base.Base.{Base}
 use Rattle.hdmi_edid.specs.declared.descriptor.Descriptor.{Descriptor}
-use Rattle.hdmi_edid.specs.declared.standard.Standard.{Standard}
+use Rattle.hdmi_edid.specs.declared.standard.StandardTiming.{StandardTiming}
 use Rattle.hdmi_edid.specs.declared.timing.Timing.{Timing}
 use Rattle.hdmi_cta.specs.Block.{block_bytes}
-use Rattle.hdmi_cta.specs.declared.block.Block.{Block}
+use Rattle.hdmi_cta.specs.declared.block.DataBlock.{DataBlock}
 use Rattle.hdmi_cta.specs.declared.cta.Cta.{Cta}
 use Rattle.hdmi_cta.specs.declared.raw.Ext.{Ext}
 use Rattle.hdmi_cta.specs.declared.raw.Ext.TheVariants.{Cta as OfCta, Bare, Raw}
@@ -29,7 +29,7 @@ get_right (x ∷ xs) ys (suc i) j h = get_right xs ys i j (omega arith)
 pub get_made : {X : Type 0} (f : X → Line) (xs : List X) (i : ℕ) (x : X) → i < length xs → x ≡ get_or xs i x → slice_get (map f xs) i ≡ Some (f x)
 get_made f xs i x h e = slice_get-map f xs i ∙ ap (option_map f) (slice_get-get_or xs i x h ∙ ap (λ y. Some y) (sym e))
 
-pub standard_at : (b : Base) (n i : ℕ) (s : Option Standard) → n ≡ 11 + i → i < 8 → s ≡ get_or b.standard i s → slice_get (base_lines b) n ≡ Some (standard_line s)
+pub standard_at : (b : Base) (n i : ℕ) (s : Option StandardTiming) → n ≡ 11 + i → i < 8 → s ≡ get_or b.standard i s → slice_get (base_lines b) n ≡ Some (standard_line s)
 standard_at b n i s h k e =
     let len = length-map b.standard standard_line in
     get_right (head_lines b) (map standard_line b.standard ++ map descriptor_line b.descriptors) n i h
@@ -49,7 +49,7 @@ base_count b =
     let l1 = length-append (map standard_line b.standard) (map descriptor_line b.descriptors) in
     omega (arith, l0, l1, length-map b.standard standard_line, length-map b.descriptors descriptor_line, b.eight, b.four)
 
-pub block_at : (c : Cta) (n i : ℕ) (b : Block) → n ≡ 1 + i → i < length c.blocks.items → b ≡ get_or c.blocks.items i b → slice_get (cta_lines c) n ≡ Some (block_line b)
+pub block_at : (c : Cta) (n i : ℕ) (b : DataBlock) → n ≡ 1 + i → i < length c.blocks.items → b ≡ get_or c.blocks.items i b → slice_get (cta_lines c) n ≡ Some (block_line b)
 block_at c n i b h k e =
     get_right (_ ∷ []) (map block_line c.blocks.items ++ (map timing_line c.timings.items ++ (tail_line c.tail.items ∷ []))) n i h
     ∙ get_left (map block_line c.blocks.items) _ i (omega (arith, length-map c.blocks.items block_line, k))
@@ -78,7 +78,7 @@ in_base b xs n h = get_left (base_lines b) _ n (omega (arith, base_count b, h))
 pub in_ext : (b : Base) (xs : List Ext) (n i : ℕ) → n ≡ 23 + i → slice_get (part_lines b xs) n ≡ slice_get (flat_map ext_lines xs) i
 in_ext b xs n i h = get_right (base_lines b) _ n i (omega (arith, base_count b, h))
 
--- a line of the first of some extensions, and one behind it
+-- a line of the first of some extensions, and one after it
 pub in_first : (x : Ext) (xs : List Ext) (n : ℕ) → n < length (ext_lines x) → slice_get (flat_map ext_lines (x ∷ xs)) n ≡ slice_get (ext_lines x) n
 in_first x xs n h = get_left (ext_lines x) (flat_map ext_lines xs) n h
 
@@ -96,7 +96,7 @@ rest_left xs i n x h e most =
     ap (λ ys. slice_get (flat_map ext_lines ys) n) (drop-cons xs i x h ∙ ap (λ y. y ∷ drop (suc i) xs) (sym e)) ∙ behind_first x (drop (suc i) xs) n most
     ∙ ap (λ k. slice_get (flat_map ext_lines (drop k xs)) (n - length (ext_lines x))) next
 
-few_blocks : (bs : List Block) → length bs ≤ length (flat_map block_bytes bs)
+few_blocks : (bs : List DataBlock) → length bs ≤ length (flat_map block_bytes bs)
 few_blocks [] = omega arith
 few_blocks (b ∷ bs) = omega (arith, length-append (block_bytes b) (flat_map block_bytes bs), few_blocks bs)
 

@@ -15,16 +15,16 @@ use Rattle.hdmi_edid.specs.declared.chroma.Chroma.{Chroma as Chromaticities}
 use Rattle.hdmi_edid.specs.declared.descriptor.Descriptor.{Descriptor}
 use Rattle.hdmi_edid.specs.declared.descriptor.Descriptor.TheVariants.{Timing as OfTiming, Name as OfName, Text as OfText, SerialText as OfSerialText, Range as OfRange, Dummy as OfDummy, Raw as OfRaw}
 use Rattle.hdmi_edid.specs.declared.maker.Maker.{Maker as AnyMaker}
-use Rattle.hdmi_edid.specs.declared.standard.Standard.{Standard as StandardTiming}
+use Rattle.hdmi_edid.specs.declared.standard.StandardTiming.{StandardTiming}
 use Rattle.hdmi_edid.specs.declared.text.Text.{Text as AnyText}
 use Rattle.hdmi_edid.specs.declared.timing.Timing.{Timing as DetailedTiming}
-use Rattle.hdmi_cta.specs.declared.block.Block.{Block}
+use Rattle.hdmi_cta.specs.declared.block.DataBlock.{DataBlock}
 use Rattle.hdmi_cta.specs.declared.block.BlockKind.{BlockKind}
 use Rattle.hdmi_cta.specs.declared.block.BlockKind.TheVariants.{Tag0 as OfTag0, Audio as OfAudio, Video as OfVideo, Vendor as OfVendor, Speakers as OfSpeakers, Tag5 as OfTag5, Tag6 as OfTag6, Extended as OfExtended}
 use Rattle.hdmi_cta.specs.declared.raw.Ext.{Ext as Extension}
 use Rattle.hdmi_cta.specs.declared.raw.Ext.TheVariants.{Cta as OfCta, Bare as OfBare, Raw as OfRawExt}
 use Rattle.hdmi_lines.specs.Formed.{Formed, are_numbers}
-use Rattle.hdmi_edtext.specs.Lines.{bytes_line, revision_letters, standard_line, timing_line, descriptor_line, head_lines, base_lines, address_line, payload_line, block_line, trimmed, tail_line, ext_lines, edid_lines}
+use Rattle.hdmi_edtext.specs.Lines.{bytes_line, revision_letters, standard_line, timing_line, descriptor_line, head_lines, base_lines, address_line, payload_line, block_line, bytes_without_zeros, tail_line, ext_lines, edid_lines}
 use Rattle.hdmi_cta.specs.Hdmi.{has_identifier}
 use Rattle.hdmi_edid.specs.Timing.{timing_numbers}
 use Rattle.hdmi_edid.specs.Chroma.{chroma_numbers}
@@ -32,7 +32,7 @@ use Rattle.hdmi_blocks.specs.declared.edid.Edid.{Edid as WholeEdid}
 use Rattle.hdmi_lines.specs.declared.line.Fields.{Fields}
 use Rattle.hdmi_lines.specs.declared.line.Fields.TheVariants.{Letters, Quoted}
 use Rattle.hdmi_lines.specs.declared.line.Line.{Line}
-use Rattle.hdmi_lines.specs.declared.line.Word.TheVariants.{Vendor}
+use Rattle.hdmi_lines.specs.declared.line.Keyword.TheVariants.{Vendor}
 use Rattle.hdmi_edtext.proofs.BaseNexts.{byte_fits}
 use Rattle.hdmi_edtext.proofs.Sorts.{long_hdmi}
 use Rattle.hdmi_edtext.proofs.TailLemmas.{trimmed_le}
@@ -250,7 +250,7 @@ base_good b =
     good-append (head_lines b) (map standard_line b.standard ++ map descriptor_line b.descriptors) (head_good b) (
     good-append (map standard_line b.standard) (map descriptor_line b.descriptors) (good-map standard_line standard_good b.standard) (good-map descriptor_line descriptor_good b.descriptors))
 
-block_good : (b : Block) → Good (block_line b)
+block_good : (b : DataBlock) → Good (block_line b)
 block_good b = at b.kind b.payload.items b.short b.bytes_fit
   where
     vendor : (v : Bool) (p : List ℕ) → has_identifier p ≡ v → length p < 32 → are_bytes p ≡ true → Good (cond v (address_line p) (bytes_line Vendor p))
@@ -269,15 +269,15 @@ block_good b = at b.kind b.payload.items b.short b.bytes_fit
     at OfTag6 p h k = ((omega (arith, h), k), tt)
     at OfExtended p h k = ((omega (arith, h), k), tt)
 
-trimmed_bytes : (xs : List ℕ) → are_bytes xs ≡ true → are_bytes (trimmed xs) ≡ true
+trimmed_bytes : (xs : List ℕ) → are_bytes xs ≡ true → are_bytes (bytes_without_zeros xs) ≡ true
 trimmed_bytes [] h = refl
 trimmed_bytes (x ∷ xs) h =
     let p = both (nat_lt x 256) (are_bytes xs) h in
-    cases ((x == 0) && (length (trimmed xs) == 0)) p.0 (trimmed_bytes xs p.1)
+    cases ((x == 0) && (length (bytes_without_zeros xs) == 0)) p.0 (trimmed_bytes xs p.1)
   where
-    cases : (v : Bool) → nat_lt x 256 ≡ true → are_bytes (trimmed xs) ≡ true → are_bytes (cond v [] (x ∷ trimmed xs)) ≡ true
+    cases : (v : Bool) → nat_lt x 256 ≡ true → are_bytes (bytes_without_zeros xs) ≡ true → are_bytes (cond v [] (x ∷ bytes_without_zeros xs)) ≡ true
     cases true h k = refl
-    cases false h k = and (nat_lt x 256) (are_bytes (trimmed xs)) h k
+    cases false h k = and (nat_lt x 256) (are_bytes (bytes_without_zeros xs)) h k
 
 tail_good : (tail : List ℕ) → length tail ≤ 123 → are_bytes tail ≡ true → Good (tail_line tail)
 tail_good tail h k = let less = trimmed_le tail in ((omega (arith, less, h), trimmed_bytes tail k), tt)

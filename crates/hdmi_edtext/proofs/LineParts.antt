@@ -5,13 +5,13 @@ use Rattle.hdmi_edid.specs.declared.descriptor.Descriptor.{Descriptor}
 use Rattle.hdmi_edid.specs.declared.descriptor.Descriptor.TheVariants.{Timing as OfTiming, Name as OfName, Text as OfText, SerialText as OfSerialText, Range as OfRange, Dummy as OfDummy, Raw as OfRaw}
 use Rattle.hdmi_edid.specs.declared.descriptor.RangeLimits.{RangeLimits}
 use Rattle.hdmi_edid.specs.declared.descriptor.RawDescriptor.{RawDescriptor}
-use Rattle.hdmi_edid.specs.declared.standard.Standard.{Standard as StandardTiming}
+use Rattle.hdmi_edid.specs.declared.standard.StandardTiming.{StandardTiming}
 use Rattle.hdmi_edid.specs.declared.text.Text.{Text as AnyText}
 use Rattle.hdmi_edid.specs.declared.timing.Timing.{Timing as DetailedTiming}
 use Rattle.hdmi_edtext.specs.Lines.{letters_line, numbers_line, bytes_line, quoted_line, timing_line, descriptor_line, standard_line}
 use Rattle.hdmi_edid.specs.Timing.{timing_numbers}
-use Rattle.hdmi_lines.specs.declared.line.Word.{Word}
-use Rattle.hdmi_lines.specs.declared.line.Word.TheVariants.{Standard, Timing, Name, Text, SerialText, Range, Raw}
+use Rattle.hdmi_lines.specs.declared.line.Keyword.{Keyword}
+use Rattle.hdmi_lines.specs.declared.line.Keyword.TheVariants.{Standard, Timing, Name, Text, SerialText, Range, Raw}
 use Rattle.hdmi_lines.specs.declared.line.Fields.{Fields}
 use Rattle.hdmi_lines.specs.declared.line.Fields.TheVariants.{Letters, Numbers, Timed, Bytes, Quoted}
 use Rattle.hdmi_lines.specs.declared.line.Line.{Line}
@@ -24,35 +24,35 @@ list_in (Bytes bytes) = bytes.items
 list_in (Quoted chars) = chars.items
 list_in fields = []
 
-pub same_bytes_line : (w : Word) (a b : List ℕ) → bytes_line w a ≡ bytes_line w b → a ≡ b
+pub same_bytes_line : (w : Keyword) (a b : List ℕ) → bytes_line w a ≡ bytes_line w b → a ≡ b
 same_bytes_line w a b e = ap (λ l. list_in l.fields) e
 
-abbrev line_with : Word → Fields → Line
+abbrev line_with : Keyword → Fields → Line
 line_with w f = record { word = w; fields = f }
 
-same_list : (fields : List ℕ → Fields) (w : Word) → ((xs : List ℕ) → list_in (fields xs) ≡ xs) → (a b : List ℕ) → line_with w (fields a) ≡ line_with w (fields b) → a ≡ b
+same_list : (fields : List ℕ → Fields) (w : Keyword) → ((xs : List ℕ) → list_in (fields xs) ≡ xs) → (a b : List ℕ) → line_with w (fields a) ≡ line_with w (fields b) → a ≡ b
 same_list fields w back a b e = sym (back a) ∙ ap (λ l. list_in l.fields) e ∙ back b
 
 -- a value by its list is told by the line that has the list
-told : {A : Type 0} (f : A → List ℕ) (fields : List ℕ → Fields) (w : Word) → ((xs : List ℕ) → list_in (fields xs) ≡ xs) → (xs : List ℕ) (l : Line) (r : Option A)
+told : {A : Type 0} (f : A → List ℕ) (fields : List ℕ → Fields) (w : Keyword) → ((xs : List ℕ) → list_in (fields xs) ≡ xs) → (xs : List ℕ) (l : Line) (r : Option A)
     → line_with w (fields xs) ≡ l → MatchOption r ((a : A) → f a ≡ xs → ⊥) (λ a. f a ≡ xs)
     → MatchOption r ((a : A) → line_with w (fields (f a)) ≡ l → ⊥) (λ a. line_with w (fields (f a)) ≡ l)
 told f fields w back xs l None is h = λ a e. h a (same_list fields w back (f a) xs (e ∙ sym is))
 told f fields w back xs l (Some a) is h = ap (λ ys. line_with w (fields ys)) h ∙ is
 
-pub told_letters : {A : Type 0} (f : A → List ℕ) (w : Word) (xs : List ℕ) (l : Line) (r : Option A) → letters_line w xs ≡ l
+pub told_letters : {A : Type 0} (f : A → List ℕ) (w : Keyword) (xs : List ℕ) (l : Line) (r : Option A) → letters_line w xs ≡ l
     → MatchOption r ((a : A) → f a ≡ xs → ⊥) (λ a. f a ≡ xs) → MatchOption r ((a : A) → letters_line w (f a) ≡ l → ⊥) (λ a. letters_line w (f a) ≡ l)
 told_letters f w xs l r is h = told f (λ ys. Letters (record { items = ys })) w (λ ys. refl) xs l r is h
 
-pub told_numbers : {A : Type 0} (f : A → List ℕ) (w : Word) (xs : List ℕ) (l : Line) (r : Option A) → numbers_line w xs ≡ l
+pub told_numbers : {A : Type 0} (f : A → List ℕ) (w : Keyword) (xs : List ℕ) (l : Line) (r : Option A) → numbers_line w xs ≡ l
     → MatchOption r ((a : A) → f a ≡ xs → ⊥) (λ a. f a ≡ xs) → MatchOption r ((a : A) → numbers_line w (f a) ≡ l → ⊥) (λ a. numbers_line w (f a) ≡ l)
 told_numbers f w xs l r is h = told f (λ ys. Numbers (record { items = ys })) w (λ ys. refl) xs l r is h
 
-pub told_quoted : {A : Type 0} (f : A → List ℕ) (w : Word) (xs : List ℕ) (l : Line) (r : Option A) → quoted_line w xs ≡ l
+pub told_quoted : {A : Type 0} (f : A → List ℕ) (w : Keyword) (xs : List ℕ) (l : Line) (r : Option A) → quoted_line w xs ≡ l
     → MatchOption r ((a : A) → f a ≡ xs → ⊥) (λ a. f a ≡ xs) → MatchOption r ((a : A) → quoted_line w (f a) ≡ l → ⊥) (λ a. quoted_line w (f a) ≡ l)
 told_quoted f w xs l r is h = told f (λ ys. Quoted (record { items = ys })) w (λ ys. refl) xs l r is h
 
-same_parts : (l : Line) (w : Word) (f : Fields) → l.word ≡ w → l.fields ≡ f → record { word = w; fields = f } ≡ l
+same_parts : (l : Line) (w : Keyword) (f : Fields) → l.word ≡ w → l.fields ≡ f → record { word = w; fields = f } ≡ l
 same_parts l w f e g = ap (λ x. record { word = x; fields = f }) (sym e) ∙ ap (λ y. record { word = l.word; fields = y }) (sym g)
 
 pub timed_line : (l : Line) (numbers : ArrayVec ℕ) (flags : ℕ) (ns : List ℕ) (r : Option DetailedTiming) → ns ≡ numbers.items → l.word ≡ Timing → l.fields ≡ Timed numbers flags

@@ -7,9 +7,9 @@ use Rattle.hdmi_edid.proofs.PartLemmas.{both}
 use Rattle.hdmi_edid.specs.Base.{base_bytes, product_bytes, display_bytes}
 use Rattle.hdmi_edid.specs.Header.{header}
 use Rattle.hdmi_edid.specs.Chars.{text_bytes}
-use Rattle.hdmi_edid.specs.Check.{summed}
+use Rattle.hdmi_edid.specs.Check.{block_with_checksum}
 use Rattle.hdmi_edid.specs.Chroma.{chroma_bytes}
-use Rattle.hdmi_edid.specs.Descriptor.{descriptor_bytes, tagged}
+use Rattle.hdmi_edid.specs.Descriptor.{descriptor_bytes, tagged_bytes}
 use Rattle.hdmi_edid.specs.Maker.{maker_bytes}
 use Rattle.hdmi_edid.specs.Pairs.{low_pairs}
 use Rattle.hdmi_edid.specs.Revisions.{revision_bytes}
@@ -20,31 +20,31 @@ use Rattle.hdmi_edid.specs.declared.base.Revision.{Revision}
 use Rattle.hdmi_edid.specs.declared.base.Revision.TheVariants.{Three, Four}
 use Rattle.hdmi_edid.specs.declared.descriptor.Descriptor.{Descriptor}
 use Rattle.hdmi_edid.specs.declared.descriptor.Descriptor.TheVariants.{Timing as OfTiming, Name as OfName, Text as OfText, SerialText as OfSerialText, Range as OfRange, Dummy as OfDummy, Raw as OfRaw}
-use Rattle.hdmi_edid.specs.declared.standard.Standard.{Standard as StandardTiming}
+use Rattle.hdmi_edid.specs.declared.standard.StandardTiming.{StandardTiming}
 use Rattle.hdmi_edid.specs.declared.timing.Timing.{Timing as DetailedTiming}
 use Rattle.hdmi_cta.proofs.OneBlock.{append_same}
 use Rattle.hdmi_cta.specs.Block.{kind_number, block_bytes}
 use Rattle.hdmi_cta.specs.Ext.{ext_bytes}
-use Rattle.hdmi_cta.specs.declared.block.Block.{Block}
+use Rattle.hdmi_cta.specs.declared.block.DataBlock.{DataBlock}
 use Rattle.hdmi_cta.specs.declared.block.BlockKind.{BlockKind}
 use Rattle.hdmi_cta.specs.declared.block.BlockKind.TheVariants.{Tag0 as OfTag0, Audio as OfAudio, Video as OfVideo, Vendor as OfVendor, Speakers as OfSpeakers, Tag5 as OfTag5, Tag6 as OfTag6, Extended as OfExtended}
 use Rattle.hdmi_cta.specs.declared.cta.Cta.{Cta as CtaBlock}
 use Rattle.hdmi_cta.specs.declared.raw.Ext.{Ext as AnyExt}
 use Rattle.hdmi_cta.specs.declared.raw.Ext.TheVariants.{Cta as OfCta, Bare as OfBare, Raw as OfRawExt}
-use Rattle.hdmi_edtext.specs.Lines.{bytes_line, revision_letters, standard_line, timing_line, descriptor_line, head_lines, base_lines, address_line, payload_line, block_line, trimmed, tail_line, cta_lines, ext_lines, edid_lines}
+use Rattle.hdmi_edtext.specs.Lines.{bytes_line, revision_letters, standard_line, timing_line, descriptor_line, head_lines, base_lines, address_line, payload_line, block_line, bytes_without_zeros, tail_line, cta_lines, ext_lines, edid_lines}
 use Rattle.hdmi_cta.specs.Hdmi.{has_identifier}
 use Rattle.hdmi_blocks.specs.declared.edid.Edid.{Edid as WholeEdid}
 use Rattle.hdmi_lines.specs.declared.line.Fields.{Fields}
 use Rattle.hdmi_lines.specs.declared.line.Fields.TheVariants.{Letters, Numbers, Timed, Bytes, Address, Quoted}
 use Rattle.hdmi_lines.specs.declared.line.Line.{Line}
-use Rattle.hdmi_lines.specs.declared.line.Word.{Word}
-use Rattle.hdmi_lines.specs.declared.line.Word.TheVariants.{Name, Text, Range, Tag0, Audio, Video, Vendor, Speakers, Tag5, Tag6}
+use Rattle.hdmi_lines.specs.declared.line.Keyword.{Keyword}
+use Rattle.hdmi_lines.specs.declared.line.Keyword.TheVariants.{Name, Text, Range, Tag0, Audio, Video, Vendor, Speakers, Tag5, Tag6}
 use Rattle.hdmi_edtext.proofs.Fronts.{body_lines, parted, some_line}
 use Rattle.hdmi_edtext.proofs.Gets.{base_count}
 use Rattle.hdmi_blocks.proofs.OneEdid.{one_edid}
 use Rattle.hdmi_edtext.proofs.Sorts.{long_hdmi, not_timing, not_tail, timing_not_tail}
 use Rattle.hdmi_edtext.proofs.TailLemmas.{padded_trimmed}
-use Rattle.hdmi_edtext.specs.Tails.{padded}
+use Rattle.hdmi_edtext.specs.Tails.{padded_bytes}
 
 abbrev letters_in : Fields → List ℕ
 letters_in (Letters letters) = letters.items
@@ -58,7 +58,7 @@ abbrev bytes_in : Fields → List ℕ
 bytes_in (Bytes bytes) = bytes.items
 bytes_in fields = []
 
-same_bytes : (w v : Word) (a b : List ℕ) → bytes_line w a ≡ bytes_line v b → a ≡ b
+same_bytes : (w v : Keyword) (a b : List ℕ) → bytes_line w a ≡ bytes_line v b → a ≡ b
 same_bytes w v a b e = ap (λ l. bytes_in l.fields) e
 
 -- the bytes that a line's fields tell
@@ -90,22 +90,22 @@ timing_told n flags =
     low (slice_index n 9) ∷ low (slice_index n 10) ∷ nibbles (slice_index n 9) (slice_index n 10) ∷
     slice_index n 11 ∷ slice_index n 12 ∷ flags ∷ []
 
-abbrev tag_of : Word → ℕ
+abbrev tag_of : Keyword → ℕ
 tag_of Name = 0xfc
 tag_of Text = 0xfe
 tag_of word = 0xff
 
-abbrev hex_told : Word → List ℕ → List ℕ
-hex_told Range bytes = tagged 0xfd bytes
+abbrev hex_told : Keyword → List ℕ → List ℕ
+hex_told Range bytes = tagged_bytes 0xfd bytes
 hex_told word bytes = bytes
 
-abbrev descriptor_told : Word → Fields → List ℕ
+abbrev descriptor_told : Keyword → Fields → List ℕ
 descriptor_told word (Timed n flags) = timing_told n.items flags
-descriptor_told word (Quoted chars) = tagged (tag_of word) (0 ∷ text_bytes chars.items)
+descriptor_told word (Quoted chars) = tagged_bytes (tag_of word) (0 ∷ text_bytes chars.items)
 descriptor_told word (Bytes bytes) = hex_told word bytes.items
-descriptor_told word fields = tagged 0x10 (replicate 14 0)
+descriptor_told word fields = tagged_bytes 0x10 (replicate 14 0)
 
-abbrev number_of : Word → ℕ
+abbrev number_of : Keyword → ℕ
 number_of Tag0 = 0
 number_of Audio = 1
 number_of Video = 2
@@ -115,7 +115,7 @@ number_of Tag5 = 5
 number_of Tag6 = 6
 number_of word = 7
 
-abbrev block_told : Word → Fields → List ℕ
+abbrev block_told : Keyword → Fields → List ℕ
 block_told word (Bytes bytes) = (number_of word * 32 + length bytes.items) ∷ bytes.items
 block_told word (Address p bytes) = (96 + (5 + length bytes.items)) ∷ 3 ∷ 12 ∷ 0 ∷ p.high ∷ p.low ∷ bytes.items
 block_told word fields = []
@@ -154,7 +154,7 @@ hdmi_is p h = at p (long_hdmi p h) (both _ _ h)
     at (a ∷ b ∷ c ∷ []) k f = absurd (omega arith)
     at (a ∷ b ∷ c ∷ d ∷ []) k f = absurd (omega arith)
 
-block_is : (b : Block) → block_bytes b ≡ block_told (block_line b).word (block_line b).fields
+block_is : (b : DataBlock) → block_bytes b ≡ block_told (block_line b).word (block_line b).fields
 block_is b = at b.kind b.payload.items
   where
     vendor : (v : Bool) (p : List ℕ) → has_identifier p ≡ v → (96 + length p) ∷ p ≡ block_told (cond v (address_line p) (bytes_line Vendor p)).word (cond v (address_line p) (bytes_line Vendor p)).fields
@@ -171,8 +171,8 @@ block_is b = at b.kind b.payload.items
     at OfTag6 p = refl
     at OfExtended p = refl
 
--- what is told by a list's lines
-told : {X : Type 0} (f : X → Line) (g : X → List ℕ) (t : Word → Fields → List ℕ) → ((x : X) → g x ≡ t (f x).word (f x).fields) → (xs ys : List X) → map f xs ≡ map f ys → flat_map g xs ≡ flat_map g ys
+-- what is reported by a list's lines
+told : {X : Type 0} (f : X → Line) (g : X → List ℕ) (t : Keyword → Fields → List ℕ) → ((x : X) → g x ≡ t (f x).word (f x).fields) → (xs ys : List X) → map f xs ≡ map f ys → flat_map g xs ≡ flat_map g ys
 told f g t is [] [] e = refl
 told f g t is [] (y ∷ ys) e = let len = ap length e in absurd (omega (arith, len))
 told f g t is (x ∷ xs) [] e = let len = ap length e in absurd (omega (arith, len))
@@ -228,10 +228,10 @@ same_base a b e h =
     let first = append_same (head_lines a) (head_lines b) _ _ refl e in
     let count : length (map standard_line a.standard) ≡ length (map standard_line b.standard) = length-map a.standard standard_line ∙ a.eight ∙ sym (length-map b.standard standard_line ∙ b.eight) in
     let rest = append_same (map standard_line a.standard) (map standard_line b.standard) _ _ count first.1 in
-    ap summed (ap (λ t. header ++ t) (two_parts _ _ _ _ (product_same a b first.0) (display_same a b first.0 rest.0 rest.1 h)))
+    ap block_with_checksum (ap (λ t. header ++ t) (two_parts _ _ _ _ (product_same a b first.0) (display_same a b first.0 rest.0 rest.1 h)))
 
--- data blocks and what is behind them
-same_blocks : (cs bs : List Block) (ts us : List DetailedTiming) (x y : List ℕ) → body_lines cs ts x [] ≡ body_lines bs us y []
+-- data blocks and what is after them
+same_blocks : (cs bs : List DataBlock) (ts us : List DetailedTiming) (x y : List ℕ) → body_lines cs ts x [] ≡ body_lines bs us y []
     → (flat_map block_bytes cs ≡ flat_map block_bytes bs) × (body_lines [] ts x [] ≡ body_lines [] us y [])
 same_blocks [] [] ts us x y e = (refl, e)
 same_blocks [] (b ∷ bs) [] us x y e = absurd (not_tail b x (sym (ap (λ ls. get_or ls 0 (tail_line x)) e)))
@@ -253,7 +253,7 @@ same_timings (t ∷ ts) (u ∷ us) x y e =
     (two_parts _ _ _ _ (ap (λ l. descriptor_told l.word l.fields) first) rest.0, rest.1)
 
 same_tails : (x y : List ℕ) → length x ≡ length y → tail_line x ≡ tail_line y → x ≡ y
-same_tails x y h e = sym (padded_trimmed x) ∙ ap (λ n. padded n (trimmed x)) h ∙ ap (padded (length y)) (same_bytes _ _ _ _ e) ∙ padded_trimmed y
+same_tails x y h e = sym (padded_trimmed x) ∙ ap (λ n. padded_bytes n (bytes_without_zeros x)) h ∙ ap (padded_bytes (length y)) (same_bytes _ _ _ _ e) ∙ padded_trimmed y
 
 same_cta : (c d : CtaBlock) → cta_lines c ≡ cta_lines d → ext_bytes (OfCta c) ≡ ext_bytes (OfCta d)
 same_cta c d e =
@@ -264,14 +264,14 @@ same_cta c d e =
     let tl = ap length timings.0 in
     let size : length c.tail.items ≡ length d.tail.items = omega (arith, bl, tl, c.whole, d.whole) in
     let tail = same_tails c.tail.items d.tail.items size timings.1 in
-    ap summed (one_more _ _ _ _ refl (one_more _ _ _ _ refl (one_more _ _ _ _ (ap (λ n. n + 4) bl) (one_more _ _ _ _ flags (two_parts _ _ _ _ blocks.0 (two_parts _ _ _ _ timings.0 tail))))))
+    ap block_with_checksum (one_more _ _ _ _ refl (one_more _ _ _ _ refl (one_more _ _ _ _ (ap (λ n. n + 4) bl) (one_more _ _ _ _ flags (two_parts _ _ _ _ blocks.0 (two_parts _ _ _ _ timings.0 tail))))))
 
 same_ext : (x y : AnyExt) → ext_lines x ≡ ext_lines y → ext_bytes x ≡ ext_bytes y
 same_ext (OfCta c) (OfCta d) e = same_cta c d e
 same_ext (OfBare c) (OfBare d) e =
     let flags : c.flags ≡ d.flags = ap (λ ls. slice_index (bytes_in (get_or ls 0 (tail_line [])).fields) 0) e in
     let tail = same_tails c.tail d.tail (c.whole ∙ sym d.whole) (ap (λ ls. get_or ls 1 (tail_line [])) e) in
-    ap summed (one_more _ _ _ _ refl (one_more _ _ _ _ refl (one_more _ _ _ _ refl (one_more _ _ _ _ flags tail))))
+    ap block_with_checksum (one_more _ _ _ _ refl (one_more _ _ _ _ refl (one_more _ _ _ _ refl (one_more _ _ _ _ flags tail))))
 same_ext (OfRawExt c) (OfRawExt d) e = ap (λ ls. bytes_in (get_or ls 0 (tail_line [])).fields) e
 same_ext (OfCta c) (OfBare d) e = let same = ap (λ ls. (get_or ls 0 (tail_line [])).word) e in cc
 same_ext (OfCta c) (OfRawExt d) e = let same = ap (λ ls. (get_or ls 0 (tail_line [])).word) e in cc

@@ -9,11 +9,11 @@ use Rattle.hdmi_edid.specs.declared.descriptor.Descriptor.{Descriptor}
 use Rattle.hdmi_edid.specs.declared.descriptor.Descriptor.TheVariants.{Timing as OfTiming, Name as OfName, Text as OfText, SerialText as OfSerialText, Range as OfRange, Dummy as OfDummy, Raw as OfRaw}
 use Rattle.hdmi_edid.specs.declared.descriptor.RangeLimits.{RangeLimits}
 use Rattle.hdmi_edid.specs.declared.descriptor.RawDescriptor.{RawDescriptor}
-use Rattle.hdmi_edid.specs.declared.standard.Standard.{Standard as StandardTiming}
+use Rattle.hdmi_edid.specs.declared.standard.StandardTiming.{StandardTiming}
 use Rattle.hdmi_edid.specs.declared.text.Text.{Text as AnyText}
 use Rattle.hdmi_edid.specs.declared.timing.Timing.{Timing as DetailedTiming}
 use Rattle.hdmi_cta.specs.Block.{block_bytes}
-use Rattle.hdmi_cta.specs.declared.block.Block.{Block}
+use Rattle.hdmi_cta.specs.declared.block.DataBlock.{DataBlock}
 use Rattle.hdmi_cta.specs.declared.block.BlockKind.{BlockKind}
 use Rattle.hdmi_cta.specs.declared.block.BlockKind.TheVariants.{Tag0 as OfTag0, Audio as OfAudio, Video as OfVideo, Vendor as OfVendor, Speakers as OfSpeakers, Tag5 as OfTag5, Tag6 as OfTag6, Extended as OfExtended}
 use Rattle.hdmi_cta.specs.declared.raw.Ext.TheVariants.{Raw as OfRawExt}
@@ -22,17 +22,17 @@ use Rattle.hdmi_edtext.specs.Drafts.{whole_lines, draft_lines, opened_lines, Fol
 use Rattle.hdmi_lines.specs.Formed.{form_of}
 use Rattle.hdmi_edtext.specs.Lines.{standard_line, descriptor_line, head_lines, base_lines, bytes_line, block_line, timing_line, tail_line}
 use Rattle.hdmi_edtext.specs.Words.{place_of, in_base, at_ext, in_timings, in_blocks, may_begin, has_words}
-use Rattle.hdmi_edtext.specs.declared.draft.Draft.{Draft}
-use Rattle.hdmi_edtext.specs.declared.draft.Draft.TheVariants.{Begun, Whole as OfWhole, Opened as OfOpened, Bare as OfBare}
+use Rattle.hdmi_edtext.specs.declared.draft.EdidDraft.{EdidDraft}
+use Rattle.hdmi_edtext.specs.declared.draft.EdidDraft.TheVariants.{Begun, Whole as OfWhole, Opened as OfOpened, Bare as OfBare}
 use Rattle.hdmi_edtext.specs.declared.draft.Headed.{Headed}
 use Rattle.hdmi_edtext.specs.declared.draft.Whole.{Whole}
 use Rattle.hdmi_edtext.specs.declared.draft.Opened.{Opened}
 use Rattle.hdmi_lines.specs.declared.line.Fields.{Fields}
 use Rattle.hdmi_lines.specs.declared.line.Fields.TheVariants.{Nothing, Letters, Numbers, Timed, Bytes, Address, Quoted}
 use Rattle.hdmi_lines.specs.declared.line.Line.{Line}
-use Rattle.hdmi_lines.specs.declared.line.Word.{Word}
-use Rattle.hdmi_lines.specs.declared.line.Word.TheVariants.{Edid, Maker, Product, Serial, Made, Input, Size, Gamma, Features, Chroma, Established, Standard, Timing, Name, Text, SerialText, Range, Dummy, Raw, Cta, CtaNone, Tag0, Audio, Video, Vendor, Speakers, Tag5, Tag6, Extended, Hdmi, Tail, Ext}
-use Rattle.hdmi_edtext.specs.declared.place.Place.TheVariants.{AtExt, AtEnd, InBlocks, InTimings}
+use Rattle.hdmi_lines.specs.declared.line.Keyword.{Keyword}
+use Rattle.hdmi_lines.specs.declared.line.Keyword.TheVariants.{Edid, Maker, Product, Serial, Made, Input, Size, Gamma, Features, Chroma, Established, Standard, Timing, Name, Text, SerialText, Range, Dummy, Raw, Cta, CtaNone, Tag0, Audio, Video, Vendor, Speakers, Tag5, Tag6, Extended, Hdmi, Tail, Ext}
+use Rattle.hdmi_edtext.specs.declared.place.NextLine.TheVariants.{AtExt, AtEnd, InBlocks, InTimings}
 use Rattle.hdmi_edtext.proofs.BaseNexts.{set_line, set_descriptor}
 use Rattle.hdmi_edtext.proofs.Live.{alone, alone_lines, with_ext, with_ext_lines, zeros_behind, zeros_alone}
 
@@ -46,7 +46,7 @@ words_of (Bytes bytes) = 2
 words_of (Address p bytes) = 3
 words_of (Quoted chars) = 2
 
-pub record Sample (ls : List Line) (w : Word) (n : ℕ) : Type 0 where
+pub record Sample (ls : List Line) (w : Keyword) (n : ℕ) : Type 0 where
   pub line : Line
   pub follows : Follows ls line
   pub word : line.word ≡ w
@@ -67,7 +67,7 @@ split_at (x ∷ xs) zero l h = ap (λ y. y ∷ xs) (one x l h)
     one a b h = cc
 split_at (x ∷ xs) (suc k) l h = ap (λ t. x ∷ t) (split_at xs k l h)
 
-own_line : (b : Base) (n k m c : ℕ) (w : Word) (l : Line) → (n == k) ≡ true → (m == c) ≡ true → slice_get (base_lines b) k ≡ Some l → l.word ≡ w → words_of l.fields ≡ c
+own_line : (b : Base) (n k m c : ℕ) (w : Keyword) (l : Line) → (n == k) ≡ true → (m == c) ≡ true → slice_get (base_lines b) k ≡ Some l → l.word ≡ w → words_of l.fields ≡ c
     → Sample (take n (base_lines b)) w m
 own_line b n k m c w l at count h is size =
     let same : n ≡ k = eqb-true _ _ at in
@@ -147,7 +147,7 @@ a_raw = record { bytes = 0 ∷ 0 ∷ 0 ∷ 0x11 ∷ replicate 14 0; whole = refl
 some_limits : RangeLimits
 some_limits = record { bytes = replicate 14 0; whole = refl; bytes_fit = refl }
 
-a_descriptor : (b : Base) (n m c : ℕ) (w : Word) (d : Descriptor) → nat_le 19 n ≡ true → n < 23 → (m == c) ≡ true → (descriptor_line d).word ≡ w → words_of (descriptor_line d).fields ≡ c
+a_descriptor : (b : Base) (n m c : ℕ) (w : Keyword) (d : Descriptor) → nat_le 19 n ≡ true → n < 23 → (m == c) ≡ true → (descriptor_line d).word ≡ w → words_of (descriptor_line d).fields ≡ c
     → Sample (take n (base_lines b)) w m
 a_descriptor b n m c w d least most count is size =
     let many : m ≡ c = eqb-true _ _ count in
@@ -168,7 +168,7 @@ a_standard_line b n m at count =
         let four : m ≡ 4 = eqb-true _ _ h in
         record { line = standard_line (Some a_standard); follows = standard_next b n (Some a_standard) least most; word = refl; words = sym four }
 
-begun_sample : (b : Base) (n m : ℕ) (w : Word) → n < 23 → in_base n w ≡ true → has_words (form_of w) m ≡ true → Sample (take n (base_lines b)) w m
+begun_sample : (b : Base) (n m : ℕ) (w : Keyword) → n < 23 → in_base n w ≡ true → has_words (form_of w) m ≡ true → Sample (take n (base_lines b)) w m
 begun_sample b n m Edid h at count = own_line b n 0 m 2 Edid _ at count refl refl refl
 begun_sample b n m Maker h at count = own_line b n 1 m 2 Maker _ at count refl refl refl
 begun_sample b n m Product h at count = own_line b n 2 m 2 Product _ at count refl refl refl
@@ -201,7 +201,7 @@ a_raw_ext = record {
   no_bare = λ c e. let first : 2 ≡ 0 = ap (λ xs. get_or xs 0 0) e in omega (arith, first);
 }
 
-two_words : (ls : List Line) (w : Word) (m : ℕ) (l : Line) → Follows ls l → l.word ≡ w → words_of l.fields ≡ 2 → (m == 2) ≡ true → Sample ls w m
+two_words : (ls : List Line) (w : Keyword) (m : ℕ) (l : Line) → Follows ls l → l.word ≡ w → words_of l.fields ≡ 2 → (m == 2) ≡ true → Sample ls w m
 two_words ls w m l f is size count = let two : m ≡ 2 = eqb-true _ _ count in record { line = l; follows = f; word = is; words = size ∙ sym two }
 
 cta_next : (w : Whole) → length w.extensions.items < 3 → Follows (whole_lines w) (bytes_line Cta (0 ∷ []))
@@ -219,13 +219,13 @@ cta_none_next w room =
 ext_next : (w : Whole) → length w.extensions.items < 3 → Follows (whole_lines w) (bytes_line Ext a_raw_ext.bytes)
 ext_next w room = (with_ext w room (OfRawExt a_raw_ext), ([], with_ext_lines w room (OfRawExt a_raw_ext)))
 
-ext_sample : (w : Whole) (m : ℕ) (word : Word) → length w.extensions.items < 3 → at_ext word ≡ true → has_words (form_of word) m ≡ true → Sample (whole_lines w) word m
+ext_sample : (w : Whole) (m : ℕ) (word : Keyword) → length w.extensions.items < 3 → at_ext word ≡ true → has_words (form_of word) m ≡ true → Sample (whole_lines w) word m
 ext_sample w m Cta room at count = two_words (whole_lines w) Cta m (bytes_line Cta (0 ∷ [])) (cta_next w room) refl refl count
 ext_sample w m CtaNone room at count = two_words (whole_lines w) CtaNone m (bytes_line CtaNone (0 ∷ [])) (cta_none_next w room) refl refl count
 ext_sample w m Ext room at count = two_words (whole_lines w) Ext m (bytes_line Ext a_raw_ext.bytes) (ext_next w room) refl refl count
 ext_sample w m word room at count = absurd (clash at)
 
-whole_sample : (w : Whole) (m : ℕ) (word : Word) → may_begin (place_of (OfWhole w)) word ≡ true → has_words (form_of word) m ≡ true → Sample (whole_lines w) word m
+whole_sample : (w : Whole) (m : ℕ) (word : Keyword) → may_begin (place_of (OfWhole w)) word ≡ true → has_words (form_of word) m ≡ true → Sample (whole_lines w) word m
 whole_sample w m word at count = cases (nat_lt (length w.extensions.items) 3) refl at
   where
     cases : (v : Bool) → nat_lt (length w.extensions.items) 3 ≡ v → may_begin (cond v AtExt AtEnd) word ≡ true → Sample (whole_lines w) word m
@@ -233,7 +233,7 @@ whole_sample w m word at count = cases (nat_lt (length w.extensions.items) 3) re
     cases false e h = absurd (clash h)
 
 -- one more data block
-more_block : (o : Opened) (b : Block) → o.timings.items ≡ [] → length (block_bytes b) ≤ o.left → Follows (draft_lines (OfOpened o)) (block_line b)
+more_block : (o : Opened) (b : DataBlock) → o.timings.items ≡ [] → length (block_bytes b) ≤ o.left → Follows (draft_lines (OfOpened o)) (block_line b)
 more_block o b none h =
     let blocks = o.blocks.items ++ b ∷ [] in
     let flat : length (flat_map block_bytes blocks) ≡ length (flat_map block_bytes o.blocks.items) + length (flat_map block_bytes (b ∷ [])) =
@@ -253,10 +253,10 @@ more_block o b none h =
     ap (λ t. whole_lines o.whole ++ (bytes_line Cta (o.flags ∷ []) ∷ t)) body ∙ sym (append_assoc (whole_lines o.whole) (opened_lines o) (block_line b ∷ [])) in
     (z.0, (last, z.1 ∙ ap (λ t. t ++ last) lines ∙ append_assoc (whole_lines o.whole ++ opened_lines o) (block_line b ∷ []) last))
 
-an_empty_block : BlockKind → Block
+an_empty_block : BlockKind → DataBlock
 an_empty_block k = record { kind = k; payload = record { items = [] }; short = omega arith; bytes_fit = refl }
 
-an_hdmi_block : Block
+an_hdmi_block : DataBlock
 an_hdmi_block = record { kind = OfVendor; payload = record { items = 3 ∷ 12 ∷ 0 ∷ 0 ∷ 0 ∷ [] }; short = omega arith; bytes_fit = refl }
 
 -- one more timing
@@ -280,20 +280,20 @@ more_timing o h =
 a_tail : (o : Opened) → Follows (draft_lines (OfOpened o)) (tail_line (replicate o.left 0))
 a_tail o = let z = zeros_behind o in (z.0, ([], z.1))
 
-a_timing_line : (o : Opened) (m : ℕ) (w : Word) → in_timings o.left w ≡ true → has_words (form_of w) m ≡ true → Sample (draft_lines (OfOpened o)) w m
+a_timing_line : (o : Opened) (m : ℕ) (w : Keyword) → in_timings o.left w ≡ true → has_words (form_of w) m ≡ true → Sample (draft_lines (OfOpened o)) w m
 a_timing_line o m Timing at count =
     let many : m ≡ 15 = eqb-true _ _ count in
     record { line = timing_line a_timing; follows = more_timing o (leb-true _ _ at); word = refl; words = sym many }
 a_timing_line o m Tail at count = two_words (draft_lines (OfOpened o)) Tail m (tail_line (replicate o.left 0)) (a_tail o) refl refl count
 a_timing_line o m w at count = absurd (clash at)
 
-a_block_line : (o : Opened) (m : ℕ) (w : Word) (b : Block) → o.timings.items ≡ [] → nat_le 1 o.left ≡ true → length (block_bytes b) ≡ 1 → (block_line b).word ≡ w → words_of (block_line b).fields ≡ 2 → (m == 2) ≡ true
+a_block_line : (o : Opened) (m : ℕ) (w : Keyword) (b : DataBlock) → o.timings.items ≡ [] → nat_le 1 o.left ≡ true → length (block_bytes b) ≡ 1 → (block_line b).word ≡ w → words_of (block_line b).fields ≡ 2 → (m == 2) ≡ true
     → Sample (draft_lines (OfOpened o)) w m
 a_block_line o m w b none at size is two count =
     let least = leb-true _ _ at in
     two_words (draft_lines (OfOpened o)) w m (block_line b) (more_block o b none (omega (arith, size, least))) is two count
 
-block_sample : (o : Opened) (m : ℕ) (w : Word) → o.timings.items ≡ [] → in_blocks o.left w ≡ true → has_words (form_of w) m ≡ true → Sample (draft_lines (OfOpened o)) w m
+block_sample : (o : Opened) (m : ℕ) (w : Keyword) → o.timings.items ≡ [] → in_blocks o.left w ≡ true → has_words (form_of w) m ≡ true → Sample (draft_lines (OfOpened o)) w m
 unfolding an_empty_block an_hdmi_block
 block_sample o m Tag0 none at count = a_block_line o m Tag0 (an_empty_block OfTag0) none at refl refl refl count
 block_sample o m Audio none at count = a_block_line o m Audio (an_empty_block OfAudio) none at refl refl refl count
@@ -315,20 +315,20 @@ empty : {X : Type 0} (xs : List X) → (length xs == 0) ≡ true → xs ≡ []
 empty [] h = refl
 empty (x ∷ xs) h = let e = eqb-true _ _ h in absurd (omega (arith, e))
 
-opened_sample : (o : Opened) (m : ℕ) (w : Word) → may_begin (place_of (OfOpened o)) w ≡ true → has_words (form_of w) m ≡ true → Sample (draft_lines (OfOpened o)) w m
+opened_sample : (o : Opened) (m : ℕ) (w : Keyword) → may_begin (place_of (OfOpened o)) w ≡ true → has_words (form_of w) m ≡ true → Sample (draft_lines (OfOpened o)) w m
 opened_sample o m w at count = cases (length o.timings.items == 0) refl at
   where
     cases : (v : Bool) → (length o.timings.items == 0) ≡ v → may_begin (cond v (InBlocks o.left) (InTimings o.left)) w ≡ true → Sample (draft_lines (OfOpened o)) w m
     cases true e h = block_sample o m w (empty o.timings.items e) h count
     cases false e h = a_timing_line o m w h count
 
-bare_sample : (d : Headed) (m : ℕ) (w : Word) → may_begin (place_of (OfBare d)) w ≡ true → has_words (form_of w) m ≡ true → Sample (draft_lines (OfBare d)) w m
+bare_sample : (d : Headed) (m : ℕ) (w : Keyword) → may_begin (place_of (OfBare d)) w ≡ true → has_words (form_of w) m ≡ true → Sample (draft_lines (OfBare d)) w m
 bare_sample d m Tail at count =
     let z = zeros_alone d in
     two_words (draft_lines (OfBare d)) Tail m (tail_line (replicate 123 0)) (z.0, ([], z.1)) refl refl count
 bare_sample d m w at count = absurd (clash at)
 
-pub samples : (d : Draft) (w : Word) (m : ℕ) → may_begin (place_of d) w ≡ true → has_words (form_of w) m ≡ true → Sample (draft_lines d) w m
+pub samples : (d : EdidDraft) (w : Keyword) (m : ℕ) → may_begin (place_of d) w ≡ true → has_words (form_of w) m ≡ true → Sample (draft_lines d) w m
 samples (Begun d) w m at count = begun_sample d.base d.number m w d.few at count
 samples (OfWhole whole) w m at count = whole_sample whole m w at count
 samples (OfOpened o) w m at count = opened_sample o m w at count

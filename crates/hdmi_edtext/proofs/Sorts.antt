@@ -4,7 +4,7 @@ use Rattle.std.proofs.lemmas.Bool.{leb-true}
 use Rattle.hdmi_edid.proofs.PartLemmas.{both}
 use Rattle.hdmi_edid.specs.declared.timing.Timing.{Timing as DetailedTiming}
 use Rattle.hdmi_cta.specs.Block.{block_bytes}
-use Rattle.hdmi_cta.specs.declared.block.Block.{Block}
+use Rattle.hdmi_cta.specs.declared.block.DataBlock.{DataBlock}
 use Rattle.hdmi_cta.specs.declared.block.BlockKind.{BlockKind}
 use Rattle.hdmi_cta.specs.declared.block.BlockKind.TheVariants.{Tag0 as OfTag0, Audio as OfAudio, Video as OfVideo, Vendor as OfVendor, Speakers as OfSpeakers, Tag5 as OfTag5, Tag6 as OfTag6, Extended as OfExtended}
 use Rattle.hdmi_edtext.specs.Lines.{address_line, bytes_line, kind_word, payload_line, block_line, timing_line, tail_line}
@@ -12,11 +12,11 @@ use Rattle.hdmi_cta.specs.Hdmi.{has_identifier}
 use Rattle.hdmi_lines.specs.declared.line.Fields.{Fields}
 use Rattle.hdmi_lines.specs.declared.line.Fields.TheVariants.{Bytes, Address}
 use Rattle.hdmi_lines.specs.declared.line.Line.{Line}
-use Rattle.hdmi_lines.specs.declared.line.Word.{Word}
-use Rattle.hdmi_lines.specs.declared.line.Word.TheVariants.{Timing, Tag0, Audio, Video, Vendor, Speakers, Tag5, Tag6, Extended, Hdmi, Tail}
+use Rattle.hdmi_lines.specs.declared.line.Keyword.{Keyword}
+use Rattle.hdmi_lines.specs.declared.line.Keyword.TheVariants.{Timing, Tag0, Audio, Video, Vendor, Speakers, Tag5, Tag6, Extended, Hdmi, Tail}
 
 -- 0 for the words of data blocks
-abbrev pub sort_of : Word → ℕ
+abbrev pub sort_of : Keyword → ℕ
 sort_of Tag0 = 0
 sort_of Audio = 0
 sort_of Video = 0
@@ -36,7 +36,7 @@ size_of (Bytes bytes) = suc (length bytes.items)
 size_of (Address p bytes) = 6 + length bytes.items
 size_of fields = 0
 
-pub block_sort : (b : Block) → sort_of (block_line b).word ≡ 0
+pub block_sort : (b : DataBlock) → sort_of (block_line b).word ≡ 0
 block_sort b = at b.kind b.payload.items
   where
     vendor : (v : Bool) (p : List ℕ) → sort_of (cond v (address_line p) (bytes_line Vendor p)).word ≡ 0
@@ -56,7 +56,7 @@ block_sort b = at b.kind b.payload.items
 pub long_hdmi : (p : List ℕ) → has_identifier p ≡ true → 5 ≤ length p
 long_hdmi p h = leb-true _ _ (both (nat_le 5 (length p)) _ (both _ _ (both _ _ h).0).0).0
 
-pub block_size : (b : Block) → size_of (block_line b).fields ≡ length (block_bytes b)
+pub block_size : (b : DataBlock) → size_of (block_line b).fields ≡ length (block_bytes b)
 block_size b = at b.kind b.payload.items
   where
     vendor : (v : Bool) (p : List ℕ) → has_identifier p ≡ v → size_of (cond v (address_line p) (bytes_line Vendor p)).fields ≡ suc (length p)
@@ -73,20 +73,20 @@ block_size b = at b.kind b.payload.items
     at OfTag6 p = refl
     at OfExtended p = refl
 
-pub same_size : (a b : Block) → block_line a ≡ block_line b → length (block_bytes a) ≡ length (block_bytes b)
+pub same_size : (a b : DataBlock) → block_line a ≡ block_line b → length (block_bytes a) ≡ length (block_bytes b)
 same_size a b e = sym (block_size a) ∙ ap (λ l. size_of l.fields) e ∙ block_size b
 
-pub not_timing : (b : Block) (t : DetailedTiming) → block_line b ≡ timing_line t → ⊥
+pub not_timing : (b : DataBlock) (t : DetailedTiming) → block_line b ≡ timing_line t → ⊥
 not_timing b t e = let same = sym (block_sort b) ∙ ap (λ l. sort_of l.word) e in omega (arith, same)
 
-pub not_tail : (b : Block) (bytes : List ℕ) → block_line b ≡ tail_line bytes → ⊥
+pub not_tail : (b : DataBlock) (bytes : List ℕ) → block_line b ≡ tail_line bytes → ⊥
 not_tail b bytes e = let same = sym (block_sort b) ∙ ap (λ l. sort_of l.word) e in omega (arith, same)
 
 pub timing_not_tail : (t : DetailedTiming) (bytes : List ℕ) → timing_line t ≡ tail_line bytes → ⊥
 timing_not_tail t bytes e = let same : 1 ≡ 2 = ap (λ l. sort_of l.word) e in omega (arith, same)
 
 -- a data block's line has an address or its payload
-pub block_cases : (b : Block) (l : Line) → block_line b ≡ l → (address_line b.payload.items ≡ l) ⊎ (bytes_line (kind_word b.kind) b.payload.items ≡ l)
+pub block_cases : (b : DataBlock) (l : Line) → block_line b ≡ l → (address_line b.payload.items ≡ l) ⊎ (bytes_line (kind_word b.kind) b.payload.items ≡ l)
 block_cases b l = at b.kind b.payload.items
   where
     vendor : (v : Bool) (p : List ℕ) → cond v (address_line p) (bytes_line Vendor p) ≡ l → (address_line p ≡ l) ⊎ (bytes_line Vendor p ≡ l)
@@ -103,10 +103,10 @@ block_cases b l = at b.kind b.payload.items
     at OfTag6 p e = inr e
     at OfExtended p e = inr e
 
-pub no_kind : (b : Block) (l : Line) → ((p : List ℕ) → address_line p ≡ l → ⊥) → ((k : BlockKind) → kind_word k ≡ l.word → ⊥) → block_line b ≡ l → ⊥
+pub no_kind : (b : DataBlock) (l : Line) → ((p : List ℕ) → address_line p ≡ l → ⊥) → ((k : BlockKind) → kind_word k ≡ l.word → ⊥) → block_line b ≡ l → ⊥
 no_kind b l h k e = elim (block_cases b l e) [ inl a ↦ h b.payload.items a | inr f ↦ k b.kind (ap (λ x. x.word) f) ]
 
-pub no_payload : (b : Block) (l : Line) → ((p : List ℕ) → address_line p ≡ l → ⊥) → ((bs : List ℕ) → bytes_line l.word bs ≡ l → ⊥) → block_line b ≡ l → ⊥
+pub no_payload : (b : DataBlock) (l : Line) → ((p : List ℕ) → address_line p ≡ l → ⊥) → ((bs : List ℕ) → bytes_line l.word bs ≡ l → ⊥) → block_line b ≡ l → ⊥
 no_payload b l h k e = elim (block_cases b l e) [
   | inl a ↦ h b.payload.items a
   | inr f ↦ k b.payload.items (ap (λ w. bytes_line w b.payload.items) (sym (ap (λ x. x.word) f)) ∙ f)

@@ -4,9 +4,9 @@ use borrow.Author.Tests.{tests}
 use Rattle.hdmi_edid.specs.declared.base.Base.{Base}
 use Rattle.hdmi_edid.specs.declared.descriptor.Descriptor.{Descriptor}
 use Rattle.hdmi_edid.specs.declared.descriptor.Descriptor.TheVariants.{Timing as OfTiming, Name as OfName, Text as OfText, SerialText as OfSerialText, Range as OfRange, Dummy as OfDummy, Raw as OfRaw}
-use Rattle.hdmi_edid.specs.declared.standard.Standard.{Standard as StandardTiming}
+use Rattle.hdmi_edid.specs.declared.standard.StandardTiming.{StandardTiming}
 use Rattle.hdmi_cta.specs.Block.{block_bytes}
-use Rattle.hdmi_cta.specs.declared.block.Block.{Block}
+use Rattle.hdmi_cta.specs.declared.block.DataBlock.{DataBlock}
 use Rattle.hdmi_cta.specs.declared.block.BlockKind.{BlockKind}
 use Rattle.hdmi_cta.specs.declared.block.BlockKind.TheVariants.{Tag0 as OfTag0, Audio as OfAudio, Video as OfVideo, Vendor as OfVendor, Speakers as OfSpeakers, Tag5 as OfTag5, Tag6 as OfTag6, Extended as OfExtended}
 use Rattle.hdmi_cta.specs.declared.raw.Ext.{Ext as AnyExt}
@@ -15,12 +15,12 @@ use Rattle.hdmi_edtext.specs.Drafts.{draft_lines, Follows, BlockFits, TimingFits
 use Rattle.hdmi_edtext.specs.Lines.{bytes_line, standard_line, descriptor_line, base_lines, address_line, payload_line, block_line, ext_lines}
 use Rattle.hdmi_cta.specs.Hdmi.{has_identifier}
 use Rattle.hdmi_edtext.specs.Words.{place_of, in_base, at_ext, in_timings, in_blocks, may_begin}
-use Rattle.hdmi_edtext.specs.declared.draft.Draft.{Draft}
-use Rattle.hdmi_edtext.specs.declared.draft.Draft.TheVariants.{Begun, Whole as OfWhole, Opened as OfOpened, Bare as OfBare}
+use Rattle.hdmi_edtext.specs.declared.draft.EdidDraft.{EdidDraft}
+use Rattle.hdmi_edtext.specs.declared.draft.EdidDraft.TheVariants.{Begun, Whole as OfWhole, Opened as OfOpened, Bare as OfBare}
 use Rattle.hdmi_edtext.specs.declared.draft.Opened.{Opened}
 use Rattle.hdmi_lines.specs.declared.line.Line.{Line}
-use Rattle.hdmi_lines.specs.declared.line.Word.TheVariants.{Standard, Vendor}
-use Rattle.hdmi_edtext.specs.declared.place.Place.TheVariants.{AtExt, AtEnd, InBlocks, InTimings}
+use Rattle.hdmi_lines.specs.declared.line.Keyword.TheVariants.{Standard, Vendor}
+use Rattle.hdmi_edtext.specs.declared.place.NextLine.TheVariants.{AtExt, AtEnd, InBlocks, InTimings}
 use Rattle.hdmi_edtext.proofs.Fronts.{begun_next, ext_of, opened_next, bare_next}
 use Rattle.hdmi_edtext.proofs.Good.{and}
 use Rattle.hdmi_edtext.proofs.Sorts.{long_hdmi}
@@ -79,7 +79,7 @@ ext_stands (OfCta c) behind l more e = ap (λ ls. at_ext (get_or ls 0 l).word) (
 ext_stands (OfBareExt c) behind l more e = ap (λ ls. at_ext (get_or ls 0 l).word) (sym e)
 ext_stands (OfRawExt c) behind l more e = ap (λ ls. at_ext (get_or ls 0 l).word) (sym e)
 
-block_stands : (b : Block) (left : ℕ) → length (block_bytes b) ≤ left → in_blocks left (block_line b).word ≡ true
+block_stands : (b : DataBlock) (left : ℕ) → length (block_bytes b) ≤ left → in_blocks left (block_line b).word ≡ true
 block_stands b left h =
     let one : 1 ≤ left = omega (arith, h) in
     let t : nat_le 1 left ≡ true = grind (arith, tests) in
@@ -117,7 +117,7 @@ opened_stands o l (inr x) = let t = timing_stands o.left l x in at (length o.tim
     at true h k = k
     at false h k = h
 
-pub stands : (d : Draft) (l : Line) → Follows (draft_lines d) l → may_begin (place_of d) l.word ≡ true
+pub stands : (d : EdidDraft) (l : Line) → Follows (draft_lines d) l → may_begin (place_of d) l.word ≡ true
 stands (Begun d) l f = let a = begun_next d.base d.number l d.few f in from_at (base_lines a.0) 0 d.number d.number l (base_from a.0) (omega arith) a.1
 stands (OfWhole w) l f =
     let x = ext_of f.0 w l f.1.0 f.1.1 in

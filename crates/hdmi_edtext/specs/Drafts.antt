@@ -3,15 +3,15 @@ use Rattle.std.specs.Prelude.{◌≡◌, ℕ, ◌≤◌, IsTrue, List, [], ◌�
 use Rattle.hdmi_edid.specs.declared.timing.Timing.{Timing}
 use Rattle.hdmi_cta.specs.Block.{block_bytes}
 use Rattle.hdmi_cta.specs.Cta.{is_tail}
-use Rattle.hdmi_cta.specs.declared.block.Block.{Block}
+use Rattle.hdmi_cta.specs.declared.block.DataBlock.{DataBlock}
 use Rattle.hdmi_edtext.specs.Lines.{base_lines, block_line, bytes_line, timing_line, tail_line, ext_lines, edid_lines}
-use Rattle.hdmi_edtext.specs.declared.draft.Draft.{Draft}
-use Rattle.hdmi_edtext.specs.declared.draft.Draft.TheVariants.{Begun as OfBegun, Whole as OfWhole, Opened as OfOpened, Bare as OfBare}
+use Rattle.hdmi_edtext.specs.declared.draft.EdidDraft.{EdidDraft}
+use Rattle.hdmi_edtext.specs.declared.draft.EdidDraft.TheVariants.{Begun as OfBegun, Whole as OfWhole, Opened as OfOpened, Bare as OfBare}
 use Rattle.hdmi_edtext.specs.declared.draft.Opened.{Opened}
 use Rattle.hdmi_edtext.specs.declared.draft.Whole.{Whole}
 use Rattle.hdmi_blocks.specs.declared.edid.Edid.{Edid}
 use Rattle.hdmi_lines.specs.declared.line.Line.{Line}
-use Rattle.hdmi_lines.specs.declared.line.Word.TheVariants.{Cta, CtaNone}
+use Rattle.hdmi_lines.specs.declared.line.Keyword.TheVariants.{Cta, CtaNone}
 
 -- the lines of whole blocks
 abbrev pub whole_lines : Whole → List Line
@@ -21,7 +21,7 @@ whole_lines w = base_lines w.base ++ flat_map ext_lines w.extensions.items
 abbrev pub opened_lines : Opened → List Line
 opened_lines o = bytes_line Cta (o.flags ∷ []) ∷ (map block_line o.blocks.items ++ map timing_line o.timings.items)
 
-abbrev pub draft_lines : Draft → List Line
+abbrev pub draft_lines : EdidDraft → List Line
 draft_lines (OfBegun d) = take d.number (base_lines d.base)
 draft_lines (OfWhole w) = whole_lines w
 draft_lines (OfOpened o) = whole_lines o.whole ++ opened_lines o
@@ -33,7 +33,7 @@ Follows lines l = (e : Edid) × ((more : List Line) × (edid_lines e ≡ lines +
 
 -- a data block, where there is room for it
 abbrev pub BlockFits : ℕ → Line → Type 0
-BlockFits left l = (b : Block) × ((block_line b ≡ l) × (length (block_bytes b) ≤ left))
+BlockFits left l = (b : DataBlock) × ((block_line b ≡ l) × (length (block_bytes b) ≤ left))
 
 -- a timing, where there is room for it
 abbrev pub TimingFits : ℕ → Line → Type 0

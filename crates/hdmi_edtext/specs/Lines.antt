@@ -10,9 +10,9 @@ use Rattle.hdmi_edid.specs.declared.base.Revision.{Revision}
 use Rattle.hdmi_edid.specs.declared.base.Revision.TheVariants.{Three, Four}
 use Rattle.hdmi_edid.specs.declared.descriptor.Descriptor.{Descriptor}
 use Rattle.hdmi_edid.specs.declared.descriptor.Descriptor.TheVariants.{Timing as OfTiming, Name as OfName, Text as OfText, SerialText as OfSerialText, Range as OfRange, Dummy as OfDummy, Raw as OfRaw}
-use Rattle.hdmi_edid.specs.declared.standard.Standard.{Standard as StandardTiming}
+use Rattle.hdmi_edid.specs.declared.standard.StandardTiming.{StandardTiming}
 use Rattle.hdmi_edid.specs.declared.timing.Timing.{Timing as DetailedTiming}
-use Rattle.hdmi_cta.specs.declared.block.Block.{Block}
+use Rattle.hdmi_cta.specs.declared.block.DataBlock.{DataBlock}
 use Rattle.hdmi_cta.specs.declared.block.BlockKind.{BlockKind}
 use Rattle.hdmi_cta.specs.declared.block.BlockKind.TheVariants.{Tag0 as OfTag0, Audio as OfAudio, Video as OfVideo, Vendor as OfVendor, Speakers as OfSpeakers, Tag5 as OfTag5, Tag6 as OfTag6, Extended as OfExtended}
 use Rattle.hdmi_cta.specs.declared.cta.Cta.{Cta as CtaBlock}
@@ -21,21 +21,21 @@ use Rattle.hdmi_cta.specs.declared.raw.Ext.{Ext as Extension}
 use Rattle.hdmi_cta.specs.declared.raw.Ext.TheVariants.{Cta as OfCta, Bare as OfBare, Raw as OfRawExt}
 use Rattle.hdmi_lines.specs.Text.{line_text}
 use Rattle.hdmi_blocks.specs.declared.edid.Edid.{Edid as WholeEdid}
-use Rattle.hdmi_lines.specs.declared.line.Word.{Word}
-use Rattle.hdmi_lines.specs.declared.line.Word.TheVariants.{Edid, Maker, Product, Serial, Made, Input, Size, Gamma, Features, Chroma, Established, Standard, Timing, Name, Text, SerialText, Range, Dummy, Raw, Cta, CtaNone, Tag0, Audio, Video, Vendor, Speakers, Tag5, Tag6, Extended, Hdmi, Tail, Ext}
+use Rattle.hdmi_lines.specs.declared.line.Keyword.{Keyword}
+use Rattle.hdmi_lines.specs.declared.line.Keyword.TheVariants.{Edid, Maker, Product, Serial, Made, Input, Size, Gamma, Features, Chroma, Established, Standard, Timing, Name, Text, SerialText, Range, Dummy, Raw, Cta, CtaNone, Tag0, Audio, Video, Vendor, Speakers, Tag5, Tag6, Extended, Hdmi, Tail, Ext}
 use Rattle.hdmi_lines.specs.declared.line.Fields.TheVariants.{Nothing, Letters, Numbers, Timed, Bytes, Address, Quoted}
 use Rattle.hdmi_lines.specs.declared.line.Line.{Line}
 
-abbrev pub letters_line : Word → List ℕ → Line
+abbrev pub letters_line : Keyword → List ℕ → Line
 letters_line word letters = record { word = word; fields = Letters (record { items = letters }) }
 
-abbrev pub numbers_line : Word → List ℕ → Line
+abbrev pub numbers_line : Keyword → List ℕ → Line
 numbers_line word numbers = record { word = word; fields = Numbers (record { items = numbers }) }
 
-abbrev pub bytes_line : Word → List ℕ → Line
+abbrev pub bytes_line : Keyword → List ℕ → Line
 bytes_line word bytes = record { word = word; fields = Bytes (record { items = bytes }) }
 
-abbrev pub quoted_line : Word → List ℕ → Line
+abbrev pub quoted_line : Keyword → List ℕ → Line
 quoted_line word chars = record { word = word; fields = Quoted (record { items = chars }) }
 
 abbrev pub revision_letters : Revision → List ℕ
@@ -77,7 +77,7 @@ head_lines b =
 abbrev pub base_lines : Base → List Line
 base_lines b = head_lines b ++ (map standard_line b.standard ++ map descriptor_line b.descriptors)
 
-abbrev pub kind_word : BlockKind → Word
+abbrev pub kind_word : BlockKind → Keyword
 kind_word OfTag0 = Tag0
 kind_word OfAudio = Audio
 kind_word OfVideo = Video
@@ -97,16 +97,16 @@ abbrev pub payload_line : BlockKind → List ℕ → Line
 payload_line OfVendor p = vendor_line p
 payload_line kind p = bytes_line (kind_word kind) p
 
-abbrev pub block_line : Block → Line
+abbrev pub block_line : DataBlock → Line
 block_line b = payload_line b.kind b.payload.items
 
 -- bytes without their trailing zeros
-abbrev pub trimmed : List ℕ → List ℕ
-trimmed [] = []
-trimmed (b ∷ bs) = if (b == 0) && (length (trimmed bs) == 0) then [] else b ∷ trimmed bs
+abbrev pub bytes_without_zeros : List ℕ → List ℕ
+bytes_without_zeros [] = []
+bytes_without_zeros (b ∷ bs) = if (b == 0) && (length (bytes_without_zeros bs) == 0) then [] else b ∷ bytes_without_zeros bs
 
 abbrev pub tail_line : List ℕ → Line
-tail_line bytes = bytes_line Tail (trimmed bytes)
+tail_line bytes = bytes_line Tail (bytes_without_zeros bytes)
 
 abbrev pub cta_lines : CtaBlock → List Line
 cta_lines c = bytes_line Cta (c.flags ∷ []) ∷ (map block_line c.blocks.items ++ (map timing_line c.timings.items ++ (tail_line c.tail.items ∷ [])))
@@ -119,7 +119,7 @@ ext_lines (OfCta c) = cta_lines c
 ext_lines (OfBare b) = bare_lines b
 ext_lines (OfRawExt r) = bytes_line Ext r.bytes ∷ []
 
--- the lines of a base block and of the extensions behind it
+-- the lines of a base block and of the extensions after it
 abbrev pub part_lines : Base → List Extension → List Line
 part_lines base extensions = base_lines base ++ flat_map ext_lines extensions
 

@@ -1,16 +1,16 @@
 -- The first line at fault: the first that no accepted text has there after the lines before it (own).
 use Rattle.std.specs.Prelude.{◌≡◌, ℕ, suc, ◌+◌, ◌==◌, true, List, [], ◌∷◌, ◌++◌, length, map, take}
 use Rattle.std.specs.List.{position_or_len}
-use Rattle.cec_words.specs.Words.{spaces_unquoted}
+use Rattle.hdmi_core.specs.Words.{spaces_unquoted}
 use Rattle.hdmi_lines.specs.Formed.{form_of}
 use Rattle.hdmi_edtext.specs.Lines.{edid_lines}
 use Rattle.hdmi_lines.specs.Text.{word_text, line_text}
 use Rattle.hdmi_edtext.specs.Words.{may_begin, has_words}
 use Rattle.hdmi_blocks.specs.declared.edid.Edid.{Edid}
-use Rattle.hdmi_lines.specs.declared.line.Word.{Word}
+use Rattle.hdmi_lines.specs.declared.line.Keyword.{Keyword}
 use Rattle.hdmi_edtext.specs.declared.parse.TextError.{TextError}
 use Rattle.hdmi_edtext.specs.declared.parse.TextError.TheVariants.{Syntax, Field, Memory}
-use Rattle.hdmi_edtext.specs.declared.place.Place.{Place}
+use Rattle.hdmi_edtext.specs.declared.place.NextLine.{NextLine}
 
 -- the lines of an accepted text
 abbrev pub line_texts : Edid → List (List ℕ)
@@ -20,7 +20,7 @@ line_texts e = map line_text (edid_lines e)
 abbrev pub SomeBegins : List (List ℕ) → Type 0
 SomeBegins lines = (e : Edid) × ((more : List (List ℕ)) × (line_texts e ≡ lines ++ more))
 
--- no accepted text has the first of the other lines behind these; where there is none, none ends here
+-- no accepted text has the first of the other lines after these; where there is none, none ends here
 abbrev pub NoneFollows : List (List ℕ) → List (List ℕ) → Type 0
 NoneFollows before [] = (e : Edid) → line_texts e ≡ before → ⊥
 NoneFollows before (line ∷ _) = (e : Edid) (more : List (List ℕ)) → line_texts e ≡ before ++ line ∷ more → ⊥
@@ -37,7 +37,7 @@ pub record IsFirstBad (lines : List (List ℕ)) (n : ℕ) : Type 0 where
 abbrev pub first_word : List ℕ → List ℕ
 first_word front = take (position_or_len (λ c. c == 32) front) front
 
--- the words, a space between them; a quote and all behind it are one
+-- the words, a space between them; a quote and all after it are one
 abbrev pub word_count : List ℕ → ℕ
 word_count front = suc (spaces_unquoted front)
 
@@ -50,7 +50,7 @@ pub record AreAlike (line other : List ℕ) : Type 0 where
   pub word : first_word front ≡ first_word other_front
   pub words : word_count front ≡ word_count other_front
 
--- an accepted text has a line like this one behind these
+-- an accepted text has a line like this one after these
 abbrev pub HasAlike : List (List ℕ) → List ℕ → Type 0
 HasAlike before line = (e : Edid) × ((other : List ℕ) × ((more : List (List ℕ)) × ((line_texts e ≡ before ++ other ∷ more) × AreAlike line other)))
 
@@ -61,8 +61,8 @@ IsRefusal lines (Field n) = (bad : IsFirstBad lines n) × ((line : List ℕ) × 
 IsRefusal lines Memory = ⊥
 
 -- a line whose first word may stand at a place with so many words
-pub record MayStand (place : Place) (line : List ℕ) : Type 0 where
-  pub word : Word
+pub record MayStand (place : NextLine) (line : List ℕ) : Type 0 where
+  pub word : Keyword
   pub front : List ℕ
   pub ended : line ≡ front ++ 10 ∷ []
   pub first : first_word front ≡ word_text word
@@ -70,7 +70,7 @@ pub record MayStand (place : Place) (line : List ℕ) : Type 0 where
   pub words : has_words (form_of word) (word_count front) ≡ true
 
 -- a fault by such a line, or by another
-abbrev pub IsFaultAt : Place → List ℕ → ℕ → TextError → Type 0
+abbrev pub IsFaultAt : NextLine → List ℕ → ℕ → TextError → Type 0
 IsFaultAt place line n (Syntax k) = (n ≡ k) × (MayStand place line → ⊥)
 IsFaultAt place line n (Field k) = (n ≡ k) × MayStand place line
 IsFaultAt place line n Memory = ⊥

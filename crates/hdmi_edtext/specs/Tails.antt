@@ -1,9 +1,9 @@
--- The tail of an extension: the bytes that a text has, and zeros behind them (own: a text leaves the zeros out).
+-- The tail of an extension: the bytes that a text has, and zeros after them (own: a text leaves the zeros out).
 use Rattle.std.specs.Prelude.{ℕ, ◌-◌, ◌==◌, Bool, ◌&&◌, ◌||◌, not, nat_le, List, ◌++◌, length, slice_index, replicate}
 use Rattle.hdmi_cta.specs.Cta.{is_tail}
 
-abbrev pub padded : ℕ → List ℕ → List ℕ
-padded left bytes = bytes ++ replicate (left - length bytes) 0
+abbrev pub padded_bytes : ℕ → List ℕ → List ℕ
+padded_bytes left bytes = bytes ++ replicate (left - length bytes) 0
 
 -- the last byte is no zero
 abbrev pub is_trimmed : List ℕ → Bool
@@ -15,4 +15,4 @@ fills left bytes = nat_le (length bytes) left && is_trimmed bytes
 
 -- and no timing stands in front
 abbrev pub ends : ℕ → List ℕ → Bool
-ends left bytes = fills left bytes && is_tail (padded left bytes)
+ends left bytes = fills left bytes && is_tail (padded_bytes left bytes)

@@ -1,23 +1,23 @@
 -- Which first words may stand where, and how many words a line has (own).
 use Rattle.std.specs.Prelude.{ℕ, ◌==◌, Bool, true, false, ◌&&◌, ◌||◌, nat_lt, nat_le, length, if◌then◌else◌}
-use Rattle.hdmi_edtext.specs.declared.draft.Draft.{Draft}
-use Rattle.hdmi_edtext.specs.declared.draft.Draft.TheVariants.{Begun, Whole, Opened, Bare}
+use Rattle.hdmi_edtext.specs.declared.draft.EdidDraft.{EdidDraft}
+use Rattle.hdmi_edtext.specs.declared.draft.EdidDraft.TheVariants.{Begun, Whole, Opened, Bare}
 use Rattle.hdmi_lines.specs.declared.line.Form.{Form}
 use Rattle.hdmi_lines.specs.declared.line.Form.TheVariants.{Empty, Three, One, Two, Eight, Unused, Timing as OfTiming, Hex, Address, Quoted}
-use Rattle.hdmi_lines.specs.declared.line.Word.{Word}
-use Rattle.hdmi_lines.specs.declared.line.Word.TheVariants.{Edid, Maker, Product, Serial, Made, Input, Size, Gamma, Features, Chroma, Established, Standard, Timing, Name, Text, SerialText, Range, Dummy, Raw, Cta, CtaNone, Tag0, Audio, Video, Vendor, Speakers, Tag5, Tag6, Extended, Hdmi, Tail, Ext}
-use Rattle.hdmi_edtext.specs.declared.place.Place.{Place}
-use Rattle.hdmi_edtext.specs.declared.place.Place.TheVariants.{InBase, AtExt, InBlocks, InTimings, AtTail, AtEnd}
+use Rattle.hdmi_lines.specs.declared.line.Keyword.{Keyword}
+use Rattle.hdmi_lines.specs.declared.line.Keyword.TheVariants.{Edid, Maker, Product, Serial, Made, Input, Size, Gamma, Features, Chroma, Established, Standard, Timing, Name, Text, SerialText, Range, Dummy, Raw, Cta, CtaNone, Tag0, Audio, Video, Vendor, Speakers, Tag5, Tag6, Extended, Hdmi, Tail, Ext}
+use Rattle.hdmi_edtext.specs.declared.place.NextLine.{NextLine}
+use Rattle.hdmi_edtext.specs.declared.place.NextLine.TheVariants.{InBase, AtExt, InBlocks, InTimings, AtTail, AtEnd}
 
 -- where a draft's next line stands
-abbrev pub place_of : Draft → Place
+abbrev pub place_of : EdidDraft → NextLine
 place_of (Begun d) = InBase d.number
 place_of (Whole w) = if nat_lt (length w.extensions.items) 3 then AtExt else AtEnd
 place_of (Opened o) = if length o.timings.items == 0 then InBlocks o.left else InTimings o.left
 place_of (Bare d) = AtTail
 
 -- the line of a base block with this number
-abbrev pub in_base : ℕ → Word → Bool
+abbrev pub in_base : ℕ → Keyword → Bool
 in_base n Edid = n == 0
 in_base n Maker = n == 1
 in_base n Product = n == 2
@@ -39,21 +39,21 @@ in_base n Dummy = nat_le 19 n
 in_base n Raw = nat_le 19 n
 in_base n word = false
 
-abbrev pub at_ext : Word → Bool
+abbrev pub at_ext : Keyword → Bool
 at_ext Cta = true
 at_ext CtaNone = true
 at_ext Ext = true
 at_ext word = false
 
-abbrev pub is_tail_word : Word → Bool
+abbrev pub is_tail_word : Keyword → Bool
 is_tail_word Tail = true
 is_tail_word word = false
 
-abbrev pub in_timings : ℕ → Word → Bool
+abbrev pub in_timings : ℕ → Keyword → Bool
 in_timings left Timing = nat_le 18 left
 in_timings left word = is_tail_word word
 
-abbrev pub in_blocks : ℕ → Word → Bool
+abbrev pub in_blocks : ℕ → Keyword → Bool
 in_blocks left Tag0 = nat_le 1 left
 in_blocks left Audio = nat_le 1 left
 in_blocks left Video = nat_le 1 left
@@ -65,7 +65,7 @@ in_blocks left Extended = nat_le 1 left
 in_blocks left Hdmi = nat_le 6 left
 in_blocks left word = in_timings left word
 
-abbrev pub may_begin : Place → Word → Bool
+abbrev pub may_begin : NextLine → Keyword → Bool
 may_begin (InBase n) word = in_base n word
 may_begin AtExt word = at_ext word
 may_begin (InBlocks left) word = in_blocks left word

@@ -8,7 +8,7 @@ use crate::line_to_value::{
     three_bytes, two_numbers,
 };
 use hdmi_edid::{Base, Chroma, Descriptor, Maker, Point, Revision};
-use hdmi_lines::{Line, Word};
+use hdmi_lines::{Keyword, Line};
 
 /// A base block whose fields do not count.
 pub fn blank() -> Base {
@@ -70,21 +70,21 @@ fn put_product(mut base: Base, number: usize, line: &Line) -> Option<Base>
             Some(base)
         }
         2 => {
-            let Some(product) = one_number(line, Word::Product, 0xffff) else {
+            let Some(product) = one_number(line, Keyword::Product, 0xffff) else {
                 return None;
             };
             base.product = product as u16;
             Some(base)
         }
         3 => {
-            let Some(serial) = one_number(line, Word::Serial, u32::MAX) else {
+            let Some(serial) = one_number(line, Keyword::Serial, u32::MAX) else {
                 return None;
             };
             base.serial = serial;
             Some(base)
         }
         4 => {
-            let Some((week, year)) = two_numbers(line, Word::Made, 1990, 2245) else {
+            let Some((week, year)) = two_numbers(line, Keyword::Made, 1990, 2245) else {
                 return None;
             };
             base.week = week;
@@ -92,7 +92,7 @@ fn put_product(mut base: Base, number: usize, line: &Line) -> Option<Base>
             Some(base)
         }
         _ => {
-            let Some(input) = one_byte(line, Word::Input) else {
+            let Some(input) = one_byte(line, Keyword::Input) else {
                 return None;
             };
             base.input = input;
@@ -111,7 +111,7 @@ fn put_display(mut base: Base, number: usize, line: &Line) -> Option<Base>
 {
     match number {
         6 => {
-            let Some((width, height)) = two_numbers(line, Word::Size, 0, 255) else {
+            let Some((width, height)) = two_numbers(line, Keyword::Size, 0, 255) else {
                 return None;
             };
             base.width = width;
@@ -119,14 +119,14 @@ fn put_display(mut base: Base, number: usize, line: &Line) -> Option<Base>
             Some(base)
         }
         7 => {
-            let Some(gamma) = one_number(line, Word::Gamma, 255) else {
+            let Some(gamma) = one_number(line, Keyword::Gamma, 255) else {
                 return None;
             };
             base.gamma = gamma as u8;
             Some(base)
         }
         8 => {
-            let Some(features) = one_byte(line, Word::Features) else {
+            let Some(features) = one_byte(line, Keyword::Features) else {
                 return None;
             };
             base.features = features;
@@ -140,7 +140,7 @@ fn put_display(mut base: Base, number: usize, line: &Line) -> Option<Base>
             Some(base)
         }
         _ => {
-            let Some(established) = three_bytes(line, Word::Established) else {
+            let Some(established) = three_bytes(line, Keyword::Established) else {
                 return None;
             };
             base.established = established;

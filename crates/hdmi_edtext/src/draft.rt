@@ -3,7 +3,7 @@ ghost use Rattle.std.specs.Prelude.{◌≡◌, ◌+◌, ◌*◌, ◌<◌, ◌≤
 ghost use Rattle.hdmi_cta.specs.Block.{block_bytes};
 
 use arrayvec::ArrayVec;
-use hdmi_cta::{Block, Ext};
+use hdmi_cta::{DataBlock, Ext};
 use hdmi_edid::{Base, Timing};
 
 /// A base block of which the first lines were read, and so many.
@@ -14,7 +14,7 @@ pub struct Begun {
     ghost few: { number < 23 },
 }
 
-/// A whole base block, and the whole extensions behind it.
+/// A whole base block, and the whole extensions after it.
 #[derive(Drop)]
 pub struct Whole {
     pub base: Base,
@@ -28,7 +28,7 @@ pub struct Whole {
 pub struct Opened {
     pub whole: Whole,
     pub flags: u8,
-    pub blocks: ArrayVec<Block, 123>,
+    pub blocks: ArrayVec<DataBlock, 123>,
     pub timings: ArrayVec<Timing, 6>,
     pub left: usize,
     ghost room: { length whole.extensions.items < 3 },
@@ -48,7 +48,7 @@ pub struct Headed {
 
 /// What the lines so far say.
 #[derive(Drop)]
-pub enum Draft {
+pub enum EdidDraft {
     Begun(Begun),
     Whole(Whole),
     Opened(Opened),

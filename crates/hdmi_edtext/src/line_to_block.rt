@@ -1,33 +1,33 @@
-//! The data block that a line tells.
+//! The data block that a line gives.
 ghost use Rattle.std.specs.Prelude.{◌≡◌, ◌≤◌, ℕ, List, ◌∷◌, length, false, MatchOption};
-ghost use Rattle.hdmi_cta.specs.declared.block.Block.{Block as BlockValue};
+ghost use Rattle.hdmi_cta.specs.declared.block.DataBlock.{DataBlock as BlockValue};
 ghost use Rattle.hdmi_edtext.specs.Lines.{address_line, block_line};
 
 use crate::line_to_value::{bytes_of, kind_of};
 use arrayvec::ArrayVec;
 use hdmi_core::Phys;
-use hdmi_cta::{Block, BlockKind, has_identifier};
-use hdmi_lines::{Fields, Line, Word};
+use hdmi_cta::{BlockKind, DataBlock, has_identifier};
+use hdmi_lines::{Fields, Keyword, Line};
 
-/// The HDMI block with an address and the bytes behind it.
-fn hdmi_block(phys: Phys, bytes: &[u8]) -> Block
+/// The HDMI block with an address and the bytes after it.
+fn hdmi_block(phys: Phys, bytes: &[u8]) -> DataBlock
     requires { length bytes.now ≤ 26 }
-    ensures { block_line result ≡ record { word = Word.Hdmi; fields = Fields.Address phys (record { items = bytes.now }) } }
+    ensures { block_line result ≡ record { word = Keyword.Hdmi; fields = Fields.Address phys (record { items = bytes.now }) } }
 {
     let mut payload = ArrayVec::new();
     let _ = payload.try_extend_from_slice(&[0x03, 0x0c, 0x00, phys.high, phys.low]);
     let _ = payload.try_extend_from_slice(bytes);
-    Block {
+    DataBlock {
         kind: BlockKind::Vendor,
         payload,
     }
 }
 
-/// The HDMI block that a line tells.
-fn hdmi_of(line: &Line) -> Option<Block>
+/// The HDMI block that a line gives.
+fn hdmi_of(line: &Line) -> Option<DataBlock>
     ensures { MatchOption result ((p : List ℕ) → address_line p ≡ line.now → ⊥) (λ b. block_line b ≡ line.now) }
 {
-    if line.word != Word::Hdmi {
+    if line.word != Keyword::Hdmi {
         return None;
     }
     match &line.fields {
@@ -37,18 +37,18 @@ fn hdmi_of(line: &Line) -> Option<Block>
 }
 
 /// The data block with these bytes.
-fn plain_block(kind: BlockKind, bytes: &[u8]) -> Block
+fn plain_block(kind: BlockKind, bytes: &[u8]) -> DataBlock
     requires { length bytes.now ≤ 31 }
     ensures kind { result.kind ≡ kind }
     ensures payload { result.payload.items ≡ bytes.now }
 {
     let mut payload = ArrayVec::new();
     let _ = payload.try_extend_from_slice(bytes);
-    Block { kind, payload }
+    DataBlock { kind, payload }
 }
 
-/// The data block that a line tells.
-pub fn block_of(line: &Line) -> Option<Block>
+/// The data block that a line gives.
+pub fn block_of(line: &Line) -> Option<DataBlock>
     ensures { MatchOption result ((b : BlockValue) → block_line b ≡ line.now → ⊥) (λ b. block_line b ≡ line.now) }
 {
     if let Some(block) = hdmi_of(line) {

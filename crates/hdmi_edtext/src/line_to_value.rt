@@ -1,4 +1,4 @@
-//! The values that lines tell.
+//! The values that lines report.
 ghost use Rattle.std.specs.Prelude.{◌≡◌, ℕ, ◌+◌, ◌≤◌, ◌<◌, List, [], ◌∷◌, length, IsTrue, MatchOption, MatchBool, Option};
 ghost use Rattle.hdmi_edid.specs.Bytes.{are_bytes};
 ghost use Rattle.hdmi_edid.specs.declared.base.Revision.{Revision as RevisionValue};
@@ -9,21 +9,21 @@ ghost use Rattle.hdmi_edid.specs.Maker.{maker_letters};
 ghost use Rattle.hdmi_edid.specs.declared.descriptor.RangeLimits.{RangeLimits as RangeValue};
 ghost use Rattle.hdmi_edid.specs.declared.descriptor.RawDescriptor.{RawDescriptor as RawValue};
 ghost use Rattle.hdmi_edid.specs.declared.maker.Maker.{Maker as MakerValue};
-ghost use Rattle.hdmi_edid.specs.declared.standard.Standard.{Standard as StandardValue};
+ghost use Rattle.hdmi_edid.specs.declared.standard.StandardTiming.{StandardTiming as StandardValue};
 ghost use Rattle.hdmi_edid.specs.declared.text.Text.{Text as TextValue};
 ghost use Rattle.hdmi_edid.specs.declared.timing.Timing.{Timing as TimingValue};
-ghost use Rattle.hdmi_cta.specs.declared.block.Block.{Block as BlockValue};
+ghost use Rattle.hdmi_cta.specs.declared.block.DataBlock.{DataBlock as BlockValue};
 ghost use Rattle.hdmi_cta.specs.declared.block.BlockKind.{BlockKind as KindValue};
 ghost use Rattle.hdmi_edtext.specs.Lines.{letters_line, numbers_line, bytes_line, quoted_line, revision_letters, standard_line, timing_line, descriptor_line, kind_word, block_line};
 
 use hdmi_cta::BlockKind;
 use hdmi_edid::{
-    Chroma, Descriptor, Maker, RangeLimits, RawDescriptor, Revision, Standard, Text, Timing,
+    Chroma, Descriptor, Maker, RangeLimits, RawDescriptor, Revision, StandardTiming, Text, Timing,
 };
-use hdmi_lines::{Fields, Line, Word};
+use hdmi_lines::{Fields, Keyword, Line};
 
-/// The letters behind a word.
-fn letters_of(line: &Line, word: Word) -> Option<&[u8]>
+/// The letters after a word.
+fn letters_of(line: &Line, word: Keyword) -> Option<&[u8]>
     ensures { MatchOption result ((xs : List ℕ) → letters_line word xs ≡ line.now → ⊥) (λ xs. letters_line word xs.now ≡ line.now) }
 {
     if line.word != word {
@@ -35,8 +35,8 @@ fn letters_of(line: &Line, word: Word) -> Option<&[u8]>
     }
 }
 
-/// The numbers behind a word.
-fn numbers_of(line: &Line, word: Word) -> Option<&[u32]>
+/// The numbers after a word.
+fn numbers_of(line: &Line, word: Keyword) -> Option<&[u32]>
     ensures { MatchOption result ((ns : List ℕ) → numbers_line word ns ≡ line.now → ⊥) (λ ns. numbers_line word ns.now ≡ line.now) }
 {
     if line.word != word {
@@ -48,8 +48,8 @@ fn numbers_of(line: &Line, word: Word) -> Option<&[u32]>
     }
 }
 
-/// The bytes behind a word.
-pub fn bytes_of(line: &Line, word: Word) -> Option<&[u8]>
+/// The bytes after a word.
+pub fn bytes_of(line: &Line, word: Keyword) -> Option<&[u8]>
     ensures { MatchOption result ((bs : List ℕ) → bytes_line word bs ≡ line.now → ⊥) (λ bs. bytes_line word bs.now ≡ line.now) }
 {
     if line.word != word {
@@ -61,8 +61,8 @@ pub fn bytes_of(line: &Line, word: Word) -> Option<&[u8]>
     }
 }
 
-/// The characters behind a word.
-fn quoted_of(line: &Line, word: Word) -> Option<&[u8]>
+/// The characters after a word.
+fn quoted_of(line: &Line, word: Keyword) -> Option<&[u8]>
     ensures { MatchOption result ((xs : List ℕ) → quoted_line word xs ≡ line.now → ⊥) (λ xs. quoted_line word xs.now ≡ line.now) }
 {
     if line.word != word {
@@ -74,8 +74,8 @@ fn quoted_of(line: &Line, word: Word) -> Option<&[u8]>
     }
 }
 
-/// The only number behind a word, where it is not too large.
-pub fn one_number(line: &Line, word: Word, most: u32) -> Option<u32>
+/// The only number after a word, where it is not too large.
+pub fn one_number(line: &Line, word: Keyword, most: u32) -> Option<u32>
     ensures { MatchOption result ((n : ℕ) → n ≤ most → numbers_line word (n ∷ []) ≡ line.now → ⊥) (λ n. (n ≤ most) × (numbers_line word (n ∷ []) ≡ line.now)) }
 {
     let Some(numbers) = numbers_of(line, word) else {
@@ -87,8 +87,8 @@ pub fn one_number(line: &Line, word: Word, most: u32) -> Option<u32>
     Some(numbers[0])
 }
 
-/// The two numbers behind a word, where they are within bounds.
-pub fn two_numbers(line: &Line, word: Word, least: u32, most: u32) -> Option<(u8, u32)>
+/// The two numbers after a word, where they are within bounds.
+pub fn two_numbers(line: &Line, word: Keyword, least: u32, most: u32) -> Option<(u8, u32)>
     ensures { MatchOption result
         ((m n : ℕ) → m < 256 → least ≤ n → n ≤ most → numbers_line word (m ∷ n ∷ []) ≡ line.now → ⊥)
         (λ r. (least ≤ r.1) × (r.1 ≤ most) × (numbers_line word (r.0 ∷ r.1 ∷ []) ≡ line.now)) }
@@ -102,8 +102,8 @@ pub fn two_numbers(line: &Line, word: Word, least: u32, most: u32) -> Option<(u8
     Some((numbers[0] as u8, numbers[1]))
 }
 
-/// The only byte behind a word.
-pub fn one_byte(line: &Line, word: Word) -> Option<u8>
+/// The only byte after a word.
+pub fn one_byte(line: &Line, word: Keyword) -> Option<u8>
     ensures { MatchOption result ((b : ℕ) → bytes_line word (b ∷ []) ≡ line.now → ⊥) (λ b. bytes_line word (b ∷ []) ≡ line.now) }
 {
     let Some(bytes) = bytes_of(line, word) else {
@@ -115,8 +115,8 @@ pub fn one_byte(line: &Line, word: Word) -> Option<u8>
     Some(bytes[0])
 }
 
-/// The three bytes behind a word.
-pub fn three_bytes(line: &Line, word: Word) -> Option<[u8; 3]>
+/// The three bytes after a word.
+pub fn three_bytes(line: &Line, word: Keyword) -> Option<[u8; 3]>
     ensures { MatchOption result ((bs : List ℕ) → length bs ≡ 3 → bytes_line word bs ≡ line.now → ⊥) (λ bs. (bytes_line word bs ≡ line.now) × IsTrue (are_bytes bs)) }
 {
     let Some(bytes) = bytes_of(line, word) else {
@@ -128,11 +128,11 @@ pub fn three_bytes(line: &Line, word: Word) -> Option<[u8; 3]>
     Some(array_from(bytes))
 }
 
-/// The revision that a line tells.
+/// The revision that a line gives.
 pub fn revision_of(line: &Line) -> Option<Revision>
-    ensures { MatchOption result ((r : RevisionValue) → letters_line Word.Edid (revision_letters r) ≡ line.now → ⊥) (λ r. letters_line Word.Edid (revision_letters r) ≡ line.now) }
+    ensures { MatchOption result ((r : RevisionValue) → letters_line Keyword.Edid (revision_letters r) ≡ line.now → ⊥) (λ r. letters_line Keyword.Edid (revision_letters r) ≡ line.now) }
 {
-    let Some(letters) = letters_of(line, Word::Edid) else {
+    let Some(letters) = letters_of(line, Keyword::Edid) else {
         return None;
     };
     if letters == b"1.3".as_slice() {
@@ -144,53 +144,53 @@ pub fn revision_of(line: &Line) -> Option<Revision>
     }
 }
 
-/// The maker that a line tells.
+/// The maker that a line gives.
 pub fn maker_of(line: &Line) -> Option<Maker>
     ensures { MatchOption result
-        ((m : MakerValue) → letters_line Word.Maker (maker_letters m) ≡ line.now → ⊥)
-        (λ m. letters_line Word.Maker (maker_letters m) ≡ line.now) }
+        ((m : MakerValue) → letters_line Keyword.Maker (maker_letters m) ≡ line.now → ⊥)
+        (λ m. letters_line Keyword.Maker (maker_letters m) ≡ line.now) }
 {
-    let Some(letters) = letters_of(line, Word::Maker) else {
+    let Some(letters) = letters_of(line, Keyword::Maker) else {
         return None;
     };
     Maker::new(letters)
 }
 
-/// The chromaticities that a line tells.
+/// The chromaticities that a line gives.
 pub fn chroma_of(line: &Line) -> Option<Chroma>
-    ensures { MatchOption result ((c : ChromaValue) → numbers_line Word.Chroma (chroma_numbers c) ≡ line.now → ⊥) (λ c. numbers_line Word.Chroma (chroma_numbers c) ≡ line.now) }
+    ensures { MatchOption result ((c : ChromaValue) → numbers_line Keyword.Chroma (chroma_numbers c) ≡ line.now → ⊥) (λ c. numbers_line Keyword.Chroma (chroma_numbers c) ≡ line.now) }
 {
-    let Some(numbers) = numbers_of(line, Word::Chroma) else {
+    let Some(numbers) = numbers_of(line, Keyword::Chroma) else {
         return None;
     };
     Chroma::new(numbers)
 }
 
-/// The standard timing that a line tells, or that one is unused.
-pub fn standard_of(line: &Line) -> Option<Option<Standard>>
+/// The standard timing that a line gives, or that one is unused.
+pub fn standard_of(line: &Line) -> Option<Option<StandardTiming>>
     ensures { MatchOption result ((s : Option StandardValue) → standard_line s ≡ line.now → ⊥) (λ s. standard_line s ≡ line.now) }
 {
-    if let Some(letters) = letters_of(line, Word::Standard) {
+    if let Some(letters) = letters_of(line, Keyword::Standard) {
         return if letters == b"unused".as_slice() {
             Some(None)
         } else {
             None
         };
     }
-    let Some(numbers) = numbers_of(line, Word::Standard) else {
+    let Some(numbers) = numbers_of(line, Keyword::Standard) else {
         return None;
     };
-    match Standard::new(numbers) {
+    match StandardTiming::new(numbers) {
         None => None,
         Some(standard) => Some(Some(standard)),
     }
 }
 
-/// The detailed timing that a line tells.
+/// The detailed timing that a line gives.
 pub fn timing_of(line: &Line) -> Option<Timing>
     ensures { MatchOption result ((t : TimingValue) → timing_line t ≡ line.now → ⊥) (λ t. timing_line t ≡ line.now) }
 {
-    if line.word != Word::Timing {
+    if line.word != Keyword::Timing {
         return None;
     }
     match &line.fields {
@@ -199,8 +199,8 @@ pub fn timing_of(line: &Line) -> Option<Timing>
     }
 }
 
-/// The text of a descriptor that a line tells.
-fn text_of(line: &Line, word: Word) -> Option<Text>
+/// The text of a descriptor that a line gives.
+fn text_of(line: &Line, word: Keyword) -> Option<Text>
     ensures { MatchOption result ((t : TextValue) → quoted_line word t.chars.items ≡ line.now → ⊥) (λ t. quoted_line word t.chars.items ≡ line.now) }
 {
     let Some(chars) = quoted_of(line, word) else {
@@ -228,11 +228,11 @@ fn limits_from(bytes: &[u8]) -> RangeLimits
     }
 }
 
-/// The range limits that a line tells.
+/// The range limits that a line gives.
 fn range_of(line: &Line) -> Option<RangeLimits>
-    ensures { MatchOption result ((r : RangeValue) → bytes_line Word.Range r.bytes ≡ line.now → ⊥) (λ r. bytes_line Word.Range r.bytes ≡ line.now) }
+    ensures { MatchOption result ((r : RangeValue) → bytes_line Keyword.Range r.bytes ≡ line.now → ⊥) (λ r. bytes_line Keyword.Range r.bytes ≡ line.now) }
 {
-    let Some(bytes) = bytes_of(line, Word::Range) else {
+    let Some(bytes) = bytes_of(line, Keyword::Range) else {
         return None;
     };
     if bytes.len() != 14 {
@@ -241,11 +241,11 @@ fn range_of(line: &Line) -> Option<RangeLimits>
     Some(limits_from(bytes))
 }
 
-/// The descriptor of no known form that a line tells.
+/// The descriptor of no known form that a line gives.
 fn raw_of(line: &Line) -> Option<RawDescriptor>
-    ensures { MatchOption result ((r : RawValue) → bytes_line Word.Raw r.bytes ≡ line.now → ⊥) (λ r. bytes_line Word.Raw r.bytes ≡ line.now) }
+    ensures { MatchOption result ((r : RawValue) → bytes_line Keyword.Raw r.bytes ≡ line.now → ⊥) (λ r. bytes_line Keyword.Raw r.bytes ≡ line.now) }
 {
-    let Some(bytes) = bytes_of(line, Word::Raw) else {
+    let Some(bytes) = bytes_of(line, Keyword::Raw) else {
         return None;
     };
     if bytes.len() != 18 {
@@ -261,23 +261,23 @@ fn raw_of(line: &Line) -> Option<RawDescriptor>
 fn is_dummy(line: &Line) -> bool
     ensures { MatchBool result (descriptor_line Descriptor.Dummy ≡ line.now) (descriptor_line Descriptor.Dummy ≡ line.now → ⊥) }
 {
-    line.word == Word::Dummy && matches!(&line.fields, Fields::Nothing)
+    line.word == Keyword::Dummy && matches!(&line.fields, Fields::Nothing)
 }
 
-/// The descriptor that a line tells.
+/// The descriptor that a line gives.
 pub fn descriptor_of(line: &Line) -> Option<Descriptor>
     ensures { MatchOption result ((d : DescriptorValue) → descriptor_line d ≡ line.now → ⊥) (λ d. descriptor_line d ≡ line.now) }
 {
     if let Some(timing) = timing_of(line) {
         return Some(Descriptor::Timing(timing));
     }
-    if let Some(text) = text_of(line, Word::Name) {
+    if let Some(text) = text_of(line, Keyword::Name) {
         return Some(Descriptor::Name(text));
     }
-    if let Some(text) = text_of(line, Word::Text) {
+    if let Some(text) = text_of(line, Keyword::Text) {
         return Some(Descriptor::Text(text));
     }
-    if let Some(text) = text_of(line, Word::SerialText) {
+    if let Some(text) = text_of(line, Keyword::SerialText) {
         return Some(Descriptor::SerialText(text));
     }
     if let Some(limits) = range_of(line) {
@@ -293,18 +293,18 @@ pub fn descriptor_of(line: &Line) -> Option<Descriptor>
 }
 
 /// The kind of data block that a word names.
-pub fn kind_of(word: Word) -> Option<BlockKind>
+pub fn kind_of(word: Keyword) -> Option<BlockKind>
     ensures { MatchOption result ((k : KindValue) → kind_word k ≡ word → ⊥) (λ k. kind_word k ≡ word) }
 {
     match word {
-        Word::Tag0 => Some(BlockKind::Tag0),
-        Word::Audio => Some(BlockKind::Audio),
-        Word::Video => Some(BlockKind::Video),
-        Word::Vendor => Some(BlockKind::Vendor),
-        Word::Speakers => Some(BlockKind::Speakers),
-        Word::Tag5 => Some(BlockKind::Tag5),
-        Word::Tag6 => Some(BlockKind::Tag6),
-        Word::Extended => Some(BlockKind::Extended),
+        Keyword::Tag0 => Some(BlockKind::Tag0),
+        Keyword::Audio => Some(BlockKind::Audio),
+        Keyword::Video => Some(BlockKind::Video),
+        Keyword::Vendor => Some(BlockKind::Vendor),
+        Keyword::Speakers => Some(BlockKind::Speakers),
+        Keyword::Tag5 => Some(BlockKind::Tag5),
+        Keyword::Tag6 => Some(BlockKind::Tag6),
+        Keyword::Extended => Some(BlockKind::Extended),
         _ => None,
     }
 }

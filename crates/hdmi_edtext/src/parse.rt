@@ -5,8 +5,8 @@ ghost use Rattle.hdmi_edtext.specs.Cut.{lines_with_feeds};
 ghost use Rattle.hdmi_blocks.specs.declared.edid.Edid.{Edid as EdidValue};
 ghost use Rattle.hdmi_edtext.specs.Refusal.{IsRefusal, IsFaultAt};
 
-use crate::draft::Draft;
-use crate::place::Place;
+use crate::draft::EdidDraft;
+use crate::place::NextLine;
 use crate::standing::may_stand;
 use hdmi_blocks::Edid;
 use hdmi_lines::read_line;
@@ -28,7 +28,7 @@ pub enum TextError {
 }
 
 /// The fault of a line that no accepted text has here.
-fn fault(place: Place, line: &[u8], number: usize) -> TextError
+fn fault(place: NextLine, line: &[u8], number: usize) -> TextError
     ensures { IsFaultAt place line.now number result }
 {
     if may_stand(place, line) {
@@ -45,7 +45,7 @@ fn end_of(text: &[u8]) -> Option<usize>
     text.iter().position(|byte| *byte == b'\n')
 }
 
-/// The first line with its line feed, if it has one, and the text behind it. An empty text has none.
+/// The first line with its line feed, if it has one, and the text after it. An empty text has none.
 fn first_line(text: &[u8]) -> Option<(&[u8], &[u8])>
     ensures lines { MatchOption result (lines_with_feeds text.now ≡ []) (λ p. lines_with_feeds text.now ≡ p.0.now ∷ lines_with_feeds p.1.now) }
     ensures shorter { IfSome result (λ p. length p.1.now < length text.now) }
@@ -59,14 +59,14 @@ fn first_line(text: &[u8]) -> Option<(&[u8], &[u8])>
     }
 }
 
-/// The EDID that a text tells, or the first line at fault. A text that ends too early is at fault on
-/// the line behind its last.
+/// The EDID that a text gives, or the first line at fault. A text that ends too early is at fault on
+/// the line after its last.
 pub fn parse_text(_alloc: Global, text: &[u8]) -> Result<Edid, TextError>
     ensures found { IfOk result (λ e. edid_text e ≡ text.now) }
     ensures only { (e : EdidValue) → text.now ≡ edid_text e → result ≡ Ok e }
     ensures refused { IfErr result (λ e. IsRefusal (lines_with_feeds text.now) e) }
 {
-    let mut draft = Draft::new();
+    let mut draft = EdidDraft::new();
     let mut rest = text;
     let mut number = 1;
     while let Some((line, more)) = first_line(rest) {

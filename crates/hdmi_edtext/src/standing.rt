@@ -2,11 +2,11 @@
 ghost use Rattle.std.specs.Prelude.{◌≡◌, ◌+◌, ◌-◌, ◌<◌, ◌≤◌, ◌^◌, Some, true, IfSome, MatchBool, length};
 ghost use Rattle.hdmi_edtext.specs.Refusal.{first_word, word_count, MayStand};
 ghost use Rattle.hdmi_lines.specs.Text.{word_text};
-ghost use Rattle.hdmi_lines.specs.declared.line.Word.{Word as WordValue};
+ghost use Rattle.hdmi_lines.specs.declared.line.Keyword.{Keyword as WordValue};
 
-use crate::place::{Place, has_words, may_begin};
-use cec_words::spaces_unquoted;
-use hdmi_lines::{Word, space_in, word_of};
+use crate::place::{NextLine, has_words, may_begin};
+use hdmi_core::spaces_unquoted;
+use hdmi_lines::{Keyword, space_in, word_of};
 
 /// What stands before the first space.
 fn first_word(front: &[u8]) -> &[u8]
@@ -19,14 +19,14 @@ fn first_word(front: &[u8]) -> &[u8]
 }
 
 /// The first word of a line.
-fn read_word(front: &[u8]) -> Option<Word>
+fn read_word(front: &[u8]) -> Option<Keyword>
     ensures found { IfSome result (λ w. word_text w ≡ first_word front.now) }
     ensures only { (w : WordValue) → word_text w ≡ first_word front.now → result ≡ Some w }
 {
     word_of(first_word(front))
 }
 
-/// How many words a line has. A quote and all behind it are one.
+/// How many words a line has. A quote and all after it are one.
 fn count_words(front: &[u8]) -> usize
     requires { length front.now + 1 < 2 ^ 64 }
     ensures { result ≡ word_count front.now }
@@ -35,7 +35,7 @@ fn count_words(front: &[u8]) -> usize
 }
 
 /// Whether an accepted text can have a line here with the same first word and as many words.
-pub fn may_stand(place: Place, line: &[u8]) -> bool
+pub fn may_stand(place: NextLine, line: &[u8]) -> bool
     ensures { MatchBool result (MayStand place line.now) (MayStand place line.now → ⊥) }
 {
     if line.is_empty() || line[line.len() - 1] != b'\n' {

@@ -1,15 +1,15 @@
 //! The tail of an extension.
 ghost use Rattle.std.specs.Prelude.{◌≡◌, ◌≤◌, length, true, false, MatchOption};
 ghost use Rattle.hdmi_cta.specs.Cta.{is_tail};
-ghost use Rattle.hdmi_edtext.specs.Tails.{padded, is_trimmed, fills, ends};
+ghost use Rattle.hdmi_edtext.specs.Tails.{padded_bytes, is_trimmed, fills, ends};
 
 use arrayvec::ArrayVec;
 
-/// The bytes, and zeros behind them.
-fn padded(bytes: &[u8], left: usize) -> ArrayVec<u8, 123>
+/// The bytes, and zeros after them.
+fn padded_bytes(bytes: &[u8], left: usize) -> ArrayVec<u8, 123>
     requires fit { length bytes.now ≤ left }
     requires most { left ≤ 123 }
-    ensures { result.items ≡ padded left bytes.now }
+    ensures { result.items ≡ padded_bytes left bytes.now }
 {
     let mut tail = ArrayVec::new();
     let _ = tail.try_extend_from_slice(bytes);
@@ -35,18 +35,18 @@ fn is_trimmed(bytes: &[u8]) -> bool
 /// These bytes with zeros, where a text has them so and they are not too many.
 pub fn filled(left: usize, bytes: &[u8]) -> Option<ArrayVec<u8, 123>>
     requires { left ≤ 123 }
-    ensures { MatchOption result (fills left bytes.now ≡ false) (λ t. (fills left bytes.now ≡ true) × (t.items ≡ padded left bytes.now)) }
+    ensures { MatchOption result (fills left bytes.now ≡ false) (λ t. (fills left bytes.now ≡ true) × (t.items ≡ padded_bytes left bytes.now)) }
 {
     if bytes.len() > left || !is_trimmed(bytes) {
         return None;
     }
-    Some(padded(bytes, left))
+    Some(padded_bytes(bytes, left))
 }
 
 /// The tail that these bytes and zeros are, where they can be one.
 pub fn tail_of(left: usize, bytes: &[u8]) -> Option<ArrayVec<u8, 123>>
     requires { left ≤ 123 }
-    ensures { MatchOption result (ends left bytes.now ≡ false) (λ t. (ends left bytes.now ≡ true) × (t.items ≡ padded left bytes.now)) }
+    ensures { MatchOption result (ends left bytes.now ≡ false) (λ t. (ends left bytes.now ≡ true) × (t.items ≡ padded_bytes left bytes.now)) }
 {
     let Some(tail) = filled(left, bytes) else {
         return None;

@@ -1,14 +1,14 @@
 //! The lines of an EDID's text.
 ghost use Rattle.std.specs.Prelude.{◌≡◌, ◌≤◌, ◌<◌, ◌+◌, ◌∷◌, [], Option, Some, None, length, take, slice_get, flat_map};
-ghost use Rattle.hdmi_edtext.specs.Lines.{letters_line, numbers_line, bytes_line, quoted_line, revision_letters, standard_line, timing_line, descriptor_line, head_lines, base_lines, kind_word, block_line, trimmed, tail_line, cta_lines, bare_lines, ext_lines, part_lines};
+ghost use Rattle.hdmi_edtext.specs.Lines.{letters_line, numbers_line, bytes_line, quoted_line, revision_letters, standard_line, timing_line, descriptor_line, head_lines, base_lines, kind_word, block_line, bytes_without_zeros, tail_line, cta_lines, bare_lines, ext_lines, part_lines};
 
 use arrayvec::ArrayVec;
 use hdmi_core::Phys;
-use hdmi_cta::{Bare, Block, BlockKind, Cta, Ext, has_identifier};
-use hdmi_edid::{Base, Descriptor, Revision, Standard, Text, Timing};
-use hdmi_lines::{Fields, Line, Word};
+use hdmi_cta::{Bare, BlockKind, Cta, DataBlock, Ext, has_identifier};
+use hdmi_edid::{Base, Descriptor, Revision, StandardTiming, Text, Timing};
+use hdmi_lines::{Fields, Keyword, Line};
 
-fn letters_line(word: Word, letters: &[u8]) -> Line
+fn letters_line(word: Keyword, letters: &[u8]) -> Line
     requires { length letters.now ≤ 8 }
     ensures { result ≡ letters_line word letters.now }
 {
@@ -20,7 +20,7 @@ fn letters_line(word: Word, letters: &[u8]) -> Line
     }
 }
 
-fn numbers_line(word: Word, numbers: &[u32]) -> Line
+fn numbers_line(word: Keyword, numbers: &[u32]) -> Line
     requires { length numbers.now ≤ 13 }
     ensures { result ≡ numbers_line word numbers.now }
 {
@@ -32,7 +32,7 @@ fn numbers_line(word: Word, numbers: &[u32]) -> Line
     }
 }
 
-fn bytes_line(word: Word, bytes: &[u8]) -> Line
+fn bytes_line(word: Keyword, bytes: &[u8]) -> Line
     requires { length bytes.now ≤ 128 }
     ensures { result ≡ bytes_line word bytes.now }
 {
@@ -44,7 +44,7 @@ fn bytes_line(word: Word, bytes: &[u8]) -> Line
     }
 }
 
-fn quoted_line(word: Word, text: &Text) -> Line
+fn quoted_line(word: Keyword, text: &Text) -> Line
     ensures { result ≡ quoted_line word text.now.chars.items }
 {
     let mut field = ArrayVec::new();
@@ -70,29 +70,32 @@ fn head_line(base: &Base, number: usize) -> Line
     ensures { slice_get (head_lines base.now) number ≡ Some result }
 {
     match number {
-        0 => letters_line(Word::Edid, revision_letters(base.revision)),
+        0 => letters_line(Keyword::Edid, revision_letters(base.revision)),
         1 => letters_line(
-            Word::Maker,
+            Keyword::Maker,
             &[base.maker.first, base.maker.second, base.maker.third],
         ),
-        2 => numbers_line(Word::Product, &[u32::from(base.product)]),
-        3 => numbers_line(Word::Serial, &[base.serial]),
-        4 => numbers_line(Word::Made, &[u32::from(base.week), u32::from(base.year)]),
-        5 => bytes_line(Word::Input, &[base.input]),
-        6 => numbers_line(Word::Size, &[u32::from(base.width), u32::from(base.height)]),
-        7 => numbers_line(Word::Gamma, &[u32::from(base.gamma)]),
-        8 => bytes_line(Word::Features, &[base.features]),
-        9 => numbers_line(Word::Chroma, &base.chroma.numbers()),
-        _ => bytes_line(Word::Established, &base.established),
+        2 => numbers_line(Keyword::Product, &[u32::from(base.product)]),
+        3 => numbers_line(Keyword::Serial, &[base.serial]),
+        4 => numbers_line(Keyword::Made, &[u32::from(base.week), u32::from(base.year)]),
+        5 => bytes_line(Keyword::Input, &[base.input]),
+        6 => numbers_line(
+            Keyword::Size,
+            &[u32::from(base.width), u32::from(base.height)],
+        ),
+        7 => numbers_line(Keyword::Gamma, &[u32::from(base.gamma)]),
+        8 => bytes_line(Keyword::Features, &[base.features]),
+        9 => numbers_line(Keyword::Chroma, &base.chroma.numbers()),
+        _ => bytes_line(Keyword::Established, &base.established),
     }
 }
 
-fn standard_line(standard: Option<Standard>) -> Line
+fn standard_line(standard: Option<StandardTiming>) -> Line
     ensures { result ≡ standard_line standard }
 {
     match standard {
-        None => letters_line(Word::Standard, b"unused"),
-        Some(timing) => numbers_line(Word::Standard, &timing.numbers()),
+        None => letters_line(Keyword::Standard, b"unused"),
+        Some(timing) => numbers_line(Keyword::Standard, &timing.numbers()),
     }
 }
 
@@ -102,7 +105,7 @@ fn timing_line(timing: &Timing) -> Line
     let mut numbers = ArrayVec::new();
     let _ = numbers.try_extend_from_slice(&timing.numbers());
     Line {
-        word: Word::Timing,
+        word: Keyword::Timing,
         fields: Fields::Timed(numbers, timing.flags),
     }
 }
@@ -112,15 +115,15 @@ fn descriptor_line(descriptor: &Descriptor) -> Line
 {
     match descriptor {
         Descriptor::Timing(timing) => timing_line(timing),
-        Descriptor::Name(text) => quoted_line(Word::Name, text),
-        Descriptor::Text(text) => quoted_line(Word::Text, text),
-        Descriptor::SerialText(text) => quoted_line(Word::SerialText, text),
-        Descriptor::Range(limits) => bytes_line(Word::Range, &limits.bytes),
+        Descriptor::Name(text) => quoted_line(Keyword::Name, text),
+        Descriptor::Text(text) => quoted_line(Keyword::Text, text),
+        Descriptor::SerialText(text) => quoted_line(Keyword::SerialText, text),
+        Descriptor::Range(limits) => bytes_line(Keyword::Range, &limits.bytes),
         Descriptor::Dummy => Line {
-            word: Word::Dummy,
+            word: Keyword::Dummy,
             fields: Fields::Nothing,
         },
-        Descriptor::Raw(raw) => bytes_line(Word::Raw, &raw.bytes),
+        Descriptor::Raw(raw) => bytes_line(Keyword::Raw, &raw.bytes),
     }
 }
 
@@ -138,22 +141,22 @@ fn base_line(base: &Base, number: usize) -> Line
     }
 }
 
-fn kind_word(kind: BlockKind) -> Word
+fn kind_word(kind: BlockKind) -> Keyword
     ensures { result ≡ kind_word kind }
 {
     match kind {
-        BlockKind::Tag0 => Word::Tag0,
-        BlockKind::Audio => Word::Audio,
-        BlockKind::Video => Word::Video,
-        BlockKind::Vendor => Word::Vendor,
-        BlockKind::Speakers => Word::Speakers,
-        BlockKind::Tag5 => Word::Tag5,
-        BlockKind::Tag6 => Word::Tag6,
-        BlockKind::Extended => Word::Extended,
+        BlockKind::Tag0 => Keyword::Tag0,
+        BlockKind::Audio => Keyword::Audio,
+        BlockKind::Video => Keyword::Video,
+        BlockKind::Vendor => Keyword::Vendor,
+        BlockKind::Speakers => Keyword::Speakers,
+        BlockKind::Tag5 => Keyword::Tag5,
+        BlockKind::Tag6 => Keyword::Tag6,
+        BlockKind::Extended => Keyword::Extended,
     }
 }
 
-fn block_line(block: &Block) -> Line
+fn block_line(block: &DataBlock) -> Line
     ensures { result ≡ block_line block.now }
 {
     let payload = block.payload.as_slice();
@@ -167,7 +170,7 @@ fn block_line(block: &Block) -> Line
         low: payload[4],
     };
     Line {
-        word: Word::Hdmi,
+        word: Keyword::Hdmi,
         fields: Fields::Address(phys, field),
     }
 }
@@ -175,7 +178,7 @@ fn block_line(block: &Block) -> Line
 /// How long the bytes are without their trailing zeros.
 fn trimmed_len(bytes: &[u8]) -> usize
     ensures within { result ≤ length bytes.now }
-    ensures front { take result bytes.now ≡ trimmed bytes.now }
+    ensures front { take result bytes.now ≡ bytes_without_zeros bytes.now }
 {
     let mut len = 0;
     for (i, byte) in bytes.iter().enumerate() {
@@ -190,14 +193,14 @@ fn tail_line(bytes: &[u8]) -> Line
     requires { length bytes.now ≤ 123 }
     ensures { result ≡ tail_line bytes.now }
 {
-    bytes_line(Word::Tail, &bytes[..trimmed_len(bytes)])
+    bytes_line(Keyword::Tail, &bytes[..trimmed_len(bytes)])
 }
 
 fn cta_line(cta: &Cta, number: usize) -> Option<Line>
     ensures { slice_get (cta_lines cta.now) number ≡ result }
 {
     if number == 0 {
-        return Some(bytes_line(Word::Cta, &[cta.flags]));
+        return Some(bytes_line(Keyword::Cta, &[cta.flags]));
     }
     let blocks = cta.blocks.as_slice();
     let number = number - 1;
@@ -219,7 +222,7 @@ fn bare_line(bare: &Bare, number: usize) -> Option<Line>
     ensures { slice_get (bare_lines bare.now) number ≡ result }
 {
     match number {
-        0 => Some(bytes_line(Word::CtaNone, &[bare.flags])),
+        0 => Some(bytes_line(Keyword::CtaNone, &[bare.flags])),
         1 => Some(tail_line(&bare.tail)),
         _ => None,
     }
@@ -231,7 +234,7 @@ fn ext_line(ext: &Ext, number: usize) -> Option<Line>
     match ext {
         Ext::Cta(cta) => cta_line(cta, number),
         Ext::Bare(bare) => bare_line(bare, number),
-        Ext::Raw(raw) if number == 0 => Some(bytes_line(Word::Ext, &raw.bytes)),
+        Ext::Raw(raw) if number == 0 => Some(bytes_line(Keyword::Ext, &raw.bytes)),
         Ext::Raw(_) => None,
     }
 }
@@ -262,7 +265,7 @@ fn line_in(extensions: &[Ext], number: usize) -> Option<Line>
     None
 }
 
-/// The line with this number, from 0, of the text of a base block and the extensions behind it.
+/// The line with this number, from 0, of the text of a base block and the extensions after it.
 pub fn line_at(base: &Base, extensions: &[Ext], number: usize) -> Option<Line>
     ensures { slice_get (part_lines base.now extensions.now) number ≡ result }
 {

@@ -11,7 +11,7 @@ use hdmi_core::{Sink, WriteFault, put_all};
 use hdmi_cta::Ext;
 use hdmi_edid::Base;
 
-/// Writes the text of a base block and the extensions behind it line by line, as `write_text` writes that of an EDID of
+/// Writes the text of a base block and the extensions after it line by line, as `write_text` writes that of an EDID of
 /// these parts (E-EDID Release A, section 2.2.1). After a fault the front of the text is written, as long as the fault's
 /// count says, and the sink is stuck.
 pub fn write_parts<S: Sink>(

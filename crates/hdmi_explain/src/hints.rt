@@ -46,7 +46,7 @@ fn overrun_from(number: u8, extensions: &[Ext]) -> Option<u8>
 }
 
 /// The number, from 1, of the first extension that is a CTA block of revision 3 and is kept as it is: its data blocks do not end
-/// where its third byte tells, or its timings overrun (CTA-861-D, section 7.5). No HDMI block is found in it then.
+/// where its third byte says, or its timings overrun (CTA-861-D, section 7.5). No HDMI block is found in it then.
 pub fn first_overrun(extensions: &[Ext]) -> Option<u8>
     requires { length extensions.now ≤ 3 }
     ensures { result ≡ overrun_from 1 extensions.now }

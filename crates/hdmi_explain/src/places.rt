@@ -1,6 +1,6 @@
 //! Descriptors, standard timings and data blocks at fault: which they are, and what stands in them.
-use hdmi_cta::{Block, BlockKind, Ext};
-use hdmi_edid::{Base, Standard, are_zeros};
+use hdmi_cta::{BlockKind, DataBlock, Ext};
+use hdmi_edid::{Base, StandardTiming, are_zeros};
 use hdmi_parts::some_ill_padding;
 use std::alloc::{AllocError, Global};
 
@@ -13,7 +13,7 @@ const UNUSED_WIDTH: u16 = 256;
 /// The bytes of a speaker block.
 const SPEAKER_BYTES: usize = 3;
 
-fn blocks_of(ext: &Ext) -> &[Block] {
+fn blocks_of(ext: &Ext) -> &[DataBlock] {
     match ext {
         Ext::Cta(cta) => cta.blocks.as_slice(),
         Ext::Bare(_) | Ext::Raw(_) => &[],
@@ -33,7 +33,7 @@ pub fn empty_told(alloc: Global, base: &Base) -> Result<Option<String>, AllocErr
     Ok(None)
 }
 
-fn is_ill_unused(standard: Option<Standard>) -> bool {
+fn is_ill_unused(standard: Option<StandardTiming>) -> bool {
     match standard {
         None => false,
         Some(timing) => timing.width <= UNUSED_WIDTH,
@@ -46,7 +46,7 @@ pub fn unused_told(alloc: Global, base: &Base) -> Result<Option<String>, AllocEr
     for standard in &base.standard {
         number = number.saturating_add(1);
         if is_ill_unused(*standard) {
-            let [first, second] = Standard::write(*standard);
+            let [first, second] = StandardTiming::write(*standard);
             return Ok(Some(format!(in alloc;
                 "standard timing {number} is {first:02x} {second:02x}"
             )?));
@@ -81,7 +81,7 @@ pub fn speakers_told(alloc: Global, extensions: &[Ext]) -> Result<Option<String>
 }
 
 /// The byte of a video capability block after which the range of RGB values can't be chosen.
-fn fixed_range(block: &Block) -> Option<u8> {
+fn fixed_range(block: &DataBlock) -> Option<u8> {
     if !matches!(block.kind, BlockKind::Extended) {
         return None;
     }
@@ -103,7 +103,7 @@ pub fn capability_told(alloc: Global, extensions: &[Ext]) -> Result<Option<Strin
 }
 
 /// The clock of an HDMI block in MHz, where it is above that of HDMI 1.4.
-fn fast_clock(block: &Block) -> Option<u16> {
+fn fast_clock(block: &DataBlock) -> Option<u16> {
     if !block.is_hdmi() {
         return None;
     }

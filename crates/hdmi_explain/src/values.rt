@@ -14,7 +14,7 @@ use std::alloc::{AllocError, Global};
 
 /// The clock's units, 10 kHz, that are a MHz.
 const UNITS_A_MHZ: u16 = 100;
-/// Flags from here on tell that a picture is two fields.
+/// Flags from here on say that a picture is two fields.
 const INTERLACED: u8 = 128;
 
 /// The physical address in the first HDMI block.

@@ -1,6 +1,6 @@
 -- What video capability, colorimetry and HDR blocks mean (CTA-861-G, sections 7.5.5, 7.5.6 and 7.5.13), of the bytes after the extended tag.
 use Rattle.std.specs.Prelude.{ℕ, ◌/◌, ◌%◌, ◌==◌, if◌then◌else◌, List, [], ◌∷◌, ◌++◌, drop, slice_index, codes}
-use Rattle.hdmi_meaning.specs.Notes.{Row, row, below, between, set_words, rest_words}
+use Rattle.hdmi_meaning.specs.Notes.{Row, row, below, text_between, set_words, rest_words}
 use Rattle.hdmi_extended.specs.Luminance.{luminance}
 
 -- ---- video capability: quantization ranges that can be chosen, and how pictures are scanned
@@ -68,11 +68,11 @@ metadata_rows = row 1 (codes "static metadata type 1") ∷ []
 
 -- a luminance of content by its code, where it is told of
 abbrev pub luminance_words : List ℕ → ℕ → List ℕ
-luminance_words name code = if code == 0 then [] else between name (luminance code) (codes " cd/m2")
+luminance_words name code = if code == 0 then [] else text_between name (luminance code) (codes " cd/m2")
 
 -- the least luminance is the greatest one times the square of code / 255, a hundredth of it
 abbrev pub least_words : ℕ → List ℕ
-least_words code = if code == 0 then [] else between (codes ", least luminance by code ") code []
+least_words code = if code == 0 then [] else text_between (codes ", least luminance by code ") code []
 
 -- bytes 3 to 5, as far as they are there, and what is left
 abbrev pub content_words : List ℕ → List ℕ

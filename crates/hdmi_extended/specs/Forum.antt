@@ -1,12 +1,12 @@
 -- What a block of the HDMI Forum means (HDMI 2.1, sections 10.3.2 and 10.3.6), of the bytes from its version on.
 use Rattle.std.specs.Prelude.{ℕ, ◌+◌, ◌*◌, ◌/◌, ◌%◌, ◌==◌, if◌then◌else◌, List, [], ◌∷◌, ◌++◌, drop, slice_index, codes}
-use Rattle.hdmi_meaning.specs.Notes.{Row, row, below, between, set_words, rest_words}
+use Rattle.hdmi_meaning.specs.Notes.{Row, row, below, text_between, set_words, rest_words}
 
 -- ---- the link: bytes 2 to 4
 
--- in units of 5 MHz; 0 tells nothing
+-- in units of 5 MHz; 0 reports nothing
 abbrev pub clock_words : ℕ → List ℕ
-clock_words clock = if clock == 0 then [] else between (codes ", TMDS up to ") (5 * clock) (codes " MHz")
+clock_words clock = if clock == 0 then [] else text_between (codes ", TMDS up to ") (5 * clock) (codes " MHz")
 
 abbrev pub link_rows : List Row
 link_rows =
@@ -44,7 +44,7 @@ fixed_words b = rate_words (b / 16) ++ set_words depth_rows b
 
 abbrev pub link_words : List ℕ → List ℕ
 link_words p =
-    between (codes ", HDMI Forum version ") (slice_index p 0) [] ++
+    text_between (codes ", HDMI Forum version ") (slice_index p 0) [] ++
     (clock_words (slice_index p 1) ++ (set_words link_rows (slice_index p 2) ++ fixed_words (slice_index p 3)))
 
 -- ---- what pictures may do: bytes 5 to 8
@@ -62,10 +62,10 @@ picture_rows =
 
 -- the least rate in six bits, and the greatest in ten; 0 stands for none
 abbrev pub greatest_words : ℕ → List ℕ
-greatest_words most = if most == 0 then codes " Hz on" else between (codes " to ") most (codes " Hz")
+greatest_words most = if most == 0 then codes " Hz on" else text_between (codes " to ") most (codes " Hz")
 
 abbrev pub vrr_words : ℕ → ℕ → List ℕ
-vrr_words least most = if least == 0 then [] else between (codes ", VRR from ") least [] ++ greatest_words most
+vrr_words least most = if least == 0 then [] else text_between (codes ", VRR from ") least [] ++ greatest_words most
 
 abbrev pub stream_rows : List Row
 stream_rows =

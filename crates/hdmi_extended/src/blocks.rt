@@ -1,7 +1,7 @@
 //! What an extended block and a vendor block mean.
 ghost use Rattle.std.specs.Prelude.{◌≡◌, ◌≤◌, ◌+◌, ◌*◌, ◌++◌, length, flat_map};
 ghost use Rattle.arrayvec.specs.ArrayVec.{array_vec_len};
-ghost use Rattle.hdmi_meaning.specs.Notes.{indented};
+ghost use Rattle.hdmi_meaning.specs.Notes.{own_line};
 ghost use Rattle.hdmi_extended.specs.Blocks.{extended_meanings, tagged_meanings, vendor_meanings};
 
 use crate::colours::{append_capability, append_colours, append_hdr};
@@ -36,7 +36,7 @@ const HDMI_FORUM: u32 = 0xc45dd8;
 fn append_tagged(page: &mut Page, tag: u8, payload: &[u8])
     requires few { length payload.now ≤ 128 }
     requires room { array_vec_len page.old + 16000 ≤ PAGE }
-    ensures { page.new.items ≡ page.old.items ++ flat_map indented (tagged_meanings tag payload.now) }
+    ensures { page.new.items ≡ page.old.items ++ flat_map own_line (tagged_meanings tag payload.now) }
 {
     match tag {
         VIDEO_CAPABILITY => append_capability(page, payload),
@@ -56,7 +56,7 @@ fn append_tagged(page: &mut Page, tag: u8, payload: &[u8])
 pub fn append_extended(page: &mut Page, bytes: &[u8])
     requires few { length bytes.now ≤ 128 }
     requires room { array_vec_len page.old + 16000 ≤ PAGE }
-    ensures { page.new.items ≡ page.old.items ++ flat_map indented (extended_meanings bytes.now) }
+    ensures { page.new.items ≡ page.old.items ++ flat_map own_line (extended_meanings bytes.now) }
 {
     if !bytes.is_empty() {
         append_tagged(page, byte_at(bytes, 0), behind(bytes, 1));
@@ -67,7 +67,7 @@ pub fn append_extended(page: &mut Page, bytes: &[u8])
 pub fn append_vendor(page: &mut Page, bytes: &[u8])
     requires few { length bytes.now ≤ 128 }
     requires room { array_vec_len page.old + 16000 ≤ PAGE }
-    ensures { page.new.items ≡ page.old.items ++ flat_map indented (vendor_meanings bytes.now) }
+    ensures { page.new.items ≡ page.old.items ++ flat_map own_line (vendor_meanings bytes.now) }
 {
     if identifier(bytes) == HDMI_FORUM {
         append_forum(page, behind(bytes, 3));

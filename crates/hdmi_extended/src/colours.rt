@@ -1,7 +1,7 @@
 //! What video capability, colorimetry and HDR blocks mean.
 ghost use Rattle.std.specs.Prelude.{◌≡◌, ◌≤◌, ◌+◌, ◌*◌, ◌++◌, length, map, flat_map};
 ghost use Rattle.arrayvec.specs.ArrayVec.{array_vec_len};
-ghost use Rattle.hdmi_meaning.specs.Notes.{indented, set_words, spelled};
+ghost use Rattle.hdmi_meaning.specs.Notes.{own_line, set_words, row_in_code};
 ghost use Rattle.hdmi_extended.specs.Colours.{capability_meanings, capability_words, colour_meanings, colour_rows, content_words, curve_rows, gamut_rows, hdr_meanings, hdr_words, least_words, luminance_words, metadata_rows, range_rows, scan_text, scan_words};
 
 use crate::brightness::luminance;
@@ -142,7 +142,7 @@ fn capability_note(bits: u8) -> Note
 pub fn append_capability(page: &mut Page, payload: &[u8])
     requires few { length payload.now ≤ 128 }
     requires room { array_vec_len page.old + 1536 ≤ PAGE }
-    ensures { page.new.items ≡ page.old.items ++ flat_map indented (capability_meanings payload.now) }
+    ensures { page.new.items ≡ page.old.items ++ flat_map own_line (capability_meanings payload.now) }
 {
     let mut words = capability_note(byte_at(payload, 0));
     append_rest(&mut words, behind(payload, 1));
@@ -153,7 +153,7 @@ pub fn append_capability(page: &mut Page, payload: &[u8])
 pub fn append_colours(page: &mut Page, payload: &[u8])
     requires few { length payload.now ≤ 128 }
     requires room { array_vec_len page.old + 1536 ≤ PAGE }
-    ensures { page.new.items ≡ page.old.items ++ flat_map indented (colour_meanings payload.now) }
+    ensures { page.new.items ≡ page.old.items ++ flat_map own_line (colour_meanings payload.now) }
 {
     let mut words: Note = ArrayVec::new();
     append_colour_bits(&mut words, byte_at(payload, 0));
@@ -211,7 +211,7 @@ fn hdr_note(payload: &[u8]) -> Note
 pub fn append_hdr(page: &mut Page, payload: &[u8])
     requires few { length payload.now ≤ 128 }
     requires room { array_vec_len page.old + 1536 ≤ PAGE }
-    ensures { page.new.items ≡ page.old.items ++ flat_map indented (hdr_meanings payload.now) }
+    ensures { page.new.items ≡ page.old.items ++ flat_map own_line (hdr_meanings payload.now) }
 {
     append_words(page, hdr_note(payload).as_slice());
 }

@@ -1,7 +1,7 @@
 //! What a block of the HDMI Forum means.
 ghost use Rattle.std.specs.Prelude.{◌≡◌, ◌≤◌, ◌<◌, ◌+◌, ◌*◌, ◌++◌, length, map, flat_map};
 ghost use Rattle.arrayvec.specs.ArrayVec.{array_vec_len};
-ghost use Rattle.hdmi_meaning.specs.Notes.{indented, set_words, spelled};
+ghost use Rattle.hdmi_meaning.specs.Notes.{own_line, set_words, row_in_code};
 ghost use Rattle.hdmi_extended.specs.Forum.{clock_words, depth_rows, fixed_words, forum_meanings, greatest_words, link_rows, link_words, picture_rows, picture_words, rate_words, stream_rows, vrr_words};
 
 use arrayvec::ArrayVec;
@@ -190,7 +190,7 @@ fn picture_note(payload: &[u8]) -> Note
 pub fn append_forum(page: &mut Page, payload: &[u8])
     requires few { length payload.now ≤ 128 }
     requires room { array_vec_len page.old + 2000 ≤ PAGE }
-    ensures { page.new.items ≡ page.old.items ++ flat_map indented (forum_meanings payload.now) }
+    ensures { page.new.items ≡ page.old.items ++ flat_map own_line (forum_meanings payload.now) }
 {
     append_words(page, link_note(payload).as_slice());
     append_words(page, picture_note(payload).as_slice());

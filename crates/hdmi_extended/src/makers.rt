@@ -1,7 +1,7 @@
 //! Makers by their identifiers.
 ghost use Rattle.std.specs.Prelude.{◌≡◌, ◌≤◌, ◌+◌, ◌++◌, length, flat_map};
 ghost use Rattle.arrayvec.specs.ArrayVec.{array_vec_len};
-ghost use Rattle.hdmi_meaning.specs.Notes.{indented};
+ghost use Rattle.hdmi_meaning.specs.Notes.{own_line};
 ghost use Rattle.hdmi_extended.specs.Makers.{audio_name, identifier, maker_meanings, maker_name, named_meanings, video_name};
 
 use arrayvec::ArrayVec;
@@ -78,7 +78,7 @@ pub fn audio_name(identifier: u32) -> &'static str
 /// Appends the maker of a vendor block, where it is known.
 pub fn append_maker(page: &mut Page, payload: &[u8])
     requires { array_vec_len page.old + 1536 ≤ PAGE }
-    ensures { page.new.items ≡ page.old.items ++ flat_map indented (maker_meanings payload.now) }
+    ensures { page.new.items ≡ page.old.items ++ flat_map own_line (maker_meanings payload.now) }
 {
     append_words(page, maker_name(identifier(payload)).as_bytes());
 }
@@ -88,7 +88,7 @@ pub fn append_named(page: &mut Page, name: &[u8], payload: &[u8])
     requires short { length name.now ≤ 20 }
     requires few { length payload.now ≤ 128 }
     requires room { array_vec_len page.old + 1536 ≤ PAGE }
-    ensures { page.new.items ≡ page.old.items ++ flat_map indented (named_meanings name.now payload.now) }
+    ensures { page.new.items ≡ page.old.items ++ flat_map own_line (named_meanings name.now payload.now) }
 {
     if name.is_empty() {
         return;

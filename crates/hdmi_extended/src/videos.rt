@@ -1,7 +1,7 @@
 //! What the blocks of format preference and of the 4:2:0 capability map mean.
 ghost use Rattle.std.specs.Prelude.{◌≡◌, ◌≤◌, ◌+◌, ◌*◌, ◌++◌, ◌<◌, [], All, codes, length, map, take, flat_map};
 ghost use Rattle.arrayvec.specs.ArrayVec.{array_vec_len};
-ghost use Rattle.hdmi_meaning.specs.Notes.{between, indented};
+ghost use Rattle.hdmi_meaning.specs.Notes.{text_between, own_line};
 ghost use Rattle.hdmi_meaning.specs.Videos.{code_text};
 ghost use Rattle.hdmi_extended.specs.Videos.{is_reserved, map_meanings, map_words, place_word, places, preference_meanings, preference_text, set_places, weights};
 
@@ -26,7 +26,7 @@ fn is_reserved(reference: u8) -> bool
 
 fn append_coded(note: &mut Note, code: u8)
     requires { array_vec_len note.old + 200 ≤ NOTE }
-    ensures items { note.new.items ≡ note.old.items ++ (between [] code (codes ": ") ++ code_text code) }
+    ensures items { note.new.items ≡ note.old.items ++ (text_between [] code (codes ": ") ++ code_text code) }
     ensures len { array_vec_len note.new ≤ array_vec_len note.old + 100 }
 {
     append_between(note, b"", u64::from(code), b": ");
@@ -65,7 +65,7 @@ fn preference_note(reference: u8) -> Note
 /// Appends a line for each preference, the most preferred first (CTA-861-G, section 7.5.12).
 pub fn append_preferences(page: &mut Page, payload: &[u8])
     requires { array_vec_len page.old + 103 * length payload.now ≤ PAGE }
-    ensures { page.new.items ≡ page.old.items ++ flat_map indented (preference_meanings payload.now) }
+    ensures { page.new.items ≡ page.old.items ++ flat_map own_line (preference_meanings payload.now) }
 {
     if let [reference, rest @ ..] = payload {
         append_line(page, preference_note(*reference).as_slice());
@@ -145,7 +145,7 @@ fn map_note(payload: &[u8]) -> Note
 pub fn append_map(page: &mut Page, payload: &[u8])
     requires few { length payload.now ≤ 128 }
     requires room { array_vec_len page.old + 1540 ≤ PAGE }
-    ensures { page.new.items ≡ page.old.items ++ flat_map indented (map_meanings payload.now) }
+    ensures { page.new.items ≡ page.old.items ++ flat_map own_line (map_meanings payload.now) }
 {
     append_words(page, map_note(payload).as_slice());
 }

@@ -8,11 +8,11 @@ use Rattle.hdmi_lines.specs.declared.line.TheConstants.{WORDS}
 use Rattle.hdmi_lines.specs.declared.line.Fields.{Fields}
 use Rattle.hdmi_lines.specs.declared.line.Fields.TheVariants.{Nothing, Letters, Numbers, Timed, Bytes, Address, Quoted}
 use Rattle.hdmi_lines.specs.declared.line.Line.{Line}
-use Rattle.hdmi_lines.specs.declared.line.Word.{Word}
-use Rattle.hdmi_lines.specs.declared.line.Word.TheVariants.{Edid, Maker, Product, Serial, Made, Input, Size, Gamma, Features, Chroma, Established, Standard, Timing, Name, Text, SerialText, Range, Dummy, Raw, Cta, CtaNone, Tag0, Audio, Video, Vendor, Speakers, Tag5, Tag6, Extended, Hdmi, Tail, Ext}
+use Rattle.hdmi_lines.specs.declared.line.Keyword.{Keyword}
+use Rattle.hdmi_lines.specs.declared.line.Keyword.TheVariants.{Edid, Maker, Product, Serial, Made, Input, Size, Gamma, Features, Chroma, Established, Standard, Timing, Name, Text, SerialText, Range, Dummy, Raw, Cta, CtaNone, Tag0, Audio, Video, Vendor, Speakers, Tag5, Tag6, Extended, Hdmi, Tail, Ext}
 use Rattle.hdmi_lines.proofs.Words.{take_front}
 
-abbrev word_at : List ℕ → Word
+abbrev word_at : List ℕ → Keyword
 word_at w =
     cond (bytes_eq w (codes "edid")) Edid (
     cond (bytes_eq w (codes "maker")) Maker (
@@ -46,7 +46,7 @@ word_at w =
     cond (bytes_eq w (codes "hdmi")) Hdmi (
     cond (bytes_eq w (codes "tail")) Tail Ext))))))))))))))))))))))))))))))
 
-word_again : (w : Word) → word_at (word_text w) ≡ w
+word_again : (w : Keyword) → word_at (word_text w) ≡ w
 word_again Edid = refl
 word_again Maker = refl
 word_again Product = refl
@@ -80,10 +80,10 @@ word_again Hdmi = refl
 word_again Tail = refl
 word_again Ext = refl
 
-pub one_word : (a b : Word) → word_text a ≡ word_text b → a ≡ b
+pub one_word : (a b : Keyword) → word_text a ≡ word_text b → a ≡ b
 one_word a b e = sym (word_again a) ∙ ap word_at e ∙ word_again b
 
-abbrev pub number_of : Word → ℕ
+abbrev pub number_of : Keyword → ℕ
 number_of Edid = 0
 number_of Maker = 1
 number_of Product = 2
@@ -117,7 +117,7 @@ number_of Hdmi = 29
 number_of Tail = 30
 number_of Ext = 31
 
-pub listed : (w : Word) → (number_of w < 32) × (get_or WORDS (number_of w) Edid ≡ w)
+pub listed : (w : Keyword) → (number_of w < 32) × (get_or WORDS (number_of w) Edid ≡ w)
 listed Edid = (omega arith, refl)
 listed Maker = (omega arith, refl)
 listed Product = (omega arith, refl)
@@ -151,7 +151,7 @@ listed Hdmi = (omega arith, refl)
 listed Tail = (omega arith, refl)
 listed Ext = (omega arith, refl)
 
-pub solid : (w : Word) → is_spaceless (word_text w) ≡ true
+pub solid : (w : Keyword) → is_spaceless (word_text w) ≡ true
 solid Edid = refl
 solid Maker = refl
 solid Product = refl
@@ -219,5 +219,5 @@ some_line w f line e = let l = ap length e in omega (arith, l, length-append w (
 pub some_same : {X : Type 0} (a b : X) → Path (Option X) (Some a) (Some b) → a ≡ b
 some_same a b e = cc
 
-pub same_line : (l : Line) (w : Word) (f : Fields) → w ≡ l.word → f ≡ l.fields → Path (Option Line) (Some (record { word = w; fields = f })) (Some l)
+pub same_line : (l : Line) (w : Keyword) (f : Fields) → w ≡ l.word → f ≡ l.fields → Path (Option Line) (Some (record { word = w; fields = f })) (Some l)
 same_line l w f e g = ap (λ x. Some (record { word = x; fields = f })) e ∙ ap (λ y. Some (record { word = l.word; fields = y })) g

@@ -1,4 +1,4 @@
--- Words and what stands behind them.
+-- Words and what stands after them.
 use Rattle.std.proofs.Common.{◌≡◌, ℕ, ◌+◌, ◌-◌, ◌%◌, ◌^◌, ◌<◌, ◌≤◌, ◌==◌, Bool, true, false, not, nat_lt, List, [], ◌∷◌, ◌++◌, length, take, drop, position, flat_map, Some, None, ap, arith, refl, sym, ◌∙◌, append_assoc, length-append, append-nil}
 use Rattle.std.specs.Fmt.{decimal}
 use Rattle.std.specs.List.{position_or_len, list_all}

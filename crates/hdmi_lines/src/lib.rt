@@ -1,9 +1,9 @@
-//! The lines of an EDID's text: a first word and the fields behind it, as a value and as text.
+//! The lines of an EDID's text: a first word and the fields after it, as a value and as text.
 #![tactic(auto)]
 
 mod line;
 mod line_to_text;
 mod text_to_line;
 
-pub use line::{Fields, Form, Line, WORD_TEXTS, Word};
+pub use line::{Fields, Form, Keyword, Line, WORD_TEXTS};
 pub use text_to_line::{read_line, space_in, word_of};

@@ -1,4 +1,4 @@
-//! A line of an EDID's text: its first word, and the fields behind it.
+//! A line of an EDID's text: its first word, and the fields after it.
 ghost use Rattle.std.specs.Prelude.{◌≡◌, ◌≤◌, length};
 ghost use Rattle.hdmi_lines.specs.Formed.{form_of};
 ghost use Rattle.hdmi_lines.specs.Text.{word_text};
@@ -8,7 +8,7 @@ use hdmi_core::Phys;
 
 /// The first word of a line.
 #[derive(Clone, Copy, Debug, PartialEq, Eq)]
-pub enum Word {
+pub enum Keyword {
     Edid,
     Maker,
     Product,
@@ -43,7 +43,7 @@ pub enum Word {
     Ext,
 }
 
-/// What stands behind a word: nothing, three letters, so many numbers, `unused` or three numbers, a
+/// What stands after a word: nothing, three letters, so many numbers, `unused` or three numbers, a
 /// detailed timing, bytes in hex, a physical address and bytes, characters in quotes.
 #[derive(Clone, Copy, Debug, PartialEq, Eq)]
 pub enum Form {
@@ -59,7 +59,7 @@ pub enum Form {
     Quoted,
 }
 
-/// What stands behind the first word.
+/// What stands after the first word.
 #[derive(Drop)]
 pub enum Fields {
     /// Nothing.
@@ -81,11 +81,11 @@ pub enum Fields {
 /// A line of the text.
 #[derive(Drop)]
 pub struct Line {
-    pub word: Word,
+    pub word: Keyword,
     pub fields: Fields,
 }
 
-// The words, a row each, in the order of their declaration: how a word stands in a text, and what stands behind it.
+// The words, a row each, in the order of their declaration: how a word stands in a text, and what stands after it.
 macro_rules! words {
     ($make:ident, $word:expr) => {
         $make! {
@@ -128,7 +128,7 @@ macro_rules! words {
 
 macro_rules! listed {
     ($unused:expr, $($word:ident $text:literal $form:ident;)*) => {
-        [$(Word::$word,)*]
+        [$(Keyword::$word,)*]
     };
 }
 
@@ -141,7 +141,7 @@ macro_rules! spelled {
 macro_rules! form_match {
     ($at:expr, $($word:ident $text:literal $form:ident;)*) => {
         match $at {
-            $(Word::$word => Form::$form,)*
+            $(Keyword::$word => Form::$form,)*
         }
     };
 }
@@ -149,19 +149,19 @@ macro_rules! form_match {
 macro_rules! text_match {
     ($at:expr, $($word:ident $text:literal $form:ident;)*) => {
         match $at {
-            $(Word::$word => $text,)*
+            $(Keyword::$word => $text,)*
         }
     };
 }
 
 /// All words.
-pub const WORDS: [Word; 32] = words!(listed, 0);
+pub const WORDS: [Keyword; 32] = words!(listed, 0);
 
 /// All words, as they stand in a text.
 pub const WORD_TEXTS: &[&str] = words!(spelled, 0);
 
-impl Word {
-    /// What stands behind the word.
+impl Keyword {
+    /// What stands after the word.
     pub fn form(self) -> Form
         ensures { result ≡ form_of self }
     {

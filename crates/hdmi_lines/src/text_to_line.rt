@@ -10,9 +10,9 @@ ghost use Rattle.hdmi_lines.specs.Text.{word_text, number_text, hex_word, fields
 ghost use Rattle.hdmi_lines.specs.Formed.{is_spaceless, BeginsSpaced, are_numbers, form_of, FormedFields, Formed};
 ghost use Rattle.hdmi_lines.specs.declared.line.Fields.{Fields as FieldsValue};
 ghost use Rattle.hdmi_lines.specs.declared.line.Line.{Line as LineValue};
-ghost use Rattle.hdmi_lines.specs.declared.line.Word.{Word as WordValue};
+ghost use Rattle.hdmi_lines.specs.declared.line.Keyword.{Keyword as WordValue};
 
-use crate::line::{Fields, Form, Line, WORDS, Word};
+use crate::line::{Fields, Form, Keyword, Line, WORDS};
 use arrayvec::ArrayVec;
 use hdmi_core::Phys;
 
@@ -43,7 +43,7 @@ fn read_number(digits: &[u8]) -> Option<u32>
     }
 }
 
-/// So many numbers, a space before each, and what stands behind them.
+/// So many numbers, a space before each, and what stands after them.
 fn read_numbers(text: &[u8], count: usize) -> Option<(ArrayVec<u32, 13>, &[u8])>
     requires { count ≤ 13 }
     ensures { (ns t : List ℕ) → length ns ≡ count → are_numbers ns ≡ true → BeginsSpaced t → flat_map number_text ns ++ t ≡ text.now
@@ -93,7 +93,7 @@ fn read_hex(digits: &[u8]) -> Option<ArrayVec<u8, 128>>
     Some(bytes)
 }
 
-/// Letters behind a space.
+/// Letters after a space.
 fn letters_field(text: &[u8]) -> Option<Fields>
     ensures { (xs : List ℕ) → length xs ≤ 8 → 32 ∷ xs ≡ text.now → result ≡ Some (Fields.Letters (record { items = xs })) }
 {
@@ -136,7 +136,7 @@ fn timing_field(text: &[u8]) -> Option<Fields>
     Some(Fields::Timed(numbers, flags.as_slice()[0]))
 }
 
-/// Bytes in hex behind a space.
+/// Bytes in hex after a space.
 fn bytes_field(text: &[u8]) -> Option<Fields>
     ensures { (bs : List ℕ) → are_bytes bs ≡ true → length bs ≤ 128 → 32 ∷ hex_word bs ≡ text.now → result ≡ Some (Fields.Bytes (record { items = bs })) }
 {
@@ -204,7 +204,7 @@ fn read_fields(form: Form, text: &[u8]) -> Option<Fields>
 }
 
 /// The word that a text is.
-pub fn word_of(text: &[u8]) -> Option<Word>
+pub fn word_of(text: &[u8]) -> Option<Keyword>
     ensures found { IfSome result (λ w. word_text w ≡ text.now) }
     ensures only { (w : WordValue) → word_text w ≡ text.now → result ≡ Some w }
 {

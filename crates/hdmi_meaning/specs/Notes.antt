@@ -11,9 +11,9 @@ use Rattle.hdmi_meaning.specs.declared.bits.Bit.{Bit}
 abbrev pub printable : ℕ → ℕ
 printable b = if nat_le 0x20 b && nat_le b 0x7e then b else 46
 
--- a line of its own, behind two spaces
-abbrev pub indented : List ℕ → List ℕ
-indented text = codes "  " ++ (map printable text ++ codes "\n")
+-- a line of its own, after two spaces
+abbrev pub own_line : List ℕ → List ℕ
+own_line text = codes "  " ++ (map printable text ++ codes "\n")
 
 -- ---- words
 
@@ -43,8 +43,8 @@ abbrev pub row : ℕ → List ℕ → Row
 row weight word = record { weight = weight; word = word }
 
 -- the same of the code
-abbrev pub spelled : Bit → Row
-spelled b = row b.weight b.word.now
+abbrev pub row_in_code : Bit → Row
+row_in_code b = row b.weight b.word.now
 
 abbrev pub is_set : ℕ → ℕ → Bool
 is_set bits weight = bits / weight % 2 == 1
@@ -81,15 +81,15 @@ are_rows rows = list_all is_row rows
 -- ---- numbers
 
 -- a number between two texts
-unfoldable pub between : List ℕ → ℕ → List ℕ → List ℕ
-between before n after = before ++ (decimal n ++ after)
+unfoldable pub text_between : List ℕ → ℕ → List ℕ → List ℕ
+text_between before n after = before ++ (decimal n ++ after)
 
 -- so many of something
 abbrev pub plural : ℕ → List ℕ
 plural n = if n == 1 then [] else codes "s"
 
-unfoldable pub counted : ℕ → List ℕ → List ℕ
-counted n word = decimal n ++ (word ++ plural n)
+unfoldable pub counted_text : ℕ → List ℕ → List ℕ
+counted_text n word = decimal n ++ (word ++ plural n)
 
 -- the last digit of a number
 abbrev pub digit : ℕ → List ℕ

@@ -22,7 +22,7 @@ clock n = field n 0
 abbrev pub line_pixels : List ℕ → ℕ
 line_pixels n = field n 1 + field n 2
 
--- the half lines of a field: bit 7 of the flags tells that a picture is two fields, each half a line longer
+-- the half lines of a field: bit 7 of the flags says that a picture is two fields, each half a line longer
 abbrev pub half_lines : List ℕ → ℕ → ℕ
 half_lines n flags = 2 * (field n 3 + field n 4) + flags / 128
 

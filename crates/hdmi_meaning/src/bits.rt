@@ -1,7 +1,7 @@
 //! Bits, and what they say.
 ghost use Rattle.std.specs.Prelude.{◌≡◌, ◌≤◌, ◌<◌, ◌+◌, ◌*◌, ◌++◌, length, map, flat_map, IsTrue};
 ghost use Rattle.arrayvec.specs.ArrayVec.{array_vec_len};
-ghost use Rattle.hdmi_meaning.specs.Notes.{indented, spelled, is_set, set_words, spaced_words, set_lines, are_rows};
+ghost use Rattle.hdmi_meaning.specs.Notes.{own_line, row_in_code, is_set, set_words, spaced_words, set_lines, are_rows};
 
 use crate::notes::{NOTE, Note, PAGE, Page, append_line, append_word};
 use hdmi_edid::append;
@@ -37,7 +37,7 @@ pub fn is_set(bits: u32, weight: u32) -> bool
 pub fn append_bits(note: &mut Note, rows: &[Bit], bits: u32)
     requires rows { IsTrue (are_rows rows.now) }
     requires room { array_vec_len note.old + 40 * length rows.now ≤ NOTE }
-    ensures items { note.new.items ≡ note.old.items ++ set_words (map spelled rows.now) bits }
+    ensures items { note.new.items ≡ note.old.items ++ set_words (map row_in_code rows.now) bits }
     ensures len { array_vec_len note.new ≤ array_vec_len note.old + 40 * length rows.now }
 {
     if let [row, rest @ ..] = rows {
@@ -53,7 +53,7 @@ pub fn append_bits(note: &mut Note, rows: &[Bit], bits: u32)
 pub fn append_spaced(note: &mut Note, rows: &[Bit], bits: u32)
     requires rows { IsTrue (are_rows rows.now) }
     requires room { array_vec_len note.old + 40 * length rows.now ≤ NOTE }
-    ensures items { note.new.items ≡ note.old.items ++ spaced_words (map spelled rows.now) bits }
+    ensures items { note.new.items ≡ note.old.items ++ spaced_words (map row_in_code rows.now) bits }
     ensures len { array_vec_len note.new ≤ array_vec_len note.old + 40 * length rows.now }
 {
     if let [row, rest @ ..] = rows {
@@ -70,7 +70,7 @@ pub fn append_spaced(note: &mut Note, rows: &[Bit], bits: u32)
 pub fn append_bit_lines(page: &mut Page, rows: &[Bit], bits: u32)
     requires rows { IsTrue (are_rows rows.now) }
     requires room { array_vec_len page.old + 41 * length rows.now ≤ PAGE }
-    ensures items { page.new.items ≡ page.old.items ++ flat_map indented (set_lines (map spelled rows.now) bits) }
+    ensures items { page.new.items ≡ page.old.items ++ flat_map own_line (set_lines (map row_in_code rows.now) bits) }
     ensures len { array_vec_len page.new ≤ array_vec_len page.old + 41 * length rows.now }
 {
     if let [row, rest @ ..] = rows {

@@ -2,7 +2,7 @@
 ghost use Rattle.std.specs.Prelude.{◌≡◌, ◌≤◌, ◌<◌, ◌+◌, ◌*◌, ◌++◌, length, map, flat_map};
 ghost use Rattle.std.specs.Fmt.{decimal};
 ghost use Rattle.arrayvec.specs.ArrayVec.{array_vec_len};
-ghost use Rattle.hdmi_meaning.specs.Notes.{printable, indented, comma, below, between, plural, counted, digit, hundredths, thousandths, rest_words};
+ghost use Rattle.hdmi_meaning.specs.Notes.{printable, own_line, comma, below, text_between, plural, counted_text, digit, hundredths, thousandths, rest_words};
 ghost use Rattle.hex.specs.Hex.{encode_lower};
 
 use arrayvec::ArrayVec;
@@ -39,10 +39,10 @@ fn append_printable(page: &mut Page, text: &[u8])
     }
 }
 
-/// Appends a line of its own, behind two spaces.
+/// Appends a line of its own, after two spaces.
 pub fn append_line(page: &mut Page, text: &[u8])
     requires { array_vec_len page.old + length text.now + 3 ≤ PAGE }
-    ensures items { page.new.items ≡ page.old.items ++ indented text.now }
+    ensures items { page.new.items ≡ page.old.items ++ own_line text.now }
     ensures len { array_vec_len page.new ≡ array_vec_len page.old + length text.now + 3 }
 {
     append(page, b"  ");
@@ -54,7 +54,7 @@ pub fn append_line(page: &mut Page, text: &[u8])
 /// where there is no word.
 pub fn append_words(page: &mut Page, words: &[u8])
     requires { array_vec_len page.old + length words.now + 1 ≤ PAGE }
-    ensures items { page.new.items ≡ page.old.items ++ flat_map indented (below words.now) }
+    ensures items { page.new.items ≡ page.old.items ++ flat_map own_line (below words.now) }
     ensures len { array_vec_len page.new ≤ array_vec_len page.old + length words.now + 1 }
 {
     if let [_, _, text @ ..] = words {
@@ -117,12 +117,12 @@ pub fn append_thousandths(note: &mut Note, number: u64)
 }
 
 /// Appends a number in decimal digits between two texts.
-#[tactic(auto, unfolding(crate::specs::Notes::between))]
+#[tactic(auto, unfolding(crate::specs::Notes::text_between))]
 pub fn append_between(note: &mut Note, before: &[u8], number: u64, after: &[u8])
     requires short_before { length before.now ≤ 40 }
     requires short_after { length after.now ≤ 40 }
     requires room { array_vec_len note.old + 100 ≤ NOTE }
-    ensures items { note.new.items ≡ note.old.items ++ between before.now number after.now }
+    ensures items { note.new.items ≡ note.old.items ++ text_between before.now number after.now }
     ensures len { array_vec_len note.new ≤ array_vec_len note.old + length before.now + length after.now + 20 }
 {
     append(note, before);
@@ -143,11 +143,11 @@ pub fn append_named_hex(note: &mut Note, name: &[u8], bytes: &[u8])
 }
 
 /// Appends a number and what it counts, with an `s` but for one.
-#[tactic(auto, unfolding(crate::specs::Notes::counted))]
+#[tactic(auto, unfolding(crate::specs::Notes::counted_text))]
 pub fn append_counted(note: &mut Note, number: u64, word: &[u8])
     requires short { length word.now ≤ 30 }
     requires room { array_vec_len note.old + 51 ≤ NOTE }
-    ensures items { note.new.items ≡ note.old.items ++ counted number word.now }
+    ensures items { note.new.items ≡ note.old.items ++ counted_text number word.now }
     ensures len { array_vec_len note.new ≤ array_vec_len note.old + 51 }
 {
     append_decimal(note, number);

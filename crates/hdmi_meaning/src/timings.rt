@@ -1,7 +1,7 @@
 //! What a detailed timing means.
 ghost use Rattle.std.specs.Prelude.{◌≡◌, ◌≤◌, ◌+◌, ◌++◌, length, flat_map};
 ghost use Rattle.arrayvec.specs.ArrayVec.{array_vec_len};
-ghost use Rattle.hdmi_meaning.specs.Notes.{indented};
+ghost use Rattle.hdmi_meaning.specs.Notes.{own_line};
 ghost use Rattle.hdmi_meaning.specs.Timings.{interlace_mark, picture_text, rates_text, clock_text, serrations, analog_lines, horizontal_sign, vertical_sign, separate_text, composite_text, analog_text, sync_text, size_text, border_text, stereo_code, stereo_text, timing_text, timing_meanings};
 
 use crate::bits::is_set;
@@ -13,11 +13,11 @@ use crate::rates::{field, field_rate, half_lines, line_pixels, line_rate, pictur
 use arrayvec::ArrayVec;
 use hdmi_edid::append;
 
-/// Flags from here on tell that a picture is two fields.
+/// Flags from here on say that a picture is two fields.
 const INTERLACED: u8 = 128;
-/// The bit of the flags that tells of serrations, or of a positive vertical sync.
+/// The bit of the flags that indicates serrations, or of a positive vertical sync.
 const SERRATED: u32 = 4;
-/// The bit of the flags that tells of sync on three lines, or of a positive horizontal sync.
+/// The bit of the flags that indicates sync on three lines, or of a positive horizontal sync.
 const POSITIVE: u32 = 2;
 
 fn append_picture(note: &mut Note, numbers: &[u32], flags: u8)
@@ -213,14 +213,14 @@ fn timing_note(numbers: &[u32], flags: u8) -> Note
 }
 
 /// Appends what a detailed timing means: its picture and rates, the nearest Hz and thousandths of a Hz, its pixel clock, its
-/// sync, and, where it tells them, the image's size, borders and stereo (E-EDID Release A, section 3.10.2).
+/// sync, and, where it reports them, the image's size, borders and stereo (E-EDID Release A, section 3.10.2).
 ///
 /// `numbers` are those of its line: the clock in units of 10 kHz; active and blanking, horizontally and vertically; sync
 /// offset and width, in the same way; millimetres; borders.
 #[tactic(auto, unfolding(crate::specs::Timings::timing_meanings))]
 pub fn append_timing(page: &mut Page, numbers: &[u32], flags: u8)
     requires { array_vec_len page.old + 403 ≤ PAGE }
-    ensures { page.new.items ≡ page.old.items ++ flat_map indented (timing_meanings numbers.now flags) }
+    ensures { page.new.items ≡ page.old.items ++ flat_map own_line (timing_meanings numbers.now flags) }
 {
     append_line(page, timing_note(numbers, flags).as_slice());
 }

@@ -1,7 +1,7 @@
 //! What the bytes of a video data block mean.
 ghost use Rattle.std.specs.Prelude.{◌≡◌, ◌≤◌, ◌+◌, ◌*◌, ◌++◌, length, flat_map};
 ghost use Rattle.arrayvec.specs.ArrayVec.{array_vec_len};
-ghost use Rattle.hdmi_meaning.specs.Notes.{indented};
+ghost use Rattle.hdmi_meaning.specs.Notes.{own_line};
 ghost use Rattle.hdmi_meaning.specs.Videos.{aspect_text, scan_text, picture_text, format_text, code_text, is_native, code_of, native_text, video_text, video_meanings};
 
 use crate::formats::{Aspect, Format, format_of};
@@ -97,7 +97,7 @@ fn video_note(svd: u8) -> Note
 /// its format (CTA-861-G, section 7.5.1).
 pub fn append_video(page: &mut Page, payload: &[u8])
     requires { array_vec_len page.old + 109 * length payload.now ≤ PAGE }
-    ensures { page.new.items ≡ page.old.items ++ flat_map indented (video_meanings payload.now) }
+    ensures { page.new.items ≡ page.old.items ++ flat_map own_line (video_meanings payload.now) }
 {
     if let [svd, rest @ ..] = payload {
         append_line(page, video_note(*svd).as_slice());

@@ -5,7 +5,7 @@ use Rattle.std.specs.List.{list_any}
 use Rattle.hdmi_edid.specs.declared.base.Base.{Base}
 use Rattle.hdmi_edid.specs.declared.timing.Timing.{Timing}
 use Rattle.hdmi_cta.specs.Hdmi.{blocks_of}
-use Rattle.hdmi_cta.specs.declared.block.Block.{Block}
+use Rattle.hdmi_cta.specs.declared.block.DataBlock.{DataBlock}
 use Rattle.hdmi_cta.specs.declared.raw.Ext.{Ext}
 use Rattle.hdmi_meaning.specs.Formats.{format_of}
 use Rattle.hdmi_meaning.specs.declared.formats.Format.{Format}
@@ -27,7 +27,7 @@ format_pictures (Some f) = record { width = f.width; height = f.height; interlac
 abbrev pub marked_pictures : ℕ → List Picture
 marked_pictures svd = if nat_lt 128 svd && nat_lt svd 193 then format_pictures (format_of (svd - 128)) else []
 
-abbrev pub block_pictures : Block → List Picture
+abbrev pub block_pictures : DataBlock → List Picture
 block_pictures b = if is_video_kind b.kind then flat_map marked_pictures b.payload.items else []
 
 abbrev pub ext_pictures : Ext → List Picture

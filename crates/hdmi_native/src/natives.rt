@@ -8,14 +8,14 @@ ghost use Rattle.hdmi_native.specs.Natives.{timing_picture, format_pictures, mar
 
 use crate::picture::Picture;
 use arrayvec::ArrayVec;
-use hdmi_cta::{Block, BlockKind, Ext};
+use hdmi_cta::{BlockKind, DataBlock, Ext};
 use hdmi_edid::{Base, Timing};
 use hdmi_meaning::{Format, format_of};
 use hdmi_parts::{native_count, timings_of};
 
 /// The most native pictures: 15 timings, as far as four bits count, and the codes that three extensions have room for.
 pub const MAX_PICTURES: usize = 384;
-/// Flags from here on tell that a picture is two fields.
+/// Flags from here on say that a picture is two fields.
 const INTERLACED: u8 = 128;
 
 fn timing_picture(timing: &Timing) -> Picture
@@ -74,7 +74,7 @@ fn append_codes(pictures: &mut ArrayVec<Picture, MAX_PICTURES>, svds: &[u8])
 }
 
 /// Appends the pictures of a data block, of which there are no more than bytes in it.
-fn append_block(pictures: &mut ArrayVec<Picture, MAX_PICTURES>, block: &Block)
+fn append_block(pictures: &mut ArrayVec<Picture, MAX_PICTURES>, block: &DataBlock)
     requires { array_vec_len pictures.old + length block.now.payload.items ≤ MAX_PICTURES }
     ensures items { pictures.new.items ≡ pictures.old.items ++ block_pictures block.now }
     ensures len { array_vec_len pictures.new ≤ array_vec_len pictures.old + length block.now.payload.items }
@@ -84,7 +84,7 @@ fn append_block(pictures: &mut ArrayVec<Picture, MAX_PICTURES>, block: &Block)
     }
 }
 
-fn append_blocks(pictures: &mut ArrayVec<Picture, MAX_PICTURES>, blocks: &[Block])
+fn append_blocks(pictures: &mut ArrayVec<Picture, MAX_PICTURES>, blocks: &[DataBlock])
     requires { array_vec_len pictures.old + length (flat_map block_bytes blocks.now) ≤ MAX_PICTURES }
     ensures items { pictures.new.items ≡ pictures.old.items ++ flat_map block_pictures blocks.now }
     ensures len { array_vec_len pictures.new ≤ array_vec_len pictures.old + length (flat_map block_bytes blocks.now) }

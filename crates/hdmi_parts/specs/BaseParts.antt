@@ -10,7 +10,7 @@ use Rattle.hdmi_edid.specs.declared.base.Revision.TheVariants.{Three, Four}
 use Rattle.hdmi_edid.specs.declared.chroma.Chroma.{Chroma}
 use Rattle.hdmi_edid.specs.declared.descriptor.Descriptor.{Descriptor}
 use Rattle.hdmi_edid.specs.declared.descriptor.Descriptor.TheVariants.{Timing, Range}
-use Rattle.hdmi_edid.specs.declared.standard.Standard.{Standard}
+use Rattle.hdmi_edid.specs.declared.standard.StandardTiming.{StandardTiming}
 
 abbrev pub is_three : Revision → Bool
 is_three Three = true
@@ -57,7 +57,7 @@ is_srgb c =
     (c.blue.x == 154) && (c.blue.y == 61) && (c.white.x == 320) && (c.white.y == 337)
 
 -- an unused standard timing is 01 01; another first byte of 0 or 1 stands for none (section 3.9)
-abbrev pub is_ill_unused : Option Standard → Bool
+abbrev pub is_ill_unused : Option StandardTiming → Bool
 is_ill_unused None = false
 is_ill_unused (Some s) = nat_le s.width 256
 

@@ -4,7 +4,7 @@ use Rattle.std.specs.Prelude.{ℕ, ◌+◌, ◌*◌, ◌/◌, ◌%◌, ◌==◌,
 use Rattle.std.specs.List.{list_any}
 use Rattle.hdmi_cta.specs.Audio.{is_audio}
 use Rattle.hdmi_cta.specs.Hdmi.{is_hdmi, is_vendor}
-use Rattle.hdmi_cta.specs.declared.block.Block.{Block}
+use Rattle.hdmi_cta.specs.declared.block.DataBlock.{DataBlock}
 use Rattle.hdmi_cta.specs.declared.block.BlockKind.{BlockKind}
 use Rattle.hdmi_cta.specs.declared.block.BlockKind.TheVariants.{Video, Speakers, Extended}
 use Rattle.hdmi_parts.specs.declared.block_parts.Sought.{Sought}
@@ -20,7 +20,7 @@ is_video_kind _ = false
 abbrev pub is_vga_code : ℕ → Bool
 is_vga_code svd = (svd == 1) || (svd == 129)
 
-abbrev pub lists_vga : Block → Bool
+abbrev pub lists_vga : DataBlock → Bool
 lists_vga b = is_video_kind b.kind && list_any is_vga_code b.payload.items
 
 abbrev pub is_extended_kind : BlockKind → Bool
@@ -28,11 +28,11 @@ is_extended_kind Extended = true
 is_extended_kind _ = false
 
 -- extended tag 0 (CTA-861-D, section 7.5.6)
-abbrev pub is_video_capability : Block → Bool
+abbrev pub is_video_capability : DataBlock → Bool
 is_video_capability b = is_extended_kind b.kind && nat_lt 0 (length b.payload.items) && (slice_index b.payload.items 0 == 0)
 
 -- bit 6 of its byte: the range of RGB values can be chosen
-abbrev pub fixes_rgb_range : Block → Bool
+abbrev pub fixes_rgb_range : DataBlock → Bool
 fixes_rgb_range b = is_video_capability b && nat_lt 1 (length b.payload.items) && (slice_index b.payload.items 1 / 64 % 2 == 0)
 
 -- ---- sound
@@ -41,19 +41,19 @@ abbrev pub is_speakers_kind : BlockKind → Bool
 is_speakers_kind Speakers = true
 is_speakers_kind _ = false
 
-abbrev pub is_speakers : Block → Bool
+abbrev pub is_speakers : DataBlock → Bool
 is_speakers b = is_speakers_kind b.kind
 
 -- its payload is three bytes (CTA-861-D, section 7.5.3)
-abbrev pub is_ill_speakers : Block → Bool
+abbrev pub is_ill_speakers : DataBlock → Bool
 is_ill_speakers b = is_speakers b && not (length b.payload.items == 3)
 
 -- extended tags 17 to 20: a vendor's audio, HDMI's audio, the room and the places of speakers (CTA-861-G, section 7.5)
-abbrev pub is_extended_audio : Block → Bool
+abbrev pub is_extended_audio : DataBlock → Bool
 is_extended_audio b =
     is_extended_kind b.kind && nat_lt 0 (length b.payload.items) && nat_le 17 (slice_index b.payload.items 0) && nat_le (slice_index b.payload.items 0) 20
 
-abbrev pub is_sound : Block → Bool
+abbrev pub is_sound : DataBlock → Bool
 is_sound b = is_audio b || is_speakers b || is_extended_audio b
 
 -- the first byte of a format: bits 6 to 3 are 1 for linear PCM, and the low three bits are the channels less 1 (CTA-861-D, section 7.5.2)
@@ -67,13 +67,13 @@ lists_multichannel_pcm (first ∷ []) = false
 lists_multichannel_pcm (first ∷ second ∷ []) = false
 lists_multichannel_pcm (first ∷ second ∷ third ∷ more) = is_multichannel_pcm first || lists_multichannel_pcm more
 
-abbrev pub has_multichannel_pcm : Block → Bool
+abbrev pub has_multichannel_pcm : DataBlock → Bool
 has_multichannel_pcm b = is_audio b && lists_multichannel_pcm b.payload.items
 
 -- ---- HDMI
 
 -- the seventh byte of an HDMI block, in units of 5 MHz: at most 340 MHz (HDMI 1.4, section 8.3.2)
-abbrev pub has_fast_clock : Block → Bool
+abbrev pub has_fast_clock : DataBlock → Bool
 has_fast_clock b = is_hdmi b && nat_lt 6 (length b.payload.items) && nat_lt 68 (slice_index b.payload.items 6)
 
 -- a port after no port
@@ -85,25 +85,25 @@ abbrev pub is_off_tree : ℕ → ℕ → Bool
 is_off_tree high low =
     ((high == 255) && (low == 255)) || is_hole (high / 16) (high % 16) || is_hole (high % 16) (low / 16) || is_hole (low / 16) (low % 16)
 
-abbrev pub has_wrong_address : Block → Bool
+abbrev pub has_wrong_address : DataBlock → Bool
 has_wrong_address b = is_hdmi b && is_off_tree (slice_index b.payload.items 3) (slice_index b.payload.items 4)
 
 -- 0.0.0.0, the address of the root of a tree (HDMI 1.4, section 8.7.2)
-abbrev pub has_root_address : Block → Bool
+abbrev pub has_root_address : DataBlock → Bool
 has_root_address b = is_hdmi b && (slice_index b.payload.items 3 == 0) && (slice_index b.payload.items 4 == 0)
 
 -- the vendor block of the HDMI Forum: its identifier C4-5D-D8, the lowest byte first
-abbrev pub is_forum : Block → Bool
+abbrev pub is_forum : DataBlock → Bool
 is_forum b =
     is_vendor b.kind && nat_le 3 (length b.payload.items) &&
     (slice_index b.payload.items 0 == 0xd8) && (slice_index b.payload.items 1 == 0x5d) && (slice_index b.payload.items 2 == 0xc4)
 
 -- a block of the HDMI Forum has no HDMI block before it (own)
-abbrev pub begins_with_forum : List Block → Bool
+abbrev pub begins_with_forum : List DataBlock → Bool
 begins_with_forum [] = false
 begins_with_forum (b ∷ bs) = not (is_hdmi b) && (is_forum b || begins_with_forum bs)
 
--- Bit 5 of the eighth byte tells of video formats. They stand behind two bytes for each kind of latency that bits 7 and 6 tell of
+-- Bit 5 of the eighth byte indicates video formats. They stand after two bytes for each kind of latency that bits 7 and 6 indicate
 -- (HDMI 1.4, section 8.3.2).
 abbrev pub video_place : ℕ → ℕ
 video_place presence = 8 + 2 * (presence / 128 % 2) + 2 * (presence / 64 % 2)
@@ -118,7 +118,7 @@ hdmi_codes payload = if slice_index payload 7 / 32 % 2 == 1 then codes_at (video
 -- ---- all of them
 
 -- a data block is what a rule looks for
-abbrev pub is_sought : Sought → Block → Bool
+abbrev pub is_sought : Sought → DataBlock → Bool
 is_sought sought.Hdmi = is_hdmi
 is_sought sought.Vga = lists_vga
 is_sought sought.VideoCapability = is_video_capability

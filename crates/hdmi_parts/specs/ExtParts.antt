@@ -8,7 +8,7 @@ use Rattle.hdmi_edid.specs.declared.descriptor.Descriptor.{Descriptor}
 use Rattle.hdmi_edid.specs.declared.descriptor.Descriptor.TheVariants.{Timing as OfTiming}
 use Rattle.hdmi_edid.specs.declared.timing.Timing.{Timing}
 use Rattle.hdmi_cta.specs.Hdmi.{is_hdmi, blocks_of}
-use Rattle.hdmi_cta.specs.declared.block.Block.{Block}
+use Rattle.hdmi_cta.specs.declared.block.DataBlock.{DataBlock}
 use Rattle.hdmi_cta.specs.declared.raw.Ext.{Ext}
 use Rattle.hdmi_cta.specs.declared.raw.Ext.TheVariants.{Cta, Bare, Raw}
 use Rattle.hdmi_parts.specs.BlockParts.{is_sound, begins_with_forum}
@@ -56,13 +56,13 @@ abbrev pub native_count : Ext → ℕ
 native_count (Cta c) = c.flags % 16
 native_count _ = 0
 
--- sound where bit 6 of the flags tells that there is none
+-- sound where bit 6 of the flags says that there is none
 abbrev pub hides_sound : Ext → Bool
 hides_sound (Cta c) = (c.flags / 64 % 2 == 0) && list_any is_sound c.blocks.items
 hides_sound _ = false
 
 -- some data block passes a test
-abbrev pub some_block : (Block → Bool) → List Ext → Bool
+abbrev pub some_block : (DataBlock → Bool) → List Ext → Bool
 some_block test xs = list_any (λ x. list_any test (blocks_of x)) xs
 
 abbrev pub hdmi_count : List Ext → ℕ

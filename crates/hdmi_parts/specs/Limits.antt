@@ -15,7 +15,7 @@ use Rattle.hdmi_parts.specs.declared.span.Span.{Span}
 abbrev pub line_pixels : Timing → ℕ
 line_pixels t = t.horizontal_active + t.horizontal_blanking
 
--- the half lines of a field: bit 7 of the flags tells that a picture is two fields, each half a line longer
+-- the half lines of a field: bit 7 of the flags says that a picture is two fields, each half a line longer
 abbrev pub half_lines : Timing → ℕ
 half_lines t = if nat_lt t.flags 128 then 2 * (t.vertical_active + t.vertical_blanking) else 2 * (t.vertical_active + t.vertical_blanking) + 1
 
@@ -35,18 +35,18 @@ is_outside span count per =
 -- ---- limits
 
 -- in 1.4 two bits of byte 4 add 255 to the greatest rate, or to both (E-EDID 1.4, section 3.10.3.3)
-abbrev pub raised : Revision → ℕ → ℕ → ℕ → Span
-raised Three bits least greatest = record { least = least; greatest = greatest }
-raised Four bits least greatest =
+abbrev pub raised_span : Revision → ℕ → ℕ → ℕ → Span
+raised_span Three bits least greatest = record { least = least; greatest = greatest }
+raised_span Four bits least greatest =
     record { least = if bits == 3 then least + 255 else least; greatest = if nat_le 2 bits then greatest + 255 else greatest }
 
 -- in fields a second
 abbrev pub field_span : Revision → List ℕ → Span
-field_span r l = raised r (slice_index l 0 % 4) (slice_index l 1) (slice_index l 2)
+field_span r l = raised_span r (slice_index l 0 % 4) (slice_index l 1) (slice_index l 2)
 
 -- in thousands of lines a second
 abbrev pub line_span : Revision → List ℕ → Span
-line_span r l = raised r (slice_index l 0 / 4 % 4) (slice_index l 3) (slice_index l 4)
+line_span r l = raised_span r (slice_index l 0 / 4 % 4) (slice_index l 3) (slice_index l 4)
 
 abbrev pub has_reversed : Revision → Descriptor → Bool
 has_reversed r (Range l) = is_reversed (field_span r l.bytes) || is_reversed (line_span r l.bytes)

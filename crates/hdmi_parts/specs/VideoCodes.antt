@@ -2,7 +2,7 @@
 use Rattle.std.specs.Prelude.{ℕ, ◌-◌, ◌==◌, Bool, false, ◌&&◌, ◌||◌, not, nat_lt, if◌then◌else◌, List, [], ◌∷◌, map, flat_map}
 use Rattle.std.specs.List.{list_any}
 use Rattle.hdmi_cta.specs.Hdmi.{is_hdmi, blocks_of}
-use Rattle.hdmi_cta.specs.declared.block.Block.{Block}
+use Rattle.hdmi_cta.specs.declared.block.DataBlock.{DataBlock}
 use Rattle.hdmi_cta.specs.declared.raw.Ext.{Ext}
 use Rattle.hdmi_parts.specs.BlockParts.{is_video_kind, hdmi_codes}
 
@@ -10,7 +10,7 @@ use Rattle.hdmi_parts.specs.BlockParts.{is_video_kind, hdmi_codes}
 abbrev pub code_of : ℕ → ℕ
 code_of svd = if nat_lt 128 svd && nat_lt svd 193 then svd - 128 else svd
 
-abbrev pub block_codes : Block → List ℕ
+abbrev pub block_codes : DataBlock → List ℕ
 block_codes b = if is_video_kind b.kind then map code_of b.payload.items else []
 
 abbrev pub ext_codes : Ext → List ℕ
@@ -37,5 +37,5 @@ code_of_hdmi hdmi =
 abbrev pub is_lone : List ℕ → ℕ → Bool
 is_lone codes hdmi = nat_lt 0 (code_of_hdmi hdmi) && not (has_code codes (code_of_hdmi hdmi))
 
-abbrev pub has_lone_code : List ℕ → Block → Bool
+abbrev pub has_lone_code : List ℕ → DataBlock → Bool
 has_lone_code codes b = is_hdmi b && list_any (is_lone codes) (hdmi_codes b.payload.items)

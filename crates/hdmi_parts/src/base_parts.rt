@@ -3,7 +3,7 @@ ghost use Rattle.std.specs.Prelude.{◌≡◌};
 ghost use Rattle.std.specs.List.{list_any};
 ghost use Rattle.hdmi_parts.specs.BaseParts.{is_three, has_tag, some_tagged, is_empty, is_timed, begins_with_timing, is_continuous, prefers_first, claims_srgb, is_srgb, is_ill_unused, has_established_vga, is_formula, names_formula};
 
-use hdmi_edid::{Base, Chroma, Descriptor, Revision, Standard, are_zeros};
+use hdmi_edid::{Base, Chroma, Descriptor, Revision, StandardTiming, are_zeros};
 
 /// The tag of a descriptor with the serial number.
 pub const SERIAL_TAG: u8 = 0xff;
@@ -101,7 +101,7 @@ pub fn is_srgb(chroma: Chroma) -> bool
         && white.y == 337
 }
 
-fn is_ill_unused(standard: Option<Standard>) -> bool
+fn is_ill_unused(standard: Option<StandardTiming>) -> bool
     ensures { result ≡ is_ill_unused standard }
 {
     match standard {

@@ -3,11 +3,11 @@ ghost use Rattle.std.specs.Prelude.{◌≡◌, ◌≤◌, ◌+◌, length, take}
 ghost use Rattle.std.specs.List.{list_any};
 ghost use Rattle.hdmi_parts.specs.BlockParts.{is_vga_code, lists_vga, is_video_capability, fixes_rgb_range, is_speakers, is_ill_speakers, is_extended_audio, is_sound, is_multichannel_pcm, lists_multichannel_pcm, has_multichannel_pcm, has_fast_clock, is_hole, is_off_tree, has_wrong_address, has_root_address, is_forum, begins_with_forum, video_place, codes_at, hdmi_codes, is_sought};
 
-use hdmi_cta::{Block, BlockKind};
+use hdmi_cta::{BlockKind, DataBlock};
 
 /// The greatest clock of HDMI 1.4: 340 MHz, in units of 5 MHz.
 const MAX_TMDS_CLOCK: u8 = 68;
-/// The least extended tag of a block that tells of audio: a vendor's.
+/// The least extended tag of a block that indicates audio: a vendor's.
 const VENDOR_AUDIO: u8 = 17;
 /// The greatest: the places of speakers.
 const SPEAKER_PLACES: u8 = 20;
@@ -43,40 +43,40 @@ fn has_vga_code(codes: &[u8]) -> bool
     codes.iter().any(|code| *code == 1 || *code == 129)
 }
 
-fn lists_vga(block: &Block) -> bool
+fn lists_vga(block: &DataBlock) -> bool
     ensures { result ≡ lists_vga block.now }
 {
     matches!(block.kind, BlockKind::Video) && has_vga_code(block.payload.as_slice())
 }
 
-fn is_video_capability(block: &Block) -> bool
+fn is_video_capability(block: &DataBlock) -> bool
     ensures { result ≡ is_video_capability block.now }
 {
     let payload = block.payload.as_slice();
     matches!(block.kind, BlockKind::Extended) && 0 < payload.len() && payload[0] == 0
 }
 
-fn fixes_rgb_range(block: &Block) -> bool
+fn fixes_rgb_range(block: &DataBlock) -> bool
     ensures { result ≡ fixes_rgb_range block.now }
 {
     let payload = block.payload.as_slice();
     is_video_capability(block) && 1 < payload.len() && payload[1] / 64 % 2 == 0
 }
 
-fn is_speakers(block: &Block) -> bool
+fn is_speakers(block: &DataBlock) -> bool
     ensures { result ≡ is_speakers block.now }
 {
     matches!(block.kind, BlockKind::Speakers)
 }
 
-fn is_ill_speakers(block: &Block) -> bool
+fn is_ill_speakers(block: &DataBlock) -> bool
     ensures { result ≡ is_ill_speakers block.now }
 {
     is_speakers(block) && block.payload.len() != 3
 }
 
 /// Whether its extended tag is that of a vendor's audio, of HDMI's audio, of a room or of the places of speakers.
-fn is_extended_audio(block: &Block) -> bool
+fn is_extended_audio(block: &DataBlock) -> bool
     ensures { result ≡ is_extended_audio block.now }
 {
     let payload = block.payload.as_slice();
@@ -86,13 +86,13 @@ fn is_extended_audio(block: &Block) -> bool
         && payload[0] <= SPEAKER_PLACES
 }
 
-fn is_sound(block: &Block) -> bool
+fn is_sound(block: &DataBlock) -> bool
     ensures { result ≡ is_sound block.now }
 {
     block.is_audio() || is_speakers(block) || is_extended_audio(block)
 }
 
-/// Whether the first byte of an audio format tells of linear PCM with more than two channels.
+/// Whether the first byte of an audio format indicates linear PCM with more than two channels.
 fn is_multichannel_pcm(first: u8) -> bool
     ensures { result ≡ is_multichannel_pcm first }
 {
@@ -108,13 +108,13 @@ fn lists_multichannel_pcm(formats: &[u8]) -> bool
     }
 }
 
-fn has_multichannel_pcm(block: &Block) -> bool
+fn has_multichannel_pcm(block: &DataBlock) -> bool
     ensures { result ≡ has_multichannel_pcm block.now }
 {
     block.is_audio() && lists_multichannel_pcm(block.payload.as_slice())
 }
 
-fn has_fast_clock(block: &Block) -> bool
+fn has_fast_clock(block: &DataBlock) -> bool
     ensures { result ≡ has_fast_clock block.now }
 {
     let payload = block.payload.as_slice();
@@ -136,14 +136,14 @@ fn is_off_tree(high: u8, low: u8) -> bool
         || is_hole(low / 16, low % 16)
 }
 
-fn has_wrong_address(block: &Block) -> bool
+fn has_wrong_address(block: &DataBlock) -> bool
     ensures { result ≡ has_wrong_address block.now }
 {
     let payload = block.payload.as_slice();
     block.is_hdmi() && is_off_tree(payload[3], payload[4])
 }
 
-fn has_root_address(block: &Block) -> bool
+fn has_root_address(block: &DataBlock) -> bool
     ensures { result ≡ has_root_address block.now }
 {
     let payload = block.payload.as_slice();
@@ -151,7 +151,7 @@ fn has_root_address(block: &Block) -> bool
 }
 
 /// Whether it is a vendor block of the HDMI Forum.
-fn is_forum(block: &Block) -> bool
+fn is_forum(block: &DataBlock) -> bool
     ensures { result ≡ is_forum block.now }
 {
     let payload = block.payload.as_slice();
@@ -163,7 +163,7 @@ fn is_forum(block: &Block) -> bool
 }
 
 /// Whether a block of the HDMI Forum has no HDMI block before it.
-pub fn begins_with_forum(blocks: &[Block]) -> bool
+pub fn begins_with_forum(blocks: &[DataBlock]) -> bool
     ensures { result ≡ begins_with_forum blocks.now }
 {
     match blocks {
@@ -172,7 +172,7 @@ pub fn begins_with_forum(blocks: &[Block]) -> bool
     }
 }
 
-/// Where an HDMI block tells of video formats.
+/// Where an HDMI block indicates video formats.
 fn video_place(presence: u8) -> usize
     ensures value { result ≡ video_place presence }
     ensures small { result ≤ 12 }
@@ -214,7 +214,7 @@ pub fn hdmi_codes(payload: &[u8]) -> &[u8]
 }
 
 /// Whether a data block is what a rule looks for.
-pub fn is_sought(sought: Sought, block: &Block) -> bool
+pub fn is_sought(sought: Sought, block: &DataBlock) -> bool
     ensures { result ≡ is_sought sought block.now }
 {
     match sought {

@@ -9,7 +9,7 @@ ghost use Rattle.hdmi_parts.specs.VideoCodes.{code_of, block_codes, ext_codes, v
 use crate::block_parts::hdmi_codes;
 use crate::ext_parts::blocks_of;
 use arrayvec::ArrayVec;
-use hdmi_cta::{Block, BlockKind, Ext};
+use hdmi_cta::{BlockKind, DataBlock, Ext};
 
 /// The most codes that three extensions have room for.
 pub const MAX_CODES: usize = 369;
@@ -36,7 +36,7 @@ fn append_codes(codes: &mut ArrayVec<u8, MAX_CODES>, bytes: &[u8])
 }
 
 /// Appends the codes of a data block, of which there are no more than bytes in it.
-fn append_block(codes: &mut ArrayVec<u8, MAX_CODES>, block: &Block)
+fn append_block(codes: &mut ArrayVec<u8, MAX_CODES>, block: &DataBlock)
     requires { array_vec_len codes.old + length block.now.payload.items ≤ MAX_CODES }
     ensures items { codes.new.items ≡ codes.old.items ++ block_codes block.now }
     ensures len { array_vec_len codes.new ≤ array_vec_len codes.old + length block.now.payload.items }
@@ -47,7 +47,7 @@ fn append_block(codes: &mut ArrayVec<u8, MAX_CODES>, block: &Block)
 }
 
 /// Appends the codes of data blocks.
-fn append_blocks(codes: &mut ArrayVec<u8, MAX_CODES>, blocks: &[Block])
+fn append_blocks(codes: &mut ArrayVec<u8, MAX_CODES>, blocks: &[DataBlock])
     requires { array_vec_len codes.old + length (flat_map block_bytes blocks.now) ≤ MAX_CODES }
     ensures items { codes.new.items ≡ codes.old.items ++ flat_map block_codes blocks.now }
     ensures len { array_vec_len codes.new ≤ array_vec_len codes.old + length (flat_map block_bytes blocks.now) }
@@ -124,13 +124,13 @@ fn some_lone(codes: &[u8], hdmi: &[u8]) -> bool
     hdmi.iter().any(|code| is_lone(codes, *code))
 }
 
-fn has_lone_code(codes: &[u8], block: &Block) -> bool
+fn has_lone_code(codes: &[u8], block: &DataBlock) -> bool
     ensures { result ≡ has_lone_code codes.now block.now }
 {
     block.is_hdmi() && some_lone(codes, hdmi_codes(block.payload.as_slice()))
 }
 
-fn some_block_lone(codes: &[u8], blocks: &[Block]) -> bool
+fn some_block_lone(codes: &[u8], blocks: &[DataBlock]) -> bool
     ensures { result ≡ list_any (has_lone_code codes.now) blocks.now }
 {
     blocks.iter().any(|block| has_lone_code(codes, block))

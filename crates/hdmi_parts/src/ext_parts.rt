@@ -6,7 +6,7 @@ ghost use Rattle.hdmi_parts.specs.BlockParts.{is_sought};
 ghost use Rattle.hdmi_parts.specs.ExtParts.{is_cta, is_block_map, begins_with_map, overscans, is_dummy, after_dummies, is_padding, has_ill_padding, native_count, hides_sound, some_block, hdmi_count, has_forum_first};
 
 use crate::block_parts::{Sought, begins_with_forum, is_sought};
-use hdmi_cta::{Block, Ext};
+use hdmi_cta::{DataBlock, Ext};
 use hdmi_edid::are_zeros;
 
 /// The first byte of an extension that is a block map.
@@ -19,7 +19,7 @@ const MOST_DESCRIPTORS: usize = 6;
 const DUMMY_TAG: u8 = 0x10;
 
 /// The data blocks of an extension.
-pub fn blocks_of(ext: &Ext) -> &[Block]
+pub fn blocks_of(ext: &Ext) -> &[DataBlock]
     ensures blocks { result.now ≡ blocks_of ext.now }
     ensures few { length result.now ≤ 123 }
 {
@@ -135,14 +135,14 @@ pub fn native_count(ext: &Ext) -> usize
     }
 }
 
-/// Whether some extension tells more native timings than there are.
+/// Whether some extension reports more native timings than there are.
 pub fn some_native(count: usize, extensions: &[Ext]) -> bool
     ensures { result ≡ list_any (λ x. nat_lt count (native_count x)) extensions.now }
 {
     extensions.iter().any(|ext| count < native_count(ext))
 }
 
-fn some_sought(sought: Sought, blocks: &[Block]) -> bool
+fn some_sought(sought: Sought, blocks: &[DataBlock]) -> bool
     ensures { result ≡ list_any (is_sought sought) blocks.now }
 {
     blocks.iter().any(|block| is_sought(sought, block))
@@ -174,7 +174,7 @@ pub fn some_block(sought: Sought, extensions: &[Ext]) -> bool
         .any(|ext| some_sought(sought, blocks_of(ext)))
 }
 
-fn hdmi_count_in(blocks: &[Block]) -> usize
+fn hdmi_count_in(blocks: &[DataBlock]) -> usize
     ensures count { result ≡ count_by is_hdmi blocks.now }
     ensures few { result ≤ length blocks.now }
 {

@@ -1,7 +1,7 @@
 //! The rates of a detailed timing, and the limits that a display has for them.
 ghost use Rattle.std.specs.Prelude.{◌≡◌, ◌<◌, ◌≤◌, ◌^◌};
 ghost use Rattle.std.specs.List.{list_any};
-ghost use Rattle.hdmi_parts.specs.Limits.{line_pixels, half_lines, is_reversed, limits_rates, is_outside, raised, field_span, line_span, has_reversed, has_reversed_limits, is_field_rate_outside, is_line_rate_outside, excludes, is_out_of_range};
+ghost use Rattle.hdmi_parts.specs.Limits.{line_pixels, half_lines, is_reversed, limits_rates, is_outside, raised_span, field_span, line_span, has_reversed, has_reversed_limits, is_field_rate_outside, is_line_rate_outside, excludes, is_out_of_range};
 
 use crate::span::Span;
 use hdmi_edid::{Base, Descriptor, RangeLimits, Revision, Timing};
@@ -12,7 +12,7 @@ const OFFSET: u64 = 255;
 const HALF_LINE_CLOCK: u64 = 20_000;
 /// The clock's units, 10,000 pixels, to a thousand lines.
 const LINE_CLOCK: u64 = 10;
-/// Flags from here on tell that a picture is two fields.
+/// Flags from here on say that a picture is two fields.
 const INTERLACED: u8 = 128;
 
 /// The pixels of a line.
@@ -64,8 +64,8 @@ fn is_outside(span: Span, count: u64, per: u64) -> bool
 }
 
 /// The span of two bytes, which two bits raise in 1.4.
-fn raised(revision: Revision, bits: u8, least: u8, greatest: u8) -> Span
-    ensures value { result ≡ raised revision bits least greatest }
+fn raised_span(revision: Revision, bits: u8, least: u8, greatest: u8) -> Span
+    ensures value { result ≡ raised_span revision bits least greatest }
     ensures least { result.least < 512 }
     ensures greatest { result.greatest < 512 }
 {
@@ -90,7 +90,7 @@ pub fn field_span(revision: Revision, limits: &RangeLimits) -> Span
     ensures greatest { result.greatest < 512 }
 {
     let bytes = limits.bytes;
-    raised(revision, bytes[0] % 4, bytes[1], bytes[2])
+    raised_span(revision, bytes[0] % 4, bytes[1], bytes[2])
 }
 
 /// The limits of the line rate, in thousands of lines a second.
@@ -100,7 +100,7 @@ pub fn line_span(revision: Revision, limits: &RangeLimits) -> Span
     ensures greatest { result.greatest < 512 }
 {
     let bytes = limits.bytes;
-    raised(revision, bytes[0] / 4 % 4, bytes[3], bytes[4])
+    raised_span(revision, bytes[0] / 4 % 4, bytes[3], bytes[4])
 }
 
 fn has_reversed(revision: Revision, descriptor: &Descriptor) -> bool

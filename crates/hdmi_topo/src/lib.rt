@@ -3,9 +3,9 @@
 #![tactic(auto)]
 
 mod address;
-mod device;
 mod laws;
 mod name;
+mod node;
 mod plug;
 mod port;
 mod tree;

@@ -3,13 +3,13 @@
 #![tactic(auto)]
 
 use hdmi_core::Writes;
-use hdminet_program::Fault;
+use hdminet_program::ProgramFault;
 use hdminet_program::program::{program, tell};
 use std::env;
 use std::process::ExitCode;
 
-fn words(rt: &HostRuntime) -> Result<Vec<String>, Fault> {
-    let words = env::args(rt).map_err(Fault::of_words)?;
+fn words(rt: &HostRuntime) -> Result<Vec<String>, ProgramFault> {
+    let words = env::args(rt).map_err(ProgramFault::of_words)?;
     Ok(words.collect(rt.alloc())?)
 }
 

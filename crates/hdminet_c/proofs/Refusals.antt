@@ -15,8 +15,8 @@ use Rattle.cec_run.specs.declared.emulate.EmulateError.{EmulateError}
 use Rattle.cec_run.specs.declared.emulate.EmulateError.TheVariants as runs
 use Rattle.cec_text.specs.declared.assembler.AssembleError.{AssembleError}
 use Rattle.cec_text.specs.declared.assembler.AssembleError.TheVariants as texts
-use Rattle.cec_trace.specs.declared.root.EdidCause.{EdidCause}
-use Rattle.cec_trace.specs.declared.root.EdidCause.TheVariants as roots
+use Rattle.hdmi_blocks.specs.declared.root.EdidCause.{EdidCause}
+use Rattle.hdmi_blocks.specs.declared.root.EdidCause.TheVariants as roots
 use Rattle.hdmi_edid.specs.declared.base.BaseError.{BaseError}
 use Rattle.hdmi_edid.specs.declared.base.BaseError.TheVariants as bases
 use Rattle.hdmi_blocks.specs.declared.bytes.EdidError.{EdidError}

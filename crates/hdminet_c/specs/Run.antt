@@ -8,8 +8,8 @@ use Rattle.cec_run.specs.Emulate.{IsEdgeTraceOf, IsTold, IsTraceOf}
 use Rattle.cec_run.specs.declared.emulate.EmulateError.{EmulateError}
 use Rattle.cec_run.specs.declared.emulate.EmulateError.TheVariants as runs
 use Rattle.cec_run.specs.declared.run.Totals.{Totals}
-use Rattle.cec_trace.specs.declared.root.EdidCause.{EdidCause}
-use Rattle.cec_trace.specs.declared.root.EdidCause.TheVariants as roots
+use Rattle.hdmi_blocks.specs.declared.root.EdidCause.{EdidCause}
+use Rattle.hdmi_blocks.specs.declared.root.EdidCause.TheVariants as roots
 use Rattle.hdminet_room.specs.Faults.{edid_code, text_code}
 use Rattle.hdminet_room.specs.Room.{IsPut, refusal}
 use Rattle.hdminet_room.specs.declared.answer.Answer.{Answer}

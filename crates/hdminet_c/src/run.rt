@@ -6,7 +6,7 @@ use crate::held::Held;
 use cec_asm::{ScriptCause, TopologyCause};
 use cec_run::edges::emulate_edges;
 use cec_run::emulate::{EmulateError, emulate};
-use cec_trace::EdidCause;
+use hdmi_blocks::EdidCause;
 use hdminet_room::{Answer, Code, edid_code, put, refused, text_code};
 use std::alloc::Global;
 

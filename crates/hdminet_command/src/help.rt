@@ -1,4 +1,4 @@
-//! What `--help` tells.
+//! What `--help` reports.
 
 pub const ABOUT: &str =
     "Emulates a living-room HDMI network: a television, and below it devices that share one CEC wire.";
@@ -11,8 +11,7 @@ pub const EXPLAINED: &str =
     "  the subcommands are run, check, step, live, asm, dis, mon and edid; each reads standard input, as `hdminet run < FILE`\n";
 
 /// What follows a command line that is refused for a word that is no flag.
-pub const FILE_NAME: &str =
-    "  a file is read as standard input, behind `<`: `hdminet run < FILE`\n";
+pub const FILE_NAME: &str = "  a file is read as standard input, after `<`: `hdminet run < FILE`\n";
 
 /// What follows a command line that is refused for the word `help`.
 pub const HELP_WORD: &str =
@@ -176,7 +175,7 @@ pub const CHECK_ABOUT: &str = "Says whether a run is as its script expects";
 pub const CHECK_FLAGS: &[(&str, &str)] = &[
     (
         "trace",
-        "Prints behind the report the trace of the run, each line behind `# `",
+        "Prints after the report the trace of the run, each line after `# `",
     ),
     (
         "plain",
@@ -222,14 +221,14 @@ The input is that of `hdminet run`, and its script may also have labels and expe
   expect none .., expect once ..         no such round, or exactly one
   expect state T NAME WORD ..            at T the device's state line has each of these words
   expect refused NAME WORD               the event of this label is refused with the word
-A pattern is met by a round whose line in the trace begins with it behind its two times, without the word
+A pattern is met by a round whose line in the trace begins with it after its two times, without the word
 complete, up to the end of a word; `*` stands for any part of one word. A round is in a window where it
 begins and ends in it. The instant of a label is that at which its event was applied, or the end of the
 first round that meets its expectation.
 
 The output is in the Test Anything Protocol, version 13: a line `ok` or `not ok` for each expectation, in
 order, then one for each refused event that none expects. Below a failure stand the window and rounds in it,
-or the state line. Lines are counted from the line behind `script`.
+or the state line. Lines are counted from the line after `script`.
 
 An example:
   device tv tv 4
@@ -246,7 +245,7 @@ and what it gives:
   ok 2 - line 3: expect once within 200000 of on 4>f active-source 1.0.0.0 ok
   1..2
 
-With --trace the report is followed by a line `# trace` and the lines of the trace, each behind `# `. With
+With --trace the report is followed by a line `# trace` and the lines of the trace, each after `# `. With
 --plain the output is the topology, the line `script` and the script without labels and expectations, line
 for line, whose run the report speaks of:
   ./hdminet check --plain < film.test | ./hdminet run
@@ -275,14 +274,14 @@ With --json each line of the report is an object of JSON.
 Faults: those of `hdminet run`, and then `script line N: CAUSE` for the first label or expectation at fault;
 nothing is written then. CAUSE is the first of these that applies:
   word       no such expectation; a pattern of no or more than 160 bytes, or with more than four `*`; nothing
-             behind a label
+             after a label
   number     a number that is none
   name       a device that the topology does not declare
   label      a label that is empty or stands above already; one that no line above has; for a refusal, one
              that is no event's
   order      a window ends before it begins, or the time of a state is past `end`
   range      a second range
-The faults of a range come first of all; a script that is refused at an instant T of it has ` at T` behind
+The faults of a range come first of all; a script that is refused at an instant T of it has ` at T` after
 its fault. With --capture they are `no capture line`, `line N: CAUSE` of the capture as those of hdminet
 mon, and `expectations line N: CAUSE`.
 
@@ -292,7 +291,7 @@ fault, or input past 1048576 bytes; 4 no memory.";
 pub const STEP_ABOUT: &str = "Takes a run step by step, edge by edge or round by round";
 
 pub const STEP_HELP: &str = "\
-The input is that of `hdminet run`, and behind its `end` line a line `steps` and the steps, one a
+The input is that of `hdminet run`, and after its `end` line a line `steps` and the steps, one a
 line. Lines that are empty or begin with `#` are skipped.
   edge                    the next edge of the CEC line; it begins the next round where none is begun,
                           or where the last one has given all its edges
@@ -323,7 +322,7 @@ An example, and what it gives:
   until break             ended
 
 Faults: those of `hdminet run`; then `no steps line`, or `steps line N` for the first line that is no
-step, where N counts from the line behind `steps`. Nothing is written then.
+step, where N counts from the line after `steps`. Nothing is written then.
 
 Exit status: 0 done; 1 input refused; 2 command line refused; 3 a read or write fault, or input
 past 1048576 bytes; 4 no memory.";
@@ -343,7 +342,7 @@ Answers:
   = H                     the line is taken; the horizon
   = H idle                after `wait`: nothing comes any more, unless a line does
   = state NAME ...        after `show`
-  ! N CAUSE               line N behind `script` is refused, for a cause of scripts, or last `past`:
+  ! N CAUSE               line N after `script` is refused, for a cause of scripts, or last `past`:
                           it is for an instant before the horizon. It changes nothing
 Without the answers, what is written is the trace that `hdminet run` writes of the lines taken.
 At most 4096 pulses wait at a time: one that a round has taken counts no more once that is told.
@@ -399,7 +398,7 @@ past 1048576 bytes; 4 no memory.";
 
 /// What the list of the forms of frames begins with.
 pub const ASM_FORMS: &str = "\
-The frames of each opcode that has a name, by its hex digits, behind `I>D` and a space; what stands in
+The frames of each opcode that has a name, by its hex digits, after `I>D` and a space; what stands in
 brackets may be left out:";
 
 pub const DIS_ABOUT: &str = "Writes CEC frames in hex as texts";
@@ -407,7 +406,7 @@ pub const DIS_ABOUT: &str = "Writes CEC frames in hex as texts";
 pub const DIS_HELP: &str = "\
 The input has the bytes of a frame a line, in hex: header, opcode and operands. Lines that are empty or
 begin with `#` are skipped, but counted. The output has the text of each frame in a line, as
-`hdminet asm` takes it; behind it stands ` # ` and a word of the standard where the text leaves the
+`hdminet asm` takes it; after it stands ` # ` and a word of the standard where the text leaves the
 opcode or an operand as bytes.
 
 Each byte has two hex digits of either case, with `0x` before them or not. Between bytes there may be
@@ -523,7 +522,7 @@ stands a summary; with --timing the widths of each reading's parts too:
 With --json each line of the output is an object of JSON, whose first field is that line.
 
 Faults: `line N: CAUSE` for the first line at fault; nothing is written then. Of an edge file CAUSE is line
-(ill-formed, past the limit or behind the end; or the line after the last, where no end is there) or order
+(ill-formed, past the limit or after the end; or the line after the last, where no end is there) or order
 (out of turn or time); of the others also word, scale, signal, time, late and end, as docs/captures.md
 has them.
 
@@ -638,7 +637,7 @@ device: the EDID that a device there reads. Below an amplifier it has the amplif
 Faults: `edid: CAUSE` with length, count (byte 126 does not tell the extensions), base header, base
 checksum, base revision, base maker or ext N checksum, and no-hdmi-block where there is no place for an
 address; `dump: none`, `dump: cut N` or `dump: long N` with --hex, where no line begins an EDID, or line N
-does not go on with it, or goes past 512 bytes; `edid: a rule fails` behind the rules of --check; with --text `text: syntax N` or
+does not go on with it, or goes past 512 bytes; `edid: a rule fails` after the rules of --check; with --text `text: syntax N` or
 `text: field N`, for the first line that no EDID's text has there. Nothing is written then.
 
 Exit status: 0 done; 1 input refused; 2 command line refused; 3 a read or write fault, or input

@@ -34,7 +34,7 @@ fn is_low_before(place: Place<'_>) -> bool {
     is_low
 }
 
-// The word behind a line's time. A line with no fault of its own stands behind the end.
+// The word after a line's time. A line with no fault of its own stands after the end.
 fn behind_time(line: &str) -> Option<Mark> {
     match word_at(line, 1) {
         Some("0" | "1" | "end") => from(if word_count(line) > 2 { 2 } else { 0 }),

@@ -13,7 +13,7 @@ pub struct Unlabelled<'a> {
     pub line: &'a str,
 }
 
-// The name of a label, and the line behind it.
+// The name of a label, and the line after it.
 fn label_of(line: &str) -> Option<(&str, &str)> {
     line.strip_prefix("label ")?.split_once(' ')
 }

@@ -68,7 +68,7 @@ fn add_script_line(
     is_key && add_key(draft, place, line, word)
 }
 
-// The opcode whose two hex digits stand behind `op-`.
+// The opcode whose two hex digits stand after `op-`.
 fn code_in_digits(word: &str) -> Option<u8> {
     let digits = word.strip_prefix("op-")?;
     if digits.len() != 2 {
@@ -77,7 +77,7 @@ fn code_in_digits(word: &str) -> Option<u8> {
     u8::from_str_radix(digits, 16).ok()
 }
 
-// Whether a line has hex of operands that stands in more than one word, behind its first words.
+// Whether a line has hex of operands that stands in more than one word, after its first words.
 fn is_spaced_hex(line: &str, operands: usize) -> bool {
     match word_at(line, operands) {
         Some(word) => word.starts_with(":") && word_count(line) > operands.saturating_add(1),
@@ -144,7 +144,7 @@ fn add_fields(draft: &mut Draft, line: &str) {
     }
 }
 
-/// The forms that a line could have, or the line that it should not stand behind. Returns whether what would be right in place
+/// The forms that a line could have, or the line that it should not stand after. Returns whether what would be right in place
 /// of any fault of this cause is of no use then.
 pub fn add_right_forms(
     draft: &mut Draft,

@@ -8,7 +8,7 @@ use cec_opcode::WordSet;
 use hdmi_core::Kind;
 use hdminet_help::{Draft, add_keys_of, add_set};
 
-/// The number of a key's first word, behind `at T press NAME`.
+/// The number of a key's first word, after `at T press NAME`.
 const KEY: usize = 4;
 
 /// Whether a word of a line, by its number, is one of a key.

@@ -1,7 +1,7 @@
 //! Numbers that are written otherwise.
 use hdminet_help::Draft;
 
-/// Units of time behind a number, and how many microseconds each is.
+/// Units of time after a number, and how many microseconds each is.
 const UNITS: &[(&str, u64)] = &[("us", 1), ("ms", 1_000), ("s", 1_000_000)];
 
 // The number that the digits of a word spell, marks between them aside.

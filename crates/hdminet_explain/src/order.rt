@@ -17,7 +17,7 @@ struct Earlier {
     instant: u64,
 }
 
-// The word of this number, from 0, behind a line's first word, as a number.
+// The word of this number, from 0, after a line's first word, as a number.
 fn number_behind(line: &[u8], word: &str, index: usize) -> Option<u64> {
     let words = without_label(str::from_utf8(line).ok()?)
         .line

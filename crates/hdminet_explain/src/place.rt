@@ -17,7 +17,7 @@ pub fn is_line_end(byte: &u8) -> bool {
     *byte == b'\n'
 }
 
-// The line of this number, from 1, behind some others.
+// The line of this number, from 1, after some others.
 fn line_of(input: &[u8], before: usize, line: u64) -> Option<Place<'_>> {
     let number = before.saturating_add(usize::try_from(line).ok()?);
     let index = number.checked_sub(1)?;
@@ -65,7 +65,7 @@ fn find_like<'a>(input: &'a [u8], texts: &[&str]) -> Option<Place<'a>> {
     None
 }
 
-// The line that was meant to part an input, or else the first line that stands behind it in other inputs.
+// The line that was meant to part an input, or else the first line that stands after it in other inputs.
 fn find_parting<'a>(input: &'a [u8], parting: &str, behind: &[&str]) -> Option<Place<'a>> {
     match find_like(input, &[parting]) {
         Some(place) => Some(place),
@@ -73,7 +73,7 @@ fn find_parting<'a>(input: &'a [u8], parting: &str, behind: &[&str]) -> Option<P
     }
 }
 
-// How many lines there are up to the first one behind some others that reads so; none where there is no such line.
+// How many lines there are up to the first one after some others that reads so; none where there is no such line.
 fn lines_to(input: &[u8], after: usize, text: &str) -> usize {
     let mut number = 0usize;
     for line in input.split(is_line_end) {
@@ -160,7 +160,7 @@ pub fn place_of(input: &[u8], what: Input, fault: Fault) -> Option<Place<'_>> {
     }
 }
 
-/// The words of a line that declares a device, behind `device`.
+/// The words of a line that declares a device, after `device`.
 fn declaration(line: &[u8]) -> Option<&str> {
     str::from_utf8(line).ok()?.strip_prefix("device ")
 }

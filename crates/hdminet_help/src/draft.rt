@@ -42,7 +42,7 @@ impl Draft {
         }
     }
 
-    /// Adds some pieces, one behind the other.
+    /// Adds some pieces, one after the other.
     pub fn add_all(&mut self, pieces: &[&str]) {
         for piece in pieces {
             self.add(piece);

@@ -1,8 +1,8 @@
 //! The words of frames, from the tables of opcodes.
 use crate::draft::Draft;
 use crate::list::list_set;
+use cec_frame_shapes::{frame_shape, set_label};
 use cec_opcode::{Operand, Operands, WordSet, name, operands_of};
-use cec_shape::{frame_shape, set_label};
 use std::alloc::{AllocError, Global};
 
 /// The sets of words, in the order in which help lists them.

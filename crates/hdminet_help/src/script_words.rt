@@ -107,13 +107,13 @@ fn other_keys() -> [(&'static str, Key); 8] {
     ]
 }
 
-/// The forms of the keys that a kind has, with commas between them, behind a text.
+/// The forms of the keys that a kind has, with commas between them, after a text.
 pub fn add_keys_of(draft: &mut Draft, kind: Kind, behind: &str) {
     let before = add_forms(draft, kind, plain_keys().as_slice(), behind);
     let _ = add_forms(draft, kind, other_keys().as_slice(), before);
 }
 
-/// The words of a set, behind a label, in lines of some columns.
+/// The words of a set, after a label, in lines of some columns.
 pub fn add_set(draft: &mut Draft, label: &str, set: WordSet) {
     list_set(draft, label, label.len(), set);
 }

@@ -8,7 +8,6 @@ pub use cec_run::edges::emulate_edges;
 pub use cec_run::emulate::{EmulateError, emulate};
 pub use cec_step::step_run::{StepRunError, step_run};
 pub use cec_text::{AssembleError, FrameLinesError, LineFault, asm_lines};
-pub use cec_trace::EdidCause;
-pub use hdmi_blocks::EdidError;
+pub use hdmi_blocks::{EdidCause, EdidError};
 pub use hdmi_convert::{EdidToTextError, TextToHexError, edid_to_text, text_to_hex};
 pub use hdmi_core::{Sink, WriteFault, Writes};

@@ -1,4 +1,4 @@
--- The lines of a text, one behind another.
+-- The lines of a text, one after another.
 use Rattle.std.proofs.Common.{◌≡◌, ◌≢◌, ℕ, ◌+◌, ◌-◌, ◌<◌, ◌≤◌, ◌==◌, suc, Bool, true, false, List, [], ◌∷◌, ◌++◌, length, take, drop, get_or, All, refl, sym, ap, subst, ◌∙◌, append_assoc, append-nil, arith, add-one, drop-cons, length-drop, length-take-le, inl, inr}
 use Rattle.std.proofs.Math.Seq.{take-add, take_all}
 use Rattle.std.proofs.lemmas.Bool.{cases_lt, eqb-true}
@@ -24,7 +24,7 @@ first_line-whole text n e within k d short =
     let fails = fails_before_first (λ b. b == 10) text k d before in
     grind (arith, nat_tests, common_steps, fails)
 
--- and its end stands behind it
+-- and its end stands after it
 feed_there : (text : List ℕ) (n : ℕ) → n ≡ line_len text → n < length text → drop n text ≡ 10 ∷ drop (suc n) text
 feed_there text n e short =
     let feed : get_or text n 0 ≡ 10 = eqb-true (get_or text n 0) 10 (rw e (passes_at_first (λ b. b == 10) text 0 (rw (← e) short))) in

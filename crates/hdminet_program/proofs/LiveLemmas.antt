@@ -7,7 +7,7 @@ use Rattle.std.proofs.lemmas.List.Sums.{AllPass-from_list_all}
 use Rattle.hdmi_core.specs.declared.buffered.Buffered.{Buffered}
 use Rattle.hdmi_core.specs.Buffered.{below, pending}
 use Rattle.hdmi_core.proofs.CutShort.{Appends-trans}
-use Rattle.cec_words.specs.Lines.{lines_of}
+use Rattle.hdmi_core.specs.Lines.{lines_of}
 use Rattle.cec_incoming.specs.Incoming.{IsWhole, text_of_lines}
 use Rattle.cec_incoming.proofs.Coming.{lines_again}
 use Rattle.cec_dialogue.specs.Dialogue.{IsDone, first_told}
@@ -48,7 +48,7 @@ alone known rest old new d = record {
   trace = d.trace;
 }
 
--- ---- an input that no reader tells
+-- ---- an input that no reader reports
 
 no_end : (byte : ℕ) → not (byte == 10) ≡ true → byte ≢ 10
 no_end byte other same = false≢true (sym (ap (λ b. not (b == 10)) same) ∙ other)

@@ -1,4 +1,4 @@
--- What is written of a test: a report, a report and behind it the remarks of a trace, stretches, the report of a capture.
+-- What is written of a test: a report, a report and after it the remarks of a trace, stretches, the report of a capture.
 use Rattle.std.proofs.Common.{◌≡◌, ℕ, Bool, true, List, ◌++◌, Option, None, Ok, inl, inr, not, length, filter, refl, sym, ap, subst, ◌∙◌}
 use Rattle.std.specs.Io.KnownBytes.{Appends}
 use Rattle.cec_capture_check.specs.Check.{IsCaptureChecked, capture_report}

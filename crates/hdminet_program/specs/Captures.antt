@@ -10,13 +10,13 @@ use Rattle.cec_mon.specs.Joined.{IsJoined, capture_text}
 use Rattle.cec_mon.specs.Watch.{as_file, file_readings, readings_text}
 use Rattle.cec_signal.specs.Edges.{Captured, line_of_edges}
 use Rattle.cec_wave.specs.declared.Edge.{Edge}
-use Rattle.cec_smooth.specs.Smooth.{smoothed}
+use Rattle.cec_smooth.specs.Smooth.{smooth_edges}
 use Rattle.hdminet_words.specs.declared.choice.Form.{Form}
 use Rattle.hdminet_words.specs.declared.choice.Form.TheVariants.{Edges, Vcd, Pin, Csv}
 use Rattle.hdminet_words.specs.declared.choice.Report.{Report}
 use Rattle.hdminet_words.specs.declared.choice.Report.TheVariants.{Readings, FromIdle, Audit, Timing}
 
--- the form of a capture: what is asked for, or else what its first line tells
+-- the form of a capture: what is asked for, or else what its first line reports
 abbrev pub form_of : Option Form → List ℕ → CaptureForm
 form_of None input = line_form input
 form_of (Some Edges) input = forms.Edges
@@ -39,11 +39,11 @@ name_of None = []
 name_of (Some name) = name
 
 -- its edges without pulses and gaps that are too short
-abbrev pub kept : ℕ → List Edge → List Edge
-kept glitch edges = if glitch == 0 then edges else smoothed glitch edges
+abbrev pub edges_kept : ℕ → List Edge → List Edge
+edges_kept glitch edges = if glitch == 0 then edges else smooth_edges glitch edges
 
 abbrev pub without_short : ℕ → Captured → Captured
-without_short glitch c = record { edges = kept glitch c.edges; end = c.end }
+without_short glitch c = record { edges = edges_kept glitch c.edges; end = c.end }
 
 -- this text is a report of a capture
 abbrev pub IsReport : Report → Captured → List ℕ → Type 0
@@ -56,7 +56,7 @@ IsReport Timing c text = text ≡ audit_text true c
 abbrev pub Reports : Report → Captured → Option (List ℕ) → Option (List ℕ) → Type 0
 Reports report c old new = (text : List ℕ) × IsReport report c text × Appends old new text
 
--- the report of the capture that an input tells, by its form and the name of its wire
+-- the report of the capture that an input gives, by its form and the name of its wire
 abbrev pub IsHeard : CaptureForm → List ℕ → ℕ → Report → List ℕ → List ℕ → Type 0
 IsHeard form name glitch report input text = (c : Captured) × (capture_in form name input ≡ Ok c) × IsReport report (without_short glitch c) text
 

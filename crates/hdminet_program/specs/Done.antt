@@ -14,8 +14,8 @@ use Rattle.cec_report_json.specs.declared.object.Report.TheVariants as kinds
 use Rattle.cec_run.specs.Emulate.{IsLineOf, IsTraceOf}
 use Rattle.cec_run.specs.declared.run.Totals.{Totals}
 use Rattle.cec_step.specs.StepRun.{AreStepsOf}
-use Rattle.cec_text.specs.FrameLines.{AreTextsOf, hex_line as frame_line, told}
-use Rattle.cec_words.specs.Lines.{lines_of}
+use Rattle.cec_text.specs.FrameLines.{AreTextsOf, hex_line as frame_line, lines_of_frames}
+use Rattle.hdmi_core.specs.Lines.{lines_of}
 use Rattle.hdminet_words.specs.Line.{asked_by}
 use Rattle.hdminet_words.specs.MonFlags.{signal_in}
 use Rattle.hdminet_words.specs.declared.choice.Asked.{Asked}
@@ -62,7 +62,7 @@ pub record IsTestDone (view : TestView) (input text : List ℕ) : Type 0 where
   pub parts : IsRunInput input topology script
   pub test : IsTestOf view topology script text
 
--- behind the script and a line `steps` stand commands, whose steps these are
+-- after the script and a line `steps` stand commands, whose steps these are
 pub record AreStepsDone (input text : List ℕ) : Type 0 where
   pub topology : List ℕ
   pub rest : List ℕ
@@ -115,7 +115,7 @@ IsDone (Check view) name input text = IsTestDone view input text
 IsDone (CheckCapture form glitch) name input text = IsCaptureTest form name glitch input text
 IsDone Step name input text = AreStepsDone input text
 IsDone Live name input text = IsLiveDone input text
-IsDone Asm name input text = (frames : List (List ℕ)) × AreTextsOf (told (lines_of input)) frames × (text ≡ flat_map frame_line frames)
+IsDone Asm name input text = (frames : List (List ℕ)) × AreTextsOf (lines_of_frames (lines_of input)) frames × (text ≡ flat_map frame_line frames)
 IsDone Dis name input text = (first_fault 1 (lines_of input) ≡ None) × (text ≡ flat_map line_text (lines_of input))
 IsDone (Mon form glitch report) name input text = IsHeard (form_of form input) name glitch (report_of report (form_of form input)) input text
 IsDone (Json objects) name input text = (lines : List ℕ) × AreLines objects name input lines × AreObjectsOf objects lines text

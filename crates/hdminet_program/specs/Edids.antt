@@ -15,12 +15,12 @@ use Rattle.hdmi_convert.specs.Passing.{IsPassedOn}
 use Rattle.hdmi_convert.specs.declared.form.Form.{Form}
 use Rattle.hdmi_convert.specs.declared.form.Form.TheVariants as forms
 use Rattle.hdmi_convert.specs.declared.passing.Passing.{Passing}
-use Rattle.hdmi_convert.specs.declared.passing.Place.TheVariants as to
+use Rattle.hdmi_convert.specs.declared.passing.Destination.TheVariants as to
 use Rattle.hdmi_core.specs.declared.phys.Phys.{Phys}
-use Rattle.hdmi_dump.specs.Dump.{dumped}
+use Rattle.hdmi_dump.specs.Dump.{edid_in_dump}
 use Rattle.hdmi_edtext.specs.Lines.{edid_text}
-use Rattle.hdminet_words.specs.declared.choice.Place.{Place}
-use Rattle.hdminet_words.specs.declared.choice.Place.TheVariants.{Own, At, Port}
+use Rattle.hdminet_words.specs.declared.choice.Recipient.{Recipient}
+use Rattle.hdminet_words.specs.declared.choice.Recipient.TheVariants.{Own, At, Port}
 use Rattle.hdminet_words.specs.declared.choice.Shape.{Shape}
 use Rattle.hdminet_words.specs.declared.choice.Shape.TheVariants as shapes
 use Rattle.hdminet_words.specs.declared.choice.Source.{Source}
@@ -42,13 +42,13 @@ at address = record { place = to.Address address; audio = Television }
 abbrev pub in_port : ℕ → Bool → Passing
 in_port port amplified = record { place = to.Port port; audio = if amplified then Amplifier else Television }
 
-abbrev pub IsFor : Place → List ℕ → Edid → Type 0
+abbrev pub IsFor : Recipient → List ℕ → Edid → Type 0
 IsFor Own bytes e = edid_bytes e ≡ bytes
 IsFor (At address) bytes e = IsPassedOn bytes (at address) e
 IsFor (Port port amplified) bytes e = IsPassedOn bytes (in_port port amplified) e
 
 -- the rules are those for the EDID of a display, or for one that is passed on
-abbrev pub origin_of : Place → Origin
+abbrev pub origin_of : Recipient → Origin
 origin_of Own = origins.Display
 origin_of (At address) = origins.Port
 origin_of (Port port amplified) = origins.Port
@@ -73,16 +73,16 @@ ShowsRules passing bytes old new =
     × ((e : Edid) × IsPassedOn bytes passing e × (text ≡ findings_text (faults_of origins.Port e)) × (some_failure (faults_of origins.Port e) ≡ false))
     × Appends old new text
 
--- the bytes of the EDID that an input tells
+-- the bytes of the EDID that an input gives
 abbrev pub IsTold : Source → List ℕ → List ℕ → Type 0
 IsTold sources.Bytes input bytes = bytes ≡ input
-IsTold sources.Dump input bytes = dumped input ≡ Ok bytes
+IsTold sources.Dump input bytes = edid_in_dump input ≡ Ok bytes
 IsTold sources.Text input bytes = (e : Edid) × (edid_text e ≡ input) × (bytes ≡ edid_bytes e)
 
 -- a view is written, and nothing else
 abbrev pub Shows : View → List ℕ → Option (List ℕ) → Option (List ℕ) → Type 0
 Shows view bytes old new = (text : List ℕ) × IsShown view bytes text × Appends old new text
 
--- of the EDID that an input tells
+-- of the EDID that an input gives
 abbrev pub Made : Source → View → List ℕ → Option (List ℕ) → Option (List ℕ) → Type 0
 Made source view input old new = (bytes : List ℕ) × IsTold source input bytes × Shows view bytes old new

@@ -11,11 +11,11 @@ use Rattle.cec_run.specs.declared.run.Totals.{Totals}
 use Rattle.cec_sweep.specs.Script.{range_of}
 use Rattle.cec_sweep.specs.Stretches.{Stretch, all_hold, stretches_text}
 use Rattle.cec_sweep.specs.Sweep.{IsSweepOf}
-use Rattle.cec_words.specs.Lines.{lines_of}
+use Rattle.hdmi_core.specs.Lines.{lines_of}
 use Rattle.hdminet_words.specs.declared.choice.TestView.{TestView}
 use Rattle.hdminet_words.specs.declared.choice.TestView.TheVariants as views
 
--- the lines of a trace as remarks, behind a line that says so
+-- the lines of a trace as remarks, after a line that says so
 abbrev pub remark_line : List ℕ → List ℕ
 remark_line line = codes "# " ++ line ++ codes "\n"
 
@@ -39,7 +39,7 @@ AreHeld topology script text = (stretches : List Stretch) × IsSweepOf topology 
 abbrev pub IsReported : List ℕ → List ℕ → List ℕ → Type 0
 IsReported topology script text = ((range_of script ≡ Ok None) × IsPassed topology script text) ⊎ AreHeld topology script text
 
--- the report, and behind it the trace
+-- the report, and after it the trace
 abbrev pub IsTraced : List ℕ → List ℕ → List ℕ → Type 0
 IsTraced topology script text =
     (tests : List ℕ) × (remarks : List ℕ) × IsPassed topology script tests × AreRemarksOf topology script remarks × (text ≡ tests ++ remarks)

@@ -1,21 +1,21 @@
-//! What is told of a capture.
+//! What is reported of a capture.
 ghost use Rattle.std.specs.Prelude.{◌≡◌, OnOk, IfOk};
-ghost use Rattle.hdminet_program.specs.Captures.{Heard, Reports, form_of, kept, report_of};
+ghost use Rattle.hdminet_program.specs.Captures.{Heard, Reports, form_of, edges_kept, report_of};
 
-use crate::fault::Fault;
+use crate::fault::ProgramFault;
 use arrayvec::ArrayString;
 use cec_audit::{AuditOptions, audit_capture};
 use cec_formats::{Form as CaptureForm, read_capture};
 use cec_mon::{watch_capture, watch_from_idle};
 use cec_pin::lost_lines;
 use cec_signal::Capture;
-use cec_smooth::smoothed;
+use cec_smooth::smooth_edges;
 use hdmi_core::{Sink, put_all};
 use hdminet_words::{Form, Report};
 use std::alloc::{AllocError, Global};
 use std::fmt::Write;
 
-/// The form of a capture: what is asked for, or else what its first line tells.
+/// The form of a capture: what is asked for, or else what its first line reports.
 pub fn form_of(form: Option<Form>, input: &[u8]) -> CaptureForm
     ensures { result ≡ form_of form input.now }
 {
@@ -43,42 +43,42 @@ fn report_of(report: Option<Report>, form: CaptureForm) -> Report
 
 /// A capture without pulses and gaps that are too short.
 pub fn without_short(alloc: Global, glitch: u64, whole: Capture) -> Result<Capture, AllocError>
-    ensures edges { IfOk result (λ c. c.edges ≡ kept glitch whole.edges) }
+    ensures edges { IfOk result (λ c. c.edges ≡ edges_kept glitch whole.edges) }
     ensures end { IfOk result (λ c. c.end ≡ whole.end) }
 {
     if glitch == 0 {
         Ok(whole)
     } else {
-        smoothed(alloc, &whole, glitch)
+        smooth_edges(alloc, &whole, glitch)
     }
 }
 
-fn write_readings<W: Sink>(capture: &Capture, out: &mut W) -> Result<(), Fault>
+fn write_readings<W: Sink>(capture: &Capture, out: &mut W) -> Result<(), ProgramFault>
     ensures { OnOk result (Reports Report.Readings capture.now (W.contents out.old) (W.contents out.new)) }
 {
     Ok(watch_capture(capture, out)?)
 }
 
-fn write_from_idle<W: Sink>(capture: &Capture, out: &mut W) -> Result<(), Fault>
+fn write_from_idle<W: Sink>(capture: &Capture, out: &mut W) -> Result<(), ProgramFault>
     ensures { OnOk result (Reports Report.FromIdle capture.now (W.contents out.old) (W.contents out.new)) }
 {
     Ok(watch_from_idle(capture, out)?)
 }
 
-fn write_audit<W: Sink>(capture: &Capture, out: &mut W) -> Result<(), Fault>
+fn write_audit<W: Sink>(capture: &Capture, out: &mut W) -> Result<(), ProgramFault>
     ensures { OnOk result (Reports Report.Audit capture.now (W.contents out.old) (W.contents out.new)) }
 {
     Ok(audit_capture(capture, AuditOptions { timing: false }, out)?)
 }
 
-fn write_timing<W: Sink>(capture: &Capture, out: &mut W) -> Result<(), Fault>
+fn write_timing<W: Sink>(capture: &Capture, out: &mut W) -> Result<(), ProgramFault>
     ensures { OnOk result (Reports Report.Timing capture.now (W.contents out.old) (W.contents out.new)) }
 {
     Ok(audit_capture(capture, AuditOptions { timing: true }, out)?)
 }
 
 // Writes what is asked for of a capture.
-fn write_report<W: Sink>(capture: &Capture, report: Report, out: &mut W) -> Result<(), Fault>
+fn write_report<W: Sink>(capture: &Capture, report: Report, out: &mut W) -> Result<(), ProgramFault>
     ensures { OnOk result (Reports report capture.now (W.contents out.old) (W.contents out.new)) }
 {
     match report {
@@ -99,7 +99,7 @@ fn listen<W: Sink>(
     report: Report,
     input: &[u8],
     out: &mut W,
-) -> Result<(), Fault>
+) -> Result<(), ProgramFault>
     ensures { OnOk result (Heard form signal.now glitch report input.now (W.contents out.old) (W.contents out.new)) }
 {
     let whole = read_capture(alloc, form, signal, input)?;
@@ -107,7 +107,7 @@ fn listen<W: Sink>(
     write_report(&kept, report, out)
 }
 
-/// Writes what is asked for of a capture: in a form, or in the one that its first line tells, of the wire of a name, or the
+/// Writes what is asked for of a capture: in a form, or in the one that its first line reports, of the wire of a name, or the
 /// first where that is empty.
 pub fn monitor<W: Sink>(
     alloc: Global,
@@ -117,7 +117,7 @@ pub fn monitor<W: Sink>(
     report: Option<Report>,
     input: &[u8],
     out: &mut W,
-) -> Result<(), Fault>
+) -> Result<(), ProgramFault>
     ensures { OnOk result (Heard (form_of form input.now) signal.now glitch (report_of report (form_of form input.now)) input.now (W.contents out.old) (W.contents out.new)) }
 {
     let form = form_of(form, input);

@@ -1,10 +1,10 @@
-//! What is told of a test of a capture: whether it is as its expectations have it.
+//! What is reported of a test of a capture: whether it is as its expectations have it.
 ghost use Rattle.std.specs.Prelude.{◌≡◌, OnOk};
 ghost use Rattle.hdminet_program.specs.CaptureTests.{WritesCaptureTest, WritesPassedBy};
 
 use crate::capture::{form_of, without_short};
 use crate::expectations::passed;
-use crate::fault::Fault;
+use crate::fault::ProgramFault;
 use crate::parts::capture_parts;
 use cec_capture_check::check_capture;
 use cec_formats::read_capture;
@@ -20,7 +20,7 @@ fn write_report<W: Sink>(
     glitch: u64,
     whole: Capture,
     out: &mut W,
-) -> Result<(), Fault>
+) -> Result<(), ProgramFault>
     ensures { OnOk result (WritesPassedBy expectations.now glitch whole (W.contents out.old) (W.contents out.new)) }
 {
     let kept = without_short(alloc, glitch, whole)?;
@@ -28,7 +28,7 @@ fn write_report<W: Sink>(
     passed(tally)
 }
 
-/// Writes the report of whether a capture is as its expectations have it: in a form, or in the one that its first line tells, of
+/// Writes the report of whether a capture is as its expectations have it: in a form, or in the one that its first line reports, of
 /// the wire of a name, or the first where that is empty. A report with a test that failed is written, and then a fault.
 #[inline(never)]
 pub fn write_capture_test<W: Sink>(
@@ -38,7 +38,7 @@ pub fn write_capture_test<W: Sink>(
     glitch: u64,
     input: &[u8],
     out: &mut W,
-) -> Result<(), Fault>
+) -> Result<(), ProgramFault>
     ensures { OnOk result (WritesCaptureTest form signal.now glitch input.now (W.contents out.old) (W.contents out.new)) }
 {
     let (expectations, taken) = capture_parts(input)?;

@@ -5,19 +5,19 @@ ghost use Rattle.hdminet_program.specs.Edids.{Made, Shows, ShowsPassed, ShowsRul
 ghost use Rattle.hdmi_core.specs.Written.{WrittenAll};
 ghost use Rattle.hdmi_convert.specs.Form.{hex_line};
 
-use crate::fault::Fault;
+use crate::fault::ProgramFault;
 use hdmi_annotate::edid_to_meaning;
 use hdmi_blocks::{AudioFrom, Edid, edid_from_bytes, edid_to_bytes};
 use hdmi_check::Origin;
 use hdmi_convert::{
-    EdidToTextError, Form, Passing, Place as PassedTo, TextToHexError, check_passed_on,
+    Destination as PassedTo, EdidToTextError, Form, Passing, TextToHexError, check_passed_on,
     edid_to_findings, edid_to_text, write_address, write_passed_on,
 };
 use hdmi_core::{Phys, Piece, Sink, WriteFault, Writes, put_all, write_line};
 use hdmi_dump::dump_bytes;
 use hdmi_edtext::parse_text;
 use hdmi_explain::{explain_findings, explain_no_hdmi};
-use hdminet_words::{Place, Shape, Source, View};
+use hdminet_words::{Recipient, Shape, Source, View};
 use std::alloc::{AllocError, Global};
 
 fn form_of(shape: Shape) -> Form
@@ -57,12 +57,12 @@ fn in_port(port: u8, amplified: bool) -> Passing
 
 // The EDID of some bytes.
 #[inline(never)]
-fn edid_of(bytes: &[u8]) -> Result<Edid, Fault>
+fn edid_of(bytes: &[u8]) -> Result<Edid, ProgramFault>
     ensures { IfOk result (λ e. edid_bytes e ≡ bytes.now) }
 {
     match edid_from_bytes(bytes) {
         Ok(edid) => Ok(edid),
-        Err(cause) => Err(Fault::EdidToText(EdidToTextError::Edid(cause))),
+        Err(cause) => Err(ProgramFault::EdidToText(EdidToTextError::Edid(cause))),
     }
 }
 
@@ -76,29 +76,29 @@ fn write_hex_line<S: Sink>(bytes: &[u8], out: &mut S) -> Result<(), WriteFault>
     }
 }
 
-fn write_as_text<W: Sink>(bytes: &[u8], out: &mut W) -> Result<(), Fault>
-    ensures { OnOk result (Shows (View.Whole Place.Own Shape.Text) bytes.now (W.contents out.old) (W.contents out.new)) }
+fn write_as_text<W: Sink>(bytes: &[u8], out: &mut W) -> Result<(), ProgramFault>
+    ensures { OnOk result (Shows (View.Whole Recipient.Own Shape.Text) bytes.now (W.contents out.old) (W.contents out.new)) }
 {
     Ok(edid_to_text(bytes, out)?)
 }
 
-fn write_as_hex<W: Sink>(bytes: &[u8], out: &mut W) -> Result<(), Fault>
-    ensures { OnOk result (Shows (View.Whole Place.Own Shape.Hex) bytes.now (W.contents out.old) (W.contents out.new)) }
+fn write_as_hex<W: Sink>(bytes: &[u8], out: &mut W) -> Result<(), ProgramFault>
+    ensures { OnOk result (Shows (View.Whole Recipient.Own Shape.Hex) bytes.now (W.contents out.old) (W.contents out.new)) }
 {
     let _edid = edid_of(bytes)?;
     Ok(write_hex_line(bytes, out)?)
 }
 
-fn write_as_bytes<W: Sink>(bytes: &[u8], out: &mut W) -> Result<(), Fault>
-    ensures { OnOk result (Shows (View.Whole Place.Own Shape.Bytes) bytes.now (W.contents out.old) (W.contents out.new)) }
+fn write_as_bytes<W: Sink>(bytes: &[u8], out: &mut W) -> Result<(), ProgramFault>
+    ensures { OnOk result (Shows (View.Whole Recipient.Own Shape.Bytes) bytes.now (W.contents out.old) (W.contents out.new)) }
 {
     let _edid = edid_of(bytes)?;
     Ok(put_all(out, bytes)?)
 }
 
 // Writes the EDID of some bytes.
-fn write_own<W: Sink>(bytes: &[u8], shape: Shape, out: &mut W) -> Result<(), Fault>
-    ensures { OnOk result (Shows (View.Whole Place.Own shape) bytes.now (W.contents out.old) (W.contents out.new)) }
+fn write_own<W: Sink>(bytes: &[u8], shape: Shape, out: &mut W) -> Result<(), ProgramFault>
+    ensures { OnOk result (Shows (View.Whole Recipient.Own shape) bytes.now (W.contents out.old) (W.contents out.new)) }
 {
     match shape {
         Shape::Text => write_as_text(bytes, out),
@@ -113,20 +113,25 @@ fn write_passed<W: Sink>(
     passing: Passing,
     shape: Shape,
     out: &mut W,
-) -> Result<(), Fault>
+) -> Result<(), ProgramFault>
     ensures { OnOk result (ShowsPassed passing shape bytes.now (W.contents out.old) (W.contents out.new)) }
 {
     Ok(write_passed_on(bytes, passing, form_of(shape), out)?)
 }
 
 // Writes the EDID of some bytes, for a device.
-fn write_whole<W: Sink>(bytes: &[u8], place: Place, shape: Shape, out: &mut W) -> Result<(), Fault>
+fn write_whole<W: Sink>(
+    bytes: &[u8],
+    place: Recipient,
+    shape: Shape,
+    out: &mut W,
+) -> Result<(), ProgramFault>
     ensures { OnOk result (Shows (View.Whole place shape) bytes.now (W.contents out.old) (W.contents out.new)) }
 {
     match place {
-        Place::Own => write_own(bytes, shape, out),
-        Place::At(address) => write_passed(bytes, at(address), shape, out),
-        Place::Port { port, amplified } => write_passed(
+        Recipient::Own => write_own(bytes, shape, out),
+        Recipient::At(address) => write_passed(bytes, at(address), shape, out),
+        Recipient::Port { port, amplified } => write_passed(
             bytes,
             in_port(port, amplified),
             shape,
@@ -136,25 +141,25 @@ fn write_whole<W: Sink>(bytes: &[u8], place: Place, shape: Shape, out: &mut W) -
 }
 
 // Nothing, unless a rule fails.
-fn unless_failed(fails: bool) -> Result<(), Fault>
+fn unless_failed(fails: bool) -> Result<(), ProgramFault>
     ensures { OnOk result (fails ≡ false) }
 {
     if fails {
-        return Err(Fault::RuleFails);
+        return Err(ProgramFault::RuleFails);
     }
     Ok(())
 }
 
 // Writes the rules that the EDID of some bytes breaks.
-fn check_own<W: Sink>(bytes: &[u8], out: &mut W) -> Result<(), Fault>
-    ensures { OnOk result (Shows (View.Findings Place.Own) bytes.now (W.contents out.old) (W.contents out.new)) }
+fn check_own<W: Sink>(bytes: &[u8], out: &mut W) -> Result<(), ProgramFault>
+    ensures { OnOk result (Shows (View.Findings Recipient.Own) bytes.now (W.contents out.old) (W.contents out.new)) }
 {
     let fails = edid_to_findings(bytes, out)?;
     unless_failed(fails)
 }
 
 // Writes the rules that what is passed on of it breaks.
-fn check_passed<W: Sink>(bytes: &[u8], passing: Passing, out: &mut W) -> Result<(), Fault>
+fn check_passed<W: Sink>(bytes: &[u8], passing: Passing, out: &mut W) -> Result<(), ProgramFault>
     ensures { OnOk result (ShowsRules passing bytes.now (W.contents out.old) (W.contents out.new)) }
 {
     let fails = check_passed_on(bytes, passing, out)?;
@@ -162,25 +167,25 @@ fn check_passed<W: Sink>(bytes: &[u8], passing: Passing, out: &mut W) -> Result<
 }
 
 // Writes the rules that the EDID of some bytes breaks, for a device.
-fn write_rules<W: Sink>(bytes: &[u8], place: Place, out: &mut W) -> Result<(), Fault>
+fn write_rules<W: Sink>(bytes: &[u8], place: Recipient, out: &mut W) -> Result<(), ProgramFault>
     ensures { OnOk result (Shows (View.Findings place) bytes.now (W.contents out.old) (W.contents out.new)) }
 {
     match place {
-        Place::Own => check_own(bytes, out),
-        Place::At(address) => check_passed(bytes, at(address), out),
-        Place::Port { port, amplified } => check_passed(bytes, in_port(port, amplified), out),
+        Recipient::Own => check_own(bytes, out),
+        Recipient::At(address) => check_passed(bytes, at(address), out),
+        Recipient::Port { port, amplified } => check_passed(bytes, in_port(port, amplified), out),
     }
 }
 
 // Writes the text of the EDID of some bytes with what it means.
-fn write_meaning<W: Sink>(bytes: &[u8], out: &mut W) -> Result<(), Fault>
+fn write_meaning<W: Sink>(bytes: &[u8], out: &mut W) -> Result<(), ProgramFault>
     ensures { OnOk result (Shows View.Meaning bytes.now (W.contents out.old) (W.contents out.new)) }
 {
     Ok(edid_to_meaning(bytes, out)?)
 }
 
 // Writes what is asked for of the EDID of some bytes.
-fn show<W: Sink>(view: View, bytes: &[u8], out: &mut W) -> Result<(), Fault>
+fn show<W: Sink>(view: View, bytes: &[u8], out: &mut W) -> Result<(), ProgramFault>
     ensures { OnOk result (Shows view bytes.now (W.contents out.old) (W.contents out.new)) }
 {
     match view {
@@ -193,17 +198,17 @@ fn show<W: Sink>(view: View, bytes: &[u8], out: &mut W) -> Result<(), Fault>
 
 // Writes what is asked for of the EDID of a hex dump.
 #[inline(never)]
-fn show_of_dump<W: Sink>(view: View, text: &[u8], out: &mut W) -> Result<(), Fault>
+fn show_of_dump<W: Sink>(view: View, text: &[u8], out: &mut W) -> Result<(), ProgramFault>
     ensures { OnOk result (Made Source.Dump view text.now (W.contents out.old) (W.contents out.new)) }
 {
     match dump_bytes(text) {
         Ok(bytes) => show(view, bytes.as_slice(), out),
-        Err(error) => Err(Fault::Dump(error)),
+        Err(error) => Err(ProgramFault::Dump(error)),
     }
 }
 
 // Writes what is asked for of an EDID.
-fn show_edid<W: Sink>(edid: &Edid, view: View, out: &mut W) -> Result<(), Fault>
+fn show_edid<W: Sink>(edid: &Edid, view: View, out: &mut W) -> Result<(), ProgramFault>
     ensures { OnOk result (Shows view (edid_bytes edid.now) (W.contents out.old) (W.contents out.new)) }
 {
     let bytes = edid_to_bytes(edid);
@@ -212,12 +217,17 @@ fn show_edid<W: Sink>(edid: &Edid, view: View, out: &mut W) -> Result<(), Fault>
 
 // Writes what is asked for of the EDID of a text.
 #[inline(never)]
-fn show_of_text<W: Sink>(alloc: Global, view: View, text: &[u8], out: &mut W) -> Result<(), Fault>
+fn show_of_text<W: Sink>(
+    alloc: Global,
+    view: View,
+    text: &[u8],
+    out: &mut W,
+) -> Result<(), ProgramFault>
     ensures { OnOk result (Made Source.Text view text.now (W.contents out.old) (W.contents out.new)) }
 {
     match parse_text(alloc, text) {
         Ok(edid) => show_edid(&edid, view, out),
-        Err(error) => Err(Fault::TextToHex(TextToHexError::from(error))),
+        Err(error) => Err(ProgramFault::TextToHex(TextToHexError::from(error))),
     }
 }
 
@@ -228,7 +238,7 @@ pub fn edid<W: Sink>(
     view: View,
     input: &[u8],
     out: &mut W,
-) -> Result<(), Fault>
+) -> Result<(), ProgramFault>
     ensures { OnOk result (Made source view input.now (W.contents out.old) (W.contents out.new)) }
 {
     match source {
@@ -239,15 +249,20 @@ pub fn edid<W: Sink>(
 }
 
 // The rules are those for the EDID of a display, or for one that is passed on.
-fn origin_of(place: Place) -> Origin {
+fn origin_of(place: Recipient) -> Origin {
     match place {
-        Place::Own => Origin::Display,
-        Place::At(_) | Place::Port { .. } => Origin::Port,
+        Recipient::Own => Origin::Display,
+        Recipient::At(_) | Recipient::Port { .. } => Origin::Port,
     }
 }
 
 // The bytes of the EDID of an input, for a device.
-fn bytes_for(alloc: Global, source: Source, place: Place, input: &[u8]) -> Result<Vec<u8>, Fault> {
+fn bytes_for(
+    alloc: Global,
+    source: Source,
+    place: Recipient,
+    input: &[u8],
+) -> Result<Vec<u8>, ProgramFault> {
     let mut bytes = Vec::new(alloc);
     let view = View::Whole(place, Shape::Bytes);
     edid(alloc, source, view, input, &mut Writes::new(&mut bytes))?;
@@ -258,7 +273,7 @@ fn bytes_for(alloc: Global, source: Source, place: Place, input: &[u8]) -> Resul
 pub fn explain_rules(
     alloc: Global,
     source: Source,
-    place: Place,
+    place: Recipient,
     input: &[u8],
 ) -> Result<String, AllocError> {
     match bytes_for(alloc, source, place, input) {
@@ -270,7 +285,7 @@ pub fn explain_rules(
 /// Why the EDID of an input has no HDMI block, in indented lines. Of one that has a block there is nothing.
 pub fn explain_lack(alloc: Global, source: Source, input: &[u8]) -> Result<String, AllocError> {
     let mut text = String::new(alloc);
-    if let Ok(bytes) = bytes_for(alloc, source, Place::Own, input) {
+    if let Ok(bytes) = bytes_for(alloc, source, Recipient::Own, input) {
         let told = explain_no_hdmi(alloc, &bytes)?;
         for line in told.as_str().lines() {
             text.push_str("  ")?;

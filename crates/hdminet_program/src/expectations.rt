@@ -1,36 +1,35 @@
-//! What is told of a test: whether a run is as the expectations of its script have it.
+//! What is reported of a test: whether a run is as the expectations of its script have it.
 ghost use Rattle.std.specs.Prelude.{◌≡◌, ◌++◌, true, OnOk, IfOk};
 ghost use Rattle.hdminet_program.specs.Tests.{AreRemarksOf, WritesPassed, WritesTest, remark_line, trace_remarks};
 
-use crate::fault::Fault;
+use crate::fault::ProgramFault;
 use cec_check::{CheckError, Tally, check};
 use cec_expect::{first_fault, plain_script};
 use cec_json::Held;
 use cec_run::emulate::{EmulateError, emulate};
 use cec_sweep::{SweepError, sweep};
-use cec_words::first_line;
-use hdmi_core::{Piece, Sink, put_all, write_pieces};
+use hdmi_core::{Piece, Sink, first_line, put_all, write_pieces};
 use hdminet_words::TestView;
 use std::alloc::{AllocError, Global};
 
 /// Nothing, unless a test of a report failed.
-pub fn passed(tally: Tally) -> Result<(), Fault>
+pub fn passed(tally: Tally) -> Result<(), ProgramFault>
     ensures { OnOk result (tally.failed ≡ 0) }
 {
     if tally.failed > 0 {
-        return Err(Fault::TestsFailed(tally));
+        return Err(ProgramFault::TestsFailed(tally));
     }
     Ok(())
 }
 
 // Nothing, unless a test failed at an instant of a range.
-fn held_throughout(holds: bool) -> Result<(), Fault>
+fn held_throughout(holds: bool) -> Result<(), ProgramFault>
     ensures { OnOk result (holds ≡ true) }
 {
     if holds {
         Ok(())
     } else {
-        Err(Fault::SweepFailed)
+        Err(ProgramFault::SweepFailed)
     }
 }
 
@@ -41,7 +40,7 @@ fn write_report<W: Sink>(
     topology: &[u8],
     script: &[u8],
     out: &mut W,
-) -> Result<(), Fault>
+) -> Result<(), ProgramFault>
     ensures { OnOk result (WritesPassed topology.now script.now (W.contents out.old) (W.contents out.new)) }
 {
     let tally = check(alloc, topology, script, out)?;
@@ -55,14 +54,14 @@ fn write_tests<W: Sink>(
     topology: &[u8],
     script: &[u8],
     out: &mut W,
-) -> Result<(), Fault>
+) -> Result<(), ProgramFault>
     ensures { OnOk result (WritesTest TestView.Report topology.now script.now (W.contents out.old) (W.contents out.new)) }
 {
     match sweep(alloc, topology, script, out) {
         Ok(holds) => held_throughout(holds),
         Err(error) => match error {
             SweepError::NoRange => write_report(alloc, topology, script, out),
-            error => Err(Fault::from(error)),
+            error => Err(ProgramFault::from(error)),
         },
     }
 }
@@ -92,27 +91,27 @@ fn trace_remarks(alloc: Global, trace: &[u8]) -> Result<Vec<u8>, AllocError>
 
 // Runs the script without labels and expectations on the topology, and returns its trace as remarks.
 #[inline(never)]
-fn remarks_of(alloc: Global, topology: &[u8], script: &[u8]) -> Result<Vec<u8>, Fault>
+fn remarks_of(alloc: Global, topology: &[u8], script: &[u8]) -> Result<Vec<u8>, ProgramFault>
     ensures { IfOk result (λ text. AreRemarksOf topology.now script.now text.items) }
 {
     let plain = plain_script(alloc, script)?;
     let mut trace = Held::new(alloc);
     match emulate(alloc, topology, &plain, &mut trace) {
         Ok(_) => {}
-        Err(EmulateError::Write(_)) => return Err(Fault::Memory(AllocError)),
-        Err(error) => return Err(Fault::Emulate(error)),
+        Err(EmulateError::Write(_)) => return Err(ProgramFault::Memory(AllocError)),
+        Err(error) => return Err(ProgramFault::Emulate(error)),
     }
     Ok(trace_remarks(alloc, trace.bytes())?)
 }
 
-// Writes the report, and behind it the trace.
+// Writes the report, and after it the trace.
 #[inline(never)]
 fn write_traced<W: Sink>(
     alloc: Global,
     topology: &[u8],
     script: &[u8],
     out: &mut W,
-) -> Result<(), Fault>
+) -> Result<(), ProgramFault>
     ensures { OnOk result (WritesTest TestView.Traced topology.now script.now (W.contents out.old) (W.contents out.new)) }
 {
     let remarks = remarks_of(alloc, topology, script)?;
@@ -128,11 +127,11 @@ fn write_plain<W: Sink>(
     topology: &[u8],
     script: &[u8],
     out: &mut W,
-) -> Result<(), Fault>
+) -> Result<(), ProgramFault>
     ensures { OnOk result (WritesTest TestView.Plain topology.now script.now (W.contents out.old) (W.contents out.new)) }
 {
     if let Some(fault) = first_fault(topology, script) {
-        return Err(Fault::from(CheckError::Expect(fault)));
+        return Err(ProgramFault::from(CheckError::Expect(fault)));
     }
     let plain = plain_script(alloc, script)?;
     write_pieces(
@@ -153,7 +152,7 @@ pub fn write_test<W: Sink>(
     topology: &[u8],
     script: &[u8],
     out: &mut W,
-) -> Result<(), Fault>
+) -> Result<(), ProgramFault>
     ensures { OnOk result (WritesTest view topology.now script.now (W.contents out.old) (W.contents out.new)) }
 {
     match view {

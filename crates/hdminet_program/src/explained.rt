@@ -1,5 +1,5 @@
 //! The faults of the program as they are explained.
-use crate::fault::Fault;
+use crate::fault::ProgramFault;
 use cec_asm::ScriptCause;
 use cec_check::CheckError;
 use cec_dialogue::{ScriptEnd, SessionError};
@@ -9,7 +9,7 @@ use cec_formats::CaptureError;
 use cec_run::emulate::EmulateError;
 use cec_sweep::{RangeCause, RangeFault};
 use cec_text::FrameLinesError;
-use cec_trace::EdidCause;
+use hdmi_blocks::EdidCause;
 use hdmi_convert::{EdidToTextError, PassOnError, TextToHexError};
 use hdminet_explain::{Fault as Explained, Input, RangeSlip};
 use hdminet_words::{Choice, Objects, Source};
@@ -171,31 +171,34 @@ fn of_passing(error: &PassOnError) -> Explained {
 }
 
 /// A fault as it is explained; None of what was done and is not as it was wanted.
-pub fn explained(fault: &Fault) -> Option<Explained> {
+pub fn explained(fault: &ProgramFault) -> Option<Explained> {
     let explained = match fault {
-        Fault::NotUtf8 => Explained::NotUtf8,
-        Fault::TooLong => Explained::InputTooLong,
-        Fault::Read => Explained::Read,
-        Fault::NoScriptLine => Explained::NoScriptLine,
-        Fault::NoStepsLine => Explained::NoStepsLine,
-        Fault::NoCaptureLine => Explained::NoCaptureLine,
-        Fault::Emulate(error) => of_run(error),
-        Fault::Expect(fault) | Fault::CaptureExpect(fault) => of_expectation(*fault),
-        Fault::NoRange => Explained::NoRange,
-        Fault::Range(fault) => of_range(*fault),
-        Fault::AtInstant { error, .. } => of_test(error),
-        Fault::Session(error) => of_session(error),
-        Fault::Steps(line) => Explained::Steps { line: *line },
-        Fault::Frames(error) => of_frames(error),
-        Fault::Dis(error) => of_hex(error),
-        Fault::Capture(error) => of_capture(error),
-        Fault::EdidToText(error) => of_edid(error),
-        Fault::TextToHex(error) => of_edid_text(error),
-        Fault::Dump(error) => Explained::Dump(*error),
-        Fault::PassOn(error) => of_passing(error),
-        Fault::Write(_) => Explained::Write,
-        Fault::Memory(_) => Explained::Memory,
-        Fault::EventsRefused(_) | Fault::TestsFailed(_) | Fault::SweepFailed | Fault::RuleFails => {
+        ProgramFault::NotUtf8 => Explained::NotUtf8,
+        ProgramFault::TooLong => Explained::InputTooLong,
+        ProgramFault::Read => Explained::Read,
+        ProgramFault::NoScriptLine => Explained::NoScriptLine,
+        ProgramFault::NoStepsLine => Explained::NoStepsLine,
+        ProgramFault::NoCaptureLine => Explained::NoCaptureLine,
+        ProgramFault::Emulate(error) => of_run(error),
+        ProgramFault::Expect(fault) | ProgramFault::CaptureExpect(fault) => of_expectation(*fault),
+        ProgramFault::NoRange => Explained::NoRange,
+        ProgramFault::Range(fault) => of_range(*fault),
+        ProgramFault::AtInstant { error, .. } => of_test(error),
+        ProgramFault::Session(error) => of_session(error),
+        ProgramFault::Steps(line) => Explained::Steps { line: *line },
+        ProgramFault::Frames(error) => of_frames(error),
+        ProgramFault::Dis(error) => of_hex(error),
+        ProgramFault::Capture(error) => of_capture(error),
+        ProgramFault::EdidToText(error) => of_edid(error),
+        ProgramFault::TextToHex(error) => of_edid_text(error),
+        ProgramFault::Dump(error) => Explained::Dump(*error),
+        ProgramFault::PassOn(error) => of_passing(error),
+        ProgramFault::Write(_) => Explained::Write,
+        ProgramFault::Memory(_) => Explained::Memory,
+        ProgramFault::EventsRefused(_)
+        | ProgramFault::TestsFailed(_)
+        | ProgramFault::SweepFailed
+        | ProgramFault::RuleFails => {
             return None;
         }
     };

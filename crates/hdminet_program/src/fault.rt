@@ -20,7 +20,7 @@ use std::io::{self, ErrorKind};
 use thiserror::Error;
 
 #[derive(Debug, Drop, Error)]
-pub enum Fault {
+pub enum ProgramFault {
     #[error("an argument is not UTF-8")]
     NotUtf8,
     #[error("input too long")]
@@ -83,54 +83,54 @@ pub enum Fault {
     Memory(#[from(alloc)] AllocError),
 }
 
-impl From<StepRunError> for Fault {
-    fn from(error: StepRunError) -> Fault {
+impl From<StepRunError> for ProgramFault {
+    fn from(error: StepRunError) -> ProgramFault {
         match error {
-            StepRunError::Run(error) => Fault::Emulate(error),
-            StepRunError::Steps(line) => Fault::Steps(line),
+            StepRunError::Run(error) => ProgramFault::Emulate(error),
+            StepRunError::Steps(line) => ProgramFault::Steps(line),
         }
     }
 }
 
-impl From<CheckError> for Fault {
-    fn from(error: CheckError) -> Fault {
+impl From<CheckError> for ProgramFault {
+    fn from(error: CheckError) -> ProgramFault {
         match error {
-            CheckError::Emulate(error) => Fault::Emulate(error),
-            CheckError::Expect(fault) => Fault::Expect(fault),
-            CheckError::Write(count) => Fault::Write(WriteFault { count }),
-            CheckError::Memory => Fault::Memory(AllocError),
+            CheckError::Emulate(error) => ProgramFault::Emulate(error),
+            CheckError::Expect(fault) => ProgramFault::Expect(fault),
+            CheckError::Write(count) => ProgramFault::Write(WriteFault { count }),
+            CheckError::Memory => ProgramFault::Memory(AllocError),
         }
     }
 }
 
-impl From<CaptureCheckError> for Fault {
-    fn from(error: CaptureCheckError) -> Fault {
+impl From<CaptureCheckError> for ProgramFault {
+    fn from(error: CaptureCheckError) -> ProgramFault {
         match error {
-            CaptureCheckError::Expect(fault) => Fault::CaptureExpect(fault),
-            CaptureCheckError::Write(count) => Fault::Write(WriteFault { count }),
-            CaptureCheckError::Memory => Fault::Memory(AllocError),
+            CaptureCheckError::Expect(fault) => ProgramFault::CaptureExpect(fault),
+            CaptureCheckError::Write(count) => ProgramFault::Write(WriteFault { count }),
+            CaptureCheckError::Memory => ProgramFault::Memory(AllocError),
         }
     }
 }
 
-impl From<SweepError> for Fault {
-    fn from(error: SweepError) -> Fault {
+impl From<SweepError> for ProgramFault {
+    fn from(error: SweepError) -> ProgramFault {
         match error {
-            SweepError::NoRange => Fault::NoRange,
-            SweepError::Range(fault) => Fault::Range(fault),
-            SweepError::At { instant, error } => Fault::AtInstant { instant, error },
-            SweepError::Write(count) => Fault::Write(WriteFault { count }),
-            SweepError::Memory => Fault::Memory(AllocError),
+            SweepError::NoRange => ProgramFault::NoRange,
+            SweepError::Range(fault) => ProgramFault::Range(fault),
+            SweepError::At { instant, error } => ProgramFault::AtInstant { instant, error },
+            SweepError::Write(count) => ProgramFault::Write(WriteFault { count }),
+            SweepError::Memory => ProgramFault::Memory(AllocError),
         }
     }
 }
 
-impl Fault {
+impl ProgramFault {
     /// Why the words of the command line were not to be had.
-    pub fn of_words(error: io::Error) -> Fault {
+    pub fn of_words(error: io::Error) -> ProgramFault {
         match error.kind() {
-            ErrorKind::OutOfMemory => Fault::Memory(AllocError),
-            _ => Fault::NotUtf8,
+            ErrorKind::OutOfMemory => ProgramFault::Memory(AllocError),
+            _ => ProgramFault::NotUtf8,
         }
     }
 
@@ -139,46 +139,46 @@ impl Fault {
         ensures { 0 < result }
     {
         match self {
-            Fault::NotUtf8 => 2,
-            Fault::TooLong
-            | Fault::Read
-            | Fault::Write(_)
-            | Fault::Session(SessionError::Read)
-            | Fault::Session(SessionError::TooLong)
-            | Fault::Session(SessionError::Write(_))
-            | Fault::Emulate(EmulateError::Write(_))
-            | Fault::Frames(FrameLinesError::Write(_))
-            | Fault::Dis(DisError::Write(_))
-            | Fault::EdidToText(EdidToTextError::Write(_))
-            | Fault::TextToHex(TextToHexError::Write(_))
-            | Fault::PassOn(PassOnError::Write(_)) => 3,
-            Fault::Memory(_)
-            | Fault::Emulate(EmulateError::Memory)
-            | Fault::Session(SessionError::Memory)
-            | Fault::Capture(CaptureError::Memory)
-            | Fault::TextToHex(TextToHexError::Memory) => 4,
-            Fault::NoScriptLine
-            | Fault::NoStepsLine
-            | Fault::NoCaptureLine
-            | Fault::EventsRefused(_)
-            | Fault::Expect(_)
-            | Fault::CaptureExpect(_)
-            | Fault::NoRange
-            | Fault::Range(_)
-            | Fault::AtInstant { .. }
-            | Fault::TestsFailed(_)
-            | Fault::SweepFailed
-            | Fault::Steps(_)
-            | Fault::Session(_)
-            | Fault::Emulate(_)
-            | Fault::Frames(FrameLinesError::Line(_))
-            | Fault::Dis(DisError::Line(_))
-            | Fault::Capture(CaptureError::Fault(_))
-            | Fault::EdidToText(_)
-            | Fault::TextToHex(_)
-            | Fault::Dump(_)
-            | Fault::PassOn(_) => 1,
-            Fault::RuleFails => 5,
+            ProgramFault::NotUtf8 => 2,
+            ProgramFault::TooLong
+            | ProgramFault::Read
+            | ProgramFault::Write(_)
+            | ProgramFault::Session(SessionError::Read)
+            | ProgramFault::Session(SessionError::TooLong)
+            | ProgramFault::Session(SessionError::Write(_))
+            | ProgramFault::Emulate(EmulateError::Write(_))
+            | ProgramFault::Frames(FrameLinesError::Write(_))
+            | ProgramFault::Dis(DisError::Write(_))
+            | ProgramFault::EdidToText(EdidToTextError::Write(_))
+            | ProgramFault::TextToHex(TextToHexError::Write(_))
+            | ProgramFault::PassOn(PassOnError::Write(_)) => 3,
+            ProgramFault::Memory(_)
+            | ProgramFault::Emulate(EmulateError::Memory)
+            | ProgramFault::Session(SessionError::Memory)
+            | ProgramFault::Capture(CaptureError::Memory)
+            | ProgramFault::TextToHex(TextToHexError::Memory) => 4,
+            ProgramFault::NoScriptLine
+            | ProgramFault::NoStepsLine
+            | ProgramFault::NoCaptureLine
+            | ProgramFault::EventsRefused(_)
+            | ProgramFault::Expect(_)
+            | ProgramFault::CaptureExpect(_)
+            | ProgramFault::NoRange
+            | ProgramFault::Range(_)
+            | ProgramFault::AtInstant { .. }
+            | ProgramFault::TestsFailed(_)
+            | ProgramFault::SweepFailed
+            | ProgramFault::Steps(_)
+            | ProgramFault::Session(_)
+            | ProgramFault::Emulate(_)
+            | ProgramFault::Frames(FrameLinesError::Line(_))
+            | ProgramFault::Dis(DisError::Line(_))
+            | ProgramFault::Capture(CaptureError::Fault(_))
+            | ProgramFault::EdidToText(_)
+            | ProgramFault::TextToHex(_)
+            | ProgramFault::Dump(_)
+            | ProgramFault::PassOn(_) => 1,
+            ProgramFault::RuleFails => 5,
         }
     }
 }

@@ -11,4 +11,4 @@ mod live;
 mod parts;
 pub mod program;
 
-pub use fault::Fault;
+pub use fault::ProgramFault;

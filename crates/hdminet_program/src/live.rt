@@ -3,7 +3,7 @@ ghost use Rattle.std.specs.Prelude.{OnOk};
 ghost use Rattle.hdmi_core.specs.Buffered.{below};
 ghost use Rattle.hdminet_program.specs.Live.{Lives};
 
-use crate::fault::Fault;
+use crate::fault::ProgramFault;
 use cec_dialogue::session;
 use hdmi_core::{Buffered, Sink};
 use std::alloc::Global;
@@ -15,7 +15,7 @@ pub(crate) fn live<R: Read, W: Sink>(
     alloc: Global,
     input: &mut R,
     out: &mut Buffered<W>,
-) -> Result<(), Fault>
+) -> Result<(), ProgramFault>
     ensures { OnOk result (Lives (R.remaining input.old) (⟦<Buffered<W> as Sink>⟧.contents out.old) (W.contents (below out.new))) }
 {
     out.flush()?;

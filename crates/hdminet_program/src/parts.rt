@@ -2,8 +2,8 @@
 ghost use Rattle.std.specs.Prelude.{◌≡◌, IfOk, IfSome};
 ghost use Rattle.hdminet_program.specs.Parted.{IsCaptureInput, IsParted, IsRunInput};
 
-use crate::fault::Fault;
-use cec_words::{behind, len_before};
+use crate::fault::ProgramFault;
+use hdmi_core::{behind, len_before};
 
 /// The text before the first line that reads so, and the text after it.
 pub fn parted<'a>(text: &'a [u8], mark: &[u8]) -> Option<(&'a [u8], &'a [u8])>
@@ -25,15 +25,15 @@ pub fn parted<'a>(text: &'a [u8], mark: &[u8]) -> Option<(&'a [u8], &'a [u8])>
 }
 
 /// The text before the first line `script`, and the text after it.
-pub fn parts(text: &[u8]) -> Result<(&[u8], &[u8]), Fault>
+pub fn parts(text: &[u8]) -> Result<(&[u8], &[u8]), ProgramFault>
     ensures { IfOk result (λ p. IsRunInput text.now p.0.now p.1.now) }
 {
-    parted(text, b"script").ok_or(Fault::NoScriptLine)
+    parted(text, b"script").ok_or(ProgramFault::NoScriptLine)
 }
 
 /// The text before the first line `capture`, and the text after it.
-pub fn capture_parts(text: &[u8]) -> Result<(&[u8], &[u8]), Fault>
+pub fn capture_parts(text: &[u8]) -> Result<(&[u8], &[u8]), ProgramFault>
     ensures { IfOk result (λ p. IsCaptureInput text.now p.0.now p.1.now) }
 {
-    parted(text, b"capture").ok_or(Fault::NoCaptureLine)
+    parted(text, b"capture").ok_or(ProgramFault::NoCaptureLine)
 }

@@ -13,7 +13,7 @@ use crate::capture_test::write_capture_test;
 use crate::edid::{edid, explain_lack, explain_rules};
 use crate::expectations::write_test;
 use crate::explained::{explained, input_of};
-use crate::fault::Fault;
+use crate::fault::ProgramFault;
 use crate::live::live;
 use crate::parts::{capture_parts, parted, parts};
 use arrayvec::ArrayString;
@@ -28,8 +28,7 @@ use cec_run::emulate::emulate;
 use cec_run::line::emulate_line;
 use cec_step::step_run::step_run;
 use cec_text::asm_lines;
-use cec_words::before;
-use hdmi_core::{Buffered, Sink, put_all};
+use hdmi_core::{Buffered, Sink, before, put_all};
 use hdminet_command::{Refused, choose};
 use hdminet_explain::{counts, explain};
 use hdminet_words::{Asked, Choice, Form, Listing, Objects, TestView, View, signal_in};
@@ -80,7 +79,7 @@ pub struct Ended<W> {
 }
 
 // Reads all there is, up to the limit.
-fn read_input<R: Read>(alloc: Global, limit: usize, input: &mut R) -> Result<Vec<u8>, Fault>
+fn read_input<R: Read>(alloc: Global, limit: usize, input: &mut R) -> Result<Vec<u8>, ProgramFault>
     ensures { IfOk result (λ bytes. IsAllOf (R.remaining input.old) bytes.items) }
 {
     let mut bytes = Vec::new(alloc);
@@ -89,18 +88,18 @@ fn read_input<R: Read>(alloc: Global, limit: usize, input: &mut R) -> Result<Vec
         match input.read(&mut buffer) {
             Ok(0) => return Ok(bytes),
             Ok(count) => bytes.extend_from_slice(&buffer[..count])?,
-            Err(_) => return Err(Fault::Read),
+            Err(_) => return Err(ProgramFault::Read),
         }
     }
-    Err(Fault::TooLong)
+    Err(ProgramFault::TooLong)
 }
 
 // The counts of a run, unless it is strict and an event was refused.
-fn accepted(totals: Totals, strict: bool) -> Result<Option<Totals>, Fault>
+fn accepted(totals: Totals, strict: bool) -> Result<Option<Totals>, ProgramFault>
     ensures { OnOk result (strict ≡ true → totals.refused ≡ 0) }
 {
     if strict && totals.refused > 0 {
-        return Err(Fault::EventsRefused(totals));
+        return Err(ProgramFault::EventsRefused(totals));
     }
     Ok(Some(totals))
 }
@@ -113,7 +112,7 @@ fn run<W: Sink>(
     strict: bool,
     input: &[u8],
     out: &mut W,
-) -> Result<Option<Totals>, Fault>
+) -> Result<Option<Totals>, ProgramFault>
     ensures { OnOk result (Writes (Choice.Run Listing.Trace strict) [] input.now (W.contents out.old) (W.contents out.new)) }
 {
     let (topology, script) = parts(input)?;
@@ -129,7 +128,7 @@ fn run_to_line<W: Sink>(
     strict: bool,
     input: &[u8],
     out: &mut W,
-) -> Result<Option<Totals>, Fault>
+) -> Result<Option<Totals>, ProgramFault>
     ensures { OnOk result (WritesLine format strict input.now (W.contents out.old) (W.contents out.new)) }
 {
     let (topology, script) = parts(input)?;
@@ -144,7 +143,7 @@ fn run_to_drives<W: Sink>(
     strict: bool,
     input: &[u8],
     out: &mut W,
-) -> Result<Option<Totals>, Fault>
+) -> Result<Option<Totals>, ProgramFault>
     ensures { OnOk result (Writes (Choice.Run Listing.Drives strict) [] input.now (W.contents out.old) (W.contents out.new)) }
 {
     let (topology, script) = parts(input)?;
@@ -158,7 +157,7 @@ fn test<W: Sink>(
     view: TestView,
     input: &[u8],
     out: &mut W,
-) -> Result<Option<Totals>, Fault>
+) -> Result<Option<Totals>, ProgramFault>
     ensures { OnOk result (Writes (Choice.Check view) [] input.now (W.contents out.old) (W.contents out.new)) }
 {
     let (topology, script) = parts(input)?;
@@ -174,7 +173,7 @@ fn test_capture<W: Sink>(
     glitch: u64,
     input: &[u8],
     out: &mut W,
-) -> Result<Option<Totals>, Fault>
+) -> Result<Option<Totals>, ProgramFault>
     ensures { OnOk result (WritesCaptureTest form signal.now glitch input.now (W.contents out.old) (W.contents out.new)) }
 {
     write_capture_test(alloc, form, signal, glitch, input, out)?;
@@ -182,17 +181,17 @@ fn test_capture<W: Sink>(
 }
 
 #[inline(never)]
-fn step<W: Sink>(alloc: Global, input: &[u8], out: &mut W) -> Result<Option<Totals>, Fault>
+fn step<W: Sink>(alloc: Global, input: &[u8], out: &mut W) -> Result<Option<Totals>, ProgramFault>
     ensures { OnOk result (Writes Choice.Step [] input.now (W.contents out.old) (W.contents out.new)) }
 {
     let (topology, rest) = parts(input)?;
-    let (script, steps) = parted(rest, b"steps").ok_or(Fault::NoStepsLine)?;
+    let (script, steps) = parted(rest, b"steps").ok_or(ProgramFault::NoStepsLine)?;
     step_run(alloc, topology, script, steps, out)?;
     Ok(None)
 }
 
 #[inline(never)]
-fn disassemble<W: Sink>(input: &[u8], out: &mut W) -> Result<Option<Totals>, Fault>
+fn disassemble<W: Sink>(input: &[u8], out: &mut W) -> Result<Option<Totals>, ProgramFault>
     ensures { OnOk result (Writes Choice.Dis [] input.now (W.contents out.old) (W.contents out.new)) }
 {
     dis_lines(input, out)?;
@@ -200,7 +199,7 @@ fn disassemble<W: Sink>(input: &[u8], out: &mut W) -> Result<Option<Totals>, Fau
 }
 
 #[inline(never)]
-fn assemble<W: Sink>(input: &[u8], out: &mut W) -> Result<Option<Totals>, Fault>
+fn assemble<W: Sink>(input: &[u8], out: &mut W) -> Result<Option<Totals>, ProgramFault>
     ensures { OnOk result (Writes Choice.Asm [] input.now (W.contents out.old) (W.contents out.new)) }
 {
     asm_lines(input, out)?;
@@ -214,7 +213,7 @@ fn write_lines<W: Sink>(
     signal: &[u8],
     input: &[u8],
     out: &mut W,
-) -> Result<Option<Totals>, Fault>
+) -> Result<Option<Totals>, ProgramFault>
     ensures { OnOk result (WritesLines objects signal.now input.now (W.contents out.old) (W.contents out.new)) }
 {
     match objects {
@@ -246,7 +245,11 @@ fn report_kind(lines: &[u8]) -> ReportKind
 }
 
 // Writes the objects of lines.
-fn write_objects_of<W: Sink>(objects: Objects, lines: &[u8], out: &mut W) -> Result<(), Fault>
+fn write_objects_of<W: Sink>(
+    objects: Objects,
+    lines: &[u8],
+    out: &mut W,
+) -> Result<(), ProgramFault>
     ensures { OnOk result (WritesObjects objects lines.now (W.contents out.old) (W.contents out.new)) }
 {
     match objects {
@@ -267,13 +270,13 @@ fn write_json<W: Sink>(
     signal: &[u8],
     input: &[u8],
     out: &mut W,
-) -> Result<Option<Totals>, Fault>
+) -> Result<Option<Totals>, ProgramFault>
     ensures { OnOk result (Writes (Choice.Json objects) signal.now input.now (W.contents out.old) (W.contents out.new)) }
 {
     let mut held = Held::new(alloc);
     let done = write_lines(alloc, objects, signal, input, &mut held);
     if held.is_full() {
-        return Err(Fault::Memory(AllocError));
+        return Err(ProgramFault::Memory(AllocError));
     }
     write_objects_of(objects, held.bytes(), out)?;
     done
@@ -286,7 +289,7 @@ fn perform<W: Sink>(
     signal: &[u8],
     input: &[u8],
     out: &mut W,
-) -> Result<Option<Totals>, Fault>
+) -> Result<Option<Totals>, ProgramFault>
     requires { choice ≢ Choice.Live }
     ensures { OnOk result (Writes choice signal.now input.now (W.contents out.old) (W.contents out.new)) }
 {
@@ -325,9 +328,9 @@ fn perform<W: Sink>(
 
 // What was done, once all that was written is handed on. Where it can't be, that is the first fault.
 fn handed_on<W: Sink>(
-    done: Result<Option<Totals>, Fault>,
+    done: Result<Option<Totals>, ProgramFault>,
     out: &mut Buffered<W>,
-) -> Result<Option<Totals>, Fault>
+) -> Result<Option<Totals>, ProgramFault>
     ensures same { IfOk result (λ totals. done ≡ Ok totals) }
     ensures handed { OnOk result (Keeps (⟦<Buffered<W> as Sink>⟧.contents out.old) (W.contents (below out.new))) }
 {
@@ -336,7 +339,7 @@ fn handed_on<W: Sink>(
 }
 
 /// Writes the line of a fault, and returns its exit status.
-pub fn tell<E: Sink>(fault: &Fault, err: &mut E) -> u8
+pub fn tell<E: Sink>(fault: &ProgramFault, err: &mut E) -> u8
     ensures { 0 < result }
 {
     let mut text = ArrayString::<256>::new();
@@ -386,11 +389,13 @@ fn rules_of(alloc: Global, choice: Choice, input: &[u8]) -> Result<String, Alloc
 fn lack_of(
     alloc: Global,
     choice: Choice,
-    fault: &Fault,
+    fault: &ProgramFault,
     input: &[u8],
 ) -> Result<String, AllocError> {
     match (choice, fault) {
-        (Choice::Edid { source, .. }, Fault::PassOn(_)) => explain_lack(alloc, source, input),
+        (Choice::Edid { source, .. }, ProgramFault::PassOn(_)) => explain_lack(
+            alloc, source, input,
+        ),
         _ => Ok(String::new(alloc)),
     }
 }
@@ -407,7 +412,7 @@ fn stretches_of(alloc: Global) -> Result<String, AllocError> {
 fn explanation_of(
     alloc: Global,
     choice: Choice,
-    fault: &Fault,
+    fault: &ProgramFault,
     input: &[u8],
 ) -> Result<String, AllocError> {
     let Some(told) = explained(fault) else {
@@ -423,14 +428,14 @@ fn explanation_of(
 fn explanation(
     alloc: Global,
     choice: Choice,
-    fault: &Fault,
+    fault: &ProgramFault,
     input: &[u8],
 ) -> Result<String, AllocError> {
     match fault {
-        Fault::EventsRefused(totals) => counts_of(alloc, totals),
-        Fault::TestsFailed(tally) => tests_of(alloc, choice, *tally),
-        Fault::SweepFailed => stretches_of(alloc),
-        Fault::RuleFails => rules_of(alloc, choice, input),
+        ProgramFault::EventsRefused(totals) => counts_of(alloc, totals),
+        ProgramFault::TestsFailed(tally) => tests_of(alloc, choice, *tally),
+        ProgramFault::SweepFailed => stretches_of(alloc),
+        ProgramFault::RuleFails => rules_of(alloc, choice, input),
         _ => explanation_of(alloc, choice, fault, input),
     }
 }
@@ -458,14 +463,26 @@ fn tell_lost_of<E: Sink>(alloc: Global, choice: Choice, input: &[u8], err: &mut 
 }
 
 // Names them where a test of the capture failed.
-fn tell_lost_by<E: Sink>(alloc: Global, choice: Choice, fault: &Fault, input: &[u8], err: &mut E) {
-    if let Fault::TestsFailed(_) = fault {
+fn tell_lost_by<E: Sink>(
+    alloc: Global,
+    choice: Choice,
+    fault: &ProgramFault,
+    input: &[u8],
+    err: &mut E,
+) {
+    if let ProgramFault::TestsFailed(_) = fault {
         tell_lost_of(alloc, choice, input, err);
     }
 }
 
 // Writes the line of a fault, and what follows it.
-fn report<E: Sink>(alloc: Global, asked: Asked, fault: &Fault, input: &[u8], err: &mut E) -> u8
+fn report<E: Sink>(
+    alloc: Global,
+    asked: Asked,
+    fault: &ProgramFault,
+    input: &[u8],
+    err: &mut E,
+) -> u8
     ensures { 0 < result }
 {
     let status = tell(fault, err);
@@ -496,7 +513,7 @@ fn show<W: Sink, E: Sink>(help: &str, out: &mut Buffered<W>, err: &mut E) -> u8
     let _ = put_all(out, help.as_bytes());
     match out.flush() {
         Ok(()) => 0,
-        Err(fault) => tell(&Fault::Write(fault), err),
+        Err(fault) => tell(&ProgramFault::Write(fault), err),
     }
 }
 
@@ -510,11 +527,11 @@ fn refuse<W: Sink, E: Sink>(refused: &Refused, out: &mut Buffered<W>, err: &mut 
             let _ = put_all(err, text.as_bytes());
             2
         }
-        Refused::Memory => tell(&Fault::Memory(AllocError), err),
+        Refused::Memory => tell(&ProgramFault::Memory(AllocError), err),
     }
 }
 
-// Does what is asked for with an input, and tells how it went. Answers the exit status.
+// Does what is asked for with an input, and says how it went. Answers the exit status.
 fn answer<W: Sink, E: Sink>(
     alloc: Global,
     asked: Asked,
@@ -536,7 +553,7 @@ fn answer<W: Sink, E: Sink>(
     }
 }
 
-// Answers the lines of an input as they come, and tells how it went. Answers the exit status.
+// Answers the lines of an input as they come, and says how it went. Answers the exit status.
 fn serve_lines<R: Read, W: Sink, E: Sink>(
     alloc: Global,
     asked: Asked,
@@ -610,7 +627,7 @@ fn serve_named<R: Read, W: Sink, E: Sink>(
 {
     match name_of(alloc, words) {
         Ok(name) => serve(alloc, asked, &name, input, out, err),
-        Err(AllocError) => tell(&Fault::Memory(AllocError), err),
+        Err(AllocError) => tell(&ProgramFault::Memory(AllocError), err),
     }
 }
 

@@ -15,7 +15,7 @@ pub enum Code {
     Late,
     /// There is none.
     Absent,
-    /// What was heard is nothing that a receiver tells.
+    /// What was heard is nothing that a receiver reports.
     Heard,
     /// A frame has at least one byte.
     FrameEmpty,

@@ -34,7 +34,7 @@ put_code text old new answer p = elim (cases_lt (length old) (length text)) [
 pub no_refusal : (text old new : List ℕ) (answer : Answer) → IsPut text old new answer → 1 < answer.code → ⊥
 no_refusal text old new answer p more = let k = put_code text old new answer p in omega (arith, k, more)
 
--- the EDID of a base block and the extensions behind it
+-- the EDID of a base block and the extensions after it
 pub edid_of : (base : Base) (extensions : ArrayVec Ext) (bytes : List ℕ)
     → base_bytes base ++ flat_map ext_bytes extensions.items ≡ bytes → base.extensions ≡ length extensions.items → length extensions.items ≤ 3 → (e : Edid) × (edid_bytes e ≡ bytes)
 edid_of base extensions bytes spelled counted few = (record { base = base; extensions = extensions; counted = counted; few = few }, spelled)

@@ -30,7 +30,7 @@ ending_in n =
     else if n == 6 then Some Open
     else None
 
--- ---- what an instant tells
+-- ---- what an instant reports
 
 abbrev pub heard_of : Told → Heard
 heard_of Nothing = record { code = 0; kind = 0; ending = 0; bit = false; slot = 0 }

@@ -24,7 +24,7 @@ IsNoReceiver parts = (receiver : Receiver) → ArePartsOf receiver parts → ⊥
 abbrev pub IsStart : ReceiverParts → Type 0
 IsStart parts = (receiver : Receiver) × ArePartsOf receiver parts × (heard_by receiver ≡ rest) × ((low : Line) → StoodBefore receiver low 0)
 
--- The level at t is noted, and the receiver follows each line that goes on so: what it tells is what t tells of the line,
+-- The level at t is noted, and the receiver follows each line that goes on so: what it reports is what t reports of the line,
 -- and a reading that t ends is put in its place.
 pub record HasHeard (was : Receiver) (t : ℕ) (is_low : Bool) (heard : Heard) (new : ReceiverParts) (old_reading new_reading : ReadingParts) : Type 0 where
   pub noted : Receiver

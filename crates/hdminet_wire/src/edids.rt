@@ -33,7 +33,7 @@ pub extern "C" fn hdminet_edid_fault(bytes: &[u8]) -> u32
     }
 }
 
-// How long the text is of a base block and the extensions behind it.
+// How long the text is of a base block and the extensions after it.
 fn text_length(base: &Base, extensions: &[Ext]) -> usize
     requires { length extensions.now ≤ 3 }
     ensures { result ≡ length (part_text base.now extensions.now) }

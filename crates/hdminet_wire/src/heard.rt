@@ -62,7 +62,7 @@ pub(crate) fn ending_in(number: u8) -> Option<Ending>
     }
 }
 
-/// What was told, in plain numbers.
+/// What was reported, in plain numbers.
 pub(crate) fn heard_of(told: Told) -> Heard
     ensures { result ≡ heard_of told }
 {
@@ -98,7 +98,7 @@ pub(crate) fn heard_of(told: Told) -> Heard
     }
 }
 
-/// What was told, from plain numbers.
+/// What was reported, from plain numbers.
 pub(crate) fn told_in(heard: Heard) -> Option<Told>
     ensures { result ≡ told_in heard }
 {

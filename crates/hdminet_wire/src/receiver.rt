@@ -16,7 +16,7 @@ use cec_frame::Reading;
 use cec_wave::LATEST_HEARD;
 use hdminet_room::Code;
 
-/// A receiver of a line of which nothing is told yet: it is high, and no reading runs.
+/// A receiver of a line of which nothing is reported yet: it is high, and no reading runs.
 #[unsafe(no_mangle)]
 pub extern "C" fn hdminet_receiver_new() -> ReceiverParts
     ensures { IsStart result }
@@ -40,7 +40,7 @@ fn noted(receiver: Receiver, t: u64, is_low: bool) -> Receiver
 }
 
 /// Instant `t` has come, from which on the line is low or not: an edge, or a wake with the level as it was. Answers what
-/// that instant tells. Where it ends a reading, this one is put in `reading`. Instants rise, and none is after the wake.
+/// that instant reports. Where it ends a reading, this one is put in `reading`. Instants rise, and none is after the wake.
 ///
 /// Refused where the state is no receiver's, and then where `t` is after 3,000,000,000,000 microseconds: both stay as they
 /// were.

@@ -49,7 +49,7 @@ pub extern "C" fn hdminet_sender_begin(sender: &mut SenderParts, bytes: &[u8], t
 
 /// What a receiver told at `t` of the reading that this sender began. Answers the number of a `Code`.
 ///
-/// Refused where the state is no sender's, then where no receiver tells this, and then where `t` is after
+/// Refused where the state is no sender's, then where no receiver reports this, and then where `t` is after
 /// 3,000,000,000,000 microseconds: the sender stays as it was.
 #[unsafe(no_mangle)]
 pub extern "C" fn hdminet_sender_heard(sender: &mut SenderParts, heard: &Heard, t: u64) -> u32

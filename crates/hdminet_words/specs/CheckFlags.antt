@@ -2,7 +2,7 @@
 use Rattle.std.specs.Prelude.{ℕ, List, [], ◌∷◌, Bool, Option, Some, None, if◌then◌else◌, true, false, codes, not, ◌&&◌, ◌||◌, is_none, is_some, unwrap_or, option_and_then}
 use Rattle.std.specs.Option.{option_map}
 use Rattle.std.specs.Str.{bytes_eq}
-use Rattle.cec_words.specs.Number.{number_of}
+use Rattle.hdmi_core.specs.Number.{number_of}
 use Rattle.hdminet_words.specs.MonFlags.{form_of, has_names}
 use Rattle.hdminet_words.specs.declared.check_flags.CheckFlags.{CheckFlags}
 use Rattle.hdminet_words.specs.declared.choice.Asked.{Asked}

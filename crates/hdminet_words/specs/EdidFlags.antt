@@ -2,13 +2,13 @@
 use Rattle.std.specs.Prelude.{ℕ, List, [], ◌∷◌, Bool, Option, Some, None, if◌then◌else◌, true, false, codes, not, ◌&&◌, nat_le, is_none, is_some, unwrap_or, option_and_then}
 use Rattle.std.specs.Option.{option_map}
 use Rattle.std.specs.Str.{bytes_eq}
-use Rattle.cec_words.specs.Number.{number_of}
+use Rattle.hdmi_core.specs.Number.{number_of}
 use Rattle.hdmi_core.specs.Phys.{phys_of}
 use Rattle.hdmi_core.specs.declared.phys.Phys.{Phys}
 use Rattle.hdminet_words.specs.declared.choice.Asked.{Asked}
 use Rattle.hdminet_words.specs.declared.choice.Choice.TheVariants.{Edid}
-use Rattle.hdminet_words.specs.declared.choice.Place.{Place}
-use Rattle.hdminet_words.specs.declared.choice.Place.TheVariants.{Own, At, Port}
+use Rattle.hdminet_words.specs.declared.choice.Recipient.{Recipient}
+use Rattle.hdminet_words.specs.declared.choice.Recipient.TheVariants.{Own, At, Port}
 use Rattle.hdminet_words.specs.declared.choice.Source.{Source}
 use Rattle.hdminet_words.specs.declared.choice.Source.TheVariants as sources
 use Rattle.hdminet_words.specs.declared.choice.Shape.{Shape}
@@ -64,13 +64,13 @@ edid_flags flags [] = Some flags
 edid_flags flags (word ∷ words) = option_and_then (λ more. edid_flags more words) (with_edid_word flags flags.waits word)
 
 -- the device that the EDID is for, by an address, a port and an amplifier, of which not each goes with each
-abbrev pub place_by : Option Phys → Option ℕ → Bool → Option Place
+abbrev pub place_by : Option Phys → Option ℕ → Bool → Option Recipient
 place_by None None false = Some Own
 place_by (Some address) None false = Some (At address)
 place_by None (Some port) amplified = Some (Port port amplified)
 place_by address port amplified = None
 
-abbrev pub edid_place : EdidFlags → Option Place
+abbrev pub edid_place : EdidFlags → Option Recipient
 edid_place flags = place_by flags.address flags.port flags.amplified
 
 -- how an EDID is written where no flag says it: that of a text as hex, and else as its text
@@ -80,7 +80,7 @@ own_shape sources.Bytes = shapes.Text
 own_shape sources.Dump = shapes.Text
 
 -- what is written; meanings and the address alone are of the device that has the EDID
-abbrev pub edid_view : Option Wanted → Place → Shape → Option View
+abbrev pub edid_view : Option Wanted → Recipient → Shape → Option View
 edid_view None place shape = Some (Whole place shape)
 edid_view (Some wants.Raw) place shape = Some (Whole place shapes.Bytes)
 edid_view (Some wants.Check) place shape = Some (Findings place)

@@ -2,7 +2,7 @@
 use Rattle.std.specs.Prelude.{ℕ, List, [], ◌∷◌, Bool, Option, Some, None, if◌then◌else◌, true, false, codes, not, ◌&&◌, ◌||◌, is_none, is_some, unwrap_or, option_and_then, take, drop}
 use Rattle.std.specs.Option.{option_map, option_or}
 use Rattle.std.specs.Str.{bytes_eq}
-use Rattle.cec_words.specs.Number.{number_of}
+use Rattle.hdmi_core.specs.Number.{number_of}
 use Rattle.hdminet_words.specs.declared.choice.Asked.{Asked}
 use Rattle.hdminet_words.specs.declared.choice.Choice.{Choice}
 use Rattle.hdminet_words.specs.declared.choice.Choice.TheVariants.{Mon, Json}
@@ -91,7 +91,7 @@ mon_asked flags =
 abbrev pub joined_signal : List ℕ → Option (List ℕ)
 joined_signal word = if bytes_eq (take 9 word) (codes "--signal=") then Some (drop 9 word) else None
 
--- the name of a wire: what stands behind the first `--signal`, as a word of its own or in the same word
+-- the name of a wire: what stands after the first `--signal`, as a word of its own or in the same word
 abbrev pub signal_in : List (List ℕ) → Option (List ℕ)
 signal_in [] = None
 signal_in (word ∷ []) = joined_signal word

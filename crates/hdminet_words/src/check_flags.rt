@@ -4,7 +4,7 @@ ghost use Rattle.hdminet_words.specs.CheckFlags.{capture_choice, check_asked, ch
 
 use crate::choice::{Asked, Choice, Form, Objects, TestView};
 use crate::mon_flags::{MonValue, form_of, has_names};
-use cec_words::number_in;
+use hdmi_core::number_in;
 
 /// The flags that `check` was given.
 #[derive(Clone, Copy, Debug)]
@@ -120,7 +120,7 @@ pub fn check_flags(flags: CheckFlags, words: &[String]) -> Option<CheckFlags>
     }
 }
 
-// What is written of a run. The plain script has no trace behind it.
+// What is written of a run. The plain script has no trace after it.
 fn test_view(plain: bool, trace: bool) -> Option<TestView>
     ensures { result ≡ test_view plain trace }
 {

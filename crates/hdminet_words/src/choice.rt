@@ -49,7 +49,7 @@ pub enum Report {
 pub enum TestView {
     /// The report of whether its run is as they have it.
     Report,
-    /// The report, and behind it the trace of its run.
+    /// The report, and after it the trace of its run.
     Traced,
     /// The input of its run, without labels and expectations.
     Plain,
@@ -90,7 +90,7 @@ pub enum Source {
 
 /// The device that an EDID is for.
 #[derive(Clone, Copy, Debug)]
-pub enum Place {
+pub enum Recipient {
     /// The one that has it.
     Own,
     /// One at this address.
@@ -114,11 +114,11 @@ pub enum Shape {
 #[derive(Clone, Copy, Debug)]
 pub enum View {
     /// The EDID for a device.
-    Whole(Place, Shape),
+    Whole(Recipient, Shape),
     /// Its text, and below each line what it means.
     Meaning,
     /// The rules that it breaks.
-    Findings(Place),
+    Findings(Recipient),
     /// The physical address in it.
     Address,
 }
@@ -133,7 +133,7 @@ pub enum Choice {
     },
     /// A test of a run.
     Check(TestView),
-    /// A test of a capture. Its first line tells its form where none is given; pulses and gaps shorter than so many microseconds
+    /// A test of a capture. Its first line reports its form where none is given; pulses and gaps shorter than so many microseconds
     /// are passed over.
     CheckCapture {
         form: Option<Form>,
@@ -147,7 +147,7 @@ pub enum Choice {
     Asm,
     /// The texts of frames, from their bytes in hex.
     Dis,
-    /// What a capture tells. Its first line tells its form where none is given; pulses and gaps shorter than so many
+    /// What a capture reports. Its first line reports its form where none is given; pulses and gaps shorter than so many
     /// microseconds are passed over; and where no report is given, that is by the form.
     Mon {
         form: Option<Form>,

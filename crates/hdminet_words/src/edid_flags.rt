@@ -2,9 +2,8 @@
 ghost use Rattle.std.specs.Prelude.{◌≡◌, map, string_bytes};
 ghost use Rattle.hdminet_words.specs.EdidFlags.{amplified_of, edid_asked, edid_flags, edid_place, edid_view, own_shape, port_of, with_edid_flag, with_edid_value};
 
-use crate::choice::{Asked, Choice, Place, Shape, Source, View};
-use cec_words::number_in;
-use hdmi_core::Phys;
+use crate::choice::{Asked, Choice, Recipient, Shape, Source, View};
+use hdmi_core::{Phys, number_in};
 
 /// A flag of `edid` that a value follows.
 #[derive(Clone, Copy, Debug)]
@@ -160,19 +159,19 @@ pub fn edid_flags(flags: EdidFlags, words: &[String]) -> Option<EdidFlags>
 }
 
 // The device that the EDID is for.
-fn edid_place(flags: &EdidFlags) -> Option<Place>
+fn edid_place(flags: &EdidFlags) -> Option<Recipient>
     ensures { result ≡ edid_place flags.now }
 {
     match flags.port {
-        Some(port) if flags.address.is_none() => Some(Place::Port {
+        Some(port) if flags.address.is_none() => Some(Recipient::Port {
             port,
             amplified: flags.amplified,
         }),
         Some(_) => None,
         None if flags.amplified => None,
         None => match flags.address {
-            Some(address) => Some(Place::At(address)),
-            None => Some(Place::Own),
+            Some(address) => Some(Recipient::At(address)),
+            None => Some(Recipient::Own),
         },
     }
 }
@@ -188,7 +187,7 @@ fn own_shape(source: Source) -> Shape
 }
 
 // What is written. Meanings and the address alone are of the device that has the EDID.
-fn edid_view(wanted: Option<Wanted>, place: Place, shape: Shape) -> Option<View>
+fn edid_view(wanted: Option<Wanted>, place: Recipient, shape: Shape) -> Option<View>
     ensures { result ≡ edid_view wanted place shape }
 {
     match wanted {
@@ -196,12 +195,12 @@ fn edid_view(wanted: Option<Wanted>, place: Place, shape: Shape) -> Option<View>
         Some(Wanted::Raw) => Some(View::Whole(place, Shape::Bytes)),
         Some(Wanted::Check) => Some(View::Findings(place)),
         Some(Wanted::Meaning) => match place {
-            Place::Own => Some(View::Meaning),
-            Place::At(_) | Place::Port { .. } => None,
+            Recipient::Own => Some(View::Meaning),
+            Recipient::At(_) | Recipient::Port { .. } => None,
         },
         Some(Wanted::OnlyAddress) => match place {
-            Place::Own => Some(View::Address),
-            Place::At(_) | Place::Port { .. } => None,
+            Recipient::Own => Some(View::Address),
+            Recipient::At(_) | Recipient::Port { .. } => None,
         },
     }
 }

@@ -10,7 +10,7 @@ mod run_flags;
 mod subcommand;
 
 pub use choice::{
-    Asked, Choice, Form, Listing, Objects, Place, Report, Shape, Source, TestView, View,
+    Asked, Choice, Form, Listing, Objects, Recipient, Report, Shape, Source, TestView, View,
 };
 pub use line::asked_by;
 pub use mon_flags::signal_in;

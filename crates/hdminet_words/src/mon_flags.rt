@@ -3,7 +3,7 @@ ghost use Rattle.std.specs.Prelude.{◌≡◌, map, string_bytes, Some, None, Ma
 ghost use Rattle.hdminet_words.specs.MonFlags.{form_of, has_names, is_misfit, joined_signal, mon_asked, mon_choice, mon_flags, mon_report, signal_in, with_mon_flag, with_mon_value};
 
 use crate::choice::{Asked, Choice, Form, Objects, Report};
-use cec_words::{before, behind, number_in};
+use hdmi_core::{before, behind, number_in};
 
 /// A flag of a capture that a value follows.
 #[derive(Clone, Copy, Debug)]
@@ -221,7 +221,7 @@ fn joined_signal(word: &[u8]) -> Option<&[u8]>
     }
 }
 
-/// The name of a wire: what stands behind the first `--signal`, as a word of its own or in the same word.
+/// The name of a wire: what stands after the first `--signal`, as a word of its own or in the same word.
 pub fn signal_in(words: &[String]) -> Option<&[u8]>
     ensures { MatchOption result (signal_in (map string_bytes words.now) ≡ None) (λ name. signal_in (map string_bytes words.now) ≡ Some name.now) }
 {

@@ -16,7 +16,7 @@ pub(crate) fn holds(rt: &impl Abort, holds: bool, case: &str) {
     assert!(rt; holds, "{case}");
 }
 
-/// Each line has what stands behind its arrow.
+/// Each line has what stands after its arrow.
 fn are_told(rt: &(impl Abort + AllocGlobal), rows: &str) {
     for row in rows.lines() {
         let (line, fields) = row.split_once(" => ").expect(rt, row);

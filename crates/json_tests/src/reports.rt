@@ -12,7 +12,7 @@ fn objects(rt: &(impl Abort + AllocGlobal), report: Report, text: &str) -> Strin
     String::from_utf8(out).expect(rt, "a text")
 }
 
-/// Each line has what stands behind its arrow.
+/// Each line has what stands after its arrow.
 fn are_told(rt: &(impl Abort + AllocGlobal), report: Report, rows: &str) {
     for row in rows.lines() {
         let (line, fields) = row.split_once(" => ").expect(rt, row);

@@ -1,4 +1,4 @@
--- A run that ends earlier agrees with the whole one before then, and tells the states that a script speaks of.
+-- A run that ends earlier agrees with the whole one before then, and reports the states that a script speaks of.
 use Rattle.std.proofs.Common.{◌≡◌, ℕ, ◌≤◌, Bool, true, false, cond, List, [], ◌∷◌, ◌++◌, filter, length, nat_lt, nat_le, Result, Ok, refl, sym, ap, subst, ◌∙◌, arith, append-nil}
 use Rattle.std.proofs.lemmas.Bool.Decides.{nat_tests}
 use Rattle.std.proofs.lemmas.List.Elements.{All-nil, All-weaker, filter_passes}
@@ -11,8 +11,8 @@ use Rattle.cec_asm.proofs.Sound.{scripts_are_sound}
 use Rattle.cec_run.specs.declared.run.Totals.{Totals}
 use Rattle.cec_run.specs.Emulate.{IsTraceOf}
 use Rattle.cec_run.proofs.Accepted.{one_plan}
-use Rattle.cec_live.specs.Causal.{AgreeBefore}
-use Rattle.cec_live.proofs.Causality.{traces_are_causal}
+use Rattle.causal_laws.specs.Causal.{AgreeBefore}
+use Rattle.causal_laws.proofs.Causality.{traces_are_causal}
 use Rattle.cec_expect.specs.Line.{cut_script}
 use Rattle.cec_check.specs.Cuts.{cut_course, is_early}
 use Rattle.cec_check.proofs.Cuts.{cuts_are_read}

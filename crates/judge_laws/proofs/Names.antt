@@ -23,21 +23,21 @@ use Rattle.cec_feature.specs.Keys.{pressing, releasing}
 use Rattle.cec_device.specs.declared.device.SubmitError.{SubmitError}
 use Rattle.cec_device.specs.declared.keys.KeyError.{KeyError}
 use Rattle.cec_device.specs.declared.free_time.FreeTime.TheVariants.{Retry}
-use Rattle.cec_device.specs.State.{State, held, queued, source}
-use Rattle.cec_device.specs.Say.{effected, say, say_all}
-use Rattle.cec_device.specs.Effects.{by_decoded, followed, is_for}
-use Rattle.cec_device.specs.Keys.{key_fault, keyed, keyed_by, own_doing}
+use Rattle.cec_device.specs.State.{State, addresses_held, with_queued, source}
+use Rattle.cec_device.specs.Say.{after_effect, say, say_all}
+use Rattle.cec_device.specs.Effects.{by_decoded, after_frame, is_for}
+use Rattle.cec_device.specs.Keys.{key_fault, after_key, keyed_by, own_doing}
 use Rattle.cec_device.specs.declared.outside.Act.{Act}
 use Rattle.cec_device.specs.declared.outside.Act.TheVariants.{Hold, Empty}
-use Rattle.cec_device.specs.Outside.{act_fault, acted, acted_by}
-use Rattle.cec_device.specs.Place.{class_of_poll, ended, failed, frame_sent, front_is_poll, is_on_wire, polled_at, sent_by, stepped, submit_fault, submitted, submitted_by}
+use Rattle.cec_device.specs.Outside.{act_fault, after_act, acted_by}
+use Rattle.cec_device.specs.Place.{class_of_poll, after_front, after_failure, frame_sent, front_is_poll, is_on_wire, polled_at, sent_by, place_after_fate, submit_fault, after_submission, submitted_by}
 use Rattle.cec_event.specs.declared.event.Event.{Event}
 use Rattle.cec_event.specs.declared.event.Event.TheVariants.{Plug, Unplug, Key as KeyEvent, Send, Outside}
 use Rattle.cec_event.specs.declared.event.EventError.{EventError}
 use Rattle.cec_net.specs.Start.{contends}
 use Rattle.cec_net.specs.State.{NetState, each_from}
-use Rattle.cec_net.specs.Apply.{applied, applied_unless, changed_at, event_fault}
-use Rattle.cec_net.specs.Step.{after_round, device_after, followed_in, followed_unless, is_among, is_contended, told}
+use Rattle.cec_net.specs.Apply.{net_after, applied_unless, changed_at, event_fault}
+use Rattle.cec_net.specs.Step.{after_round, device_after, followed_in, followed_unless, is_among, is_contended, after_fate}
 use Rattle.cec_driven.specs.Driven.{names_of}
 use Rattle.driven_laws.specs.Dumps.{names_in}
 use Rattle.driven_laws.proofs.Names.{name-queued, name-reported_by, names-each, two}
@@ -45,18 +45,18 @@ use Rattle.driven_laws.proofs.Names.{name-queued, name-reported_by, names-each, 
 -- ---- what a device says and does
 
 name-say : (limit : ℕ) (h : Heard) (s : Say) (d : State) → (say limit h s d).name ≡ d.name
-name-say limit h (Reply bytes) d = two (nat_lt h.from 15) (queued limit h.at (source d.place h.to) h.from bytes d) d d.name (name-queued limit h.at (source d.place h.to) h.from bytes d) refl
+name-say limit h (Reply bytes) d = two (nat_lt h.from 15) (with_queued limit h.at (source d.place h.to) h.from bytes d) d d.name (name-queued limit h.at (source d.place h.to) h.from bytes d) refl
 name-say limit h (Cast bytes) d = name-queued limit h.at (source d.place h.to) 15 bytes d
-name-say limit h (Tell to bytes) d = two (nat_lt to 15) (queued limit h.at (source d.place h.to) to bytes d) d d.name (name-queued limit h.at (source d.place h.to) to bytes d) refl
+name-say limit h (Tell to bytes) d = two (nat_lt to 15) (with_queued limit h.at (source d.place h.to) to bytes d) d d.name (name-queued limit h.at (source d.place h.to) to bytes d) refl
 name-say limit h (Refuse reason) d =
-    two (nat_lt h.to 15 && (nat_lt h.from 15 && not (h.opcode == 0))) (queued limit h.at (source d.place h.to) h.from (0x00 ∷ h.opcode ∷ reason_byte reason ∷ []) d) d d.name
+    two (nat_lt h.to 15 && (nat_lt h.from 15 && not (h.opcode == 0))) (with_queued limit h.at (source d.place h.to) h.from (0x00 ∷ h.opcode ∷ reason_byte reason ∷ []) d) d d.name
     (name-queued limit h.at (source d.place h.to) h.from (0x00 ∷ h.opcode ∷ reason_byte reason ∷ []) d) refl
 
 name-say_all : (limit : ℕ) (h : Heard) (says : List Say) (d : State) → (say_all limit h says d).name ≡ d.name
 name-say_all limit h [] d = refl
 name-say_all limit h (s ∷ says) d = name-say_all limit h says (say limit h s d) ∙ name-say limit h s d
 
-name-effected : (limit : ℕ) (h : Heard) (e : Effect) (d : State) → (effected limit h e d).name ≡ d.name
+name-effected : (limit : ℕ) (h : Heard) (e : Effect) (d : State) → (after_effect limit h e d).name ≡ d.name
 name-effected limit h e d = name-say_all limit h e.says (record d { record_of = e.after })
 
 name-decoded : (limit : ℕ) (h : Heard) (d : State) (said : Decoded) → (by_decoded limit h d said).name ≡ d.name
@@ -65,7 +65,7 @@ name-decoded limit h d (NoName opcode) = name-effected limit h (refuses d.record
 name-decoded limit h d (Short opcode) = refl
 name-decoded limit h d Poll = refl
 
-name-followed : (limit at : ℕ) (frame : List ℕ) (d : State) → (followed limit d frame at).name ≡ d.name
+name-followed : (limit at : ℕ) (frame : List ℕ) (d : State) → (after_frame limit d frame at).name ≡ d.name
 name-followed limit at [] d = refl
 name-followed limit at (header ∷ []) d = refl
 name-followed limit at (header ∷ opcode ∷ operands) d =
@@ -88,22 +88,22 @@ name-acted_by d None Empty = refl
 
 -- ---- fates
 
-name-failed : (d : State) → (failed d).name ≡ d.name
-name-failed d = two (nat_lt d.attempts 5) (record d { attempts = d.attempts + 1; class = Retry }) (ended d) d.name refl refl
+name-failed : (d : State) → (after_failure d).name ≡ d.name
+name-failed d = two (nat_lt d.attempts 5) (record d { attempts = d.attempts + 1; class = Retry }) (after_front d) d.name refl refl
 
 name-frame_sent : (fate : Fate) (d : State) → (frame_sent d fate).name ≡ d.name
 name-frame_sent Lost d = refl
 name-frame_sent Delivered d = refl
-name-frame_sent Unacked d = two (front_is_poll d.queue) (ended d) (failed d) d.name refl (name-failed d)
-name-frame_sent Broken d = two (front_is_poll d.queue) (record d { class = Retry }) (failed d) d.name refl (name-failed d)
+name-frame_sent Unacked d = two (front_is_poll d.queue) (after_front d) (after_failure d) d.name refl (name-failed d)
+name-frame_sent Broken d = two (front_is_poll d.queue) (record d { class = Retry }) (after_failure d) d.name refl (name-failed d)
 
 name-sent_by : (limit at : ℕ) (fate : Fate) (d : State) (p : Option ℕ) → (sent_by limit d fate at p).name ≡ d.name
 name-sent_by limit at fate d None = name-frame_sent fate d
 name-sent_by limit at fate d (Some a) =
-    let e : State = record d { place = stepped d.kind d.place fate; poll_ready = at; class = class_of_poll fate } in
-    name-reported_by limit at (held e.place) e
+    let e : State = record d { place = place_after_fate d.kind d.place fate; poll_ready = at; class = class_of_poll fate } in
+    name-reported_by limit at (addresses_held e.place) e
 
-name-told : (own others : Bool) (fate : Fate) (at : ℕ) (d : State) → (told own others fate at d).name ≡ d.name
+name-told : (own others : Bool) (fate : Fate) (at : ℕ) (d : State) → (after_fate own others fate at d).name ≡ d.name
 name-told true others fate at d = name-sent_by 16 at fate d (polled_at d.place)
 name-told false true fate at d = refl
 name-told false false fate at d = refl
@@ -115,7 +115,7 @@ name-unless false (Some frame) at d = name-followed 16 at frame d
 
 name-after : (own others : Bool) (o : Outcome) (number : ℕ) (d : State) → (device_after own others o number d).name ≡ d.name
 name-after own others o number d =
-    two (is_on_wire d) (told own others (fate_in o number) (close_in o) (followed_in o number d)) d d.name
+    two (is_on_wire d) (after_fate own others (fate_in o number) (close_in o) (followed_in o number d)) d d.name
     (name-told own others (fate_in o number) (close_in o) (followed_in o number d) ∙ name-unless (is_among o.survivors.items number) (frame_in o.reading) (close_in o) d) refl
 
 -- ---- all devices
@@ -133,11 +133,11 @@ names-unless : (fault : Option EventError) (at : ℕ) (event : Event) (s : NetSt
 names-unless (Some error) at event s = refl
 names-unless None at (Plug child parent port) s = names-each 0 at _ s.devices
 names-unless None at (Unplug child) s = names-each 0 at _ s.devices
-names-unless None at (KeyEvent device key press) s = names-changed device (λ d. keyed 16 d key press at) s.devices (λ d. name-keyed_by 16 at key press d (key_fault d key))
-names-unless None at (Send device frame) s = names-changed device (λ d. submitted 16 d frame at) s.devices (λ d. name-submitted_by at frame d (submit_fault 16 d frame))
-names-unless None at (Outside device act) s = names-changed device (λ d. acted d act) s.devices (λ d. name-acted_by d (act_fault d) act)
+names-unless None at (KeyEvent device key press) s = names-changed device (λ d. after_key 16 d key press at) s.devices (λ d. name-keyed_by 16 at key press d (key_fault d key))
+names-unless None at (Send device frame) s = names-changed device (λ d. after_submission 16 d frame at) s.devices (λ d. name-submitted_by at frame d (submit_fault 16 d frame))
+names-unless None at (Outside device act) s = names-changed device (λ d. after_act d act) s.devices (λ d. name-acted_by d (act_fault d) act)
 
-pub names_applied : (at : ℕ) (event : Event) (s : NetState) → names_of (applied at event s).devices ≡ names_of s.devices
+pub names_applied : (at : ℕ) (event : Event) (s : NetState) → names_of (net_after at event s).devices ≡ names_of s.devices
 names_applied at event s = names-unless (event_fault s event) at event s
 
 pub names_round : (s : NetState) (begin : ℕ) (o : Outcome) → names_of (after_round s begin o).devices ≡ names_of s.devices
@@ -160,5 +160,5 @@ tree-unless None at (KeyEvent device key press) s = refl
 tree-unless None at (Send device frame) s = refl
 tree-unless None at (Outside device act) s = refl
 
-pub tree_applied : (at : ℕ) (event : Event) (s : NetState) → names_in (applied at event s).tree ≡ names_in s.tree
+pub tree_applied : (at : ℕ) (event : Event) (s : NetState) → names_in (net_after at event s).tree ≡ names_in s.tree
 tree_applied at event s = tree-unless (event_fault s event) at event s

@@ -12,13 +12,13 @@ use Rattle.hdmi_topo.specs.Node.{Node}
 use Rattle.hdmi_topo.specs.Path.{is_on_wire}
 use Rattle.hdmi_topo.specs.Port.{port_bytes}
 use Rattle.hdmi_topo.specs.Tree.{ports_of}
-use Rattle.cec_words.specs.Number.{number_of}
-use Rattle.cec_words.specs.Words.{words_of}
+use Rattle.hdmi_core.specs.Number.{number_of}
+use Rattle.hdmi_core.specs.Words.{words_of}
 use Rattle.cec_signal.proofs.Numbers.{number_again}
 use Rattle.cec_signal.proofs.Texts.{shown}
 use Rattle.cec_opcode.specs.DeckWords.{deck_info_byte}
 use Rattle.cec_feature.specs.declared.record.Note.{Note}
-use Rattle.cec_device.specs.State.{State, held}
+use Rattle.cec_device.specs.State.{State, addresses_held}
 use Rattle.cec_device.specs.Place as place
 use Rattle.cec_device.specs.declared.device.SubmitError.TheVariants as submit
 use Rattle.cec_device.specs.declared.keys.KeyError.TheVariants as key
@@ -178,11 +178,11 @@ pub record LineTold (name line : List ℕ) : Type 0 where
 abbrev pub StateTold : State → Type 0
 StateTold d = LineTold d.name (state_line d)
 
-inside_told : (d : State) → LineTold d.name (state_line_of d (address_text d.kind (held d.place)) (language_bytes d.record_of.language) (dash_or note_text d.record_of.heard))
+inside_told : (d : State) → LineTold d.name (state_line_of d (address_text d.kind (addresses_held d.place)) (language_bytes d.record_of.language) (dash_or note_text d.record_of.heard))
 inside_told d =
     let tail =
     closed_more (kind_word d.kind) (plain_kind d.kind) (lit (codes " ") refl
-    (closed_more (address_text d.kind (held d.place)) (plain_address d.kind (held d.place)) (lit (codes " ") refl
+    (closed_more (address_text d.kind (addresses_held d.place)) (plain_address d.kind (addresses_held d.place)) (lit (codes " ") refl
     (closed_more (dash_or phys_text (phys_on (place.is_on_wire d) d.phys)) (plain_dash phys_text (phys_on (place.is_on_wire d) d.phys) plain_phys) (lit (codes " ") refl
     (closed_more (power_text d.record_of.power) (plain_power d.record_of.power) (lit (codes " active=") refl
     (closed_more (dash_or phys_text d.record_of.active) (plain_dash phys_text d.record_of.active plain_phys) (lit (codes " path=") refl
@@ -203,11 +203,11 @@ inside_told d =
     (closed_more (decimal d.dropped) (plain_decimal d.dropped) closed_last)))))))))))))))))))))))))))))))))))))) in
     record { body = tail.body; plain = tail.plain; whole = ap (λ t. codes "state" ++ 32 ∷ (d.name ++ 32 ∷ t)) tail.same ∙ ap (λ t. codes "state" ++ 32 ∷ t) (sym (append_assoc d.name (32 ∷ tail.body) (10 ∷ []))) }
 
-outside_told : (d : State) → LineTold d.name (outside_line d (held_text (held d.place)))
+outside_told : (d : State) → LineTold d.name (outside_line d (held_text (addresses_held d.place)))
 outside_told d =
     let tail =
     closed_more (kind_word d.kind) (plain_kind d.kind) (lit (codes " ") refl
-    (closed_more (held_text (held d.place)) (plain_held (held d.place)) (lit (codes " ") refl
+    (closed_more (held_text (addresses_held d.place)) (plain_held (addresses_held d.place)) (lit (codes " ") refl
     (closed_more (dash_or phys_text (phys_on (place.is_on_wire d) d.phys)) (plain_dash phys_text (phys_on (place.is_on_wire d) d.phys) plain_phys)
     (lit (codes " - active=- path=- deck=- menu=- audio=- volume=- mute=- arc=- sel=- lang=- osd=- held=- heard=- sub=- queue=") refl
     (closed_more (decimal (length d.queue)) (plain_decimal (length d.queue)) (lit (codes " dropped=") refl
@@ -217,8 +217,8 @@ outside_told d =
 pub state_told : (d : State) → StateTold d
 state_told d = either (is_outside d.kind)
   where
-    either : (b : Bool) → LineTold d.name (if b then outside_line d (held_text (held d.place))
-        else state_line_of d (address_text d.kind (held d.place)) (language_bytes d.record_of.language) (dash_or note_text d.record_of.heard))
+    either : (b : Bool) → LineTold d.name (if b then outside_line d (held_text (addresses_held d.place))
+        else state_line_of d (address_text d.kind (addresses_held d.place)) (language_bytes d.record_of.language) (dash_or note_text d.record_of.heard))
     either true = outside_told d
     either false = inside_told d
 

@@ -11,17 +11,17 @@ use Rattle.cec_frame.specs.declared.Ending.TheVariants.{Complete, Short, Silent,
 use Rattle.cec_frame.specs.declared.Reading.{Reading}
 use Rattle.cec_wire.specs.declared.Loser.{Loser}
 use Rattle.cec_wire.specs.declared.Outcome.{Outcome}
-use Rattle.cec_words.specs.Number.{number_of}
-use Rattle.cec_words.specs.Words.{text_of, words_of}
+use Rattle.hdmi_core.specs.Number.{number_of}
+use Rattle.hdmi_core.specs.Words.{text_of, words_of}
 use Rattle.cec_signal.proofs.Numbers.{number_again}
 use Rattle.cec_device.specs.State.{State}
 use Rattle.cec_audit.specs.Kept.{IsPlain}
 use Rattle.cec_audit.proofs.OneLine.{plain_reading}
 use Rattle.cec_audit.proofs.Plain.{plain_codes, plain_decimal, plain_more}
 use Rattle.cec_text.specs.ReadingText.{ending_text, told_text, verdict_text}
-use Rattle.cec_trace.specs.TraceText.{listed, loser_text, name_at, round_line}
+use Rattle.cec_trace.specs.TraceText.{comma_list, loser_text, name_at, round_line}
 use Rattle.cec_judge.specs.Told.{EventLine, RoundLine, behind_complete, round_by, round_in, told_in}
-use Rattle.judge_laws.specs.ReadBack.{RoundTold, ending_told, round_read, said}
+use Rattle.judge_laws.specs.ReadBack.{RoundTold, ending_told, round_read, round_text_of}
 use Rattle.judge_laws.proofs.Lines.{Adds, Closed, closed_end, closed_more, closed_word, number_solid, two_words_add}
 use Rattle.judge_laws.proofs.Others.{other_verb}
 
@@ -49,11 +49,11 @@ commas_plain : {X : Type 0} (f : X → List ℕ) (xs : List X) → ((x : X) → 
 commas_plain f [] h = tt
 commas_plain f (x ∷ xs) h = ((λ e. absurd (omega (arith, e))), plain_more (f x) (flat_map (λ t. 44 ∷ t) (map f xs)) (h x) (commas_plain f xs h))
 
-pub listed_plain : {X : Type 0} (f : X → List ℕ) (xs : List X) → ((x : X) → IsPlain (f x)) → IsPlain (listed (map f xs))
+pub listed_plain : {X : Type 0} (f : X → List ℕ) (xs : List X) → ((x : X) → IsPlain (f x)) → IsPlain (comma_list (map f xs))
 listed_plain f [] h = plain_codes (codes "-") refl
 listed_plain f (x ∷ xs) h = plain_more (f x) (flat_map (λ t. 44 ∷ t) (map f xs)) (h x) (commas_plain f xs h)
 
--- what a reading tells
+-- what a reading reports
 pub told_plain : (r : Reading) → IsPlain (told_text r) × IsPlain (verdict_text r)
 told_plain r =
     let end = told_text r ++ (verdict_text r ++ []) in
@@ -61,18 +61,18 @@ told_plain r =
     (rest_plain (decimal r.begin) (codes " " ++ (decimal r.at ++ (ending_text r.ending ++ end))) (plain_reading r)))) in
     (front_plain (told_text r) (verdict_text r ++ []) behind, front_plain (verdict_text r) [] (rest_plain (told_text r) (verdict_text r ++ []) behind))
 
--- behind the ending
+-- after the ending
 abbrev pub behind : List State → Outcome → List ℕ
 behind devices o =
-    told_text o.reading ++ (verdict_text o.reading ++ (codes " by " ++ (listed (map (name_at devices) o.survivors.items) ++ (codes " out " ++ (listed (map (loser_text devices) o.losers.items) ++ (codes "\n" ++ []))))))
+    told_text o.reading ++ (verdict_text o.reading ++ (codes " by " ++ (comma_list (map (name_at devices) o.survivors.items) ++ (codes " out " ++ (comma_list (map (loser_text devices) o.losers.items) ++ (codes "\n" ++ []))))))
 
 abbrev pub said_closed : (devices : List State) (o : Outcome) → All (λ d. IsPlain d.name) devices → Closed (behind devices o)
 said_closed devices o h =
     closed_more (told_text o.reading) (told_plain o.reading).0 (closed_more (verdict_text o.reading) (told_plain o.reading).1 (closed_more (codes " by ") (plain_codes (codes " by ") refl)
-    (closed_more (listed (map (name_at devices) o.survivors.items)) (listed_plain (name_at devices) o.survivors.items (λ n. name_plain devices n h)) (closed_more (codes " out ") (plain_codes (codes " out ") refl)
-    (closed_end (listed (map (loser_text devices) o.losers.items)) (listed_plain (loser_text devices) o.losers.items (λ x. loser_plain devices x h)))))))
+    (closed_more (comma_list (map (name_at devices) o.survivors.items)) (listed_plain (name_at devices) o.survivors.items (λ n. name_plain devices n h)) (closed_more (codes " out ") (plain_codes (codes " out ") refl)
+    (closed_end (comma_list (map (loser_text devices) o.losers.items)) (listed_plain (loser_text devices) o.losers.items (λ x. loser_plain devices x h)))))))
 
--- ---- what is said behind the times
+-- ---- what is said after the times
 
 text_again : (text : List ℕ) → text_of (words_of text) ≡ text
 text_again text = join_with_byte-slice_split 32 text
@@ -124,7 +124,7 @@ spaced w z = ap (λ l. 32 ∷ l) (append_assoc w (32 ∷ []) z)
 pub line_is : (devices : List State) (o : Outcome)
     → round_line devices o ≡ decimal o.reading.begin ++ 32 ∷ (decimal o.reading.at ++ 32 ∷ (ending_word o.reading.ending ++ 32 ∷ behind devices o))
 line_is devices o =
-    let by = codes " by " ++ (listed (map (name_at devices) o.survivors.items) ++ (codes " out " ++ (listed (map (loser_text devices) o.losers.items) ++ (codes "\n" ++ [])))) in
+    let by = codes " by " ++ (comma_list (map (name_at devices) o.survivors.items) ++ (codes " out " ++ (comma_list (map (loser_text devices) o.losers.items) ++ (codes "\n" ++ [])))) in
     five (decimal o.reading.begin) (decimal o.reading.at) (ending_text o.reading.ending) (told_text o.reading) (verdict_text o.reading) by
     ∙ ap (λ e. decimal o.reading.begin ++ 32 ∷ (decimal o.reading.at ++ (e ++ behind devices o))) (is_ending o.reading.ending).spelled
     ∙ ap (λ l. decimal o.reading.begin ++ 32 ∷ (decimal o.reading.at ++ l)) (spaced (ending_word o.reading.ending) (behind devices o))
@@ -136,7 +136,7 @@ round_words begin at e text b a =
     ∙ ap (λ t. round_by (number_of (decimal begin)) (number_of (decimal at)) t) (told_again (ending_word e) text ∙ (is_ending e).told text)
     ∙ rw (number_again begin b, number_again at a) refl
 
--- behind the times
+-- after the times
 abbrev pub round_tail : (devices : List State) (o : Outcome) → All (λ d. IsPlain d.name) devices → Closed (ending_word o.reading.ending ++ 32 ∷ behind devices o)
 round_tail devices o plain = closed_word (ending_word o.reading.ending) (is_ending o.reading.ending).plain (said_closed devices o plain)
 
@@ -161,5 +161,5 @@ round_adds r plain b a =
     let tail = round_tail r.devices o plain in
     subst (λ t. Adds t (round_read r ∷ []) []) (sym (line_is r.devices o))
     (told_so (two_words_add (decimal o.reading.begin) (decimal o.reading.at) (number_solid o.reading.begin b) (plain_decimal o.reading.begin) (number_solid o.reading.at a) (plain_decimal o.reading.at) tail)
-    (round_words o.reading.begin o.reading.at o.reading.ending (said r.devices o) b a)
-    (other_verb (decimal o.reading.begin) (decimal o.reading.at) (words_of (word ++ 32 ∷ said r.devices o)) (no_verb o.reading.at a)))
+    (round_words o.reading.begin o.reading.at o.reading.ending (round_text_of r.devices o) b a)
+    (other_verb (decimal o.reading.begin) (decimal o.reading.at) (words_of (word ++ 32 ∷ round_text_of r.devices o)) (no_verb o.reading.at a)))

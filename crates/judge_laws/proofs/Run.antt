@@ -11,12 +11,12 @@ use Rattle.cec_wire.proofs.Bounds.{rounds_are_short}
 use Rattle.hdmi_blocks.specs.declared.edid.Edid.{Edid}
 use Rattle.hdmi_topo.specs.Node.{Node}
 use Rattle.hdmi_topo.specs.Path.{is_on_wire}
-use Rattle.cec_words.specs.Lines.{lines_of}
-use Rattle.cec_words.specs.Words.{words_of}
+use Rattle.hdmi_core.specs.Lines.{lines_of}
+use Rattle.hdmi_core.specs.Words.{words_of}
 use Rattle.cec_signal.proofs.Texts.{Lacks}
 use Rattle.cec_device.specs.State.{State}
-use Rattle.cec_net.specs.State.{NetState, next_start, started}
-use Rattle.cec_net.specs.Apply.{applied, event_fault}
+use Rattle.cec_net.specs.State.{NetState, next_start, first_net}
+use Rattle.cec_net.specs.Apply.{net_after, event_fault}
 use Rattle.cec_asm.specs.declared.script.TimedEvent.{TimedEvent}
 use Rattle.cec_asm.proofs.Sound.{scripts_are_sound}
 use Rattle.cec_audit.specs.Kept.{IsPlain}
@@ -105,7 +105,7 @@ applies_before end at s (Some time) h = by_test (is_by (max s.close time) (next_
 TellsItself : RoundTold → Type 0
 TellsItself r = Adds (round_line r.devices r.outcome) (round_read r ∷ []) []
 
--- what it tells, and where it leads
+-- what it reports, and where it leads
 record Turned (names : List (List ℕ)) (told : List ℕ) (c d : Config) (rs : List RoundTold) (es : List EventTold) : Type 0 where
   adds : Adds told (map round_read rs) (map event_read es)
   each : All TellsItself rs
@@ -122,11 +122,11 @@ event_turned names edid at [] c d told t same small plain h = record {
 }
 event_turned names edid at (e ∷ events) c d told t same small plain h =
     let lines : All (λ x. x.line < 2 ^ 64) (e ∷ events) = subst (λ (es : List TimedEvent). All (λ x. x.line < 2 ^ 64) es) same h.lines in
-    let tree : names_in (applied at e.event c.net).tree ≡ names = tree_applied at e.event c.net ∙ h.tree in
+    let tree : names_in (net_after at e.event c.net).tree ≡ names = tree_applied at e.event c.net ∙ h.tree in
     record {
       adds = subst (λ x. Adds x [] (event_read (record { at = at; event = e; fault = event_fault c.net e.event }) ∷ [])) (sym t.0)
           (adds_two (event_adds at e.line (event_fault c.net e.event) small (lines 0 e (omega arith)))
-          (ports_add at edid (is_on_wire c.net.tree) (applied at e.event c.net).tree small (node_names names (applied at e.event c.net).tree tree plain)));
+          (ports_add at edid (is_on_wire c.net.tree) (net_after at e.event c.net).tree small (node_names names (net_after at e.event c.net).tree tree plain)));
       each = All-nil TellsItself;
       stands = subst (Stands names) (sym t.1) (record { devices = names_applied at e.event c.net ∙ h.devices; tree = tree; lines = λ k x l. lines (suc k) x (omega arith) });
       order = same ∙ ap (λ (x : Config). e ∷ x.events) (sym t.1);
@@ -236,7 +236,7 @@ seen_so text pattern span rs e =
 
 abbrev run_told : (topology script text : List ℕ) (totals : Totals) → (p : IsTraceOf topology script text totals) → Type 0
 run_told topology script text totals p =
-    Turned (names_in p.plan.tree) p.trace.run.body (start (started p.plan.tree p.course.pulses) p.course.events) p.trace.run.last (rounds_told topology script text totals p) (events_told topology script text totals p)
+    Turned (names_in p.plan.tree) p.trace.run.body (start (first_net p.plan.tree p.course.pulses) p.course.events) p.trace.run.last (rounds_told topology script text totals p) (events_told topology script text totals p)
 
 -- the names of a topology have no line feed
 pub plain_of : (topology script text : List ℕ) (totals : Totals) → (p : IsTraceOf topology script text totals) → ArePlain (names_in p.plan.tree)
@@ -245,7 +245,7 @@ plain_of topology script text totals p = words_plain (names_in p.plan.tree) (nam
 run_of : (topology script text : List ℕ) (totals : Totals) → (p : IsTraceOf topology script text totals) → length script < 2 ^ 63 → run_told topology script text totals p
 run_of topology script text totals p small =
     let sound = scripts_are_sound p.plan.tree script p.course p.accepted.course_is in
-    all_turned (names_in p.plan.tree) p.edid p.course.end p.trace.run.turns (start (started p.plan.tree p.course.pulses) p.course.events) p.trace.run.last p.trace.run.body p.trace.run.leads sound.limit
+    all_turned (names_in p.plan.tree) p.edid p.course.end p.trace.run.turns (start (first_net p.plan.tree p.course.pulses) p.course.events) p.trace.run.last p.trace.run.body p.trace.run.leads sound.limit
     (plain_of topology script text totals p)
     (record { devices = names_started p.plan.tree p.course.pulses; tree = refl; lines = lines_are_few p.plan.tree script p.course small p.accepted.course_is })
 
@@ -255,7 +255,7 @@ traces_are_read_back topology script text totals p small =
     let limit = sound.limit in
     let names = names_in p.plan.tree in
     let plain = plain_of topology script text totals p in
-    let c = start (started p.plan.tree p.course.pulses) p.course.events in
+    let c = start (first_net p.plan.tree p.course.pulses) p.course.events in
     let last = p.trace.run.last in
     let run = run_of topology script text totals p small in
     let rs = map round_read (rounds_told topology script text totals p) in

@@ -13,9 +13,9 @@ use Rattle.hdmi_topo.specs.Tree.{device_named}
 use Rattle.cec_feature.specs.declared.keys.Key.{Key as KeyValue}
 use Rattle.cec_event.specs.declared.event.Event.{Event}
 use Rattle.cec_event.specs.declared.event.Event.TheVariants.{Plug, Unplug, Key, Send, Outside}
-use Rattle.cec_words.specs.Lines.{is_skipped, lines_of, without_empty_end}
-use Rattle.cec_words.specs.Number.{number_of}
-use Rattle.cec_words.specs.Words.{one_of, three_of, two_of, words_of}
+use Rattle.hdmi_core.specs.Lines.{is_skipped, lines_of, without_empty_end}
+use Rattle.hdmi_core.specs.Number.{number_of}
+use Rattle.hdmi_core.specs.Words.{one_of, three_of, two_of, words_of}
 use Rattle.cec_text.specs.declared.assembler.AssembleError.{AssembleError}
 use Rattle.cec_asm.specs.Keys.{key_of}
 use Rattle.cec_asm.specs.Holding.{hold_of}
@@ -25,7 +25,7 @@ use Rattle.cec_asm.specs.Fault.{at_word}
 use Rattle.cec_asm.specs.declared.fault.LineFault.{LineFault}
 use Rattle.cec_asm.specs.declared.script.ScriptCause.TheVariants as causes
 use Rattle.cec_asm.specs.declared.script.TimedEvent.{TimedEvent}
-use Rattle.cec_asm.specs.Script.{AreLinesRead, Course, IsEventRead, IsLineRead, IsScriptRead, IsSendRead, IsWordsRead, Notes, Onward, end_read, end_words, ended, event_words, key_read, key_words, act_read, hold_words, drop_words, last_end, last_time, no_notes, other_words, plug_read, plug_words, pulse_read, pulse_words, scheduled, send_read, time_of, unless_fault, unplug_read, unplug_words}
+use Rattle.cec_asm.specs.Script.{AreLinesRead, Course, IsEventRead, IsLineRead, IsScriptRead, IsSendRead, IsWordsRead, Notes, Onward, end_read, end_words, course_at_end, event_words, key_read, key_words, act_read, hold_words, drop_words, last_end, last_time, no_notes, other_words, plug_read, plug_words, pulse_read, pulse_words, notes_with_event, send_read, time_of, unless_fault, unplug_read, unplug_words}
 
 -- no event stands below this line
 abbrev pub AreBy : ℕ → List TimedEvent → Type 0
@@ -39,7 +39,7 @@ fits_if : (line : ℕ) (b : Bool) (r s : Result Notes LineFault) → Fits line r
 fits_if line true r s h k = h
 fits_if line false r s h k = k
 
-fits_scheduled : (notes : Notes) (line time : ℕ) (event : Event) → AreBy line notes.events → Fits line (scheduled notes line time event)
+fits_scheduled : (notes : Notes) (line time : ℕ) (event : Event) → AreBy line notes.events → Fits line (notes_with_event notes line time event)
 unfolding Fits
 fits_scheduled notes line time event h =
     let e : TimedEvent = record { line = line; at = time; event = event } in
@@ -198,7 +198,7 @@ fits_line tree notes line text read h r = by (is_skipped text) r
 later_by : (n m : ℕ) (events : List TimedEvent) → n ≤ m → AreBy n events → AreBy m events
 later_by n m events l h = λ k x i. (let b : (get_or events k x).line ≤ n = h k x i in omega (arith, b, l))
 
-ends : (notes : Notes) (line : ℕ) (course : Course) (o : Option ℕ) → Ok course ≡ ended notes line o → course.events ≡ notes.events
+ends : (notes : Notes) (line : ℕ) (course : Course) (o : Option ℕ) → Ok course ≡ course_at_end notes line o → course.events ≡ notes.events
 ends notes line course None e = cc
 ends notes line course (Some time) e = let same : course ≡ record { events = notes.events; pulses = notes.pulses; end = time } = cc in ap (λ (c : Course). c.events) same
 

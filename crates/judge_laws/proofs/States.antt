@@ -11,15 +11,15 @@ use Rattle.hdmi_topo.specs.Node.{Node}
 use Rattle.hdmi_topo.specs.Path.{is_on_wire}
 use Rattle.hdmi_topo.specs.Port.{port_bytes}
 use Rattle.hdmi_topo.specs.Tree.{ports_of}
-use Rattle.cec_words.specs.Lines.{lines_of}
-use Rattle.cec_words.specs.Number.{number_of}
-use Rattle.cec_words.specs.Words.{words_of}
+use Rattle.hdmi_core.specs.Lines.{lines_of}
+use Rattle.hdmi_core.specs.Number.{number_of}
+use Rattle.hdmi_core.specs.Words.{words_of}
 use Rattle.cec_signal.proofs.Numbers.{number_again}
 use Rattle.cec_signal.proofs.Texts.{Lacks, line_before, shown}
 use Rattle.cec_device.specs.State.{State}
 use Rattle.cec_event.specs.declared.event.EventError.{EventError}
-use Rattle.cec_net.specs.State.{NetState, started}
-use Rattle.cec_net.specs.Apply.{applied, event_fault}
+use Rattle.cec_net.specs.State.{NetState, first_net}
+use Rattle.cec_net.specs.Apply.{net_after, event_fault}
 use Rattle.cec_asm.specs.declared.script.TimedEvent.{TimedEvent}
 use Rattle.cec_asm.proofs.Sound.{scripts_are_sound}
 use Rattle.cec_audit.specs.Kept.{IsPlain}
@@ -46,7 +46,7 @@ use Rattle.judge_laws.proofs.Others.{StateTold, event_tail, name_plain, port_tai
 use Rattle.judge_laws.proofs.Rounds.{round_tail, line_is}
 use Rattle.judge_laws.proofs.Run.{applies_before, device_names, node_names, plain_of, unmapped}
 
--- ---- texts that tell no state
+-- ---- texts that report no state
 
 record Stateless (text : List ℕ) : Type 0 where
   same : (name rest : List ℕ) → line_read (text ++ rest) name ≡ line_read rest name
@@ -133,11 +133,11 @@ event_passed names edid at [] c d told t small plain devices tree = record {
   tree = ap (λ (x : Config). names_in x.net.tree) t.1 ∙ tree;
 }
 event_passed names edid at (e ∷ events) c d told t small plain devices tree =
-    let after : names_in (applied at e.event c.net).tree ≡ names = tree_applied at e.event c.net ∙ tree in
+    let after : names_in (net_after at e.event c.net).tree ≡ names = tree_applied at e.event c.net ∙ tree in
     record {
-      stateless = subst Stateless (sym t.0) (stateless_two (event_line at e.line (event_fault c.net e.event)) (port_lines at edid (is_on_wire c.net.tree) (applied at e.event c.net).tree)
+      stateless = subst Stateless (sym t.0) (stateless_two (event_line at e.line (event_fault c.net e.event)) (port_lines at edid (is_on_wire c.net.tree) (net_after at e.event c.net).tree)
           (event_stateless at e.line (event_fault c.net e.event) small)
-          (ports_stateless at edid (is_on_wire c.net.tree) (applied at e.event c.net).tree small (node_names names (applied at e.event c.net).tree after plain)));
+          (ports_stateless at edid (is_on_wire c.net.tree) (net_after at e.event c.net).tree small (node_names names (net_after at e.event c.net).tree after plain)));
       devices = ap (λ (x : Config). names_of x.net.devices) t.1 ∙ names_applied at e.event c.net ∙ devices;
       tree = ap (λ (x : Config). names_in x.net.tree) t.1 ∙ after;
     }
@@ -235,7 +235,7 @@ state_lines_are_read topology script text totals p name =
     let names = names_in p.plan.tree in
     let words = names_are_words topology p.plan p.accepted.plan_is in
     let plain = plain_of topology script text totals p in
-    let c = start (started p.plan.tree p.course.pulses) p.course.events in
+    let c = start (first_net p.plan.tree p.course.pulses) p.course.events in
     let last = p.trace.run.last in
     let run = all_passed names p.edid p.course.end p.trace.run.turns c last p.trace.run.body p.trace.run.leads limit plain (names_started p.plan.tree p.course.pulses) refl in
     let first = ports_stateless 0 p.edid (λ device. false) p.plan.tree (omega arith) (node_names names p.plan.tree refl plain) in

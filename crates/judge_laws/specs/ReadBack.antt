@@ -9,9 +9,9 @@ use Rattle.cec_device.specs.State.{State}
 use Rattle.cec_event.specs.declared.event.EventError.{EventError}
 use Rattle.cec_asm.specs.declared.script.TimedEvent.{TimedEvent}
 use Rattle.cec_net.specs.Apply.{event_fault}
-use Rattle.cec_net.specs.State.{NetState, started}
+use Rattle.cec_net.specs.State.{NetState, first_net}
 use Rattle.cec_text.specs.ReadingText.{told_text, verdict_text}
-use Rattle.cec_trace.specs.TraceText.{error_word, listed, loser_text, name_at, round_line}
+use Rattle.cec_trace.specs.TraceText.{error_word, comma_list, loser_text, name_at, round_line}
 use Rattle.cec_run.specs.declared.run.Telling.TheVariants.{Trace}
 use Rattle.cec_run.specs.declared.run.Totals.{Totals}
 use Rattle.cec_run.specs.declared.run.Turn.{Turn}
@@ -23,7 +23,7 @@ use Rattle.cec_judge.specs.Seen.{end_by, ends_seen}
 use Rattle.cec_judge.specs.Told.{EventLine, RoundLine, events_of, rounds_of}
 use Rattle.cec_judge.specs.declared.seen.Span.{Span}
 
--- ---- what a run tells
+-- ---- what a run reports
 
 -- a round, and the devices after it
 pub record RoundTold : Type 0 where
@@ -62,11 +62,11 @@ events_in edid end (suc turns) c text d l = events_by (turn_at end c) c ++ event
 -- of the run of a trace
 abbrev pub rounds_told : (topology script text : List ℕ) (totals : Totals) → IsTraceOf topology script text totals → List RoundTold
 rounds_told topology script text totals p =
-    rounds_in p.edid p.course.end p.trace.run.turns (start (started p.plan.tree p.course.pulses) p.course.events) p.trace.run.body p.trace.run.last p.trace.run.leads
+    rounds_in p.edid p.course.end p.trace.run.turns (start (first_net p.plan.tree p.course.pulses) p.course.events) p.trace.run.body p.trace.run.last p.trace.run.leads
 
 abbrev pub events_told : (topology script text : List ℕ) (totals : Totals) → IsTraceOf topology script text totals → List EventTold
 events_told topology script text totals p =
-    events_in p.edid p.course.end p.trace.run.turns (start (started p.plan.tree p.course.pulses) p.course.events) p.trace.run.body p.trace.run.last p.trace.run.leads
+    events_in p.edid p.course.end p.trace.run.turns (start (first_net p.plan.tree p.course.pulses) p.course.events) p.trace.run.body p.trace.run.last p.trace.run.leads
 
 -- ---- what is read of it
 
@@ -80,13 +80,13 @@ ending_told Long = codes "long "
 ending_told Open = codes "open "
 
 -- what was read, how it was acknowledged, and who went on to the end and who did not
-abbrev pub said : List State → Outcome → List ℕ
-said devices o =
-    told_text o.reading ++ (verdict_text o.reading ++ (codes " by " ++ (listed (map (name_at devices) o.survivors.items) ++ (codes " out " ++ listed (map (loser_text devices) o.losers.items)))))
+abbrev pub round_text_of : List State → Outcome → List ℕ
+round_text_of devices o =
+    told_text o.reading ++ (verdict_text o.reading ++ (codes " by " ++ (comma_list (map (name_at devices) o.survivors.items) ++ (codes " out " ++ comma_list (map (loser_text devices) o.losers.items)))))
 
 -- a round: its begin, its end, and the text of its outcome
 abbrev pub round_read : RoundTold → RoundLine
-round_read r = record { begin = r.outcome.reading.begin; at = r.outcome.reading.at; told = ending_told r.outcome.reading.ending ++ said r.devices r.outcome }
+round_read r = record { begin = r.outcome.reading.begin; at = r.outcome.reading.at; told = ending_told r.outcome.reading.ending ++ round_text_of r.devices r.outcome }
 
 abbrev pub fault_words : Option EventError → List (List ℕ)
 fault_words None = codes "ok" ∷ []

@@ -3,14 +3,14 @@ use Rattle.std.specs.Prelude.{◌≡◌, ℕ, ◌≤◌, codes, List, [], ◌++�
 use Rattle.std.specs.List.{find}
 use Rattle.std.specs.Str.{bytes_eq}
 use Rattle.cec_device.specs.State.{State}
-use Rattle.cec_net.specs.State.{started}
+use Rattle.cec_net.specs.State.{first_net}
 use Rattle.cec_trace.specs.StateText.{state_line}
 use Rattle.cec_run.specs.declared.run.Telling.TheVariants.{Trace}
 use Rattle.cec_run.specs.declared.run.Totals.{Totals}
 use Rattle.cec_run.specs.Run.{Config, start}
 use Rattle.cec_run.specs.Emulate.{IsTraceOf}
-use Rattle.cec_live.specs.Certain.{AllBefore}
-use Rattle.cec_live.specs.Causal.{BeginsWith, before_told}
+use Rattle.causal_laws.specs.Certain.{AllBefore}
+use Rattle.causal_laws.specs.Causal.{BeginsWith, before_told}
 use Rattle.cec_expect.specs.Line.{cut_script}
 use Rattle.cec_judge.specs.Told.{state_line as line_read}
 use Rattle.cec_check.specs.Cuts.{cut_course, is_early}
@@ -27,7 +27,7 @@ abbrev pub IsStateLine : Option State → List ℕ → Type 0
 IsStateLine None line = line ≡ []
 IsStateLine (Some d) line = line ++ codes "\n" ≡ state_line d
 
--- The line of a name that is read of a trace tells the state of the device of that name at the end of the run, and of a name that
+-- The line of a name that is read of a trace reports the state of the device of that name at the end of the run, and of a name that
 -- no device has none is read.
 abbrev pub StateLinesAreRead : Type 0
 StateLinesAreRead = (topology script text : List ℕ) (totals : Totals) → (p : IsTraceOf topology script text totals) → (name : List ℕ)
@@ -50,5 +50,5 @@ StatesAreOfRuns = (topology plain text : List ℕ) (totals : Totals) (time : ℕ
 abbrev pub CutTracesAgree : Type 0
 CutTracesAgree = (topology script x y : List ℕ) (s t : Totals) (time : ℕ) → time ≤ 1000000000000 → (p : IsTraceOf topology script x s) → time ≤ p.course.end
     → IsTraceOf topology (cut_script time script) y t
-    → (body : List ℕ) × (last : Config) × AllBefore (Trace p.edid) time (start (started p.plan.tree p.course.pulses) (filter (is_early time) p.course.events)) body last
+    → (body : List ℕ) × (last : Config) × AllBefore (Trace p.edid) time (start (first_net p.plan.tree p.course.pulses) (filter (is_early time) p.course.events)) body last
     × BeginsWith (before_told (Trace p.edid) p.plan.tree p.course.pulses body) x × BeginsWith (before_told (Trace p.edid) p.plan.tree p.course.pulses body) y

@@ -12,7 +12,7 @@ pub fn lines_tell_rounds()
     ensures { LinesTellRounds }
 {}
 
-/// The line of a device's state that is read of a trace tells that device's state at the end of the run.
+/// The line of a device's state that is read of a trace says that device's state at the end of the run.
 pub fn state_lines_are_read()
     ensures { StateLinesAreRead }
 {}

@@ -3,59 +3,59 @@ use crate::pipes::{Wanted, end_of, lines_of, said_in};
 use std::process::Abort;
 
 /// An input, what is written of it, and how the session ends.
-struct Fault {
+struct FaultRow {
     input: &'static [u8],
     said: &'static str,
     end: &'static str,
 }
 
-const FAULTS: &[Fault] = &[
-    Fault {
+const FAULTS: &[FaultRow] = &[
+    FaultRow {
         input: b"",
         said: "",
         end: "no script line",
     },
-    Fault {
+    FaultRow {
         input: b"device tv tv 1\n",
         said: "",
         end: "no script line",
     },
-    Fault {
+    FaultRow {
         input: b"device tv tv 1\nfrob\nscript\nend 10\n",
         said: "",
         end: "topology line 2: word",
     },
-    Fault {
+    FaultRow {
         input: b"device tv tv 1\nedid 00\nscript\nend 10\n",
         said: "",
         end: "edid: length",
     },
-    Fault {
+    FaultRow {
         input: b"device tv tv 1\n#fault",
         said: "",
         end: "read fault",
     },
-    Fault {
+    FaultRow {
         input: b"device tv tv 1\nscript",
         said: "",
         end: "script line 1: end",
     },
-    Fault {
+    FaultRow {
         input: b"device tv tv 1\nscript\nrun to 5\n\n# no more",
         said: "= 5\n= 5\n= 5\n",
         end: "script line 4: end",
     },
-    Fault {
+    FaultRow {
         input: b"device tv tv 1\nscript\nrun to 5\n#fault",
         said: "= 5\n",
         end: "read fault",
     },
-    Fault {
+    FaultRow {
         input: b"device tv tv 1\nscript\n\xff\xfe\n# \xc3\nrun to \xff\nat \xff unplug tv\n",
         said: "! 1 word\n= 0\n! 3 number\n! 4 number\n",
         end: "script line 5: end",
     },
-    Fault {
+    FaultRow {
         input: b"device tv tv 1\nscript\nend 10\nend 20\n",
         said: "state tv tv - 0.0.0.0 on active=- path=- deck=1a menu=off audio=off volume=20 mute=off arc=off sel=- lang=656e67 osd=- held=- heard=- sub=- queue=0 dropped=0\n10 end\n= 10\n",
         end: "",
@@ -80,7 +80,7 @@ fn ends_at_its_faults(rt: HostRuntime) {
     }
 }
 
-/// A topology, and behind it a line of so many letters.
+/// A topology, and after it a line of so many letters.
 fn with_long_line(rt: &(impl Abort + AllocGlobal), before: &[u8], length: usize) -> Vec<u8> {
     let mut input = Vec::new(rt.alloc());
     input.extend_from_slice(before).expect(rt, "a topology");

@@ -42,7 +42,7 @@ fn with_pulses(rt: &(impl Abort + AllocGlobal), count: u64, goes_on: bool) -> Ve
     input
 }
 
-/// What was told of rounds.
+/// What was reported of rounds.
 fn rounds_of(told: &str) -> &str {
     match told.find("state ") {
         Some(at) => told.get(..at).unwrap_or(""),

@@ -5,7 +5,7 @@ use Rattle.std.proofs.lemmas.Bool.{ltb-true, eq-eqb, ne_eqb}
 use Rattle.std.proofs.lemmas.List.Concat.{length-flat_map}
 use Rattle.std.proofs.lemmas.List.Sums.{sum_by-cons}
 use Rattle.hdmi_edid.proofs.PartLemmas.{both}
-use Rattle.hdmi_edid.specs.declared.standard.Standard.{Standard}
+use Rattle.hdmi_edid.specs.declared.standard.StandardTiming.{StandardTiming}
 use Rattle.hdmi_meaning.specs.Notes.{Row, is_set, set_line, set_lines}
 use Rattle.hdmi_meaning.specs.Formats.{formats, find_code, format_of}
 use Rattle.hdmi_meaning.specs.declared.formats.Format.{Format}
@@ -90,5 +90,5 @@ height_of false true c width h = omega arith
 height_of false false true width h = omega arith
 height_of false false false width h = omega arith
 
-pub has_height : (s : Standard) → 0 < standard_height s.width s.aspect
+pub has_height : (s : StandardTiming) → 0 < standard_height s.width s.aspect
 has_height s = let least = s.least_width in height_of (s.aspect == 0) (s.aspect == 1) (s.aspect == 2) s.width (omega (arith, least))

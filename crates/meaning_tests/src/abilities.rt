@@ -1,5 +1,5 @@
 //! The payloads of data blocks and the flags of a CTA extension, and what they mean (CTA-861-G, section 7.5; HDMI 1.4, section
-//! 8.3.2): each bit and each code alone, and some together. Those of `hdmi` are the bytes behind the physical address.
+//! 8.3.2): each bit and each code alone, and some together. Those of `hdmi` are the bytes after the physical address.
 
 pub(crate) const ROWS: &str = "\
 audio 090707 = linear PCM, 2 channels, 32 44.1 48 kHz, 16 20 24 bits

@@ -1,5 +1,5 @@
 //! Bytes of base blocks, and what they mean (VESA E-EDID Release A, section 3): each bit and each code alone, and some together.
-//! The first word says of which revision they are, or that the input is analog or that the features tell of GTF.
+//! The first word says of which revision they are, or that the input is analog or that the features indicate GTF.
 
 pub(crate) const ROWS: &str = "\
 three input 80 = digital

@@ -12,7 +12,7 @@ use hdmi_edid::Revision;
 use hdmi_meaning::{Page, append_timing, append_video};
 use std::process::Abort;
 
-/// The features that tell of GTF.
+/// The features that indicate GTF.
 const GTF: u8 = 1;
 /// An input that is digital.
 const DIGITAL: u8 = 0x80;
@@ -121,7 +121,7 @@ fn check_video(rt: &impl Abort, row: &str) {
     check(rt, &payload_page("video", bytes.as_slice()), row, lines);
 }
 
-/// A row of a payload, behind its word.
+/// A row of a payload, after its word.
 fn check_payload(rt: &impl Abort, row: &str) {
     let (front, lines) = row.split_once(" = ").expect(rt, "a row");
     let (word, digits) = front.split_once(' ').expect(rt, "a word");
@@ -129,7 +129,7 @@ fn check_payload(rt: &impl Abort, row: &str) {
     check(rt, &payload_page(word, bytes.as_slice()), row, lines);
 }
 
-/// A row of bytes of a base block, behind what decides them and their word; `raw` and `ext` have a word alone.
+/// A row of bytes of a base block, after what decides them and their word; `raw` and `ext` have a word alone.
 fn check_display(rt: &impl Abort, row: &str) {
     let (front, lines) = row.split_once(" = ").expect(rt, "a row");
     let (words, digits) = front.rsplit_once(' ').expect(rt, "digits");
@@ -138,7 +138,7 @@ fn check_display(rt: &impl Abort, row: &str) {
     check(rt, &display_page(kind, word, bytes.as_slice()), row, lines);
 }
 
-/// A row of numbers, behind their word and, for some, the revision.
+/// A row of numbers, after their word and, for some, the revision.
 fn check_numbers(rt: &impl Abort, row: &str) {
     let (front, lines) = row.split_once(" = ").expect(rt, "a row");
     let (first, rest) = front.split_once(' ').expect(rt, "a word");

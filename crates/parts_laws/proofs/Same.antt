@@ -3,8 +3,8 @@ use Rattle.std.proofs.Common.{arith, subst, ◌≡◌, Option, Some, None, IsSom
 use Rattle.std.specs.Coded.{le_prop}
 use Rattle.arrayvec.specs.ArrayVec.{ArrayVec}
 use Rattle.cec_bits.specs.Parts.{ArePartsOf, ArePartsOfSender, number_of, number_of_state, slot_of_state}
-use Rattle.cec_bits.specs.declared.receiver.Place.{Place}
-use Rattle.cec_bits.specs.declared.receiver.Place.TheVariants.{Rest, StartLow, StartHigh, Unsampled, Sampled}
+use Rattle.cec_bits.specs.declared.receiver.ReceiverState.{ReceiverState}
+use Rattle.cec_bits.specs.declared.receiver.ReceiverState.TheVariants.{Rest, StartLow, StartHigh, Unsampled, Sampled}
 use Rattle.cec_bits.specs.declared.receiver.Receiver.{Receiver}
 use Rattle.cec_bits.specs.declared.receiver.parts.ReceiverParts.{ReceiverParts}
 use Rattle.cec_bits.specs.declared.sender.Sender.{Sender}
@@ -20,7 +20,7 @@ same {A} {B} {P} mk prop x y h k e =
     λ y e. subst (λ (y : A). (k : P y) → mk x h ≡ mk y k) e (λ k. ap (mk x) (prop x h k)) in
     at y e k
 
-one_place : (p q : Place) → number_of p ≡ number_of q → p ≡ q
+one_place : (p q : ReceiverState) → number_of p ≡ number_of q → p ≡ q
 one_place Rest Rest h = refl
 one_place Rest StartLow h = absurd (omega arith)
 one_place Rest StartHigh h = absurd (omega arith)
@@ -61,7 +61,7 @@ one_state Stopped Stopped h k = refl
 -- ---- a receiver
 
 abbrev Kept : Type 0
-Kept = Bool × Bool × Place × ℕ × ℕ × ArrayVec Bool
+Kept = Bool × Bool × ReceiverState × ℕ × ℕ × ArrayVec Bool
 
 abbrev facts : Kept → Type 0
 facts k = (k.3 ≤ 3000000000000) × (k.4 ≤ 3000000000000) × (length k.5.items < 160)

@@ -63,7 +63,7 @@ struct Answer {
     err: Vec<u8>,
 }
 
-/// A case, its command line behind the program's name, its input, and what the program writes.
+/// A case, its command line after the program's name, its input, and what the program writes.
 struct Case<'a> {
     name: &'a str,
     line: &'a str,
@@ -76,7 +76,7 @@ fn expect(rt: &impl Abort, right: bool, line: &str, name: &str) {
     assert!(rt; right, "hdminet {line}: {name}");
 }
 
-/// The program's name, and the words of a command line behind it.
+/// The program's name, and the words of a command line after it.
 fn words(rt: &(impl Abort + AllocGlobal), line: &str) -> Vec<String> {
     let mut words = Vec::new(rt.alloc());
     for word in ["hdminet"].into_iter().chain(line.split_whitespace()) {
@@ -167,7 +167,7 @@ fn is_cut(rt: &(impl Abort + AllocGlobal), line: &str, input: &[u8]) {
     }
 }
 
-/// The program takes an input and tells no fault, or refuses it, says why and writes nothing. Returns which.
+/// The program takes an input and reports no fault, or refuses it, says why and writes nothing. Returns which.
 fn is_taken(rt: &(impl Abort + AllocGlobal), line: &str, input: &[u8]) -> bool {
     let told = told_of(rt, line, input, None);
     let taken = told.status == 0 && told.err.is_empty();

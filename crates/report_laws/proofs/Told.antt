@@ -1,32 +1,32 @@
--- What the object of a test tells, part by part.
+-- What the object of a test reports, part by part.
 use Rattle.std.proofs.Common.{◌≡◌, inl, inr, ℕ, ◌^◌, ◌<◌, ◌==◌, Bool, true, false, if◌then◌else◌, codes, List, [], ◌∷◌, ◌++◌, append-nil, append_assoc, refl, sym, ap, ◌∙◌}
 use Rattle.std.specs.Fmt.{decimal}
 use Rattle.cec_signal.proofs.Numbers.{decimal_numeral}
-use Rattle.cec_check.specs.Report.{escaped, escaped_byte, test_start}
-use Rattle.cec_json.specs.Columns.{field, lead}
-use Rattle.cec_json.specs.Object.{typed}
+use Rattle.cec_check.specs.Report.{escaped_text, escaped_byte, test_start}
+use Rattle.cec_json.specs.Columns.{field, field_lead}
+use Rattle.cec_json.specs.Object.{type_field}
 use Rattle.cec_json.specs.Parts.{after_word}
-use Rattle.cec_json.specs.Values.{quoted}
+use Rattle.cec_json.specs.Values.{string_text}
 use Rattle.cec_json.specs.declared.values.Shape.TheVariants.{Number}
 use Rattle.cec_report_json.specs.TestLine.{expected_fields, place_fields, plain, plain_from, test_told, text_fields, truth}
-use Rattle.report_laws.specs.Tests.{BeginsAsOne, ExpectationsAreTold, IsTold, RefusalsAreTold, counted, tested}
+use Rattle.report_laws.specs.Tests.{BeginsAsOne, ExpectationsAreTold, IsTold, RefusalsAreTold, count_field, test_fields}
 use Rattle.report_laws.proofs.Parted.{front_before, no_colon, no_space, one_more, rest_after}
 
 -- ---- the text is that of the script
 
-plain_one : (p q : Bool) (b : ℕ) (rest : List ℕ) → (b == 35) ≡ p → (b == 92) ≡ q → plain_from false (escaped_byte b ++ escaped rest) ≡ b ∷ plain_from false (escaped rest)
+plain_one : (p q : Bool) (b : ℕ) (rest : List ℕ) → (b == 35) ≡ p → (b == 92) ≡ q → plain_from false (escaped_byte b ++ escaped_text rest) ≡ b ∷ plain_from false (escaped_text rest)
 plain_one true q b rest e f = rw e refl
 plain_one false true b rest e f = rw (e, f) refl
 plain_one false false b rest e f = rw (e, f, f) refl
 
-plain_again : (text : List ℕ) → plain (escaped text) ≡ text
+plain_again : (text : List ℕ) → plain (escaped_text text) ≡ text
 plain_again [] = refl
 plain_again (b ∷ rest) = plain_one (b == 35) (b == 92) b rest refl refl ∙ ap (λ (l : List ℕ). b ∷ l) (plain_again rest)
 
 -- ---- numbers
 
-number_field : (name : List ℕ) (n : ℕ) → n < 2 ^ 64 → field name Number (decimal n) ≡ counted name n
-number_field name n small = ap (λ (v : Bool). lead name ++ (if v then decimal n else codes "null")) (decimal_numeral n small)
+number_field : (name : List ℕ) (n : ℕ) → n < 2 ^ 64 → field name Number (decimal n) ≡ count_field name n
+number_field name n small = ap (λ (v : Bool). field_lead name ++ (if v then decimal n else codes "null")) (decimal_numeral n small)
 
 -- ---- places: `L: TEXT`
 
@@ -39,9 +39,9 @@ place_text line text small =
     ∙ rest_after 32 (decimal line ++ 58 ∷ []) text refl (one_more 32 58 (decimal line) (no_space line small) refl)
 
 abbrev placed : (holds : Bool) (line text : List ℕ) → List ℕ
-placed holds line text = line ++ lead (codes "holds") ++ truth holds ++ text_fields text
+placed holds line text = line ++ field_lead (codes "holds") ++ truth holds ++ text_fields text
 
-place_told : (holds : Bool) (line : ℕ) (text : List ℕ) → line < 2 ^ 64 → place_fields holds (place line text) ≡ placed holds (counted (codes "script_line") line) text
+place_told : (holds : Bool) (line : ℕ) (text : List ℕ) → line < 2 ^ 64 → place_fields holds (place line text) ≡ placed holds (count_field (codes "script_line") line) text
 place_told holds line text small =
     ap (λ (v : List ℕ). placed holds (field (codes "script_line") Number v) (after_word (place line text))) (front_before 58 (decimal line) (32 ∷ text) refl (no_colon line small))
     ∙ ap (λ (v : List ℕ). placed holds (field (codes "script_line") Number (decimal line)) v) (place_text line text small)
@@ -57,19 +57,19 @@ place_behind number line text small =
     ap (λ (v : List ℕ). after_word (after_word v)) (rest_after 32 (decimal number) (codes "- line " ++ place line text) refl (no_space number small))
 
 abbrev test_by : (number place : List ℕ) → List ℕ
-test_by number place = typed (codes "test") ++ number ++ place
+test_by number place = type_field (codes "test") ++ number ++ place
 
-test_is : (holds : Bool) (number line : ℕ) (text : List ℕ) → number < 2 ^ 64 → line < 2 ^ 64 → test_told holds (behind number line text) ≡ tested number line holds (text_fields text)
+test_is : (holds : Bool) (number line : ℕ) (text : List ℕ) → number < 2 ^ 64 → line < 2 ^ 64 → test_told holds (behind number line text) ≡ test_fields number line holds (text_fields text)
 test_is holds number line text n l =
     ap (λ (v : List ℕ). test_by (field (codes "test") Number v) (place_fields holds (after_word (after_word (after_word (behind number line text))))))
     (front_before 32 (decimal number) (codes "- line " ++ place line text) refl (no_space number n))
     ∙ ap (λ (v : List ℕ). test_by (field (codes "test") Number (decimal number)) (place_fields holds v)) (place_behind number line text n)
     ∙ ap (λ (v : List ℕ). test_by v (place_fields holds (place line text))) (number_field (codes "test") number n)
-    ∙ ap (λ (v : List ℕ). test_by (counted (codes "test") number) v) (place_told holds line text l)
+    ∙ ap (λ (v : List ℕ). test_by (count_field (codes "test") number) v) (place_told holds line text l)
 
 -- ---- lines of a report
 
--- behind the verdict
+-- after the verdict
 rest_is : (number line : ℕ) (front text : List ℕ)
     → (decimal number ++ (codes " - line " ++ (decimal line ++ (codes ": " ++ (front ++ []))))) ++ text ≡ behind number line (front ++ text)
 rest_is number line front text =
@@ -78,20 +78,20 @@ rest_is number line front text =
     ∙ ap (λ (v : List ℕ). behind number line (v ++ text)) (append-nil front)
 
 line_told : (holds : Bool) (number line : ℕ) (front text told : List ℕ) → number < 2 ^ 64 → line < 2 ^ 64 → IsTold (test_start number holds line front ++ text) told
-    → told ≡ tested number line holds (text_fields (front ++ text))
+    → told ≡ test_fields number line holds (text_fields (front ++ text))
 line_told true number line front text told n l is = is ∙ ap (test_told true) (rest_is number line front text) ∙ test_is true number line (front ++ text) n l
 line_told false number line front text told n l is = is ∙ ap (test_told false) (rest_is number line front text) ∙ test_is false number line (front ++ text) n l
 
 -- ---- laws
 
-asked_by : (text : List ℕ) → BeginsAsOne text → text_fields (escaped text) ≡ expected_fields (escaped text)
-asked_by text (rest, inl e) = ap (λ (v : List ℕ). text_fields (escaped v)) e ∙ ap (λ (v : List ℕ). expected_fields (escaped v)) (sym e)
-asked_by text (rest, inr e) = ap (λ (v : List ℕ). text_fields (escaped v)) e ∙ ap (λ (v : List ℕ). expected_fields (escaped v)) (sym e)
+asked_by : (text : List ℕ) → BeginsAsOne text → text_fields (escaped_text text) ≡ expected_fields (escaped_text text)
+asked_by text (rest, inl e) = ap (λ (v : List ℕ). text_fields (escaped_text v)) e ∙ ap (λ (v : List ℕ). expected_fields (escaped_text v)) (sym e)
+asked_by text (rest, inr e) = ap (λ (v : List ℕ). text_fields (escaped_text v)) e ∙ ap (λ (v : List ℕ). expected_fields (escaped_text v)) (sym e)
 
 pub expectations : ExpectationsAreTold
 expectations = λ number line holds text told n l begins is.
-    line_told holds number line [] (escaped text) told n l is
-    ∙ ap (tested number line holds) (asked_by text begins ∙ ap (λ (v : List ℕ). lead (codes "expectation") ++ quoted v ++ codes ",\"refused\":null") (plain_again text))
+    line_told holds number line [] (escaped_text text) told n l is
+    ∙ ap (test_fields number line holds) (asked_by text begins ∙ ap (λ (v : List ℕ). field_lead (codes "expectation") ++ string_text v ++ codes ",\"refused\":null") (plain_again text))
 
 pub refusals : RefusalsAreTold
-refusals = λ number line word told n l is. line_told false number line (codes "refused ") (escaped word) told n l is
+refusals = λ number line word told n l is. line_told false number line (codes "refused ") (escaped_text word) told n l is

@@ -1,4 +1,4 @@
-//! Laws: what the object of a line of a report tells is what the report has there.
+//! Laws: what the object of a line of a report reports is what the report has there.
 #![tactic(auto)]
 
 mod laws;

@@ -7,7 +7,7 @@ use std::process::Abort;
 
 // Where a run's lines stand: in its trace one right after another, at the trace's front, as all of the trace, or at
 // the end of the run's edge file.
-enum Place {
+enum Extent {
     Within,
     Front,
     Whole,
@@ -17,7 +17,7 @@ enum Place {
 // A run, and lines of its trace or of its edge file.
 struct Run {
     what: &'static str,
-    place: Place,
+    place: Extent,
     topology: &'static str,
     script: &'static str,
     lines: &'static str,
@@ -44,7 +44,7 @@ const CROWDED: &str =
 const SENDS: &[Run] = &[
     Run {
         what: "the lower address wins",
-        place: Place::Within,
+        place: Extent::Within,
         topology: THREE,
         script: "at 2000000 send amp 5>0 give-device-power-status\n\
              at 2000000 send p1 4>0 image-view-on\nend 2300000\n",
@@ -55,7 +55,7 @@ const SENDS: &[Run] = &[
     },
     Run {
         what: "a pulse before the next fall may come",
-        place: Place::Within,
+        place: Extent::Within,
         topology: TWO,
         script: "at 1000000 send p1 4>0 image-view-on\npulse 1006500 100\nend 1300000\n",
         lines: "1000000 event 1 ok\n1000000 1006500 short 0 by p1 out -\n\
@@ -63,14 +63,14 @@ const SENDS: &[Run] = &[
     },
     Run {
         what: "a pulse at the next fall",
-        place: Place::Within,
+        place: Extent::Within,
         topology: TWO,
         script: "at 1000000 send p1 4>0 image-view-on\npulse 1006600 400\nend 1300000\n",
         lines: "1000000 event 1 ok\n1000000 1051150 complete 4>0 image-view-on ack by p1 out -\n",
     },
     Run {
         what: "a pulse that ends before the sender's next fall",
-        place: Place::Within,
+        place: Extent::Within,
         topology: TWO,
         script: "at 1000000 send p1 4>0 image-view-on\npulse 1006560 100\nend 1300000\n",
         lines: "1000000 1006900 short 0 by p1 out -\n\
@@ -78,7 +78,7 @@ const SENDS: &[Run] = &[
     },
     Run {
         what: "a pulse just before the earliest next fall",
-        place: Place::Within,
+        place: Extent::Within,
         topology: TWO,
         script: "at 1000000 send p1 4>0 image-view-on\npulse 1006549 400\nend 1300000\n",
         lines: "1000000 1006549 short 0 by p1 out -\n\
@@ -86,21 +86,21 @@ const SENDS: &[Run] = &[
     },
     Run {
         what: "a pulse at the earliest next fall",
-        place: Place::Within,
+        place: Extent::Within,
         topology: TWO,
         script: "at 1000000 send p1 4>0 image-view-on\npulse 1006550 400\nend 1300000\n",
         lines: "1000000 1051150 complete 4>0 image-view-on ack by p1 out -\n",
     },
     Run {
         what: "a pulse over the next slot's sample",
-        place: Place::Within,
+        place: Extent::Within,
         topology: TWO,
         script: "at 1000000 send p1 4>0 image-view-on\npulse 1006600 1200\nend 1300000\n",
         lines: "1000000 1009351 silent 00 by - out p1@2\n",
     },
     Run {
         what: "a pulse over several slots",
-        place: Place::Within,
+        place: Extent::Within,
         topology: TWO,
         script: "at 1000000 send p1 4>0 image-view-on\npulse 1004500 10000\nend 1300000\n",
         lines: "1000000 1007251 silent 0 by p1 out -\n\
@@ -108,7 +108,7 @@ const SENDS: &[Run] = &[
     },
     Run {
         what: "six attempts",
-        place: Place::Within,
+        place: Extent::Within,
         topology: TWO,
         script: "at 1000000 send p1 4>8 give-osd-name\nend 1300000\n",
         lines: "1000000 1028851 silent 0100100001 by - out p1@10\n\
@@ -121,7 +121,7 @@ const SENDS: &[Run] = &[
     },
     Run {
         what: "a pulse at the end of the first attempt",
-        place: Place::Within,
+        place: Extent::Within,
         topology: TWO,
         script: "at 1000000 send p1 4>8 give-osd-name\npulse 1028851 1\nend 1036100\n",
         lines: "1000000 1028851 silent 0100100001 by - out p1@10\n\
@@ -129,14 +129,14 @@ const SENDS: &[Run] = &[
     },
     Run {
         what: "a pulse before the end of the first attempt",
-        place: Place::Within,
+        place: Extent::Within,
         topology: TWO,
         script: "at 1000000 send p1 4>8 give-osd-name\npulse 1028800 100\nend 1036200\n",
         lines: "1000000 1031551 silent 01001000011 by - out p1@10\n1036100 ",
     },
     Run {
         what: "a refused broadcast is sent again",
-        place: Place::Within,
+        place: Extent::Within,
         topology: TWO,
         script: "at 1000000 press p1 play\nat 2000000 send tv 0>f request-active-source\n\
              pulse 2050500 700\nend 2400000\n",
@@ -149,7 +149,7 @@ const SENDS: &[Run] = &[
     },
     Run {
         what: "off the wire, and before it has an address",
-        place: Place::Within,
+        place: Extent::Within,
         topology: "device tv tv 1\ndevice p1 player 0\n",
         script: "at 5 send p1 4>0 image-view-on\nat 5 press p1 play\nat 5 unplug p1\n\
              at 5 send tv 0>4 standby\nat 100000 send tv 4>0 standby\n\
@@ -159,39 +159,39 @@ const SENDS: &[Run] = &[
     },
     Run {
         what: "from another's address, and to its own",
-        place: Place::Within,
+        place: Extent::Within,
         topology: ALONE,
         script: "at 200000 send tv 4>0 standby\nat 200000 send tv 0>0 standby\nend 200001\n",
         lines: "200000 event 1 refused no-address\n200000 event 2 refused own-address\n",
     },
 ];
 
-// What a state line tells of a box.
+// What a state line reports of a box.
 const STATES: &[Run] = &[
     Run {
         what: "a box off the wire",
-        place: Place::Within,
+        place: Extent::Within,
         topology: "device tv tv 1\ndevice b combo 0\n",
         script: "end 5\n",
         lines: "state b combo -+- - on ",
     },
     Run {
         what: "a box without addresses yet",
-        place: Place::Within,
+        place: Extent::Within,
         topology: BOX,
         script: "end 5\n",
         lines: "state b combo -+- 1.0.0.0 on ",
     },
     Run {
         what: "a box whose player has not settled yet",
-        place: Place::Within,
+        place: Extent::Within,
         topology: BOX,
         script: "end 60000\n",
         lines: "state b combo 1+- 1.0.0.0 on ",
     },
     Run {
         what: "a box whose recorder found no address",
-        place: Place::Within,
+        place: Extent::Within,
         topology: CROWDED,
         script: "at 2000000 plug b tv 4\nend 3000000\n",
         lines: "state b combo f+4 4.0.0.0 on ",
@@ -202,56 +202,56 @@ const STATES: &[Run] = &[
 const BEGINNINGS: &[Run] = &[
     Run {
         what: "a pulse long before a poll",
-        place: Place::Front,
+        place: Extent::Front,
         topology: ALONE,
         script: "pulse 5000 3000\nend 200000\n",
         lines: "5000 8000 bad-start - by - out -\n20000 47150 complete 0>0 nack by tv out -\n",
     },
     Run {
         what: "a pulse that makes the start bit too long",
-        place: Place::Front,
+        place: Extent::Front,
         topology: ALONE,
         script: "pulse 12901 3000\nend 200000\n",
         lines: "12000 15901 bad-start - by tv out -\n23104 50254 complete 0>0 nack by tv out -\n",
     },
     Run {
         what: "a pulse that makes the start bit as long as may be",
-        place: Place::Front,
+        place: Extent::Front,
         topology: ALONE,
         script: "pulse 12900 3000\nend 200000\n",
         lines: "12000 39150 complete 0>0 nack by tv out -\n",
     },
     Run {
         what: "a pulse like a start bit",
-        place: Place::Front,
+        place: Extent::Front,
         topology: ALONE,
         script: "pulse 5000 3700\nend 200000\n",
         lines: "5000 9701 bad-start - by - out -\n20704 47854 complete 0>0 nack by tv out -\n",
     },
     Run {
         what: "a pulse wider than what a follower pulls",
-        place: Place::Front,
+        place: Extent::Front,
         topology: ALONE,
         script: "pulse 5000 10000\nend 200000\n",
         lines: "5000 8901 bad-start - by - out -\n27008 54158 complete 0>0 nack by tv out -\n",
     },
     Run {
         what: "a wide pulse that makes the start bit as long as may be",
-        place: Place::Front,
+        place: Extent::Front,
         topology: ALONE,
         script: "pulse 12100 3800\nend 200000\n",
         lines: "12000 39150 complete 0>0 nack by tv out -\n",
     },
     Run {
         what: "a wide pulse that makes the start bit too long",
-        place: Place::Front,
+        place: Extent::Front,
         topology: ALONE,
         script: "pulse 12100 3801\nend 200000\n",
         lines: "12000 15901 bad-start - by tv out -\n23104 50254 complete 0>0 nack by tv out -\n",
     },
     Run {
         what: "a switch tells its port",
-        place: Place::Front,
+        place: Extent::Front,
         topology: "device tv tv 4\ndevice sw switch 3\nplug sw tv 1\n",
         script: "at 1000000 press sw port 2\nat 2000000 press sw play\nat 2000000 release sw port 4\n\
              end 2000001\n",
@@ -311,21 +311,21 @@ const BOX_TRACE: &str = "12000 39150 complete 0>0 nack by tv out -\n\
 const QUEUES_AND_BOXES: &[Run] = &[
     Run {
         what: "a queue has sixteen places",
-        place: Place::Within,
+        place: Extent::Within,
         topology: TWO,
         script: SEVENTEEN_SENDS,
         lines: "1000000 event 16 ok\n1000000 event 17 refused queue-full\n",
     },
     Run {
         what: "a box has two addresses",
-        place: Place::Whole,
+        place: Extent::Whole,
         topology: BOX,
         script: BOX_SCRIPT,
         lines: BOX_TRACE,
     },
 ];
 
-// A television with a device of each other kind in its ports, and all that a record tells is changed: some of it of each.
+// A television with a device of each other kind in its ports, and all that a record reports is changed: some of it of each.
 const KINDS: &str = "device tv tv 4\n\
      device amp amp 1\n\
      device p1 player 0\n\
@@ -476,25 +476,25 @@ state s5 switch f f.f.f.f on active=- path=- deck=1a menu=off audio=off volume=2
 3000000 end
 ";
 
-// All that state lines tell, and what switches tell.
+// All that state lines report, and what switches tell.
 const RECORDS: &[Run] = &[
     Run {
         what: "all that a record tells",
-        place: Place::Within,
+        place: Extent::Within,
         topology: KINDS,
         script: CHANGES,
         lines: CHANGED,
     },
     Run {
         what: "switches route",
-        place: Place::Whole,
+        place: Extent::Whole,
         topology: SWITCHES,
         script: ROUTES,
         lines: ROUTED,
     },
     Run {
         what: "a switch below the fourth level is silent",
-        place: Place::Whole,
+        place: Extent::Whole,
         topology: TOO_DEEP,
         script: "at 2000000 press s5 port 2\nend 3000000\n",
         lines: SILENT,
@@ -505,42 +505,42 @@ const RECORDS: &[Run] = &[
 const EDGE_FILES: &[Run] = &[
     Run {
         what: "the end at the begin of a round",
-        place: Place::EdgesEnd,
+        place: Extent::EdgesEnd,
         topology: ALONE,
         script: "end 12000\n",
         lines: "12000 end\n",
     },
     Run {
         what: "the end in a round",
-        place: Place::EdgesEnd,
+        place: Extent::EdgesEnd,
         topology: ALONE,
         script: "end 12001\n",
         lines: "38700 1\n39150 end\n",
     },
     Run {
         what: "the end at the close of a round",
-        place: Place::EdgesEnd,
+        place: Extent::EdgesEnd,
         topology: ALONE,
         script: "end 39150\n",
         lines: "38700 1\n39150 end\n",
     },
     Run {
         what: "the end behind the close of a round",
-        place: Place::EdgesEnd,
+        place: Extent::EdgesEnd,
         topology: ALONE,
         script: "end 39151\n",
         lines: "38700 1\n39151 end\n",
     },
     Run {
         what: "a pulse that is no start bit",
-        place: Place::EdgesEnd,
+        place: Extent::EdgesEnd,
         topology: ALONE,
         script: "pulse 5000 3000\nend 5001\n",
         lines: "5000 0\n8000 1\n8000 end\n",
     },
     Run {
         what: "a pulse breaks a round: the follower pulls low from the offending fall",
-        place: Place::EdgesEnd,
+        place: Extent::EdgesEnd,
         topology: TWO,
         script: "at 1000000 send p1 4>0 image-view-on\npulse 1006500 100\nend 1010000\n",
         lines: "\n1000000 0\n1003700 1\n1004500 0\n1006000 1\n1006500 0\n1010100 1\n1010100 end\n",
@@ -565,7 +565,7 @@ fn edges(alloc: Global, topology: &str, script: &str) -> Option<String> {
 // What is written of a run.
 fn written(alloc: Global, run: &Run) -> Option<String> {
     match run.place {
-        Place::EdgesEnd => edges(alloc, run.topology, run.script),
+        Extent::EdgesEnd => edges(alloc, run.topology, run.script),
         _ => match trace(alloc, run.topology, run.script) {
             Some((_, text)) => Some(text),
             None => None,
@@ -576,10 +576,10 @@ fn written(alloc: Global, run: &Run) -> Option<String> {
 // The run's lines stand where they have to.
 fn stand(run: &Run, text: &str) -> bool {
     match run.place {
-        Place::Within => text.contains(run.lines),
-        Place::Front => text.starts_with(run.lines),
-        Place::Whole => text == run.lines,
-        Place::EdgesEnd => text.ends_with(run.lines),
+        Extent::Within => text.contains(run.lines),
+        Extent::Front => text.starts_with(run.lines),
+        Extent::Whole => text == run.lines,
+        Extent::EdgesEnd => text.ends_with(run.lines),
     }
 }
 

@@ -6,7 +6,7 @@ use cec_asm::{Script, Topology, parse_script, parse_topology};
 use cec_run::emulate::EmulateError;
 use cec_step::step_run::{StepRunError, step_run};
 use cec_step::{Break, StepError, Stepper};
-use cec_trace::root_of;
+use hdmi_blocks::root_of;
 use hdmi_core::Writes;
 use std::alloc::Global;
 use std::io::{self, ErrorKind, Write};
@@ -20,7 +20,7 @@ const SCRIPT: &str = "end 400000\n";
 /// What `until device p1` writes: the player's poll. The television's poll comes before it.
 const POLL: &str = "50705 77855 complete 4>4 nack by p1 out -\n";
 
-/// The round behind it.
+/// The round after it.
 const REPORT: &str =
     "89405 212555 complete 0>f report-physical-address 0.0.0.0 tv ok by tv out -\n";
 
@@ -124,7 +124,7 @@ fn are_written(alloc: Global, stepper: &mut Stepper) -> bool {
 }
 
 /// Where the writer fails, the stepper stands where it stood. So the same `until` into one that does not fail writes the
-/// round, and the next round is the one behind it.
+/// round, and the next round is the one after it.
 #[test]
 fn until_is_taken_once_its_text_is_written(rt: HostRuntime) {
     let alloc = rt.alloc();

@@ -4,6 +4,8 @@
 #[cfg(test)]
 mod cases;
 #[cfg(test)]
+mod error_texts;
+#[cfg(test)]
 mod lists;
 #[cfg(test)]
 mod messages;

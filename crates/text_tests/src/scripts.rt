@@ -180,7 +180,7 @@ fn is_refused(alloc: Global, text: &str, told: &str) -> bool {
     }
 }
 
-// The case is a script, and behind an arrow what it is refused with.
+// The case is a script, and after an arrow what it is refused with.
 fn is_refused_so(alloc: Global, case: &str) -> bool {
     match case.rsplit_once(" => ") {
         Some((text, told)) => is_refused(alloc, text, told),
@@ -328,7 +328,7 @@ fn has_bytes(key: &Key, bytes: &[u8]) -> bool {
     }
 }
 
-// The words of keys, and behind an arrow the word of each key, and its bytes if it has some.
+// The words of keys, and after an arrow the word of each key, and its bytes if it has some.
 const KEYS: &str = "\
 play => play
 stop => stop
@@ -504,7 +504,7 @@ fn reads_long_scripts(rt: HostRuntime) {
     case_holds(&rt, reads_all_lines(rt.alloc()), "4,000 lines");
 }
 
-// Lines that a long script is refused with before its end, whether that is one of pulses, and why. A pulse behind 4,096
+// Lines that a long script is refused with before its end, whether that is one of pulses, and why. A pulse after 4,096
 // is too many, unless it is at fault otherwise.
 const ONE_MORE: &[(bool, &str, &str)] = &[
     (true, "pulse 104038400 400\nend 20\n", "line 4097: too-many"),

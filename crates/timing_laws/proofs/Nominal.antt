@@ -14,7 +14,7 @@ use Rattle.cec_frame.specs.declared.Ending.TheVariants.{Complete, Short, Silent,
 use Rattle.cec_frame.proofs.Slots.{length-frame_bits}
 use Rattle.cec_bits.specs.declared.After.{After}
 use Rattle.cec_bits.specs.declared.After.TheVariants.{Next, Ends}
-use Rattle.cec_bits.specs.Reading.{next_fall, next_rise, Read, Slot, known, reading_of, read_slots, read_on, read_start, after_slot, after_fall, after_last, last_ending, last_heard, sampled, start_of, start_fall, bits_of}
+use Rattle.cec_bits.specs.Reading.{next_fall, next_rise, Read, Slot, known_at, reading_of, read_slots, read_on, read_start, after_slot, after_fall, after_last, last_ending, last_heard, bit_sampled_at, start_of, start_fall, bits_of}
 use Rattle.cec_bits.proofs.Search.{first_in_some, found_first, found_none}
 use Rattle.cec_bits.proofs.Causes.{nothing, known_start_low, known_start_high, start_risen}
 use Rattle.cec_wire.specs.declared.Seat.{Seat}
@@ -95,8 +95,8 @@ reading_ends : (low : Line) (begin left : ℕ) (xs : List Slot) (bits : List Boo
     → ((reading_of low begin).until ≡ last_heard ending at) × ((reading_of low begin).at ≡ at)
 unfolding read_slots
 reading_ends low begin left xs bits e at ending r h = (
-  ap (λ (q : Read). q.until) (sym r.goes) ∙ ap (λ (a : After). (read_on (read_slots low left (bits ++ option_to_list (sampled low e))) a).until) h,
-  ap (λ (q : Read). q.at) (sym r.goes) ∙ ap (λ (a : After). (read_on (read_slots low left (bits ++ option_to_list (sampled low e))) a).at) h,
+  ap (λ (q : Read). q.until) (sym r.goes) ∙ ap (λ (a : After). (read_on (read_slots low left (bits ++ option_to_list (bit_sampled_at low e))) a).until) h,
+  ap (λ (q : Read). q.at) (sym r.goes) ∙ ap (λ (a : After). (read_on (read_slots low left (bits ++ option_to_list (bit_sampled_at low e))) a).at) h,
 )
 
 high_after : (seats : List Seat) (begin : ℕ) (low : Line) → Calm seats begin low → (left : ℕ) (xs : List Slot) (bits : List Bool) (e : ℕ) → OnSlot low begin (suc left) xs bits e
@@ -127,19 +127,19 @@ last_at false n e h = let f : Some Long ≡ None = ap (λ (m : ℕ). let o : Opt
 
 -- the next slot
 on_next : (seats : List Seat) (begin : ℕ) (low : Line) → Calm seats begin low → (left : ℕ) (xs : List Slot) (bits : List Bool) (e : ℕ) → OnSlot low begin (suc left) xs bits e → length bits + suc left ≡ 160 → (bit : Bool) → SlotLow low e bit → (f : ℕ) → after_slot low e (last_ending bits) ≡ Next f
-    → (f ≡ e + 2400) × OnSlot low begin left (xs ++ record { fall = e; bit = sampled low e } ∷ []) (bits ++ option_to_list (sampled low e)) f × (length (bits ++ option_to_list (sampled low e)) + left ≡ 160) × (0 < left)
+    → (f ≡ e + 2400) × OnSlot low begin left (xs ++ record { fall = e; bit = bit_sampled_at low e } ∷ []) (bits ++ option_to_list (bit_sampled_at low e)) f × (length (bits ++ option_to_list (bit_sampled_at low e)) + left ≡ 160) × (0 < left)
 on_next seats begin low c left xs bits e s all bit d f h =
     let n = next_falls low e bits f h in
     let far = n.far in
     let g : f ≡ e + 2400 = next_on_time seats begin low c (suc left) xs bits e s f n in
-    let more : length (bits ++ option_to_list (sampled low e)) ≡ length bits + 1 = ap (λ (o : Option Bool). length (bits ++ option_to_list o)) d.read ∙ length-append bits (bit ∷ []) in
+    let more : length (bits ++ option_to_list (bit_sampled_at low e)) ≡ length bits + 1 = ap (λ (o : Option Bool). length (bits ++ option_to_list o)) d.read ∙ length-append bits (bit ∷ []) in
     let time = s.time in
     let count = s.count in (
       g,
       record {
         reached = reach_next low begin left xs bits e f s.reached h far;
         time = omega (arith, g, more, time);
-        count = let y = length-append xs (record { fall = e; bit = sampled low e } ∷ []) in omega (arith, y, more, count);
+        count = let y = length-append xs (record { fall = e; bit = bit_sampled_at low e } ∷ []) in omega (arith, y, more, count);
         fall = n.fall;
       },
       omega (arith, more, all),
@@ -155,7 +155,7 @@ unfolding read_slots
 slots_line seats begin low c zero xs bits e s all some t l = absurd (omega arith)
 slots_line seats begin low c (suc left) xs bits e s all some t l =
     by_bit (slot_low seats begin low c left xs bits e s) (after_slot low e (last_ending bits)) refl
-    (λ f more room on. slots_line seats begin low c left (xs ++ record { fall = e; bit = sampled low e } ∷ []) (bits ++ option_to_list (sampled low e)) f on more room t)
+    (λ f more room on. slots_line seats begin low c left (xs ++ record { fall = e; bit = bit_sampled_at low e } ∷ []) (bits ++ option_to_list (bit_sampled_at low e)) f on more room t)
   where
     first : (bit : Bool) → SlotLow low e bit → t < e + 2400 → low t ≡ covers (record { from = e; to = e + low_for bit }) t
     first bit d h = elim (cases_lt t (e + low_for bit)) [
@@ -178,12 +178,12 @@ slots_line seats begin low c (suc left) xs bits e s all some t l =
     ]
 
     by_after : (bit : Bool) → SlotLow low e bit → (a : After) → after_slot low e (last_ending bits) ≡ a
-        → ((f : ℕ) → length (bits ++ option_to_list (sampled low e)) + left ≡ 160 → 0 < left → OnSlot low begin left (xs ++ record { fall = e; bit = sampled low e } ∷ []) (bits ++ option_to_list (sampled low e)) f
-        → f ≤ t → low t ≡ line_of (slot_stretches f (filter_map (λ (s : Slot). s.bit) (read_slots low left (bits ++ option_to_list (sampled low e)) f).slots)) t)
-        → low t ≡ line_of (slot_stretches e (cons_option (sampled low e) (filter_map (λ (s : Slot). s.bit) (read_on (read_slots low left (bits ++ option_to_list (sampled low e))) a).slots))) t
+        → ((f : ℕ) → length (bits ++ option_to_list (bit_sampled_at low e)) + left ≡ 160 → 0 < left → OnSlot low begin left (xs ++ record { fall = e; bit = bit_sampled_at low e } ∷ []) (bits ++ option_to_list (bit_sampled_at low e)) f
+        → f ≤ t → low t ≡ line_of (slot_stretches f (filter_map (λ (s : Slot). s.bit) (read_slots low left (bits ++ option_to_list (bit_sampled_at low e)) f).slots)) t)
+        → low t ≡ line_of (slot_stretches e (cons_option (bit_sampled_at low e) (filter_map (λ (s : Slot). s.bit) (read_on (read_slots low left (bits ++ option_to_list (bit_sampled_at low e))) a).slots))) t
     by_after bit d (Next f) h ih =
         let n = on_next seats begin low c left xs bits e s all bit d f h in
-        let more : List Bool = filter_map (λ (s : Slot). s.bit) (read_slots low left (bits ++ option_to_list (sampled low e)) f).slots in
+        let more : List Bool = filter_map (λ (s : Slot). s.bit) (read_slots low left (bits ++ option_to_list (bit_sampled_at low e)) f).slots in
         joined bit more d (λ after. ih f n.2 n.3 n.1 (omega (arith, n.0)) ∙ ap (λ (g : ℕ). line_of (slot_stretches g more) t) n.0)
         ∙ ap (λ (o : Option Bool). line_of (slot_stretches e (cons_option o more)) t) (sym d.read)
     by_after bit d (Ends ending at) h ih =
@@ -191,11 +191,11 @@ slots_line seats begin low c (suc left) xs bits e s all some t l =
         ∙ ap (λ (o : Option Bool). line_of (slot_stretches e (cons_option o [])) t) (sym d.read)
 
     by_bit : (bit : Bool) × SlotLow low e bit → (a : After) → after_slot low e (last_ending bits) ≡ a
-        → ((f : ℕ) → length (bits ++ option_to_list (sampled low e)) + left ≡ 160 → 0 < left → OnSlot low begin left (xs ++ record { fall = e; bit = sampled low e } ∷ []) (bits ++ option_to_list (sampled low e)) f
-        → f ≤ t → low t ≡ line_of (slot_stretches f (filter_map (λ (s : Slot). s.bit) (read_slots low left (bits ++ option_to_list (sampled low e)) f).slots)) t)
-        → low t ≡ line_of (slot_stretches e (cons_option (sampled low e) (filter_map (λ (s : Slot). s.bit) (read_on (read_slots low left (bits ++ option_to_list (sampled low e))) (after_slot low e (last_ending bits))).slots))) t
+        → ((f : ℕ) → length (bits ++ option_to_list (bit_sampled_at low e)) + left ≡ 160 → 0 < left → OnSlot low begin left (xs ++ record { fall = e; bit = bit_sampled_at low e } ∷ []) (bits ++ option_to_list (bit_sampled_at low e)) f
+        → f ≤ t → low t ≡ line_of (slot_stretches f (filter_map (λ (s : Slot). s.bit) (read_slots low left (bits ++ option_to_list (bit_sampled_at low e)) f).slots)) t)
+        → low t ≡ line_of (slot_stretches e (cons_option (bit_sampled_at low e) (filter_map (λ (s : Slot). s.bit) (read_on (read_slots low left (bits ++ option_to_list (bit_sampled_at low e))) (after_slot low e (last_ending bits))).slots))) t
     by_bit d a h ih =
-        by_after d.0 d.1 a h ih ∙ ap (λ (b : After). line_of (slot_stretches e (cons_option (sampled low e) (filter_map (λ (s : Slot). s.bit) (read_on (read_slots low left (bits ++ option_to_list (sampled low e))) b).slots))) t) (sym h)
+        by_after d.0 d.1 a h ih ∙ ap (λ (b : After). line_of (slot_stretches e (cons_option (bit_sampled_at low e) (filter_map (λ (s : Slot). s.bit) (read_on (read_slots low left (bits ++ option_to_list (bit_sampled_at low e))) b).slots))) t) (sym h)
 
 -- a reading ends in one of the ways of the standard
 last_open : (nine eom end : Bool) (x : Ending) → (if nine then (if eom then Some Complete else if end then Some Long else None) else None) ≡ Some x → x ≢ Open
@@ -252,13 +252,13 @@ unfolding read_slots
 slots_end seats begin low c zero xs bits e s all some = absurd (omega arith)
 slots_end seats begin low c (suc left) xs bits e s all some =
     by_bit (slot_low seats begin low c left xs bits e s) (after_slot low e (last_ending bits)) refl
-    (λ f more room on. slots_end seats begin low c left (xs ++ record { fall = e; bit = sampled low e } ∷ []) (bits ++ option_to_list (sampled low e)) f on more room)
+    (λ f more room on. slots_end seats begin low c left (xs ++ record { fall = e; bit = bit_sampled_at low e } ∷ []) (bits ++ option_to_list (bit_sampled_at low e)) f on more room)
   where
     More : Type 0
-    More = (f : ℕ) → length (bits ++ option_to_list (sampled low e)) + left ≡ 160 → 0 < left → OnSlot low begin left (xs ++ record { fall = e; bit = sampled low e } ∷ []) (bits ++ option_to_list (sampled low e)) f
-        → IsEndOf f (told_slots (read_slots low left (bits ++ option_to_list (sampled low e)) f)) (read_slots low left (bits ++ option_to_list (sampled low e)) f)
+    More = (f : ℕ) → length (bits ++ option_to_list (bit_sampled_at low e)) + left ≡ 160 → 0 < left → OnSlot low begin left (xs ++ record { fall = e; bit = bit_sampled_at low e } ∷ []) (bits ++ option_to_list (bit_sampled_at low e)) f
+        → IsEndOf f (told_slots (read_slots low left (bits ++ option_to_list (bit_sampled_at low e)) f)) (read_slots low left (bits ++ option_to_list (bit_sampled_at low e)) f)
 
-    by_after : (bit : Bool) → SlotLow low e bit → (a : After) → after_slot low e (last_ending bits) ≡ a → More → EndsLater low left (bits ++ option_to_list (sampled low e)) e (Some bit) a
+    by_after : (bit : Bool) → SlotLow low e bit → (a : After) → after_slot low e (last_ending bits) ≡ a → More → EndsLater low left (bits ++ option_to_list (bit_sampled_at low e)) e (Some bit) a
     by_after bit d (Next f) h ih =
         let n = on_next seats begin low c left xs bits e s all bit d f h in
         let m = ih f n.2 n.3 n.1 in
@@ -270,10 +270,10 @@ slots_end seats begin low c (suc left) xs bits e s all some =
         let later = over.later in
         (omega (arith, later), omega arith, ends_closed low e bits ending at h)
 
-    by_bit : (bit : Bool) × SlotLow low e bit → (a : After) → after_slot low e (last_ending bits) ≡ a → More → EndsLater low left (bits ++ option_to_list (sampled low e)) e (sampled low e) (after_slot low e (last_ending bits))
+    by_bit : (bit : Bool) × SlotLow low e bit → (a : After) → after_slot low e (last_ending bits) ≡ a → More → EndsLater low left (bits ++ option_to_list (bit_sampled_at low e)) e (bit_sampled_at low e) (after_slot low e (last_ending bits))
     by_bit d a h ih =
-        subst (λ (b : After). EndsLater low left (bits ++ option_to_list (sampled low e)) e (sampled low e) b) (sym h)
-        (subst (λ (o : Option Bool). EndsLater low left (bits ++ option_to_list (sampled low e)) e o a) (sym d.1.read) (by_after d.0 d.1 a h ih))
+        subst (λ (b : After). EndsLater low left (bits ++ option_to_list (bit_sampled_at low e)) e (bit_sampled_at low e) b) (sym h)
+        (subst (λ (o : Option Bool). EndsLater low left (bits ++ option_to_list (bit_sampled_at low e)) e o a) (sym d.1.read) (by_after d.0 d.1 a h ih))
 
 -- ---- the start bit
 
@@ -294,7 +294,7 @@ record Sent (seats : List Seat) (begin : ℕ) (low : Line) : Type 0 where
   first : low begin ≡ true
 
 -- where nothing is known yet it pulls
-pulls_early : (seats : List Seat) (begin : ℕ) (low : Line) → (s : Sent seats begin low) → (t : ℕ) → known t (reading_of low begin) ≡ nothing → line_of (sender_stretches begin (frame_bits s.frame)) t ≡ true → low t ≡ true
+pulls_early : (seats : List Seat) (begin : ℕ) (low : Line) → (s : Sent seats begin low) → (t : ℕ) → known_at t (reading_of low begin) ≡ nothing → line_of (sender_stretches begin (frame_bits s.frame)) t ≡ true → low t ≡ true
 unfolding nothing
 pulls_early seats begin low s t k pulls =
     sender_low seats begin [] low t [] (contended seats begin [] low s.calm.line) k s.frame s.among s.least (λ n a b. absurd (omega arith)) pulls
@@ -305,7 +305,7 @@ low_by seats begin low s (suc n) h u l = elim (cases_lt u (suc n)) [
   | inl lt ↦ low_by seats begin low s n (omega arith) u (omega arith)
   | inr ge ↦
       let before = low_by seats begin low s n (omega arith) in
-      let k : known (begin + u) (reading_of low begin) ≡ nothing = known_start_low low begin (begin + u) (omega arith) (λ v a b. no_rise_at v (ap low (let e : v ≡ begin + (v - begin) = omega arith in e) ∙ before (v - begin) (omega arith))) in
+      let k : known_at (begin + u) (reading_of low begin) ≡ nothing = known_start_low low begin (begin + u) (omega arith) (λ v a b. no_rise_at v (ap low (let e : v ≡ begin + (v - begin) = omega arith in e) ∙ before (v - begin) (omega arith))) in
       pulls_early seats begin low s (begin + u) k (start_at (frame_bits s.frame) begin (begin + u) (omega arith) (omega arith) ∙ (let e : nat_lt (begin + u - begin) 3700 ≡ true = grind (arith, nat_tests) in e))
 ]
   where
@@ -323,7 +323,7 @@ start_high : (seats : List Seat) (begin : ℕ) (low : Line) → Sent seats begin
 unfolding nothing
 start_high seats begin low s = by (low (begin + 3700)) refl
   where
-    k : known (begin + 3700) (reading_of low begin) ≡ nothing
+    k : known_at (begin + 3700) (reading_of low begin) ≡ nothing
     k = known_start_low low begin (begin + 3700) (omega arith) (no_rise_in seats begin low s)
 
     nobody : Puller seats begin (begin + 3700) nothing ⊎ ((is_acknowledged seats nothing (begin + 3700) ≡ true) ⊎ (is_broken seats nothing (begin + 3700) None ≡ true)) → ⊥
@@ -359,7 +359,7 @@ slot_falls seats begin low s =
     let g : nat_lt 0 (begin + 4500) ≡ true = grind (arith, nat_tests) in
     rw (e, f, g) refl
   where
-    k : known (begin + 4500) (reading_of low begin) ≡ nothing
+    k : known_at (begin + 4500) (reading_of low begin) ≡ nothing
     k = known_start_high low begin (begin + 3700) (begin + 4500) (rises seats begin low s) (omega arith) (omega arith) (λ u a b. quiet_start seats begin low s.calm u (omega arith) b)
 
     full : 0 < length (frame_bits s.frame)

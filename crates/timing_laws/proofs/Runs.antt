@@ -26,7 +26,7 @@ use Rattle.cec_wire.proofs.Lays.{after_start, slot_at}
 use Rattle.cec_wire.proofs.Differ.{In}
 use Rattle.cec_net.specs.State.{NetState, next_start}
 use Rattle.cec_net.specs.Start.{first_onset, least_start, sooner}
-use Rattle.cec_net.specs.Apply.{applied}
+use Rattle.cec_net.specs.Apply.{net_after}
 use Rattle.cec_net.specs.Step.{after_round, seats_of}
 use Rattle.cec_net.specs.Framed.{AreFramed}
 use Rattle.cec_net.specs.Line.{Move, Happens, Goes, GoesFrom, Moves, rounds_of, run_wave}
@@ -239,7 +239,7 @@ rested_after s begin o framed none g = record { low = low; soon = soon }
 apart_next : (o : Outcome) (s t : NetState) (ms : List Move) → Rested o s.rest → s.pulses ≡ [] → Moves s ms t → Apart o (rounds_of ms)
 apart_next o s t [] r none m = tt
 apart_next o s t (Happens at event ∷ ms) r none m =
-    apart_next o (applied at event s) t ms (subst (λ (rest : ℕ). Rested o rest) (sym (kept at event s).rest) r) ((kept at event s).pulses ∙ none) m.1
+    apart_next o (net_after at event s) t ms (subst (λ (rest : ℕ). Rested o rest) (sym (kept at event s).rest) r) ((kept at event s).pulses ∙ none) m.1
 apart_next o s t (Goes begin p ∷ ms) r none m =
     let late : s.rest + 7200 ≤ begin = (leads s begin none m.0.begins).late in
     let starts : p.reading.begin ≡ begin = m.0.round.starts in
@@ -249,7 +249,7 @@ apart_next o s t (Goes begin p ∷ ms) r none m =
 
 pub runs_are_timed : (s t : NetState) (ms : List Move) → AreFramed s → s.pulses ≡ [] → Moves s ms t → AreTimed (rounds_of ms)
 runs_are_timed s t [] framed none m = tt
-runs_are_timed s t (Happens at event ∷ ms) framed none m = runs_are_timed (applied at event s) t ms (framed-applied at event s m.0 framed) ((kept at event s).pulses ∙ none) m.1
+runs_are_timed s t (Happens at event ∷ ms) framed none m = runs_are_timed (net_after at event s) t ms (framed-applied at event s m.0 framed) ((kept at event s).pulses ∙ none) m.1
 runs_are_timed s t (Goes begin o ∷ ms) framed none m = (
   timed s begin o framed none m.0,
   apart_next o (after_round s begin o) t ms (rested_after s begin o framed none m.0) left m.1,

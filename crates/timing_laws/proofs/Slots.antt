@@ -13,12 +13,12 @@ use Rattle.cec_frame.specs.declared.Ending.{Ending}
 use Rattle.cec_frame.specs.declared.Ending.TheVariants.{Complete, Short, Silent, BadStart, Long, Open}
 use Rattle.cec_frame.proofs.Slots.{ack_slot}
 use Rattle.cec_bits.specs.declared.After.TheVariants.{Ends}
-use Rattle.cec_bits.specs.Reading.{next_fall, Slot, End, Known, known, known_slot, reading_of, read_slots, after_slot, after_last, last_ending, last_heard, sampled}
+use Rattle.cec_bits.specs.Reading.{next_fall, Slot, End, Known, known_at, known_slot, reading_of, read_slots, after_slot, after_last, last_ending, last_heard, bit_sampled_at}
 use Rattle.cec_bits.specs.Sending.{bit_read, out_slot, sender_pulls, goes_on}
 use Rattle.cec_bits.proofs.Search.{first_in_none}
 use Rattle.cec_bits.proofs.Causes.{nothing, known_front, late_read, known_in_slot}
 use Rattle.cec_wire.specs.declared.Seat.{Seat}
-use Rattle.cec_wire.specs.Round.{IsRoundLine, frames_of, is_acknowledged, is_broken, pulled, winning_frames}
+use Rattle.cec_wire.specs.Round.{IsRoundLine, frames_of, is_acknowledged, is_broken, is_pulled, winning_frames}
 use Rattle.cec_wire.specs.Contend.{AreFrames, Stays}
 use Rattle.cec_wire.specs.Machine.{acks_until}
 use Rattle.cec_wire.proofs.Differ.{In, in_any, or_right}
@@ -128,7 +128,7 @@ puller seats begin t k h =
     }
 
 -- who makes it low: a winner, an acknowledger, or one who breaks the message
-pub who_makes : (seats : List Seat) (begin : ℕ) (low : Line) → Calm seats begin low → (t : ℕ) (k : Known) → known t (reading_of low begin) ≡ k → low t ≡ true
+pub who_makes : (seats : List Seat) (begin : ℕ) (low : Line) → Calm seats begin low → (t : ℕ) (k : Known) → known_at t (reading_of low begin) ≡ k → low t ≡ true
     → Puller seats begin t k ⊎ ((is_acknowledged seats k t ≡ true) ⊎ (is_broken seats k t k.ended ≡ true))
 who_makes seats begin low c t k tells h =
     elim (or_cases (list_any (sender_pulls begin k t) (winning_frames seats)) (is_acknowledged seats k t || is_broken seats k t k.ended) made) [
@@ -137,11 +137,11 @@ who_makes seats begin low c t k tells h =
     ]
   where
     made : (list_any (sender_pulls begin k t) (winning_frames seats) || (is_acknowledged seats k t || is_broken seats k t k.ended)) ≡ true
-    made = ap (λ (m : Known). pulled seats begin [] (was_low low t) m t) (sym tells) ∙ sym (c.line t) ∙ h
+    made = ap (λ (m : Known). is_pulled seats begin [] (was_low low t) m t) (sym tells) ∙ sym (c.line t) ∙ h
 
-pub acked_low : (seats : List Seat) (begin : ℕ) (low : Line) → Calm seats begin low → (t : ℕ) (k : Known) → known t (reading_of low begin) ≡ k → is_acknowledged seats k t ≡ true → low t ≡ true
+pub acked_low : (seats : List Seat) (begin : ℕ) (low : Line) → Calm seats begin low → (t : ℕ) (k : Known) → known_at t (reading_of low begin) ≡ k → is_acknowledged seats k t ≡ true → low t ≡ true
 acked_low seats begin low c t k tells h =
-    c.line t ∙ ap (λ (m : Known). pulled seats begin [] (was_low low t) m t) tells
+    c.line t ∙ ap (λ (m : Known). is_pulled seats begin [] (was_low low t) m t) tells
     ∙ or_right (list_any (sender_pulls begin k t) (winning_frames seats)) (is_acknowledged seats k t || is_broken seats k t k.ended) (rw h refl)
 
 -- ---- a slot
@@ -163,10 +163,10 @@ pub is_less : (a b : ℕ) → nat_lt a b ≡ true → a < b
 is_less a b h = grind (arith, nat_tests)
 
 -- at its fall
-pub known_fall : (low : Line) (begin left : ℕ) (xs : List Slot) (bits : List Bool) (e : ℕ) → Reached low begin left xs bits e → known e (reading_of low begin) ≡ record { slots = xs; ended = None }
+pub known_fall : (low : Line) (begin left : ℕ) (xs : List Slot) (bits : List Bool) (e : ℕ) → Reached low begin left xs bits e → known_at e (reading_of low begin) ≡ record { slots = xs; ended = None }
 unfolding nothing
 known_fall low begin left xs bits e r =
-    ap (known e) (sym r.goes) ∙ known_front e xs (read_slots low left bits e) (over_sampled e e xs (omega arith) r.over)
+    ap (known_at e) (sym r.goes) ∙ known_front e xs (read_slots low left bits e) (over_sampled e e xs (omega arith) r.over)
     ∙ ap (λ (n : Known). let m : Known = record { slots = xs ++ n.slots; ended = n.ended } in m) (late_read e low left bits e (omega arith))
     ∙ ap (λ (ys : List Slot). let m : Known = record { slots = ys; ended = None } in m) (append-nil xs)
 
@@ -212,7 +212,7 @@ NotShort (Some end) = end.ending ≢ Short
 pub record KnownIn (low : Line) (begin : ℕ) (xs : List Slot) (e t : ℕ) : Type 0 where
   pub slot : Slot
   pub ended : Option End
-  pub tells : known t (reading_of low begin) ≡ record { slots = xs ++ slot ∷ []; ended = ended }
+  pub tells : known_at t (reading_of low begin) ≡ record { slots = xs ++ slot ∷ []; ended = ended }
   pub falls : slot.fall ≡ e
   pub whole : NotShort ended
 
@@ -253,7 +253,7 @@ slot_known seats begin low c left xs bits e s t l h = elim (cases_lt (e + 1050) 
     quiet = quiet_slot seats begin low c (suc left) xs bits e s
 
     slot : Slot
-    slot = known_slot t (record { fall = e; bit = sampled low e })
+    slot = known_slot t (record { fall = e; bit = bit_sampled_at low e })
 
     not_short : (b : Bool) (x : Ending) (at until : ℕ) → x ≢ Short → NotShort (if b then Some (record { ending = x; at = at; until = until }) else None)
     not_short true x at until n = n
@@ -286,7 +286,7 @@ low_for bit = if bit then 600 else 1500
 pub record SlotLow (low : Line) (e : ℕ) (bit : Bool) : Type 0 where
   pub lows : (t : ℕ) → e ≤ t → t < e + low_for bit → low t ≡ true
   pub highs : (t : ℕ) → e + low_for bit ≤ t → t < e + 2400 → low t ≡ false
-  pub read : sampled low e ≡ Some bit
+  pub read : bit_sampled_at low e ≡ Some bit
 
 pub soon_low : (room : Bool) (bit : Bool) (within : ℕ) → room ≡ true → within < 600 → (room && nat_lt within (low_for bit)) ≡ true
 soon_low room true within r h = rw r (grind (arith, nat_tests))
@@ -337,7 +337,7 @@ high_at seats begin low c left xs bits e s = by (low (e + 1500)) refl
     by false h = h
     by true h = absurd (nobody (who_makes seats begin low c (e + 1500) m k.tells h))
 
--- what is told with a slot that is not sampled
+-- what is reported with a slot that is not sampled
 pub told_unsampled : (low : Line) (begin left : ℕ) (xs : List Slot) (bits : List Bool) (e : ℕ) → Reached low begin left xs bits e → filter_map (λ (x : Slot). x.bit) (xs ++ record { fall = e; bit = None } ∷ []) ≡ bits
 told_unsampled low begin left xs bits e r = told_more xs bits (record { fall = e; bit = None }) r.told ∙ append-nil bits
 
@@ -421,7 +421,7 @@ zero_held seats begin low c left xs bits e s p = held
     soon : (t : ℕ) → e < t → t ≤ e + 1050 → low t ≡ true
     soon t l h = sender_in seats begin low c left xs bits e s p.frame p.among p.least stays t l h (pulls t (omega arith) (omega arith))
 
-    read : sampled low e ≡ Some false
+    read : bit_sampled_at low e ≡ Some false
     read = quiet_sample low e (λ u a b. quiet_slot seats begin low c (suc left) xs bits e s u a (omega arith)) ∙ ap (λ (b : Bool). Some (not b)) (soon (e + 1050) (omega arith) (omega arith))
 
     -- what it sent was read, so it stays
@@ -440,7 +440,7 @@ zero_held seats begin low c left xs bits e s p = held
     after : (t : ℕ) → e + 1050 < t → t < e + 1500 → Tells low begin t (xs ++ record { fall = e; bit = Some false } ∷ [])
     after t l h =
         known_in_slot low begin t e left xs bits s.reached.goes (over_sampled e t xs (omega arith) s.reached.over) (omega arith) (λ u a b. quiet_slot seats begin low c (suc left) xs bits e s u a (omega arith)) (omega arith) (no_some (last_ending bits) t (e + 1050) not_last)
-        ∙ ap (λ (b : Bool). let k : Known = record { slots = xs ++ record { fall = e; bit = if b then sampled low e else None } ∷ []; ended = None } in k) (let y : nat_lt (e + 1050) t ≡ true = grind (arith, nat_tests) in y)
+        ∙ ap (λ (b : Bool). let k : Known = record { slots = xs ++ record { fall = e; bit = if b then bit_sampled_at low e else None } ∷ []; ended = None } in k) (let y : nat_lt (e + 1050) t ≡ true = grind (arith, nat_tests) in y)
         ∙ ap (λ (o : Option Bool). let k : Known = record { slots = xs ++ record { fall = e; bit = o } ∷ []; ended = None } in k) read
 
     held : (t : ℕ) → e + 600 ≤ t → t < e + 1500 → low t ≡ true

@@ -10,8 +10,8 @@ use Rattle.cec_wire.specs.Alone.{outcome_listed}
 use Rattle.hdmi_topo.specs.Node.{Node}
 use Rattle.cec_signal.specs.Edges.{Captured, edges_of, line_of_edges}
 use Rattle.cec_audit.specs.Audit.{first_tape}
-use Rattle.cec_net.specs.State.{NetState, started}
-use Rattle.cec_net.specs.Apply.{applied}
+use Rattle.cec_net.specs.State.{NetState, first_net}
+use Rattle.cec_net.specs.Apply.{net_after}
 use Rattle.cec_net.specs.Step.{after_round}
 use Rattle.cec_net.specs.Line.{Move, Happens, Goes, Moves, rounds_of, run_wave}
 use Rattle.cec_net.proofs.Framed.{framed-started}
@@ -28,9 +28,9 @@ use Rattle.cec_run.specs.OneRun.{rounds_told}
 use Rattle.cec_run.proofs.Advance.{round_begins}
 use Rattle.cec_run.proofs.OneRun.{runs_close_soon}
 use Rattle.cec_run.proofs.WholeLine.{lines_are_of_the_rounds}
-use Rattle.cec_capture.specs.Formats.{IsReadAs}
-use Rattle.cec_capture.proofs.Formats.{is_capture, lines_are_read_back}
-use Rattle.cec_capture.proofs.ReadBack.{same_line}
+use Rattle.capture_laws.specs.Formats.{IsReadAs}
+use Rattle.capture_laws.proofs.Formats.{is_capture, lines_are_read_back}
+use Rattle.capture_laws.proofs.ReadBack.{same_line}
 use Rattle.timing_laws.specs.Times.{AreInTime, KeepsTimes, RunsKeepTheirTimes}
 use Rattle.timing_laws.proofs.Slots.{no_pulses}
 use Rattle.timing_laws.proofs.Runs.{AreTimed, first_in_time, runs_are_timed}
@@ -48,7 +48,7 @@ by_event telling at [] c d last text os t same f k =
     subst (λ (s : NetState). IsMoved s last.net os) (ap (λ (x : Config). x.net) t.1) m
 by_event telling at (e ∷ events) c d last text os t same f k =
     let m : IsMoved d.net last.net os = k (subst AreFramedEvents (sym (ap (λ (x : Config). x.events) t.1)) f.1) in
-    let n : IsMoved (applied at e.event c.net) last.net os = subst (λ (s : NetState). IsMoved s last.net os) (ap (λ (x : Config). x.net) t.1) m in
+    let n : IsMoved (net_after at e.event c.net) last.net os = subst (λ (s : NetState). IsMoved s last.net os) (ap (λ (x : Config). x.net) t.1) m in
     record { moves = Happens at e.event ∷ n.moves; goes = (f.0, n.goes); rounds = n.rounds }
 
 by_turn : (telling : Telling) (end : ℕ) (turn : Turn) (c d last : Config) (text : List ℕ) (os : List Outcome) → turn_at end c ≡ turn → (t : IsTurnBy telling turn c text d)
@@ -77,16 +77,16 @@ waves_flat (o ∷ os) = ap (λ l. o.wave ++ l) (waves_flat os)
 
 -- its rounds are of nominal times
 told_timed : (telling : Telling) (tree : List Node) (events : List TimedEvent) (end : ℕ) (text : List ℕ) (totals : Totals) → AreFramedEvents events
-    → (told : IsRunText telling end (start (started tree []) events) text totals) → AreTimed (rounds_told telling end (start (started tree []) events) text totals told)
+    → (told : IsRunText telling end (start (first_net tree []) events) text totals) → AreTimed (rounds_told telling end (start (first_net tree []) events) text totals told)
 told_timed telling tree events end text totals framed told =
-    let m = moved telling end told.run.turns (start (started tree []) events) told.run.last told.run.body told.run.leads framed in
-    subst AreTimed m.rounds (runs_are_timed (started tree []) told.run.last.net m.moves (framed-started tree []) refl m.goes)
+    let m = moved telling end told.run.turns (start (first_net tree []) events) told.run.last told.run.body told.run.leads framed in
+    subst AreTimed m.rounds (runs_are_timed (first_net tree []) told.run.last.net m.moves (framed-started tree []) refl m.goes)
 
 pub runs_keep_their_times : RunsKeepTheirTimes
 runs_keep_their_times format tree events end text totals framed told limit = (c, record { read = read; capture = is_capture (flat_map (λ ss. ss) waves) last wave over low }, in_time)
   where
     os : List Outcome
-    os = rounds_told (Line format) end (start (started tree []) events) text totals told
+    os = rounds_told (Line format) end (start (first_net tree []) events) text totals told
 
     waves : List (List Stretch)
     waves = map (λ (o : Outcome). o.wave) os

@@ -4,14 +4,14 @@ use Rattle.hdmi_topo.specs.Node.{Node}
 use Rattle.cec_bits.specs.Readings.{Listed, readings_of}
 use Rattle.cec_signal.specs.Edges.{Captured, line_of_edges}
 use Rattle.cec_audit.specs.Audit.{Tape, after, come_to, first_tape, lows_of, reading_misfits}
-use Rattle.cec_net.specs.State.{started}
+use Rattle.cec_net.specs.State.{first_net}
 use Rattle.cec_asm.specs.Script.{AreFramedEvents}
 use Rattle.cec_asm.specs.declared.script.TimedEvent.{TimedEvent}
 use Rattle.cec_line.specs.declared.format.Format.{Format}
 use Rattle.cec_run.specs.declared.run.Telling.TheVariants.{Line}
 use Rattle.cec_run.specs.declared.run.Totals.{Totals}
 use Rattle.cec_run.specs.Run.{start, IsRunText}
-use Rattle.cec_capture.specs.Formats.{IsReadText}
+use Rattle.capture_laws.specs.Formats.{IsReadText}
 
 -- an audit that goes from reading to reading remarks no width
 abbrev pub AreInTime : Tape → List Listed → Type 0
@@ -25,5 +25,5 @@ KeepsTimes c = AreInTime (first_tape c.edges) (readings_of (line_of_edges c.edge
 -- remarks no width.
 abbrev pub RunsKeepTheirTimes : Type 0
 RunsKeepTheirTimes = (format : Format) (tree : List Node) (events : List TimedEvent) (end : ℕ) (text : List ℕ) (totals : Totals)
-    → AreFramedEvents events → IsRunText (Line format) end (start (started tree []) events) text totals → end ≤ 1000000000000
+    → AreFramedEvents events → IsRunText (Line format) end (start (first_net tree []) events) text totals → end ≤ 1000000000000
     → (c : Captured) × IsReadText format text c × KeepsTimes c

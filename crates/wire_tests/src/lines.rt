@@ -11,7 +11,7 @@ use cec_frame::Reading;
 use cec_wave::{Pulses, Stretch, Wave, lay};
 use std::process::Abort;
 
-/// What is asked, of which words, and what is told. `12000:01` are a sender's bits from 12,000 on.
+/// What is asked, of which words, and what is reported. `12000:01` are a sender's bits from 12,000 on.
 const CASES: &str = "\
 # What is laid for a 0 and a 1, and pulses that are far enough apart.
 lay 12000:01 => [Stretch { from: 12000, to: 15700 }, Stretch { from: 16500, to: 18000 }, Stretch { from: 18900, to: 19500 }]
@@ -188,7 +188,7 @@ fn read_text(rt: &(impl Abort + AllocGlobal), words: &str) -> String {
     format!(in rt.alloc(); "{} {:?} [{bits}]", reading.at, reading.ending).expect(rt, "a text")
 }
 
-/// What is told of what is asked.
+/// What is reported of what is asked.
 fn told(rt: &(impl Abort + AllocGlobal), asked: &str) -> String {
     let (verb, words) = asked.split_once(' ').unwrap_or((asked, ""));
     match verb {

@@ -163,7 +163,7 @@ const FOREIGN: &[u8] =
 const FOREIGN_READINGS: &[u8] = b"1000 8251 silent 1\n9000 12901 bad-start -\n";
 
 // For each of its fronts, the shortest first, the line at which it is refused, a line of the file each: the one that is cut,
-// and the one that is not there behind a whole one or a comment. A dash stands for a file that has its end.
+// and the one that is not there after a whole one or a comment. A dash stands for a file that has its end.
 const FOREIGN_FRONTS: &[u8] = b"\
 122222222222\
 2\

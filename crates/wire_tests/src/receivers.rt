@@ -95,7 +95,7 @@ fn listener_of(rt: &impl Abort, words: &str) -> Listener {
     listener
 }
 
-/// What is told last, and when.
+/// What is reported last, and when.
 pub(crate) fn last_text(rt: &(impl Abort + AllocGlobal), words: &str) -> String {
     let mut listener = listener_of(rt, words);
     listener.wait(END);

@@ -12,7 +12,7 @@ fn told_of(rt: &impl Abort, word: &str) -> Told {
     }
 }
 
-/// It hears what a receiver tells at an instant.
+/// It hears what a receiver reports at an instant.
 fn hear(rt: &impl Abort, sender: &mut Sender, word: &str) {
     let (told, at) = word.split_once('@').expect(rt, "an instant");
     sender.heard(told_of(rt, told), u64::from(number(rt, at)));

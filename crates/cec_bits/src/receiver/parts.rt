@@ -1,11 +1,11 @@
 //! What a receiver keeps, in plain numbers.
 ghost use Rattle.std.specs.Prelude.{◌≡◌, ◌≤◌, ◌<◌, length, Some, IsSome, IfSome};
 ghost use Rattle.cec_bits.specs.Parts.{ArePartsOf, number_of};
-ghost use Rattle.cec_bits.specs.declared.receiver.Place.{Place as PlaceValue};
+ghost use Rattle.cec_bits.specs.declared.receiver.ReceiverState.{ReceiverState as PlaceValue};
 ghost use Rattle.cec_bits.specs.declared.receiver.Receiver.{Receiver as ReceiverValue};
 
 use crate::reading::SLOTS;
-use crate::receiver::{Place, Receiver, copied_bits};
+use crate::receiver::{Receiver, ReceiverState, copied_bits};
 use cec_wave::LATEST_HEARD;
 
 /// What a receiver keeps, in plain numbers, for callers in other languages.
@@ -28,28 +28,28 @@ pub struct ReceiverParts {
     pub bits: [bool; SLOTS],
 }
 
-fn number_of_place(place: Place) -> u8
+fn number_of_place(place: ReceiverState) -> u8
     ensures { result ≡ number_of place }
 {
     match place {
-        Place::Rest => 0,
-        Place::StartLow => 1,
-        Place::StartHigh => 2,
-        Place::Unsampled => 3,
-        Place::Sampled => 4,
+        ReceiverState::Rest => 0,
+        ReceiverState::StartLow => 1,
+        ReceiverState::StartHigh => 2,
+        ReceiverState::Unsampled => 3,
+        ReceiverState::Sampled => 4,
     }
 }
 
-fn place_of(number: u8) -> Option<Place>
+fn place_of(number: u8) -> Option<ReceiverState>
     ensures found { IfSome result (λ place. number ≡ number_of place) }
     ensures there { (place : PlaceValue) → number ≡ number_of place → result ≡ Some place }
 {
     match number {
-        0 => Some(Place::Rest),
-        1 => Some(Place::StartLow),
-        2 => Some(Place::StartHigh),
-        3 => Some(Place::Unsampled),
-        4 => Some(Place::Sampled),
+        0 => Some(ReceiverState::Rest),
+        1 => Some(ReceiverState::StartLow),
+        2 => Some(ReceiverState::StartHigh),
+        3 => Some(ReceiverState::Unsampled),
+        4 => Some(ReceiverState::Sampled),
         _ => None,
     }
 }

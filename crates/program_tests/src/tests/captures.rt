@@ -1,8 +1,8 @@
-//! Captures in each form, and what `mon` tells of them.
+//! Captures in each form, and what `mon` indicates them.
 use super::*;
 
 /// A start bit and a bit 1, after which the line stays high, as an edge file with `;` for a line feed, and in other forms. The
-/// line is high for 21,000 before. The pin file tells the last level again; in comma-separated values the end is 10,000 after
+/// line is high for 21,000 before. The pin file reports the last level again; in comma-separated values the end is 10,000 after
 /// the last row.
 const CAPTURES: &str = "\
 21000 0;24700 1;25500 0;26100 1;40000 end;

@@ -1,5 +1,5 @@
 use super::*;
-use hdminet_program::Fault;
+use hdminet_program::ProgramFault;
 use hdminet_program::program::tell;
 use std::alloc::AllocError;
 use std::process::Abort;
@@ -188,22 +188,22 @@ fn tells_that_help_was_not_written(rt: HostRuntime) {
     writes_front(&rt, "--help", b"", b"Emulates ");
 }
 
-/// The program tells of a fault so, and ends with this status.
-fn tells(rt: &(impl Abort + AllocGlobal), fault: Fault, text: &str, status: u8) {
+/// The program reports a fault so, and ends with this status.
+fn tells(rt: &(impl Abort + AllocGlobal), fault: ProgramFault, text: &str, status: u8) {
     let mut err = Vec::new(rt.alloc());
     let told = tell(&fault, &mut Writes::new(&mut err)) == status;
     expect(rt, told && err.as_slice() == text.as_bytes(), "", text);
 }
 
 /// The program was not handed its words, for this reason.
-fn of_words(reason: ErrorKind) -> Fault {
-    Fault::of_words(io::Error::from(reason))
+fn of_words(reason: ErrorKind) -> ProgramFault {
+    ProgramFault::of_words(io::Error::from(reason))
 }
 
 #[test]
 fn tells_why_it_has_no_words_or_no_memory(rt: HostRuntime) {
     let no_memory = "hdminet: no memory\n";
-    tells(&rt, Fault::Memory(AllocError), no_memory, 4);
+    tells(&rt, ProgramFault::Memory(AllocError), no_memory, 4);
     tells(&rt, of_words(ErrorKind::OutOfMemory), no_memory, 4);
     let not_text = "hdminet: an argument is not UTF-8\n";
     tells(&rt, of_words(ErrorKind::InvalidData), not_text, 2);

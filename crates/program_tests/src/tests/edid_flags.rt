@@ -120,7 +120,7 @@ fn reads_hex_dumps(rt: HostRuntime) {
     );
 }
 
-/// A display that breaks no rule, up to the features and behind them to the first checksum, and then its flags and what
+/// A display that breaks no rule, up to the features and after them to the first checksum, and then its flags and what
 /// follows to the second.
 const SOUND: [&str; 4] = [
     "00ffffffffffff004c2d0201010000000a15010380341d78",

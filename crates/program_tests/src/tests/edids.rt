@@ -62,7 +62,7 @@ fn changed(rt: &(impl Abort + AllocGlobal), change: &str) -> String {
     digits.expect(rt, "two blocks")
 }
 
-/// The text of the base block, and another text behind it.
+/// The text of the base block, and another text after it.
 pub(super) fn behind_base(rt: &(impl Abort + AllocGlobal), extension: &str) -> String {
     format!(in rt.alloc(); "{BASE_TEXT}{extension}").expect(rt, "a text")
 }
@@ -150,7 +150,7 @@ fn full_of_timings(rt: &(impl Abort + AllocGlobal)) {
     extends_both_ways(rt, front.as_str(), "e6", text.as_str());
 }
 
-/// An extension and its checksum: a data block that runs past the timings, and a place of the timings behind the block.
+/// An extension and its checksum: a data block that runs past the timings, and a place of the timings after the block.
 const FORMLESS: &str = "\
 020306f14390 => 31
 020390f1 => 7a

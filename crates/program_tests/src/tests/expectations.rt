@@ -108,7 +108,7 @@ not ok 3 - line 1: refused not-for-kind
 1..3
 ";
 
-/// What `--explain` adds behind the fault.
+/// What `--explain` adds after the fault.
 const FAILS_COUNTED: &[u8] = b"hdminet: failed tests 3
   tests 3, failed tests 3; with --trace the trace of the run follows the report
 ";

@@ -59,7 +59,7 @@ step => 00ff; =>   a line `script`, and nothing else on it, parts the topology f
 step =>  =>   a line `script`, and nothing else on it, parts the topology from the script
 ";
 
-/// The answer is the plain one, whose fault ends here, with this line and perhaps more behind it; neither has any output.
+/// The answer is the plain one, whose fault ends here, with this line and perhaps more after it; neither has any output.
 fn adds_to(told: &Answer, plain: &Answer, second: &[u8]) -> bool {
     let silent = told.out.is_empty() && plain.out.is_empty();
     let behind = told.err.strip_prefix(plain.err.as_slice());
@@ -85,7 +85,7 @@ fn faults_are_followed_by_their_explanation(rt: HostRuntime) {
     }
 }
 
-/// What is told where a writer fails after one byte.
+/// What is reported where a writer fails after one byte.
 const WRITE_FAULT: &[u8] = b"hdminet: write fault after 1 bytes
   standard output takes no more: is the disk full, or the reader gone? What was written before is the front of the output
 ";

@@ -2,7 +2,7 @@
 use super::*;
 use std::process::Abort;
 
-// In each table a case begins with its command line; then come the input, and behind an arrow the line of the fault and what
+// In each table a case begins with its command line; then come the input, and after an arrow the line of the fault and what
 // explains it. `--` parts the cases.
 
 /// Networks.

@@ -47,7 +47,7 @@ fn tells_which_line_has_no_frame(rt: HostRuntime) {
 /// A television, and a key that it has.
 const TAKEN_KEY: &[u8] = b"device tv tv 1\nscript\nat 100000 press tv mute\nend 200000\n";
 
-/// Two command lines that write the same and tell of no fault.
+/// Two command lines that write the same and indicate no fault.
 const SAME: &str = "\
 run => run --strict
 run --edges => run --strict --edges

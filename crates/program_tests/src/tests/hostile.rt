@@ -22,12 +22,12 @@ const FRONTS: &[(&str, &str, usize)] = &[
     ("run", PAIR, 2),
     // Nothing, a poll to 15, the first line, the same with its line feed, and so on.
     ("asm", FRAMES, 9),
-    // An edge file is whole with its last line, and with the line feed behind it.
+    // An edge file is whole with its last line, and with the line feed after it.
     ("mon", EDGES, 2),
     // The line of a run, which takes what the run takes.
     ("run --edges", PAIR, 2),
     ("mon", POLL_EDGES, 2),
-    // The last line is one with each digit of its time, and with the line feed behind it.
+    // The last line is one with each digit of its time, and with the line feed after it.
     ("run", STILL_PAIR, 7),
     // The steps are whole after the line `steps`, and after each of the five, with its line feed and without.
     ("step", STEPS, 12),

@@ -36,7 +36,7 @@ impl<'a> Read for Slow<'a> {
     }
 }
 
-/// A comment and a text behind it, so many bytes together.
+/// A comment and a text after it, so many bytes together.
 fn behind_comment(rt: &(impl Abort + AllocGlobal), length: usize, text: &str) -> String {
     let comment = "#".repeat(rt.alloc(), length.saturating_sub(text.len()));
     let mut input = comment.expect(rt, "a comment");
@@ -44,7 +44,7 @@ fn behind_comment(rt: &(impl Abort + AllocGlobal), length: usize, text: &str) ->
     input
 }
 
-/// A command line, what stands behind a comment in its input, and what it writes.
+/// A command line, what stands after a comment in its input, and what it writes.
 const LONGEST: &[(&str, &str, &str)] = &[("", TELEVISION, TELEVISION_TRACE), ("asm", "", "")];
 
 #[test]

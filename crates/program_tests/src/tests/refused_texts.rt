@@ -113,14 +113,14 @@ device p13 player 0
 device p14 player 0
 ";
 
-/// What stands behind the fifteen, and how that is refused: a sixteenth device, a second with the same name, and nothing.
+/// What stands after the fifteen, and how that is refused: a sixteenth device, a second with the same name, and nothing.
 const SIXTEENTH: &str = "\
 device more player 0; => topology line 16: full
 device p14 player 0; => topology line 16: name
  => script line 1: end
 ";
 
-/// Inputs without a line `script`, and with `;` for each line feed. The second is empty. An empty topology has no root behind
+/// Inputs without a line `script`, and with `;` for each line feed. The second is empty. An empty topology has no root after
 /// its last line, which is none. The first line `script` ends the topology. An EDID is judged after the script.
 const WHOLE: &str = "\
 device tv tv 1 => no script line

@@ -1,7 +1,7 @@
 //! Sessions: lines that are answered as they come.
 use super::*;
 
-/// A session of a television alone; behind its end stands what no session looks at.
+/// A session of a television alone; after its end stands what no session looks at.
 const SESSION: &str = "\
 device tv tv 1
 script

@@ -104,7 +104,7 @@ not ok 1 - line 1: expect none from 0 to 9000 silent
 1..1
 ";
 
-/// What `--explain` adds behind the fault.
+/// What `--explain` adds after the fault.
 const UNREAD_COUNTED: &[u8] = b"hdminet: failed tests 1
   tests 1, failed tests 1; `hdminet mon --from-start` prints the readings of the capture
 ";

@@ -431,7 +431,7 @@ at 7 plug a tv 1
 end 8
 ";
 
-/// What is traced behind the lines of events and ports.
+/// What is traced after the lines of events and ports.
 const PARTS_STATES: &str = "\
 state tv tv - 0.0.0.0 on active=- path=- deck=1a menu=off audio=off volume=20 mute=off arc=off sel=- lang=656e67 osd=- held=- heard=- sub=- queue=0 dropped=0
 state sw switch f 2.0.0.0 on active=- path=- deck=1a menu=off audio=off volume=20 mute=off arc=off sel=1 lang=656e67 osd=- held=- heard=- sub=- queue=1 dropped=0

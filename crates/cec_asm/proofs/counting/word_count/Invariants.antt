@@ -1,6 +1,6 @@
 use Rattle.std.proofs.Common.{◌≡◌, ◌+◌, ◌-◌, ◌≤◌, length}
 use Rattle.std.specs.Option.{option_copied}
-use Rattle.cec_words.specs.Words.{words_behind}
+use Rattle.hdmi_core.specs.Words.{words_behind}
 use Rattle.cec_asm.proofs.counting.word_count.Given as goal
 
 -- those that are counted and those that are left are all

@@ -1,5 +1,5 @@
 use Rattle.std.proofs.Common.{arith}
-use Rattle.cec_words.specs.Lines.{lines_of}
+use Rattle.hdmi_core.specs.Lines.{lines_of}
 use Rattle.cec_asm.specs.Script.{notes_of}
 use Rattle.cec_asm.proofs.Reading.{line_read, last_line}
 use Rattle.cec_asm.proofs.Sound.{line-keeps, scripts_are_sound}

@@ -1,5 +1,5 @@
 use Rattle.std.proofs.Common.{◌+◌, ◌≤◌, length, Result}
-use Rattle.cec_words.specs.Lines.{lines_of}
+use Rattle.hdmi_core.specs.Lines.{lines_of}
 use Rattle.cec_asm.specs.Script.{Course, ScriptFault, AreLinesRead, IsScriptRead, notes_of}
 use Rattle.cec_asm.proofs.Sound.{AreSound}
 use Rattle.cec_asm.proofs.script.parse_script.Given as goal

@@ -1,6 +1,6 @@
 use Rattle.std.proofs.Common.{◌≡◌, ◌∷◌}
 use Rattle.std.specs.Option.{option_copied}
-use Rattle.cec_words.specs.Words.{words_of, words_behind}
+use Rattle.hdmi_core.specs.Words.{words_of, words_behind}
 use Rattle.cec_asm.specs.Script.{notes_of}
 use Rattle.cec_asm.proofs.Reading.{gives_send}
 use Rattle.cec_asm.proofs.script.take_send.Goals as goal

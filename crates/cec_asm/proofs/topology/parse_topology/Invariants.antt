@@ -1,5 +1,5 @@
 use Rattle.std.proofs.Common.{◌≡◌, ◌+◌, ◌≤◌, length}
-use Rattle.cec_words.specs.Lines.{lines_of}
+use Rattle.hdmi_core.specs.Lines.{lines_of}
 use Rattle.cec_asm.specs.Topology.{lines_read, topology_of, plan_of}
 use Rattle.cec_asm.proofs.topology.parse_topology.Given as goal
 

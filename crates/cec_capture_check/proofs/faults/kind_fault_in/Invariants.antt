@@ -1,5 +1,5 @@
 use Rattle.std.proofs.Common.{◌≡◌, ◌+◌, ◌≤◌, length}
-use Rattle.cec_words.specs.Lines.{lines_of}
+use Rattle.hdmi_core.specs.Lines.{lines_of}
 use Rattle.cec_capture_check.specs.Faults.{kinds_from}
 use Rattle.cec_capture_check.proofs.faults.kind_fault_in.Given as goal
 

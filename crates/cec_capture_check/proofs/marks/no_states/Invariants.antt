@@ -1,5 +1,5 @@
 use Rattle.std.proofs.Common.{◌≡◌, ◌++◌, [], length, map}
-use Rattle.cec_words.specs.Lines.{lines_of}
+use Rattle.hdmi_core.specs.Lines.{lines_of}
 use Rattle.cec_capture_check.specs.Marks.{no_states}
 use Rattle.cec_capture_check.proofs.marks.no_states.Given as goal
 

@@ -1,6 +1,6 @@
 use Rattle.std.proofs.Common.{ℕ, List, Vec, map, sym, ap, subst, ◌∙◌}
 use Rattle.std.specs.Global.{Global}
-use Rattle.cec_words.specs.Lines.{lines_of}
+use Rattle.hdmi_core.specs.Lines.{lines_of}
 use Rattle.cec_check.specs.States.{AreStates}
 use Rattle.cec_check.specs.Report.{report_as}
 use Rattle.cec_check.proofs.Checked.{reported, reports}

@@ -1,5 +1,5 @@
 use Rattle.std.proofs.Common.{◌≡◌, ◌++◌, true, is_some, rules}
-use Rattle.cec_words.specs.Lines.{lines_of}
+use Rattle.hdmi_core.specs.Lines.{lines_of}
 use Rattle.cec_judge.specs.Seen.{end_seen}
 use Rattle.cec_check.specs.Report.{shown_line, shown_text}
 use Rattle.cec_check.proofs.Shown.{shown_more}

@@ -1,6 +1,6 @@
 use Rattle.std.proofs.Common.{◌≡◌, ◌++◌, length, take, filter, is_some}
 use Rattle.std.specs.List.{flat_map}
-use Rattle.cec_words.specs.Lines.{lines_of}
+use Rattle.hdmi_core.specs.Lines.{lines_of}
 use Rattle.cec_judge.specs.Seen.{end_seen}
 use Rattle.cec_check.specs.Report.{shown_line, shown_text}
 use Rattle.cec_check.proofs.report.append_shown.Given as goal

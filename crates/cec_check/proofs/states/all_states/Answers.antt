@@ -1,5 +1,5 @@
 use Rattle.std.proofs.Common.{◌≡◌, [], map, rules}
-use Rattle.cec_words.specs.Lines.{lines_of}
+use Rattle.hdmi_core.specs.Lines.{lines_of}
 use Rattle.cec_check.proofs.Checked.{no_more}
 use Rattle.cec_check.proofs.states.all_states.Goals as goal
 

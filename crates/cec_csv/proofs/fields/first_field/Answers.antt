@@ -1,5 +1,5 @@
 use Rattle.std.proofs.Common.{◌==◌, sym}
-use Rattle.cec_words.proofs.LineLemmas.{split_none, split_some}
+use Rattle.hdmi_core.proofs.LineLemmas.{split_none, split_some}
 use Rattle.cec_csv.proofs.fields.first_field.Goals as goal
 
 pub returns-in-None-clause-fields : goal.returns-in-None-clause-fields

@@ -1,12 +1,12 @@
 use Rattle.std.proofs.Common.{◌≡◌, ◌+◌, ◌≤◌, length}
-use Rattle.cec_words.specs.Lines.{lines_of}
-use Rattle.cec_csv.specs.Csv.{begun, lines_read, with_edges}
+use Rattle.hdmi_core.specs.Lines.{lines_of}
+use Rattle.cec_csv.specs.Csv.{first_reader, lines_read, with_edges}
 use Rattle.cec_csv.proofs.reading.read_rows.Given as goal
 
 -- the edges of the lines so far are there
 abbrev pub invariant-lines : goal.invariant-lines
 invariant-lines l = record {
-  so_far : lines_read 2 (lines_of l.text) (begun l.column) ≡ with_edges l.edges.items (lines_read l.number (lines_of l.rest) l.reader);
+  so_far : lines_read 2 (lines_of l.text) (first_reader l.column) ≡ with_edges l.edges.items (lines_read l.number (lines_of l.rest) l.reader);
   room : l.number + length l.rest ≤ length l.text + 2;
 }
 

@@ -2,7 +2,7 @@ use Rattle.std.proofs.Common.{◌≡◌, get_or, ◌∙◌}
 use Rattle.std.proofs.lemmas.List.{get_or_default}
 use Rattle.hdmi_core.proofs.CutShort.{Appends-trans}
 use Rattle.cec_wave.specs.declared.Stretch.{Stretch}
-use Rattle.cec_words.proofs.Cutting.{cut_part, more_parts, more_count}
+use Rattle.hdmi_core.proofs.Cutting.{cut_part, more_parts, more_count}
 use Rattle.cec_csv.specs.Text.{stretch_text}
 use Rattle.cec_csv.proofs.writing.write_changes.Goals as goal
 

@@ -1,7 +1,7 @@
 use Rattle.std.proofs.Common.{◌≡◌, length, take}
 use Rattle.std.specs.List.{flat_map}
 use Rattle.std.specs.Io.KnownBytes.{Appends}
-use Rattle.cec_words.specs.Cut.{told_count}
+use Rattle.hdmi_core.specs.Cut.{told_count}
 use Rattle.cec_csv.specs.Text.{stretch_text}
 use Rattle.cec_csv.proofs.writing.write_changes.Given as goal
 

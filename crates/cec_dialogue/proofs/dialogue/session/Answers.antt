@@ -1,6 +1,6 @@
 use Rattle.std.proofs.Common.{◌≡◌, ℕ, List, [], Option, Err, sym, length, arith, ap, subst, ◌∙◌}
 use Rattle.std.specs.Io.KnownBytes.{prepend_known}
-use Rattle.cec_incoming.specs.Incoming.{left, to_come}
+use Rattle.cec_incoming.specs.Incoming.{bytes_left, to_come}
 use Rattle.cec_incoming.proofs.Coming.{none_left}
 use Rattle.cec_dialogue.specs.Dialogue.{IsOpened, IsOpening}
 use Rattle.cec_dialogue.proofs.Putting.{handed_same, held, is_stuck}
@@ -17,7 +17,7 @@ returns-in-Err-clause-session g c =
     let after = to_come c.topology_text.new.lines (g.R.Read.remaining c.topology_text.new.input) in (
       after,
       unopened_is known after after (held g.S.Sink.contents c.args.out.now) c.in-Err.error
-          (subst (λ (before : Option (List ℕ)). IsOpening before after (Err c.in-Err.error)) (start_is (left c.new-lines.result) known c.new-lines.ensures) c.in-Err.ensures),
+          (subst (λ (before : Option (List ℕ)). IsOpening before after (Err c.in-Err.error)) (start_is (bytes_left c.new-lines.result) known c.new-lines.ensures) c.in-Err.ensures),
     )
 
 pub returns-in-Err-clause-handed : goal.returns-in-Err-clause-handed
@@ -31,7 +31,7 @@ returns-in-Err-begin-clause-session g c =
     let after = to_come c.topology_text.new.lines (g.R.Read.remaining c.topology_text.new.input) in (
       after,
       refused_is known after after (held g.S.Sink.contents c.args.out.now) c.as_slice.result.now c.in-Err-begin.error
-          (subst (λ (text : List ℕ). IsOpened known after text) (sym c.as_slice.ensures.value) (subst (λ (before : Option (List ℕ)). IsOpened before after c.in-Ok.text.items) (start_is (left c.new-lines.result) known c.new-lines.ensures) c.in-Ok.ensures)) c.in-Err-begin.ensures,
+          (subst (λ (text : List ℕ). IsOpened known after text) (sym c.as_slice.ensures.value) (subst (λ (before : Option (List ℕ)). IsOpened before after c.in-Ok.text.items) (start_is (bytes_left c.new-lines.result) known c.new-lines.ensures) c.in-Ok.ensures)) c.in-Err-begin.ensures,
     )
 
 pub returns-in-Err-begin-clause-handed : goal.returns-in-Err-begin-clause-handed
@@ -44,7 +44,7 @@ returns-clause-session g c =
     let after = to_come c.talk.new.lines (g.R.Read.remaining c.talk.new.input) in (
       after,
       session_is known mid after c.in-Ok-begin.live (held g.S.Sink.contents c.args.out.now) (held g.S.Sink.contents c.talk.new.out) c.as_slice.result.now c.talk.result
-          (subst (λ (text : List ℕ). IsOpened known mid text) (sym c.as_slice.ensures.value) (subst (λ (before : Option (List ℕ)). IsOpened before mid c.in-Ok.text.items) (start_is (left c.new-lines.result) known c.new-lines.ensures) c.in-Ok.ensures)) c.in-Ok-begin.ensures c.talk.ensures.talked,
+          (subst (λ (text : List ℕ). IsOpened known mid text) (sym c.as_slice.ensures.value) (subst (λ (before : Option (List ℕ)). IsOpened before mid c.in-Ok.text.items) (start_is (bytes_left c.new-lines.result) known c.new-lines.ensures) c.in-Ok.ensures)) c.in-Ok-begin.ensures c.talk.ensures.talked,
     )
 
 pub returns-clause-handed : goal.returns-clause-handed

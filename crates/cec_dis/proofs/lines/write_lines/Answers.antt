@@ -1,4 +1,4 @@
-use Rattle.cec_words.specs.Lines.{lines_of}
+use Rattle.hdmi_core.specs.Lines.{lines_of}
 use Rattle.cec_dis.proofs.Telling.{put_more, put_short}
 use Rattle.cec_dis.proofs.lines.write_lines.Goals as goal
 

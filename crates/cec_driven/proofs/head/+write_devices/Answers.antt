@@ -1,6 +1,6 @@
 use Rattle.std.proofs.Common.{rules, ◌≡◌, ◌+◌, ◌∷◌, ◌++◌, subst, sym}
-use Rattle.cec_words.specs.Cut.{CutOff, WrittenText}
-use Rattle.cec_words.proofs.Cutting.{cut_front}
+use Rattle.hdmi_core.specs.Cut.{CutOff, WrittenText}
+use Rattle.hdmi_core.proofs.Cutting.{cut_front}
 use Rattle.cec_wires.specs.Wires.{variable, variables}
 use Rattle.cec_driven.specs.Driven.{names_of}
 use Rattle.cec_driven.proofs.head.+write_devices.Goals as goal

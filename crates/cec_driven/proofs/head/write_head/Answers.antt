@@ -1,5 +1,5 @@
 use Rattle.std.proofs.Common.{◌++◌, length}
-use Rattle.cec_words.proofs.Cutting.{cut_front}
+use Rattle.hdmi_core.proofs.Cutting.{cut_front}
 use Rattle.cec_wires.specs.Wires.{closing, opening, variables}
 use Rattle.cec_driven.specs.Driven.{names_of}
 use Rattle.cec_driven.proofs.head.write_head.Goals as goal

@@ -3,7 +3,7 @@ use Rattle.cec_wave.specs.declared.Stretch.{Stretch}
 use Rattle.cec_net.specs.State.{NetState}
 use Rattle.cec_wave.specs.Line.{IsWave}
 use Rattle.cec_net.specs.Step.{seat_of}
-use Rattle.cec_words.specs.Cut.{WrittenText}
+use Rattle.hdmi_core.specs.Cut.{WrittenText}
 use Rattle.cec_driven.specs.Driven.{round_drives}
 use Rattle.cec_driven.proofs.RoundBounds.{bounds}
 use Rattle.cec_driven.proofs.round.run_round.Goals as goal

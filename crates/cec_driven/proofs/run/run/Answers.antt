@@ -1,8 +1,8 @@
 use Rattle.std.proofs.Common.{◌≡◌, ◌++◌, ℕ, List, refl, subst, sym}
 use Rattle.hdmi_core.proofs.CutShort.{Appends-trans}
-use Rattle.cec_words.specs.Cut.{CutOff}
+use Rattle.hdmi_core.specs.Cut.{CutOff}
 use Rattle.cec_wires.specs.Wires.{head}
-use Rattle.cec_words.proofs.Cutting.{cut_behind, cut_front}
+use Rattle.hdmi_core.proofs.Cutting.{cut_behind, cut_front}
 use Rattle.cec_driven.specs.Driven.{names_of}
 use Rattle.cec_driven.proofs.run.run.Goals as goal
 

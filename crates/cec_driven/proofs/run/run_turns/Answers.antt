@@ -2,7 +2,7 @@ use Rattle.std.proofs.Common.{rules, arith, ◌≡◌, ◌∷◌, ◌∙◌, sym
 use Rattle.cec_run.specs.declared.run.Turn.TheVariants.{Stop, Apply, Round}
 use Rattle.cec_run.specs.Run.{turn_of, first_time, start}
 use Rattle.cec_net.specs.Step.{seats_of}
-use Rattle.cec_words.specs.Cut.{WrittenText}
+use Rattle.hdmi_core.specs.Cut.{WrittenText}
 use Rattle.cec_run.proofs.Advance.{event_keeps, next_schedule, round_begins, same_begin, smaller, rounds_kept, complete_kept, refused_kept, counts_brought}
 use Rattle.cec_driven.specs.Driven.{round_drives}
 use Rattle.cec_driven.proofs.Counts.{count_applied, count_round}

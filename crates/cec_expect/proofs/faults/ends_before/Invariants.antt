@@ -1,7 +1,7 @@
 use Rattle.std.proofs.Common.{◌≡◌, length}
 use Rattle.std.specs.List.{list_any}
-use Rattle.cec_words.specs.Lines.{lines_of}
-use Rattle.cec_words.specs.Words.{words_of}
+use Rattle.hdmi_core.specs.Lines.{lines_of}
+use Rattle.hdmi_core.specs.Words.{words_of}
 use Rattle.cec_expect.specs.Line.{behind_label}
 use Rattle.cec_expect.specs.Faults.{end_in, ends_before, is_past}
 use Rattle.cec_expect.proofs.faults.ends_before.Given as goal

@@ -1,5 +1,5 @@
 use Rattle.std.proofs.Common.{◌≡◌, ◌+◌, ◌≤◌, length}
-use Rattle.cec_words.specs.Lines.{lines_of}
+use Rattle.hdmi_core.specs.Lines.{lines_of}
 use Rattle.cec_expect.specs.Faults.{faults_from, first_fault}
 use Rattle.cec_expect.proofs.faults.first_fault.Given as goal
 

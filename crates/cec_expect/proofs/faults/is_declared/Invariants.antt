@@ -1,7 +1,7 @@
 use Rattle.std.proofs.Common.{◌≡◌, length}
 use Rattle.std.specs.List.{list_any}
-use Rattle.cec_words.specs.Lines.{lines_of}
-use Rattle.cec_words.specs.Words.{words_of}
+use Rattle.hdmi_core.specs.Lines.{lines_of}
+use Rattle.hdmi_core.specs.Words.{words_of}
 use Rattle.cec_expect.specs.Faults.{declared_in, is_declared, is_named}
 use Rattle.cec_expect.proofs.faults.is_declared.Given as goal
 

@@ -1,6 +1,6 @@
 use Rattle.std.proofs.Common.{◌≡◌, ◌∷◌, rules}
 use Rattle.std.specs.Option.{option_copied}
-use Rattle.cec_words.specs.Words.{words_behind, words_of}
+use Rattle.hdmi_core.specs.Words.{words_behind, words_of}
 use Rattle.cec_expect.proofs.Parted.{parted}
 use Rattle.cec_expect.proofs.form.parts_in.Goals as goal
 

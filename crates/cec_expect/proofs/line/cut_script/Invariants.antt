@@ -1,6 +1,6 @@
 use Rattle.std.proofs.Common.{◌≡◌, ◌∷◌, [], ◌++◌, length}
 use Rattle.std.specs.List.{flat_map}
-use Rattle.cec_words.specs.Lines.{lines_of}
+use Rattle.hdmi_core.specs.Lines.{lines_of}
 use Rattle.cec_expect.specs.Line.{cut_line, cut_script}
 use Rattle.cec_expect.proofs.line.cut_script.Given as goal
 

@@ -1,5 +1,5 @@
 use Rattle.std.proofs.Common.{◌≡◌, false, rules}
-use Rattle.cec_words.specs.Words.{words_of}
+use Rattle.hdmi_core.specs.Words.{words_of}
 use Rattle.cec_expect.specs.Line.{is_expectation}
 use Rattle.cec_expect.proofs.Parted.{plain_rest}
 use Rattle.cec_expect.proofs.line.plain_words.Goals as goal

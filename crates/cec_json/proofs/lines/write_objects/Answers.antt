@@ -1,6 +1,6 @@
 use Rattle.std.proofs.Common.{[], ℕ, Result, sym, subst}
 use Rattle.hdmi_core.specs.declared.sink.WriteFault.{WriteFault}
-use Rattle.cec_words.specs.Cut.{WrittenText}
+use Rattle.hdmi_core.specs.Cut.{WrittenText}
 use Rattle.cec_json.specs.Object.{IsObject}
 use Rattle.cec_json.specs.Progress.{WritesText}
 use Rattle.cec_json.proofs.Parted.{done_all, done_first, done_more}

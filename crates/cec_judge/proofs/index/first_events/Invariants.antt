@@ -1,7 +1,7 @@
 use Rattle.std.proofs.Common.{◌≡◌, ℕ, ◌<◌, ◌==◌, length}
 use Rattle.std.specs.List.{filter_map, find}
-use Rattle.cec_words.specs.Lines.{lines_of}
-use Rattle.cec_words.specs.Words.{words_of}
+use Rattle.hdmi_core.specs.Lines.{lines_of}
+use Rattle.hdmi_core.specs.Words.{words_of}
 use Rattle.cec_judge.specs.Told.{event_at, event_in}
 use Rattle.cec_judge.specs.Index.{entry, or_event}
 use Rattle.cec_judge.proofs.index.first_events.Given as goal

@@ -1,12 +1,12 @@
 use Rattle.std.proofs.Common.{◌≡◌, ◌+◌, ◌≤◌, length, map}
-use Rattle.cec_words.specs.Lines.{lines_of}
-use Rattle.cec_judge.specs.Judged.{lines_judged, judged}
+use Rattle.hdmi_core.specs.Lines.{lines_of}
+use Rattle.cec_judge.specs.Judged.{lines_judged, verdicts_of}
 use Rattle.cec_judge.proofs.judge.all_judged.Given as goal
 
 -- what is found of the lines above, and then of those that are left
 abbrev pub invariant-lines : goal.invariant-lines
 invariant-lines l = record {
-  same : lines_judged l.script l.trace l.found.items (lines_of l.rest) (map (λ state. state.items) l.left) ≡ judged l.script l.trace (map (λ state. state.items) l.states);
+  same : lines_judged l.script l.trace l.found.items (lines_of l.rest) (map (λ state. state.items) l.left) ≡ verdicts_of l.script l.trace (map (λ state. state.items) l.states);
   room : length l.found.items + length l.rest ≤ length l.script;
 }
 

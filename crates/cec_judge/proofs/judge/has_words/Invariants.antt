@@ -1,6 +1,6 @@
 use Rattle.std.proofs.Common.{◌≡◌, length}
 use Rattle.std.specs.Option.{option_copied}
-use Rattle.cec_words.specs.Words.{words_behind, words_of}
+use Rattle.hdmi_core.specs.Words.{words_behind, words_of}
 use Rattle.cec_judge.specs.Judged.{has_words}
 use Rattle.cec_judge.proofs.judge.has_words.Given as goal
 

@@ -1,6 +1,6 @@
 use Rattle.std.proofs.Common.{◌≡◌, length}
 use Rattle.std.specs.List.{list_any}
-use Rattle.cec_words.specs.Lines.{lines_of}
+use Rattle.hdmi_core.specs.Lines.{lines_of}
 use Rattle.cec_judge.specs.Judged.{line_expects, is_refusal_expected}
 use Rattle.cec_judge.proofs.judge.is_refusal_expected.Given as goal
 

@@ -1,9 +1,9 @@
 use Rattle.std.proofs.Common.{◌≡◌, length}
-use Rattle.cec_words.specs.Lines.{lines_of}
+use Rattle.hdmi_core.specs.Lines.{lines_of}
 use Rattle.cec_judge.specs.Told.{state_among, state_line}
 use Rattle.cec_judge.proofs.told.state_line.Given as goal
 
--- no line before tells the state
+-- no line before reports the state
 abbrev pub invariant-lines : goal.invariant-lines
 invariant-lines l = state_line l.trace l.name ≡ state_among l.name (lines_of l.rest)
 

@@ -2,7 +2,7 @@ use Rattle.std.proofs.Common.{◌≡◌, ◌∷◌, true, false, rules}
 use Rattle.std.specs.Prelude.{codes}
 use Rattle.std.specs.Option.{option_copied}
 use Rattle.std.specs.Str.{bytes_eq}
-use Rattle.cec_words.specs.Words.{words_behind, words_of}
+use Rattle.hdmi_core.specs.Words.{words_behind, words_of}
 use Rattle.cec_judge.proofs.Telling.{told_complete, told_whole}
 use Rattle.cec_judge.proofs.told.told_in.Goals as goal
 

@@ -1,11 +1,11 @@
 use Rattle.std.proofs.Common.{◌≡◌, map, length}
-use Rattle.cec_opcode.specs.WordSets.{spelled}
+use Rattle.cec_opcode.specs.WordSets.{word_in_code}
 use Rattle.cec_opcode.specs.Naming.{byte_of}
 use Rattle.cec_opcode.proofs.word_set.byte_in.Given as goal
 
 -- none of the words before has the text
 abbrev pub invariant-loop-rest : goal.invariant-loop-rest
-invariant-loop-rest l = byte_of (map spelled l.words) l.text ≡ byte_of (map spelled l.rest) l.text
+invariant-loop-rest l = byte_of (map word_in_code l.words) l.text ≡ byte_of (map word_in_code l.rest) l.text
 
 abbrev pub decreases-loop-rest : goal.decreases-loop-rest
 decreases-loop-rest l = length l.rest

@@ -1,5 +1,5 @@
 use Rattle.std.proofs.Common.{arith}
-use Rattle.cec_words.specs.Lines.{lines_of}
+use Rattle.hdmi_core.specs.Lines.{lines_of}
 use Rattle.cec_pin.proofs.LostLines.{lost_more}
 use Rattle.cec_pin.proofs.lost.lost_lines.Goals as goal
 

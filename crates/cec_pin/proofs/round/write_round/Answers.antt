@@ -1,7 +1,7 @@
 use Rattle.std.proofs.Common.{◌∙◌}
 use Rattle.std.specs.List.{flat_map}
 use Rattle.hdmi_core.proofs.CutShort.{Appends-trans}
-use Rattle.cec_words.proofs.Cutting.{cut_behind, cut_front, told_parts}
+use Rattle.hdmi_core.proofs.Cutting.{cut_behind, cut_front, told_parts}
 use Rattle.cec_pin.specs.Text.{again, stretch_text}
 use Rattle.cec_pin.proofs.round.write_round.Goals as goal
 

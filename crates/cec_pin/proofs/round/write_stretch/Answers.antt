@@ -2,8 +2,8 @@ use Rattle.std.proofs.Common.{◌≡◌, ◌<◌, ◌∙◌, ◌+◌, ◌++◌, 
 use Rattle.std.specs.Io.KnownBytes.{Appends}
 use Rattle.hdmi_core.specs.declared.sink.WriteFault.{WriteFault}
 use Rattle.hdmi_core.proofs.CutShort.{Appends-trans}
-use Rattle.cec_words.specs.Cut.{CutOff, told_count}
-use Rattle.cec_words.proofs.Cutting.{cut_after, cut_front}
+use Rattle.hdmi_core.specs.Cut.{CutOff, told_count}
+use Rattle.hdmi_core.proofs.Cutting.{cut_after, cut_front}
 use Rattle.cec_pin.specs.Text.{event_text}
 use Rattle.cec_pin.proofs.round.write_stretch.Goals as goal
 

@@ -1,5 +1,5 @@
 use Rattle.std.proofs.Common.{ℕ, List, true, false, codes, refl, ap, subst, ◌∙◌}
-use Rattle.cec_json.specs.Object.{IsTold, typed}
+use Rattle.cec_json.specs.Object.{IsTold, type_field}
 use Rattle.cec_json.specs.Parts.{after_word}
 use Rattle.cec_report_json.specs.Object.{plan_told, version_told}
 use Rattle.cec_report_json.specs.Stretch.{stretch_told}
@@ -29,7 +29,7 @@ pub returns-in-NoWindow : goal.returns-in-NoWindow
 returns-in-NoWindow g c = told_as c.args.form forms.NoWindow c.args.line.now no_window_told c.in-NoWindow.is refl c.write_no_window.ensures
 
 pub returns-in-Trace : goal.returns-in-Trace
-returns-in-Trace g c = told_as c.args.form forms.Trace c.args.line.now (typed (codes "trace")) c.in-Trace.is refl c.write_type.ensures
+returns-in-Trace g c = told_as c.args.form forms.Trace c.args.line.now (type_field (codes "trace")) c.in-Trace.is refl c.write_type.ensures
 
 pub returns-in-Shown : goal.returns-in-Shown
 returns-in-Shown g c =
@@ -43,4 +43,4 @@ pub returns-in-Stretch : goal.returns-in-Stretch
 returns-in-Stretch g c = told_as c.args.form forms.Stretch c.args.line.now (stretch_told c.args.line.now) c.in-Stretch.is refl c.write_stretch.ensures
 
 pub returns-in-Other : goal.returns-in-Other
-returns-in-Other g c = told_as c.args.form forms.Other c.args.line.now (typed (codes "other")) c.in-Other.is refl c.write_type-in-Other.ensures
+returns-in-Other g c = told_as c.args.form forms.Other c.args.line.now (type_field (codes "other")) c.in-Other.is refl c.write_type-in-Other.ensures

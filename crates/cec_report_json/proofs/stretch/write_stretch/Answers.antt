@@ -1,5 +1,5 @@
 use Rattle.std.specs.Option.{option_copied}
-use Rattle.cec_words.specs.Words.{words_behind}
+use Rattle.hdmi_core.specs.Words.{words_behind}
 use Rattle.cec_json.proofs.Writing.{writes_as, writes_two}
 use Rattle.cec_report_json.proofs.Told.{stretch_is}
 use Rattle.cec_report_json.proofs.stretch.write_stretch.Goals as goal

@@ -1,6 +1,6 @@
 use Rattle.std.proofs.Common.{[], length}
 use Rattle.std.specs.Option.{option_copied}
-use Rattle.cec_words.specs.Words.{words_behind}
+use Rattle.hdmi_core.specs.Words.{words_behind}
 use Rattle.cec_report_json.specs.Stretch.{verdicts}
 use Rattle.cec_report_json.proofs.Fronts.{Front}
 use Rattle.cec_report_json.proofs.stretch.write_verdicts.Given as goal

@@ -1,12 +1,12 @@
 use Rattle.std.proofs.lemmas.List.{take_rest}
-use Rattle.cec_json.specs.Values.{coded}
+use Rattle.cec_json.specs.Values.{code_texts}
 use Rattle.cec_json.specs.declared.values.Code.TheVariants.{Char}
 use Rattle.cec_report_json.specs.TestLine.{plain}
 use Rattle.cec_report_json.proofs.Fronts.{byte_more, bytes_none, front_all, front_none}
 use Rattle.cec_report_json.proofs.test_line.write_plain.Goals as goal
 
 pub bytes-init : goal.bytes-init
-bytes-init g c = front_none (coded Char (plain c.args.text.now)) (g.S.Sink.contents c.args.out.now) (g.S.Sink.is_stuck c.args.out.now) c.args.progress.now.so_far
+bytes-init g c = front_none (code_texts Char (plain c.args.text.now)) (g.S.Sink.contents c.args.out.now) (g.S.Sink.is_stuck c.args.out.now) c.args.progress.now.so_far
 
 pub bytes-preserved : goal.bytes-preserved
 bytes-preserved g c =

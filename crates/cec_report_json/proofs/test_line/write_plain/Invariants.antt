@@ -1,5 +1,5 @@
 use Rattle.std.proofs.Common.{length}
-use Rattle.cec_json.specs.Values.{coded}
+use Rattle.cec_json.specs.Values.{code_texts}
 use Rattle.cec_json.specs.declared.values.Code.TheVariants.{Char}
 use Rattle.cec_report_json.specs.TestLine.{plain, plain_from}
 use Rattle.cec_report_json.proofs.Fronts.{Front}
@@ -8,7 +8,7 @@ use Rattle.cec_report_json.proofs.test_line.write_plain.Given as goal
 -- the characters before are written
 abbrev pub invariant-bytes : goal.invariant-bytes
 invariant-bytes g l =
-    Front (coded Char (plain l.text)) (coded Char (plain_from l.escaped l.rest))
+    Front (code_texts Char (plain l.text)) (code_texts Char (plain_from l.escaped l.rest))
     (g.S.Sink.contents l.fn.out) (g.S.Sink.contents l.out) (g.S.Sink.is_stuck l.fn.out) (g.S.Sink.is_stuck l.out) l.fn.progress.so_far l.progress.so_far
 
 abbrev pub decreases-bytes : goal.decreases-bytes

@@ -1,10 +1,10 @@
 use Rattle.std.proofs.Common.{◌≡◌, ◌∙◌, ◌++◌, ℕ, List, false, length, get_or, subst, ap, arith}
 use Rattle.std.specs.Io.KnownBytes.{Appends}
 use Rattle.cec_net.specs.Apply.{event_fault}
-use Rattle.cec_words.specs.Cut.{CutOff, told_count}
+use Rattle.hdmi_core.specs.Cut.{CutOff, told_count}
 use Rattle.cec_trace.specs.PortText.{port_lines}
 use Rattle.cec_trace.specs.TraceText.{event_line}
-use Rattle.cec_words.proofs.Cutting.{cut_behind_line, cut_front}
+use Rattle.hdmi_core.proofs.Cutting.{cut_behind_line, cut_front}
 use Rattle.cec_trace.proofs.Ports.{both_written}
 use Rattle.cec_run.proofs.Ports.{event_ports}
 use Rattle.cec_run.proofs.run.apply_event.Goals as goal

@@ -1,8 +1,8 @@
 use Rattle.std.proofs.Common.{◌≡◌, ◌++◌, ℕ, List, refl, subst, sym}
 use Rattle.hdmi_core.proofs.CutShort.{Appends-trans}
-use Rattle.cec_words.specs.Cut.{CutOff}
+use Rattle.hdmi_core.specs.Cut.{CutOff}
 use Rattle.cec_run.specs.Run.{start_told}
-use Rattle.cec_words.proofs.Cutting.{cut_behind, cut_front}
+use Rattle.hdmi_core.proofs.Cutting.{cut_behind, cut_front}
 use Rattle.cec_run.proofs.run.run.Goals as goal
 
 pub returns-in-Ok-run_turns-clause-ok : goal.returns-in-Ok-run_turns-clause-ok

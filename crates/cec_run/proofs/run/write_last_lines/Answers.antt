@@ -1,7 +1,7 @@
 use Rattle.std.proofs.Common.{[], subst, append-nil, ◌++◌}
 use Rattle.std.specs.List.{flat_map}
-use Rattle.cec_words.proofs.Cutting.{cut_after}
-use Rattle.cec_words.specs.Cut.{CutOff}
+use Rattle.hdmi_core.proofs.Cutting.{cut_after}
+use Rattle.hdmi_core.specs.Cut.{CutOff}
 use Rattle.cec_trace.specs.StateText.{state_line}
 use Rattle.cec_trace.specs.TraceText.{end_line}
 use Rattle.cec_run.proofs.run.write_last_lines.Goals as goal

@@ -1,6 +1,6 @@
 use Rattle.std.proofs.Common.{rules, ◌≡◌, get_or, ◌∙◌}
 use Rattle.hdmi_core.proofs.CutShort.{Appends-trans}
-use Rattle.cec_words.proofs.Cutting.{cut_part, more_parts, more_count}
+use Rattle.hdmi_core.proofs.Cutting.{cut_part, more_parts, more_count}
 use Rattle.cec_trace.specs.StateText.{state_line}
 use Rattle.cec_run.proofs.run.write_states.Goals as goal
 

@@ -1,5 +1,5 @@
 use Rattle.std.proofs.Common.{◌≡◌, ◌+◌, ◌≤◌, length}
-use Rattle.cec_words.specs.Lines.{lines_of}
+use Rattle.hdmi_core.specs.Lines.{lines_of}
 use Rattle.cec_step_text.specs.Commands.{lines_read, commands_of}
 use Rattle.cec_step_text.proofs.commands.parse_commands.Given as goal
 

@@ -1,6 +1,6 @@
 use Rattle.std.proofs.Common.{rules, ◌≡◌, ◌∷◌, [], Bool, false, slice_index_or}
 use Rattle.cec_text.specs.ReadingText.{bit_digit}
-use Rattle.cec_words.proofs.Cutting.{cut_part}
+use Rattle.hdmi_core.proofs.Cutting.{cut_part}
 use Rattle.cec_step_text.proofs.edge_text.write_digits.Goals as goal
 
 pub returns-in-Err : goal.returns-in-Err

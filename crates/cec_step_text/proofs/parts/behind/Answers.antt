@@ -1,6 +1,6 @@
 use Rattle.std.proofs.Common.{Err, subst}
-use Rattle.cec_words.specs.Cut.{WrittenText}
-use Rattle.cec_words.proofs.Cutting.{cut_behind}
+use Rattle.hdmi_core.specs.Cut.{WrittenText}
+use Rattle.hdmi_core.proofs.Cutting.{cut_behind}
 use Rattle.cec_step_text.proofs.parts.behind.Goals as goal
 
 pub returns-in-Err : goal.returns-in-Err

@@ -1,6 +1,6 @@
 use Rattle.std.proofs.Common.{◌≡◌, ◌++◌, length}
 use Rattle.std.specs.Option.{option_copied}
-use Rattle.cec_words.specs.Words.{words_behind}
+use Rattle.hdmi_core.specs.Words.{words_behind}
 use Rattle.cec_sweep.specs.Script.{line_at, words_at}
 use Rattle.cec_sweep.proofs.script.push_line.Given as goal
 

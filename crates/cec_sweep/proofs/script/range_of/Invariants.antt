@@ -1,5 +1,5 @@
 use Rattle.std.proofs.Common.{◌≡◌, ◌+◌, ◌≤◌, length}
-use Rattle.cec_words.specs.Lines.{lines_of}
+use Rattle.hdmi_core.specs.Lines.{lines_of}
 use Rattle.cec_sweep.specs.Script.{lines_ranged, range_of}
 use Rattle.cec_sweep.proofs.script.range_of.Given as goal
 

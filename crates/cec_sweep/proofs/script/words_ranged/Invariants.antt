@@ -1,8 +1,8 @@
 use Rattle.std.proofs.Common.{◌≡◌, length}
 use Rattle.std.specs.Option.{option_copied}
-use Rattle.cec_words.specs.Words.{words_behind, words_of}
+use Rattle.hdmi_core.specs.Words.{words_behind, words_of}
 use Rattle.cec_sweep.specs.Script.{words_ranged}
-use Rattle.cec_sweep.specs.declared.places.Place.TheVariants.{Begin}
+use Rattle.cec_sweep.specs.declared.places.WordRole.TheVariants.{Begin}
 use Rattle.cec_sweep.proofs.script.words_ranged.Given as goal
 
 -- the words before, and then those that are left

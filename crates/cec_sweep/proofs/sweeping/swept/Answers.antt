@@ -1,5 +1,5 @@
 use Rattle.std.proofs.Common.{◌≡◌, ◌+◌, ap, arith}
-use Rattle.cec_sweep.specs.Stretches.{Draft, draft_as}
+use Rattle.cec_sweep.specs.Stretches.{StretchesDraft, draft_as}
 use Rattle.cec_sweep.specs.Sweep.{AreVerdictsAt}
 use Rattle.cec_sweep.proofs.Refused.{refused_first, refused_later}
 use Rattle.cec_sweep.proofs.Stretching.{draft_begun, draft_ended, draft_more, last_is}
@@ -14,7 +14,7 @@ instants-init c =
     let F = AreVerdictsAt c.args.topology.now c.args.script.now in
     record {
       within = omega (arith, c.from-at.ensures.from, c.to-to.ensures.to, c.from-at.ensures.series.forward);
-      last = ap (λ (d : Draft). d.last.last) c.new-draft.ensures;
+      last = ap (λ (d : StretchesDraft). d.last.last) c.new-draft.ensures;
       is = draft_begun F c.args.series.now (draft_as c.new-draft.result) c.from-at.result c.in-Ok.first.items c.from-at.ensures.from c.new-draft.ensures c.from-at.ensures.series.moves c.in-Ok.ensures.ok;
     }
 

@@ -3,8 +3,8 @@ use Rattle.std.proofs.lemmas.Grind.{flat_map-append}
 use Rattle.std.proofs.lemmas.List.{take-append-drop}
 use Rattle.std.specs.Io.KnownBytes.{Appends}
 use Rattle.cec_wave.specs.declared.Stretch.{Stretch}
-use Rattle.cec_words.specs.Cut.{CutOff, told_count}
-use Rattle.cec_words.proofs.Cutting.{cut_behind_line, cut_front}
+use Rattle.hdmi_core.specs.Cut.{CutOff, told_count}
+use Rattle.hdmi_core.proofs.Cutting.{cut_behind_line, cut_front}
 use Rattle.cec_trace.specs.EdgeText.{edge_lines, stretch_lines}
 use Rattle.cec_trace.proofs.Ports.{both_written}
 use Rattle.cec_trace.proofs.edge_text.+write_edges.Goals as goal

@@ -2,9 +2,9 @@ use Rattle.std.proofs.Common.{◌≡◌, ◌<◌, ◌∙◌, ℕ, Bool, false, L
 use Rattle.std.specs.List.{flat_map, range_with_len}
 use Rattle.std.specs.Io.KnownBytes.{Appends}
 use Rattle.hdmi_core.proofs.CutShort.{Appends-trans}
-use Rattle.cec_words.specs.Cut.{WrittenText, told_count}
+use Rattle.hdmi_core.specs.Cut.{WrittenText, told_count}
 use Rattle.cec_trace.specs.PortText.{lines_of_new}
-use Rattle.cec_words.proofs.Cutting.{cut_text_part, more_parts, more_told}
+use Rattle.hdmi_core.proofs.Cutting.{cut_text_part, more_parts, more_told}
 use Rattle.cec_trace.proofs.Ports.{range_all, range_in, range_item}
 use Rattle.cec_trace.proofs.port_text.write_all_new.Goals as goal
 

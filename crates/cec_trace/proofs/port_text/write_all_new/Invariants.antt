@@ -1,7 +1,7 @@
 use Rattle.std.proofs.Common.{◌≡◌, length, take, get_or, false}
 use Rattle.std.specs.List.{flat_map, range_with_len}
 use Rattle.std.specs.Io.KnownBytes.{Appends}
-use Rattle.cec_words.specs.Cut.{told_count}
+use Rattle.hdmi_core.specs.Cut.{told_count}
 use Rattle.cec_trace.specs.PortText.{lines_of_new}
 use Rattle.cec_trace.proofs.port_text.write_all_new.Given as goal
 

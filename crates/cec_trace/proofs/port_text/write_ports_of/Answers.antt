@@ -3,9 +3,9 @@ use Rattle.std.specs.List.{flat_map, range_with_len}
 use Rattle.std.specs.Io.KnownBytes.{Appends}
 use Rattle.hdmi_core.proofs.CutShort.{Appends-trans}
 use Rattle.hdmi_topo.specs.Tree.{ports_of}
-use Rattle.cec_words.specs.Cut.{told_count}
+use Rattle.hdmi_core.specs.Cut.{told_count}
 use Rattle.cec_trace.specs.PortText.{port_line}
-use Rattle.cec_words.proofs.Cutting.{cut_part, more_parts, more_count}
+use Rattle.hdmi_core.proofs.Cutting.{cut_part, more_parts, more_count}
 use Rattle.cec_trace.proofs.Ports.{range_all, range_in, range_item}
 use Rattle.cec_trace.proofs.port_text.write_ports_of.Goals as goal
 

@@ -4,7 +4,7 @@ use Rattle.hdmi_core.specs.Piece.{piece_text}
 use Rattle.cec_trace.specs.TraceText.{loser_text}
 use Rattle.cec_trace.proofs.round_text.add_losers.Given as goal
 
--- the losers so far, each behind a comma
+-- the losers so far, each after a comma
 abbrev pub invariant-loop-loser : goal.invariant-loop-loser
 invariant-loop-loser l = record {
   text : flat_map piece_text l.line.items ≡ flat_map piece_text l.initial.line.items ++ flat_map (λ t. 44 ∷ t) (map (loser_text l.devices) (take l.loser-index l.others));

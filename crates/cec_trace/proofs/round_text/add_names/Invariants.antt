@@ -4,7 +4,7 @@ use Rattle.hdmi_core.specs.Piece.{piece_text}
 use Rattle.cec_trace.specs.TraceText.{name_at}
 use Rattle.cec_trace.proofs.round_text.add_names.Given as goal
 
--- the names so far, each behind a comma
+-- the names so far, each after a comma
 abbrev pub invariant-loop-number : goal.invariant-loop-number
 invariant-loop-number l = record {
   text : flat_map piece_text l.line.items ≡ flat_map piece_text l.initial.line.items ++ flat_map (λ t. 44 ∷ t) (map (name_at l.devices) (take l.number-index l.others));

@@ -1,8 +1,8 @@
 use Rattle.std.proofs.Common.{◌<◌, ◌+◌, ◌-◌, arith, subst, sym}
 use Rattle.std.specs.List.{flat_map, range_with_len}
 use Rattle.std.proofs.lemmas.Bool.Decides.{nat_tests}
-use Rattle.cec_words.specs.Cut.{CutOff, WrittenText}
-use Rattle.cec_words.proofs.Cutting.{cut_front}
+use Rattle.hdmi_core.specs.Cut.{CutOff, WrittenText}
+use Rattle.hdmi_core.proofs.Cutting.{cut_front}
 use Rattle.cec_wires.specs.Wires.{high_at_first}
 use Rattle.cec_wires.proofs.Quiet.{one_high}
 use Rattle.cec_wires.proofs.definitions.+write_highs.Goals as goal

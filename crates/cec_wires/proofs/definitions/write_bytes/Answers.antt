@@ -1,5 +1,5 @@
 use Rattle.std.proofs.Common.{[], ◌++◌, append-nil, subst}
-use Rattle.cec_words.specs.Cut.{WrittenText}
+use Rattle.hdmi_core.specs.Cut.{WrittenText}
 use Rattle.cec_wires.proofs.definitions.write_bytes.Goals as goal
 
 pub returns : goal.returns

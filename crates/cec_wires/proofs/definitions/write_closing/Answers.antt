@@ -1,7 +1,7 @@
 use Rattle.std.proofs.Common.{◌+◌, ◌++◌, codes}
 use Rattle.std.specs.List.{flat_map, range_with_len}
 use Rattle.cec_wires.specs.Wires.{high_at_first, variable}
-use Rattle.cec_words.proofs.Cutting.{cut_front}
+use Rattle.hdmi_core.proofs.Cutting.{cut_front}
 use Rattle.cec_wires.proofs.definitions.write_closing.Goals as goal
 
 pub returns-in-Ok : goal.returns-in-Ok

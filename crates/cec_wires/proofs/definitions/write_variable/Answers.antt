@@ -1,6 +1,6 @@
 use Rattle.std.proofs.Common.{[], ◌∷◌, codes, subst}
 use Rattle.std.specs.List.{concat}
-use Rattle.cec_words.specs.Cut.{WrittenText}
+use Rattle.hdmi_core.specs.Cut.{WrittenText}
 use Rattle.cec_wires.proofs.definitions.write_variable.Goals as goal
 
 pub returns : goal.returns

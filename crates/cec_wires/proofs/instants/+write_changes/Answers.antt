@@ -1,6 +1,6 @@
 use Rattle.std.proofs.Common.{rules, ◌≡◌, ◌+◌, ◌∷◌, subst, sym}
-use Rattle.cec_words.specs.Cut.{CutOff, WrittenText}
-use Rattle.cec_words.proofs.Cutting.{cut_front}
+use Rattle.hdmi_core.specs.Cut.{CutOff, WrittenText}
+use Rattle.hdmi_core.proofs.Cutting.{cut_front}
 use Rattle.cec_wires.specs.Wires.{change_text, changes_from}
 use Rattle.cec_wires.proofs.instants.+write_changes.Goals as goal
 

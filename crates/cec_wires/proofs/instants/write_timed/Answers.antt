@@ -2,7 +2,7 @@ use Rattle.std.proofs.Common.{[], ◌∷◌, codes}
 use Rattle.std.specs.Fmt.{decimal}
 use Rattle.std.specs.List.{concat}
 use Rattle.cec_wires.specs.Wires.{changes_from}
-use Rattle.cec_words.proofs.Cutting.{cut_front}
+use Rattle.hdmi_core.proofs.Cutting.{cut_front}
 use Rattle.cec_wires.proofs.instants.write_timed.Goals as goal
 
 pub returns-in-Ok : goal.returns-in-Ok

@@ -1,7 +1,7 @@
 use Rattle.std.proofs.Common.{◌+◌, ◌-◌, ◌∷◌, length, ap, arith, subst, sym, ◌∙◌}
 use Rattle.hdmi_core.proofs.CutShort.{Appends-trans}
-use Rattle.cec_words.specs.Cut.{CutOff, told_count}
-use Rattle.cec_words.proofs.Cutting.{cut_again, told_parts}
+use Rattle.hdmi_core.specs.Cut.{CutOff, told_count}
+use Rattle.hdmi_core.proofs.Cutting.{cut_again, told_parts}
 use Rattle.cec_wires.specs.Wires.{instant_text, wires_text}
 use Rattle.cec_wires.proofs.Quiet.{more_instants, three_parts}
 use Rattle.cec_wires.proofs.instants.write_wires.Goals as goal

@@ -1,6 +1,6 @@
 use Rattle.std.proofs.Common.{◌≡◌, ◌≤◌, ◌-◌, ◌∷◌, length}
 use Rattle.std.specs.Io.KnownBytes.{Appends}
-use Rattle.cec_words.specs.Cut.{told_count}
+use Rattle.hdmi_core.specs.Cut.{told_count}
 use Rattle.cec_wires.specs.Wires.{wires_text}
 use Rattle.cec_wires.proofs.instants.write_wires.Given as goal
 

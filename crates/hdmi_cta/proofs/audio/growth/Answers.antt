@@ -1,5 +1,5 @@
 use Rattle.std.proofs.Common.{length, arith, ap}
-use Rattle.hdmi_cta.specs.declared.block.Block.{Block}
+use Rattle.hdmi_cta.specs.declared.block.DataBlock.{DataBlock}
 use Rattle.hdmi_cta.proofs.Hearing.{audio_at, longer}
 use Rattle.hdmi_cta.proofs.audio.growth.Goals as goal
 
@@ -10,7 +10,7 @@ returns-clause-less c =
     let old = c.len-old.ensures.value in
     let block = c.index-blocks-index.is in
     let less = c.saturating_sub.ensures in
-    let len = ap (λ (b : Block). length b.payload.items) block in
+    let len = ap (λ (b : DataBlock). length b.payload.items) block in
     omega (arith, more, old, less, len)
 
 pub returns-clause-more : goal.returns-clause-more
@@ -20,5 +20,5 @@ returns-clause-more c =
     let old = c.len-old.ensures.value in
     let block = c.index-blocks-index.is in
     let less = c.saturating_sub-2.ensures in
-    let len = ap (λ (b : Block). length b.payload.items) block in
+    let len = ap (λ (b : DataBlock). length b.payload.items) block in
     omega (arith, more, old, less, len)

@@ -2,14 +2,14 @@ use Rattle.std.proofs.Common.{◌≡◌, None, Some, ap, sym, ◌∙◌, arith}
 use Rattle.std.specs.List.{position}
 use Rattle.std.specs.Option.{option_map}
 use Rattle.hdmi_cta.specs.Hdmi.{is_hdmi, blocks_of, phys_at}
-use Rattle.hdmi_cta.specs.declared.block.Block.{Block}
+use Rattle.hdmi_cta.specs.declared.block.DataBlock.{DataBlock}
 use Rattle.hdmi_cta.proofs.FirstHdmi.{none_found, placed}
 use Rattle.hdmi_cta.proofs.hdmi.address_place.Goals as goal
 
 pub returns-in_err-index : goal.returns-in_err-index
 returns-in_err-index c =
     let none : position is_hdmi (blocks_of c.args.ext.now) ≡ None = sym (ap (position is_hdmi) c.blocks_of-blocks.ensures) ∙ sym c.first_hdmi.ensures ∙ c.in_err-index.was in
-    rw c.from_residual.ensures (ap (option_map (λ (b : Block). phys_at b.payload.items)) (none_found (blocks_of c.args.ext.now) none))
+    rw c.from_residual.ensures (ap (option_map (λ (b : DataBlock). phys_at b.payload.items)) (none_found (blocks_of c.args.ext.now) none))
 
 pub spelled_len-requires : goal.spelled_len-requires
 spelled_len-requires c =

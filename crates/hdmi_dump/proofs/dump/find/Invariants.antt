@@ -1,13 +1,13 @@
 use Rattle.std.proofs.Common.{◌≡◌, ◌+◌, ◌≤◌, length, is_some}
 use Rattle.std.specs.List.{list_any}
-use Rattle.cec_words.specs.Lines.{lines_of}
-use Rattle.hdmi_dump.specs.Dump.{dumped, dumped_from, has_dump}
+use Rattle.hdmi_core.specs.Lines.{lines_of}
+use Rattle.hdmi_dump.specs.Dump.{edid_in_dump, dumped_from, has_dump}
 use Rattle.hdmi_dump.specs.Rows.{form_of}
 use Rattle.hdmi_dump.proofs.dump.find.Given as goal
 
 abbrev pub invariant-lines : goal.invariant-lines
 invariant-lines l = record {
-  so_far : dumped l.text ≡ dumped_from l.number (lines_of l.rest);
+  so_far : edid_in_dump l.text ≡ dumped_from l.number (lines_of l.rest);
   some : has_dump l.text ≡ list_any (λ line. is_some (form_of line)) (lines_of l.rest);
   room : l.number + length l.rest ≤ length l.text + 1;
 }

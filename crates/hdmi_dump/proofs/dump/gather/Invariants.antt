@@ -1,11 +1,11 @@
 use Rattle.std.proofs.Common.{◌≡◌, ◌+◌, ◌≤◌, [], false, length}
-use Rattle.cec_words.specs.Lines.{lines_of}
-use Rattle.hdmi_dump.specs.Dump.{gathered}
+use Rattle.hdmi_core.specs.Lines.{lines_of}
+use Rattle.hdmi_dump.specs.Dump.{bytes_of_rows}
 use Rattle.hdmi_dump.proofs.dump.gather.Given as goal
 
 abbrev pub invariant-lines : goal.invariant-lines
 invariant-lines l = record {
-  so_far : gathered l.form l.first false [] (lines_of l.text) ≡ gathered l.form l.number l.skips l.bytes.items (lines_of l.rest);
+  so_far : bytes_of_rows l.form l.first false [] (lines_of l.text) ≡ bytes_of_rows l.form l.number l.skips l.bytes.items (lines_of l.rest);
   room : l.number + length l.rest ≤ l.first + length l.text;
 }
 

@@ -1,10 +1,10 @@
 use Rattle.std.proofs.Common.{◌≡◌, ◌+◌, ◌≤◌, length}
-use Rattle.hdmi_dump.specs.Dump.{repeated}
+use Rattle.hdmi_dump.specs.Dump.{with_repeats}
 use Rattle.hdmi_dump.proofs.dump.push_repeated.Given as goal
 
 abbrev pub invariant-bytes : goal.invariant-bytes
 invariant-bytes l = record {
-  so_far : repeated l.left l.bytes.items ≡ repeated l.fn.count l.fn.bytes.items;
+  so_far : with_repeats l.left l.bytes.items ≡ with_repeats l.fn.count l.fn.bytes.items;
   room : length l.bytes.items + l.left ≤ 512;
 }
 

@@ -1,6 +1,6 @@
 use Rattle.std.proofs.Common.{◌≡◌, [], take, Some, sym, ap, ◌∙◌}
 use Rattle.std.specs.Str.{bytes_eq}
-use Rattle.hdmi_dump.specs.Digits.{filled}
+use Rattle.hdmi_dump.specs.Digits.{bytes_with_row}
 use Rattle.hdmi_dump.specs.Rows.{header, row}
 use Rattle.hdmi_dump.proofs.RowLemmas.{header_of}
 use Rattle.hdmi_dump.proofs.rows.has_header.Goals as goal
@@ -8,5 +8,5 @@ use Rattle.hdmi_dump.proofs.rows.has_header.Goals as goal
 pub returns : goal.returns
 returns c =
     let r = row c.args.form c.args.line.now in
-    let f : filled [] r ≡ Some c.push_row.new.bytes.items = cc in
+    let f : bytes_with_row [] r ≡ Some c.push_row.new.bytes.items = cc in
     c.eq.ensures ∙ ap (λ l. bytes_eq l header) (c.before-2.ensures ∙ ap (take 8) c.deref.ensures.0) ∙ sym (header_of r c.push_row.new.bytes.items f)

@@ -1,5 +1,5 @@
 use Rattle.std.proofs.Common.{◌≡◌, is_some, sym, ap, ◌∙◌}
-use Rattle.hdmi_dump.specs.Digits.{filled, pairs}
+use Rattle.hdmi_dump.specs.Digits.{bytes_with_row, pairs}
 use Rattle.hdmi_dump.specs.Rows.{row}
 use Rattle.hdmi_dump.proofs.RowLemmas.{row_pairs}
 use Rattle.hdmi_dump.proofs.rows.push_row.Goals as goal
@@ -14,4 +14,4 @@ pub returns : goal.returns
 returns c =
     let e = row_pairs c.args.form c.args.line.now c.in-Some.start (sym c.in-Some.ensures) c.requires in
     let k : row c.args.form c.args.line.now ≡ pairs c.column_of.result c.behind.result.now = cc in
-    ap (filled c.args.bytes.now.items) k ∙ c.push_pairs.ensures
+    ap (bytes_with_row c.args.bytes.now.items) k ∙ c.push_pairs.ensures

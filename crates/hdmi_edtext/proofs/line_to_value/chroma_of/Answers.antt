@@ -1,5 +1,5 @@
 use Rattle.hdmi_edid.specs.Chroma.{chroma_numbers}
-use Rattle.hdmi_lines.specs.declared.line.Word.TheVariants.{Chroma}
+use Rattle.hdmi_lines.specs.declared.line.Keyword.TheVariants.{Chroma}
 use Rattle.hdmi_edtext.proofs.LineParts.{told_numbers}
 use Rattle.hdmi_edtext.proofs.line_to_value.chroma_of.Goals as goal
 

@@ -1,5 +1,5 @@
 use Rattle.hdmi_edid.specs.Maker.{maker_letters}
-use Rattle.hdmi_lines.specs.declared.line.Word.TheVariants.{Maker}
+use Rattle.hdmi_lines.specs.declared.line.Keyword.TheVariants.{Maker}
 use Rattle.hdmi_edtext.proofs.LineParts.{told_letters}
 use Rattle.hdmi_edtext.proofs.line_to_value.maker_of.Goals as goal
 

@@ -1,5 +1,5 @@
 use Rattle.std.proofs.Common.{◌≡◌, rules}
-use Rattle.hdmi_lines.specs.declared.line.Word.TheVariants.{Timing}
+use Rattle.hdmi_lines.specs.declared.line.Keyword.TheVariants.{Timing}
 use Rattle.hdmi_edtext.proofs.LineParts.{timed_line}
 use Rattle.hdmi_edtext.proofs.line_to_value.timing_of.Goals as goal
 

@@ -1,7 +1,7 @@
 use Rattle.std.proofs.Common.{◌++◌, ◌∷◌, [], ap, ◌∙◌}
 use Rattle.hdmi_edtext.specs.Drafts.{draft_lines}
-use Rattle.hdmi_edtext.specs.declared.draft.Draft.TheVariants.{Bare}
-use Rattle.hdmi_edtext.specs.Lines.{trimmed}
+use Rattle.hdmi_edtext.specs.declared.draft.EdidDraft.TheVariants.{Bare}
+use Rattle.hdmi_edtext.specs.Lines.{bytes_without_zeros}
 use Rattle.hdmi_edtext.proofs.ExtSteps.{no_bare, bare_told}
 use Rattle.hdmi_edtext.proofs.Fronts.{bare_next}
 use Rattle.hdmi_edtext.proofs.steps.put_bare.Goals as goal
@@ -9,7 +9,7 @@ use Rattle.hdmi_edtext.proofs.steps.put_bare.Goals as goal
 pub returns-in_default : goal.returns-in_default
 returns-in_default c = λ f.
     let t = bare_next c.args.headed.whole c.args.headed.flags c.args.line.now f in
-    c.in_default.ensures (trimmed t.0) t.1.1
+    c.in_default.ensures (bytes_without_zeros t.0) t.1.1
 
 pub returns-in_default-bare_of : goal.returns-in_default-bare_of
 returns-in_default-bare_of c = λ f.

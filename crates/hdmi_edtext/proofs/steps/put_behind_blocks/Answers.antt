@@ -2,8 +2,8 @@ use Rattle.std.proofs.Common.{◌≡◌, ◌<◌, ◌⊎◌, ◌++◌, ◌∷◌
 use Rattle.hdmi_edtext.specs.Drafts.{draft_lines, TimingFits, TailFits}
 use Rattle.hdmi_edtext.specs.Lines.{bytes_line, timing_line}
 use Rattle.hdmi_edtext.specs.Tails.{ends}
-use Rattle.hdmi_edtext.specs.declared.draft.Draft.TheVariants.{Opened}
-use Rattle.hdmi_lines.specs.declared.line.Word.TheVariants.{Tail}
+use Rattle.hdmi_edtext.specs.declared.draft.EdidDraft.TheVariants.{Opened}
+use Rattle.hdmi_lines.specs.declared.line.Keyword.TheVariants.{Tail}
 use Rattle.hdmi_edtext.proofs.ExtSteps.{lift, no_room, no_words, no_tail}
 use Rattle.hdmi_edtext.proofs.steps.put_behind_blocks.Goals as goal
 

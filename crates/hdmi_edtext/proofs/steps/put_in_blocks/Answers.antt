@@ -2,7 +2,7 @@ use Rattle.std.proofs.Common.{◌≡◌, ◌<◌, ◌⊎◌, ◌++◌, ◌∷◌
 use Rattle.hdmi_cta.specs.Block.{block_bytes}
 use Rattle.hdmi_edtext.specs.Drafts.{draft_lines, BlockFits, TimingFits, TailFits}
 use Rattle.hdmi_edtext.specs.Lines.{block_line}
-use Rattle.hdmi_edtext.specs.declared.draft.Draft.TheVariants.{Opened}
+use Rattle.hdmi_edtext.specs.declared.draft.EdidDraft.TheVariants.{Opened}
 use Rattle.hdmi_edtext.proofs.ExtSteps.{lift, no_block, no_block_line}
 use Rattle.hdmi_edtext.proofs.steps.put_in_blocks.Goals as goal
 

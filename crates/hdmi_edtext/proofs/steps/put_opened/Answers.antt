@@ -1,6 +1,6 @@
 use Rattle.std.proofs.Common.{◌≡◌, ◌<◌, ◌⊎◌, ◌++◌, ◌∷◌, [], length, rules}
 use Rattle.hdmi_edtext.specs.Drafts.{draft_lines, Follows, BlockFits, TimingFits, TailFits}
-use Rattle.hdmi_edtext.specs.declared.draft.Draft.TheVariants.{Opened}
+use Rattle.hdmi_edtext.specs.declared.draft.EdidDraft.TheVariants.{Opened}
 use Rattle.hdmi_edtext.proofs.ExtSteps.{lift, before_timings, behind_timings}
 use Rattle.hdmi_edtext.proofs.steps.put_opened.Goals as goal
 

@@ -3,7 +3,7 @@ use Rattle.hdmi_check.specs.Text.{findings_text}
 use Rattle.hdmi_check.specs.declared.rule.Origin.TheVariants as origins
 use Rattle.hdmi_convert.specs.EdidFindings.{faults_of}
 use Rattle.hdminet_program.specs.Edids.{Shows}
-use Rattle.hdminet_words.specs.declared.choice.Place.TheVariants.{Own}
+use Rattle.hdminet_words.specs.declared.choice.Recipient.TheVariants.{Own}
 use Rattle.hdminet_words.specs.declared.choice.View.TheVariants.{Findings}
 use Rattle.hdminet_program.proofs.ShownLemmas.{on_ok}
 use Rattle.hdminet_program.proofs.edid.check_own.Goals as goal

@@ -1,6 +1,6 @@
 use Rattle.std.proofs.Common.{OnOk, subst, sym}
 use Rattle.hdminet_program.specs.Edids.{Shows}
-use Rattle.hdminet_words.specs.declared.choice.Place.TheVariants.{Own}
+use Rattle.hdminet_words.specs.declared.choice.Recipient.TheVariants.{Own}
 use Rattle.hdminet_words.specs.declared.choice.Shape.{Shape}
 use Rattle.hdminet_words.specs.declared.choice.View.TheVariants.{Whole}
 use Rattle.hdminet_program.proofs.edid.write_own.Goals as goal

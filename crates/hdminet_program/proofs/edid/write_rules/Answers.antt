@@ -1,23 +1,23 @@
 use Rattle.std.proofs.Common.{OnOk, subst, sym}
 use Rattle.hdmi_convert.specs.declared.passing.Passing.{Passing}
 use Rattle.hdminet_program.specs.Edids.{Shows, ShowsRules}
-use Rattle.hdminet_words.specs.declared.choice.Place.{Place}
+use Rattle.hdminet_words.specs.declared.choice.Recipient.{Recipient}
 use Rattle.hdminet_words.specs.declared.choice.View.TheVariants.{Findings}
 use Rattle.hdminet_program.proofs.edid.write_rules.Goals as goal
 
 pub returns-in-Own : goal.returns-in-Own
 returns-in-Own g c =
-    let Q : Place → Type 0 = λ p. OnOk c.check_own.result (Shows (Findings p) c.args.bytes.now (g.W.Sink.contents c.args.out.now) (g.W.Sink.contents c.check_own.new.out)) in
+    let Q : Recipient → Type 0 = λ p. OnOk c.check_own.result (Shows (Findings p) c.args.bytes.now (g.W.Sink.contents c.args.out.now) (g.W.Sink.contents c.check_own.new.out)) in
     subst Q (sym c.in-Own.is) c.check_own.ensures
 
 pub returns-in-At : goal.returns-in-At
 returns-in-At g c =
     let P : Passing → Type 0 = λ x. OnOk c.check_passed.result (ShowsRules x c.args.bytes.now (g.W.Sink.contents c.args.out.now) (g.W.Sink.contents c.check_passed.new.out)) in
-    let Q : Place → Type 0 = λ p. OnOk c.check_passed.result (Shows (Findings p) c.args.bytes.now (g.W.Sink.contents c.args.out.now) (g.W.Sink.contents c.check_passed.new.out)) in
+    let Q : Recipient → Type 0 = λ p. OnOk c.check_passed.result (Shows (Findings p) c.args.bytes.now (g.W.Sink.contents c.args.out.now) (g.W.Sink.contents c.check_passed.new.out)) in
     subst Q (sym c.in-At.is) (subst P c.at.ensures c.check_passed.ensures)
 
 pub returns-in-Port : goal.returns-in-Port
 returns-in-Port g c =
     let P : Passing → Type 0 = λ x. OnOk c.check_passed-in-Port.result (ShowsRules x c.args.bytes.now (g.W.Sink.contents c.args.out.now) (g.W.Sink.contents c.check_passed-in-Port.new.out)) in
-    let Q : Place → Type 0 = λ p. OnOk c.check_passed-in-Port.result (Shows (Findings p) c.args.bytes.now (g.W.Sink.contents c.args.out.now) (g.W.Sink.contents c.check_passed-in-Port.new.out)) in
+    let Q : Recipient → Type 0 = λ p. OnOk c.check_passed-in-Port.result (Shows (Findings p) c.args.bytes.now (g.W.Sink.contents c.args.out.now) (g.W.Sink.contents c.check_passed-in-Port.new.out)) in
     subst Q (sym c.in-Port.is) (subst P c.in_port.ensures c.check_passed-in-Port.ensures)

@@ -1,6 +1,6 @@
 use Rattle.std.proofs.Common.{◌≡◌, ◌++◌, length}
 use Rattle.std.specs.List.{flat_map}
-use Rattle.cec_words.specs.Lines.{lines_of}
+use Rattle.hdmi_core.specs.Lines.{lines_of}
 use Rattle.hdminet_program.specs.Tests.{remark_line, trace_remarks}
 use Rattle.hdminet_program.proofs.expectations.trace_remarks.Given as goal
 

@@ -1,5 +1,5 @@
 use Rattle.std.proofs.Common.{Bool, List, refl, ap, ◌∙◌}
-use Rattle.cec_bits.specs.declared.receiver.Place.TheVariants.{Rest}
+use Rattle.cec_bits.specs.declared.receiver.ReceiverState.TheVariants.{Rest}
 use Rattle.cec_bits.specs.Hears.{Hears}
 use Rattle.cec_bits.proofs.Following.{empty_kept}
 use Rattle.cec_bits.proofs.receiver.Receiver.new.Goals as goal

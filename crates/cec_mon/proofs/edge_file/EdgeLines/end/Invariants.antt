@@ -1,5 +1,5 @@
 use Rattle.std.proofs.Common.{◌≡◌, ◌+◌, ◌≤◌, length}
-use Rattle.cec_words.specs.Lines.{lines_of}
+use Rattle.hdmi_core.specs.Lines.{lines_of}
 use Rattle.cec_mon.specs.EdgeFile.{end_read}
 use Rattle.cec_mon.proofs.edge_file.EdgeLines.end.Given as goal
 

@@ -1,7 +1,7 @@
 use Rattle.std.proofs.Common.{List, Ok, ◌++◌, subst}
 use Rattle.std.specs.List.{flat_map}
 use Rattle.cec_device.specs.State.{State}
-use Rattle.cec_words.specs.Cut.{WrittenText}
+use Rattle.hdmi_core.specs.Cut.{WrittenText}
 use Rattle.cec_trace.specs.StateText.{state_line}
 use Rattle.cec_trace.specs.TraceText.{end_line}
 use Rattle.cec_run.specs.Run.{end_told}

@@ -1,6 +1,6 @@
 use Rattle.std.proofs.Common.{arith}
 use Rattle.cec_step.specs.Ready.{point_of}
-use Rattle.cec_step.specs.Steps.{passed}
+use Rattle.cec_step.specs.Steps.{after_events}
 use Rattle.cec_run.specs.Run.{first_time}
 use Rattle.cec_run.proofs.Advance.{round_begins}
 use Rattle.cec_step.proofs.Rounds.{ready_round}
@@ -10,7 +10,7 @@ pub returns-clause-brings : goal.returns-clause-brings
 returns-clause-brings c =
     let end = c.args.course.now.end in
     let es = c.args.course.now.events.items in
-    let p = passed end (point_of es c.args.self.now) in
+    let p = after_events end (point_of es c.args.self.now) in
     let begins = round_begins end p.net (first_time p.events) c.in_ok-begin.begin c.in_ok-begin.ensures.comes in
     let rest = c.pass_events.ensures.rest in
     let progress = c.round_at-outcome.ensures.progress in
@@ -20,7 +20,7 @@ pub returns-clause-ready : goal.returns-clause-ready
 returns-clause-ready c =
     let end = c.args.course.now.end in
     let es = c.args.course.now.events.items in
-    let p = passed end (point_of es c.args.self.now) in
+    let p = after_events end (point_of es c.args.self.now) in
     let begins = round_begins end p.net (first_time p.events) c.in_ok-begin.begin c.in_ok-begin.ensures.comes in
     let round = c.round_at-outcome in
     ready_round end c.in_ok-begin.begin (point_of es c.pass_events.new.self) round.result round.new.self c.pass_events.ensures.ready begins.1 round.ensures.step round.ensures.progress

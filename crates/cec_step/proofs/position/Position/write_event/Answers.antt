@@ -1,7 +1,7 @@
 use Rattle.std.proofs.Common.{rules, ◌≡◌, ◌∙◌, ◌+◌, ◌∷◌, List, drop, ap, sym, subst, refl}
 use Rattle.cec_step.specs.Ready.{first_text, point_of}
 use Rattle.cec_asm.specs.declared.script.TimedEvent.{TimedEvent}
-use Rattle.cec_words.specs.Cut.{WrittenText}
+use Rattle.hdmi_core.specs.Cut.{WrittenText}
 use Rattle.cec_step.proofs.Passing.{drop_next, ready_event}
 use Rattle.cec_step.proofs.position.Position.write_event.Goals as goal
 

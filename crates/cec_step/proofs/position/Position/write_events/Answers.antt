@@ -1,10 +1,10 @@
 use Rattle.std.proofs.Common.{◌≡◌, ◌∙◌, ◌++◌, ℕ, List, length, drop, ap, sym, subst, append_assoc, append-nil}
 use Rattle.cec_step.specs.Ready.{first_text, point_of}
 use Rattle.cec_step.specs.Steps.{passed_text}
-use Rattle.cec_words.specs.Cut.{CutOff, told_count}
+use Rattle.hdmi_core.specs.Cut.{CutOff, told_count}
 use Rattle.std.specs.Io.KnownBytes.{Appends}
 use Rattle.hdmi_core.proofs.CutShort.{Appends-trans}
-use Rattle.cec_words.proofs.Cutting.{cut_again, told_parts}
+use Rattle.hdmi_core.proofs.Cutting.{cut_again, told_parts}
 use Rattle.cec_step.proofs.Passing.{passed_round_text, passed_stop_text}
 use Rattle.cec_step.proofs.Rounds.{text_more}
 use Rattle.cec_step.proofs.position.Position.write_events.Goals as goal

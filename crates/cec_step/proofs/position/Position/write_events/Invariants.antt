@@ -1,6 +1,6 @@
 use Rattle.std.proofs.Common.{◌≡◌, ℕ, List, ◌++◌, length, drop}
 use Rattle.std.specs.Io.KnownBytes.{Appends}
-use Rattle.cec_words.specs.Cut.{told_count}
+use Rattle.hdmi_core.specs.Cut.{told_count}
 use Rattle.cec_step.specs.Ready.{IsReady, point_of}
 use Rattle.cec_step.specs.Steps.{passed_text}
 use Rattle.cec_step.proofs.position.Position.write_events.Given as goal

@@ -2,8 +2,8 @@ use Rattle.std.proofs.Common.{◌≡◌, ◌∙◌, ℕ, List, Option, true, ap,
 use Rattle.std.specs.Option.{option_map}
 use Rattle.hdmi_blocks.specs.declared.edid.Edid.{Edid}
 use Rattle.cec_asm.specs.Script.{course_of}
-use Rattle.cec_net.specs.State.{started}
-use Rattle.cec_trace.specs.Root.{IsRoot}
+use Rattle.cec_net.specs.State.{first_net}
+use Rattle.hdmi_blocks.specs.Root.{IsRoot}
 use Rattle.cec_step.specs.Ready.{IsReady, point_of}
 use Rattle.cec_step.specs.declared.position.Position.{Position}
 use Rattle.cec_step.proofs.Started.{begins_with, has_address, no_root_refused, ready_start, stepper_at}
@@ -19,7 +19,7 @@ invariant_of-result c =
     ] in
     let script = course_of c.args.script in
     let at : c.in_ok-last.last.value ≡ record { net = c.new-2.result; applied = 0; is_first = true } = c.in_ok-last.ensures.ok in
-    let point = ap (λ (p : Position). point_of script.events p) at ∙ ap (begins_with script.events) (c.new-2.ensures ∙ ap (started c.args.topology.tree) c.to_pulses.ensures) in (
+    let point = ap (λ (p : Position). point_of script.events p) at ∙ ap (begins_with script.events) (c.new-2.ensures ∙ ap (first_net c.args.topology.tree) c.to_pulses.ensures) in (
       has_address bytes c.match-root_of.edid root,
       subst (IsReady script.end) (sym point) (ready_start c.args.topology.tree script c.requires.some c.requires.script),
       tt,
@@ -34,5 +34,5 @@ returns c =
     ] in
     let script = course_of c.args.script in
     let at : c.in_ok-last.last.value ≡ record { net = c.new-2.result; applied = 0; is_first = true } = c.in_ok-last.ensures.ok in
-    let point = ap (λ (p : Position). point_of script.events p) at ∙ ap (begins_with script.events) (c.new-2.ensures ∙ ap (started c.args.topology.tree) c.to_pulses.ensures) in
+    let point = ap (λ (p : Position). point_of script.events p) at ∙ ap (begins_with script.events) (c.new-2.ensures ∙ ap (first_net c.args.topology.tree) c.to_pulses.ensures) in
     (c.match-root_of.edid, root, ap (stepper_at (record { edid = c.match-root_of.edid; events = script.events; end = script.end })) point)

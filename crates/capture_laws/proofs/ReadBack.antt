@@ -1,0 +1,201 @@
+-- A run's edge file is read back.
+use Rattle.std.proofs.Common.{◌≡◌, ℕ, ◌+◌, ◌-◌, ◌<◌, ◌≤◌, ◌==◌, ◌&&◌, ◌||◌, not, max, Bool, true, false, cond, nat_lt, nat_le, List, [], ◌∷◌, ◌++◌, map, Option, Some, Ok, codes, refl, sym, ap, ◌∙◌, arith, append_assoc}
+use Rattle.std.proofs.Math.Path.{fun_ext}
+use Rattle.std.proofs.lemmas.Bool.{false≢true}
+use Rattle.std.proofs.lemmas.Bool.Decides.{nat_tests}
+use Rattle.std.specs.Fmt.{decimal}
+use Rattle.cec_wave.specs.declared.Stretch.{Stretch}
+use Rattle.cec_wave.specs.Line.{covers, line_of, IsWaveFrom}
+use Rattle.cec_bits.specs.Readings.{readings_of}
+use Rattle.hdmi_core.specs.Lines.{lines_of}
+use Rattle.cec_trace.specs.EdgeText.{edge_lines}
+use Rattle.cec_trace.specs.TraceText.{end_line}
+use Rattle.cec_run.proofs.WholeLine as runs
+use Rattle.cec_run.proofs.OneRun.{runs_close_soon, texts_have_one_run, traces_have_parts}
+use Rattle.cec_run.specs.OneRun.{rounds_of_line, Part, OfEvent, OfRound, part_rounds}
+use Rattle.cec_run.specs.Run.{start}
+use Rattle.cec_net.specs.State.{first_net}
+use Rattle.std.specs.List.{flat_map}
+use Rattle.cec_signal.specs.Edges.{edges_of}
+use Rattle.cec_line.specs.declared.format.Format.TheVariants.{Edges}
+use Rattle.cec_run.specs.declared.run.Telling.TheVariants.{Line}
+use Rattle.cec_asm.proofs.Sound.{scripts_are_sound}
+use Rattle.cec_wire.specs.declared.Outcome.{Outcome}
+use Rattle.cec_wire.specs.Alone.{outcome_listed}
+use Rattle.cec_text.specs.ReadingText.{reading_line}
+use Rattle.cec_mon.specs.Watch.{readings_text}
+use Rattle.cec_mon.specs.EdgeFile.{edge_line_of, edges_read, end_read, file_of, read_line, with_edge}
+use Rattle.cec_signal.specs.Edges.{level_at}
+use Rattle.cec_mon.specs.declared.edge_file.EdgeLine.{EdgeLine}
+use Rattle.cec_mon.specs.declared.edge_file.EdgeLine.TheVariants.{Edge as EdgeLineOf, End}
+use Rattle.capture_laws.specs.Capture.{part_monitored, EdgeFilesAreReadBack, FilesOfRunsHaveTheirReadings, MonitorsTellTraces}
+use Rattle.cec_signal.proofs.Texts.{line_before}
+use Rattle.capture_laws.proofs.Texts.{IsWithout, more_without, one_without, timed, timed_line, timed_plain, timed_told}
+
+-- ---- the text
+
+-- one line of the file, and what is after it
+read_timed : (t : ℕ) (mark rest : List ℕ) (number : ℕ) (is_low : Bool) (from : ℕ) (line : Option EdgeLine) → t ≤ 2000000000000
+    → IsWithout 10 mark → edge_line_of (timed t mark) ≡ line
+    → edges_read (lines_of (timed t mark ++ 10 ∷ rest)) number is_low from
+    ≡ read_line number is_low from line (λ e. edges_read (lines_of rest) (number + 1) e.low (e.at + 1)) (λ t. end_read (lines_of rest) (number + 1) t)
+read_timed t mark rest number is_low from line low plain is =
+    rw (line_before (timed t mark) rest (timed_plain t mark (omega arith) plain)) (rw (timed_told t mark (omega arith)) (rw is refl))
+
+fall_read : (t : ℕ) (rest : List ℕ) (number from : ℕ) → t ≤ 2000000000000 → from ≤ t
+    → edges_read (lines_of (timed t (codes "0") ++ 10 ∷ rest)) number false from
+    ≡ with_edge (record { at = t; low = true }) (edges_read (lines_of rest) (number + 1) true (t + 1))
+fall_read t rest number from low after =
+    let turn : nat_le from t ≡ true = grind (arith, nat_tests) in
+    read_timed t (codes "0") rest number false from (Some (EdgeLineOf (record { at = t; low = true }))) low (one_without 10 48 refl) (timed_line t (codes "0") low (one_without 32 48 refl))
+    ∙ rw turn refl
+
+rise_read : (t : ℕ) (rest : List ℕ) (number from : ℕ) → t ≤ 2000000000000 → from ≤ t
+    → edges_read (lines_of (timed t (codes "1") ++ 10 ∷ rest)) number true from
+    ≡ with_edge (record { at = t; low = false }) (edges_read (lines_of rest) (number + 1) false (t + 1))
+rise_read t rest number from low after =
+    let turn : nat_le from t ≡ true = grind (arith, nat_tests) in
+    read_timed t (codes "1") rest number true from (Some (EdgeLineOf (record { at = t; low = false }))) low (one_without 10 49 refl) (timed_line t (codes "1") low (one_without 32 49 refl))
+    ∙ rw turn refl
+
+end_without : (b : ℕ) → (101 == b) ≡ false → (110 == b) ≡ false → (100 == b) ≡ false → IsWithout b (codes "end")
+end_without b e n d = more_without b 101 (110 ∷ 100 ∷ []) e (more_without b 110 (100 ∷ []) n (one_without b 100 d))
+
+end_read_back : (t number from : ℕ) → t ≤ 2000000000000 → from ≤ t + 1
+    → edges_read (lines_of (timed t (codes "end") ++ 10 ∷ [])) number false from ≡ Ok (record { edges = []; end = t })
+end_read_back t number from low after =
+    let turn : nat_le from (t + 1) ≡ true = grind (arith, nat_tests) in
+    read_timed t (codes "end") [] number false from (Some (End t)) low (end_without 10 refl refl refl) (timed_line t (codes "end") low (end_without 32 refl refl refl))
+    ∙ rw turn refl
+
+rise_parted : (b e m : List ℕ) → ((b ++ 32 ∷ 49 ∷ 10 ∷ []) ++ e) ++ m ≡ (b ++ 32 ∷ 49 ∷ []) ++ 10 ∷ (e ++ m)
+rise_parted [] e m = refl
+rise_parted (x ∷ b) e m = ap (λ l. x ∷ l) (rise_parted b e m)
+
+parted : (a b e m : List ℕ) → ((a ++ 32 ∷ 48 ∷ 10 ∷ (b ++ 32 ∷ 49 ∷ 10 ∷ [])) ++ e) ++ m ≡ (a ++ 32 ∷ 48 ∷ []) ++ 10 ∷ ((b ++ 32 ∷ 49 ∷ []) ++ 10 ∷ (e ++ m))
+parted [] b e m = ap (λ l. 32 ∷ 48 ∷ 10 ∷ l) (rise_parted b e m)
+parted (x ∷ a) b e m = ap (λ l. x ∷ l) (parted a b e m)
+
+-- the text of a stretch before another text
+stretch_before : (s : Stretch) (ss : List Stretch) (more : List ℕ)
+    → edge_lines (s ∷ ss) ++ more ≡ timed s.from (codes "0") ++ 10 ∷ (timed s.to (codes "1") ++ 10 ∷ (edge_lines ss ++ more))
+stretch_before s ss more = parted (decimal s.from) (decimal s.to) (edge_lines ss) more
+
+end_text : (end : ℕ) → end_line end ≡ timed end (codes "end") ++ 10 ∷ []
+end_text end = sym (append_assoc (decimal end) (codes " end") (codes "\n"))
+
+-- no stretch goes past the end
+abbrev pub EndsBy : ℕ → List Stretch → Type 0
+EndsBy end [] = Unit {0}
+EndsBy end (s ∷ ss) = (s.to ≤ end) × EndsBy end ss
+
+read_back : (ss : List Stretch) (end number from : ℕ) → IsWaveFrom from ss → EndsBy end ss → from ≤ end + 1 → end ≤ 2000000000000
+    → edges_read (lines_of (edge_lines ss ++ end_line end)) number false from ≡ Ok (record { edges = edges_of ss; end = end })
+read_back [] end number from wave by after low = rw (end_text end) (end_read_back end number from low after)
+read_back (s ∷ ss) end number from wave by after low =
+    let more = edge_lines ss ++ end_line end in
+    let again = read_back ss end (number + 1 + 1) (s.to + 1) wave.2 by.1 (let b = by.0 in omega arith) low in
+    ap (λ text. edges_read (lines_of text) number false from) (stretch_before s ss (end_line end))
+    ∙ fall_read s.from (timed s.to (codes "1") ++ 10 ∷ more) number from (let b = by.0 in let w = wave.1 in omega arith) wave.0
+    ∙ ap (with_edge (record { at = s.from; low = true })) (
+    rise_read s.to more (number + 1) (s.from + 1) (let b = by.0 in omega arith) (let w = wave.1 in omega arith)
+    ∙ ap (with_edge (record { at = s.to; low = false })) again)
+
+-- ---- the line
+
+-- a wave is high before it begins
+later : (ss : List Stretch) (from u : ℕ) → IsWaveFrom from ss → u < from → line_of ss u ≡ false
+later [] from u wave h = refl
+later (s ∷ ss) from u wave h =
+    let early : u < s.from = let w = wave.0 in omega arith in
+    let rest = later ss (s.to + 1) u wave.2 (let w = wave.1 in omega arith) in
+    let here : covers s u ≡ false = grind (arith, nat_tests) in
+    rw here rest
+
+at_or_after : (from u : ℕ) → nat_le from u ≡ not (nat_lt u from)
+at_or_after from u = grind (arith, nat_tests)
+
+pick : (a b l r : Bool) → l ≡ r → (a ≡ true → r ≡ false) → cond a false (cond b true l) ≡ ((not a && b) || r)
+pick true b l r e early = sym (early refl)
+pick false true l r e early = refl
+pick false false l r e early = e
+
+less : (u from : ℕ) → nat_lt u from ≡ true → u < from
+less u from h = grind (arith, nat_tests)
+
+pub same_line : (ss : List Stretch) (from u : ℕ) → IsWaveFrom from ss → level_at false (edges_of ss) u ≡ line_of ss u
+same_line [] from u wave = refl
+same_line (s ∷ ss) from u wave =
+    let again = same_line ss (s.to + 1) u wave.2 in
+    let early : nat_lt u s.from ≡ true → line_of ss u ≡ false = λ h.
+    later ss (s.to + 1) u wave.2 (let w = wave.1 in let l = less u s.from h in omega arith) in
+    rw (at_or_after s.from u) (pick (nat_lt u s.from) (nat_lt u s.to) (level_at false (edges_of ss) u) (line_of ss u) again early)
+
+-- ---- the end
+
+or_left : (a b : Bool) → (a || b) ≡ false → a ≡ false
+or_left true b h = cc
+or_left false b h = refl
+
+or_right : (a b : Bool) → (a || b) ≡ false → b ≡ false
+or_right true b h = cc
+or_right false b h = h
+
+low_last : (s : Stretch) → s.from < s.to → covers s (s.to - 1) ≡ true
+low_last s h = grind (arith, nat_tests)
+
+by_end : (b : Bool) (to end : ℕ) → nat_le to end ≡ b → (end < to → ⊥) → to ≤ end
+by_end true to end e h = grind (arith, nat_tests)
+by_end false to end e h = absurd (h (grind (arith, nat_tests)))
+
+pub ends_by : (ss : List Stretch) (from end : ℕ) → IsWaveFrom from ss → ((u : ℕ) → end ≤ u → line_of ss u ≡ false) → EndsBy end ss
+ends_by [] from end wave over = tt
+ends_by (s ∷ ss) from end wave over = (
+  by_end (nat_le s.to end) s.to end refl
+      (λ h. false≢true (sym (or_left (covers s (s.to - 1)) (line_of ss (s.to - 1)) (over (s.to - 1) (let w = wave.1 in omega arith))) ∙ low_last s wave.1)),
+  ends_by ss (s.to + 1) end wave.2 (λ u h. or_right (covers s u) (line_of ss u) (over u h)),
+)
+
+pub edge_files_are_read_back : EdgeFilesAreReadBack
+edge_files_are_read_back ss end wave over low = record {
+  file = read_back ss end 1 0 wave (ends_by ss 0 end wave over) (omega arith) low;
+  line = λ u. same_line ss 0 u wave;
+}
+
+pub files_of_runs_have_their_readings : FilesOfRunsHaveTheirReadings
+files_of_runs_have_their_readings tree pulses events end text totals sparse framed told limit =
+    let k = runs.edges_are_the_line tree pulses events end text totals sparse framed told in
+    let last = max end told.run.last.net.close in
+    let soon : told.run.last.net.close ≤ end + 458461 = runs_close_soon (Line Edges) tree pulses events end told.run.turns told.run.body told.run.last sparse told.run.leads in
+    let back = edge_files_are_read_back _ last k.read.wave k.read.over (omega (arith, soon, limit)) in (
+      record { edges = edges_of _; end = last },
+      ap file_of k.whole ∙ back.file,
+      ap (λ line. readings_of line last) (fun_ext back.line) ∙ k.read.readings,
+    )
+
+-- ---- beside the trace
+
+pub lines_of_rounds : (os : List Outcome) → readings_text (map outcome_listed os) ≡ flat_map (λ (o : Outcome). reading_line o.reading) os
+lines_of_rounds [] = refl
+lines_of_rounds (o ∷ os) = ap (λ text. reading_line o.reading ++ text) (lines_of_rounds os)
+
+pub lines_of_parts : (parts : List Part) → flat_map (λ (o : Outcome). reading_line o.reading) (flat_map part_rounds parts) ≡ flat_map part_monitored parts
+lines_of_parts [] = refl
+lines_of_parts (OfEvent at e before ∷ parts) = lines_of_parts parts
+lines_of_parts (OfRound devices o ∷ parts) = ap (λ text. reading_line o.reading ++ text) (lines_of_parts parts)
+
+pub monitors_tell_traces : MonitorsTellTraces
+monitors_tell_traces topology script x y s t p q =
+    let sound = scripts_are_sound q.plan.tree script q.course q.accepted.course_is in
+    let file = files_of_runs_have_their_readings q.plan.tree q.course.pulses q.course.events q.course.end y t sound.sparse sound.framed q.line sound.limit in
+    let one = texts_have_one_run Edges topology script x y s t p q in
+    let made = traces_have_parts p.edid p.course.end (start (first_net p.plan.tree p.course.pulses) p.course.events) x s p.trace in (
+      file.0,
+      file.1,
+      record {
+        parts = made.parts;
+        trace_is = made.whole;
+        monitored_is = ap readings_text file.2 ∙ lines_of_rounds (rounds_of_line Edges topology script y t q)
+            ∙ ap (flat_map (λ (o : Outcome). reading_line o.reading)) (sym one.1 ∙ made.rounds) ∙ lines_of_parts made.parts;
+      },
+    )

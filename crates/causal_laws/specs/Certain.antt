@@ -1,0 +1,101 @@
+-- What is certain of a run before its script is known to the end (this profile's own).
+use Rattle.std.specs.Prelude.{◌≡◌, ℕ, zero, suc, ◌≤◌, ◌<◌, List, [], ◌++◌, All}
+use Rattle.cec_wave.specs.declared.Stretch.{Stretch}
+use Rattle.cec_wave.specs.Line.{IsWave}
+use Rattle.cec_wire.specs.declared.Outcome.{Outcome}
+use Rattle.cec_wave.specs.Pulses.{IsNarrow, AreFarApart}
+use Rattle.hdmi_topo.specs.Node.{Node}
+use Rattle.cec_net.specs.State.{NetState, first_net}
+use Rattle.cec_net.specs.Framed.{AreFramed}
+use Rattle.cec_net.specs.Step.{IsNextRound}
+use Rattle.cec_asm.specs.Script.{AreFramedEvents}
+use Rattle.cec_asm.specs.declared.script.TimedEvent.{TimedEvent}
+use Rattle.cec_run.specs.declared.run.Telling.{Telling}
+use Rattle.cec_run.specs.declared.run.Totals.{Totals}
+use Rattle.cec_run.specs.declared.run.Turn.{Turn}
+use Rattle.cec_run.specs.declared.run.Turn.TheVariants.{Stop, Apply, Round}
+use Rattle.cec_run.specs.Run.{Config, start, start_told, turn_at, IsTurn, IsRunText, Leads}
+
+-- pulses as a script has them, however many
+abbrev pub AreApart : List Stretch → Type 0
+AreApart pulses = All IsNarrow pulses × AreFarApart pulses
+
+-- ---- what may still come
+
+-- a network that knows of more pulses, after those that it knows already
+abbrev pub with_pulses : List Stretch → NetState → NetState
+with_pulses later s = record s { pulses = s.pulses ++ later }
+
+-- a place in a run that knows of more events and pulses
+abbrev pub with_more : List TimedEvent → List Stretch → Config → Config
+with_more events later c = record c { net = with_pulses later c.net; events = c.events ++ events }
+
+-- nothing that comes is for an instant before this one: no event, no pulse, and not the end
+pub record ComesFrom (until : ℕ) (events : List TimedEvent) (later : List Stretch) (end : ℕ) : Type 0 where
+  pub scheduled : All (λ e. until ≤ e.at) events
+  pub begun : All (λ p. until ≤ p.from) later
+  pub over : until ≤ end
+
+-- ---- certain turns
+
+-- A turn is over before an instant: an event that is applied before it (which the turn itself says), or a round that has
+-- closed before it. At the close itself a pulse would still belong to the round.
+abbrev pub IsOverBy : ℕ → Turn → Config → Type 0
+IsOverBy until Stop after = ⊥
+IsOverBy until (Apply at) after = Unit {0}
+IsOverBy until (Round begin) after = after.net.close < until
+
+-- so many turns one after another, of each of which something holds, and their texts one after another
+abbrev pub LeadsIf : (Turn → Config → Type 0) → Telling → ℕ → ℕ → Config → List ℕ → Config → Type 0
+LeadsIf Holds telling until zero c text d = (text ≡ []) × (d ≡ c)
+LeadsIf Holds telling until (suc turns) c text d =
+    (mid : Config) × (told : List ℕ) × (rest : List ℕ) × IsTurn telling until c told mid × Holds (turn_at until c) mid
+    × LeadsIf Holds telling until turns mid rest d × (text ≡ told ++ rest)
+
+-- each of them over before this instant
+abbrev pub LeadsBy : Telling → ℕ → ℕ → Config → List ℕ → Config → Type 0
+LeadsBy telling until = LeadsIf (IsOverBy until) telling until
+
+-- ---- all that is certain
+
+-- What comes next is not over before an instant: nothing comes before it, or a round that closes then or later.
+abbrev pub IsHeldBy : ℕ → NetState → Turn → Type 0
+IsHeldBy until net Stop = Unit {0}
+IsHeldBy until net (Apply at) = ⊥
+IsHeldBy until net (Round begin) = (outcome : Outcome) × (after : NetState) × IsWave outcome.wave × IsNextRound net begin outcome after × (until ≤ after.close)
+
+abbrev pub IsHeld : ℕ → Config → Type 0
+IsHeld until c = IsHeldBy until c.net (turn_at until c)
+
+-- all turns from one place on that are over before an instant, and what they report
+pub record AllBefore (telling : Telling) (until : ℕ) (c : Config) (text : List ℕ) (d : Config) : Type 0 where
+  pub turns : ℕ
+  pub leads : LeadsBy telling until turns c text d
+  pub held : IsHeld until d
+
+-- ---- the laws
+
+-- The turns that are over before an instant are turns of each run that may still come of what is known, whatever comes for
+-- that instant or later: they report the same, and lead to the same place.
+abbrev pub TurnsAreCertain : Type 0
+TurnsAreCertain = (telling : Telling) (until end turns : ℕ) (c d : Config) (text : List ℕ) (events : List TimedEvent) (later : List Stretch)
+    → AreApart c.net.pulses → AreFramed c.net → AreFramedEvents c.events → ComesFrom until events later end
+    → LeadsBy telling until turns c text d → Leads telling end turns (with_more events later c) text (with_more events later d)
+
+-- So they are over before each later instant too, with whatever has come by then.
+abbrev pub TurnsStayCertain : Type 0
+TurnsStayCertain = (telling : Telling) (until on turns : ℕ) (c d : Config) (text : List ℕ) (events : List TimedEvent) (later : List Stretch)
+    → AreApart c.net.pulses → AreFramed c.net → AreFramedEvents c.events → ComesFrom until events later on
+    → LeadsBy telling until turns c text d → LeadsBy telling on turns (with_more events later c) text (with_more events later d)
+
+-- What is reported of a run by them is the front of what every such run reports in the end.
+abbrev pub ToldIsFront : Type 0
+ToldIsFront = (telling : Telling) (tree : List Node) (pulses later : List Stretch) (known events : List TimedEvent) (until end turns : ℕ) (d : Config)
+    (body whole : List ℕ) (totals : Totals) → AreApart pulses → AreFramedEvents known → ComesFrom until events later end
+    → LeadsBy telling until turns (start (first_net tree pulses) known) body d
+    → IsRunText telling end (start (first_net tree (pulses ++ later)) (known ++ events)) whole totals
+    → (more : List ℕ) × (whole ≡ (start_told telling (first_net tree pulses) ++ body) ++ more)
+
+-- All turns that are over before an instant tell one text, and lead to one place.
+abbrev pub AllBeforeIsOne : Type 0
+AllBeforeIsOne = (telling : Telling) (until : ℕ) (c d e : Config) (text other : List ℕ) → AllBefore telling until c text d → AllBefore telling until c other e → (text ≡ other) × (d ≡ e)

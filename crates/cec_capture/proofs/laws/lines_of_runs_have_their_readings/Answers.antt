@@ -1,5 +1,0 @@
-use Rattle.cec_capture.proofs.Formats as lemmas
-use Rattle.cec_capture.proofs.laws.lines_of_runs_have_their_readings.Goals as goal
-
-pub returns : goal.returns
-returns c = lemmas.lines_of_runs_have_their_readings
