@@ -1,5 +1,6 @@
-use Rattle.std.proofs.Common.{◌≡◌, ◌<◌, length, get_or, ap, arith, ◌∙◌}
+use Rattle.std.proofs.Common.{◌≡◌, ◌<◌, ◌≤◌, ◌+◌, length, get_or, ap, arith, ◌∙◌}
 use Rattle.hdmi_edid.specs.Base.{base_bytes}
+use Rattle.hdmi_blocks.proofs.OneEdid.{ext_len}
 use Rattle.hdmi_blocks.proofs.Reading.{room, written_more}
 use Rattle.hdmi_blocks.proofs.bytes.edid_to_bytes.Goals as goal
 
@@ -8,9 +9,11 @@ append-requires-in-loop-ext c =
     let items = ap length c.as_slice-ext-items.ensures.value in
     let test = c.loop-ext-test.true in
     let there : c.loop-ext.ext-index < length c.args.edid.now.extensions.items = omega (arith, items, test) in
-    let room = room c.args.edid.now c.loop-ext.ext-index c.loop-ext.bytes.items c.loop-ext.invariant there in
-    let block = ap length c.write_ext.ensures in
-    (omega arith, omega (arith, room))
+    let left = room c.args.edid.now c.loop-ext.ext-index c.loop-ext.bytes.items c.loop-ext.invariant there in
+    let same = ap length c.write_ext.ensures in
+    let long = ext_len c.ext-item.result in
+    let all : length c.loop-ext.bytes.items + length c.write_ext.result ≤ 512 = omega (arith, left, same, long) in
+    (omega arith, all)
 
 pub loop-ext-preserved : goal.loop-ext-preserved
 loop-ext-preserved c =
