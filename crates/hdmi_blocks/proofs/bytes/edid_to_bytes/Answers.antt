@@ -25,5 +25,5 @@ loop-ext-preserved c =
     let test = c.loop-ext-test.true in
     let there : i < length xs = omega (arith, items, test) in
     let item : x ≡ get_or xs i x = c.ext-item.is ∙ ap (λ ys. get_or ys i x) value in
-    written_more (base_bytes c.args.edid.now.base) xs i x c.loop-ext.bytes.items c.append-in-loop-ext.new.bytes.items c.write_ext.result c.append-in-loop-ext.ensures.items
+    written_more (base_bytes c.args.edid.now.base) xs i x c.loop-ext.bytes.items c.append-in-loop-ext.new.block.items c.write_ext.result c.append-in-loop-ext.ensures.items
     c.loop-ext.invariant c.write_ext.ensures there item
