@@ -1,5 +1,5 @@
 -- What is put into a room, and EDIDs of their parts.
-use Rattle.std.proofs.Common.{drop-drop, refl, zero, suc, [], ◌∷◌, slice_get, append_assoc, length-append, take-append-drop, ◌≡◌, ◌↔◌, ℕ, ◌+◌, ◌<◌, ◌≤◌, ◌++◌, List, length, take, drop, flat_map, inl, inr, Some, None, Result, Ok, Err, IsErr, arith, ap, sym, ◌∙◌, subst}
+use Rattle.std.proofs.Common.{drop-drop, refl, zero, suc, [], ◌∷◌, slice_get, append_assoc, length-append, take-append-drop, ◌≡◌, ◌≢◌, ℕ, ◌+◌, ◌<◌, ◌≤◌, ◌++◌, List, length, take, drop, flat_map, inl, inr, Some, None, Option, Result, Ok, arith, ap, sym, ◌∙◌, subst}
 use Rattle.std.proofs.lemmas.Bool.{cases_lt}
 use Rattle.std.proofs.lemmas.Grind.{flat_map-append}
 use Rattle.std.proofs.lemmas.List.{length-drop, take_all}
@@ -15,14 +15,15 @@ use Rattle.hdmi_blocks.specs.Bytes.{edid_bytes}
 use Rattle.hdmi_blocks.specs.Passing.{passed_extensions, passed_on_bytes}
 use Rattle.hdmi_blocks.specs.declared.bytes.EdidError.{EdidError}
 use Rattle.hdmi_blocks.specs.declared.edid.Edid.{Edid}
-use Rattle.hdmi_cta.specs.declared.hdmi.NoHdmiBlock.{NoHdmiBlock}
 use Rattle.hdmi_edtext.proofs.Writes.{text_more}
 use Rattle.hdmi_edtext.specs.Lines.{edid_text, part_text}
 use Rattle.hdmi_lines.specs.Text.{line_text}
 use Rattle.hdmi_lines.specs.declared.line.Line.{Line}
 use Rattle.hdmi_blocks.specs.declared.passing.AudioFrom.{AudioFrom}
-use Rattle.hdminet_room.specs.Room.{IsPut}
+use Rattle.hdminet_room.specs.Codes.{number_of}
+use Rattle.hdminet_room.specs.Room.{IsPut, IsRefused}
 use Rattle.hdminet_room.specs.declared.answer.Answer.{Answer}
+use Rattle.hdminet_room.specs.declared.code.Code.TheVariants.{EdidNoHdmiBlock}
 
 -- bytes that are put leave no refusal but that of the room
 pub put_code : (text old new : List ℕ) (answer : Answer) → IsPut text old new answer → answer.code ≤ 1
@@ -42,31 +43,25 @@ edid_of base extensions bytes spelled counted few = (record { base = base; exten
 one_base : (a b : Base) → (let r : Result Base EdidError = Ok a in r) ≡ Ok b → a ≡ b
 one_base a b e = cc
 
--- an EDID that is passed on is put into the room
-pub passed_put : (base : Base) (xs ys : List Ext) (e : Edid) (audio named : AudioFrom) (address numbered : Phys) (bytes old new : List ℕ) (answer : Answer)
-    → (let r : Result Base EdidError = Ok base in r) ≡ Ok e.base → xs ≡ ys → ys ≡ e.extensions.items → bytes ≡ base_bytes base ++ passed_extensions audio address xs
-    → audio ≡ named → address ≡ numbered → IsPut bytes old new answer → IsPut (passed_on_bytes named numbered e) old new answer
-passed_put base xs ys e audio named address numbered bytes old new answer only same listed spelled same_audio same_address put =
+-- an EDID with an address is passed on, and put into the room
+pub passed_put : (base : Base) (xs ys : List Ext) (e : Edid) (a : Phys) (audio named : AudioFrom) (address numbered : Phys) (old new : List ℕ) (answer : Answer)
+    → (let r : Result Base EdidError = Ok base in r) ≡ Ok e.base → xs ≡ ys → ys ≡ e.extensions.items → audio ≡ named → address ≡ numbered → edid_address e ≡ Some a
+    → (first_address xs ≢ None → IsPut (base_bytes base ++ passed_extensions audio address xs) old new answer) → IsPut (passed_on_bytes named numbered e) old new answer
+passed_put base xs ys e a audio named address numbered old new answer only same listed same_audio same_address some put =
+    let there : first_address xs ≢ None = λ none. (let no : Some a ≡ None = sym some ∙ sym (ap first_address (same ∙ listed)) ∙ none in cc) in
     subst (λ b. IsPut (base_bytes b ++ passed_extensions named numbered e.extensions.items) old new answer) (one_base base e.base only)
     (subst (λ zs. IsPut (base_bytes base ++ passed_extensions named numbered zs) old new answer) (same ∙ listed)
-    (subst (λ a. IsPut (base_bytes base ++ passed_extensions named a xs) old new answer) same_address
-    (subst (λ a. IsPut (base_bytes base ++ passed_extensions a address xs) old new answer) same_audio
-    (subst (λ y. IsPut y old new answer) spelled put))))
+    (subst (λ p. IsPut (base_bytes base ++ passed_extensions named p xs) old new answer) same_address
+    (subst (λ from. IsPut (base_bytes base ++ passed_extensions from address xs) old new answer) same_audio (put there))))
 
--- an EDID that is passed on has an address
-pub not_absent : (xs ys : List Ext) (e : Edid) (p : ArrayVec ℕ) → xs ≡ ys → ys ≡ e.extensions.items
-    → (IsErr (let r : Result (ArrayVec ℕ) NoHdmiBlock = Ok p in r) ↔ (first_address xs ≡ None)) → edid_address e ≡ None → ⊥
-not_absent xs ys e p same listed refused none =
-    let is : IsErr (let r : Result (ArrayVec ℕ) NoHdmiBlock = Ok p in r) = refused.1 (ap first_address (same ∙ listed) ∙ none) in
-    cc
-
--- and one with an address is passed on
-pub not_refused : (xs ys : List Ext) (e : Edid) (a : Phys) (cause : NoHdmiBlock) → xs ≡ ys → ys ≡ e.extensions.items
-    → (IsErr (let r : Result (ArrayVec ℕ) NoHdmiBlock = Err cause in r) ↔ (first_address xs ≡ None)) → edid_address e ≡ Some a → ⊥
-not_refused xs ys e a cause same listed refused some =
-    let none : first_address xs ≡ None = refused.0 refl in
-    let is : Some a ≡ None = sym some ∙ sym (ap first_address (same ∙ listed)) ∙ none in
-    cc
+-- it is refused for nothing else than that it has none
+pub passed_refused : (xs : List Ext) (text old new : List ℕ) (answer : Answer) → (first_address xs ≢ None → IsPut text old new answer)
+    → (first_address xs ≡ None → IsRefused EdidNoHdmiBlock 0 old new answer) → 1 < answer.code → answer.code ≢ number_of EdidNoHdmiBlock → ⊥
+passed_refused xs text old new answer put absent more other = by (first_address xs) refl
+  where
+    by : (o : Option Phys) → first_address xs ≡ o → ⊥
+    by None e = other (ap (λ (r : Answer). r.code) (absent e).0)
+    by (Some a) e = no_refusal text old new answer (put (λ none. let no : Some a ≡ None = sym e ∙ none in cc)) more
 
 -- the text of the parts of an EDID is its text
 pub text_put : (base : Base) (xs ys : List Ext) (e : Edid) (old new : List ℕ) (answer : Answer)

@@ -1,8 +1,9 @@
 //! EDIDs: what is wrong with them, their texts, and what a port passes on.
 ghost use Rattle.std.specs.Prelude.{◌≡◌, ◌≢◌, ◌≤◌, ◌<◌, ◌+◌, ◌++◌, ◌/◌, ◌%◌, Some, None, length, take, drop};
-ghost use Rattle.hdmi_blocks.specs.Address.{edid_address};
+ghost use Rattle.hdmi_edid.specs.Base.{base_bytes};
+ghost use Rattle.hdmi_blocks.specs.Address.{edid_address, first_address};
 ghost use Rattle.hdmi_blocks.specs.Bytes.{edid_bytes};
-ghost use Rattle.hdmi_blocks.specs.Passing.{passed_on_bytes};
+ghost use Rattle.hdmi_blocks.specs.Passing.{passed_extensions, passed_on_bytes};
 ghost use Rattle.hdmi_blocks.specs.declared.edid.Edid.{Edid as EdidValue};
 ghost use Rattle.hdmi_core.specs.declared.phys.Phys.{Phys as PhysValue};
 ghost use Rattle.hdmi_edtext.specs.Lines.{edid_text, part_text};
@@ -127,6 +128,24 @@ fn audio_of(from_amplifier: bool) -> AudioFrom
     }
 }
 
+// Puts what a port passes on of the EDID with this base block and these extensions, where it has an HDMI block.
+fn put_passed(
+    base: &Base,
+    extensions: &[Ext],
+    audio: AudioFrom,
+    address: Phys,
+    room: &mut [u8],
+) -> Answer
+    requires { length extensions.now ≤ 3 }
+    ensures put { first_address extensions.now ≢ None → IsPut (base_bytes base.now ++ passed_extensions audio address extensions.now) room.old room.new result }
+    ensures absent { first_address extensions.now ≡ None → IsRefused EdidNoHdmiBlock 0 room.old room.new result }
+{
+    match write_passed_parts(base, extensions, audio, address) {
+        Ok(passed) => put(passed.as_slice(), room),
+        Err(_) => refused(Code::EdidNoHdmiBlock, 0),
+    }
+}
+
 /// Puts the EDID into the room that a port with this physical address passes on of one: as 0x1200 for 1.2.0.0, with the
 /// audio of an amplifier where one is on the way (HDMI 1.4, section 8.7.3). It is as long as the one that is read.
 ///
@@ -145,13 +164,10 @@ pub extern "C" fn hdminet_edid_port(
     ensures refused { 1 < result.code → result.code ≢ number_of EdidNoHdmiBlock → IsEdidRefused bytes.now room.old room.new result }
 {
     let mut extensions = ArrayVec::new();
-    let base = match read_parts(bytes, &mut extensions) {
-        Ok(base) => base,
-        Err(error) => return refused(edid_code(error), 0),
-    };
     let audio = audio_of(from_amplifier);
-    match write_passed_parts(&base, extensions.as_slice(), audio, phys_of(address)) {
-        Ok(passed) => put(passed.as_slice(), room),
-        Err(_) => refused(Code::EdidNoHdmiBlock, 0),
+    let phys = phys_of(address);
+    match read_parts(bytes, &mut extensions) {
+        Ok(base) => put_passed(&base, extensions.as_slice(), audio, phys, room),
+        Err(error) => refused(edid_code(error), 0),
     }
 }
