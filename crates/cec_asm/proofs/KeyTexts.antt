@@ -9,7 +9,7 @@ use Rattle.cec_feature.specs.declared.keys.Key.TheVariants.{Play, Stop, Eject, L
 use Rattle.cec_feature.specs.KeyWords.{key_named, key_text, key_words, word_of_key}
 use Rattle.cec_feature.specs.declared.key_word.KeyWord.{KeyWord}
 use Rattle.cec_feature.specs.declared.key_word.KeyWord.TheVariants as the
-use Rattle.cec_asm.specs.Keys.{control_of, destination_of, if_named, key_alone, key_of, key_with, key_or_cause, language_of, port_key, remote_by, remote_key, switch_of, unfit}
+use Rattle.cec_asm.specs.Keys.{control_of, destination_of, key_alone, key_of, key_with, key_or_cause, language_of, port_key, remote_by, remote_key, switch_of, unfit, of_one, of_two, of_three}
 use Rattle.cec_asm.specs.declared.fault.LineFault.{LineFault}
 
 -- the word of a key that these words spell is this one
@@ -83,18 +83,20 @@ to_has fault the.VolumeUp to code key e = cc
 to_has fault the.VolumeDown to code key e = cc
 to_has fault the.Mute to code key e = cc
 
-named_has : (fault : LineFault) (read : KeyWord → Result Key LineFault) → ((word : KeyWord) → HasWord word (read word)) → (text : List ℕ) (o : Option KeyWord) → key_named text ≡ o
-    → (key : Key) → if_named fault o read ≡ Ok key → text ≡ key_text (word_of_key key)
-named_has fault read h text None n key e = cc
-named_has fault read h text (Some word) n key e = word_of_found key_text key_words text word n ∙ ap key_text (sym (h word key e))
+one_has : (fault : LineFault) (text : List ℕ) (o : Option KeyWord) → key_named text ≡ o → (key : Key) → of_one fault o ≡ Ok key → text ≡ key_text (word_of_key key)
+one_has fault text None n key e = cc
+one_has fault text (Some word) n key e = word_of_found key_text key_words text word n ∙ ap key_text (sym (alone_has fault word key e))
+
+two_has : (fault : LineFault) (text value : List ℕ) (o : Option KeyWord) → key_named text ≡ o → (key : Key) → of_two fault o value ≡ Ok key → text ≡ key_text (word_of_key key)
+two_has fault text value None n key e = cc
+two_has fault text value (Some word) n key e = word_of_found key_text key_words text word n ∙ ap key_text (sym (with_has fault word value key e))
+
+three_has : (fault : LineFault) (text to code : List ℕ) (o : Option KeyWord) → key_named text ≡ o → (key : Key) → of_three fault o to code ≡ Ok key → text ≡ key_text (word_of_key key)
+three_has fault text to code None n key e = cc
+three_has fault text to code (Some word) n key e = word_of_found key_text key_words text word n ∙ ap key_text (sym (to_has fault word to code key e))
 
 pub begins_with_its_word : (first : List ℕ) (rest : List (List ℕ)) (key : Key) → key_of (first ∷ rest) ≡ Ok key → first ≡ key_text (word_of_key key)
-begins_with_its_word first [] key e =
-    let fault = unfit (first ∷ []) in named_has fault (key_alone fault) (alone_has fault) first (key_named first) refl key e
-begins_with_its_word first (second ∷ []) key e =
-    let fault = unfit (first ∷ second ∷ []) in
-    named_has fault (λ word. key_with fault word second) (λ word. with_has fault word second) first (key_named first) refl key e
-begins_with_its_word first (second ∷ third ∷ []) key e =
-    let fault = unfit (first ∷ second ∷ third ∷ []) in
-    named_has fault (λ word. remote_key fault word second third) (λ word. to_has fault word second third) first (key_named first) refl key e
+begins_with_its_word first [] key e = one_has (unfit (first ∷ [])) first (key_named first) refl key e
+begins_with_its_word first (second ∷ []) key e = two_has (unfit (first ∷ second ∷ [])) first second (key_named first) refl key e
+begins_with_its_word first (second ∷ third ∷ []) key e = three_has (unfit (first ∷ second ∷ third ∷ [])) first second third (key_named first) refl key e
 begins_with_its_word first (second ∷ third ∷ fourth ∷ rest) key e = cc

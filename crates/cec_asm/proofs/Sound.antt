@@ -117,7 +117,7 @@ first_fault-append before (first ∷ pulses) pulse h g =
     let parts = no_first (stretch_fault before first) (first_fault (Some first.to) pulses) h in
     both_none (stretch_fault before first) (first_fault (Some first.to) (pulses ++ pulse ∷ [])) parts.0 (first_fault-append (Some first.to) pulses pulse parts.1 g)
 
-faultless : (pulses : List Stretch) → length pulses ≤ 4096 → first_fault None pulses ≡ None → pulses_fault pulses ≡ None
+pub faultless : (pulses : List Stretch) → length pulses ≤ 4096 → first_fault None pulses ≡ None → pulses_fault pulses ≡ None
 faultless pulses h g = let not_many : nat_lt 4096 (length pulses) ≡ false = grind (arith, nat_tests) in rw not_many g
 
 one_more : (pulses : List Stretch) (pulse : Stretch) → first_fault None pulses ≡ None → stretch_fault (last_end pulses) pulse ≡ None → first_fault None (pulses ++ pulse ∷ []) ≡ None

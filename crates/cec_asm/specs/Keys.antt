@@ -111,14 +111,22 @@ abbrev pub remote_key : LineFault → KeyWord → List ℕ → List ℕ → Resu
 remote_key fault key_words.Remote to code = remote_by (destination_of to) (control_of code)
 remote_key fault _ to code = Err fault
 
-abbrev pub if_named : LineFault → Option KeyWord → (KeyWord → Result Key LineFault) → Result Key LineFault
-if_named fault None read = Err fault
-if_named fault (Some word) read = read word
+abbrev pub of_one : LineFault → Option KeyWord → Result Key LineFault
+of_one fault None = Err fault
+of_one fault (Some word) = key_alone fault word
+
+abbrev pub of_two : LineFault → Option KeyWord → List ℕ → Result Key LineFault
+of_two fault None value = Err fault
+of_two fault (Some word) value = key_with fault word value
+
+abbrev pub of_three : LineFault → Option KeyWord → List ℕ → List ℕ → Result Key LineFault
+of_three fault None to code = Err fault
+of_three fault (Some word) to code = remote_key fault word to code
 
 abbrev pub key_by : LineFault → Option (List ℕ) → Option (List ℕ × List ℕ) → Option (List ℕ × List ℕ × List ℕ) → Result Key LineFault
-key_by fault (Some word) two three = if_named fault (key_named word) (key_alone fault)
-key_by fault None (Some two) three = if_named fault (key_named two.0) (λ word. key_with fault word two.1)
-key_by fault None None (Some three) = if_named fault (key_named three.0) (λ word. remote_key fault word three.1 three.2)
+key_by fault (Some word) two three = of_one fault (key_named word)
+key_by fault None (Some words) three = of_two fault (key_named words.0) words.1
+key_by fault None None (Some words) = of_three fault (key_named words.0) words.1 words.2
 key_by fault None None None = Err fault
 
 -- the key of some words, or the first cause for which they are none

@@ -6,7 +6,7 @@ ghost use Rattle.std.specs.Option.{option_copied};
 ghost use Rattle.cec_feature.specs.KeyWords.{key_named};
 ghost use Rattle.hdmi_core.specs.Number.{number_of};
 ghost use Rattle.hdmi_core.specs.Words.{words_behind};
-ghost use Rattle.cec_asm.specs.Keys.{key_alone, switch_of, language_of, destination_of, code_of, control_of, key_or_cause, port_key, values_of, unfit_by, unfit, key_with, remote_by, remote_key, if_named, key_of};
+ghost use Rattle.cec_asm.specs.Keys.{key_alone, switch_of, language_of, destination_of, code_of, control_of, key_or_cause, port_key, values_of, unfit_by, unfit, key_with, remote_by, remote_key, of_one, of_two, of_three, key_of};
 
 use crate::fault::{LineFault, at_word, misfit};
 use crate::script::ScriptCause;
@@ -187,7 +187,7 @@ fn remote_key(fault: LineFault, word: KeyWord, to: &[u8], code: &[u8]) -> Result
 
 // A key of one word, of a word and what it takes, and of a word and two that it takes.
 fn key_of_one(fault: LineFault, word: &[u8]) -> Result<Key, LineFault>
-    ensures { result ≡ if_named fault (key_named word.now) (key_alone fault) }
+    ensures { result ≡ of_one fault (key_named word.now) }
 {
     match KeyWord::named(word) {
         Some(word) => key_alone(fault, word),
@@ -196,7 +196,7 @@ fn key_of_one(fault: LineFault, word: &[u8]) -> Result<Key, LineFault>
 }
 
 fn key_of_two(fault: LineFault, word: &[u8], value: &[u8]) -> Result<Key, LineFault>
-    ensures { result ≡ if_named fault (key_named word.now) (λ word. key_with fault word value.now) }
+    ensures { result ≡ of_two fault (key_named word.now) value.now }
 {
     match KeyWord::named(word) {
         Some(word) => key_with(fault, word, value),
@@ -205,7 +205,7 @@ fn key_of_two(fault: LineFault, word: &[u8], value: &[u8]) -> Result<Key, LineFa
 }
 
 fn key_of_three(fault: LineFault, word: &[u8], to: &[u8], code: &[u8]) -> Result<Key, LineFault>
-    ensures { result ≡ if_named fault (key_named word.now) (λ word. remote_key fault word to.now code.now) }
+    ensures { result ≡ of_three fault (key_named word.now) to.now code.now }
 {
     match KeyWord::named(word) {
         Some(word) => remote_key(fault, word, to, code),

@@ -15,12 +15,12 @@ pub struct List {
 }
 
 impl List {
-    /// A list of which the label stands, made of these pieces, in so many columns.
-    pub fn begin(draft: &mut Draft, label: &[&str], columns: usize) -> List {
+    /// A list of which the label stands, a word and what it takes, in so many columns.
+    pub fn begin(draft: &mut Draft, word: &str, takes: &str, columns: usize) -> List {
         draft.add("  ");
-        let before = draft.len();
-        draft.add_all(label);
-        let length = draft.len().saturating_sub(before);
+        draft.add(word);
+        draft.add(takes);
+        let length = word.len().saturating_add(takes.len());
         draft.add_times(columns.saturating_sub(length), ' ');
         let indent = columns.max(length).saturating_add(2);
         List {
@@ -44,7 +44,7 @@ impl List {
 
 /// A label, in so many columns, and the words of a set.
 pub fn list_set(draft: &mut Draft, label: &str, columns: usize, set: WordSet) {
-    let mut list = List::begin(draft, &[label], columns);
+    let mut list = List::begin(draft, label, "", columns);
     for word in set.words() {
         list.add(draft, word.text);
     }

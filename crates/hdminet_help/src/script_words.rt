@@ -48,7 +48,7 @@ fn has(kind: Kind, key: &Key) -> bool {
 
 // The kinds that have a key, which is its word and what it takes.
 fn add_key(draft: &mut Draft, takes: &str, key: &Key) {
-    let mut list = List::begin(draft, &[key.word().text(), takes], LABELS);
+    let mut list = List::begin(draft, key.word().text(), takes, LABELS);
     for kind in Kind::ALL {
         if has(*kind, key) {
             list.add(draft, kind.word());
@@ -69,7 +69,11 @@ fn add_forms<'a>(draft: &mut Draft, kind: Kind, keys: &[(&str, Key)], first: &'a
     let mut before = first;
     for (takes, key) in keys {
         if has(kind, key) {
-            draft.add_all(&[before, "`", key.word().text(), takes, "`"]);
+            draft.add(before);
+            draft.add("`");
+            draft.add(key.word().text());
+            draft.add(takes);
+            draft.add("`");
             before = ", ";
         }
     }
@@ -120,7 +124,7 @@ pub fn add_set(draft: &mut Draft, label: &str, set: WordSet) {
 
 // The causes of the faults of a part.
 fn add_causes(draft: &mut Draft, part: &str, causes: &[&str]) {
-    let mut list = List::begin(draft, &[part], LABELS);
+    let mut list = List::begin(draft, part, "", LABELS);
     for cause in causes {
         list.add(draft, cause);
     }

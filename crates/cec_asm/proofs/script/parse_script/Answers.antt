@@ -1,8 +1,9 @@
 use Rattle.std.proofs.Common.{arith}
 use Rattle.hdmi_core.specs.Lines.{lines_of}
 use Rattle.cec_asm.specs.Script.{notes_of}
+use Rattle.cec_asm.proofs.Adding.{few_pulses}
 use Rattle.cec_asm.proofs.Reading.{line_read, last_line}
-use Rattle.cec_asm.proofs.Sound.{line-keeps, scripts_are_sound}
+use Rattle.cec_asm.proofs.Sound.{faultless, line-keeps, scripts_are_sound}
 use Rattle.cec_asm.proofs.script.parse_script.Goals as goal
 
 pub loop-line-preserved : goal.loop-line-preserved
@@ -16,8 +17,12 @@ loop-line-preserved c =
       reads = λ read rest. c.loop-line.invariant.reads read (
           line_read tree (lines_of c.loop-line.rest.now) (lines_of c.in-Some.after.now) c.in-Some.line.now c.loop-line.number notes next read c.in-Some.ensures.lines c.in_default-take_line.ensures.gives rest);
       sound = line-keeps tree notes (length notes.pulses) c.loop-line.number c.in-Some.line.now next c.loop-line.invariant.sound c.in_default-take_line.ensures.gives;
+      few = few_pulses tree notes c.loop-line.number c.in-Some.line.now next c.in_default-take_line.ensures.gives c.loop-line.invariant.few;
       counts = omega arith;
     }
+
+pub invariant_of-result : goal.invariant_of-result
+invariant_of-result c = record { sparse = faultless (notes_of c.loop-line.draft).pulses c.loop-line.invariant.few c.loop-line.invariant.sound.apart }
 
 pub returns-clause-script : goal.returns-clause-script
 returns-clause-script c =

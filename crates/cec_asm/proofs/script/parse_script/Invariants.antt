@@ -9,6 +9,7 @@ abbrev pub invariant-loop-line : goal.invariant-loop-line
 invariant-loop-line l = record {
   reads : (read : Result Course ScriptFault) → AreLinesRead l.tree (lines_of l.rest) l.number (notes_of l.draft) read → IsScriptRead l.tree l.text read;
   sound : AreSound (length l.tree) (notes_of l.draft);
+  few : length (notes_of l.draft).pulses ≤ 4096;
   counts : l.number + length l.rest ≤ length l.text + 1;
 }
 
