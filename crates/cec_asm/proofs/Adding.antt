@@ -304,7 +304,7 @@ pub read_again : (tree : List Node) (notes next : Notes) (waiting line : ℕ) (t
     → IsLineRead tree notes (length notes.pulses) line text (Ok next)
 read_again tree notes next waiting line text few h = by_text (is_skipped text) h
   where
-    by_text : (b : Bool) → cond {A = Type 0} b (Ok next ≡ Ok notes) (IsWordsRead tree notes waiting line (words_of text) (Ok next))
-        → cond {A = Type 0} b (Ok next ≡ Ok notes) (IsWordsRead tree notes (length notes.pulses) line (words_of text) (Ok next))
+    by_text : (b : Bool) → cond {A = Type 0} b (◌≡◌ {A = Result Notes LineFault} (Ok next) (Ok notes)) (IsWordsRead tree notes waiting line (words_of text) (Ok next))
+        → cond {A = Type 0} b (◌≡◌ {A = Result Notes LineFault} (Ok next) (Ok notes)) (IsWordsRead tree notes (length notes.pulses) line (words_of text) (Ok next))
     by_text true k = k
     by_text false k = words_again tree notes next waiting line (words_of text) few k

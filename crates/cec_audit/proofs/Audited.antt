@@ -113,10 +113,10 @@ audited_more c left rest m new e told timing tape later old mid out was is now p
     now_is : line_of_edges c.edges e.at ≡ e.low
     now_is = past e.at (omega arith) ∙ before_turn e.low (e.at + 1) rest w.turn.2 e.at (omega arith)
 
-    d : HeardBefore new (line_of_edges c.edges) (e.at + 1) × (ended_by (line_of_edges c.edges) e.at ≡ ended_before (line_of_edges c.edges) w.from ++ option_to_list line_and_remarks)
+    d : HeardBefore new (line_of_edges c.edges) (e.at + 1) × (ended_by (line_of_edges c.edges) e.at ≡ ended_before (line_of_edges c.edges) w.from ++ option_to_list told)
     d = follows (line_of_edges c.edges) w.from w.heard after_it calm now_is
 
-    ended : ended_before (line_of_edges c.edges) (e.at + 1) ≡ ended_before (line_of_edges c.edges) w.from ++ option_to_list line_and_remarks
+    ended : ended_before (line_of_edges c.edges) (e.at + 1) ≡ ended_before (line_of_edges c.edges) w.from ++ option_to_list told
     ended = ap (ended_before (line_of_edges c.edges)) (let x : e.at + 1 ≡ suc e.at = omega arith in x) ∙ d.1
 
 -- the end of a capture
