@@ -1,4 +1,4 @@
-use Rattle.std.proofs.Common.{length, arith}
+use Rattle.std.proofs.Common.{arith, length}
 use Rattle.hdmi_core.specs.Lines.{lines_of}
 use Rattle.cec_asm.specs.Script.{notes_of}
 use Rattle.cec_asm.proofs.Adding.{few_pulses}
