@@ -1,6 +1,6 @@
-use Rattle.std.proofs.Common.{arith, length}
+use Rattle.std.proofs.Common.{rules, ◌≡◌, ℕ, length, Ok, subst, arith}
 use Rattle.hdmi_core.specs.Lines.{lines_of}
-use Rattle.cec_asm.specs.Script.{notes_of}
+use Rattle.cec_asm.specs.Script.{IsLineRead, notes_of}
 use Rattle.cec_asm.proofs.Adding.{few_pulses}
 use Rattle.cec_asm.proofs.Reading.{line_read, last_line}
 use Rattle.cec_asm.proofs.Sound.{faultless, line-keeps, scripts_are_sound}
@@ -13,11 +13,14 @@ loop-line-preserved c =
     let next = notes_of c.take_line.new.draft in
     let shorter = c.in-Some.ensures.shorter in
     let counts = c.loop-line.invariant.counts in
+    let waiting : c.len-waiting.result ≡ length notes.pulses = search rules in
+    let gives : IsLineRead tree notes (length notes.pulses) c.loop-line.number c.in-Some.line.now (Ok next) =
+    subst (λ (n : ℕ). IsLineRead tree notes n c.loop-line.number c.in-Some.line.now (Ok next)) waiting c.in_default-take_line.ensures.gives in
     record {
       reads = λ read rest. c.loop-line.invariant.reads read (
-          line_read tree (lines_of c.loop-line.rest.now) (lines_of c.in-Some.after.now) c.in-Some.line.now c.loop-line.number notes next read c.in-Some.ensures.lines c.in_default-take_line.ensures.gives rest);
-      sound = line-keeps tree notes (length notes.pulses) c.loop-line.number c.in-Some.line.now next c.loop-line.invariant.sound c.in_default-take_line.ensures.gives;
-      few = few_pulses tree notes c.loop-line.number c.in-Some.line.now next c.in_default-take_line.ensures.gives c.loop-line.invariant.few;
+          line_read tree (lines_of c.loop-line.rest.now) (lines_of c.in-Some.after.now) c.in-Some.line.now c.loop-line.number notes next read c.in-Some.ensures.lines gives rest);
+      sound = line-keeps tree notes (length notes.pulses) c.loop-line.number c.in-Some.line.now next c.loop-line.invariant.sound gives;
+      few = few_pulses tree notes c.loop-line.number c.in-Some.line.now next gives c.loop-line.invariant.few;
       counts = omega arith;
     }
 
