@@ -6,7 +6,6 @@ use Rattle.hdmi_topo.specs.Node.{Node}
 use Rattle.hdmi_topo.specs.Tree.{has_root}
 use Rattle.hdmi_core.specs.Lines.{lines_of}
 use Rattle.cec_asm.specs.Topology.{Plan, TopologyFault, at_word, fault_at, topology_of, lines_read, at_line, line_read}
-use Rattle.cec_asm.specs.declared.topology.LineFault.{LineFault}
 use Rattle.cec_asm.specs.declared.topology.TopologyCause.TheVariants.{NoRoot}
 use Rattle.cec_asm.specs.Script.{Course, ScriptFault, IsScriptRead}
 use Rattle.cec_asm.proofs.OneReading.{one_script}
@@ -36,12 +35,12 @@ rooted [] number plan end h = step (has_root plan.tree) refl h
     step : (b : Bool) → has_root plan.tree ≡ b → (if b then Ok plan else none) ≡ Ok end → has_root end.tree ≡ true
     step true g k = let same : plan ≡ end = cc in ap (λ p. has_root p.tree) (sym same) ∙ g
     step false g k = cc
-rooted (line ∷ lines) number plan end h = step (line_read plan line) (λ next. rooted lines (number + 1) next end) h
-  where
-    step : (r : Result Plan LineFault) → ((next : Plan) → lines_read lines (number + 1) next ≡ Ok end → has_root end.tree ≡ true)
-        → at_line number r (λ next. lines_read lines (number + 1) next) ≡ Ok end → has_root end.tree ≡ true
-    step (Ok next) on k = on next k
-    step (Err cause) on k = cc
+rooted (line ∷ lines) number plan end h =
+    let on : (next : Plan) → lines_read lines (number + 1) next ≡ Ok end → has_root end.tree ≡ true = λ next. rooted lines (number + 1) next end in
+    elim (line_read plan line) as (λ r. at_line number r (λ next. lines_read lines (number + 1) next) ≡ Ok end → has_root end.tree ≡ true) [
+      | Ok next ↦ λ k. on next k
+      | Err fault ↦ λ k. (cc)
+    ] h
 
 pub has_device : (text : List ℕ) (plan : Plan) → topology_of text ≡ Ok plan → 0 < length plan.tree
 has_device text plan h = some_device plan.tree (rooted (lines_of text) 1 (record { tree = []; edid = None }) plan h)
