@@ -22,7 +22,6 @@ use Rattle.hdmi_core.specs.Words.{one_of, three_of, words_of}
 use Rattle.cec_vcd.specs.Dump.{is_end, is_space}
 use Rattle.hdmi_core.specs.Kind.{kind_named}
 use Rattle.cec_asm.specs.Topology.{Plan, TopologyFault, at_line, at_word, fault_at, bytes_of, device_line, device_read, edid_line, edid_read, line_read, lines_read, plug_line, plug_read, topology_of, unless_add, unless_plug, plan_with_words}
-use Rattle.cec_asm.specs.declared.topology.LineFault.{LineFault}
 use Rattle.cec_asm.specs.declared.topology.TopologyCause.TheVariants as causes
 use Rattle.cec_device.specs.State.{State, frame_of, addresses_held, holds, one_more, with_queued, speaks}
 use Rattle.cec_device.specs.Place.{fresh, is_on_wire, after_joining, reported_by, reported_from, start_place}
@@ -139,11 +138,11 @@ named_plug (node ∷ tree) (suc child) plug h =
     All-cons (λ (n : Node). is_name n.name ≡ true) node (with_plug tree child plug) (h 0 node (omega arith)) (named_plug tree child plug (λ k x l. h (suc k) x (omega arith)))
 
 -- what is read keeps it
-Keeps : Result Plan LineFault → Type 0
+Keeps : {F : Type 0} → Result Plan F → Type 0
 Keeps (Ok plan) = AreNamed plan.tree
 Keeps (Err cause) = Unit {0}
 
-keeps_if : (b : Bool) (r s : Result Plan LineFault) → (b ≡ true → Keeps r) → (b ≡ false → Keeps s) → Keeps (if b then r else s)
+keeps_if : {F : Type 0} (b : Bool) (r s : Result Plan F) → (b ≡ true → Keeps r) → (b ≡ false → Keeps s) → Keeps (if b then r else s)
 keeps_if true r s h k = h refl
 keeps_if false r s h k = k refl
 
@@ -223,12 +222,12 @@ named_lines [] number plan end h e = step (has_root plan.tree) e
     step : (b : Bool) → (if b then Ok plan else none) ≡ Ok end → AreNamed end.tree
     step true k = let same : plan ≡ end = cc in subst (λ (p : Plan). AreNamed p.tree) same h
     step false k = cc
-named_lines (line ∷ lines) number plan end h e = step (line_read plan line) (keeps_line plan line h) (λ next k. named_lines lines (number + 1) next end k) e
-  where
-    step : (r : Result Plan LineFault) → Keeps r → ((next : Plan) → AreNamed next.tree → lines_read lines (number + 1) next ≡ Ok end → AreNamed end.tree)
-        → at_line number r (λ next. lines_read lines (number + 1) next) ≡ Ok end → AreNamed end.tree
-    step (Ok next) k on e = on next k e
-    step (Err cause) k on e = cc
+named_lines (line ∷ lines) number plan end h e =
+    let on : (next : Plan) → AreNamed next.tree → lines_read lines (number + 1) next ≡ Ok end → AreNamed end.tree = λ next k. named_lines lines (number + 1) next end k in
+    elim (line_read plan line) as (λ r. Keeps r → at_line number r (λ next. lines_read lines (number + 1) next) ≡ Ok end → AreNamed end.tree) [
+      | Ok next ↦ λ k e. on next k e
+      | Err fault ↦ λ k e. (cc)
+    ] (keeps_line plan line h) e
 
 pub names_are_words : (topology : List ℕ) (plan : Plan) → topology_of topology ≡ Ok plan → All (λ name. is_word name ≡ true) (names_in plan.tree)
 names_are_words topology plan h = words plan.tree (named_lines (lines_of topology) 1 (record { tree = []; edid = None }) plan (All-nil (λ (n : Node). is_name n.name ≡ true)) h)
