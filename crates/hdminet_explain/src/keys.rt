@@ -16,11 +16,19 @@ pub fn is_of_key(line: &str, word: usize) -> bool {
     word >= KEY && (is_word(line, 2, "press") || is_word(line, 2, "release"))
 }
 
+// Whether the form of a key begins with this word.
+fn begins_with(form: &str, key: &str) -> bool {
+    match form.split(' ').next() {
+        Some(word) => word == key,
+        None => false,
+    }
+}
+
 // The forms of the key that a word begins, as a line has them.
 fn add_forms(draft: &mut Draft, verb: &str, key: &str) {
     let mut before = "  a line here reads `at T ";
     for form in KEY_FORMS {
-        if form.split(' ').next() == Some(key) {
+        if begins_with(form, key) {
             draft.add_all(&[before, verb, " NAME ", form]);
             before = "`, `at T ";
         }
@@ -67,7 +75,7 @@ fn add_value(draft: &mut Draft, key: &str, word: usize) -> bool {
 fn lacking(line: &str, key: &str) -> Option<&'static str> {
     let count = word_count(line).saturating_sub(KEY);
     for form in KEY_FORMS {
-        if form.split(' ').next() == Some(key) {
+        if begins_with(form, key) {
             return form.split(' ').nth(count).filter(|word| is_value(word));
         }
     }
