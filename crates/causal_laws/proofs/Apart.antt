@@ -30,14 +30,11 @@ far_cons p (q ∷ ps) h f = (All-head (λ x. p.to + 25000 ≤ x.from) q ps h, f)
 
 far_filter : (test : Stretch → Bool) (ps : List Stretch) → AreFarApart ps → All IsNarrow ps → AreFarApart (filter test ps)
 far_filter test [] f w = tt
-far_filter test (p ∷ ps) f w = by_test (test p)
+far_filter test (p ∷ ps) f w = by_test (test p) (far_filter test ps (far_tail p ps f) (All-tail IsNarrow p ps w))
   where
-    rest : AreFarApart (filter test ps)
-    rest = far_filter test ps (far_tail p ps f) (All-tail IsNarrow p ps w)
-
-    by_test : (b : Bool) → AreFarApart (if b then p ∷ filter test ps else filter test ps)
-    by_test true = far_cons p (filter test ps) (All-filter test (λ q. p.to + 25000 ≤ q.from) ps (after_first p ps f (All-tail IsNarrow p ps w))) rest
-    by_test false = rest
+    by_test : (b : Bool) → AreFarApart (filter test ps) → AreFarApart (if b then p ∷ filter test ps else filter test ps)
+    by_test true rest = far_cons p (filter test ps) (All-filter test (λ q. p.to + 25000 ≤ q.from) ps (after_first p ps f (All-tail IsNarrow p ps w))) rest
+    by_test false rest = rest
 
 pub apart_filter : (test : Stretch → Bool) (ps : List Stretch) → AreApart ps → AreApart (filter test ps)
 apart_filter test ps h = (All-filter test IsNarrow ps h.0, far_filter test ps h.1 h.0)
