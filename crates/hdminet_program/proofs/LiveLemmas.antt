@@ -45,6 +45,7 @@ alone known rest old new d = record {
     };
     ended = d.over.ended;
   };
+  told = d.told;
   trace = d.trace;
 }
 
@@ -102,6 +103,7 @@ spelled rest old new d = (
         };
         ended = d.over.ended;
       };
+      told = d.told;
       trace = d.trace;
     },
   ),
@@ -159,6 +161,7 @@ after_more known rest old mid new k d = record {
     put = keeps_appends old mid d.run.so_far (first_told d.run.first) k d.run.put;
   };
   over = d.over;
+  told = d.told;
   trace = d.trace;
 }
 
