@@ -5,8 +5,8 @@
    caller promises besides:
    - The three functions are of one allocator, and align a block as C asks for.
    - No call comes from a signal handler, nor from the forked child of a process with threads.
-   - The stack has 80 KB left: the emulator takes some 60 KB of it. A thread of 128 KB will do for the calls of this header;
-     hdminet_edid_port of hdminet_wire.h takes some 210 KB.
+   - The stack has 80 KB left: the emulator takes some 60 KB of it. A thread of 128 KB will do for the calls of this header
+     and of hdminet_wire.h.
    Where memory runs out, HDMINET_MEMORY is the answer. */
 #ifndef HDMINET_H
 #define HDMINET_H

@@ -130,7 +130,7 @@ uint32_t hdminet_edid_fault(const uint8_t *bytes, size_t bytes_length);
 hdminet_answer hdminet_edid_text(const uint8_t *bytes, size_t bytes_length, uint8_t *room, size_t room_length);
 
 /* The EDID that a port with this physical address passes on of one: 0x1200 is 1.2.0.0. It has the audio of an amplifier
-   where one is on the way (HDMI 1.4, 8.7.3). It is as long as the EDID that is read. Takes some 210 KB of stack. */
+   where one is on the way (HDMI 1.4, 8.7.3). It is as long as the EDID that is read. Takes some 60 KB of stack. */
 hdminet_answer hdminet_edid_port(const uint8_t *bytes, size_t bytes_length, uint16_t address, bool from_amplifier,
                                  uint8_t *room, size_t room_length);
 
