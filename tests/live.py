@@ -151,6 +151,16 @@ def examples_cut():
     return right
 
 
+def pulses_let_go():
+    """A pulse that a told round has taken counts no more: 4,096 wait at most, and a session has any number of them."""
+    s = Session(ROOM)
+    right = all(s.ask('pulse %d 100' % (20_000 + 25_100 * number)) == '= 0\n' for number in range(4096))
+    right = right and s.ask('pulse 200000000 100') == '! 4097 too-many\n'
+    right = right and s.ask('run to 30000000') == '= 30000000\n' and s.ask('pulse 200000000 100') == '= 30000000\n'
+    right = right and s.ask('end 200100000') == '= 200100000\n' and s.ended() == (0, '', '')
+    return right and ' '.join(s.trace).count(' 200000000 200000100 ') == 1
+
+
 def driver():
     """The driver in Python ends well, and its room was asked and answered."""
     ran = subprocess.run([os.path.join(TOP, 'examples/live/active-source.py'), PROGRAM], capture_output=True, text=True)
@@ -187,7 +197,7 @@ def main():
         sys.exit('live: no program at %s: start ./hdminet once' % PROGRAM)
     signal.alarm(600)
     passed = failed = 0
-    for test in [answers_at_once, ends_early, has_faults, closed, examples_cut, driver, device_under_test, claimed_twice, shell]:
+    for test in [answers_at_once, ends_early, has_faults, closed, examples_cut, pulses_let_go, driver, device_under_test, claimed_twice, shell]:
         if test():
             passed += 1
         else:
