@@ -70,7 +70,10 @@ pub fn check_capture<S: Sink>(
     ensures write { S.is_stuck out.old ≡ false → (IsTrue (is_write result) ↔ IsTrue (S.is_stuck out.new)) }
     ensures cut { IfErr result (IsCaptureCut expectations.now capture.now (S.contents out.old) (S.contents out.new)) }
 {
-    match first_fault(expectations) {
+    let Ok(fault) = first_fault(alloc, expectations) else {
+        return Err(CaptureCheckError::Memory);
+    };
+    match fault {
         Some(fault) => return Err(CaptureCheckError::Expect(fault)),
         None => {}
     }

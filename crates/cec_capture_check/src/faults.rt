@@ -1,5 +1,5 @@
 //! Lines of expectations of a capture, and the first one at fault.
-ghost use Rattle.std.specs.Prelude.{◌≡◌, ◌||◌, if◌then◌else◌};
+ghost use Rattle.std.specs.Prelude.{◌≡◌, ◌||◌, if◌then◌else◌, IfOk};
 ghost use Rattle.std.specs.Option.{option_copied};
 ghost use Rattle.hdmi_core.specs.Lines.{lines_of};
 ghost use Rattle.hdmi_core.specs.Number.{number_of};
@@ -10,6 +10,7 @@ ghost use Rattle.cec_capture_check.specs.Faults.{earlier, first_fault, kinds_fro
 
 use cec_expect::{ExpectCause, ExpectFault, unlabelled};
 use hdmi_core::{first_line, first_word, number_in, one_word};
+use std::alloc::{AllocError, Global};
 
 // Whether this is the first word.
 fn has_verb(verb: &[u8], rest: Option<&[u8]>) -> bool
@@ -134,8 +135,13 @@ fn earlier(fault: Option<ExpectFault>, other: Option<ExpectFault>) -> Option<Exp
 }
 
 /// The first line of expectations of a capture that is at fault.
-pub(crate) fn first_fault(text: &[u8]) -> Option<ExpectFault>
-    ensures { result ≡ first_fault text.now }
+///
+/// # Errors
+///
+/// Want of memory.
+pub(crate) fn first_fault(alloc: Global, text: &[u8]) -> Result<Option<ExpectFault>, AllocError>
+    ensures { IfOk result (λ fault. fault ≡ first_fault text.now) }
 {
-    earlier(kind_fault_in(text), cec_expect::first_fault(&[], text))
+    let fault = cec_expect::first_fault(alloc, &[], text)?;
+    Ok(earlier(kind_fault_in(text), fault))
 }

@@ -76,7 +76,10 @@ fn report_of(alloc: Global, topology: &[u8], script: &[u8]) -> Result<ReportDraf
         Err(EmulateError::Write(_)) => return Err(CheckError::Memory),
         Err(error) => return Err(CheckError::Emulate(error)),
     }
-    match first_fault(topology, script) {
+    let Ok(fault) = first_fault(alloc, topology, script) else {
+        return Err(CheckError::Memory);
+    };
+    match fault {
         Some(fault) => return Err(CheckError::Expect(fault)),
         None => {}
     }

@@ -9,7 +9,7 @@ ghost use Rattle.cec_judge.specs.Told.{event_as};
 ghost use Rattle.cec_check.specs.Report.{report_start, report_with_plan, escaped_text, escaped_byte, remarks, report, report_as, shown_text, shown_line, span_remarks, verdict_word, with_event, with_line, with_lines, with_refusals, with_test, with_word};
 
 use crate::held::Held;
-use cec_expect::{Form, form_in, unlabelled};
+use cec_expect::{Form, Labels, form_in, unlabelled};
 use cec_judge::{
     EventLine, Judged, Span, all_judged, end_seen, event_in, is_refusal_expected, refusal_in,
 };
@@ -242,13 +242,13 @@ fn add_lines(
 
 fn add_word(
     draft: &mut ReportDraft,
-    script: &[u8],
+    labels: &Labels<'_>,
     line: u64,
     word: &[u8],
 ) -> Result<(), AllocError>
-    ensures { OnOk result (report_as draft.new ≡ with_word script.now (report_as draft.old) line (Some word.now)) }
+    ensures { OnOk result (report_as draft.new ≡ with_word labels.now.script.now (report_as draft.old) line (Some word.now)) }
 {
-    if is_refusal_expected(script, line) {
+    if is_refusal_expected(labels, line) {
         return Ok(());
     }
     add_test(draft, false, line, "refused ", word)
@@ -257,10 +257,10 @@ fn add_word(
 // Appends the test of an event, where it was refused and no line expects it.
 fn add_event(
     draft: &mut ReportDraft,
-    script: &[u8],
+    labels: &Labels<'_>,
     event: Option<EventLine>,
 ) -> Result<(), AllocError>
-    ensures { OnOk result (report_as draft.new ≡ with_event script.now (report_as draft.old) (option_map event_as event.entry)) }
+    ensures { OnOk result (report_as draft.new ≡ with_event labels.now.script.now (report_as draft.old) (option_map event_as event.entry)) }
 {
     let Some(event) = event else {
         return Ok(());
@@ -268,16 +268,20 @@ fn add_event(
     let Some(word) = refusal_in(event.outcome) else {
         return Ok(());
     };
-    add_word(draft, script, event.line, word)
+    add_word(draft, labels, event.line, word)
 }
 
 // Appends the tests of refused events.
-fn add_refusals(draft: &mut ReportDraft, script: &[u8], trace: &[u8]) -> Result<(), AllocError>
-    ensures { OnOk result (report_as draft.new ≡ with_refusals script.now (report_as draft.old) (lines_of trace.now)) }
+fn add_refusals(
+    draft: &mut ReportDraft,
+    labels: &Labels<'_>,
+    trace: &[u8],
+) -> Result<(), AllocError>
+    ensures { OnOk result (report_as draft.new ≡ with_refusals labels.now.script.now (report_as draft.old) (lines_of trace.now)) }
 {
     let mut rest = trace;
     'lines: while let Some((line, after)) = first_line(rest) {
-        add_event(draft, script, event_in(line))?;
+        add_event(draft, labels, event_in(line))?;
         rest = after;
     }
     Ok(())
@@ -313,10 +317,11 @@ pub fn whole_report(
 ) -> Result<ReportDraft, AllocError>
     ensures { IfOk result (λ draft. report_as draft ≡ report script.now trace.now (map (λ state. state.items) states.now)) }
 {
-    let found = all_judged(alloc, script, trace, states)?;
+    let labels = Labels::new(alloc, script)?;
+    let found = all_judged(alloc, &labels, trace, states)?;
     let mut draft = report_start(alloc)?;
     add_lines(&mut draft, script, trace, states, &found)?;
-    add_refusals(&mut draft, script, trace)?;
+    add_refusals(&mut draft, &labels, trace)?;
     add_plan(&mut draft)?;
     Ok(draft)
 }

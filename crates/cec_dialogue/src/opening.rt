@@ -93,7 +93,10 @@ pub(crate) fn begin(alloc: Global, text: &[u8]) -> Result<Live, SessionError>
         Err(TopologyError::Memory) => return Err(SessionError::Memory),
     };
     match root_of(&topology.edid) {
-        Ok(edid) => Ok(Live::new(alloc, topology.tree, edid)),
+        Ok(edid) => match Live::new(alloc, topology.tree, edid) {
+            Ok(live) => Ok(live),
+            Err(_) => Err(SessionError::Memory),
+        },
         Err(cause) => Err(SessionError::Edid(cause)),
     }
 }

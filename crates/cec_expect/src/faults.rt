@@ -1,16 +1,18 @@
-//! Labels of a script, and its first line at fault.
-ghost use Rattle.std.specs.Prelude.{◌≡◌, ◌&&◌, if◌then◌else◌, true, false};
+//! The first line of a script at fault.
+ghost use Rattle.std.specs.Prelude.{◌≡◌, IfOk};
 ghost use Rattle.std.specs.List.{list_any};
 ghost use Rattle.std.specs.Option.{option_copied};
 ghost use Rattle.hdmi_core.specs.Lines.{lines_of};
 ghost use Rattle.hdmi_core.specs.Words.{words_behind, words_of};
 ghost use Rattle.cec_expect.specs.Form.{form_as, window_of};
 ghost use Rattle.cec_expect.specs.Line.{behind_label};
-ghost use Rattle.cec_expect.specs.Faults.{declared_in, end_in, ends_before, event_labelled, first_fault, form_fault, has_label, is_above, is_declared, is_event_line, is_line, is_named, is_own_label, is_past, is_strange, line_of_label, labelled_from, line_fault, window_fault};
+ghost use Rattle.cec_expect.specs.Faults.{declared_in, end_in, ends_before, first_fault, form_fault, is_above, is_declared, is_line, is_named, is_own_label, is_past, is_strange, line_fault, window_fault};
 
 use crate::form::{ExpectCause, Form, Window, form_in};
-use crate::line::{has_verb, unlabelled};
+use crate::labels::Labels;
+use crate::line::unlabelled;
 use hdmi_core::{first_line, first_word, number_in};
+use std::alloc::{AllocError, Global};
 use thiserror::Error;
 
 /// The first line of a script at fault, counted from 1, and why.
@@ -19,56 +21,6 @@ use thiserror::Error;
 pub struct ExpectFault {
     pub line: u64,
     pub cause: ExpectCause,
-}
-
-fn has_label(name: &[u8], line: &[u8]) -> bool
-    ensures { result ≡ has_label name.now line.now }
-{
-    match unlabelled(line).label {
-        None => false,
-        Some(label) => label == name,
-    }
-}
-
-fn is_event_line(line: &[u8]) -> bool
-    ensures { result ≡ is_event_line line.now }
-{
-    has_verb(b"at", unlabelled(line).rest)
-}
-
-fn is_looked_for(of_events: bool, name: &[u8], line: &[u8]) -> bool
-    ensures { result ≡ (has_label name.now line.now && (if of_events then is_event_line line.now else true)) }
-{
-    has_label(name, line) && (!of_events || is_event_line(line))
-}
-
-fn labelled_in(of_events: bool, script: &[u8], name: &[u8]) -> Option<u64>
-    ensures { result ≡ labelled_from of_events 1 (lines_of script.now) name.now }
-{
-    let mut rest = script;
-    let mut number = 1u64;
-    'lines: while let Some((line, after)) = first_line(rest) {
-        if is_looked_for(of_events, name, line) {
-            return Some(number);
-        }
-        rest = after;
-        number += 1;
-    }
-    None
-}
-
-/// The first line of a script with this label, counted from 1.
-pub fn line_of_label(script: &[u8], name: &[u8]) -> Option<u64>
-    ensures { result ≡ line_of_label script.now name.now }
-{
-    labelled_in(false, script, name)
-}
-
-/// The first event of a script with this label, by its line.
-pub fn event_labelled(script: &[u8], name: &[u8]) -> Option<u64>
-    ensures { result ≡ event_labelled script.now name.now }
-{
-    labelled_in(true, script, name)
 }
 
 fn is_above(number: u64, line: Option<u64>) -> bool
@@ -89,12 +41,12 @@ fn is_line(number: u64, line: Option<u64>) -> bool
     }
 }
 
-fn is_own_label(script: &[u8], number: u64, label: Option<&[u8]>) -> bool
-    ensures { result ≡ is_own_label script.now number (option_copied label.entry) }
+fn is_own_label(labels: &Labels<'_>, number: u64, label: Option<&[u8]>) -> bool
+    ensures { result ≡ is_own_label labels.now.script.now number (option_copied label.entry) }
 {
     match label {
         None => true,
-        Some(name) => !name.is_empty() && is_line(number, line_of_label(script, name)),
+        Some(name) => !name.is_empty() && is_line(number, labels.line_of(name)),
     }
 }
 
@@ -167,12 +119,12 @@ fn ends_before(script: &[u8], time: u64) -> bool
     false
 }
 
-fn window_fault(script: &[u8], number: u64, window: Window) -> Option<ExpectCause>
-    ensures { result ≡ window_fault script.now number (window_of window.entry) }
+fn window_fault(labels: &Labels<'_>, number: u64, window: Window) -> Option<ExpectCause>
+    ensures { result ≡ window_fault labels.now.script.now number (window_of window.entry) }
 {
     match window {
         Window::Within { label, .. } => {
-            if is_above(number, line_of_label(script, label)) {
+            if is_above(number, labels.line_of(label)) {
                 None
             } else {
                 Some(ExpectCause::Label)
@@ -188,21 +140,21 @@ fn window_fault(script: &[u8], number: u64, window: Window) -> Option<ExpectCaus
     }
 }
 
-fn form_fault(script: &[u8], number: u64, form: Form) -> Option<ExpectCause>
-    ensures { result ≡ form_fault script.now number (form_as form.entry) }
+fn form_fault(labels: &Labels<'_>, number: u64, form: Form) -> Option<ExpectCause>
+    ensures { result ≡ form_fault labels.now.script.now number (form_as form.entry) }
 {
     match form {
         Form::Other => None,
-        Form::Rounds { window, .. } => window_fault(script, number, window),
+        Form::Rounds { window, .. } => window_fault(labels, number, window),
         Form::State { time, .. } => {
-            if ends_before(script, time) {
+            if ends_before(labels.script, time) {
                 Some(ExpectCause::Order)
             } else {
                 None
             }
         }
         Form::Refused { label, .. } => {
-            if is_above(number, event_labelled(script, label)) {
+            if is_above(number, labels.event_of(label)) {
                 None
             } else {
                 Some(ExpectCause::Label)
@@ -223,8 +175,8 @@ fn is_strange(topology: &[u8], form: Form) -> bool
     }
 }
 
-fn line_fault(topology: &[u8], script: &[u8], number: u64, line: &[u8]) -> Option<ExpectCause>
-    ensures { result ≡ line_fault topology.now script.now number line.now }
+fn line_fault(topology: &[u8], labels: &Labels<'_>, number: u64, line: &[u8]) -> Option<ExpectCause>
+    ensures { result ≡ line_fault topology.now labels.now.script.now number line.now }
 {
     let line = unlabelled(line);
     match form_in(line.rest) {
@@ -232,8 +184,8 @@ fn line_fault(topology: &[u8], script: &[u8], number: u64, line: &[u8]) -> Optio
         Ok(form) => {
             if is_strange(topology, form) {
                 Some(ExpectCause::Name)
-            } else if is_own_label(script, number, line.label) {
-                form_fault(script, number, form)
+            } else if is_own_label(labels, number, line.label) {
+                form_fault(labels, number, form)
             } else {
                 Some(ExpectCause::Label)
             }
@@ -241,14 +193,14 @@ fn line_fault(topology: &[u8], script: &[u8], number: u64, line: &[u8]) -> Optio
     }
 }
 
-/// The first line of a script for a topology whose label or expectation is at fault.
-pub fn first_fault(topology: &[u8], script: &[u8]) -> Option<ExpectFault>
-    ensures { result ≡ first_fault topology.now script.now }
+/// The first line at fault of a script whose labels are read, for a topology.
+pub fn fault_among(topology: &[u8], labels: &Labels<'_>) -> Option<ExpectFault>
+    ensures { result ≡ first_fault topology.now labels.now.script.now }
 {
-    let mut rest = script;
+    let mut rest = labels.script;
     let mut number = 1u64;
     'lines: while let Some((line, after)) = first_line(rest) {
-        if let Some(cause) = line_fault(topology, script, number, line) {
+        if let Some(cause) = line_fault(topology, labels, number, line) {
             return Some(ExpectFault {
                 line: number,
                 cause,
@@ -258,4 +210,20 @@ pub fn first_fault(topology: &[u8], script: &[u8]) -> Option<ExpectFault>
         number += 1;
     }
     None
+}
+
+/// The first line of a script for a topology whose label or expectation is at fault.
+///
+/// # Errors
+///
+/// Want of memory.
+pub fn first_fault(
+    alloc: Global,
+    topology: &[u8],
+    script: &[u8],
+) -> Result<Option<ExpectFault>, AllocError>
+    ensures { IfOk result (λ fault. fault ≡ first_fault topology.now script.now) }
+{
+    let labels = Labels::new(alloc, script)?;
+    Ok(fault_among(topology, &labels))
 }

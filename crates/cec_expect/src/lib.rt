@@ -3,10 +3,12 @@
 
 mod faults;
 mod form;
+mod labels;
 mod line;
 mod pattern;
 
-pub use faults::{ExpectFault, event_labelled, first_fault, line_of_label};
+pub use faults::{ExpectFault, fault_among, first_fault};
 pub use form::{ExpectCause, Form, Quantity, Window, form_in};
+pub use labels::Labels;
 pub use line::{Labelled, cut_script, plain_script, unlabelled};
 pub use pattern::fits;

@@ -8,7 +8,7 @@ ghost use Rattle.cec_judge.specs.Judged.{failure, has_word, has_words, holds_by,
 use crate::index::Index;
 use crate::seen::Span;
 use crate::told::{refusal_in, state_words};
-use cec_expect::{Form, Quantity, Window, event_labelled, form_in, line_of_label, unlabelled};
+use cec_expect::{Form, Labels, Quantity, Window, form_in, unlabelled};
 use hdmi_core::{first_line, first_word};
 use std::alloc::{AllocError, AllocFailed, Global};
 
@@ -60,12 +60,12 @@ fn span_from(duration: u64, at: Option<u64>) -> Option<Span>
     })
 }
 
-fn span_of(script: &[u8], above: &[Judged], window: Window) -> Option<Span>
-    ensures { result ≡ span_of script.now above.now (window_of window.entry) }
+fn span_of(labels: &Labels<'_>, above: &[Judged], window: Window) -> Option<Span>
+    ensures { result ≡ span_of labels.now.script.now above.now (window_of window.entry) }
 {
     match window {
         Window::Within { duration, label } => {
-            span_from(duration, instant_at(above, line_of_label(script, label)))
+            span_from(duration, instant_at(above, labels.line_of(label)))
         }
         Window::From { from, to } => Some(Span { from, to }),
     }
@@ -120,11 +120,11 @@ fn is_word(word: &[u8], other: Option<&[u8]>) -> bool
     }
 }
 
-fn refused_judged(script: &[u8], index: &Index<'_>, name: &[u8], word: &[u8]) -> Judged
-    ensures { result ≡ refused_judged script.now index.now.trace.now name.now word.now }
+fn refused_judged(labels: &Labels<'_>, index: &Index<'_>, name: &[u8], word: &[u8]) -> Judged
+    ensures { result ≡ refused_judged labels.now.script.now index.now.trace.now name.now word.now }
 {
     Judged {
-        holds: Some(is_word(word, refusal_at(index, event_labelled(script, name)))),
+        holds: Some(is_word(word, refusal_at(index, labels.event_of(name)))),
         at: None,
         span: None,
         count: 0,
@@ -187,14 +187,14 @@ fn other_judged(index: &Index<'_>, number: u64) -> Judged
 }
 
 fn line_judged(
-    script: &[u8],
+    labels: &Labels<'_>,
     index: &Index<'_>,
     state: &[u8],
     above: &[Judged],
     line: &[u8],
 ) -> Judged
     requires { length above.now < 2 ^ 63 }
-    ensures { result ≡ line_judged script.now index.now.trace.now state.now above.now line.now }
+    ensures { result ≡ line_judged labels.now.script.now index.now.trace.now state.now above.now line.now }
 {
     match form_in(unlabelled(line).rest) {
         Err(_) => failure(),
@@ -204,9 +204,9 @@ fn line_judged(
                 quantity,
                 window,
                 pattern,
-            } => rounds_judged(index, quantity, pattern, span_of(script, above, window)),
+            } => rounds_judged(index, quantity, pattern, span_of(labels, above, window)),
             Form::State { words, .. } => state_judged(state, words),
-            Form::Refused { label, word } => refused_judged(script, index, label, word),
+            Form::Refused { label, word } => refused_judged(labels, index, label, word),
         },
     }
 }
@@ -219,21 +219,21 @@ fn line_judged(
 /// Want of memory.
 pub fn all_judged(
     alloc: Global,
-    script: &[u8],
+    labels: &Labels<'_>,
     trace: &[u8],
     states: &[Vec<u8>],
 ) -> Result<Vec<Judged>, AllocError>
-    ensures { IfOk result (λ found. found.items ≡ verdicts_of script.now trace.now (map (λ state. state.items) states.now)) }
+    ensures { IfOk result (λ found. found.items ≡ verdicts_of labels.now.script.now trace.now (map (λ state. state.items) states.now)) }
 {
-    let index = Index::new(alloc, script, trace)?;
+    let index = Index::new(alloc, labels.script, trace)?;
     let mut found = Vec::new(alloc);
-    let mut rest = script;
+    let mut rest = labels.script;
     let mut left = states;
     'lines: while let Some((line, after)) = first_line(rest) {
         let [state, others @ ..] = left else {
             return Ok(found);
         };
-        let judged = line_judged(script, &index, state, &found, line);
+        let judged = line_judged(labels, &index, state, &found, line);
         found.push(judged)?;
         rest = after;
         left = others;
@@ -250,13 +250,13 @@ fn is_number(number: u64, line: Option<u64>) -> bool
     }
 }
 
-fn line_expects(script: &[u8], number: u64, line: &[u8]) -> bool
-    ensures { result ≡ line_expects script.now number line.now }
+fn line_expects(labels: &Labels<'_>, number: u64, line: &[u8]) -> bool
+    ensures { result ≡ line_expects labels.now.script.now number line.now }
 {
     match form_in(unlabelled(line).rest) {
         Err(_) => false,
         Ok(form) => match form {
-            Form::Refused { label, .. } => is_number(number, event_labelled(script, label)),
+            Form::Refused { label, .. } => is_number(number, labels.event_of(label)),
             Form::Other => false,
             Form::Rounds { .. } => false,
             Form::State { .. } => false,
@@ -265,12 +265,12 @@ fn line_expects(script: &[u8], number: u64, line: &[u8]) -> bool
 }
 
 /// Whether a line of the script expects that the event of this line is refused.
-pub fn is_refusal_expected(script: &[u8], number: u64) -> bool
-    ensures { result ≡ is_refusal_expected script.now number }
+pub fn is_refusal_expected(labels: &Labels<'_>, number: u64) -> bool
+    ensures { result ≡ is_refusal_expected labels.now.script.now number }
 {
-    let mut rest = script;
+    let mut rest = labels.script;
     'lines: while let Some((line, after)) = first_line(rest) {
-        if line_expects(script, number, line) {
+        if line_expects(labels, number, line) {
             return true;
         }
         rest = after;

@@ -1,5 +1,5 @@
 -- A session that goes on: the turns that were told so far, and what was written of them.
-use Rattle.std.proofs.Common.{◌≡◌, ℕ, zero, suc, ◌+◌, ◌-◌, ◌<◌, ◌≤◌, Bool, true, false, List, [], ◌∷◌, ◌++◌, length, drop, length-drop, drop-cons, get_or, Option, Some, None, Ok, ap, ap₂, ◌∙◌, sym, refl, subst, arith, append-nil}
+use Rattle.std.proofs.Common.{◌≡◌, ℕ, zero, suc, ◌+◌, ◌-◌, ◌<◌, ◌≤◌, Bool, true, false, List, [], ◌∷◌, ◌++◌, length, drop, length-drop, drop-cons, get_or, Option, Some, None, Result, Ok, Err, IfOk, IfErr, OnOk, OnErr, ap, ap₂, ◌∙◌, sym, refl, subst, arith, append-nil}
 use Rattle.std.specs.Io.KnownBytes.{Appends}
 use Rattle.hdmi_core.specs.declared.sink.WriteFault.{WriteFault}
 use Rattle.hdmi_core.proofs.CutShort.{Appends-trans}
@@ -19,6 +19,8 @@ use Rattle.cec_run.proofs.Turns.{no_turn}
 use Rattle.causal_laws.specs.Certain.{LeadsIf, IsHeldBy}
 use Rattle.causal_laws.proofs.Before.{NoTurn, all_begin, ends, held_ends, one_more_if}
 use Rattle.cec_asm.specs.Script.{IsSchedule}
+use Rattle.cec_session.specs.Session.{Session}
+use Rattle.cec_session.specs.Taken.{IsGone}
 use Rattle.cec_session.specs.Turns.{IsTold, IsLast, IsLate, IsSoon, IsRoundTaken, Goes}
 
 -- ---- no turn is reported after the last
@@ -205,3 +207,13 @@ refused_less fault totals rest e others most split h =
 pub same_place : (net new : NetState) (events left : List TimedEvent) (totals : Totals) → net ≡ new → events ≡ left
     → (let c : Config = record { net = net; events = events; totals = totals } in c) ≡ record { net = new; events = left; totals = totals }
 same_place net new events left totals e f = ap₂ (λ (n : NetState) (es : List TimedEvent). let c : Config = record { net = n; events = es; totals = totals } in c) e f
+
+-- ---- a session that went on
+
+-- what the call of it gives, where the session then stands at this place
+pub gone_is : (ended : Bool) (s t : Session) (place : Config) (old new : Option (List ℕ)) (was is : Bool) (result : Result ℕ WriteFault) → t ≡ record s { place = place }
+    → IfOk result (λ written. (text : List ℕ) × Goes s.edid ended s.horizon s.place text place × Appends old new text × (written ≡ told_count (length text)))
+    → OnOk result (is ≡ was) → IfErr result (λ fault. (text : List ℕ) (last : Config) → Goes s.edid ended s.horizon s.place text last → CutOff old new text fault)
+    → OnErr result (is ≡ true) → IsGone ended s t old new was is result
+gone_is ended s t place old new was is (Ok written) stands told same cut stuck = (told.0, place, told.1, stands, (told.3, told.2, same))
+gone_is ended s t place old new was is (Err fault) stands told same cut stuck = (cut, stuck)

@@ -1,8 +1,8 @@
 pub mod Extends
+pub mod Foreseeing
 pub mod Going
 pub mod Noting
 pub mod Wholly
 pub mod Answering
 pub mod NoteCalls
 pub mod Kept
-pub mod Still

@@ -2,7 +2,8 @@
 use Rattle.std.specs.Prelude.{◌≡◌, ℕ, ◌+◌, ◌<◌, ◌≤◌, Bool, true, false, List, length, Option, Some, None, Result, Ok, Err}
 use Rattle.cec_wave.specs.Line.{IsWave}
 use Rattle.cec_wire.specs.declared.Outcome.{Outcome}
-use Rattle.cec_net.specs.State.{NetState}
+use Rattle.cec_net.specs.Progress.{IsProgress}
+use Rattle.cec_net.specs.State.{NetState, next_start}
 use Rattle.cec_net.specs.Step.{IsNextRound}
 use Rattle.hdmi_blocks.specs.declared.edid.Edid.{Edid}
 use Rattle.hdmi_core.specs.declared.sink.WriteFault.{WriteFault}
@@ -35,6 +36,11 @@ pub record Goes (edid : Option Edid) (ended : Bool) (until : ℕ) (c : Config) (
 abbrev pub IsLate : Bool → ℕ → ℕ → NetState → Type 0
 IsLate true until begin net = ⊥
 IsLate false until begin net = (outcome : Outcome) × (after : NetState) × IsWave outcome.wave × IsNextRound net begin outcome after × (until ≤ after.close)
+
+-- what the next round gives, where it was run, and the network after it
+abbrev pub IsForeseen : NetState → Option Outcome → NetState → Type 0
+IsForeseen net None after = Unit {0}
+IsForeseen net (Some o) after = IsWave o.wave × ((begin : ℕ) → next_start net ≡ Some begin → IsNextRound net begin o after × IsProgress net begin after)
 
 -- or it is told
 abbrev pub IsSoon : Bool → ℕ → NetState → Type 0

@@ -3,6 +3,7 @@
 
 mod answer;
 mod command;
+mod foreseen;
 mod laws;
 mod live;
 mod note;

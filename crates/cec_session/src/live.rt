@@ -4,19 +4,17 @@ ghost use Rattle.cec_session.specs.Session.{step_show};
 
 use crate::answer::{Refusal, write_idle, write_refused, write_shown, write_taken};
 use crate::command::{Command, command_in};
+use crate::foreseen::Foreseen;
 use crate::note::{events_after, note_line};
 use crate::turns::{go_on, soonest, write_last_lines};
-use cec_asm::{ScriptCause, ScriptDraft, TimedEvent};
-use cec_edges::EdgeWire;
-use cec_net::Net;
-use cec_run::{Totals, Turn, first_time, next_turn};
+use cec_asm::{ScriptCause, ScriptDraft};
+use cec_run::{Totals, first_time};
 use cec_step_text::behind;
 use cec_trace::write_ports;
-use cec_wave::Pulses;
 use hdmi_blocks::Edid;
 use hdmi_core::{Sink, WriteFault};
 use hdmi_topo::Tree;
-use std::alloc::Global;
+use std::alloc::{AllocError, Global};
 use std::marker::Model;
 use thiserror::Error;
 
@@ -52,7 +50,7 @@ pub struct Live {
     edid: Option<Edid>,
     /// The devices by their names.
     tree: Tree<15>,
-    net: Net<EdgeWire>,
+    net: Foreseen,
     /// What the lines that were taken say.
     draft: ScriptDraft,
     /// How many events were applied.
@@ -101,38 +99,39 @@ fn shown(device: Option<usize>) -> Step
 }
 
 impl Live {
-    ghost use Rattle.std.specs.Prelude.{ℕ, ◌<◌, ◌≤◌, ◌++◌, true, IfSome, MatchOption, Result, is_some, length, None};
+    ghost use Rattle.std.specs.Prelude.{ℕ, ◌<◌, ◌≤◌, ◌++◌, true, IfSome, MatchOption, Result, is_some, length, None, IfOk};
     ghost use Rattle.cec_asm.specs.Script.{IsLineRead, Notes};
     ghost use Rattle.cec_asm.specs.declared.fault.LineFault.{LineFault as LineFaultValue};
     ghost use Rattle.hdmi_blocks.specs.Root.{HasAddress};
     ghost use Rattle.hdmi_core.specs.Cut.{WrittenText};
     ghost use Rattle.cec_run.specs.declared.run.Telling.TheVariants.{Trace};
-    ghost use Rattle.cec_run.specs.declared.run.Turn.TheVariants.{Stop};
-    ghost use Rattle.cec_run.specs.Run.{end_told, start_told, turn_at};
+    ghost use Rattle.cec_run.specs.Run.{end_told, start_told};
     ghost use Rattle.cec_session.specs.declared.live.Step.TheVariants.{Finish, Go, Show};
     ghost use Rattle.cec_session.specs.Note.{IsSettled};
     ghost use Rattle.cec_session.specs.Session.{IsSoonest, IsStep, NamesShown, after_to, after_wait, first_session, with_line_counted, standing, step_to, step_wait, taken_line, with_standing};
     ghost use Rattle.cec_session.specs.Taken.{IsAnswered, IsGone, IsLineTaken, IsOfMemory};
 
     /// A run before its first line. The television's EDID, where it is given, has an HDMI block.
-    pub fn new(alloc: Global, tree: Tree<15>, edid: Option<Edid>) -> Live
+    ///
+    /// # Errors
+    ///
+    /// Want of memory.
+    pub fn new(alloc: Global, tree: Tree<15>, edid: Option<Edid>) -> Result<Live, AllocError>
         requires some { 0 < length tree }
         requires addressed { HasAddress edid }
-        ensures { result ≡ first_session edid tree }
+        ensures { IfOk result (λ live. live ≡ first_session edid tree) }
     {
-        let Ok(none) = Pulses::new(&[]) else {
-            unreachable!();
-        };
-        Live {
+        let net = Foreseen::new(alloc, tree.copy())?;
+        Ok(Live {
             edid,
-            tree: tree.copy(),
-            net: Net::new(tree, EdgeWire::new(), none),
+            tree,
+            net,
             draft: ScriptDraft::new(alloc),
             applied: 0,
             totals: Totals::default(),
             horizon: 0,
             lines: 0,
-        }
+        })
     }
 
     /// Whether the script has come to its end.
@@ -147,13 +146,6 @@ impl Live {
         ensures { WrittenText (S.contents out.old) (S.contents out.new) (S.is_stuck out.old) (S.is_stuck out.new) (start_told (Trace self.now.edid) self.now.place.net) result }
     {
         write_ports(out, 0, &self.edid, self.net.tree(), &[])
-    }
-
-    // The events that were not applied yet.
-    fn left(&self) -> &[TimedEvent]
-        ensures { result.now ≡ self.now.place.events }
-    {
-        events_after(&self.draft, self.applied)
     }
 
     // Takes a line of the script. None where memory ran out; then nothing has changed.
@@ -177,7 +169,10 @@ impl Live {
     fn wait(&mut self) -> Step
         ensures { (soon : Option ℕ) × IsSoonest self.old.place soon × (result ≡ step_wait soon) × (self.new ≡ after_wait self.old soon) }
     {
-        match soonest(&self.net, first_time(self.left())) {
+        match soonest(
+            &mut self.net,
+            first_time(events_after(&self.draft, self.applied)),
+        ) {
             None => Step::Idle,
             Some(time) => {
                 self.horizon = self.horizon.max(time);
@@ -219,50 +214,23 @@ impl Live {
         }
     }
 
-    // Whether no turn begins before the horizon.
-    fn is_still(&self) -> bool
-        ensures { result ≡ true → turn_at self.now.horizon self.now.place ≡ Stop }
-    {
-        match next_turn(self.horizon, &self.net, first_time(self.left())) {
-            Turn::Stop => true,
-            Turn::Apply(_) | Turn::Round(_) => false,
-        }
-    }
-
-    // Goes on, and writes what is reported. The network is large: it is not copied where no turn begins.
-    #[tactic(auto, using(crate::proofs::Still::still))]
+    // Goes on, and writes what is reported.
     fn go<S: Sink>(&mut self, out: &mut S, ended: bool) -> Result<u128, WriteFault>
         ensures { IsGone ended self.old self.new (S.contents out.old) (S.contents out.new) (S.is_stuck out.old) (S.is_stuck out.new) result }
     {
-        if self.is_still() {
-            return Ok(0);
-        }
-        self.go_ahead(out, ended)
-    }
-
-    // Goes on on a copy of the network, and keeps that where what is reported was written.
-    fn go_ahead<S: Sink>(&mut self, out: &mut S, ended: bool) -> Result<u128, WriteFault>
-        ensures { IsGone ended self.old self.new (S.contents out.old) (S.contents out.new) (S.is_stuck out.old) (S.is_stuck out.new) result }
-    {
-        let mut ahead = self.net.copy();
-        let mut totals = self.totals;
-        match go_on(
+        let mut applied = 0;
+        let gone = go_on(
             out,
-            &mut ahead,
+            &mut self.net,
             &self.edid,
-            &mut totals,
+            &mut self.totals,
             events_after(&self.draft, self.applied),
+            &mut applied,
             self.horizon,
             ended,
-        ) {
-            Err(fault) => Err(fault),
-            Ok(gone) => {
-                self.net = ahead;
-                self.totals = totals;
-                self.applied += gone.applied;
-                Ok(gone.written)
-            }
-        }
+        );
+        self.applied += applied;
+        gone
     }
 
     // Writes that a line was taken.

@@ -10,10 +10,9 @@ ghost use Rattle.cec_session.specs.declared.answer.Refusal.TheVariants.{Past};
 ghost use Rattle.cec_session.specs.declared.live.Step.TheVariants.{Refuse};
 
 use crate::answer::Refusal;
+use crate::foreseen::Foreseen;
 use crate::live::Step;
 use cec_asm::{ScriptDraft, ScriptLineError, TimedEvent, take_line};
-use cec_edges::EdgeWire;
-use cec_net::Net;
 use cec_wave::Stretch;
 use hdmi_topo::Tree;
 
@@ -57,7 +56,7 @@ fn ends_before(horizon: u64, end: Option<u64>) -> bool
 }
 
 // Tells the network of the pulse, where there is one. Returns whether it refuses it; then it is as it was.
-fn add_pulse(net: &mut Net<EdgeWire>, pulses: &[Stretch]) -> bool
+fn add_pulse(net: &mut Foreseen, pulses: &[Stretch]) -> bool
     requires few { length pulses.now ≤ 1 }
     ensures refused { result ≡ refuses_pulse pulses.now net.old }
     ensures net { net.new ≡ (if result then net.old else with_pulses pulses.now net.old) }
@@ -98,7 +97,7 @@ fn settle(
     draft: &mut ScriptDraft,
     events: usize,
     pulses: usize,
-    net: &mut Net<EdgeWire>,
+    net: &mut Foreseen,
     horizon: &mut u64,
 ) -> Step
     requires few { length (drop pulses draft.old.pulses.items) ≤ 1 }
@@ -134,7 +133,7 @@ fn refused_by(error: ScriptLineError) -> Option<Step>
 pub(crate) fn note_line(
     tree: &Tree<15>,
     draft: &mut ScriptDraft,
-    net: &mut Net<EdgeWire>,
+    net: &mut Foreseen,
     horizon: &mut u64,
     number: u64,
     line: &[u8],

@@ -33,7 +33,7 @@ fn spelled(rt: &(impl Abort + AllocGlobal), row: &str) -> String {
 }
 
 fn fault_of(rt: &(impl Abort + AllocGlobal), script: &str) -> String {
-    match first_fault(TOPOLOGY.as_bytes(), script.as_bytes()) {
+    match first_fault(rt.alloc(), TOPOLOGY.as_bytes(), script.as_bytes()).expect(rt, script) {
         None => String::from_str(rt.alloc(), "none").expect(rt, script),
         Some(fault) => format!(in rt.alloc(); "{fault}").expect(rt, script),
     }

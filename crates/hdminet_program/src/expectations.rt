@@ -130,8 +130,10 @@ fn write_plain<W: Sink>(
 ) -> Result<(), ProgramFault>
     ensures { OnOk result (WritesTest TestView.Plain topology.now script.now (W.contents out.old) (W.contents out.new)) }
 {
-    if let Some(fault) = first_fault(topology, script) {
-        return Err(ProgramFault::from(CheckError::Expect(fault)));
+    let fault = first_fault(alloc, topology, script)?;
+    match fault {
+        Some(fault) => return Err(ProgramFault::from(CheckError::Expect(fault))),
+        None => {}
     }
     let plain = plain_script(alloc, script)?;
     write_pieces(

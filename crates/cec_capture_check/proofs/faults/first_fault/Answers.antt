@@ -7,5 +7,5 @@ use Rattle.cec_capture_check.proofs.faults.first_fault.Goals as goal
 pub returns : goal.returns
 returns c =
     let text = c.args.text.now in
-    c.earlier.ensures ∙ ap (λ f. earlier f c.first_fault.result) c.kind_fault_in.ensures ∙ ap (earlier (kinds_from 1 (lines_of text))) c.first_fault.ensures
+    c.earlier.ensures ∙ ap (λ f. earlier f c.in_ok-fault.fault) c.kind_fault_in.ensures ∙ ap (earlier (kinds_from 1 (lines_of text))) c.in_ok-fault.ensures
     ∙ first_is text 1 (lines_of text)

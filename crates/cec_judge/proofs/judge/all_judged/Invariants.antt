@@ -6,8 +6,8 @@ use Rattle.cec_judge.proofs.judge.all_judged.Given as goal
 -- what is found of the lines above, and then of those that are left
 abbrev pub invariant-lines : goal.invariant-lines
 invariant-lines l = record {
-  same : lines_judged l.script l.trace l.found.items (lines_of l.rest) (map (λ state. state.items) l.left) ≡ verdicts_of l.script l.trace (map (λ state. state.items) l.states);
-  room : length l.found.items + length l.rest ≤ length l.script;
+  same : lines_judged l.labels.script.now l.trace l.found.items (lines_of l.rest) (map (λ state. state.items) l.left) ≡ verdicts_of l.labels.script.now l.trace (map (λ state. state.items) l.states);
+  room : length l.found.items + length l.rest ≤ length l.labels.script.now;
 }
 
 abbrev pub decreases-lines : goal.decreases-lines

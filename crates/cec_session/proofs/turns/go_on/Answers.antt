@@ -1,4 +1,4 @@
-use Rattle.std.proofs.Common.{rules, arith, ◌≡◌, ◌∷◌, ◌∙◌, sym, length, drop}
+use Rattle.std.proofs.Common.{rules, arith, ◌≡◌, ◌∷◌, ◌∙◌, ap, sym, length, drop}
 use Rattle.cec_run.specs.declared.run.Telling.TheVariants.{Trace}
 use Rattle.cec_run.specs.declared.run.Turn.TheVariants.{Apply, Round}
 use Rattle.cec_run.specs.Run.{turn_of, first_time}
@@ -15,17 +15,43 @@ returns-in-Err-clause-cut g c =
     (record { net = c.args.net.now; events = c.args.events.now; totals = c.args.totals.now }) _ _ _
     c.turns.written c.in-Err.fault c.cut_at.result split turn c.turns.invariant.told cut.0 c.cut_at.ensures
 
-pub turns-preserved-in-Apply : goal.turns-preserved-in-Apply
-turns-preserved-in-Apply g c =
+pub returns-in-Err-clause-few : goal.returns-in-Err-clause-few
+returns-in-Err-clause-few g c =
+    let split : c.turns.rest.now ≡ c.in-Some.event.now ∷ c.in-Some.others.now = search rules in
+    let less = (drop_next c.turns.applied c.args.events.now c.turns.rest.now c.in-Some.event.now c.in-Some.others.now c.turns.invariant.rest split).1 in
+    omega (arith, less)
+
+pub returns-in-Err-clause-within : goal.returns-in-Err-clause-within
+returns-in-Err-clause-within g c =
+    let kept = event_keeps c.in-Apply.at c.in-Some.event.now.event c.turns.net c.apply.new.self c.apply.ensures.net in
+    record {
+      closed = rw kept.close c.turns.invariant.closed;
+      rested = rw kept.rest c.turns.invariant.rested;
+      rounds = rw (kept.rest, c.apply.ensures.totals) (rounds_kept _ _ _ c.turns.invariant.rounds);
+      complete = rw c.apply.ensures.totals (complete_kept _ _ c.turns.invariant.complete);
+    }
+
+pub returns-in-Err-clause-keeps : goal.returns-in-Err-clause-keeps
+returns-in-Err-clause-keeps g c =
+    let split : c.turns.rest.now ≡ c.in-Some.event.now ∷ c.in-Some.others.now = search rules in
+    let kept = event_keeps c.in-Apply.at c.in-Some.event.now.event c.turns.net c.apply.new.self c.apply.ensures.net in
+    let left = drop_next c.turns.applied c.args.events.now c.turns.rest.now c.in-Some.event.now c.in-Some.others.now c.turns.invariant.rest split in
+    record {
+      tree = kept.count ∙ c.turns.invariant.tree;
+      refused = rw (c.apply.ensures.totals, ← left.0) (refused_less _ _ _ _ _ _ split c.turns.invariant.refused);
+    }
+
+pub turns-preserved-in-Ok : goal.turns-preserved-in-Ok
+turns-preserved-in-Ok g c =
     let split : c.turns.rest.now ≡ c.in-Some.event.now ∷ c.in-Some.others.now = search rules in
     let turn : turn_of c.args.until c.turns.net (first_time c.turns.rest.now) ≡ Apply c.in-Apply.at = rw (← c.first_time.ensures) (sym c.in-Apply.ensures) in
     let line = c.in-Ok.ensures.text in
-    let kept = event_keeps c.in-Apply.at c.in-Some.event.now.event c.turns.net c.apply_event.new.net c.apply_event.ensures.net in
+    let kept = event_keeps c.in-Apply.at c.in-Some.event.now.event c.turns.net c.apply.new.self c.apply.ensures.net in
     let left = drop_next c.turns.applied c.args.events.now c.turns.rest.now c.in-Some.event.now c.in-Some.others.now c.turns.invariant.rest split in
     let less = left.1 in
     record {
-      told = after_event c.args.edid.now c.args.ended c.args.until c.in-Apply.at c.turns.net c.apply_event.new.net c.in-Some.event.now c.turns.rest.now c.in-Some.others.now c.turns.totals c.apply_event.new.totals
-          (record { net = c.args.net.now; events = c.args.events.now; totals = c.args.totals.now }) _ _ _ c.turns.written c.in-Ok.count c.counted-written.result split turn c.apply_event.ensures.net c.apply_event.ensures.totals
+      told = after_event c.args.edid.now c.args.ended c.args.until c.in-Apply.at c.turns.net c.apply.new.self c.in-Some.event.now c.turns.rest.now c.in-Some.others.now c.turns.totals c.apply.new.totals
+          (record { net = c.args.net.now; events = c.args.events.now; totals = c.args.totals.now }) _ _ _ c.turns.written c.in-Ok.count c.counted-written.result split turn c.apply.ensures.net c.apply.ensures.totals
           c.turns.invariant.told line.0 line.1 c.counted-written.ensures;
       flag = line.2 ∙ c.turns.invariant.flag;
       rest = left.0;
@@ -33,9 +59,9 @@ turns-preserved-in-Apply g c =
       schedule = (c.in-Some.event.now.at, c.turns.invariant.schedule.1, rw kept.count (next_schedule _ _ _ _ _ _ split c.turns.invariant.schedule.2));
       closed = rw kept.close c.turns.invariant.closed;
       rested = rw kept.rest c.turns.invariant.rested;
-      rounds = rw (kept.rest, c.apply_event.ensures.totals) (rounds_kept _ _ _ c.turns.invariant.rounds);
-      complete = rw c.apply_event.ensures.totals (complete_kept _ _ c.turns.invariant.complete);
-      refused = rw c.apply_event.ensures.totals (refused_less _ _ _ _ _ _ split c.turns.invariant.refused);
+      rounds = rw (kept.rest, c.apply.ensures.totals) (rounds_kept _ _ _ c.turns.invariant.rounds);
+      complete = rw c.apply.ensures.totals (complete_kept _ _ c.turns.invariant.complete);
+      refused = rw c.apply.ensures.totals (refused_less _ _ _ _ _ _ split c.turns.invariant.refused);
       tree = kept.count ∙ c.turns.invariant.tree;
     }
 
@@ -89,6 +115,37 @@ returns-in-Err-take_round-clause-cut g c =
 
 pub returns-in-Err-take_round-clause-stuck : goal.returns-in-Err-take_round-clause-stuck
 returns-in-Err-take_round-clause-stuck g c = (c.in-Err-take_round.ensures c.args.edid.now).0.written.1
+
+pub returns-in-Err-take_round-clause-within : goal.returns-in-Err-take_round-clause-within
+returns-in-Err-take_round-clause-within g c =
+    let taken = c.in-Err-take_round.ensures c.args.edid.now in
+    let w = taken.0 in
+    let turn : turn_of c.args.until c.turns.net (first_time c.turns.rest.now) ≡ Round c.in-Round.begin = rw (← c.first_time.ensures) (sym c.in-Round.ensures) in
+    let begins = round_begins c.args.until c.turns.net (first_time c.turns.rest.now) c.in-Round.begin turn in
+    let same : w.begin ≡ c.in-Round.begin = same_begin (sym w.begins ∙ begins.0) in
+    let brought = round_brings (Trace c.args.edid.now) c.args.until w.begin c.turns.net c.take_round.new.net c.turns.totals c.take_round.new.totals w.text w.progress (omega (arith, begins.1, same)) w.turn in
+    let counts = counts_brought c.turns.totals c.take_round.new.totals _ w.turn.totals in
+    record {
+      closed = omega (arith, brought.close, c.requires.early);
+      rested = omega (arith, brought.rest, c.requires.early);
+      rounds = omega (arith, counts.0, brought.sooner, c.turns.invariant.rounds);
+      complete = omega (arith, counts.0, counts.1, c.turns.invariant.complete);
+    }
+
+pub returns-in-Err-take_round-clause-keeps : goal.returns-in-Err-take_round-clause-keeps
+returns-in-Err-take_round-clause-keeps g c =
+    let taken = c.in-Err-take_round.ensures c.args.edid.now in
+    let w = taken.0 in
+    let turn : turn_of c.args.until c.turns.net (first_time c.turns.rest.now) ≡ Round c.in-Round.begin = rw (← c.first_time.ensures) (sym c.in-Round.ensures) in
+    let begins = round_begins c.args.until c.turns.net (first_time c.turns.rest.now) c.in-Round.begin turn in
+    let same : w.begin ≡ c.in-Round.begin = same_begin (sym w.begins ∙ begins.0) in
+    let brought = round_brings (Trace c.args.edid.now) c.args.until w.begin c.turns.net c.take_round.new.net c.turns.totals c.take_round.new.totals w.text w.progress (omega (arith, begins.1, same)) w.turn in
+    let counts = counts_brought c.turns.totals c.take_round.new.totals _ w.turn.totals in
+    let left : length c.turns.rest.now ≡ length (drop c.turns.applied c.args.events.now) = ap length c.turns.invariant.rest in
+    record {
+      tree = rw brought.tree c.turns.invariant.tree;
+      refused = omega (arith, counts.2, left, c.turns.invariant.refused);
+    }
 
 pub returns-in-None-clause-ok : goal.returns-in-None-clause-ok
 returns-in-None-clause-ok g c =

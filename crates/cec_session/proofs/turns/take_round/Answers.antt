@@ -7,7 +7,7 @@ use Rattle.cec_session.proofs.turns.take_round.Goals as goal
 pub returns-in-Ok : goal.returns-in-Ok
 returns-in-Ok g c = λ edid.
     let o = c.in-Some.outcome in
-    let line = round_line c.round_by.new.net.devices o in
+    let line = round_line c.round_by.new.self.devices o in
     let told = subst (λ (devices : List State). WrittenLine (g.S.Sink.contents c.args.out.now) (g.S.Sink.contents c.write_round.new.out) (g.S.Sink.is_stuck c.args.out.now) (g.S.Sink.is_stuck c.write_round.new.out)
     (round_line devices o) c.write_round.result) c.devices.ensures c.write_round.ensures in (
       record {
@@ -24,7 +24,7 @@ returns-in-Ok g c = λ edid.
 pub returns-in-Err : goal.returns-in-Err
 returns-in-Err g c = λ edid.
     let o = c.in-Some.outcome in
-    let line = round_line c.round_by.new.net.devices o in
+    let line = round_line c.round_by.new.self.devices o in
     let told = subst (λ (devices : List State). WrittenLine (g.S.Sink.contents c.args.out.now) (g.S.Sink.contents c.write_round.new.out) (g.S.Sink.is_stuck c.args.out.now) (g.S.Sink.is_stuck c.write_round.new.out)
     (round_line devices o) c.write_round.result) c.devices.ensures c.write_round.ensures in (
       record {

@@ -1,13 +1,13 @@
 use Rattle.std.proofs.Common.{◌≡◌, ◌+◌, ◌≤◌, length}
 use Rattle.hdmi_core.specs.Lines.{lines_of}
 use Rattle.cec_expect.specs.Faults.{faults_from, first_fault}
-use Rattle.cec_expect.proofs.faults.first_fault.Given as goal
+use Rattle.cec_expect.proofs.faults.fault_among.Given as goal
 
 -- no line before is at fault
 abbrev pub invariant-lines : goal.invariant-lines
 invariant-lines l = record {
-  same : first_fault l.topology l.script ≡ faults_from l.topology l.script l.number (lines_of l.rest);
-  room : l.number + length l.rest ≤ length l.script + 1;
+  same : first_fault l.topology l.labels.script.now ≡ faults_from l.topology l.labels.script.now l.number (lines_of l.rest);
+  room : l.number + length l.rest ≤ length l.labels.script.now + 1;
 }
 
 abbrev pub decreases-lines : goal.decreases-lines

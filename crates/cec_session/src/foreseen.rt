@@ -1,0 +1,199 @@
+//! A network, and the round that comes next on it.
+ghost use Rattle.std.specs.Prelude.{◌≡◌, ◌+◌, ◌≤◌, ◌<◌, [], length, slice_get, Some, None, Option, IfOk, IfSome, IsSome, MatchOption, MatchResult};
+ghost use Rattle.hdmi_blocks.specs.declared.edid.Edid.{Edid as EdidValue};
+ghost use Rattle.cec_wave.specs.Line.{IsWave};
+ghost use Rattle.cec_wire.specs.declared.Outcome.{Outcome as OutcomeValue};
+ghost use Rattle.cec_event.specs.Events.{NamesDevices};
+ghost use Rattle.cec_net.specs.Added.{pulse_fault, with_pulse};
+ghost use Rattle.cec_net.specs.Apply.{event_fault, net_after};
+ghost use Rattle.cec_net.specs.Progress.{IsProgress};
+ghost use Rattle.cec_net.specs.State.{NetState, first_net, next_start};
+ghost use Rattle.cec_net.specs.Step.{IsNextRound};
+ghost use Rattle.hdmi_core.specs.Cut.{WrittenText};
+ghost use Rattle.hdmi_blocks.specs.Root.{HasAddress};
+ghost use Rattle.cec_run.specs.Run.{counted_event, event_text, turn_of};
+ghost use Rattle.cec_session.specs.Turns.{IsForeseen, IsLate, IsSoon};
+
+use cec_asm::TimedEvent;
+use cec_device::Device;
+use cec_edges::EdgeWire;
+use cec_net::{Net, PulseError};
+use cec_run::{Totals, Turn, apply_event, next_turn};
+use cec_wave::Stretch;
+use cec_wire::Outcome;
+use hdmi_blocks::Edid;
+use hdmi_core::{Sink, WriteFault};
+use hdmi_topo::Tree;
+use std::alloc::{AllocError, Global};
+use std::marker::Model;
+use std::mem;
+
+/// A network, and what its next round gives, once that was looked for. So a round that is not told yet is run once, and not
+/// again with each line that comes. As a value it is the network.
+#[derive(Drop)]
+pub(crate) struct Foreseen {
+    net: Box<Net<EdgeWire>>,
+    /// What the next round gives, where it was run.
+    next: Option<Outcome>,
+    /// And then the network after it.
+    after: Box<Net<EdgeWire>>,
+}
+
+impl Model for Foreseen {
+    ghost use Rattle.cec_net.specs.State.{NetState};
+    ghost use Rattle.cec_session.specs.Turns.{IsForeseen};
+
+    ghost Value = { NetState };
+
+    ghost view = { λ f. f.net.value };
+
+    ghost invariant = { λ f. IsForeseen f.net.value f.next f.after.value };
+}
+
+// Runs the next round, which begins at `begin`, on the second network, where it was not run yet. Returns its close.
+fn foresee(
+    net: &Net<EdgeWire>,
+    begin: u64,
+    next: &mut Option<Outcome>,
+    after: &mut Net<EdgeWire>,
+) -> u64
+    requires early { net.now.close ≤ 2000000000000 }
+    requires begins { next_start net.now ≡ Some begin }
+    requires known { IsForeseen net.now next.old after.old }
+    ensures known { IsForeseen net.now next.new after.new }
+    ensures some { IsSome next.new }
+    ensures close { result ≡ after.new.close }
+{
+    if next.is_some() {
+        return after.close();
+    }
+    after.copy_from(net);
+    let outcome = after.round_at(begin);
+    let _stretches = outcome.wave.as_slice();
+    *next = Some(outcome);
+    after.close()
+}
+
+impl Foreseen {
+    /// The network at time 0, without pulses.
+    ///
+    /// # Errors
+    ///
+    /// Want of memory.
+    pub fn new(alloc: Global, tree: Tree<15>) -> Result<Self, AllocError>
+        requires some { 0 < length tree }
+        ensures { IfOk result (λ net. net ≡ first_net tree []) }
+    {
+        let after = Net::on_heap(alloc, tree.copy(), &[])?;
+        let net = Net::on_heap(alloc, tree, &[])?;
+        Ok(Foreseen {
+            net,
+            next: None,
+            after,
+        })
+    }
+
+    /// The tree of the devices.
+    pub fn tree(&self) -> &Tree<15>
+        ensures { result.now ≡ self.now.tree }
+    {
+        self.net.tree()
+    }
+
+    /// The devices, by their numbers.
+    pub fn devices(&self) -> &[Device<16>]
+        ensures { result.now ≡ self.now.devices }
+    {
+        self.net.devices()
+    }
+
+    /// A device, whose number is below the count.
+    pub fn device(&self, number: usize) -> &Device<16>
+        requires { number < length self.now.tree }
+        ensures { slice_get self.now.devices number ≡ Some result.now }
+    {
+        self.net.device(number)
+    }
+
+    /// How many of the pulses that it was told of no round has taken yet.
+    pub fn waiting(&self) -> usize
+        ensures { result ≡ length self.now.pulses }
+    {
+        self.net.waiting()
+    }
+
+    /// What comes next in a run to `end`, where the next event has this time.
+    pub fn next_turn(&self, end: u64, time: Option<u64>) -> Turn
+        ensures { result ≡ turn_of end self.now time }
+    {
+        next_turn(end, &self.net, time)
+    }
+
+    /// Tells of one more pulse, as [`add_pulse`](Net::add_pulse) of a network.
+    ///
+    /// # Errors
+    ///
+    /// Those of that.
+    pub fn add_pulse(&mut self, pulse: Stretch) -> Result<(), PulseError>
+        ensures { MatchResult result
+            (λ _. (pulse_fault self.old pulse ≡ None) × (self.new ≡ with_pulse self.old pulse))
+            (λ error. (pulse_fault self.old pulse ≡ Some error) × (self.new ≡ self.old)) }
+    {
+        self.next = None;
+        self.net.add_pulse(pulse)
+    }
+
+    /// Applies an event, as [`apply_event`].
+    pub fn apply<S: Sink>(
+        &mut self,
+        out: &mut S,
+        edid: &Option<Edid>,
+        totals: &mut Totals,
+        at: u64,
+        event: &TimedEvent,
+    ) -> Result<u128, WriteFault>
+        requires addressed { HasAddress edid.now }
+        requires early { at ≤ 2000000000000 }
+        requires known { NamesDevices (length self.old.tree) event.now.event }
+        requires room { totals.old.refused < 18446744073709551615 }
+        ensures net { self.new ≡ net_after at event.now.event self.old }
+        ensures totals { totals.new ≡ counted_event (event_fault self.old event.now.event) totals.old }
+        ensures text { WrittenText (S.contents out.old) (S.contents out.new) (S.is_stuck out.old) (S.is_stuck out.new)
+            (event_text edid.now at event.now self.old) result }
+    {
+        self.next = None;
+        apply_event(out, &mut self.net, edid, totals, at, event)
+    }
+
+    /// The close of the next round, which begins at `begin`.
+    pub fn next_close(&mut self, begin: u64) -> u64
+        requires early { self.old.close ≤ 2000000000000 }
+        requires begins { next_start self.old ≡ Some begin }
+        ensures same { self.new ≡ self.old }
+        ensures close { (outcome : OutcomeValue) × (after : NetState) × IsWave outcome.wave × IsNextRound self.old begin outcome after × IsProgress self.old begin after × (result ≡ after.close) }
+    {
+        foresee(&self.net, begin, &mut self.next, &mut self.after)
+    }
+
+    /// Runs the next round, which begins at `begin`, where it closes before `until` or the script has ended. None, and nothing
+    /// changes, where it closes then or later.
+    pub fn round_by(&mut self, begin: u64, until: u64, ended: bool) -> Option<Outcome>
+        requires early { self.old.close ≤ 2000000000000 }
+        requires begins { next_start self.old ≡ Some begin }
+        ensures step { MatchOption result
+            ((self.new ≡ self.old) × IsLate ended until begin self.old)
+            (λ outcome. IsNextRound self.old begin outcome self.new × IsSoon ended until self.new) }
+        ensures progress { IfSome result (λ _. IsProgress self.old begin self.new) }
+        ensures wave { IfSome result (λ outcome. IsWave outcome.wave) }
+    {
+        let close = foresee(&self.net, begin, &mut self.next, &mut self.after);
+        if !ended && close >= until {
+            return None;
+        }
+        let Some(outcome) = self.next.take() else {
+            unreachable!();
+        };
+        mem::swap(&mut self.net, &mut self.after);
+        Some(outcome)
+    }
+}
