@@ -17,8 +17,6 @@ mod example_lines;
 mod example_reports;
 mod examples;
 mod expectations;
-mod explained;
-mod explanations;
 mod flags;
 mod frames;
 mod hostile;
@@ -26,7 +24,6 @@ mod limits;
 mod refused_texts;
 mod runs;
 mod sessions;
-mod slips;
 mod sweeps;
 mod trees;
 

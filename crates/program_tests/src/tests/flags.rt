@@ -63,3 +63,18 @@ fn a_strict_run_of_events_that_are_taken_is_the_run(rt: HostRuntime) {
         gives(&rt, strict, "taken", TAKEN_KEY, out.as_str());
     }
 }
+
+/// What is reported where a writer fails after one byte.
+const WRITE_FAULT: &[u8] = b"hdminet: write fault after 1 bytes
+  standard output takes no more: is the disk full, or the reader gone? What was written before is the front of the output
+";
+
+/// A frame's line, which `asm` writes as `44`.
+const POLL: &[u8] = b"4>4\n";
+
+#[test]
+fn a_write_fault_is_explained_and_what_is_done_is_the_same(rt: HostRuntime) {
+    let told = told_of(&rt, "asm --explain", POLL, Some(1));
+    ends(&rt, told, 3, b"4", WRITE_FAULT, "asm", "a write fault");
+    gives(&rt, "--explain asm", "what is done", POLL, "44\n");
+}

@@ -59,6 +59,11 @@ step => 00ff; =>   a line `script`, and nothing else on it, parts the topology f
 step =>  =>   a line `script`, and nothing else on it, parts the topology from the script
 ";
 
+/// The two parts of a case.
+fn two_parts<'a>(rt: &impl Abort, case: &'a str) -> (&'a str, &'a str) {
+    case.split_once(" => ").expect(rt, case)
+}
+
 /// The answer is the plain one, whose fault ends here, with this line and perhaps more after it; neither has any output.
 fn adds_to(told: &Answer, plain: &Answer, second: &[u8]) -> bool {
     let silent = told.out.is_empty() && plain.out.is_empty();
@@ -70,8 +75,8 @@ fn adds_to(told: &Answer, plain: &Answer, second: &[u8]) -> bool {
 fn is_explained(rt: &(impl Abort + AllocGlobal), line: &str, input: &[u8], second: &str) {
     let explained = format!(in rt.alloc(); "{line} --explain").expect(rt, "a command line");
     let second_line = format!(in rt.alloc(); "{second}\n").expect(rt, "a line");
-    let told = told_of(rt, explained.as_str(), input, None);
-    let plain = told_of(rt, line, input, None);
+    let told = told_of(rt, explained.as_str(), input);
+    let plain = told_of(rt, line, input);
     let right = adds_to(&told, &plain, second_line.as_bytes());
     expect(rt, right, line, second);
 }
@@ -79,30 +84,16 @@ fn is_explained(rt: &(impl Abort + AllocGlobal), line: &str, input: &[u8], secon
 #[test]
 fn faults_are_followed_by_their_explanation(rt: HostRuntime) {
     for case in CASES.lines() {
-        let (line, text, second) = three_parts(&rt, case);
-        let input = with_lines(&rt, text);
+        let (line, rest) = two_parts(&rt, case);
+        let (text, second) = two_parts(&rt, rest);
+        let input = text.replace(rt.alloc(), ";", "\n").expect(&rt, "an input");
         is_explained(&rt, line, input.as_bytes(), second);
     }
 }
 
-/// What is reported where a writer fails after one byte.
-const WRITE_FAULT: &[u8] = b"hdminet: write fault after 1 bytes
-  standard output takes no more: is the disk full, or the reader gone? What was written before is the front of the output
-";
-
-/// A frame's line, which `asm` writes as `44`.
-const POLL: &[u8] = b"4>4\n";
-
-#[test]
-fn a_write_fault_is_explained_and_what_is_done_is_the_same(rt: HostRuntime) {
-    let told = told_of(&rt, "asm --explain", POLL, Some(1));
-    ends(&rt, told, 3, b"4", WRITE_FAULT, "asm", "a write fault");
-    gives(&rt, "--explain asm", "what is done", POLL, "44\n");
-}
-
 #[test]
 fn a_file_name_is_explained(rt: HostRuntime) {
-    let told = told_of(&rt, "run tv.net --explain", b"".as_slice(), None);
+    let told = told_of(&rt, "run tv.net --explain", b"");
     let refused = told.status == 2 && told.out.is_empty();
     let said = String::from_utf8(told.err).expect(&rt, "a text");
     let said = said.as_str();
@@ -123,7 +114,7 @@ run --bogus => For more information, try '--help'.
 fn files_and_help_are_explained_without_a_flag(rt: HostRuntime) {
     for case in MEANT.lines() {
         let (line, last) = two_parts(&rt, case);
-        let told = told_of(&rt, line, b"".as_slice(), None);
+        let told = told_of(&rt, line, b"");
         let refused = told.status == 2 && told.out.is_empty();
         let said = String::from_utf8(told.err).expect(&rt, "a text");
         let right = said.as_str().lines().last() == Some(last);

@@ -546,7 +546,7 @@ mon --explain
 fn is_told(rt: &(impl Abort + AllocGlobal), case: &str) {
     let (line, rest) = case.split_once('\n').unwrap_or((case, ""));
     let (input, want) = rest.split_once("=> ").unwrap_or((rest, ""));
-    let told = told_of(rt, line, input.as_bytes(), None);
+    let told = told_of(rt, line, input.as_bytes());
     let said = told.err.strip_prefix(b"hdminet: ").unwrap_or(b"");
     let right = told.status == 1 && told.out.is_empty() && said == want.as_bytes();
     expect(rt, right, line, case);
