@@ -1,7 +1,7 @@
 //! What is said of EDIDs.
-use crate::place::Place;
 use hdmi_explain::explain_no_hdmi;
 use hdminet_help::Draft;
+use hdminet_marks::Place;
 use std::alloc::AllocError;
 
 /// How long an input is that is no EDID by its length: whole blocks and more, or a count of bytes that is none's.

@@ -1,19 +1,17 @@
 //! What follows the line of a fault.
 use crate::edids::{add_lack, add_length};
-use crate::expectations::{label_words, plain};
-use crate::fault::{Fault, Input};
-use crate::forms::add_right_forms;
-use crate::grammar::EDID_WORDS;
 use crate::hints::{is_shown, of_edid, of_edid_text, of_line, of_text};
-use crate::marks::{Mark, marked};
-use crate::meant::add_meant;
-use crate::place::{Place, is_line_end, place_of};
 use crate::right::right;
-use crate::words::{span_of, word_at, word_count};
 use hdmi_blocks::EdidError;
 use hdmi_dump::looks_like_dump;
 use hdmi_explain::lacks_line_feed;
+use hdmi_lines::WORD_TEXTS;
 use hdminet_help::Draft;
+use hdminet_marks::{
+    Fault, Input, Mark, Place, is_line_end, label_words, marked, place_of, plain, span_of, word_at,
+    word_count,
+};
+use hdminet_meant::{add_meant, add_right_forms};
 use std::alloc::{AllocError, Global};
 
 /// A line is shown up to so many columns.
@@ -116,7 +114,7 @@ fn add_marked(draft: &mut Draft, what: Input, place: Place<'_>, fault: Fault, li
 // Whether all that is wrong with a line of an EDID's text is that no line feed ends it.
 fn is_unended(place: Place<'_>, fault: Fault, line: &str) -> bool {
     let is_last = place.number >= place.input.split(is_line_end).count();
-    let is_known = EDID_WORDS.contains(&word_at(line, 0).unwrap_or(""));
+    let is_known = WORD_TEXTS.contains(&word_at(line, 0).unwrap_or(""));
     matches!(fault, Fault::TextSyntax { .. }) && is_last && is_known && lacks_line_feed(place.input)
 }
 

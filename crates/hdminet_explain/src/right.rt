@@ -1,5 +1,4 @@
 //! What would be right, said once for each cause.
-use crate::fault::{Fault, RangeSlip};
 use cec_asm::{ScriptCause, TopologyCause};
 use cec_dis::DisCause;
 use cec_expect::ExpectCause;
@@ -8,6 +7,7 @@ use cec_text::AssembleError;
 use hdmi_blocks::EdidError;
 use hdmi_dump::DumpError;
 use hdmi_edid::BaseError;
+use hdminet_marks::{Fault, RangeSlip};
 
 fn of_topology(cause: TopologyCause) -> &'static str {
     match cause {

@@ -11,7 +11,7 @@ use cec_sweep::{RangeCause, RangeFault};
 use cec_text::FrameLinesError;
 use hdmi_blocks::EdidCause;
 use hdmi_convert::{EdidToTextError, PassOnError, TextToHexError};
-use hdminet_explain::{Fault as Explained, Input, RangeSlip};
+use hdminet_marks::{Fault as Explained, Input, RangeSlip};
 use hdminet_words::{Choice, Objects, Source};
 
 /// What the input of a choice is to be.

@@ -1,8 +1,6 @@
 //! Which line of a script is earlier than which.
-use crate::expectations::without_label;
-use crate::place::{Place, is_line_end};
-use crate::words::word_at;
 use hdminet_help::Draft;
+use hdminet_marks::{Place, is_line_end, without_label, word_at};
 
 /// What an event's line begins with.
 const EVENT: &str = "at ";

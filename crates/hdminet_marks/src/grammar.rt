@@ -1,17 +1,16 @@
 //! The forms of the lines of topologies, scripts and steps. A word in capitals stands for a value.
 use cec_feature::KeyWord;
 use hdmi_core::Kind;
-use hdmi_lines::WORD_TEXTS;
 
-/// The lines of a topology.
-pub const TOPOLOGY: &[&str] = &[
+// The lines of a topology.
+const OF_TOPOLOGY: &[&str] = &[
     "device NAME KIND PORTS",
     "plug CHILD PARENT PORT",
     "edid HEX",
 ];
 
-/// The lines of a script.
-pub const SCRIPT: &[&str] = &[
+// The lines of a script.
+const OF_SCRIPT: &[&str] = &[
     "at T press NAME KEY",
     "at T release NAME KEY",
     "at T plug CHILD PARENT PORT",
@@ -23,17 +22,11 @@ pub const SCRIPT: &[&str] = &[
     "end T",
 ];
 
-/// The lines of the script of a test: those of a script, with a label before them or not, and expectations.
-pub const TEST: &[&str] = &[
-    "at T press NAME KEY",
-    "at T release NAME KEY",
-    "at T plug CHILD PARENT PORT",
-    "at T unplug CHILD",
-    "at T send NAME FRAME",
-    "at T hold NAME ADDRS",
-    "at T drop NAME",
-    "pulse T WIDTH",
-    "end T",
+// The line between them.
+const PARTING: &[&str] = &["script"];
+
+// What a script of a test has besides, in few lines.
+const OF_TEST: &[&str] = &[
     "label NAME LINE",
     "expect within D of NAME PATTERN",
     "expect from T to U PATTERN",
@@ -41,75 +34,28 @@ pub const TEST: &[&str] = &[
     "expect refused NAME WORD",
 ];
 
-/// The lines of expectations, and the line of a label.
-pub const EXPECTATIONS: &[&str] = &[
+// The expectations of rounds.
+const OF_ROUNDS: &[&str] = &[
     "expect within D of NAME PATTERN",
     "expect from T to U PATTERN",
     "expect none within D of NAME PATTERN",
     "expect none from T to U PATTERN",
     "expect once within D of NAME PATTERN",
     "expect once from T to U PATTERN",
+];
+
+// What the script of a test has besides these.
+const BESIDE_ROUNDS: &[&str] = &[
     "expect state T NAME WORD",
     "expect refused NAME WORD",
     "label NAME LINE",
 ];
 
-/// The lines of the expectations of a capture: no event is refused there, and there are no devices whose states it has.
-pub const CAPTURE_EXPECTATIONS: &[&str] = &[
-    "expect within D of NAME PATTERN",
-    "expect from T to U PATTERN",
-    "expect none within D of NAME PATTERN",
-    "expect none from T to U PATTERN",
-    "expect once within D of NAME PATTERN",
-    "expect once from T to U PATTERN",
-    "label NAME at T",
-    "label NAME LINE",
-];
+// What expectations of a capture have besides them: no event is refused there, and there are no devices whose states it has.
+const BESIDE_READINGS: &[&str] = &["label NAME at T", "label NAME LINE"];
 
-/// The forms of keys.
-pub const KEY_FORMS: &[&str] = &[
-    "play",
-    "stop",
-    "eject",
-    "load",
-    "menu",
-    "power",
-    "volume-up",
-    "volume-down",
-    "mute",
-    "port N",
-    "watch PA",
-    "language LLL",
-    "audio on",
-    "audio off",
-    "arc on",
-    "arc off",
-    "remote D CODE",
-];
-
-/// Words that stand for kinds elsewhere, each with the KIND here.
-pub const OTHER_KINDS: &[(&str, &str)] = &[
-    ("television", "tv"),
-    ("display", "tv"),
-    ("avr", "amp"),
-    ("receiver", "amp"),
-    ("amplifier", "amp"),
-    ("audio-system", "amp"),
-    ("soundbar", "amp"),
-    ("playback", "player"),
-    ("source", "player"),
-    ("recording", "recorder"),
-    ("splitter", "switch"),
-    ("hub", "switch"),
-];
-
-/// The words of expectations and labels that stand for themselves.
-pub const EXPECTATION_WORDS: &[&str] = &[
-    "label", "expect", "none", "once", "within", "from", "state", "refused", "of", "to",
-];
-
-/// The steps.
-pub const STEPS: &[&str] = &[
+// The lines of steps.
+const OF_STEPS: &[&str] = &[
     "edge",
     "round",
     "until opcode XX",
@@ -118,19 +64,26 @@ pub const STEPS: &[&str] = &[
     "show NAME",
 ];
 
-/// The words of steps that stand for themselves.
-pub const STEP_WORDS: &[&str] = &[
-    "edge", "round", "until", "opcode", "device", "break", "show",
-];
+/// The lines of a topology.
+pub const TOPOLOGY: &[&[&str]] = &[OF_TOPOLOGY];
 
-/// The words of topologies and scripts that stand for themselves.
-pub const KEYWORDS: &[&str] = &[
-    "device", "plug", "edid", "script", "at", "press", "release", "send", "hold", "drop", "unplug",
-    "pulse", "end",
-];
+/// The lines of a script.
+pub const SCRIPT: &[&[&str]] = &[OF_SCRIPT];
 
-/// The words that the lines of an EDID's text begin with.
-pub const EDID_WORDS: &[&str] = WORD_TEXTS;
+/// The lines of a topology and a script, and the one between them.
+pub const NETWORK: &[&[&str]] = &[OF_TOPOLOGY, PARTING, OF_SCRIPT];
+
+/// The lines of the script of a test: those of a script, with a label before them or not, and expectations.
+pub const TEST: &[&[&str]] = &[OF_SCRIPT, OF_TEST];
+
+/// The lines of expectations, and the line of a label.
+pub const EXPECTATIONS: &[&[&str]] = &[OF_ROUNDS, BESIDE_ROUNDS];
+
+/// The lines of the expectations of a capture.
+pub const CAPTURE_EXPECTATIONS: &[&[&str]] = &[OF_ROUNDS, BESIDE_READINGS];
+
+/// The steps.
+pub const STEPS: &[&[&str]] = &[OF_STEPS];
 
 /// Whether a word of a form stands for a value.
 pub fn is_value(wanted: &str) -> bool {
@@ -190,24 +143,28 @@ pub fn fitting(form: &str, line: &str) -> usize {
 }
 
 /// The most words of a line that fit one of the forms: the word after them is the first that fits none.
-pub fn most_fitting(forms: &[&str], line: &str) -> usize {
+pub fn most_fitting(forms: &[&[&str]], line: &str) -> usize {
     let mut most = 0;
-    for form in forms {
-        most = most.max(fitting(form, line));
+    for some in forms {
+        for form in *some {
+            most = most.max(fitting(form, line));
+        }
     }
     most
 }
 
 /// The word that a line lacks at its end, where one form alone fits all that it has.
-pub fn missing<'a>(forms: &[&'a str], line: &str) -> Option<&'a str> {
+pub fn missing<'a>(forms: &[&[&'a str]], line: &str) -> Option<&'a str> {
     let count = line.split(' ').count();
     let mut missing = None;
-    for form in forms {
-        if fitting(form, line) == count {
-            if missing.is_some() {
-                return None;
+    for some in forms {
+        for form in *some {
+            if fitting(form, line) == count {
+                if missing.is_some() {
+                    return None;
+                }
+                missing = form.split(' ').nth(count);
             }
-            missing = form.split(' ').nth(count);
         }
     }
     missing

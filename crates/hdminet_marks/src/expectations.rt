@@ -104,7 +104,7 @@ fn label_named(line: &str, window: usize) -> Option<Mark> {
 }
 
 /// The forms of the lines of expectations, of a script or of a capture.
-pub fn forms_of(what: Input) -> &'static [&'static str] {
+pub fn forms_of(what: Input) -> &'static [&'static [&'static str]] {
     match what {
         Input::CaptureTest => CAPTURE_EXPECTATIONS,
         _ => EXPECTATIONS,

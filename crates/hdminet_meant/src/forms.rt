@@ -1,18 +1,17 @@
 //! What a line at fault would have to look like.
-use crate::expectations::{as_form, forms_of, plain};
-use crate::fault::{Fault, Input};
 use crate::fields::fields_of;
-use crate::grammar::{SCRIPT, STEPS, TEST, TOPOLOGY, fitting, missing, most_fitting};
 use crate::keys::{add_key, is_of_key};
 use crate::order::add_order;
-use crate::place::Place;
-use crate::words::{word_at, word_count};
 use cec_asm::{ScriptCause, TopologyCause};
 use cec_dis::frame_in;
 use cec_expect::ExpectCause;
 use cec_opcode::code_named;
 use cec_text::{AssembleError, frame_text};
 use hdminet_help::{Draft, add_name, add_shape};
+use hdminet_marks::{
+    Fault, Input, Place, SCRIPT, STEPS, TEST, TOPOLOGY, as_form, fitting, forms_of, missing,
+    most_fitting, plain, word_at, word_count,
+};
 
 /// The word that a line lacks.
 pub fn add_missing(draft: &mut Draft, word: Option<&str>) {
@@ -22,14 +21,16 @@ pub fn add_missing(draft: &mut Draft, word: Option<&str>) {
 }
 
 // The forms that a line fits as far as any, and the word that it lacks.
-fn add_forms(draft: &mut Draft, forms: &[&str], line: &str) {
+fn add_forms(draft: &mut Draft, forms: &[&[&str]], line: &str) {
     let most = most_fitting(forms, line);
     let mut before = "  a line here reads `";
-    for form in forms {
-        if fitting(form, line) == most {
-            draft.add(before);
-            draft.add(form);
-            before = "`, `";
+    for some in forms {
+        for form in *some {
+            if fitting(form, line) == most {
+                draft.add(before);
+                draft.add(form);
+                before = "`, `";
+            }
         }
     }
     draft.add("`\n");
@@ -37,7 +38,7 @@ fn add_forms(draft: &mut Draft, forms: &[&str], line: &str) {
 }
 
 // The forms of a script's lines, which may have labels and expectations among them in a test.
-fn script_forms(what: Input) -> &'static [&'static str] {
+fn script_forms(what: Input) -> &'static [&'static [&'static str]] {
     match what {
         Input::Test => TEST,
         _ => SCRIPT,
@@ -53,7 +54,7 @@ fn add_script_forms(draft: &mut Draft, what: Input, line: &str) {
     }
 }
 
-// What a line of a script would be, by the number of its first word at fault. Returns whether more would be of no use.
+// What a line of a script would be, by the number of its first word that it may not have. Returns whether more would be of no use.
 fn add_script_line(
     draft: &mut Draft,
     what: Input,
@@ -135,6 +136,55 @@ fn add_topology_forms(draft: &mut Draft, line: &str) {
     }
 }
 
+// What a line of a topology would be that is refused for a cause.
+fn add_topology(draft: &mut Draft, cause: TopologyCause, line: &str) {
+    match cause {
+        TopologyCause::Word => add_topology_forms(draft, line),
+        TopologyCause::Number
+        | TopologyCause::Name
+        | TopologyCause::Full
+        | TopologyCause::SecondRoot
+        | TopologyCause::NoRoot
+        | TopologyCause::PortRange
+        | TopologyCause::PortTaken
+        | TopologyCause::NotLoose
+        | TopologyCause::Loop
+        | TopologyCause::Hex => {}
+    }
+}
+
+// What a line of a script would be that is refused for a cause, by the number of its word at fault. Returns whether more would
+// be of no use.
+fn add_script(
+    draft: &mut Draft,
+    what: Input,
+    place: Place<'_>,
+    cause: ScriptCause,
+    line: &str,
+    word: usize,
+) -> bool {
+    match cause {
+        ScriptCause::Word => return add_script_line(draft, what, place, line, word),
+        ScriptCause::Order => add_order(draft, place),
+        ScriptCause::Frame(cause) => add_frame(draft, cause, line, 4),
+        ScriptCause::Number
+        | ScriptCause::Name
+        | ScriptCause::Width
+        | ScriptCause::Close
+        | ScriptCause::TooMany
+        | ScriptCause::End => {}
+    }
+    false
+}
+
+// What a line of expectations would be that is refused for a cause.
+fn add_expectation(draft: &mut Draft, what: Input, cause: ExpectCause, line: &str) {
+    match cause {
+        ExpectCause::Word => add_forms(draft, forms_of(what), as_form(what, line)),
+        ExpectCause::Number | ExpectCause::Name | ExpectCause::Label | ExpectCause::Order => {}
+    }
+}
+
 // What the fields of a line of an EDID's text are.
 fn add_fields(draft: &mut Draft, line: &str) {
     if let Some(word) = word_at(line, 0) {
@@ -154,27 +204,33 @@ pub fn add_right_forms(
     line: &str,
 ) -> bool {
     match fault {
-        Fault::Topology {
-            cause: TopologyCause::Word,
-            ..
-        } => add_topology_forms(draft, line),
-        Fault::Script { cause, word, .. } => match cause {
-            ScriptCause::Word => {
-                let line = plain(what, line);
-                return add_script_line(draft, what, place, line, usize::from(word));
-            }
-            ScriptCause::Order => add_order(draft, place),
-            ScriptCause::Frame(cause) => add_frame(draft, cause, plain(what, line), 4),
-            _ => {}
-        },
-        Fault::Expectation {
-            cause: ExpectCause::Word,
-            ..
-        } => add_forms(draft, forms_of(what), as_form(what, line)),
+        Fault::Topology { cause, .. } => add_topology(draft, cause, line),
+        Fault::Script { cause, word, .. } => {
+            let line = plain(what, line);
+            return add_script(draft, what, place, cause, line, usize::from(word));
+        }
+        Fault::Expectation { cause, .. } => add_expectation(draft, what, cause, line),
         Fault::Steps { .. } => add_forms(draft, STEPS, line),
         Fault::Frame { cause, .. } => add_frame(draft, cause, line, 0),
         Fault::TextField { .. } => add_fields(draft, line),
-        _ => {}
+        Fault::Range { .. }
+        | Fault::Hex { .. }
+        | Fault::Capture { .. }
+        | Fault::Edid(_)
+        | Fault::NoHdmiBlock
+        | Fault::NoPort
+        | Fault::TextSyntax { .. }
+        | Fault::Dump(_)
+        | Fault::NoScriptLine
+        | Fault::NoStepsLine
+        | Fault::NoCaptureLine
+        | Fault::NoRange
+        | Fault::InputTooLong
+        | Fault::LineTooLong
+        | Fault::Read
+        | Fault::Write
+        | Fault::Memory
+        | Fault::NotUtf8 => {}
     }
     false
 }

@@ -87,7 +87,14 @@ fn in_frame(cause: AssembleError) -> Option<Mark> {
 fn in_script(cause: ScriptCause, word: usize) -> Option<Mark> {
     match cause {
         ScriptCause::Frame(cause) => of_frame(cause, word),
-        _ => one(word),
+        ScriptCause::Word
+        | ScriptCause::Number
+        | ScriptCause::Name
+        | ScriptCause::Width
+        | ScriptCause::Order
+        | ScriptCause::Close
+        | ScriptCause::TooMany
+        | ScriptCause::End => one(word),
     }
 }
 
@@ -108,7 +115,7 @@ fn in_capture(cause: Cause, place: Place<'_>, line: &str) -> Option<Mark> {
     match cause {
         Cause::Line => in_line(line),
         Cause::Order => out_of_order(place, line),
-        _ => None,
+        Cause::Word | Cause::Scale | Cause::Signal | Cause::Time | Cause::Late | Cause::End => None,
     }
 }
 
@@ -127,6 +134,18 @@ pub fn marked(what: Input, fault: Fault, place: Place<'_>, line: &str) -> Option
         Fault::Capture { cause, .. } => in_capture(cause, place, line),
         Fault::Edid(_) | Fault::NoHdmiBlock | Fault::TextField { .. } => from(1),
         Fault::TextSyntax { .. } => one(0),
-        _ => None,
+        Fault::Hex { .. }
+        | Fault::NoPort
+        | Fault::Dump(_)
+        | Fault::NoScriptLine
+        | Fault::NoStepsLine
+        | Fault::NoCaptureLine
+        | Fault::NoRange
+        | Fault::InputTooLong
+        | Fault::LineTooLong
+        | Fault::Read
+        | Fault::Write
+        | Fault::Memory
+        | Fault::NotUtf8 => None,
     }
 }

@@ -1,18 +1,35 @@
 //! What the word at fault may have been meant for.
-use crate::expectations::labelled_by;
-use crate::fault::{Fault, Input};
-use crate::grammar::{EDID_WORDS, EXPECTATION_WORDS, KEYWORDS, OTHER_KINDS, STEP_WORDS};
 use crate::keys::is_of_key;
+use crate::near::is_near;
 use crate::numbers::add_number;
-use crate::place::{Place, declared_by, is_line_end};
-use crate::words::{is_near, word_at};
 use cec_asm::{ScriptCause, TopologyCause};
 use cec_expect::ExpectCause;
 use cec_feature::KeyWord;
 use cec_opcode::{WordSet, name};
 use cec_text::AssembleError;
 use hdmi_core::Kind;
+use hdmi_lines::WORD_TEXTS;
 use hdminet_help::Draft;
+use hdminet_marks::{
+    EXPECTATIONS, Fault, Input, NETWORK, Place, STEPS, declared_by, is_line_end, is_value,
+    labelled_by, word_at,
+};
+
+/// Words that stand for kinds elsewhere, each with the KIND here.
+const OTHER_KINDS: &[(&str, &str)] = &[
+    ("television", "tv"),
+    ("display", "tv"),
+    ("avr", "amp"),
+    ("receiver", "amp"),
+    ("amplifier", "amp"),
+    ("audio-system", "amp"),
+    ("soundbar", "amp"),
+    ("playback", "player"),
+    ("source", "player"),
+    ("recording", "recorder"),
+    ("splitter", "switch"),
+    ("hub", "switch"),
+];
 
 /// The words that mute, audio and arc take.
 const SWITCHES: &[&str] = &["on", "off"];
@@ -36,6 +53,28 @@ fn add_nearest(draft: &mut Draft, known: &[&str], word: &str) -> bool {
     for near in known {
         if add_near(draft, near, word) {
             return true;
+        }
+    }
+    false
+}
+
+// The first word of a form that stands for itself and that a word may have been meant for. Returns whether there is one.
+fn add_nearest_of_form(draft: &mut Draft, form: &str, word: &str) -> bool {
+    for near in form.split(' ') {
+        if !is_value(near) && add_near(draft, near, word) {
+            return true;
+        }
+    }
+    false
+}
+
+// The first such word of some forms. Returns whether there is one.
+fn add_nearest_of(draft: &mut Draft, forms: &[&[&str]], word: &str) -> bool {
+    for some in forms {
+        for form in *some {
+            if add_nearest_of_form(draft, form, word) {
+                return true;
+            }
         }
     }
     false
@@ -109,6 +148,17 @@ fn add_nearest_kind(draft: &mut Draft, word: &str) {
     }
 }
 
+// What a word of a topology that may not stand there may have been meant for, by its number in the line.
+fn of_topology_word(draft: &mut Draft, word: &str, number: usize) {
+    match number {
+        0 => {
+            let _ = add_nearest_of(draft, NETWORK, word);
+        }
+        2 => add_nearest_kind(draft, word),
+        _ => {}
+    }
+}
+
 // What a word of a topology may have been meant for, by its number in the line.
 fn of_topology(
     draft: &mut Draft,
@@ -117,16 +167,20 @@ fn of_topology(
     word: &str,
     number: usize,
 ) {
-    match (cause, number) {
-        (TopologyCause::Name, _) => {
+    match cause {
+        TopologyCause::Name => {
             let _ = add_nearest_name(draft, place, word);
         }
-        (TopologyCause::Number, _) => add_number(draft, word),
-        (_, 0) => {
-            let _ = add_nearest(draft, KEYWORDS, word);
-        }
-        (_, 2) => add_nearest_kind(draft, word),
-        _ => {}
+        TopologyCause::Number => add_number(draft, word),
+        TopologyCause::Word
+        | TopologyCause::Full
+        | TopologyCause::SecondRoot
+        | TopologyCause::NoRoot
+        | TopologyCause::PortRange
+        | TopologyCause::PortTaken
+        | TopologyCause::NotLoose
+        | TopologyCause::Loop
+        | TopologyCause::Hex => of_topology_word(draft, word, number),
     }
 }
 
@@ -148,8 +202,19 @@ fn of_script_word(draft: &mut Draft, what: Input, line: &str, word: &str, number
         return of_key(draft, line, word, number);
     }
     let is_verb = number == 0 || number == 2;
-    if is_verb && !add_nearest(draft, KEYWORDS, word) && what == Input::Test {
-        let _ = add_nearest(draft, EXPECTATION_WORDS, word);
+    if is_verb && !add_nearest_of(draft, NETWORK, word) && what == Input::Test {
+        let _ = add_nearest_of(draft, EXPECTATIONS, word);
+    }
+}
+
+// What the name of a frame's opcode may have been meant for.
+fn of_frame(draft: &mut Draft, cause: AssembleError, word: &str) {
+    match cause {
+        AssembleError::Name => add_nearest_opcode(draft, word),
+        AssembleError::Address
+        | AssembleError::TooLong
+        | AssembleError::Count
+        | AssembleError::Operand => {}
     }
 }
 
@@ -171,8 +236,12 @@ fn of_script(
         }
         ScriptCause::Number => add_number(draft, word),
         ScriptCause::Word => of_script_word(draft, what, line, word, number),
-        ScriptCause::Frame(AssembleError::Name) => add_nearest_opcode(draft, word),
-        _ => {}
+        ScriptCause::Frame(cause) => of_frame(draft, cause, word),
+        ScriptCause::Width
+        | ScriptCause::Order
+        | ScriptCause::Close
+        | ScriptCause::TooMany
+        | ScriptCause::End => {}
     }
 }
 
@@ -185,7 +254,7 @@ fn of_expectation(draft: &mut Draft, place: Place<'_>, cause: ExpectCause, word:
         }
         ExpectCause::Number => add_number(draft, word),
         ExpectCause::Word | ExpectCause::Order => {
-            let _ = add_nearest(draft, EXPECTATION_WORDS, word);
+            let _ = add_nearest_of(draft, EXPECTATIONS, word);
         }
     }
 }
@@ -208,17 +277,31 @@ pub fn add_meant(
         Fault::Script { cause, .. } => of_script(draft, what, place, cause, line, number),
         Fault::Expectation { cause, .. } => of_expectation(draft, place, cause, word),
         Fault::Steps { .. } => {
-            if !add_nearest(draft, STEP_WORDS, word) {
+            if !add_nearest_of(draft, STEPS, word) {
                 let _ = add_nearest_name(draft, place, word);
             }
         }
-        Fault::Frame {
-            cause: AssembleError::Name,
-            ..
-        } => add_nearest_opcode(draft, word),
+        Fault::Frame { cause, .. } => of_frame(draft, cause, word),
         Fault::TextSyntax { .. } => {
-            let _ = add_nearest(draft, EDID_WORDS, word);
+            let _ = add_nearest(draft, WORD_TEXTS, word);
         }
-        _ => {}
+        Fault::Range { .. }
+        | Fault::Hex { .. }
+        | Fault::Capture { .. }
+        | Fault::Edid(_)
+        | Fault::NoHdmiBlock
+        | Fault::NoPort
+        | Fault::TextField { .. }
+        | Fault::Dump(_)
+        | Fault::NoScriptLine
+        | Fault::NoStepsLine
+        | Fault::NoCaptureLine
+        | Fault::NoRange
+        | Fault::InputTooLong
+        | Fault::LineTooLong
+        | Fault::Read
+        | Fault::Write
+        | Fault::Memory
+        | Fault::NotUtf8 => {}
     }
 }

@@ -1,0 +1,21 @@
+//! Where a fault stands in an input: its line, and the words of that line that are at fault.
+//!
+//! All of it serves texts for people, so that tests speak of it and no contract does.
+#![tactic(auto)]
+
+mod edges;
+mod expectations;
+mod fault;
+mod grammar;
+mod marks;
+mod place;
+mod words;
+
+pub use expectations::{as_form, forms_of, label_words, labelled_by, plain, without_label};
+pub use fault::{Fault, Input, RangeSlip};
+pub use grammar::{
+    EXPECTATIONS, NETWORK, SCRIPT, STEPS, TEST, TOPOLOGY, fitting, is_value, missing, most_fitting,
+};
+pub use marks::{Mark, is_word, marked};
+pub use place::{Place, declared_by, is_line_end, kind_of, place_of};
+pub use words::{span_of, word_at, word_count};

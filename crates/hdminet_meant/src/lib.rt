@@ -1,0 +1,15 @@
+//! What a line at fault may have been meant to be: the forms of lines, of keys and of fields, and known words that are near.
+//!
+//! All of it is text for people, so that tests speak of it and no contract does.
+#![tactic(auto)]
+
+mod fields;
+mod forms;
+mod keys;
+mod meant;
+mod near;
+mod numbers;
+mod order;
+
+pub use forms::add_right_forms;
+pub use meant::add_meant;
