@@ -272,16 +272,44 @@ fn explanation(words: &[String]) -> &'static str {
     }
 }
 
-// What is often meant by words that are refused so: a file's name, of which the input is, and `help`.
-fn meant(error: &str) -> &'static str {
-    if error.starts_with("error: unexpected argument '-") {
-        ""
-    } else if error.starts_with("error: unexpected argument '") {
-        help::FILE_NAME
-    } else if error.starts_with("error: unrecognized subcommand 'help'") {
-        help::HELP_WORD
+// The word that is refused where no more words are taken, as an error quotes it: a file's name, and no flag.
+fn refused_word(error: &str) -> Option<&str> {
+    let quoted = error.strip_prefix("error: unexpected argument '")?;
+    let (word, _) = quoted.split_once("' found")?;
+    if word.starts_with("-") {
+        None
     } else {
-        ""
+        Some(word)
+    }
+}
+
+// Adds the words of a command line after the program's name, each after a space, but for a file's name.
+fn add_words_but(words: &[String], file: &str, text: &mut String) -> Result<(), AllocError> {
+    for word in words.iter().skip(1) {
+        if word.as_str() != file {
+            text.push_str(" ")?;
+            text.push_str(word.as_str())?;
+        }
+    }
+    Ok(())
+}
+
+// How a command line is written that has a file's name among its words.
+fn with_input(alloc: Global, words: &[String], file: &str) -> Result<String, AllocError> {
+    let mut text = String::from_str(alloc, help::FILE_NAME)?;
+    add_words_but(words, file, &mut text)?;
+    text.push_str(help::AFTER_WORDS)?;
+    Ok(text)
+}
+
+// What is often meant by words that are refused so: a file's name, of which the input is, and `help`.
+fn meant(alloc: Global, error: &str, words: &[String]) -> Result<String, AllocError> {
+    match refused_word(error) {
+        Some(file) => with_input(alloc, words, file),
+        None if error.starts_with("error: unrecognized subcommand 'help'") => {
+            String::from_str(alloc, help::HELP_WORD)
+        }
+        None => Ok(String::new(alloc)),
     }
 }
 
@@ -289,8 +317,8 @@ fn meant(error: &str) -> &'static str {
 fn said(alloc: Global, error: &Error, words: &[String]) -> Result<Refused, AllocError> {
     let mut text = format!(in alloc; "{error}")?;
     if error.use_stderr() {
-        let meant = meant(text.as_str());
-        text.push_str(meant)?;
+        let meant = meant(alloc, text.as_str(), words)?;
+        text.push_str(meant.as_str())?;
         text.push_str(explanation(words))?;
         return Ok(Refused::Words(text));
     }

@@ -10,8 +10,11 @@ pub const EXPLAIN_FLAG: &str =
 pub const EXPLAINED: &str =
     "  the subcommands are run, check, step, live, asm, dis, mon and edid; each reads standard input, as `hdminet run < FILE`\n";
 
-/// What follows a command line that is refused for a word that is no flag.
-pub const FILE_NAME: &str = "  a file is read as standard input, after `<`: `hdminet run < FILE`\n";
+/// What follows a command line that is refused for a word that is no flag, up to the words that are left.
+pub const FILE_NAME: &str = "  a file is read as standard input, after `<`: `hdminet";
+
+/// What follows these words.
+pub const AFTER_WORDS: &str = " < FILE`\n";
 
 /// What follows a command line that is refused for the word `help`.
 pub const HELP_WORD: &str =
@@ -255,11 +258,11 @@ Where a test fails, the status is 1 and standard error has `hdminet: failed test
 One time of the script may be a range, T..U or T..U/S: each microsecond from T to U, or one in S. Then each
 instant of the range takes its place in turn, and the output has a line for each longest stretch of instants
 at which the same tests hold, so that a race shows by the microsecond:
-  at 4840000..5000000 press p2 play
+  at 4840000..5000000/50 press p2 play
 gives of examples/race.sweep
-  4840000..4931599 not-ok ok
+  4840000..4931550 not-ok ok
   4931600..4945250 ok not-ok
-  4945251..4999999 not-ok not-ok
+  4945300..4999950 not-ok not-ok
   5000000..5000000 ok not-ok
 Where a test fails at any of them, the status is 1 and standard error has `failed tests in the range`.
 With --trace and --plain no time is a range.

@@ -104,7 +104,8 @@ fn a_file_name_is_explained(rt: HostRuntime) {
 /// A command line that is refused, and the last line of what is said of it.
 const MEANT: &str = "\
 run tv.net =>   a file is read as standard input, after `<`: `hdminet run < FILE`
-mon --audit a.vcd =>   a file is read as standard input, after `<`: `hdminet run < FILE`
+mon --audit a.vcd =>   a file is read as standard input, after `<`: `hdminet mon --audit < FILE`
+edid a.bin --hex =>   a file is read as standard input, after `<`: `hdminet edid --hex < FILE`
 help =>   the help is `hdminet --help`, and that of a subcommand `hdminet run --help`
 help run =>   the help is `hdminet --help`, and that of a subcommand `hdminet run --help`
 run --bogus => For more information, try '--help'.
