@@ -1,5 +1,5 @@
 -- Objects of lines that are held.
-use Rattle.std.proofs.Common.{◌≡◌, ℕ, List, [], Option, Some, refl, subst}
+use Rattle.std.proofs.Common.{◌≡◌, ℕ, List, [], Option, Some, subst}
 use Rattle.std.specs.Io.KnownBytes.{Appends}
 use Rattle.hdminet_program.specs.Done.{AreObjectsOf, Writes, WritesLines}
 use Rattle.hdminet_words.specs.declared.choice.Choice.TheVariants.{Json}

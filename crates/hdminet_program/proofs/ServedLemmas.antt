@@ -1,5 +1,5 @@
 -- What the words of a command line ask for is done.
-use Rattle.std.proofs.Common.{◌≡◌, ℕ, List, Bool, true, false, Option, Some, None, IfSome, Ok, Err, Result, MatchOption, inl, inr, ap, subst, is_ok}
+use Rattle.std.proofs.Common.{◌≡◌, ℕ, List, true, false, Option, Some, None, IfSome, Ok, Err, Result, inl, inr, ap, subst, is_ok}
 use Rattle.std.specs.Result.{result_unwrap_or}
 use Rattle.hdminet_command.specs.declared.choice.Refused.{Refused}
 use Rattle.hdminet_program.specs.Done.{AreServedAs, IsHelp, IsServed}

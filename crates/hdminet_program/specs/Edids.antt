@@ -1,5 +1,5 @@
 -- What is written of an EDID (own).
-use Rattle.std.specs.Prelude.{◌≡◌, ℕ, Bool, true, false, List, Option, Some, Ok, if◌then◌else◌}
+use Rattle.std.specs.Prelude.{◌≡◌, ℕ, Bool, false, List, Option, Some, Ok, if◌then◌else◌}
 use Rattle.std.specs.Io.KnownBytes.{Appends}
 use Rattle.hdmi_annotate.specs.EdidMeaning.{meaning_of}
 use Rattle.hdmi_blocks.specs.Bytes.{edid_bytes}

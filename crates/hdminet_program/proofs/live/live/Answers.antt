@@ -1,4 +1,3 @@
-use Rattle.hdmi_core.specs.Buffered.{below}
 use Rattle.cec_dialogue.proofs.Putting.{held}
 use Rattle.hdminet_program.proofs.LiveLemmas.{lives}
 use Rattle.hdminet_program.proofs.live.live.Goals as goal

@@ -1,4 +1,4 @@
-use Rattle.hdminet_program.specs.Done.{Writes, WritesLines}
+use Rattle.hdminet_program.specs.Done.{Writes}
 use Rattle.hdminet_program.proofs.ObjectLemmas.{objects_done}
 use Rattle.hdminet_program.proofs.ShownLemmas.{on_ok}
 use Rattle.hdminet_words.specs.declared.choice.Choice.TheVariants.{Json}
