@@ -1,6 +1,6 @@
 use Rattle.std.proofs.Common.{◌≡◌, take}
 use Rattle.arrayvec.specs.ArrayVec.{array_vec_len}
-use Rattle.cec_net.proofs.underway.copied_devices.Given as goal
+use Rattle.cec_net.proofs.underway.copy_devices.Given as goal
 
 -- the devices so far
 abbrev pub invariant-loop-device : goal.invariant-loop-device
