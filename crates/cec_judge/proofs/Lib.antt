@@ -1,3 +1,4 @@
 pub mod Telling
 pub mod Often
 pub mod Indexed
+pub mod Expecting
