@@ -10,9 +10,7 @@ ghost use Rattle.cec_check.specs.Report.{report_start, report_with_plan, escaped
 
 use crate::held::Held;
 use cec_expect::{Form, Labels, form_in, unlabelled};
-use cec_judge::{
-    EventLine, Judged, Span, all_judged, end_seen, event_in, is_refusal_expected, refusal_in,
-};
+use cec_judge::{EventLine, Expected, Judged, Span, all_judged, end_seen, event_in, refusal_in};
 use hdmi_core::{Piece, first_line, put_all, write_pieces};
 use std::alloc::{AllocError, Global};
 
@@ -242,13 +240,13 @@ fn add_lines(
 
 fn add_word(
     draft: &mut ReportDraft,
-    labels: &Labels<'_>,
+    expected: &Expected<'_>,
     line: u64,
     word: &[u8],
 ) -> Result<(), AllocError>
-    ensures { OnOk result (report_as draft.new ≡ with_word labels.now.script.now (report_as draft.old) line (Some word.now)) }
+    ensures { OnOk result (report_as draft.new ≡ with_word expected.now.script.now (report_as draft.old) line (Some word.now)) }
 {
-    if is_refusal_expected(labels, line) {
+    if expected.has(line) {
         return Ok(());
     }
     add_test(draft, false, line, "refused ", word)
@@ -257,10 +255,10 @@ fn add_word(
 // Appends the test of an event, where it was refused and no line expects it.
 fn add_event(
     draft: &mut ReportDraft,
-    labels: &Labels<'_>,
+    expected: &Expected<'_>,
     event: Option<EventLine>,
 ) -> Result<(), AllocError>
-    ensures { OnOk result (report_as draft.new ≡ with_event labels.now.script.now (report_as draft.old) (option_map event_as event.entry)) }
+    ensures { OnOk result (report_as draft.new ≡ with_event expected.now.script.now (report_as draft.old) (option_map event_as event.entry)) }
 {
     let Some(event) = event else {
         return Ok(());
@@ -268,20 +266,20 @@ fn add_event(
     let Some(word) = refusal_in(event.outcome) else {
         return Ok(());
     };
-    add_word(draft, labels, event.line, word)
+    add_word(draft, expected, event.line, word)
 }
 
 // Appends the tests of refused events.
 fn add_refusals(
     draft: &mut ReportDraft,
-    labels: &Labels<'_>,
+    expected: &Expected<'_>,
     trace: &[u8],
 ) -> Result<(), AllocError>
-    ensures { OnOk result (report_as draft.new ≡ with_refusals labels.now.script.now (report_as draft.old) (lines_of trace.now)) }
+    ensures { OnOk result (report_as draft.new ≡ with_refusals expected.now.script.now (report_as draft.old) (lines_of trace.now)) }
 {
     let mut rest = trace;
     'lines: while let Some((line, after)) = first_line(rest) {
-        add_event(draft, labels, event_in(line))?;
+        add_event(draft, expected, event_in(line))?;
         rest = after;
     }
     Ok(())
@@ -319,9 +317,10 @@ pub fn whole_report(
 {
     let labels = Labels::new(alloc, script)?;
     let found = all_judged(alloc, &labels, trace, states)?;
+    let expected = Expected::new(alloc, &labels)?;
     let mut draft = report_start(alloc)?;
     add_lines(&mut draft, script, trace, states, &found)?;
-    add_refusals(&mut draft, &labels, trace)?;
+    add_refusals(&mut draft, &expected, trace)?;
     add_plan(&mut draft)?;
     Ok(draft)
 }

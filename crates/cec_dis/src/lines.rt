@@ -2,15 +2,15 @@
 ghost use Rattle.std.specs.Prelude.{◌≡◌, ◌++◌, codes, Ok, Err, Some, None, Option, MatchResult};
 ghost use Rattle.std.specs.List.{flat_map};
 ghost use Rattle.cec_dis.specs.Lines.{Answers, WritesLines, first_fault, frame_line, line_frame, line_text};
-ghost use Rattle.hdmi_core.specs.Cut.{WrittenText};
+ghost use Rattle.cec_tally.specs.Adds.{Adds};
 ghost use Rattle.hdmi_core.specs.Lines.{lines_of};
-ghost use Rattle.hdmi_core.specs.Written.{WrittenLine};
 
 use crate::bytes::{DisCause, frame_in};
 use crate::remarks::remark;
 use cec_frame::Frame;
+use cec_tally::add_line;
 use cec_text::frame_text;
-use hdmi_core::{Piece, Sink, WriteFault, counted, cut_at, first_line, is_skipped, write_line};
+use hdmi_core::{Piece, Sink, WriteFault, first_line, is_skipped};
 use thiserror::Error;
 
 /// The first line that has no frame, counted from 1, and why.
@@ -65,14 +65,16 @@ fn check_lines(text: &[u8]) -> Result<(), DisFault>
 
 // Writes a text and the remark after it, as a line.
 fn write_with_remark<'a, S: Sink>(
+    out: &mut S,
+    written: &mut u128,
     text: &'a [u8],
     word: &'a str,
-    out: &mut S,
-) -> Result<u128, WriteFault>
-    ensures { WrittenLine (S.contents out.old) (S.contents out.new) (S.is_stuck out.old) (S.is_stuck out.new) (text.now ++ codes " # " ++ word.now ++ codes "\n") result }
+) -> Result<(), WriteFault>
+    ensures { Adds (S.contents out.old) (S.contents out.new) (S.is_stuck out.old) (S.is_stuck out.new) written.old written.new (text.now ++ codes " # " ++ word.now ++ codes "\n") result }
 {
-    write_line(
+    add_line(
         out,
+        written,
         &[
             Piece::Bytes(text),
             Piece::Text(" # "),
@@ -82,27 +84,28 @@ fn write_with_remark<'a, S: Sink>(
     )
 }
 
-fn write_frame<S: Sink>(frame: &Frame, out: &mut S) -> Result<u128, WriteFault>
-    ensures { WrittenLine (S.contents out.old) (S.contents out.new) (S.is_stuck out.old) (S.is_stuck out.new) (frame_line frame.now) result }
+fn write_frame<S: Sink>(out: &mut S, written: &mut u128, frame: &Frame) -> Result<(), WriteFault>
+    ensures { Adds (S.contents out.old) (S.contents out.new) (S.is_stuck out.old) (S.is_stuck out.new) written.old written.new (frame_line frame.now) result }
 {
     let text = frame_text(frame);
     match remark(frame) {
-        None => write_line(out, &[Piece::Bytes(text.as_slice()), Piece::Text("\n")]),
-        Some(word) => write_with_remark(text.as_slice(), word, out),
+        None => add_line(
+            out,
+            written,
+            &[Piece::Bytes(text.as_slice()), Piece::Text("\n")],
+        ),
+        Some(word) => write_with_remark(out, written, text.as_slice(), word),
     }
 }
 
 // Writes what a line has, if anything.
-fn write_one<S: Sink>(line: &[u8], out: &mut S) -> Result<u128, WriteFault>
-    ensures { WrittenText (S.contents out.old) (S.contents out.new) (S.is_stuck out.old) (S.is_stuck out.new) (line_text line.now) result }
+fn write_one<S: Sink>(out: &mut S, written: &mut u128, line: &[u8]) -> Result<(), WriteFault>
+    ensures { Adds (S.contents out.old) (S.contents out.new) (S.is_stuck out.old) (S.is_stuck out.new) written.old written.new (line_text line.now) result }
 {
     match line_frame(line) {
-        Ok(Some(frame)) => match write_frame(&frame, out) {
-            Ok(count) => Ok(counted(0, count)),
-            Err(fault) => Err(cut_at(0, fault)),
-        },
-        Ok(None) => Ok(0),
-        Err(_) => Ok(0),
+        Ok(Some(frame)) => write_frame(out, written, &frame),
+        Ok(None) => Ok(()),
+        Err(_) => Ok(()),
     }
 }
 
@@ -112,10 +115,7 @@ fn write_lines<S: Sink>(text: &[u8], out: &mut S) -> Result<(), WriteFault>
     let mut rest = text;
     let mut written = 0;
     'lines: while let Some((current, after)) = first_line(rest) {
-        match write_one(current, out) {
-            Ok(count) => written = counted(written, count),
-            Err(fault) => return Err(cut_at(written, fault)),
-        }
+        write_one(out, &mut written, current)?;
         rest = after;
     }
     Ok(())

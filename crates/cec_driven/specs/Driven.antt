@@ -13,7 +13,7 @@ use Rattle.cec_net.specs.Step.{IsNextRound, seats_of}
 use Rattle.cec_net.specs.Progress.{IsProgress}
 use Rattle.cec_text.specs.ReadingText.{is_complete}
 use Rattle.cec_vcd.specs.Text.{last}
-use Rattle.hdmi_core.specs.Cut.{WrittenText}
+use Rattle.cec_tally.specs.Adds.{Adds}
 use Rattle.hdmi_core.specs.declared.sink.WriteFault.{WriteFault}
 use Rattle.cec_line.specs.declared.format.Format.TheVariants.{Vcd}
 use Rattle.cec_run.specs.declared.run.Telling.TheVariants.{Line}
@@ -66,8 +66,8 @@ pub record IsDriven (end : ℕ) (c : Config) (text : List ℕ) (totals : Totals)
   pub run : IsDrivenFrom end c rest totals
   pub whole : text ≡ head (names_of c.net.devices) ++ rest
 
--- a round was run from one state to the next, and its drives were written
-pub record RoundDriven (before after : NetState) (t u : Totals) (old new : Option (List ℕ)) (was is : Bool) (result : Result ℕ WriteFault) : Type 0 where
+-- a round was run from one state to the next, and its drives were written after so many bytes
+pub record RoundDriven (before after : NetState) (t u : Totals) (old new : Option (List ℕ)) (was is : Bool) (given taken : ℕ) (result : Result (Unit {0}) WriteFault) : Type 0 where
   pub begin : ℕ
   pub outcome : Outcome
   pub begins : next_start before ≡ Some begin
@@ -75,4 +75,4 @@ pub record RoundDriven (before after : NetState) (t u : Totals) (old new : Optio
   pub next : IsNextRound before begin outcome after
   pub totals : u ≡ counted_round (is_complete outcome.reading.ending) t
   pub progress : IsProgress before begin after
-  pub written : WrittenText old new was is (round_drives (seats_of before begin) begin before.pulses outcome) result
+  pub written : Adds old new was is given taken (round_drives (seats_of before begin) begin before.pulses outcome) result

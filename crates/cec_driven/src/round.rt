@@ -1,6 +1,6 @@
 //! One round, and who drives its line.
 ghost use Rattle.std.specs.Prelude.{◌≡◌, ◌+◌, ◌<◌, ◌≤◌, length, Some};
-ghost use Rattle.hdmi_core.specs.Cut.{WrittenText};
+ghost use Rattle.cec_tally.specs.Adds.{Adds};
 ghost use Rattle.cec_wire.specs.Bounds.{begun_within};
 ghost use Rattle.cec_net.specs.State.{next_start};
 ghost use Rattle.cec_driven.specs.Driven.{RoundDriven, round_drives};
@@ -18,22 +18,24 @@ use hdmi_core::{Sink, WriteFault};
 // Writes the line and the drives of a round that began at `begin` and gave this outcome.
 fn write_round<S: Sink>(
     out: &mut S,
+    written: &mut u128,
     seats: &[Seat],
     begin: u64,
     pulses: &[Stretch],
     outcome: &Outcome,
-) -> Result<u128, WriteFault>
+) -> Result<(), WriteFault>
     requires seats { length seats.now ≤ 15 }
     requires pulses { length (begun_within begin outcome.now.rest pulses.now) ≤ 192 }
     requires begin { begin ≤ 2000000000000 }
     requires early { outcome.now.reading.at ≤ 3000000000000 }
     requires rest { (begin ≤ outcome.now.rest) × (outcome.now.rest ≤ 3000000000000) }
-    ensures { WrittenText (S.contents out.old) (S.contents out.new) (S.is_stuck out.old) (S.is_stuck out.new)
+    ensures { Adds (S.contents out.old) (S.contents out.new) (S.is_stuck out.old) (S.is_stuck out.new) written.old written.new
         (round_drives seats.now begin pulses.now outcome.now) result }
 {
     let drives = drives_of(seats, begin, pulses, outcome);
     write_wires(
         out,
+        written,
         outcome.wave.as_slice(),
         &drives,
         begin,
@@ -51,11 +53,12 @@ pub struct Kept {
 /// Runs the next round, which begins at `begin`, and writes its line and who drives it.
 pub fn run_round<S: Sink, W: Wire>(
     out: &mut S,
+    written: &mut u128,
     net: &mut Net<W>,
     kept: &mut Kept,
     totals: &mut Totals,
     begin: u64,
-) -> Result<u128, WriteFault>
+) -> Result<(), WriteFault>
     requires starts { next_start net.old ≡ Some begin }
     requires early { net.old.close ≤ 2000000000000 }
     requires soon { begin ≤ 2000000000000 }
@@ -65,7 +68,7 @@ pub fn run_round<S: Sink, W: Wire>(
     requires rested { net.old.rest ≤ 2000000000000 }
     requires room { totals.old.rounds < 18446744073709551615 }
     requires less { totals.old.complete ≤ totals.old.rounds }
-    ensures round { RoundDriven net.old net.new totals.old totals.new (S.contents out.old) (S.contents out.new) (S.is_stuck out.old) (S.is_stuck out.new) result }
+    ensures round { RoundDriven net.old net.new totals.old totals.new (S.contents out.old) (S.contents out.new) (S.is_stuck out.old) (S.is_stuck out.new) written.old written.new result }
     ensures pulses { kept.new.pulses ≡ net.new.pulses }
     ensures rest { kept.new.rest ≡ net.new.rest }
 {
@@ -73,8 +76,15 @@ pub fn run_round<S: Sink, W: Wire>(
     let outcome = net.round_at(begin);
     *totals = counted_round(*totals, outcome.reading.ending);
     let _stretches = outcome.wave.as_slice();
-    let written = write_round(out, &seats, begin, kept.pulses.as_slice(), &outcome);
+    let added = write_round(
+        out,
+        written,
+        &seats,
+        begin,
+        kept.pulses.as_slice(),
+        &outcome,
+    );
     kept.pulses.drop_until(outcome.rest);
     kept.rest = outcome.rest;
-    written
+    added
 }

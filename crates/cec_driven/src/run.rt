@@ -2,7 +2,8 @@
 ghost use Rattle.std.specs.Prelude.{◌≡◌, ℕ, ◌≤◌, List, length, true, max, IfOk, IfErr, OnOk, OnErr};
 ghost use Rattle.std.specs.Io.KnownBytes.{Appends};
 ghost use Rattle.cec_asm.specs.Script.{IsSchedule};
-ghost use Rattle.hdmi_core.specs.Cut.{CutOff, WrittenText};
+ghost use Rattle.hdmi_core.specs.Cut.{CutOff};
+ghost use Rattle.cec_tally.specs.Adds.{Adds, AddsFront};
 ghost use Rattle.cec_vcd.specs.Text.{last};
 ghost use Rattle.cec_run.specs.declared.run.Totals.{Totals as TotalsRecord};
 ghost use Rattle.cec_run.specs.Run.{start};
@@ -14,22 +15,28 @@ use crate::round::{Kept, run_round};
 use cec_asm::TimedEvent;
 use cec_net::Net;
 use cec_run::{Totals, Turn, first_time, next_turn};
+use cec_tally::add_part;
 use cec_vcd::write_last;
 use cec_wave::Pulses;
 use cec_wire::Wire;
-use cec_wires::whole;
-use hdmi_core::{Sink, WriteFault, counted, cut_at};
+use hdmi_core::{Sink, WriteFault};
 
 // Writes the end: it is not before the last close.
-fn write_end<S: Sink, W>(out: &mut S, net: &Net<W>, end: u64) -> Result<u128, WriteFault>
-    ensures { WrittenText (S.contents out.old) (S.contents out.new) (S.is_stuck out.old) (S.is_stuck out.new) (last (max end net.now.close)) result }
+fn write_end<S: Sink, W>(
+    out: &mut S,
+    written: &mut u128,
+    net: &Net<W>,
+    end: u64,
+) -> Result<(), WriteFault>
+    ensures { Adds (S.contents out.old) (S.contents out.new) (S.is_stuck out.old) (S.is_stuck out.new) written.old written.new (last (max end net.now.close)) result }
 {
-    whole(write_last(out, end.max(net.close())))
+    add_part(written, write_last(out, end.max(net.close())))
 }
 
 // Runs a network to `end`, and writes all but the head of the dump.
 fn run_turns<S: Sink, W: Wire>(
     out: &mut S,
+    written: &mut u128,
     net: &mut Net<W>,
     kept: &mut Kept,
     events: &[TimedEvent],
@@ -44,12 +51,11 @@ fn run_turns<S: Sink, W: Wire>(
     ensures ok { IfOk result (λ totals. (text : List ℕ) × IsDrivenFrom end (start net.old events.now) text totals × Appends (S.contents out.old) (S.contents out.new) text) }
     ensures same { OnOk result (S.is_stuck out.new ≡ S.is_stuck out.old) }
     ensures cut { IfErr result (λ fault. (text : List ℕ) (totals : TotalsRecord) → IsDrivenFrom end (start net.old events.now) text totals
-        → CutOff (S.contents out.old) (S.contents out.new) text fault) }
+        → AddsFront (S.contents out.old) (S.contents out.new) written.old text fault) }
     ensures stuck { OnErr result (S.is_stuck out.new ≡ true) }
 {
     let mut rest = events;
     let mut totals = Totals::default();
-    let mut written = 0;
     'turns: loop {
         match next_turn(end, net, first_time(rest)) {
             Turn::Stop => break,
@@ -60,16 +66,11 @@ fn run_turns<S: Sink, W: Wire>(
                 apply_counted(net, &mut totals, at, event);
                 rest = others;
             }
-            Turn::Round(begin) => match run_round(out, net, kept, &mut totals, begin) {
-                Ok(count) => written = counted(written, count),
-                Err(fault) => return Err(cut_at(written, fault)),
-            },
+            Turn::Round(begin) => run_round(out, written, net, kept, &mut totals, begin)?,
         }
     }
-    match write_end(out, net, end) {
-        Ok(_) => Ok(totals),
-        Err(fault) => Err(cut_at(written, fault)),
-    }
+    write_end(out, written, net, end)?;
+    Ok(totals)
 }
 
 /// Runs a network from its start to `end`, at most 1,000,000,000,000 microseconds, and writes the dump of its line and of who
@@ -98,11 +99,7 @@ pub fn run<S: Sink, W: Wire>(
     ensures stuck { OnErr result (S.is_stuck out.new ≡ true) }
 {
     let mut kept = Kept { pulses, rest: 0 };
-    match write_head(out, net.devices()) {
-        Ok(written) => match run_turns(out, net, &mut kept, events, end) {
-            Ok(totals) => Ok(totals),
-            Err(fault) => Err(cut_at(written, fault)),
-        },
-        Err(fault) => Err(fault),
-    }
+    let mut written = 0;
+    write_head(out, &mut written, net.devices())?;
+    run_turns(out, &mut written, net, &mut kept, events, end)
 }

@@ -1,3 +1,5 @@
 pub mod Telling
 pub mod Often
 pub mod Indexed
+pub mod Expecting
+pub mod Ordered

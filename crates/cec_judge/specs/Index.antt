@@ -1,14 +1,25 @@
 -- The rounds and the events of a trace, read once (own).
-use Rattle.std.specs.Prelude.{ℕ, ◌==◌, if◌then◌else◌, get_or, List, Option, Some, None, option_map}
+use Rattle.std.specs.Prelude.{ℕ, ◌==◌, ◌&&◌, nat_le, Bool, true, if◌then◌else◌, get_or, List, [], ◌∷◌, Option, Some, None, option_map}
 use Rattle.std.specs.List.{filter_map}
 use Rattle.cec_judge.specs.Told.{EventLine, RoundLine, event_as}
 use Rattle.cec_judge.specs.Seen.{end_by}
 use Rattle.cec_judge.specs.declared.seen.Span.{Span}
 use Rattle.cec_judge.specs.declared.told.EventLine.{EventLine as EventRead}
+use Rattle.cec_judge.specs.declared.told.RoundLine.{RoundLine as RoundRead}
 
 -- the ends of those of these rounds that are seen, in order
 abbrev pub ends_among : List RoundLine → Span → List ℕ → List ℕ
 ends_among rounds span pattern = filter_map (λ r. end_by span pattern (Some r)) rounds
+
+-- a round began and ended no later than the next one
+abbrev pub leads : RoundRead → List RoundRead → Bool
+leads r [] = true
+leads r (next ∷ rounds) = nat_le r.begin next.begin && nat_le r.at next.at
+
+-- each of these rounds did
+abbrev pub are_in_order : List RoundRead → Bool
+are_in_order [] = true
+are_in_order (r ∷ rounds) = leads r rounds && are_in_order rounds
 
 -- one event, or else another
 abbrev pub or_event : Option EventLine → Option EventLine → Option EventLine

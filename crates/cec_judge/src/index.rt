@@ -1,12 +1,12 @@
 //! The rounds and the events of a trace, read once.
-ghost use Rattle.std.specs.Prelude.{◌≡◌, ℕ, ◌<◌, length, map, IfOk, None};
+ghost use Rattle.std.specs.Prelude.{◌≡◌, ℕ, ◌<◌, true, length, map, IfOk, None};
 ghost use Rattle.std.specs.Option.{option_map};
 ghost use Rattle.hdmi_core.specs.Words.{words_of};
 ghost use Rattle.cec_judge.specs.Told.{event_as, event_at, event_in, round_as, rounds_of};
 ghost use Rattle.cec_judge.specs.Seen.{ends_seen, first_of};
-ghost use Rattle.cec_judge.specs.Index.{entry, event_of, event_on, or_event};
+ghost use Rattle.cec_judge.specs.Index.{are_in_order, entry, event_of, event_on, or_event};
 
-use crate::seen::{Seen, Span, rounds_seen};
+use crate::seen::{Seen, Span, are_in_order, rounds_seen};
 use crate::told::{EventLine, RoundLine, event_at, event_in, round_in};
 use hdmi_core::first_line;
 use std::alloc::{AllocError, AllocFailed, Global};
@@ -16,8 +16,11 @@ use std::alloc::{AllocError, AllocFailed, Global};
 pub(crate) struct Index<'a> {
     pub trace: &'a [u8],
     pub rounds: Vec<RoundLine<'a>>,
+    /// Whether the rounds began and ended one after another.
+    pub in_order: bool,
     pub events: Vec<Option<EventLine<'a>>>,
     ghost rounds_are: { map round_as rounds.items ≡ rounds_of trace.now },
+    ghost order_is: { in_order ≡ true → are_in_order rounds.items ≡ true },
     ghost events_are: { (number : ℕ) → number < length events.items → entry events.items number ≡ event_at trace.now number },
 }
 
@@ -104,9 +107,11 @@ impl<'a> Index<'a> {
     {
         let rounds = all_rounds(alloc, trace)?;
         let events = first_events(alloc, trace, line_count(script).saturating_add(1))?;
+        let in_order = are_in_order(&rounds);
         Ok(Index {
             trace,
             rounds,
+            in_order,
             events,
         })
     }
@@ -116,7 +121,7 @@ impl<'a> Index<'a> {
         ensures count { result.count ≡ length (ends_seen self.now.trace.now span pattern.now) }
         ensures first { result.first ≡ first_of (ends_seen self.now.trace.now span pattern.now) }
     {
-        rounds_seen(&self.rounds, span, pattern)
+        rounds_seen(&self.rounds, self.in_order, span, pattern)
     }
 
     /// The event of a line of the script, as the trace has it.

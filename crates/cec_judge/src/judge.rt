@@ -3,7 +3,7 @@ ghost use Rattle.std.specs.Prelude.{◌≡◌, ◌<◌, ◌^◌, length, map, If
 ghost use Rattle.std.specs.Option.{option_copied};
 ghost use Rattle.hdmi_core.specs.Words.{words_behind, words_of};
 ghost use Rattle.cec_expect.specs.Form.{window_of};
-ghost use Rattle.cec_judge.specs.Judged.{failure, has_word, has_words, holds_by, instant_at, is_number, is_refusal_expected, is_word, verdicts_of, line_expects, line_judged, other_judged, refusal_at, refused_judged, rounds_judged, span_from, span_of, state_judged};
+ghost use Rattle.cec_judge.specs.Judged.{failure, has_word, has_words, holds_by, instant_at, is_word, verdicts_of, line_judged, other_judged, refusal_at, refused_judged, rounds_judged, span_from, span_of, state_judged};
 
 use crate::index::Index;
 use crate::seen::Span;
@@ -239,41 +239,4 @@ pub fn all_judged(
         left = others;
     }
     Ok(found)
-}
-
-fn is_number(number: u64, line: Option<u64>) -> bool
-    ensures { result ≡ is_number number line }
-{
-    match line {
-        None => false,
-        Some(line) => line == number,
-    }
-}
-
-fn line_expects(labels: &Labels<'_>, number: u64, line: &[u8]) -> bool
-    ensures { result ≡ line_expects labels.now.script.now number line.now }
-{
-    match form_in(unlabelled(line).rest) {
-        Err(_) => false,
-        Ok(form) => match form {
-            Form::Refused { label, .. } => is_number(number, labels.event_of(label)),
-            Form::Other => false,
-            Form::Rounds { .. } => false,
-            Form::State { .. } => false,
-        },
-    }
-}
-
-/// Whether a line of the script expects that the event of this line is refused.
-pub fn is_refusal_expected(labels: &Labels<'_>, number: u64) -> bool
-    ensures { result ≡ is_refusal_expected labels.now.script.now number }
-{
-    let mut rest = labels.script;
-    'lines: while let Some((line, after)) = first_line(rest) {
-        if line_expects(labels, number, line) {
-            return true;
-        }
-        rest = after;
-    }
-    false
 }

@@ -49,14 +49,23 @@ fn outcome_of(wire: EdgeWire, pulses: &[Stretch]) -> Outcome
     wire.finish()
 }
 
+// Copies devices to where others stood. A list of devices is large: a new one costs more than these copies.
+fn copy_devices(copy: &mut ArrayVec<Device<16>, DEVICES>, devices: &[Device<16>])
+    requires { length devices.now ≤ 15 }
+    ensures { copy.new.items ≡ devices.now }
+{
+    copy.clear();
+    for device in devices {
+        copy.push(device.copy());
+    }
+}
+
 fn copied_devices(devices: &[Device<16>]) -> ArrayVec<Device<16>, DEVICES>
     requires { length devices.now ≤ 15 }
     ensures { result.items ≡ devices.now }
 {
     let mut copy = ArrayVec::new();
-    for device in devices {
-        copy.push(device.copy());
-    }
+    copy_devices(&mut copy, devices);
     copy
 }
 
@@ -100,7 +109,7 @@ impl Net<EdgeWire> {
     {
         self.tree = other.tree.copy();
         self.pulses.copy_from(&other.pulses);
-        self.devices = copied_devices(&other.devices);
+        copy_devices(&mut self.devices, &other.devices);
         self.close = other.close;
         self.rest = other.rest;
         self.begun = copied_wire(&other.begun);

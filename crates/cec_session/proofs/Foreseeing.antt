@@ -44,3 +44,9 @@ late_is ended until begin net after next goes_on late some starts h =
 pub soon_is : (ended : Bool) (until : ℕ) (after : NetState) → (ended ≡ false → after.close < until) → IsSoon ended until after
 soon_is true until after h = tt
 soon_is false until after h = h refl
+
+-- the same by the close alone
+pub late_by : (ended : Bool) (until begin close : ℕ) (net : NetState) → ended ≡ false → until ≤ close
+    → ((outcome : Outcome) × (after : NetState) × IsWave outcome.wave × IsNextRound net begin outcome after × IsProgress net begin after × (close ≡ after.close)) → IsLate ended until begin net
+late_by ended until begin close net goes_on late k =
+    subst (λ (b : Bool). IsLate b until begin net) (sym goes_on) (k.0, k.1, k.2, k.3, subst (λ (n : ℕ). until ≤ n) k.5 late)

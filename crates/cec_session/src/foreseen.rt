@@ -1,5 +1,5 @@
 //! A network, and the round that comes next on it.
-ghost use Rattle.std.specs.Prelude.{◌≡◌, ◌+◌, ◌≤◌, ◌<◌, [], length, slice_get, Some, None, Option, IfOk, IfSome, IsSome, MatchOption, MatchResult};
+ghost use Rattle.std.specs.Prelude.{◌≡◌, ◌+◌, ◌≤◌, ◌<◌, [], length, slice_get, true, Some, None, Option, IfOk, IfSome, IsSome, MatchOption, MatchResult};
 ghost use Rattle.hdmi_blocks.specs.declared.edid.Edid.{Edid as EdidValue};
 ghost use Rattle.cec_wave.specs.Line.{IsWave};
 ghost use Rattle.cec_wire.specs.declared.Outcome.{Outcome as OutcomeValue};
@@ -173,6 +173,19 @@ impl Foreseen {
         ensures close { (outcome : OutcomeValue) × (after : NetState) × IsWave outcome.wave × IsNextRound self.old begin outcome after × IsProgress self.old begin after × (result ≡ after.close) }
     {
         foresee(&self.net, begin, &mut self.next, &mut self.after)
+    }
+
+    /// Whether the next round, which begins at `begin`, closes at `until` or later, and the script has not ended.
+    pub fn is_late(&mut self, begin: u64, until: u64, ended: bool) -> bool
+        requires early { self.old.close ≤ 2000000000000 }
+        requires begins { next_start self.old ≡ Some begin }
+        ensures same { self.new ≡ self.old }
+        ensures late { result ≡ true → IsLate ended until begin self.old }
+    {
+        if ended {
+            return false;
+        }
+        self.next_close(begin) >= until
     }
 
     /// Runs the next round, which begins at `begin`, where it closes before `until` or the script has ended. None, and nothing

@@ -63,6 +63,10 @@ fn take_round<S: Sink>(
     requires less { totals.old.complete ≤ totals.old.rounds }
     ensures { (edid : Option EdidValue) → IsRoundTaken edid ended until begin net.old net.new totals.old totals.new (S.contents out.old) (S.contents out.new) (S.is_stuck out.old) (S.is_stuck out.new) result }
 {
+    // An outcome is large: room for it is made only where the round is told.
+    if net.is_late(begin, until, ended) {
+        return Ok(None);
+    }
     let Some(outcome) = net.round_by(begin, until, ended) else {
         return Ok(None);
     };

@@ -3,14 +3,14 @@ ghost use Rattle.std.specs.Prelude.{◌≡◌, [], ◌+◌, ◌-◌, ◌==◌, �
 ghost use Rattle.std.specs.Fmt.{decimal};
 ghost use Rattle.std.specs.List.{concat, list_any};
 ghost use Rattle.cec_wave.specs.Line.{line_of, was_low};
-ghost use Rattle.hdmi_core.specs.Cut.{WrittenText};
+ghost use Rattle.cec_tally.specs.Adds.{Adds};
 ghost use Rattle.cec_wires.specs.Wires.{change_text, changes_from, id_of, instant_text, turns, wires_text};
 
 use crate::definitions::{id_of, write_bytes};
 use crate::drive::Drive;
-use crate::parts::{after, whole};
+use cec_tally::add_line;
 use cec_wave::Stretch;
-use hdmi_core::{Piece, Sink, WriteFault, counted, cut_at, write_line};
+use hdmi_core::{Piece, Sink, WriteFault};
 
 // ---- one wire
 
@@ -83,13 +83,18 @@ fn next_end_of(drives: &[Drive], t: u64, next: u64) -> u64
 
 // ---- one instant
 
-fn write_value<S: Sink>(out: &mut S, number: u8, is_low: bool) -> Result<u128, WriteFault>
+fn write_value<S: Sink>(
+    out: &mut S,
+    written: &mut u128,
+    number: u8,
+    is_low: bool,
+) -> Result<(), WriteFault>
     requires { number ≤ 100 }
-    ensures { WrittenText (S.contents out.old) (S.contents out.new) (S.is_stuck out.old) (S.is_stuck out.new)
+    ensures { Adds (S.contents out.old) (S.contents out.new) (S.is_stuck out.old) (S.is_stuck out.new) written.old written.new
         ((if is_low then 48 else 49) ∷ id_of number ∷ 10 ∷ []) result }
 {
     let line = [value_of(is_low), id_of(number), b'\n'];
-    write_bytes(out, &line)
+    write_bytes(out, written, &line)
 }
 
 // The value of a wire: 0 where it is low.
@@ -102,63 +107,63 @@ fn value_of(is_low: bool) -> u8
 // Writes the change of a wire, where it has one.
 fn write_change<S: Sink>(
     out: &mut S,
+    written: &mut u128,
     t: u64,
     number: u8,
     wire: &[Stretch],
-) -> Result<u128, WriteFault>
+) -> Result<(), WriteFault>
     requires { number ≤ 100 }
-    ensures { WrittenText (S.contents out.old) (S.contents out.new) (S.is_stuck out.old) (S.is_stuck out.new) (change_text t number wire.now) result }
+    ensures { Adds (S.contents out.old) (S.contents out.new) (S.is_stuck out.old) (S.is_stuck out.new) written.old written.new (change_text t number wire.now) result }
 {
     if turns(wire, t) {
-        write_value(out, number, is_low(wire, t))
+        write_value(out, written, number, is_low(wire, t))
     } else {
-        Ok(0)
+        Ok(())
     }
 }
 
 // Writes the changes of wires from this number on.
 fn write_changes<S: Sink>(
     out: &mut S,
+    written: &mut u128,
     t: u64,
     number: u8,
     drives: &[Drive],
-) -> Result<u128, WriteFault>
+) -> Result<(), WriteFault>
     requires { number + length drives.now ≤ 100 }
-    ensures { WrittenText (S.contents out.old) (S.contents out.new) (S.is_stuck out.old) (S.is_stuck out.new) (changes_from t number drives.now) result }
+    ensures { Adds (S.contents out.old) (S.contents out.new) (S.is_stuck out.old) (S.is_stuck out.new) written.old written.new (changes_from t number drives.now) result }
 {
     let Some((drive, others)) = drives.split_first() else {
-        return Ok(0);
+        return Ok(());
     };
-    match write_change(out, t, number, drive.as_slice()) {
-        Ok(written) => after(written, write_changes(out, t, number + 1, others)),
-        Err(fault) => Err(fault),
-    }
+    write_change(out, written, t, number, drive.as_slice())?;
+    write_changes(out, written, t, number + 1, others)
 }
 
 // Writes the changes of the line and of the wires below it.
 fn write_all<S: Sink>(
     out: &mut S,
+    written: &mut u128,
     t: u64,
     line: &[Stretch],
     drives: &[Drive],
-) -> Result<u128, WriteFault>
+) -> Result<(), WriteFault>
     requires { length drives.now ≤ 90 }
-    ensures { WrittenText (S.contents out.old) (S.contents out.new) (S.is_stuck out.old) (S.is_stuck out.new) (changes_from t 0 (line.now ∷ drives.now)) result }
+    ensures { Adds (S.contents out.old) (S.contents out.new) (S.is_stuck out.old) (S.is_stuck out.new) written.old written.new (changes_from t 0 (line.now ∷ drives.now)) result }
 {
-    match write_change(out, t, 0, line) {
-        Ok(written) => after(written, write_changes(out, t, 1, drives)),
-        Err(fault) => Err(fault),
-    }
+    write_change(out, written, t, 0, line)?;
+    write_changes(out, written, t, 1, drives)
 }
 
-fn write_time<S: Sink>(out: &mut S, t: u64) -> Result<u128, WriteFault>
-    ensures { WrittenText (S.contents out.old) (S.contents out.new) (S.is_stuck out.old) (S.is_stuck out.new)
+fn write_time<S: Sink>(out: &mut S, written: &mut u128, t: u64) -> Result<(), WriteFault>
+    ensures { Adds (S.contents out.old) (S.contents out.new) (S.is_stuck out.old) (S.is_stuck out.new) written.old written.new
         (concat (codes "#" ∷ decimal t ∷ codes "\n" ∷ [])) result }
 {
-    whole(write_line(
+    add_line(
         out,
+        written,
         &[Piece::Text("#"), Piece::Decimal(t), Piece::Text("\n")],
-    ))
+    )
 }
 
 fn any_turns(drives: &[Drive], t: u64) -> bool
@@ -173,34 +178,34 @@ fn any_turns(drives: &[Drive], t: u64) -> bool
 // Writes an instant, and the changes then.
 fn write_timed<S: Sink>(
     out: &mut S,
+    written: &mut u128,
     t: u64,
     line: &[Stretch],
     drives: &[Drive],
-) -> Result<u128, WriteFault>
+) -> Result<(), WriteFault>
     requires { length drives.now ≤ 90 }
-    ensures { WrittenText (S.contents out.old) (S.contents out.new) (S.is_stuck out.old) (S.is_stuck out.new)
+    ensures { Adds (S.contents out.old) (S.contents out.new) (S.is_stuck out.old) (S.is_stuck out.new) written.old written.new
         (concat (codes "#" ∷ decimal t ∷ codes "\n" ∷ []) ++ changes_from t 0 (line.now ∷ drives.now)) result }
 {
-    match write_time(out, t) {
-        Ok(written) => after(written, write_all(out, t, line, drives)),
-        Err(fault) => Err(fault),
-    }
+    write_time(out, written, t)?;
+    write_all(out, written, t, line, drives)
 }
 
 // Writes an instant, where some wire changes then.
 fn write_instant<S: Sink>(
     out: &mut S,
+    written: &mut u128,
     t: u64,
     line: &[Stretch],
     drives: &[Drive],
-) -> Result<u128, WriteFault>
+) -> Result<(), WriteFault>
     requires { length drives.now ≤ 90 }
-    ensures { WrittenText (S.contents out.old) (S.contents out.new) (S.is_stuck out.old) (S.is_stuck out.new) (instant_text (line.now ∷ drives.now) t) result }
+    ensures { Adds (S.contents out.old) (S.contents out.new) (S.is_stuck out.old) (S.is_stuck out.new) written.old written.new (instant_text (line.now ∷ drives.now) t) result }
 {
     if turns(line, t) || any_turns(drives, t) {
-        write_timed(out, t, line, drives)
+        write_timed(out, written, t, line, drives)
     } else {
-        Ok(0)
+        Ok(())
     }
 }
 
@@ -210,26 +215,23 @@ fn write_instant<S: Sink>(
 ///
 /// # Errors
 ///
-/// A `put` took none. The count, which stays at its greatest value, says how much was written.
+/// A `put` took none. The fault reports how much was written in all: the count stays at its greatest value.
 pub fn write_wires<S: Sink>(
     out: &mut S,
+    written: &mut u128,
     line: &[Stretch],
     drives: &[Drive],
     from: u64,
     to: u64,
-) -> Result<u128, WriteFault>
+) -> Result<(), WriteFault>
     requires few { length drives.now ≤ 90 }
     requires order { from ≤ to }
-    ensures { WrittenText (S.contents out.old) (S.contents out.new) (S.is_stuck out.old) (S.is_stuck out.new) (wires_text (line.now ∷ drives.now) from (to - from)) result }
+    ensures { Adds (S.contents out.old) (S.contents out.new) (S.is_stuck out.old) (S.is_stuck out.new) written.old written.new (wires_text (line.now ∷ drives.now) from (to - from)) result }
 {
-    let mut written = 0;
     let mut t = from;
     'instants: while t < to {
-        match write_instant(out, t, line, drives) {
-            Ok(count) => written = counted(written, count),
-            Err(fault) => return Err(cut_at(written, fault)),
-        }
+        write_instant(out, written, t, line, drives)?;
         t = next_end(line, t, next_end_of(drives, t, to));
     }
-    Ok(written)
+    Ok(())
 }

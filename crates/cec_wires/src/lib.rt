@@ -5,9 +5,7 @@
 mod definitions;
 mod drive;
 mod instants;
-mod parts;
 
 pub use definitions::{write_closing, write_opening, write_variable};
 pub use drive::Drive;
 pub use instants::write_wires;
-pub use parts::{after, whole};

@@ -1,8 +1,8 @@
-use Rattle.std.proofs.Common.{rules, arith, ◌≡◌, ◌∷◌, ◌∙◌, sym, subst, Ok, Err, length}
+use Rattle.std.proofs.Common.{rules, arith, ◌≡◌, ◌∷◌, ◌∙◌, sym, length}
 use Rattle.cec_run.specs.declared.run.Turn.TheVariants.{Stop, Apply, Round}
 use Rattle.cec_run.specs.Run.{turn_of, first_time, start}
 use Rattle.cec_net.specs.Step.{seats_of}
-use Rattle.hdmi_core.specs.Cut.{WrittenText}
+use Rattle.cec_tally.proofs.Adding.{fails_with}
 use Rattle.cec_run.proofs.Advance.{event_keeps, next_schedule, round_begins, same_begin, smaller, rounds_kept, complete_kept, refused_kept, counts_brought}
 use Rattle.cec_driven.specs.Driven.{round_drives}
 use Rattle.cec_driven.proofs.Counts.{count_applied, count_round}
@@ -16,7 +16,7 @@ turns-preserved-in-Apply g c =
     let kept = event_keeps c.in-Apply.at c.in-Some.event.now.event c.turns.net c.apply_counted.new.net c.apply_counted.ensures.net in
     record {
       reached = after_event c.args.end c.in-Apply.at c.turns.net c.apply_counted.new.net c.in-Some.event.now c.turns.rest.now c.in-Some.others.now c.turns.totals c.apply_counted.new.totals
-          (start c.args.net.now c.args.events.now) _ _ c.turns.written split turn c.apply_counted.ensures.net c.apply_counted.ensures.totals c.turns.invariant.reached;
+          (start c.args.net.now c.args.events.now) _ _ _ _ _ _ split turn c.apply_counted.ensures.net c.apply_counted.ensures.totals c.turns.invariant.reached;
       flag = c.turns.invariant.flag;
       schedule = (c.in-Some.event.now.at, rw kept.count (next_schedule _ _ _ _ _ _ split c.turns.invariant.schedule.1));
       closed = rw kept.close c.turns.invariant.closed;
@@ -33,27 +33,25 @@ pub turns-smaller : goal.turns-smaller
 turns-smaller g c =
     let turn : turn_of c.args.end c.turns.net (first_time c.turns.rest.now) ≡ Round c.in-Round.begin = rw (← c.first_time.ensures) (sym c.in-Round.ensures) in
     let begins = round_begins c.args.end c.turns.net (first_time c.turns.rest.now) c.in-Round.begin turn in
-    let round = c.run_round.ensures.round in
+    let round = c.in_ok-run_round-in-Round.ensures.round in
     let same : round.begin ≡ c.in-Round.begin = same_begin (sym round.begins ∙ begins.0) in
-    let brought = brings c.args.end c.turns.net c.run_round.new.net _ _ _ _ _ _ _ round (omega (arith, begins.1, same)) in
+    let brought = brings c.args.end c.turns.net c.run_round.new.net _ _ _ _ _ _ _ _ _ round (omega (arith, begins.1, same)) in
     smaller (length c.turns.rest.now) c.turns.net.rest c.run_round.new.net.rest brought.sooner (omega (arith, brought.before, c.requires.early))
 
 pub turns-preserved : goal.turns-preserved
 turns-preserved g c =
     let turn : turn_of c.args.end c.turns.net (first_time c.turns.rest.now) ≡ Round c.in-Round.begin = rw (← c.first_time.ensures) (sym c.in-Round.ensures) in
     let begins = round_begins c.args.end c.turns.net (first_time c.turns.rest.now) c.in-Round.begin turn in
-    let round = c.run_round.ensures.round in
+    let round = c.in_ok-run_round-in-Round.ensures.round in
     let same : round.begin ≡ c.in-Round.begin = same_begin (sym round.begins ∙ begins.0) in
-    let brought = brings c.args.end c.turns.net c.run_round.new.net _ _ _ _ _ _ _ round (omega (arith, begins.1, same)) in
+    let brought = brings c.args.end c.turns.net c.run_round.new.net _ _ _ _ _ _ _ _ _ round (omega (arith, begins.1, same)) in
     let text = round_drives (seats_of c.turns.net round.begin) round.begin c.turns.net.pulses round.outcome in
-    let line : WrittenText (g.S.Sink.contents c.turns.out) (g.S.Sink.contents c.run_round.new.out) (g.S.Sink.is_stuck c.turns.out) (g.S.Sink.is_stuck c.run_round.new.out)
-    text (Ok c.in-Ok.count) = subst (WrittenText _ _ _ _ text) c.in-Ok.is round.written in
     let counts = counts_brought c.turns.totals c.run_round.new.totals _ round.totals in
     record {
       reached = after_turn c.args.end c.in-Round.begin c.turns.net c.run_round.new.net c.turns.rest.now c.turns.totals c.run_round.new.totals
-          text (start c.args.net.now c.args.events.now) _ _ _ c.turns.written c.in-Ok.count c.counted-written.result
-          turn (ran c.in-Round.begin c.turns.net c.run_round.new.net c.turns.totals c.run_round.new.totals _ _ _ _ _ round same) c.turns.invariant.reached line.0 line.1 c.counted-written.ensures;
-      flag = line.2 ∙ c.turns.invariant.flag;
+          text (start c.args.net.now c.args.events.now) _ _ _ _ _ _ _ _ _
+          turn (ran c.in-Round.begin c.turns.net c.run_round.new.net c.turns.totals c.run_round.new.totals _ _ _ _ _ _ _ round same) c.turns.invariant.reached round.written;
+      flag = round.written.2 ∙ c.turns.invariant.flag;
       schedule = (c.turns.invariant.schedule.0, rw brought.tree c.turns.invariant.schedule.1);
       closed = omega (arith, brought.close, c.requires.early);
       rested = omega (arith, brought.rest, c.requires.early);
@@ -65,28 +63,27 @@ turns-preserved g c =
       since = c.run_round.ensures.rest;
     }
 
-pub returns-in-Err-clause-cut : goal.returns-in-Err-clause-cut
-returns-in-Err-clause-cut g c =
+pub returns-in_err-run_round-in-Round-clause-cut : goal.returns-in_err-run_round-in-Round-clause-cut
+returns-in_err-run_round-in-Round-clause-cut g c =
     let turn : turn_of c.args.end c.turns.net (first_time c.turns.rest.now) ≡ Round c.in-Round.begin = rw (← c.first_time.ensures) (sym c.in-Round.ensures) in
     let begins = round_begins c.args.end c.turns.net (first_time c.turns.rest.now) c.in-Round.begin turn in
-    let round = c.run_round.ensures.round in
+    let round = c.in_err-run_round-in-Round.ensures.round in
     let same : round.begin ≡ c.in-Round.begin = same_begin (sym round.begins ∙ begins.0) in
     let text = round_drives (seats_of c.turns.net round.begin) round.begin c.turns.net.pulses round.outcome in
-    let line : WrittenText (g.S.Sink.contents c.turns.out) (g.S.Sink.contents c.run_round.new.out) (g.S.Sink.is_stuck c.turns.out) (g.S.Sink.is_stuck c.run_round.new.out)
-    text (Err c.in-Err.fault) = subst (WrittenText _ _ _ _ text) c.in-Err.is round.written in
-    cut_turn c.args.end c.in-Round.begin c.turns.net c.run_round.new.net c.turns.rest.now c.turns.totals c.run_round.new.totals
-    text (start c.args.net.now c.args.events.now) _ _ _ c.turns.written c.in-Err.fault c.cut_at.result
-    turn (ran c.in-Round.begin c.turns.net c.run_round.new.net c.turns.totals c.run_round.new.totals _ _ _ _ _ round same) c.turns.invariant.reached line.0 c.cut_at.ensures
+    fails_with _ c.in_err-run_round-in-Round.field-0.0 c.from_residual.result c.from_residual.ensures.0 c.from_residual.ensures.1
+    (cut_turn c.args.end c.in-Round.begin c.turns.net c.run_round.new.net c.turns.rest.now c.turns.totals c.run_round.new.totals
+    text (start c.args.net.now c.args.events.now) _ _ _ _ _ _ _ c.in_err-run_round-in-Round.field-0.0
+    turn (ran c.in-Round.begin c.turns.net c.run_round.new.net c.turns.totals c.run_round.new.totals _ _ _ _ _ _ _ round same) c.turns.invariant.reached round.written.0)
 
-pub returns-in-Ok-write_end-clause-ok : goal.returns-in-Ok-write_end-clause-ok
-returns-in-Ok-write_end-clause-ok g c =
+pub returns-clause-ok : goal.returns-clause-ok
+returns-clause-ok g c =
     let stop : turn_of c.args.end c.turns.net (first_time c.turns.rest.now) ≡ Stop = rw (← c.first_time.ensures) (sym c.in-Stop.ensures) in
-    last_written c.args.end (start c.args.net.now c.args.events.now) (record { net = c.turns.net; events = c.turns.rest.now; totals = c.turns.totals }) _ _ _
-    c.turns.written c.turns.invariant.reached stop c.in-Ok-write_end.ensures.1
+    last_written c.args.end (start c.args.net.now c.args.events.now) (record { net = c.turns.net; events = c.turns.rest.now; totals = c.turns.totals }) _ _ _ _ _ _ _
+    c.turns.invariant.reached stop c.in_ok-write_end.ensures.1
 
-pub returns-in-Err-write_end-clause-cut : goal.returns-in-Err-write_end-clause-cut
-returns-in-Err-write_end-clause-cut g c =
+pub returns-in_err-write_end-clause-cut : goal.returns-in_err-write_end-clause-cut
+returns-in_err-write_end-clause-cut g c =
     let stop : turn_of c.args.end c.turns.net (first_time c.turns.rest.now) ≡ Stop = rw (← c.first_time.ensures) (sym c.in-Stop.ensures) in
-    last_cut c.args.end (start c.args.net.now c.args.events.now) (record { net = c.turns.net; events = c.turns.rest.now; totals = c.turns.totals }) _ _ _
-    c.turns.written c.in-Err-write_end.fault c.cut_at-in-Err-write_end.result c.turns.invariant.reached stop c.in-Err-write_end.ensures.0
-    c.cut_at-in-Err-write_end.ensures
+    fails_with _ c.in_err-write_end.field-0.0 c.from_residual-in_err-write_end.result c.from_residual-in_err-write_end.ensures.0 c.from_residual-in_err-write_end.ensures.1
+    (last_cut c.args.end (start c.args.net.now c.args.events.now) (record { net = c.turns.net; events = c.turns.rest.now; totals = c.turns.totals }) _ _ _ _ _ _ _
+    c.in_err-write_end.field-0.0 c.turns.invariant.reached stop c.in_err-write_end.ensures.0)

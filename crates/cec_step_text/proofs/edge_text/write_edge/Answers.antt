@@ -1,10 +1,33 @@
-use Rattle.std.proofs.Common.{◌++◌, codes}
-use Rattle.cec_step_text.specs.EdgeText.{device_text, level_text}
-use Rattle.cec_bits.specs.Follows.{standing_by_code}
+use Rattle.std.proofs.Common.{◌≡◌, ℕ, ◌+◌, ◌++◌, Bool, List, Option, Ok, Err, arith, codes}
 use Rattle.std.specs.List.{flat_map}
+use Rattle.hdmi_core.specs.Cut.{WrittenText, told_count}
+use Rattle.cec_bits.specs.Follows.{standing_by_code}
+use Rattle.cec_tally.specs.Adds.{AddsAll}
+use Rattle.cec_tally.proofs.Adding.{both, cut_of, front, then}
+use Rattle.cec_step_text.specs.EdgeText.{device_text, level_text}
 use Rattle.cec_step_text.proofs.edge_text.write_edge.Goals as goal
 
-pub returns-in-Ok : goal.returns-in-Ok
-returns-in-Ok g c =
-    c.behind.ensures (g.S.Sink.contents c.args.out.now) (g.S.Sink.contents c.write_level.new.out) (g.S.Sink.contents c.write_rest.new.out) (g.S.Sink.is_stuck c.args.out.now) (g.S.Sink.is_stuck c.write_level.new.out) (g.S.Sink.is_stuck c.write_rest.new.out)
-    (level_text c.args.edge) (flat_map (device_text (standing_by_code c.args.standing)) c.args.devices.now ++ codes "\n") c.in-Ok.ensures c.write_rest.ensures
+-- what was added to nothing, and is counted
+counted_all : (a b : Option (List ℕ)) (p q : Bool) (n m : ℕ) (xs : List ℕ) → AddsAll a b p q 0 n xs → m ≡ told_count (0 + n) → WrittenText a b p q xs (Ok m)
+counted_all a b p q n m xs added count = (omega (arith, count, added.0), added.1, added.2)
+
+pub returns : goal.returns
+returns g c =
+    let rest = flat_map (device_text (standing_by_code c.args.standing)) c.args.devices.now ++ codes "\n" in
+    counted_all _ _ _ _ c.write_rest.new.written c.counted.result (level_text c.args.edge ++ rest)
+    (both _ _ _ _ _ _ 0 c.write_level.new.written c.write_rest.new.written (level_text c.args.edge) rest c.in_ok-write_level.ensures c.in_ok-write_rest.ensures) c.counted.ensures
+
+pub returns-in_err-write_level : goal.returns-in_err-write_level
+returns-in_err-write_level g c =
+    let rest = flat_map (device_text (standing_by_code c.args.standing)) c.args.devices.now ++ codes "\n" in
+    let fault = c.in_err-write_level.field-0.0 in
+    let cut = c.in_err-write_level.ensures in
+    cut_of _ _ _ _ c.write_level.new.written (level_text c.args.edge ++ rest) fault c.from_residual.result c.from_residual.ensures.0 c.from_residual.ensures.1
+    (front _ _ 0 (level_text c.args.edge) rest fault cut.0, cut.1)
+
+pub returns-in_err-write_rest : goal.returns-in_err-write_rest
+returns-in_err-write_rest g c =
+    let rest = flat_map (device_text (standing_by_code c.args.standing)) c.args.devices.now ++ codes "\n" in
+    let fault = c.in_err-write_rest.field-0.0 in
+    cut_of _ _ _ _ c.write_rest.new.written (level_text c.args.edge ++ rest) fault c.from_residual-in_err-write_rest.result c.from_residual-in_err-write_rest.ensures.0 c.from_residual-in_err-write_rest.ensures.1
+    (then _ _ _ _ _ _ 0 c.write_level.new.written c.write_rest.new.written (level_text c.args.edge) rest (Err fault) c.in_ok-write_level.ensures c.in_err-write_rest.ensures)

@@ -1,8 +1,12 @@
-use Rattle.cec_step_text.specs.EdgeText.{slot_text}
 use Rattle.cec_text.specs.ReadingText.{bits_text}
+use Rattle.cec_tally.proofs.Adding.{front_of, then}
+use Rattle.cec_step_text.specs.EdgeText.{slot_text}
 use Rattle.cec_step_text.proofs.edge_text.write_slot.Goals as goal
 
-pub returns-in-Ok : goal.returns-in-Ok
-returns-in-Ok g c =
-    c.behind.ensures (g.S.Sink.contents c.args.out.now) (g.S.Sink.contents c.write_slot_number.new.out) (g.S.Sink.contents c.write_bits.new.out) (g.S.Sink.is_stuck c.args.out.now) (g.S.Sink.is_stuck c.write_slot_number.new.out) (g.S.Sink.is_stuck c.write_bits.new.out)
-    (slot_text c.args.slot) (bits_text c.args.bits.now) c.in-Ok.ensures c.write_bits.ensures
+pub returns-in_err-write_slot_number : goal.returns-in_err-write_slot_number
+returns-in_err-write_slot_number g c =
+    front_of _ _ _ _ _ _ (slot_text c.args.slot) (bits_text c.args.bits.now) c.in_err-write_slot_number.field-0.0 c.from_residual.result
+    c.from_residual.ensures.0 c.from_residual.ensures.1 c.in_err-write_slot_number.ensures
+
+pub returns : goal.returns
+returns g c = then _ _ _ _ _ _ _ _ _ (slot_text c.args.slot) (bits_text c.args.bits.now) c.write_bits.result c.in_ok-write_slot_number.ensures c.write_bits.ensures

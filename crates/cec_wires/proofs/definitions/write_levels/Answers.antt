@@ -1,8 +1,13 @@
 use Rattle.std.proofs.Common.{codes}
 use Rattle.std.specs.List.{flat_map, range_with_len}
 use Rattle.cec_wires.specs.Wires.{high_at_first}
+use Rattle.cec_tally.proofs.Adding.{front_of, then}
 use Rattle.cec_wires.proofs.definitions.write_levels.Goals as goal
 
-pub returns-in-Ok : goal.returns-in-Ok
-returns-in-Ok g c =
-    c.after.ensures _ _ _ _ _ _ (flat_map high_at_first (range_with_len 0 c.args.count)) (codes "$end\n") c.in-Ok.ensures c.write_text.ensures
+pub returns-in_err-write_highs : goal.returns-in_err-write_highs
+returns-in_err-write_highs g c =
+    front_of _ _ _ _ _ _ (flat_map high_at_first (range_with_len 0 c.args.count)) (codes "$end\n") c.in_err-write_highs.field-0.0 c.from_residual.result
+    c.from_residual.ensures.0 c.from_residual.ensures.1 c.in_err-write_highs.ensures
+
+pub returns : goal.returns
+returns g c = then _ _ _ _ _ _ _ _ _ (flat_map high_at_first (range_with_len 0 c.args.count)) (codes "$end\n") c.write_text.result c.in_ok-write_highs.ensures c.write_text.ensures

@@ -1,8 +1,12 @@
 use Rattle.std.proofs.Common.{◌≡◌, ap, ◌∙◌, length, map}
 use Rattle.cec_judge.specs.Told.{round_as, rounds_of}
 use Rattle.cec_judge.specs.Seen.{first_of}
+use Rattle.cec_judge.specs.Index.{are_in_order}
 use Rattle.cec_judge.proofs.Indexed.{same_ends}
 use Rattle.cec_judge.proofs.index.Index.rounds_seen.Goals as goal
+
+pub rounds_seen-requires : goal.rounds_seen-requires
+rounds_seen-requires c = λ h. ap are_in_order c.deref.ensures.value ∙ c.args.self.now.order_is h
 
 pub returns-clause-count : goal.returns-clause-count
 returns-clause-count c =

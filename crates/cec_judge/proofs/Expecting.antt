@@ -1,0 +1,33 @@
+-- The refused events that a script expects, read once, are those that are found line by line.
+use Rattle.std.proofs.Common.{◌≡◌, ℕ, ◌==◌, ◌||◌, Bool, true, false, cond, List, [], ◌∷◌, nat_eq, refl, sym, ap, ◌∙◌}
+use Rattle.std.specs.HashSet.{HashSet, Updates, contains}
+use Rattle.std.specs.List.{list_any}
+
+or_not : (b : Bool) → (b || false) ≡ b
+or_not true = refl
+or_not false = refl
+
+-- a line that expects none
+pub no_more : (a b : Bool) → b ≡ false → a ≡ (a || b)
+no_more a b none = sym (ap (λ c. a || c) none ∙ or_not a)
+
+-- one that is put
+pub put : {S : Type 0} (line : ℕ) (s n : HashSet ℕ S) → Updates nat_eq s n line true → (number : ℕ) → contains nat_eq n number ≡ (contains nat_eq s number || (line == number))
+put line s n updates number = updates.0 number ∙ by (nat_eq line number) (contains nat_eq s number)
+  where
+    by : (b c : Bool) → cond b true c ≡ (c || b)
+    by true true = refl
+    by true false = refl
+    by false true = refl
+    by false false = refl
+
+or_assoc : (a b c : Bool) → ((a || b) || c) ≡ (a || (b || c))
+or_assoc true b c = refl
+or_assoc false b c = refl
+
+-- a line more
+pub one_more : (f : List ℕ → Bool) (a : Bool) (line : List ℕ) (rest : List (List ℕ)) → ((a || f line) || list_any f rest) ≡ (a || list_any f (line ∷ rest))
+one_more f a line rest = or_assoc a (f line) (list_any f rest)
+
+pub all_noted : (f : List ℕ → Bool) (a : Bool) (lines : List (List ℕ)) → lines ≡ [] → (a || list_any f lines) ≡ a
+all_noted f a lines none = ap (λ (ls : List (List ℕ)). a || list_any f ls) none ∙ or_not a
