@@ -12,9 +12,12 @@ use Rattle.cec_run.specs.Emulate.{IsTraceOf}
 use Rattle.cec_run.specs.declared.run.Totals.{Totals}
 use Rattle.cec_run.proofs.Accepted.{texts_have_one_trace}
 use Rattle.cec_judge.specs.Told.{state_line}
-use Rattle.cec_check.specs.States.{AreStates, IsStateFor, IsStateOf}
+use Rattle.cec_check.specs.States.{AreStates, IsStateFor, IsStateOf, IsTraced}
 use Rattle.cec_check.specs.Report.{Report, report}
-use Rattle.cec_check.specs.Check.{IsReportOf, TalliesCountVerdicts, tally_of}
+use Rattle.cec_check.specs.Kept.{kept}
+use Rattle.cec_check.specs.declared.checking.CheckError.TheVariants.{Expect}
+use Rattle.cec_expect.specs.declared.faults.ExpectFault.{ExpectFault}
+use Rattle.cec_check.specs.Check.{AreKept, IsReportOf, IsVerdictTold, TalliesCountVerdicts, tally_of}
 
 pub reported : (topology script plain held bytes text : List ℕ) (totals : Totals) (states : List (List ℕ)) (r : Report) → plain ≡ plain_script script → held ≡ []
     → IsTraceOf topology plain text totals → Appends (Some held) (Some bytes) text → first_fault topology script ≡ None → AreStates topology plain (lines_of script) states
@@ -80,3 +83,44 @@ one_report topology script r q x y =
 pub tallies_count_verdicts : TalliesCountVerdicts
 tallies_count_verdicts topology script old new tally verdicts (r, is, counted, written) (q, other, are) =
     counted ∙ ap (λ (p : Report). tally_of p.verdicts) (one_report topology script r q is other) ∙ ap tally_of (sym are)
+
+-- ---- what is kept of a run
+
+pub kept_of_run : (topology script plain old new text few : List ℕ) (totals : Totals) → plain ≡ plain_script script → old ≡ [] → IsTraceOf topology plain text totals
+    → Appends (Some old) (Some new) text → lines_of few ≡ kept script (lines_of new) → AreKept topology script few
+kept_of_run topology script plain old new text few totals is empty trace written are = record {
+  trace = text;
+  totals = totals;
+  run = subst (λ p. IsTraceOf topology p text totals) is trace;
+  lines_are = are ∙ ap (λ t. kept script (lines_of t)) (written ∙ ap (λ h. h ++ text) empty);
+}
+
+pub reported_few : (topology script few : List ℕ) (states : List (List ℕ)) (r : Report) → AreKept topology script few → first_fault topology script ≡ None
+    → AreStates topology (plain_script script) (lines_of script) states → ((trace : List ℕ) → lines_of few ≡ kept script (lines_of trace) → r ≡ report script trace states)
+    → IsReportOf topology script r
+reported_few topology script few states r run accepted are made = record {
+  trace = run.trace;
+  totals = run.totals;
+  run = run.run;
+  accepted = accepted;
+  states = states;
+  states_are = are;
+  report_is = made run.trace run.lines_are;
+}
+
+pub traced_of : (topology script plain few : List ℕ) → AreKept topology script few → plain ≡ plain_script script → IsTraced topology plain
+traced_of topology script plain few run is = (run.trace, run.totals, subst (λ p. IsTraceOf topology p run.trace run.totals) (sym is) run.run)
+
+pub faulty : (topology script named few : List ℕ) (fault : ExpectFault) → AreKept topology script few → named ≡ script → first_fault topology named ≡ Some fault
+    → IsVerdictTold topology script (Expect fault)
+faulty topology script named few fault run same is = record {
+  told = (run.trace, run.totals, run.run, ap (first_fault topology) (sym same) ∙ is);
+  unwritten = refl;
+}
+
+pub faultless : (topology script named : List ℕ) → named ≡ script → first_fault topology named ≡ None → first_fault topology script ≡ None
+faultless topology script named same is = ap (first_fault topology) (sym same) ∙ is
+
+pub states_of_plain : (topology script plain : List ℕ) (states : List (List ℕ)) → plain ≡ plain_script script → AreStates topology plain (lines_of script) states
+    → AreStates topology (plain_script script) (lines_of script) states
+states_of_plain topology script plain states is are = subst (λ p. AreStates topology p (lines_of script) states) is are

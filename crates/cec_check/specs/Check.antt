@@ -7,6 +7,7 @@ use Rattle.cec_expect.specs.Faults.{first_fault}
 use Rattle.cec_run.specs.Emulate.{IsTraceOf, IsTold}
 use Rattle.cec_run.specs.declared.run.Totals.{Totals}
 use Rattle.cec_check.specs.States.{AreStates}
+use Rattle.cec_check.specs.Kept.{kept}
 use Rattle.cec_check.specs.Report.{Report, report}
 use Rattle.cec_check.specs.declared.checking.Tally.{Tally}
 use Rattle.cec_check.specs.declared.checking.CheckError.{CheckError}
@@ -25,6 +26,13 @@ pub record IsReportOf (topology script : List ℕ) (r : Report) : Type 0 where
   pub states : List (List ℕ)
   pub states_are : AreStates topology (plain_script script) (lines_of script) states
   pub report_is : r ≡ report script trace states
+
+-- the lines of the plain script's run that a script needs
+pub record AreKept (topology script few : List ℕ) : Type 0 where
+  pub trace : List ℕ
+  pub totals : Totals
+  pub run : IsTraceOf topology (plain_script script) trace totals
+  pub lines_are : lines_of few ≡ kept script (lines_of trace)
 
 -- the report is written
 abbrev pub IsChecked : List ℕ → List ℕ → Option (List ℕ) → Option (List ℕ) → Tally → Type 0

@@ -1,4 +1,6 @@
 pub mod Report
 pub mod States
+pub mod Kept
+pub mod Sieve
 pub mod Cuts
 pub mod Check

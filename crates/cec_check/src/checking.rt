@@ -1,12 +1,17 @@
 //! From the texts of a topology and a script with expectations to their report.
-ghost use Rattle.std.specs.Prelude.{◌≡◌, ◌↔◌, not, false, length, filter, IfOk, IfErr, IsTrue};
-ghost use Rattle.cec_check.specs.Check.{AreVerdictsOf, IsCheckCut, IsCheckTold, IsChecked, IsReportOf, IsVerdictTold, is_write, tally_of};
+ghost use Rattle.std.specs.Prelude.{◌≡◌, ◌↔◌, not, false, length, filter, map, None, IfOk, IfErr, IsTrue};
+ghost use Rattle.hdmi_core.specs.Lines.{lines_of};
+ghost use Rattle.cec_expect.specs.Line.{plain_script};
+ghost use Rattle.cec_expect.specs.Faults.{first_fault};
+ghost use Rattle.cec_check.specs.States.{AreStates};
+ghost use Rattle.cec_check.specs.Check.{AreKept, AreVerdictsOf, IsCheckCut, IsCheckTold, IsChecked, IsReportOf, IsVerdictTold, is_write, tally_of};
 ghost use Rattle.cec_check.specs.Report.{report_as};
 
 use crate::held::Held;
-use crate::report::{ReportDraft, whole_report};
+use crate::report::{ReportDraft, report_of_few, whole_report};
+use crate::sieve::{Patterns, Sieve};
 use crate::states::all_states;
-use cec_expect::{ExpectFault, first_fault, plain_script};
+use cec_expect::{ExpectFault, Labels, fault_among, plain_script};
 use cec_run::emulate::{EmulateError, emulate};
 use hdmi_core::{Sink, put_all};
 use std::alloc::Global;
@@ -62,7 +67,63 @@ pub fn tally_of(verdicts: &[bool]) -> Tally
     }
 }
 
-// The report of a script, by the trace of its run.
+// The report of a script, by the whole trace of its run.
+#[tactic(auto, using(crate::proofs::Checked::reported, crate::proofs::Checked::reports))]
+fn report_by_trace(
+    alloc: Global,
+    topology: &[u8],
+    script: &[u8],
+    plain: &[u8],
+    states: &[Vec<u8>],
+) -> Result<ReportDraft, CheckError>
+    requires plain { plain.now ≡ plain_script script.now }
+    requires accepted { first_fault topology.now script.now ≡ None }
+    requires states { AreStates topology.now (plain_script script.now) (lines_of script.now) (map (λ state. state.items) states.now) }
+    ensures ok { IfOk result (λ draft. IsReportOf topology.now script.now (report_as draft)) }
+    ensures told { IfErr result (IsVerdictTold topology.now script.now) }
+{
+    let mut trace = Held::new(alloc);
+    match emulate(alloc, topology, plain, &mut trace) {
+        Ok(_) => {}
+        Err(EmulateError::Write(_)) => return Err(CheckError::Memory),
+        Err(error) => return Err(CheckError::Emulate(error)),
+    }
+    match whole_report(alloc, script, &trace.bytes, states) {
+        Ok(report) => Ok(report),
+        Err(_) => Err(CheckError::Memory),
+    }
+}
+
+// The lines of the trace of a script's run that its report needs.
+#[tactic(auto, using(crate::proofs::Checked::kept_of_run))]
+fn few_of(
+    alloc: Global,
+    topology: &[u8],
+    script: &[u8],
+    plain: &[u8],
+) -> Result<Vec<u8>, CheckError>
+    requires plain { plain.now ≡ plain_script script.now }
+    ensures ok { IfOk result (λ few. AreKept topology.now script.now few.items) }
+    ensures told { IfErr result (IsVerdictTold topology.now script.now) }
+{
+    let Ok(patterns) = Patterns::new(alloc, script) else {
+        return Err(CheckError::Memory);
+    };
+    let mut sieve = Sieve::new(alloc, patterns);
+    match emulate(alloc, topology, plain, &mut sieve) {
+        Ok(_) => {}
+        Err(EmulateError::Write(_)) => return Err(CheckError::Memory),
+        Err(error) => return Err(CheckError::Emulate(error)),
+    }
+    match sieve.few(script) {
+        Ok(few) => Ok(few),
+        Err(_) => Err(CheckError::Memory),
+    }
+}
+
+// The report of a script. The run is made again where a test failed whose window no round meets: then the first rounds in the
+// window are shown.
+#[tactic(auto, using(crate::proofs::Checked::traced_of, crate::proofs::Checked::faulty, crate::proofs::Checked::faultless, crate::proofs::Checked::states_of_plain, crate::proofs::Checked::reported_few))]
 fn report_of(alloc: Global, topology: &[u8], script: &[u8]) -> Result<ReportDraft, CheckError>
     ensures ok { IfOk result (λ draft. IsReportOf topology.now script.now (report_as draft)) }
     ensures told { IfErr result (IsVerdictTold topology.now script.now) }
@@ -70,31 +131,33 @@ fn report_of(alloc: Global, topology: &[u8], script: &[u8]) -> Result<ReportDraf
     let Ok(plain) = plain_script(alloc, script) else {
         return Err(CheckError::Memory);
     };
-    let mut trace = Held::new(alloc);
-    match emulate(alloc, topology, &plain, &mut trace) {
-        Ok(_) => {}
-        Err(EmulateError::Write(_)) => return Err(CheckError::Memory),
-        Err(error) => return Err(CheckError::Emulate(error)),
-    }
-    let Ok(fault) = first_fault(alloc, topology, script) else {
+    let few = match few_of(alloc, topology, script, &plain) {
+        Ok(few) => few,
+        Err(error) => return Err(error),
+    };
+    let Ok(labels) = Labels::new(alloc, script) else {
         return Err(CheckError::Memory);
     };
-    match fault {
+    match fault_among(topology, &labels) {
         Some(fault) => return Err(CheckError::Expect(fault)),
         None => {}
     }
     let Ok(states) = all_states(alloc, topology, &plain, script) else {
         return Err(CheckError::Memory);
     };
-    match whole_report(alloc, script, &trace.bytes, &states) {
-        Ok(report) => Ok(report),
-        Err(_) => Err(CheckError::Memory),
+    let Ok(report) = report_of_few(alloc, &labels, &few, &states) else {
+        return Err(CheckError::Memory);
+    };
+    match report {
+        Some(report) => Ok(report),
+        None => report_by_trace(alloc, topology, script, &plain, &states),
     }
 }
 
 /// Runs a script without its labels and expectations on a topology, and writes the report of whether the run is as they have
 /// it, as the Test Anything Protocol has it: a line for each expectation, in order, and one for each refused event that none
-/// expects. The trace of the run is held in memory.
+/// expects. Of the trace the lines of events and of rounds that meet a pattern are held in memory; all of it only where a test failed
+/// whose window no round meets.
 ///
 /// # Errors
 ///

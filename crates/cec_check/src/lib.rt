@@ -5,6 +5,7 @@ mod checking;
 mod held;
 mod laws;
 mod report;
+mod sieve;
 mod states;
 
 pub use checking::{CheckError, Tally, check, tally_of, verdicts};

@@ -1,12 +1,13 @@
 //! The report of a script's expectations, by the trace of its run.
-ghost use Rattle.std.specs.Prelude.{◌≡◌, ◌++◌, ◌==◌, codes, if◌then◌else◌, OnOk, IfOk, Some, map};
-ghost use Rattle.std.specs.List.{flat_map};
+ghost use Rattle.std.specs.Prelude.{◌≡◌, ◌++◌, ◌==◌, codes, if◌then◌else◌, ℕ, List, OnOk, IfOk, IfSome, Some, map};
+ghost use Rattle.std.specs.List.{flat_map, list_any};
 ghost use Rattle.std.specs.Option.{option_map};
 ghost use Rattle.hdmi_core.specs.Piece.{piece_text};
 ghost use Rattle.hdmi_core.specs.Lines.{lines_of};
 ghost use Rattle.cec_judge.specs.Judged.{verdicts_of};
 ghost use Rattle.cec_judge.specs.Told.{event_as};
-ghost use Rattle.cec_check.specs.Report.{report_start, report_with_plan, escaped_text, escaped_byte, remarks, report, report_as, shown_text, shown_line, span_remarks, verdict_word, with_event, with_line, with_lines, with_refusals, with_test, with_word};
+ghost use Rattle.cec_check.specs.Kept.{is_unmet, kept};
+ghost use Rattle.cec_check.specs.Report.{report_start, report_with_plan, escaped_text, escaped_byte, found_report, remarks, report, report_as, shown_text, shown_line, span_remarks, verdict_word, with_event, with_line, with_lines, with_refusals, with_test, with_word};
 
 use crate::held::Held;
 use cec_expect::{Form, Labels, form_in, unlabelled};
@@ -306,6 +307,47 @@ fn report_start(alloc: Global) -> Result<ReportDraft, AllocError>
     })
 }
 
+// Whether a test failed whose window no round meets.
+fn is_unmet(judged: &Judged) -> bool
+    ensures { result ≡ is_unmet judged.now }
+{
+    match judged.holds {
+        None => false,
+        Some(holds) => !holds && judged.span.is_some() && judged.count == 0,
+    }
+}
+
+fn is_any_unmet(found: &[Judged]) -> bool
+    ensures { result ≡ list_any is_unmet found.now }
+{
+    let mut rest = found;
+    'lines: while let [judged, others @ ..] = rest {
+        if is_unmet(judged) {
+            return true;
+        }
+        rest = others;
+    }
+    false
+}
+
+// The report by what is found of each line.
+fn report_found(
+    alloc: Global,
+    labels: &Labels<'_>,
+    trace: &[u8],
+    states: &[Vec<u8>],
+    found: &[Judged],
+) -> Result<ReportDraft, AllocError>
+    ensures { IfOk result (λ draft. report_as draft ≡ found_report labels.now.script.now trace.now (map (λ state. state.items) states.now) found.now) }
+{
+    let expected = Expected::new(alloc, labels)?;
+    let mut draft = report_start(alloc)?;
+    add_lines(&mut draft, labels.script, trace, states, found)?;
+    add_refusals(&mut draft, &expected, trace)?;
+    add_plan(&mut draft)?;
+    Ok(draft)
+}
+
 /// The report of a script, by the trace of its run and, of each line, the state line that it speaks of.
 pub fn whole_report(
     alloc: Global,
@@ -317,10 +359,24 @@ pub fn whole_report(
 {
     let labels = Labels::new(alloc, script)?;
     let found = all_judged(alloc, &labels, trace, states)?;
-    let expected = Expected::new(alloc, &labels)?;
-    let mut draft = report_start(alloc)?;
-    add_lines(&mut draft, script, trace, states, &found)?;
-    add_refusals(&mut draft, &expected, trace)?;
-    add_plan(&mut draft)?;
-    Ok(draft)
+    report_found(alloc, &labels, trace, states, &found)
+}
+
+/// The report of a script, by the lines that it needs of its trace. Where a test failed whose window no round meets, these are
+/// not enough.
+#[tactic(auto, using(crate::proofs::Kept::kept_is_enough))]
+pub(crate) fn report_of_few(
+    alloc: Global,
+    labels: &Labels<'_>,
+    few: &[u8],
+    states: &[Vec<u8>],
+) -> Result<Option<ReportDraft>, AllocError>
+    ensures { IfOk result (λ made. IfSome made (λ draft. (trace : List ℕ) → lines_of few.now ≡ kept labels.now.script.now (lines_of trace)
+        → report_as draft ≡ report labels.now.script.now trace (map (λ state. state.items) states.now))) }
+{
+    let found = all_judged(alloc, labels, few, states)?;
+    if is_any_unmet(&found) {
+        return Ok(None);
+    }
+    Ok(Some(report_found(alloc, labels, few, states, &found)?))
 }

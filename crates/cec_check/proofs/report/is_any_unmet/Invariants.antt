@@ -1,0 +1,11 @@
+use Rattle.std.proofs.Common.{◌≡◌, length}
+use Rattle.std.specs.List.{list_any}
+use Rattle.cec_check.specs.Kept.{is_unmet}
+use Rattle.cec_check.proofs.report.is_any_unmet.Given as goal
+
+-- none before is
+abbrev pub invariant-lines : goal.invariant-lines
+invariant-lines l = list_any is_unmet l.found ≡ list_any is_unmet l.rest
+
+abbrev pub decreases-lines : goal.decreases-lines
+decreases-lines l = length l.rest

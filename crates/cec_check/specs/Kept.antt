@@ -1,0 +1,54 @@
+-- What a report needs of a trace (own): the lines of events, and those of rounds that meet the pattern of an expectation. Where an
+-- expectation fails that no round meets, the rounds in its window are shown, and the whole trace is needed.
+use Rattle.std.specs.Prelude.{ℕ, ◌==◌, ◌&&◌, ◌||◌, Bool, true, false, filter, List, Option, Some, None, is_some, Result, Ok, Err}
+use Rattle.std.specs.List.{list_any}
+use Rattle.hdmi_core.specs.Lines.{lines_of}
+use Rattle.hdmi_core.specs.Words.{words_of}
+use Rattle.cec_expect.specs.Fits.{fits}
+use Rattle.cec_expect.specs.Line.{behind_label}
+use Rattle.cec_expect.specs.Form.{Form, form_in}
+use Rattle.cec_expect.specs.Form.Form.{Other, Rounds, State, Refused}
+use Rattle.cec_expect.specs.declared.form.ExpectCause.{ExpectCause}
+use Rattle.cec_judge.specs.Told.{RoundLine, event_in, round_in}
+use Rattle.cec_judge.specs.declared.judge.Judged.{Judged}
+
+abbrev pub pattern_by : Result Form ExpectCause → Option (List ℕ)
+pattern_by (Err cause) = None
+pattern_by (Ok Other) = None
+pattern_by (Ok (Rounds quantity window pattern)) = Some pattern
+pattern_by (Ok (State time device words)) = None
+pattern_by (Ok (Refused name word)) = None
+
+-- the pattern of a line of a script
+abbrev pub pattern_of : List ℕ → Option (List ℕ)
+pattern_of line = pattern_by (form_in (behind_label (words_of line)))
+
+abbrev pub meets_pattern : List ℕ → Option (List ℕ) → Bool
+meets_pattern told None = false
+meets_pattern told (Some pattern) = fits pattern told
+
+-- what a round's line says meets the pattern of a line of a script
+abbrev pub meets : List ℕ → List ℕ → Bool
+meets told line = meets_pattern told (pattern_of line)
+
+abbrev pub meets_any : List (List ℕ) → Option RoundLine → Bool
+meets_any lines None = false
+meets_any lines (Some r) = list_any (meets r.told) lines
+
+-- by the lines of a script, a line of the trace is needed
+abbrev pub is_kept : List (List ℕ) → List ℕ → Bool
+is_kept lines line = is_some (event_in (words_of line)) || meets_any lines (round_in (words_of line))
+
+abbrev pub kept : List ℕ → List (List ℕ) → List (List ℕ)
+kept script lines = filter (is_kept (lines_of script)) lines
+
+-- ---- whether that is enough
+
+abbrev pub has_failed : Option Bool → Bool
+has_failed None = false
+has_failed (Some true) = false
+has_failed (Some false) = true
+
+-- it failed, and no round in its window meets its pattern
+abbrev pub is_unmet : Judged → Bool
+is_unmet j = has_failed j.holds && is_some j.span && (j.count == 0)
