@@ -184,8 +184,8 @@ pub fn check<S: Sink>(
     }
 }
 
-/// Whether each test of the report that [`check`] writes of a script holds, in order. The trace of the run and the report are
-/// held in memory meanwhile.
+/// Whether each test of the report that [`check`] writes of a script holds, in order. What [`check`] keeps of the trace and the
+/// report are held in memory meanwhile.
 ///
 /// # Errors
 ///
