@@ -172,15 +172,15 @@ fn of_topology(
             let _ = add_nearest_name(draft, place, word);
         }
         TopologyCause::Number => add_number(draft, word),
-        TopologyCause::Word
-        | TopologyCause::Full
+        TopologyCause::Word => of_topology_word(draft, word, number),
+        TopologyCause::Full
         | TopologyCause::SecondRoot
         | TopologyCause::NoRoot
         | TopologyCause::PortRange
         | TopologyCause::PortTaken
         | TopologyCause::NotLoose
         | TopologyCause::Loop
-        | TopologyCause::Hex => of_topology_word(draft, word, number),
+        | TopologyCause::Hex => {}
     }
 }
 

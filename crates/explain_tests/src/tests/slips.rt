@@ -439,15 +439,15 @@ at 6 press tv power
 --
 run --explain
 device tv tv 4
-device s1 switch 2
-device s2 switch 2
-plug s2 s1 1
-plug s1 s2 1
+device amp amp 1
+device amp2 amp 1
+plug amp2 amp 1
+plug amp amp2 1
 script
 end 5
 => topology line 5: loop
-  line 5: plug s1 s2 1
-                  ^^
+  line 5: plug amp amp2 1
+                   ^^^^
   PARENT is neither CHILD nor plugged in below it
 --
 check --explain
