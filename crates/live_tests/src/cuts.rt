@@ -72,10 +72,10 @@ fn send_others(
     now
 }
 
-/// A session over a script, cut by these numbers, writes what `run` writes of its script.
-fn is_cut(rt: &(impl Abort + AllocGlobal), room: &str, seed: u64) {
+/// A session over a script, cut by the numbers from a start on, writes what `run` writes of its script.
+fn is_cut(rt: &(impl Abort + AllocGlobal), room: &str, start: u64) {
     let (topology, lines) = parts(room);
-    let mut numbers = Numbers(seed);
+    let mut numbers = Numbers(start);
     let mut sent = Vec::new(rt.alloc());
     let mut script = Vec::new(rt.alloc());
     sent.extend_from_slice(topology.as_bytes())
@@ -97,15 +97,15 @@ fn is_cut(rt: &(impl Abort + AllocGlobal), room: &str, seed: u64) {
     );
     assert!(rt;
         ended.is_ok() && ran.is_ok() && told.as_slice() == trace.as_slice(),
-        "{seed}: {room}"
+        "{start}: {room}"
     );
 }
 
 #[test]
 fn tells_the_trace_of_the_lines_taken(rt: HostRuntime) {
     for room in ROOMS {
-        for seed in 0..10u64 {
-            is_cut(&rt, room, seed);
+        for start in 0..10u64 {
+            is_cut(&rt, room, start);
         }
     }
 }
