@@ -107,7 +107,7 @@ impl Net<EdgeWire> {
     pub fn copy_from(&mut self, other: &Self)
         ensures { self.new ≡ other.now }
     {
-        self.tree = other.tree.copy();
+        self.tree.copy_from(&other.tree);
         self.pulses.copy_from(&other.pulses);
         copy_devices(&mut self.devices, &other.devices);
         self.close = other.close;

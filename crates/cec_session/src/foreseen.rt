@@ -50,6 +50,21 @@ impl Model for Foreseen {
     ghost invariant = { λ f. IsForeseen f.net.value f.next f.after.value };
 }
 
+// Runs the next round, which begins at `begin`, on the second network. An outcome is large: room for it is made here, and not
+// where the round was run already.
+#[inline(never)]
+fn run_ahead(net: &Net<EdgeWire>, begin: u64, next: &mut Option<Outcome>, after: &mut Net<EdgeWire>)
+    requires early { net.now.close ≤ 2000000000000 }
+    requires begins { next_start net.now ≡ Some begin }
+    ensures known { IsForeseen net.now next.new after.new }
+    ensures some { IsSome next.new }
+{
+    after.copy_from(net);
+    let outcome = after.round_at(begin);
+    let _stretches = outcome.wave.as_slice();
+    *next = Some(outcome);
+}
+
 // Runs the next round, which begins at `begin`, on the second network, where it was not run yet. Returns its close.
 fn foresee(
     net: &Net<EdgeWire>,
@@ -64,13 +79,9 @@ fn foresee(
     ensures some { IsSome next.new }
     ensures close { result ≡ after.new.close }
 {
-    if next.is_some() {
-        return after.close();
+    if next.is_none() {
+        run_ahead(net, begin, next, after);
     }
-    after.copy_from(net);
-    let outcome = after.round_at(begin);
-    let _stretches = outcome.wave.as_slice();
-    *next = Some(outcome);
     after.close()
 }
 
