@@ -1,6 +1,7 @@
 //! A sender of one frame (the standard's initiator), at the nominal times (CEC 5.2) until it stops: where it loses
 //! arbitration (CEC 9), at a block that is not acknowledged (CEC 6.1), or with the reading.
 ghost use Rattle.std.specs.Prelude.{◌≡◌, ℕ, ◌+◌, ◌-◌, ◌*◌, ◌<◌, ◌≤◌, Bool, false, length, slice_index_or, if◌then◌else◌};
+ghost use Rattle.cec_wave.specs.Bounds.{latest_heard};
 
 mod parts;
 
@@ -42,8 +43,8 @@ pub struct Sender {
     state: SenderState,
     // the last microsecond in which it pulls, once it has stopped, or 0
     last: u64,
-    ghost begun: { begin ≤ 3000000000000 },
-    ghost ended: { last ≤ 3000000000000 },
+    ghost begun: { begin ≤ latest_heard },
+    ghost ended: { last ≤ latest_heard },
     ghost filled: { 0 < length frame },
 }
 
@@ -69,7 +70,7 @@ impl Sender {
 
     /// Begins to send a frame at `t`.
     pub fn begin(frame: Frame, t: u64) -> Self
-        requires early { t ≤ 3000000000000 }
+        requires early { t ≤ latest_heard }
         ensures begins { (result.frame ≡ frame) × (result.begin ≡ t) }
         ensures stands { (low : ℕ → Bool) → SenderStood result low (t + 1) }
     {
@@ -95,7 +96,7 @@ impl Sender {
 
     // Whether the frame is low so long after the first slot's fall, if nothing stops it.
     fn is_low_in_slots(&self, since: u64) -> bool
-        requires early { since ≤ 3000000000000 }
+        requires early { since ≤ latest_heard }
         ensures { result ≡ line_of (slot_stretches 0 (frame_bits self.now.frame)) since }
     {
         let slot = (since / SLOT) as usize;
@@ -107,7 +108,7 @@ impl Sender {
 
     // Whether the frame is low at `t`, if nothing stops it.
     fn is_laid(&self, t: u64) -> bool
-        requires early { t ≤ 3000000000000 }
+        requires early { t ≤ latest_heard }
         ensures { result ≡ line_of (sender_stretches self.now.begin (frame_bits self.now.frame)) t }
     {
         if t < self.begin {
@@ -130,7 +131,7 @@ impl Sender {
 
     /// Whether it pulls the line low in microsecond `t`: the frame's stretches until it stops, then nothing.
     pub fn pulls(&self, t: u64) -> bool
-        requires early { t ≤ 3000000000000 }
+        requires early { t ≤ latest_heard }
         ensures pull { result ≡ pull_of self.now t }
         ensures round { PullsSo self.now t result }
     {
@@ -138,7 +139,7 @@ impl Sender {
     }
 
     fn is_pulling(&self, t: u64) -> bool
-        requires early { t ≤ 3000000000000 }
+        requires early { t ≤ latest_heard }
         ensures { result ≡ pull_of self.now t }
     {
         self.is_laid(t) && self.may_pull(t)
@@ -147,7 +148,7 @@ impl Sender {
     // The same of the next instant at which that changes, where the first slot falls at `fall`.
     fn next_in_slots(&self, fall: u64, t: u64) -> Option<u64>
         requires from { fall ≤ t }
-        requires early { t ≤ 3000000000000 }
+        requires early { t ≤ latest_heard }
         ensures { IsNextChange (line_of (slot_stretches fall (frame_bits self.now.frame))) t result }
     {
         let slot = ((t - fall) / SLOT) as usize;
@@ -167,7 +168,7 @@ impl Sender {
 
     // The first instant after `t` at which the frame's stretches begin or end.
     fn next_laid(&self, t: u64) -> Option<u64>
-        requires early { t ≤ 3000000000000 }
+        requires early { t ≤ latest_heard }
         ensures { IsNextChange (line_of (sender_stretches self.now.begin (frame_bits self.now.frame))) t result }
     {
         if t < self.begin {
@@ -183,7 +184,7 @@ impl Sender {
 
     // The same, where it has stopped.
     fn next_stopped(&self, t: u64) -> Option<u64>
-        requires early { t ≤ 3000000000000 }
+        requires early { t ≤ latest_heard }
         ensures { IsNextChange (stopped_pull self.now) t result }
     {
         if t > self.last {
@@ -203,7 +204,7 @@ impl Sender {
 
     /// The first instant after `t` at which its pull changes, if it hears nothing more.
     pub fn next_change(&self, t: u64) -> Option<u64>
-        requires early { t ≤ 3000000000000 }
+        requires early { t ≤ latest_heard }
         ensures { IsNextChange (pull_of self.now) t result }
     {
         match self.state {
@@ -245,7 +246,7 @@ impl Sender {
     }
 
     fn stop(&mut self, state: SenderState, t: u64)
-        requires early { t ≤ 3000000000000 }
+        requires early { t ≤ latest_heard }
         ensures keeps { (self.new.frame ≡ self.old.frame) × (self.new.begin ≡ self.old.begin) }
         ensures stops { (self.new.state ≡ state) × (self.new.last ≡ t) }
     {
@@ -255,7 +256,7 @@ impl Sender {
 
     /// What the receiver reported at `t` of the reading that this sender began.
     pub fn heard(&mut self, told: Told, t: u64)
-        requires early { t ≤ 3000000000000 }
+        requires early { t ≤ latest_heard }
         ensures keeps { (self.new.frame ≡ self.old.frame) × (self.new.begin ≡ self.old.begin) }
         ensures hears { Hears self.old told t self.new }
         ensures stops { StopsAt self.old.state self.old.last t self.new.state self.new.last }
@@ -264,7 +265,7 @@ impl Sender {
     }
 
     fn go_by(&mut self, told: Told, t: u64)
-        requires early { t ≤ 3000000000000 }
+        requires early { t ≤ latest_heard }
         ensures keeps { (self.new.frame ≡ self.old.frame) × (self.new.begin ≡ self.old.begin) }
         ensures state { self.new.state ≡ after_told (frame_bits self.old.frame) self.old.state told }
         ensures stops { StopsAt self.old.state self.old.last t self.new.state self.new.last }

@@ -1,5 +1,6 @@
 //! The drives of a round: of each seat, and of the pulses.
 ghost use Rattle.std.specs.Prelude.{◌≡◌, ◌+◌, ◌<◌, ◌≤◌, ◌++◌, length};
+ghost use Rattle.cec_wave.specs.Bounds.{latest_instant, latest_heard};
 ghost use Rattle.cec_wire.specs.Bounds.{begun_within};
 ghost use Rattle.cec_drives.specs.Stretches.{drives_from, drives_of};
 
@@ -47,8 +48,8 @@ fn push_drives(
 )
     requires room { length drives.old.items + length seats.now ≤ 15 }
     requires number { number + length seats.now ≤ 15 }
-    requires begin { begin ≤ 2000000000000 }
-    requires early { outcome.now.reading.at ≤ 3000000000000 }
+    requires begin { begin ≤ latest_instant }
+    requires early { outcome.now.reading.at ≤ latest_heard }
     ensures drives { drives.new.items ≡ drives.old.items ++ drives_from begin outcome.now number seats.now }
     ensures len { length drives.new.items ≡ length drives.old.items + length seats.now }
 {
@@ -69,8 +70,8 @@ pub fn drives_of(
 ) -> ArrayVec<Drive, MOST_DRIVES>
     requires seats { length seats.now ≤ 15 }
     requires pulses { length (begun_within begin outcome.now.rest pulses.now) ≤ 192 }
-    requires begin { begin ≤ 2000000000000 }
-    requires early { outcome.now.reading.at ≤ 3000000000000 }
+    requires begin { begin ≤ latest_instant }
+    requires early { outcome.now.reading.at ≤ latest_heard }
     ensures drives { result.items ≡ drives_of seats.now begin pulses.now outcome.now }
     ensures few { length result.items ≤ 16 }
 {

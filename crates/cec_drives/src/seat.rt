@@ -2,6 +2,7 @@
 ghost use Rattle.std.specs.Prelude.{◌≡◌, [], ◌&&◌, ◌+◌, ◌*◌, ◌<◌, ◌≤◌, ◌++◌, nat_le, length, IfSome};
 ghost use Rattle.std.specs.List.{flat_map, range_with_len};
 ghost use Rattle.cec_wave.specs.Sender.{sender_stretches};
+ghost use Rattle.cec_wave.specs.Bounds.{latest_instant, latest_heard};
 ghost use Rattle.cec_frame.specs.Bits.{frame_bits};
 ghost use Rattle.cec_bits.specs.Sending.{destination};
 ghost use Rattle.cec_wire.specs.Round.{holds_address, is_held, out_in};
@@ -45,7 +46,7 @@ fn slot_fall(outcome: &Outcome, slot: usize) -> Option<u64>
 
 // The last microsecond in which a sender pulls that is out at this slot, if it is out.
 fn last_pull(outcome: &Outcome, out: Option<usize>) -> u64
-    requires { outcome.now.reading.at ≤ 3000000000000 }
+    requires { outcome.now.reading.at ≤ latest_heard }
     ensures last { result ≡ last_pull outcome.now out }
     ensures early { result < 3000000001051 }
 {
@@ -103,7 +104,7 @@ fn bits_of(frame: &Frame) -> ArrayVec<bool, 160>
 // Adds what a sender of this frame pulls up to the end of a microsecond.
 fn push_sent(drive: &mut Drive, frame: &Frame, begin: u64, last: u64)
     requires empty { drive.old ≡ [] }
-    requires begin { begin ≤ 2000000000000 }
+    requires begin { begin ≤ latest_instant }
     requires early { last < 3000000001051 }
     ensures stretches { drive.new ≡ cut_after last (sender_stretches begin (frame_bits frame.now)) }
     ensures room { length drive.new ≤ 161 }
@@ -115,8 +116,8 @@ fn push_sent(drive: &mut Drive, frame: &Frame, begin: u64, last: u64)
 
 // Where a seat pulls that sends this frame, if it sends one.
 fn sent(sends: &Option<Frame>, begin: u64, outcome: &Outcome, out: Option<usize>) -> Drive
-    requires begin { begin ≤ 2000000000000 }
-    requires early { outcome.now.reading.at ≤ 3000000000000 }
+    requires begin { begin ≤ latest_instant }
+    requires early { outcome.now.reading.at ≤ latest_heard }
     ensures stretches { result ≡ sent_stretches begin outcome.now out sends.now }
     ensures room { length result ≤ 161 }
 {
@@ -185,7 +186,7 @@ fn acknowledges(outcome: &Outcome, seat: &Seat, out: Option<usize>, slot: usize)
 fn push_ack(drive: &mut Drive, outcome: &Outcome, seat: &Seat, out: Option<usize>, block: usize)
     requires room { length drive.old < 192 }
     requires block { block ≤ 16 }
-    requires early { outcome.now.reading.at ≤ 3000000000000 }
+    requires early { outcome.now.reading.at ≤ latest_heard }
     ensures stretches { drive.new ≡ drive.old ++ ack_in outcome.now seat.now out block }
     ensures room { length drive.new ≤ length drive.old + 1 }
 {
@@ -210,7 +211,7 @@ fn push_acks(
 )
     requires room { length drive.old + count ≤ 192 }
     requires blocks { block + count ≤ 17 }
-    requires early { outcome.now.reading.at ≤ 3000000000000 }
+    requires early { outcome.now.reading.at ≤ latest_heard }
     ensures stretches { drive.new ≡ drive.old ++ flat_map (ack_in outcome.now seat.now out) (range_with_len block count) }
     ensures room { length drive.new ≤ length drive.old + count }
 {
@@ -241,7 +242,7 @@ fn breaks_off(outcome: &Outcome, seat: &Seat, out: Option<usize>) -> bool
 // Adds the low drive of a seat after a fall too early, where it does not send (CEC 7.4).
 fn push_break(drive: &mut Drive, outcome: &Outcome, seat: &Seat, out: Option<usize>)
     requires room { length drive.old < 192 }
-    requires early { outcome.now.reading.at ≤ 3000000000000 }
+    requires early { outcome.now.reading.at ≤ latest_heard }
     ensures { drive.new ≡ drive.old ++ break_stretches outcome.now seat.now out }
 {
     if breaks_off(outcome, seat, out) {
@@ -254,8 +255,8 @@ fn push_break(drive: &mut Drive, outcome: &Outcome, seat: &Seat, out: Option<usi
 
 // Where a seat pulls that is out at this slot, if it is out.
 fn drive_by(outcome: &Outcome, seat: &Seat, begin: u64, out: Option<usize>) -> Drive
-    requires begin { begin ≤ 2000000000000 }
-    requires early { outcome.now.reading.at ≤ 3000000000000 }
+    requires begin { begin ≤ latest_instant }
+    requires early { outcome.now.reading.at ≤ latest_heard }
     ensures { result ≡ seat_stretches_by begin outcome.now seat.now out }
 {
     let mut drive = sent(&seat.sends, begin, outcome, out);
@@ -268,8 +269,8 @@ fn drive_by(outcome: &Outcome, seat: &Seat, begin: u64, out: Option<usize>) -> D
 /// until it is out, 1,500 microseconds of each block that it acknowledges (CEC 6.1), and a low drive of 3,600 after a fall
 /// too early (CEC 7.4; its length own). A pull that answers a fall begins a microsecond after it.
 pub fn seat_drive(outcome: &Outcome, number: usize, seat: &Seat, begin: u64) -> Drive
-    requires begin { begin ≤ 2000000000000 }
-    requires early { outcome.now.reading.at ≤ 3000000000000 }
+    requires begin { begin ≤ latest_instant }
+    requires early { outcome.now.reading.at ≤ latest_heard }
     ensures { result ≡ seat_stretches begin outcome.now number seat.now }
 {
     drive_by(outcome, seat, begin, outcome.out_at(number))

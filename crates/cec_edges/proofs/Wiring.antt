@@ -6,6 +6,7 @@ use Rattle.std.proofs.lemmas.Bool.Decides.{nat_tests}
 use Rattle.cec_wave.specs.declared.Stretch.{Stretch}
 use Rattle.cec_wave.specs.Line.{Line, was_low}
 use Rattle.cec_wave.specs.Pulses.{AreSparse}
+use Rattle.cec_wave.specs.Bounds.{latest_begin}
 use Rattle.cec_wire.specs.declared.Seat.{Seat}
 use Rattle.cec_wire.specs.declared.hearing.Stage.{Stage}
 use Rattle.cec_wire.specs.declared.hearing.Stage.TheVariants.{StartLow, StartHigh, InSlot, Over}
@@ -44,7 +45,7 @@ stands_in seats begin pulses t h w =
 pub early_in : (seats : List Seat) (begin : ℕ) (pulses : List Stretch) (t : ℕ) (h : Heard) → IsHeard seats begin pulses t h → IsEarly h.place
 early_in seats begin pulses t h w = is_early seats (line_in seats begin pulses) begin t h.bits h.held h.place (stands_in seats begin pulses t h w).stands w.early
 
-timely_at : (seats : List Seat) (low : Line) (begin t : ℕ) (bits : List Bool) (held : ℕ) (place : Stage) → begin ≤ 2000000100000 → StandsAt seats low begin t bits held place → IsTimely place
+timely_at : (seats : List Seat) (low : Line) (begin t : ℕ) (bits : List Bool) (held : ℕ) (place : Stage) → begin ≤ latest_begin → StandsAt seats low begin t bits held place → IsTimely place
 unfolding StandsAt
 timely_at seats low begin t bits held StartLow l s = tt
 timely_at seats low begin t bits held StartHigh l s = tt
@@ -275,7 +276,7 @@ next_kept pulses pulses2 t t2 (Some p) e l h = (l p refl, subst (λ ps. AreSpars
 
 -- ---- as it begins
 
-pub heard_first : (seats : List Seat) (begin : ℕ) → AreSentWell seats → begin ≤ 2000000100000 → IsHeard seats begin [] begin first_heard
+pub heard_first : (seats : List Seat) (begin : ℕ) → AreSentWell seats → begin ≤ latest_begin → IsHeard seats begin [] begin first_heard
 unfolding heard_of
 heard_first seats begin sent l = record {
   early = l;

@@ -6,6 +6,7 @@ use Rattle.cec_wave.specs.declared.Stretch.{Stretch}
 use Rattle.cec_wave.specs.declared.Edge.{Edge}
 use Rattle.cec_wave.specs.Line.{Line}
 use Rattle.cec_wave.specs.Pulses.{AreSparse}
+use Rattle.cec_wave.specs.Bounds.{latest_begin}
 use Rattle.cec_bits.specs.declared.receiver.Receiver.{Receiver}
 use Rattle.cec_bits.specs.declared.sender.Sender.{Sender}
 use Rattle.cec_bits.specs.Follows.{StandsOn}
@@ -36,7 +37,7 @@ EachOf w P = EachLine w.seats.items w.begin w.pulses.items w.time P
 
 -- Of each line that a round can have from t on this has been heard before t
 pub record IsHeard (seats : List Seat) (begin : ℕ) (pulses : List Stretch) (t : ℕ) (h : Heard) : Type 0 where
-  pub early : begin ≤ 2000000100000
+  pub early : begin ≤ latest_begin
   pub from : begin ≤ t
   pub inside : All (λ p. begin ≤ p.from) pulses
   pub begun : All (λ p. p.from ≤ t) pulses

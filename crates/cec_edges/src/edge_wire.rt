@@ -1,6 +1,7 @@
 //! A line that goes from edge to edge.
 ghost use Rattle.std.specs.Prelude.{◌≡◌, ◌+◌, ◌<◌, ◌≤◌, ◌++◌, ◌&&◌, not, true, false, length, [], All, take, slice_get, IfSome};
 ghost use Rattle.std.specs.List.{list_any};
+ghost use Rattle.cec_wave.specs.Bounds.{latest_begin, latest_heard};
 ghost use Rattle.cec_wire.specs.Edges.{sends_low, sends_on, sending_by, is_pulling, IsPull, IsTimely};
 ghost use Rattle.cec_wire.specs.Machine.{next_place, bit_told, held_after, wave_after, low_since, samples, sends_until, AreSentWell, IsEarly, IsReady};
 
@@ -58,9 +59,9 @@ fn copied_pulses(pulses: &[Stretch]) -> ArrayVec<Stretch, 24>
 
 // What those who go on sending do, once some of them may have been left out.
 fn pull_after(sending: &[Seat], begin: u64, t: u64, is_out: bool, pull: Pull) -> Pull
-    requires early { begin ≤ 2000000100000 }
+    requires early { begin ≤ latest_begin }
     requires begun { begin ≤ t }
-    requires time { t ≤ 3000000000000 }
+    requires time { t ≤ latest_heard }
     requires pull { is_out ≡ false → IsPull begin sending.now pull }
     ensures { IsPull begin sending.now result }
 {
@@ -80,7 +81,7 @@ impl EdgeWire {
     // A round that begins at `start`.
     fn started(seats: &[Seat], start: u64) -> Self
         requires few { length seats.now ≤ 15 }
-        requires early { start ≤ 2000000100000 }
+        requires early { start ≤ latest_begin }
         ensures begun { IsBegun result }
         ensures listens { Listens result }
         ensures seats { result.seats.items ≡ seats.now }
@@ -151,7 +152,7 @@ impl EdgeWire {
     /// Begins a round of at most 15 seats at `start`. A round that was begun before is given up.
     pub fn begin(&mut self, seats: &[Seat], start: u64)
         requires few { length seats.now ≤ 15 }
-        requires early { start ≤ 2000000100000 }
+        requires early { start ≤ latest_begin }
         ensures begun { IsBegun self.new }
         ensures listens { Listens self.new }
         ensures seats { self.new.seats.items ≡ seats.now }
@@ -167,7 +168,7 @@ impl EdgeWire {
     // wire is large, and each part is set where it stands.
     fn begin_alone(&mut self, seats: &[Seat], start: u64)
         requires few { length seats.now ≤ 15 }
-        requires early { start ≤ 2000000100000 }
+        requires early { start ≤ latest_begin }
         ensures begun { IsBegun self.new }
         ensures seats { self.new.seats.items ≡ seats.now }
         ensures begin { self.new.begin ≡ start }
@@ -188,9 +189,9 @@ impl EdgeWire {
 
     // What those who go on sending do from the next microsecond on.
     fn pull_now(&self) -> Pull
-        requires early { self.now.begin ≤ 2000000100000 }
+        requires early { self.now.begin ≤ latest_begin }
         requires begun { self.now.begin ≤ self.now.time }
-        requires time { self.now.time ≤ 3000000000000 }
+        requires time { self.now.time ≤ latest_heard }
         ensures pull { IsPull self.now.begin self.now.sending.items result }
         ensures from { result.from ≤ self.now.time }
         ensures later { self.now.time ≤ result.until }
@@ -235,7 +236,7 @@ impl EdgeWire {
 
     // The next instant at which the line or the reading may change.
     fn wake(&self, pull: Pull, next: Option<Stretch>) -> u64
-        requires early { self.now.begin ≤ 2000000100000 }
+        requires early { self.now.begin ≤ latest_begin }
         requires timely { IsTimely self.now.place }
         requires low { is_pulling pull ≡ sends_low self.now.begin self.now.sending.items self.now.time }
         ensures { result ≡ wake_in self.now pull.until next }
@@ -300,11 +301,11 @@ impl EdgeWire {
 
     // Hears that the line is low or not in the next microsecond, and was low or not just before.
     fn step(&mut self, was: bool, is_low: bool, pull: Pull)
-        requires begin { self.old.begin ≤ 2000000100000 }
+        requires begin { self.old.begin ≤ latest_begin }
         requires from { self.old.begin ≤ self.old.time }
         requires pull { IsPull self.old.begin self.old.sending.items pull }
         requires early { IsEarly self.old.place }
-        requires time { self.old.time ≤ 3000000000000 }
+        requires time { self.old.time ≤ latest_heard }
         requires bits { samples self.old.place self.old.time (is_low && not was) ≡ true → length self.old.bits.items < 160 }
         requires room { length self.old.recorder.wave < 192 }
         requires ready { IsReady self.old.recorder.wave self.old.recorder.low_since self.old.time }

@@ -1,6 +1,7 @@
 //! Who hears a round's line: one receiver for all seats, since all hear the same line, and the sender of each seat
 //! that sends. They go from edge to edge, and between two edges from wake to wake.
 ghost use Rattle.std.specs.Prelude.{◌≡◌, ◌<◌, ◌≤◌, ℕ, Bool, length, slice_get, Some, None, MatchOption};
+ghost use Rattle.cec_wave.specs.Bounds.{latest_heard};
 ghost use Rattle.cec_bits.specs.Follows.{WakesFewer};
 ghost use Rattle.cec_bits.specs.Hears.{heard_by, wake_of};
 ghost use Rattle.cec_edges.specs.Listening.{AllHeard, AreBegun, AreSenders, AreStanding, HeardOne, IsIdle, IsLevel, IsReadOnce, IsSenderOf, KeepsSenders, Reaches, ReachesEdge, Ticks, sooner_wake, tells};
@@ -20,7 +21,7 @@ pub struct Listeners {
 
 // The sender of a seat, if it sends.
 fn sender_of(seat: &Seat, begin: u64) -> Option<Sender>
-    requires early { begin ≤ 3000000000000 }
+    requires early { begin ≤ latest_heard }
     ensures { IsSenderOf seat.now begin result }
 {
     match &seat.sends {
@@ -31,7 +32,7 @@ fn sender_of(seat: &Seat, begin: u64) -> Option<Sender>
 
 fn senders_of(seats: &[Seat], begin: u64) -> ArrayVec<Option<Sender>, 15>
     requires few { length seats.now ≤ 15 }
-    requires early { begin ≤ 3000000000000 }
+    requires early { begin ≤ latest_heard }
     ensures { AreBegun seats.now begin result.items }
 {
     let mut senders = ArrayVec::new();
@@ -60,7 +61,7 @@ fn tells(told: Told) -> bool
 }
 
 fn hear_one(sender: &mut Option<Sender>, told: Told, t: u64)
-    requires early { t ≤ 3000000000000 }
+    requires early { t ≤ latest_heard }
     ensures { HeardOne told t sender.old sender.new }
 {
     if let Some(sender) = sender {
@@ -70,7 +71,7 @@ fn hear_one(sender: &mut Option<Sender>, told: Told, t: u64)
 
 // Each sender hears what the receiver reports at microsecond `t`.
 fn hear_all(senders: &mut [Option<Sender>], told: Told, t: u64)
-    requires early { t ≤ 3000000000000 }
+    requires early { t ≤ latest_heard }
     ensures { AllHeard told t senders.old senders.new }
 {
     for place in 0..senders.len() {
@@ -114,7 +115,7 @@ impl Listeners {
     /// Before the round that begins at `begin`.
     pub fn new(seats: &[Seat], begin: u64) -> Self
         requires few { length seats.now ≤ 15 }
-        requires early { begin ≤ 3000000000000 }
+        requires early { begin ≤ latest_heard }
         ensures level { IsLevel result }
         ensures senders { AreSenders seats.now begin result.senders.items }
         ensures stands { (low : ℕ → Bool) → IsReadOnce low begin → AreStanding result low begin begin }
@@ -128,7 +129,7 @@ impl Listeners {
 
     // Microsecond `t` has come, in which the line falls or rises, or at which the receiver wakes.
     fn tick(&mut self, t: u64)
-        requires early { t ≤ 3000000000000 }
+        requires early { t ≤ latest_heard }
         ensures level { (self.new.receiver.was_low ≡ self.old.receiver.is_low) × (self.new.receiver.is_low ≡ self.old.receiver.is_low) }
         ensures fewer { WakesFewer self.old.receiver t self.new.receiver }
         ensures senders { KeepsSenders self.old self.new }
@@ -152,7 +153,7 @@ impl Listeners {
 
     /// The line had no edge before microsecond `t`.
     pub fn hear_until(&mut self, t: u64)
-        requires early { t ≤ 3000000000000 }
+        requires early { t ≤ latest_heard }
         requires level { IsLevel self.old }
         ensures level { IsLevel self.new }
         ensures senders { KeepsSenders self.old self.new }
@@ -181,7 +182,7 @@ impl Listeners {
 
     /// The line's next edge.
     pub fn hear(&mut self, edge: Edge)
-        requires early { edge.at ≤ 3000000000000 }
+        requires early { edge.at ≤ latest_heard }
         requires level { IsLevel self.old }
         ensures level { IsLevel self.new }
         ensures senders { KeepsSenders self.old self.new }

@@ -3,6 +3,7 @@
 use Rattle.std.specs.Prelude.{◌≡◌, ℕ, ◌≤◌, ◌==◌, nat_lt, nat_le, ◌&&◌, not, Bool, if◌then◌else◌, codes, length, filter, List, [], ◌∷◌, Option, Some, None, Result, Ok, Err}
 use Rattle.std.specs.Str.{bytes_eq}
 use Rattle.std.specs.List.{list_all}
+use Rattle.cec_wave.specs.Bounds.{latest_event}
 use Rattle.hdmi_core.specs.Number.{number_of}
 use Rattle.hdmi_core.specs.Words.{words_of, text_of, two_of}
 use Rattle.cec_expect.specs.declared.form.ExpectCause.{ExpectCause}
@@ -100,7 +101,7 @@ are_words words = list_all (λ word. nat_lt 0 (length word)) words
 
 abbrev pub state_at_time : Option ℕ → List ℕ → List (List ℕ) → Result Form ExpectCause
 state_at_time None device words = Err Number
-state_at_time (Some time) device words = if nat_lt 1000000000000 time then Err Number else Ok (State time device words)
+state_at_time (Some time) device words = if nat_lt latest_event time then Err Number else Ok (State time device words)
 
 -- a time, a device, and at least one word
 abbrev pub state_in : List (List ℕ) → Result Form ExpectCause
@@ -134,7 +135,7 @@ form_in (verb ∷ words) = if bytes_eq verb (codes "expect") then expectation_in
 abbrev pub IsEarly : FormRead → Type 0
 IsEarly forms.Other = Unit {0}
 IsEarly (forms.Rounds quantity window pattern) = Unit {0}
-IsEarly (forms.State time device words) = time ≤ 1000000000000
+IsEarly (forms.State time device words) = time ≤ latest_event
 IsEarly (forms.Refused label word) = Unit {0}
 
 -- what is read is what the words say

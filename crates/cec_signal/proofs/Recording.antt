@@ -3,6 +3,7 @@ use Rattle.std.proofs.Common.{◌≡◌, ℕ, ◌+◌, ◌<◌, ◌≤◌, ◌&&
 use Rattle.std.specs.Option.{option_to_list}
 use Rattle.std.proofs.lemmas.Bool.Decides.{nat_tests}
 use Rattle.cec_wave.specs.declared.Edge.{Edge}
+use Rattle.cec_wave.specs.Bounds.{latest_instant}
 use Rattle.cec_signal.specs.declared.track.Track.{Track}
 use Rattle.cec_signal.specs.Edges.{AreInTurn, EndBy, IsCapture, level_at, line_of_edges}
 use Rattle.cec_signal.specs.Samples.{Sample, level_in}
@@ -177,7 +178,7 @@ records_moved u t m edges samples end h r = by (nat_lt u t.at) refl h
 
 -- ---- from the begin on
 
-pub records_capture : (edges : List Edge) (samples : List Sample) (end : ℕ) → end ≤ 2000000000000 → Records first_track edges samples end → IsCapture edges end
+pub records_capture : (edges : List Edge) (samples : List Sample) (end : ℕ) → end ≤ latest_instant → Records first_track edges samples end → IsCapture edges end
 records_capture edges samples end low r = record { turn = r.turn; ends = r.ends; early = low }
 
 pub records_line : (edges : List Edge) (samples : List Sample) (end : ℕ) → Records first_track edges samples end → (u : ℕ) → line_of_edges edges u ≡ level_in false samples u

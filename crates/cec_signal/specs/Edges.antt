@@ -3,6 +3,7 @@ use Rattle.std.specs.Prelude.{◌≡◌, ℕ, ◌+◌, ◌≤◌, Bool, true, fa
 use Rattle.cec_wave.specs.declared.Edge.{Edge}
 use Rattle.cec_wave.specs.declared.Stretch.{Stretch}
 use Rattle.cec_wave.specs.Line.{Line}
+use Rattle.cec_wave.specs.Bounds.{latest_instant}
 
 -- the line is low from each fall to the next rise
 abbrev pub level_at : Bool → List Edge → ℕ → Bool
@@ -32,7 +33,7 @@ pub record Captured : Type 0 where
 pub record IsCapture (edges : List Edge) (end : ℕ) : Type 0 where
   pub turn : AreInTurn false 0 edges
   pub ends : EndBy end edges
-  pub early : end ≤ 2000000000000
+  pub early : end ≤ latest_instant
 
 -- the fall and the rise of each stretch
 abbrev pub edges_of : List Stretch → List Edge

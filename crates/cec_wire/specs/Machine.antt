@@ -5,6 +5,7 @@ use Rattle.std.specs.List.{list_any}
 use Rattle.cec_wave.specs.declared.Stretch.{Stretch}
 use Rattle.cec_wave.specs.Line.{covers, line_of, IsWave}
 use Rattle.cec_wave.specs.Sender.{sender_stretches}
+use Rattle.cec_wave.specs.Bounds.{latest_heard}
 use Rattle.cec_frame.specs.Bits.{frame_bits}
 use Rattle.cec_frame.specs.declared.Ending.{Ending}
 use Rattle.cec_frame.specs.declared.Ending.TheVariants.{Short, Silent, BadStart}
@@ -109,7 +110,7 @@ takes_pulse begin until was t p = covers p t && (nat_le begin p.from && (nat_le 
 
 -- an instant of a run, in microseconds
 abbrev pub IsEarly : Stage → Type 0
-IsEarly (InSlot fall last) = fall ≤ 3000000000000
+IsEarly (InSlot fall last) = fall ≤ latest_heard
 IsEarly _ = Unit {0}
 
 -- ---- what is sent

@@ -2,6 +2,7 @@
 //! error handling, CEC 7.4), and for how long.
 ghost use Rattle.std.specs.Prelude.{◌≡◌, ◌+◌, ◌%◌, ◌==◌, ◌<◌, ◌≤◌, ◌&&◌, not, length, if◌then◌else◌};
 ghost use Rattle.std.specs.List.{list_any};
+ghost use Rattle.cec_wave.specs.Bounds.{latest_heard};
 ghost use Rattle.cec_bits.specs.Sending.{destination};
 ghost use Rattle.cec_wire.specs.Round.{holds_address, is_held};
 ghost use Rattle.cec_wire.specs.Machine.{acks_after, breaks_after, acks_until, held_after, is_short};
@@ -67,7 +68,7 @@ fn is_broken(bits: &[bool], seats: &[Seat]) -> bool
 
 // How long acknowledgers hold the line in the slot that falls at `fall`, after these bits.
 fn acknowledged_until(seats: &[Seat], bits: &[bool], fall: u64) -> u64
-    requires { fall ≤ 3000000000000 }
+    requires { fall ≤ latest_heard }
     ensures { result ≡ acks_until seats.now bits.now fall }
 {
     if (bits.len() + 1) % 10 == 0 && is_acknowledged(bits, seats) {
@@ -79,7 +80,7 @@ fn acknowledged_until(seats: &[Seat], bits: &[bool], fall: u64) -> u64
 
 /// How long those who follow hold the line, once microsecond `t` brought the reading to this place.
 pub fn held_until(seats: &[Seat], bits: &[bool], place: Stage, t: u64, held: u64) -> u64
-    requires { t ≤ 3000000000000 }
+    requires { t ≤ latest_heard }
     ensures { result ≡ held_after seats.now bits.now place t held }
 {
     match place {

@@ -1,5 +1,6 @@
 //! What was heard of a round's line, microsecond by microsecond.
 ghost use Rattle.std.specs.Prelude.{◌≡◌, ◌+◌, ◌<◌, ◌≤◌, ◌++◌, ◌&&◌, not, true, length};
+ghost use Rattle.cec_wave.specs.Bounds.{latest_begin, latest_heard};
 ghost use Rattle.cec_bits.specs.Reading.{last_ending};
 
 use arrayvec::ArrayVec;
@@ -36,7 +37,7 @@ fn over(ending: Ending, at: u64, until: u64) -> Stage
 }
 
 fn start_low_at(begin: u64, t: u64, rises: bool) -> Stage
-    requires { begin ≤ 2000000100000 }
+    requires { begin ≤ latest_begin }
     ensures { result ≡ after_start_low begin t rises }
 {
     if t > begin + 3900 {
@@ -51,7 +52,7 @@ fn start_low_at(begin: u64, t: u64, rises: bool) -> Stage
 }
 
 fn start_high_at(begin: u64, t: u64, falls: bool) -> Stage
-    requires { begin ≤ 2000000100000 }
+    requires { begin ≤ latest_begin }
     ensures { result ≡ after_start_high begin t falls }
 {
     if falls {
@@ -68,7 +69,7 @@ fn start_high_at(begin: u64, t: u64, falls: bool) -> Stage
 }
 
 fn last_slot_at(fall: u64, ending: Ending, t: u64, falls: bool) -> Stage
-    requires { fall ≤ 3000000000000 }
+    requires { fall ≤ latest_heard }
     ensures { result ≡ after_last_slot fall ending t falls }
 {
     if falls {
@@ -81,7 +82,7 @@ fn last_slot_at(fall: u64, ending: Ending, t: u64, falls: bool) -> Stage
 }
 
 fn other_slot_at(bits: &[bool], fall: u64, t: u64, falls: bool) -> Stage
-    requires { fall ≤ 3000000000000 }
+    requires { fall ≤ latest_heard }
     ensures { result ≡ after_other_slot bits.now fall t falls }
 {
     if falls {
@@ -102,7 +103,7 @@ impl Stage {
 
     /// Where the reading from `begin` comes with microsecond `t`, in which the line falls or rises.
     pub fn after(self, begin: u64, bits: &[bool], t: u64, falls: bool, rises: bool) -> Stage
-        requires begin { begin ≤ 2000000100000 }
+        requires begin { begin ≤ latest_begin }
         requires early { IsEarly self }
         ensures { result ≡ next_place begin bits.now self t falls rises }
     {

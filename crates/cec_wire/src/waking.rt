@@ -2,6 +2,7 @@
 ghost use Rattle.std.specs.Prelude.{◌≡◌, ◌+◌, ◌<◌, ◌≤◌, ◌&&◌, false, if◌then◌else◌, length, nat_lt, slice_index_or};
 ghost use Rattle.cec_wave.specs.Line.{line_of};
 ghost use Rattle.cec_wave.specs.Sender.{sender_stretches};
+ghost use Rattle.cec_wave.specs.Bounds.{latest_begin, latest_heard};
 ghost use Rattle.cec_frame.specs.Bits.{frame_bits};
 ghost use Rattle.cec_wire.specs.Edges.{part_left, sender_part, part_of, next_part, next_due, sooner, if_later, first_end, begin_of, wake_after, sends_low, is_pulling, IsPull, IsTimely};
 
@@ -21,9 +22,9 @@ struct Part {
 
 // What a frame's sender does in a slot, counted from 0, so long after the slot's fall at `t`.
 fn part_of_slot(frame: &Frame, slot: usize, within: u64, t: u64) -> Part
-    requires slot { slot ≤ 3000000000000 }
+    requires slot { slot ≤ latest_heard }
     requires within { within < 2400 }
-    requires time { t ≤ 3000000000000 }
+    requires time { t ≤ latest_heard }
     ensures low { result.is_low ≡ (nat_lt slot (length (frame_bits frame.now)) && nat_lt within (if slice_index_or (frame_bits frame.now) slot false then 600 else 1500)) }
     ensures until { result.until ≡ t + part_left (slice_index_or (frame_bits frame.now) slot false) within }
 {
@@ -43,9 +44,9 @@ fn part_of_slot(frame: &Frame, slot: usize, within: u64, t: u64) -> Part
 
 // What a frame's sender does at `t`, and the next instant after `t` at which it can do otherwise.
 fn sender_part(frame: &Frame, begin: u64, t: u64) -> Part
-    requires early { begin ≤ 2000000100000 }
+    requires early { begin ≤ latest_begin }
     requires begun { begin ≤ t }
-    requires time { t ≤ 3000000000000 }
+    requires time { t ≤ latest_heard }
     ensures low { result.is_low ≡ line_of (sender_stretches begin (frame_bits frame.now)) t }
     ensures until { result.until ≡ sender_part begin (frame_bits frame.now) t }
 {
@@ -87,9 +88,9 @@ impl Pull {
 /// What these seats, which all go on sending, do from microsecond `t` on, up to the next instant at which one of them
 /// can change its pull, at most a start bit later.
 pub fn pull_at(sending: &[Seat], begin: u64, t: u64) -> Pull
-    requires early { begin ≤ 2000000100000 }
+    requires early { begin ≤ latest_begin }
     requires begun { begin ≤ t }
-    requires time { t ≤ 3000000000000 }
+    requires time { t ≤ latest_heard }
     ensures from { result.from ≡ t }
     ensures later { t ≤ result.until }
     ensures low { is_pulling result ≡ sends_low begin sending.now t }
@@ -115,7 +116,7 @@ pub fn pull_at(sending: &[Seat], begin: u64, t: u64) -> Pull
 
 // The next instant at which the reading goes on with no edge.
 fn next_due(begin: u64, place: Stage, t: u64) -> Option<u64>
-    requires early { begin ≤ 2000000100000 }
+    requires early { begin ≤ latest_begin }
     requires timely { IsTimely place }
     ensures { result ≡ next_due begin place t }
 {
@@ -187,7 +188,7 @@ pub fn next_wake(
     held: u64,
     t: u64,
 ) -> u64
-    requires early { begin ≤ 2000000100000 }
+    requires early { begin ≤ latest_begin }
     requires timely { IsTimely place }
     ensures { result ≡ wake_after begin part pulses.now next place held t }
 {

@@ -1,5 +1,6 @@
 //! A receiver of the CEC line. The caller keeps what it keeps.
 ghost use Rattle.std.specs.Prelude.{◌≡◌, ◌≤◌, ◌<◌, option_map};
+ghost use Rattle.cec_wave.specs.Bounds.{latest_heard};
 ghost use Rattle.cec_bits.specs.Hears.{heard_by, wake_of};
 ghost use Rattle.cec_bits.specs.Reports.{listed_as, running_by};
 ghost use Rattle.cec_bits.specs.Parts.{ArePartsOf};
@@ -51,10 +52,10 @@ pub extern "C" fn hdminet_receiver_hear(
     is_low: bool,
     reading: &mut ReadingParts,
 ) -> Heard
-    ensures hears { (r : ReceiverValue) → ArePartsOf r receiver.old → t ≤ 3000000000000
+    ensures hears { (r : ReceiverValue) → ArePartsOf r receiver.old → t ≤ latest_heard
         → HasHeard r t is_low result receiver.new reading.old reading.new }
     ensures spoilt { IsNoReceiver receiver.old → (result ≡ heard_code State) × (receiver.new ≡ receiver.old) × (reading.new ≡ reading.old) }
-    ensures late { (r : ReceiverValue) → ArePartsOf r receiver.old → 3000000000000 < t
+    ensures late { (r : ReceiverValue) → ArePartsOf r receiver.old → latest_heard < t
         → (result ≡ heard_code Late) × (receiver.new ≡ receiver.old) × (reading.new ≡ reading.old) }
 {
     let Some(was) = Receiver::of_parts(receiver) else {

@@ -1,5 +1,6 @@
 //! A sender of a frame on the CEC line. The caller keeps what it keeps.
 ghost use Rattle.std.specs.Prelude.{◌≡◌, ◌≤◌, ◌<◌, Some, None, length};
+ghost use Rattle.cec_wave.specs.Bounds.{latest_heard};
 ghost use Rattle.cec_bits.specs.Parts.{ArePartsOfSender};
 ghost use Rattle.cec_bits.specs.Sending.{pull_of};
 ghost use Rattle.cec_bits.specs.declared.receiver.Told.{Told as ToldValue};
@@ -31,10 +32,10 @@ pub struct Pull {
 /// was.
 #[unsafe(no_mangle)]
 pub extern "C" fn hdminet_sender_begin(sender: &mut SenderParts, bytes: &[u8], t: u64) -> u32
-    ensures begun { 1 ≤ length bytes.now → length bytes.now ≤ 16 → t ≤ 3000000000000 → (result ≡ number_of Done) × HasBegun bytes.now t sender.new }
+    ensures begun { 1 ≤ length bytes.now → length bytes.now ≤ 16 → t ≤ latest_heard → (result ≡ number_of Done) × HasBegun bytes.now t sender.new }
     ensures empty { length bytes.now ≡ 0 → IsLeft FrameEmpty result sender.old sender.new }
     ensures too_long { 16 < length bytes.now → IsLeft FrameTooLong result sender.old sender.new }
-    ensures late { 1 ≤ length bytes.now → length bytes.now ≤ 16 → 3000000000000 < t → IsLeft Late result sender.old sender.new }
+    ensures late { 1 ≤ length bytes.now → length bytes.now ≤ 16 → latest_heard < t → IsLeft Late result sender.old sender.new }
 {
     let frame = match Frame::new(bytes) {
         Ok(frame) => frame,
@@ -53,11 +54,11 @@ pub extern "C" fn hdminet_sender_begin(sender: &mut SenderParts, bytes: &[u8], t
 /// 3,000,000,000,000 microseconds: the sender stays as it was.
 #[unsafe(no_mangle)]
 pub extern "C" fn hdminet_sender_heard(sender: &mut SenderParts, heard: &Heard, t: u64) -> u32
-    ensures hears { (s : SenderValue) → (told : ToldValue) → ArePartsOfSender s sender.old → told_in heard.now ≡ Some told → t ≤ 3000000000000
+    ensures hears { (s : SenderValue) → (told : ToldValue) → ArePartsOfSender s sender.old → told_in heard.now ≡ Some told → t ≤ latest_heard
         → (result ≡ number_of Done) × IsTold s told t sender.new }
     ensures spoilt { IsNoSender sender.old → IsLeft State result sender.old sender.new }
     ensures nothing { (s : SenderValue) → ArePartsOfSender s sender.old → told_in heard.now ≡ None → IsLeft NothingHeard result sender.old sender.new }
-    ensures late { (s : SenderValue) → (told : ToldValue) → ArePartsOfSender s sender.old → told_in heard.now ≡ Some told → 3000000000000 < t
+    ensures late { (s : SenderValue) → (told : ToldValue) → ArePartsOfSender s sender.old → told_in heard.now ≡ Some told → latest_heard < t
         → IsLeft Late result sender.old sender.new }
 {
     let Some(was) = Sender::of_parts(sender) else {
@@ -89,9 +90,9 @@ fn pull_refused(code: Code) -> Pull
 /// Refused where the state is no sender's, and then where `t` is after 3,000,000,000,000.
 #[unsafe(no_mangle)]
 pub extern "C" fn hdminet_sender_pulls(sender: &SenderParts, t: u64) -> Pull
-    ensures pulls { (s : SenderValue) → ArePartsOfSender s sender.now → t ≤ 3000000000000 → result ≡ pull_told (pull_of s t) }
+    ensures pulls { (s : SenderValue) → ArePartsOfSender s sender.now → t ≤ latest_heard → result ≡ pull_told (pull_of s t) }
     ensures spoilt { IsNoSender sender.now → result ≡ pull_code State }
-    ensures late { (s : SenderValue) → ArePartsOfSender s sender.now → 3000000000000 < t → result ≡ pull_code Late }
+    ensures late { (s : SenderValue) → ArePartsOfSender s sender.now → latest_heard < t → result ≡ pull_code Late }
 {
     let Some(sender) = Sender::of_parts(sender) else {
         return pull_refused(Code::State);
@@ -110,9 +111,9 @@ pub extern "C" fn hdminet_sender_pulls(sender: &SenderParts, t: u64) -> Pull
 /// Refused where the state is no sender's, then where `t` is after 3,000,000,000,000, and absent where it changes no more.
 #[unsafe(no_mangle)]
 pub extern "C" fn hdminet_sender_next_change(sender: &SenderParts, t: u64) -> Instant
-    ensures changes { (s : SenderValue) → ArePartsOfSender s sender.now → t ≤ 3000000000000 → IsChange s t result }
+    ensures changes { (s : SenderValue) → ArePartsOfSender s sender.now → t ≤ latest_heard → IsChange s t result }
     ensures spoilt { IsNoSender sender.now → result ≡ instant_refused State }
-    ensures late { (s : SenderValue) → ArePartsOfSender s sender.now → 3000000000000 < t → result ≡ instant_refused Late }
+    ensures late { (s : SenderValue) → ArePartsOfSender s sender.now → latest_heard < t → result ≡ instant_refused Late }
 {
     let Some(sender) = Sender::of_parts(sender) else {
         return instant_refused(Code::State);

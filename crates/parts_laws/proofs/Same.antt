@@ -1,6 +1,7 @@
 -- A receiver and a sender are what they keep, since the facts about their fields are propositions.
 use Rattle.std.proofs.Common.{arith, subst, ◌≡◌, Option, Some, None, IsSome, IfSome, ℕ, ◌≤◌, ◌<◌, Bool, List, length, refl, ap, sym, ◌∙◌}
 use Rattle.std.specs.Coded.{le_prop}
+use Rattle.cec_wave.specs.Bounds.{latest_heard}
 use Rattle.arrayvec.specs.ArrayVec.{ArrayVec}
 use Rattle.cec_bits.specs.Parts.{ArePartsOf, ArePartsOfSender, number_of, number_of_state, slot_of_state}
 use Rattle.cec_bits.specs.declared.receiver.ReceiverState.{ReceiverState}
@@ -64,7 +65,7 @@ abbrev Kept : Type 0
 Kept = Bool × Bool × ReceiverState × ℕ × ℕ × ArrayVec Bool
 
 abbrev facts : Kept → Type 0
-facts k = (k.3 ≤ 3000000000000) × (k.4 ≤ 3000000000000) × (length k.5.items < 160)
+facts k = (k.3 ≤ latest_heard) × (k.4 ≤ latest_heard) × (length k.5.items < 160)
 
 abbrev made : (k : Kept) → facts k → Receiver
 made k h = record { was_low = k.0; is_low = k.1; place = k.2; begin = k.3; fall = k.4; bits = k.5; begun = h.0; fallen = h.1; room = h.2 }
@@ -95,7 +96,7 @@ abbrev SenderKept : Type 0
 SenderKept = List ℕ × ℕ × SenderState × ℕ
 
 abbrev sender_facts : SenderKept → Type 0
-sender_facts k = (k.1 ≤ 3000000000000) × (k.3 ≤ 3000000000000) × (0 < length k.0)
+sender_facts k = (k.1 ≤ latest_heard) × (k.3 ≤ latest_heard) × (0 < length k.0)
 
 abbrev sender_made : (k : SenderKept) → sender_facts k → Sender
 sender_made k h = record { frame = k.0; begin = k.1; state = k.2; last = k.3; begun = h.0; ended = h.1; filled = h.2 }
