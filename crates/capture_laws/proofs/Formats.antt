@@ -5,6 +5,7 @@ use Rattle.std.proofs.lemmas.Grind.{flat_map-append}
 use Rattle.std.specs.List.{flat_map}
 use Rattle.cec_wave.specs.declared.Stretch.{Stretch}
 use Rattle.cec_wave.specs.Line.{line_of, IsWave, IsWaveFrom}
+use Rattle.cec_wave.specs.Bounds.{latest_instant}
 use Rattle.cec_bits.specs.Readings.{readings_of}
 use Rattle.cec_wire.specs.declared.Outcome.{Outcome}
 use Rattle.cec_net.specs.Line.{run_wave}
@@ -61,7 +62,7 @@ end_of : (ss : List Stretch) (from end : ℕ) → IsWaveFrom from ss → EndsBy 
 end_of [] from end wave by = tt
 end_of (s ∷ ss) from end wave by = ((let w = wave.1 in let b = by.0 in omega arith), (by.0, end_of ss (s.to + 1) end wave.2 by.1))
 
-pub is_capture : (ss : List Stretch) (end : ℕ) → IsWave ss → ((u : ℕ) → end ≤ u → line_of ss u ≡ false) → end ≤ 2000000000000 → IsCapture (edges_of ss) end
+pub is_capture : (ss : List Stretch) (end : ℕ) → IsWave ss → ((u : ℕ) → end ≤ u → line_of ss u ≡ false) → end ≤ latest_instant → IsCapture (edges_of ss) end
 is_capture ss end wave over low = record { turn = turns_of ss 0 wave; ends = end_of ss 0 end wave (ends_by ss 0 end wave over); early = low }
 
 -- ---- of runs
@@ -78,7 +79,7 @@ lines_of_runs_have_their_readings format tree pulses events end text totals spar
     let soon : told.run.last.net.close ≤ end + 458461 = runs_close_soon (Line format) tree pulses events end told.run.turns told.run.body told.run.last sparse told.run.leads in
     let os = rounds_told (Line format) end (start (first_net tree pulses) events) text totals told in
     let waves = map (λ (o : Outcome). o.wave) os in
-    let low : last ≤ 2000000000000 = omega (arith, soon, limit) in
+    let low : last ≤ latest_instant = omega (arith, soon, limit) in
     let wave : IsWave (flat waves) = subst (λ (ss : List Stretch). IsWave ss) (waves_flat os) k.read.wave in
     let over : (u : ℕ) → last ≤ u → line_of (flat waves) u ≡ false = λ u h. subst (λ (ss : List Stretch). line_of ss u ≡ false) (waves_flat os) (k.read.over u h) in
     let back = lines_are_read_back format waves last wave over low in (

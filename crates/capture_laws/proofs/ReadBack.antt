@@ -6,6 +6,7 @@ use Rattle.std.proofs.lemmas.Bool.Decides.{nat_tests}
 use Rattle.std.specs.Fmt.{decimal}
 use Rattle.cec_wave.specs.declared.Stretch.{Stretch}
 use Rattle.cec_wave.specs.Line.{covers, line_of, IsWaveFrom}
+use Rattle.cec_wave.specs.Bounds.{latest_instant}
 use Rattle.cec_bits.specs.Readings.{readings_of}
 use Rattle.hdmi_core.specs.Lines.{lines_of}
 use Rattle.cec_trace.specs.EdgeText.{edge_lines}
@@ -35,14 +36,14 @@ use Rattle.capture_laws.proofs.Texts.{IsWithout, more_without, one_without, time
 -- ---- the text
 
 -- one line of the file, and what is after it
-read_timed : (t : ℕ) (mark rest : List ℕ) (number : ℕ) (is_low : Bool) (from : ℕ) (line : Option EdgeLine) → t ≤ 2000000000000
+read_timed : (t : ℕ) (mark rest : List ℕ) (number : ℕ) (is_low : Bool) (from : ℕ) (line : Option EdgeLine) → t ≤ latest_instant
     → IsWithout 10 mark → edge_line_of (timed t mark) ≡ line
     → edges_read (lines_of (timed t mark ++ 10 ∷ rest)) number is_low from
     ≡ read_line number is_low from line (λ e. edges_read (lines_of rest) (number + 1) e.low (e.at + 1)) (λ t. end_read (lines_of rest) (number + 1) t)
 read_timed t mark rest number is_low from line low plain is =
     rw (line_before (timed t mark) rest (timed_plain t mark (omega arith) plain)) (rw (timed_told t mark (omega arith)) (rw is refl))
 
-fall_read : (t : ℕ) (rest : List ℕ) (number from : ℕ) → t ≤ 2000000000000 → from ≤ t
+fall_read : (t : ℕ) (rest : List ℕ) (number from : ℕ) → t ≤ latest_instant → from ≤ t
     → edges_read (lines_of (timed t (codes "0") ++ 10 ∷ rest)) number false from
     ≡ with_edge (record { at = t; low = true }) (edges_read (lines_of rest) (number + 1) true (t + 1))
 fall_read t rest number from low after =
@@ -50,7 +51,7 @@ fall_read t rest number from low after =
     read_timed t (codes "0") rest number false from (Some (EdgeLineOf (record { at = t; low = true }))) low (one_without 10 48 refl) (timed_line t (codes "0") low (one_without 32 48 refl))
     ∙ rw turn refl
 
-rise_read : (t : ℕ) (rest : List ℕ) (number from : ℕ) → t ≤ 2000000000000 → from ≤ t
+rise_read : (t : ℕ) (rest : List ℕ) (number from : ℕ) → t ≤ latest_instant → from ≤ t
     → edges_read (lines_of (timed t (codes "1") ++ 10 ∷ rest)) number true from
     ≡ with_edge (record { at = t; low = false }) (edges_read (lines_of rest) (number + 1) false (t + 1))
 rise_read t rest number from low after =
@@ -61,7 +62,7 @@ rise_read t rest number from low after =
 end_without : (b : ℕ) → (101 == b) ≡ false → (110 == b) ≡ false → (100 == b) ≡ false → IsWithout b (codes "end")
 end_without b e n d = more_without b 101 (110 ∷ 100 ∷ []) e (more_without b 110 (100 ∷ []) n (one_without b 100 d))
 
-end_read_back : (t number from : ℕ) → t ≤ 2000000000000 → from ≤ t + 1
+end_read_back : (t number from : ℕ) → t ≤ latest_instant → from ≤ t + 1
     → edges_read (lines_of (timed t (codes "end") ++ 10 ∷ [])) number false from ≡ Ok (record { edges = []; end = t })
 end_read_back t number from low after =
     let turn : nat_le from (t + 1) ≡ true = grind (arith, nat_tests) in
@@ -89,7 +90,7 @@ abbrev pub EndsBy : ℕ → List Stretch → Type 0
 EndsBy end [] = Unit {0}
 EndsBy end (s ∷ ss) = (s.to ≤ end) × EndsBy end ss
 
-read_back : (ss : List Stretch) (end number from : ℕ) → IsWaveFrom from ss → EndsBy end ss → from ≤ end + 1 → end ≤ 2000000000000
+read_back : (ss : List Stretch) (end number from : ℕ) → IsWaveFrom from ss → EndsBy end ss → from ≤ end + 1 → end ≤ latest_instant
     → edges_read (lines_of (edge_lines ss ++ end_line end)) number false from ≡ Ok (record { edges = edges_of ss; end = end })
 read_back [] end number from wave by after low = rw (end_text end) (end_read_back end number from low after)
 read_back (s ∷ ss) end number from wave by after low =

@@ -7,6 +7,7 @@ use Rattle.std.proofs.lemmas.Fmt.{decimal_is_IsNumeral, decimal_nonempty}
 use Rattle.std.proofs.lemmas.Bool.Decides.{nat_tests}
 use Rattle.std.proofs.lemmas.List.Splits.{slice_split_at, slice_split_none}
 use Rattle.std.proofs.lemmas.List.Elements.{All-append}
+use Rattle.cec_wave.specs.Bounds.{latest_instant}
 use Rattle.hdmi_core.specs.Lines.{is_skipped}
 use Rattle.hdmi_core.specs.Words.{words_of}
 use Rattle.cec_signal.proofs.Numbers.{number_again, some_length}
@@ -39,9 +40,9 @@ pub timed_words : (t : ℕ) (mark : List ℕ) → t < 2 ^ 64 → IsWithout 32 ma
 timed_words t mark small plain =
     slice_split_at (λ b. b == 32) (decimal t) 32 mark (without 32 t (omega arith) small) refl ∙ ap (λ ws. decimal t ∷ ws) (slice_split_none (λ b. b == 32) mark plain)
 
-pub timed_line : (t : ℕ) (mark : List ℕ) → t ≤ 2000000000000 → IsWithout 32 mark → edge_line_of (timed t mark) ≡ edge_line_at t mark
+pub timed_line : (t : ℕ) (mark : List ℕ) → t ≤ latest_instant → IsWithout 32 mark → edge_line_of (timed t mark) ≡ edge_line_at t mark
 timed_line t mark low plain =
-    let within : nat_le t 2000000000000 ≡ true = grind (arith, nat_tests) in
+    let within : nat_le t latest_instant ≡ true = grind (arith, nat_tests) in
     rw (timed_words t mark (omega arith) plain) (rw (number_again t (omega arith)) (rw within refl))
 
 pub timed_plain : (t : ℕ) (mark : List ℕ) → t < 2 ^ 64 → IsWithout 10 mark → IsWithout 10 (timed t mark)

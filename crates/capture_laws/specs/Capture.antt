@@ -4,6 +4,7 @@ use Rattle.std.specs.List.{flat_map}
 use Rattle.cec_wave.specs.declared.Stretch.{Stretch}
 use Rattle.cec_wave.specs.Line.{line_of, IsWave}
 use Rattle.cec_wave.specs.Pulses.{AreSparse}
+use Rattle.cec_wave.specs.Bounds.{latest_event, latest_instant}
 use Rattle.cec_wire.specs.Alone.{outcome_listed}
 use Rattle.hdmi_blocks.specs.declared.edid.Edid.{Edid}
 use Rattle.hdmi_topo.specs.Node.{Node}
@@ -31,14 +32,14 @@ pub record IsReadBack (ss : List Stretch) (end : ℕ) : Type 0 where
 
 -- of a line that is high from the end on, within the limit of an edge file
 abbrev pub EdgeFilesAreReadBack : Type 0
-EdgeFilesAreReadBack = (ss : List Stretch) (end : ℕ) → IsWave ss → ((u : ℕ) → end ≤ u → line_of ss u ≡ false) → end ≤ 2000000000000
+EdgeFilesAreReadBack = (ss : List Stretch) (end : ℕ) → IsWave ss → ((u : ℕ) → end ≤ u → line_of ss u ≡ false) → end ≤ latest_instant
     → IsReadBack ss end
 
 -- The text of edges of a run within the limit of scripts is an edge file, whose readings are those of the run's rounds, in order,
 -- each once.
 abbrev pub FilesOfRunsHaveTheirReadings : Type 0
 FilesOfRunsHaveTheirReadings = (tree : List Node) (pulses : List Stretch) (events : List TimedEvent) (end : ℕ) (text : List ℕ) (totals : Totals)
-    → AreSparse pulses → AreFramedEvents events → (told : IsRunText (Line Edges) end (start (first_net tree pulses) events) text totals) → end ≤ 1000000000000
+    → AreSparse pulses → AreFramedEvents events → (told : IsRunText (Line Edges) end (start (first_net tree pulses) events) text totals) → end ≤ latest_event
     → (f : EdgeFile) × (file_of text ≡ Ok f) × (file_readings f ≡ map outcome_listed (rounds_told (Line Edges) end (start (first_net tree pulses) events) text totals told))
 
 -- of a part of a trace what a monitor writes: of a round's line the reading, without `by` and `out`, and nothing of an event

@@ -4,6 +4,7 @@ use Rattle.std.specs.List.{flat_map}
 use Rattle.cec_wave.specs.declared.Stretch.{Stretch}
 use Rattle.cec_wave.specs.Line.{line_of, IsWave}
 use Rattle.cec_wave.specs.Pulses.{AreSparse}
+use Rattle.cec_wave.specs.Bounds.{latest_event, latest_instant}
 use Rattle.cec_wire.specs.Alone.{outcome_listed}
 use Rattle.hdmi_topo.specs.Node.{Node}
 use Rattle.cec_net.specs.State.{first_net}
@@ -36,7 +37,7 @@ IsReadAs Csv text c = csv.edges_in [] text ≡ Ok c
 -- a capture.
 abbrev pub LinesAreReadBack : Type 0
 LinesAreReadBack = (format : Format) (rounds : List (List Stretch)) (end : ℕ) → IsWave (flat_map (λ ss. ss) rounds)
-    → ((u : ℕ) → end ≤ u → line_of (flat_map (λ ss. ss) rounds) u ≡ false) → end ≤ 2000000000000
+    → ((u : ℕ) → end ≤ u → line_of (flat_map (λ ss. ss) rounds) u ≡ false) → end ≤ latest_instant
     → IsReadAs format (line_text format rounds end) (record { edges = edges_of (flat_map (λ ss. ss) rounds); end = end })
 
 -- a text is read as a capture
@@ -48,7 +49,7 @@ pub record IsReadText (format : Format) (text : List ℕ) (c : Captured) : Type 
 -- rounds, in order, each once.
 abbrev pub LinesOfRunsHaveTheirReadings : Type 0
 LinesOfRunsHaveTheirReadings = (format : Format) (tree : List Node) (pulses : List Stretch) (events : List TimedEvent) (end : ℕ) (text : List ℕ) (totals : Totals)
-    → AreSparse pulses → AreFramedEvents events → (told : IsRunText (Line format) end (start (first_net tree pulses) events) text totals) → end ≤ 1000000000000
+    → AreSparse pulses → AreFramedEvents events → (told : IsRunText (Line format) end (start (first_net tree pulses) events) text totals) → end ≤ latest_event
     → (c : Captured) × IsReadText format text c
     × (file_readings (as_file c) ≡ map outcome_listed (rounds_told (Line format) end (start (first_net tree pulses) events) text totals told))
 

@@ -14,6 +14,7 @@ use Rattle.hdmi_topo.specs.Node.{Node}
 use Rattle.hdmi_topo.specs.Tree.{device_named}
 use Rattle.cec_feature.specs.declared.keys.Key.{Key as KeyValue}
 use Rattle.cec_wave.proofs.Sparse.{faultless_are_sparse}
+use Rattle.cec_wave.specs.Bounds.{latest_event}
 use Rattle.hdmi_core.specs.Lines.{lines_of, is_skipped}
 use Rattle.cec_text.specs.FrameReading.{is_frame}
 use Rattle.cec_text.specs.declared.assembler.AssembleError.{AssembleError}
@@ -127,14 +128,14 @@ one_more pulses pulse h g = first_fault-append None pulses pulse h (ap (λ e. st
 
 -- within the limit of times
 abbrev IsEarly : Stretch → Type 0
-IsEarly pulse = pulse.from ≤ 1000000000000
+IsEarly pulse = pulse.from ≤ latest_event
 
 pub record AreSound (count : ℕ) (notes : Notes) : Type 0 where
   pub schedule : IsSchedule count (last_time notes.events + 1) 0 notes.events
   pub framed : AreFramedEvents notes.events
   pub apart : first_fault None notes.pulses ≡ None
   pub early : All IsEarly notes.pulses
-  pub ended : (time : ℕ) → notes.end ≡ Some time → IsSchedule count time 0 notes.events × (time ≤ 1000000000000)
+  pub ended : (time : ℕ) → notes.end ≡ Some time → IsSchedule count time 0 notes.events × (time ≤ latest_event)
 
 pub sound_start : (count : ℕ) → AreSound count no_notes
 sound_start count = record { schedule = tt; framed = tt; apart = refl; early = All-nil IsEarly; ended = λ t e. (cc) }
@@ -284,11 +285,11 @@ event-keeps tree notes line (time ∷ verb ∷ words) next s h =
     (λ p. send-keeps tree notes line time words next s p)
     (λ q. keeps_next (length tree) (event_words tree notes line time verb words) next (event_words-keeps tree notes line time verb words s) (sym q)) h
 
-within_limit-limit : (o : Option ℕ) (time : ℕ) → within_limit o ≡ Some time → time ≤ 1000000000000
+within_limit-limit : (o : Option ℕ) (time : ℕ) → within_limit o ≡ Some time → time ≤ latest_event
 within_limit-limit None time h = cc
 within_limit-limit (Some n) time h = grind (arith, nat_tests)
 
-pulsed-keeps : (count : ℕ) (notes : Notes) (waiting : ℕ) (pulse : Stretch) → AreSound count notes → pulse.from ≤ 1000000000000 → Keeps count (notes_with_pulse notes waiting pulse)
+pulsed-keeps : (count : ℕ) (notes : Notes) (waiting : ℕ) (pulse : Stretch) → AreSound count notes → pulse.from ≤ latest_event → Keeps count (notes_with_pulse notes waiting pulse)
 pulsed-keeps count notes waiting pulse s within =
     elim (stretch_fault (last_end notes.pulses) pulse) as (λ o. stretch_fault (last_end notes.pulses) pulse ≡ o → Keeps count (unless_fault o notes waiting pulse)) [
       | Some fault ↦ λ e. keeps_err count _ refl
@@ -303,7 +304,7 @@ pulsed-keeps count notes waiting pulse s within =
           })))
     ] refl
 
-pulse_read-keeps : (count : ℕ) (notes : Notes) (waiting : ℕ) (time width : Option ℕ) → AreSound count notes → ((t : ℕ) → time ≡ Some t → t ≤ 1000000000000) → Keeps count (pulse_read notes waiting time width)
+pulse_read-keeps : (count : ℕ) (notes : Notes) (waiting : ℕ) (time width : Option ℕ) → AreSound count notes → ((t : ℕ) → time ≡ Some t → t ≤ latest_event) → Keeps count (pulse_read notes waiting time width)
 pulse_read-keeps count notes waiting None width s limit = keeps_err count _ refl
 pulse_read-keeps count notes waiting (Some time) None s limit = keeps_err count _ refl
 pulse_read-keeps count notes waiting (Some time) (Some width) s limit = pulsed-keeps count notes waiting (record { from = time; to = time + min width 65535 }) s (limit time refl)
@@ -319,7 +320,7 @@ ends_after count time (event ∷ events) s h =
     let after : last_time (event ∷ events) < time = grind (arith, nat_tests) in
     IsSchedule-later count (last_time (event ∷ events) + 1) time 0 (event ∷ events) (omega arith) s
 
-end_read-keeps : (count : ℕ) (notes : Notes) (time : Option ℕ) → AreSound count notes → ((t : ℕ) → time ≡ Some t → t ≤ 1000000000000) → Keeps count (end_read notes time)
+end_read-keeps : (count : ℕ) (notes : Notes) (time : Option ℕ) → AreSound count notes → ((t : ℕ) → time ≡ Some t → t ≤ latest_event) → Keeps count (end_read notes time)
 end_read-keeps count notes None s limit = keeps_err count _ refl
 end_read-keeps count notes (Some time) s limit =
     keeps_if count (is_some notes.end) _ _ (λ e. keeps_err count _ refl)
@@ -329,7 +330,7 @@ end_read-keeps count notes (Some time) s limit =
       framed = s.framed;
       apart = s.apart;
       early = s.early;
-      ended = λ t h. (let same : time ≡ t = cc in let Ends : ℕ → Type 0 = λ n. IsSchedule count n 0 notes.events × (n ≤ 1000000000000) in
+      ended = λ t h. (let same : time ≡ t = cc in let Ends : ℕ → Type 0 = λ n. IsSchedule count n 0 notes.events × (n ≤ latest_event) in
           subst Ends same (ends_after count time notes.events s.schedule after, limit time refl));
     })))
 

@@ -7,6 +7,7 @@ use Rattle.cec_wave.specs.declared.Stretch.{Stretch}
 use Rattle.cec_wave.specs.declared.PulsesError.{PulsesError}
 use Rattle.cec_wave.specs.declared.PulsesError.TheVariants as faults
 use Rattle.cec_wave.specs.Pulses.{stretch_fault, AreSparse}
+use Rattle.cec_wave.specs.Bounds.{latest_event}
 use Rattle.cec_feature.specs.declared.keys.Key.{Key as KeyValue}
 use Rattle.hdmi_topo.specs.Node.{Node}
 use Rattle.hdmi_topo.specs.Tree.{device_named}
@@ -73,7 +74,7 @@ no_notes = record { events = []; pulses = []; end = None }
 -- a time, at most 1,000,000,000,000 microseconds
 abbrev pub within_limit : Option ℕ → Option ℕ
 within_limit None = None
-within_limit (Some time) = if nat_lt 1000000000000 time then None else Some time
+within_limit (Some time) = if nat_lt latest_event time then None else Some time
 
 abbrev pub time_of : List ℕ → Option ℕ
 time_of word = within_limit (number_of word)
@@ -315,8 +316,8 @@ pub record IsScript (count : ℕ) (course : Course) : Type 0 where
   pub schedule : IsSchedule count course.end 0 course.events
   pub framed : AreFramedEvents course.events
   pub sparse : AreSparse course.pulses
-  pub early : All (λ pulse. pulse.from ≤ 1000000000000) course.pulses
-  pub limit : course.end ≤ 1000000000000
+  pub early : All (λ pulse. pulse.from ≤ latest_event) course.pulses
+  pub limit : course.end ≤ latest_event
 
 -- every text of a script gives one
 abbrev pub ScriptsAreSound : Type 0

@@ -14,6 +14,7 @@ use Rattle.hdmi_topo.specs.Tree.{device_named}
 use Rattle.cec_wave.specs.declared.Stretch.{Stretch}
 use Rattle.cec_wave.specs.declared.PulsesError.{PulsesError}
 use Rattle.cec_wave.specs.Pulses.{stretch_fault}
+use Rattle.cec_wave.specs.Bounds.{latest_event}
 use Rattle.cec_feature.specs.declared.keys.Key.{Key as KeyValue}
 use Rattle.cec_text.specs.declared.assembler.AssembleError.{AssembleError}
 use Rattle.hdmi_core.specs.Lines.{lines_of, is_skipped, without_empty_end}
@@ -290,7 +291,7 @@ late_gone notes next line at time event t late =
 
 in_limit : (n : Option ℕ) (t : ℕ) → within_limit n ≡ Some t → n ≡ Some t
 in_limit None t e = cc
-in_limit (Some m) t e = by (nat_lt 1000000000000 m) e
+in_limit (Some m) t e = by (nat_lt latest_event m) e
   where
     by : (b : Bool) → (if b then None else Some m) ≡ Some t → Some m ≡ Some t
     by true e = cc
@@ -387,12 +388,12 @@ end_line_told time = told (110 ∷ 100 ∷ 32 ∷ decimal time)
     told : (cs : List ℕ) → is_skipped (101 ∷ cs) ≡ false
     told cs = rw (some_length (length cs)) refl
 
-time_again : (time : ℕ) → time ≤ 1000000000000 → time_of (decimal time) ≡ Some time
+time_again : (time : ℕ) → time ≤ latest_event → time_of (decimal time) ≡ Some time
 time_again time low =
-    let within : nat_lt 1000000000000 time ≡ false = grind (arith, nat_tests) in
+    let within : nat_lt latest_event time ≡ false = grind (arith, nat_tests) in
     rw (number_again time (omega (arith, low))) (rw within refl)
 
-end_cut : (time : ℕ) (notes : Notes) → time ≤ 1000000000000 → is_some notes.end ≡ false → end_words (cut_notes time notes) 1 (Some (decimal time)) ≡ Ok (record (cut_notes time notes) { end = Some time })
+end_cut : (time : ℕ) (notes : Notes) → time ≤ latest_event → is_some notes.end ≡ false → end_words (cut_notes time notes) 1 (Some (decimal time)) ≡ Ok (record (cut_notes time notes) { end = Some time })
 end_cut time notes low unended =
     let early : (nat_lt 0 (length (filter (is_early time) notes.events)) && nat_le time (last_time (filter (is_early time) notes.events))) ≡ false =
     early_end time (filter (is_early time) notes.events) (filter_passes (is_early time) notes.events) in
@@ -405,7 +406,7 @@ end_cut time notes low unended =
     chosen false true n p q = cc
     chosen false false n p q = refl
 
-end_goes : (tree : List Node) (time line : ℕ) (notes next : Notes) (many : ℕ) (word : Option (List ℕ)) → time ≤ 1000000000000 → Ok next ≡ end_words notes many word
+end_goes : (tree : List Node) (time line : ℕ) (notes next : Notes) (many : ℕ) (word : Option (List ℕ)) → time ≤ latest_event → Ok next ≡ end_words notes many word
     → (next.events ≡ notes.events) × IsLineRead tree (cut_notes time notes) (length notes.pulses) line (end_line time) (Ok (cut_notes time next))
 end_goes tree time line notes next many word low e =
     let given = end_given notes next many word e in
@@ -427,7 +428,7 @@ in_order : (notes next : Notes) → next.events ≡ notes.events → AreInOrder 
 in_order notes next e order = subst (λ (es : List TimedEvent). AreInOrder es) (sym e) order
 
 -- the words of a line that is no event
-other_goes : (tree : List Node) (time line : ℕ) (text verb : List ℕ) (words : List (List ℕ)) (notes next : Notes) → time ≤ 1000000000000 → AreInOrder notes.events → is_skipped text ≡ false
+other_goes : (tree : List Node) (time line : ℕ) (text verb : List ℕ) (words : List (List ℕ)) (notes next : Notes) → time ≤ latest_event → AreInOrder notes.events → is_skipped text ≡ false
     → words_of text ≡ verb ∷ words → bytes_eq verb (codes "at") ≡ false → Ok next ≡ other_words notes (length notes.pulses) verb words
     → Goes tree time line text (if bytes_eq verb (codes "end") then end_line time else text) notes next
 other_goes tree time line text verb words notes next low order told split no_at e =
@@ -462,7 +463,7 @@ other_goes tree time line text verb words notes next low order told split no_at 
 abbrev cut_words : ℕ → List ℕ → List (List ℕ) → List ℕ
 cut_words time text words = if is_event words then (if is_before time words then text else []) else if has_verb (codes "end") words then end_line time else text
 
-words_go : (tree : List Node) (time line : ℕ) (text : List ℕ) (words : List (List ℕ)) (notes next : Notes) → time ≤ 1000000000000 → AreInOrder notes.events → is_skipped text ≡ false → words_of text ≡ words
+words_go : (tree : List Node) (time line : ℕ) (text : List ℕ) (words : List (List ℕ)) (notes next : Notes) → time ≤ latest_event → AreInOrder notes.events → is_skipped text ≡ false → words_of text ≡ words
     → IsWordsRead tree notes (length notes.pulses) line words (Ok next) → Goes tree time line text (cut_words time text words) notes next
 words_go tree time line text [] notes next low order told split h = cc
 words_go tree time line text (verb ∷ words) notes next low order told split h = by (bytes_eq verb (codes "at")) refl h
@@ -477,7 +478,7 @@ words_go tree time line text (verb ∷ words) notes next low order told split h 
     by true e h = at_goes tree time line text words notes next order h (up e) verb
     by false e h = other_goes tree time line text verb words notes next low order told split e h
 
-line_goes : (tree : List Node) (time line : ℕ) (text : List ℕ) (notes next : Notes) → time ≤ 1000000000000 → AreInOrder notes.events → IsLineRead tree notes (length notes.pulses) line text (Ok next)
+line_goes : (tree : List Node) (time line : ℕ) (text : List ℕ) (notes next : Notes) → time ≤ latest_event → AreInOrder notes.events → IsLineRead tree notes (length notes.pulses) line text (Ok next)
     → Goes tree time line text (cut_line time text) notes next
 line_goes tree time line text notes next low order h = by (is_skipped text) refl h
   where
@@ -493,7 +494,7 @@ line_goes tree time line text notes next low order h = by (is_skipped text) refl
 
 -- ---- all lines
 
-lines_go : (tree : List Node) (time : ℕ) (texts : List (List ℕ)) (line : ℕ) (notes : Notes) (course : Course) → time ≤ 1000000000000 → AreInOrder notes.events
+lines_go : (tree : List Node) (time : ℕ) (texts : List (List ℕ)) (line : ℕ) (notes : Notes) (course : Course) → time ≤ latest_event → AreInOrder notes.events
     → AreLinesRead tree texts line notes (Ok course) → AreLinesRead tree (map (cut_line time) texts) line (cut_notes time notes) (Ok (cut_course time course))
 lines_go tree time [] line notes course low order h = by notes.end h
   where
@@ -537,7 +538,7 @@ ends_lack (part ∷ []) h = by (length part == 0)
     by false = h
 ends_lack (part ∷ next ∷ parts) h = (h.0, ends_lack (next ∷ parts) h.1)
 
-cut_lacks : (time : ℕ) (line : List ℕ) → time ≤ 1000000000000 → Lacks (λ c. c == 10) line → Lacks (λ c. c == 10) (cut_line time line)
+cut_lacks : (time : ℕ) (line : List ℕ) → time ≤ latest_event → Lacks (λ c. c == 10) line → Lacks (λ c. c == 10) (cut_line time line)
 cut_lacks time line low h = by (is_skipped line) (is_event (words_of line)) (is_before time (words_of line)) (has_verb (codes "end") (words_of line))
   where
     last : Lacks (λ c. c == 10) (end_line time)
@@ -551,7 +552,7 @@ cut_lacks time line low h = by (is_skipped line) (is_event (words_of line)) (is_
     by false false b true = last
     by false false b false = h
 
-cut_lines : (time : ℕ) (lines : List (List ℕ)) → time ≤ 1000000000000 → Lacking lines → lines_of (flat_map (λ line. cut_line time line ++ 10 ∷ []) lines) ≡ map (cut_line time) lines
+cut_lines : (time : ℕ) (lines : List (List ℕ)) → time ≤ latest_event → Lacking lines → lines_of (flat_map (λ line. cut_line time line ++ 10 ∷ []) lines) ≡ map (cut_line time) lines
 cut_lines time [] low h = refl
 cut_lines time (line ∷ lines) low h =
     ap lines_of (append_assoc (cut_line time line) (10 ∷ []) (flat_map (λ line. cut_line time line ++ 10 ∷ []) lines))

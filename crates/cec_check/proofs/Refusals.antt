@@ -1,5 +1,6 @@
 -- A run up to a time is not refused where the whole one is not.
 use Rattle.std.proofs.Common.{◌≡◌, ℕ, ◌≤◌, List, Option, IsSome, Some, None, Err, ap, sym, subst, ◌∙◌}
+use Rattle.cec_wave.specs.Bounds.{latest_event}
 use Rattle.hdmi_core.specs.declared.phys.Phys.{Phys}
 use Rattle.hdmi_blocks.specs.Address.{edid_address}
 use Rattle.hdmi_blocks.specs.Bytes.{edid_bytes, IsRefused}
@@ -49,7 +50,7 @@ IsWant (Edid cause) = ⊥
 IsWant (Write count) = Unit {0}
 IsWant Memory = Unit {0}
 
-pub not_refused_earlier : (topology plain text : List ℕ) (time : ℕ) (totals : Totals) (error : EmulateError) → time ≤ 1000000000000 → IsTraceOf topology plain text totals
+pub not_refused_earlier : (topology plain text : List ℕ) (time : ℕ) (totals : Totals) (error : EmulateError) → time ≤ latest_event → IsTraceOf topology plain text totals
     → IsTold topology (cut_script time plain) error → IsWant error
 not_refused_earlier topology plain text time totals (Topology line cause word) early run told = (let accepted = run.accepted.plan_is in cc)
 not_refused_earlier topology plain text time totals (Script line cause word) early run told =

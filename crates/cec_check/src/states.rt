@@ -1,5 +1,6 @@
 //! The state lines that the lines of a script speak of.
 ghost use Rattle.std.specs.Prelude.{◌≤◌, map, IfOk};
+ghost use Rattle.cec_wave.specs.Bounds.{latest_event};
 ghost use Rattle.hdmi_core.specs.Lines.{lines_of};
 ghost use Rattle.cec_check.specs.States.{AreStates, IsStateAt, IsStateFor, IsTraced};
 
@@ -19,7 +20,7 @@ fn state_at(
     device: &[u8],
 ) -> Result<Vec<u8>, AllocError>
     requires traced { IsTraced topology.now plain.now }
-    requires early { time ≤ 1000000000000 }
+    requires early { time ≤ latest_event }
     ensures { IfOk result (λ state. IsStateAt topology.now plain.now time device.now state.items) }
 {
     let cut = cut_script(alloc, time, plain)?;

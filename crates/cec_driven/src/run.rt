@@ -1,6 +1,7 @@
 //! A run of the network, of which the line and who drives it are written.
 ghost use Rattle.std.specs.Prelude.{◌≡◌, ℕ, ◌≤◌, List, length, true, max, IfOk, IfErr, OnOk, OnErr};
 ghost use Rattle.std.specs.Io.KnownBytes.{Appends};
+ghost use Rattle.cec_wave.specs.Bounds.{latest_event};
 ghost use Rattle.cec_asm.specs.Script.{IsSchedule};
 ghost use Rattle.hdmi_core.specs.Cut.{CutOff};
 ghost use Rattle.cec_tally.specs.Adds.{Adds, AddsFront};
@@ -42,8 +43,8 @@ fn run_turns<S: Sink, W: Wire>(
     events: &[TimedEvent],
     end: u64,
 ) -> Result<Totals, WriteFault>
-    requires early { end ≤ 1000000000000 }
-    requires fresh { (net.old.close ≤ 1000000000000) × (net.old.rest ≤ 1000000000000) }
+    requires early { end ≤ latest_event }
+    requires fresh { (net.old.close ≤ latest_event) × (net.old.rest ≤ latest_event) }
     requires few { length net.old.devices ≤ 15 }
     requires pulses { kept.old.pulses ≡ net.old.pulses }
     requires rest { kept.old.rest ≡ net.old.rest }
@@ -87,7 +88,7 @@ pub fn run<S: Sink, W: Wire>(
     events: &[TimedEvent],
     end: u64,
 ) -> Result<Totals, WriteFault>
-    requires early { end ≤ 1000000000000 }
+    requires early { end ≤ latest_event }
     requires fresh { (net.old.close ≡ 0) × (net.old.rest ≡ 0) }
     requires few { length net.old.devices ≤ 15 }
     requires pulses { pulses ≡ net.old.pulses }

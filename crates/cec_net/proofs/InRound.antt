@@ -7,6 +7,7 @@ use Rattle.cec_wave.specs.declared.Stretch.{Stretch}
 use Rattle.cec_wave.specs.declared.Edge.{Edge}
 use Rattle.cec_wave.specs.Line.{Line}
 use Rattle.cec_wave.specs.Pulses.{AreSparse}
+use Rattle.cec_wave.specs.Bounds.{latest_instant}
 use Rattle.cec_bits.specs.Phase.{Standing, at_rest, standing_of}
 use Rattle.cec_bits.specs.declared.receiver.Receiver.{Receiver}
 use Rattle.cec_bits.specs.Reading.{start_of}
@@ -102,7 +103,7 @@ no_wire s w f = cc
 pub underway_along : (s t : NetState) (o : Option EdgeWire) → s ≡ t → IsUnderway (idle s) o → IsUnderway (idle t) o
 underway_along s t o e h = subst (λ x. IsUnderway (idle x) o) e h
 
-pub is_next : (s : NetState) (begin : ℕ) (w : EdgeWire) → s.close ≤ 2000000000000 → AreSparse s.pulses → next_start s ≡ Some begin → IsBegun w → Listens w → w.seats.items ≡ seats_of s begin → w.begin ≡ begin
+pub is_next : (s : NetState) (begin : ℕ) (w : EdgeWire) → s.close ≤ latest_instant → AreSparse s.pulses → next_start s ≡ Some begin → IsBegun w → Listens w → w.seats.items ≡ seats_of s begin → w.begin ≡ begin
     → w.time ≡ begin → w.pulses.items ≡ [] → IsNextOn s w
 is_next s begin w early sparse next b hears seats begins time ps = record {
   begins = next ∙ ap Some (sym begins);

@@ -2,6 +2,7 @@
 use Rattle.std.specs.Prelude.{◌++◌, ◌∷◌, [], nat_lt, if◌then◌else◌, Option, Some, None, option_map}
 use Rattle.cec_wave.specs.declared.Stretch.{Stretch}
 use Rattle.cec_wave.specs.Pulses.{pulses_fault}
+use Rattle.cec_wave.specs.Bounds.{latest_instant}
 use Rattle.cec_net.specs.State.{NetState}
 use Rattle.cec_net.specs.declared.added.PulseError.{PulseError}
 use Rattle.cec_net.specs.declared.added.PulseError.TheVariants.{RoundBegun, Past, Late, NotSparse}
@@ -10,7 +11,7 @@ use Rattle.cec_net.specs.declared.added.PulseError.TheVariants.{RoundBegun, Past
 abbrev pub between_rounds : NetState → Stretch → Option PulseError
 between_rounds net pulse =
     if nat_lt pulse.from net.rest then Some Past
-    else if nat_lt 2000000000000 pulse.from then Some Late
+    else if nat_lt latest_instant pulse.from then Some Late
     else option_map NotSparse (pulses_fault (net.pulses ++ pulse ∷ []))
 
 abbrev pub pulse_fault_by : {A : Type 0} → Option A → NetState → Stretch → Option PulseError

@@ -3,6 +3,7 @@ use Rattle.std.specs.Prelude.{◌≡◌, ℕ, ◌-◌, ◌≤◌, Bool, false, n
 use Rattle.std.specs.Option.{ForSome}
 use Rattle.cec_wave.specs.declared.Stretch.{Stretch}
 use Rattle.cec_wave.specs.Line.{Line}
+use Rattle.cec_wave.specs.Bounds.{latest_instant}
 use Rattle.cec_bits.specs.Phase.{Standing, at_rest, standing_of}
 use Rattle.cec_edges.specs.declared.edge_wire.EdgeWire.{EdgeWire}
 use Rattle.cec_wire.specs.Round.{IsRoundLine}
@@ -36,7 +37,7 @@ pub record Takes (pulses : List Stretch) (w : EdgeWire) : Type 0 where
 -- It stands in the next round.
 pub record IsNextOn (s : NetState) (w : EdgeWire) : Type 0 where
   pub begins : next_start s ≡ Some w.begin
-  pub early : s.close ≤ 2000000000000
+  pub early : s.close ≤ latest_instant
   pub seats : w.seats.items ≡ seats_of s w.begin
   pub takes : Takes s.pulses w
 

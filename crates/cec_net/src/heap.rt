@@ -1,6 +1,7 @@
 //! A network that is made on the heap: it is large.
 ghost use Rattle.std.specs.Prelude.{◌≡◌, ◌≤◌, ◌<◌, [], length, All, IfOk, None};
 ghost use Rattle.cec_wave.specs.Pulses.{pulses_fault};
+ghost use Rattle.cec_wave.specs.Bounds.{latest_instant};
 ghost use Rattle.cec_net.specs.State.{each_from, loose, moved_by, first_net};
 
 use crate::net::Net;
@@ -66,7 +67,7 @@ impl<W> Net<W> {
     fn take_pulses(&mut self, pulses: &[Stretch])
         requires idle { self.old.heard ≡ None }
         requires fresh { self.old.rest ≡ 0 }
-        requires early { All (λ p. p.from ≤ 2000000000000) pulses.now }
+        requires early { All (λ p. p.from ≤ latest_instant) pulses.now }
         requires sparse { pulses_fault pulses.now ≡ None }
         ensures { self.new ≡ record self.old { pulses = pulses.now } }
     {
@@ -86,7 +87,7 @@ impl Net<EdgeWire> {
         pulses: &[Stretch],
     ) -> Result<Box<Self>, AllocError>
         requires some { 0 < length tree }
-        requires early { All (λ p. p.from ≤ 2000000000000) pulses.now }
+        requires early { All (λ p. p.from ≤ latest_instant) pulses.now }
         requires sparse { pulses_fault pulses.now ≡ None }
         ensures { IfOk result (λ net. net.value ≡ first_net tree pulses.now) }
     {

@@ -1,5 +1,6 @@
 //! When devices start to send: the signal free time (CEC 9.1).
 ghost use Rattle.std.specs.Prelude.{◌≡◌, ◌+◌, ◌≤◌, ◌<◌, All};
+ghost use Rattle.cec_wave.specs.Bounds.{latest_rest, latest_heard};
 ghost use Rattle.cec_device.specs.Place.{ready_of};
 ghost use Rattle.cec_net.specs.Start.{next_turn, start_of, sooner, least_start, first_onset, StartIsLeast};
 ghost use Rattle.cec_net.specs.Sound.{IsReadyBy};
@@ -12,7 +13,7 @@ const TURNS: u64 = 16;
 
 // The first instant from `at` on whose remainder by 16 is the number.
 fn next_turn(number: u8, at: u64) -> u64
-    requires { at ≤ 3000000000000 }
+    requires { at ≤ latest_heard }
     ensures { result ≡ next_turn number at }
 {
     at + (u64::from(number) + TURNS - at % TURNS) % TURNS
@@ -21,8 +22,8 @@ fn next_turn(number: u8, at: u64) -> u64
 /// The instant at which a device starts, where the line is high since `rest`. A device that is off the wire,
 /// or has nothing to send, has none.
 pub(crate) fn start_of(device: &Device<16>, rest: u64) -> Option<u64>
-    requires ready { IsReadyBy 2500000000000 device.now }
-    requires rest { rest ≤ 2500000000000 }
+    requires ready { IsReadyBy latest_rest device.now }
+    requires rest { rest ≤ latest_rest }
     ensures { result ≡ start_of rest device.now }
 {
     if !device.is_on_wire() {
@@ -50,8 +51,8 @@ pub(crate) fn sooner(one: Option<u64>, other: Option<u64>) -> Option<u64>
 
 /// The least start instant of these devices.
 pub(crate) fn least_start(devices: &[Device<16>], rest: u64) -> Option<u64>
-    requires ready { All (IsReadyBy 2500000000000) devices.now }
-    requires rest { rest ≤ 2500000000000 }
+    requires ready { All (IsReadyBy latest_rest) devices.now }
+    requires rest { rest ≤ latest_rest }
     ensures { result ≡ least_start rest devices.now }
 {
     match devices.split_first() {

@@ -1,6 +1,7 @@
 //! A round that is taken edge by edge.
 ghost use Rattle.std.specs.Prelude.{◌≡◌, ◌+◌, ◌≤◌, ◌<◌, length, IfSome, MatchOption, Option, slice_get, ℕ, Bool, true};
 ghost use Rattle.cec_wave.specs.Pulses.{AreSparse};
+ghost use Rattle.cec_wave.specs.Bounds.{latest_instant};
 ghost use Rattle.cec_wire.specs.Edges.{IsNextEdge};
 ghost use Rattle.cec_wire.specs.Round.{IsRound, IsRoundLine};
 ghost use Rattle.cec_edges.specs.Wired.{IsBegun, is_silent_in, SameRound};
@@ -118,7 +119,7 @@ impl Net<EdgeWire> {
     /// Begins the next round, to take it edge by edge. A round that was begun is given up. False, and nothing changes,
     /// where there is no next start. The last round closed by 2,000,000,000,000.
     pub fn begin(&mut self) -> bool
-        requires { self.old.close ≤ 2000000000000 }
+        requires { self.old.close ≤ latest_instant }
         ensures { MatchBool result
             ((begin : ℕ) × (next_start self.old ≡ Some begin) × (self.new ≡ record self.old { heard = Some begin }))
             ((next_start self.old ≡ None) × (self.new ≡ self.old)) }

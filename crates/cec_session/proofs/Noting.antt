@@ -2,6 +2,7 @@
 use Rattle.std.proofs.Common.{◌≡◌, ℕ, zero, suc, ◌+◌, ◌≤◌, ◌||◌, ◌⊎◌, Bool, true, false, if◌then◌else◌, List, [], ◌∷◌, ◌++◌, length, length-append, drop, take, inl, inr, Option, Some, None, Result, Ok, Err, refl, sym, ap, subst, ◌∙◌, arith, append-nil}
 use Rattle.std.proofs.lemmas.List.Prefix.{front_rest}
 use Rattle.cec_wave.specs.declared.Stretch.{Stretch}
+use Rattle.cec_wave.specs.Bounds.{latest_event}
 use Rattle.cec_net.specs.State.{NetState}
 use Rattle.cec_asm.specs.Script.{Notes, IsLineRead}
 use Rattle.cec_asm.specs.declared.script.TimedEvent.{TimedEvent}
@@ -125,7 +126,7 @@ kept_same s applied left few r =
       left = sym left ∙ sym none;
     }
 
-horizon_early : (count horizon : ℕ) (notes : Notes) (end : Option ℕ) → notes.end ≡ end → AreFit count notes → horizon ≤ 1000000000000 → horizon_by horizon end ≤ 1000000000000
+horizon_early : (count horizon : ℕ) (notes : Notes) (end : Option ℕ) → notes.end ≡ end → AreFit count notes → horizon ≤ latest_event → horizon_by horizon end ≤ latest_event
 horizon_early count horizon notes None e f early = early
 horizon_early count horizon notes (Some end) e f early = (f.ended end e).1
 

@@ -5,6 +5,7 @@ use Rattle.std.specs.Fmt.{decimal}
 use Rattle.cec_wave.specs.declared.Stretch.{Stretch}
 use Rattle.cec_wave.specs.Pulses.{first_fault}
 use Rattle.cec_wave.specs.Line.{IsWave}
+use Rattle.cec_wave.specs.Bounds.{latest_event}
 use Rattle.cec_wire.specs.declared.Outcome.{Outcome}
 use Rattle.hdmi_topo.specs.Node.{Node}
 use Rattle.hdmi_blocks.specs.declared.edid.Edid.{Edid}
@@ -137,7 +138,7 @@ IsSoonestBy net (Round begin) soon =
     (outcome : Outcome) × (after : NetState) × IsWave outcome.wave × IsNextRound net begin outcome after × (soon ≡ within_limit (Some (after.close + 1)))
 
 abbrev pub IsSoonest : Config → Option ℕ → Type 0
-IsSoonest c soon = IsSoonestBy c.net (turn_at 1000000000000 c) soon
+IsSoonest c soon = IsSoonestBy c.net (turn_at latest_event c) soon
 
 abbrev pub step_wait : Option ℕ → Step
 step_wait None = Idle
@@ -200,14 +201,14 @@ pub record AreFit (count : ℕ) (notes : Notes) : Type 0 where
   pub schedule : IsSchedule count (last_time notes.events + 1) 0 notes.events
   pub framed : AreFramedEvents notes.events
   pub apart : first_fault None notes.pulses ≡ None
-  pub early : All (λ pulse. pulse.from ≤ 1000000000000) notes.pulses
-  pub ended : (time : ℕ) → notes.end ≡ Some time → IsSchedule count time 0 notes.events × (time ≤ 1000000000000)
+  pub early : All (λ pulse. pulse.from ≤ latest_event) notes.pulses
+  pub ended : (time : ℕ) → notes.end ≡ Some time → IsSchedule count time 0 notes.events × (time ≤ latest_event)
 
 pub record IsReady (s : Session) : Type 0 where
   pub addressed : HasAddress s.edid
   pub fit : AreFit (length s.tree) s.notes
   pub matched : length s.place.net.tree ≡ length s.tree
-  pub early : s.horizon ≤ 1000000000000
+  pub early : s.horizon ≤ latest_event
   pub within : IsWithin s.place
   pub refused : s.place.totals.refused + length s.place.events ≤ length s.notes.events
 

@@ -1,6 +1,7 @@
 -- The turns that a session reports (this profile's own).
 use Rattle.std.specs.Prelude.{◌≡◌, ℕ, ◌+◌, ◌<◌, ◌≤◌, Bool, true, false, List, length, Option, Some, None, Result, Ok, Err}
 use Rattle.cec_wave.specs.Line.{IsWave}
+use Rattle.cec_wave.specs.Bounds.{latest_instant}
 use Rattle.cec_wire.specs.declared.Outcome.{Outcome}
 use Rattle.cec_net.specs.Progress.{IsProgress}
 use Rattle.cec_net.specs.State.{NetState, next_start}
@@ -57,8 +58,8 @@ IsRoundTaken edid ended until begin s t a b old new was is (Err fault) = RoundWr
 
 -- times and counts at a place
 pub record IsWithin (c : Config) : Type 0 where
-  pub closed : c.net.close ≤ 2000000000000
-  pub rested : c.net.rest ≤ 2000000000000
+  pub closed : c.net.close ≤ latest_instant
+  pub rested : c.net.rest ≤ latest_instant
   pub rounds : c.totals.rounds ≤ c.net.rest
   pub complete : c.totals.complete ≤ c.totals.rounds
 

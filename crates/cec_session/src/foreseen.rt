@@ -2,6 +2,7 @@
 ghost use Rattle.std.specs.Prelude.{◌≡◌, ◌+◌, ◌≤◌, ◌<◌, [], length, slice_get, true, Some, None, Option, IfOk, IfSome, IsSome, MatchOption, MatchResult};
 ghost use Rattle.hdmi_blocks.specs.declared.edid.Edid.{Edid as EdidValue};
 ghost use Rattle.cec_wave.specs.Line.{IsWave};
+ghost use Rattle.cec_wave.specs.Bounds.{latest_instant};
 ghost use Rattle.cec_wire.specs.declared.Outcome.{Outcome as OutcomeValue};
 ghost use Rattle.cec_event.specs.Events.{NamesDevices};
 ghost use Rattle.cec_net.specs.Added.{pulse_fault, with_pulse};
@@ -54,7 +55,7 @@ impl Model for Foreseen {
 // where the round was run already.
 #[inline(never)]
 fn run_ahead(net: &Net<EdgeWire>, begin: u64, next: &mut Option<Outcome>, after: &mut Net<EdgeWire>)
-    requires early { net.now.close ≤ 2000000000000 }
+    requires early { net.now.close ≤ latest_instant }
     requires begins { next_start net.now ≡ Some begin }
     ensures known { IsForeseen net.now next.new after.new }
     ensures some { IsSome next.new }
@@ -72,7 +73,7 @@ fn foresee(
     next: &mut Option<Outcome>,
     after: &mut Net<EdgeWire>,
 ) -> u64
-    requires early { net.now.close ≤ 2000000000000 }
+    requires early { net.now.close ≤ latest_instant }
     requires begins { next_start net.now ≡ Some begin }
     requires known { IsForeseen net.now next.old after.old }
     ensures known { IsForeseen net.now next.new after.new }
@@ -164,7 +165,7 @@ impl Foreseen {
         event: &TimedEvent,
     ) -> Result<u128, WriteFault>
         requires addressed { HasAddress edid.now }
-        requires early { at ≤ 2000000000000 }
+        requires early { at ≤ latest_instant }
         requires known { NamesDevices (length self.old.tree) event.now.event }
         requires room { totals.old.refused < 18446744073709551615 }
         ensures net { self.new ≡ net_after at event.now.event self.old }
@@ -178,7 +179,7 @@ impl Foreseen {
 
     /// The close of the next round, which begins at `begin`.
     pub fn next_close(&mut self, begin: u64) -> u64
-        requires early { self.old.close ≤ 2000000000000 }
+        requires early { self.old.close ≤ latest_instant }
         requires begins { next_start self.old ≡ Some begin }
         ensures same { self.new ≡ self.old }
         ensures close { (outcome : OutcomeValue) × (after : NetState) × IsWave outcome.wave × IsNextRound self.old begin outcome after × IsProgress self.old begin after × (result ≡ after.close) }
@@ -188,7 +189,7 @@ impl Foreseen {
 
     /// Whether the next round, which begins at `begin`, closes at `until` or later, and the script has not ended.
     pub fn is_late(&mut self, begin: u64, until: u64, ended: bool) -> bool
-        requires early { self.old.close ≤ 2000000000000 }
+        requires early { self.old.close ≤ latest_instant }
         requires begins { next_start self.old ≡ Some begin }
         ensures same { self.new ≡ self.old }
         ensures late { result ≡ true → IsLate ended until begin self.old }
@@ -202,7 +203,7 @@ impl Foreseen {
     /// Runs the next round, which begins at `begin`, where it closes before `until` or the script has ended. None, and nothing
     /// changes, where it closes then or later.
     pub fn round_by(&mut self, begin: u64, until: u64, ended: bool) -> Option<Outcome>
-        requires early { self.old.close ≤ 2000000000000 }
+        requires early { self.old.close ≤ latest_instant }
         requires begins { next_start self.old ≡ Some begin }
         ensures step { MatchOption result
             ((self.new ≡ self.old) × IsLate ended until begin self.old)

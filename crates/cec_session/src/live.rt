@@ -1,5 +1,6 @@
 //! A run whose script comes line by line.
 ghost use Rattle.std.specs.Prelude.{◌≡◌, Option};
+ghost use Rattle.cec_wave.specs.Bounds.{latest_event};
 ghost use Rattle.cec_session.specs.Session.{step_show};
 
 use crate::answer::{Refusal, write_idle, write_refused, write_shown, write_taken};
@@ -183,7 +184,7 @@ impl Live {
 
     // Takes `run to T`.
     fn run_to(&mut self, time: Option<u64>) -> Step
-        requires early { IfSome time (λ t. t ≤ 1000000000000) }
+        requires early { IfSome time (λ t. t ≤ latest_event) }
         ensures step { result ≡ step_to self.old time }
         ensures after { self.new ≡ after_to self.old time }
     {

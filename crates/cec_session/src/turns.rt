@@ -4,6 +4,7 @@ ghost use Rattle.std.specs.List.{flat_map};
 ghost use Rattle.std.specs.Io.KnownBytes.{Appends};
 ghost use Rattle.hdmi_blocks.specs.declared.edid.Edid.{Edid as EdidValue};
 ghost use Rattle.cec_wave.specs.Line.{IsWave};
+ghost use Rattle.cec_wave.specs.Bounds.{latest_event, latest_instant};
 ghost use Rattle.cec_wire.specs.declared.Outcome.{Outcome as OutcomeValue};
 ghost use Rattle.cec_asm.specs.Script.{IsSchedule, within_limit};
 ghost use Rattle.cec_net.specs.Progress.{IsProgress};
@@ -58,7 +59,7 @@ fn take_round<S: Sink>(
     ended: bool,
 ) -> Result<Option<u128>, WriteFault>
     requires starts { next_start net.old ≡ Some begin }
-    requires early { net.old.close ≤ 2000000000000 }
+    requires early { net.old.close ≤ latest_instant }
     requires room { totals.old.rounds < 18446744073709551615 }
     requires less { totals.old.complete ≤ totals.old.rounds }
     ensures { (edid : Option EdidValue) → IsRoundTaken edid ended until begin net.old net.new totals.old totals.new (S.contents out.old) (S.contents out.new) (S.is_stuck out.old) (S.is_stuck out.new) result }
@@ -94,7 +95,7 @@ pub(crate) fn go_on<S: Sink>(
     ended: bool,
 ) -> Result<u128, WriteFault>
     requires addressed { HasAddress edid.now }
-    requires early { until ≤ 1000000000000 }
+    requires early { until ≤ latest_event }
     requires none { applied.old ≡ 0 }
     requires within { IsWithin (record { net = net.old; events = events.now; totals = totals.old }) }
     requires schedule { (from end : ℕ) × IsSchedule (length net.old.tree) end from events.now }
@@ -143,9 +144,9 @@ pub(crate) fn go_on<S: Sink>(
 
 // The instant after the close of the next round, which begins at `begin`.
 fn soon_after(net: &mut Foreseen, begin: u64) -> Option<u64>
-    requires early { net.old.close ≤ 2000000000000 }
+    requires early { net.old.close ≤ latest_instant }
     requires begins { next_start net.old ≡ Some begin }
-    requires soon { begin < 1000000000000 }
+    requires soon { begin < latest_event }
     ensures same { net.new ≡ net.old }
     ensures soon { (outcome : OutcomeValue) × (after : NetState) × IsWave outcome.wave × IsNextRound net.old begin outcome after × (result ≡ within_limit (Some (after.close + 1))) }
 {
@@ -159,9 +160,9 @@ fn soon_after(net: &mut Foreseen, begin: u64) -> Option<u64>
 
 /// The least instant before which one more turn is over, where the next event has this time and nothing else comes.
 pub(crate) fn soonest(net: &mut Foreseen, time: Option<u64>) -> Option<u64>
-    requires early { net.old.close ≤ 2000000000000 }
+    requires early { net.old.close ≤ latest_instant }
     ensures same { net.new ≡ net.old }
-    ensures soon { IsSoonestBy net.old (turn_of 1000000000000 net.old time) result }
+    ensures soon { IsSoonestBy net.old (turn_of latest_event net.old time) result }
 {
     match net.next_turn(LATEST_EVENT, time) {
         Turn::Stop => None,

@@ -1,5 +1,6 @@
 -- Where a stepper begins.
 use Rattle.std.proofs.Common.{◌≡◌, ℕ, ◌<◌, ◌≤◌, true, List, length, Option, IsSome, Some, None, ap, ◌∙◌, sym, subst, arith}
+use Rattle.cec_wave.specs.Bounds.{latest_instant}
 use Rattle.hdmi_topo.specs.Node.{Node}
 use Rattle.cec_asm.specs.Script.{Course, IsScript}
 use Rattle.cec_net.specs.State.{NetState, first_net}
@@ -49,5 +50,5 @@ stepper_at run p = record { run = run; last = p; begun = None }
 pub ready_start : (tree : List Node) (course : Course) → 0 < length tree → IsScript (length tree) course
     → IsReady course.end (record { net = first_net tree course.pulses; events = course.events; is_first = true })
 ready_start tree course some script =
-    let none : 0 ≤ 2000000000000 = omega arith in
+    let none : 0 ≤ latest_instant = omega arith in
     record { some = some; early = script.limit; sparse = script.sparse; closed = none; schedule = (0, script.schedule) }

@@ -5,6 +5,7 @@ use Rattle.cec_asm.specs.Script.{IsSchedule}
 use Rattle.cec_net.specs.State.{NetState}
 use Rattle.cec_wave.specs.Pulses.{AreSparse}
 use Rattle.cec_wave.specs.declared.Edge.{Edge}
+use Rattle.cec_wave.specs.Bounds.{latest_event, latest_instant}
 use Rattle.cec_wire.specs.Edges.{IsNextEdge}
 use Rattle.cec_net.specs.Underway.{OfRound}
 use Rattle.hdmi_blocks.specs.declared.edid.Edid.{Edid}
@@ -29,9 +30,9 @@ run_of course = record { edid = course.edid; events = course.events.items; end =
 -- times stay below the limits, and the events that are left come in their order, before the end
 pub record IsReady (end : ℕ) (p : Point) : Type 0 where
   pub some : 0 < length p.net.tree
-  pub early : end ≤ 1000000000000
+  pub early : end ≤ latest_event
   pub sparse : AreSparse p.net.pulses
-  pub closed : p.net.close ≤ 2000000000000
+  pub closed : p.net.close ≤ latest_instant
   pub schedule : (from : ℕ) × IsSchedule (length p.net.tree) end from p.events
 
 -- a position in the round that comes next, whose line was reported before an instant

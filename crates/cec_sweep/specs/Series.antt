@@ -1,6 +1,7 @@
 -- Series of instants in the place of a time (own): `T..U`, each microsecond from T to U, or `T..U/S`, every S microseconds from T on.
 use Rattle.std.specs.Prelude.{◌≡◌, ℕ, zero, suc, ◌+◌, ◌-◌, ◌/◌, ◌<◌, ◌≤◌, ◌==◌, nat_lt, nat_le, ◌&&◌, Bool, if◌then◌else◌, length, take, drop, slice_index, List, [], ◌∷◌, Option, Some, None, Result, Ok, Err}
 use Rattle.std.specs.List.{position_or_len}
+use Rattle.cec_wave.specs.Bounds.{latest_event}
 use Rattle.hdmi_core.specs.Number.{number_of}
 use Rattle.cec_sweep.specs.declared.series.RangeCause.{RangeCause}
 use Rattle.cec_sweep.specs.declared.series.RangeCause.TheVariants.{Number, Order}
@@ -12,7 +13,7 @@ pub record Series : Type 0 where
 
 pub record IsSeries (s : Series) : Type 0 where
   pub forward : s.from ≤ s.to
-  pub early : s.to ≤ 1000000000000
+  pub early : s.to ≤ latest_event
   pub moves : 0 < s.step
 
 -- ---- instants
@@ -42,7 +43,7 @@ is_range word = (slice_index word (place_of 46 word) == 46) && (slice_index word
 -- a time, at most 1,000,000,000,000
 abbrev pub time_in_range : Option ℕ → Option ℕ
 time_in_range None = None
-time_in_range (Some t) = if nat_le t 1000000000000 then Some t else None
+time_in_range (Some t) = if nat_le t latest_event then Some t else None
 
 abbrev pub positive : Option ℕ → Option ℕ
 positive None = None

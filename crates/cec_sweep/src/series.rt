@@ -1,5 +1,6 @@
 //! Series of instants, in the place of a time of a script.
 ghost use Rattle.std.specs.Prelude.{◌≡◌, ◌≤◌, ◌<◌, IfSome};
+ghost use Rattle.cec_wave.specs.Bounds.{latest_event};
 ghost use Rattle.cec_sweep.specs.Series.{is_range, positive, series_in, series_to, series_until, step_at, time_in_range};
 
 use cec_wave::LATEST_EVENT;
@@ -78,7 +79,7 @@ pub(crate) fn is_range(word: &[u8]) -> bool
 // A time within the limit.
 fn time_in_range(number: Option<u64>) -> Option<u64>
     ensures value { result ≡ time_in_range number }
-    ensures early { IfSome result (λ time. time ≤ 1000000000000) }
+    ensures early { IfSome result (λ time. time ≤ latest_event) }
 {
     match number {
         None => None,
@@ -115,7 +116,7 @@ fn step_at(text: &[u8], slash: usize) -> Option<u64>
 }
 
 fn series_to(from: u64, to: u64, step: u64) -> Result<Series, RangeCause>
-    requires { (to ≤ 1000000000000) × (0 < step) }
+    requires { (to ≤ latest_event) × (0 < step) }
     ensures { result ≡ series_to from to step }
 {
     if to < from {

@@ -6,6 +6,7 @@ use Rattle.std.proofs.lemmas.List.Folds.{list_any-append}
 use Rattle.cec_wave.specs.declared.Stretch.{Stretch}
 use Rattle.cec_wave.specs.Line.{IsWave, covers, line_of}
 use Rattle.cec_wave.specs.Pulses.{AreSparse}
+use Rattle.cec_wave.specs.Bounds.{latest_instant}
 use Rattle.cec_wire.specs.declared.Seat.{Seat}
 use Rattle.cec_wire.specs.declared.Outcome.{Outcome}
 use Rattle.cec_signal.specs.Edges.{Captured, IsCapture, edges_of, line_of_edges}
@@ -142,7 +143,7 @@ rounds_are_the_traces topology script x y s t p q =
 
 -- ---- the dump is one of several wires
 
-soon : (topology script text : List ℕ) (totals : Totals) → (p : IsDrivesOf topology script text totals) → end_of topology script text totals p ≤ 2000000000000
+soon : (topology script text : List ℕ) (totals : Totals) → (p : IsDrivesOf topology script text totals) → end_of topology script text totals p ≤ latest_instant
 soon topology script text totals p =
     let sound = scripts_are_sound p.plan.tree script p.course p.accepted.course_is in
     let close = runs_close_soon (Line Vcd) p.plan.tree p.course.pulses p.course.events p.course.end p.driven.run.turns p.driven.run.line p.driven.run.at_end sound.sparse

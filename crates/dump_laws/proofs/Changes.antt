@@ -4,6 +4,7 @@ use Rattle.std.specs.List.{flat_map, list_any, range_with_len}
 use Rattle.std.specs.Str.{bytes_eq}
 use Rattle.cec_wave.specs.declared.Stretch.{Stretch}
 use Rattle.cec_wave.specs.Line.{line_of}
+use Rattle.cec_wave.specs.Bounds.{latest_instant}
 use Rattle.cec_signal.proofs.Numbers.{decimal_value}
 use Rattle.cec_vcd.specs.Text.{last}
 use Rattle.cec_vcd.specs.Wire.{Change, changes_in, is_by, level_of, words_in}
@@ -121,7 +122,7 @@ pub ends_span : (from end : ℕ) (ss : List Span) → AreSpans from end ss → f
 ends_span from end [] h = h
 ends_span from end (s ∷ ss) h = let a : from ≤ s.from = h.0 in let b = ends_span (s.from + s.count) end ss h.2 in omega (arith, a, b)
 
-spans_told : (k from end : ℕ) (spans : List Span) (text : List ℕ) (cs : List Change) → AreSpans from end spans → end ≤ 2000000000000 → Tells k (words_in text) cs
+spans_told : (k from end : ℕ) (spans : List Span) (text : List ℕ) (cs : List Change) → AreSpans from end spans → end ≤ latest_instant → Tells k (words_in text) cs
     → Tells k (words_in (spans_text spans ++ text)) (span_changes k spans ++ cs)
 spans_told k from end [] text cs h low rest tick = rest tick
 spans_told k from end (s ∷ ss) text cs h low rest tick =
@@ -131,10 +132,10 @@ spans_told k from end (s ∷ ss) text cs h low rest tick =
     ∙ sym (append_assoc (own_changes (line_of (wire_at k s.wires)) s.from s.count) (span_changes k ss) cs)
 
 -- after the last time nothing comes
-last_told : (k end : ℕ) → end ≤ 2000000000000 → Tells k (words_in (last end)) []
+last_told : (k end : ℕ) → end ≤ latest_instant → Tells k (words_in (last end)) []
 last_told k end low tick = ap (told k tick) (time_words end [] (omega (arith, low)))
 
-pub body_told : (k from end : ℕ) (spans : List Span) → AreSpans from end spans → end ≤ 2000000000000 → Tells k (words_in (spans_text spans ++ last end)) (span_changes k spans)
+pub body_told : (k from end : ℕ) (spans : List Span) → AreSpans from end spans → end ≤ latest_instant → Tells k (words_in (spans_text spans ++ last end)) (span_changes k spans)
 body_told k from end spans h low tick = spans_told k from end spans (last end) [] h low (last_told k end low) tick ∙ append-nil (span_changes k spans)
 
 -- ---- at first each wire is high

@@ -2,6 +2,7 @@
 use Rattle.std.proofs.Common.{◌≡◌, ℕ, suc, ◌+◌, ◌≤◌, ◌==◌, ◌||◌, not, true, false, List, [], ◌∷◌, ◌++◌, length, codes, All, Option, Some, None, Ok, inl, inr, refl, sym, ap, ◌∙◌, subst, arith, append_assoc}
 use Rattle.std.specs.List.{flat_map, list_all, range_with_len}
 use Rattle.std.specs.Str.{bytes_eq}
+use Rattle.cec_wave.specs.Bounds.{latest_instant}
 use Rattle.cec_signal.specs.Edges.{Captured}
 use Rattle.cec_signal.specs.Track.{first_track as line_begun}
 use Rattle.cec_signal.proofs.Texts.{shown}
@@ -129,7 +130,7 @@ same_some : (v w : Wire) → Some v ≡ Some w → v ≡ w
 same_some v w h = cc
 
 read_by : (asked : List ℕ) (names : List (List ℕ)) (spans : List Span) (end : ℕ) → Finds asked → ((length asked == 0) || bytes_eq (codes "CEC") asked) ≡ true
-    → All (λ name. is_word name ≡ true) names → AreSpans 0 end spans → end ≤ 2000000000000 → (c : Captured) × (edges_in asked (dump_of names spans end) ≡ Ok c) × TellsLine spans end c
+    → All (λ name. is_word name ≡ true) names → AreSpans 0 end spans → end ≤ latest_instant → (c : Captured) × (edges_in asked (dump_of names spans end) ≡ Ok c) × TellsLine spans end c
 read_by asked names spans end finds named words h low =
     let rest = spans_text spans ++ last end in
     let e = head_ends end asked names rest finds words (spans_read asked (id_of (length names + 1) ∷ []) end 0 spans h low) 1 in

@@ -8,6 +8,7 @@ use Rattle.std.proofs.lemmas.Bool.Decides.{nat_tests}
 use Rattle.cec_wave.specs.declared.Edge.{Edge}
 use Rattle.cec_wave.specs.declared.Stretch.{Stretch}
 use Rattle.cec_wave.specs.Line.{line_of}
+use Rattle.cec_wave.specs.Bounds.{latest_instant}
 use Rattle.hdmi_core.specs.Lines.{lines_of}
 use Rattle.cec_signal.specs.Track.{Moved, differ, last_edge, track_move, with_level}
 use Rattle.cec_signal.specs.declared.track.Track.{Track}
@@ -99,17 +100,17 @@ came t track after = by (nat_lt track.at t && differ track.was_low track.is_low)
     by true e = (record { track = record track { at = t; was_low = track.is_low }; edge = Some (record { at = track.at; low = track.is_low }) }, rw (late, e) refl, refl)
     by false e = (record { track = record track { at = t }; edge = None }, rw (late, e) refl, refl)
 
-instant_again : (t : ℕ) → t ≤ 2000000000000 → instant_of micro (decimal t) ≡ Some t
+instant_again : (t : ℕ) → t ≤ latest_instant → instant_of micro (decimal t) ≡ Some t
 instant_again t low =
     let other : (t == 18446744073709551615) ≡ false = grind (arith, nat_tests) in
-    let small : nat_le t 2000000000000 ≡ true = grind (arith, nat_tests) in
+    let small : nat_le t latest_instant ≡ true = grind (arith, nat_tests) in
     rw (number_again t (omega arith)) (rw (other, small) refl)
 
-time_taken : (asked candidate : List ℕ) (track : Track) (t : ℕ) → t ≤ 2000000000000 → took (time_line t) (stood asked candidate track) ≡ after_time (Some t) (stood asked candidate track)
+time_taken : (asked candidate : List ℕ) (track : Track) (t : ℕ) → t ≤ latest_instant → took (time_line t) (stood asked candidate track) ≡ after_time (Some t) (stood asked candidate track)
 time_taken asked candidate track t low =
     rw (some_length (length (decimal t))) (ap (λ i. after_time i (stood asked candidate track)) (instant_again t low))
 
-time_reads : (asked candidate : List ℕ) (end t : ℕ) (rest : List ℕ) (track : Track) → track.at ≤ t → t ≤ end → end ≤ 2000000000000
+time_reads : (asked candidate : List ℕ) (end t : ℕ) (rest : List ℕ) (track : Track) → track.at ≤ t → t ≤ end → end ≤ latest_instant
     → ((next : Track) → next.at ≡ t → AllEnd end rest (stood asked candidate next)) → AllEnd end (time_line t ++ 10 ∷ rest) (stood asked candidate track)
 time_reads asked candidate end t rest track after by low more =
     let m = came t track after in
@@ -131,7 +132,7 @@ changes_read asked candidate end at t number (wire ∷ wires) rest more =
     (change_reads asked candidate end at number (turns (line_of wire) t) (line_of wire t) (changes_from t (number + 1) wires ++ rest)
     (changes_read asked candidate end at t (number + 1) wires rest more))
 
-instant_reads : (asked candidate : List ℕ) (end t : ℕ) (wires : List (List Stretch)) (rest : List ℕ) → t ≤ end → end ≤ 2000000000000 → Reads asked candidate end (t + 1) rest
+instant_reads : (asked candidate : List ℕ) (end t : ℕ) (wires : List (List Stretch)) (rest : List ℕ) → t ≤ end → end ≤ latest_instant → Reads asked candidate end (t + 1) rest
     → Reads asked candidate end t (instant_text wires t ++ rest)
 instant_reads asked candidate end t wires rest by low more track at early = step (list_any (λ wire. turns (line_of wire) t) wires)
   where
@@ -144,7 +145,7 @@ instant_reads asked candidate end t wires rest by low more track at early = step
 
 -- ---- all of them
 
-wires_read : (asked candidate : List ℕ) (end : ℕ) (wires : List (List Stretch)) (from count : ℕ) (rest : List ℕ) → from + count ≤ end + 1 → end ≤ 2000000000000
+wires_read : (asked candidate : List ℕ) (end : ℕ) (wires : List (List Stretch)) (from count : ℕ) (rest : List ℕ) → from + count ≤ end + 1 → end ≤ latest_instant
     → Reads asked candidate end (from + count) rest → Reads asked candidate end from (wires_text wires from count ++ rest)
 wires_read asked candidate end wires from zero rest by low more = λ track at early. more track (omega (arith, at)) early
 wires_read asked candidate end wires from (suc count) rest by low more =
@@ -153,11 +154,11 @@ wires_read asked candidate end wires from (suc count) rest by low more =
     (wires_read asked candidate end wires (from + 1) count rest (omega (arith, by)) low (λ track at early. more track (omega (arith, at)) early)))
 
 -- the last time
-last_reads : (asked candidate : List ℕ) (end at : ℕ) → end ≤ 2000000000000 → Reads asked candidate end at (last end)
+last_reads : (asked candidate : List ℕ) (end at : ℕ) → end ≤ latest_instant → Reads asked candidate end at (last end)
 last_reads asked candidate end at low track by early =
     time_reads asked candidate end end [] track early (omega arith) low (λ next same number. record { edges = option_to_list (last_edge next); is = ap (λ n. Ok (record { edges = option_to_list (last_edge next); end = n })) same })
 
-pub spans_read : (asked candidate : List ℕ) (end from : ℕ) (spans : List Span) → AreSpans from end spans → end ≤ 2000000000000 → Reads asked candidate end from (spans_text spans ++ last end)
+pub spans_read : (asked candidate : List ℕ) (end from : ℕ) (spans : List Span) → AreSpans from end spans → end ≤ latest_instant → Reads asked candidate end from (spans_text spans ++ last end)
 spans_read asked candidate end from [] h low = last_reads asked candidate end from low
 spans_read asked candidate end from (s ∷ ss) h low = λ track at early. (
     let a : from ≤ s.from = h.0 in

@@ -1,6 +1,7 @@
 -- A dump of several wires reports each of them.
 use Rattle.std.proofs.Common.{◌≡◌, ℕ, ◌+◌, ◌≤◌, false, List, [], ◌∷◌, ◌++◌, length, codes, refl, ap, ◌∙◌}
 use Rattle.std.specs.List.{flat_map, range_with_len}
+use Rattle.cec_wave.specs.Bounds.{latest_instant}
 use Rattle.cec_vcd.specs.Text.{last}
 use Rattle.cec_vcd.specs.Wire.{level_of, words_in}
 use Rattle.cec_wires.specs.Wires.{high_at_first}
@@ -29,7 +30,7 @@ high_level k count u rest =
 
 -- ---- the law
 
-body_level : (k u end : ℕ) (spans : List Span) → AreSpans 0 end spans → end ≤ 2000000000000 → level_of micro false (told k 0 (words_in (spans_text spans ++ last end))) u ≡ level_at k spans u
+body_level : (k u end : ℕ) (spans : List Span) → AreSpans 0 end spans → end ≤ latest_instant → level_of micro false (told k 0 (words_in (spans_text spans ++ last end))) u ≡ level_at k spans u
 body_level k u end spans h low =
     ap (λ cs. level_of micro false cs u) (body_told k 0 end spans h low 0) ∙ spans_level k u 0 end spans h
 

@@ -5,6 +5,7 @@ use Rattle.std.specs.Option.{option_to_list}
 use Rattle.std.specs.Str.{bytes_eq}
 use Rattle.cec_wave.specs.declared.Stretch.{Stretch}
 use Rattle.cec_wave.specs.Line.{line_of}
+use Rattle.cec_wave.specs.Bounds.{latest_instant}
 use Rattle.cec_signal.specs.Edges.{Captured, IsCapture, line_of_edges}
 use Rattle.cec_vcd.specs.Dump.{edges_in, is_end, is_space}
 use Rattle.cec_vcd.specs.Text.{last}
@@ -96,7 +97,7 @@ pub record TellsWires (names : List (List ℕ)) (spans : List Span) (text : List
   pub levels : (number u : ℕ) → wire_line (record line { id = id_of number ∷ [] }) u ≡ level_at number spans u
 
 abbrev pub DumpsTellTheirWires : Type 0
-DumpsTellTheirWires = (names : List (List ℕ)) (spans : List Span) (end : ℕ) → All (λ name. is_word name ≡ true) names → AreSpans 0 end spans → end ≤ 2000000000000
+DumpsTellTheirWires = (names : List (List ℕ)) (spans : List Span) (end : ℕ) → All (λ name. is_word name ≡ true) names → AreSpans 0 end spans → end ≤ latest_instant
     → TellsWires names spans (dump_of names spans end)
 
 -- a capture is the line's, up to the dump's end
@@ -108,5 +109,5 @@ pub record TellsLine (spans : List Span) (end : ℕ) (c : Captured) : Type 0 whe
 -- As this program's reader has it, asked for the first wire or for the line by its name: the dump is a capture of the line.
 abbrev pub DumpsAreReadAsTheLine : Type 0
 DumpsAreReadAsTheLine = (asked : List ℕ) (names : List (List ℕ)) (spans : List Span) (end : ℕ) → (asked ≡ []) ⊎ (asked ≡ codes "CEC")
-    → All (λ name. is_word name ≡ true) names → AreSpans 0 end spans → end ≤ 2000000000000
+    → All (λ name. is_word name ≡ true) names → AreSpans 0 end spans → end ≤ latest_instant
     → (c : Captured) × (edges_in asked (dump_of names spans end) ≡ Ok c) × TellsLine spans end c

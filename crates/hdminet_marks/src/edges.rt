@@ -2,9 +2,7 @@
 use crate::marks::{Mark, from, is_number, is_word, one};
 use crate::place::{Place, is_line_end};
 use crate::words::{word_at, word_count};
-
-/// The greatest time of an edge file, in microseconds.
-const LAST_TIME: u64 = 2_000_000_000_000;
+use cec_wave::LATEST_INSTANT;
 
 // Whether the line of the bus is low after a line of the file, which stood so before it.
 fn is_low_after(is_low: bool, line: &[u8]) -> bool {
@@ -46,7 +44,7 @@ fn behind_time(line: &str) -> Option<Mark> {
 /// The word of a line that is no line of an edge file.
 pub fn in_line(line: &str) -> Option<Mark> {
     match word_at(line, 0) {
-        Some(time) if is_number(time, LAST_TIME) => behind_time(line),
+        Some(time) if is_number(time, LATEST_INSTANT) => behind_time(line),
         _ => one(0),
     }
 }

@@ -3,6 +3,7 @@ use Rattle.std.proofs.Common.{◌≡◌, ℕ, ◌≤◌, Bool, true, false, cond
 use Rattle.std.proofs.lemmas.Bool.Decides.{nat_tests}
 use Rattle.std.proofs.lemmas.List.Elements.{All-nil, All-weaker, filter_passes}
 use Rattle.cec_wave.specs.declared.Stretch.{Stretch}
+use Rattle.cec_wave.specs.Bounds.{latest_event}
 use Rattle.cec_asm.specs.Topology.{Plan}
 use Rattle.cec_asm.specs.Script.{Course, IsSchedule, IsScriptRead, ScriptFault}
 use Rattle.cec_asm.specs.declared.script.TimedEvent.{TimedEvent}
@@ -80,7 +81,7 @@ same_course a b e = cc
 same_plan : (topology script other x y : List ℕ) (s t : Totals) → (p : IsTraceOf topology script x s) → (q : IsTraceOf topology other y t) → q.plan ≡ p.plan
 same_plan topology script other x y s t p q = one_plan topology p.plan q.plan p.accepted.plan_is q.accepted.plan_is
 
-cut_is : (topology script x y : List ℕ) (s t : Totals) (time : ℕ) → time ≤ 1000000000000 → (p : IsTraceOf topology script x s) → (q : IsTraceOf topology (cut_script time script) y t)
+cut_is : (topology script x y : List ℕ) (s t : Totals) (time : ℕ) → time ≤ latest_event → (p : IsTraceOf topology script x s) → (q : IsTraceOf topology (cut_script time script) y t)
     → q.course ≡ cut_course time p.course
 cut_is topology script x y s t time low p q =
     let read = cuts_are_read p.plan.tree time script p.course low p.accepted.course_is in

@@ -6,6 +6,7 @@ use Rattle.std.proofs.lemmas.Bool.Decides.{nat_tests}
 use Rattle.std.proofs.lemmas.List.Elements.{All-append, All-cons, All-nil}
 use Rattle.std.proofs.lemmas.Option.{get_or_from_slice_get, slice_get_within}
 use Rattle.cec_wave.specs.Line.{line_of}
+use Rattle.cec_wave.specs.Bounds.{latest_event}
 use Rattle.cec_wire.specs.declared.Outcome.{Outcome}
 use Rattle.cec_wire.proofs.Bounds.{rounds_are_short}
 use Rattle.hdmi_blocks.specs.declared.edid.Edid.{Edid}
@@ -132,7 +133,7 @@ event_turned names edid at (e ∷ events) c d told t same small plain h =
       order = same ∙ ap (λ (x : Config). e ∷ x.events) (sym t.1);
     }
 
-round_turned : (names : List (List ℕ)) (edid : Option Edid) (end begin : ℕ) (c d : Config) (told : List ℕ) → (t : IsTurnBy (Trace edid) (Round begin) c told d) → begin < end → end ≤ 1000000000000
+round_turned : (names : List (List ℕ)) (edid : Option Edid) (end begin : ℕ) (c d : Config) (told : List ℕ) → (t : IsTurnBy (Trace edid) (Round begin) c told d) → begin < end → end ≤ latest_event
     → ArePlain names → Stands names c → Turned names told c d (record { devices = d.net.devices; outcome = t.0.outcome } ∷ []) []
 unfolding TellsItself
 round_turned names edid end begin c d told t soon limit plain h =
@@ -153,7 +154,7 @@ round_turned names edid end begin c d told t soon limit plain h =
       order = sym t.1;
     }
 
-turned : (names : List (List ℕ)) (edid : Option Edid) (end : ℕ) (turn : Turn) (c d : Config) (told : List ℕ) → turn_at end c ≡ turn → (t : IsTurnBy (Trace edid) turn c told d) → end ≤ 1000000000000
+turned : (names : List (List ℕ)) (edid : Option Edid) (end : ℕ) (turn : Turn) (c d : Config) (told : List ℕ) → turn_at end c ≡ turn → (t : IsTurnBy (Trace edid) turn c told d) → end ≤ latest_event
     → ArePlain names → Stands names c → Turned names told c d (rounds_by edid turn c told d t) (events_by turn c)
 turned names edid end Stop c d told same t limit plain h = absurd t
 turned names edid end (Apply at) c d told same t limit plain h =
@@ -164,7 +165,7 @@ turned names edid end (Round begin) c d told same t limit plain h =
 
 -- ---- all turns
 
-all_turned : (names : List (List ℕ)) (edid : Option Edid) (end turns : ℕ) (c d : Config) (text : List ℕ) (l : Leads (Trace edid) end turns c text d) → end ≤ 1000000000000 → ArePlain names → Stands names c
+all_turned : (names : List (List ℕ)) (edid : Option Edid) (end turns : ℕ) (c d : Config) (text : List ℕ) (l : Leads (Trace edid) end turns c text d) → end ≤ latest_event → ArePlain names → Stands names c
     → Turned names text c d (rounds_in edid end turns c text d l) (events_in edid end turns c text d l)
 all_turned names edid end zero c d text l limit plain h = record {
   adds = subst (λ x. Adds x [] []) (sym l.0) adds_none;

@@ -5,6 +5,7 @@ use Rattle.std.specs.List.{All, flat_map, range_with_len}
 use Rattle.std.specs.Str.{bytes_eq}
 use Rattle.std.proofs.lemmas.List.Elements.{All-cons, All-nil}
 use Rattle.std.proofs.lemmas.Slice.Eq.{bytes_eq-Decides}
+use Rattle.cec_wave.specs.Bounds.{latest_event}
 use Rattle.cec_wire.specs.declared.Outcome.{Outcome}
 use Rattle.hdmi_blocks.specs.declared.edid.Edid.{Edid}
 use Rattle.hdmi_topo.specs.Node.{Node}
@@ -142,7 +143,7 @@ event_passed names edid at (e ∷ events) c d told t small plain devices tree =
       tree = ap (λ (x : Config). names_in x.net.tree) t.1 ∙ after;
     }
 
-turn_passed : (names : List (List ℕ)) (edid : Option Edid) (end : ℕ) (turn : Turn) (c d : Config) (told : List ℕ) → turn_at end c ≡ turn → IsTurnBy (Trace edid) turn c told d → end ≤ 1000000000000
+turn_passed : (names : List (List ℕ)) (edid : Option Edid) (end : ℕ) (turn : Turn) (c d : Config) (told : List ℕ) → turn_at end c ≡ turn → IsTurnBy (Trace edid) turn c told d → end ≤ latest_event
     → All IsPlain names → names_of c.net.devices ≡ names → names_in c.net.tree ≡ names → Passed names told d
 turn_passed names edid end Stop c d told same t limit plain devices tree = absurd t
 turn_passed names edid end (Apply at) c d told same t limit plain devices tree =
@@ -159,7 +160,7 @@ turn_passed names edid end (Round begin) c d told same t limit plain devices tre
       tree = ap (λ (s : NetState). names_in s.tree) t.0.next.after_is ∙ tree;
     }
 
-all_passed : (names : List (List ℕ)) (edid : Option Edid) (end turns : ℕ) (c d : Config) (text : List ℕ) → Leads (Trace edid) end turns c text d → end ≤ 1000000000000
+all_passed : (names : List (List ℕ)) (edid : Option Edid) (end turns : ℕ) (c d : Config) (text : List ℕ) → Leads (Trace edid) end turns c text d → end ≤ latest_event
     → All IsPlain names → names_of c.net.devices ≡ names → names_in c.net.tree ≡ names → Passed names text d
 all_passed names edid end zero c d text l limit plain devices tree = record {
   stateless = subst Stateless (sym l.0) stateless_none;

@@ -2,6 +2,7 @@
 use Rattle.std.specs.Prelude.{◌≡◌, ℕ, ◌≤◌, codes, List, [], ◌++◌, filter, Option, Some, None}
 use Rattle.std.specs.List.{find}
 use Rattle.std.specs.Str.{bytes_eq}
+use Rattle.cec_wave.specs.Bounds.{latest_event}
 use Rattle.cec_device.specs.State.{State}
 use Rattle.cec_net.specs.State.{first_net}
 use Rattle.cec_trace.specs.StateText.{state_line}
@@ -43,12 +44,12 @@ pub record IsStateOfRun (topology plain text : List ℕ) (totals : Totals) (time
   pub line : IsStateLine (device_of device s.run.trace.run.last.net.devices) state
 
 abbrev pub StatesAreOfRuns : Type 0
-StatesAreOfRuns = (topology plain text : List ℕ) (totals : Totals) (time : ℕ) (device state : List ℕ) → time ≤ 1000000000000
+StatesAreOfRuns = (topology plain text : List ℕ) (totals : Totals) (time : ℕ) (device state : List ℕ) → time ≤ latest_event
     → (p : IsTraceOf topology plain text totals) → (s : IsStateAt topology plain time device state) → IsStateOfRun topology plain text totals time device state p s
 
 -- That run is the whole one up to the time: both traces begin with the text of all turns that are over before then.
 abbrev pub CutTracesAgree : Type 0
-CutTracesAgree = (topology script x y : List ℕ) (s t : Totals) (time : ℕ) → time ≤ 1000000000000 → (p : IsTraceOf topology script x s) → time ≤ p.course.end
+CutTracesAgree = (topology script x y : List ℕ) (s t : Totals) (time : ℕ) → time ≤ latest_event → (p : IsTraceOf topology script x s) → time ≤ p.course.end
     → IsTraceOf topology (cut_script time script) y t
     → (body : List ℕ) × (last : Config) × AllBefore (Trace p.edid) time (start (first_net p.plan.tree p.course.pulses) (filter (is_early time) p.course.events)) body last
     × BeginsWith (before_told (Trace p.edid) p.plan.tree p.course.pulses body) x × BeginsWith (before_told (Trace p.edid) p.plan.tree p.course.pulses body) y

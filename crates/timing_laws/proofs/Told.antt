@@ -4,6 +4,7 @@ use Rattle.std.proofs.Math.Path.{fun_ext}
 use Rattle.std.specs.List.{flat_map}
 use Rattle.cec_wave.specs.declared.Stretch.{Stretch}
 use Rattle.cec_wave.specs.Line.{line_of, IsWave}
+use Rattle.cec_wave.specs.Bounds.{latest_instant}
 use Rattle.cec_bits.specs.Readings.{Listed, readings_of}
 use Rattle.cec_wire.specs.declared.Outcome.{Outcome}
 use Rattle.cec_wire.specs.Alone.{outcome_listed}
@@ -97,7 +98,7 @@ runs_keep_their_times format tree events end text totals framed told limit = (c,
     k : IsLineText format os last text
     k = lines_are_of_the_rounds format tree [] events end text totals no_pulses framed told
 
-    low : last ≤ 2000000000000
+    low : last ≤ latest_instant
     low = let soon : told.run.last.net.close ≤ end + 458461 = runs_close_soon (Line format) tree [] events end told.run.turns told.run.body told.run.last no_pulses told.run.leads in omega (arith, soon, limit)
 
     wave : IsWave (flat_map (λ ss. ss) waves)

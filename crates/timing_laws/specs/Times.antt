@@ -1,5 +1,6 @@
 -- A run without pulses keeps the times of the standard (CEC 5.2.1, 5.2.2): no width is out of its window.
 use Rattle.std.specs.Prelude.{◌≡◌, ℕ, ◌≤◌, List, [], ◌∷◌}
+use Rattle.cec_wave.specs.Bounds.{latest_event}
 use Rattle.hdmi_topo.specs.Node.{Node}
 use Rattle.cec_bits.specs.Readings.{Listed, readings_of}
 use Rattle.cec_signal.specs.Edges.{Captured, line_of_edges}
@@ -25,5 +26,5 @@ KeepsTimes c = AreInTime (first_tape c.edges) (readings_of (line_of_edges c.edge
 -- remarks no width.
 abbrev pub RunsKeepTheirTimes : Type 0
 RunsKeepTheirTimes = (format : Format) (tree : List Node) (events : List TimedEvent) (end : ℕ) (text : List ℕ) (totals : Totals)
-    → AreFramedEvents events → IsRunText (Line format) end (start (first_net tree []) events) text totals → end ≤ 1000000000000
+    → AreFramedEvents events → IsRunText (Line format) end (start (first_net tree []) events) text totals → end ≤ latest_event
     → (c : Captured) × IsReadText format text c × KeepsTimes c

@@ -1,5 +1,6 @@
 use Rattle.std.proofs.Common.{◌+◌, ◌≤◌, List, ℕ, drop, false, get_or, option_map, sym, subst, ap, ◌∙◌, arith}
 use Rattle.cec_wave.specs.declared.Edge.{Edge}
+use Rattle.cec_wave.specs.Bounds.{latest_instant}
 use Rattle.cec_bits.specs.Reports.{listed_as}
 use Rattle.cec_mon.specs.Monitor.{FollowsEnd}
 use Rattle.cec_audit.specs.Audit.{audit_text, summary_text, tape_of, first_tape}
@@ -18,7 +19,7 @@ edge-reading-requires g c =
     let is = c.edges-edges.ensures.capture in
     let by : (get_or edges k none).at ≤ c.args.capture.now.end =
     edge_early edges c.args.capture.now.end k none (rw c.edges-edges.ensures.edges is.ends) c.loop-edge-test.true in
-    let early : c.args.capture.now.end ≤ 2000000000000 = is.early in
+    let early : c.args.capture.now.end ≤ latest_instant = is.early in
     record { early = omega arith }
 
 pub loop-edge-init : goal.loop-edge-init

@@ -1,4 +1,5 @@
 use Rattle.std.proofs.Common.{ℕ, ◌≡◌, ◌≤◌, ◌+◌, ◌-◌, length, drop}
+use Rattle.cec_wave.specs.Bounds.{latest_instant}
 use Rattle.cec_asm.specs.Script.{IsSchedule}
 use Rattle.cec_session.proofs.Going.{Told}
 use Rattle.cec_session.proofs.turns.go_on.Given as goal
@@ -12,8 +13,8 @@ invariant-turns g l = record {
   rest : l.rest ≡ drop l.applied l.events;
   few : l.applied ≤ length l.events;
   schedule : (from end : ℕ) × IsSchedule (length l.net.tree) end from l.rest;
-  closed : l.net.close ≤ 2000000000000;
-  rested : l.net.rest ≤ 2000000000000;
+  closed : l.net.close ≤ latest_instant;
+  rested : l.net.rest ≤ latest_instant;
   rounds : l.totals.rounds ≤ l.net.rest;
   complete : l.totals.complete ≤ l.totals.rounds;
   refused : l.totals.refused + length l.rest ≤ l.fn.totals.refused + length l.events;
@@ -21,4 +22,4 @@ invariant-turns g l = record {
 }
 
 abbrev pub decreases-turns : goal.decreases-turns
-decreases-turns g l = length l.rest + (2000000000000 - l.net.rest)
+decreases-turns g l = length l.rest + (latest_instant - l.net.rest)

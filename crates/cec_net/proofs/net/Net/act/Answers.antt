@@ -3,10 +3,10 @@ use Rattle.cec_device.specs.State.{State}
 use Rattle.cec_device.specs.Outside.{act_fault, after_act, acted_by}
 use Rattle.cec_net.specs.State.{NetState}
 use Rattle.cec_net.specs.Apply.{changed_at}
-use Rattle.cec_net.specs.Sound.{latest}
 use Rattle.cec_net.proofs.Ahead.{ready-acted}
 use Rattle.cec_net.proofs.Orderly.{keeps-acted}
 use Rattle.std.specs.Option.{option_map}
+use Rattle.cec_wave.specs.Bounds.{latest_instant}
 use Rattle.cec_edges.specs.declared.edge_wire.EdgeWire.{EdgeWire}
 use Rattle.cec_net.proofs.InRound.{none_underway}
 use Rattle.cec_net.proofs.Soundness.{sound-replaced, answered-call}
@@ -16,7 +16,7 @@ pub invariant_of-self : goal.invariant_of-self
 invariant_of-self g c =
     let s : NetState = (record { tree = c.self.inside.tree; devices = c.self.inside.devices.items; pulses = c.self.inside.pulses; close = c.self.inside.close; rest = c.self.inside.rest; heard = None }) in
     let change = λ (d : State). after_act d c.args.act in (
-      sound-replaced s c.args.device change c.act_on.new.devices (λ d r. ready-acted (max latest c.self.inside.close) d c.args.act r) (keeps-acted c.args.act) c.self.invariant.0
+      sound-replaced s c.args.device change c.act_on.new.devices (λ d r. ready-acted (max latest_instant c.self.inside.close) d c.args.act r) (keeps-acted c.args.act) c.self.invariant.0
           (c.act_on.ensures.state ∙ ap (changed_at c.args.device change) c.deref_mut.ensures.value),
       none_underway (record s { devices = _ }) c.self.inside.begun (ap (λ (t : NetState). t.heard) c.self.view_is ∙ c.requires.idle),
     )

@@ -3,6 +3,7 @@ use Rattle.std.specs.List.{refill}
 use Rattle.std.specs.Option.{option_map}
 use Rattle.cec_wave.specs.declared.Stretch.{Stretch}
 use Rattle.cec_wave.specs.Line.{IsWave}
+use Rattle.cec_wave.specs.Bounds.{latest_instant}
 use Rattle.cec_edges.specs.declared.edge_wire.EdgeWire.{EdgeWire}
 use Rattle.cec_wire.specs.Round.{IsRound}
 use Rattle.cec_net.specs.State.{NetState, next_start}
@@ -17,7 +18,7 @@ use Rattle.cec_net.proofs.net.Net.end.Goals as goal
 pub invariant_of-self : goal.invariant_of-self
 invariant_of-self g c =
     let s : NetState = (record { tree = c.self.inside.tree; devices = c.self.inside.devices.items; pulses = c.self.inside.pulses; close = c.self.inside.close; rest = c.self.inside.rest; heard = None }) in
-    let Early : NetState → Type 0 = λ t. t.close ≤ 2000000000000 in
+    let Early : NetState → Type 0 = λ t. t.close ≤ latest_instant in
     let Begins : NetState → Type 0 = λ t. next_start t ≡ Some c.args.begin in
     let Rounds : NetState → Type 0 = λ t. IsRound (seats_of t c.args.begin) c.args.begin t.pulses c.args.outcome.now in
     let now : NetState = (record { tree = c.self.inside.tree; devices = refill (length c.self.inside.devices.items) c.self.inside.devices.items c.end_round.new.devices; pulses = c.drop_until.new.self; close = c.close-self-inside.result; rest = c.args.outcome.now.rest; heard = None }) in
@@ -45,7 +46,7 @@ returns-clause-progress g c =
 pub returns-clause-once : goal.returns-clause-once
 returns-clause-once g c =
     let s : NetState = (record { tree = c.self.inside.tree; devices = c.self.inside.devices.items; pulses = c.self.inside.pulses; close = c.self.inside.close; rest = c.self.inside.rest; heard = None }) in
-    let Early : NetState → Type 0 = λ t. t.close ≤ 2000000000000 in
+    let Early : NetState → Type 0 = λ t. t.close ≤ latest_instant in
     let Begins : NetState → Type 0 = λ t. next_start t ≡ Some c.args.begin in
     let Rounds : NetState → Type 0 = λ t. IsRound (seats_of t c.args.begin) c.args.begin t.pulses c.args.outcome.now in
     (sound-after s (seats_of s c.args.begin) c.args.begin c.args.outcome.now c.end_round.new.devices c.drop_until.new.self c.as_slice-pulses.result.now c.close-self-inside.result

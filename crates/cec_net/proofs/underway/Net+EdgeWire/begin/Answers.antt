@@ -1,6 +1,7 @@
 use Rattle.std.proofs.Common.{◌≡◌, ◌≤◌, ◌∙◌, ap, sym, subst, arith, Some, None, List, map}
 use Rattle.cec_wave.specs.declared.Stretch.{Stretch}
 use Rattle.cec_wave.specs.Pulses.{AreSparse}
+use Rattle.cec_wave.specs.Bounds.{latest_instant}
 use Rattle.cec_net.specs.State.{NetState, next_start}
 use Rattle.cec_net.specs.Step.{seat_of}
 use Rattle.cec_net.proofs.Soundness.{next-soon}
@@ -10,7 +11,7 @@ use Rattle.cec_net.proofs.underway.Net+EdgeWire.begin.Goals as goal
 pub begin-requires-clause-early : goal.begin-requires-clause-early
 begin-requires-clause-early c =
     let s : NetState = (record { tree = c.self.inside.tree; devices = c.self.inside.devices.items; pulses = c.self.inside.pulses; close = c.self.inside.close; rest = c.self.inside.rest; heard = None }) in
-    let Early : NetState → Type 0 = λ t. t.close ≤ 2000000000000 in
+    let Early : NetState → Type 0 = λ t. t.close ≤ latest_instant in
     let next : next_start s ≡ Some c.in-Some.begin = ap next_start c.self.view_is ∙ sym c.in-Some.ensures in
     let soon = next-soon s c.in-Some.begin c.self.invariant.0 (subst Early (sym c.self.view_is) c.requires) next in
     omega arith
@@ -18,7 +19,7 @@ begin-requires-clause-early c =
 pub invariant_of-self : goal.invariant_of-self
 invariant_of-self c =
     let s : NetState = (record { tree = c.self.inside.tree; devices = c.self.inside.devices.items; pulses = c.self.inside.pulses; close = c.self.inside.close; rest = c.self.inside.rest; heard = None }) in
-    let Early : NetState → Type 0 = λ t. t.close ≤ 2000000000000 in
+    let Early : NetState → Type 0 = λ t. t.close ≤ latest_instant in
     let Sparse : List Stretch → Type 0 = AreSparse in
     let next : next_start s ≡ Some c.in-Some.begin = ap next_start c.self.view_is ∙ sym c.in-Some.ensures in
     let e = c.begin.ensures in (

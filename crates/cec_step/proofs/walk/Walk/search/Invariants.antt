@@ -1,4 +1,5 @@
 use Rattle.std.proofs.Common.{ℕ, ◌-◌}
+use Rattle.cec_wave.specs.Bounds.{latest_instant}
 use Rattle.cec_step.specs.Ready.{IsReady, point_of}
 use Rattle.cec_step.specs.Steps.{Skips}
 use Rattle.cec_step.proofs.walk.Walk.search.Given as goal
@@ -11,7 +12,7 @@ invariant-rounds l = record {
 }
 
 abbrev pub decreases-rounds : goal.decreases-rounds
-decreases-rounds l = 2000000000000 - l.before.value.net.rest
+decreases-rounds l = latest_instant - l.before.value.net.rest
 
 -- nor of those that were leapt over
 abbrev pub invariant-leaps : goal.invariant-leaps
@@ -21,4 +22,4 @@ invariant-leaps l = record {
 }
 
 abbrev pub decreases-leaps : goal.decreases-leaps
-decreases-leaps l = 2000000000000 - l.before.value.net.rest
+decreases-leaps l = latest_instant - l.before.value.net.rest
