@@ -5,7 +5,7 @@ ghost use Rattle.cec_capture_check.specs.Marks.{capture_trace};
 ghost use Rattle.cec_check.specs.Report.{report_as};
 
 use crate::faults::first_fault;
-use crate::marks::{no_states, push_marks};
+use crate::marks::push_marks;
 use cec_check::{Held, ReportDraft, Tally, tally_of, whole_report};
 use cec_expect::ExpectFault;
 use cec_mon::watch_capture;
@@ -39,6 +39,7 @@ fn capture_trace(alloc: Global, expectations: &[u8], capture: &Capture) -> Resul
     }
 }
 
+#[tactic(auto, using(crate::proofs::Stateless::stateless))]
 fn report_of(
     alloc: Global,
     expectations: &[u8],
@@ -47,8 +48,7 @@ fn report_of(
     ensures { IfOk result (λ draft. report_as draft ≡ capture_report expectations.now capture.now) }
 {
     let held = capture_trace(alloc, expectations, capture)?;
-    let states = no_states(alloc, expectations)?;
-    whole_report(alloc, expectations, &held.bytes, &states)
+    whole_report(alloc, expectations, &held.bytes, &[])
 }
 
 /// Writes the report of whether the readings of a capture are as the expectations have it, as `check` writes that of a run. The

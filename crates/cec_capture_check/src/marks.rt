@@ -1,7 +1,7 @@
 //! What is judged of a capture.
-ghost use Rattle.std.specs.Prelude.{◌≡◌, ◌++◌, ◌∷◌, [], codes, map, IfOk, OnOk};
+ghost use Rattle.std.specs.Prelude.{◌≡◌, ◌++◌, codes, OnOk};
 ghost use Rattle.std.specs.Fmt.{decimal};
-ghost use Rattle.cec_capture_check.specs.Marks.{mark_of, marks, no_states};
+ghost use Rattle.cec_capture_check.specs.Marks.{mark_of, marks};
 
 use crate::faults::instant_of;
 use hdmi_core::first_line;
@@ -39,17 +39,4 @@ pub(crate) fn push_marks(text: &mut Vec<u8>, expectations: &[u8]) -> Result<(), 
         number += 1;
     }
     Ok(())
-}
-
-/// No state line for each line.
-pub(crate) fn no_states(alloc: Global, expectations: &[u8]) -> Result<Vec<Vec<u8>>, AllocError>
-    ensures { IfOk result (λ states. map (λ state. state.items) states.items ≡ no_states expectations.now) }
-{
-    let mut states = Vec::new(alloc);
-    let mut rest = expectations;
-    'lines: while let Some((_, after)) = first_line(rest) {
-        states.push(Vec::new(alloc))?;
-        rest = after;
-    }
-    Ok(states)
 }

@@ -80,10 +80,10 @@ no_more a goal told lines none before = or_not a ∙ ap (λ (ls : List (List ℕ
 
 -- ---- lines that are kept
 
-pub kept_none : (script few line : List ℕ) → is_kept (lines_of script) line ≡ false → lines_of few ≡ lines_of few ++ kept script (line ∷ [])
+pub kept_none : (script few line : List ℕ) → is_kept script line ≡ false → lines_of few ≡ lines_of few ++ kept script (line ∷ [])
 kept_none script few line none = sym (ap (λ b. lines_of few ++ cond b (line ∷ []) []) none ∙ append-nil (lines_of few))
 
-pub kept_one : (script few line new : List ℕ) → IsClosed few → IsLine line → is_kept (lines_of script) line ≡ true → new ≡ few ++ line ++ 10 ∷ []
+pub kept_one : (script few line new : List ℕ) → IsClosed few → IsLine line → is_kept script line ≡ true → new ≡ few ++ line ++ 10 ∷ []
     → lines_of new ≡ lines_of few ++ kept script (line ∷ [])
 kept_one script few line new closed plain is made =
     ap lines_of made ∙ (closed_more few line closed plain).0 ∙ sym (ap (λ b. lines_of few ++ cond b (line ∷ []) []) is)
@@ -96,7 +96,7 @@ pub keep_on : (script few line new : List ℕ) (lines rest goal : List (List ℕ
     → lines_of few ++ kept script lines ≡ goal → lines_of new ++ kept script rest ≡ goal
 keep_on script few line new lines rest goal split made before =
     ap (λ (ls : List (List ℕ)). ls ++ kept script rest) made ∙ append_assoc (lines_of few) (kept script (line ∷ [])) (kept script rest)
-    ∙ ap (λ (ls : List (List ℕ)). lines_of few ++ ls) (sym (filter-append (is_kept (lines_of script)) (line ∷ []) rest) ∙ ap (kept script) (sym split)) ∙ before
+    ∙ ap (λ (ls : List (List ℕ)). lines_of few ++ ls) (sym (filter-append (is_kept script) (line ∷ []) rest) ∙ ap (kept script) (sym split)) ∙ before
 
 pub keep_end : (script few : List ℕ) (lines goal : List (List ℕ)) → lines ≡ [] → lines_of few ++ kept script lines ≡ goal → lines_of few ≡ goal
 keep_end script few lines goal none before = sym (ap (λ (ls : List (List ℕ)). lines_of few ++ kept script ls) none ∙ append-nil (lines_of few)) ∙ before
@@ -106,4 +106,4 @@ pub sift_lines : (script passed line few new : List ℕ) → IsClosed passed →
     → lines_of new ≡ kept script (lines_of (passed ++ line))
 sift_lines script passed line few new closed are made =
     made ∙ ap (λ (ls : List (List ℕ)). ls ++ kept script (lines_of line)) are
-    ∙ sym (filter-append (is_kept (lines_of script)) (lines_of passed) (lines_of line)) ∙ ap (kept script) (sym (closed line))
+    ∙ sym (filter-append (is_kept script) (lines_of passed) (lines_of line)) ∙ ap (kept script) (sym (closed line))

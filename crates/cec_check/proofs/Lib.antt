@@ -1,3 +1,6 @@
+pub mod Standing
+pub mod Found
+pub mod Stated
 pub mod Checked
 pub mod Cuts
 pub mod Refusals

@@ -1,15 +1,17 @@
--- What a report needs of a trace (own): the lines of events, and those of rounds that meet the pattern of an expectation. Where an
--- expectation fails that no round meets, the rounds in its window are shown, and the whole trace is needed.
-use Rattle.std.specs.Prelude.{ℕ, ◌==◌, ◌&&◌, ◌||◌, Bool, true, false, filter, List, Option, Some, None, is_some, Result, Ok, Err}
+-- What a report needs of a trace (own): the lines of events that a label names or that are refused, those of rounds that meet the
+-- pattern of an expectation, and those of states. Where an expectation fails that no round meets, the rounds in its window are
+-- shown, and the whole trace is needed.
+use Rattle.std.specs.Prelude.{ℕ, ◌==◌, ◌&&◌, ◌||◌, Bool, true, false, codes, filter, List, Option, Some, None, is_some, Result, Ok, Err}
 use Rattle.std.specs.List.{list_any}
 use Rattle.hdmi_core.specs.Lines.{lines_of}
 use Rattle.hdmi_core.specs.Words.{words_of}
 use Rattle.cec_expect.specs.Fits.{fits}
-use Rattle.cec_expect.specs.Line.{behind_label}
+use Rattle.cec_expect.specs.Line.{behind_label, has_verb}
 use Rattle.cec_expect.specs.Form.{Form, form_in}
 use Rattle.cec_expect.specs.Form.Form.{Other, Rounds, State, Refused}
 use Rattle.cec_expect.specs.declared.form.ExpectCause.{ExpectCause}
-use Rattle.cec_judge.specs.Told.{RoundLine, event_in, round_in}
+use Rattle.cec_judge.specs.Told.{EventLine, RoundLine, event_in, refusal_in, round_in}
+use Rattle.cec_judge.specs.Named.{is_named}
 use Rattle.cec_judge.specs.declared.judge.Judged.{Judged}
 
 abbrev pub pattern_by : Result Form ExpectCause → Option (List ℕ)
@@ -31,16 +33,22 @@ meets_pattern told (Some pattern) = fits pattern told
 abbrev pub meets : List ℕ → List ℕ → Bool
 meets told line = meets_pattern told (pattern_of line)
 
-abbrev pub meets_any : List (List ℕ) → Option RoundLine → Bool
-meets_any lines None = false
-meets_any lines (Some r) = list_any (meets r.told) lines
+-- a line of a round is needed where it meets the pattern of one of these lines; of other lines those of states
+abbrev pub is_other_kept : List (List ℕ) → List (List ℕ) → Option RoundLine → Bool
+is_other_kept lines words None = has_verb (codes "state") words
+is_other_kept lines words (Some r) = list_any (meets r.told) lines
 
--- by the lines of a script, a line of the trace is needed
-abbrev pub is_kept : List (List ℕ) → List ℕ → Bool
-is_kept lines line = is_some (event_in (words_of line)) || meets_any lines (round_in (words_of line))
+-- an event of a line with a label, or one that is refused
+abbrev pub is_event_kept : List ℕ → Option EventLine → Bool
+is_event_kept script None = false
+is_event_kept script (Some e) = is_named script e.line || is_some (refusal_in e.outcome)
+
+-- by a script, a line of the trace is needed
+abbrev pub is_kept : List ℕ → List ℕ → Bool
+is_kept script line = is_event_kept script (event_in (words_of line)) || is_other_kept (lines_of script) (words_of line) (round_in (words_of line))
 
 abbrev pub kept : List ℕ → List (List ℕ) → List (List ℕ)
-kept script lines = filter (is_kept (lines_of script)) lines
+kept script lines = filter (is_kept script) lines
 
 -- ---- whether that is enough
 

@@ -11,7 +11,7 @@ use Rattle.cec_expect.specs.Form.Form.{Other, Rounds, State, Refused}
 use Rattle.cec_expect.specs.declared.form.ExpectCause.{ExpectCause}
 use Rattle.cec_judge.specs.Told.{EventLine, event_in, refusal_in}
 use Rattle.cec_judge.specs.Seen.{end_seen}
-use Rattle.cec_judge.specs.Judged.{verdicts_of, is_refusal_expected}
+use Rattle.cec_judge.specs.Judged.{Finding, verdicts_of, is_refusal_expected}
 use Rattle.cec_judge.specs.declared.seen.Span.{Span}
 use Rattle.cec_judge.specs.declared.judge.Judged.{Judged}
 use Rattle.cec_check.specs.declared.report.ReportDraft.{ReportDraft}
@@ -100,6 +100,14 @@ with_lines trace r number (line ∷ lines) [] js = r
 with_lines trace r number (line ∷ lines) (state ∷ states) [] = r
 with_lines trace r number (line ∷ lines) (state ∷ states) (j ∷ js) = with_lines trace (with_line trace state r number line j) (number + 1) lines states js
 
+-- the same by what is found of the lines that expect something
+abbrev pub with_findings : List ℕ → Report → ℕ → List (List ℕ) → List Finding → Report
+with_findings trace r number [] fs = r
+with_findings trace r number (line ∷ lines) [] = r
+with_findings trace r number (line ∷ lines) (f ∷ fs) =
+    if f.line == number then with_findings trace (with_line trace f.state r number line f.judged) (number + 1) lines fs
+    else with_findings trace r (number + 1) lines (f ∷ fs)
+
 -- ---- refused events
 
 abbrev pub with_word : List ℕ → Report → ℕ → Option (List ℕ) → Report
@@ -129,6 +137,10 @@ report_with_plan r = record r { text = r.text ++ plan_line (length r.verdicts) }
 -- the report of a script, by the trace of its run, the state line that each line speaks of, and what is found of each line
 abbrev pub found_report : List ℕ → List ℕ → List (List ℕ) → List Judged → Report
 found_report script trace states found = report_with_plan (with_refusals script (with_lines trace report_start 1 (lines_of script) states found) (lines_of trace))
+
+-- the same by what is found of the lines that expect something
+abbrev pub report_by : List ℕ → List ℕ → List Finding → Report
+report_by script trace fs = report_with_plan (with_refusals script (with_findings trace report_start 1 (lines_of script) fs) (lines_of trace))
 
 -- the report of a script, by the trace of its run and, of each line, the state line that it speaks of
 abbrev pub report : List ℕ → List ℕ → List (List ℕ) → Report

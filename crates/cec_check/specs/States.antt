@@ -1,5 +1,5 @@
 -- The states that a script speaks of (own): a device's line with which the run would end, had it ended at a time.
-use Rattle.std.specs.Prelude.{◌≡◌, ℕ, List, [], ◌∷◌, Result, Ok, Err}
+use Rattle.std.specs.Prelude.{◌≡◌, ℕ, true, false, List, [], ◌∷◌, Option, Some, None, Result, Ok, Err}
 use Rattle.hdmi_core.specs.Words.{words_of}
 use Rattle.cec_expect.specs.Line.{behind_label, cut_script}
 use Rattle.cec_expect.specs.Form.{Form, form_in}
@@ -8,6 +8,7 @@ use Rattle.cec_expect.specs.declared.form.ExpectCause.{ExpectCause}
 use Rattle.cec_run.specs.Emulate.{IsTraceOf}
 use Rattle.cec_run.specs.declared.run.Totals.{Totals}
 use Rattle.cec_judge.specs.Told.{state_line}
+use Rattle.cec_judge.specs.Judged.{is_of_state}
 
 -- the device's state line in the trace of the plain script that ends at the time
 pub record IsStateAt (topology plain : List ℕ) (time : ℕ) (device state : List ℕ) : Type 0 where
@@ -26,6 +27,11 @@ IsStateOf topology plain (Err cause) state = state ≡ []
 
 abbrev pub IsStateFor : List ℕ → List ℕ → List ℕ → List ℕ → Type 0
 IsStateFor topology plain line state = IsStateOf topology plain (form_in (behind_label (words_of line))) state
+
+-- the state line of a line that speaks of one, and none of another line
+abbrev pub IsStateRead : List ℕ → List ℕ → List ℕ → Option (List ℕ) → Type 0
+IsStateRead topology plain line None = is_of_state line ≡ false
+IsStateRead topology plain line (Some state) = (is_of_state line ≡ true) × IsStateFor topology plain line state
 
 -- of each of these lines the state line that it speaks of
 abbrev pub AreStates : List ℕ → List ℕ → List (List ℕ) → List (List ℕ) → Type 0

@@ -3,6 +3,7 @@ ghost use Rattle.std.specs.Prelude.{◌≡◌, ◌↔◌, not, false, length, fi
 ghost use Rattle.hdmi_core.specs.Lines.{lines_of};
 ghost use Rattle.cec_expect.specs.Line.{plain_script};
 ghost use Rattle.cec_expect.specs.Faults.{first_fault};
+ghost use Rattle.cec_judge.specs.Judged.{states_for};
 ghost use Rattle.cec_check.specs.States.{AreStates};
 ghost use Rattle.cec_check.specs.Check.{AreKept, AreVerdictsOf, IsCheckCut, IsCheckTold, IsChecked, IsReportOf, IsVerdictTold, is_write, tally_of};
 ghost use Rattle.cec_check.specs.Report.{report_as};
@@ -78,7 +79,7 @@ fn report_by_trace(
 ) -> Result<ReportDraft, CheckError>
     requires plain { plain.now ≡ plain_script script.now }
     requires accepted { first_fault topology.now script.now ≡ None }
-    requires states { AreStates topology.now (plain_script script.now) (lines_of script.now) (map (λ state. state.items) states.now) }
+    requires states { AreStates topology.now (plain_script script.now) (lines_of script.now) (states_for (lines_of script.now) (map (λ state. state.items) states.now)) }
     ensures ok { IfOk result (λ draft. IsReportOf topology.now script.now (report_as draft)) }
     ensures told { IfErr result (IsVerdictTold topology.now script.now) }
 {
@@ -156,8 +157,8 @@ fn report_of(alloc: Global, topology: &[u8], script: &[u8]) -> Result<ReportDraf
 
 /// Runs a script without its labels and expectations on a topology, and writes the report of whether the run is as they have
 /// it, as the Test Anything Protocol has it: a line for each expectation, in order, and one for each refused event that none
-/// expects. Of the trace the lines of events and of rounds that meet a pattern are held in memory; all of it only where a test failed
-/// whose window no round meets.
+/// expects. Of the trace the lines of events that have a label or are refused, and of rounds that meet a pattern, are held in memory;
+/// all of it only where a test failed whose window no round meets.
 ///
 /// # Errors
 ///

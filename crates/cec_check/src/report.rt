@@ -4,14 +4,16 @@ ghost use Rattle.std.specs.List.{flat_map, list_any};
 ghost use Rattle.std.specs.Option.{option_map};
 ghost use Rattle.hdmi_core.specs.Piece.{piece_text};
 ghost use Rattle.hdmi_core.specs.Lines.{lines_of};
-ghost use Rattle.cec_judge.specs.Judged.{verdicts_of};
+ghost use Rattle.cec_judge.specs.Judged.{finding_as, states_for};
 ghost use Rattle.cec_judge.specs.Told.{event_as};
 ghost use Rattle.cec_check.specs.Kept.{is_unmet, kept};
-ghost use Rattle.cec_check.specs.Report.{report_start, report_with_plan, escaped_text, escaped_byte, found_report, remarks, report, report_as, shown_text, shown_line, span_remarks, verdict_word, with_event, with_line, with_lines, with_refusals, with_test, with_word};
+ghost use Rattle.cec_check.specs.Report.{report_start, report_with_plan, escaped_text, escaped_byte, remarks, report, report_as, report_by, shown_text, shown_line, span_remarks, verdict_word, with_event, with_findings, with_line, with_refusals, with_test, with_word};
 
 use crate::held::Held;
 use cec_expect::{Form, Labels, form_in, unlabelled};
-use cec_judge::{EventLine, Expected, Judged, Span, all_judged, end_seen, event_in, refusal_in};
+use cec_judge::{
+    EventLine, Expected, Finding, Judged, Span, all_judged, end_seen, event_in, refusal_in,
+};
 use hdmi_core::{Piece, first_line, put_all, write_pieces};
 use std::alloc::{AllocError, Global};
 
@@ -209,31 +211,27 @@ fn add_line(
     append_remarks(&mut draft.text, trace, state, judged, line)
 }
 
-// Appends the tests of the lines of a script.
+// Appends the tests of the lines of a script, by what is found of those that expect something.
 fn add_lines(
     draft: &mut ReportDraft,
     script: &[u8],
     trace: &[u8],
-    states: &[Vec<u8>],
-    judged: &[Judged],
+    found: &[Finding<'_>],
 ) -> Result<(), AllocError>
-    ensures { OnOk result (report_as draft.new ≡ with_lines trace.now (report_as draft.old) 1 (lines_of script.now) (map (λ state. state.items) states.now) judged.now) }
+    ensures { OnOk result (report_as draft.new ≡ with_findings trace.now (report_as draft.old) 1 (lines_of script.now) (map finding_as found.now)) }
 {
     let mut rest = script;
-    let mut left = states;
-    let mut found = judged;
+    let mut left = found;
     let mut number = 1u64;
     'lines: while let Some((line, after)) = first_line(rest) {
-        let [state, later @ ..] = left else {
+        let [finding, others @ ..] = left else {
             return Ok(());
         };
-        let [judged, others @ ..] = found else {
-            return Ok(());
-        };
-        add_line(draft, trace, state, number, line, judged)?;
+        if finding.line == number {
+            add_line(draft, trace, finding.state, number, line, &finding.judged)?;
+            left = others;
+        }
         rest = after;
-        left = later;
-        found = others;
         number += 1;
     }
     Ok(())
@@ -317,12 +315,12 @@ fn is_unmet(judged: &Judged) -> bool
     }
 }
 
-fn is_any_unmet(found: &[Judged]) -> bool
-    ensures { result ≡ list_any is_unmet found.now }
+fn is_any_unmet(found: &[Finding<'_>]) -> bool
+    ensures { result ≡ list_any (λ finding. is_unmet finding.judged) (map finding_as found.now) }
 {
     let mut rest = found;
-    'lines: while let [judged, others @ ..] = rest {
-        if is_unmet(judged) {
+    'lines: while let [finding, others @ ..] = rest {
+        if is_unmet(&finding.judged) {
             return true;
         }
         rest = others;
@@ -330,36 +328,36 @@ fn is_any_unmet(found: &[Judged]) -> bool
     false
 }
 
-// The report by what is found of each line.
+// The report by what is found of the lines that expect something.
 fn report_found(
     alloc: Global,
     labels: &Labels<'_>,
     trace: &[u8],
-    states: &[Vec<u8>],
-    found: &[Judged],
+    found: &[Finding<'_>],
 ) -> Result<ReportDraft, AllocError>
-    ensures { IfOk result (λ draft. report_as draft ≡ found_report labels.now.script.now trace.now (map (λ state. state.items) states.now) found.now) }
+    ensures { IfOk result (λ draft. report_as draft ≡ report_by labels.now.script.now trace.now (map finding_as found.now)) }
 {
     let expected = Expected::new(alloc, labels)?;
     let mut draft = report_start(alloc)?;
-    add_lines(&mut draft, labels.script, trace, states, found)?;
+    add_lines(&mut draft, labels.script, trace, found)?;
     add_refusals(&mut draft, &expected, trace)?;
     add_plan(&mut draft)?;
     Ok(draft)
 }
 
-/// The report of a script, by the trace of its run and, of each line, the state line that it speaks of.
+/// The report of a script, by the trace of its run and the state lines of the lines that speak of one, in order.
+#[tactic(auto, using(crate::proofs::Found::report_is))]
 pub fn whole_report(
     alloc: Global,
     script: &[u8],
     trace: &[u8],
     states: &[Vec<u8>],
 ) -> Result<ReportDraft, AllocError>
-    ensures { IfOk result (λ draft. report_as draft ≡ report script.now trace.now (map (λ state. state.items) states.now)) }
+    ensures { IfOk result (λ draft. report_as draft ≡ report script.now trace.now (states_for (lines_of script.now) (map (λ state. state.items) states.now))) }
 {
     let labels = Labels::new(alloc, script)?;
     let found = all_judged(alloc, &labels, trace, states)?;
-    report_found(alloc, &labels, trace, states, &found)
+    report_found(alloc, &labels, trace, &found)
 }
 
 /// The report of a script, by the lines that it needs of its trace. Where a test failed whose window no round meets, these are
@@ -372,11 +370,11 @@ pub(crate) fn report_of_few(
     states: &[Vec<u8>],
 ) -> Result<Option<ReportDraft>, AllocError>
     ensures { IfOk result (λ made. IfSome made (λ draft. (trace : List ℕ) → lines_of few.now ≡ kept labels.now.script.now (lines_of trace)
-        → report_as draft ≡ report labels.now.script.now trace (map (λ state. state.items) states.now))) }
+        → report_as draft ≡ report labels.now.script.now trace (states_for (lines_of labels.now.script.now) (map (λ state. state.items) states.now)))) }
 {
     let found = all_judged(alloc, labels, few, states)?;
     if is_any_unmet(&found) {
         return Ok(None);
     }
-    Ok(Some(report_found(alloc, labels, few, states, &found)?))
+    Ok(Some(report_found(alloc, labels, few, &found)?))
 }

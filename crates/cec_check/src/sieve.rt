@@ -1,24 +1,29 @@
 //! A sink that keeps the lines of a trace that a report needs.
-ghost use Rattle.std.specs.Prelude.{◌≡◌, ◌++◌, ◌∷◌, ◌||◌, [], List, ℕ, ◌↔◌, IsTrue, true, false, Some, IfOk, OnOk};
+ghost use Rattle.std.specs.Prelude.{◌≡◌, codes, ◌++◌, ◌∷◌, ◌||◌, [], List, ℕ, ◌↔◌, IsTrue, true, false, Some, IfOk, OnOk};
 ghost use Rattle.std.specs.List.{list_any};
-ghost use Rattle.std.specs.Option.{option_copied};
+ghost use Rattle.std.specs.Option.{option_copied, option_map};
 ghost use Rattle.std.specs.Str.{bytes_eq};
 ghost use Rattle.hdmi_core.specs.Lines.{lines_of};
+ghost use Rattle.hdmi_core.specs.Words.{words_of};
 ghost use Rattle.cec_expect.specs.Fits.{fits};
-ghost use Rattle.cec_check.specs.Kept.{is_kept, kept, meets, pattern_of};
+ghost use Rattle.cec_expect.specs.Line.{has_verb};
+ghost use Rattle.cec_judge.specs.Told.{event_as};
+ghost use Rattle.cec_check.specs.Kept.{is_event_kept, is_kept, kept, meets, pattern_of};
 ghost use Rattle.cec_check.specs.Sieve.{IsClosed, IsLine};
 
 use boxcar::tag::{Names, Tag};
 use cec_expect::{Form, fits, form_in, unlabelled};
-use cec_judge::{event_in, round_in};
-use hdmi_core::{Sink, first_line};
+use cec_judge::{EventLine, NamedLines, event_in, refusal_in, round_in};
+use hdmi_core::{Sink, first_line, first_word};
 use std::alloc::{AllocError, Global};
 
-/// The patterns of a script's expectations.
+/// The patterns of a script's expectations, and the lines of its labels.
 #[derive(Drop)]
 pub(crate) struct Patterns<'a> {
     pub script: &'a [u8],
+    named: NamedLines<'a>,
     texts: Vec<&'a [u8]>,
+    ghost named_are: { named.script.now ≡ script.now },
     ghost are: { (told : List ℕ) → list_any (λ text. fits text.now told) texts.items ≡ list_any (meets told) (lines_of script.now) },
 }
 
@@ -86,29 +91,52 @@ fn fits_any(texts: &[&[u8]], told: &[u8]) -> bool
     false
 }
 
+// Whether the first word of a line is that of a state.
+fn tells_state(line: &[u8]) -> bool
+    ensures { result ≡ has_verb (codes "state") (words_of line.now) }
+{
+    let (verb, _rest) = first_word(line);
+    verb == b"state".as_slice()
+}
+
 impl<'a> Patterns<'a> {
     /// Reads the patterns of a script.
     #[tactic(auto, using(crate::proofs::Keeping::one_more, crate::proofs::Keeping::no_more))]
     pub(crate) fn new(alloc: Global, script: &'a [u8]) -> Result<Self, AllocError>
         ensures { IfOk result (λ patterns. patterns.script.now ≡ script.now) }
     {
+        let named = NamedLines::new(alloc, script)?;
         let mut texts = Vec::new(alloc);
         let mut rest = script;
         'lines: while let Some((line, after)) = first_line(rest) {
             add_pattern(&mut texts, line)?;
             rest = after;
         }
-        Ok(Patterns { script, texts })
+        Ok(Patterns {
+            script,
+            named,
+            texts,
+        })
+    }
+
+    // Whether an event has a label or is refused.
+    fn need_event(&self, event: Option<EventLine<'_>>) -> bool
+        ensures { result ≡ is_event_kept self.now.script.now (option_map event_as event.entry) }
+    {
+        match event {
+            None => false,
+            Some(event) => self.named.has(event.line) || refusal_in(event.outcome).is_some(),
+        }
     }
 
     fn need(&self, line: &[u8]) -> bool
-        ensures { result ≡ is_kept (lines_of self.now.script.now) line.now }
+        ensures { result ≡ is_kept self.now.script.now line.now }
     {
-        if event_in(line).is_some() {
+        if self.need_event(event_in(line)) {
             return true;
         }
         match round_in(line) {
-            None => false,
+            None => tells_state(line),
             Some(round) => fits_any(&self.texts, round.told),
         }
     }

@@ -1,10 +1,10 @@
 //! The state lines that the lines of a script speak of.
-ghost use Rattle.std.specs.Prelude.{◌≤◌, map, IfOk};
-ghost use Rattle.cec_wave.specs.Bounds.{latest_event};
+ghost use Rattle.std.specs.Prelude.{◌≤◌, map, option_map, IfOk};
 ghost use Rattle.hdmi_core.specs.Lines.{lines_of};
-ghost use Rattle.cec_check.specs.States.{AreStates, IsStateAt, IsStateFor, IsTraced};
+ghost use Rattle.cec_judge.specs.Judged.{states_for};
+ghost use Rattle.cec_check.specs.States.{AreStates, IsStateAt, IsStateRead, IsTraced};
 
-use crate::held::Held;
+use crate::sieve::{Patterns, Sieve};
 use cec_expect::{Form, cut_script, form_in, unlabelled};
 use cec_judge::state_line;
 use cec_run::emulate::{EmulateError, emulate};
@@ -12,6 +12,7 @@ use hdmi_core::first_line;
 use std::alloc::{AllocError, Global};
 
 // The state line of a device at the end of a run of the plain script up to a time.
+#[tactic(auto, using(crate::proofs::Standing::state_of_run))]
 fn state_at(
     alloc: Global,
     topology: &[u8],
@@ -24,8 +25,8 @@ fn state_at(
     ensures { IfOk result (λ state. IsStateAt topology.now plain.now time device.now state.items) }
 {
     let cut = cut_script(alloc, time, plain)?;
-    let mut trace = Held::new(alloc);
-    match emulate(alloc, topology, &cut, &mut trace) {
+    let mut sieve = Sieve::new(alloc, Patterns::new(alloc, &[])?);
+    match emulate(alloc, topology, &cut, &mut sieve) {
         Ok(_) => {}
         Err(error) => match error {
             EmulateError::Topology { .. } => unreachable!(),
@@ -35,37 +36,41 @@ fn state_at(
             EmulateError::Memory => return Err(AllocError),
         },
     }
+    let few = sieve.few(&[])?;
     let mut state = Vec::new(alloc);
-    state.extend_from_slice(state_line(&trace.bytes, device))?;
+    state.extend_from_slice(state_line(&few, device))?;
     Ok(state)
 }
 
-// The state line that a line of the script speaks of; of another line none.
+// The state line that a line of the script speaks of, where it speaks of one.
 fn state_for(
     alloc: Global,
     topology: &[u8],
     plain: &[u8],
     line: &[u8],
-) -> Result<Vec<u8>, AllocError>
+) -> Result<Option<Vec<u8>>, AllocError>
     requires traced { IsTraced topology.now plain.now }
-    ensures { IfOk result (λ state. IsStateFor topology.now plain.now line.now state.items) }
+    ensures { IfOk result (λ state. IsStateRead topology.now plain.now line.now (option_map (λ text. text.items) state)) }
 {
     match form_in(unlabelled(line).rest) {
-        Err(_) => Ok(Vec::new(alloc)),
+        Err(_) => Ok(None),
         Ok(form) => match form {
-            Form::State { time, device, .. } => state_at(alloc, topology, plain, time, device),
-            Form::Other => Ok(Vec::new(alloc)),
-            Form::Rounds { .. } => Ok(Vec::new(alloc)),
-            Form::Refused { .. } => Ok(Vec::new(alloc)),
+            Form::State { time, device, .. } => {
+                Ok(Some(state_at(alloc, topology, plain, time, device)?))
+            }
+            Form::Other => Ok(None),
+            Form::Rounds { .. } => Ok(None),
+            Form::Refused { .. } => Ok(None),
         },
     }
 }
 
-/// Of each line of a script the state line that it speaks of, by a run for each.
+/// The state lines of the lines of a script that speak of one, in order, by a run for each.
 ///
 /// # Errors
 ///
 /// Want of memory.
+#[tactic(auto, using(crate::proofs::Stated::none_more, crate::proofs::Stated::one_more, crate::proofs::Stated::no_more))]
 pub(crate) fn all_states(
     alloc: Global,
     topology: &[u8],
@@ -73,13 +78,15 @@ pub(crate) fn all_states(
     script: &[u8],
 ) -> Result<Vec<Vec<u8>>, AllocError>
     requires traced { IsTraced topology.now plain.now }
-    ensures { IfOk result (λ states. AreStates topology.now plain.now (lines_of script.now) (map (λ state. state.items) states.items)) }
+    ensures { IfOk result (λ states. AreStates topology.now plain.now (lines_of script.now) (states_for (lines_of script.now) (map (λ state. state.items) states.items))) }
 {
     let mut states = Vec::new(alloc);
     let mut rest = script;
     'lines: while let Some((line, after)) = first_line(rest) {
-        let state = state_for(alloc, topology, plain, line)?;
-        states.push(state)?;
+        match state_for(alloc, topology, plain, line)? {
+            None => {}
+            Some(state) => states.push(state)?,
+        }
         rest = after;
     }
     Ok(states)

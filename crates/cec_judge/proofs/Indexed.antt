@@ -1,13 +1,14 @@
 -- What is read of a trace at once is what is read of it line by line.
-use Rattle.std.proofs.Common.{◌≡◌, ◌≢◌, ℕ, ◌<◌, ◌≤◌, ◌==◌, Bool, true, false, cond, if◌then◌else◌, get_or, List, [], ◌∷◌, length, option_map, is_some, Option, Some, None, refl, sym, ap, ◌∙◌, subst, arith}
-use Rattle.std.specs.Prelude.{replicate, set}
+use Rattle.std.proofs.Common.{◌≡◌, ℕ, ◌==◌, Bool, true, false, cond, if◌then◌else◌, List, [], ◌∷◌, option_map, is_some, Option, Some, None, nat_eq, refl, sym, ap, ◌∙◌, subst, arith}
+use Rattle.std.specs.HashMap.{HashMap, Updates, get}
 use Rattle.std.specs.List.{cons_option, filter_map, find}
+use Rattle.std.proofs.lemmas.Bool.{false≢true}
 use Rattle.std.proofs.lemmas.Bool.Decides.{nat_tests}
-use Rattle.std.proofs.lemmas.List.{get_or-replicate, get_or-set_other, get_or-set_same}
 use Rattle.hdmi_core.specs.Lines.{lines_of}
 use Rattle.hdmi_core.specs.Words.{words_of}
 use Rattle.cec_judge.specs.Told.{EventLine, RoundLine, event_as, round_in, rounds_of}
 use Rattle.cec_judge.specs.Seen.{end_by, ends_seen}
+use Rattle.cec_judge.specs.Named.{is_named}
 use Rattle.cec_judge.specs.Index.{ends_among, entry, event_of, event_on, or_event}
 use Rattle.cec_judge.specs.declared.seen.Span.{Span}
 use Rattle.cec_judge.specs.declared.told.EventLine.{EventLine as EventRead}
@@ -30,10 +31,6 @@ same_ends trace pattern span rounds is =
 
 -- ---- events
 
--- no event yet
-pub none_noted : (count number : ℕ) → number < count → entry (replicate count None) number ≡ None
-none_noted count number within = ap (option_map event_as) (get_or-replicate count number None None within)
-
 -- one line more, with an event or without
 pub one_more : (number : ℕ) (before o : Option EventLine) (events : List EventLine)
     → or_event (or_event before (event_of number o)) (find (λ x. x.line == number) events) ≡ or_event before (find (λ x. x.line == number) (cons_option o events))
@@ -53,47 +50,41 @@ no_more number (Some first) events none = refl
 same : (a b : ℕ) → (a == b) ≡ true → a ≡ b
 same a b h = grind (arith, nat_tests)
 
-other : (a b : ℕ) → (a == b) ≡ false → b ≢ a
-other a b h = grind (arith, nat_tests)
-
 pub unless : (o : Option EventLine) → o ≡ or_event o None
 unless None = refl
 unless (Some x) = refl
 
 -- an event that was put into the table
-pub put_noted : (events : List (Option EventRead)) (e : EventRead) (number : ℕ) → e.line < length events → is_some (get_or events e.line None) ≡ false
-    → entry (set events e.line (Some e)) number ≡ or_event (entry events number) (event_on number (event_as e))
-put_noted events e number within empty = by (e.line == number) refl
+pub put_noted : {S : Type 0} (e : EventRead) (m n : HashMap ℕ EventRead S) → Updates nat_eq m n e.line (Some e) → is_some (get nat_eq m e.line) ≡ false
+    → (number : ℕ) → entry n number ≡ or_event (entry m number) (event_on number (event_as e))
+put_noted e m n updates empty number = ap (option_map event_as) (updates.0 number) ∙ by (e.line == number) refl
   where
     first : (o : Option EventRead) → is_some o ≡ false → Some (event_as e) ≡ or_event (option_map event_as o) (Some (event_as e))
     first None h = refl
     first (Some x) h = cc
 
-    by : (b : Bool) → (e.line == number) ≡ b → entry (set events e.line (Some e)) number ≡ or_event (entry events number) (if b then Some (event_as e) else None)
+    by : (b : Bool) → (e.line == number) ≡ b → option_map event_as (cond b (Some e) (get nat_eq m number)) ≡ or_event (entry m number) (if b then Some (event_as e) else None)
     by true k =
-        subst (λ n. entry (set events e.line (Some e)) n ≡ or_event (entry events n) (Some (event_as e))) (same e.line number k)
-        (ap (option_map event_as) (get_or-set_same events e.line (Some e) None within)
-        ∙ first (get_or events e.line None) empty)
-    by false k =
-        ap (option_map event_as) (get_or-set_other events e.line number (Some e) None (other e.line number k)) ∙ unless (entry events number)
+        subst (λ n. Some (event_as e) ≡ or_event (entry m n) (Some (event_as e))) (same e.line number k) (first (get nat_eq m e.line) empty)
+    by false k = unless (entry m number)
 
 there : (o : Option EventRead) (e : EventLine) → is_some o ≡ true → option_map event_as o ≡ or_event (option_map event_as o) (Some e)
 there None e h = cc
 there (Some x) e h = refl
 
--- an event that was not: one stands before it, or its line has no place
-pub taken_noted : (events : List (Option EventRead)) (e : EventRead) (number : ℕ) → is_some (get_or events e.line None) ≡ true
-    → entry events number ≡ or_event (entry events number) (event_on number (event_as e))
-taken_noted events e number taken = by (e.line == number) refl
+-- an event that was not, since one of its line stands there
+pub taken_noted : {S : Type 0} (e : EventRead) (m : HashMap ℕ EventRead S) → is_some (get nat_eq m e.line) ≡ true
+    → (number : ℕ) → entry m number ≡ or_event (entry m number) (event_on number (event_as e))
+taken_noted e m taken number = by (e.line == number) refl
   where
-    by : (b : Bool) → (e.line == number) ≡ b → entry events number ≡ or_event (entry events number) (if b then Some (event_as e) else None)
-    by true k = subst (λ n. entry events n ≡ or_event (entry events n) (Some (event_as e))) (same e.line number k) (there (get_or events e.line None) (event_as e) taken)
-    by false k = unless (entry events number)
+    by : (b : Bool) → (e.line == number) ≡ b → entry m number ≡ or_event (entry m number) (if b then Some (event_as e) else None)
+    by true k = subst (λ n. entry m n ≡ or_event (entry m n) (Some (event_as e))) (same e.line number k) (there (get nat_eq m e.line) (event_as e) taken)
+    by false k = unless (entry m number)
 
-pub past_noted : (events : List (Option EventRead)) (e : EventRead) (number : ℕ) → number < length events → length events ≤ e.line
-    → entry events number ≡ or_event (entry events number) (event_on number (event_as e))
-past_noted events e number within past = by (e.line == number) refl
+-- an event of a line without a label
+pub unnamed : (script : List ℕ) (e : EventLine) (number : ℕ) (o : Option EventLine) → is_named script e.line ≡ false → is_named script number ≡ true → o ≡ or_event o (event_on number e)
+unnamed script e number o none some = by (e.line == number) refl
   where
-    by : (b : Bool) → (e.line == number) ≡ b → entry events number ≡ or_event (entry events number) (if b then Some (event_as e) else None)
-    by true k = let is = same e.line number k in absurd (omega (arith, within, past, is))
-    by false k = unless (entry events number)
+    by : (b : Bool) → (e.line == number) ≡ b → o ≡ or_event o (if b then Some e else None)
+    by true k = absurd (false≢true (sym none ∙ ap (is_named script) (same e.line number k) ∙ some))
+    by false k = unless o

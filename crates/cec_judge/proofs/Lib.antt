@@ -1,5 +1,7 @@
 pub mod Telling
 pub mod Often
+pub mod Naming
 pub mod Indexed
 pub mod Expecting
 pub mod Ordered
+pub mod Judging

@@ -1,5 +1,6 @@
 -- The rounds and the events of a trace, read once (own).
-use Rattle.std.specs.Prelude.{ℕ, ◌==◌, ◌&&◌, nat_le, Bool, true, if◌then◌else◌, get_or, List, [], ◌∷◌, Option, Some, None, option_map}
+use Rattle.std.specs.Prelude.{ℕ, ◌==◌, ◌&&◌, nat_le, nat_eq, Bool, true, if◌then◌else◌, List, [], ◌∷◌, Option, Some, None, option_map}
+use Rattle.std.specs.HashMap.{HashMap, get}
 use Rattle.std.specs.List.{filter_map}
 use Rattle.cec_judge.specs.Told.{EventLine, RoundLine, event_as}
 use Rattle.cec_judge.specs.Seen.{end_by}
@@ -35,5 +36,5 @@ event_of number None = None
 event_of number (Some e) = event_on number e
 
 -- the event that a table has of a line
-abbrev pub entry : List (Option EventRead) → ℕ → Option EventLine
-entry events number = option_map event_as (get_or events number None)
+abbrev pub entry : {S : Type 0} → HashMap ℕ EventRead S → ℕ → Option EventLine
+entry events number = option_map event_as (get nat_eq events number)

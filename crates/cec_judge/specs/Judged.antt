@@ -1,6 +1,6 @@
 -- What is found of each line of a script, by the trace and, of each line, the state line that it speaks of (own). Lines count
 -- from 1.
-use Rattle.std.specs.Prelude.{ℕ, ◌+◌, ◌-◌, ◌^◌, ◌==◌, nat_lt, min, Bool, false, if◌then◌else◌, length, slice_get, List, [], ◌∷◌, ◌++◌, Option, Some, None, Result, Ok, Err}
+use Rattle.std.specs.Prelude.{ℕ, ◌+◌, ◌-◌, ◌^◌, ◌==◌, nat_lt, min, Bool, true, false, if◌then◌else◌, length, List, [], ◌∷◌, Option, Some, None, Result, Ok, Err}
 use Rattle.std.specs.Str.{bytes_eq}
 use Rattle.std.specs.List.{list_all, list_any}
 use Rattle.hdmi_core.specs.Lines.{lines_of}
@@ -14,20 +14,18 @@ use Rattle.cec_expect.specs.declared.form.ExpectCause.{ExpectCause}
 use Rattle.cec_expect.specs.declared.form.Quantity.{Quantity}
 use Rattle.cec_expect.specs.declared.form.Quantity.TheVariants.{AtLeastOnce, Never, Once}
 use Rattle.cec_judge.specs.Told.{EventLine, event_at, refusal_in, state_words}
+use Rattle.cec_judge.specs.Named.{is_labelled}
 use Rattle.cec_judge.specs.Seen.{ends_seen, first_of}
 use Rattle.cec_judge.specs.declared.seen.Span.{Span}
 use Rattle.cec_judge.specs.declared.judge.Judged.{Judged}
+use Rattle.cec_judge.specs.declared.judge.Finding.{Finding as FindingRead}
 
 -- ---- windows
 
-abbrev pub instant_by : Option Judged → Option ℕ
-instant_by None = None
-instant_by (Some j) = j.at
-
--- the instant of a line, by what is found of the lines above
-abbrev pub instant_at : List Judged → Option ℕ → Option ℕ
-instant_at above None = None
-instant_at above (Some line) = instant_by (slice_get above (line - 1))
+-- the instant of a line, by those of the lines above
+abbrev pub instant_at : (ℕ → Option ℕ) → Option ℕ → Option ℕ
+instant_at at None = None
+instant_at at (Some line) = at line
 
 -- a window that begins at an instant; its end is at most 2 ^ 64 - 1
 abbrev pub span_from : ℕ → Option ℕ → Option Span
@@ -35,9 +33,9 @@ span_from duration None = None
 span_from duration (Some at) = Some (record { from = at; to = min (at + duration) (2 ^ 64 - 1) })
 
 -- a label without an instant leaves no span
-abbrev pub span_of : List ℕ → List Judged → Window → Option Span
-span_of script above (Within duration name) = span_from duration (instant_at above (line_of_label script name))
-span_of script above (From from to) = Some (record { from = from; to = to })
+abbrev pub span_of : List ℕ → (ℕ → Option ℕ) → Window → Option Span
+span_of script at (Within duration name) = span_from duration (instant_at at (line_of_label script name))
+span_of script at (From from to) = Some (record { from = from; to = to })
 
 -- ---- expectations of rounds
 
@@ -104,26 +102,89 @@ event_instant (Some e) = Some e.at
 abbrev pub other_judged : List ℕ → ℕ → Judged
 other_judged trace number = record { holds = None; at = event_instant (event_at trace number); span = None; count = 0 }
 
-abbrev pub form_judged : List ℕ → List ℕ → List ℕ → List Judged → Result Form ExpectCause → Judged
-form_judged script trace state above (Err cause) = failure
-form_judged script trace state above (Ok Other) = other_judged trace (length above + 1)
-form_judged script trace state above (Ok (Rounds quantity window pattern)) = rounds_judged trace quantity pattern (span_of script above window)
-form_judged script trace state above (Ok (State time device words)) = state_judged state words
-form_judged script trace state above (Ok (Refused name word)) = refused_judged script trace name word
+-- nothing is found of a line that expects nothing, where no label names it
+abbrev pub nothing : Judged
+nothing = record { holds = None; at = None; span = None; count = 0 }
 
-abbrev pub line_judged : List ℕ → List ℕ → List ℕ → List Judged → List ℕ → Judged
-line_judged script trace state above line = form_judged script trace state above (form_in (behind_label (words_of line)))
+abbrev pub form_judged : List ℕ → List ℕ → List ℕ → (ℕ → Option ℕ) → ℕ → Bool → Result Form ExpectCause → Judged
+form_judged script trace state at number named (Err cause) = failure
+form_judged script trace state at number named (Ok Other) = if named then other_judged trace number else nothing
+form_judged script trace state at number named (Ok (Rounds quantity window pattern)) = rounds_judged trace quantity pattern (span_of script at window)
+form_judged script trace state at number named (Ok (State time device words)) = state_judged state words
+form_judged script trace state at number named (Ok (Refused name word)) = refused_judged script trace name word
 
--- these lines, below others, and the state line of each
-abbrev pub lines_judged : List ℕ → List ℕ → List Judged → List (List ℕ) → List (List ℕ) → List Judged
-lines_judged script trace above [] states = above
-lines_judged script trace above (line ∷ lines) [] = above
-lines_judged script trace above (line ∷ lines) (state ∷ states) =
-    lines_judged script trace (above ++ line_judged script trace state above line ∷ []) lines states
+-- a line of this number, by the instants of the lines above and the state line that it speaks of
+abbrev pub line_judged : List ℕ → List ℕ → List ℕ → (ℕ → Option ℕ) → ℕ → List ℕ → Judged
+line_judged script trace state at number line = form_judged script trace state at number (is_labelled line) (form_in (behind_label (words_of line)))
+
+-- with the instant of one line more, where it has one
+abbrev pub noted : (ℕ → Option ℕ) → ℕ → Option ℕ → ℕ → Option ℕ
+noted at number None line = at line
+noted at number (Some instant) line = if number == line then Some instant else at line
+
+-- these lines, of which the first has this number, and the state line of each
+abbrev pub lines_judged : List ℕ → List ℕ → (ℕ → Option ℕ) → ℕ → List (List ℕ) → List (List ℕ) → List Judged
+lines_judged script trace at number [] states = []
+lines_judged script trace at number (line ∷ lines) [] = []
+lines_judged script trace at number (line ∷ lines) (state ∷ states) =
+    line_judged script trace state at number line
+    ∷ lines_judged script trace (noted at number (line_judged script trace state at number line).at) (number + 1) lines states
 
 -- all lines
 abbrev pub verdicts_of : List ℕ → List ℕ → List (List ℕ) → List Judged
-verdicts_of script trace states = lines_judged script trace [] (lines_of script) states
+verdicts_of script trace states = lines_judged script trace (λ line. None) 1 (lines_of script) states
+
+-- ---- expectations alone
+
+-- what is found of a line that expects something: its number, and the state line that it speaks of
+pub record Finding : Type 0 where
+  pub line : ℕ
+  pub judged : Judged
+  pub state : List ℕ
+
+abbrev pub finding_as : FindingRead → Finding
+finding_as f = record { line = f.line; judged = f.judged; state = f.state.now }
+
+abbrev pub or_more : ℕ → List ℕ → Judged → Option Bool → List Finding → List Finding
+or_more number state j None more = more
+or_more number state j (Some holds) more = record { line = number; judged = j; state = state } ∷ more
+
+-- those of lines that expect something, of lines with these state lines, of which the first has this number
+abbrev pub findings_from : ℕ → List (List ℕ) → List Judged → List Finding
+findings_from number [] js = []
+findings_from number (state ∷ states) [] = []
+findings_from number (state ∷ states) (j ∷ js) = or_more number state j j.holds (findings_from (number + 1) states js)
+
+abbrev pub findings_of : List ℕ → List ℕ → List (List ℕ) → List Finding
+findings_of script trace states = findings_from 1 states (verdicts_of script trace states)
+
+-- ---- state lines
+
+abbrev pub is_state_form : Result Form ExpectCause → Bool
+is_state_form (Err cause) = false
+is_state_form (Ok Other) = false
+is_state_form (Ok (Rounds quantity window pattern)) = false
+is_state_form (Ok (State time device words)) = true
+is_state_form (Ok (Refused name word)) = false
+
+-- a line speaks of a state
+abbrev pub is_of_state : List ℕ → Bool
+is_of_state line = is_state_form (form_in (behind_label (words_of line)))
+
+abbrev pub first_state : Bool → List (List ℕ) → List ℕ
+first_state false states = []
+first_state true [] = []
+first_state true (state ∷ states) = state
+
+abbrev pub later_states : Bool → List (List ℕ) → List (List ℕ)
+later_states false states = states
+later_states true [] = []
+later_states true (state ∷ states) = states
+
+-- the state line of each of these lines, by those of the lines that speak of a state, in order; of another line none
+abbrev pub states_for : List (List ℕ) → List (List ℕ) → List (List ℕ)
+states_for [] states = []
+states_for (line ∷ lines) states = first_state (is_of_state line) states ∷ states_for lines (later_states (is_of_state line) states)
 
 -- ---- refusals that no line expects
 

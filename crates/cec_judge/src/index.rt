@@ -1,37 +1,31 @@
 //! The rounds and the events of a trace, read once.
-ghost use Rattle.std.specs.Prelude.{◌≡◌, ℕ, ◌<◌, true, length, map, IfOk, None};
+ghost use Rattle.std.specs.Prelude.{◌≡◌, ℕ, true, length, map, IfOk, OnOk, None};
 ghost use Rattle.std.specs.Option.{option_map};
 ghost use Rattle.hdmi_core.specs.Words.{words_of};
 ghost use Rattle.cec_judge.specs.Told.{event_as, event_at, event_in, round_as, rounds_of};
 ghost use Rattle.cec_judge.specs.Seen.{ends_seen, first_of};
+ghost use Rattle.cec_judge.specs.Named.{is_named};
 ghost use Rattle.cec_judge.specs.Index.{are_in_order, entry, event_of, event_on, or_event};
 
+use crate::named::NamedLines;
 use crate::seen::{Seen, Span, are_in_order, rounds_seen};
 use crate::told::{EventLine, RoundLine, event_at, event_in, round_in};
 use hdmi_core::first_line;
-use std::alloc::{AllocError, AllocFailed, Global};
+use std::alloc::{AllocError, Global};
+use std::collections::HashMap;
 
-/// A trace, with its rounds in order, and the events of the first lines of its script, each at the place of its line.
+/// A trace, with its rounds in order, and the event of each line of its script that has a label.
 #[derive(Drop)]
 pub(crate) struct Index<'a> {
     pub trace: &'a [u8],
     pub rounds: Vec<RoundLine<'a>>,
     /// Whether the rounds began and ended one after another.
     pub in_order: bool,
-    pub events: Vec<Option<EventLine<'a>>>,
+    pub named: NamedLines<'a>,
+    events: HashMap<u64, EventLine<'a>>,
     ghost rounds_are: { map round_as rounds.items ≡ rounds_of trace.now },
     ghost order_is: { in_order ≡ true → are_in_order rounds.items ≡ true },
-    ghost events_are: { (number : ℕ) → number < length events.items → entry events.items number ≡ event_at trace.now number },
-}
-
-fn line_count(text: &[u8]) -> usize {
-    let mut rest = text;
-    let mut count = 0;
-    'lines: while let Some((_line, after)) = first_line(rest) {
-        count += 1;
-        rest = after;
-    }
-    count
+    ghost events_are: { (number : ℕ) → is_named named.script.now number ≡ true → entry events number ≡ event_at trace.now number },
 }
 
 // The rounds of a trace, in order.
@@ -49,69 +43,79 @@ fn all_rounds<'a>(alloc: Global, trace: &'a [u8]) -> Result<Vec<RoundLine<'a>>, 
     Ok(rounds)
 }
 
-// Puts an event at the place of its line, where there is one, and no event stands there.
-#[tactic(auto, using(crate::proofs::Indexed::past_noted, crate::proofs::Indexed::taken_noted, crate::proofs::Indexed::put_noted))]
-fn note<'a>(events: &mut Vec<Option<EventLine<'a>>>, event: EventLine<'a>)
-    ensures as_long { length events.new.items ≡ length events.old.items }
-    ensures noted { (number : ℕ) → number < length events.old.items → entry events.new.items number ≡ or_event (entry events.old.items number) (event_on number (event_as event.entry)) }
+// Notes an event, where none of its line stands there.
+#[tactic(auto, using(crate::proofs::Indexed::taken_noted, crate::proofs::Indexed::put_noted))]
+fn note<'a>(
+    events: &mut HashMap<u64, EventLine<'a>>,
+    event: EventLine<'a>,
+) -> Result<(), AllocError>
+    ensures { OnOk result ((number : ℕ) → entry events.new number ≡ or_event (entry events.old number) (event_on number (event_as event.entry))) }
 {
-    let place = event.line as usize;
-    if place >= events.len() {
-        return;
+    let line = event.line;
+    if events.contains_key(&line) {
+        return Ok(());
     }
-    if events[place].is_some() {
-        return;
-    }
-    events[place] = Some(event);
-}
-
-// Notes the event of a line of the trace, where it has one.
-#[tactic(auto, using(crate::proofs::Indexed::unless))]
-fn note_line<'a>(events: &mut Vec<Option<EventLine<'a>>>, line: &'a [u8])
-    ensures as_long { length events.new.items ≡ length events.old.items }
-    ensures noted { (number : ℕ) → number < length events.old.items → entry events.new.items number ≡ or_event (entry events.old.items number) (event_of number (event_in (words_of line.now))) }
-{
-    match event_in(line) {
-        None => {}
-        Some(event) => note(events, event),
+    match events.insert(line, event) {
+        Ok(_) => Ok(()),
+        Err(_) => Err(AllocError),
     }
 }
 
-// The event of each of so many lines of the script, as the trace has it.
-#[tactic(auto, using(crate::proofs::Indexed::none_noted, crate::proofs::Indexed::one_more, crate::proofs::Indexed::no_more))]
-fn first_events<'a>(
+// Notes the event of a line of the trace, where it has one of a line that has a label.
+#[tactic(auto, using(crate::proofs::Indexed::unless, crate::proofs::Indexed::unnamed))]
+fn note_line<'a>(
+    events: &mut HashMap<u64, EventLine<'a>>,
+    named: &NamedLines<'_>,
+    line: &'a [u8],
+) -> Result<(), AllocError>
+    ensures { OnOk result ((number : ℕ) → is_named named.now.script.now number ≡ true
+        → entry events.new number ≡ or_event (entry events.old number) (event_of number (event_in (words_of line.now)))) }
+{
+    let Some(event) = event_in(line) else {
+        return Ok(());
+    };
+    if !named.has(event.line) {
+        return Ok(());
+    }
+    note(events, event)
+}
+
+// The event of each line that has a label, as the trace has it.
+#[tactic(auto, using(crate::proofs::Indexed::one_more, crate::proofs::Indexed::no_more))]
+fn named_events<'a>(
     alloc: Global,
+    named: &NamedLines<'_>,
     trace: &'a [u8],
-    count: usize,
-) -> Result<Vec<Option<EventLine<'a>>>, AllocError>
-    ensures { IfOk result (λ events. (number : ℕ) → number < length events.items → entry events.items number ≡ event_at trace.now number) }
+) -> Result<HashMap<u64, EventLine<'a>>, AllocError>
+    ensures { IfOk result (λ events. (number : ℕ) → is_named named.now.script.now number ≡ true → entry events number ≡ event_at trace.now number) }
 {
-    let mut events = Vec::new(alloc);
-    events.resize(count, None)?;
+    let mut events = HashMap::new(alloc);
     let mut rest = trace;
     'lines: while let Some((line, after)) = first_line(rest) {
-        note_line(&mut events, line);
+        note_line(&mut events, named, line)?;
         rest = after;
     }
     Ok(events)
 }
 
 impl<'a> Index<'a> {
-    /// Reads a trace, and keeps the events of the lines of a script at hand.
+    /// Reads a trace, and keeps the events of the lines of a script that have a label at hand.
     ///
     /// # Errors
     ///
     /// Want of memory.
-    pub fn new(alloc: Global, script: &[u8], trace: &'a [u8]) -> Result<Self, AllocError>
+    pub fn new(alloc: Global, script: &'a [u8], trace: &'a [u8]) -> Result<Self, AllocError>
         ensures { IfOk result (λ index. index.trace.now ≡ trace.now) }
     {
+        let named = NamedLines::new(alloc, script)?;
         let rounds = all_rounds(alloc, trace)?;
-        let events = first_events(alloc, trace, line_count(script).saturating_add(1))?;
+        let events = named_events(alloc, &named, trace)?;
         let in_order = are_in_order(&rounds);
         Ok(Index {
             trace,
             rounds,
             in_order,
+            named,
             events,
         })
     }
@@ -128,9 +132,9 @@ impl<'a> Index<'a> {
     pub fn event_at(&self, number: u64) -> Option<EventLine<'a>>
         ensures { option_map event_as result ≡ event_at self.now.trace.now number }
     {
-        match self.events.get(number as usize) {
-            Some(event) => *event,
-            None => event_at(self.trace, number),
+        if !self.named.has(number) {
+            return event_at(self.trace, number);
         }
+        self.events.get(&number).copied()
     }
 }

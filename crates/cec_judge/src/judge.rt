@@ -1,16 +1,20 @@
 //! What is found of each line of a script, by the trace.
-ghost use Rattle.std.specs.Prelude.{◌≡◌, ◌<◌, ◌^◌, length, map, IfOk};
+ghost use Rattle.std.specs.Prelude.{◌≡◌, ◌++◌, [], ℕ, map, nat_eq, IfOk, OnOk};
+ghost use Rattle.std.specs.HashMap.{get};
 ghost use Rattle.std.specs.Option.{option_copied};
+ghost use Rattle.hdmi_core.specs.Lines.{lines_of};
 ghost use Rattle.hdmi_core.specs.Words.{words_behind, words_of};
 ghost use Rattle.cec_expect.specs.Form.{window_of};
-ghost use Rattle.cec_judge.specs.Judged.{failure, has_word, has_words, holds_by, instant_at, is_word, verdicts_of, line_judged, other_judged, refusal_at, refused_judged, rounds_judged, span_from, span_of, state_judged};
+ghost use Rattle.cec_judge.specs.Judged.{failure, finding_as, findings_of, first_state, has_word, has_words, holds_by, instant_at, is_of_state, is_word, later_states, line_judged, noted, nothing, or_more, other_judged, refusal_at, refused_judged, rounds_judged, span_from, span_of, state_judged, states_for};
 
 use crate::index::Index;
+use crate::named::is_labelled;
 use crate::seen::Span;
 use crate::told::{refusal_in, state_words};
 use cec_expect::{Form, Labels, Quantity, Window, form_in, unlabelled};
 use hdmi_core::{first_line, first_word};
-use std::alloc::{AllocError, AllocFailed, Global};
+use std::alloc::{AllocError, Global};
+use std::collections::HashMap;
 
 /// What is found of a line.
 #[derive(Clone, Copy, Debug, PartialEq, Eq)]
@@ -26,6 +30,15 @@ pub struct Judged {
     pub count: u64,
 }
 
+/// What is found of a line that expects something.
+#[derive(Clone, Copy, Debug)]
+pub struct Finding<'a> {
+    pub line: u64,
+    pub judged: Judged,
+    /// The state line that it speaks of; empty where it speaks of none.
+    pub state: &'a [u8],
+}
+
 // What fails.
 fn failure() -> Judged
     ensures { result ≡ failure }
@@ -38,16 +51,24 @@ fn failure() -> Judged
     }
 }
 
+// What is found of a line that expects nothing and has no label.
+fn nothing() -> Judged
+    ensures { result ≡ nothing }
+{
+    Judged {
+        holds: None,
+        at: None,
+        span: None,
+        count: 0,
+    }
+}
+
 // The instant of a line.
-fn instant_at(above: &[Judged], line: Option<u64>) -> Option<u64>
-    ensures { result ≡ instant_at above.now line }
+fn instant_at(instants: &HashMap<u64, u64>, line: Option<u64>) -> Option<u64>
+    ensures { result ≡ instant_at (λ number. get nat_eq instants.now number) line }
 {
     let line = line?;
-    let place = line.saturating_sub(1) as usize;
-    match above.get(place) {
-        None => None,
-        Some(judged) => judged.at,
-    }
+    instants.get(&line).copied()
 }
 
 fn span_from(duration: u64, at: Option<u64>) -> Option<Span>
@@ -60,12 +81,12 @@ fn span_from(duration: u64, at: Option<u64>) -> Option<Span>
     })
 }
 
-fn span_of(labels: &Labels<'_>, above: &[Judged], window: Window) -> Option<Span>
-    ensures { result ≡ span_of labels.now.script.now above.now (window_of window.entry) }
+fn span_of(labels: &Labels<'_>, instants: &HashMap<u64, u64>, window: Window) -> Option<Span>
+    ensures { result ≡ span_of labels.now.script.now (λ number. get nat_eq instants.now number) (window_of window.entry) }
 {
     match window {
         Window::Within { duration, label } => {
-            span_from(duration, instant_at(above, labels.line_of(label)))
+            span_from(duration, instant_at(instants, labels.line_of(label)))
         }
         Window::From { from, to } => Some(Span { from, to }),
     }
@@ -190,53 +211,155 @@ fn line_judged(
     labels: &Labels<'_>,
     index: &Index<'_>,
     state: &[u8],
-    above: &[Judged],
+    instants: &HashMap<u64, u64>,
+    number: u64,
     line: &[u8],
 ) -> Judged
-    requires { length above.now < 2 ^ 63 }
-    ensures { result ≡ line_judged labels.now.script.now index.now.trace.now state.now above.now line.now }
+    ensures { result ≡ line_judged labels.now.script.now index.now.trace.now state.now (λ number. get nat_eq instants.now number) number line.now }
 {
     match form_in(unlabelled(line).rest) {
         Err(_) => failure(),
         Ok(form) => match form {
-            Form::Other => other_judged(index, above.len() as u64 + 1),
+            Form::Other => {
+                if is_labelled(line) {
+                    other_judged(index, number)
+                } else {
+                    nothing()
+                }
+            }
             Form::Rounds {
                 quantity,
                 window,
                 pattern,
-            } => rounds_judged(index, quantity, pattern, span_of(labels, above, window)),
+            } => rounds_judged(index, quantity, pattern, span_of(labels, instants, window)),
             Form::State { words, .. } => state_judged(state, words),
             Form::Refused { label, word } => refused_judged(labels, index, label, word),
         },
     }
 }
 
-/// What is found of each line of a script, in order, by the trace of its run and, of each line, the state line that it speaks
-/// of.
+/// Whether a line speaks of a state.
+pub fn is_of_state(line: &[u8]) -> bool
+    ensures { result ≡ is_of_state line.now }
+{
+    match form_in(unlabelled(line).rest) {
+        Err(_) => false,
+        Ok(form) => match form {
+            Form::Other => false,
+            Form::Rounds { .. } => false,
+            Form::State { .. } => true,
+            Form::Refused { .. } => false,
+        },
+    }
+}
+
+// The state line of a line.
+fn first_state<'a>(of_state: bool, states: &'a [Vec<u8>]) -> &'a [u8]
+    ensures { result.now ≡ first_state of_state (map (λ state. state.items) states.now) }
+{
+    if !of_state {
+        return &[];
+    }
+    match states {
+        [] => &[],
+        [state, ..] => state,
+    }
+}
+
+// The state lines of the lines after it.
+fn later_states<'a>(of_state: bool, states: &'a [Vec<u8>]) -> &'a [Vec<u8>]
+    ensures { map (λ state. state.items) result.now ≡ later_states of_state (map (λ state. state.items) states.now) }
+{
+    if !of_state {
+        return states;
+    }
+    match states {
+        [] => &[],
+        [_, others @ ..] => others,
+    }
+}
+
+// Notes the instant of a line, where it has one.
+#[tactic(auto, using(crate::proofs::Judging::put))]
+fn note_instant(
+    instants: &mut HashMap<u64, u64>,
+    number: u64,
+    at: Option<u64>,
+) -> Result<(), AllocError>
+    ensures { OnOk result ((line : ℕ) → get nat_eq instants.new line ≡ noted (λ number. get nat_eq instants.old number) number at line) }
+{
+    let Some(at) = at else {
+        return Ok(());
+    };
+    match instants.insert(number, at) {
+        Ok(_) => Ok(()),
+        Err(_) => Err(AllocError),
+    }
+}
+
+// Adds what is found of a line, where it expects something.
+#[tactic(auto, using(crate::proofs::Judging::none_found, crate::proofs::Judging::one_found))]
+fn add_finding<'a>(
+    found: &mut Vec<Finding<'a>>,
+    line: u64,
+    judged: Judged,
+    state: &'a [u8],
+) -> Result<(), AllocError>
+    ensures { OnOk result (map finding_as found.new.items ≡ map finding_as found.old.items ++ or_more line state.now judged judged.holds []) }
+{
+    let Some(_) = judged.holds else {
+        return Ok(());
+    };
+    found.push(Finding {
+        line,
+        judged,
+        state,
+    })?;
+    Ok(())
+}
+
+// What is found of each line of a script that expects something, in order, by its trace.
+#[tactic(auto, using(crate::proofs::Judging::no_more, crate::proofs::Judging::none_noted))]
+fn judged_by<'a>(
+    alloc: Global,
+    labels: &Labels<'_>,
+    index: &Index<'_>,
+    states: &'a [Vec<u8>],
+) -> Result<Vec<Finding<'a>>, AllocError>
+    ensures { IfOk result (λ found. map finding_as found.items ≡ findings_of labels.now.script.now index.now.trace.now (states_for (lines_of labels.now.script.now) (map (λ state. state.items) states.now))) }
+{
+    let mut instants = HashMap::new(alloc);
+    let mut found = Vec::new(alloc);
+    let mut rest = labels.script;
+    let mut left = states;
+    let mut number = 1u64;
+    'lines: while let Some((line, after)) = first_line(rest) {
+        let of_state = is_of_state(line);
+        let state = first_state(of_state, left);
+        let judged = line_judged(labels, index, state, &instants, number, line);
+        note_instant(&mut instants, number, judged.at)?;
+        add_finding(&mut found, number, judged, state)?;
+        rest = after;
+        left = later_states(of_state, left);
+        number += 1;
+    }
+    Ok(found)
+}
+
+/// What is found of each line of a script that expects something, in order, by the trace of its run and the state lines of the
+/// lines that speak of one.
 ///
 /// # Errors
 ///
 /// Want of memory.
-pub fn all_judged(
+pub fn all_judged<'a>(
     alloc: Global,
     labels: &Labels<'_>,
     trace: &[u8],
-    states: &[Vec<u8>],
-) -> Result<Vec<Judged>, AllocError>
-    ensures { IfOk result (λ found. found.items ≡ verdicts_of labels.now.script.now trace.now (map (λ state. state.items) states.now)) }
+    states: &'a [Vec<u8>],
+) -> Result<Vec<Finding<'a>>, AllocError>
+    ensures { IfOk result (λ found. map finding_as found.items ≡ findings_of labels.now.script.now trace.now (states_for (lines_of labels.now.script.now) (map (λ state. state.items) states.now))) }
 {
     let index = Index::new(alloc, labels.script, trace)?;
-    let mut found = Vec::new(alloc);
-    let mut rest = labels.script;
-    let mut left = states;
-    'lines: while let Some((line, after)) = first_line(rest) {
-        let [state, others @ ..] = left else {
-            return Ok(found);
-        };
-        let judged = line_judged(labels, &index, state, &found, line);
-        found.push(judged)?;
-        rest = after;
-        left = others;
-    }
-    Ok(found)
+    judged_by(alloc, labels, &index, states)
 }

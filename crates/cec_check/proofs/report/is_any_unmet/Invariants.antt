@@ -1,11 +1,12 @@
-use Rattle.std.proofs.Common.{◌≡◌, length}
+use Rattle.std.proofs.Common.{◌≡◌, length, map}
 use Rattle.std.specs.List.{list_any}
+use Rattle.cec_judge.specs.Judged.{finding_as}
 use Rattle.cec_check.specs.Kept.{is_unmet}
 use Rattle.cec_check.proofs.report.is_any_unmet.Given as goal
 
 -- none before is
 abbrev pub invariant-lines : goal.invariant-lines
-invariant-lines l = list_any is_unmet l.found ≡ list_any is_unmet l.rest
+invariant-lines l = list_any (λ finding. is_unmet finding.judged) (map finding_as l.found) ≡ list_any (λ finding. is_unmet finding.judged) (map finding_as l.rest)
 
 abbrev pub decreases-lines : goal.decreases-lines
 decreases-lines l = length l.rest

@@ -1,12 +1,11 @@
-use Rattle.std.proofs.Common.{List, ℕ, ◌++◌, length, map}
+use Rattle.std.proofs.Common.{length, map}
 use Rattle.hdmi_core.specs.Lines.{lines_of}
-use Rattle.cec_check.specs.States.{AreStates}
+use Rattle.cec_check.proofs.Stated.{Lead}
 use Rattle.cec_check.proofs.states.all_states.Given as goal
 
 -- with the states of the lines that are left these are those of all lines
 abbrev pub invariant-lines : goal.invariant-lines
-invariant-lines l = (more : List (List ℕ)) → AreStates l.topology l.plain (lines_of l.rest) more
-    → AreStates l.topology l.plain (lines_of l.script) (map (λ state. state.items) l.states.items ++ more)
+invariant-lines l = Lead l.topology l.plain (lines_of l.script) (lines_of l.rest) (map (λ state. state.items) l.states.items)
 
 abbrev pub decreases-lines : goal.decreases-lines
 decreases-lines l = length l.rest

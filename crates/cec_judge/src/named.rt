@@ -1,0 +1,68 @@
+//! The lines of a script that have a label, read once.
+ghost use Rattle.std.specs.Prelude.{◌≡◌, ◌||◌, ℕ, IfOk, OnOk, nat_eq};
+ghost use Rattle.std.specs.HashSet.{contains};
+ghost use Rattle.hdmi_core.specs.Lines.{lines_of};
+ghost use Rattle.cec_judge.specs.Named.{is_labelled, is_named, name_lines, names_line};
+
+use cec_expect::unlabelled;
+use hdmi_core::first_line;
+use std::alloc::{AllocError, Global};
+use std::collections::HashSet;
+
+/// The lines of a script that have a label.
+#[derive(Drop)]
+pub struct NamedLines<'a> {
+    pub script: &'a [u8],
+    lines: HashSet<u64>,
+    ghost lines_are: { (number : ℕ) → contains nat_eq lines number ≡ is_named script.now number },
+}
+
+/// Whether a line has a label.
+pub(crate) fn is_labelled(line: &[u8]) -> bool
+    ensures { result ≡ is_labelled line.now }
+{
+    unlabelled(line).label.is_some()
+}
+
+// Notes the number of a line, where it has a label.
+#[tactic(auto, using(crate::proofs::Naming::no_more, crate::proofs::Naming::put))]
+fn note_line(lines: &mut HashSet<u64>, number: u64, line: &[u8]) -> Result<(), AllocError>
+    ensures { OnOk result ((other : ℕ) → contains nat_eq lines.new other ≡ (contains nat_eq lines.old other || names_line number line.now other)) }
+{
+    if !is_labelled(line) {
+        return Ok(());
+    }
+    match lines.insert(number) {
+        Ok(_) => Ok(()),
+        Err(_) => Err(AllocError),
+    }
+}
+
+impl<'a> NamedLines<'a> {
+    /// Reads which lines of a script have a label.
+    ///
+    /// # Errors
+    ///
+    /// Want of memory.
+    #[tactic(auto, using(crate::proofs::Naming::one_more, crate::proofs::Naming::all_noted))]
+    pub fn new(alloc: Global, script: &'a [u8]) -> Result<Self, AllocError>
+        ensures { IfOk result (λ named. named.script.now ≡ script.now) }
+    {
+        let mut lines = HashSet::new(alloc);
+        let mut rest = script;
+        let mut number = 1u64;
+        'lines: while let Some((line, after)) = first_line(rest) {
+            note_line(&mut lines, number, line)?;
+            rest = after;
+            number += 1;
+        }
+        Ok(NamedLines { script, lines })
+    }
+
+    /// Whether the line of this number has a label.
+    pub fn has(&self, number: u64) -> bool
+        ensures { result ≡ is_named self.now.script.now number }
+    {
+        self.lines.contains(&number)
+    }
+}
