@@ -83,34 +83,37 @@ fn watch(rt: &(impl Abort + AllocGlobal), out: &mut Out<'_>) -> Result<(), Write
     watch_capture(&capture, out)
 }
 
-fn dump(name: &str, out: &mut Out<'_>) -> Result<u128, WriteFault> {
+fn dump(name: &str, out: &mut Out<'_>) -> Result<(), WriteFault> {
+    let mut written = 0;
     match name {
-        "vcd head" => cec_vcd::write_head(out),
-        "vcd changes" => cec_vcd::write_changes(out, STRETCHES),
-        _ => cec_vcd::write_last(out, 2_030_000),
+        "vcd head" => cec_vcd::write_head(out, &mut written),
+        "vcd changes" => cec_vcd::write_changes(out, &mut written, STRETCHES),
+        _ => cec_vcd::write_last(out, &mut written, 2_030_000),
     }
 }
 
-fn pins(name: &str, out: &mut Out<'_>) -> Result<u128, WriteFault> {
+fn pins(name: &str, out: &mut Out<'_>) -> Result<(), WriteFault> {
+    let mut written = 0;
     match name {
-        "pin head" => cec_pin::write_head(out),
-        "pin fall" => cec_pin::write_fall(out, 1_016_500),
-        _ => cec_pin::write_rise(out, 2_030_000),
+        "pin head" => cec_pin::write_head(out, &mut written),
+        "pin fall" => cec_pin::write_fall(out, &mut written, 1_016_500),
+        _ => cec_pin::write_rise(out, &mut written, 2_030_000),
     }
 }
 
-fn rows(name: &str, out: &mut Out<'_>) -> Result<u128, WriteFault> {
+fn rows(name: &str, out: &mut Out<'_>) -> Result<(), WriteFault> {
+    let mut written = 0;
     match name {
-        "csv head" => cec_csv::write_head(out),
-        "csv changes" => cec_csv::write_changes(out, STRETCHES),
-        _ => cec_csv::write_last(out, 2_030_000),
+        "csv head" => cec_csv::write_head(out, &mut written),
+        "csv changes" => cec_csv::write_changes(out, &mut written, STRETCHES),
+        _ => cec_csv::write_last(out, &mut written, 2_030_000),
     }
 }
 
 /// How many bytes a fault says were written, where there is one.
-fn fault_of<T: Drop>(outcome: Result<T, WriteFault>) -> Option<u128> {
+fn fault_of(outcome: Result<(), WriteFault>) -> Option<u128> {
     match outcome {
-        Ok(_) => None,
+        Ok(()) => None,
         Err(fault) => Some(fault.count),
     }
 }

@@ -6,6 +6,7 @@ use Rattle.std.specs.List.{position_or_len, slice_split}
 use Rattle.std.specs.Str.{bytes_eq}
 use Rattle.std.specs.Global.{Vec}
 use Rattle.cec_wave.specs.declared.Edge.{Edge}
+use Rattle.cec_wave.specs.Bounds.{latest_instant}
 use Rattle.hdmi_core.specs.Lines.{lines_of}
 use Rattle.hdmi_core.specs.Number.{number_of}
 use Rattle.cec_signal.specs.Edges.{Captured}
@@ -171,7 +172,7 @@ took line r = took_by (row_of r.column line) r
 
 -- the form has no end: a level that is reported again ends it, or it goes on for 10,000 microseconds, within the limit
 abbrev pub ends_after : Bool → ℕ → ℕ
-ends_after is_again at = if is_again then at else min (at + 10000) 2000000000000
+ends_after is_again at = if is_again then at else min (at + 10000) latest_instant
 
 abbrev pub end_of : Reader → ℕ
 end_of r = ends_after r.is_again r.track.at

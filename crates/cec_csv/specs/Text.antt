@@ -3,6 +3,7 @@ use Rattle.std.specs.Prelude.{◌≡◌, ℕ, ◌/◌, ◌%◌, ◌≤◌, false
 use Rattle.std.specs.Fmt.{decimal}
 use Rattle.std.specs.List.{concat, flat_map}
 use Rattle.cec_wave.specs.declared.Stretch.{Stretch}
+use Rattle.cec_wave.specs.Bounds.{latest_instant}
 use Rattle.cec_wave.specs.Line.{line_of, IsWave}
 use Rattle.cec_signal.specs.Edges.{edges_of}
 use Rattle.cec_signal.specs.Seconds.{nine_digits}
@@ -35,5 +36,5 @@ csv_text ss end = head ++ (changes ss ++ row_text end 49)
 
 -- The file of a line that is high from the end on is read as the line's edges, within the limit of a capture.
 abbrev pub CsvFilesAreReadBack : Type 0
-CsvFilesAreReadBack = (ss : List Stretch) (end : ℕ) → IsWave ss → ((u : ℕ) → end ≤ u → line_of ss u ≡ false) → end ≤ 2000000000000
+CsvFilesAreReadBack = (ss : List Stretch) (end : ℕ) → IsWave ss → ((u : ℕ) → end ≤ u → line_of ss u ≡ false) → end ≤ latest_instant
     → edges_in [] (csv_text ss end) ≡ Ok (record { edges = edges_of ss; end = end })

@@ -1,31 +1,42 @@
 //! The file of a line.
 ghost use Rattle.std.specs.Prelude.{◌≡◌, ◌+◌, ◌%◌};
-ghost use Rattle.hdmi_core.specs.Written.{WrittenLine};
-ghost use Rattle.hdmi_core.specs.Cut.{WrittenText};
+ghost use Rattle.cec_tally.specs.Adds.{Adds};
 ghost use Rattle.cec_csv.specs.Text.{changes, head, row_text, rows_text, stretch_text};
 
 use cec_signal::nine_digits;
+use cec_tally::add_line;
 use cec_wave::Stretch;
-use hdmi_core::{Piece, Sink, WriteFault, counted, cut_at, write_line};
+use hdmi_core::{Piece, Sink, WriteFault};
 
 /// Writes the names of the columns, and the line high.
-pub fn write_head<S: Sink>(out: &mut S) -> Result<u128, WriteFault>
-    ensures { WrittenLine (S.contents out.old) (S.contents out.new) (S.is_stuck out.old) (S.is_stuck out.new) head result }
+///
+/// # Errors
+///
+/// A `put` took none. The fault reports how much was written in all: the count stays at its greatest value. So it is of
+/// the others.
+pub fn write_head<S: Sink>(out: &mut S, written: &mut u128) -> Result<(), WriteFault>
+    ensures { Adds (S.contents out.old) (S.contents out.new) (S.is_stuck out.old) (S.is_stuck out.new) written.old written.new head result }
 {
-    write_line(out, &[Piece::Text("Time [s],CEC\n0.000000000,1\n")])
+    add_line(
+        out,
+        written,
+        &[Piece::Text("Time [s],CEC\n0.000000000,1\n")],
+    )
 }
 
 // Writes the rows of the fall and the rise of a stretch, of which these are the decimals.
 fn write_rows<'a, S: Sink>(
     out: &mut S,
+    written: &mut u128,
     stretch: &Stretch,
     fall: &'a [u8],
     rise: &'a [u8],
-) -> Result<u128, WriteFault>
-    ensures { WrittenLine (S.contents out.old) (S.contents out.new) (S.is_stuck out.old) (S.is_stuck out.new) (rows_text stretch.now fall.now rise.now) result }
+) -> Result<(), WriteFault>
+    ensures { Adds (S.contents out.old) (S.contents out.new) (S.is_stuck out.old) (S.is_stuck out.new) written.old written.new (rows_text stretch.now fall.now rise.now) result }
 {
-    write_line(
+    add_line(
         out,
+        written,
         &[
             Piece::Decimal(stretch.from / 1_000_000),
             Piece::Text("."),
@@ -40,35 +51,40 @@ fn write_rows<'a, S: Sink>(
 }
 
 // Writes the rows of the fall and the rise of a stretch.
-fn write_stretch<S: Sink>(out: &mut S, stretch: &Stretch) -> Result<u128, WriteFault>
-    ensures { WrittenLine (S.contents out.old) (S.contents out.new) (S.is_stuck out.old) (S.is_stuck out.new) (stretch_text stretch.now) result }
+fn write_stretch<S: Sink>(
+    out: &mut S,
+    written: &mut u128,
+    stretch: &Stretch,
+) -> Result<(), WriteFault>
+    ensures { Adds (S.contents out.old) (S.contents out.new) (S.is_stuck out.old) (S.is_stuck out.new) written.old written.new (stretch_text stretch.now) result }
 {
     let fall = nine_digits(stretch.from % 1_000_000);
     let rise = nine_digits(stretch.to % 1_000_000);
-    write_rows(out, stretch, &fall, &rise)
+    write_rows(out, written, stretch, &fall, &rise)
 }
 
 /// Writes the falls and rises of stretches, a row each.
-pub fn write_changes<S: Sink>(out: &mut S, stretches: &[Stretch]) -> Result<u128, WriteFault>
-    ensures { WrittenText (S.contents out.old) (S.contents out.new) (S.is_stuck out.old) (S.is_stuck out.new) (changes stretches.now) result }
+pub fn write_changes<S: Sink>(
+    out: &mut S,
+    written: &mut u128,
+    stretches: &[Stretch],
+) -> Result<(), WriteFault>
+    ensures { Adds (S.contents out.old) (S.contents out.new) (S.is_stuck out.old) (S.is_stuck out.new) written.old written.new (changes stretches.now) result }
 {
-    let mut written = 0;
     for stretch in stretches {
-        match write_stretch(out, stretch) {
-            Ok(count) => written = counted(written, count),
-            Err(fault) => return Err(cut_at(written, fault)),
-        }
+        write_stretch(out, written, stretch)?;
     }
-    Ok(written)
+    Ok(())
 }
 
 /// Writes the end: that the line is high still.
-pub fn write_last<S: Sink>(out: &mut S, end: u64) -> Result<u128, WriteFault>
-    ensures { WrittenLine (S.contents out.old) (S.contents out.new) (S.is_stuck out.old) (S.is_stuck out.new) (row_text end 49) result }
+pub fn write_last<S: Sink>(out: &mut S, written: &mut u128, end: u64) -> Result<(), WriteFault>
+    ensures { Adds (S.contents out.old) (S.contents out.new) (S.is_stuck out.old) (S.is_stuck out.new) written.old written.new (row_text end 49) result }
 {
     let digits = nine_digits(end % 1_000_000);
-    write_line(
+    add_line(
         out,
+        written,
         &[
             Piece::Decimal(end / 1_000_000),
             Piece::Text("."),

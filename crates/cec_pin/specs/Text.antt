@@ -3,6 +3,7 @@ use Rattle.std.specs.Prelude.{◌≡◌, ℕ, ◌-◌, ◌/◌, ◌%◌, ◌≤�
 use Rattle.std.specs.Fmt.{decimal}
 use Rattle.std.specs.List.{concat, flat_map}
 use Rattle.cec_wave.specs.declared.Stretch.{Stretch}
+use Rattle.cec_wave.specs.Bounds.{latest_instant}
 use Rattle.cec_wave.specs.Line.{line_of, IsWave}
 use Rattle.cec_signal.specs.Edges.{edges_of}
 use Rattle.cec_signal.specs.Seconds.{nine_digits}
@@ -38,5 +39,5 @@ pin_text rounds end = head ++ (flat_map round_text rounds ++ event_text end 49)
 -- of a capture.
 abbrev pub PinFilesAreReadBack : Type 0
 PinFilesAreReadBack = (rounds : List (List Stretch)) (end : ℕ) → IsWave (flat_map (λ ss. ss) rounds)
-    → ((u : ℕ) → end ≤ u → line_of (flat_map (λ ss. ss) rounds) u ≡ false) → end ≤ 2000000000000
+    → ((u : ℕ) → end ≤ u → line_of (flat_map (λ ss. ss) rounds) u ≡ false) → end ≤ latest_instant
     → edges_in (pin_text rounds end) ≡ Ok (record { edges = edges_of (flat_map (λ ss. ss) rounds); end = end })

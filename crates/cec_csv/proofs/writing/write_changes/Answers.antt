@@ -1,8 +1,7 @@
-use Rattle.std.proofs.Common.{◌≡◌, get_or, ◌∙◌}
+use Rattle.std.proofs.Common.{◌≡◌, get_or}
 use Rattle.std.proofs.lemmas.List.{get_or_default}
-use Rattle.hdmi_core.proofs.CutShort.{Appends-trans}
 use Rattle.cec_wave.specs.declared.Stretch.{Stretch}
-use Rattle.hdmi_core.proofs.Cutting.{cut_part, more_parts, more_count}
+use Rattle.cec_tally.proofs.Adding.{handed_on, more, part_of}
 use Rattle.cec_csv.specs.Text.{stretch_text}
 use Rattle.cec_csv.proofs.writing.write_changes.Goals as goal
 
@@ -11,22 +10,13 @@ loop-stretch-preserved g c =
     let none : Stretch = record { from = 0; to = 0 } in
     let s : Stretch = get_or c.args.stretches.now c.loop-stretch.stretch-index none in
     let item : get_or c.args.stretches.now c.loop-stretch.stretch-index s ≡ s = get_or_default c.args.stretches.now c.loop-stretch.stretch-index s none c.loop-stretch-test.true in
-    let line = c.in-Ok.ensures in
-    record {
-      so_far = rw (more_parts stretch_text c.args.stretches.now c.loop-stretch.stretch-index s c.loop-stretch-test.true item)
-          (Appends-trans _ _ _ _ _ c.loop-stretch.invariant.so_far line.1);
-      flag = line.2 ∙ c.loop-stretch.invariant.flag;
-      count = more_count stretch_text c.args.stretches.now c.loop-stretch.stretch-index s c.loop-stretch.written c.in-Ok.count c.counted-written.result
-          c.loop-stretch-test.true item c.loop-stretch.invariant.count line.0 c.counted-written.ensures;
-    }
+    more stretch_text c.args.stretches.now c.loop-stretch.stretch-index s _ _ _ _ _ _ _ _ _ c.loop-stretch-test.true item c.loop-stretch.invariant c.in_ok-write_stretch.ensures
 
-pub returns-in-Err : goal.returns-in-Err
-returns-in-Err g c =
+pub returns-in_err-write_stretch : goal.returns-in_err-write_stretch
+returns-in_err-write_stretch g c =
     let none : Stretch = record { from = 0; to = 0 } in
     let s : Stretch = get_or c.args.stretches.now c.loop-stretch.stretch-index none in
     let item : get_or c.args.stretches.now c.loop-stretch.stretch-index s ≡ s = get_or_default c.args.stretches.now c.loop-stretch.stretch-index s none c.loop-stretch-test.true in
-    let fault = c.in-Err.ensures in (
-      cut_part stretch_text c.args.stretches.now c.loop-stretch.stretch-index s _ _ _ c.loop-stretch.written c.in-Err.fault.count c.cut_at.result c.loop-stretch-test.true
-          item c.loop-stretch.invariant.count c.loop-stretch.invariant.so_far fault.0 fault.1 c.cut_at.ensures,
-      fault.2,
-    )
+    handed_on _ _ _ _ _ _ _ _ c.from_residual.result c.from_residual.ensures.0 c.from_residual.ensures.1
+    (part_of stretch_text c.args.stretches.now c.loop-stretch.stretch-index s _ _ _ _ _ _ _ c.loop-stretch.written c.write_stretch.new.written c.in_err-write_stretch.field-0.0
+    c.loop-stretch-test.true item c.loop-stretch.invariant c.in_err-write_stretch.ensures)

@@ -1,14 +1,10 @@
-use Rattle.std.proofs.Common.{◌≡◌, length, take}
+use Rattle.std.proofs.Common.{take, Ok}
 use Rattle.std.specs.List.{flat_map}
-use Rattle.std.specs.Io.KnownBytes.{Appends}
-use Rattle.hdmi_core.specs.Cut.{told_count}
+use Rattle.cec_tally.specs.Adds.{Adds}
 use Rattle.cec_csv.specs.Text.{stretch_text}
 use Rattle.cec_csv.proofs.writing.write_changes.Given as goal
 
 -- the lines of the stretches so far are written
 abbrev pub invariant-loop-stretch : goal.invariant-loop-stretch
-invariant-loop-stretch g l = record {
-  so_far : Appends (g.S.Sink.contents l.fn.out) (g.S.Sink.contents l.out) (flat_map stretch_text (take l.stretch-index l.stretches));
-  flag : g.S.Sink.is_stuck l.out ≡ g.S.Sink.is_stuck l.fn.out;
-  count : l.written ≡ told_count (length (flat_map stretch_text (take l.stretch-index l.stretches)));
-}
+invariant-loop-stretch g l =
+    Adds (g.S.Sink.contents l.fn.out) (g.S.Sink.contents l.out) (g.S.Sink.is_stuck l.fn.out) (g.S.Sink.is_stuck l.out) l.fn.written l.written (flat_map stretch_text (take l.stretch-index l.stretches)) (Ok tt)
