@@ -1,5 +1,5 @@
 -- An edge file read edge by edge, and what is written of it.
-use Rattle.std.proofs.Common.{◌≡◌, ℕ, suc, ◌+◌, ◌-◌, ◌<◌, ◌≤◌, Bool, true, false, not, ◌&&◌, nat_lt, nat_le, if◌then◌else◌, List, [], ◌∷◌, ◌++◌, length, append-nil, Option, Some, None, Result, Ok, Err, refl, arith, ap, ◌∙◌, sym, subst}
+use Rattle.std.proofs.Common.{◌≡◌, ℕ, suc, ◌+◌, ◌-◌, ◌<◌, ◌≤◌, Bool, true, false, not, ◌&&◌, nat_lt, nat_le, if◌then◌else◌, List, [], ◌∷◌, ◌++◌, Option, Some, None, Result, Ok, Err, refl, arith, ap, ◌∙◌, sym, subst}
 use Rattle.std.specs.Option.{option_to_list}
 use Rattle.std.specs.Io.KnownBytes.{Appends}
 use Rattle.std.proofs.lemmas.Bool.Decides.{nat_tests}
@@ -13,9 +13,10 @@ use Rattle.cec_bits.specs.Ended.{ended_by}
 use Rattle.cec_bits.specs.Reports.{ended_before}
 use Rattle.cec_bits.proofs.Reported.{ended_first}
 use Rattle.cec_bits.proofs.Stood.{was_now}
-use Rattle.hdmi_core.specs.Cut.{CutOff, WrittenText, told_count}
+use Rattle.hdmi_core.specs.Cut.{CutOff}
+use Rattle.cec_tally.specs.Adds.{Adds, AddsAll}
 use Rattle.hdmi_core.specs.Lines.{lines_of, is_skipped}
-use Rattle.hdmi_core.proofs.Cutting.{told_parts, cut_again}
+use Rattle.cec_tally.proofs.Adding.{adds_nothing, both, from_nothing, front, front_after}
 use Rattle.cec_signal.specs.Edges.{level_at, line_of_edges}
 use Rattle.cec_mon.specs.declared.monitor.Monitor.{Monitor as Watcher}
 use Rattle.cec_mon.specs.declared.edge_file.EdgeFault.{EdgeFault}
@@ -110,13 +111,7 @@ pub record Watched (f : EdgeFile) (lines : EdgeLines) (m : Watcher) (old now : O
   pub level : (u : ℕ) → lines.from ≤ u → line_of_edges f.edges u ≡ level_at lines.is_low left.edges u
   pub before : was_low (line_of_edges f.edges) lines.from ≡ lines.is_low
   pub heard : HeardBefore m (line_of_edges f.edges) lines.from
-  pub wrote : Appends old now (readings_text (ended_before (line_of_edges f.edges) lines.from))
-  pub count : written ≡ told_count (length (readings_text (ended_before (line_of_edges f.edges) lines.from)))
-  pub flag : is ≡ was
-
-pub appends_none : (old : Option (List ℕ)) → Appends old old []
-appends_none None = tt
-appends_none (Some xs) = sym (append-nil xs)
+  pub so_far : AddsAll old now was is 0 written (readings_text (ended_before (line_of_edges f.edges) lines.from))
 
 pub watched_first : (text : List ℕ) (f : EdgeFile) (lines : EdgeLines) (m : Watcher) (old : Option (List ℕ)) (was : Bool) → file_of text ≡ Ok f → lines.rest.now ≡ text → lines.number ≡ 1 → lines.is_low ≡ false → lines.from ≡ 0
     → ((low : Line) → HeardBefore m low 0) → Watched f lines m old old was was 0
@@ -128,9 +123,7 @@ watched_first text f lines m old was h rest number level from heard = record {
   level = λ u l. ap (λ b. level_at b f.edges u) (sym level);
   before = ap (was_low (line_of_edges f.edges)) from ∙ (let x : nat_lt 0 0 ≡ false = grind (arith, nat_tests) in ap (λ b. b && line_of_edges f.edges (0 - 1)) x) ∙ sym level;
   heard = subst (HeardBefore m (line_of_edges f.edges)) (sym from) (heard (line_of_edges f.edges));
-  wrote = subst (λ n. Appends old old (readings_text (ended_before (line_of_edges f.edges) n))) (sym from) (appends_none old);
-  count = ap (λ n. told_count (length (readings_text (ended_before (line_of_edges f.edges) n)))) (sym from);
-  flag = refl;
+  so_far = subst (λ n. AddsAll old old was was 0 0 (readings_text (ended_before (line_of_edges f.edges) n))) (sym from) (adds_nothing old was 0);
 }
 
 -- an edge, and what was reported of it
@@ -183,13 +176,13 @@ told_edge f lines next m new e told old now was is written w g follows = record 
 pub text_more : (xs : List Listed) (o : Option Listed) → readings_text (xs ++ option_to_list o) ≡ readings_text xs ++ reported_text o
 text_more xs o = flat_map-append listed_line xs (option_to_list o)
 
-pub watched_more : (f : EdgeFile) (lines next : EdgeLines) (m new : Watcher) (e : EdgeOf) (told : Option Listed) (old mid out : Option (List ℕ)) (was is now : Bool) (written count total : ℕ)
-    → Watched f lines m old mid was is written → GoesBehind lines e next → FollowsEdge m e told new → WrittenText mid out is now (reported_text told) (Ok count) → total ≡ told_count (written + count)
+pub watched_more : (f : EdgeFile) (lines next : EdgeLines) (m new : Watcher) (e : EdgeOf) (told : Option Listed) (old mid out : Option (List ℕ)) (was is now : Bool) (written total : ℕ)
+    → Watched f lines m old mid was is written → GoesBehind lines e next → FollowsEdge m e told new → AddsAll mid out is now written total (reported_text told)
     → Watched f next new old out was now total
-watched_more f lines next m new e told old mid out was is now written count total w g follows wrote sum =
+watched_more f lines next m new e told old mid out was is now written total w g follows added =
     let t = told_edge f lines next m new e told old mid was is written w g follows in
-    let low : Line = line_of_edges f.edges in
-    let whole : readings_text (ended_before (line_of_edges f.edges) next.from) ≡ readings_text (ended_before (line_of_edges f.edges) lines.from) ++ reported_text told =
+    let first : List ℕ = readings_text (ended_before (line_of_edges f.edges) lines.from) in
+    let whole : readings_text (ended_before (line_of_edges f.edges) next.from) ≡ first ++ reported_text told =
     ap readings_text t.ended ∙ text_more (ended_before (line_of_edges f.edges) lines.from) told in
     record {
       left = t.left;
@@ -198,9 +191,7 @@ watched_more f lines next m new e told old mid out was is now written count tota
       level = t.level;
       before = t.before;
       heard = t.heard;
-      wrote = subst (Appends old out) (sym whole) (Appends-trans old mid out (readings_text (ended_before (line_of_edges f.edges) lines.from)) (reported_text told) w.wrote wrote.1);
-      count = sum ∙ told_parts written count (readings_text (ended_before (line_of_edges f.edges) lines.from)) (reported_text told) w.count wrote.0 ∙ ap (λ (x : List ℕ). told_count (length x)) (sym whole);
-      flag = wrote.2 ∙ w.flag;
+      so_far = subst (AddsAll old out was now 0 total) (sym whole) (both old mid out was is now 0 written total first (reported_text told) w.so_far added);
     }
 
 -- ---- the end of a file
@@ -250,20 +241,21 @@ edge_by f lines next m e old now was is written w g =
     omega (arith, late, same, g.from)
 
 -- the line of an edge's reading was cut off
-pub cut_edge : (f : EdgeFile) (lines next : EdgeLines) (m new : Watcher) (e : EdgeOf) (told : Option Listed) (old mid out : Option (List ℕ)) (was is now : Bool) (written : ℕ) (inner cut : WriteFault)
-    → Watched f lines m old mid was is written → GoesBehind lines e next → FollowsEdge m e told new → WrittenText mid out is now (reported_text told) (Err inner) → cut.count ≡ told_count (written + inner.count)
-    → WritesFile old out was now f (Err cut)
-cut_edge f lines next m new e told old mid out was is now written inner cut w g follows wrote sum =
+pub cut_edge : (f : EdgeFile) (lines next : EdgeLines) (m new : Watcher) (e : EdgeOf) (told : Option Listed) (old mid out : Option (List ℕ)) (was is now : Bool) (written total : ℕ) (fault : WriteFault)
+    → Watched f lines m old mid was is written → GoesBehind lines e next → FollowsEdge m e told new → Adds mid out is now written total (reported_text told) (Err fault) → WritesFile old out was now f (Err fault)
+cut_edge f lines next m new e told old mid out was is now written total fault w g follows cut =
     let t = told_edge f lines next m new e told old mid was is written w g follows in
     let rest = ended_first (line_of_edges f.edges) e.at f.end (edge_by f lines next m e old mid was is written w g) in
+    let before : List ℕ = readings_text (ended_before (line_of_edges f.edges) lines.from) in
     let ended : ended_by (line_of_edges f.edges) e.at ≡ ended_before (line_of_edges f.edges) lines.from ++ option_to_list told =
     sym (ap (ended_before (line_of_edges f.edges)) (g.from ∙ (let x : e.at + 1 ≡ suc e.at = omega arith in x))) ∙ t.ended in
-    let whole : readings_text (file_readings f) ≡ (readings_text (ended_before (line_of_edges f.edges) lines.from) ++ reported_text told) ++ readings_text rest.0 =
+    let whole : readings_text (file_readings f) ≡ (before ++ reported_text told) ++ readings_text rest.0 =
     ap readings_text (rest.1 ∙ ap (λ (xs : List Listed). xs ++ rest.0) ended) ∙ flat_map-append listed_line (ended_before (line_of_edges f.edges) lines.from ++ option_to_list told) rest.0
     ∙ ap (λ (xs : List ℕ). xs ++ readings_text rest.0) (text_more (ended_before (line_of_edges f.edges) lines.from) told) in (
-      subst (λ (x : List ℕ). CutOff old out x cut) (sym whole)
-          (cut_again old mid out (readings_text (ended_before (line_of_edges f.edges) lines.from)) (reported_text told) (readings_text rest.0) written inner cut w.count w.wrote wrote.0 sum),
-      wrote.1,
+      subst (λ (x : List ℕ). CutOff old out x fault) (sym whole)
+          (from_nothing old out ((before ++ reported_text told) ++ readings_text rest.0) fault
+          (front old out 0 (before ++ reported_text told) (readings_text rest.0) fault (front_after old mid out was is 0 written before (reported_text told) fault w.so_far cut.0))),
+      cut.1,
     )
 
 same_file : (a b : EdgeFile) (r : Result EdgeFile EdgeFault) → r ≡ Ok a → r ≡ Ok b → a ≡ b
@@ -281,23 +273,20 @@ all_read f lines m t told old mid was is written w file l follows =
     ∙ follows (line_of_edges f.edges) lines.from w.heard l (λ u k s. level u k ∙ sym w.before ∙ sym w.heard.stood.level))
     ∙ text_more (ended_before (line_of_edges f.edges) lines.from) told
 
-pub end_written : (f : EdgeFile) (lines : EdgeLines) (m : Watcher) (t : ℕ) (told : Option Listed) (old mid out : Option (List ℕ)) (was is now : Bool) (written count : ℕ) → Watched f lines m old mid was is written
-    → file_left lines ≡ Ok (record { edges = []; end = t }) → lines.from ≤ t + 1 → FollowsEnd m t told → WrittenText mid out is now (reported_text told) (Ok count)
-    → Appends old out (readings_text (file_readings f)) × (now ≡ was)
-end_written f lines m t told old mid out was is now written count w file l follows wrote = (
-  subst (Appends old out) (sym (all_read f lines m t told old mid was is written w file l follows))
-      (Appends-trans old mid out (readings_text (ended_before (line_of_edges f.edges) lines.from)) (reported_text told) w.wrote wrote.1),
-  wrote.2 ∙ w.flag,
-)
-
-pub end_cut : (f : EdgeFile) (lines : EdgeLines) (m : Watcher) (t : ℕ) (told : Option Listed) (old mid out : Option (List ℕ)) (was is now : Bool) (written : ℕ) (inner cut : WriteFault) → Watched f lines m old mid was is written
-    → file_left lines ≡ Ok (record { edges = []; end = t }) → lines.from ≤ t + 1 → FollowsEnd m t told → WrittenText mid out is now (reported_text told) (Err inner) → cut.count ≡ told_count (written + inner.count)
-    → WritesFile old out was now f (Err cut)
-end_cut f lines m t told old mid out was is now written inner cut w file l follows wrote sum = (
-  subst (λ (x : List ℕ). CutOff old out x cut) (append-nil (readings_text (ended_before (line_of_edges f.edges) lines.from) ++ reported_text told) ∙ sym (all_read f lines m t told old mid was is written w file l follows))
-      (cut_again old mid out (readings_text (ended_before (line_of_edges f.edges) lines.from)) (reported_text told) [] written inner cut w.count w.wrote wrote.0 sum),
-  wrote.1,
-)
+pub ended_so : (f : EdgeFile) (lines : EdgeLines) (m : Watcher) (t : ℕ) (told : Option Listed) (old mid out : Option (List ℕ)) (was is now : Bool) (written total : ℕ) (result : Result (Unit {0}) WriteFault)
+    → Watched f lines m old mid was is written → file_left lines ≡ Ok (record { edges = []; end = t }) → lines.from ≤ t + 1 → FollowsEnd m t told → Adds mid out is now written total (reported_text told) result
+    → WritesFile old out was now f result
+ended_so f lines m t told old mid out was is now written total (Ok _) w file l follows added =
+    let before : List ℕ = readings_text (ended_before (line_of_edges f.edges) lines.from) in (
+      subst (Appends old out) (sym (all_read f lines m t told old mid was is written w file l follows)) (Appends-trans old mid out before (reported_text told) w.so_far.1 added.1),
+      added.2 ∙ w.so_far.2,
+    )
+ended_so f lines m t told old mid out was is now written total (Err fault) w file l follows cut =
+    let before : List ℕ = readings_text (ended_before (line_of_edges f.edges) lines.from) in (
+      subst (λ (x : List ℕ). CutOff old out x fault) (sym (all_read f lines m t told old mid was is written w file l follows))
+          (from_nothing old out (before ++ reported_text told) fault (front_after old mid out was is 0 written before (reported_text told) fault w.so_far cut.0)),
+      cut.1,
+    )
 
 -- a file without a fault has none where it is read on
 pub no_fault : (f : EdgeFile) (lines : EdgeLines) (m : Watcher) (old mid : Option (List ℕ)) (was is : Bool) (written : ℕ) (x : EdgeFault) → Watched f lines m old mid was is written → file_left lines ≡ Err x → ⊥

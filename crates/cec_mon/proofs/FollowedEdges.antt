@@ -1,5 +1,5 @@
 -- A capture followed edge by edge, and what is written of it.
-use Rattle.std.proofs.Common.{◌≡◌, ℕ, suc, ◌+◌, ◌<◌, ◌≤◌, Bool, true, false, nat_lt, if◌then◌else◌, zero, ◌-◌, ◌&&◌, ◌||◌, List, [], ◌∷◌, ◌++◌, length, append-nil, append_assoc, get_or, drop, Option, Result, Ok, Err, refl, arith, ap, ◌∙◌, sym, subst}
+use Rattle.std.proofs.Common.{◌≡◌, ℕ, suc, ◌+◌, ◌<◌, ◌≤◌, Bool, true, false, nat_lt, if◌then◌else◌, zero, ◌-◌, ◌&&◌, ◌||◌, List, [], ◌∷◌, ◌++◌, length, append_assoc, get_or, drop, Option, Result, Ok, Err, refl, arith, ap, ◌∙◌, sym, subst}
 use Rattle.std.proofs.Math.Seq.{drop-cons}
 use Rattle.std.proofs.Math.ListN.{drop_of_length-le}
 use Rattle.std.specs.Option.{option_to_list}
@@ -14,15 +14,15 @@ use Rattle.cec_bits.specs.Ended.{ended_by}
 use Rattle.cec_bits.specs.Reports.{ended_before}
 use Rattle.cec_bits.proofs.Reported.{ended_first}
 use Rattle.cec_bits.proofs.Stood.{was_now}
-use Rattle.hdmi_core.specs.Cut.{CutOff, WrittenText, told_count}
-use Rattle.hdmi_core.proofs.Cutting.{told_parts, cut_again}
+use Rattle.hdmi_core.specs.Cut.{CutOff}
+use Rattle.cec_tally.specs.Adds.{Adds, AddsAll}
+use Rattle.cec_tally.proofs.Adding.{adds_nothing, both, from_nothing, front, front_after}
 use Rattle.cec_signal.specs.Edges.{AreInTurn, Captured, EndBy, IsCapture, level_at, line_of_edges}
 use Rattle.cec_signal.proofs.Recording.{before_turn}
 use Rattle.cec_mon.specs.declared.monitor.Monitor.{Monitor as Watcher}
 use Rattle.cec_mon.specs.Monitor.{HeardBefore, FollowsEdge, FollowsEnd}
 use Rattle.cec_mon.specs.Joined.{WritesJoined, capture_text, has_joined, joined_line, joined_text}
 use Rattle.cec_mon.specs.Watch.{WritesFile, as_file, listed_line, readings_text}
-use Rattle.cec_mon.proofs.Files.{appends_none}
 
 -- ---- texts of readings of which some are joined
 
@@ -87,9 +87,7 @@ pub record Followed (t : ℕ) (is_told : Bool) (c : Captured) (left : List Edge)
   pub reach : from ≤ c.end + 1
   pub heard : HeardBefore m (line_of_edges c.edges) from
   pub told : is_told ≡ was_joined t (line_of_edges c.edges) from
-  pub wrote : Appends old now (so_far t (line_of_edges c.edges) from)
-  pub count : written ≡ told_count (length (so_far t (line_of_edges c.edges) from))
-  pub flag : is ≡ was
+  pub put : AddsAll old now was is 0 written (so_far t (line_of_edges c.edges) from)
 
 pub followed_first : (t : ℕ) (c : Captured) (m : Watcher) (old : Option (List ℕ)) (was : Bool) → IsCapture c.edges c.end → ((low : Line) → HeardBefore m low 0) → Followed t false c c.edges m old old was was 0
 followed_first t c m old was is heard = record {
@@ -102,9 +100,7 @@ followed_first t c m old was is heard = record {
   reach = omega arith;
   heard = heard (line_of_edges c.edges);
   told = refl;
-  wrote = appends_none old;
-  count = refl;
-  flag = refl;
+  put = adds_nothing old was 0;
 }
 
 -- an edge, and what was reported of it
@@ -145,10 +141,10 @@ text_more : (t : ℕ) (is_told : Bool) (low : Line) (from : ℕ) (told : Option 
     → joined_text t false (ended_before low from ++ option_to_list told) ≡ so_far t low from ++ told_text t is_told told
 text_more t is_told low from told is = joined_more t false (ended_before low from) (option_to_list told) ∙ ap (λ b. so_far t low from ++ told_text t b told) (sym is)
 
-pub followed_more : (t : ℕ) (is_told is_more : Bool) (c : Captured) (left rest : List Edge) (m new : Watcher) (e : Edge) (told : Option Listed) (old mid out : Option (List ℕ)) (was is now : Bool) (written count total : ℕ)
-    → Followed t is_told c left m old mid was is written → left ≡ e ∷ rest → FollowsEdge m e told new → WrittenText mid out is now (told_text t is_told told) (Ok count)
-    → total ≡ told_count (written + count) → is_more ≡ (is_told || has_joined t (option_to_list told)) → Followed t is_more c rest new old out was now total
-followed_more t is_told is_more c left rest m new e told old mid out was is now written count total followed cut follows wrote sum joins =
+pub followed_more : (t : ℕ) (is_told is_more : Bool) (c : Captured) (left rest : List Edge) (m new : Watcher) (e : Edge) (told : Option Listed) (old mid out : Option (List ℕ)) (was is now : Bool) (written total : ℕ)
+    → Followed t is_told c left m old mid was is written → left ≡ e ∷ rest → FollowsEdge m e told new → AddsAll mid out is now written total (told_text t is_told told)
+    → is_more ≡ (is_told || has_joined t (option_to_list told)) → Followed t is_more c rest new old out was now total
+followed_more t is_told is_more c left rest m new e told old mid out was is now written total followed cut follows added joins =
     let w : Followed t is_told c (e ∷ rest) m old mid was is written = subst (λ (l : List Edge). Followed t is_told c l m old mid was is written) cut followed in
     let d = told_edge t is_told c rest m new e told old mid was is written w follows in
     let low : Line = line_of_edges c.edges in
@@ -164,16 +160,14 @@ followed_more t is_told is_more c left rest m new e told old mid out was is now 
       reach = omega (arith, last);
       heard = d.heard;
       told = joins ∙ ap (λ b. b || has_joined t (option_to_list told)) w.told ∙ sym (ap (has_joined t) d.ended ∙ has_more t (ended_before low w.from) (option_to_list told));
-      wrote = subst (Appends old out) (sym whole) (Appends-trans old mid out (so_far t low w.from) (told_text t is_told told) w.wrote wrote.1);
-      count = sum ∙ told_parts written count (so_far t low w.from) (told_text t is_told told) w.count wrote.0 ∙ ap (λ (x : List ℕ). told_count (length x)) (sym whole);
-      flag = wrote.2 ∙ w.flag;
+      put = subst (AddsAll old out was now 0 total) (sym whole) (both old mid out was is now 0 written total (so_far t low w.from) (told_text t is_told told) w.put added);
     }
 
 -- the line of an edge's reading was cut off
-pub cut_edge : (t : ℕ) (is_told : Bool) (c : Captured) (left rest : List Edge) (m new : Watcher) (e : Edge) (told : Option Listed) (old mid out : Option (List ℕ)) (was is now : Bool) (written : ℕ) (inner cut : WriteFault)
-    → Followed t is_told c left m old mid was is written → left ≡ e ∷ rest → FollowsEdge m e told new → WrittenText mid out is now (told_text t is_told told) (Err inner) → cut.count ≡ told_count (written + inner.count)
-    → WritesJoined old out was now c t (Err cut)
-cut_edge t is_told c left rest m new e told old mid out was is now written inner cut followed split follows wrote sum =
+pub cut_edge : (t : ℕ) (is_told : Bool) (c : Captured) (left rest : List Edge) (m new : Watcher) (e : Edge) (told : Option Listed) (old mid out : Option (List ℕ)) (was is now : Bool) (written total : ℕ) (fault : WriteFault)
+    → Followed t is_told c left m old mid was is written → left ≡ e ∷ rest → FollowsEdge m e told new → Adds mid out is now written total (told_text t is_told told) (Err fault)
+    → WritesJoined old out was now c t (Err fault)
+cut_edge t is_told c left rest m new e told old mid out was is now written total fault followed split follows cut =
     let w : Followed t is_told c (e ∷ rest) m old mid was is written = subst (λ (l : List Edge). Followed t is_told c l m old mid was is written) split followed in
     let d = told_edge t is_told c rest m new e told old mid was is written w follows in
     let low : Line = line_of_edges c.edges in
@@ -182,9 +176,10 @@ cut_edge t is_told c left rest m new e told old mid out was is now written inner
     let whole : capture_text c t ≡ (so_far t low w.from ++ told_text t is_told told) ++ rest_text =
     ap (joined_text t false) (more.1 ∙ ap (λ (xs : List Listed). xs ++ more.0) d.by) ∙ joined_more t false (ended_before low w.from ++ option_to_list told) more.0
     ∙ ap (λ (xs : List ℕ). xs ++ rest_text) (text_more t is_told low w.from told w.told) in (
-      subst (λ (x : List ℕ). CutOff old out x cut) (sym whole)
-          (cut_again old mid out (so_far t low w.from) (told_text t is_told told) rest_text written inner cut w.count w.wrote wrote.0 sum),
-      wrote.1,
+      subst (λ (x : List ℕ). CutOff old out x fault) (sym whole)
+          (from_nothing old out ((so_far t low w.from ++ told_text t is_told told) ++ rest_text) fault
+          (front old out 0 (so_far t low w.from ++ told_text t is_told told) rest_text fault (front_after old mid out was is 0 written (so_far t low w.from) (told_text t is_told told) fault w.put cut.0))),
+      cut.1,
     )
 
 -- the last reading, and with it the whole list
@@ -194,23 +189,20 @@ all_read t is_told c m told old mid was is written w follows =
     ap (joined_text t false) (follows (line_of_edges c.edges) w.from w.heard w.reach (λ u k s. w.level u k ∙ sym w.before ∙ sym w.heard.stood.level))
     ∙ text_more t is_told (line_of_edges c.edges) w.from told w.told
 
-pub end_written : (t : ℕ) (is_told : Bool) (c : Captured) (left : List Edge) (m : Watcher) (told : Option Listed) (old mid out : Option (List ℕ)) (was is now : Bool) (written count : ℕ) → Followed t is_told c left m old mid was is written → left ≡ []
-    → FollowsEnd m c.end told → WrittenText mid out is now (told_text t is_told told) (Ok count) → Appends old out (capture_text c t) × (now ≡ was)
-end_written t is_told c left m told old mid out was is now written count followed none follows wrote =
-    let w : Followed t is_told c [] m old mid was is written = subst (λ (l : List Edge). Followed t is_told c l m old mid was is written) none followed in (
+pub ended_so : (t : ℕ) (is_told : Bool) (c : Captured) (left : List Edge) (m : Watcher) (told : Option Listed) (old mid out : Option (List ℕ)) (was is now : Bool) (written total : ℕ) (result : Result (Unit {0}) WriteFault)
+    → Followed t is_told c left m old mid was is written → left ≡ [] → FollowsEnd m c.end told → Adds mid out is now written total (told_text t is_told told) result → WritesJoined old out was now c t result
+ended_so t is_told c left m told old mid out was is now written total (Ok _) followed over follows added =
+    let w : Followed t is_told c [] m old mid was is written = subst (λ (l : List Edge). Followed t is_told c l m old mid was is written) over followed in (
       subst (Appends old out) (sym (all_read t is_told c m told old mid was is written w follows))
-          (Appends-trans old mid out (so_far t (line_of_edges c.edges) w.from) (told_text t is_told told) w.wrote wrote.1),
-      wrote.2 ∙ w.flag,
+          (Appends-trans old mid out (so_far t (line_of_edges c.edges) w.from) (told_text t is_told told) w.put.1 added.1),
+      added.2 ∙ w.put.2,
     )
-
-pub end_cut : (t : ℕ) (is_told : Bool) (c : Captured) (left : List Edge) (m : Watcher) (told : Option Listed) (old mid out : Option (List ℕ)) (was is now : Bool) (written : ℕ) (inner cut : WriteFault) → Followed t is_told c left m old mid was is written → left ≡ []
-    → FollowsEnd m c.end told → WrittenText mid out is now (told_text t is_told told) (Err inner) → cut.count ≡ told_count (written + inner.count) → WritesJoined old out was now c t (Err cut)
-end_cut t is_told c left m told old mid out was is now written inner cut followed none follows wrote sum =
-    let w : Followed t is_told c [] m old mid was is written = subst (λ (l : List Edge). Followed t is_told c l m old mid was is written) none followed in (
-      subst (λ (x : List ℕ). CutOff old out x cut)
-          (append-nil (so_far t (line_of_edges c.edges) w.from ++ told_text t is_told told) ∙ sym (all_read t is_told c m told old mid was is written w follows))
-          (cut_again old mid out (so_far t (line_of_edges c.edges) w.from) (told_text t is_told told) [] written inner cut w.count w.wrote wrote.0 sum),
-      wrote.1,
+ended_so t is_told c left m told old mid out was is now written total (Err fault) followed over follows cut =
+    let w : Followed t is_told c [] m old mid was is written = subst (λ (l : List Edge). Followed t is_told c l m old mid was is written) over followed in
+    let before : List ℕ = so_far t (line_of_edges c.edges) w.from in (
+      subst (λ (x : List ℕ). CutOff old out x fault) (sym (all_read t is_told c m told old mid was is written w follows))
+          (from_nothing old out (before ++ told_text t is_told told) fault (front_after old mid out was is 0 written before (told_text t is_told told) fault w.put cut.0)),
+      cut.1,
     )
 
 -- joined up to 0 the readings are those of the file that says the same

@@ -2,6 +2,7 @@
 -- empty or begin with `#` are skipped, but counted.
 use Rattle.std.specs.Prelude.{◌≡◌, ℕ, ◌+◌, ◌<◌, ◌≤◌, Bool, true, false, not, nat_le, ◌&&◌, if◌then◌else◌, List, [], ◌∷◌, length, codes, Option, Some, None, Result, Ok, Err}
 use Rattle.std.specs.Str.{bytes_eq}
+use Rattle.cec_wave.specs.Bounds.{latest_instant}
 use Rattle.cec_wave.specs.declared.Edge.{Edge as EdgeOf}
 use Rattle.hdmi_core.specs.Lines.{lines_of, is_skipped}
 use Rattle.hdmi_core.specs.Number.{number_of}
@@ -17,7 +18,7 @@ use Rattle.cec_mon.specs.declared.edge_file.EdgeLines.{EdgeLines}
 -- a time, in microseconds, within the limit
 abbrev pub within : Option ℕ → Option ℕ
 within None = None
-within (Some t) = if nat_le t 2000000000000 then Some t else None
+within (Some t) = if nat_le t latest_instant then Some t else None
 
 abbrev pub time_of : List ℕ → Option ℕ
 time_of word = within (number_of word)
@@ -102,13 +103,13 @@ pub record TakesEdge (number : ℕ) (line : List ℕ) (old : EdgeLines) (e : Edg
   pub level : new.is_low ≡ e.low
   pub from : new.from ≡ e.at + 1
   pub after : old.from ≤ e.at
-  pub early : e.at ≤ 2000000000000
+  pub early : e.at ≤ latest_instant
   pub rest : new.rest.now ≡ old.rest.now
   pub count : new.number ≡ old.number
 
 abbrev pub ReadsLine : ℕ → List ℕ → EdgeLines → Result EdgeLine EdgeFault → EdgeLines → Type 0
 ReadsLine number line old (Ok (Edge e)) new = TakesEdge number line old e new
-ReadsLine number line old (Ok (End t)) new = (left_after number line old ≡ Ok (record { edges = []; end = t })) × (old.from ≤ t + 1) × (t ≤ 2000000000000)
+ReadsLine number line old (Ok (End t)) new = (left_after number line old ≡ Ok (record { edges = []; end = t })) × (old.from ≤ t + 1) × (t ≤ latest_instant)
 ReadsLine number line old (Err fault) new = left_after number line old ≡ Err fault
 
 -- it goes on after an edge, and counts the lines that it took
@@ -117,11 +118,11 @@ pub record GoesBehind (old : EdgeLines) (e : EdgeOf) (new : EdgeLines) : Type 0 
   pub level : new.is_low ≡ e.low
   pub from : new.from ≡ e.at + 1
   pub after : old.from ≤ e.at
-  pub early : e.at ≤ 2000000000000
+  pub early : e.at ≤ latest_instant
   pub shorter : length new.rest.now < length old.rest.now
   pub room : new.number + length new.rest.now ≤ old.number + length old.rest.now
 
 abbrev pub ReadsOn : EdgeLines → Result EdgeLine EdgeFault → EdgeLines → Type 0
 ReadsOn old (Ok (Edge e)) new = GoesBehind old e new
-ReadsOn old (Ok (End t)) new = (file_left old ≡ Ok (record { edges = []; end = t })) × (old.from ≤ t + 1) × (t ≤ 2000000000000)
+ReadsOn old (Ok (End t)) new = (file_left old ≡ Ok (record { edges = []; end = t })) × (old.from ≤ t + 1) × (t ≤ latest_instant)
 ReadsOn old (Err fault) new = file_left old ≡ Err fault

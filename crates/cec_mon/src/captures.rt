@@ -1,8 +1,7 @@
 //! From a capture to the lines of its readings.
 ghost use Rattle.std.specs.Prelude.{◌≡◌, ◌≤◌, ◌||◌, option_map};
 ghost use Rattle.std.specs.Option.{option_to_list};
-ghost use Rattle.hdmi_core.specs.Written.{WrittenLine};
-ghost use Rattle.hdmi_core.specs.Cut.{WrittenText};
+ghost use Rattle.cec_tally.specs.Adds.{Adds};
 ghost use Rattle.cec_bits.specs.Reports.{listed_as};
 ghost use Rattle.cec_signal.specs.Edges.{line_of_edges};
 ghost use Rattle.cec_mon.specs.Joined.{IsJoined, WatchesJoined, WritesJoined, has_joined, idle_by, joined_line, joined_text};
@@ -12,7 +11,8 @@ use crate::monitor::Monitor;
 use crate::watching::write_reported;
 use cec_frame::Reading;
 use cec_signal::Capture;
-use hdmi_core::{Piece, Sink, WriteFault, counted, cut_at, write_line};
+use cec_tally::add_line;
+use hdmi_core::{Piece, Sink, WriteFault};
 
 /// Seven nominal bit periods of 2,400 microseconds (HDMI 1.4, CEC 5.2.2), for which the line is high before a reading that is
 /// sure to begin with a start bit. No frame has its line high for so long.
@@ -48,11 +48,12 @@ fn joined_at(capture: &Capture) -> u64
     }
 }
 
-fn write_joined<S: Sink>(out: &mut S, instant: u64) -> Result<u128, WriteFault>
-    ensures { WrittenLine (S.contents out.old) (S.contents out.new) (S.is_stuck out.old) (S.is_stuck out.new) (joined_line instant) result }
+fn write_joined<S: Sink>(out: &mut S, written: &mut u128, instant: u64) -> Result<(), WriteFault>
+    ensures { Adds (S.contents out.old) (S.contents out.new) (S.is_stuck out.old) (S.is_stuck out.new) written.old written.new (joined_line instant) result }
 {
-    write_line(
+    add_line(
         out,
+        written,
         &[
             Piece::Text("0 "),
             Piece::Decimal(instant),
@@ -73,24 +74,22 @@ fn has_joined(reading: &Option<Reading>, joined_at: u64, is_told: bool) -> bool
 
 // Writes the line of a reading, if there is one, or the one that stands for all that are joined.
 fn write_told<S: Sink>(
+    out: &mut S,
+    written: &mut u128,
     reading: &Option<Reading>,
     joined_at: u64,
     is_told: bool,
-    out: &mut S,
-) -> Result<u128, WriteFault>
-    ensures { WrittenText (S.contents out.old) (S.contents out.new) (S.is_stuck out.old) (S.is_stuck out.new)
+) -> Result<(), WriteFault>
+    ensures { Adds (S.contents out.old) (S.contents out.new) (S.is_stuck out.old) (S.is_stuck out.new) written.old written.new
         (joined_text joined_at is_told (option_to_list (option_map listed_as reading.now))) result }
 {
     if !has_joined(reading, joined_at, false) {
-        return write_reported(reading, out);
+        return write_reported(out, written, reading);
     }
     if is_told {
-        return Ok(0);
+        return Ok(());
     }
-    match write_joined(out, joined_at) {
-        Ok(count) => Ok(counted(0, count)),
-        Err(fault) => Err(cut_at(0, fault)),
-    }
+    write_joined(out, written, joined_at)
 }
 
 // Writes the readings of a capture, joined up to an instant.
@@ -103,17 +102,11 @@ fn write_from<S: Sink>(capture: &Capture, joined_at: u64, out: &mut S) -> Result
     let mut written = 0;
     for edge in edges {
         let reading = monitor.edge(*edge);
-        match write_told(&reading, joined_at, is_told, out) {
-            Ok(count) => written = counted(written, count),
-            Err(fault) => return Err(cut_at(written, fault)),
-        }
+        write_told(out, &mut written, &reading, joined_at, is_told)?;
         is_told = has_joined(&reading, joined_at, is_told);
     }
     let reading = monitor.finish(capture.end());
-    match write_told(&reading, joined_at, is_told, out) {
-        Ok(_) => Ok(()),
-        Err(fault) => Err(cut_at(written, fault)),
-    }
+    write_told(out, &mut written, &reading, joined_at, is_told)
 }
 
 /// Writes the readings of a capture, a line each, as `watch` writes those of an edge file.

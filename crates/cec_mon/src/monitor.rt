@@ -1,5 +1,6 @@
 //! A monitor, which is told the line edge by edge.
 ghost use Rattle.std.specs.Prelude.{◌≡◌, ◌≤◌, ◌<◌, length, IfSome, option_map};
+ghost use Rattle.cec_wave.specs.Bounds.{latest_instant};
 ghost use Rattle.cec_bits.specs.Hears.{heard_by};
 ghost use Rattle.cec_bits.specs.Reports.{ended_of, listed_as};
 
@@ -58,7 +59,7 @@ impl Monitor {
 
     // Microsecond `t` has come.
     fn tick(&mut self, t: u64) -> Option<Reading>
-        requires early { t ≤ 2000000000000 }
+        requires early { t ≤ latest_instant }
         ensures heard { (let m : Microsecond = record { state = heard_by self.new.receiver; ended = option_map listed_as result } in m)
             ≡ heard_at t self.old.receiver.was_low self.old.receiver.is_low (heard_by self.old.receiver) }
         ensures was { self.new.receiver.was_low ≡ self.old.receiver.is_low }
@@ -71,7 +72,7 @@ impl Monitor {
 
     // The next wake, where it comes before this instant.
     fn wake(&mut self, until: u64) -> Option<Reading>
-        requires early { until ≤ 2000000000001 }
+        requires early { until ≤ latest_instant + 1 }
         ensures heard { IsStill self.old → (let m : Microsecond = record { state = heard_by self.new.receiver; ended = option_map listed_as result } in m)
             ≡ after_wake until self.old.receiver.is_low (heard_by self.old.receiver) }
         ensures still { IsStill self.old → IsStill self.new }
@@ -86,7 +87,7 @@ impl Monitor {
     // The wakes before this instant: there are two at most, a slot's sample and then the end of the wait for the next
     // slot's fall.
     fn wait(&mut self, until: u64) -> Option<Reading>
-        requires early { until ≤ 2000000000001 }
+        requires early { until ≤ latest_instant + 1 }
         ensures heard { IsStill self.old → (let m : Microsecond = record { state = heard_by self.new.receiver; ended = option_map listed_as result } in m)
             ≡ after_wakes until self.old.receiver.is_low (heard_by self.old.receiver) }
         ensures still { IsStill self.old → IsStill self.new }
@@ -114,7 +115,7 @@ impl Monitor {
     /// The line falls or rises, at most at 2,000,000,000,000 microseconds. Edges alternate from a fall, with rising
     /// times. Answers the reading that has ended since the edge before, at this edge too: there is one at most.
     pub fn edge(&mut self, edge: Edge) -> Option<Reading>
-        requires early { edge.at ≤ 2000000000000 }
+        requires early { edge.at ≤ latest_instant }
         ensures follows { FollowsEdge self.old edge (option_map listed_as result) self.new }
     {
         let waited = self.wait(edge.at);
@@ -127,7 +128,7 @@ impl Monitor {
     /// microseconds. Answers the reading that has ended since the last edge, at `t` too, or the one that still
     /// runs, which is open at `t`.
     pub fn finish(self, t: u64) -> Option<Reading>
-        requires early { t ≤ 2000000000000 }
+        requires early { t ≤ latest_instant }
         ensures { FollowsEnd self t (option_map listed_as result) }
     {
         let mut monitor = self;

@@ -3,13 +3,15 @@ ghost use Rattle.std.specs.Prelude.{◌≡◌, ℕ, ◌+◌, ◌<◌, length, Ma
 ghost use Rattle.cec_bits.specs.Reports.{listed_as};
 ghost use Rattle.cec_mon.specs.EdgeFile.{EdgeFile, file_of};
 ghost use Rattle.cec_mon.specs.Watch.{Answers, WritesFile, reported_text, told_so};
-ghost use Rattle.hdmi_core.specs.Cut.{WrittenText};
+ghost use Rattle.cec_tally.specs.Adds.{Adds};
+ghost use Rattle.cec_text.specs.ReadingText.{reading_line};
 
 use crate::edge_file::{EdgeFault, EdgeLine, EdgeLines};
 use crate::monitor::Monitor;
 use cec_frame::Reading;
+use cec_tally::add_part;
 use cec_text::write_reading;
-use hdmi_core::{Sink, WriteFault, counted, cut_at};
+use hdmi_core::{Sink, WriteFault};
 use std::alloc::Global;
 use thiserror::Error;
 
@@ -57,20 +59,28 @@ fn check_file(text: &[u8]) -> Result<(), EdgeFault>
     }
 }
 
+fn write_line_of<S: Sink>(
+    out: &mut S,
+    written: &mut u128,
+    reading: &Reading,
+) -> Result<(), WriteFault>
+    ensures { Adds (S.contents out.old) (S.contents out.new) (S.is_stuck out.old) (S.is_stuck out.new) written.old written.new (reading_line reading.now) result }
+{
+    add_part(written, write_reading(reading, out))
+}
+
 // Writes the line of a reading, if there is one.
 pub(crate) fn write_reported<S: Sink>(
-    reading: &Option<Reading>,
     out: &mut S,
-) -> Result<u128, WriteFault>
-    ensures { WrittenText (S.contents out.old) (S.contents out.new) (S.is_stuck out.old) (S.is_stuck out.new)
+    written: &mut u128,
+    reading: &Option<Reading>,
+) -> Result<(), WriteFault>
+    ensures { Adds (S.contents out.old) (S.contents out.new) (S.is_stuck out.old) (S.is_stuck out.new) written.old written.new
         (reported_text (option_map listed_as reading.now)) result }
 {
     match reading {
-        None => Ok(0),
-        Some(reading) => match write_reading(reading, out) {
-            Ok(count) => Ok(counted(0, count)),
-            Err(fault) => Err(cut_at(0, fault)),
-        },
+        None => Ok(()),
+        Some(reading) => write_line_of(out, written, reading),
     }
 }
 
@@ -88,17 +98,11 @@ fn write_readings<S: Sink>(text: &[u8], out: &mut S) -> Result<(), WriteFault>
             Ok(line) => match line {
                 EdgeLine::Edge(edge) => {
                     let reading = monitor.edge(edge);
-                    match write_reported(&reading, out) {
-                        Ok(count) => written = counted(written, count),
-                        Err(fault) => return Err(cut_at(written, fault)),
-                    }
+                    write_reported(out, &mut written, &reading)?;
                 }
                 EdgeLine::End(t) => {
                     let reading = monitor.finish(t);
-                    return match write_reported(&reading, out) {
-                        Ok(_) => Ok(()),
-                        Err(fault) => Err(cut_at(written, fault)),
-                    };
+                    return write_reported(out, &mut written, &reading);
                 }
             },
         }

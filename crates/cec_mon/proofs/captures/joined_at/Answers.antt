@@ -1,4 +1,4 @@
-use Rattle.std.proofs.Common.{◌≡◌, false, sym, ap, ◌∙◌}
+use Rattle.std.proofs.Common.{false, sym, ap, ◌∙◌}
 use Rattle.cec_wave.specs.declared.Edge.{Edge}
 use Rattle.cec_mon.specs.Joined.{idle_by}
 use Rattle.cec_mon.proofs.Idle.{here_idle, joined_here, last_idle, or_else}

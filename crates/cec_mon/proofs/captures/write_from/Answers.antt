@@ -2,7 +2,9 @@ use Rattle.std.proofs.Common.{◌+◌, List, drop, false, get_or, option_map, sy
 use Rattle.cec_wave.specs.declared.Edge.{Edge}
 use Rattle.cec_bits.specs.Reports.{listed_as}
 use Rattle.cec_mon.specs.Monitor.{FollowsEnd}
-use Rattle.cec_mon.proofs.FollowedEdges.{Followed, followed_first, followed_more, cut_edge, end_written, end_cut, next_edge, no_edge}
+use Rattle.cec_tally.proofs.Adding.{hands_on}
+use Rattle.cec_mon.specs.Joined.{WritesJoined}
+use Rattle.cec_mon.proofs.FollowedEdges.{Followed, cut_edge, ended_so, followed_first, followed_more, next_edge, no_edge}
 use Rattle.cec_mon.proofs.captures.write_from.Goals as goal
 
 abbrev none : Edge
@@ -19,31 +21,21 @@ loop-edge-preserved g c =
     let edges = c.edges-edges.result.now in
     let k = c.loop-edge.edge-index in
     followed_more c.args.joined_at c.loop-edge.is_told c.has_joined-is_told.result c.args.capture.now (drop k edges) (drop (k + 1) edges) c.loop-edge.monitor c.edge-reading.new.self (get_or edges k none) (option_map listed_as c.edge-reading.result)
-    (g.S.Sink.contents c.args.out.now) (g.S.Sink.contents c.loop-edge.out) (g.S.Sink.contents c.write_told.new.out) (g.S.Sink.is_stuck c.args.out.now) (g.S.Sink.is_stuck c.loop-edge.out) (g.S.Sink.is_stuck c.write_told.new.out)
-    c.loop-edge.written c.in-Ok.count c.counted-written.result c.loop-edge.invariant (next_edge edges k none c.loop-edge-test.true) c.edge-reading.ensures.follows c.in-Ok.ensures c.counted-written.ensures c.has_joined-is_told.ensures
+    _ _ _ _ _ _ c.loop-edge.written _ c.loop-edge.invariant (next_edge edges k none c.loop-edge-test.true) c.edge-reading.ensures.follows c.in_ok-write_told.ensures c.has_joined-is_told.ensures
 
-pub returns-in-Err : goal.returns-in-Err
-returns-in-Err g c =
+pub returns-in_err-write_told : goal.returns-in_err-write_told
+returns-in_err-write_told g c =
     let edges = c.edges-edges.result.now in
     let k = c.loop-edge.edge-index in
-    cut_edge c.args.joined_at c.loop-edge.is_told c.args.capture.now (drop k edges) (drop (k + 1) edges) c.loop-edge.monitor c.edge-reading.new.self (get_or edges k none) (option_map listed_as c.edge-reading.result)
-    (g.S.Sink.contents c.args.out.now) (g.S.Sink.contents c.loop-edge.out) (g.S.Sink.contents c.write_told.new.out) (g.S.Sink.is_stuck c.args.out.now) (g.S.Sink.is_stuck c.loop-edge.out) (g.S.Sink.is_stuck c.write_told.new.out)
-    c.loop-edge.written c.in-Err.fault c.cut_at.result c.loop-edge.invariant (next_edge edges k none c.loop-edge-test.true) c.edge-reading.ensures.follows c.in-Err.ensures c.cut_at.ensures
+    hands_on (WritesJoined (g.S.Sink.contents c.args.out.now) (g.S.Sink.contents c.write_told.new.out) (g.S.Sink.is_stuck c.args.out.now) (g.S.Sink.is_stuck c.write_told.new.out) c.args.capture.now c.args.joined_at)
+    c.in_err-write_told.field-0.0 c.from_residual.result c.from_residual.ensures.0 c.from_residual.ensures.1
+    (cut_edge c.args.joined_at c.loop-edge.is_told c.args.capture.now (drop k edges) (drop (k + 1) edges) c.loop-edge.monitor c.edge-reading.new.self (get_or edges k none) (option_map listed_as c.edge-reading.result)
+    _ _ _ _ _ _ c.loop-edge.written c.write_told.new.written c.in_err-write_told.field-0.0 c.loop-edge.invariant (next_edge edges k none c.loop-edge-test.true) c.edge-reading.ensures.follows c.in_err-write_told.ensures)
 
-pub returns-in-Ok-write_told : goal.returns-in-Ok-write_told
-returns-in-Ok-write_told g c =
+pub returns : goal.returns
+returns g c =
     let edges = c.edges-edges.result.now in
     let k = c.loop-edge.edge-index in
-    end_written c.args.joined_at c.loop-edge.is_told c.args.capture.now (drop k edges) c.loop-edge.monitor (option_map listed_as c.finish-reading.result)
-    (g.S.Sink.contents c.args.out.now) (g.S.Sink.contents c.loop-edge.out) (g.S.Sink.contents c.write_told-2.new.out) (g.S.Sink.is_stuck c.args.out.now) (g.S.Sink.is_stuck c.loop-edge.out) (g.S.Sink.is_stuck c.write_told-2.new.out)
-    c.loop-edge.written c.in-Ok-write_told.field-0 c.loop-edge.invariant (no_edge edges k c.loop-edge-test.false)
-    (subst (λ n. FollowsEnd c.loop-edge.monitor n (option_map listed_as c.finish-reading.result)) c.end.ensures.end c.finish-reading.ensures) c.in-Ok-write_told.ensures
-
-pub returns-in-Err-write_told : goal.returns-in-Err-write_told
-returns-in-Err-write_told g c =
-    let edges = c.edges-edges.result.now in
-    let k = c.loop-edge.edge-index in
-    end_cut c.args.joined_at c.loop-edge.is_told c.args.capture.now (drop k edges) c.loop-edge.monitor (option_map listed_as c.finish-reading.result)
-    (g.S.Sink.contents c.args.out.now) (g.S.Sink.contents c.loop-edge.out) (g.S.Sink.contents c.write_told-2.new.out) (g.S.Sink.is_stuck c.args.out.now) (g.S.Sink.is_stuck c.loop-edge.out) (g.S.Sink.is_stuck c.write_told-2.new.out)
-    c.loop-edge.written c.in-Err-write_told.fault c.cut_at-in-Err-write_told.result c.loop-edge.invariant (no_edge edges k c.loop-edge-test.false)
-    (subst (λ n. FollowsEnd c.loop-edge.monitor n (option_map listed_as c.finish-reading.result)) c.end.ensures.end c.finish-reading.ensures) c.in-Err-write_told.ensures c.cut_at-in-Err-write_told.ensures
+    ended_so c.args.joined_at c.loop-edge.is_told c.args.capture.now (drop k edges) c.loop-edge.monitor (option_map listed_as c.finish-reading.result)
+    _ _ _ _ _ _ c.loop-edge.written _ c.write_told-2.result c.loop-edge.invariant (no_edge edges k c.loop-edge-test.false)
+    (subst (λ n. FollowsEnd c.loop-edge.monitor n (option_map listed_as c.finish-reading.result)) c.end.ensures.end c.finish-reading.ensures) c.write_told-2.ensures

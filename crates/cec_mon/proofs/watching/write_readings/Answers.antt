@@ -1,6 +1,8 @@
 use Rattle.std.proofs.Common.{◌≡◌, length, option_map, ap, arith}
 use Rattle.cec_bits.specs.Reports.{listed_as}
-use Rattle.cec_mon.proofs.Files.{watched_first, watched_more, cut_edge, end_written, end_cut, no_fault, edge_read, end_read_so}
+use Rattle.cec_tally.proofs.Adding.{hands_on}
+use Rattle.cec_mon.specs.Watch.{WritesFile}
+use Rattle.cec_mon.proofs.Files.{watched_first, watched_more, cut_edge, ended_so, no_fault, edge_read, end_read_so}
 use Rattle.cec_mon.proofs.watching.write_readings.Goals as goal
 
 pub edges-init : goal.edges-init
@@ -17,32 +19,24 @@ pub edges-preserved : goal.edges-preserved
 edges-preserved g c =
     let b = edge_read c.edges.lines c.next.new.self c.in-Ok.line c.in-Edge.edge c.in-Ok.ensures c.in-Edge.is in
     record {
-      watched = λ f h. watched_more f c.edges.lines c.next.new.self c.edges.monitor c.edge-reading.new.self c.in-Edge.edge (option_map listed_as c.edge-reading.result)
-          (g.S.Sink.contents c.args.out.now) (g.S.Sink.contents c.edges.out) (g.S.Sink.contents c.write_reported.new.out) (g.S.Sink.is_stuck c.args.out.now) (g.S.Sink.is_stuck c.edges.out) (g.S.Sink.is_stuck c.write_reported.new.out)
-          c.edges.written c.in-Ok-write_reported.count c.counted-written.result (c.edges.invariant.watched f h) b c.edge-reading.ensures.follows c.in-Ok-write_reported.ensures c.counted-written.ensures;
+      watched = λ f h. watched_more f c.edges.lines c.next.new.self c.edges.monitor c.edge-reading.new.self c.in-Edge.edge (option_map listed_as c.edge-reading.result) _ _ _ _ _ _
+          c.edges.written _ (c.edges.invariant.watched f h) b c.edge-reading.ensures.follows c.in_ok-write_reported.ensures;
       room = omega (arith, b.room, c.edges.invariant.room);
     }
 
-pub returns-in-Err-write_reported : goal.returns-in-Err-write_reported
-returns-in-Err-write_reported g c = λ f h.
+pub returns-in_err-write_reported : goal.returns-in_err-write_reported
+returns-in_err-write_reported g c = λ f h.
     let b = edge_read c.edges.lines c.next.new.self c.in-Ok.line c.in-Edge.edge c.in-Ok.ensures c.in-Edge.is in
-    cut_edge f c.edges.lines c.next.new.self c.edges.monitor c.edge-reading.new.self c.in-Edge.edge (option_map listed_as c.edge-reading.result)
-    (g.S.Sink.contents c.args.out.now) (g.S.Sink.contents c.edges.out) (g.S.Sink.contents c.write_reported.new.out) (g.S.Sink.is_stuck c.args.out.now) (g.S.Sink.is_stuck c.edges.out) (g.S.Sink.is_stuck c.write_reported.new.out)
-    c.edges.written c.in-Err-write_reported.fault c.cut_at.result (c.edges.invariant.watched f h) b c.edge-reading.ensures.follows c.in-Err-write_reported.ensures c.cut_at.ensures
+    hands_on (WritesFile (g.S.Sink.contents c.args.out.now) (g.S.Sink.contents c.write_reported.new.out) (g.S.Sink.is_stuck c.args.out.now) (g.S.Sink.is_stuck c.write_reported.new.out) f)
+    c.in_err-write_reported.field-0.0 c.from_residual.result c.from_residual.ensures.0 c.from_residual.ensures.1
+    (cut_edge f c.edges.lines c.next.new.self c.edges.monitor c.edge-reading.new.self c.in-Edge.edge (option_map listed_as c.edge-reading.result) _ _ _ _ _ _
+    c.edges.written c.write_reported.new.written c.in_err-write_reported.field-0.0 (c.edges.invariant.watched f h) b c.edge-reading.ensures.follows c.in_err-write_reported.ensures)
 
-pub returns-in-Ok-write_reported-2 : goal.returns-in-Ok-write_reported-2
-returns-in-Ok-write_reported-2 g c = λ f h.
+pub returns-in-End : goal.returns-in-End
+returns-in-End g c = λ f h.
     let b = end_read_so c.edges.lines c.next.new.self c.in-Ok.line c.in-End.t c.in-Ok.ensures c.in-End.is in
-    end_written f c.edges.lines c.edges.monitor c.in-End.t (option_map listed_as c.finish-reading.result)
-    (g.S.Sink.contents c.args.out.now) (g.S.Sink.contents c.edges.out) (g.S.Sink.contents c.write_reported-in-End.new.out) (g.S.Sink.is_stuck c.args.out.now) (g.S.Sink.is_stuck c.edges.out) (g.S.Sink.is_stuck c.write_reported-in-End.new.out)
-    c.edges.written c.in-Ok-write_reported-2.field-0 (c.edges.invariant.watched f h) b.0 b.1 c.finish-reading.ensures c.in-Ok-write_reported-2.ensures
-
-pub returns-in-Err-write_reported-2 : goal.returns-in-Err-write_reported-2
-returns-in-Err-write_reported-2 g c = λ f h.
-    let b = end_read_so c.edges.lines c.next.new.self c.in-Ok.line c.in-End.t c.in-Ok.ensures c.in-End.is in
-    end_cut f c.edges.lines c.edges.monitor c.in-End.t (option_map listed_as c.finish-reading.result)
-    (g.S.Sink.contents c.args.out.now) (g.S.Sink.contents c.edges.out) (g.S.Sink.contents c.write_reported-in-End.new.out) (g.S.Sink.is_stuck c.args.out.now) (g.S.Sink.is_stuck c.edges.out) (g.S.Sink.is_stuck c.write_reported-in-End.new.out)
-    c.edges.written c.in-Err-write_reported-2.fault c.cut_at-in-Err-write_reported-2.result (c.edges.invariant.watched f h) b.0 b.1 c.finish-reading.ensures c.in-Err-write_reported-2.ensures c.cut_at-in-Err-write_reported-2.ensures
+    ended_so f c.edges.lines c.edges.monitor c.in-End.t (option_map listed_as c.finish-reading.result) _ _ _ _ _ _
+    c.edges.written _ c.write_reported-in-End.result (c.edges.invariant.watched f h) b.0 b.1 c.finish-reading.ensures c.write_reported-in-End.ensures
 
 pub returns-in-Err : goal.returns-in-Err
 returns-in-Err g c = λ f h.
