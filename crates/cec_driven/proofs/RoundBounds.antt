@@ -1,5 +1,6 @@
 -- A round is early and short, and few pulses begin in it.
-use Rattle.std.proofs.Common.{◌≡◌, ℕ, ◌+◌, ◌<◌, ◌≤◌, List, length, arith, sym, ap, ◌∙◌, subst}
+use Rattle.std.proofs.Common.{◌≡◌, ℕ, ◌≤◌, List, length, arith, sym, ap, subst}
+use Rattle.cec_wave.specs.Bounds.{latest_heard, latest_instant}
 use Rattle.cec_wave.specs.declared.Stretch.{Stretch}
 use Rattle.cec_wave.specs.Line.{IsWave}
 use Rattle.cec_wave.specs.Pulses.{AreSparse}
@@ -13,11 +14,11 @@ use Rattle.cec_net.proofs.Rounds.{short_round}
 
 pub record Bounds (begin : ℕ) (pulses : List Stretch) (o : Outcome) : Type 0 where
   pub few : length (begun_within begin o.rest pulses) ≤ 192
-  pub at : o.reading.at ≤ 3000000000000
+  pub at : o.reading.at ≤ latest_heard
   pub later : begin ≤ o.rest
-  pub rest : o.rest ≤ 3000000000000
+  pub rest : o.rest ≤ latest_heard
 
-pub bounds : (net new : NetState) (begin : ℕ) (pulses : List Stretch) (o : Outcome) → pulses ≡ net.pulses → AreSparse pulses → IsWave o.wave → begin ≤ 2000000000000
+pub bounds : (net new : NetState) (begin : ℕ) (pulses : List Stretch) (o : Outcome) → pulses ≡ net.pulses → AreSparse pulses → IsWave o.wave → begin ≤ latest_instant
     → IsNextRound net begin o new → IsProgress net begin new → Bounds begin pulses o
 bounds net new begin pulses o same sparse wave soon next progress =
     let own : AreSparse net.pulses = subst AreSparse same sparse in

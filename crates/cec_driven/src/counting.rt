@@ -1,5 +1,6 @@
 //! What a run counts.
 ghost use Rattle.std.specs.Prelude.{◌≡◌, ◌<◌, ◌≤◌, length};
+ghost use Rattle.cec_wave.specs.Bounds.{latest_instant};
 ghost use Rattle.cec_event.specs.Events.{NamesDevices};
 ghost use Rattle.cec_net.specs.Apply.{net_after, event_fault};
 ghost use Rattle.cec_run.specs.Run.{counted_event, counted_round};
@@ -12,7 +13,7 @@ use cec_run::Totals;
 
 /// Applies an event, and counts it where it is refused.
 pub fn apply_counted<W>(net: &mut Net<W>, totals: &mut Totals, at: u64, event: &TimedEvent)
-    requires early { at ≤ 2000000000000 }
+    requires early { at ≤ latest_instant }
     requires known { NamesDevices (length net.old.tree) event.now.event }
     requires room { totals.old.refused < 18446744073709551615 }
     ensures net { net.new ≡ net_after at event.now.event net.old }

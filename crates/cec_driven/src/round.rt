@@ -1,5 +1,6 @@
 //! One round, and who drives its line.
 ghost use Rattle.std.specs.Prelude.{◌≡◌, ◌+◌, ◌<◌, ◌≤◌, length, Some};
+ghost use Rattle.cec_wave.specs.Bounds.{latest_heard, latest_instant};
 ghost use Rattle.cec_tally.specs.Adds.{Adds};
 ghost use Rattle.cec_wire.specs.Bounds.{begun_within};
 ghost use Rattle.cec_net.specs.State.{next_start};
@@ -26,9 +27,9 @@ fn write_round<S: Sink>(
 ) -> Result<(), WriteFault>
     requires seats { length seats.now ≤ 15 }
     requires pulses { length (begun_within begin outcome.now.rest pulses.now) ≤ 192 }
-    requires begin { begin ≤ 2000000000000 }
-    requires early { outcome.now.reading.at ≤ 3000000000000 }
-    requires rest { (begin ≤ outcome.now.rest) × (outcome.now.rest ≤ 3000000000000) }
+    requires begin { begin ≤ latest_instant }
+    requires early { outcome.now.reading.at ≤ latest_heard }
+    requires rest { (begin ≤ outcome.now.rest) × (outcome.now.rest ≤ latest_heard) }
     ensures { Adds (S.contents out.old) (S.contents out.new) (S.is_stuck out.old) (S.is_stuck out.new) written.old written.new
         (round_drives seats.now begin pulses.now outcome.now) result }
 {
@@ -60,12 +61,12 @@ pub fn run_round<S: Sink, W: Wire>(
     begin: u64,
 ) -> Result<(), WriteFault>
     requires starts { next_start net.old ≡ Some begin }
-    requires early { net.old.close ≤ 2000000000000 }
-    requires soon { begin ≤ 2000000000000 }
+    requires early { net.old.close ≤ latest_instant }
+    requires soon { begin ≤ latest_instant }
     requires few { length net.old.devices ≤ 15 }
     requires pulses { kept.old.pulses ≡ net.old.pulses }
     requires rest { kept.old.rest ≡ net.old.rest }
-    requires rested { net.old.rest ≤ 2000000000000 }
+    requires rested { net.old.rest ≤ latest_instant }
     requires room { totals.old.rounds < 18446744073709551615 }
     requires less { totals.old.complete ≤ totals.old.rounds }
     ensures round { RoundDriven net.old net.new totals.old totals.new (S.contents out.old) (S.contents out.new) (S.is_stuck out.old) (S.is_stuck out.new) written.old written.new result }

@@ -1,6 +1,7 @@
 //! A run of the network, of which the line and who drives it are written.
 ghost use Rattle.std.specs.Prelude.{◌≡◌, ℕ, ◌≤◌, List, length, true, max, IfOk, IfErr, OnOk, OnErr};
 ghost use Rattle.std.specs.Io.KnownBytes.{Appends};
+ghost use Rattle.cec_wave.specs.Bounds.{latest_event};
 ghost use Rattle.cec_asm.specs.Script.{IsSchedule};
 ghost use Rattle.hdmi_core.specs.Cut.{CutOff};
 ghost use Rattle.cec_tally.specs.Adds.{Adds, AddsFront};
@@ -15,7 +16,6 @@ use crate::round::{Kept, run_round};
 use cec_asm::TimedEvent;
 use cec_net::Net;
 use cec_run::{Totals, Turn, first_time, next_turn};
-use cec_tally::add_part;
 use cec_vcd::write_last;
 use cec_wave::Pulses;
 use cec_wire::Wire;
@@ -30,7 +30,7 @@ fn write_end<S: Sink, W>(
 ) -> Result<(), WriteFault>
     ensures { Adds (S.contents out.old) (S.contents out.new) (S.is_stuck out.old) (S.is_stuck out.new) written.old written.new (last (max end net.now.close)) result }
 {
-    add_part(written, write_last(out, end.max(net.close())))
+    write_last(out, written, end.max(net.close()))
 }
 
 // Runs a network to `end`, and writes all but the head of the dump.
@@ -42,8 +42,8 @@ fn run_turns<S: Sink, W: Wire>(
     events: &[TimedEvent],
     end: u64,
 ) -> Result<Totals, WriteFault>
-    requires early { end ≤ 1000000000000 }
-    requires fresh { (net.old.close ≤ 1000000000000) × (net.old.rest ≤ 1000000000000) }
+    requires early { end ≤ latest_event }
+    requires fresh { (net.old.close ≤ latest_event) × (net.old.rest ≤ latest_event) }
     requires few { length net.old.devices ≤ 15 }
     requires pulses { kept.old.pulses ≡ net.old.pulses }
     requires rest { kept.old.rest ≡ net.old.rest }
@@ -87,7 +87,7 @@ pub fn run<S: Sink, W: Wire>(
     events: &[TimedEvent],
     end: u64,
 ) -> Result<Totals, WriteFault>
-    requires early { end ≤ 1000000000000 }
+    requires early { end ≤ latest_event }
     requires fresh { (net.old.close ≡ 0) × (net.old.rest ≡ 0) }
     requires few { length net.old.devices ≤ 15 }
     requires pulses { pulses ≡ net.old.pulses }

@@ -1,5 +1,6 @@
 //! The seats of a round, as they stand before it.
 ghost use Rattle.std.specs.Prelude.{◌≡◌, ◌+◌, ◌==◌, ◌<◌, ◌≤◌, length, map};
+ghost use Rattle.cec_wave.specs.Bounds.{latest_heard, latest_rest};
 ghost use Rattle.cec_net.specs.Start.{contends, next_turn, start_from};
 ghost use Rattle.cec_net.specs.Step.{seat_of};
 
@@ -15,7 +16,7 @@ const TURNS: u64 = 16;
 
 // The first instant from `at` on whose remainder by 16 is the number.
 fn next_turn(number: u8, at: u64) -> u64
-    requires { at ≤ 3000000000000 }
+    requires { at ≤ latest_heard }
     ensures { result ≡ next_turn number at }
 {
     at + (u64::from(number) + TURNS - at % TURNS) % TURNS
@@ -23,7 +24,7 @@ fn next_turn(number: u8, at: u64) -> u64
 
 // Whether that instant is this one.
 fn is_turn(number: u8, at: u64, begin: u64) -> bool
-    requires { begin ≤ 2500000000000 }
+    requires { begin ≤ latest_rest }
     ensures { result ≡ (next_turn number at == begin) }
 {
     at <= begin && next_turn(number, at) == begin
@@ -31,8 +32,8 @@ fn is_turn(number: u8, at: u64, begin: u64) -> bool
 
 // Whether a device whose frame is ready then starts at `begin`, where the line is high since `rest`.
 fn starts_at(device: &Device<16>, ready: u64, rest: u64, begin: u64) -> bool
-    requires rest { rest ≤ 2500000000000 }
-    requires begin { begin ≤ 2500000000000 }
+    requires rest { rest ≤ latest_rest }
+    requires begin { begin ≤ latest_rest }
     ensures { result ≡ (start_from rest device.now ready == begin) }
 {
     let earliest = ready.max(rest + device.class().micros());
@@ -45,8 +46,8 @@ fn starts_at(device: &Device<16>, ready: u64, rest: u64, begin: u64) -> bool
 
 // Whether a device contends in the round that begins at `begin`.
 fn contends(device: &Device<16>, rest: u64, begin: u64) -> bool
-    requires rest { rest ≤ 2500000000000 }
-    requires begin { begin ≤ 2500000000000 }
+    requires rest { rest ≤ latest_rest }
+    requires begin { begin ≤ latest_rest }
     ensures { result ≡ contends rest begin device.now }
 {
     if !device.is_on_wire() {
@@ -59,8 +60,8 @@ fn contends(device: &Device<16>, rest: u64, begin: u64) -> bool
 }
 
 fn seat_of(device: &Device<16>, rest: u64, begin: u64) -> Seat
-    requires rest { rest ≤ 2500000000000 }
-    requires begin { begin ≤ 2500000000000 }
+    requires rest { rest ≤ latest_rest }
+    requires begin { begin ≤ latest_rest }
     ensures { result ≡ seat_of rest begin device.now }
 {
     let sends = if contends(device, rest, begin) {
@@ -78,8 +79,8 @@ fn seat_of(device: &Device<16>, rest: u64, begin: u64) -> Seat
 /// The seats of the round that begins at `begin`, where the line is high since `rest`.
 pub fn seats_of(devices: &[Device<16>], rest: u64, begin: u64) -> ArrayVec<Seat, DEVICES>
     requires few { length devices.now ≤ 15 }
-    requires rest { rest ≤ 2500000000000 }
-    requires begin { begin ≤ 2500000000000 }
+    requires rest { rest ≤ latest_rest }
+    requires begin { begin ≤ latest_rest }
     ensures { result.items ≡ map (seat_of rest begin) devices.now }
 {
     let mut seats = ArrayVec::new();
