@@ -283,6 +283,7 @@ fn run_round<S: Sink, W: Wire>(
     write_round_told(out, written, telling, net.devices(), &outcome)
 }
 
+// Writes the state line of a device.
 fn write_state_line<S: Sink>(
     out: &mut S,
     written: &mut u128,
@@ -293,7 +294,7 @@ fn write_state_line<S: Sink>(
     add_part(written, write_state(out, device))
 }
 
-/// Writes the state lines of the devices.
+// Writes the state lines of the devices.
 fn write_states<S: Sink>(
     out: &mut S,
     written: &mut u128,
@@ -307,6 +308,7 @@ fn write_states<S: Sink>(
     Ok(())
 }
 
+// Writes the last line.
 fn write_end_line<S: Sink>(out: &mut S, written: &mut u128, end: u64) -> Result<(), WriteFault>
     ensures { Adds (S.contents out.old) (S.contents out.new) (S.is_stuck out.old) (S.is_stuck out.new) written.old written.new (end_line end) result }
 {
