@@ -1,5 +1,5 @@
 -- How many devices there are stays the same.
-use Rattle.std.proofs.Common.{◌≡◌, ℕ, zero, suc, ◌≤◌, List, [], ◌∷◌, length, Option, Some, None, map, refl, ap, sym, ◌∙◌, subst, arith}
+use Rattle.std.proofs.Common.{◌≡◌, ℕ, zero, suc, List, [], ◌∷◌, length, Option, Some, None, map, refl, ap, ◌∙◌}
 use Rattle.cec_wave.specs.declared.Stretch.{Stretch}
 use Rattle.cec_wire.specs.declared.Outcome.{Outcome}
 use Rattle.cec_event.specs.declared.event.Event.{Event}
@@ -10,7 +10,7 @@ use Rattle.cec_device.specs.State.{State}
 use Rattle.cec_device.specs.Place.{fresh}
 use Rattle.cec_net.specs.State.{NetState, moved_by, first_net}
 use Rattle.cec_net.specs.Apply.{net_after, applied_unless, changed_at, event_fault}
-use Rattle.cec_net.specs.Step.{after_round, IsNextRound}
+use Rattle.cec_net.specs.Step.{IsNextRound}
 use Rattle.cec_net.proofs.Each.{length-each_from}
 use Rattle.cec_driven.specs.Driven.{names_of}
 

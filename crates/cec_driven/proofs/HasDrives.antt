@@ -1,5 +1,5 @@
 -- Each run has a text of its drives, as it has one of its line.
-use Rattle.std.proofs.Common.{◌≡◌, ℕ, zero, suc, max, List, [], ◌∷◌, ◌++◌, refl}
+use Rattle.std.proofs.Common.{ℕ, zero, suc, max, List, [], ◌++◌, refl}
 use Rattle.cec_wave.specs.declared.Stretch.{Stretch}
 use Rattle.cec_wave.specs.Pulses.{AreSparse}
 use Rattle.hdmi_topo.specs.Node.{Node}

@@ -18,7 +18,7 @@ use Rattle.cec_run.specs.declared.run.Totals.{Totals}
 use Rattle.cec_run.specs.declared.run.Turn.TheVariants.{Stop, Apply, Round}
 use Rattle.cec_tally.specs.Adds.{AddsAll, AddsFront}
 use Rattle.cec_tally.proofs.Adding.{both, front, front_after}
-use Rattle.cec_run.specs.Run.{Config, turn_at, turn_of, first_time, counted_event, counted_round, IsRoundTurn}
+use Rattle.cec_run.specs.Run.{Config, turn_at, turn_of, first_time, counted_event, counted_round}
 use Rattle.cec_driven.specs.Driven.{round_drives, IsDrivenBy, IsDrivenTurn, Drives, IsDrivenFrom, RoundDriven}
 use Rattle.cec_run.proofs.Advance.{Brought, round_brings}
 use Rattle.cec_driven.proofs.Turns.{one_more, front_of_text, whole_text}

@@ -2,7 +2,6 @@
 use Rattle.std.proofs.Common.{◌≡◌, ℕ, zero, suc, max, List, [], ◌∷◌, ◌++◌, ap, ap₂, ◌∙◌, sym, refl, subst, append_assoc, append-nil}
 use Rattle.cec_wire.specs.declared.Outcome.{Outcome}
 use Rattle.cec_wire.proofs.OneOutcome.{one_outcome}
-use Rattle.cec_net.specs.State.{NetState}
 use Rattle.cec_net.specs.Step.{after_round, seats_of}
 use Rattle.cec_vcd.specs.Text.{last}
 use Rattle.cec_line.specs.declared.format.Format.TheVariants.{Vcd}
@@ -14,7 +13,7 @@ use Rattle.cec_asm.specs.declared.script.TimedEvent.{TimedEvent}
 use Rattle.cec_text.specs.ReadingText.{is_complete}
 use Rattle.cec_run.specs.Run.{Config, turn_at, counted_round, IsEventTurn}
 use Rattle.cec_run.proofs.Turns.{same_outcome}
-use Rattle.cec_driven.specs.Driven.{round_drives, IsDrivenBy, IsDrivenTurn, Drives, IsDriven, IsDrivenFrom}
+use Rattle.cec_driven.specs.Driven.{round_drives, IsDrivenBy, IsDrivenTurn, Drives, IsDrivenFrom}
 
 one_event : (at : ℕ) (events : List TimedEvent) (c d e : Config) (x y : List ℕ) → IsEventTurn (Line Vcd) at events c x d → IsEventTurn (Line Vcd) at events c y e → d ≡ e
 one_event at [] c d e x y r s = r.1 ∙ sym s.1

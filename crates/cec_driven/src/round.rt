@@ -1,6 +1,6 @@
 //! One round, and who drives its line.
 ghost use Rattle.std.specs.Prelude.{◌≡◌, ◌+◌, ◌<◌, ◌≤◌, length, Some};
-ghost use Rattle.cec_wave.specs.Bounds.{latest_instant, latest_heard};
+ghost use Rattle.cec_wave.specs.Bounds.{latest_heard, latest_instant};
 ghost use Rattle.cec_tally.specs.Adds.{Adds};
 ghost use Rattle.cec_wire.specs.Bounds.{begun_within};
 ghost use Rattle.cec_net.specs.State.{next_start};

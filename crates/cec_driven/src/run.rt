@@ -16,7 +16,6 @@ use crate::round::{Kept, run_round};
 use cec_asm::TimedEvent;
 use cec_net::Net;
 use cec_run::{Totals, Turn, first_time, next_turn};
-use cec_tally::add_part;
 use cec_vcd::write_last;
 use cec_wave::Pulses;
 use cec_wire::Wire;
@@ -31,7 +30,7 @@ fn write_end<S: Sink, W>(
 ) -> Result<(), WriteFault>
     ensures { Adds (S.contents out.old) (S.contents out.new) (S.is_stuck out.old) (S.is_stuck out.new) written.old written.new (last (max end net.now.close)) result }
 {
-    add_part(written, write_last(out, end.max(net.close())))
+    write_last(out, written, end.max(net.close()))
 }
 
 // Runs a network to `end`, and writes all but the head of the dump.

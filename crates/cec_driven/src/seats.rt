@@ -1,6 +1,6 @@
 //! The seats of a round, as they stand before it.
 ghost use Rattle.std.specs.Prelude.{◌≡◌, ◌+◌, ◌==◌, ◌<◌, ◌≤◌, length, map};
-ghost use Rattle.cec_wave.specs.Bounds.{latest_rest, latest_heard};
+ghost use Rattle.cec_wave.specs.Bounds.{latest_heard, latest_rest};
 ghost use Rattle.cec_net.specs.Start.{contends, next_turn, start_from};
 ghost use Rattle.cec_net.specs.Step.{seat_of};
 

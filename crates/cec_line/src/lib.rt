@@ -6,4 +6,4 @@ mod format;
 mod writing;
 
 pub use format::Format;
-pub use writing::{as_text, write_end, write_round, write_start};
+pub use writing::{write_end, write_round, write_start};

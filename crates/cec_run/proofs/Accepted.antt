@@ -1,6 +1,7 @@
 -- What accepted texts have.
 use Rattle.std.proofs.Common.{◌≡◌, ℕ, ◌+◌, ◌<◌, ◌≤◌, Bool, true, false, if◌then◌else◌, List, [], ◌∷◌, length, get_or, Option, Some, None, Result, Ok, Err, ap, ◌∙◌, sym, refl, subst, arith}
 use Rattle.std.specs.List.{All}
+use Rattle.cec_wave.specs.Bounds.{latest_event, latest_instant}
 use Rattle.cec_wave.specs.declared.Stretch.{Stretch}
 use Rattle.hdmi_topo.specs.Node.{Node}
 use Rattle.hdmi_topo.specs.Tree.{has_root}
@@ -46,8 +47,8 @@ pub has_device : (text : List ℕ) (plan : Plan) → topology_of text ≡ Ok pla
 has_device text plan h = some_device plan.tree (rooted (lines_of text) 1 (record { tree = []; edid = None }) plan h)
 
 -- times within the limit of scripts are within that of runs
-pub early : (pulses : List Stretch) → All (λ p. p.from ≤ 1000000000000) pulses → All (λ p. p.from ≤ 2000000000000) pulses
-early pulses all = λ i d l. (let h : (get_or pulses i d).from ≤ 1000000000000 = all i d l in omega arith)
+pub early : (pulses : List Stretch) → All (λ p. p.from ≤ latest_event) pulses → All (λ p. p.from ≤ latest_instant) pulses
+early pulses all = λ i d l. (let h : (get_or pulses i d).from ≤ latest_event = all i d l in omega arith)
 
 same_plan : (p q : Plan) (r : Result Plan TopologyFault) → r ≡ Ok p → r ≡ Ok q → p ≡ q
 same_plan p q r a b = cc

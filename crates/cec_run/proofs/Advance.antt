@@ -1,6 +1,7 @@
 -- What a turn leaves as it was, and how far a round brings the run.
 use Rattle.std.proofs.Common.{◌≡◌, ℕ, suc, ◌+◌, ◌-◌, ◌<◌, ◌≤◌, Bool, true, false, nat_lt, max, if◌then◌else◌, List, ◌∷◌, length, Option, Some, None, ap, sym, refl, subst, arith}
 use Rattle.std.proofs.lemmas.Bool.Decides.{nat_tests}
+use Rattle.cec_wave.specs.Bounds.{latest_event, latest_instant}
 use Rattle.cec_wire.specs.declared.Outcome.{Outcome}
 use Rattle.cec_wire.specs.Round.{close_in}
 use Rattle.cec_asm.specs.declared.script.TimedEvent.{TimedEvent}
@@ -95,7 +96,7 @@ round_brings telling end begin s t totals counted line p soon turn =
 pub same_begin : {begin x : ℕ} → Some begin ≡ Some x → begin ≡ x
 same_begin e = cc
 
-pub smaller : (events old new : ℕ) → old < new → old < 1000000000000 → events + (2000000000000 - new) < events + (2000000000000 - old)
+pub smaller : (events old new : ℕ) → old < new → old < latest_event → events + (latest_instant - new) < events + (latest_instant - old)
 smaller events old new sooner before = omega arith
 
 -- ---- counts

@@ -2,30 +2,32 @@
 ghost use Rattle.std.specs.Prelude.{◌≡◌, ℕ, ◌+◌, ◌++◌, ◌<◌, ◌≤◌, List, length, true, false, Some, IfOk, IfErr, OnOk, OnErr, All, Bool, Option};
 ghost use Rattle.std.specs.List.{flat_map};
 ghost use Rattle.std.specs.Io.KnownBytes.{Appends};
-ghost use Rattle.hdmi_core.specs.Written.{WrittenLine};
+ghost use Rattle.cec_wave.specs.Bounds.{latest_event, latest_instant};
 ghost use Rattle.cec_asm.specs.Script.{IsSchedule};
 ghost use Rattle.cec_net.specs.State.{next_start, first_net};
 ghost use Rattle.cec_run.specs.declared.run.Totals.{Totals as TotalsRecord};
 ghost use Rattle.cec_event.specs.Events.{NamesDevices};
 ghost use Rattle.cec_net.specs.Apply.{net_after, event_fault};
-ghost use Rattle.hdmi_core.specs.Cut.{CutOff, WrittenText, told_count};
+ghost use Rattle.hdmi_core.specs.Cut.{CutOff, WrittenText};
+ghost use Rattle.cec_tally.specs.Adds.{Adds, AddsFront};
 ghost use Rattle.cec_trace.specs.StateText.{state_line};
 ghost use Rattle.cec_text.specs.ReadingText.{is_complete};
 ghost use Rattle.cec_trace.specs.TraceText.{event_line, end_line};
 ghost use Rattle.hdmi_blocks.specs.Root.{HasAddress};
-ghost use Rattle.cec_run.specs.Run.{HasAddressTold, IsRunText, IsRunTextFrom, RoundWritten, counted_event, counted_round, end_told, event_text, event_told, event_turn, first_time, round_told, round_turn, start, start_told, turn_of};
+ghost use Rattle.cec_run.specs.Run.{HasAddressTold, IsRunText, IsRunTextFrom, RoundAdded, counted_event, counted_round, end_told, event_text, event_told, event_turn, first_time, round_told, round_turn, start, start_told, turn_of};
 
 use cec_asm::{Script, TimedEvent};
 use cec_device::Device;
 use cec_edges::EdgeWire;
 use cec_event::EventError;
 use cec_frame::Ending;
-use cec_line::{Format, as_text};
+use cec_line::Format;
 use cec_net::Net;
-use cec_trace::{on_wire, write_end, write_event, write_ports, write_round, write_state};
+use cec_tally::add_part;
+use cec_trace::{add_ports, on_wire, write_end, write_event, write_round, write_state};
 use cec_wire::{Outcome, Wire};
 use hdmi_blocks::Edid;
-use hdmi_core::{Sink, WriteFault, counted, cut_at};
+use hdmi_core::{Sink, WriteFault, counted};
 use hdmi_topo::Tree;
 use std::alloc::{AllocError, Global};
 
@@ -109,7 +111,7 @@ fn apply_counted<W>(
     at: u64,
     event: &TimedEvent,
 ) -> Option<EventError>
-    requires early { at ≤ 2000000000000 }
+    requires early { at ≤ latest_instant }
     requires known { NamesDevices (length net.old.tree) event.now.event }
     requires room { totals.old.refused < 18446744073709551615 }
     ensures net { net.new ≡ net_after at event.now.event net.old }
@@ -128,24 +130,50 @@ fn apply_counted<W>(
 // Applies an event, and writes its line.
 fn apply_alone<S: Sink, W>(
     out: &mut S,
+    written: &mut u128,
     net: &mut Net<W>,
     totals: &mut Totals,
     at: u64,
     event: &TimedEvent,
-) -> Result<u128, WriteFault>
-    requires early { at ≤ 2000000000000 }
+) -> Result<(), WriteFault>
+    requires early { at ≤ latest_instant }
     requires known { NamesDevices (length net.old.tree) event.now.event }
     requires room { totals.old.refused < 18446744073709551615 }
     ensures net { net.new ≡ net_after at event.now.event net.old }
     ensures totals { totals.new ≡ counted_event (event_fault net.old event.now.event) totals.old }
-    ensures line { WrittenLine (S.contents out.old) (S.contents out.new) (S.is_stuck out.old) (S.is_stuck out.new)
+    ensures line { Adds (S.contents out.old) (S.contents out.new) (S.is_stuck out.old) (S.is_stuck out.new) written.old written.new
         (event_line at event.now.line (event_fault net.old event.now.event)) result }
 {
     let refused = apply_counted(net, totals, at, event);
-    write_event(out, at, event.line, refused)
+    write_event(out, written, at, event.line, refused)
+}
+
+// Applies an event, and adds its line and those of the ports of the devices that come onto the wire by it.
+fn add_event<S: Sink, W>(
+    out: &mut S,
+    written: &mut u128,
+    net: &mut Net<W>,
+    edid: &Option<Edid>,
+    totals: &mut Totals,
+    at: u64,
+    event: &TimedEvent,
+) -> Result<(), WriteFault>
+    requires addressed { HasAddress edid.now }
+    requires early { at ≤ latest_instant }
+    requires known { NamesDevices (length net.old.tree) event.now.event }
+    requires room { totals.old.refused < 18446744073709551615 }
+    ensures net { net.new ≡ net_after at event.now.event net.old }
+    ensures totals { totals.new ≡ counted_event (event_fault net.old event.now.event) totals.old }
+    ensures text { Adds (S.contents out.old) (S.contents out.new) (S.is_stuck out.old) (S.is_stuck out.new) written.old written.new
+        (event_text edid.now at event.now net.old) result }
+{
+    let was = on_wire(net.tree());
+    apply_alone(out, written, net, totals, at, event)?;
+    add_ports(out, written, at, edid, net.tree(), &was)
 }
 
 /// Applies an event, and writes its line and those of the ports of the devices that come onto the wire by it.
+/// Returns how many bytes they are.
 pub fn apply_event<S: Sink, W>(
     out: &mut S,
     net: &mut Net<W>,
@@ -155,7 +183,7 @@ pub fn apply_event<S: Sink, W>(
     event: &TimedEvent,
 ) -> Result<u128, WriteFault>
     requires addressed { HasAddress edid.now }
-    requires early { at ≤ 2000000000000 }
+    requires early { at ≤ latest_instant }
     requires known { NamesDevices (length net.old.tree) event.now.event }
     requires room { totals.old.refused < 18446744073709551615 }
     ensures net { net.new ≡ net_after at event.now.event net.old }
@@ -163,39 +191,35 @@ pub fn apply_event<S: Sink, W>(
     ensures text { WrittenText (S.contents out.old) (S.contents out.new) (S.is_stuck out.old) (S.is_stuck out.new)
         (event_text edid.now at event.now net.old) result }
 {
-    let was = on_wire(net.tree());
-    match apply_alone(out, net, totals, at, event) {
-        Ok(count) => match write_ports(out, at, edid, net.tree(), &was) {
-            Ok(more) => Ok(counted(count, more)),
-            Err(fault) => Err(cut_at(count, fault)),
-        },
-        Err(fault) => Err(cut_at(0, fault)),
-    }
+    let mut written = 0;
+    add_event(out, &mut written, net, edid, totals, at, event)?;
+    Ok(counted(0, written))
 }
 
 // Applies an event, and writes what is reported of it.
 fn apply_told<S: Sink, W>(
     out: &mut S,
+    written: &mut u128,
     net: &mut Net<W>,
     telling: &Telling,
     totals: &mut Totals,
     at: u64,
     event: &TimedEvent,
-) -> Result<u128, WriteFault>
+) -> Result<(), WriteFault>
     requires addressed { HasAddressTold telling.now }
-    requires early { at ≤ 2000000000000 }
+    requires early { at ≤ latest_instant }
     requires known { NamesDevices (length net.old.tree) event.now.event }
     requires room { totals.old.refused < 18446744073709551615 }
     ensures net { net.new ≡ net_after at event.now.event net.old }
     ensures totals { totals.new ≡ counted_event (event_fault net.old event.now.event) totals.old }
-    ensures text { WrittenText (S.contents out.old) (S.contents out.new) (S.is_stuck out.old) (S.is_stuck out.new)
+    ensures text { Adds (S.contents out.old) (S.contents out.new) (S.is_stuck out.old) (S.is_stuck out.new) written.old written.new
         (event_told telling.now at event.now net.old) result }
 {
     match telling {
-        Telling::Trace(edid) => apply_event(out, net, edid, totals, at, event),
+        Telling::Trace(edid) => add_event(out, written, net, edid, totals, at, event),
         Telling::Line(_) => {
             let _refused = apply_counted(net, totals, at, event);
-            Ok(0)
+            Ok(())
         }
     }
 }
@@ -222,119 +246,141 @@ fn counted_round(totals: Totals, ending: Ending) -> Totals
 // Writes what is reported of a round.
 fn write_round_told<S: Sink>(
     out: &mut S,
+    written: &mut u128,
     telling: &Telling,
     devices: &[Device<16>],
     outcome: &Outcome,
-) -> Result<u128, WriteFault>
-    ensures { WrittenText (S.contents out.old) (S.contents out.new) (S.is_stuck out.old) (S.is_stuck out.new)
+) -> Result<(), WriteFault>
+    ensures { Adds (S.contents out.old) (S.contents out.new) (S.is_stuck out.old) (S.is_stuck out.new) written.old written.new
         (round_told telling.now devices.now outcome.now) result }
 {
     match telling {
-        Telling::Trace(_) => as_text(write_round(out, devices, outcome)),
-        Telling::Line(format) => cec_line::write_round(out, *format, outcome.wave.as_slice()),
+        Telling::Trace(_) => add_part(written, write_round(out, devices, outcome)),
+        Telling::Line(format) => {
+            cec_line::write_round(out, written, *format, outcome.wave.as_slice())
+        }
     }
 }
 
 // Runs the next round, which begins at `begin`, and writes what is reported of it.
 fn run_round<S: Sink, W: Wire>(
     out: &mut S,
+    written: &mut u128,
     net: &mut Net<W>,
     telling: &Telling,
     totals: &mut Totals,
     begin: u64,
-) -> Result<u128, WriteFault>
+) -> Result<(), WriteFault>
     requires starts { next_start net.old ≡ Some begin }
-    requires early { net.old.close ≤ 2000000000000 }
+    requires early { net.old.close ≤ latest_instant }
     requires room { totals.old.rounds < 18446744073709551615 }
     requires less { totals.old.complete ≤ totals.old.rounds }
-    ensures { RoundWritten telling.now net.old net.new totals.old totals.new (S.contents out.old) (S.contents out.new) (S.is_stuck out.old) (S.is_stuck out.new) result }
+    ensures { RoundAdded telling.now net.old net.new totals.old totals.new (S.contents out.old) (S.contents out.new) (S.is_stuck out.old) (S.is_stuck out.new) written.old written.new result }
 {
     let outcome = net.round_at(begin);
     *totals = counted_round(*totals, outcome.reading.ending);
     let _stretches = outcome.wave.as_slice();
-    write_round_told(out, telling, net.devices(), &outcome)
+    write_round_told(out, written, telling, net.devices(), &outcome)
 }
 
-/// Writes the state lines of the devices.
-fn write_states<S: Sink>(out: &mut S, devices: &[Device<16>]) -> Result<u128, WriteFault>
-    ensures { WrittenText (S.contents out.old) (S.contents out.new) (S.is_stuck out.old) (S.is_stuck out.new) (flat_map state_line devices.now) result }
+// Writes the state line of a device.
+fn write_state_line<S: Sink>(
+    out: &mut S,
+    written: &mut u128,
+    device: &Device<16>,
+) -> Result<(), WriteFault>
+    ensures { Adds (S.contents out.old) (S.contents out.new) (S.is_stuck out.old) (S.is_stuck out.new) written.old written.new (state_line device.now) result }
 {
-    let mut written = 0;
+    add_part(written, write_state(out, device))
+}
+
+// Writes the state lines of the devices.
+fn write_states<S: Sink>(
+    out: &mut S,
+    written: &mut u128,
+    devices: &[Device<16>],
+) -> Result<(), WriteFault>
+    ensures { Adds (S.contents out.old) (S.contents out.new) (S.is_stuck out.old) (S.is_stuck out.new) written.old written.new (flat_map state_line devices.now) result }
+{
     for device in devices {
-        match write_state(out, device) {
-            Ok(count) => written = counted(written, count),
-            Err(fault) => return Err(cut_at(written, fault)),
-        }
+        write_state_line(out, written, device)?;
     }
-    Ok(written)
+    Ok(())
+}
+
+// Writes the last line.
+fn write_end_line<S: Sink>(out: &mut S, written: &mut u128, end: u64) -> Result<(), WriteFault>
+    ensures { Adds (S.contents out.old) (S.contents out.new) (S.is_stuck out.old) (S.is_stuck out.new) written.old written.new (end_line end) result }
+{
+    add_part(written, write_end(out, end))
 }
 
 // Writes the state lines of the devices, and the last line.
 fn write_last_lines<S: Sink>(
     out: &mut S,
+    written: &mut u128,
     devices: &[Device<16>],
     end: u64,
-) -> Result<u128, WriteFault>
-    ensures { WrittenText (S.contents out.old) (S.contents out.new) (S.is_stuck out.old) (S.is_stuck out.new) (flat_map state_line devices.now ++ end_line end) result }
+) -> Result<(), WriteFault>
+    ensures { Adds (S.contents out.old) (S.contents out.new) (S.is_stuck out.old) (S.is_stuck out.new) written.old written.new (flat_map state_line devices.now ++ end_line end) result }
 {
-    let written = write_states(out, devices)?;
-    match write_end(out, end) {
-        Ok(count) => Ok(counted(written, count)),
-        Err(fault) => Err(cut_at(written, fault)),
-    }
+    write_states(out, written, devices)?;
+    write_end_line(out, written, end)
 }
 
 // Writes what is reported at the start.
 fn write_start_told<S: Sink, W>(
     out: &mut S,
+    written: &mut u128,
     telling: &Telling,
     net: &Net<W>,
-) -> Result<u128, WriteFault>
+) -> Result<(), WriteFault>
     requires { HasAddressTold telling.now }
-    ensures { WrittenText (S.contents out.old) (S.contents out.new) (S.is_stuck out.old) (S.is_stuck out.new) (start_told telling.now net.now) result }
+    ensures { Adds (S.contents out.old) (S.contents out.new) (S.is_stuck out.old) (S.is_stuck out.new) written.old written.new (start_told telling.now net.now) result }
 {
     match telling {
-        Telling::Trace(edid) => write_ports(out, 0, edid, net.tree(), &[]),
-        Telling::Line(format) => cec_line::write_start(out, *format),
+        Telling::Trace(edid) => add_ports(out, written, 0, edid, net.tree(), &[]),
+        Telling::Line(format) => cec_line::write_start(out, written, *format),
     }
 }
 
 // Writes what is reported at the end.
 fn write_end_told<S: Sink, W>(
     out: &mut S,
+    written: &mut u128,
     telling: &Telling,
     net: &Net<W>,
     end: u64,
-) -> Result<u128, WriteFault>
-    ensures { WrittenText (S.contents out.old) (S.contents out.new) (S.is_stuck out.old) (S.is_stuck out.new) (end_told telling.now end net.now) result }
+) -> Result<(), WriteFault>
+    ensures { Adds (S.contents out.old) (S.contents out.new) (S.is_stuck out.old) (S.is_stuck out.new) written.old written.new (end_told telling.now end net.now) result }
 {
     match telling {
-        Telling::Trace(_) => write_last_lines(out, net.devices(), end),
-        Telling::Line(format) => cec_line::write_end(out, *format, end.max(net.close())),
+        Telling::Trace(_) => write_last_lines(out, written, net.devices(), end),
+        Telling::Line(format) => cec_line::write_end(out, written, *format, end.max(net.close())),
     }
 }
 
 // Runs a network to `end`, and writes what is reported of it but for the start.
 fn run_turns<S: Sink, W: Wire>(
     out: &mut S,
+    written: &mut u128,
     net: &mut Net<W>,
     telling: &Telling,
     events: &[TimedEvent],
     end: u64,
 ) -> Result<Totals, WriteFault>
     requires addressed { HasAddressTold telling.now }
-    requires early { end ≤ 1000000000000 }
-    requires fresh { (net.old.close ≤ 1000000000000) × (net.old.rest ≤ 1000000000000) }
+    requires early { end ≤ latest_event }
+    requires fresh { (net.old.close ≤ latest_event) × (net.old.rest ≤ latest_event) }
     requires schedule { IsSchedule (length net.old.tree) end 0 events.now }
     ensures ok { IfOk result (λ totals. (text : List ℕ) × IsRunTextFrom telling.now end (start net.old events.now) text totals × Appends (S.contents out.old) (S.contents out.new) text) }
     ensures same { OnOk result (S.is_stuck out.new ≡ S.is_stuck out.old) }
     ensures cut { IfErr result (λ fault. (text : List ℕ) (totals : TotalsRecord) → IsRunTextFrom telling.now end (start net.old events.now) text totals
-        → CutOff (S.contents out.old) (S.contents out.new) text fault) }
+        → AddsFront (S.contents out.old) (S.contents out.new) written.old text fault) }
     ensures stuck { OnErr result (S.is_stuck out.new ≡ true) }
 {
     let mut rest = events;
     let mut totals = Totals::default();
-    let mut written = 0;
     'turns: loop {
         match next_turn(end, net, first_time(rest)) {
             Turn::Stop => break,
@@ -342,22 +388,14 @@ fn run_turns<S: Sink, W: Wire>(
                 let Some((event, others)) = rest.split_first() else {
                     unreachable!();
                 };
-                match apply_told(out, net, telling, &mut totals, at, event) {
-                    Ok(count) => written = counted(written, count),
-                    Err(fault) => return Err(cut_at(written, fault)),
-                }
+                apply_told(out, written, net, telling, &mut totals, at, event)?;
                 rest = others;
             }
-            Turn::Round(begin) => match run_round(out, net, telling, &mut totals, begin) {
-                Ok(count) => written = counted(written, count),
-                Err(fault) => return Err(cut_at(written, fault)),
-            },
+            Turn::Round(begin) => run_round(out, written, net, telling, &mut totals, begin)?,
         }
     }
-    match write_end_told(out, telling, net, end) {
-        Ok(_) => Ok(totals),
-        Err(fault) => Err(cut_at(written, fault)),
-    }
+    write_end_told(out, written, telling, net, end)?;
+    Ok(totals)
 }
 
 /// The network at the start of a run, on the heap: it is large.
@@ -371,7 +409,7 @@ pub fn started_net(
     script: &Script,
 ) -> Result<Box<Net<EdgeWire>>, AllocError>
     requires some { 0 < length tree }
-    requires early { All (λ p. p.from ≤ 2000000000000) script.now.pulses.items }
+    requires early { All (λ p. p.from ≤ latest_instant) script.now.pulses.items }
     ensures { IfOk result (λ net. net.value ≡ first_net tree script.now.pulses.items) }
 {
     Net::on_heap(alloc, tree, &script.pulses)
@@ -392,8 +430,8 @@ pub fn run<S: Sink, W: Wire>(
     end: u64,
 ) -> Result<Totals, WriteFault>
     requires addressed { HasAddressTold telling.now }
-    requires early { end ≤ 1000000000000 }
-    requires fresh { (net.old.close ≤ 1000000000000) × (net.old.rest ≤ 1000000000000) }
+    requires early { end ≤ latest_event }
+    requires fresh { (net.old.close ≤ latest_event) × (net.old.rest ≤ latest_event) }
     requires schedule { IsSchedule (length net.old.tree) end 0 events.now }
     ensures ok { IfOk result (λ totals. (text : List ℕ) × IsRunText telling.now end (start net.old events.now) text totals × Appends (S.contents out.old) (S.contents out.new) text) }
     ensures same { OnOk result (S.is_stuck out.new ≡ S.is_stuck out.old) }
@@ -401,11 +439,7 @@ pub fn run<S: Sink, W: Wire>(
         → CutOff (S.contents out.old) (S.contents out.new) text fault) }
     ensures stuck { OnErr result (S.is_stuck out.new ≡ true) }
 {
-    match write_start_told(out, telling, net) {
-        Ok(written) => match run_turns(out, net, telling, events, end) {
-            Ok(totals) => Ok(totals),
-            Err(fault) => Err(cut_at(written, fault)),
-        },
-        Err(fault) => Err(fault),
-    }
+    let mut written = 0;
+    write_start_told(out, &mut written, telling, net)?;
+    run_turns(out, &mut written, net, telling, events, end)
 }

@@ -3,14 +3,14 @@ ghost use Rattle.std.specs.Prelude.{◌≡◌, ◌++◌, ◌+◌, ◌≤◌, len
 ghost use Rattle.std.specs.List.{flat_map};
 ghost use Rattle.arrayvec.specs.ArrayVec.{array_vec_len};
 ghost use Rattle.hdmi_core.specs.Piece.{piece_text};
-ghost use Rattle.hdmi_core.specs.Written.{WrittenLine};
-ghost use Rattle.hdmi_core.specs.Cut.{WrittenText};
+ghost use Rattle.cec_tally.specs.Adds.{Adds};
 ghost use Rattle.cec_trace.specs.EdgeText.{edge_lines, stretch_lines};
 
 use crate::line::{PARTS, add};
 use arrayvec::ArrayVec;
+use cec_tally::add_line;
 use cec_wave::Stretch;
-use hdmi_core::{Piece, Sink, WriteFault, counted, cut_at, write_line};
+use hdmi_core::{Piece, Sink, WriteFault};
 
 /// The most stretches whose lines go out in one `put`. A fall and a rise of 13 digits each take 32 bytes.
 const TOGETHER: usize = 32;
@@ -28,30 +28,33 @@ fn add_stretch(lines: &mut ArrayVec<Piece<'static>, PARTS>, stretch: &Stretch)
 }
 
 // Writes the falls and rises of a few stretches at once.
-fn write_few<S: Sink>(out: &mut S, stretches: &[Stretch]) -> Result<u128, WriteFault>
+fn write_few<S: Sink>(
+    out: &mut S,
+    written: &mut u128,
+    stretches: &[Stretch],
+) -> Result<(), WriteFault>
     requires few { length stretches.now ≤ 32 }
-    ensures { WrittenLine (S.contents out.old) (S.contents out.new) (S.is_stuck out.old) (S.is_stuck out.new) (edge_lines stretches.now) result }
+    ensures { Adds (S.contents out.old) (S.contents out.new) (S.is_stuck out.old) (S.is_stuck out.new) written.old written.new (edge_lines stretches.now) result }
 {
     let mut lines = ArrayVec::new();
     for stretch in stretches {
         add_stretch(&mut lines, stretch);
     }
-    write_line(out, &lines)
+    add_line(out, written, &lines)
 }
 
 /// Writes the falls and rises of stretches, a line each.
-pub fn write_edges<S: Sink>(out: &mut S, stretches: &[Stretch]) -> Result<u128, WriteFault>
-    ensures { WrittenText (S.contents out.old) (S.contents out.new) (S.is_stuck out.old) (S.is_stuck out.new) (edge_lines stretches.now) result }
+pub fn write_edges<S: Sink>(
+    out: &mut S,
+    written: &mut u128,
+    stretches: &[Stretch],
+) -> Result<(), WriteFault>
+    ensures { Adds (S.contents out.old) (S.contents out.new) (S.is_stuck out.old) (S.is_stuck out.new) written.old written.new (edge_lines stretches.now) result }
 {
     if stretches.is_empty() {
-        return Ok(0);
+        return Ok(());
     }
     let (few, others) = stretches.split_at(stretches.len().min(TOGETHER));
-    match write_few(out, few) {
-        Ok(count) => match write_edges(out, others) {
-            Ok(more) => Ok(counted(count, more)),
-            Err(fault) => Err(cut_at(count, fault)),
-        },
-        Err(fault) => Err(cut_at(0, fault)),
-    }
+    write_few(out, written, few)?;
+    write_edges(out, written, others)
 }

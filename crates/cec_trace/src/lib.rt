@@ -9,7 +9,7 @@ mod state_text;
 mod trace_text;
 
 pub use edge_text::write_edges;
-pub use port_text::{on_wire, write_ports};
+pub use port_text::{add_ports, on_wire, write_ports};
 pub use round_text::write_round;
 pub use state_text::write_state;
 pub use trace_text::{write_end, write_event};

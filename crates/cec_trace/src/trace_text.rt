@@ -1,10 +1,12 @@
 //! The lines of a trace that tell events, and its last one.
 ghost use Rattle.std.specs.Prelude.{◌≡◌};
 ghost use Rattle.hdmi_core.specs.Written.{WrittenLine};
+ghost use Rattle.cec_tally.specs.Adds.{Adds};
 ghost use Rattle.cec_trace.specs.TraceText.{end_line, error_word, event_line, key_word, plug_word, submit_word, unplug_word};
 
 use cec_device::{KeyError, SubmitError};
 use cec_event::EventError;
+use cec_tally::add_line;
 use hdmi_core::{Piece, Sink, WriteFault, write_line};
 use hdmi_topo::{PlugError, UnplugError};
 
@@ -61,15 +63,17 @@ fn error_word(error: EventError) -> &'static str
 /// Writes the line of an event: when it was applied, its line in the script, and why it was refused.
 pub fn write_event<S: Sink>(
     out: &mut S,
+    written: &mut u128,
     at: u64,
     line: u64,
     refused: Option<EventError>,
-) -> Result<u128, WriteFault>
-    ensures { WrittenLine (S.contents out.old) (S.contents out.new) (S.is_stuck out.old) (S.is_stuck out.new) (event_line at line refused) result }
+) -> Result<(), WriteFault>
+    ensures { Adds (S.contents out.old) (S.contents out.new) (S.is_stuck out.old) (S.is_stuck out.new) written.old written.new (event_line at line refused) result }
 {
     match refused {
-        None => write_line(
+        None => add_line(
             out,
+            written,
             &[
                 Piece::Decimal(at),
                 Piece::Text(" event "),
@@ -77,8 +81,9 @@ pub fn write_event<S: Sink>(
                 Piece::Text(" ok\n"),
             ],
         ),
-        Some(error) => write_line(
+        Some(error) => add_line(
             out,
+            written,
             &[
                 Piece::Decimal(at),
                 Piece::Text(" event "),

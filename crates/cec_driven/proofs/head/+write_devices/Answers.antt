@@ -1,4 +1,4 @@
-use Rattle.std.proofs.Common.{rules, ◌≡◌, ◌+◌, ◌∷◌, ◌++◌, subst, sym}
+use Rattle.std.proofs.Common.{rules, ◌≡◌, ◌+◌, ◌∷◌, subst, sym}
 use Rattle.cec_tally.specs.Adds.{Adds}
 use Rattle.cec_tally.proofs.Adding.{front_of, then}
 use Rattle.cec_wires.specs.Wires.{variable, variables}

@@ -1,4 +1,4 @@
-use Rattle.std.proofs.Common.{◌≡◌, filter, map, nat_lt, refl, subst, sym, ap, ap₂, ◌∙◌}
+use Rattle.std.proofs.Common.{filter, map, nat_lt, subst, sym, ap, ap₂, ◌∙◌}
 use Rattle.cec_wave.specs.declared.Stretch.{Stretch}
 use Rattle.cec_net.specs.State.{NetState}
 use Rattle.cec_wave.specs.Line.{IsWave}

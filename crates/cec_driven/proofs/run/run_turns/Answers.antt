@@ -6,7 +6,7 @@ use Rattle.cec_tally.proofs.Adding.{fails_with}
 use Rattle.cec_run.proofs.Advance.{event_keeps, next_schedule, round_begins, same_begin, smaller, rounds_kept, complete_kept, refused_kept, counts_brought}
 use Rattle.cec_driven.specs.Driven.{round_drives}
 use Rattle.cec_driven.proofs.Counts.{count_applied, count_round}
-use Rattle.cec_driven.proofs.Running.{Ran, after_event, after_turn, brings, cut_turn, last_cut, last_written, ran}
+use Rattle.cec_driven.proofs.Running.{after_event, after_turn, brings, cut_turn, last_cut, last_written, ran}
 use Rattle.cec_driven.proofs.run.run_turns.Goals as goal
 
 pub turns-preserved-in-Apply : goal.turns-preserved-in-Apply

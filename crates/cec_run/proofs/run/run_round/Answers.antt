@@ -18,5 +18,5 @@ returns g c =
         totals = c.counted_round.ensures;
       };
       progress = round.ensures.progress;
-      written = rw (← c.devices.ensures) c.write_round_told.ensures;
+      added = rw (← c.devices.ensures) c.write_round_told.ensures;
     }

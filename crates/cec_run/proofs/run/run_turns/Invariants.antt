@@ -1,4 +1,5 @@
 use Rattle.std.proofs.Common.{ℕ, ◌≡◌, ◌≤◌, ◌+◌, ◌-◌, length}
+use Rattle.cec_wave.specs.Bounds.{latest_instant}
 use Rattle.cec_asm.specs.Script.{IsSchedule}
 use Rattle.cec_run.specs.Run.{start}
 use Rattle.cec_run.proofs.Running.{Reached}
@@ -8,15 +9,15 @@ use Rattle.cec_run.proofs.run.run_turns.Given as goal
 abbrev pub invariant-turns : goal.invariant-turns
 invariant-turns g l = record {
   reached : Reached l.telling l.end (start l.fn.net l.events) (record { net = l.net; events = l.rest; totals = l.totals })
-      (g.S.Sink.contents l.fn.out) (g.S.Sink.contents l.out) l.written;
+      (g.S.Sink.contents l.fn.out) (g.S.Sink.contents l.out) (g.S.Sink.is_stuck l.fn.out) (g.S.Sink.is_stuck l.out) l.fn.written l.written;
   flag : g.S.Sink.is_stuck l.out ≡ g.S.Sink.is_stuck l.fn.out;
   schedule : (from : ℕ) × IsSchedule (length l.net.tree) l.end from l.rest;
-  closed : l.net.close ≤ 2000000000000;
-  rested : l.net.rest ≤ 2000000000000;
+  closed : l.net.close ≤ latest_instant;
+  rested : l.net.rest ≤ latest_instant;
   rounds : l.totals.rounds ≤ l.net.rest;
   complete : l.totals.complete ≤ l.totals.rounds;
   refused : l.totals.refused + length l.rest ≤ length l.events;
 }
 
 abbrev pub decreases-turns : goal.decreases-turns
-decreases-turns g l = length l.rest + (2000000000000 - l.net.rest)
+decreases-turns g l = length l.rest + (latest_instant - l.net.rest)

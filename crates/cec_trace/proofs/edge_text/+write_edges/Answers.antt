@@ -1,12 +1,10 @@
-use Rattle.std.proofs.Common.{◌≡◌, ◌∙◌, ◌++◌, ℕ, List, length, take, drop, subst, sym, ap, arith}
+use Rattle.std.proofs.Common.{◌≡◌, ◌∙◌, ◌++◌, ℕ, List, take, drop, subst, sym, ap}
 use Rattle.std.proofs.lemmas.Grind.{flat_map-append}
 use Rattle.std.proofs.lemmas.List.{take-append-drop}
-use Rattle.std.specs.Io.KnownBytes.{Appends}
 use Rattle.cec_wave.specs.declared.Stretch.{Stretch}
-use Rattle.hdmi_core.specs.Cut.{CutOff, told_count}
-use Rattle.hdmi_core.proofs.Cutting.{cut_behind_line, cut_front}
+use Rattle.cec_tally.specs.Adds.{Adds}
+use Rattle.cec_tally.proofs.Adding.{front_of, then}
 use Rattle.cec_trace.specs.EdgeText.{edge_lines, stretch_lines}
-use Rattle.cec_trace.proofs.Ports.{both_written}
 use Rattle.cec_trace.proofs.edge_text.+write_edges.Goals as goal
 
 -- the lines of the first few and of the others are those of all
@@ -15,41 +13,19 @@ parts k all few others front back =
     sym (flat_map-append stretch_lines few others) ∙ (ap (λ (xs : List Stretch). edge_lines (xs ++ others)) front
     ∙ (ap (λ (xs : List Stretch). edge_lines (take k all ++ xs)) back ∙ ap edge_lines (take-append-drop k all)))
 
-pub returns-in-Ok-write_edges : goal.returns-in-Ok-write_edges
-returns-in-Ok-write_edges g t c =
-    let few = edge_lines c.split_at.result.0.now in
-    let others = edge_lines c.split_at.result.1.now in
-    let whole = parts c.min.result c.args.stretches.now c.split_at.result.0.now c.split_at.result.1.now c.split_at.ensures.front c.split_at.ensures.back in
-    let first = c.in-Ok.ensures in
-    let more = c.in-Ok-write_edges.ensures in
-    let both = both_written (g.S.Sink.contents c.args.out.now) (g.S.Sink.contents c.write_few.new.out) (g.S.Sink.contents c.write_edges.new.out) few others
-    c.in-Ok.count c.in-Ok-write_edges.more c.counted.result first.0 more.0 c.counted.ensures first.1 more.1 in (
-      subst (λ (text : List ℕ). c.counted.result ≡ told_count (length text)) whole both.0,
-      subst (λ (text : List ℕ). Appends (g.S.Sink.contents c.args.out.now) (g.S.Sink.contents c.write_edges.new.out) text) whole both.1,
-      more.2 ∙ first.2,
-    )
+pub returns : goal.returns
+returns g t c =
+    let few = c.split_at.result.0.now in
+    let others = c.split_at.result.1.now in
+    let whole = parts c.min.result c.args.stretches.now few others c.split_at.ensures.front c.split_at.ensures.back in
+    subst (λ (text : List ℕ). Adds (g.S.Sink.contents c.args.out.now) (g.S.Sink.contents c.write_edges.new.out) (g.S.Sink.is_stuck c.args.out.now) (g.S.Sink.is_stuck c.write_edges.new.out) c.args.written.now c.write_edges.new.written text c.write_edges.result) whole
+    (then _ _ _ _ _ _ _ _ _ (edge_lines few) (edge_lines others) c.write_edges.result c.in_ok-write_few.ensures c.write_edges.ensures)
 
-pub returns-in-Err-write_edges : goal.returns-in-Err-write_edges
-returns-in-Err-write_edges g t c =
-    let few = edge_lines c.split_at.result.0.now in
-    let others = edge_lines c.split_at.result.1.now in
-    let whole = parts c.min.result c.args.stretches.now c.split_at.result.0.now c.split_at.result.1.now c.split_at.ensures.front c.split_at.ensures.back in
-    let first = c.in-Ok.ensures in
-    let fault = c.in-Err-write_edges.ensures in (
-      subst (λ (text : List ℕ). CutOff (g.S.Sink.contents c.args.out.now) (g.S.Sink.contents c.write_edges.new.out) text c.cut_at.result) whole
-          (cut_behind_line (g.S.Sink.contents c.args.out.now) (g.S.Sink.contents c.write_few.new.out) (g.S.Sink.contents c.write_edges.new.out) few others
-          c.in-Ok.count c.in-Err-write_edges.fault c.cut_at.result first.0 first.1 fault.0 c.cut_at.ensures),
-      fault.1,
-    )
-
-pub returns-in-Err : goal.returns-in-Err
-returns-in-Err g t c =
-    let few = edge_lines c.split_at.result.0.now in
-    let others = edge_lines c.split_at.result.1.now in
-    let whole = parts c.min.result c.args.stretches.now c.split_at.result.0.now c.split_at.result.1.now c.split_at.ensures.front c.split_at.ensures.back in
-    let fault = c.in-Err.ensures in
-    let told : c.cut_at-in-Err.result.count ≡ told_count c.in-Err.fault.count = omega (arith, c.cut_at-in-Err.ensures) in (
-      subst (λ (text : List ℕ). CutOff (g.S.Sink.contents c.args.out.now) (g.S.Sink.contents c.write_few.new.out) text c.cut_at-in-Err.result) whole
-          (cut_front (g.S.Sink.contents c.args.out.now) (g.S.Sink.contents c.write_few.new.out) few others c.cut_at-in-Err.result (c.in-Err.fault.count, fault.0, told, fault.1)),
-      fault.2,
-    )
+pub returns-in_err-write_few : goal.returns-in_err-write_few
+returns-in_err-write_few g t c =
+    let few = c.split_at.result.0.now in
+    let others = c.split_at.result.1.now in
+    let whole = parts c.min.result c.args.stretches.now few others c.split_at.ensures.front c.split_at.ensures.back in
+    subst (λ (text : List ℕ). Adds (g.S.Sink.contents c.args.out.now) (g.S.Sink.contents c.write_few.new.out) (g.S.Sink.is_stuck c.args.out.now) (g.S.Sink.is_stuck c.write_few.new.out) c.args.written.now c.write_few.new.written text c.from_residual.result) whole
+    (front_of _ _ _ _ _ _ (edge_lines few) (edge_lines others) c.in_err-write_few.field-0.0 c.from_residual.result
+    c.from_residual.ensures.0 c.from_residual.ensures.1 c.in_err-write_few.ensures)
