@@ -6,7 +6,7 @@ use Rattle.hdmi_core.specs.Words.{words_of}
 use Rattle.cec_expect.specs.Line.{behind_label, cut_script, plain_script}
 use Rattle.cec_expect.specs.Form.{Form, form_in}
 use Rattle.cec_expect.specs.Form.Form.{Other, Rounds, State, Refused}
-use Rattle.cec_expect.specs.declared.form.ExpectCause.{ExpectCause}
+use Rattle.cec_expect.specs.declared.fault.LineFault.{LineFault}
 use Rattle.cec_expect.specs.Faults.{first_fault}
 use Rattle.cec_run.specs.Emulate.{IsTraceOf}
 use Rattle.cec_run.specs.declared.run.Totals.{Totals}
@@ -56,7 +56,7 @@ pub no_more : (topology plain : List ℕ) (all lines : List (List ℕ)) (found :
 no_more topology plain all lines found split before =
     subst (λ xs. AreStates topology plain all xs) (append-nil found) (before [] (subst (λ ls. AreStates topology plain ls []) (sym split) refl))
 
-one_state : (topology plain : List ℕ) (form : Result Form ExpectCause) (x y : List ℕ) → IsStateOf topology plain form x → IsStateOf topology plain form y → x ≡ y
+one_state : (topology plain : List ℕ) (form : Result Form LineFault) (x y : List ℕ) → IsStateOf topology plain form x → IsStateOf topology plain form y → x ≡ y
 one_state topology plain (Ok (State time device words)) x y h k =
     let same = texts_have_one_trace topology (cut_script time plain) h.trace k.trace h.totals k.totals h.run k.run in
     h.state_is ∙ ap (λ t. state_line t device) same.0 ∙ sym k.state_is

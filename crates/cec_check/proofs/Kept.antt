@@ -9,7 +9,7 @@ use Rattle.cec_expect.specs.Line.{behind_label}
 use Rattle.cec_expect.specs.Form.{Form, form_in}
 use Rattle.cec_expect.specs.Form.Form.{Other, Rounds, State, Refused}
 use Rattle.cec_expect.specs.Faults.{event_labelled}
-use Rattle.cec_expect.specs.declared.form.ExpectCause.{ExpectCause}
+use Rattle.cec_expect.specs.declared.fault.LineFault.{LineFault}
 use Rattle.cec_expect.specs.declared.form.Quantity.{Quantity}
 use Rattle.cec_judge.specs.Told.{EventLine, RoundLine, event_in, events_of, round_in}
 use Rattle.cec_judge.specs.Seen.{end_by, end_seen, ends_seen, first_of, is_seen}
@@ -77,7 +77,7 @@ not_seen all span pattern covers line h =
 
 -- ---- lines of a script
 
-abbrev FormCovered : List (List ℕ) → Result Form ExpectCause → Type 0
+abbrev FormCovered : List (List ℕ) → Result Form LineFault → Type 0
 FormCovered all (Err cause) = Unit {0}
 FormCovered all (Ok Other) = Unit {0}
 FormCovered all (Ok (Rounds quantity window pattern)) = Covers all pattern
@@ -99,11 +99,11 @@ covered all (line ∷ lines) h = (
   covered all lines (λ told k. h told (ap (λ b. meets told line || b) k ∙ or_so (meets told line))),
 )
   where
-    first : (f : Result Form ExpectCause) → form_in (behind_label (words_of line)) ≡ f → FormCovered all f
+    first : (f : Result Form LineFault) → form_in (behind_label (words_of line)) ≡ f → FormCovered all f
     first (Err cause) e = tt
     first (Ok Other) e = tt
     first (Ok (Rounds quantity window pattern)) e =
-        λ told k. h told (ap (λ (g : Result Form ExpectCause). meets_pattern told (pattern_by g) || list_any (meets told) lines) e ∙ ap (λ b. b || list_any (meets told) lines) k)
+        λ told k. h told (ap (λ (g : Result Form LineFault). meets_pattern told (pattern_by g) || list_any (meets told) lines) e ∙ ap (λ b. b || list_any (meets told) lines) k)
     first (Ok (State time device words)) e = tt
     first (Ok (Refused name word)) e = tt
 
@@ -130,7 +130,7 @@ module _ (all : List (List ℕ)) (few trace : List ℕ) (are : lines_of few ≡ 
   refusals_same None = refl
   refusals_same (Some line) = ap (λ (es : List EventLine). refusal_by (find (λ e. e.line == line) es)) same_events
 
-  form_same : (script state : List ℕ) (above : List Judged) (f : Result Form ExpectCause) → FormCovered all f → form_judged script few state above f ≡ form_judged script trace state above f
+  form_same : (script state : List ℕ) (above : List Judged) (f : Result Form LineFault) → FormCovered all f → form_judged script few state above f ≡ form_judged script trace state above f
   form_same script state above (Err cause) c = refl
   form_same script state above (Ok Other) c = ap (λ (es : List EventLine). of_event (event_instant (find (λ e. e.line == length above + 1) es))) same_events
   form_same script state above (Ok (Rounds quantity window pattern)) c = rounds_same quantity pattern c (span_of script above window)
@@ -158,7 +158,7 @@ module _ (all : List (List ℕ)) (few trace : List ℕ) (are : lines_of few ≡ 
       ap (λ t. seen_line count span ++ t)
       (ap (λ b. shown_text few span (if b then codes "*" else pattern)) h ∙ shown_same span pattern covers ∙ sym (ap (λ b. shown_text trace span (if b then codes "*" else pattern)) h))
 
-  remarks_same : (state : List ℕ) (j : Judged) (f : Result Form ExpectCause) → FormCovered all f → (is_some j.span && (j.count == 0)) ≡ false → form_remarks few state j f ≡ form_remarks trace state j f
+  remarks_same : (state : List ℕ) (j : Judged) (f : Result Form LineFault) → FormCovered all f → (is_some j.span && (j.count == 0)) ≡ false → form_remarks few state j f ≡ form_remarks trace state j f
   remarks_same state j (Err cause) c h = refl
   remarks_same state j (Ok Other) c h = refl
   remarks_same state j (Ok (Rounds quantity window pattern)) c h = span_same pattern j.count c j.span h

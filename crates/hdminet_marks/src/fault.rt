@@ -53,10 +53,11 @@ pub enum Fault {
         cause: ScriptCause,
         word: u8,
     },
-    /// A line with a label or an expectation, of a script or of a capture.
+    /// A line with a label or an expectation, of a script or of a capture. Words are those of the line with its label.
     Expectation {
         line: u64,
         cause: ExpectCause,
+        word: usize,
     },
     /// A line of a script with a range of instants.
     Range {

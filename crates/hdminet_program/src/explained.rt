@@ -63,6 +63,7 @@ fn of_expectation(fault: ExpectFault) -> Explained {
     Explained::Expectation {
         line: fault.line,
         cause: fault.cause,
+        word: fault.word,
     }
 }
 
