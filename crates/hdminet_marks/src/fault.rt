@@ -59,10 +59,11 @@ pub enum Fault {
         cause: ExpectCause,
         word: usize,
     },
-    /// A line of a script with a range of instants.
+    /// A line of a script with a range of instants. Words are those of the line with its label.
     Range {
         line: u64,
         cause: RangeSlip,
+        word: usize,
     },
     /// A line that is no step.
     Steps {

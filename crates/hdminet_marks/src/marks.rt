@@ -111,18 +111,6 @@ fn in_expectation(cause: ExpectCause, word: usize) -> Option<Mark> {
     }
 }
 
-// The range of a line.
-fn in_range(line: &str) -> Option<Mark> {
-    let mut number = 0usize;
-    for word in line.split(' ') {
-        if word.contains("..") {
-            return one(number);
-        }
-        number = number.saturating_add(1);
-    }
-    None
-}
-
 // A line of a capture.
 fn in_capture(cause: Cause, place: Place<'_>, line: &str) -> Option<Mark> {
     match cause {
@@ -141,7 +129,7 @@ pub fn marked(what: Input, fault: Fault, place: Place<'_>, line: &str) -> Option
             in_script(cause, usize::from(word)),
         ),
         Fault::Expectation { cause, word, .. } => in_expectation(cause, word),
-        Fault::Range { .. } => in_range(line),
+        Fault::Range { word, .. } => one(word),
         Fault::Steps { .. } => in_steps(place, line),
         Fault::Frame { cause, .. } => in_frame(cause),
         Fault::Capture { cause, .. } => in_capture(cause, place, line),

@@ -84,6 +84,7 @@ fn of_range(fault: RangeFault) -> Explained {
             RangeCause::Order => RangeSlip::Order,
             RangeCause::Range => RangeSlip::Second,
         },
+        word: fault.word,
     }
 }
 
