@@ -1,5 +1,5 @@
 -- Texts and their words.
-use Rattle.std.proofs.Common.{◌≡◌, ℕ, ◌+◌, ◌<◌, ◌≤◌, ◌==◌, Bool, false, List, [], ◌∷◌, length, absurd, ap, sym, refl, ◌∙◌, subst, arith}
+use Rattle.std.proofs.Common.{◌≡◌, ℕ, ◌+◌, ◌<◌, ◌≤◌, ◌==◌, Bool, false, List, [], ◌∷◌, length, ap, sym, refl, ◌∙◌, arith}
 use Rattle.std.proofs.lemmas.List.Splits.{join_with_byte-slice_split, length-slice_split}
 use Rattle.std.proofs.lemmas.List.Sums.{count_by-le-length}
 use Rattle.hdmi_core.proofs.PartedLemmas.{words_of-some}
@@ -14,13 +14,14 @@ text_again text = join_with_byte-slice_split 32 text
 pub plain_rest : (rest : List ℕ) → is_expectation (words_of rest) ≡ false → rest ≡ plain_words (words_of rest)
 plain_rest rest other = rw other (sym (text_again rest))
 
+pattern_of_words : (quantity : Quantity) (first second : List ℕ) (words : List (List ℕ)) → 0 < length words → pattern_in quantity first second words ≡ pattern_by quantity first second (text_of words)
+pattern_of_words quantity first second [] h = absurd (omega arith)
+pattern_of_words quantity first second (word ∷ words) h = refl
+
 -- the pattern is the text that is left
 pub pattern_of_text : (quantity : Quantity) (first second text : List ℕ) → pattern_in quantity first second (words_of text) ≡ pattern_by quantity first second text
-pattern_of_text quantity first second text = by (words_of text) refl
-  where
-    by : (words : List (List ℕ)) → words_of text ≡ words → pattern_in quantity first second (words_of text) ≡ pattern_by quantity first second text
-    by [] e = absurd (subst (λ (ws : List (List ℕ)). 0 < length ws) e (words_of-some text))
-    by (word ∷ words) e = ap (pattern_in quantity first second) e ∙ ap (pattern_by quantity first second) (sym (ap text_of e) ∙ text_again text)
+pattern_of_text quantity first second text =
+    pattern_of_words quantity first second (words_of text) (words_of-some text) ∙ ap (pattern_by quantity first second) (text_again text)
 
 -- a text has at most one word more than bytes
 pub few_words : (text : List ℕ) → length (words_of text) ≤ length text + 1
