@@ -46,16 +46,17 @@ instant_fault (Some label) words = named_fault words
 abbrev pub expectation_fault : List (List ℕ) → Option LineFault
 expectation_fault words = if has_verb (codes "refused") words || has_verb (codes "state") words then Some (at_word 1 Word) else None
 
--- a line with no such word; a lone `label` has no name
-abbrev pub verb_fault : List ℕ → LineFault
-verb_fault verb = if bytes_eq verb (codes "label") then at_word 1 Word else at_word 0 Word
+-- no line begins so, or none after a label; a lone `label` has no name
+abbrev pub verb_fault : Option (List ℕ) → List ℕ → LineFault
+verb_fault None verb = if bytes_eq verb (codes "label") then at_word 1 Word else at_word 0 Word
+verb_fault (Some label) verb = at_word 2 Word
 
 abbrev pub kind_fault : Option (List ℕ) → List (List ℕ) → Option LineFault
 kind_fault label [] = Some (after_label label (at_word 0 Word))
 kind_fault label (verb ∷ words) =
     if bytes_eq verb (codes "expect") then option_map (after_label label) (expectation_fault words)
     else if bytes_eq verb (codes "at") then instant_fault label words
-    else Some (after_label label (verb_fault verb))
+    else Some (verb_fault label verb)
 
 -- why a line is none of a capture's, and its word at fault
 abbrev pub line_fault : List ℕ → Option LineFault

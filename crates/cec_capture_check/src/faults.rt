@@ -4,7 +4,7 @@ ghost use Rattle.std.specs.Option.{option_copied, option_map};
 ghost use Rattle.hdmi_core.specs.Lines.{lines_of};
 ghost use Rattle.hdmi_core.specs.Number.{number_of};
 ghost use Rattle.hdmi_core.specs.Words.{one_of, words_behind};
-ghost use Rattle.cec_expect.specs.Fault.{IsNear, after_label};
+ghost use Rattle.cec_expect.specs.Fault.{after_label};
 ghost use Rattle.cec_expect.specs.Line.{has_verb};
 ghost use Rattle.cec_capture_check.specs.Lines.{expectation_fault, instant_fault, instant_of, kind_fault, line_fault, named_fault, number_by, time_fault, verb_fault};
 ghost use Rattle.cec_capture_check.specs.Faults.{earlier, first_fault, kinds_from};
@@ -95,14 +95,18 @@ fn expectation_fault(label: Option<&[u8]>, rest: Option<&[u8]>) -> Option<LineFa
     }
 }
 
-fn verb_fault(verb: &[u8]) -> LineFault
-    ensures value { result ≡ verb_fault verb.now }
-    ensures near { IsNear result }
+fn verb_fault(label: Option<&[u8]>, verb: &[u8]) -> LineFault
+    ensures { result ≡ verb_fault (option_copied label.entry) verb.now }
 {
-    if verb == b"label".as_slice() {
-        at_word(1, ExpectCause::Word)
-    } else {
-        at_word(0, ExpectCause::Word)
+    match label {
+        None => {
+            if verb == b"label".as_slice() {
+                at_word(1, ExpectCause::Word)
+            } else {
+                at_word(0, ExpectCause::Word)
+            }
+        }
+        Some(_) => at_word(2, ExpectCause::Word),
     }
 }
 
@@ -118,7 +122,7 @@ fn kind_fault(label: Option<&[u8]>, rest: Option<&[u8]>) -> Option<LineFault>
     } else if verb == b"at".as_slice() {
         instant_fault(label, others)
     } else {
-        Some(after_label(label, verb_fault(verb)))
+        Some(verb_fault(label, verb))
     }
 }
 

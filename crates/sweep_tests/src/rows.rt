@@ -90,6 +90,7 @@ label a at 5 press tv mute => expectations line 1: word in word 4
 label a at => expectations line 1: word in word 3
 label a expect refused b off-wire => expectations line 1: word in word 3
 label a end 10 => expectations line 1: word in word 2
+label a label b at 5 => expectations line 1: word in word 2
 label a => expectations line 1: word in word 2
 label => expectations line 1: word in word 1
 label a at 5||expect within 1 of a short => expectations line 2: word in word 0
