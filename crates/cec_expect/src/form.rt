@@ -141,7 +141,6 @@ fn pattern_by<'a>(
     }
 }
 
-#[tactic(auto, using(crate::proofs::Parted::pattern_of_text))]
 fn pattern_in<'a>(
     quantity: Quantity,
     first: &'a [u8],
