@@ -2,13 +2,13 @@
 use Rattle.std.specs.Prelude.{ℕ, ◌+◌, nat_lt, if◌then◌else◌, List, [], ◌∷◌, Option, Some, None}
 use Rattle.hdmi_core.specs.Lines.{lines_of}
 use Rattle.cec_expect.specs.Faults.{fault_or, line_fault as expectation_fault}
-use Rattle.cec_expect.specs.declared.form.ExpectCause.{ExpectCause}
+use Rattle.cec_expect.specs.declared.fault.LineFault.{LineFault}
 use Rattle.cec_expect.specs.declared.faults.ExpectFault.{ExpectFault}
 use Rattle.cec_capture_check.specs.Lines.{line_fault}
 
-abbrev pub or_else : Option ExpectCause → Option ExpectCause → Option ExpectCause
+abbrev pub or_else : Option LineFault → Option LineFault → Option LineFault
 or_else None next = next
-or_else (Some cause) next = Some cause
+or_else (Some fault) next = Some fault
 
 -- the first line at fault of these, of which the first has this number: it is none of a capture's, or its label or expectation is
 -- at fault as in a script; there are no devices

@@ -1,11 +1,13 @@
 -- Lines of expectations of a capture (own): `label NAME at T` names an instant, `expect ..` says what is to be read, and a label may
 -- stand before it. There are no other lines.
 use Rattle.std.specs.Prelude.{ℕ, ◌||◌, if◌then◌else◌, codes, List, [], ◌∷◌, Option, Some, None}
+use Rattle.std.specs.Option.{option_map}
 use Rattle.std.specs.Str.{bytes_eq}
 use Rattle.hdmi_core.specs.Number.{number_of}
 use Rattle.hdmi_core.specs.Words.{words_of, one_of}
+use Rattle.cec_expect.specs.Fault.{after_label, at_word}
 use Rattle.cec_expect.specs.Line.{behind_label, has_verb, label_in}
-use Rattle.cec_expect.specs.declared.form.ExpectCause.{ExpectCause}
+use Rattle.cec_expect.specs.declared.fault.LineFault.{LineFault}
 use Rattle.cec_expect.specs.declared.form.ExpectCause.TheVariants.{Word, Number}
 
 abbrev pub number_by : Option (List ℕ) → Option ℕ
@@ -25,27 +27,37 @@ instant_of line = instant_in (behind_label (words_of line))
 
 -- ---- faults
 
-abbrev pub time_fault : Option ℕ → Option ExpectCause
-time_fault None = Some Number
+abbrev pub time_fault : Option ℕ → Option LineFault
+time_fault None = Some (at_word 3 Number)
 time_fault (Some t) = None
 
--- the words after `at` are one number, and a label stands before
-abbrev pub instant_fault : Option (List ℕ) → Option (List ℕ) → Option ExpectCause
-instant_fault None time = Some Word
-instant_fault (Some label) None = Some Word
-instant_fault (Some label) (Some time) = time_fault (number_of time)
+-- the words after `label NAME at` are one number
+abbrev pub named_fault : List (List ℕ) → Option LineFault
+named_fault [] = Some (at_word 3 Word)
+named_fault (time ∷ []) = time_fault (number_of time)
+named_fault (time ∷ word ∷ words) = Some (at_word 4 Word)
+
+-- a label stands before `at`
+abbrev pub instant_fault : Option (List ℕ) → List (List ℕ) → Option LineFault
+instant_fault None words = Some (at_word 0 Word)
+instant_fault (Some label) words = named_fault words
 
 -- a capture reports neither refusals nor states
-abbrev pub expectation_fault : List (List ℕ) → Option ExpectCause
-expectation_fault words = if has_verb (codes "refused") words || has_verb (codes "state") words then Some Word else None
+abbrev pub expectation_fault : List (List ℕ) → Option LineFault
+expectation_fault words = if has_verb (codes "refused") words || has_verb (codes "state") words then Some (at_word 1 Word) else None
 
-abbrev pub kind_fault : Option (List ℕ) → List (List ℕ) → Option ExpectCause
-kind_fault label [] = Some Word
+-- no line begins so, or none after a label; a lone `label` has no name
+abbrev pub verb_fault : Option (List ℕ) → List ℕ → LineFault
+verb_fault None verb = if bytes_eq verb (codes "label") then at_word 1 Word else at_word 0 Word
+verb_fault (Some label) verb = at_word 2 Word
+
+abbrev pub kind_fault : Option (List ℕ) → List (List ℕ) → Option LineFault
+kind_fault label [] = Some (after_label label (at_word 0 Word))
 kind_fault label (verb ∷ words) =
-    if bytes_eq verb (codes "expect") then expectation_fault words
-    else if bytes_eq verb (codes "at") then instant_fault label (one_of words)
-    else Some Word
+    if bytes_eq verb (codes "expect") then option_map (after_label label) (expectation_fault words)
+    else if bytes_eq verb (codes "at") then instant_fault label words
+    else Some (verb_fault label verb)
 
--- why a line is none of a capture's
-abbrev pub line_fault : List ℕ → Option ExpectCause
+-- why a line is none of a capture's, and its word at fault
+abbrev pub line_fault : List ℕ → Option LineFault
 line_fault line = kind_fault (label_in (words_of line)) (behind_label (words_of line))

@@ -1,14 +1,15 @@
 //! Lines of expectations of a capture, and the first one at fault.
-ghost use Rattle.std.specs.Prelude.{◌≡◌, ◌||◌, if◌then◌else◌, IfOk};
-ghost use Rattle.std.specs.Option.{option_copied};
+ghost use Rattle.std.specs.Prelude.{◌≡◌, ◌||◌, IfOk, codes};
+ghost use Rattle.std.specs.Option.{option_copied, option_map};
 ghost use Rattle.hdmi_core.specs.Lines.{lines_of};
 ghost use Rattle.hdmi_core.specs.Number.{number_of};
 ghost use Rattle.hdmi_core.specs.Words.{one_of, words_behind};
+ghost use Rattle.cec_expect.specs.Fault.{after_label};
 ghost use Rattle.cec_expect.specs.Line.{has_verb};
-ghost use Rattle.cec_capture_check.specs.Lines.{expectation_fault, instant_fault, instant_of, kind_fault, line_fault, number_by, time_fault};
+ghost use Rattle.cec_capture_check.specs.Lines.{expectation_fault, instant_fault, instant_of, kind_fault, line_fault, named_fault, number_by, time_fault, verb_fault};
 ghost use Rattle.cec_capture_check.specs.Faults.{earlier, first_fault, kinds_from};
 
-use cec_expect::{ExpectCause, ExpectFault, unlabelled};
+use cec_expect::{ExpectCause, ExpectFault, LineFault, after_label, at_word, unlabelled};
 use hdmi_core::{first_line, first_word, number_in, one_word};
 use std::alloc::{AllocError, Global};
 
@@ -43,54 +44,89 @@ pub(crate) fn instant_of(line: &[u8]) -> Option<u64>
     }
 }
 
-fn time_fault(time: Option<u64>) -> Option<ExpectCause>
+fn time_fault(time: Option<u64>) -> Option<LineFault>
     ensures { result ≡ time_fault time }
 {
     match time {
-        None => Some(ExpectCause::Number),
+        None => Some(at_word(3, ExpectCause::Number)),
         Some(_) => None,
     }
 }
 
-fn instant_fault(label: Option<&[u8]>, time: Option<&[u8]>) -> Option<ExpectCause>
-    ensures { result ≡ instant_fault (option_copied label.entry) (option_copied time.entry) }
+fn named_fault(rest: Option<&[u8]>) -> Option<LineFault>
+    ensures { result ≡ named_fault (words_behind (option_copied rest.entry)) }
 {
-    match label {
-        None => Some(ExpectCause::Word),
-        Some(_) => match time {
-            None => Some(ExpectCause::Word),
-            Some(time) => time_fault(number_in(time)),
-        },
+    let Some(text) = rest else {
+        return Some(at_word(3, ExpectCause::Word));
+    };
+    let (time, others) = first_word(text);
+    match others {
+        None => time_fault(number_in(time)),
+        Some(others) => {
+            let (_word, _words) = first_word(others);
+            Some(at_word(4, ExpectCause::Word))
+        }
     }
 }
 
-fn expectation_fault(rest: Option<&[u8]>) -> Option<ExpectCause>
-    ensures { result ≡ expectation_fault (words_behind (option_copied rest.entry)) }
+fn instant_fault(label: Option<&[u8]>, rest: Option<&[u8]>) -> Option<LineFault>
+    ensures { result ≡ instant_fault (option_copied label.entry) (words_behind (option_copied rest.entry)) }
 {
-    if has_verb(b"refused", rest) || has_verb(b"state", rest) {
-        Some(ExpectCause::Word)
+    match label {
+        None => Some(at_word(0, ExpectCause::Word)),
+        Some(_) => named_fault(rest),
+    }
+}
+
+// Whether an expectation is none of a capture.
+fn is_of_run(rest: Option<&[u8]>) -> bool
+    ensures { result ≡ (has_verb (codes "refused") (words_behind (option_copied rest.entry)) || has_verb (codes "state") (words_behind (option_copied rest.entry))) }
+{
+    has_verb(b"refused", rest) || has_verb(b"state", rest)
+}
+
+fn expectation_fault(label: Option<&[u8]>, rest: Option<&[u8]>) -> Option<LineFault>
+    ensures { result ≡ option_map (after_label (option_copied label.entry)) (expectation_fault (words_behind (option_copied rest.entry))) }
+{
+    if is_of_run(rest) {
+        Some(after_label(label, at_word(1, ExpectCause::Word)))
     } else {
         None
     }
 }
 
-fn kind_fault(label: Option<&[u8]>, rest: Option<&[u8]>) -> Option<ExpectCause>
-    ensures { result ≡ kind_fault (option_copied label.entry) (words_behind (option_copied rest.entry)) }
+fn verb_fault(label: Option<&[u8]>, verb: &[u8]) -> LineFault
+    ensures { result ≡ verb_fault (option_copied label.entry) verb.now }
 {
-    let Some(text) = rest else {
-        return Some(ExpectCause::Word);
-    };
-    let (verb, others) = first_word(text);
-    if verb == b"expect".as_slice() {
-        expectation_fault(others)
-    } else if verb == b"at".as_slice() {
-        instant_fault(label, one_word(others))
-    } else {
-        Some(ExpectCause::Word)
+    match label {
+        None => {
+            if verb == b"label".as_slice() {
+                at_word(1, ExpectCause::Word)
+            } else {
+                at_word(0, ExpectCause::Word)
+            }
+        }
+        Some(_) => at_word(2, ExpectCause::Word),
     }
 }
 
-fn line_fault(line: &[u8]) -> Option<ExpectCause>
+fn kind_fault(label: Option<&[u8]>, rest: Option<&[u8]>) -> Option<LineFault>
+    ensures { result ≡ kind_fault (option_copied label.entry) (words_behind (option_copied rest.entry)) }
+{
+    let Some(text) = rest else {
+        return Some(after_label(label, at_word(0, ExpectCause::Word)));
+    };
+    let (verb, others) = first_word(text);
+    if verb == b"expect".as_slice() {
+        expectation_fault(label, others)
+    } else if verb == b"at".as_slice() {
+        instant_fault(label, others)
+    } else {
+        Some(verb_fault(label, verb))
+    }
+}
+
+fn line_fault(line: &[u8]) -> Option<LineFault>
     ensures { result ≡ line_fault line.now }
 {
     let line = unlabelled(line);
@@ -104,10 +140,11 @@ fn kind_fault_in(text: &[u8]) -> Option<ExpectFault>
     let mut rest = text;
     let mut number = 1u64;
     'lines: while let Some((line, after)) = first_line(rest) {
-        if let Some(cause) = line_fault(line) {
+        if let Some(fault) = line_fault(line) {
             return Some(ExpectFault {
                 line: number,
-                cause,
+                cause: fault.cause,
+                word: fault.word,
             });
         }
         rest = after;

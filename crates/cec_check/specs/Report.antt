@@ -8,7 +8,7 @@ use Rattle.hdmi_core.specs.Words.{words_of}
 use Rattle.cec_expect.specs.Line.{behind_label}
 use Rattle.cec_expect.specs.Form.{Form, form_in}
 use Rattle.cec_expect.specs.Form.Form.{Other, Rounds, State, Refused}
-use Rattle.cec_expect.specs.declared.form.ExpectCause.{ExpectCause}
+use Rattle.cec_expect.specs.declared.fault.LineFault.{LineFault}
 use Rattle.cec_judge.specs.Told.{EventLine, event_in, refusal_in}
 use Rattle.cec_judge.specs.Seen.{end_seen}
 use Rattle.cec_judge.specs.Judged.{Finding, verdicts_of, is_refusal_expected}
@@ -70,7 +70,7 @@ span_remarks trace pattern count None = codes "# no instant\n"
 span_remarks trace pattern count (Some span) = seen_line count span ++ shown_text trace span (if count == 0 then codes "*" else pattern)
 
 -- the state line, where a state was expected
-abbrev pub form_remarks : List ℕ → List ℕ → Judged → Result Form ExpectCause → List ℕ
+abbrev pub form_remarks : List ℕ → List ℕ → Judged → Result Form LineFault → List ℕ
 form_remarks trace state j (Err cause) = []
 form_remarks trace state j (Ok Other) = []
 form_remarks trace state j (Ok (Rounds quantity window pattern)) = span_remarks trace pattern j.count j.span

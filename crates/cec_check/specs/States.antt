@@ -4,7 +4,7 @@ use Rattle.hdmi_core.specs.Words.{words_of}
 use Rattle.cec_expect.specs.Line.{behind_label, cut_script}
 use Rattle.cec_expect.specs.Form.{Form, form_in}
 use Rattle.cec_expect.specs.Form.Form.{Other, Rounds, State, Refused}
-use Rattle.cec_expect.specs.declared.form.ExpectCause.{ExpectCause}
+use Rattle.cec_expect.specs.declared.fault.LineFault.{LineFault}
 use Rattle.cec_run.specs.Emulate.{IsTraceOf}
 use Rattle.cec_run.specs.declared.run.Totals.{Totals}
 use Rattle.cec_judge.specs.Told.{state_line}
@@ -18,7 +18,7 @@ pub record IsStateAt (topology plain : List ℕ) (time : ℕ) (device state : Li
   pub state_is : state ≡ state_line trace device
 
 -- the state line that a form speaks of; of another form none
-abbrev pub IsStateOf : List ℕ → List ℕ → Result Form ExpectCause → List ℕ → Type 0
+abbrev pub IsStateOf : List ℕ → List ℕ → Result Form LineFault → List ℕ → Type 0
 IsStateOf topology plain (Ok (State time device words)) state = IsStateAt topology plain time device state
 IsStateOf topology plain (Ok Other) state = state ≡ []
 IsStateOf topology plain (Ok (Rounds quantity window pattern)) state = state ≡ []

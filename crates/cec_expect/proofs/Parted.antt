@@ -1,9 +1,12 @@
 -- Texts and their words.
-use Rattle.std.proofs.Common.{◌≡◌, ℕ, Bool, false, List, [], ◌∷◌, Option, Some, None, ap, sym, refl, ◌∙◌, subst}
-use Rattle.std.proofs.lemmas.List.Splits.{join_with_byte-slice_split}
+use Rattle.std.proofs.Common.{◌≡◌, ℕ, ◌+◌, ◌<◌, ◌≤◌, ◌==◌, Bool, false, List, [], ◌∷◌, length, ap, sym, refl, ◌∙◌, arith}
+use Rattle.std.proofs.lemmas.List.Splits.{join_with_byte-slice_split, length-slice_split}
+use Rattle.std.proofs.lemmas.List.Sums.{count_by-le-length}
+use Rattle.hdmi_core.proofs.PartedLemmas.{words_of-some}
 use Rattle.hdmi_core.specs.Words.{words_of, text_of}
 use Rattle.cec_expect.specs.Line.{is_expectation, plain_words}
-use Rattle.cec_expect.specs.Form.{Parts, parts_in}
+use Rattle.cec_expect.specs.Form.{pattern_by, pattern_in}
+use Rattle.cec_expect.specs.declared.form.Quantity.{Quantity}
 
 pub text_again : (text : List ℕ) → text_of (words_of text) ≡ text
 text_again text = join_with_byte-slice_split 32 text
@@ -11,13 +14,15 @@ text_again text = join_with_byte-slice_split 32 text
 pub plain_rest : (rest : List ℕ) → is_expectation (words_of rest) ≡ false → rest ≡ plain_words (words_of rest)
 plain_rest rest other = rw other (sym (text_again rest))
 
-abbrev five : List ℕ → List ℕ → List ℕ → List ℕ → List ℕ → Option Parts
-five kind first joint second pattern = Some (record { kind = kind; first = first; joint = joint; second = second; pattern = pattern })
+pattern_of_words : (quantity : Quantity) (first second : List ℕ) (words : List (List ℕ)) → 0 < length words → pattern_in quantity first second words ≡ pattern_by quantity first second (text_of words)
+pattern_of_words quantity first second [] h = absurd (omega arith)
+pattern_of_words quantity first second (word ∷ words) h = refl
 
--- the parts of five words and more
-pub parted : (line : List (List ℕ)) (kind first joint second pattern word : List ℕ) (words : List (List ℕ))
-    → line ≡ kind ∷ first ∷ joint ∷ second ∷ words_of pattern → words_of pattern ≡ word ∷ words
-    → five kind first joint second pattern ≡ parts_in line
-parted line kind first joint second pattern word words split parts =
-    let text : text_of (word ∷ words) ≡ pattern = sym (ap text_of parts) ∙ text_again pattern in
-    sym (ap parts_in split ∙ ap (λ ws. parts_in (kind ∷ first ∷ joint ∷ second ∷ ws)) parts ∙ ap (five kind first joint second) text)
+-- the pattern is the text that is left
+pub pattern_of_text : (quantity : Quantity) (first second text : List ℕ) → pattern_in quantity first second (words_of text) ≡ pattern_by quantity first second text
+pattern_of_text quantity first second text =
+    pattern_of_words quantity first second (words_of text) (words_of-some text) ∙ ap (pattern_by quantity first second) (text_again text)
+
+-- a text has at most one word more than bytes
+pub few_words : (text : List ℕ) → length (words_of text) ≤ length text + 1
+few_words text = omega (arith, length-slice_split (λ b. b == 32) text, count_by-le-length (λ b. b == 32) text)

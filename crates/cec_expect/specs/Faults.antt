@@ -4,15 +4,18 @@
 use Rattle.std.specs.Prelude.{ℕ, ◌+◌, ◌==◌, nat_lt, ◌&&◌, not, codes, Bool, true, false, if◌then◌else◌, length, List, [], ◌∷◌, Option, Some, None, Result, Ok, Err}
 use Rattle.std.specs.Str.{bytes_eq}
 use Rattle.std.specs.List.{list_any}
+use Rattle.std.specs.Option.{option_map}
 use Rattle.hdmi_core.specs.Lines.{lines_of}
 use Rattle.hdmi_core.specs.Words.{words_of}
 use Rattle.hdmi_core.specs.Number.{number_of}
 use Rattle.cec_expect.specs.Line.{label_in, behind_label, is_event}
-use Rattle.cec_expect.specs.Form.{Form, Window, form_in}
+use Rattle.cec_expect.specs.Fault.{after_label, at_word}
+use Rattle.cec_expect.specs.Form.{Form, Window, form_in, in_window}
 use Rattle.cec_expect.specs.Form.Form.{Other, Rounds, State, Refused}
 use Rattle.cec_expect.specs.Form.Window.{Within, From}
-use Rattle.cec_expect.specs.declared.form.ExpectCause.{ExpectCause}
+use Rattle.cec_expect.specs.declared.fault.LineFault.{LineFault}
 use Rattle.cec_expect.specs.declared.form.ExpectCause.TheVariants.{Name, Label, Order}
+use Rattle.cec_expect.specs.declared.form.Quantity.{Quantity}
 use Rattle.cec_expect.specs.declared.faults.ExpectFault.{ExpectFault}
 
 abbrev pub is_named : List ℕ → Option (List ℕ) → Bool
@@ -82,15 +85,15 @@ ends_before script time = list_any (λ line. is_past time (end_in (behind_label 
 
 -- ---- lines at fault
 
-abbrev pub window_fault : List ℕ → ℕ → Window → Option ExpectCause
-window_fault script number (Within duration name) = if is_above number (line_of_label script name) then None else Some Label
-window_fault script number (From from to) = if nat_lt to from then Some Order else None
+abbrev pub window_fault : List ℕ → ℕ → Quantity → Window → Option LineFault
+window_fault script number quantity (Within duration name) = if is_above number (line_of_label script name) then None else Some (in_window quantity 3 Label)
+window_fault script number quantity (From from to) = if nat_lt to from then Some (in_window quantity 3 Order) else None
 
-abbrev pub form_fault : List ℕ → ℕ → Form → Option ExpectCause
+abbrev pub form_fault : List ℕ → ℕ → Form → Option LineFault
 form_fault script number Other = None
-form_fault script number (Rounds quantity window pattern) = window_fault script number window
-form_fault script number (State time device words) = if ends_before script time then Some Order else None
-form_fault script number (Refused name word) = if is_above number (event_labelled script name) then None else Some Label
+form_fault script number (Rounds quantity window pattern) = window_fault script number quantity window
+form_fault script number (State time device words) = if ends_before script time then Some (at_word 2 Order) else None
+form_fault script number (Refused name word) = if is_above number (event_labelled script name) then None else Some (at_word 2 Label)
 
 -- it names a device that is not declared
 abbrev pub is_strange : List ℕ → Form → Bool
@@ -99,20 +102,20 @@ is_strange topology (Rounds quantity window pattern) = false
 is_strange topology (State time device words) = not (is_declared topology device)
 is_strange topology (Refused name word) = false
 
-abbrev pub fault_by : List ℕ → List ℕ → ℕ → Option (List ℕ) → Result Form ExpectCause → Option ExpectCause
-fault_by topology script number label (Err cause) = Some cause
+abbrev pub fault_by : List ℕ → List ℕ → ℕ → Option (List ℕ) → Result Form LineFault → Option LineFault
+fault_by topology script number label (Err fault) = Some (after_label label fault)
 fault_by topology script number label (Ok form) =
-    if is_strange topology form then Some Name
-    else if is_own_label script number label then form_fault script number form
-    else Some Label
+    if is_strange topology form then Some (after_label label (at_word 3 Name))
+    else if is_own_label script number label then option_map (after_label label) (form_fault script number form)
+    else Some (at_word 1 Label)
 
--- why a line is refused
-abbrev pub line_fault : List ℕ → List ℕ → ℕ → List ℕ → Option ExpectCause
+-- why a line is refused, and its word at fault
+abbrev pub line_fault : List ℕ → List ℕ → ℕ → List ℕ → Option LineFault
 line_fault topology script number line = fault_by topology script number (label_in (words_of line)) (form_in (behind_label (words_of line)))
 
-abbrev pub fault_or : ℕ → Option ExpectCause → Option ExpectFault → Option ExpectFault
+abbrev pub fault_or : ℕ → Option LineFault → Option ExpectFault → Option ExpectFault
 fault_or number None next = next
-fault_or number (Some cause) next = Some (record { line = number; cause = cause })
+fault_or number (Some fault) next = Some (record { line = number; cause = fault.cause; word = fault.word })
 
 -- the first line at fault of these, of which the first has this number
 abbrev pub faults_from : List ℕ → List ℕ → ℕ → List (List ℕ) → Option ExpectFault

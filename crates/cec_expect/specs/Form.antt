@@ -1,13 +1,13 @@
 -- What the line of an expectation says (own): `expect HOW WINDOW PATTERN`, `expect state T DEVICE WORD..` or `expect refused NAME
 -- WORD`, where HOW is nothing, `none` or `once`, and WINDOW is `within D of NAME` or `from T to U`. Times are in microseconds.
-use Rattle.std.specs.Prelude.{◌≡◌, ℕ, ◌≤◌, ◌==◌, nat_lt, nat_le, ◌&&◌, not, Bool, if◌then◌else◌, codes, length, filter, List, [], ◌∷◌, Option, Some, None, Result, Ok, Err}
+use Rattle.std.specs.Prelude.{◌≡◌, ℕ, ◌+◌, ◌≤◌, ◌==◌, nat_lt, nat_le, ◌&&◌, not, Bool, if◌then◌else◌, codes, length, filter, List, [], ◌∷◌, Option, Some, None, Result, Ok, Err}
 use Rattle.std.specs.Str.{bytes_eq}
-use Rattle.std.specs.List.{list_all}
-use Rattle.cec_wave.specs.Bounds.{latest_event}
 use Rattle.hdmi_core.specs.Number.{number_of}
-use Rattle.hdmi_core.specs.Words.{words_of, text_of, two_of}
+use Rattle.hdmi_core.specs.Words.{words_of, text_of}
+use Rattle.cec_expect.specs.Fault.{at_word}
+use Rattle.cec_expect.specs.declared.fault.LineFault.{LineFault}
 use Rattle.cec_expect.specs.declared.form.ExpectCause.{ExpectCause}
-use Rattle.cec_expect.specs.declared.form.ExpectCause.TheVariants.{Word, Number}
+use Rattle.cec_expect.specs.declared.form.ExpectCause.TheVariants.{Word, Pattern, Number}
 use Rattle.cec_expect.specs.declared.form.Quantity.{Quantity}
 use Rattle.cec_expect.specs.declared.form.Quantity.TheVariants.{AtLeastOnce, Never, Once}
 use Rattle.cec_expect.specs.declared.form.Parts.{Parts as PartsRead}
@@ -51,84 +51,111 @@ is_pattern text = nat_lt 0 (length text) && nat_le (length text) 160 && nat_le (
 
 -- ---- expectations of rounds
 
--- a window's four words, and the pattern
+-- the number of the word with which a window begins
+abbrev pub window_word : Quantity → ℕ
+window_word AtLeastOnce = 1
+window_word Never = 2
+window_word Once = 2
+
+abbrev pub in_window : Quantity → ℕ → ExpectCause → LineFault
+in_window quantity after cause = at_word (window_word quantity + after) cause
+
+-- a window's two values, and the pattern
 pub record Parts : Type 0 where
-  pub kind : List ℕ
   pub first : List ℕ
-  pub joint : List ℕ
   pub second : List ℕ
   pub pattern : List ℕ
 
 abbrev pub parts_as : PartsRead → Parts
-parts_as parts = record { kind = parts.kind.now; first = parts.first.now; joint = parts.joint.now; second = parts.second.now; pattern = parts.pattern.now }
+parts_as parts = record { first = parts.first.now; second = parts.second.now; pattern = parts.pattern.now }
 
-abbrev pub parts_in : List (List ℕ) → Option Parts
-parts_in (kind ∷ first ∷ joint ∷ second ∷ word ∷ words) = Some (record { kind = kind; first = first; joint = joint; second = second; pattern = text_of (word ∷ words) })
-parts_in (kind ∷ first ∷ joint ∷ second ∷ []) = None
-parts_in (kind ∷ first ∷ joint ∷ []) = None
-parts_in (kind ∷ first ∷ []) = None
-parts_in (kind ∷ []) = None
-parts_in [] = None
+abbrev pub pattern_by : Quantity → List ℕ → List ℕ → List ℕ → Result Parts LineFault
+pattern_by quantity first second pattern =
+    if is_pattern pattern then Ok (record { first = first; second = second; pattern = pattern }) else Err (in_window quantity 4 Pattern)
 
-abbrev pub within : Quantity → Option ℕ → Parts → Result Form ExpectCause
-within quantity None parts = Err Number
+abbrev pub pattern_in : Quantity → List ℕ → List ℕ → List (List ℕ) → Result Parts LineFault
+pattern_in quantity first second [] = Err (in_window quantity 4 Word)
+pattern_in quantity first second (word ∷ words) = pattern_by quantity first second (text_of (word ∷ words))
+
+abbrev pub second_in : Quantity → List ℕ → List (List ℕ) → Result Parts LineFault
+second_in quantity first [] = Err (in_window quantity 3 Word)
+second_in quantity first (second ∷ words) = pattern_in quantity first second words
+
+-- the words after a window's first one, with this one between its values
+abbrev pub parts_in : Quantity → List ℕ → List (List ℕ) → Result Parts LineFault
+parts_in quantity joint [] = Err (in_window quantity 1 Word)
+parts_in quantity joint (first ∷ []) = Err (in_window quantity 2 Word)
+parts_in quantity joint (first ∷ word ∷ words) = if bytes_eq word joint then second_in quantity first words else Err (in_window quantity 2 Word)
+
+abbrev pub within : Quantity → Option ℕ → Parts → Result Form LineFault
+within quantity None parts = Err (in_window quantity 1 Number)
 within quantity (Some duration) parts = Ok (Rounds quantity (Within duration parts.second) parts.pattern)
 
-abbrev pub rounds_between : Quantity → Option ℕ → Option ℕ → Parts → Result Form ExpectCause
-rounds_between quantity None to parts = Err Number
-rounds_between quantity (Some from) None parts = Err Number
+abbrev pub within_by : Quantity → Result Parts LineFault → Result Form LineFault
+within_by quantity (Err fault) = Err fault
+within_by quantity (Ok parts) = within quantity (number_of parts.first) parts
+
+abbrev pub rounds_between : Quantity → Option ℕ → Option ℕ → Parts → Result Form LineFault
+rounds_between quantity None to parts = Err (in_window quantity 1 Number)
+rounds_between quantity (Some from) None parts = Err (in_window quantity 3 Number)
 rounds_between quantity (Some from) (Some to) parts = Ok (Rounds quantity (From from to) parts.pattern)
 
-abbrev pub is_window : List ℕ → List ℕ → Parts → Bool
-is_window kind joint parts = bytes_eq parts.kind kind && bytes_eq parts.joint joint
+abbrev pub between_by : Quantity → Result Parts LineFault → Result Form LineFault
+between_by quantity (Err fault) = Err fault
+between_by quantity (Ok parts) = rounds_between quantity (number_of parts.first) (number_of parts.second) parts
 
-abbrev pub rounds_by : Quantity → Option Parts → Result Form ExpectCause
-rounds_by quantity None = Err Word
-rounds_by quantity (Some parts) =
-    if not (is_pattern parts.pattern) then Err Word
-    else if is_window (codes "within") (codes "of") parts then within quantity (number_of parts.first) parts
-    else if is_window (codes "from") (codes "to") parts then rounds_between quantity (number_of parts.first) (number_of parts.second) parts
-    else Err Word
-
-abbrev pub rounds_in : Quantity → List (List ℕ) → Result Form ExpectCause
-rounds_in quantity words = rounds_by quantity (parts_in words)
+-- `within D of NAME PATTERN` or `from T to U PATTERN`
+abbrev pub rounds_in : Quantity → List (List ℕ) → Result Form LineFault
+rounds_in quantity [] = Err (in_window quantity 0 Word)
+rounds_in quantity (kind ∷ words) =
+    if bytes_eq kind (codes "within") then within_by quantity (parts_in quantity (codes "of") words)
+    else if bytes_eq kind (codes "from") then between_by quantity (parts_in quantity (codes "to") words)
+    else Err (in_window quantity 0 Word)
 
 -- ---- expectations of states: times as in scripts, at most 1,000,000,000,000 microseconds
 
--- no word is empty
-abbrev pub are_words : List (List ℕ) → Bool
-are_words words = list_all (λ word. nat_lt 0 (length word)) words
+-- the number of the first empty word, where the first of these words has this number
+abbrev pub empty_from : ℕ → List (List ℕ) → Option ℕ
+empty_from number [] = None
+empty_from number (word ∷ words) = if nat_lt 0 (length word) then empty_from (number + 1) words else Some number
 
-abbrev pub state_at_time : Option ℕ → List ℕ → List (List ℕ) → Result Form ExpectCause
-state_at_time None device words = Err Number
-state_at_time (Some time) device words = if nat_lt latest_event time then Err Number else Ok (State time device words)
+abbrev pub state_at_time : Option ℕ → List ℕ → List (List ℕ) → Result Form LineFault
+state_at_time None device words = Err (at_word 2 Number)
+state_at_time (Some time) device words = if nat_lt 1000000000000 time then Err (at_word 2 Number) else Ok (State time device words)
 
--- a time, a device, and at least one word
-abbrev pub state_in : List (List ℕ) → Result Form ExpectCause
-state_in [] = Err Word
-state_in (time ∷ []) = Err Word
-state_in (time ∷ device ∷ []) = Err Word
-state_in (time ∷ device ∷ word ∷ words) = if are_words (word ∷ words) then state_at_time (number_of time) device (word ∷ words) else Err Word
+abbrev pub state_by : Option ℕ → Option ℕ → List ℕ → List (List ℕ) → Result Form LineFault
+state_by (Some empty) time device words = Err (at_word empty Word)
+state_by None time device words = state_at_time time device words
+
+-- a time, a device, and at least one word; no word is empty
+abbrev pub state_in : List (List ℕ) → Result Form LineFault
+state_in [] = Err (at_word 2 Word)
+state_in (time ∷ []) = Err (at_word 3 Word)
+state_in (time ∷ device ∷ []) = Err (at_word 4 Word)
+state_in (time ∷ device ∷ word ∷ words) = state_by (empty_from 4 (word ∷ words)) (number_of time) device (word ∷ words)
 
 -- ---- all
 
-abbrev pub refused_by : Option (List ℕ × List ℕ) → Result Form ExpectCause
-refused_by None = Err Word
-refused_by (Some words) = Ok (Refused words.0 words.1)
+-- a label and a word
+abbrev pub refused_in : List (List ℕ) → Result Form LineFault
+refused_in [] = Err (at_word 2 Word)
+refused_in (name ∷ []) = Err (at_word 3 Word)
+refused_in (name ∷ word ∷ []) = Ok (Refused name word)
+refused_in (name ∷ word ∷ more ∷ words) = Err (at_word 4 Word)
 
 -- the words after `expect`
-abbrev pub expectation_in : List (List ℕ) → Result Form ExpectCause
-expectation_in [] = Err Word
+abbrev pub expectation_in : List (List ℕ) → Result Form LineFault
+expectation_in [] = Err (at_word 1 Word)
 expectation_in (how ∷ words) =
-    if bytes_eq how (codes "refused") then refused_by (two_of words)
+    if bytes_eq how (codes "refused") then refused_in words
     else if bytes_eq how (codes "state") then state_in words
     else if bytes_eq how (codes "none") then rounds_in Never words
     else if bytes_eq how (codes "once") then rounds_in Once words
     else rounds_in AtLeastOnce (how ∷ words)
 
 -- what a line says, by its words without the label; a label alone says nothing
-abbrev pub form_in : List (List ℕ) → Result Form ExpectCause
-form_in [] = Err Word
+abbrev pub form_in : List (List ℕ) → Result Form LineFault
+form_in [] = Err (at_word 0 Word)
 form_in (verb ∷ words) = if bytes_eq verb (codes "expect") then expectation_in words else Ok Other
 
 -- the time of a state is at most 1,000,000,000,000
@@ -139,6 +166,10 @@ IsEarly (forms.State time device words) = time ≤ latest_event
 IsEarly (forms.Refused label word) = Unit {0}
 
 -- what is read is what the words say
-abbrev pub IsForm : Result Form ExpectCause → Result FormRead ExpectCause → Type 0
+abbrev pub IsForm : Result Form LineFault → Result FormRead LineFault → Type 0
 IsForm said (Ok form) = said ≡ Ok (form_as form)
-IsForm said (Err cause) = said ≡ Err cause
+IsForm said (Err fault) = said ≡ Err fault
+
+abbrev pub AreParts : Result Parts LineFault → Result PartsRead LineFault → Type 0
+AreParts said (Ok parts) = said ≡ Ok (parts_as parts)
+AreParts said (Err fault) = said ≡ Err fault

@@ -1,5 +1,6 @@
 pub mod Fits
 pub mod Line
+pub mod Fault
 pub mod Form
 pub mod Faults
 pub mod Labels

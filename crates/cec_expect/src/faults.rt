@@ -1,26 +1,30 @@
 //! The first line of a script at fault.
-ghost use Rattle.std.specs.Prelude.{◌≡◌, IfOk};
+ghost use Rattle.std.specs.Prelude.{◌≡◌, IfOk, IfSome};
 ghost use Rattle.std.specs.List.{list_any};
-ghost use Rattle.std.specs.Option.{option_copied};
+ghost use Rattle.std.specs.Option.{option_copied, option_map};
 ghost use Rattle.hdmi_core.specs.Lines.{lines_of};
 ghost use Rattle.hdmi_core.specs.Words.{words_behind, words_of};
+ghost use Rattle.cec_expect.specs.Fault.{IsNear, after_label};
 ghost use Rattle.cec_expect.specs.Form.{form_as, window_of};
 ghost use Rattle.cec_expect.specs.Line.{behind_label};
 ghost use Rattle.cec_expect.specs.Faults.{declared_in, end_in, ends_before, first_fault, form_fault, is_above, is_declared, is_line, is_named, is_own_label, is_past, is_strange, line_fault, window_fault};
 
-use crate::form::{ExpectCause, Form, Window, form_in};
+use crate::fault::{LineFault, after_label, at_word};
+use crate::form::{ExpectCause, Form, Quantity, Window, form_in, in_window};
 use crate::labels::Labels;
 use crate::line::unlabelled;
 use hdmi_core::{first_line, first_word, number_in};
 use std::alloc::{AllocError, Global};
 use thiserror::Error;
 
-/// The first line of a script at fault, counted from 1, and why.
+/// The first line of a script at fault, counted from 1, and why; the word at fault, counted from 0 in the line as it is written.
+/// Where a word is missing, it is the number that it would have.
 #[derive(Clone, Copy, Debug, Drop, PartialEq, Eq, Error)]
 #[error("line {line}: {cause}")]
 pub struct ExpectFault {
     pub line: u64,
     pub cause: ExpectCause,
+    pub word: usize,
 }
 
 fn is_above(number: u64, line: Option<u64>) -> bool
@@ -119,20 +123,26 @@ fn ends_before(script: &[u8], time: u64) -> bool
     false
 }
 
-fn window_fault(labels: &Labels<'_>, number: u64, window: Window) -> Option<ExpectCause>
-    ensures { result ≡ window_fault labels.now.script.now number (window_of window.entry) }
+fn window_fault(
+    labels: &Labels<'_>,
+    number: u64,
+    quantity: Quantity,
+    window: Window,
+) -> Option<LineFault>
+    ensures value { result ≡ window_fault labels.now.script.now number quantity (window_of window.entry) }
+    ensures near { IfSome result IsNear }
 {
     match window {
         Window::Within { label, .. } => {
             if is_above(number, labels.line_of(label)) {
                 None
             } else {
-                Some(ExpectCause::Label)
+                Some(in_window(quantity, 3, ExpectCause::Label))
             }
         }
         Window::From { from, to } => {
             if to < from {
-                Some(ExpectCause::Order)
+                Some(in_window(quantity, 3, ExpectCause::Order))
             } else {
                 None
             }
@@ -140,15 +150,20 @@ fn window_fault(labels: &Labels<'_>, number: u64, window: Window) -> Option<Expe
     }
 }
 
-fn form_fault(labels: &Labels<'_>, number: u64, form: Form) -> Option<ExpectCause>
-    ensures { result ≡ form_fault labels.now.script.now number (form_as form.entry) }
+fn form_fault(labels: &Labels<'_>, number: u64, form: Form) -> Option<LineFault>
+    ensures value { result ≡ form_fault labels.now.script.now number (form_as form.entry) }
+    ensures near { IfSome result IsNear }
 {
     match form {
         Form::Other => None,
-        Form::Rounds { window, .. } => window_fault(labels, number, window),
+        Form::Rounds {
+            quantity,
+            window,
+            ..
+        } => window_fault(labels, number, quantity, window),
         Form::State { time, .. } => {
             if ends_before(labels.script, time) {
-                Some(ExpectCause::Order)
+                Some(at_word(2, ExpectCause::Order))
             } else {
                 None
             }
@@ -157,7 +172,7 @@ fn form_fault(labels: &Labels<'_>, number: u64, form: Form) -> Option<ExpectCaus
             if is_above(number, labels.event_of(label)) {
                 None
             } else {
-                Some(ExpectCause::Label)
+                Some(at_word(2, ExpectCause::Label))
             }
         }
     }
@@ -175,19 +190,30 @@ fn is_strange(topology: &[u8], form: Form) -> bool
     }
 }
 
-fn line_fault(topology: &[u8], labels: &Labels<'_>, number: u64, line: &[u8]) -> Option<ExpectCause>
+// The same word of a line with its label before it, where one is at fault.
+fn any_after_label(label: Option<&[u8]>, fault: Option<LineFault>) -> Option<LineFault>
+    requires near { IfSome fault IsNear }
+    ensures { result ≡ option_map (after_label (option_copied label.entry)) fault }
+{
+    match fault {
+        None => None,
+        Some(fault) => Some(after_label(label, fault)),
+    }
+}
+
+fn line_fault(topology: &[u8], labels: &Labels<'_>, number: u64, line: &[u8]) -> Option<LineFault>
     ensures { result ≡ line_fault topology.now labels.now.script.now number line.now }
 {
     let line = unlabelled(line);
     match form_in(line.rest) {
-        Err(cause) => Some(cause),
+        Err(fault) => Some(after_label(line.label, fault)),
         Ok(form) => {
             if is_strange(topology, form) {
-                Some(ExpectCause::Name)
+                Some(after_label(line.label, at_word(3, ExpectCause::Name)))
             } else if is_own_label(labels, number, line.label) {
-                form_fault(labels, number, form)
+                any_after_label(line.label, form_fault(labels, number, form))
             } else {
-                Some(ExpectCause::Label)
+                Some(at_word(1, ExpectCause::Label))
             }
         }
     }
@@ -200,10 +226,11 @@ pub fn fault_among(topology: &[u8], labels: &Labels<'_>) -> Option<ExpectFault>
     let mut rest = labels.script;
     let mut number = 1u64;
     'lines: while let Some((line, after)) = first_line(rest) {
-        if let Some(cause) = line_fault(topology, labels, number, line) {
+        if let Some(fault) = line_fault(topology, labels, number, line) {
             return Some(ExpectFault {
                 line: number,
-                cause,
+                cause: fault.cause,
+                word: fault.word,
             });
         }
         rest = after;

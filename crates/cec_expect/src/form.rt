@@ -1,22 +1,25 @@
 //! What the line of an expectation says.
-ghost use Rattle.std.specs.Prelude.{◌≡◌, ◌≤◌, ◌+◌, length, Some, IfOk};
-ghost use Rattle.std.specs.Option.{option_copied, option_map};
+ghost use Rattle.std.specs.Prelude.{◌≡◌, ◌≤◌, ◌<◌, ◌+◌, ◌^◌, length, IfOk, IfErr, IfSome, codes};
+ghost use Rattle.std.specs.Option.{option_copied};
 ghost use Rattle.hdmi_core.specs.Words.{words_behind, words_of};
 ghost use Rattle.hdmi_core.specs.Number.{number_of};
-ghost use Rattle.cec_expect.specs.Form.{IsEarly, IsForm, are_words, rounds_between, expectation_in, form_in, is_pattern, is_window, parts_as, parts_in, refused_by, rounds_by, rounds_in, stars, state_in, state_at_time, within};
-ghost use Rattle.hdmi_core.specs.Words.{two_of};
+ghost use Rattle.cec_expect.specs.Fault.{IsNear};
+ghost use Rattle.cec_expect.specs.Form.{AreParts, IsEarly, IsForm, between_by, empty_from, expectation_in, form_in, in_window, is_pattern, parts_as, parts_in, pattern_by, pattern_in, refused_in, rounds_between, rounds_in, second_in, stars, state_at_time, state_in, window_word, within, within_by};
 
+use crate::fault::{LineFault, at_word};
 use cec_wave::LATEST_EVENT;
-use hdmi_core::{first_word, number_in, two_words};
+use hdmi_core::{first_word, number_in};
 use thiserror::Error;
 
 /// Why the line of a label or an expectation is refused: the first of these that applies.
 #[derive(Clone, Copy, Debug, Drop, PartialEq, Eq, Error)]
 pub enum ExpectCause {
-    /// No such expectation; a pattern of more than 160 bytes or with more than four `*`; no words of a state, or an empty
-    /// one; nothing after a label.
+    /// No such expectation; a word that is missing or too many; an empty word of a state; nothing after a label.
     #[error("word")]
     Word,
+    /// A pattern of no bytes or of more than 160, or with more than four `*`.
+    #[error("word")]
+    Pattern,
     /// No number, or a state's time past 1,000,000,000,000.
     #[error("number")]
     Number,
@@ -72,14 +75,33 @@ pub enum Form<'a> {
     },
 }
 
-// The four words of a window, and the pattern.
+// What a window of rounds says: its two values, and the pattern.
 #[derive(Clone, Copy)]
 struct Parts<'a> {
-    kind: &'a [u8],
     first: &'a [u8],
-    joint: &'a [u8],
     second: &'a [u8],
     pattern: &'a [u8],
+}
+
+// The number of the word with which the window of an expectation begins.
+fn window_word(quantity: Quantity) -> usize
+    ensures value { result ≡ window_word quantity }
+    ensures few { result ≤ 2 }
+{
+    match quantity {
+        Quantity::AtLeastOnce => 1,
+        Quantity::Never => 2,
+        Quantity::Once => 2,
+    }
+}
+
+/// The word at fault that stands so many after the first one of a window.
+pub(crate) fn in_window(quantity: Quantity, after: usize, cause: ExpectCause) -> LineFault
+    requires few { after ≤ 4 }
+    ensures value { result ≡ in_window quantity after cause }
+    ensures near { IsNear result }
+{
+    at_word(window_word(quantity) + after, cause)
 }
 
 fn stars(text: &[u8]) -> usize
@@ -99,36 +121,87 @@ fn is_pattern(text: &[u8]) -> bool
     !text.is_empty() && text.len() <= 160 && stars(text) <= 4
 }
 
-fn parts_in<'a>(rest: Option<&'a [u8]>) -> Option<Parts<'a>>
-    ensures { option_map parts_as result ≡ parts_in (words_behind (option_copied rest.entry)) }
+fn pattern_by<'a>(
+    quantity: Quantity,
+    first: &'a [u8],
+    second: &'a [u8],
+    pattern: &'a [u8],
+) -> Result<Parts<'a>, LineFault>
+    ensures is { AreParts (pattern_by quantity first.now second.now pattern.now) result }
+    ensures near { IfErr result IsNear }
 {
-    let (kind, rest) = first_word(rest?);
-    let (first, rest) = first_word(rest?);
-    let (joint, rest) = first_word(rest?);
-    let (second, rest) = first_word(rest?);
-    let pattern = rest?;
-    let (_word, _words) = first_word(pattern);
-    Some(Parts {
-        kind,
-        first,
-        joint,
-        second,
-        pattern,
-    })
+    if is_pattern(pattern) {
+        Ok(Parts {
+            first,
+            second,
+            pattern,
+        })
+    } else {
+        Err(in_window(quantity, 4, ExpectCause::Pattern))
+    }
 }
 
-fn is_window(kind: &[u8], joint: &[u8], parts: &Parts) -> bool
-    ensures { result ≡ is_window kind.now joint.now (parts_as parts.now) }
+fn pattern_in<'a>(
+    quantity: Quantity,
+    first: &'a [u8],
+    second: &'a [u8],
+    rest: Option<&'a [u8]>,
+) -> Result<Parts<'a>, LineFault>
+    ensures is { AreParts (pattern_in quantity first.now second.now (words_behind (option_copied rest.entry))) result }
+    ensures near { IfErr result IsNear }
 {
-    parts.kind == kind && parts.joint == joint
+    match rest {
+        None => Err(in_window(quantity, 4, ExpectCause::Word)),
+        Some(pattern) => pattern_by(quantity, first, second, pattern),
+    }
 }
 
-fn within<'a>(quantity: Quantity, parts: &Parts<'a>) -> Result<Form<'a>, ExpectCause>
+fn second_in<'a>(
+    quantity: Quantity,
+    first: &'a [u8],
+    rest: Option<&'a [u8]>,
+) -> Result<Parts<'a>, LineFault>
+    ensures is { AreParts (second_in quantity first.now (words_behind (option_copied rest.entry))) result }
+    ensures near { IfErr result IsNear }
+{
+    let Some(text) = rest else {
+        return Err(in_window(quantity, 3, ExpectCause::Word));
+    };
+    let (second, rest) = first_word(text);
+    pattern_in(quantity, first, second, rest)
+}
+
+// What stands after the first word of a window that has this word between its values.
+fn parts_in<'a>(
+    quantity: Quantity,
+    joint: &[u8],
+    rest: Option<&'a [u8]>,
+) -> Result<Parts<'a>, LineFault>
+    ensures is { AreParts (parts_in quantity joint.now (words_behind (option_copied rest.entry))) result }
+    ensures near { IfErr result IsNear }
+{
+    let Some(text) = rest else {
+        return Err(in_window(quantity, 1, ExpectCause::Word));
+    };
+    let (first, rest) = first_word(text);
+    let Some(text) = rest else {
+        return Err(in_window(quantity, 2, ExpectCause::Word));
+    };
+    let (word, rest) = first_word(text);
+    if word == joint {
+        second_in(quantity, first, rest)
+    } else {
+        Err(in_window(quantity, 2, ExpectCause::Word))
+    }
+}
+
+fn within<'a>(quantity: Quantity, parts: &Parts<'a>) -> Result<Form<'a>, LineFault>
     ensures is { IsForm (within quantity (number_of parts.now.first.now) (parts_as parts.now)) result }
     ensures early { IfOk result IsEarly }
+    ensures near { IfErr result IsNear }
 {
     let Some(duration) = number_in(parts.first) else {
-        return Err(ExpectCause::Number);
+        return Err(in_window(quantity, 1, ExpectCause::Number));
     };
     Ok(Form::Rounds {
         quantity,
@@ -140,15 +213,16 @@ fn within<'a>(quantity: Quantity, parts: &Parts<'a>) -> Result<Form<'a>, ExpectC
     })
 }
 
-fn rounds_between<'a>(quantity: Quantity, parts: &Parts<'a>) -> Result<Form<'a>, ExpectCause>
+fn rounds_between<'a>(quantity: Quantity, parts: &Parts<'a>) -> Result<Form<'a>, LineFault>
     ensures is { IsForm (rounds_between quantity (number_of parts.now.first.now) (number_of parts.now.second.now) (parts_as parts.now)) result }
     ensures early { IfOk result IsEarly }
+    ensures near { IfErr result IsNear }
 {
     let Some(from) = number_in(parts.first) else {
-        return Err(ExpectCause::Number);
+        return Err(in_window(quantity, 1, ExpectCause::Number));
     };
     let Some(to) = number_in(parts.second) else {
-        return Err(ExpectCause::Number);
+        return Err(in_window(quantity, 3, ExpectCause::Number));
     };
     Ok(Form::Rounds {
         quantity,
@@ -157,59 +231,75 @@ fn rounds_between<'a>(quantity: Quantity, parts: &Parts<'a>) -> Result<Form<'a>,
     })
 }
 
-fn rounds_by<'a>(quantity: Quantity, parts: &Parts<'a>) -> Result<Form<'a>, ExpectCause>
-    ensures is { IsForm (rounds_by quantity (Some (parts_as parts.now))) result }
+fn within_in<'a>(quantity: Quantity, rest: Option<&'a [u8]>) -> Result<Form<'a>, LineFault>
+    ensures is { IsForm (within_by quantity (parts_in quantity (codes "of") (words_behind (option_copied rest.entry)))) result }
     ensures early { IfOk result IsEarly }
+    ensures near { IfErr result IsNear }
 {
-    if !is_pattern(parts.pattern) {
-        Err(ExpectCause::Word)
-    } else if is_window(b"within", b"of", parts) {
-        within(quantity, parts)
-    } else if is_window(b"from", b"to", parts) {
-        rounds_between(quantity, parts)
-    } else {
-        Err(ExpectCause::Word)
+    match parts_in(quantity, b"of", rest) {
+        Err(fault) => Err(fault),
+        Ok(parts) => within(quantity, &parts),
     }
 }
 
-fn rounds_in<'a>(quantity: Quantity, rest: Option<&'a [u8]>) -> Result<Form<'a>, ExpectCause>
+fn between_in<'a>(quantity: Quantity, rest: Option<&'a [u8]>) -> Result<Form<'a>, LineFault>
+    ensures is { IsForm (between_by quantity (parts_in quantity (codes "to") (words_behind (option_copied rest.entry)))) result }
+    ensures early { IfOk result IsEarly }
+    ensures near { IfErr result IsNear }
+{
+    match parts_in(quantity, b"to", rest) {
+        Err(fault) => Err(fault),
+        Ok(parts) => rounds_between(quantity, &parts),
+    }
+}
+
+fn rounds_in<'a>(quantity: Quantity, rest: Option<&'a [u8]>) -> Result<Form<'a>, LineFault>
     ensures is { IsForm (rounds_in quantity (words_behind (option_copied rest.entry))) result }
     ensures early { IfOk result IsEarly }
+    ensures near { IfErr result IsNear }
 {
-    match parts_in(rest) {
-        None => Err(ExpectCause::Word),
-        Some(parts) => rounds_by(quantity, &parts),
+    let Some(text) = rest else {
+        return Err(in_window(quantity, 0, ExpectCause::Word));
+    };
+    let (kind, others) = first_word(text);
+    if kind == b"within".as_slice() {
+        within_in(quantity, others)
+    } else if kind == b"from".as_slice() {
+        between_in(quantity, others)
+    } else {
+        Err(in_window(quantity, 0, ExpectCause::Word))
     }
 }
 
-// Whether no word of a text is empty.
-fn are_words(text: &[u8]) -> bool
-    ensures { result ≡ are_words (words_of text.now) }
+// The number of the first empty word of a state, of which the first has the number 4.
+#[tactic(auto, using(crate::proofs::Parted::few_words))]
+fn first_empty(text: &[u8]) -> Option<usize>
+    ensures value { result ≡ empty_from 4 (words_of text.now) }
+    ensures near { IfSome result (λ number. number + 2 < 2 ^ 64) }
 {
     let mut rest = Some(text);
+    let mut number = 4usize;
     'words: while let Some(words) = rest {
         let (word, others) = first_word(words);
         if word.is_empty() {
-            return false;
+            return Some(number);
         }
         rest = others;
+        number += 1;
     }
-    true
+    None
 }
 
-fn state_at_time<'a>(
-    time: &[u8],
-    device: &'a [u8],
-    words: &'a [u8],
-) -> Result<Form<'a>, ExpectCause>
+fn state_at_time<'a>(time: &[u8], device: &'a [u8], words: &'a [u8]) -> Result<Form<'a>, LineFault>
     ensures is { IsForm (state_at_time (number_of time.now) device.now (words_of words.now)) result }
     ensures early { IfOk result IsEarly }
+    ensures near { IfErr result IsNear }
 {
     match number_in(time) {
-        None => Err(ExpectCause::Number),
+        None => Err(at_word(2, ExpectCause::Number)),
         Some(time) => {
             if time > LATEST_EVENT {
-                Err(ExpectCause::Number)
+                Err(at_word(2, ExpectCause::Number))
             } else {
                 Ok(Form::State {
                     time,
@@ -221,45 +311,58 @@ fn state_at_time<'a>(
     }
 }
 
-fn state_in<'a>(rest: Option<&'a [u8]>) -> Result<Form<'a>, ExpectCause>
+fn state_in<'a>(rest: Option<&'a [u8]>) -> Result<Form<'a>, LineFault>
     ensures is { IsForm (state_in (words_behind (option_copied rest.entry))) result }
     ensures early { IfOk result IsEarly }
+    ensures near { IfErr result IsNear }
 {
     let Some(text) = rest else {
-        return Err(ExpectCause::Word);
+        return Err(at_word(2, ExpectCause::Word));
     };
     let (time, rest) = first_word(text);
     let Some(text) = rest else {
-        return Err(ExpectCause::Word);
+        return Err(at_word(3, ExpectCause::Word));
     };
     let (device, rest) = first_word(text);
     let Some(words) = rest else {
-        return Err(ExpectCause::Word);
+        return Err(at_word(4, ExpectCause::Word));
     };
     let (_word, _words) = first_word(words);
-    if are_words(words) {
-        state_at_time(time, device, words)
-    } else {
-        Err(ExpectCause::Word)
+    match first_empty(words) {
+        Some(number) => Err(at_word(number, ExpectCause::Word)),
+        None => state_at_time(time, device, words),
     }
 }
 
-fn refused_in<'a>(rest: Option<&'a [u8]>) -> Result<Form<'a>, ExpectCause>
-    ensures is { IsForm (refused_by (two_of (words_behind (option_copied rest.entry)))) result }
+fn refused_in<'a>(rest: Option<&'a [u8]>) -> Result<Form<'a>, LineFault>
+    ensures is { IsForm (refused_in (words_behind (option_copied rest.entry))) result }
     ensures early { IfOk result IsEarly }
-{
-    match two_words(rest) {
-        None => Err(ExpectCause::Word),
-        Some((label, word)) => Ok(Form::Refused { label, word }),
-    }
-}
-
-fn expectation_in<'a>(rest: Option<&'a [u8]>) -> Result<Form<'a>, ExpectCause>
-    ensures is { IsForm (expectation_in (words_behind (option_copied rest.entry))) result }
-    ensures early { IfOk result IsEarly }
+    ensures near { IfErr result IsNear }
 {
     let Some(text) = rest else {
-        return Err(ExpectCause::Word);
+        return Err(at_word(2, ExpectCause::Word));
+    };
+    let (label, rest) = first_word(text);
+    let Some(text) = rest else {
+        return Err(at_word(3, ExpectCause::Word));
+    };
+    let (word, rest) = first_word(text);
+    match rest {
+        None => Ok(Form::Refused { label, word }),
+        Some(text) => {
+            let (_word, _words) = first_word(text);
+            Err(at_word(4, ExpectCause::Word))
+        }
+    }
+}
+
+fn expectation_in<'a>(rest: Option<&'a [u8]>) -> Result<Form<'a>, LineFault>
+    ensures is { IsForm (expectation_in (words_behind (option_copied rest.entry))) result }
+    ensures early { IfOk result IsEarly }
+    ensures near { IfErr result IsNear }
+{
+    let Some(text) = rest else {
+        return Err(at_word(1, ExpectCause::Word));
     };
     let (how, others) = first_word(text);
     if how == b"refused".as_slice() {
@@ -279,13 +382,14 @@ fn expectation_in<'a>(rest: Option<&'a [u8]>) -> Result<Form<'a>, ExpectCause>
 ///
 /// # Errors
 ///
-/// The first cause.
-pub fn form_in<'a>(rest: Option<&'a [u8]>) -> Result<Form<'a>, ExpectCause>
+/// The first cause, and the word at fault in the line without its label.
+pub fn form_in<'a>(rest: Option<&'a [u8]>) -> Result<Form<'a>, LineFault>
     ensures is { IsForm (form_in (words_behind (option_copied rest.entry))) result }
     ensures early { IfOk result IsEarly }
+    ensures near { IfErr result IsNear }
 {
     let Some(text) = rest else {
-        return Err(ExpectCause::Word);
+        return Err(at_word(0, ExpectCause::Word));
     };
     let (verb, others) = first_word(text);
     if verb == b"expect".as_slice() {

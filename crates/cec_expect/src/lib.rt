@@ -1,12 +1,14 @@
 //! What is expected of a run: labels and expectations in a script, patterns, and the script without them.
 #![tactic(auto)]
 
+mod fault;
 mod faults;
 mod form;
 mod labels;
 mod line;
 mod pattern;
 
+pub use fault::{LineFault, after_label, at_word};
 pub use faults::{ExpectFault, fault_among, first_fault};
 pub use form::{ExpectCause, Form, Quantity, Window, form_in};
 pub use labels::Labels;

@@ -10,7 +10,7 @@ use Rattle.cec_expect.specs.Form.{Form, Window, form_in}
 use Rattle.cec_expect.specs.Form.Form.{Other, Rounds, State, Refused}
 use Rattle.cec_expect.specs.Form.Window.{Within, From}
 use Rattle.cec_expect.specs.Faults.{line_of_label, event_labelled}
-use Rattle.cec_expect.specs.declared.form.ExpectCause.{ExpectCause}
+use Rattle.cec_expect.specs.declared.fault.LineFault.{LineFault}
 use Rattle.cec_expect.specs.declared.form.Quantity.{Quantity}
 use Rattle.cec_expect.specs.declared.form.Quantity.TheVariants.{AtLeastOnce, Never, Once}
 use Rattle.cec_judge.specs.Told.{EventLine, event_at, refusal_in, state_words}
@@ -102,9 +102,12 @@ event_instant (Some e) = Some e.at
 abbrev pub other_judged : List ℕ → ℕ → Judged
 other_judged trace number = record { holds = None; at = event_instant (event_at trace number); span = None; count = 0 }
 
--- nothing is found of a line that expects nothing, where no label names it
-abbrev pub nothing : Judged
-nothing = record { holds = None; at = None; span = None; count = 0 }
+abbrev pub form_judged : List ℕ → List ℕ → List ℕ → List Judged → Result Form LineFault → Judged
+form_judged script trace state above (Err cause) = failure
+form_judged script trace state above (Ok Other) = other_judged trace (length above + 1)
+form_judged script trace state above (Ok (Rounds quantity window pattern)) = rounds_judged trace quantity pattern (span_of script above window)
+form_judged script trace state above (Ok (State time device words)) = state_judged state words
+form_judged script trace state above (Ok (Refused name word)) = refused_judged script trace name word
 
 abbrev pub form_judged : List ℕ → List ℕ → List ℕ → (ℕ → Option ℕ) → ℕ → Bool → Result Form ExpectCause → Judged
 form_judged script trace state at number named (Err cause) = failure
@@ -192,7 +195,7 @@ abbrev pub is_number : ℕ → Option ℕ → Bool
 is_number number None = false
 is_number number (Some line) = line == number
 
-abbrev pub form_expects : List ℕ → ℕ → Result Form ExpectCause → Bool
+abbrev pub form_expects : List ℕ → ℕ → Result Form LineFault → Bool
 form_expects script number (Err cause) = false
 form_expects script number (Ok Other) = false
 form_expects script number (Ok (Rounds quantity window pattern)) = false

@@ -1,3 +1,4 @@
 pub mod Instants
 pub mod Stretching
 pub mod Refused
+pub mod Words

@@ -1,5 +1,5 @@
 -- The range of a script, and the script at an instant (own). A range stands in the place of a time: a word whose first point is
--- followed by another. Lines count from 1.
+-- followed by another. Lines count from 1, words from 0.
 use Rattle.std.specs.Prelude.{ℕ, ◌+◌, ◌==◌, ◌&&◌, Bool, if◌then◌else◌, length, List, [], ◌∷◌, ◌++◌, Option, Some, None, Result, Ok, Err}
 use Rattle.std.specs.Fmt.{decimal}
 use Rattle.std.specs.List.{flat_map}
@@ -18,28 +18,28 @@ is_range_at place word = is_time place && is_range word
 
 -- ---- the range
 
--- a range, after the one that was seen
-abbrev pub with_range : ℕ → Option Series → Result Series RangeCause → Result (Option Series) RangeFault
-with_range number seen (Err cause) = Err (record { line = number; cause = cause })
-with_range number None (Ok s) = Ok (Some s)
-with_range number (Some before) (Ok s) = Err (record { line = number; cause = Range })
+-- a range, after the one that was seen, by its line and its number there
+abbrev pub with_range : ℕ → ℕ → Option Series → Result Series RangeCause → Result (Option Series) RangeFault
+with_range number index seen (Err cause) = Err (record { line = number; cause = cause; word = index })
+with_range number index None (Ok s) = Ok (Some s)
+with_range number index (Some before) (Ok s) = Err (record { line = number; cause = Range; word = index })
 
-abbrev pub with_word : ℕ → WordRole → Option Series → List ℕ → Result (Option Series) RangeFault
-with_word number place seen word = if is_range_at place word then with_range number seen (series_in word) else Ok seen
+abbrev pub with_word : ℕ → ℕ → WordRole → Option Series → List ℕ → Result (Option Series) RangeFault
+with_word number index place seen word = if is_range_at place word then with_range number index seen (series_in word) else Ok seen
 
 abbrev pub and_then : Result (Option Series) RangeFault → (Option Series → Result (Option Series) RangeFault) → Result (Option Series) RangeFault
 and_then (Err fault) next = Err fault
 and_then (Ok seen) next = next seen
 
--- these words of a line, of which the first has this place
-abbrev pub words_ranged : ℕ → WordRole → Option Series → List (List ℕ) → Result (Option Series) RangeFault
-words_ranged number place seen [] = Ok seen
-words_ranged number place seen (word ∷ words) = and_then (with_word number place seen word) (λ s. words_ranged number (next_place place word) s words)
+-- these words of a line, of which the first has this number and place
+abbrev pub words_ranged : ℕ → ℕ → WordRole → Option Series → List (List ℕ) → Result (Option Series) RangeFault
+words_ranged number index place seen [] = Ok seen
+words_ranged number index place seen (word ∷ words) = and_then (with_word number index place seen word) (λ s. words_ranged number (index + 1) (next_place place word) s words)
 
 -- these lines, of which the first has this number
 abbrev pub lines_ranged : ℕ → Option Series → List (List ℕ) → Result (Option Series) RangeFault
 lines_ranged number seen [] = Ok seen
-lines_ranged number seen (line ∷ lines) = and_then (words_ranged number Begin seen (words_of line)) (λ s. lines_ranged (number + 1) s lines)
+lines_ranged number seen (line ∷ lines) = and_then (words_ranged number 0 Begin seen (words_of line)) (λ s. lines_ranged (number + 1) s lines)
 
 -- the range of a script, or its first line at fault: a range that is none, or a second one
 abbrev pub range_of : List ℕ → Result (Option Series) RangeFault

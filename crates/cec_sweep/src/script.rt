@@ -10,12 +10,14 @@ use hdmi_core::{first_line, first_word};
 use std::alloc::{AllocError, Global};
 use thiserror::Error;
 
-/// The first line of a script, counted from 1, whose range is refused, and why.
+/// The first line of a script, counted from 1, whose range is refused, and why; and the range's number among the line's words,
+/// counted from 0.
 #[derive(Clone, Copy, Debug, Drop, PartialEq, Eq, Error)]
 #[error("line {line}: {cause}")]
 pub struct RangeFault {
     pub line: u64,
     pub cause: RangeCause,
+    pub word: usize,
 }
 
 fn is_range_at(place: WordRole, word: &[u8]) -> bool
@@ -27,21 +29,24 @@ fn is_range_at(place: WordRole, word: &[u8]) -> bool
 // A range, after the one that was seen.
 fn with_range(
     number: u64,
+    index: usize,
     seen: Option<Series>,
     found: Result<Series, RangeCause>,
 ) -> Result<Option<Series>, RangeFault>
-    ensures { result ≡ with_range number seen found }
+    ensures { result ≡ with_range number index seen found }
 {
     match found {
         Err(cause) => Err(RangeFault {
             line: number,
             cause,
+            word: index,
         }),
         Ok(series) => match seen {
             None => Ok(Some(series)),
             Some(_) => Err(RangeFault {
                 line: number,
                 cause: RangeCause::Range,
+                word: index,
             }),
         },
     }
@@ -49,35 +54,39 @@ fn with_range(
 
 fn with_word(
     number: u64,
+    index: usize,
     place: WordRole,
     seen: Option<Series>,
     word: &[u8],
 ) -> Result<Option<Series>, RangeFault>
-    ensures { result ≡ with_word number place seen word.now }
+    ensures { result ≡ with_word number index place seen word.now }
 {
     if is_range_at(place, word) {
-        with_range(number, seen, series_in(word))
+        with_range(number, index, seen, series_in(word))
     } else {
         Ok(seen)
     }
 }
 
+#[tactic(auto, using(crate::proofs::Words::few_words))]
 fn words_ranged(
     number: u64,
     seen: Option<Series>,
     line: &[u8],
 ) -> Result<Option<Series>, RangeFault>
-    ensures { result ≡ words_ranged number WordRole.Begin seen (words_of line.now) }
+    ensures { result ≡ words_ranged number 0 WordRole.Begin seen (words_of line.now) }
 {
     let mut rest = Some(line);
+    let mut index = 0usize;
     let mut place = WordRole::Begin;
     let mut seen = seen;
     'words: while let Some(text) = rest {
         let (word, others) = first_word(text);
-        seen = match with_word(number, place, seen, word) {
+        seen = match with_word(number, index, place, seen, word) {
             Err(fault) => return Err(fault),
             Ok(seen) => seen,
         };
+        index += 1;
         place = place.next(word);
         rest = others;
     }

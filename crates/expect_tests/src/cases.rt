@@ -35,7 +35,10 @@ fn spelled(rt: &(impl Abort + AllocGlobal), row: &str) -> String {
 fn fault_of(rt: &(impl Abort + AllocGlobal), script: &str) -> String {
     match first_fault(rt.alloc(), TOPOLOGY.as_bytes(), script.as_bytes()).expect(rt, script) {
         None => String::from_str(rt.alloc(), "none").expect(rt, script),
-        Some(fault) => format!(in rt.alloc(); "{fault}").expect(rt, script),
+        Some(fault) => {
+            let word = fault.word;
+            format!(in rt.alloc(); "{fault} at {word}").expect(rt, script)
+        }
     }
 }
 

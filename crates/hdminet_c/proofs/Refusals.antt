@@ -97,6 +97,7 @@ watch_more watches.Memory = omega arith
 
 expect_more : (cause : ExpectCause) → 1 < number_of (expect_code cause)
 expect_more expects.Word = omega arith
+expect_more expects.Pattern = omega arith
 expect_more expects.Number = omega arith
 expect_more expects.Name = omega arith
 expect_more expects.Label = omega arith

@@ -15,6 +15,7 @@ use Rattle.hdminet_c.specs.declared.checking.Counts.{Counts}
 
 abbrev pub expect_code : ExpectCause → Code
 expect_code expects.Word = ExpectWord
+expect_code expects.Pattern = ExpectWord
 expect_code expects.Number = ExpectNumber
 expect_code expects.Name = ScriptName
 expect_code expects.Label = ExpectLabel

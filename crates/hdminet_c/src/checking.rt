@@ -33,6 +33,7 @@ fn expect_code(cause: ExpectCause) -> Code
 {
     match cause {
         ExpectCause::Word => Code::ExpectWord,
+        ExpectCause::Pattern => Code::ExpectWord,
         ExpectCause::Number => Code::ExpectNumber,
         ExpectCause::Name => Code::ScriptName,
         ExpectCause::Label => Code::ExpectLabel,

@@ -59,7 +59,7 @@ fn of_script(cause: ScriptCause) -> &'static str {
 
 fn of_expectation(cause: ExpectCause) -> &'static str {
     match cause {
-        ExpectCause::Word => {
+        ExpectCause::Word | ExpectCause::Pattern => {
             "words stand one space apart; PATTERN has 1 to 160 bytes and at most four `*`; a label stands before a line"
         }
         ExpectCause::Number => {

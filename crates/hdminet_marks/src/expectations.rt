@@ -1,10 +1,7 @@
 //! The lines of the script of a test: labels and expectations.
 use crate::fault::Input;
-use crate::grammar::{CAPTURE_EXPECTATIONS, EXPECTATIONS, most_fitting};
-use crate::marks::{Mark, from, is_number, is_word, one};
-use crate::place::{Place, is_line_end};
-use crate::words::{word_at, word_count};
-use cec_expect::ExpectCause;
+use crate::grammar::{CAPTURE_EXPECTATIONS, EXPECTATIONS};
+use crate::marks::{Mark, is_word};
 
 /// A line without its label, and how many words that takes.
 #[derive(Clone, Copy)]
@@ -51,101 +48,11 @@ pub fn labelled_by(line: &[u8]) -> Option<&str> {
     Some(name)
 }
 
-// Whether a line of the script above has this label.
-fn is_labelled(place: Place<'_>, name: &str) -> bool {
-    let above = place.number.saturating_sub(1);
-    for line in place
-        .input
-        .split(is_line_end)
-        .take(above)
-        .skip(place.before)
-    {
-        if labelled_by(line) == Some(name) {
-            return true;
-        }
-    }
-    false
-}
-
-// How many words stand before the window of an expectation.
-fn before_window(line: &str) -> usize {
-    if is_word(line, 1, "none") || is_word(line, 1, "once") {
-        2
-    } else {
-        1
-    }
-}
-
-// Whether an expectation has a number there.
-fn has_number(line: &str, index: usize) -> bool {
-    match word_at(line, index) {
-        Some(word) => is_number(word, u64::MAX),
-        None => false,
-    }
-}
-
-// The number of a window that is none.
-fn number_in_window(line: &str, window: usize) -> Option<Mark> {
-    let first = window.saturating_add(1);
-    if has_number(line, first) {
-        one(window.saturating_add(3))
-    } else {
-        one(first)
-    }
-}
-
-// The label that an expectation names.
-fn label_named(line: &str, window: usize) -> Option<Mark> {
-    if is_word(line, 1, "refused") {
-        one(2)
-    } else {
-        one(window.saturating_add(3))
-    }
-}
-
 /// The forms of the lines of expectations, of a script or of a capture.
 pub fn forms_of(what: Input) -> &'static [&'static [&'static str]] {
     match what {
         Input::CaptureTest => CAPTURE_EXPECTATIONS,
         _ => EXPECTATIONS,
-    }
-}
-
-// The first word that no expectation has there, or else its pattern.
-fn unfit_word(what: Input, line: &str, window: usize) -> Option<Mark> {
-    let count = most_fitting(forms_of(what), line);
-    let pattern = window.saturating_add(4);
-    if count > pattern {
-        from(pattern)
-    } else if count < word_count(line) {
-        one(count)
-    } else {
-        None
-    }
-}
-
-// The words at fault of an expectation of a device's state.
-fn in_state(what: Input, cause: ExpectCause, line: &str) -> Option<Mark> {
-    match cause {
-        ExpectCause::Word => unfit_word(what, line, 1),
-        ExpectCause::Number | ExpectCause::Order => one(2),
-        ExpectCause::Name => one(3),
-        ExpectCause::Label => None,
-    }
-}
-
-// The words at fault of an expectation without its label.
-fn in_window(what: Input, cause: ExpectCause, line: &str) -> Option<Mark> {
-    if is_word(line, 1, "state") {
-        return in_state(what, cause, line);
-    }
-    let window = before_window(line);
-    match cause {
-        ExpectCause::Word => unfit_word(what, line, window),
-        ExpectCause::Number => number_in_window(line, window),
-        ExpectCause::Label => label_named(line, window),
-        ExpectCause::Order => one(window.saturating_add(3)),
-        ExpectCause::Name => None,
     }
 }
 
@@ -171,32 +78,4 @@ pub fn as_form(what: Input, line: &str) -> &str {
     } else {
         without_label(line).line
     }
-}
-
-// The words at fault of a line that gives an instant of a capture a name.
-fn in_instant(cause: ExpectCause, line: &str) -> Option<Mark> {
-    match cause {
-        ExpectCause::Word => unfit_word(Input::CaptureTest, line, 0),
-        ExpectCause::Label => one(1),
-        ExpectCause::Number | ExpectCause::Name | ExpectCause::Order => one(3),
-    }
-}
-
-/// The words at fault of a line with a label or an expectation.
-pub fn in_expectation(
-    what: Input,
-    cause: ExpectCause,
-    place: Place<'_>,
-    line: &str,
-) -> Option<Mark> {
-    if let (Some((name, _)), ExpectCause::Label) = (label_of(line), cause) {
-        if name.is_empty() || is_labelled(place, name) {
-            return one(1);
-        }
-    }
-    if names_instant(what, line) {
-        return in_instant(cause, line);
-    }
-    let rest = without_label(line);
-    behind_label(rest.words, in_window(what, cause, rest.line))
 }

@@ -53,15 +53,17 @@ pub enum Fault {
         cause: ScriptCause,
         word: u8,
     },
-    /// A line with a label or an expectation, of a script or of a capture.
+    /// A line with a label or an expectation, of a script or of a capture. Words are those of the line with its label.
     Expectation {
         line: u64,
         cause: ExpectCause,
+        word: usize,
     },
-    /// A line of a script with a range of instants.
+    /// A line of a script with a range of instants. Words are those of the line with its label.
     Range {
         line: u64,
         cause: RangeSlip,
+        word: usize,
     },
     /// A line that is no step.
     Steps {

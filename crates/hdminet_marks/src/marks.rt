@@ -1,11 +1,12 @@
 //! Which words of a line are at fault.
 use crate::edges::{in_line, out_of_order};
-use crate::expectations::{behind_label, in_expectation, label_words};
+use crate::expectations::{behind_label, label_words};
 use crate::fault::{Fault, Input};
 use crate::grammar::{STEPS, most_fitting};
 use crate::place::{Place, is_declared};
 use crate::words::{word_at, word_count};
 use cec_asm::ScriptCause;
+use cec_expect::ExpectCause;
 use cec_formats::Cause;
 use cec_text::AssembleError;
 
@@ -98,16 +99,16 @@ fn in_script(cause: ScriptCause, word: usize) -> Option<Mark> {
     }
 }
 
-// The range of a line.
-fn in_range(line: &str) -> Option<Mark> {
-    let mut number = 0usize;
-    for word in line.split(' ') {
-        if word.contains("..") {
-            return one(number);
-        }
-        number = number.saturating_add(1);
+// A line with a label or an expectation. A pattern is at fault up to its end.
+fn in_expectation(cause: ExpectCause, word: usize) -> Option<Mark> {
+    match cause {
+        ExpectCause::Pattern => from(word),
+        ExpectCause::Word
+        | ExpectCause::Number
+        | ExpectCause::Name
+        | ExpectCause::Label
+        | ExpectCause::Order => one(word),
     }
-    None
 }
 
 // A line of a capture.
@@ -127,8 +128,8 @@ pub fn marked(what: Input, fault: Fault, place: Place<'_>, line: &str) -> Option
             label_words(what, line),
             in_script(cause, usize::from(word)),
         ),
-        Fault::Expectation { cause, .. } => in_expectation(what, cause, place, line),
-        Fault::Range { .. } => in_range(line),
+        Fault::Expectation { cause, word, .. } => in_expectation(cause, word),
+        Fault::Range { word, .. } => one(word),
         Fault::Steps { .. } => in_steps(place, line),
         Fault::Frame { cause, .. } => in_frame(cause),
         Fault::Capture { cause, .. } => in_capture(cause, place, line),

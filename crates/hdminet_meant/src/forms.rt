@@ -180,7 +180,9 @@ fn add_script(
 // What a line of expectations would be that is refused for a cause.
 fn add_expectation(draft: &mut Draft, what: Input, cause: ExpectCause, line: &str) {
     match cause {
-        ExpectCause::Word => add_forms(draft, forms_of(what), as_form(what, line)),
+        ExpectCause::Word | ExpectCause::Pattern => {
+            add_forms(draft, forms_of(what), as_form(what, line));
+        }
         ExpectCause::Number | ExpectCause::Name | ExpectCause::Label | ExpectCause::Order => {}
     }
 }

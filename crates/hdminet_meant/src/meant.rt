@@ -253,7 +253,7 @@ fn of_expectation(draft: &mut Draft, place: Place<'_>, cause: ExpectCause, word:
             let _ = add_nearest_name(draft, place, word);
         }
         ExpectCause::Number => add_number(draft, word),
-        ExpectCause::Word | ExpectCause::Order => {
+        ExpectCause::Word | ExpectCause::Pattern | ExpectCause::Order => {
             let _ = add_nearest_of(draft, EXPECTATIONS, word);
         }
     }

@@ -63,6 +63,7 @@ fn of_expectation(fault: ExpectFault) -> Explained {
     Explained::Expectation {
         line: fault.line,
         cause: fault.cause,
+        word: fault.word,
     }
 }
 
@@ -83,6 +84,7 @@ fn of_range(fault: RangeFault) -> Explained {
             RangeCause::Order => RangeSlip::Order,
             RangeCause::Range => RangeSlip::Second,
         },
+        word: fault.word,
     }
 }
 

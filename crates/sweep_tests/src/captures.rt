@@ -44,6 +44,10 @@ fn told(rt: &(impl Abort + AllocGlobal), done: Result<Tally, CaptureCheckError>)
         Ok(Tally { count, failed }) => {
             format!(in rt.alloc(); "{failed} of {count}").expect(rt, "a tally")
         }
+        Err(CaptureCheckError::Expect(fault)) => {
+            let word = fault.word;
+            format!(in rt.alloc(); "expectations {fault} in word {word}").expect(rt, "a refusal")
+        }
         Err(error) => format!(in rt.alloc(); "{error}").expect(rt, "a refusal"),
     }
 }

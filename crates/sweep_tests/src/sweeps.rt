@@ -40,6 +40,10 @@ fn swept(rt: &(impl Abort + AllocGlobal), topology: &str, script: &str) -> Strin
     match done {
         Ok(true) => format!(in rt.alloc(); "all: {row}").expect(rt, "a sweep"),
         Ok(false) => format!(in rt.alloc(); "not: {row}").expect(rt, "a sweep"),
+        Err(SweepError::Range(fault)) => {
+            let word = fault.word;
+            format!(in rt.alloc(); "script {fault} in word {word}{row}").expect(rt, "a refusal")
+        }
         Err(error) => format!(in rt.alloc(); "{error}{row}").expect(rt, "a refusal"),
     }
 }
