@@ -36,7 +36,7 @@ fn count_words(front: &[u8]) -> usize
 }
 
 /// The word at fault of a line, where an accepted text can have one here with the same first word and as many words.
-pub fn word_at_fault(place: NextLine, line: &[u8]) -> Option<u8>
+pub fn word_at_fault(place: NextLine, line: &[u8]) -> Option<usize>
     ensures { MatchOption result (MayStand place line.now → ⊥) (λ k. IsFieldFault place line.now k) }
 {
     if line.is_empty() || line[line.len() - 1] != b'\n' {
