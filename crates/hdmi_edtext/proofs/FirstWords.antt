@@ -86,7 +86,7 @@ first_of (c ∷ cs) = at (c == 32) (first_of cs)
     at true e = refl
     at false e = onto (words_of cs) ∙ ap (λ t. c ∷ t) e ∙ sym more
 
-enough_words : (xs : List ℕ) → word_count xs ≤ length (words_of xs)
+pub enough_words : (xs : List ℕ) → word_count xs ≤ length (words_of xs)
 enough_words xs =
     let len = length-slice_split (λ b. b == 32) xs in
     let some : count_by (λ b. b == 32) (take (position_or_len (λ b. b == 34) xs) xs) ≤ count_by (λ b. b == 32) xs = sum_by-take-le (λ b. cond (b == 32) 1 0) xs (position_or_len (λ b. b == 34) xs) in

@@ -1,13 +1,16 @@
 -- The words of a line are looked at one after the other.
-use Rattle.std.proofs.Common.{◌≡◌, ℕ, zero, suc, ◌+◌, ◌-◌, ◌%◌, ◌^◌, ◌<◌, ◌≤◌, ◌==◌, Bool, true, false, ◌&&◌, nat_le, cond, List, [], ◌∷◌, length, drop, get_or, ap, subst, arith, refl, sym, ◌∙◌}
+use Rattle.std.proofs.Common.{◌≡◌, ℕ, zero, suc, ◌+◌, ◌-◌, ◌%◌, ◌^◌, ◌<◌, ◌≤◌, ◌==◌, Bool, true, false, ◌&&◌, nat_le, cond, List, [], ◌∷◌, ◌++◌, length, drop, get_or, ap, subst, arith, refl, sym, ◌∙◌}
 use Rattle.std.proofs.lemmas.Bool.{eqb-true, leb-true}
 use borrow.Author.Tests.{tests}
 use Rattle.hdmi_core.specs.Words.{words_of}
 use Rattle.hdmi_edid.proofs.PartLemmas.{both}
 use Rattle.hdmi_lines.specs.declared.line.Keyword.{Keyword}
 use Rattle.hdmi_lines.specs.declared.line.Keyword.TheVariants.{Made, Size, Chroma, Standard, Timing, Hdmi}
-use Rattle.hdmi_edtext.specs.Refusal.{word_count, Passes, IsFirstUnfit}
-use Rattle.hdmi_edtext.specs.Words.{timing_most, number_fits, FitsAt}
+use Rattle.hdmi_lines.specs.Formed.{form_of}
+use Rattle.hdmi_lines.specs.Text.{word_text}
+use Rattle.hdmi_edtext.specs.Refusal.{first_word, word_count, Passes, IsFirstUnfit, IsFieldFault}
+use Rattle.hdmi_edtext.specs.Words.{may_begin, has_words, timing_most, number_fits, FitsAt}
+use Rattle.hdmi_edtext.specs.declared.place.NextLine.{NextLine}
 use Rattle.hdmi_edtext.proofs.FirstWords.{enough_words}
 use Rattle.hdmi_edtext.proofs.Fits.{NumberAt}
 
@@ -56,7 +59,10 @@ pub next_is : (ws : List (List ℕ)) (i : ℕ) (x : List ℕ) (xs : List (List �
 next_is [] zero x xs e = let len = ap length e in absurd (omega (arith, len))
 next_is [] (suc i) x xs e = let len = ap length e in absurd (omega (arith, len))
 next_is (y ∷ ys) zero x xs e = (ap (λ ws. get_or ws 0 []) (sym e), ap (drop 1) e)
-next_is (y ∷ ys) (suc i) x xs e = next_is ys i x xs e
+next_is (y ∷ ys) (suc i) x xs e =
+    let n = next_is ys i x xs e in
+    let same : suc (i + 1) ≡ suc i + 1 = omega arith in
+    (n.0, n.1 ∙ ap (λ k. drop k (y ∷ ys)) same)
 
 pub none_left : (ws : List (List ℕ)) (i : ℕ) → [] ≡ drop i ws → length ws ≤ i
 none_left [] i e = omega arith
@@ -82,6 +88,12 @@ stops_at_end w front k h p = h p.0
 
 pub stops_at : (w : Keyword) (front : List ℕ) (k : ℕ) (x : List ℕ) → get_or (words_of front) k [] ≡ x → (FitsAt w k x → ⊥) → Passes w front k → ⊥
 stops_at w front k x e h p = h (subst (FitsAt w k) e p.1)
+
+-- a line that may stand, and its first word that does not
+pub field_fault : (place : NextLine) (line : List ℕ) (w : Keyword) (front : List ℕ) (k : ℕ) → line ≡ front ++ 10 ∷ [] → word_text w ≡ first_word front → may_begin place w ≡ true → has_words (form_of w) (word_count front) ≡ true
+    → IsFirstUnfit w front k → IsFieldFault place line k
+field_fault place line w front k ended first begins words unfit =
+    record { stands = record { word = w; front = front; ended = ended; first = sym first; begins = begins; words = words }; unfit = unfit }
 
 -- there are words enough
 pub never_ends : (front : List ℕ) (k : ℕ) → [] ≡ drop k (words_of front) → k + 1 < word_count front → ⊥
