@@ -17,24 +17,68 @@ const EXTENSION_TEXT: &str =
 /// A part of the example's text, what stands in its place, with `;` for each line feed, and why the text is refused then; and
 /// how the refusals of a line are reported.
 pub(crate) const CHANGES: &str = "\
-change made 10 2011 => made 10 2300 => field 5
+change made 10 2011 => made 10 2300 => field 5 word 2
+change made 10 2011 => made 10 1989 => field 5 word 2
+change made 10 2011 => made 256 1989 => field 5 word 1
+change made 10 2011 => made  2011 => field 5 word 1
+change made 10 2011 => made 0 \"2011 x => field 5 word 2
 change made 10 2011 => made 10 2011 0 => syntax 5
 change made 10 2011; =>  => syntax 5
-change features 0a => features 0A => field 9
-change standard unused => standard 256 0 61 => field 12
-change edid 1.3 => edid 1.5 => field 1
+change features 0a => features 0A => field 9 word 1
+change standard unused => standard 256 0 61 => field 12 word 3
+change standard unused => standard 640 => field 12 word 1
+change standard unused => standard 240 4 60 => field 12 word 1
+change standard unused => standard 252 0 60 => field 12 word 1
+change standard unused => standard 2296 0 60 => field 12 word 1
+change standard unused => standard 2288 3 124 => field 12 word 3
+change standard unused => standard 248 3 59 => field 12 word 3
+change edid 1.3 => edid 1.5 => field 1 word 1
+change maker SAM => maker sam => field 2 word 1
+change product 258 => product 65536 => field 3 word 1
+change serial 1 => serial 4294967296 => field 4 word 1
+change input 80 => input 8 => field 6 word 1
+change size 52 29 => size 256 29 => field 7 word 1
+change size 52 29 => size 255 256 => field 7 word 2
+change size 52 29 => size +52 29 => field 7 word 1
+change gamma 120 => gamma 256 => field 8 word 1
+change chroma 655 => chroma 1024 => field 10 word 1
+change chroma 655 338 => chroma 1023 0338 => field 10 word 2
+change 61 320 337 => 61 1024 1024 => field 10 word 7
+change 61 320 337 => 61 1023 1024 => field 10 word 8
+change established 000000 => established 00000g => field 11 word 1
 change edid 1.3 => Edid 1.3 => syntax 1
-change made 10 2011 => made 010 2011 => field 5
+change made 10 2011 => made 010 2011 => field 5 word 1
 change standard unused => standard 640 0 => syntax 12
-change standard unused => standard 640 4 60 => field 12
-change name \"LOUNGE TV 001\" => name \"A\" B\" => field 21
+change standard unused => standard 640 4 60 => field 12 word 2
+change timing 14850 1920 280 1080 45 88 44 4 5 520 290 0 0 1e => timing 65536 x 280 1080 45 88 44 4 5 520 290 0 0 1e => field 20 word 1
+change timing 14850 1920 280 1080 45 88 44 4 5 520 290 0 0 1e => timing 65535 4096 x 1080 45 88 44 4 5 520 290 0 0 1e => field 20 word 2
+change timing 14850 1920 280 1080 45 88 44 4 5 520 290 0 0 1e => timing 65535 4095 4096 x 45 88 44 4 5 520 290 0 0 1e => field 20 word 3
+change timing 14850 1920 280 1080 45 88 44 4 5 520 290 0 0 1e => timing 65535 4095 4095 4096 x 88 44 4 5 520 290 0 0 1e => field 20 word 4
+change timing 14850 1920 280 1080 45 88 44 4 5 520 290 0 0 1e => timing 65535 4095 4095 4095 4096 x 44 4 5 520 290 0 0 1e => field 20 word 5
+change timing 14850 1920 280 1080 45 88 44 4 5 520 290 0 0 1e => timing 65535 4095 4095 4095 4095 1024 x 4 5 520 290 0 0 1e => field 20 word 6
+change timing 14850 1920 280 1080 45 88 44 4 5 520 290 0 0 1e => timing 65535 4095 4095 4095 4095 1023 1024 x 5 520 290 0 0 1e => field 20 word 7
+change timing 14850 1920 280 1080 45 88 44 4 5 520 290 0 0 1e => timing 65535 4095 4095 4095 4095 1023 1023 64 x 520 290 0 0 1e => field 20 word 8
+change timing 14850 1920 280 1080 45 88 44 4 5 520 290 0 0 1e => timing 65535 4095 4095 4095 4095 1023 1023 63 64 x 290 0 0 1e => field 20 word 9
+change timing 14850 1920 280 1080 45 88 44 4 5 520 290 0 0 1e => timing 65535 4095 4095 4095 4095 1023 1023 63 63 4096 x 0 0 1e => field 20 word 10
+change timing 14850 1920 280 1080 45 88 44 4 5 520 290 0 0 1e => timing 65535 4095 4095 4095 4095 1023 1023 63 63 4095 4096 x 0 1e => field 20 word 11
+change timing 14850 1920 280 1080 45 88 44 4 5 520 290 0 0 1e => timing 65535 4095 4095 4095 4095 1023 1023 63 63 4095 4095 256 x 1e => field 20 word 12
+change timing 14850 1920 280 1080 45 88 44 4 5 520 290 0 0 1e => timing 65535 4095 4095 4095 4095 1023 1023 63 63 4095 4095 255 256 1e => field 20 word 13
+change timing 14850 1920 280 1080 45 88 44 4 5 520 290 0 0 1e => timing 0 1920 280 1080 45 88 44 4 5 520 290 0 0 1e => field 20 word 1
+change timing 14850 1920 280 1080 45 88 44 4 5 520 290 0 0 1e => timing 65535 4095 4095 4095 4095 1023 1023 63 63 4095 4095 255 255 1 => field 20 word 14
+change timing 14850 1920 280 1080 45 88 44 4 5 520 290 0 0 1e => timing 65535 4095 4095 4095 4095 1023 1023 63 63 4095 4095 255 255 ff => none
+change timing 14850 1920 280 1080 45 88 44 4 5 520 290 0 0 1e => timing 1 0 0 0 0 0 0 0 0 0 0 0 0 00 => none
+change name \"LOUNGE TV 001\" => name \"A\" B\" => field 21 word 1
 change name \"LOUNGE TV 001\" => name A B => syntax 21
 change name \"LOUNGE TV 001\" => dummy - => syntax 21
-change cta f1 => cta f1f1 => field 24
+change cta f1 => cta f1f1 => field 24 word 1
 change cta f1 => tail - => syntax 24
-change name \"LOUNGE TV 001\" => raw 000000fc004c4f554e474520545620303031 => field 21
-change hdmi 0.0.0.0 - => vendor 030c000000 => field 28
-change tail - => tail 00 => field 29
+change name \"LOUNGE TV 001\" => raw 000000fc004c4f554e474520545620303031 => field 21 word 1
+change hdmi 0.0.0.0 - => vendor 030c000000 => field 28 word 1
+change hdmi 0.0.0.0 - => hdmi 0.0.0 zz => field 28 word 1
+change hdmi 0.0.0.0 - => hdmi 0.0.0.0 zz => field 28 word 2
+change hdmi 0.0.0.0 - => hdmi A.0.0.0 - => field 28 word 1
+change hdmi 0.0.0.0 - => hdmi f.f.f.f 000102030405060708090a0b0c0d0e0f101112131415161718191a => field 28 word 2
+change tail - => tail 00 => field 29 word 1
 change tail -; => tail - => syntax 29
 change tail -; => tail -;cta f1; => syntax 31
 change tail -; =>  => syntax 29
@@ -42,7 +86,7 @@ change tail -; => tail -;cta-none f1;tail -; => none
 change tail -; => tail -;cta-none f1;tail -;cta f1;tail -; => none
 change tail -; => tail -;cta-none f1;tail -;cta f1;tail -;cta f1; => syntax 34
 change tail -; => tail -;cta-none f1; => syntax 31
-change tail -; => tail -;cta-none f1;tail 00; => field 31
+change tail -; => tail -;cta-none f1;tail 00; => field 31 word 1
 refusals 5 => syntax 5, field 5
 refusals 12 => syntax 12, field 12
 ";
@@ -83,6 +127,9 @@ fn with_change(rt: &(impl Abort + AllocGlobal), change: &str) -> String {
 fn refusal_of(rt: &(impl Abort + AllocGlobal), text: &[u8]) -> String {
     match parse_text(rt.alloc(), text) {
         Ok(_) => owned(rt, "none"),
+        Err(TextError::Field { line, word }) => {
+            format!(in rt.alloc(); "field {line} word {word}").expect(rt, "a text")
+        }
         Err(error) => format!(in rt.alloc(); "{error}").expect(rt, "a text"),
     }
 }
@@ -97,7 +144,7 @@ pub(crate) fn change_told(rt: &(impl Abort + AllocGlobal), change: &str) -> Stri
 /// The refusals of a line, in words.
 pub(crate) fn refusals_told(rt: &(impl Abort + AllocGlobal), line: &str) -> String {
     let line = usize::from(number(rt, line));
-    let (syntax, field) = (TextError::Syntax(line), TextError::Field(line));
+    let (syntax, field) = (TextError::Syntax(line), TextError::Field { line, word: 1 });
     format!(in rt.alloc(); "{syntax}, {field}").expect(rt, "a text")
 }
 

@@ -36,7 +36,7 @@ is_text_cut _ = false
 
 abbrev pub text_told : TextError → TextToHexError
 text_told (texts.Syntax line) = hex.Syntax line
-text_told (texts.Field line) = hex.Field line
+text_told (texts.Field line word) = hex.Field line word
 text_told texts.Memory = hex.Memory
 
 -- the text is no EDID's, for its first line at fault
@@ -49,7 +49,7 @@ abbrev pub FormAnswers : Form → Option (List ℕ) → Option (List ℕ) → Bo
 FormAnswers form old new was is text (Ok done) = (e : EdidValue) × (edid_text e ≡ text) × Appends old new (form_text form e) × (is ≡ was)
 FormAnswers form old new was is text (Err (hex.Write count)) = (e : EdidValue) × (edid_text e ≡ text) × IsCutAt old new is (form_text form e) count
 FormAnswers form old new was is text (Err (hex.Syntax number)) = IsNoText text (texts.Syntax number) × (new ≡ old) × (is ≡ was)
-FormAnswers form old new was is text (Err (hex.Field number)) = IsNoText text (texts.Field number) × (new ≡ old) × (is ≡ was)
+FormAnswers form old new was is text (Err (hex.Field number word)) = IsNoText text (texts.Field number word) × (new ≡ old) × (is ≡ was)
 FormAnswers form old new was is text (Err hex.Memory) = ⊥
 
 abbrev pub is_hex_cut : Result (Unit {0}) TextToHexError → Bool

@@ -28,9 +28,9 @@ pub enum TextToHexError {
     /// On this line, from 1, another line would have to stand. Nothing was written.
     #[error("text: syntax {0}")]
     Syntax(usize),
-    /// A field of this line, from 1, is at fault. Nothing was written.
-    #[error("text: field {0}")]
-    Field(usize),
+    /// A word of this line, from 1, is at fault, by its number from 0. Nothing was written.
+    #[error("text: field {line}")]
+    Field { line: usize, word: usize },
     /// A `put` took none. So many bytes were written.
     #[error("write fault after {0} bytes")]
     Write(u128),
@@ -59,7 +59,7 @@ impl From<TextError> for TextToHexError {
     fn from(error: TextError) -> TextToHexError {
         match error {
             TextError::Syntax(line) => TextToHexError::Syntax(line),
-            TextError::Field(line) => TextToHexError::Field(line),
+            TextError::Field { line, word } => TextToHexError::Field { line, word },
             TextError::Memory => TextToHexError::Memory,
         }
     }
@@ -92,7 +92,7 @@ pub fn edid_to_text<S: Sink>(bytes: &[u8], out: &mut S) -> Result<(), EdidToText
 ///
 /// # Errors
 ///
-/// `Syntax` or `Field` with the first line that no EDID's text has there: then nothing was written. `Write` where the
+/// `Syntax` or `Field` with the first line that no EDID's text has there, `Field` with its word at fault: then nothing was written. `Write` where the
 /// sink takes no more: then the front of the EDID in that form was written, as long as it reports. Nothing takes memory
 /// today, so `Memory` does not come.
 // An EDID and its text are large: the frame of the caller is kept free of them.

@@ -1,48 +1,28 @@
 -- A line may stand here exactly where an accepted text has one like it.
-use Rattle.std.proofs.Common.{◌≡◌, ℕ, ◌+◌, List, [], ◌∷◌, ◌++◌, length, map, get_or, ap, subst, arith, refl, sym, ◌∙◌}
-use Rattle.std.proofs.lemmas.List.{map-append}
+use Rattle.std.proofs.Common.{◌≡◌, ℕ, ◌+◌, ◌<◌, Bool, true, false, nat_lt, cond, List, [], ◌∷◌, ◌++◌, length, map, take, get_or, ap, subst, arith, refl, sym, ◌∙◌}
+use Rattle.std.proofs.lemmas.Bool.{ltb-true}
+use Rattle.std.proofs.lemmas.List.{map-append, get_or-take}
+use Rattle.hdmi_core.specs.Words.{words_of}
 use Rattle.hdmi_edtext.specs.Drafts.{draft_lines}
 use Rattle.hdmi_lines.specs.Formed.{form_of}
 use Rattle.hdmi_edtext.specs.Lines.{edid_lines}
-use Rattle.hdmi_edtext.specs.Refusal.{IsFirstBad, IsRefusal, IsFaultAt, MayStand, HasAlike, first_word, word_count}
+use Rattle.hdmi_edtext.specs.Refusal.{IsFirstBad, IsRefusal, IsFirstUnfit, IsFaultAt, MayStand, AreAlike, HasAlike, HasLike, first_word, first_words, word_count}
 use Rattle.hdmi_lines.specs.Text.{word_text, line_text}
-use Rattle.hdmi_edtext.specs.Words.{place_of, has_words}
+use Rattle.hdmi_edtext.specs.Words.{place_of, has_words, FitsAt}
 use Rattle.hdmi_edtext.specs.declared.draft.EdidDraft.{EdidDraft}
 use Rattle.hdmi_blocks.specs.declared.edid.Edid.{Edid}
+use Rattle.hdmi_lines.specs.declared.line.Line.{Line}
+use Rattle.hdmi_lines.specs.declared.line.Keyword.{Keyword}
 use Rattle.hdmi_edtext.specs.declared.parse.TextError.{TextError}
 use Rattle.hdmi_edtext.specs.declared.parse.TextError.TheVariants.{Syntax, Field, Memory}
 use Rattle.hdmi_edtext.proofs.FirstBad.{AreTold, Next, next_of, some_begins, counted, all_told}
-use Rattle.hdmi_edtext.proofs.Good.{EachGood, edid_good, good_at}
-use Rattle.hdmi_edtext.proofs.Samples.{samples, words_of}
+use Rattle.hdmi_edtext.proofs.Fits.{EachFit, Fit, edid_fit, fit_at, fits_in}
+use Rattle.hdmi_edtext.proofs.Good.{EachGood, Good, edid_good, good_at}
+use Rattle.hdmi_edtext.proofs.Likes.{likes}
+use Rattle.hdmi_edtext.proofs.Samples.{words_of as field_count}
+use Rattle.hdmi_lines.proofs.OneWord.{one_word}
 use Rattle.hdmi_edtext.proofs.Stands.{stands}
 use Rattle.hdmi_edtext.proofs.WordTexts.{front_text, first_is, words_are, with_feed, same_front, formed_words}
-
-alike : (d : EdidDraft) (line : List ℕ) → MayStand (place_of d) line → HasAlike (map line_text (draft_lines d)) line
-alike d line m =
-    let s = samples d m.word (word_count m.front) m.begins m.words in
-    let e = s.follows.0 in
-    let more = s.follows.1.0 in
-    let lines = s.follows.1.1 in
-    let good = good_at (draft_lines d) s.line more (subst EachGood lines (edid_good e)) in (
-      e,
-      (
-        line_text s.line,
-        (
-          map line_text more,
-          (
-            ap (map line_text) lines ∙ map-append line_text (draft_lines d) (s.line ∷ more),
-            record {
-              front = m.front;
-              other_front = front_text s.line;
-              ended = m.ended;
-              other_ended = with_feed s.line;
-              word = m.first ∙ ap word_text (sym s.word) ∙ sym (first_is s.line);
-              words = sym s.words ∙ sym (words_are s.line good);
-            },
-          ),
-        ),
-      ),
-    )
 
 may_stand_so : (d : EdidDraft) (line : List ℕ) → AreTold (draft_lines d) → HasAlike (map line_text (draft_lines d)) line → MayStand (place_of d) line
 may_stand_so d line told h =
@@ -51,7 +31,7 @@ may_stand_so d line told h =
     let n = next_of e (draft_lines d) h.1.0 h.1.1.0 told h.1.1.1.0 in
     let good = good_at (draft_lines d) n.here n.behind (subst EachGood n.lines (edid_good e)) in
     let front : a.other_front ≡ front_text n.here = (same_front a.other_front (front_text n.here) 10 10 (sym a.other_ended ∙ sym n.text ∙ with_feed n.here)).0 in
-    let count : word_count a.front ≡ words_of n.here.fields = a.words ∙ ap word_count front ∙ words_are n.here good in
+    let count : word_count a.front ≡ field_count n.here.fields = a.words ∙ ap word_count front ∙ words_are n.here good in
     record {
       word = n.here.word;
       front = a.front;
@@ -60,6 +40,64 @@ may_stand_so d line told h =
       begins = stands d n.here (e, (n.behind, n.lines));
       words = ap (has_words (form_of n.here.word)) count ∙ formed_words (form_of n.here.word) n.here.fields good.0;
     }
+
+-- up to its word at fault there is a line like this one
+like_it : (d : EdidDraft) (line : List ℕ) (k : ℕ) → (m : MayStand (place_of d) line) → IsFirstUnfit m.word m.front k → HasLike k (map line_text (draft_lines d)) line
+like_it d line k m u =
+    let s = likes d m.word m.front k m.begins m.words m.first u in
+    let e = s.follows.0 in
+    let more = s.follows.1.0 in
+    let lines = s.follows.1.1 in
+    let good = good_at (draft_lines d) s.line more (subst EachGood lines (edid_good e)) in
+    let same : AreAlike line (line_text s.line) = record {
+      front = m.front;
+      other_front = front_text s.line;
+      ended = m.ended;
+      other_ended = with_feed s.line;
+      word = m.first ∙ ap word_text (sym s.word) ∙ sym (first_is s.line);
+      words = sym s.words ∙ sym (words_are s.line good);
+    } in
+    (e, (line_text s.line, (map line_text more, (ap (map line_text) lines ∙ map-append line_text (draft_lines d) (s.line ∷ more), (same, s.same)))))
+
+-- a line of an EDID with that word too is the same one
+none_other : (k : ℕ) (w : Keyword) (front : List ℕ) (l : Line) → IsFirstUnfit w front k → Good l → Fit l → l.word ≡ w → word_count front ≡ word_count (front_text l) → first_words (k + 1) front ≡ first_words (k + 1) (front_text l)
+    → (v : Bool) → nat_lt (k + 1) (word_count front) ≡ v → front ≡ front_text l
+none_other k w front l u good fit is count shared true v =
+    let less = ltb-true _ _ v in
+    let also : nat_lt (k + 1) (word_count (front_text l)) ≡ true = ap (nat_lt (k + 1)) (sym count) ∙ v in
+    let one : take (k + 1) (words_of front) ≡ take (k + 1) (words_of (front_text l)) =
+    sym (ap (λ b. cond b (take (k + 1) (words_of front)) (front ∷ [])) v) ∙ shared ∙ ap (λ b. cond b (take (k + 1) (words_of (front_text l))) (front_text l ∷ [])) also in
+    let here : k < k + 1 = omega arith in
+    let same : get_or (words_of front) k [] ≡ get_or (words_of (front_text l)) k [] =
+    sym (get_or-take (k + 1) (words_of front) k [] here) ∙ ap (λ ws. get_or ws k []) one ∙ get_or-take (k + 1) (words_of (front_text l)) k [] here in
+    let size = words_are l good in
+    let right = fits_in l good fit k u.least (omega (arith, less, count, size)) in
+    absurd (u.stopped (less, subst (λ x. FitsAt x k (get_or (words_of front) k [])) is (subst (λ t. FitsAt l.word k t) (sym same) right)))
+none_other k w front l u good fit is count shared false v =
+    let also : nat_lt (k + 1) (word_count (front_text l)) ≡ false = ap (nat_lt (k + 1)) (sym count) ∙ v in
+    let one : front ∷ [] ≡ front_text l ∷ [] =
+    sym (ap (λ b. cond b (take (k + 1) (words_of front)) (front ∷ [])) v) ∙ shared ∙ ap (λ b. cond b (take (k + 1) (words_of (front_text l))) (front_text l ∷ [])) also in
+    ap (λ xs. get_or xs 0 []) one
+
+-- and there is none with that word too
+none_like : (d : EdidDraft) (line : List ℕ) (k : ℕ) → (m : MayStand (place_of d) line) → IsFirstUnfit m.word m.front k → AreTold (draft_lines d) → ((e : Edid) (behind : List (List ℕ)) → Next e (draft_lines d) line behind → ⊥)
+    → HasLike (k + 1) (map line_text (draft_lines d)) line → ⊥
+none_like d line k m u told none h =
+    let e = h.0 in
+    let other = h.1.0 in
+    let more = h.1.1.0 in
+    let a = h.1.1.1.1.0 in
+    let n = next_of e (draft_lines d) other more told h.1.1.1.0 in
+    let good = good_at (draft_lines d) n.here n.behind (subst EachGood n.lines (edid_good e)) in
+    let fit = fit_at (draft_lines d) n.here n.behind (subst EachFit n.lines (edid_fit e)) in
+    let mine : a.front ≡ m.front = (same_front a.front m.front 10 10 (sym a.ended ∙ m.ended)).0 in
+    let theirs : a.other_front ≡ front_text n.here = (same_front a.other_front (front_text n.here) 10 10 (sym a.other_ended ∙ sym n.text ∙ with_feed n.here)).0 in
+    let shared : first_words (k + 1) m.front ≡ first_words (k + 1) (front_text n.here) = ap (first_words (k + 1)) (sym mine) ∙ h.1.1.1.1.1 ∙ ap (first_words (k + 1)) theirs in
+    let word : n.here.word ≡ m.word = one_word n.here.word m.word (sym (first_is n.here) ∙ ap first_word (sym theirs) ∙ sym a.word ∙ ap first_word mine ∙ m.first) in
+    let count : word_count m.front ≡ word_count (front_text n.here) = ap word_count (sym mine) ∙ a.words ∙ ap word_count theirs in
+    let same = none_other k m.word m.front n.here u good fit word count shared (nat_lt (k + 1) (word_count m.front)) refl in
+    let text : line_text n.here ≡ line = with_feed n.here ∙ ap (λ t. t ++ 10 ∷ []) (sym same) ∙ sym m.ended in
+    none e (map line_text n.behind) (record { here = n.here; behind = n.behind; lines = n.lines; text = text; texts = refl; formed = n.formed })
 
 -- a line at fault
 pub refusal : (d : EdidDraft) (all : List (List ℕ)) (line : List ℕ) (more : List (List ℕ)) (n : ℕ) (x : TextError) → AreTold (draft_lines d) → all ≡ map line_text (draft_lines d) ++ line ∷ more
@@ -78,7 +116,7 @@ refusal d all line more n (Syntax k) told h count none f =
           let same : other ≡ line = ap (λ t. get_or t 0 []) (sym e) in
           f.1 (may_stand_so d line told (subst (HasAlike (map line_text (draft_lines d))) same a)),
     )
-refusal d all line more n (Field k) told h count none f =
+refusal d all line more n (Field k word) told h count none f =
     let bad : IsFirstBad all k = record {
       before = map line_text (draft_lines d);
       after = line ∷ more;
@@ -87,7 +125,7 @@ refusal d all line more n (Field k) told h count none f =
       some = some_begins d;
       none = λ e behind j. none e behind (next_of e (draft_lines d) line behind told j);
     } in
-    (bad, (line, (more, (refl, alike d line f.1))))
+    (bad, (line, (more, (refl, record { least = f.1.unfit.least; right = like_it d line word f.1.stands f.1.unfit; wrong = none_like d line word f.1.stands f.1.unfit told none }))))
 refusal d all line more n Memory told h count none f = absurd f
 
 -- the end of a text that is too short

@@ -80,7 +80,7 @@ own_line b n k m c w l at count h is size =
     }
 
 -- a base block with other lines from a number on
-other_base : (a b : Base) (n : ℕ) (l : Line) → take (n + 1) (base_lines a) ≡ take n (base_lines b) ++ l ∷ [] → Follows (take n (base_lines b)) l
+pub other_base : (a b : Base) (n : ℕ) (l : Line) → take (n + 1) (base_lines a) ≡ take n (base_lines b) ++ l ∷ [] → Follows (take n (base_lines b)) l
 other_base a b n l h = (
   alone a,
   (
@@ -90,13 +90,13 @@ other_base a b n l h = (
   ),
 )
 
-standard_next : (b : Base) (n : ℕ) (s : Option StandardTiming) → 11 ≤ n → n < 19 → Follows (take n (base_lines b)) (standard_line s)
+pub standard_next : (b : Base) (n : ℕ) (s : Option StandardTiming) → 11 ≤ n → n < 19 → Follows (take n (base_lines b)) (standard_line s)
 standard_next b n s h k =
     let size = length-set b.standard (n - 11) s in
     let a : Base = record b { standard = set b.standard (n - 11) s; eight = size ∙ b.eight } in
     other_base a b n (standard_line s) (set_line standard_line (head_lines b) (map descriptor_line b.descriptors) b.standard (n - 11) n s (standard_line s) (omega arith) (let eight = b.eight in omega (arith, eight)) refl)
 
-descriptor_next : (b : Base) (n : ℕ) (d : Descriptor) → 19 ≤ n → n < 23 → Follows (take n (base_lines b)) (descriptor_line d)
+pub descriptor_next : (b : Base) (n : ℕ) (d : Descriptor) → 19 ≤ n → n < 23 → Follows (take n (base_lines b)) (descriptor_line d)
 descriptor_next b n d h k =
     let size = length-set b.descriptors (n - 19) d in
     let a : Base = record b { descriptors = set b.descriptors (n - 19) d; four = size ∙ b.four } in
@@ -233,7 +233,7 @@ whole_sample w m word at count = cases (nat_lt (length w.extensions.items) 3) re
     cases false e h = absurd (clash h)
 
 -- one more data block
-more_block : (o : Opened) (b : DataBlock) → o.timings.items ≡ [] → length (block_bytes b) ≤ o.left → Follows (draft_lines (OfOpened o)) (block_line b)
+pub more_block : (o : Opened) (b : DataBlock) → o.timings.items ≡ [] → length (block_bytes b) ≤ o.left → Follows (draft_lines (OfOpened o)) (block_line b)
 more_block o b none h =
     let blocks = o.blocks.items ++ b ∷ [] in
     let flat : length (flat_map block_bytes blocks) ≡ length (flat_map block_bytes o.blocks.items) + length (flat_map block_bytes (b ∷ [])) =
@@ -260,10 +260,10 @@ an_hdmi_block : DataBlock
 an_hdmi_block = record { kind = OfVendor; payload = record { items = 3 ∷ 12 ∷ 0 ∷ 0 ∷ 0 ∷ [] }; short = omega arith; bytes_fit = refl }
 
 -- one more timing
-more_timing : (o : Opened) → 18 ≤ o.left → Follows (draft_lines (OfOpened o)) (timing_line a_timing)
-more_timing o h =
-    let more = o.timings.items ++ a_timing ∷ [] in
-    let len = length-append o.timings.items (a_timing ∷ []) in
+pub more_timing : (o : Opened) (t : DetailedTiming) → 18 ≤ o.left → Follows (draft_lines (OfOpened o)) (timing_line t)
+more_timing o t h =
+    let more = o.timings.items ++ t ∷ [] in
+    let len = length-append o.timings.items (t ∷ []) in
     let left = o.left - 18 in
     let spelled : length (flat_map block_bytes o.blocks.items) + 18 * length more + left ≡ 123 = omega (arith, len, o.spelled, h) in
     let few : length o.blocks.items + left ≤ 123 = omega (arith, o.few, h) in
@@ -271,11 +271,11 @@ more_timing o h =
     let z = zeros_behind new in
     let last = tail_line (replicate left 0) ∷ [] in
     let bs = map block_line o.blocks.items in
-    let body : bs ++ map timing_line more ≡ (bs ++ map timing_line o.timings.items) ++ timing_line a_timing ∷ [] =
-    ap (λ t. bs ++ t) (map-append timing_line o.timings.items (a_timing ∷ [])) ∙ sym (append_assoc bs (map timing_line o.timings.items) (timing_line a_timing ∷ [])) in
-    let lines : whole_lines o.whole ++ opened_lines new ≡ (whole_lines o.whole ++ opened_lines o) ++ timing_line a_timing ∷ [] =
-    ap (λ t. whole_lines o.whole ++ (bytes_line Cta (o.flags ∷ []) ∷ t)) body ∙ sym (append_assoc (whole_lines o.whole) (opened_lines o) (timing_line a_timing ∷ [])) in
-    (z.0, (last, z.1 ∙ ap (λ t. t ++ last) lines ∙ append_assoc (whole_lines o.whole ++ opened_lines o) (timing_line a_timing ∷ []) last))
+    let body : bs ++ map timing_line more ≡ (bs ++ map timing_line o.timings.items) ++ timing_line t ∷ [] =
+    ap (λ x. bs ++ x) (map-append timing_line o.timings.items (t ∷ [])) ∙ sym (append_assoc bs (map timing_line o.timings.items) (timing_line t ∷ [])) in
+    let lines : whole_lines o.whole ++ opened_lines new ≡ (whole_lines o.whole ++ opened_lines o) ++ timing_line t ∷ [] =
+    ap (λ x. whole_lines o.whole ++ (bytes_line Cta (o.flags ∷ []) ∷ x)) body ∙ sym (append_assoc (whole_lines o.whole) (opened_lines o) (timing_line t ∷ [])) in
+    (z.0, (last, z.1 ∙ ap (λ x. x ++ last) lines ∙ append_assoc (whole_lines o.whole ++ opened_lines o) (timing_line t ∷ []) last))
 
 a_tail : (o : Opened) → Follows (draft_lines (OfOpened o)) (tail_line (replicate o.left 0))
 a_tail o = let z = zeros_behind o in (z.0, ([], z.1))
@@ -283,7 +283,7 @@ a_tail o = let z = zeros_behind o in (z.0, ([], z.1))
 a_timing_line : (o : Opened) (m : ℕ) (w : Keyword) → in_timings o.left w ≡ true → has_words (form_of w) m ≡ true → Sample (draft_lines (OfOpened o)) w m
 a_timing_line o m Timing at count =
     let many : m ≡ 15 = eqb-true _ _ count in
-    record { line = timing_line a_timing; follows = more_timing o (leb-true _ _ at); word = refl; words = sym many }
+    record { line = timing_line a_timing; follows = more_timing o a_timing (leb-true _ _ at); word = refl; words = sym many }
 a_timing_line o m Tail at count = two_words (draft_lines (OfOpened o)) Tail m (tail_line (replicate o.left 0)) (a_tail o) refl refl count
 a_timing_line o m w at count = absurd (clash at)
 
@@ -311,7 +311,7 @@ block_sample o m Timing none at count = a_timing_line o m Timing at count
 block_sample o m Tail none at count = a_timing_line o m Tail at count
 block_sample o m w none at count = absurd (clash at)
 
-empty : {X : Type 0} (xs : List X) → (length xs == 0) ≡ true → xs ≡ []
+pub empty : {X : Type 0} (xs : List X) → (length xs == 0) ≡ true → xs ≡ []
 empty [] h = refl
 empty (x ∷ xs) h = let e = eqb-true _ _ h in absurd (omega (arith, e))
 

@@ -1,7 +1,8 @@
 -- The words of a line's text.
-use Rattle.std.proofs.Common.{◌≡◌, ℕ, suc, ◌+◌, ◌≤◌, ◌==◌, Bool, true, false, ◌&&◌, ◌||◌, not, cond, List, [], ◌∷◌, ◌++◌, length, take, get_or, position, flat_map, Some, None, ap, arith, refl, sym, ◌∙◌, append_assoc, append-nil, length-append}
+use Rattle.std.proofs.Common.{◌≡◌, ℕ, suc, ◌+◌, ◌≤◌, ◌==◌, Bool, true, false, ◌&&◌, ◌||◌, not, cond, List, [], ◌∷◌, ◌++◌, length, take, drop, get_or, position, flat_map, Some, None, ap, subst, arith, refl, sym, ◌∙◌, append_assoc, append-nil, length-append, take-append-drop}
 use Rattle.std.specs.Fmt.{decimal}
 use Rattle.std.specs.List.{count_by, position_or_len}
+use Rattle.std.proofs.lemmas.Bool.{eqb-true}
 use Rattle.std.proofs.lemmas.Grind.{common_steps}
 use Rattle.std.proofs.lemmas.List.{take_all}
 use Rattle.std.proofs.lemmas.List.Sums.{sum_by-cons}
@@ -9,7 +10,7 @@ use Rattle.hex.specs.Hex.{encode_lower}
 use Rattle.hdmi_edid.proofs.PartLemmas.{both}
 use Rattle.hdmi_cta.proofs.OneBlock.{append_same}
 use Rattle.hdmi_core.specs.Piece.{phys_text}
-use Rattle.hdmi_lines.specs.Formed.{form_of, FormedFields, are_numbers}
+use Rattle.hdmi_lines.specs.Formed.{form_of, BeginsSpaced, FormedFields, are_numbers}
 use Rattle.hdmi_edtext.specs.Refusal.{first_word, word_count}
 use Rattle.hdmi_lines.specs.Text.{word_text, number_text, hex_word, fields_text, line_text}
 use Rattle.hdmi_edtext.specs.Words.{has_words}
@@ -17,6 +18,7 @@ use Rattle.hdmi_lines.specs.declared.line.Fields.{Fields}
 use Rattle.hdmi_lines.specs.declared.line.Fields.TheVariants.{Nothing, Letters, Numbers, Timed, Bytes, Address, Quoted}
 use Rattle.hdmi_lines.specs.declared.line.Form.{Form}
 use Rattle.hdmi_lines.specs.declared.line.Form.TheVariants.{Empty, Three, One, Two, Eight, Unused, Timing as OfTiming, Hex, Address as OfAddress, Quoted as OfQuoted}
+use Rattle.hdmi_lines.specs.declared.line.Keyword.{Keyword}
 use Rattle.hdmi_lines.specs.declared.line.Line.{Line}
 use Rattle.hdmi_edtext.proofs.CutTexts.{hex_clean, flags_clean, decimal_clean, phys_clean, word_clean, number_fits}
 use Rattle.hdmi_edtext.proofs.Good.{is_clean, are_clean, PlainFields, Good}
@@ -137,6 +139,36 @@ front_text l = word_text l.word ++ fields_text l.fields
 pub first_is : (l : Line) → first_word (front_text l) ≡ word_text l.word
 first_is l =
     ap (λ n. take n (front_text l)) (cut_at (word_text l.word) (fields_text l.fields) (solid l.word) (fields_begin l.fields)) ∙ take_front (word_text l.word) (fields_text l.fields)
+
+-- what begins with a space
+after_space : (xs : List ℕ) → BeginsSpaced (drop (position_or_len (λ c. c == 32) xs) xs)
+after_space [] = tt
+after_space (c ∷ cs) = at (c == 32) refl (after_space cs)
+  where
+    more : drop (1 + position_or_len (λ c. c == 32) cs) (c ∷ cs) ≡ drop (position_or_len (λ c. c == 32) cs) cs
+    more = let one : 1 + position_or_len (λ c. c == 32) cs ≡ suc (position_or_len (λ c. c == 32) cs) = omega arith in ap (λ n. drop n (c ∷ cs)) one
+
+    at : (v : Bool) → (c == 32) ≡ v → BeginsSpaced (drop (position_or_len (λ c. c == 32) cs) cs) → BeginsSpaced (drop (cond (not v) (1 + position_or_len (λ c. c == 32) cs) 0) (c ∷ cs))
+    at true e h = eqb-true _ _ e
+    at false e h = subst BeginsSpaced (sym more) h
+
+no_space : (rest : List ℕ) → BeginsSpaced rest → spaces rest ≡ 0 → rest ≡ []
+no_space [] b h = refl
+no_space (c ∷ cs) b h = absurd (none (ap (λ n. spaces (n ∷ cs)) (sym b) ∙ h))
+  where
+    none : suc (spaces cs) ≡ 0 → ⊥
+    none e = omega (arith, e)
+
+-- a line of one word
+pub alone : (w : Keyword) (xs : List ℕ) → first_word xs ≡ word_text w → word_count xs ≡ 1 → xs ≡ word_text w
+alone w xs first one =
+    let at = position_or_len (λ c. c == 32) xs in
+    let rest = drop at xs in
+    let whole : word_text w ++ rest ≡ xs = ap (λ t. t ++ rest) (sym first) ∙ take-append-drop at xs in
+    let left : spaces rest ≡ spaces xs = sym (spaces_clean (word_text w) rest (word_clean w)) ∙ ap spaces whole in
+    let counts = spaces_is xs in
+    let none = no_space rest (after_space xs) (omega (arith, left, counts, one)) in
+    sym whole ∙ ap (λ t. word_text w ++ t) none ∙ append-nil (word_text w)
 
 pub words_are : (l : Line) → Good l → word_count (front_text l) ≡ words_of l.fields
 words_are l h =

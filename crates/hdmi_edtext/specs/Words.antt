@@ -1,5 +1,8 @@
--- Which first words may stand where, and how many words a line has (own).
-use Rattle.std.specs.Prelude.{ℕ, ◌==◌, Bool, true, false, ◌&&◌, ◌||◌, nat_lt, nat_le, length, if◌then◌else◌}
+-- Which first words may stand where, how many words a line has, and what each of them may be by itself (own).
+use Rattle.std.specs.Prelude.{◌≡◌, ℕ, ◌-◌, ◌%◌, ◌<◌, ◌==◌, Bool, true, false, ◌&&◌, ◌||◌, nat_lt, nat_le, List, [], ◌∷◌, length, get_or, if◌then◌else◌}
+use Rattle.std.specs.Fmt.{decimal}
+use Rattle.hdmi_core.specs.Piece.{phys_text}
+use Rattle.hdmi_core.specs.declared.phys.Phys.{Phys}
 use Rattle.hdmi_edtext.specs.declared.draft.EdidDraft.{EdidDraft}
 use Rattle.hdmi_edtext.specs.declared.draft.EdidDraft.TheVariants.{Begun, Whole, Opened, Bare}
 use Rattle.hdmi_lines.specs.declared.line.Form.{Form}
@@ -85,3 +88,21 @@ has_words OfTiming n = n == 15
 has_words Hex n = n == 2
 has_words Address n = n == 3
 has_words Quoted n = n == 2
+
+-- the greatest numbers of a detailed timing
+abbrev pub timing_most : List ℕ
+timing_most = 65535 ∷ 4095 ∷ 4095 ∷ 4095 ∷ 4095 ∷ 1023 ∷ 1023 ∷ 63 ∷ 63 ∷ 4095 ∷ 4095 ∷ 255 ∷ 255 ∷ []
+
+-- the numbers that a line has as the word of this number, where that is not its last one
+abbrev pub number_fits : Keyword → ℕ → ℕ → Bool
+number_fits Made i n = nat_le n 255
+number_fits Size i n = nat_le n 255
+number_fits Chroma i n = nat_le n 1023
+number_fits Standard i n = if i == 1 then nat_le 248 n && nat_le n 2288 && (n % 8 == 0) else nat_le n 3
+number_fits Timing i n = nat_le (if i == 1 then 1 else 0) n && nat_le n (get_or timing_most (i - 1) 0)
+number_fits word i n = false
+
+-- the words that a line has as the word of this number, where that is not its last one
+abbrev pub FitsAt : Keyword → ℕ → List ℕ → Type 0
+FitsAt Hdmi i text = (p : Phys) × ((p.high < 256) × ((p.low < 256) × (phys_text p ≡ text)))
+FitsAt word i text = (n : ℕ) × ((decimal n ≡ text) × (number_fits word i n ≡ true))

@@ -7,7 +7,7 @@ ghost use Rattle.hdmi_edtext.specs.Refusal.{IsRefusal, IsFaultAt};
 
 use crate::draft::EdidDraft;
 use crate::place::NextLine;
-use crate::standing::may_stand;
+use crate::standing::word_at_fault;
 use hdmi_blocks::Edid;
 use hdmi_lines::read_line;
 use std::alloc::Global;
@@ -19,9 +19,9 @@ pub enum TextError {
     /// Another line would have to stand there.
     #[error("syntax {0}")]
     Syntax(usize),
-    /// The line's first word may stand there with so many words, and a field is at fault.
-    #[error("field {0}")]
-    Field(usize),
+    /// The line's first word may stand there with so many words, and a word after it is at fault, by its number from 0.
+    #[error("field {line}")]
+    Field { line: usize, word: usize },
     /// There was no memory.
     #[error("no memory")]
     Memory,
@@ -31,10 +31,9 @@ pub enum TextError {
 fn fault(place: NextLine, line: &[u8], number: usize) -> TextError
     ensures { IsFaultAt place line.now number result }
 {
-    if may_stand(place, line) {
-        TextError::Field(number)
-    } else {
-        TextError::Syntax(number)
+    match word_at_fault(place, line) {
+        Some(word) => TextError::Field { line: number, word },
+        None => TextError::Syntax(number),
     }
 }
 

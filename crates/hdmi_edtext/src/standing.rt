@@ -1,9 +1,10 @@
-//! Which lines may stand somewhere, by their words.
-ghost use Rattle.std.specs.Prelude.{◌≡◌, ◌+◌, ◌-◌, ◌<◌, ◌≤◌, ◌^◌, Some, true, IfSome, MatchBool, length};
-ghost use Rattle.hdmi_edtext.specs.Refusal.{first_word, word_count, MayStand};
+//! Which lines may stand somewhere, by their words, and which word of theirs is at fault.
+ghost use Rattle.std.specs.Prelude.{◌≡◌, ◌+◌, ◌-◌, ◌<◌, ◌≤◌, ◌^◌, Some, true, IfSome, MatchOption, length};
+ghost use Rattle.hdmi_edtext.specs.Refusal.{first_word, word_count, MayStand, IsFieldFault};
 ghost use Rattle.hdmi_lines.specs.Text.{word_text};
 ghost use Rattle.hdmi_lines.specs.declared.line.Keyword.{Keyword as WordValue};
 
+use crate::fields::unfit_word;
 use crate::place::{NextLine, has_words, may_begin};
 use hdmi_core::spaces_unquoted;
 use hdmi_lines::{Keyword, space_in, word_of};
@@ -34,19 +35,21 @@ fn count_words(front: &[u8]) -> usize
     spaces_unquoted(front) + 1
 }
 
-/// Whether an accepted text can have a line here with the same first word and as many words.
-pub fn may_stand(place: NextLine, line: &[u8]) -> bool
-    ensures { MatchBool result (MayStand place line.now) (MayStand place line.now → ⊥) }
+/// The word at fault of a line, where an accepted text can have one here with the same first word and as many words.
+pub fn word_at_fault(place: NextLine, line: &[u8]) -> Option<usize>
+    ensures { MatchOption result (MayStand place line.now → ⊥) (λ k. IsFieldFault place line.now k) }
 {
     if line.is_empty() || line[line.len() - 1] != b'\n' {
-        return false;
+        return None;
     }
     let front = &line[..line.len() - 1];
     let Some(word) = read_word(front) else {
-        return false;
+        return None;
     };
-    if !may_begin(place, word) {
-        return false;
+    let count = count_words(front);
+    if may_begin(place, word) && has_words(word.form(), count) {
+        Some(unfit_word(word, front, count))
+    } else {
+        None
     }
-    has_words(word.form(), count_words(front))
 }

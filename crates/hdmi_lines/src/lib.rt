@@ -6,4 +6,4 @@ mod line_to_text;
 mod text_to_line;
 
 pub use line::{Fields, Form, Keyword, Line, WORD_TEXTS};
-pub use text_to_line::{read_line, space_in, word_of};
+pub use text_to_line::{read_line, read_number, space_in, word_of};

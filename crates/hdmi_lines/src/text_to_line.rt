@@ -34,7 +34,7 @@ fn next_word(text: &[u8]) -> (&[u8], &[u8])
 }
 
 /// The number that some digits may spell.
-fn read_number(digits: &[u8]) -> Option<u32>
+pub fn read_number(digits: &[u8]) -> Option<u32>
     ensures { (n : ℕ) → n < 2 ^ 32 → decimal n ≡ digits.now → result ≡ Some n }
 {
     match str::from_utf8(digits) {

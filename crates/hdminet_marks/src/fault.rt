@@ -94,9 +94,10 @@ pub enum Fault {
     TextSyntax {
         line: u64,
     },
-    /// A field of a line of an EDID's text.
+    /// A word of a line of an EDID's text.
     TextField {
         line: u64,
+        word: usize,
     },
     /// A text without a hex dump of an EDID.
     Dump(DumpError),

@@ -120,6 +120,14 @@ fn in_capture(cause: Cause, place: Place<'_>, line: &str) -> Option<Mark> {
     }
 }
 
+// The word at fault of a line of an EDID's text. A quote and all after it are one word.
+fn in_text(line: &str, word: usize) -> Option<Mark> {
+    match word_at(line, word) {
+        Some(text) if text.starts_with("\"") => from(word),
+        _ => one(word),
+    }
+}
+
 /// The words at fault of a fault's line, as it is shown.
 pub fn marked(what: Input, fault: Fault, place: Place<'_>, line: &str) -> Option<Mark> {
     match fault {
@@ -133,7 +141,8 @@ pub fn marked(what: Input, fault: Fault, place: Place<'_>, line: &str) -> Option
         Fault::Steps { .. } => in_steps(place, line),
         Fault::Frame { cause, .. } => in_frame(cause),
         Fault::Capture { cause, .. } => in_capture(cause, place, line),
-        Fault::Edid(_) | Fault::NoHdmiBlock | Fault::TextField { .. } => from(1),
+        Fault::Edid(_) | Fault::NoHdmiBlock => from(1),
+        Fault::TextField { word, .. } => in_text(line, word),
         Fault::TextSyntax { .. } => one(0),
         Fault::Hex { .. }
         | Fault::NoPort

@@ -139,7 +139,7 @@ pub fn place_of(input: &[u8], what: Input, fault: Fault) -> Option<Place<'_>> {
         Fault::Frame { line, .. }
         | Fault::Hex { line, .. }
         | Fault::TextSyntax { line }
-        | Fault::TextField { line } => line_of(input, 0, line),
+        | Fault::TextField { line, .. } => line_of(input, 0, line),
         Fault::Edid(_) | Fault::NoHdmiBlock => edid_line(what, input),
         Fault::NoScriptLine => find_parting(
             input,

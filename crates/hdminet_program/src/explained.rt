@@ -157,7 +157,10 @@ fn of_edid(error: &EdidToTextError) -> Explained {
 fn of_edid_text(error: &TextToHexError) -> Explained {
     match error {
         TextToHexError::Syntax(line) => Explained::TextSyntax { line: *line as u64 },
-        TextToHexError::Field(line) => Explained::TextField { line: *line as u64 },
+        TextToHexError::Field { line, word } => Explained::TextField {
+            line: *line as u64,
+            word: *word,
+        },
         TextToHexError::Write(_) => Explained::Write,
         TextToHexError::Memory => Explained::Memory,
     }

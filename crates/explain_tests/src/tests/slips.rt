@@ -665,7 +665,7 @@ input 80
 size 300 1
 => text: field 7
   line 7: size 300 1
-               ^^^^^
+               ^^^
   each side is 0 to 255 cm
   a field is out of its range or not spelled as it should be: numbers are decimal with no zero before them, hex is lower case
 --
@@ -677,7 +677,7 @@ serial 1
 made 10 1950
 => text: field 5
   line 5: made 10 1950
-               ^^^^^^^
+                  ^^^^
   the week is 0 to 255, and the year 1990 to 2245
   a field is out of its range or not spelled as it should be: numbers are decimal with no zero before them, hex is lower case
 --
