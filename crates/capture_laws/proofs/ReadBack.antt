@@ -1,5 +1,5 @@
 -- A run's edge file is read back.
-use Rattle.std.proofs.Common.{◌≡◌, ℕ, ◌+◌, ◌-◌, ◌<◌, ◌≤◌, ◌==◌, ◌&&◌, ◌||◌, not, max, Bool, true, false, cond, nat_lt, nat_le, List, [], ◌∷◌, ◌++◌, map, Option, Some, Ok, codes, refl, sym, ap, ◌∙◌, arith, append_assoc}
+use Rattle.std.proofs.Common.{◌≡◌, ℕ, ◌+◌, ◌-◌, ◌<◌, ◌≤◌, ◌==◌, ◌&&◌, ◌||◌, not, max, Bool, true, false, cond, nat_lt, nat_le, List, [], ◌∷◌, ◌++◌, map, Result, Ok, codes, refl, sym, ap, ◌∙◌, arith, append_assoc}
 use Rattle.std.proofs.Math.Path.{fun_ext}
 use Rattle.std.proofs.lemmas.Bool.{false≢true}
 use Rattle.std.proofs.lemmas.Bool.Decides.{nat_tests}
@@ -36,7 +36,7 @@ use Rattle.capture_laws.proofs.Texts.{IsWithout, more_without, one_without, time
 -- ---- the text
 
 -- one line of the file, and what is after it
-read_timed : (t : ℕ) (mark rest : List ℕ) (number : ℕ) (is_low : Bool) (from : ℕ) (line : Option EdgeLine) → t ≤ latest_instant
+read_timed : (t : ℕ) (mark rest : List ℕ) (number : ℕ) (is_low : Bool) (from : ℕ) (line : Result EdgeLine ℕ) → t ≤ 2000000000000
     → IsWithout 10 mark → edge_line_of (timed t mark) ≡ line
     → edges_read (lines_of (timed t mark ++ 10 ∷ rest)) number is_low from
     ≡ read_line number is_low from line (λ e. edges_read (lines_of rest) (number + 1) e.low (e.at + 1)) (λ t. end_read (lines_of rest) (number + 1) t)
@@ -48,7 +48,7 @@ fall_read : (t : ℕ) (rest : List ℕ) (number from : ℕ) → t ≤ latest_ins
     ≡ with_edge (record { at = t; low = true }) (edges_read (lines_of rest) (number + 1) true (t + 1))
 fall_read t rest number from low after =
     let turn : nat_le from t ≡ true = grind (arith, nat_tests) in
-    read_timed t (codes "0") rest number false from (Some (EdgeLineOf (record { at = t; low = true }))) low (one_without 10 48 refl) (timed_line t (codes "0") low (one_without 32 48 refl))
+    read_timed t (codes "0") rest number false from (Ok (EdgeLineOf (record { at = t; low = true }))) low (one_without 10 48 refl) (timed_line t (codes "0") low (one_without 32 48 refl))
     ∙ rw turn refl
 
 rise_read : (t : ℕ) (rest : List ℕ) (number from : ℕ) → t ≤ latest_instant → from ≤ t
@@ -56,7 +56,7 @@ rise_read : (t : ℕ) (rest : List ℕ) (number from : ℕ) → t ≤ latest_ins
     ≡ with_edge (record { at = t; low = false }) (edges_read (lines_of rest) (number + 1) false (t + 1))
 rise_read t rest number from low after =
     let turn : nat_le from t ≡ true = grind (arith, nat_tests) in
-    read_timed t (codes "1") rest number true from (Some (EdgeLineOf (record { at = t; low = false }))) low (one_without 10 49 refl) (timed_line t (codes "1") low (one_without 32 49 refl))
+    read_timed t (codes "1") rest number true from (Ok (EdgeLineOf (record { at = t; low = false }))) low (one_without 10 49 refl) (timed_line t (codes "1") low (one_without 32 49 refl))
     ∙ rw turn refl
 
 end_without : (b : ℕ) → (101 == b) ≡ false → (110 == b) ≡ false → (100 == b) ≡ false → IsWithout b (codes "end")
@@ -66,7 +66,7 @@ end_read_back : (t number from : ℕ) → t ≤ latest_instant → from ≤ t + 
     → edges_read (lines_of (timed t (codes "end") ++ 10 ∷ [])) number false from ≡ Ok (record { edges = []; end = t })
 end_read_back t number from low after =
     let turn : nat_le from (t + 1) ≡ true = grind (arith, nat_tests) in
-    read_timed t (codes "end") [] number false from (Some (End t)) low (end_without 10 refl refl refl) (timed_line t (codes "end") low (end_without 32 refl refl refl))
+    read_timed t (codes "end") [] number false from (Ok (End t)) low (end_without 10 refl refl refl) (timed_line t (codes "end") low (end_without 32 refl refl refl))
     ∙ rw turn refl
 
 rise_parted : (b e m : List ℕ) → ((b ++ 32 ∷ 49 ∷ 10 ∷ []) ++ e) ++ m ≡ (b ++ 32 ∷ 49 ∷ []) ++ 10 ∷ (e ++ m)

@@ -1,6 +1,6 @@
 //! What captures are read as.
 use crate::rows::ROWS;
-use cec_formats::{Form, read_capture};
+use cec_formats::{CaptureError, Form, read_capture};
 use cec_mon::watch_from_idle;
 use cec_pin::lost_lines;
 use cec_signal::Capture;
@@ -53,6 +53,18 @@ fn smooth_text(rt: &(impl Abort + AllocGlobal), capture: &Capture, number: &str)
     capture_text(rt, &left)
 }
 
+/// A fault, and after it the word at fault, where the form has one.
+fn fault_text(rt: &(impl Abort + AllocGlobal), error: &CaptureError) -> String {
+    let word = match error {
+        CaptureError::Fault(fault) => fault.word,
+        CaptureError::Memory => None,
+    };
+    match word {
+        Some(word) => format!(in rt.alloc(); "{error} {word}").expect(rt, "a fault"),
+        None => format!(in rt.alloc(); "{error}").expect(rt, "a fault"),
+    }
+}
+
 /// What a text is read as.
 fn told(rt: &(impl Abort + AllocGlobal), form: &str, signal: &str, text: &str) -> String {
     let read = read_capture(
@@ -68,7 +80,7 @@ fn told(rt: &(impl Abort + AllocGlobal), form: &str, signal: &str, text: &str) -
     match read {
         Ok(capture) if form == "smooth" => smooth_text(rt, &capture, signal),
         Ok(capture) => capture_text(rt, &capture),
-        Err(error) => format!(in rt.alloc(); "{error}").expect(rt, "a fault"),
+        Err(error) => fault_text(rt, &error),
     }
 }
 

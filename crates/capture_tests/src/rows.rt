@@ -3,7 +3,7 @@
 /// `FORM:SIGNAL TEXT => EDGES`. In a text `|` ends a line, `^` is a tab, `~` a carriage return, `HEAD` the definitions of a wire
 /// CEC, `PINS` the comments of a pin file that starts at 100 s. `12000f` is a fall, `15700r` a rise. `auto` goes by the first
 /// line, `smooth:N` leaves out what is shorter than N of an edge file, `lost` has the lines before which events were lost, and
-/// `idle` the readings of an edge file from idle on.
+/// `idle` the readings of an edge file from idle on. A fault of an edge file has the number of its word at fault after it, from 0.
 pub(crate) const ROWS: &str = "\
 # A wire that falls and rises; x and z are high, in either case; a start at low.
 vcd: HEAD|#0|1!|#12000|0!|#15700|1!|#20000 => 12000f 15700r end 20000
@@ -88,10 +88,29 @@ auto: # a comment|12000 0|15700 1|20000 end => 12000f 15700r end 20000
 auto: # first try, with a comma|12000 0|15700 1|20000 end => 12000f 15700r end 20000
 auto: #,|12000 0|15700 1|20000 end => 12000f 15700r end 20000
 auto: |12000 0|15700 1|20000 end => 12000f 15700r end 20000
-auto:  => line 1: line
-auto: 0,1 => line 1: line
-edges: 5 0|9 0|10 end => line 2: order
-edges: 5 0 => line 2: line
+auto:  => line 1: line 0
+auto: 0,1 => line 1: line 0
+# Words at fault: the time, the level, what stands after it; where one is missing, the number that it would have.
+edges: 5 0|09 1|10 end => line 2: line 0
+edges: 5 0|2000000000001 1|10 end => line 2: line 0
+edges: # a fall|5 0|9|10 end => line 3: line 1
+edges: 5 0|9 2|10 end => line 2: line 1
+edges: 5 0|9  1|10 end => line 2: line 1
+edges: 5 0|9 1 0|10 end => line 2: line 2
+edges: 5 0|x 1 0|10 end => line 2: line 0
+# Without an end the line after the last, and what stands after an end.
+edges: 5 0 => line 2: line 0
+edges: 5 0|9 1|10 end|# more||11 0 => line 6: line 0
+edges: 5 0|9 1|10 end|11 end => line 4: line 0
+edges: 5 0|9 1|10 end|11 2 => line 4: line 1
+# Out of turn is a level that is there already, or else a time.
+edges: 5 1|10 end => line 1: order 1
+edges: 5 0|9 0|10 end => line 2: order 1
+edges: 5 0|4 0|10 end => line 2: order 1
+edges: 5 0|5 1|10 end => line 2: order 0
+edges: 5 0|9 1|8 0|10 end => line 3: order 0
+edges: 5 0|4 end => line 2: order 0
+edges: 5 0|5 end => 5f end 5
 # What is shorter than the width goes in pairs, from the left.
 smooth:0 10 0|12 1|20 end => 10f 12r end 20
 smooth:2 10 0|12 1|20 end => 10f 12r end 20

@@ -21,8 +21,8 @@ use Rattle.cec_vcd.specs.declared.reading.VcdError.TheVariants as vcd
 use Rattle.cec_formats.specs.Captures.{Gives, csv_error, edge_error, of_csv, of_edges, of_pin, of_vcd, pin_error, vcd_error}
 
 pub edge_fault : (e : EdgeError) (read : Result EdgeFile EdgeFault) → GivesFile (Err e) read → Gives (Err (edge_error e)) (of_edges read)
-edge_fault (edge.Line line) read h = ap of_edges h
-edge_fault (edge.Order line) read h = ap of_edges h
+edge_fault (edge.Line line word) read h = ap of_edges h
+edge_fault (edge.Order line word) read h = ap of_edges h
 edge_fault edge.Memory read h = tt
 
 pub vcd_fault : (e : VcdError) (read : Result Captured VcdFault) → GivesVcd (Err e) read → Gives (Err (vcd_error e)) (of_vcd read)

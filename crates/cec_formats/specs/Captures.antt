@@ -1,5 +1,5 @@
 -- What a capture of each form is read as, and what is wrong with it (own).
-use Rattle.std.specs.Prelude.{◌≡◌, ℕ, List, Result, Ok, Err}
+use Rattle.std.specs.Prelude.{◌≡◌, ℕ, List, Some, None, Result, Ok, Err}
 use Rattle.cec_signal.specs.Edges.{Captured}
 use Rattle.cec_csv.specs.Csv.{edges_in as csv_edges}
 use Rattle.cec_csv.specs.declared.reader.Cause.{Cause as CsvCause}
@@ -55,9 +55,16 @@ csv_cause of_csv_cause.Order = Order
 
 -- ---- what a text is read as
 
+-- a line at fault, with the word that an edge file gives
+abbrev pub at : ℕ → Cause → CaptureFault
+at line cause = record { line = line; cause = cause; word = None }
+
+abbrev pub at_word : ℕ → Cause → ℕ → CaptureFault
+at_word line cause word = record { line = line; cause = cause; word = Some word }
+
 abbrev pub edge_fault_of : EdgeFault → CaptureFault
-edge_fault_of (edge_fault.Line line) = record { line = line; cause = Line }
-edge_fault_of (edge_fault.Order line) = record { line = line; cause = Order }
+edge_fault_of (edge_fault.Line line word) = at_word line Line word
+edge_fault_of (edge_fault.Order line word) = at_word line Order word
 
 abbrev pub of_edges : Result EdgeFile EdgeFault → Result Captured CaptureFault
 of_edges (Ok f) = Ok (record { edges = f.edges; end = f.end })
@@ -65,15 +72,15 @@ of_edges (Err fault) = Err (edge_fault_of fault)
 
 abbrev pub of_vcd : Result Captured VcdFault → Result Captured CaptureFault
 of_vcd (Ok c) = Ok c
-of_vcd (Err fault) = Err (record { line = fault.line; cause = vcd_cause fault.cause })
+of_vcd (Err fault) = Err (at fault.line (vcd_cause fault.cause))
 
 abbrev pub of_pin : Result Captured PinFault → Result Captured CaptureFault
 of_pin (Ok c) = Ok c
-of_pin (Err fault) = Err (record { line = fault.line; cause = pin_cause fault.cause })
+of_pin (Err fault) = Err (at fault.line (pin_cause fault.cause))
 
 abbrev pub of_csv : Result Captured CsvFault → Result Captured CaptureFault
 of_csv (Ok c) = Ok c
-of_csv (Err fault) = Err (record { line = fault.line; cause = csv_cause fault.cause })
+of_csv (Err fault) = Err (at fault.line (csv_cause fault.cause))
 
 -- a signal has a name in a dump and in comma-separated values
 abbrev pub capture_in : Form → List ℕ → List ℕ → Result Captured CaptureFault
@@ -85,20 +92,20 @@ capture_in Csv signal text = of_csv (csv_edges signal text)
 -- ---- what is returned
 
 abbrev pub edge_error : EdgeError → CaptureError
-edge_error (edge.Line line) = Fault (record { line = line; cause = Line })
-edge_error (edge.Order line) = Fault (record { line = line; cause = Order })
+edge_error (edge.Line line word) = Fault (at_word line Line word)
+edge_error (edge.Order line word) = Fault (at_word line Order word)
 edge_error edge.Memory = Memory
 
 abbrev pub vcd_error : VcdError → CaptureError
-vcd_error (vcd.Fault fault) = Fault (record { line = fault.line; cause = vcd_cause fault.cause })
+vcd_error (vcd.Fault fault) = Fault (at fault.line (vcd_cause fault.cause))
 vcd_error vcd.Memory = Memory
 
 abbrev pub pin_error : PinError → CaptureError
-pin_error (pin.Fault fault) = Fault (record { line = fault.line; cause = pin_cause fault.cause })
+pin_error (pin.Fault fault) = Fault (at fault.line (pin_cause fault.cause))
 pin_error pin.Memory = Memory
 
 abbrev pub csv_error : CsvError → CaptureError
-csv_error (csv.Fault fault) = Fault (record { line = fault.line; cause = csv_cause fault.cause })
+csv_error (csv.Fault fault) = Fault (at fault.line (csv_cause fault.cause))
 csv_error csv.Memory = Memory
 
 -- a capture is what is read, and a fault is the one of the text; of memory nothing is said

@@ -1,6 +1,6 @@
 //! What is wrong with a capture.
 ghost use Rattle.std.specs.Prelude.{◌≡◌};
-ghost use Rattle.cec_formats.specs.Captures.{csv_cause, csv_error, edge_error, pin_cause, pin_error, vcd_cause, vcd_error};
+ghost use Rattle.cec_formats.specs.Captures.{at, at_word, csv_cause, csv_error, edge_error, pin_cause, pin_error, vcd_cause, vcd_error};
 
 use cec_csv::CsvError;
 use cec_mon::EdgeError;
@@ -37,12 +37,14 @@ pub enum Cause {
     End,
 }
 
-/// The first line at fault, counted from 1, and what is wrong with it.
+/// The first line at fault, counted from 1, and what is wrong with it; of an edge file the word at fault, counted from 0, or
+/// where it is missing the number that it would have.
 #[derive(Clone, Copy, Debug, PartialEq, Eq, Error)]
 #[error("line {line}: {cause}")]
 pub struct CaptureFault {
     pub line: u64,
     pub cause: Cause,
+    pub word: Option<u8>,
 }
 
 /// Why a capture is not read.
@@ -55,9 +57,23 @@ pub enum CaptureError {
 }
 
 fn at(line: u64, cause: Cause) -> CaptureError
-    ensures { result ≡ CaptureError.Fault (record { line = line; cause = cause }) }
+    ensures { result ≡ CaptureError.Fault (at line cause) }
 {
-    CaptureError::Fault(CaptureFault { line, cause })
+    CaptureError::Fault(CaptureFault {
+        line,
+        cause,
+        word: None,
+    })
+}
+
+fn at_word(line: u64, cause: Cause, word: u8) -> CaptureError
+    ensures { result ≡ CaptureError.Fault (at_word line cause word) }
+{
+    CaptureError::Fault(CaptureFault {
+        line,
+        cause,
+        word: Some(word),
+    })
 }
 
 fn vcd_cause(cause: cec_vcd::Cause) -> Cause
@@ -99,8 +115,8 @@ pub fn edge_error(error: EdgeError) -> CaptureError
     ensures { result ≡ edge_error error }
 {
     match error {
-        EdgeError::Line(line) => at(line, Cause::Line),
-        EdgeError::Order(line) => at(line, Cause::Order),
+        EdgeError::Line { line, word } => at_word(line, Cause::Line, word),
+        EdgeError::Order { line, word } => at_word(line, Cause::Order, word),
         EdgeError::Memory => CaptureError::Memory,
     }
 }

@@ -24,7 +24,7 @@ use Rattle.cec_mon.specs.declared.edge_file.EdgeFault.TheVariants as fault
 use Rattle.cec_mon.specs.declared.edge_file.EdgeLine.{EdgeLine}
 use Rattle.cec_mon.specs.declared.edge_file.EdgeLine.TheVariants.{Edge, End}
 use Rattle.cec_mon.specs.declared.edge_file.EdgeLines.{EdgeLines}
-use Rattle.cec_mon.specs.EdgeFile.{EdgeFile, edge_line_of, edges_read, end_read, file_left, file_of, is_in_turn, read_line, with_edge, with_edges, GoesBehind, ReadsOn}
+use Rattle.cec_mon.specs.EdgeFile.{EdgeFile, edge_line_of, edges_read, end_read, file_left, file_of, is_in_turn, read_line, turns, with_edge, with_edges, word_out_of_turn, word_past, GoesBehind, ReadsOn}
 use Rattle.cec_mon.specs.Monitor.{HeardBefore, FollowsEdge, FollowsEnd}
 use Rattle.cec_mon.specs.Watch.{WritesFile, file_readings, listed_line, readings_text, reported_text}
 
@@ -57,7 +57,7 @@ pub end_none : (lines : List (List ℕ)) (number t : ℕ) (f : EdgeFile) → end
 end_none [] number t f h = cc
 end_none (line ∷ lines) number t f h = by_skip (is_skipped line) h (λ k. end_none lines (number + 1) t f k)
   where
-    by_skip : (b : Bool) → (if b then end_read lines (number + 1) t else Err (fault.Line number)) ≡ Ok f → (end_read lines (number + 1) t ≡ Ok f → f ≡ record { edges = []; end = t })
+    by_skip : (b : Bool) → (if b then end_read lines (number + 1) t else Err (fault.Line number (word_past (edge_line_of line)))) ≡ Ok f → (end_read lines (number + 1) t ≡ Ok f → f ≡ record { edges = []; end = t })
         → f ≡ record { edges = []; end = t }
     by_skip true k ih = ih k
     by_skip false k ih = cc
@@ -69,7 +69,7 @@ late_edge : (is_low : Bool) (from : ℕ) (e : EdgeOf) (r : Result EdgeFile EdgeF
 unfolding Late
 late_edge is_low from e r f turn h b u l =
     let g = behind e r f h in
-    let after : nat_le from e.at ≡ true = right (if e.low then not is_low else is_low) (nat_le from e.at) turn in
+    let after : nat_le from e.at ≡ true = right (turns is_low e) (nat_le from e.at) turn in
     ap (λ (x : EdgeFile). level_at b x.edges u) g.same
     ∙ ap (λ c. if c then b else level_at e.low g.left.edges u) (let x : nat_lt u e.at ≡ true = grind (arith, nat_tests) in x)
   where
@@ -77,18 +77,18 @@ late_edge is_low from e r f turn h b u l =
     right true y k = k
     right false y k = cc
 
-late_line : (number : ℕ) (is_low : Bool) (from : ℕ) (o : Option EdgeLine) (more : EdgeOf → Result EdgeFile EdgeFault) (lines : List (List ℕ)) (f : EdgeFile)
+late_line : (number : ℕ) (is_low : Bool) (from : ℕ) (o : Result EdgeLine ℕ) (more : EdgeOf → Result EdgeFile EdgeFault) (lines : List (List ℕ)) (f : EdgeFile)
     → read_line number is_low from o more (λ t. end_read lines (number + 1) t) ≡ Ok f → Late from f
 unfolding Late
-late_line number is_low from None more lines f h = cc
-late_line number is_low from (Some (Edge e)) more lines f h = by_turn (is_in_turn is_low from e) refl h
+late_line number is_low from (Err word) more lines f h = cc
+late_line number is_low from (Ok (Edge e)) more lines f h = by_turn (is_in_turn is_low from e) refl h
   where
-    by_turn : (c : Bool) → is_in_turn is_low from e ≡ c → (if c then with_edge e (more e) else Err (fault.Order number)) ≡ Ok f → Late from f
+    by_turn : (c : Bool) → is_in_turn is_low from e ≡ c → (if c then with_edge e (more e) else Err (fault.Order number (word_out_of_turn is_low e))) ≡ Ok f → Late from f
     by_turn true t k = late_edge is_low from e (more e) f t k
     by_turn false t k = cc
-late_line number is_low from (Some (End t)) more lines f h = by_time (nat_le from (t + 1)) h
+late_line number is_low from (Ok (End t)) more lines f h = by_time (nat_le from (t + 1)) h
   where
-    by_time : (c : Bool) → (if c then end_read lines (number + 1) t else Err (fault.Order number)) ≡ Ok f → Late from f
+    by_time : (c : Bool) → (if c then end_read lines (number + 1) t else Err (fault.Order number 0)) ≡ Ok f → Late from f
     by_time true k = λ b u l. ap (λ (x : EdgeFile). level_at b x.edges u) (end_none lines (number + 1) t f k)
     by_time false k = cc
 
@@ -200,26 +200,26 @@ end_after : (lines : List (List ℕ)) (number : ℕ) (is_low : Bool) (from : ℕ
 end_after [] number is_low from f h = cc
 end_after (line ∷ lines) number is_low from f h = by_skip (is_skipped line) h (λ n b m g k. end_after lines n b m g k)
   where
-    by_line : (o : Option EdgeLine) → read_line number is_low from o (λ e. edges_read lines (number + 1) e.low (e.at + 1)) (λ t. end_read lines (number + 1) t) ≡ Ok f
+    by_line : (o : Result EdgeLine ℕ) → read_line number is_low from o (λ e. edges_read lines (number + 1) e.low (e.at + 1)) (λ t. end_read lines (number + 1) t) ≡ Ok f
         → ((n : ℕ) (b : Bool) (m : ℕ) (g : EdgeFile) → edges_read lines n b m ≡ Ok g → m ≤ g.end + 1) → from ≤ f.end + 1
-    by_line None k ih = cc
-    by_line (Some (Edge e)) k ih = by_turn (is_in_turn is_low from e) refl k
+    by_line (Err word) k ih = cc
+    by_line (Ok (Edge e)) k ih = by_turn (is_in_turn is_low from e) refl k
       where
         right : (x y : Bool) → (x && y) ≡ true → y ≡ true
         right true y j = j
         right false y j = cc
 
-        by_turn : (c : Bool) → is_in_turn is_low from e ≡ c → (if c then with_edge e (edges_read lines (number + 1) e.low (e.at + 1)) else Err (fault.Order number)) ≡ Ok f → from ≤ f.end + 1
+        by_turn : (c : Bool) → is_in_turn is_low from e ≡ c → (if c then with_edge e (edges_read lines (number + 1) e.low (e.at + 1)) else Err (fault.Order number (word_out_of_turn is_low e))) ≡ Ok f → from ≤ f.end + 1
         by_turn true t j =
             let g = behind e (edges_read lines (number + 1) e.low (e.at + 1)) f j in
-            let after : nat_le from e.at ≡ true = right (if e.low then not is_low else is_low) (nat_le from e.at) t in
+            let after : nat_le from e.at ≡ true = right (turns is_low e) (nat_le from e.at) t in
             let start : from ≤ e.at = grind (arith, nat_tests) in
             let same : f.end ≡ g.left.end = ap (λ (x : EdgeFile). x.end) g.same in
             omega (arith, start, same, ih (number + 1) e.low (e.at + 1) g.left g.is)
         by_turn false t j = cc
-    by_line (Some (End t)) k ih = by_time (nat_le from (t + 1)) refl k
+    by_line (Ok (End t)) k ih = by_time (nat_le from (t + 1)) refl k
       where
-        by_time : (c : Bool) → nat_le from (t + 1) ≡ c → (if c then end_read lines (number + 1) t else Err (fault.Order number)) ≡ Ok f → from ≤ f.end + 1
+        by_time : (c : Bool) → nat_le from (t + 1) ≡ c → (if c then end_read lines (number + 1) t else Err (fault.Order number 0)) ≡ Ok f → from ≤ f.end + 1
         by_time true e j =
             let same : f.end ≡ t = ap (λ (x : EdgeFile). x.end) (end_none lines (number + 1) t f j) in
             let start : from ≤ t + 1 = grind (arith, nat_tests) in

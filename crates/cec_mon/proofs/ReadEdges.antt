@@ -5,45 +5,57 @@ use Rattle.std.proofs.lemmas.Bool.Decides.{nat_tests}
 use Rattle.cec_wave.specs.declared.Edge.{Edge as EdgeOf}
 use Rattle.hdmi_core.specs.Lines.{lines_of, is_skipped}
 use Rattle.hdmi_core.specs.Number.{number_of}
-use Rattle.hdmi_core.specs.Words.{two_of, words_of}
+use Rattle.hdmi_core.specs.Words.{words_of}
 use Rattle.cec_signal.specs.Edges.{AreInTurn, EndBy, IsCapture}
 use Rattle.cec_mon.specs.declared.edge_file.EdgeFault.{EdgeFault}
 use Rattle.cec_mon.specs.declared.edge_file.EdgeFault.TheVariants as fault
 use Rattle.cec_mon.specs.declared.edge_file.EdgeLine.{EdgeLine}
 use Rattle.cec_mon.specs.declared.edge_file.EdgeLine.TheVariants.{Edge, End}
-use Rattle.cec_mon.specs.EdgeFile.{EdgeFile, edge_line_of, edges_read, end_read, file_of, is_in_turn, line_by, edge_line_at, marked_by, read_line, with_edge, with_edges, within}
+use Rattle.cec_mon.specs.EdgeFile.{EdgeFile, edge_line_of, edges_read, end_read, file_of, is_in_turn, line_alone, line_by, edge_line_at, marked_by, read_line, turns, with_edge, with_edges, within, word_out_of_turn}
 use Rattle.cec_mon.specs.Reading.{GivesEdges, fault_told}
 use Rattle.cec_mon.proofs.Files.{behind, end_none}
 
 -- ---- the end is within the limit
 
-end_within : (t time : ℕ) (mark : List ℕ) → edge_line_at time mark ≡ Some (End t) → t ≡ time
+end_within : (t time : ℕ) (mark : List ℕ) → edge_line_at time mark ≡ Ok (End t) → t ≡ time
 end_within t time mark h = by (bytes_eq mark (codes "0")) (bytes_eq mark (codes "1")) (bytes_eq mark (codes "end")) h
   where
-    by : (a b c : Bool)
-        → (if a then Some (Edge (record { at = time; low = true })) else if b then Some (Edge (record { at = time; low = false })) else if c then Some (End time) else None) ≡ Some (End t) → t ≡ time
+    line_if : Bool → Bool → Bool → Result EdgeLine ℕ
+    line_if a b c = if a then Ok (Edge (record { at = time; low = true })) else if b then Ok (Edge (record { at = time; low = false })) else if c then Ok (End time) else Err 1
+
+    by : (a b c : Bool) → line_if a b c ≡ Ok (End t) → t ≡ time
     by true b c k = cc
     by false true c k = cc
     by false false true k = cc
     by false false false k = cc
 
-end_time : (t : ℕ) (o : Option ℕ) (mark : List ℕ) → marked_by (within o) mark ≡ Some (End t) → t ≤ 2000000000000
-end_time t None mark h = cc
-end_time t (Some time) mark h = by (nat_le time 2000000000000) refl h
+-- what is said with nothing after it
+alone_is : (line : Result EdgeLine ℕ) (words : List (List ℕ)) (x : EdgeLine) → line_alone line words ≡ Ok x → line ≡ Ok x
+alone_is (Err word) words x h = cc
+alone_is (Ok line) [] x h = h
+alone_is (Ok line) (word ∷ words) x h = cc
+
+end_marked : (t time : ℕ) (words : List (List ℕ)) → marked_by (Some time) words ≡ Ok (End t) → t ≡ time
+end_marked t time [] h = cc
+end_marked t time (mark ∷ words) h = end_within t time mark (alone_is (edge_line_at time mark) words (End t) h)
+
+end_time : (t : ℕ) (o : Option ℕ) (words : List (List ℕ)) → marked_by (within o) words ≡ Ok (End t) → t ≤ 2000000000000
+end_time t None words h = cc
+end_time t (Some time) words h = by (nat_le time 2000000000000) refl h
   where
-    by : (c : Bool) → nat_le time 2000000000000 ≡ c → marked_by (if c then Some time else None) mark ≡ Some (End t) → t ≤ 2000000000000
+    by : (c : Bool) → nat_le time 2000000000000 ≡ c → marked_by (if c then Some time else None) words ≡ Ok (End t) → t ≤ 2000000000000
     by true k m =
         let low : time ≤ 2000000000000 = grind (arith, nat_tests) in
-        let is = end_within t time mark m in
+        let is = end_marked t time words m in
         omega arith
     by false k m = cc
 
-end_early : (line : List ℕ) (t : ℕ) → edge_line_of line ≡ Some (End t) → t ≤ 2000000000000
-end_early line t h = by (two_of (words_of line)) h
+end_early : (line : List ℕ) (t : ℕ) → edge_line_of line ≡ Ok (End t) → t ≤ 2000000000000
+end_early line t h = by (words_of line) h
   where
-    by : (o : Option (List ℕ × List ℕ)) → line_by o ≡ Some (End t) → t ≤ 2000000000000
-    by None k = cc
-    by (Some words) k = end_time t (number_of words.0) words.1 k
+    by : (words : List (List ℕ)) → line_by words ≡ Ok (End t) → t ≤ 2000000000000
+    by [] k = cc
+    by (time ∷ words) k = end_time t (number_of time) words k
 
 -- ---- the edges are in turn
 
@@ -54,7 +66,7 @@ record IsRead (is_low : Bool) (from : ℕ) (f : EdgeFile) : Type 0 where
   reach : from ≤ f.end + 1
 
 turned : (is_low : Bool) (from : ℕ) (e : EdgeOf) → is_in_turn is_low from e ≡ true → (e.low ≡ not is_low) × (from ≤ e.at)
-turned is_low from e h = (level is_low e.low (nat_le from e.at) h, late (if e.low then not is_low else is_low) (nat_le from e.at) refl h)
+turned is_low from e h = (level is_low e.low (nat_le from e.at) h, late (turns is_low e) (nat_le from e.at) refl h)
   where
     level : (a b c : Bool) → ((if b then not a else a) && c) ≡ true → b ≡ not a
     level true true c h = cc
@@ -79,18 +91,18 @@ edge_is_read is_low from e left f turn is same =
       reach = omega arith;
     })
 
-line_is_read : (number : ℕ) (is_low : Bool) (from : ℕ) (line : List ℕ) (o : Option EdgeLine) (more : EdgeOf → Result EdgeFile EdgeFault) (lines : List (List ℕ)) (f : EdgeFile)
+line_is_read : (number : ℕ) (is_low : Bool) (from : ℕ) (line : List ℕ) (o : Result EdgeLine ℕ) (more : EdgeOf → Result EdgeFile EdgeFault) (lines : List (List ℕ)) (f : EdgeFile)
     → edge_line_of line ≡ o → ((e : EdgeOf) (g : EdgeFile) → more e ≡ Ok g → IsRead e.low (e.at + 1) g)
     → read_line number is_low from o more (λ t. end_read lines (number + 1) t) ≡ Ok f → IsRead is_low from f
-line_is_read number is_low from line None more lines f is ih h = cc
-line_is_read number is_low from line (Some (Edge e)) more lines f is ih h = by (is_in_turn is_low from e) refl h
+line_is_read number is_low from line (Err word) more lines f is ih h = cc
+line_is_read number is_low from line (Ok (Edge e)) more lines f is ih h = by (is_in_turn is_low from e) refl h
   where
-    by : (c : Bool) → is_in_turn is_low from e ≡ c → (if c then with_edge e (more e) else Err (fault.Order number)) ≡ Ok f → IsRead is_low from f
+    by : (c : Bool) → is_in_turn is_low from e ≡ c → (if c then with_edge e (more e) else Err (fault.Order number (word_out_of_turn is_low e))) ≡ Ok f → IsRead is_low from f
     by true t k = let b = behind e (more e) f k in edge_is_read is_low from e b.left f t (ih e b.left b.is) b.same
     by false t k = cc
-line_is_read number is_low from line (Some (End t)) more lines f is ih h = by (nat_le from (t + 1)) refl h
+line_is_read number is_low from line (Ok (End t)) more lines f is ih h = by (nat_le from (t + 1)) refl h
   where
-    by : (c : Bool) → nat_le from (t + 1) ≡ c → (if c then end_read lines (number + 1) t else Err (fault.Order number)) ≡ Ok f → IsRead is_low from f
+    by : (c : Bool) → nat_le from (t + 1) ≡ c → (if c then end_read lines (number + 1) t else Err (fault.Order number 0)) ≡ Ok f → IsRead is_low from f
     by true l k =
         let same = end_none lines (number + 1) t f k in
         let early = end_early line t is in
@@ -116,8 +128,8 @@ file_is_capture text f h = let r = lines_are_read (lines_of text) 1 false 0 f h 
 -- ---- what is returned
 
 pub gives_fault : (x : EdgeFault) (read : Result EdgeFile EdgeFault) → read ≡ Err x → GivesEdges (Err (fault_told x)) read
-gives_fault (fault.Line line) read h = h
-gives_fault (fault.Order line) read h = h
+gives_fault (fault.Line line word) read h = h
+gives_fault (fault.Order line word) read h = h
 
 pub edges_end : (es : List EdgeOf) (t : ℕ) → with_edges es (Ok (record { edges = []; end = t })) ≡ Ok (record { edges = es; end = t })
 edges_end [] t = refl

@@ -1,19 +1,20 @@
 -- Edge files (own). A line `T 0` is a fall, `T 1` a rise, `T end` the end; lines that are
--- empty or begin with `#` are skipped, but counted.
+-- empty or begin with `#` are skipped, but counted. A line at fault is given with its word at fault: its number from 0; where
+-- one is missing, the number that it would have.
 use Rattle.std.specs.Prelude.{◌≡◌, ℕ, ◌+◌, ◌<◌, ◌≤◌, Bool, true, false, not, nat_le, ◌&&◌, if◌then◌else◌, List, [], ◌∷◌, length, codes, Option, Some, None, Result, Ok, Err}
 use Rattle.std.specs.Str.{bytes_eq}
 use Rattle.cec_wave.specs.Bounds.{latest_instant}
 use Rattle.cec_wave.specs.declared.Edge.{Edge as EdgeOf}
 use Rattle.hdmi_core.specs.Lines.{lines_of, is_skipped}
 use Rattle.hdmi_core.specs.Number.{number_of}
-use Rattle.hdmi_core.specs.Words.{words_of, two_of}
+use Rattle.hdmi_core.specs.Words.{words_of}
 use Rattle.cec_mon.specs.declared.edge_file.EdgeLine.{EdgeLine}
 use Rattle.cec_mon.specs.declared.edge_file.EdgeLine.TheVariants.{Edge, End}
 use Rattle.cec_mon.specs.declared.edge_file.EdgeFault.{EdgeFault}
 use Rattle.cec_mon.specs.declared.edge_file.EdgeFault.TheVariants as fault
 use Rattle.cec_mon.specs.declared.edge_file.EdgeLines.{EdgeLines}
 
--- ---- a line
+-- ---- a line: what it says, or its first word at fault
 
 -- a time, in microseconds, within the limit
 abbrev pub within : Option ℕ → Option ℕ
@@ -23,23 +24,30 @@ within (Some t) = if nat_le t latest_instant then Some t else None
 abbrev pub time_of : List ℕ → Option ℕ
 time_of word = within (number_of word)
 
-abbrev pub edge_line_at : ℕ → List ℕ → Option EdgeLine
+abbrev pub edge_line_at : ℕ → List ℕ → Result EdgeLine ℕ
 edge_line_at at mark =
-    if bytes_eq mark (codes "0") then Some (Edge (record { at = at; low = true }))
-    else if bytes_eq mark (codes "1") then Some (Edge (record { at = at; low = false }))
-    else if bytes_eq mark (codes "end") then Some (End at)
-    else None
+    if bytes_eq mark (codes "0") then Ok (Edge (record { at = at; low = true }))
+    else if bytes_eq mark (codes "1") then Ok (Edge (record { at = at; low = false }))
+    else if bytes_eq mark (codes "end") then Ok (End at)
+    else Err 1
 
-abbrev pub marked_by : Option ℕ → List ℕ → Option EdgeLine
-marked_by None mark = None
-marked_by (Some at) mark = edge_line_at at mark
+-- nothing stands after the two words
+abbrev pub line_alone : Result EdgeLine ℕ → List (List ℕ) → Result EdgeLine ℕ
+line_alone (Err word) words = Err word
+line_alone (Ok line) [] = Ok line
+line_alone (Ok line) (word ∷ words) = Err 2
 
-abbrev pub line_by : Option (List ℕ × List ℕ) → Option EdgeLine
-line_by None = None
-line_by (Some words) = marked_by (time_of words.0) words.1
+abbrev pub marked_by : Option ℕ → List (List ℕ) → Result EdgeLine ℕ
+marked_by None words = Err 0
+marked_by (Some at) [] = Err 1
+marked_by (Some at) (mark ∷ words) = line_alone (edge_line_at at mark) words
 
-abbrev pub edge_line_of : List ℕ → Option EdgeLine
-edge_line_of line = line_by (two_of (words_of line))
+abbrev pub line_by : List (List ℕ) → Result EdgeLine ℕ
+line_by [] = Err 0
+line_by (time ∷ words) = marked_by (time_of time) words
+
+abbrev pub edge_line_of : List ℕ → Result EdgeLine ℕ
+edge_line_of line = line_by (words_of line)
 
 -- ---- a file
 
@@ -56,24 +64,36 @@ abbrev pub with_edges : List EdgeOf → Result EdgeFile EdgeFault → Result Edg
 with_edges [] r = r
 with_edges (e ∷ es) r = with_edge e (with_edges es r)
 
+-- of a line that stands after the end, its word at fault; of one that has none, its first word
+abbrev pub word_past : Result EdgeLine ℕ → ℕ
+word_past (Err word) = word
+word_past (Ok line) = 0
+
 -- nothing stands after the end
 abbrev pub end_read : List (List ℕ) → ℕ → ℕ → Result EdgeFile EdgeFault
 end_read [] number t = Ok (record { edges = []; end = t })
-end_read (line ∷ lines) number t = if is_skipped line then end_read lines (number + 1) t else Err (fault.Line number)
+end_read (line ∷ lines) number t = if is_skipped line then end_read lines (number + 1) t else Err (fault.Line number (word_past (edge_line_of line)))
 
 -- an edge turns the line, at `from` or later; the end is not before the last edge
-abbrev pub is_in_turn : Bool → ℕ → EdgeOf → Bool
-is_in_turn is_low from e = (if e.low then not is_low else is_low) && nat_le from e.at
+abbrev pub turns : Bool → EdgeOf → Bool
+turns is_low e = if e.low then not is_low else is_low
 
-abbrev pub read_line : ℕ → Bool → ℕ → Option EdgeLine → (EdgeOf → Result EdgeFile EdgeFault) → (ℕ → Result EdgeFile EdgeFault) → Result EdgeFile EdgeFault
-read_line number is_low from None more last = Err (fault.Line number)
-read_line number is_low from (Some (Edge e)) more last = if is_in_turn is_low from e then with_edge e (more e) else Err (fault.Order number)
-read_line number is_low from (Some (End t)) more last = if nat_le from (t + 1) then last t else Err (fault.Order number)
+abbrev pub is_in_turn : Bool → ℕ → EdgeOf → Bool
+is_in_turn is_low from e = turns is_low e && nat_le from e.at
+
+-- else its level is at fault, where it does not turn the line, or its time
+abbrev pub word_out_of_turn : Bool → EdgeOf → ℕ
+word_out_of_turn is_low e = if turns is_low e then 0 else 1
+
+abbrev pub read_line : ℕ → Bool → ℕ → Result EdgeLine ℕ → (EdgeOf → Result EdgeFile EdgeFault) → (ℕ → Result EdgeFile EdgeFault) → Result EdgeFile EdgeFault
+read_line number is_low from (Err word) more last = Err (fault.Line number word)
+read_line number is_low from (Ok (Edge e)) more last = if is_in_turn is_low from e then with_edge e (more e) else Err (fault.Order number (word_out_of_turn is_low e))
+read_line number is_low from (Ok (End t)) more last = if nat_le from (t + 1) then last t else Err (fault.Order number 0)
 
 -- what lines are read as, of which the first has this number, where the line of the bus is low or not and may change
 -- at `from` or later
 abbrev pub edges_read : List (List ℕ) → ℕ → Bool → ℕ → Result EdgeFile EdgeFault
-edges_read [] number is_low from = Err (fault.Line number)
+edges_read [] number is_low from = Err (fault.Line number 0)
 edges_read (line ∷ lines) number is_low from =
     if is_skipped line then edges_read lines (number + 1) is_low from
     else read_line number is_low from (edge_line_of line) (λ e. edges_read lines (number + 1) e.low (e.at + 1)) (λ t. end_read lines (number + 1) t)

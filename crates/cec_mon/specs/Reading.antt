@@ -11,19 +11,19 @@ use Rattle.cec_mon.specs.declared.reading.EdgeError.{EdgeError}
 use Rattle.cec_mon.specs.declared.reading.EdgeError.TheVariants.{Line, Order, Memory}
 
 abbrev pub fault_told : EdgeFault → EdgeError
-fault_told (fault.Line line) = Line line
-fault_told (fault.Order line) = Order line
+fault_told (fault.Line line word) = Line line word
+fault_told (fault.Order line word) = Order line word
 
 -- a capture is what is read, and a fault is the one of the text; of memory nothing is said
 abbrev pub GivesFile : Result Captured EdgeError → Result EdgeFile EdgeFault → Type 0
 GivesFile (Ok c) read = read ≡ Ok (as_file c)
-GivesFile (Err (Line line)) read = read ≡ Err (fault.Line line)
-GivesFile (Err (Order line)) read = read ≡ Err (fault.Order line)
+GivesFile (Err (Line line word)) read = read ≡ Err (fault.Line line word)
+GivesFile (Err (Order line word)) read = read ≡ Err (fault.Order line word)
 GivesFile (Err Memory) read = Unit {0}
 
 -- the same of edges and an end
 abbrev pub GivesEdges : Result (Vec Edge × ℕ) EdgeError → Result EdgeFile EdgeFault → Type 0
 GivesEdges (Ok c) read = read ≡ Ok (record { edges = c.0.items; end = c.1 })
-GivesEdges (Err (Line line)) read = read ≡ Err (fault.Line line)
-GivesEdges (Err (Order line)) read = read ≡ Err (fault.Order line)
+GivesEdges (Err (Line line word)) read = read ≡ Err (fault.Line line word)
+GivesEdges (Err (Order line word)) read = read ≡ Err (fault.Order line word)
 GivesEdges (Err Memory) read = Unit {0}

@@ -34,8 +34,8 @@ abbrev pub file_readings : EdgeFile → List Listed
 file_readings f = readings_of (line_of_edges f.edges) f.end
 
 abbrev pub told_so : EdgeFault → WatchError
-told_so (fault.Line line) = Line line
-told_so (fault.Order line) = Order line
+told_so (fault.Line line word) = Line line word
+told_so (fault.Order line word) = Order line word
 
 -- their lines are written, whole or their front up to a fault
 abbrev pub WritesFile : Option (List ℕ) → Option (List ℕ) → Bool → Bool → EdgeFile → Result (Unit {0}) WriteFault → Type 0
@@ -46,11 +46,11 @@ WritesFile old new was is f (Err fault) = CutOff old new (readings_text (file_re
 abbrev pub as_file : Captured → EdgeFile
 as_file c = record { edges = c.edges; end = c.end }
 
--- A file without a fault has its readings written, and of another one the first line at fault is told, and nothing
+-- A file without a fault has its readings written, and of another one the first line at fault is told with its word, and nothing
 -- is written. Memory is never wanted.
 abbrev pub Answers : Option (List ℕ) → Option (List ℕ) → Bool → Bool → List ℕ → Result (Unit {0}) WatchError → Type 0
 Answers old new was is text (Ok n) = (f : EdgeFile) × (file_of text ≡ Ok f) × WritesFile old new was is f (Ok n)
 Answers old new was is text (Err (Write count)) = (f : EdgeFile) × (file_of text ≡ Ok f) × WritesFile old new was is f (Err (record { count = count }))
-Answers old new was is text (Err (Line line)) = (file_of text ≡ Err (fault.Line line)) × (new ≡ old) × (is ≡ was)
-Answers old new was is text (Err (Order line)) = (file_of text ≡ Err (fault.Order line)) × (new ≡ old) × (is ≡ was)
+Answers old new was is text (Err (Line line word)) = (file_of text ≡ Err (fault.Line line word)) × (new ≡ old) × (is ≡ was)
+Answers old new was is text (Err (Order line word)) = (file_of text ≡ Err (fault.Order line word)) × (new ≡ old) × (is ≡ was)
 Answers old new was is text (Err Memory) = ⊥

@@ -1,10 +1,12 @@
 //! The lines of an edge file.
 ghost use Rattle.std.specs.Prelude.{◌≡◌, ℕ, ◌+◌, ◌≤◌, ◌<◌, false, length};
+ghost use Rattle.std.specs.Option.{option_copied};
 ghost use Rattle.hdmi_core.specs.Lines.{lines_of};
-ghost use Rattle.cec_mon.specs.EdgeFile.{edge_line_of, edge_line_at, time_of};
+ghost use Rattle.hdmi_core.specs.Words.{words_behind};
+ghost use Rattle.cec_mon.specs.EdgeFile.{edge_line_of, edge_line_at, line_alone, marked_by, time_of, word_past};
 
 use cec_wave::{Edge, LATEST_INSTANT};
-use hdmi_core::{first_line, is_skipped, number_in, two_words};
+use hdmi_core::{first_line, first_word, is_skipped, number_in};
 
 /// What a line says.
 #[derive(Clone, Copy, Debug, PartialEq, Eq)]
@@ -15,13 +17,14 @@ pub enum EdgeLine {
     End(u64),
 }
 
-/// The first line at fault, counted from 1.
+/// The first line at fault, counted from 1, and the word at fault, counted from 0; where a word is missing, the number that it
+/// would have.
 #[derive(Clone, Copy, Debug, PartialEq, Eq)]
 pub enum EdgeFault {
     /// It is ill-formed, or stands after the end, or the end is missing.
-    Line(u64),
+    Line { line: u64, word: u8 },
     /// It is out of turn, or its time goes back.
-    Order(u64),
+    Order { line: u64, word: u8 },
 }
 
 fn time_of(word: &[u8]) -> Option<u64>
@@ -33,27 +36,66 @@ fn time_of(word: &[u8]) -> Option<u64>
     }
 }
 
-fn edge_line_at(at: u64, mark: &[u8]) -> Option<EdgeLine>
+fn edge_line_at(at: u64, mark: &[u8]) -> Result<EdgeLine, u8>
     ensures { result ≡ edge_line_at at mark.now }
 {
     if mark == b"0".as_slice() {
-        Some(EdgeLine::Edge(Edge { at, low: true }))
+        Ok(EdgeLine::Edge(Edge { at, low: true }))
     } else if mark == b"1".as_slice() {
-        Some(EdgeLine::Edge(Edge { at, low: false }))
+        Ok(EdgeLine::Edge(Edge { at, low: false }))
     } else if mark == b"end".as_slice() {
-        Some(EdgeLine::End(at))
+        Ok(EdgeLine::End(at))
     } else {
-        None
+        Err(1)
     }
 }
 
-// What a line says.
-fn line_in(line: &[u8]) -> Option<EdgeLine>
+// What two words say, where none is left after them.
+fn line_alone(line: Result<EdgeLine, u8>, rest: Option<&[u8]>) -> Result<EdgeLine, u8>
+    ensures { result ≡ line_alone line (words_behind (option_copied rest.entry)) }
+{
+    match line {
+        Err(word) => Err(word),
+        Ok(line) => match rest {
+            None => Ok(line),
+            Some(rest) => {
+                let (_word, _others) = first_word(rest);
+                Err(2)
+            }
+        },
+    }
+}
+
+// The words after a time.
+fn marked_by(at: Option<u64>, rest: Option<&[u8]>) -> Result<EdgeLine, u8>
+    ensures { result ≡ marked_by at (words_behind (option_copied rest.entry)) }
+{
+    let Some(at) = at else {
+        return Err(0);
+    };
+    let Some(rest) = rest else {
+        return Err(1);
+    };
+    let (mark, rest) = first_word(rest);
+    line_alone(edge_line_at(at, mark), rest)
+}
+
+// What a line says, or the number of its word at fault.
+fn line_in(line: &[u8]) -> Result<EdgeLine, u8>
     ensures { result ≡ edge_line_of line.now }
 {
-    let (time, mark) = two_words(Some(line))?;
-    let at = time_of(time)?;
-    edge_line_at(at, mark)
+    let (time, rest) = first_word(line);
+    marked_by(time_of(time), rest)
+}
+
+// The word at fault of a line that stands after the end.
+fn word_past(line: &[u8]) -> u8
+    ensures { result ≡ word_past (edge_line_of line.now) }
+{
+    match line_in(line) {
+        Err(word) => word,
+        Ok(_) => 0,
+    }
 }
 
 // A reader of the lines of an edge file: what is left of it, the number of the next line, whether the line of the bus
@@ -67,7 +109,7 @@ pub struct EdgeLines<'a> {
 }
 
 impl<'a> EdgeLines<'a> {
-    ghost use Rattle.cec_mon.specs.EdgeFile.{EndsSo, ReadsLine, ReadsOn, is_in_turn};
+    ghost use Rattle.cec_mon.specs.EdgeFile.{EndsSo, ReadsLine, ReadsOn, is_in_turn, turns, word_out_of_turn};
 
     /// A reader of this file.
     pub fn new(text: &'a [u8]) -> Self
@@ -82,11 +124,25 @@ impl<'a> EdgeLines<'a> {
         }
     }
 
+    // Whether the edge turns the line.
+    fn turns(&self, edge: Edge) -> bool
+        ensures { result ≡ turns self.now.is_low edge }
+    {
+        edge.low != self.is_low
+    }
+
     // Whether the edge turns the line, and comes late enough.
     fn is_in_turn(&self, edge: Edge) -> bool
         ensures { result ≡ is_in_turn self.now.is_low self.now.from edge }
     {
-        edge.low != self.is_low && self.from <= edge.at
+        self.turns(edge) && self.from <= edge.at
+    }
+
+    // The word at fault of an edge that is not in turn.
+    fn word_out_of_turn(&self, edge: Edge) -> u8
+        ensures { result ≡ word_out_of_turn self.now.is_low edge }
+    {
+        if self.turns(edge) { 0 } else { 1 }
     }
 
     // Nothing stands after the end.
@@ -98,7 +154,10 @@ impl<'a> EdgeLines<'a> {
         let mut number = self.number;
         while let Some((line, after)) = first_line(rest) {
             if !is_skipped(line) {
-                return Err(EdgeFault::Line(number));
+                return Err(EdgeFault::Line {
+                    line: number,
+                    word: word_past(line),
+                });
             }
             rest = after;
             number += 1;
@@ -112,21 +171,29 @@ impl<'a> EdgeLines<'a> {
         ensures { ReadsLine number line.now self.old result self.new }
     {
         match line_in(line) {
-            None => Err(EdgeFault::Line(number)),
-            Some(EdgeLine::Edge(edge)) => {
-                if !self.is_in_turn(edge) {
-                    return Err(EdgeFault::Order(number));
+            Err(word) => Err(EdgeFault::Line { line: number, word }),
+            Ok(line) => match line {
+                EdgeLine::Edge(edge) => {
+                    if !self.is_in_turn(edge) {
+                        return Err(EdgeFault::Order {
+                            line: number,
+                            word: self.word_out_of_turn(edge),
+                        });
+                    }
+                    self.is_low = edge.low;
+                    self.from = edge.at + 1;
+                    Ok(EdgeLine::Edge(edge))
                 }
-                self.is_low = edge.low;
-                self.from = edge.at + 1;
-                Ok(EdgeLine::Edge(edge))
-            }
-            Some(EdgeLine::End(t)) => {
-                if self.from > t + 1 {
-                    return Err(EdgeFault::Order(number));
+                EdgeLine::End(t) => {
+                    if self.from > t + 1 {
+                        return Err(EdgeFault::Order {
+                            line: number,
+                            word: 0,
+                        });
+                    }
+                    self.end(t)
                 }
-                self.end(t)
-            }
+            },
         }
     }
 
@@ -147,6 +214,9 @@ impl<'a> EdgeLines<'a> {
                 return self.take(number, line);
             }
         }
-        Err(EdgeFault::Line(self.number))
+        Err(EdgeFault::Line {
+            line: self.number,
+            word: 0,
+        })
     }
 }

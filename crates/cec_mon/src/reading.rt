@@ -13,12 +13,13 @@ use thiserror::Error;
 #[derive(Clone, Copy, Debug, Drop, PartialEq, Eq, Error)]
 pub enum EdgeError {
     /// The first line at fault, counted from 1, is ill-formed, its time is past the limit, or it stands after the
-    /// end. Without an end it is the line after the last.
-    #[error("line {0}: line")]
-    Line(u64),
+    /// end. Without an end it is the line after the last. The word at fault counts from 0; where it is missing, it has the
+    /// number that it would have.
+    #[error("line {line}: line")]
+    Line { line: u64, word: u8 },
     /// The first line at fault is an edge out of turn, or its time goes back.
-    #[error("line {0}: order")]
-    Order(u64),
+    #[error("line {line}: order")]
+    Order { line: u64, word: u8 },
     #[error("no memory")]
     Memory,
 }
@@ -27,8 +28,8 @@ fn told_so(fault: EdgeFault) -> EdgeError
     ensures { result ≡ fault_told fault }
 {
     match fault {
-        EdgeFault::Line(line) => EdgeError::Line(line),
-        EdgeFault::Order(line) => EdgeError::Order(line),
+        EdgeFault::Line { line, word } => EdgeError::Line { line, word },
+        EdgeFault::Order { line, word } => EdgeError::Order { line, word },
     }
 }
 
@@ -58,7 +59,7 @@ fn edges_of(alloc: Global, text: &[u8]) -> Result<(Vec<Edge>, u64), EdgeError>
 ///
 /// # Errors
 ///
-/// `Line` or `Order` with the first line at fault, or no memory.
+/// `Line` or `Order` with the first line at fault and its word, or no memory.
 pub fn read_edges(alloc: Global, text: &[u8]) -> Result<Capture, EdgeError>
     ensures { GivesFile result (file_of text.now) }
 {

@@ -19,12 +19,13 @@ use thiserror::Error;
 #[derive(Clone, Copy, Debug, Drop, PartialEq, Eq, Error)]
 pub enum WatchError {
     /// The first line at fault, counted from 1, is ill-formed, its time is past the limit, or it stands after the
-    /// end. Without an end it is the line after the last.
-    #[error("line {0}: line")]
-    Line(u64),
+    /// end. Without an end it is the line after the last. The word at fault counts from 0; where it is missing, it has the
+    /// number that it would have.
+    #[error("line {line}: line")]
+    Line { line: u64, word: u8 },
     /// The first line at fault is an edge out of turn, or its time goes back.
-    #[error("line {0}: order")]
-    Order(u64),
+    #[error("line {line}: order")]
+    Order { line: u64, word: u8 },
     /// A `put` took none. So many bytes were written.
     #[error("write fault after {0} bytes")]
     Write(u128),
@@ -36,8 +37,8 @@ fn told_so(fault: EdgeFault) -> WatchError
     ensures { result ≡ told_so fault }
 {
     match fault {
-        EdgeFault::Line(line) => WatchError::Line(line),
-        EdgeFault::Order(line) => WatchError::Order(line),
+        EdgeFault::Line { line, word } => WatchError::Line { line, word },
+        EdgeFault::Order { line, word } => WatchError::Order { line, word },
     }
 }
 

@@ -12,7 +12,7 @@ use Rattle.hdmi_topo.specs.Node.{Node}
 use Rattle.hdmi_topo.specs.Tree.{device_named}
 use Rattle.hdmi_core.specs.Cut.{WrittenText, told_count}
 use Rattle.hdmi_core.specs.Lines.{lines_of, is_skipped}
-use Rattle.hdmi_core.specs.Words.{words_of, one_of}
+use Rattle.hdmi_core.specs.Words.{words_of}
 use Rattle.hdmi_core.proofs.Cutting.{cut_behind, told_parts}
 use Rattle.cec_wire.specs.declared.Outcome.{Outcome}
 use Rattle.cec_net.specs.State.{NetState}
@@ -23,9 +23,10 @@ use Rattle.cec_run.specs.declared.run.Turn.TheVariants as turns
 use Rattle.cec_run.specs.Run.{turn_of}
 use Rattle.cec_run.proofs.Advance.{event_keeps}
 use Rattle.cec_step_text.specs.declared.break_at.Break.{Break}
+use Rattle.cec_step_text.specs.declared.break_at.Break.TheVariants.{Opcode, AnyBreak}
 use Rattle.cec_step_text.specs.declared.commands.Command.{Command}
 use Rattle.cec_step_text.specs.declared.commands.Command.TheVariants.{Edge, Round, Until, Show}
-use Rattle.cec_step_text.specs.Commands.{command_alone, break_of, command_of, commands_of, lines_read, onward, show_by, shown_of, until_by, command_of_words}
+use Rattle.cec_step_text.specs.Commands.{LineFault, byte_of, command_alone, command_of, command_of_words, commands_of, device_after, device_by, lines_read, onward, opcode_by, show_by, until_by, until_of, until_opcode}
 use Rattle.cec_step.specs.Steps.{Point, Steps, IsEdgeStepBy, IsRoundStep, IsTaken, Skips, device_count, passed_by, passed_from}
 use Rattle.cec_step.specs.Ready.{InsideIf}
 use Rattle.cec_step.specs.declared.stepper.StepError.TheVariants.{Ended}
@@ -142,52 +143,69 @@ cut_next commands n command s mid t old between new was is written inner fault b
 named-below : (tree : List Node) (name : List ℕ) (device : ℕ) → device_named tree name ≡ Some device → device < length tree
 named-below tree name device h = grind (arith, common_steps)
 
-abbrev Named : ℕ → Option Command → Type 0
-Named count None = Unit {0}
-Named count (Some command) = NamesDevice count command
+abbrev Named : ℕ → Result Command ℕ → Type 0
+Named count (Err word) = Unit {0}
+Named count (Ok command) = NamesDevice count command
 
-show_names : (tree : List Node) (name : List ℕ) (found : Option ℕ) → device_named tree name ≡ found → Named (length tree) (show_by found)
+show_names : (tree : List Node) (name : List ℕ) (found : Option ℕ) → device_named tree name ≡ found → Named (length tree) (show_by (device_by 1 found))
 show_names tree name None h = tt
 show_names tree name (Some device) h = named-below tree name device h
 
-shown_names : (tree : List Node) (word : Option (List ℕ)) → Named (length tree) (shown_of tree word)
-shown_names tree None = tt
-shown_names tree (Some name) = show_names tree name (device_named tree name) refl
+shown_names : (tree : List Node) (words : List (List ℕ)) → Named (length tree) (show_by (device_after tree 1 words))
+shown_names tree [] = tt
+shown_names tree (name ∷ []) = show_names tree name (device_named tree name) refl
+shown_names tree (name ∷ word ∷ words) = tt
 
-alone_names : (count : ℕ) (words : List (List ℕ)) (command : Command) → NamesDevice count command → Named count (command_alone words command)
-alone_names count [] command h = h
-alone_names count (word ∷ words) command h = tt
+alone_names : (count after : ℕ) (words : List (List ℕ)) (command : Command) → NamesDevice count command → Named count (command_alone after words command)
+alone_names count after [] command h = h
+alone_names count after (word ∷ words) command h = tt
 
-until_names : (count : ℕ) (at : Option Break) → Named count (until_by at)
-until_names count None = tt
-until_names count (Some at) = tt
+opcode_names : (count : ℕ) (opcode : Option ℕ) (words : List (List ℕ)) → Named count (opcode_by opcode words)
+opcode_names count None words = tt
+opcode_names count (Some opcode) words = alone_names count 3 words (Until (Opcode opcode)) tt
 
-one_names : (count : ℕ) (b : Bool) (x y : Option Command) → Named count x → Named count y → Named count (if b then x else y)
+opcodes_name : (count : ℕ) (words : List (List ℕ)) → Named count (until_opcode words)
+opcodes_name count [] = tt
+opcodes_name count (word ∷ words) = opcode_names count (byte_of word) words
+
+until_names : (count : ℕ) (device : Result ℕ ℕ) → Named count (until_by device)
+until_names count (Err word) = tt
+until_names count (Ok device) = tt
+
+one_names : (count : ℕ) (b : Bool) (x y : Result Command ℕ) → Named count x → Named count y → Named count (if b then x else y)
 one_names count true x y h k = h
 one_names count false x y h k = k
+
+untils_name : (tree : List Node) (words : List (List ℕ)) → Named (length tree) (until_of tree words)
+untils_name tree [] = tt
+untils_name tree (what ∷ words) =
+    let count = length tree in
+    one_names count (bytes_eq what (codes "opcode")) _ _ (opcodes_name count words)
+    (one_names count (bytes_eq what (codes "device")) _ _ (until_names count (device_after tree 2 words))
+    (one_names count (bytes_eq what (codes "break")) _ _ (alone_names count 2 words (Until AnyBreak) tt) tt))
 
 worded_names : (tree : List Node) (words : List (List ℕ)) → Named (length tree) (command_of_words tree words)
 worded_names tree [] = tt
 worded_names tree (verb ∷ words) =
     let count = length tree in
-    one_names count (bytes_eq verb (codes "edge")) _ _ (alone_names count words Edge tt)
-    (one_names count (bytes_eq verb (codes "round")) _ _ (alone_names count words Round tt)
-    (one_names count (bytes_eq verb (codes "until")) _ _ (until_names count (break_of tree words))
-    (one_names count (bytes_eq verb (codes "show")) _ _ (shown_names tree (one_of words)) tt)))
+    one_names count (bytes_eq verb (codes "edge")) _ _ (alone_names count 1 words Edge tt)
+    (one_names count (bytes_eq verb (codes "round")) _ _ (alone_names count 1 words Round tt)
+    (one_names count (bytes_eq verb (codes "until")) _ _ (untils_name tree words)
+    (one_names count (bytes_eq verb (codes "show")) _ _ (shown_names tree words) tt)))
 
-more_names : (count number : ℕ) (before commands : List Command) (skipped : Bool) (command : Option Command) (on : List Command → Result (List Command) ℕ) → Named count command
+more_names : (count number : ℕ) (before commands : List Command) (skipped : Bool) (command : Result Command ℕ) (on : List Command → Result (List Command) LineFault) → Named count command
     → All (NamesDevice count) before → ((next : List Command) → All (NamesDevice count) next → on next ≡ Ok commands → All (NamesDevice count) commands)
     → (if skipped then on before else onward number before command on) ≡ Ok commands → All (NamesDevice count) commands
 more_names count number before commands true command on named all rest h = rest before all h
-more_names count number before commands false None on named all rest h = cc
-more_names count number before commands false (Some command) on named all rest h =
+more_names count number before commands false (Err word) on named all rest h = cc
+more_names count number before commands false (Ok command) on named all rest h =
     rest (before ++ command ∷ []) (All-append (NamesDevice count) before (command ∷ []) all (All-from_recursion (NamesDevice count) (command ∷ []) (named, tt))) h
 
 lines_names : (tree : List Node) (lines : List (List ℕ)) (number : ℕ) (before commands : List Command) → All (NamesDevice (length tree)) before → lines_read tree lines number before ≡ Ok commands
     → All (NamesDevice (length tree)) commands
 lines_names tree [] number before commands all h = subst (All (NamesDevice (length tree))) (same_ok before commands h) all
   where
-    the_ok : List Command → Result (List Command) ℕ
+    the_ok : List Command → Result (List Command) LineFault
     the_ok x = Ok x
 
     same_ok : (x y : List Command) → the_ok x ≡ Ok y → x ≡ y

@@ -87,15 +87,16 @@ pub record AreStepsOf (topology script steps text : List ℕ) : Type 0 where
   pub spelled : AreSteps topology script steps commands first
   pub due : AreDue commands first text last
 
--- when each refusal comes: those of the run, and then the first line of the steps at fault
+-- when each refusal comes: those of the run, and then the first line of the steps at fault, with its word
 abbrev pub AreRefused : List ℕ → List ℕ → List ℕ → StepRunError → Type 0
 AreRefused topology script steps (Run error) = IsTold topology script error
-AreRefused topology script steps (StepsLine line) =
-    (plan : Plan) × (course : Course) × IsAccepted topology script plan course × (edid : Option EdidValue) × IsRoot plan.edid edid × (commands_of plan.tree steps ≡ Err line)
+AreRefused topology script steps (StepsLine line word) =
+    (plan : Plan) × (course : Course) × IsAccepted topology script plan course × (edid : Option EdidValue) × IsRoot plan.edid edid
+    × (commands_of plan.tree steps ≡ Err (record { line = line; word = word }))
 
 abbrev pub is_write : Result (Unit {0}) StepRunError → Bool
 is_write (Ok done) = false
-is_write (Err (StepsLine line)) = false
+is_write (Err (StepsLine line word)) = false
 is_write (Err (Run error)) = is_run_write (Err error)
 
 -- after a failed write the front of the text due was written, as much as is told
@@ -105,7 +106,7 @@ AreStepsCut topology script steps old new count =
 
 -- what a refusal has written
 abbrev pub IsCutBy : List ℕ → List ℕ → List ℕ → Option (List ℕ) → Option (List ℕ) → StepRunError → Type 0
-IsCutBy topology script steps old new (StepsLine line) = new ≡ old
+IsCutBy topology script steps old new (StepsLine line word) = new ≡ old
 IsCutBy topology script steps old new (Run (faults.Write count)) = AreStepsCut topology script steps old new count
 IsCutBy topology script steps old new (Run (faults.Topology line cause word)) = new ≡ old
 IsCutBy topology script steps old new (Run (faults.Script line cause word)) = new ≡ old

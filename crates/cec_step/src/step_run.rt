@@ -20,9 +20,10 @@ pub enum StepRunError {
     /// As the run is refused.
     #[error(transparent)]
     Run(#[from] EmulateError),
-    /// The first line of the steps at fault, counted from 1.
-    #[error("steps line {0}")]
-    Steps(u64),
+    /// The first line of the steps at fault, counted from 1, and the word at fault, counted from 0; where a word is missing,
+    /// the number that it would have.
+    #[error("steps line {line}")]
+    Steps { line: u64, word: u8 },
 }
 
 // Writes that the run has no such step any more.
@@ -96,7 +97,7 @@ fn take_commands<S: Sink>(
 /// # Errors
 ///
 /// What is refused of the topology, the script and the topology's EDID, as by `emulate`; then the first line of the
-/// steps at fault; want of memory: then nothing was written. A failed write: then the front of the text was written,
+/// steps at fault, and its word; want of memory: then nothing was written. A failed write: then the front of the text was written,
 /// as long as it reports.
 pub fn step_run<S: Sink>(
     alloc: Global,
@@ -124,7 +125,7 @@ pub fn step_run<S: Sink>(
     };
     let commands = match parse_commands(alloc, &topology.tree, steps) {
         Ok(commands) => commands,
-        Err(CommandsError::Line(line)) => return Err(StepRunError::Steps(line)),
+        Err(CommandsError::At { line, word }) => return Err(StepRunError::Steps { line, word }),
         Err(CommandsError::Memory) => return Err(StepRunError::Run(EmulateError::Memory)),
     };
     let Ok(mut stepper) = Stepper::new(alloc, topology, script) else {

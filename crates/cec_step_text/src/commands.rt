@@ -1,11 +1,11 @@
 //! Texts of steps.
-ghost use Rattle.std.specs.Prelude.{◌≡◌, ◌+◌, ◌≤◌, IfOk, IfErr, Ok, length};
+ghost use Rattle.std.specs.Prelude.{◌≡◌, ◌+◌, ◌<◌, ◌≤◌, IfOk, IfErr, Ok, length};
 ghost use Rattle.std.specs.Option.{option_copied};
-ghost use Rattle.hdmi_core.specs.Words.{words_behind, words_of, one_of};
-ghost use Rattle.cec_step_text.specs.Commands.{IsFault, command_alone, break_of, byte_of, command_of, commands_of, device_to, no_more, opcode_named, shown_of, until_by};
+ghost use Rattle.hdmi_core.specs.Words.{words_behind, words_of};
+ghost use Rattle.cec_step_text.specs.Commands.{IsFault, byte_of, command_alone, command_of, commands_of, device_after, opcode_by, show_by, until_by, until_of, until_opcode};
 
 use crate::break_at::Break;
-use hdmi_core::{digit_value, first_line, first_word, is_hex_digit, is_skipped, one_word};
+use hdmi_core::{digit_value, first_line, first_word, is_hex_digit, is_skipped};
 use hdmi_topo::Tree;
 use std::alloc::{AllocFailed, Global};
 
@@ -25,8 +25,9 @@ pub enum Command {
 /// Why a text of steps is refused.
 #[derive(Debug, Drop)]
 pub enum CommandsError {
-    /// The first line at fault, counted from 1.
-    Line(u64),
+    /// The first line at fault, counted from 1, and the word at fault, counted from 0; where a word is missing, the number that
+    /// it would have.
+    At { line: u64, word: u8 },
     Memory,
 }
 
@@ -54,95 +55,114 @@ fn byte_of(word: &[u8]) -> Option<u8>
     }
 }
 
-fn opcode_named(word: Option<&[u8]>) -> Option<Break>
-    ensures { result ≡ opcode_named (option_copied word.entry) }
-{
-    match byte_of(word?) {
-        None => None,
-        Some(opcode) => Some(Break::Opcode(opcode)),
-    }
-}
-
-fn device_to(tree: &Tree<15>, word: Option<&[u8]>) -> Option<Break>
-    ensures { result ≡ device_to tree.now (option_copied word.entry) }
-{
-    match tree.device_named(word?) {
-        None => None,
-        Some(device) => Some(Break::Device(device)),
-    }
-}
-
-fn no_more(rest: Option<&[u8]>) -> Option<Break>
-    ensures { result ≡ no_more (words_behind (option_copied rest.entry)) }
+// A step that so many words say, where none is left after them.
+fn command_alone(count: u8, rest: Option<&[u8]>, command: Command) -> Result<Command, u8>
+    ensures { result ≡ command_alone count (words_behind (option_copied rest.entry)) command }
 {
     match rest {
-        None => Some(Break::AnyBreak),
+        None => Ok(command),
         Some(rest) => {
             let (_word, _others) = first_word(rest);
-            None
+            Err(count)
         }
     }
 }
 
-fn break_of(tree: &Tree<15>, rest: Option<&[u8]>) -> Option<Break>
-    ensures { result ≡ break_of tree.now (words_behind (option_copied rest.entry)) }
+fn opcode_by(opcode: Option<u8>, rest: Option<&[u8]>) -> Result<Command, u8>
+    ensures { result ≡ opcode_by opcode (words_behind (option_copied rest.entry)) }
 {
-    let (what, rest) = first_word(rest?);
+    match opcode {
+        None => Err(2),
+        Some(opcode) => command_alone(3, rest, Command::Until(Break::Opcode(opcode))),
+    }
+}
+
+// The words after `until opcode`.
+fn until_opcode(rest: Option<&[u8]>) -> Result<Command, u8>
+    ensures { result ≡ until_opcode (words_behind (option_copied rest.entry)) }
+{
+    let Some(rest) = rest else {
+        return Err(2);
+    };
+    let (word, rest) = first_word(rest);
+    opcode_by(byte_of(word), rest)
+}
+
+// The device that the one word after so many names.
+fn device_after(tree: &Tree<15>, count: u8, rest: Option<&[u8]>) -> Result<usize, u8>
+    requires few { count < 255 }
+    ensures { result ≡ device_after tree.now count (words_behind (option_copied rest.entry)) }
+{
+    let Some(rest) = rest else {
+        return Err(count);
+    };
+    let (name, rest) = first_word(rest);
+    match rest {
+        None => match tree.device_named(name) {
+            None => Err(count),
+            Some(device) => Ok(device),
+        },
+        Some(rest) => {
+            let (_word, _others) = first_word(rest);
+            Err(count + 1)
+        }
+    }
+}
+
+// The words after `until device`.
+fn until_device(tree: &Tree<15>, rest: Option<&[u8]>) -> Result<Command, u8>
+    ensures { result ≡ until_by (device_after tree.now 2 (words_behind (option_copied rest.entry))) }
+{
+    match device_after(tree, 2, rest) {
+        Ok(device) => Ok(Command::Until(Break::Device(device))),
+        Err(word) => Err(word),
+    }
+}
+
+// The words after `until`.
+fn until_of(tree: &Tree<15>, rest: Option<&[u8]>) -> Result<Command, u8>
+    ensures { result ≡ until_of tree.now (words_behind (option_copied rest.entry)) }
+{
+    let Some(rest) = rest else {
+        return Err(1);
+    };
+    let (what, rest) = first_word(rest);
     if what == b"opcode".as_slice() {
-        opcode_named(one_word(rest))
+        until_opcode(rest)
     } else if what == b"device".as_slice() {
-        device_to(tree, one_word(rest))
+        until_device(tree, rest)
     } else if what == b"break".as_slice() {
-        no_more(rest)
+        command_alone(2, rest, Command::Until(Break::AnyBreak))
     } else {
-        None
+        Err(1)
     }
 }
 
-fn until(tree: &Tree<15>, rest: Option<&[u8]>) -> Option<Command>
-    ensures { result ≡ until_by (break_of tree.now (words_behind (option_copied rest.entry))) }
+// The words after `show`.
+fn shown_of(tree: &Tree<15>, rest: Option<&[u8]>) -> Result<Command, u8>
+    ensures { result ≡ show_by (device_after tree.now 1 (words_behind (option_copied rest.entry))) }
 {
-    match break_of(tree, rest) {
-        None => None,
-        Some(at) => Some(Command::Until(at)),
+    match device_after(tree, 1, rest) {
+        Ok(device) => Ok(Command::Show(device)),
+        Err(word) => Err(word),
     }
 }
 
-fn shown_of(tree: &Tree<15>, word: Option<&[u8]>) -> Option<Command>
-    ensures { result ≡ shown_of tree.now (option_copied word.entry) }
-{
-    match tree.device_named(word?) {
-        None => None,
-        Some(device) => Some(Command::Show(device)),
-    }
-}
-
-fn command_alone(rest: Option<&[u8]>, command: Command) -> Option<Command>
-    ensures { result ≡ command_alone (words_behind (option_copied rest.entry)) command }
-{
-    match rest {
-        None => Some(command),
-        Some(rest) => {
-            let (_word, _others) = first_word(rest);
-            None
-        }
-    }
-}
-
-fn command_of(tree: &Tree<15>, line: &[u8]) -> Option<Command>
+// The step of a line, or the number of its word at fault.
+fn command_of(tree: &Tree<15>, line: &[u8]) -> Result<Command, u8>
     ensures { result ≡ command_of tree.now line.now }
 {
     let (verb, rest) = first_word(line);
     if verb == b"edge".as_slice() {
-        command_alone(rest, Command::Edge)
+        command_alone(1, rest, Command::Edge)
     } else if verb == b"round".as_slice() {
-        command_alone(rest, Command::Round)
+        command_alone(1, rest, Command::Round)
     } else if verb == b"until".as_slice() {
-        until(tree, rest)
+        until_of(tree, rest)
     } else if verb == b"show".as_slice() {
-        shown_of(tree, one_word(rest))
+        shown_of(tree, rest)
     } else {
-        None
+        Err(0)
     }
 }
 
@@ -161,8 +181,8 @@ pub fn parse_commands(
     while let Some((line, after)) = first_line(rest) {
         if !is_skipped(line) {
             match command_of(tree, line) {
-                None => return Err(CommandsError::Line(number)),
-                Some(command) => commands.push(command)?,
+                Err(word) => return Err(CommandsError::At { line: number, word }),
+                Ok(command) => commands.push(command)?,
             }
         }
         rest = after;

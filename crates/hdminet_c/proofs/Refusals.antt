@@ -90,8 +90,8 @@ run_more (runs.Write count) = omega arith
 run_more runs.Memory = omega arith
 
 watch_more : (error : WatchError) → 1 < (watch_answer error).code
-watch_more (watches.Line line) = omega arith
-watch_more (watches.Order line) = omega arith
+watch_more (watches.Line line word) = omega arith
+watch_more (watches.Order line word) = omega arith
 watch_more (watches.Write count) = omega arith
 watch_more watches.Memory = omega arith
 

@@ -11,8 +11,8 @@ use Rattle.hdminet_room.specs.declared.code.Code.TheVariants.{EdgesLine, EdgesOr
 
 -- a write into memory fails where memory runs out
 abbrev pub watch_answer : WatchError → Answer
-watch_answer (Line line) = refusal EdgesLine line
-watch_answer (Order line) = refusal EdgesOrder line
+watch_answer (Line line word) = refusal EdgesLine line
+watch_answer (Order line word) = refusal EdgesOrder line
 watch_answer (Write count) = refusal Memory 0
 watch_answer NoMemory = refusal Memory 0
 
@@ -22,8 +22,8 @@ AreReadingsPut text old new answer = (f : EdgeFile) × (file_of text ≡ Ok f) �
 
 -- when each refusal comes
 abbrev pub IsWatchTold : List ℕ → WatchError → Type 0
-IsWatchTold text (Line line) = file_of text ≡ Err (fault.Line line)
-IsWatchTold text (Order line) = file_of text ≡ Err (fault.Order line)
+IsWatchTold text (Line line word) = file_of text ≡ Err (fault.Line line word)
+IsWatchTold text (Order line word) = file_of text ≡ Err (fault.Order line word)
 IsWatchTold text (Write count) = (f : EdgeFile) × (file_of text ≡ Ok f)
 IsWatchTold text NoMemory = ⊥
 

@@ -12,8 +12,8 @@ fn watch_refused(error: &WatchError) -> Answer
     ensures { result ≡ watch_answer error.now }
 {
     match error {
-        WatchError::Line(line) => refused(Code::EdgesLine, *line),
-        WatchError::Order(line) => refused(Code::EdgesOrder, *line),
+        WatchError::Line { line, .. } => refused(Code::EdgesLine, *line),
+        WatchError::Order { line, .. } => refused(Code::EdgesOrder, *line),
         WatchError::Write(_) | WatchError::Memory => refused(Code::Memory, 0),
     }
 }

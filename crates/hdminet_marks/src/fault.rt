@@ -68,6 +68,7 @@ pub enum Fault {
     /// A line that is no step.
     Steps {
         line: u64,
+        word: u8,
     },
     /// A line that is no frame's text.
     Frame {
@@ -79,10 +80,11 @@ pub enum Fault {
         line: u64,
         cause: DisCause,
     },
-    /// A line of a capture.
+    /// A line of a capture, with the word of an edge file.
     Capture {
         line: u64,
         cause: Cause,
+        word: Option<u8>,
     },
     /// The bytes of an EDID, of the input or of a topology's line `edid`.
     Edid(EdidError),

@@ -1,10 +1,9 @@
 //! Which words of a line are at fault.
-use crate::edges::{in_line, out_of_order};
-use crate::expectations::{behind_label, label_words};
+use crate::edges::in_line;
+use crate::expectations::{behind_label, in_expectation, label_words};
 use crate::fault::{Fault, Input};
-use crate::grammar::{STEPS, most_fitting};
-use crate::place::{Place, is_declared};
-use crate::words::{word_at, word_count};
+use crate::place::Place;
+use crate::words::word_at;
 use cec_asm::ScriptCause;
 use cec_expect::ExpectCause;
 use cec_formats::Cause;
@@ -44,25 +43,6 @@ pub fn is_word(line: &str, index: usize, text: &str) -> bool {
     match word_at(line, index) {
         Some(word) => word == text,
         None => false,
-    }
-}
-
-// The name of a step's line that no device has.
-fn name_in_steps(place: Place<'_>, line: &str) -> Option<Mark> {
-    let index = if is_word(line, 0, "show") { 1 } else { 2 };
-    match word_at(line, index) {
-        Some(word) if !is_declared(place, word) => one(index),
-        _ => None,
-    }
-}
-
-// The first word that no step has there, or else a name that no device has.
-fn in_steps(place: Place<'_>, line: &str) -> Option<Mark> {
-    let count = most_fitting(STEPS, line);
-    if count < word_count(line) {
-        one(count)
-    } else {
-        name_in_steps(place, line)
     }
 }
 
@@ -111,11 +91,11 @@ fn in_expectation(cause: ExpectCause, word: usize) -> Option<Mark> {
     }
 }
 
-// A line of a capture.
-fn in_capture(cause: Cause, place: Place<'_>, line: &str) -> Option<Mark> {
+// A line of a capture. In each form it begins with its time.
+fn in_capture(cause: Cause, word: Option<u8>, line: &str) -> Option<Mark> {
     match cause {
-        Cause::Line => in_line(line),
-        Cause::Order => out_of_order(place, line),
+        Cause::Line => in_line(line, usize::from(word?)),
+        Cause::Order => one(usize::from(word.unwrap_or(0))),
         Cause::Word | Cause::Scale | Cause::Signal | Cause::Time | Cause::Late | Cause::End => None,
     }
 }
@@ -136,13 +116,12 @@ pub fn marked(what: Input, fault: Fault, place: Place<'_>, line: &str) -> Option
             label_words(what, line),
             in_script(cause, usize::from(word)),
         ),
-        Fault::Expectation { cause, word, .. } => in_expectation(cause, word),
-        Fault::Range { word, .. } => one(word),
-        Fault::Steps { .. } => in_steps(place, line),
+        Fault::Expectation { cause, .. } => in_expectation(what, cause, place, line),
+        Fault::Range { .. } => in_range(line),
+        Fault::Steps { word, .. } => one(usize::from(word)),
         Fault::Frame { cause, .. } => in_frame(cause),
-        Fault::Capture { cause, .. } => in_capture(cause, place, line),
-        Fault::Edid(_) | Fault::NoHdmiBlock => from(1),
-        Fault::TextField { word, .. } => in_text(line, word),
+        Fault::Capture { cause, word, .. } => in_capture(cause, word, line),
+        Fault::Edid(_) | Fault::NoHdmiBlock | Fault::TextField { .. } => from(1),
         Fault::TextSyntax { .. } => one(0),
         Fault::Hex { .. }
         | Fault::NoPort

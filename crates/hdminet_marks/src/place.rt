@@ -134,7 +134,7 @@ pub fn place_of(input: &[u8], what: Input, fault: Fault) -> Option<Place<'_>> {
             line_of(input, before_script(input), line)
         }
         Fault::Expectation { line, .. } => line_of(input, before_expectations(what, input), line),
-        Fault::Steps { line } => line_of(input, before_steps(input), line),
+        Fault::Steps { line, .. } => line_of(input, before_steps(input), line),
         Fault::Capture { line, .. } => line_of(input, before_capture(what, input), line),
         Fault::Frame { line, .. }
         | Fault::Hex { line, .. }
@@ -180,9 +180,4 @@ pub fn kind_of<'a>(place: Place<'a>, name: &str) -> Option<&'a str> {
         }
     }
     None
-}
-
-/// Whether a line before this one declares a device of this name.
-pub fn is_declared(place: Place<'_>, name: &str) -> bool {
-    kind_of(place, name).is_some()
 }

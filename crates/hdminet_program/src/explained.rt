@@ -142,6 +142,7 @@ fn of_capture(error: &CaptureError) -> Explained {
         CaptureError::Fault(fault) => Explained::Capture {
             line: fault.line,
             cause: fault.cause,
+            word: fault.word,
         },
         CaptureError::Memory => Explained::Memory,
     }
@@ -190,7 +191,10 @@ pub fn explained(fault: &ProgramFault) -> Option<Explained> {
         ProgramFault::Range(fault) => of_range(*fault),
         ProgramFault::AtInstant { error, .. } => of_test(error),
         ProgramFault::Session(error) => of_session(error),
-        ProgramFault::Steps(line) => Explained::Steps { line: *line },
+        ProgramFault::Steps { line, word } => Explained::Steps {
+            line: *line,
+            word: *word,
+        },
         ProgramFault::Frames(error) => of_frames(error),
         ProgramFault::Dis(error) => of_hex(error),
         ProgramFault::Capture(error) => of_capture(error),

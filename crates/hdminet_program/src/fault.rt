@@ -58,8 +58,8 @@ pub enum ProgramFault {
     SweepFailed,
     #[error(transparent)]
     Session(#[from] SessionError),
-    #[error("steps line {0}")]
-    Steps(u64),
+    #[error("steps line {line}")]
+    Steps { line: u64, word: u8 },
     #[error(transparent)]
     Frames(#[from] FrameLinesError),
     #[error(transparent)]
@@ -87,7 +87,7 @@ impl From<StepRunError> for ProgramFault {
     fn from(error: StepRunError) -> ProgramFault {
         match error {
             StepRunError::Run(error) => ProgramFault::Emulate(error),
-            StepRunError::Steps(line) => ProgramFault::Steps(line),
+            StepRunError::Steps { line, word } => ProgramFault::Steps { line, word },
         }
     }
 }
@@ -168,7 +168,7 @@ impl ProgramFault {
             | ProgramFault::AtInstant { .. }
             | ProgramFault::TestsFailed(_)
             | ProgramFault::SweepFailed
-            | ProgramFault::Steps(_)
+            | ProgramFault::Steps { .. }
             | ProgramFault::Session(_)
             | ProgramFault::Emulate(_)
             | ProgramFault::Frames(FrameLinesError::Line(_))

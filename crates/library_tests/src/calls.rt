@@ -183,7 +183,7 @@ fn is_word<T: Drop>(answer: Result<T, EmulateError>) -> bool {
 }
 
 fn is_no_step(answer: Result<(), StepRunError>) -> bool {
-    matches!(answer, Err(StepRunError::Steps(1)))
+    matches!(answer, Err(StepRunError::Steps { line: 1, word: 0 }))
 }
 
 fn is_no_frame(answer: Result<(), FrameLinesError>) -> bool {
@@ -197,7 +197,7 @@ fn is_no_frame(answer: Result<(), FrameLinesError>) -> bool {
 }
 
 fn is_no_edge(answer: Result<(), WatchError>) -> bool {
-    matches!(answer, Err(WatchError::Line(1)))
+    matches!(answer, Err(WatchError::Line { line: 1, word: 0 }))
 }
 
 fn is_short(answer: Result<(), EdidToTextError>) -> bool {

@@ -256,6 +256,18 @@ device lounge tv 4
 script
 end 5
 steps
+until device lounge2 now
+=> steps line 1
+  line 5 of the input: until device lounge2 now
+                                            ^^^
+  a line here reads `until device NAME`
+  XX is an opcode, two hex digits in lower case; NAME has a `device` line in the topology; words stand one space apart
+--
+step --explain
+device lounge tv 4
+script
+end 5
+steps
 round 2
 => steps line 1
   line 5 of the input: round 2
@@ -539,6 +551,29 @@ mon --explain
 => line 2: line
   line 2: 2000000000001 1
           ^^^^^^^^^^^^^
+  a line is `T 0` for a fall or `T 1` for a rise, and the last one `T end`, T decimal microseconds, 0 to 2000000000000
+--
+mon --explain
+10 0
+20
+=> line 2: line
+  line 2: 20
+          ^^
+  a line is `T 0` for a fall or `T 1` for a rise, and the last one `T end`, T decimal microseconds, 0 to 2000000000000
+--
+mon --explain
+10 0 1
+=> line 1: line
+  line 1: 10 0 1
+               ^
+  a line is `T 0` for a fall or `T 1` for a rise, and the last one `T end`, T decimal microseconds, 0 to 2000000000000
+--
+mon --explain
+9 end
+10 0
+=> line 2: line
+  line 2: 10 0
+          ^^^^
   a line is `T 0` for a fall or `T 1` for a rise, and the last one `T end`, T decimal microseconds, 0 to 2000000000000
 ";
 
