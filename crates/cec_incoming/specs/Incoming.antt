@@ -1,15 +1,17 @@
 -- What is still to come of an input, and the lines of it (own).
-use Rattle.std.specs.Prelude.{◌≡◌, ◌≢◌, ℕ, ◌<◌, Bool, true, false, List, [], ◌∷◌, ◌++◌, drop, length, Option, Some, None, Result, Ok, Err, All}
+use Rattle.std.specs.Prelude.{◌≡◌, ◌≢◌, ℕ, ◌+◌, ◌<◌, ◌≤◌, Bool, true, false, List, [], ◌∷◌, ◌++◌, drop, take, length, Option, Some, None, Result, Ok, Err, All}
 use Rattle.std.specs.List.{flat_map}
 use Rattle.std.specs.Io.KnownBytes.{Consumes, IsAtEnd, prepend_known}
 use Rattle.hdmi_core.specs.Lines.{lines_of}
 use Rattle.cec_incoming.specs.declared.incoming.Lines.{Lines}
 use Rattle.cec_incoming.specs.declared.incoming.LineFault.{LineFault}
 use Rattle.cec_incoming.specs.declared.incoming.LineFault.TheVariants.{Read, TooLong}
+use Rattle.cec_incoming.specs.declared.incoming.Piece.{Piece}
+use Rattle.cec_incoming.specs.declared.incoming.Piece.TheVariants.{Nothing, Part, End, Over}
 
 -- what was read and is not handed out
 abbrev pub bytes_left : Lines → List ℕ
-bytes_left lines = drop lines.handed lines.pending.items
+bytes_left lines = drop lines.handed (take lines.given lines.pending)
 
 -- and then what the reader has, where that is known
 abbrev pub to_come : Lines → Option (List ℕ) → Option (List ℕ)
@@ -36,15 +38,16 @@ IsNext old new line (Ok false) = IsAtEnd old
 IsNext old new line (Err TooLong) = (front : List ℕ) × IsWhole front × (4096 < length front) × Consumes old new front
 IsNext old new line (Err Read) = Unit {0}
 
--- ---- bytes
+-- ---- pieces
 
 -- more was read, or none is left
 abbrev pub IsFilled : Option (List ℕ) → Option (List ℕ) → List ℕ → Result Unit LineFault → Type 0
 IsFilled old new pending (Ok done) = Consumes old new [] × (pending ≡ [] → IsAtEnd new)
 IsFilled old new pending (Err fault) = Unit {0}
 
--- a byte was handed out, or none is left
-abbrev pub IsByte : Option (List ℕ) → Option (List ℕ) → Result (Option ℕ) LineFault → Type 0
-IsByte old new (Ok None) = Consumes old new [] × IsAtEnd new
-IsByte old new (Ok (Some byte)) = Consumes old new (byte ∷ [])
-IsByte old new (Err fault) = Unit {0}
+-- what was left, what is left then, and the line before and after a piece of it was handed out
+abbrev pub IsPiece : List ℕ → List ℕ → List ℕ → List ℕ → Piece → Type 0
+IsPiece old new line after Nothing = (old ≡ []) × (new ≡ []) × (after ≡ line)
+IsPiece old new line after Part = (piece : List ℕ) × IsWhole piece × (0 < length piece) × (length line + length piece ≤ 4096) × (old ≡ piece ++ new) × (after ≡ line ++ piece)
+IsPiece old new line after End = (piece : List ℕ) × IsWhole piece × (old ≡ piece ++ 10 ∷ new) × (after ≡ line ++ piece)
+IsPiece old new line after Over = (piece : List ℕ) × IsWhole piece × (4096 < length line + length piece) × (old ≡ piece ++ new)

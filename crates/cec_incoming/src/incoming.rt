@@ -1,8 +1,9 @@
 //! Lines as they come.
-ghost use Rattle.std.specs.Prelude.{◌≡◌, [], ◌∷◌, OnOk};
-ghost use Rattle.cec_incoming.specs.Incoming.{IsByte, IsFilled, IsNext, IsWhole, bytes_left, to_come};
+ghost use Rattle.std.specs.Prelude.{◌≡◌, ◌+◌, ◌≤◌, [], ◌++◌, drop, length, OnOk};
+ghost use Rattle.cec_incoming.specs.Incoming.{IsFilled, IsNext, IsPiece, IsWhole, bytes_left, to_come};
 
 use arrayvec::ArrayVec;
+use hdmi_core::{before, behind, len_before};
 use std::io::Read;
 use thiserror::Error;
 
@@ -16,14 +17,36 @@ pub enum LineFault {
     TooLong,
 }
 
+/// What was handed out of the bytes that are left.
+enum Piece {
+    /// Nothing, since none are left.
+    Nothing,
+    /// All of them, and no end among them.
+    Part,
+    /// The line's last bytes and its end.
+    End,
+    /// More than the line has room for.
+    Over,
+}
+
 /// Parts what a reader gives into lines. It reads no further than it has to: a line is handed out as soon as its end was
 /// read.
 #[derive(Drop)]
 pub struct Lines {
-    /// What the last read gave.
-    pending: ArrayVec<u8, 4096>,
+    /// What the last read gave stands first.
+    pending: [u8; 4096],
+    /// How many bytes it gave.
+    given: usize,
     /// How many of these bytes were handed out.
     handed: usize,
+}
+
+// Adds bytes to a line that has room for them.
+fn add(line: &mut ArrayVec<u8, 4096>, bytes: &[u8])
+    requires { length line.old.items + length bytes.now ≤ 4096 }
+    ensures { line.new.items ≡ line.old.items ++ bytes.now }
+{
+    let _ = line.try_extend_from_slice(bytes);
 }
 
 impl Lines {
@@ -32,21 +55,27 @@ impl Lines {
         ensures { bytes_left result ≡ [] }
     {
         Lines {
-            pending: ArrayVec::new(),
+            pending: [0; 4096],
+            given: 0,
             handed: 0,
         }
+    }
+
+    // What was read and is not handed out.
+    fn left(&self) -> &[u8]
+        ensures { result.now ≡ bytes_left self.now }
+    {
+        behind(before(self.pending.as_slice(), self.given), self.handed)
     }
 
     // Reads some more.
     fn fill<R: Read>(&mut self, input: &mut R) -> Result<(), LineFault>
         ensures { IsFilled (R.remaining input.old) (to_come self.new (R.remaining input.new)) (bytes_left self.new) result }
     {
-        let mut buffer = [0u8; 4096];
-        match input.read(&mut buffer) {
+        match input.read(&mut self.pending) {
             Ok(count) => {
-                self.pending.clear();
+                self.given = count;
                 self.handed = 0;
-                let _ = self.pending.try_extend_from_slice(&buffer[..count]);
                 Ok(())
             }
             Err(_) => Err(LineFault::Read),
@@ -57,25 +86,42 @@ impl Lines {
     fn ready<R: Read>(&mut self, input: &mut R) -> Result<(), LineFault>
         ensures { IsFilled (to_come self.old (R.remaining input.old)) (to_come self.new (R.remaining input.new)) (bytes_left self.new) result }
     {
-        if self.handed < self.pending.len() {
+        if !self.left().is_empty() {
             return Ok(());
         }
         self.fill(input)
     }
 
-    // The next byte; None where the input has ended.
-    fn byte<R: Read>(&mut self, input: &mut R) -> Result<Option<u8>, LineFault>
-        ensures { IsByte (to_come self.old (R.remaining input.old)) (to_come self.new (R.remaining input.new)) result }
+    // Hands out so many bytes.
+    fn hand_out(&mut self, count: usize)
+        requires { count ≤ length (bytes_left self.old) }
+        ensures { bytes_left self.new ≡ drop count (bytes_left self.old) }
     {
-        self.ready(input)?;
-        match self.pending.get(self.handed) {
-            None => Ok(None),
-            Some(byte) => {
-                let byte = *byte;
-                self.handed += 1;
-                Ok(Some(byte))
-            }
+        self.handed += count;
+    }
+
+    // Hands out what is left of the line, as far as it was read.
+    fn piece(&mut self, line: &mut ArrayVec<u8, 4096>) -> Piece
+        ensures { IsPiece (bytes_left self.old) (bytes_left self.new) line.old.items line.new.items result }
+    {
+        let left = self.left();
+        let all = left.len();
+        if all == 0 {
+            return Piece::Nothing;
         }
+        let count = len_before(left, b'\n');
+        let room = line.remaining_capacity();
+        if count > room {
+            self.hand_out(room + 1);
+            return Piece::Over;
+        }
+        add(line, before(left, count));
+        if count == all {
+            self.hand_out(count);
+            return Piece::Part;
+        }
+        self.hand_out(count + 1);
+        Piece::End
     }
 
     /// Reads the next line, without its end. Returns whether there was one.
@@ -92,18 +138,15 @@ impl Lines {
         ensures next { IsNext (to_come self.old (R.remaining input.old)) (to_come self.new (R.remaining input.new)) line.new.items result }
     {
         line.clear();
-        'bytes: loop {
-            let Ok(next) = self.byte(input) else {
+        'pieces: loop {
+            let Ok(_) = self.ready(input) else {
                 return Err(LineFault::Read);
             };
-            let Some(byte) = next else {
-                return Ok(!line.is_empty());
-            };
-            if byte == b'\n' {
-                return Ok(true);
-            }
-            if line.try_push(byte).is_err() {
-                return Err(LineFault::TooLong);
+            match self.piece(line) {
+                Piece::Nothing => return Ok(!line.is_empty()),
+                Piece::Part => {}
+                Piece::End => return Ok(true),
+                Piece::Over => return Err(LineFault::TooLong),
             }
         }
     }

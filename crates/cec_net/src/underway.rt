@@ -7,7 +7,7 @@ ghost use Rattle.cec_wire.specs.Round.{IsRound, IsRoundLine};
 ghost use Rattle.cec_edges.specs.Wired.{IsBegun, is_silent_in, SameRound};
 ghost use Rattle.cec_net.specs.Underway.{Takes};
 
-use crate::net::Net;
+use crate::net::{Net, give_up};
 use crate::step::{RoundReport, seats_of};
 use crate::wiring::DEVICES;
 use arrayvec::ArrayVec;
@@ -79,6 +79,16 @@ fn copied_wire(wire: &Option<EdgeWire>) -> Option<EdgeWire>
     }
 }
 
+// Copies the wire of a round that was begun to where another stood. Where there is none, the room for one is not touched.
+fn copy_wire(copy: &mut Option<EdgeWire>, wire: &Option<EdgeWire>)
+    ensures { copy.new ≡ wire.now }
+{
+    match wire {
+        None => give_up(copy),
+        Some(wire) => *copy = Some(wire.copy()),
+    }
+}
+
 impl Net<EdgeWire> {
     ghost use Rattle.std.specs.Prelude.{MatchBool, Some, None, IsSome};
     ghost use Rattle.cec_bits.specs.Follows.{standing_by_code};
@@ -113,7 +123,7 @@ impl Net<EdgeWire> {
         copy_devices(&mut self.devices, &other.devices);
         self.close = other.close;
         self.rest = other.rest;
-        self.begun = copied_wire(&other.begun);
+        copy_wire(&mut self.begun, &other.begun);
     }
 
     /// Begins the next round, to take it edge by edge. A round that was begun is given up. False, and nothing changes,

@@ -5,7 +5,7 @@ use Rattle.cec_wave.specs.Bounds.{latest_instant}
 use Rattle.cec_wire.specs.declared.Outcome.{Outcome}
 use Rattle.cec_net.specs.Progress.{IsProgress}
 use Rattle.cec_net.specs.State.{NetState, next_start}
-use Rattle.cec_net.specs.Step.{IsNextRound}
+use Rattle.cec_net.specs.Step.{IsNextRound, after_round}
 use Rattle.hdmi_blocks.specs.declared.edid.Edid.{Edid}
 use Rattle.hdmi_core.specs.declared.sink.WriteFault.{WriteFault}
 use Rattle.cec_run.specs.declared.run.Telling.TheVariants.{Trace}
@@ -38,10 +38,10 @@ abbrev pub IsLate : Bool → ℕ → ℕ → NetState → Type 0
 IsLate true until begin net = ⊥
 IsLate false until begin net = (outcome : Outcome) × (after : NetState) × IsWave outcome.wave × IsNextRound net begin outcome after × (until ≤ after.close)
 
--- what the next round gives, where it was run, and the network after it
-abbrev pub IsForeseen : NetState → Option Outcome → NetState → Type 0
-IsForeseen net None after = Unit {0}
-IsForeseen net (Some o) after = IsWave o.wave × ((begin : ℕ) → next_start net ≡ Some begin → IsNextRound net begin o after × IsProgress net begin after)
+-- what the next round gives, where it was run
+abbrev pub IsForeseen : NetState → Option Outcome → Type 0
+IsForeseen net None = Unit {0}
+IsForeseen net (Some o) = IsWave o.wave × ((begin : ℕ) → next_start net ≡ Some begin → IsNextRound net begin o (after_round net begin o) × IsProgress net begin (after_round net begin o))
 
 -- or it is told
 abbrev pub IsSoon : Bool → ℕ → NetState → Type 0

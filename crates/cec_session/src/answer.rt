@@ -10,7 +10,7 @@ use cec_asm::{AssembleError, ScriptCause};
 use cec_device::Device;
 use cec_step_text::{behind, whole};
 use cec_trace::write_state;
-use hdmi_core::{Piece, Sink, WriteFault, write_line};
+use hdmi_core::{Piece, Sink, WriteFault, write_line, write_pieces};
 
 /// Why a line is refused: the first that applies.
 #[derive(Clone, Copy, Debug, Drop, PartialEq, Eq)]
@@ -59,11 +59,11 @@ fn refusal_cause(refusal: Refusal) -> &'static str
     }
 }
 
-/// Writes that a line was taken, and the horizon.
+/// Writes that a line was taken, and the horizon. This answers most lines, and is put part by part: room for a line is large.
 pub(crate) fn write_taken<S: Sink>(out: &mut S, horizon: u64) -> Result<u128, WriteFault>
     ensures { WrittenText (S.contents out.old) (S.contents out.new) (S.is_stuck out.old) (S.is_stuck out.new) (taken_line horizon) result }
 {
-    whole(write_line(
+    whole(write_pieces(
         out,
         &[
             Piece::Text("= "),

@@ -9,7 +9,8 @@ ghost use Rattle.cec_net.specs.Added.{pulse_fault, with_pulse};
 ghost use Rattle.cec_net.specs.Apply.{event_fault, net_after};
 ghost use Rattle.cec_net.specs.Progress.{IsProgress};
 ghost use Rattle.cec_net.specs.State.{NetState, first_net, next_start};
-ghost use Rattle.cec_net.specs.Step.{IsNextRound};
+ghost use Rattle.cec_net.specs.Step.{IsNextRound, after_round};
+ghost use Rattle.cec_wire.specs.Round.{close_in};
 ghost use Rattle.hdmi_core.specs.Cut.{WrittenText};
 ghost use Rattle.hdmi_blocks.specs.Root.{HasAddress};
 ghost use Rattle.cec_run.specs.Run.{counted_event, event_text, turn_of};
@@ -27,7 +28,6 @@ use hdmi_core::{Sink, WriteFault};
 use hdmi_topo::Tree;
 use std::alloc::{AllocError, Global};
 use std::marker::Model;
-use std::mem;
 
 /// A network, and what its next round gives, once that was looked for. So a round that is not told yet is run once, and not
 /// again with each line that comes. As a value it is the network.
@@ -36,8 +36,6 @@ pub(crate) struct Foreseen {
     net: Box<Net<EdgeWire>>,
     /// What the next round gives, where it was run.
     next: Option<Outcome>,
-    /// And then the network after it.
-    after: Box<Net<EdgeWire>>,
 }
 
 impl Model for Foreseen {
@@ -48,42 +46,40 @@ impl Model for Foreseen {
 
     ghost view = { λ f. f.net.value };
 
-    ghost invariant = { λ f. IsForeseen f.net.value f.next f.after.value };
+    ghost invariant = { λ f. IsForeseen f.net.value f.next };
 }
 
-// Runs the next round, which begins at `begin`, on the second network. An outcome is large: room for it is made here, and not
-// where the round was run already.
+// Runs the next round, which begins at `begin`. Returns its close. An outcome is large: room for it is made here, and not where
+// the round was run already.
 #[inline(never)]
-fn run_ahead(net: &Net<EdgeWire>, begin: u64, next: &mut Option<Outcome>, after: &mut Net<EdgeWire>)
-    requires early { net.now.close ≤ latest_instant }
-    requires begins { next_start net.now ≡ Some begin }
-    ensures known { IsForeseen net.now next.new after.new }
+fn run_ahead(net: &mut Net<EdgeWire>, begin: u64, next: &mut Option<Outcome>) -> u64
+    requires early { net.old.close ≤ 2000000000000 }
+    requires begins { next_start net.old ≡ Some begin }
+    ensures same { net.new ≡ net.old }
+    ensures known { IsForeseen net.old next.new }
     ensures some { IsSome next.new }
+    ensures close { IfSome next.new (λ o. result ≡ close_in o) }
 {
-    after.copy_from(net);
-    let outcome = after.round_at(begin);
-    let _stretches = outcome.wave.as_slice();
+    let outcome = net.outcome_at(begin);
+    let close = outcome.close();
     *next = Some(outcome);
+    close
 }
 
-// Runs the next round, which begins at `begin`, on the second network, where it was not run yet. Returns its close.
-fn foresee(
-    net: &Net<EdgeWire>,
-    begin: u64,
-    next: &mut Option<Outcome>,
-    after: &mut Net<EdgeWire>,
-) -> u64
-    requires early { net.now.close ≤ latest_instant }
-    requires begins { next_start net.now ≡ Some begin }
-    requires known { IsForeseen net.now next.old after.old }
-    ensures known { IsForeseen net.now next.new after.new }
+// Runs the next round, which begins at `begin`, where it was not run yet. Returns its close.
+fn foresee(net: &mut Net<EdgeWire>, begin: u64, next: &mut Option<Outcome>) -> u64
+    requires early { net.old.close ≤ 2000000000000 }
+    requires begins { next_start net.old ≡ Some begin }
+    requires known { IsForeseen net.old next.old }
+    ensures same { net.new ≡ net.old }
+    ensures known { IsForeseen net.old next.new }
     ensures some { IsSome next.new }
-    ensures close { result ≡ after.new.close }
+    ensures close { IfSome next.new (λ o. result ≡ close_in o) }
 {
-    if next.is_none() {
-        run_ahead(net, begin, next, after);
+    if let Some(outcome) = &*next {
+        return outcome.close();
     }
-    after.close()
+    run_ahead(net, begin, next)
 }
 
 impl Foreseen {
@@ -96,13 +92,8 @@ impl Foreseen {
         requires some { 0 < length tree }
         ensures { IfOk result (λ net. net ≡ first_net tree []) }
     {
-        let after = Net::on_heap(alloc, tree.copy(), &[])?;
         let net = Net::on_heap(alloc, tree, &[])?;
-        Ok(Foreseen {
-            net,
-            next: None,
-            after,
-        })
+        Ok(Foreseen { net, next: None })
     }
 
     /// The tree of the devices.
@@ -184,7 +175,7 @@ impl Foreseen {
         ensures same { self.new ≡ self.old }
         ensures close { (outcome : OutcomeValue) × (after : NetState) × IsWave outcome.wave × IsNextRound self.old begin outcome after × IsProgress self.old begin after × (result ≡ after.close) }
     {
-        foresee(&self.net, begin, &mut self.next, &mut self.after)
+        foresee(&mut self.net, begin, &mut self.next)
     }
 
     /// Whether the next round, which begins at `begin`, closes at `until` or later, and the script has not ended.
@@ -211,14 +202,14 @@ impl Foreseen {
         ensures progress { IfSome result (λ _. IsProgress self.old begin self.new) }
         ensures wave { IfSome result (λ outcome. IsWave outcome.wave) }
     {
-        let close = foresee(&self.net, begin, &mut self.next, &mut self.after);
+        let close = foresee(&mut self.net, begin, &mut self.next);
         if !ended && close >= until {
             return None;
         }
         let Some(outcome) = self.next.take() else {
             unreachable!();
         };
-        mem::swap(&mut self.net, &mut self.after);
+        self.net.end(begin, &outcome);
         Some(outcome)
     }
 }
