@@ -36,7 +36,7 @@ use Rattle.capture_laws.proofs.Texts.{IsWithout, more_without, one_without, time
 -- ---- the text
 
 -- one line of the file, and what is after it
-read_timed : (t : ℕ) (mark rest : List ℕ) (number : ℕ) (is_low : Bool) (from : ℕ) (line : Result EdgeLine ℕ) → t ≤ 2000000000000
+read_timed : (t : ℕ) (mark rest : List ℕ) (number : ℕ) (is_low : Bool) (from : ℕ) (line : Result EdgeLine ℕ) → t ≤ latest_instant
     → IsWithout 10 mark → edge_line_of (timed t mark) ≡ line
     → edges_read (lines_of (timed t mark ++ 10 ∷ rest)) number is_low from
     ≡ read_line number is_low from line (λ e. edges_read (lines_of rest) (number + 1) e.low (e.at + 1)) (λ t. end_read (lines_of rest) (number + 1) t)

@@ -40,7 +40,7 @@ pub timed_words : (t : ℕ) (mark : List ℕ) → t < 2 ^ 64 → IsWithout 32 ma
 timed_words t mark small plain =
     slice_split_at (λ b. b == 32) (decimal t) 32 mark (without 32 t (omega arith) small) refl ∙ ap (λ ws. decimal t ∷ ws) (slice_split_none (λ b. b == 32) mark plain)
 
-pub timed_line : (t : ℕ) (mark : List ℕ) → t ≤ 2000000000000 → IsWithout 32 mark → edge_line_of (timed t mark) ≡ line_alone (edge_line_at t mark) []
+pub timed_line : (t : ℕ) (mark : List ℕ) → t ≤ latest_instant → IsWithout 32 mark → edge_line_of (timed t mark) ≡ line_alone (edge_line_at t mark) []
 timed_line t mark low plain =
     let within : nat_le t latest_instant ≡ true = grind (arith, nat_tests) in
     rw (timed_words t mark (omega arith) plain) (rw (number_again t (omega arith)) (rw within refl))

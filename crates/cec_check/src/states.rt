@@ -1,5 +1,6 @@
 //! The state lines that the lines of a script speak of.
 ghost use Rattle.std.specs.Prelude.{◌≤◌, map, option_map, IfOk};
+ghost use Rattle.cec_wave.specs.Bounds.{latest_event};
 ghost use Rattle.hdmi_core.specs.Lines.{lines_of};
 ghost use Rattle.cec_judge.specs.Judged.{states_for};
 ghost use Rattle.cec_check.specs.States.{AreStates, IsStateAt, IsStateRead, IsTraced};

@@ -1,6 +1,5 @@
 -- A round is early and short, and few pulses begin in it.
 use Rattle.std.proofs.Common.{◌≡◌, ℕ, ◌≤◌, List, length, arith, sym, ap, subst}
-use Rattle.cec_wave.specs.Bounds.{latest_heard, latest_instant}
 use Rattle.cec_wave.specs.declared.Stretch.{Stretch}
 use Rattle.cec_wave.specs.Line.{IsWave}
 use Rattle.cec_wave.specs.Pulses.{AreSparse}

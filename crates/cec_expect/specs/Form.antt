@@ -2,6 +2,7 @@
 -- WORD`, where HOW is nothing, `none` or `once`, and WINDOW is `within D of NAME` or `from T to U`. Times are in microseconds.
 use Rattle.std.specs.Prelude.{◌≡◌, ℕ, ◌+◌, ◌≤◌, ◌==◌, nat_lt, nat_le, ◌&&◌, not, Bool, if◌then◌else◌, codes, length, filter, List, [], ◌∷◌, Option, Some, None, Result, Ok, Err}
 use Rattle.std.specs.Str.{bytes_eq}
+use Rattle.cec_wave.specs.Bounds.{latest_event}
 use Rattle.hdmi_core.specs.Number.{number_of}
 use Rattle.hdmi_core.specs.Words.{words_of, text_of}
 use Rattle.cec_expect.specs.Fault.{at_word}
@@ -121,7 +122,7 @@ empty_from number (word ∷ words) = if nat_lt 0 (length word) then empty_from (
 
 abbrev pub state_at_time : Option ℕ → List ℕ → List (List ℕ) → Result Form LineFault
 state_at_time None device words = Err (at_word 2 Number)
-state_at_time (Some time) device words = if nat_lt 1000000000000 time then Err (at_word 2 Number) else Ok (State time device words)
+state_at_time (Some time) device words = if nat_lt latest_event time then Err (at_word 2 Number) else Ok (State time device words)
 
 abbrev pub state_by : Option ℕ → Option ℕ → List ℕ → List (List ℕ) → Result Form LineFault
 state_by (Some empty) time device words = Err (at_word empty Word)

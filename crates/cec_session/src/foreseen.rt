@@ -53,7 +53,7 @@ impl Model for Foreseen {
 // the round was run already.
 #[inline(never)]
 fn run_ahead(net: &mut Net<EdgeWire>, begin: u64, next: &mut Option<Outcome>) -> u64
-    requires early { net.old.close ≤ 2000000000000 }
+    requires early { net.old.close ≤ latest_instant }
     requires begins { next_start net.old ≡ Some begin }
     ensures same { net.new ≡ net.old }
     ensures known { IsForeseen net.old next.new }
@@ -68,7 +68,7 @@ fn run_ahead(net: &mut Net<EdgeWire>, begin: u64, next: &mut Option<Outcome>) ->
 
 // Runs the next round, which begins at `begin`, where it was not run yet. Returns its close.
 fn foresee(net: &mut Net<EdgeWire>, begin: u64, next: &mut Option<Outcome>) -> u64
-    requires early { net.old.close ≤ 2000000000000 }
+    requires early { net.old.close ≤ latest_instant }
     requires begins { next_start net.old ≡ Some begin }
     requires known { IsForeseen net.old next.old }
     ensures same { net.new ≡ net.old }

@@ -6,7 +6,7 @@ use cec_wave::LATEST_INSTANT;
 // Whether a line begins with a time.
 fn has_time(line: &str) -> bool {
     match word_at(line, 0) {
-        Some(time) => is_number(time, LAST_TIME),
+        Some(time) => is_number(time, LATEST_INSTANT),
         None => false,
     }
 }

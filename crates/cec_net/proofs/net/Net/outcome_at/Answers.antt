@@ -9,6 +9,7 @@ use Rattle.cec_net.specs.Progress.{IsProgress}
 use Rattle.cec_wave.specs.declared.Stretch.{Stretch}
 use Rattle.cec_wave.specs.Line.{IsWave}
 use Rattle.cec_wave.specs.Pulses.{AreSparse}
+use Rattle.cec_wave.specs.Bounds.{latest_instant}
 use Rattle.cec_wire.specs.Round.{IsRound}
 use Rattle.cec_net.proofs.Soundness.{next-soon}
 use Rattle.cec_net.proofs.InRound.{sound_so}
@@ -19,7 +20,7 @@ use Rattle.cec_net.proofs.net.Net.outcome_at.Goals as goal
 pub round-outcome-requires-clause-early : goal.round-outcome-requires-clause-early
 round-outcome-requires-clause-early g c =
     let s : NetState = (record { tree = c.self.inside.tree; devices = c.self.inside.devices.items; pulses = c.self.inside.pulses; close = c.self.inside.close; rest = c.self.inside.rest; heard = None }) in
-    let Early : NetState → Type 0 = λ t. t.close ≤ 2000000000000 in
+    let Early : NetState → Type 0 = λ t. t.close ≤ latest_instant in
     let Begins : NetState → Type 0 = λ t. next_start t ≡ Some c.args.begin in
     let soon = next-soon s c.args.begin c.self.invariant.0 (subst Early (sym c.self.view_is) c.requires.early) (subst Begins (sym c.self.view_is) c.requires.begins) in
     omega arith
