@@ -1,13 +1,13 @@
 //! Counts of words.
 ghost use Rattle.std.specs.Prelude.{◌≡◌, length, min};
 ghost use Rattle.std.specs.Option.{option_copied};
-ghost use Rattle.hdmi_core.specs.Words.{words_behind};
+ghost use Rattle.hdmi_core.specs.Words.{words_after};
 
 use hdmi_core::first_word;
 
 /// How many words are left, or so many where there are more.
 pub fn word_count(rest: Option<&[u8]>, most: u8) -> u8
-    ensures { result ≡ min (length (words_behind (option_copied rest.entry))) most }
+    ensures { result ≡ min (length (words_after (option_copied rest.entry))) most }
 {
     let mut left = rest;
     let mut count = 0;

@@ -1,7 +1,7 @@
 //! Which word of a script's line is at fault.
 ghost use Rattle.std.specs.Prelude.{◌≡◌, ◌+◌, ◌≤◌, length};
 ghost use Rattle.std.specs.Option.{option_copied};
-ghost use Rattle.hdmi_core.specs.Words.{words_behind};
+ghost use Rattle.hdmi_core.specs.Words.{words_after};
 ghost use Rattle.cec_asm.specs.Fault.{at_word, frame_word, misfit};
 
 use crate::counting::word_count;
@@ -26,7 +26,7 @@ pub fn at_word(word: u8, cause: ScriptCause) -> LineFault
 /// Of words after so many, of which others than so many are left.
 pub fn misfit(before: u8, rest: Option<&[u8]>, wanted: u8) -> LineFault
     requires few { before + wanted ≤ 255 }
-    ensures { result ≡ misfit before (length (words_behind (option_copied rest.entry))) wanted }
+    ensures { result ≡ misfit before (length (words_after (option_copied rest.entry))) wanted }
 {
     at_word(before + word_count(rest, wanted), ScriptCause::Word)
 }

@@ -5,7 +5,7 @@ ghost use Rattle.std.specs.Char.{is_ascii_lowercase};
 ghost use Rattle.std.specs.Option.{option_copied};
 ghost use Rattle.cec_feature.specs.KeyWords.{key_named};
 ghost use Rattle.hdmi_core.specs.Number.{number_of};
-ghost use Rattle.hdmi_core.specs.Words.{words_behind};
+ghost use Rattle.hdmi_core.specs.Words.{words_after};
 ghost use Rattle.cec_asm.specs.Keys.{key_alone, switch_of, language_of, destination_of, code_of, control_of, key_or_cause, port_key, values_of, unfit_by, unfit, key_with, remote_by, remote_key, of_one, of_two, of_three, key_of};
 
 use crate::fault::{LineFault, at_word, misfit};
@@ -114,7 +114,7 @@ fn values_of(word: KeyWord) -> u8
 
 // Why words are no key, of which others than a key has are left.
 fn unfit(rest: Option<&[u8]>) -> LineFault
-    ensures { result ≡ unfit (words_behind (option_copied rest.entry)) }
+    ensures { result ≡ unfit (words_after (option_copied rest.entry)) }
 {
     let Some(rest) = rest else {
         return at_word(4, ScriptCause::Word);
@@ -215,7 +215,7 @@ fn key_of_three(fault: LineFault, word: &[u8], to: &[u8], code: &[u8]) -> Result
 
 /// The key that the words left say: one word, or a word and what it takes. They stand after four others.
 pub fn key_in(rest: Option<&[u8]>) -> Result<Key, LineFault>
-    ensures { result ≡ key_of (words_behind (option_copied rest.entry)) }
+    ensures { result ≡ key_of (words_after (option_copied rest.entry)) }
 {
     let fault = unfit(rest);
     if let Some(word) = one_word(rest) {

@@ -1,7 +1,7 @@
 //! The texts of scripts.
 ghost use Rattle.std.specs.Prelude.{◌≡◌, ℕ, ◌+◌, ◌<◌, ◌≤◌, List, [], ◌∷◌, ◌++◌, length, Result, Ok, Err, Some, None, IfOk, IfSome, OnErr, OnOk};
 ghost use Rattle.std.specs.Option.{option_copied};
-ghost use Rattle.hdmi_core.specs.Words.{words_behind, one_of, two_of, three_of};
+ghost use Rattle.hdmi_core.specs.Words.{words_after, one_of, two_of, three_of};
 ghost use Rattle.cec_asm.specs.Script.{Notes, no_notes, notes_of, course_of, time_of, last_time, last_end, notes_with_event, plug_words, unplug_words, key_words, act_read, hold_words, drop_words, event_words, send_read, pulse_fault, notes_with_pulse, pulse_words, end_words, other_words, error_at, IsFrameOf, IsSendRead, IsEventRead, IsLineRead, GivesNotes, Gives, GivesScript, IsScript};
 
 use crate::course::Script;
@@ -190,7 +190,7 @@ fn take_plug(
     time: &[u8],
     rest: Option<&[u8]>,
 ) -> Result<(), ScriptLineError>
-    ensures gives { GivesNotes (notes_of draft.new) result (plug_words tree.now (notes_of draft.old) line time.now (length (words_behind (option_copied rest.entry))) (three_of (words_behind (option_copied rest.entry)))) }
+    ensures gives { GivesNotes (notes_of draft.new) result (plug_words tree.now (notes_of draft.old) line time.now (length (words_after (option_copied rest.entry))) (three_of (words_after (option_copied rest.entry)))) }
     ensures kept { OnErr result (notes_of draft.new ≡ notes_of draft.old) }
 {
     let Some((child, parent, port)) = three_words(rest) else {
@@ -229,7 +229,7 @@ fn take_unplug(
     time: &[u8],
     rest: Option<&[u8]>,
 ) -> Result<(), ScriptLineError>
-    ensures gives { GivesNotes (notes_of draft.new) result (unplug_words tree.now (notes_of draft.old) line time.now (length (words_behind (option_copied rest.entry))) (one_of (words_behind (option_copied rest.entry)))) }
+    ensures gives { GivesNotes (notes_of draft.new) result (unplug_words tree.now (notes_of draft.old) line time.now (length (words_after (option_copied rest.entry))) (one_of (words_after (option_copied rest.entry)))) }
     ensures kept { OnErr result (notes_of draft.new ≡ notes_of draft.old) }
 {
     let Some(child) = one_word(rest) else {
@@ -253,7 +253,7 @@ fn take_key(
     time: &[u8],
     rest: Option<&[u8]>,
 ) -> Result<(), ScriptLineError>
-    ensures gives { GivesNotes (notes_of draft.new) result (key_words tree.now (notes_of draft.old) line press time.now (words_behind (option_copied rest.entry))) }
+    ensures gives { GivesNotes (notes_of draft.new) result (key_words tree.now (notes_of draft.old) line press time.now (words_after (option_copied rest.entry))) }
     ensures kept { OnErr result (notes_of draft.new ≡ notes_of draft.old) }
 {
     let Some(rest) = rest else {
@@ -303,7 +303,7 @@ fn take_hold(
     time: &[u8],
     rest: Option<&[u8]>,
 ) -> Result<(), ScriptLineError>
-    ensures gives { GivesNotes (notes_of draft.new) result (hold_words tree.now (notes_of draft.old) line time.now (length (words_behind (option_copied rest.entry))) (two_of (words_behind (option_copied rest.entry)))) }
+    ensures gives { GivesNotes (notes_of draft.new) result (hold_words tree.now (notes_of draft.old) line time.now (length (words_after (option_copied rest.entry))) (two_of (words_after (option_copied rest.entry)))) }
     ensures kept { OnErr result (notes_of draft.new ≡ notes_of draft.old) }
 {
     let Some((device, addresses)) = two_words(rest) else {
@@ -321,7 +321,7 @@ fn take_drop(
     time: &[u8],
     rest: Option<&[u8]>,
 ) -> Result<(), ScriptLineError>
-    ensures gives { GivesNotes (notes_of draft.new) result (drop_words tree.now (notes_of draft.old) line time.now (length (words_behind (option_copied rest.entry))) (one_of (words_behind (option_copied rest.entry)))) }
+    ensures gives { GivesNotes (notes_of draft.new) result (drop_words tree.now (notes_of draft.old) line time.now (length (words_after (option_copied rest.entry))) (one_of (words_after (option_copied rest.entry)))) }
     ensures kept { OnErr result (notes_of draft.new ≡ notes_of draft.old) }
 {
     let Some(device) = one_word(rest) else {
@@ -377,7 +377,7 @@ fn take_send(
     time: &[u8],
     rest: Option<&[u8]>,
 ) -> Result<(), ScriptLineError>
-    ensures gives { Gives (notes_of draft.new) result (IsSendRead tree.now (notes_of draft.old) line time.now (words_behind (option_copied rest.entry))) }
+    ensures gives { Gives (notes_of draft.new) result (IsSendRead tree.now (notes_of draft.old) line time.now (words_after (option_copied rest.entry))) }
     ensures kept { OnErr result (notes_of draft.new ≡ notes_of draft.old) }
 {
     let Some(rest) = rest else {
@@ -430,7 +430,7 @@ fn take_pulse(
     waiting: usize,
     rest: Option<&[u8]>,
 ) -> Result<(), ScriptLineError>
-    ensures gives { GivesNotes (notes_of draft.new) result (pulse_words (notes_of draft.old) waiting (length (words_behind (option_copied rest.entry))) (two_of (words_behind (option_copied rest.entry)))) }
+    ensures gives { GivesNotes (notes_of draft.new) result (pulse_words (notes_of draft.old) waiting (length (words_after (option_copied rest.entry))) (two_of (words_after (option_copied rest.entry)))) }
     ensures kept { OnErr result (notes_of draft.new ≡ notes_of draft.old) }
 {
     let Some((from, width)) = two_words(rest) else {
@@ -448,7 +448,7 @@ fn take_pulse(
 
 /// Takes the word after `end`.
 fn take_end(draft: &mut ScriptDraft, rest: Option<&[u8]>) -> Result<(), ScriptLineError>
-    ensures gives { GivesNotes (notes_of draft.new) result (end_words (notes_of draft.old) (length (words_behind (option_copied rest.entry))) (one_of (words_behind (option_copied rest.entry)))) }
+    ensures gives { GivesNotes (notes_of draft.new) result (end_words (notes_of draft.old) (length (words_after (option_copied rest.entry))) (one_of (words_after (option_copied rest.entry)))) }
     ensures kept { OnErr result (notes_of draft.new ≡ notes_of draft.old) }
 {
     let Some(time) = one_word(rest) else {
@@ -476,7 +476,7 @@ fn take_words(
     verb: &[u8],
     rest: Option<&[u8]>,
 ) -> Result<(), ScriptLineError>
-    ensures gives { GivesNotes (notes_of draft.new) result (event_words tree.now (notes_of draft.old) line time.now verb.now (words_behind (option_copied rest.entry))) }
+    ensures gives { GivesNotes (notes_of draft.new) result (event_words tree.now (notes_of draft.old) line time.now verb.now (words_after (option_copied rest.entry))) }
     ensures kept { OnErr result (notes_of draft.new ≡ notes_of draft.old) }
 {
     if verb == b"plug".as_slice() {
@@ -503,7 +503,7 @@ fn take_event(
     line: u64,
     rest: Option<&[u8]>,
 ) -> Result<(), ScriptLineError>
-    ensures gives { Gives (notes_of draft.new) result (IsEventRead tree.now (notes_of draft.old) line (words_behind (option_copied rest.entry))) }
+    ensures gives { Gives (notes_of draft.new) result (IsEventRead tree.now (notes_of draft.old) line (words_after (option_copied rest.entry))) }
     ensures kept { OnErr result (notes_of draft.new ≡ notes_of draft.old) }
 {
     let Some(rest) = rest else {
@@ -528,7 +528,7 @@ fn take_other(
     verb: &[u8],
     rest: Option<&[u8]>,
 ) -> Result<(), ScriptLineError>
-    ensures gives { GivesNotes (notes_of draft.new) result (other_words (notes_of draft.old) waiting verb.now (words_behind (option_copied rest.entry))) }
+    ensures gives { GivesNotes (notes_of draft.new) result (other_words (notes_of draft.old) waiting verb.now (words_after (option_copied rest.entry))) }
     ensures kept { OnErr result (notes_of draft.new ≡ notes_of draft.old) }
 {
     if verb == b"pulse".as_slice() {

@@ -1,7 +1,7 @@
 //! Topologies and their texts.
 ghost use Rattle.std.specs.Prelude.{◌≡◌, ℕ, ◌+◌, ◌<◌, ◌≤◌, length, List, [], ◌∷◌, ◌++◌, Result, Ok, Err, Some};
 ghost use Rattle.std.specs.Option.{option_copied};
-ghost use Rattle.hdmi_core.specs.Words.{words_behind, one_of, three_of};
+ghost use Rattle.hdmi_core.specs.Words.{words_after, one_of, three_of};
 ghost use Rattle.cec_asm.specs.declared.topology.TopologyLineError.TheVariants.{Fault};
 ghost use Rattle.cec_asm.specs.Topology.{Plan, plan_of, at_word, misfit, device_line, plug_line, edid_line, line_read, topology_of, error_at, GivesLine, GivesTopology};
 
@@ -101,7 +101,7 @@ fn at_word(word: u8, cause: TopologyCause) -> TopologyLineError
 // Of words after the first one, of which others than so many are left.
 fn misfit(rest: Option<&[u8]>, wanted: u8) -> TopologyLineError
     requires few { wanted ≤ 3 }
-    ensures { result ≡ Fault (misfit (length (words_behind (option_copied rest.entry))) wanted) }
+    ensures { result ≡ Fault (misfit (length (words_after (option_copied rest.entry))) wanted) }
 {
     at_word(1 + word_count(rest, wanted), TopologyCause::Word)
 }
@@ -148,7 +148,7 @@ pub struct Topology {
 
 /// Takes the words after `device`.
 fn add_device(topology: &mut Topology, rest: Option<&[u8]>) -> Result<(), TopologyLineError>
-    ensures { GivesLine (plan_of topology.new) result (device_line (plan_of topology.old) (length (words_behind (option_copied rest.entry))) (three_of (words_behind (option_copied rest.entry)))) }
+    ensures { GivesLine (plan_of topology.new) result (device_line (plan_of topology.old) (length (words_after (option_copied rest.entry))) (three_of (words_after (option_copied rest.entry)))) }
 {
     let Some((name, kind, ports)) = three_words(rest) else {
         return Err(misfit(rest, 3));
@@ -171,7 +171,7 @@ fn add_device(topology: &mut Topology, rest: Option<&[u8]>) -> Result<(), Topolo
 
 /// Takes the words after `plug`.
 fn add_plug(topology: &mut Topology, rest: Option<&[u8]>) -> Result<(), TopologyLineError>
-    ensures { GivesLine (plan_of topology.new) result (plug_line (plan_of topology.old) (length (words_behind (option_copied rest.entry))) (three_of (words_behind (option_copied rest.entry)))) }
+    ensures { GivesLine (plan_of topology.new) result (plug_line (plan_of topology.old) (length (words_after (option_copied rest.entry))) (three_of (words_after (option_copied rest.entry)))) }
 {
     let Some((child, parent, port)) = three_words(rest) else {
         return Err(misfit(rest, 3));
@@ -195,7 +195,7 @@ fn add_edid(
     topology: &mut Topology,
     rest: Option<&[u8]>,
 ) -> Result<(), TopologyLineError>
-    ensures { GivesLine (plan_of topology.new) result (edid_line (plan_of topology.old) (length (words_behind (option_copied rest.entry))) (one_of (words_behind (option_copied rest.entry)))) }
+    ensures { GivesLine (plan_of topology.new) result (edid_line (plan_of topology.old) (length (words_after (option_copied rest.entry))) (one_of (words_after (option_copied rest.entry)))) }
 {
     let Some(word) = one_word(rest) else {
         return Err(misfit(rest, 1));

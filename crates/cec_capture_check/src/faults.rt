@@ -3,7 +3,7 @@ ghost use Rattle.std.specs.Prelude.{◌≡◌, ◌||◌, IfOk, codes};
 ghost use Rattle.std.specs.Option.{option_copied, option_map};
 ghost use Rattle.hdmi_core.specs.Lines.{lines_of};
 ghost use Rattle.hdmi_core.specs.Number.{number_of};
-ghost use Rattle.hdmi_core.specs.Words.{one_of, words_behind};
+ghost use Rattle.hdmi_core.specs.Words.{one_of, words_after};
 ghost use Rattle.cec_expect.specs.Fault.{after_label};
 ghost use Rattle.cec_expect.specs.Line.{has_verb};
 ghost use Rattle.cec_capture_check.specs.Lines.{expectation_fault, instant_fault, instant_of, kind_fault, line_fault, named_fault, number_by, time_fault, verb_fault};
@@ -15,7 +15,7 @@ use std::alloc::{AllocError, Global};
 
 // Whether this is the first word.
 fn has_verb(verb: &[u8], rest: Option<&[u8]>) -> bool
-    ensures { result ≡ has_verb verb.now (words_behind (option_copied rest.entry)) }
+    ensures { result ≡ has_verb verb.now (words_after (option_copied rest.entry)) }
 {
     match rest {
         None => false,
@@ -54,7 +54,7 @@ fn time_fault(time: Option<u64>) -> Option<LineFault>
 }
 
 fn named_fault(rest: Option<&[u8]>) -> Option<LineFault>
-    ensures { result ≡ named_fault (words_behind (option_copied rest.entry)) }
+    ensures { result ≡ named_fault (words_after (option_copied rest.entry)) }
 {
     let Some(text) = rest else {
         return Some(at_word(3, ExpectCause::Word));
@@ -70,7 +70,7 @@ fn named_fault(rest: Option<&[u8]>) -> Option<LineFault>
 }
 
 fn instant_fault(label: Option<&[u8]>, rest: Option<&[u8]>) -> Option<LineFault>
-    ensures { result ≡ instant_fault (option_copied label.entry) (words_behind (option_copied rest.entry)) }
+    ensures { result ≡ instant_fault (option_copied label.entry) (words_after (option_copied rest.entry)) }
 {
     match label {
         None => Some(at_word(0, ExpectCause::Word)),
@@ -80,13 +80,13 @@ fn instant_fault(label: Option<&[u8]>, rest: Option<&[u8]>) -> Option<LineFault>
 
 // Whether an expectation is none of a capture.
 fn is_of_run(rest: Option<&[u8]>) -> bool
-    ensures { result ≡ (has_verb (codes "refused") (words_behind (option_copied rest.entry)) || has_verb (codes "state") (words_behind (option_copied rest.entry))) }
+    ensures { result ≡ (has_verb (codes "refused") (words_after (option_copied rest.entry)) || has_verb (codes "state") (words_after (option_copied rest.entry))) }
 {
     has_verb(b"refused", rest) || has_verb(b"state", rest)
 }
 
 fn expectation_fault(label: Option<&[u8]>, rest: Option<&[u8]>) -> Option<LineFault>
-    ensures { result ≡ option_map (after_label (option_copied label.entry)) (expectation_fault (words_behind (option_copied rest.entry))) }
+    ensures { result ≡ option_map (after_label (option_copied label.entry)) (expectation_fault (words_after (option_copied rest.entry))) }
 {
     if is_of_run(rest) {
         Some(after_label(label, at_word(1, ExpectCause::Word)))
@@ -111,7 +111,7 @@ fn verb_fault(label: Option<&[u8]>, verb: &[u8]) -> LineFault
 }
 
 fn kind_fault(label: Option<&[u8]>, rest: Option<&[u8]>) -> Option<LineFault>
-    ensures { result ≡ kind_fault (option_copied label.entry) (words_behind (option_copied rest.entry)) }
+    ensures { result ≡ kind_fault (option_copied label.entry) (words_after (option_copied rest.entry)) }
 {
     let Some(text) = rest else {
         return Some(after_label(label, at_word(0, ExpectCause::Word)));

@@ -47,8 +47,8 @@ closed_end xs more =
     ap lines_of (append_assoc xs (10 ∷ []) more) ∙ lines_more xs more
     ∙ ap (λ (ls : List (List ℕ)). ls ++ lines_of more) (sym (lines_more xs [] ∙ append-nil (slice_split (λ b. b == 10) xs)))
 
-pub closed_behind : (front text xs : List ℕ) → text ≡ xs ++ 10 ∷ [] → IsClosed (front ++ text)
-closed_behind front text xs e = subst (λ (t : List ℕ). IsClosed t) (append_assoc front xs (10 ∷ []) ∙ ap (λ t. front ++ t) (sym e)) (closed_end (front ++ xs))
+pub closed_after : (front text xs : List ℕ) → text ≡ xs ++ 10 ∷ [] → IsClosed (front ++ text)
+closed_after front text xs e = subst (λ (t : List ℕ). IsClosed t) (append_assoc front xs (10 ∷ []) ∙ ap (λ t. front ++ t) (sym e)) (closed_end (front ++ xs))
 
 -- ---- the first line of a text lacks the line feed
 

@@ -180,7 +180,7 @@ fn keep_lines(patterns: &Patterns<'_>, few: &mut Vec<u8>, text: &[u8]) -> Result
     Ok(())
 }
 
-#[tactic(auto, using(crate::proofs::Sifted::closed_behind))]
+#[tactic(auto, using(crate::proofs::Sifted::closed_after))]
 fn ends_line(text: &[u8]) -> bool
     ensures { result ≡ true → (front : List ℕ) → IsClosed (front ++ text.now) }
 {

@@ -26,9 +26,9 @@ use Rattle.cec_csv.specs.declared.reading.CsvError.TheVariants.{Fault, Memory}
 abbrev pub fields_of : List ℕ → List (List ℕ)
 fields_of line = slice_split (λ b. b == 44) line
 
-abbrev pub fields_behind : Option (List ℕ) → List (List ℕ)
-fields_behind None = []
-fields_behind (Some rest) = fields_of rest
+abbrev pub fields_after : Option (List ℕ) → List (List ℕ)
+fields_after None = []
+fields_after (Some rest) = fields_of rest
 
 abbrev pub field_at : ℕ → List (List ℕ) → Option (List ℕ)
 field_at column [] = None
@@ -50,13 +50,13 @@ abbrev pub column_from : ℕ → List ℕ → List (List ℕ) → Option ℕ
 column_from column signal [] = None
 column_from column signal (field ∷ fields) = if is_named field signal then Some column else column_from (column + 1) signal fields
 
-abbrev pub behind_first : List (List ℕ) → List (List ℕ)
-behind_first [] = []
-behind_first (field ∷ fields) = fields
+abbrev pub after_first : List (List ℕ) → List (List ℕ)
+after_first [] = []
+after_first (field ∷ fields) = fields
 
 -- columns are counted from 0 after the time
 abbrev pub column_of : List ℕ → List ℕ → Option ℕ
-column_of signal line = column_from 0 signal (behind_first (fields_of (without_return line)))
+column_of signal line = column_from 0 signal (after_first (fields_of (without_return line)))
 
 -- ---- a row
 

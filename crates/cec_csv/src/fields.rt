@@ -1,9 +1,9 @@
 //! Fields of a line, with commas between them.
 ghost use Rattle.std.specs.Prelude.{◌≡◌, ◌∷◌, ◌+◌, ◌-◌, ◌<◌, ◌≤◌, ◌==◌, length, position, IfSome};
 ghost use Rattle.std.specs.Option.{option_copied};
-ghost use Rattle.cec_csv.specs.Csv.{column_from, field_at, fields_behind, fields_of, is_named, field_without_space, without_return};
+ghost use Rattle.cec_csv.specs.Csv.{column_from, field_at, fields_after, fields_of, is_named, field_without_space, without_return};
 
-use hdmi_core::{before, behind, byte_at};
+use hdmi_core::{before, after, byte_at};
 
 // Where the first comma stands.
 fn comma_in(line: &[u8]) -> Option<usize>
@@ -14,7 +14,7 @@ fn comma_in(line: &[u8]) -> Option<usize>
 
 /// The first field of a line, and what stands after its comma.
 pub fn first_field(line: &[u8]) -> (&[u8], Option<&[u8]>)
-    ensures fields { fields_of line.now ≡ result.0.now ∷ fields_behind (option_copied result.1) }
+    ensures fields { fields_of line.now ≡ result.0.now ∷ fields_after (option_copied result.1) }
     ensures shorter { IfSome result.1 (λ rest. length rest.now < length line.now) }
 {
     match comma_in(line) {
@@ -25,7 +25,7 @@ pub fn first_field(line: &[u8]) -> (&[u8], Option<&[u8]>)
 
 /// The field of this column of what is left of a line, counted from 0.
 pub fn field_at(fields: Option<&[u8]>, column: usize) -> Option<&[u8]>
-    ensures { option_copied result ≡ field_at column (fields_behind (option_copied fields.entry)) }
+    ensures { option_copied result ≡ field_at column (fields_after (option_copied fields.entry)) }
 {
     let mut left = fields;
     let mut count = column;
@@ -45,7 +45,7 @@ pub fn field_without_space(field: &[u8]) -> &[u8]
     ensures { result.now ≡ field_without_space field.now }
 {
     if byte_at(field, 0) == b' ' {
-        behind(field, 1)
+        after(field, 1)
     } else {
         field
     }
@@ -71,7 +71,7 @@ fn is_named(field: &[u8], signal: &[u8]) -> bool
 
 /// The column of a signal among the fields of what is left of a line, counted from 0. An empty name stands for the first.
 pub fn column_in(fields: Option<&[u8]>, signal: &[u8]) -> Option<usize>
-    ensures { result ≡ column_from 0 signal.now (fields_behind (option_copied fields.entry)) }
+    ensures { result ≡ column_from 0 signal.now (fields_after (option_copied fields.entry)) }
 {
     let mut left = fields;
     let mut column = 0;

@@ -5,7 +5,7 @@ ghost use Rattle.cec_csv.specs.Csv.{instant_of, level_of, nanos_of, row_of, sign
 use crate::fields::{field_at, field_without_space, first_field, without_return};
 use cec_signal::decimals_in;
 use cec_wave::LATEST_INSTANT;
-use hdmi_core::{before, behind, byte_at, len_before, number_in};
+use hdmi_core::{before, after, byte_at, len_before, number_in};
 
 /// The most whole seconds of a time.
 const MOST_SECONDS: u64 = 9_999_999_999;
@@ -33,7 +33,7 @@ fn nanos_of(word: &[u8]) -> Option<u64>
 {
     let dot = len_before(word, b'.');
     let whole = number_in(before(word, dot))?;
-    let nanos = decimals_in(behind(word, dot + 1))?;
+    let nanos = decimals_in(after(word, dot + 1))?;
     if whole > MOST_SECONDS || nanos > MOST_NANOS {
         return None;
     }
@@ -54,7 +54,7 @@ fn time_of(word: &[u8]) -> Option<Time>
     ensures { result ≡ time_of word.now }
 {
     if byte_at(word, 0) == b'-' {
-        let nanos = nanos_of(behind(word, 1))?;
+        let nanos = nanos_of(after(word, 1))?;
         Some(signed_time(true, nanos))
     } else {
         let nanos = nanos_of(word)?;

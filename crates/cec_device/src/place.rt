@@ -87,7 +87,7 @@ fn tries_after(kind: Kind, found: Option<Addr>, taken: u8, list: &[u8]) -> Place
 }
 
 // What is polled after an address that was found taken.
-fn place_behind(kind: Kind, found: Option<Addr>, taken: Addr) -> Place
+fn place_after_poll(kind: Kind, found: Option<Addr>, taken: Addr) -> Place
     ensures { result ≡ tries_after kind found taken (list_of kind found) }
 {
     let list = match found {
@@ -104,7 +104,7 @@ fn place_after_fate(kind: Kind, place: Place, fate: Fate) -> Place
     match place {
         Place::Polls { found, address } => match fate {
             Fate::Unacked => settles(kind, found, address),
-            Fate::Delivered => place_behind(kind, found, address),
+            Fate::Delivered => place_after_poll(kind, found, address),
             Fate::Lost | Fate::Broken => Place::Polls { found, address },
         },
         place => place,

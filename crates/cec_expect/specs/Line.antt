@@ -16,14 +16,14 @@ abbrev pub label_in : List (List ℕ) → Option (List ℕ)
 label_in [] = None
 label_in (verb ∷ words) = if bytes_eq verb (codes "label") then first_of words else None
 
-abbrev pub behind_name : List (List ℕ) → List (List ℕ) → List (List ℕ)
-behind_name line [] = line
-behind_name line (name ∷ words) = words
+abbrev pub after_name : List (List ℕ) → List (List ℕ) → List (List ℕ)
+after_name line [] = line
+after_name line (name ∷ words) = words
 
 -- the words without the label
-abbrev pub behind_label : List (List ℕ) → List (List ℕ)
-behind_label [] = []
-behind_label (verb ∷ words) = if bytes_eq verb (codes "label") then behind_name (verb ∷ words) words else verb ∷ words
+abbrev pub after_label : List (List ℕ) → List (List ℕ)
+after_label [] = []
+after_label (verb ∷ words) = if bytes_eq verb (codes "label") then after_name (verb ∷ words) words else verb ∷ words
 
 abbrev pub has_verb : List ℕ → List (List ℕ) → Bool
 has_verb verb [] = false
@@ -42,7 +42,7 @@ abbrev pub plain_words : List (List ℕ) → List ℕ
 plain_words words = if is_expectation words then [] else text_of words
 
 abbrev pub plain_line : List ℕ → List ℕ
-plain_line line = plain_words (behind_label (words_of line)) ++ 10 ∷ []
+plain_line line = plain_words (after_label (words_of line)) ++ 10 ∷ []
 
 -- The script without labels and expectations, line for line: the line of an expectation is empty.
 abbrev pub plain_script : List ℕ → List ℕ

@@ -1,7 +1,7 @@
 //! What the line of an expectation says.
 ghost use Rattle.std.specs.Prelude.{◌≡◌, ◌≤◌, ◌<◌, ◌+◌, ◌^◌, length, IfOk, IfErr, IfSome, codes};
 ghost use Rattle.std.specs.Option.{option_copied};
-ghost use Rattle.hdmi_core.specs.Words.{words_behind, words_of};
+ghost use Rattle.hdmi_core.specs.Words.{words_after, words_of};
 ghost use Rattle.hdmi_core.specs.Number.{number_of};
 ghost use Rattle.cec_expect.specs.Fault.{IsNear};
 ghost use Rattle.cec_expect.specs.Form.{AreParts, IsEarly, IsForm, between_by, empty_from, expectation_in, form_in, in_window, is_pattern, parts_as, parts_in, pattern_by, pattern_in, refused_in, rounds_between, rounds_in, second_in, stars, state_at_time, state_in, window_word, within, within_by};
@@ -147,7 +147,7 @@ fn pattern_in<'a>(
     second: &'a [u8],
     rest: Option<&'a [u8]>,
 ) -> Result<Parts<'a>, LineFault>
-    ensures is { AreParts (pattern_in quantity first.now second.now (words_behind (option_copied rest.entry))) result }
+    ensures is { AreParts (pattern_in quantity first.now second.now (words_after (option_copied rest.entry))) result }
     ensures near { IfErr result IsNear }
 {
     match rest {
@@ -161,7 +161,7 @@ fn second_in<'a>(
     first: &'a [u8],
     rest: Option<&'a [u8]>,
 ) -> Result<Parts<'a>, LineFault>
-    ensures is { AreParts (second_in quantity first.now (words_behind (option_copied rest.entry))) result }
+    ensures is { AreParts (second_in quantity first.now (words_after (option_copied rest.entry))) result }
     ensures near { IfErr result IsNear }
 {
     let Some(text) = rest else {
@@ -177,7 +177,7 @@ fn parts_in<'a>(
     joint: &[u8],
     rest: Option<&'a [u8]>,
 ) -> Result<Parts<'a>, LineFault>
-    ensures is { AreParts (parts_in quantity joint.now (words_behind (option_copied rest.entry))) result }
+    ensures is { AreParts (parts_in quantity joint.now (words_after (option_copied rest.entry))) result }
     ensures near { IfErr result IsNear }
 {
     let Some(text) = rest else {
@@ -232,7 +232,7 @@ fn rounds_between<'a>(quantity: Quantity, parts: &Parts<'a>) -> Result<Form<'a>,
 }
 
 fn within_in<'a>(quantity: Quantity, rest: Option<&'a [u8]>) -> Result<Form<'a>, LineFault>
-    ensures is { IsForm (within_by quantity (parts_in quantity (codes "of") (words_behind (option_copied rest.entry)))) result }
+    ensures is { IsForm (within_by quantity (parts_in quantity (codes "of") (words_after (option_copied rest.entry)))) result }
     ensures early { IfOk result IsEarly }
     ensures near { IfErr result IsNear }
 {
@@ -243,7 +243,7 @@ fn within_in<'a>(quantity: Quantity, rest: Option<&'a [u8]>) -> Result<Form<'a>,
 }
 
 fn between_in<'a>(quantity: Quantity, rest: Option<&'a [u8]>) -> Result<Form<'a>, LineFault>
-    ensures is { IsForm (between_by quantity (parts_in quantity (codes "to") (words_behind (option_copied rest.entry)))) result }
+    ensures is { IsForm (between_by quantity (parts_in quantity (codes "to") (words_after (option_copied rest.entry)))) result }
     ensures early { IfOk result IsEarly }
     ensures near { IfErr result IsNear }
 {
@@ -254,7 +254,7 @@ fn between_in<'a>(quantity: Quantity, rest: Option<&'a [u8]>) -> Result<Form<'a>
 }
 
 fn rounds_in<'a>(quantity: Quantity, rest: Option<&'a [u8]>) -> Result<Form<'a>, LineFault>
-    ensures is { IsForm (rounds_in quantity (words_behind (option_copied rest.entry))) result }
+    ensures is { IsForm (rounds_in quantity (words_after (option_copied rest.entry))) result }
     ensures early { IfOk result IsEarly }
     ensures near { IfErr result IsNear }
 {
@@ -312,7 +312,7 @@ fn state_at_time<'a>(time: &[u8], device: &'a [u8], words: &'a [u8]) -> Result<F
 }
 
 fn state_in<'a>(rest: Option<&'a [u8]>) -> Result<Form<'a>, LineFault>
-    ensures is { IsForm (state_in (words_behind (option_copied rest.entry))) result }
+    ensures is { IsForm (state_in (words_after (option_copied rest.entry))) result }
     ensures early { IfOk result IsEarly }
     ensures near { IfErr result IsNear }
 {
@@ -335,7 +335,7 @@ fn state_in<'a>(rest: Option<&'a [u8]>) -> Result<Form<'a>, LineFault>
 }
 
 fn refused_in<'a>(rest: Option<&'a [u8]>) -> Result<Form<'a>, LineFault>
-    ensures is { IsForm (refused_in (words_behind (option_copied rest.entry))) result }
+    ensures is { IsForm (refused_in (words_after (option_copied rest.entry))) result }
     ensures early { IfOk result IsEarly }
     ensures near { IfErr result IsNear }
 {
@@ -357,7 +357,7 @@ fn refused_in<'a>(rest: Option<&'a [u8]>) -> Result<Form<'a>, LineFault>
 }
 
 fn expectation_in<'a>(rest: Option<&'a [u8]>) -> Result<Form<'a>, LineFault>
-    ensures is { IsForm (expectation_in (words_behind (option_copied rest.entry))) result }
+    ensures is { IsForm (expectation_in (words_after (option_copied rest.entry))) result }
     ensures early { IfOk result IsEarly }
     ensures near { IfErr result IsNear }
 {
@@ -384,7 +384,7 @@ fn expectation_in<'a>(rest: Option<&'a [u8]>) -> Result<Form<'a>, LineFault>
 ///
 /// The first cause, and the word at fault in the line without its label.
 pub fn form_in<'a>(rest: Option<&'a [u8]>) -> Result<Form<'a>, LineFault>
-    ensures is { IsForm (form_in (words_behind (option_copied rest.entry))) result }
+    ensures is { IsForm (form_in (words_after (option_copied rest.entry))) result }
     ensures early { IfOk result IsEarly }
     ensures near { IfErr result IsNear }
 {

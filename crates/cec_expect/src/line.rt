@@ -2,8 +2,8 @@
 ghost use Rattle.std.specs.Prelude.{◌≡◌, ◌++◌, ◌∷◌, [], codes, if◌then◌else◌, OnOk, IfOk};
 ghost use Rattle.std.specs.Fmt.{decimal};
 ghost use Rattle.std.specs.Option.{option_copied};
-ghost use Rattle.hdmi_core.specs.Words.{words_behind, words_of};
-ghost use Rattle.cec_expect.specs.Line.{behind_label, cut_line, cut_script, has_verb, is_before, label_in, plain_line, plain_script, plain_words};
+ghost use Rattle.hdmi_core.specs.Words.{words_after, words_of};
+ghost use Rattle.cec_expect.specs.Line.{after_label, cut_line, cut_script, has_verb, is_before, label_in, plain_line, plain_script, plain_words};
 
 use hdmi_core::{first_line, first_word, is_skipped, number_in};
 use std::alloc::{AllocError, Global};
@@ -19,7 +19,7 @@ pub struct Labelled<'a> {
 /// A line's label, and the line without it.
 pub fn unlabelled(line: &[u8]) -> Labelled<'_>
     ensures label { option_copied result.label ≡ label_in (words_of line.now) }
-    ensures rest { words_behind (option_copied result.rest) ≡ behind_label (words_of line.now) }
+    ensures rest { words_after (option_copied result.rest) ≡ after_label (words_of line.now) }
 {
     let (verb, rest) = first_word(line);
     if verb != b"label".as_slice() {
@@ -43,7 +43,7 @@ pub fn unlabelled(line: &[u8]) -> Labelled<'_>
 
 /// Whether this is the first word.
 pub(crate) fn has_verb(verb: &[u8], rest: Option<&[u8]>) -> bool
-    ensures { result ≡ has_verb verb.now (words_behind (option_copied rest.entry)) }
+    ensures { result ≡ has_verb verb.now (words_after (option_copied rest.entry)) }
 {
     match rest {
         None => false,
@@ -56,7 +56,7 @@ pub(crate) fn has_verb(verb: &[u8], rest: Option<&[u8]>) -> bool
 
 // What is left of a line in a script without expectations.
 fn plain_words(rest: Option<&[u8]>) -> &[u8]
-    ensures { result.now ≡ plain_words (words_behind (option_copied rest.entry)) }
+    ensures { result.now ≡ plain_words (words_after (option_copied rest.entry)) }
 {
     if has_verb(b"expect", rest) {
         return &[];

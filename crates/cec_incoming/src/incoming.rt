@@ -3,7 +3,7 @@ ghost use Rattle.std.specs.Prelude.{◌≡◌, ◌+◌, ◌≤◌, [], ◌++◌,
 ghost use Rattle.cec_incoming.specs.Incoming.{IsFilled, IsNext, IsPiece, IsWhole, bytes_left, to_come};
 
 use arrayvec::ArrayVec;
-use hdmi_core::{before, behind, len_before};
+use hdmi_core::{before, after, len_before};
 use std::io::Read;
 use thiserror::Error;
 
@@ -65,7 +65,7 @@ impl Lines {
     fn left(&self) -> &[u8]
         ensures { result.now ≡ bytes_left self.now }
     {
-        behind(before(self.pending.as_slice(), self.given), self.handed)
+        after(before(self.pending.as_slice(), self.given), self.handed)
     }
 
     // Reads some more.

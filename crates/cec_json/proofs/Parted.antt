@@ -7,7 +7,7 @@ use Rattle.hdmi_core.specs.Cut.{WrittenText}
 use Rattle.hdmi_core.specs.Lines.{lines_of}
 use Rattle.cec_json.specs.Columns.{field, fields, field_lead, reading_fields, column_parts}
 use Rattle.cec_json.specs.Object.{AreBytesOf, AreInOrder, reading_start, broken_body, bytes_value, complete_body, complete_fields, frame_fields, frame_in, reading_type, seats, type_field}
-use Rattle.cec_json.specs.Parts.{after_byte, after_word, before_byte, before_last, behind_ending, has_seats, told_in, value_of, word}
+use Rattle.cec_json.specs.Parts.{after_byte, after_word, before_byte, before_last, after_ending, has_seats, told_in, value_of, word}
 use Rattle.cec_json.specs.Progress.{WritesOn}
 use Rattle.cec_json.specs.Values.{code_text, code_texts, report_value, some_report}
 use Rattle.cec_json.specs.declared.columns.Column.{Column}
@@ -49,35 +49,35 @@ pub report_is : (word rest a b c : List ℕ) → rest ≡ after_byte 58 word →
 report_is word rest a b c e f g h =
     report_same a b c (before_byte 58 word) (before_byte 58 (after_byte 58 word)) (after_byte 58 (after_byte 58 word)) f (g ∙ ap (before_byte 58) e) (h ∙ ap (after_byte 58) e)
 
-pub begun_is : (line rest name : List ℕ) (is : Bool) → rest ≡ behind_ending line → is ≡ has_seats rest → name ≡ reading_type is → type_field name ++ fields reading_fields line ≡ reading_start line
+pub begun_is : (line rest name : List ℕ) (is : Bool) → rest ≡ after_ending line → is ≡ has_seats rest → name ≡ reading_type is → type_field name ++ fields reading_fields line ≡ reading_start line
 begun_is line rest name is e f g = ap (λ (v : List ℕ). type_field v ++ fields reading_fields line) (g ∙ ap reading_type (f ∙ ap has_seats e))
 
 abbrev frame_by : (bytes : Option (List ℕ)) (text initiator destination : List ℕ) → List ℕ
 frame_by bytes text initiator destination =
     field (codes "frame") Text text ++ field (codes "initiator") Text initiator ++ field (codes "destination") Text destination ++ (field_lead (codes "bytes") ++ bytes_value bytes)
 
-pub frame_is : (bytes : Option (List ℕ)) (text initiator behind destination : List ℕ) → initiator ≡ take 1 text → behind ≡ drop 2 text → destination ≡ take 1 behind
+pub frame_is : (bytes : Option (List ℕ)) (text initiator tail destination : List ℕ) → initiator ≡ take 1 text → tail ≡ drop 2 text → destination ≡ take 1 tail
     → field (codes "frame") Text text ++ field (codes "initiator") Text initiator ++ field (codes "destination") Text destination ++ (field_lead (codes "bytes") ++ bytes_value bytes) ≡ frame_fields bytes text
-frame_is bytes text initiator behind destination e f g =
+frame_is bytes text initiator tail destination e f g =
     ap (λ (v : List ℕ). frame_by bytes text v destination) e ∙ ap (λ (v : List ℕ). frame_by bytes text (take 1 text) v) (g ∙ ap (take 1) f)
 
 abbrev whole_by : (line middle rest : List ℕ) → List ℕ
 whole_by line middle rest = reading_start line ++ middle ++ seats rest
 
-pub whole_is : (bytes : Option (List ℕ)) (line rest told : List ℕ) → rest ≡ behind_ending line → told ≡ told_in rest
+pub whole_is : (bytes : Option (List ℕ)) (line rest told : List ℕ) → rest ≡ after_ending line → told ≡ told_in rest
     → reading_start line ++ complete_fields bytes told ++ seats rest ≡ complete_body bytes line
 whole_is bytes line rest told e f =
     ap (λ (v : List ℕ). whole_by line (complete_fields bytes v) rest) (f ∙ ap told_in e)
-    ∙ ap (λ (v : List ℕ). whole_by line (complete_fields bytes (told_in (behind_ending line))) v) e
+    ∙ ap (λ (v : List ℕ). whole_by line (complete_fields bytes (told_in (after_ending line))) v) e
 
-pub broken_is : (line rest told : List ℕ) → rest ≡ behind_ending line → told ≡ told_in rest
+pub broken_is : (line rest told : List ℕ) → rest ≡ after_ending line → told ≡ told_in rest
     → reading_start line ++ field (codes "bits") Text told ++ seats rest ≡ broken_body line
 broken_is line rest told e f =
     ap (λ (v : List ℕ). whole_by line (field (codes "bits") Text v) rest) (f ∙ ap told_in e)
-    ∙ ap (λ (v : List ℕ). whole_by line (field (codes "bits") Text (told_in (behind_ending line))) v) e
+    ∙ ap (λ (v : List ℕ). whole_by line (field (codes "bits") Text (told_in (after_ending line))) v) e
 
 -- the frame that was looked for is that of the line
-pub bytes_are : (line rest told text : List ℕ) (bytes : Option (List ℕ)) → rest ≡ behind_ending line → told ≡ told_in rest → text ≡ before_last told → AreBytesOf text bytes
+pub bytes_are : (line rest told text : List ℕ) (bytes : Option (List ℕ)) → rest ≡ after_ending line → told ≡ told_in rest → text ≡ before_last told → AreBytesOf text bytes
     → AreBytesOf (frame_in line) bytes
 bytes_are line rest told text bytes a b c are = subst (λ (t : List ℕ). AreBytesOf t bytes) (c ∙ ap before_last (b ∙ ap told_in a)) are
 

@@ -5,7 +5,7 @@ use Rattle.std.specs.Str.{bytes_eq}
 use Rattle.hdmi_core.specs.Piece.{hex_text}
 use Rattle.cec_text.specs.FrameLines.{IsTextOf}
 use Rattle.cec_json.specs.Columns.{event_fields, field, fields, instant, field_lead, port_fields, reading_fields, state_fields}
-use Rattle.cec_json.specs.Parts.{after_word, before_last, behind_ending, has_seats, last_word, losers_in, told_in, winners_in, word}
+use Rattle.cec_json.specs.Parts.{after_word, before_last, after_ending, has_seats, last_word, losers_in, told_in, winners_in, word}
 use Rattle.cec_json.specs.Values.{string_text}
 use Rattle.cec_json.specs.declared.object.Form.{Form}
 use Rattle.cec_json.specs.declared.object.Form.TheVariants as forms
@@ -41,7 +41,7 @@ abbrev pub reading_type : Bool → List ℕ
 reading_type is_round = if is_round then codes "round" else codes "reading"
 
 abbrev pub reading_start : List ℕ → List ℕ
-reading_start line = type_field (reading_type (has_seats (behind_ending line))) ++ fields reading_fields line
+reading_start line = type_field (reading_type (has_seats (after_ending line))) ++ fields reading_fields line
 
 abbrev pub names_fields : List ℕ → List ℕ
 names_fields rest = field (codes "by") Names (winners_in rest) ++ field (codes "out") Losers (losers_in rest)
@@ -79,10 +79,10 @@ abbrev pub end_body : List ℕ → List ℕ
 end_body line = type_field (codes "end") ++ fields instant line
 
 abbrev pub complete_body : Option (List ℕ) → List ℕ → List ℕ
-complete_body bytes line = reading_start line ++ complete_fields bytes (told_in (behind_ending line)) ++ seats (behind_ending line)
+complete_body bytes line = reading_start line ++ complete_fields bytes (told_in (after_ending line)) ++ seats (after_ending line)
 
 abbrev pub broken_body : List ℕ → List ℕ
-broken_body line = reading_start line ++ field (codes "bits") Text (told_in (behind_ending line)) ++ seats (behind_ending line)
+broken_body line = reading_start line ++ field (codes "bits") Text (told_in (after_ending line)) ++ seats (after_ending line)
 
 abbrev pub body : Form → Option (List ℕ) → List ℕ → List ℕ
 body forms.State bytes line = state_body line
@@ -101,7 +101,7 @@ AreBytesOf text None = (frame : List ℕ) → IsTextOf text frame → ⊥
 AreBytesOf text (Some frame) = IsTextOf text frame
 
 abbrev pub frame_in : List ℕ → List ℕ
-frame_in line = before_last (told_in (behind_ending line))
+frame_in line = before_last (told_in (after_ending line))
 
 -- what the object of a line has after the line
 abbrev pub IsTold : List ℕ → List ℕ → Type 0

@@ -39,8 +39,8 @@ before_last text = take (last_space text - 1) text
 
 -- ---- a reading's line: begin, close, ending, what was reported; of a round then `by NAMES out NAMES`
 
-abbrev pub behind_ending : List ℕ → List ℕ
-behind_ending line = after_word (after_word (after_word line))
+abbrev pub after_ending : List ℕ → List ℕ
+after_ending line = after_word (after_word (after_word line))
 
 abbrev pub has_seats : List ℕ → Bool
 has_seats rest = bytes_eq (last_word (before_last rest)) (codes "out")

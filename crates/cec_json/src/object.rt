@@ -5,14 +5,14 @@ ghost use Rattle.cec_json.specs.Progress.{WritesOn};
 
 use crate::columns::{AT, EVENT, PORT, READING, STATE, write_field, write_fields, write_lead};
 use crate::parts::{
-    after_word, before_last, behind_ending, has_seats, last_word, losers_in, told_in, winners_in,
+    after_word, before_last, after_ending, has_seats, last_word, losers_in, told_in, winners_in,
     word,
 };
 use crate::progress::Progress;
 use crate::values::{Shape, write_quoted};
 use cec_frame::Frame;
 use cec_text::{assemble, frames_are_whole};
-use hdmi_core::{Piece, Sink, before, behind};
+use hdmi_core::{Piece, Sink, before, after};
 
 /// Which line of a trace, or of readings, it is.
 #[derive(Clone, Copy, Debug)]
@@ -108,7 +108,7 @@ fn reading_type(is_round: bool) -> &'static str
 fn write_begun<S: Sink>(line: &[u8], progress: &mut Progress, out: &mut S)
     ensures { WritesOn (S.contents out.old) (S.contents out.new) (S.is_stuck out.old) (S.is_stuck out.new) (reading_start line.now) progress.old.so_far progress.new.so_far }
 {
-    write_type(reading_type(has_seats(behind_ending(line))), progress, out);
+    write_type(reading_type(has_seats(after_ending(line))), progress, out);
     write_fields(READING, line, progress, out);
 }
 
@@ -153,7 +153,7 @@ fn write_frame<S: Sink>(frame: &Option<Frame>, text: &[u8], progress: &mut Progr
 {
     write_field("frame", Shape::Text, text, progress, out);
     write_field("initiator", Shape::Text, before(text, 1), progress, out);
-    let destination = before(behind(text, 2), 1);
+    let destination = before(after(text, 2), 1);
     write_field("destination", Shape::Text, destination, progress, out);
     write_lead("bytes", progress, out);
     write_bytes(frame, progress, out);
@@ -201,7 +201,7 @@ fn write_end<S: Sink>(line: &[u8], progress: &mut Progress, out: &mut S)
 fn write_whole<S: Sink>(frame: &Option<Frame>, line: &[u8], progress: &mut Progress, out: &mut S)
     ensures { WritesOn (S.contents out.old) (S.contents out.new) (S.is_stuck out.old) (S.is_stuck out.new) (complete_body frame.now line.now) progress.old.so_far progress.new.so_far }
 {
-    let rest = behind_ending(line);
+    let rest = after_ending(line);
     write_begun(line, progress, out);
     write_complete(frame, told_in(rest), progress, out);
     write_seats(rest, progress, out);
@@ -211,7 +211,7 @@ fn write_whole<S: Sink>(frame: &Option<Frame>, line: &[u8], progress: &mut Progr
 fn write_broken<S: Sink>(line: &[u8], progress: &mut Progress, out: &mut S)
     ensures { WritesOn (S.contents out.old) (S.contents out.new) (S.is_stuck out.old) (S.is_stuck out.new) (broken_body line.now) progress.old.so_far progress.new.so_far }
 {
-    let rest = behind_ending(line);
+    let rest = after_ending(line);
     write_begun(line, progress, out);
     write_field("bits", Shape::Text, told_in(rest), progress, out);
     write_seats(rest, progress, out);
@@ -243,7 +243,7 @@ pub fn write_told<S: Sink>(line: &[u8], progress: &mut Progress, out: &mut S)
     ensures { (told : List ℕ) × IsTold line.now told
         × WritesOn (S.contents out.old) (S.contents out.new) (S.is_stuck out.old) (S.is_stuck out.new) told progress.old.so_far progress.new.so_far }
 {
-    let frame = frame_of(before_last(told_in(behind_ending(line))));
+    let frame = frame_of(before_last(told_in(after_ending(line))));
     write_body(form_of(line), &frame, line, progress, out);
 }
 

@@ -1,8 +1,8 @@
 //! Parts of a line of a trace.
 ghost use Rattle.std.specs.Prelude.{◌≡◌, ◌≤◌, ◌<◌, length};
-ghost use Rattle.cec_json.specs.Parts.{after_byte, after_word, before_byte, before_last, before_seats, behind_ending, has_seats, last_space, last_word, losers_in, space_in, told_in, value_of, winners_in, word};
+ghost use Rattle.cec_json.specs.Parts.{after_byte, after_word, before_byte, before_last, before_seats, after_ending, has_seats, last_space, last_word, losers_in, space_in, told_in, value_of, winners_in, word};
 
-use hdmi_core::{before, behind, len_before};
+use hdmi_core::{before, after, len_before};
 
 /// What stands before the first byte of this value, or all where there is none.
 pub fn before_byte(byte: u8, text: &[u8]) -> &[u8]
@@ -15,7 +15,7 @@ pub fn before_byte(byte: u8, text: &[u8]) -> &[u8]
 pub fn after_byte(byte: u8, text: &[u8]) -> &[u8]
     ensures { result.now ≡ after_byte byte text.now }
 {
-    behind(text, len_before(text, byte) + 1)
+    after(text, len_before(text, byte) + 1)
 }
 
 /// The first word.
@@ -63,7 +63,7 @@ fn last_space(text: &[u8]) -> usize
 pub(crate) fn last_word(text: &[u8]) -> &[u8]
     ensures { result.now ≡ last_word text.now }
 {
-    behind(text, last_space(text))
+    after(text, last_space(text))
 }
 
 /// What stands before the last word and its space.
@@ -74,8 +74,8 @@ pub(crate) fn before_last(text: &[u8]) -> &[u8]
 }
 
 /// What stands after the ending of a reading.
-pub(crate) fn behind_ending(line: &[u8]) -> &[u8]
-    ensures { result.now ≡ behind_ending line.now }
+pub(crate) fn after_ending(line: &[u8]) -> &[u8]
+    ensures { result.now ≡ after_ending line.now }
 {
     after_word(after_word(after_word(line)))
 }

@@ -5,7 +5,7 @@ use Rattle.std.specs.List.{filter_map, find}
 use Rattle.std.specs.Option.{option_copied}
 use Rattle.hdmi_core.specs.Lines.{lines_of}
 use Rattle.hdmi_core.specs.Number.{number_of}
-use Rattle.hdmi_core.specs.Words.{words_of, words_behind, text_of, one_of}
+use Rattle.hdmi_core.specs.Words.{words_of, words_after, text_of, one_of}
 use Rattle.cec_judge.specs.declared.told.RoundLine.{RoundLine as RoundRead}
 use Rattle.cec_judge.specs.declared.told.EventLine.{EventLine as EventRead}
 
@@ -18,13 +18,13 @@ pub record RoundLine : Type 0 where
   pub told : List ℕ
 
 -- the words after the times as a text, without the word `complete`
-abbrev pub behind_complete : List ℕ → List (List ℕ) → List ℕ
-behind_complete ending [] = ending
-behind_complete ending (word ∷ words) = if bytes_eq ending (codes "complete") then text_of (word ∷ words) else text_of (ending ∷ word ∷ words)
+abbrev pub after_complete : List ℕ → List (List ℕ) → List ℕ
+after_complete ending [] = ending
+after_complete ending (word ∷ words) = if bytes_eq ending (codes "complete") then text_of (word ∷ words) else text_of (ending ∷ word ∷ words)
 
 abbrev pub told_in : List (List ℕ) → List ℕ
 told_in [] = []
-told_in (ending ∷ words) = behind_complete ending words
+told_in (ending ∷ words) = after_complete ending words
 
 abbrev pub round_by : Option ℕ → Option ℕ → List ℕ → Option RoundLine
 round_by None at told = None
@@ -57,15 +57,15 @@ event_by None line outcome = None
 event_by (Some at) None outcome = None
 event_by (Some at) (Some line) outcome = Some (record { at = at; line = line; outcome = outcome })
 
-abbrev pub event_behind : List ℕ → List ℕ → List (List ℕ) → Option EventLine
-event_behind at word [] = None
-event_behind at word (line ∷ outcome) = if bytes_eq word (codes "event") then event_by (number_of at) (number_of line) outcome else None
+abbrev pub event_after : List ℕ → List ℕ → List (List ℕ) → Option EventLine
+event_after at word [] = None
+event_after at word (line ∷ outcome) = if bytes_eq word (codes "event") then event_by (number_of at) (number_of line) outcome else None
 
 -- a line of an event: `T event N OUTCOME`
 abbrev pub event_in : List (List ℕ) → Option EventLine
 event_in [] = None
 event_in (at ∷ []) = None
-event_in (at ∷ word ∷ words) = event_behind at word words
+event_in (at ∷ word ∷ words) = event_after at word words
 
 -- the events of a trace, in order
 abbrev pub events_of : List ℕ → List EventLine
@@ -76,7 +76,7 @@ abbrev pub event_at : List ℕ → ℕ → Option EventLine
 event_at trace number = find (λ e. e.line == number) (events_of trace)
 
 abbrev pub event_as : EventRead → EventLine
-event_as e = record { at = e.at; line = e.line; outcome = words_behind (option_copied e.outcome) }
+event_as e = record { at = e.at; line = e.line; outcome = words_after (option_copied e.outcome) }
 
 -- the word with which an event was refused, by what became of it: `refused WORD`
 abbrev pub refusal_in : List (List ℕ) → Option (List ℕ)

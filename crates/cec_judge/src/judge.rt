@@ -3,7 +3,7 @@ ghost use Rattle.std.specs.Prelude.{◌≡◌, ◌++◌, [], ℕ, map, nat_eq, I
 ghost use Rattle.std.specs.HashMap.{get};
 ghost use Rattle.std.specs.Option.{option_copied};
 ghost use Rattle.hdmi_core.specs.Lines.{lines_of};
-ghost use Rattle.hdmi_core.specs.Words.{words_behind, words_of};
+ghost use Rattle.hdmi_core.specs.Words.{words_after, words_of};
 ghost use Rattle.cec_expect.specs.Form.{window_of};
 ghost use Rattle.cec_judge.specs.Judged.{failure, finding_as, findings_of, first_state, has_word, has_words, holds_by, instant_at, is_of_state, is_word, later_states, line_judged, noted, nothing, or_more, other_judged, refusal_at, refused_judged, rounds_judged, span_from, span_of, state_judged, states_for};
 
@@ -153,7 +153,7 @@ fn refused_judged(labels: &Labels<'_>, index: &Index<'_>, name: &[u8], word: &[u
 }
 
 fn has_word(word: &[u8], text: Option<&[u8]>) -> bool
-    ensures { result ≡ has_word word.now (words_behind (option_copied text.entry)) }
+    ensures { result ≡ has_word word.now (words_after (option_copied text.entry)) }
 {
     let mut rest = text;
     'words: while let Some(words) = rest {
@@ -168,7 +168,7 @@ fn has_word(word: &[u8], text: Option<&[u8]>) -> bool
 
 // Whether each word of a text is among those of another.
 fn has_words(text: &[u8], other: Option<&[u8]>) -> bool
-    ensures { result ≡ has_words (words_of text.now) (words_behind (option_copied other.entry)) }
+    ensures { result ≡ has_words (words_of text.now) (words_after (option_copied other.entry)) }
 {
     let mut rest = Some(text);
     'words: while let Some(words) = rest {

@@ -1,7 +1,7 @@
 //! What the lines of a trace say of rounds, of events and of states.
 ghost use Rattle.std.specs.Prelude.{◌≡◌};
 ghost use Rattle.std.specs.Option.{option_copied, option_map};
-ghost use Rattle.hdmi_core.specs.Words.{words_behind, words_of};
+ghost use Rattle.hdmi_core.specs.Words.{words_after, words_of};
 ghost use Rattle.cec_judge.specs.Told.{event_as, event_at, event_in, is_state_of, refusal_in, round_as, round_in, state_line, state_words, told_in};
 
 use hdmi_core::{first_line, first_word, number_in, one_word};
@@ -28,7 +28,7 @@ pub struct EventLine<'a> {
 
 // What stands after the times of a round.
 fn told_in(rest: Option<&[u8]>) -> &[u8]
-    ensures { result.now ≡ told_in (words_behind (option_copied rest.entry)) }
+    ensures { result.now ≡ told_in (words_after (option_copied rest.entry)) }
 {
     let Some(text) = rest else {
         return &[];
@@ -93,7 +93,7 @@ pub fn event_at(trace: &[u8], number: u64) -> Option<EventLine<'_>>
 
 /// The word with which an event was refused, by what became of it.
 pub fn refusal_in(outcome: Option<&[u8]>) -> Option<&[u8]>
-    ensures { option_copied result ≡ refusal_in (words_behind (option_copied outcome.entry)) }
+    ensures { option_copied result ≡ refusal_in (words_after (option_copied outcome.entry)) }
 {
     let (verb, rest) = first_word(outcome?);
     if verb == b"refused".as_slice() {
@@ -130,7 +130,7 @@ pub fn state_line<'a>(trace: &'a [u8], name: &[u8]) -> &'a [u8]
 
 /// What a line of a state reports after the device's name.
 pub(crate) fn state_words(line: &[u8]) -> Option<&[u8]>
-    ensures { words_behind (option_copied result) ≡ state_words (words_of line.now) }
+    ensures { words_after (option_copied result) ≡ state_words (words_of line.now) }
 {
     let (_verb, rest) = first_word(line);
     let (_device, rest) = first_word(rest?);

@@ -24,7 +24,7 @@ use Rattle.cec_mon.specs.declared.edge_file.EdgeFault.TheVariants as fault
 use Rattle.cec_mon.specs.declared.edge_file.EdgeLine.{EdgeLine}
 use Rattle.cec_mon.specs.declared.edge_file.EdgeLine.TheVariants.{Edge, End}
 use Rattle.cec_mon.specs.declared.edge_file.EdgeLines.{EdgeLines}
-use Rattle.cec_mon.specs.EdgeFile.{EdgeFile, edge_line_of, edges_read, end_read, file_left, file_of, is_in_turn, read_line, turns, with_edge, with_edges, word_out_of_turn, word_past, GoesBehind, ReadsOn}
+use Rattle.cec_mon.specs.EdgeFile.{EdgeFile, edge_line_of, edges_read, end_read, file_left, file_of, is_in_turn, read_line, turns, with_edge, with_edges, word_out_of_turn, word_past, GoesAfter, ReadsOn}
 use Rattle.cec_mon.specs.Monitor.{HeardBefore, FollowsEdge, FollowsEnd}
 use Rattle.cec_mon.specs.Watch.{WritesFile, file_readings, listed_line, readings_text, reported_text}
 
@@ -42,14 +42,14 @@ pub edges_ok : (es : List EdgeOf) (g : EdgeFile) → (f : EdgeFile) × (with_edg
 edges_ok [] g = (g, refl)
 edges_ok (e ∷ es) g = let f = edges_ok es g in (record { edges = e ∷ f.0.edges; end = f.0.end }, ap (with_edge e) f.1)
 
-pub record Behind (e : EdgeOf) (r : Result EdgeFile EdgeFault) (f : EdgeFile) : Type 0 where
+pub record EdgeBefore (e : EdgeOf) (r : Result EdgeFile EdgeFault) (f : EdgeFile) : Type 0 where
   pub left : EdgeFile
   pub is : r ≡ Ok left
   pub same : f ≡ record { edges = e ∷ left.edges; end = left.end }
 
-pub behind : (e : EdgeOf) (r : Result EdgeFile EdgeFault) (f : EdgeFile) → with_edge e r ≡ Ok f → Behind e r f
-behind e (Err x) f h = cc
-behind e (Ok g) f h = record { left = g; is = refl; same = cc }
+pub edge_before : (e : EdgeOf) (r : Result EdgeFile EdgeFault) (f : EdgeFile) → with_edge e r ≡ Ok f → EdgeBefore e r f
+edge_before e (Err x) f h = cc
+edge_before e (Ok g) f h = record { left = g; is = refl; same = cc }
 
 -- ---- no edge of what is left comes before `from`
 
@@ -68,7 +68,7 @@ Late from f = (b : Bool) (u : ℕ) → u < from → level_at b f.edges u ≡ b
 late_edge : (is_low : Bool) (from : ℕ) (e : EdgeOf) (r : Result EdgeFile EdgeFault) (f : EdgeFile) → is_in_turn is_low from e ≡ true → with_edge e r ≡ Ok f → Late from f
 unfolding Late
 late_edge is_low from e r f turn h b u l =
-    let g = behind e r f h in
+    let g = edge_before e r f h in
     let after : nat_le from e.at ≡ true = right (turns is_low e) (nat_le from e.at) turn in
     ap (λ (x : EdgeFile). level_at b x.edges u) g.same
     ∙ ap (λ c. if c then b else level_at e.low g.left.edges u) (let x : nat_lt u e.at ≡ true = grind (arith, nat_tests) in x)
@@ -137,7 +137,7 @@ record Told (f : EdgeFile) (lines next : EdgeLines) (m new : Watcher) (e : EdgeO
   ended : ended_before (line_of_edges f.edges) next.from ≡ ended_before (line_of_edges f.edges) lines.from ++ option_to_list told
 
 told_edge : (f : EdgeFile) (lines next : EdgeLines) (m new : Watcher) (e : EdgeOf) (told : Option Listed) (old now : Option (List ℕ)) (was is : Bool) (written : ℕ) → Watched f lines m old now was is written
-    → GoesBehind lines e next → FollowsEdge m e told new → Told f lines next m new e told
+    → GoesAfter lines e next → FollowsEdge m e told new → Told f lines next m new e told
 unfolding Late
 told_edge f lines next m new e told old now was is written w g follows = record {
   left = b.left;
@@ -152,8 +152,8 @@ told_edge f lines next m new e told old now was is written w g follows = record 
     low : Line
     low = line_of_edges f.edges
 
-    b : Behind e (file_left next) w.left
-    b = behind e (file_left next) w.left (sym g.file ∙ w.file)
+    b : EdgeBefore e (file_left next) w.left
+    b = edge_before e (file_left next) w.left (sym g.file ∙ w.file)
 
     at : (u : ℕ) → lines.from ≤ u → line_of_edges f.edges u ≡ (if nat_lt u e.at then lines.is_low else level_at e.low b.left.edges u)
     at u l = w.level u l ∙ ap (λ (x : EdgeFile). level_at lines.is_low x.edges u) b.same
@@ -177,7 +177,7 @@ pub text_more : (xs : List Listed) (o : Option Listed) → readings_text (xs ++ 
 text_more xs o = flat_map-append listed_line xs (option_to_list o)
 
 pub watched_more : (f : EdgeFile) (lines next : EdgeLines) (m new : Watcher) (e : EdgeOf) (told : Option Listed) (old mid out : Option (List ℕ)) (was is now : Bool) (written total : ℕ)
-    → Watched f lines m old mid was is written → GoesBehind lines e next → FollowsEdge m e told new → AddsAll mid out is now written total (reported_text told)
+    → Watched f lines m old mid was is written → GoesAfter lines e next → FollowsEdge m e told new → AddsAll mid out is now written total (reported_text told)
     → Watched f next new old out was now total
 watched_more f lines next m new e told old mid out was is now written total w g follows added =
     let t = told_edge f lines next m new e told old mid was is written w g follows in
@@ -211,7 +211,7 @@ end_after (line ∷ lines) number is_low from f h = by_skip (is_skipped line) h 
 
         by_turn : (c : Bool) → is_in_turn is_low from e ≡ c → (if c then with_edge e (edges_read lines (number + 1) e.low (e.at + 1)) else Err (fault.Order number (word_out_of_turn is_low e))) ≡ Ok f → from ≤ f.end + 1
         by_turn true t j =
-            let g = behind e (edges_read lines (number + 1) e.low (e.at + 1)) f j in
+            let g = edge_before e (edges_read lines (number + 1) e.low (e.at + 1)) f j in
             let after : nat_le from e.at ≡ true = right (turns is_low e) (nat_le from e.at) t in
             let start : from ≤ e.at = grind (arith, nat_tests) in
             let same : f.end ≡ g.left.end = ap (λ (x : EdgeFile). x.end) g.same in
@@ -233,16 +233,16 @@ end_after (line ∷ lines) number is_low from f h = by_skip (is_skipped line) h 
     by_skip false k ih = by_line (edge_line_of line) k ih
 
 -- what follows an edge does not begin after the end
-edge_by : (f : EdgeFile) (lines next : EdgeLines) (m : Watcher) (e : EdgeOf) (old now : Option (List ℕ)) (was is : Bool) (written : ℕ) → Watched f lines m old now was is written → GoesBehind lines e next → e.at ≤ f.end
+edge_by : (f : EdgeFile) (lines next : EdgeLines) (m : Watcher) (e : EdgeOf) (old now : Option (List ℕ)) (was is : Bool) (written : ℕ) → Watched f lines m old now was is written → GoesAfter lines e next → e.at ≤ f.end
 edge_by f lines next m e old now was is written w g =
-    let b = behind e (file_left next) w.left (sym g.file ∙ w.file) in
+    let b = edge_before e (file_left next) w.left (sym g.file ∙ w.file) in
     let late = end_after (lines_of next.rest.now) next.number next.is_low next.from b.left b.is in
     let same : b.left.end ≡ f.end = ap (λ (x : EdgeFile). x.end) (sym b.same) ∙ w.end in
     omega (arith, late, same, g.from)
 
 -- the line of an edge's reading was cut off
 pub cut_edge : (f : EdgeFile) (lines next : EdgeLines) (m new : Watcher) (e : EdgeOf) (told : Option Listed) (old mid out : Option (List ℕ)) (was is now : Bool) (written total : ℕ) (fault : WriteFault)
-    → Watched f lines m old mid was is written → GoesBehind lines e next → FollowsEdge m e told new → Adds mid out is now written total (reported_text told) (Err fault) → WritesFile old out was now f (Err fault)
+    → Watched f lines m old mid was is written → GoesAfter lines e next → FollowsEdge m e told new → Adds mid out is now written total (reported_text told) (Err fault) → WritesFile old out was now f (Err fault)
 cut_edge f lines next m new e told old mid out was is now written total fault w g follows cut =
     let t = told_edge f lines next m new e told old mid was is written w g follows in
     let rest = ended_first (line_of_edges f.edges) e.at f.end (edge_by f lines next m e old mid was is written w g) in
@@ -297,7 +297,7 @@ no_fault f lines m old mid was is written x w e = no w.left (file_left lines) w.
 
 -- ---- what the reader of the lines answers
 
-pub edge_read : (old new : EdgeLines) (l : EdgeLine) (e : EdgeOf) → ReadsOn old (Ok l) new → l ≡ Edge e → GoesBehind old e new
+pub edge_read : (old new : EdgeLines) (l : EdgeLine) (e : EdgeOf) → ReadsOn old (Ok l) new → l ≡ Edge e → GoesAfter old e new
 edge_read old new l e h line = subst (λ x. ReadsOn old (Ok x) new) line h
 
 pub end_read_so : (old new : EdgeLines) (l : EdgeLine) (t : ℕ) → ReadsOn old (Ok l) new → l ≡ End t → (file_left old ≡ Ok (record { edges = []; end = t })) × (old.from ≤ t + 1) × (t ≤ 2000000000000)

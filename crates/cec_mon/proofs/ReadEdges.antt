@@ -13,7 +13,7 @@ use Rattle.cec_mon.specs.declared.edge_file.EdgeLine.{EdgeLine}
 use Rattle.cec_mon.specs.declared.edge_file.EdgeLine.TheVariants.{Edge, End}
 use Rattle.cec_mon.specs.EdgeFile.{EdgeFile, edge_line_of, edges_read, end_read, file_of, is_in_turn, line_alone, line_by, edge_line_at, marked_by, read_line, turns, with_edge, with_edges, within, word_out_of_turn}
 use Rattle.cec_mon.specs.Reading.{GivesEdges, fault_told}
-use Rattle.cec_mon.proofs.Files.{behind, end_none}
+use Rattle.cec_mon.proofs.Files.{edge_before, end_none}
 
 -- ---- the end is within the limit
 
@@ -98,7 +98,7 @@ line_is_read number is_low from line (Err word) more lines f is ih h = cc
 line_is_read number is_low from line (Ok (Edge e)) more lines f is ih h = by (is_in_turn is_low from e) refl h
   where
     by : (c : Bool) → is_in_turn is_low from e ≡ c → (if c then with_edge e (more e) else Err (fault.Order number (word_out_of_turn is_low e))) ≡ Ok f → IsRead is_low from f
-    by true t k = let b = behind e (more e) f k in edge_is_read is_low from e b.left f t (ih e b.left b.is) b.same
+    by true t k = let b = edge_before e (more e) f k in edge_is_read is_low from e b.left f t (ih e b.left b.is) b.same
     by false t k = cc
 line_is_read number is_low from line (Ok (End t)) more lines f is ih h = by (nat_le from (t + 1)) refl h
   where

@@ -133,7 +133,7 @@ ReadsLine number line old (Ok (End t)) new = (left_after number line old ≡ Ok 
 ReadsLine number line old (Err fault) new = left_after number line old ≡ Err fault
 
 -- it goes on after an edge, and counts the lines that it took
-pub record GoesBehind (old : EdgeLines) (e : EdgeOf) (new : EdgeLines) : Type 0 where
+pub record GoesAfter (old : EdgeLines) (e : EdgeOf) (new : EdgeLines) : Type 0 where
   pub file : file_left old ≡ with_edge e (file_left new)
   pub level : new.is_low ≡ e.low
   pub from : new.from ≡ e.at + 1
@@ -143,6 +143,6 @@ pub record GoesBehind (old : EdgeLines) (e : EdgeOf) (new : EdgeLines) : Type 0 
   pub room : new.number + length new.rest.now ≤ old.number + length old.rest.now
 
 abbrev pub ReadsOn : EdgeLines → Result EdgeLine EdgeFault → EdgeLines → Type 0
-ReadsOn old (Ok (Edge e)) new = GoesBehind old e new
+ReadsOn old (Ok (Edge e)) new = GoesAfter old e new
 ReadsOn old (Ok (End t)) new = (file_left old ≡ Ok (record { edges = []; end = t })) × (old.from ≤ t + 1) × (t ≤ latest_instant)
 ReadsOn old (Err fault) new = file_left old ≡ Err fault

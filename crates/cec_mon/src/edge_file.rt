@@ -2,7 +2,7 @@
 ghost use Rattle.std.specs.Prelude.{◌≡◌, ℕ, ◌+◌, ◌≤◌, ◌<◌, false, length};
 ghost use Rattle.std.specs.Option.{option_copied};
 ghost use Rattle.hdmi_core.specs.Lines.{lines_of};
-ghost use Rattle.hdmi_core.specs.Words.{words_behind};
+ghost use Rattle.hdmi_core.specs.Words.{words_after};
 ghost use Rattle.cec_mon.specs.EdgeFile.{edge_line_of, edge_line_at, line_alone, marked_by, time_of, word_past};
 
 use cec_wave::{Edge, LATEST_INSTANT};
@@ -52,7 +52,7 @@ fn edge_line_at(at: u64, mark: &[u8]) -> Result<EdgeLine, u8>
 
 // What two words say, where none is left after them.
 fn line_alone(line: Result<EdgeLine, u8>, rest: Option<&[u8]>) -> Result<EdgeLine, u8>
-    ensures { result ≡ line_alone line (words_behind (option_copied rest.entry)) }
+    ensures { result ≡ line_alone line (words_after (option_copied rest.entry)) }
 {
     match line {
         Err(word) => Err(word),
@@ -68,7 +68,7 @@ fn line_alone(line: Result<EdgeLine, u8>, rest: Option<&[u8]>) -> Result<EdgeLin
 
 // The words after a time.
 fn marked_by(at: Option<u64>, rest: Option<&[u8]>) -> Result<EdgeLine, u8>
-    ensures { result ≡ marked_by at (words_behind (option_copied rest.entry)) }
+    ensures { result ≡ marked_by at (words_after (option_copied rest.entry)) }
 {
     let Some(at) = at else {
         return Err(0);

@@ -10,7 +10,7 @@ use Rattle.cec_signal.specs.Track.{Moved, last_edge, track_move}
 use Rattle.cec_signal.specs.declared.track.Track.{Track}
 use Rattle.cec_signal.proofs.Recording.{Records, moved_at, records_capture, records_end, records_level, records_line, records_moved}
 use Rattle.cec_pin.specs.Pin.{Step, Stepped, first_reader, edges_in, event_of, after_event, track_with_level, lines_read, moved_by, moved_to, start_in_comment, passed_by, read_on, reader_with_start, took, with_edges}
-use Rattle.cec_pin.specs.Sampling.{Level, PinFilesAreSampled, event_in, last_time, level_by, level_of, level_told, levels_in, or_start, start_behind, time_by}
+use Rattle.cec_pin.specs.Sampling.{Level, PinFilesAreSampled, event_in, last_time, level_by, level_of, level_told, levels_in, or_start, start_after, time_by}
 use Rattle.cec_pin.specs.declared.line.Event.{Event}
 use Rattle.cec_pin.specs.declared.reader.Reader.{Reader}
 use Rattle.cec_pin.specs.declared.reading.PinFault.{PinFault}
@@ -85,7 +85,7 @@ event_goes r e = late (nat_lt 2000000000000000 (e.nanos - r.start)) refl
     late false h = moves (track_move (rounded (e.nanos - r.start)) r.track) refl (grind (arith, nat_tests))
 
 line_goes : (r : Reader) (line : List ℕ) (time : ℕ) → r.track.at ≡ rounded time → r.track.at ≤ 2000000000000
-    → GoesBy r.track (took line r) (start_behind line r.start) (time_by r.start (event_in line) time) (level_by r.start (event_in line))
+    → GoesBy r.track (took line r) (start_after line r.start) (time_by r.start (event_in line) time) (level_by r.start (event_in line))
 line_goes r line time at early = by (is_skipped line)
   where
     comment : (o : Option ℕ) → GoesBy r.track (Ok (record { reader = reader_with_start o r; edge = None })) (or_start o r.start) time None
@@ -110,12 +110,12 @@ record Ran (r : Reader) (e : Captured) (time : ℕ) (lines : List (List ℕ)) : 
   early : e.end ≤ 2000000000000
 
 run_more : (r : Reader) (step : Step) (e f : Captured) (time : ℕ) (line : List ℕ) (lines : List (List ℕ))
-    → Goes r.track step (start_behind line r.start) (time_by r.start (event_in line) time) (level_by r.start (event_in line))
+    → Goes r.track step (start_after line r.start) (time_by r.start (event_in line) time) (level_by r.start (event_in line))
     → Ran step.reader f (time_by r.start (event_in line) time) lines → e ≡ record { edges = option_to_list step.edge ++ f.edges; end = f.end } → Ran r e time (line ∷ lines)
 run_more r step e f time line lines g ran is =
     subst (λ (e : Captured). Ran r e time (line ∷ lines)) (sym is) (record {
-      records = rw (samples_both (option_to_list (level_by r.start (event_in line))) (levels_in (start_behind line r.start) lines))
-          (g.more f.edges (samples_of (levels_in (start_behind line r.start) lines)) f.end
+      records = rw (samples_both (option_to_list (level_by r.start (event_in line))) (levels_in (start_after line r.start) lines))
+          (g.more f.edges (samples_of (levels_in (start_after line r.start) lines)) f.end
           (subst (λ n. Records step.reader.track f.edges (samples_of (levels_in n lines)) f.end) g.start_is ran.records));
       end = ran.end ∙ ap (λ n. rounded (last_time (time_by r.start (event_in line) time) n lines)) g.start_is;
       early = ran.early;
@@ -128,7 +128,7 @@ lines_ran number [] r e time at early h =
 lines_ran number (line ∷ lines) r e time at early h =
     by (took line r) (line_goes r line time at early) h (λ s f t a l k. lines_ran (number + 1) lines s f t a l k)
   where
-    next : (step : Step) → Goes r.track step (start_behind line r.start) (time_by r.start (event_in line) time) (level_by r.start (event_in line)) → (o : Result Captured PinFault)
+    next : (step : Step) → Goes r.track step (start_after line r.start) (time_by r.start (event_in line) time) (level_by r.start (event_in line)) → (o : Result Captured PinFault)
         → lines_read (number + 1) lines step.reader ≡ o → with_edges (option_to_list step.edge) o ≡ Ok e
         → ((s : Reader) (f : Captured) (t : ℕ) → s.track.at ≡ rounded t → s.track.at ≤ 2000000000000 → lines_read (number + 1) lines s ≡ Ok f → Ran s f t lines) → Ran r e time (line ∷ lines)
     next step g (Err x) k m ih = cc
@@ -136,7 +136,7 @@ lines_ran number (line ∷ lines) r e time at early h =
         let is : record { edges = option_to_list step.edge ++ f.edges; end = f.end } ≡ e = cc in
         run_more r step e f time line lines g (ih step.reader f (time_by r.start (event_in line) time) g.at g.early k) (sym is)
 
-    by : (st : Stepped) → GoesBy r.track st (start_behind line r.start) (time_by r.start (event_in line) time) (level_by r.start (event_in line))
+    by : (st : Stepped) → GoesBy r.track st (start_after line r.start) (time_by r.start (event_in line) time) (level_by r.start (event_in line))
         → read_on (passed_by number st) (lines_read (number + 1) lines) ≡ Ok e
         → ((s : Reader) (f : Captured) (t : ℕ) → s.track.at ≡ rounded t → s.track.at ≤ 2000000000000 → lines_read (number + 1) lines s ≡ Ok f → Ran s f t lines) → Ran r e time (line ∷ lines)
     by (Err x) g k ih = cc

@@ -17,8 +17,8 @@ or_start None start = start
 or_start (Some noted) start = noted
 
 -- the start of what stands after a line
-abbrev pub start_behind : List ℕ → ℕ → ℕ
-start_behind line start = if is_skipped line then or_start (start_in_comment line) start else start
+abbrev pub start_after : List ℕ → ℕ → ℕ
+start_after line start = if is_skipped line then or_start (start_in_comment line) start else start
 
 abbrev pub event_in : List ℕ → Option Event
 event_in line = if is_skipped line then None else event_of line
@@ -34,7 +34,7 @@ level_by start (Some e) = level_told (e.nanos - start) e.low
 
 abbrev pub levels_in : ℕ → List (List ℕ) → List Level
 levels_in start [] = []
-levels_in start (line ∷ lines) = option_to_list (level_by start (event_in line)) ++ levels_in (start_behind line start) lines
+levels_in start (line ∷ lines) = option_to_list (level_by start (event_in line)) ++ levels_in (start_after line start) lines
 
 abbrev pub time_by : ℕ → Option Event → ℕ → ℕ
 time_by start None time = time
@@ -43,7 +43,7 @@ time_by start (Some e) time = e.nanos - start
 -- the time of the last event
 abbrev pub last_time : ℕ → ℕ → List (List ℕ) → ℕ
 last_time time start [] = time
-last_time time start (line ∷ lines) = last_time (time_by start (event_in line) time) (start_behind line start) lines
+last_time time start (line ∷ lines) = last_time (time_by start (event_in line) time) (start_after line start) lines
 
 -- the last level that is not after the first instant of microsecond u counts
 abbrev pub level_of : Bool → List Level → ℕ → Bool

@@ -4,7 +4,7 @@ ghost use Rattle.cec_pin.specs.Pin.{code_of, event_cut, event_of, fraction_of, i
 
 use cec_signal::decimals_in;
 use cec_wave::LATEST_INSTANT;
-use hdmi_core::{before, behind, byte_at, len_before, number_in};
+use hdmi_core::{before, after, byte_at, len_before, number_in};
 
 /// What a line says.
 #[derive(Clone, Copy, Debug, PartialEq, Eq)]
@@ -58,7 +58,7 @@ fn event_cut(seconds: &[u8], rest: &[u8]) -> Option<Event>
         return None;
     }
     let nanos = nanos_of(seconds, before(rest, 9))?;
-    let low = code_of(behind(rest, 10))?;
+    let low = code_of(after(rest, 10))?;
     Some(Event { nanos, low })
 }
 
@@ -67,7 +67,7 @@ pub fn event_of(line: &[u8]) -> Option<Event>
     ensures { result ≡ event_of line.now }
 {
     let dot = len_before(line, b'.');
-    event_cut(before(line, dot), behind(line, dot + 1))
+    event_cut(before(line, dot), after(line, dot + 1))
 }
 
 /// The microseconds from the start to an event, rounded up, within the limit. An event before the start is at it.
@@ -86,7 +86,7 @@ fn time_in(word: &[u8]) -> Option<u128>
     ensures { result ≡ word_start word.now }
 {
     let dot = len_before(word, b'.');
-    nanos_of(before(word, dot), behind(word, dot + 1))
+    nanos_of(before(word, dot), after(word, dot + 1))
 }
 
 /// The start that a comment gives, if it gives one.
@@ -94,7 +94,7 @@ pub fn start_in_comment(line: &[u8]) -> Option<u128>
     ensures { result ≡ start_in_comment line.now }
 {
     if before(line, 18) == b"# start_monotonic ".as_slice() {
-        time_in(behind(line, 18))
+        time_in(after(line, 18))
     } else {
         None
     }

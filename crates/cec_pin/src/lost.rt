@@ -3,7 +3,7 @@ ghost use Rattle.std.specs.Prelude.{◌≡◌, ◌+◌, ◌++◌, ◌∷◌, [],
 ghost use Rattle.hdmi_core.specs.Lines.{lines_of};
 ghost use Rattle.cec_pin.specs.Lost.{is_lost, lost_in};
 
-use hdmi_core::{behind, first_line, is_skipped, len_before, number_in};
+use hdmi_core::{after, first_line, is_skipped, len_before, number_in};
 use std::alloc::{AllocError, Global};
 
 // Whether a line is an event before which others were lost.
@@ -14,7 +14,7 @@ fn is_lost(line: &[u8]) -> bool
         return false;
     }
     let dot = len_before(line, b'.');
-    match number_in(behind(behind(line, dot), 11)) {
+    match number_in(after(after(line, dot), 11)) {
         Some(code) => 65_536 <= code && code <= 65_541,
         None => false,
     }

@@ -9,7 +9,7 @@ use crate::window::{write_no_window, write_seen};
 use cec_json::{
     Progress, Shape, after_word, word, write_field, write_quoted, write_told, write_type,
 };
-use hdmi_core::{Sink, before, behind};
+use hdmi_core::{Sink, before, after};
 
 /// Which report the lines are of.
 #[derive(Clone, Copy, Debug)]
@@ -108,7 +108,7 @@ fn write_plan<S: Sink>(line: &[u8], progress: &mut Progress, out: &mut S)
     ensures { WritesOn (S.contents out.old) (S.contents out.new) (S.is_stuck out.old) (S.is_stuck out.new) (plan_told line.now) progress.old.so_far progress.new.so_far }
 {
     write_type("plan", progress, out);
-    write_field("tests", Shape::Number, behind(line, 3), progress, out);
+    write_field("tests", Shape::Number, after(line, 3), progress, out);
 }
 
 // Writes what a line of a form reports.

@@ -2,7 +2,7 @@
 ghost use Rattle.std.specs.Prelude.{◌≡◌, ◌++◌, [], length};
 ghost use Rattle.std.specs.Option.{option_copied};
 ghost use Rattle.hdmi_core.specs.Number.{is_numeral};
-ghost use Rattle.hdmi_core.specs.Words.{words_behind, words_of};
+ghost use Rattle.hdmi_core.specs.Words.{words_after, words_of};
 ghost use Rattle.cec_json.specs.Progress.{WritesOn};
 ghost use Rattle.cec_report_json.specs.Stretch.{first_instant, is_stretch, last_instant, range_fields, stretch_told, verdict_value, verdicts, verdicts_value};
 
@@ -58,7 +58,7 @@ fn write_verdict<S: Sink>(mark: &[u8], word: &[u8], progress: &mut Progress, out
 
 // Writes the verdicts of words, with commas between them.
 fn write_verdicts<S: Sink>(words: Option<&[u8]>, progress: &mut Progress, out: &mut S)
-    ensures { WritesOn (S.contents out.old) (S.contents out.new) (S.is_stuck out.old) (S.is_stuck out.new) (verdicts [] (words_behind (option_copied words.entry))) progress.old.so_far progress.new.so_far }
+    ensures { WritesOn (S.contents out.old) (S.contents out.new) (S.is_stuck out.old) (S.is_stuck out.new) (verdicts [] (words_after (option_copied words.entry))) progress.old.so_far progress.new.so_far }
 {
     let mut rest = words;
     let mut mark: &[u8] = b"";
@@ -71,7 +71,7 @@ fn write_verdicts<S: Sink>(words: Option<&[u8]>, progress: &mut Progress, out: &
 }
 
 fn write_list<S: Sink>(words: Option<&[u8]>, progress: &mut Progress, out: &mut S)
-    ensures { WritesOn (S.contents out.old) (S.contents out.new) (S.is_stuck out.old) (S.is_stuck out.new) (verdicts_value (words_behind (option_copied words.entry))) progress.old.so_far progress.new.so_far }
+    ensures { WritesOn (S.contents out.old) (S.contents out.new) (S.is_stuck out.old) (S.is_stuck out.new) (verdicts_value (words_after (option_copied words.entry))) progress.old.so_far progress.new.so_far }
 {
     progress.text(out, b"[");
     write_verdicts(words, progress, out);

@@ -8,7 +8,7 @@ ghost use Rattle.cec_session.specs.Session.{idle_line, refusal_cause, refused_li
 
 use cec_asm::{AssembleError, ScriptCause};
 use cec_device::Device;
-use cec_step_text::{behind, whole};
+use cec_step_text::{with_rest, whole};
 use cec_trace::write_state;
 use hdmi_core::{Piece, Sink, WriteFault, write_line, write_pieces};
 
@@ -120,7 +120,7 @@ pub(crate) fn write_shown<S: Sink>(out: &mut S, device: &Device<16>) -> Result<u
     ensures { WrittenText (S.contents out.old) (S.contents out.new) (S.is_stuck out.old) (S.is_stuck out.new) (codes "= " ++ state_line device.now) result }
 {
     match write_mark(out) {
-        Ok(count) => behind(count, whole(write_state(out, device))),
+        Ok(count) => with_rest(count, whole(write_state(out, device))),
         Err(fault) => Err(fault),
     }
 }

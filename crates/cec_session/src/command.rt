@@ -1,7 +1,7 @@
 //! The lines of a session that are no lines of a script.
 ghost use Rattle.std.specs.Prelude.{◌≡◌};
 ghost use Rattle.std.specs.Option.{option_copied, option_map};
-ghost use Rattle.hdmi_core.specs.Words.{one_of, two_of, words_behind};
+ghost use Rattle.hdmi_core.specs.Words.{one_of, two_of, words_after};
 ghost use Rattle.cec_asm.specs.Script.{time_of};
 ghost use Rattle.cec_session.specs.Command.{command_of, run_words, show_words};
 
@@ -35,7 +35,7 @@ fn time_in(word: &[u8]) -> Option<u64>
 
 // What the words after `run` ask for.
 fn run_in(rest: Option<&[u8]>) -> Command
-    ensures { result ≡ run_words (two_of (words_behind (option_copied rest.entry))) }
+    ensures { result ≡ run_words (two_of (words_after (option_copied rest.entry))) }
 {
     let Some((to, time)) = two_words(rest) else {
         return Command::Script;
@@ -49,7 +49,7 @@ fn run_in(rest: Option<&[u8]>) -> Command
 
 // What the word after `show` asks for.
 fn show_in(tree: &Tree<15>, rest: Option<&[u8]>) -> Command
-    ensures { result ≡ show_words tree.now (one_of (words_behind (option_copied rest.entry))) }
+    ensures { result ≡ show_words tree.now (one_of (words_after (option_copied rest.entry))) }
 {
     let Some(name) = one_word(rest) else {
         return Command::Script;

@@ -10,7 +10,7 @@ use crate::note::{events_after, note_line};
 use crate::turns::{go_on, soonest, write_last_lines};
 use cec_asm::{ScriptCause, ScriptDraft};
 use cec_run::{Totals, first_time};
-use cec_step_text::behind;
+use cec_step_text::with_rest;
 use cec_trace::write_ports;
 use hdmi_blocks::Edid;
 use hdmi_core::{Sink, WriteFault};
@@ -254,7 +254,7 @@ impl Live {
         ensures { IsAnswered Go self.old self.new (S.contents out.old) (S.contents out.new) (S.is_stuck out.old) (S.is_stuck out.new) result }
     {
         match self.go(out, false) {
-            Ok(count) => behind(count, self.write_answer(out)),
+            Ok(count) => with_rest(count, self.write_answer(out)),
             Err(fault) => Err(fault),
         }
     }
@@ -265,7 +265,7 @@ impl Live {
             (end_told (Trace self.now.edid) self.now.horizon self.now.place.net ++ taken_line self.now.horizon) result }
     {
         match write_last_lines(out, self.net.devices(), self.horizon) {
-            Ok(count) => behind(count, write_taken(out, self.horizon)),
+            Ok(count) => with_rest(count, write_taken(out, self.horizon)),
             Err(fault) => Err(fault),
         }
     }
@@ -275,7 +275,7 @@ impl Live {
         ensures { IsAnswered Finish self.old self.new (S.contents out.old) (S.contents out.new) (S.is_stuck out.old) (S.is_stuck out.new) result }
     {
         match self.go(out, true) {
-            Ok(count) => behind(count, self.write_end(out)),
+            Ok(count) => with_rest(count, self.write_end(out)),
             Err(fault) => Err(fault),
         }
     }

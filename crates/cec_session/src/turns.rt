@@ -24,7 +24,7 @@ use cec_asm::TimedEvent;
 use cec_device::Device;
 use cec_frame::Ending;
 use cec_run::{Totals, Turn, first_time};
-use cec_step_text::{behind, whole};
+use cec_step_text::{with_rest, whole};
 use cec_trace::{write_end, write_round, write_state};
 use cec_wave::LATEST_EVENT;
 use hdmi_blocks::Edid;
@@ -194,7 +194,7 @@ pub(crate) fn write_last_lines<S: Sink>(
     ensures { WrittenText (S.contents out.old) (S.contents out.new) (S.is_stuck out.old) (S.is_stuck out.new) (flat_map state_line devices.now ++ end_line end) result }
 {
     match write_states(out, devices) {
-        Ok(count) => behind(count, whole(write_end(out, end))),
+        Ok(count) => with_rest(count, whole(write_end(out, end))),
         Err(fault) => Err(fault),
     }
 }

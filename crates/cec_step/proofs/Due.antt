@@ -13,7 +13,7 @@ use Rattle.hdmi_topo.specs.Tree.{device_named}
 use Rattle.hdmi_core.specs.Cut.{WrittenText, told_count}
 use Rattle.hdmi_core.specs.Lines.{lines_of, is_skipped}
 use Rattle.hdmi_core.specs.Words.{words_of}
-use Rattle.hdmi_core.proofs.Cutting.{cut_behind, told_parts}
+use Rattle.hdmi_core.proofs.Cutting.{cut_later, told_parts}
 use Rattle.cec_wire.specs.declared.Outcome.{Outcome}
 use Rattle.cec_net.specs.State.{NetState}
 use Rattle.cec_net.specs.Apply.{net_after}
@@ -61,7 +61,7 @@ skips_count end at (suc rounds) p q (mid, o, skips, step, other) = round_count e
 edge_count : (s t : Steps) (begun : Option NetState) (text : List ℕ) → IsEdgeStepBy s begun text t → device_count t ≡ device_count s
 edge_count s t None text (after, first, is) = ap device_count is
 edge_count s t (Some net) text (inl (after, edge, is)) = ap device_count is
-edge_count s t (Some net) text (inr behind) = ap device_count behind.first.2 ∙ round_count s.run.end s.last behind.last behind.outcome behind.step
+edge_count s t (Some net) text (inr later) = ap device_count later.first.2 ∙ round_count s.run.end s.last later.last later.outcome later.step
 
 step_count : (command : Command) (s t : Steps) (text : List ℕ) → IsStep command s text t → device_count t ≡ device_count s
 step_count Edge s t text h = edge_count s t s.begun text h
@@ -135,7 +135,7 @@ cut_next commands n command s mid t old between new was is written inner fault b
   last = t;
   split = sym (take-append-drop (n + 1) commands);
   due = next_due commands n command s mid t r.text first below same r.due due;
-  cut = cut_behind old between new r.text first written inner fault r.counted r.so_far wrote.0 told;
+  cut = cut_later old between new r.text first written inner fault r.counted r.so_far wrote.0 told;
 }
 
 -- ---- the devices that commands name

@@ -138,10 +138,10 @@ ends end p i n t h b o r inside told wave begins next progress =
     )
 
 -- the first edge after it
-pub taken_behind : (s t : Steps) (net : NetState) (o : Outcome) (q : Point) (old new : Option (List ℕ)) (r : Result ℕ StepError) → s.begun ≡ Some net
+pub taken_after : (s t : Steps) (net : NetState) (o : Outcome) (q : Point) (old new : Option (List ℕ)) (r : Result ℕ StepError) → s.begun ≡ Some net
     → OfRound net (λ begin heard low. IsNextEdge low heard None) → IsRoundStep s.run.end s.last o q
     → IsTaken (IsFirstStep s q) (IsOver s.run.end q) s t old new r → IsTaken (IsEdgeStep s) (IsNoEdge s) s t old new r
-taken_behind s t net o q old new r is silent step taken =
+taken_after s t net o q old new r is silent step taken =
     taken_as (IsFirstStep s q) (IsEdgeStep s) (IsOver s.run.end q) (IsNoEdge s) s t old new r
     (λ text u first. subst (λ x. IsEdgeStepBy s x text u) (sym is) (inr (record { silent = silent; outcome = o; last = q; step = step; first = first })))
     (λ over. subst (λ x. IsNoEdgeBy s x) (sym is) (silent, o, q, step, over)) taken

@@ -25,8 +25,8 @@ leads_then : (telling : Telling) (end n m : ℕ) (c mid d : Config) (text more :
 leads_then telling end zero m c mid d text more l next =
     (m, subst (λ t. Leads telling end m c (t ++ more) d) (sym l.0) (subst (λ x. Leads telling end m x more d) l.1 next))
 leads_then telling end (suc n) m c mid d text more (first, head, rest, turn, after, e) next =
-    let behind = leads_then telling end n m first mid d rest more after next in
-    (suc behind.0, (first, head, rest ++ more, turn, behind.1, ap (λ t. t ++ more) e ∙ append_assoc head rest more))
+    let later = leads_then telling end n m first mid d rest more after next in
+    (suc later.0, (first, head, rest ++ more, turn, later.1, ap (λ t. t ++ more) e ∙ append_assoc head rest more))
 
 -- ---- the events before a round
 

@@ -204,7 +204,7 @@ abbrev pub IsFirstStep : Steps → Point → List ℕ → Steps → Type 0
 IsFirstStep s p text t = (after : NetState) × IsFirstEdge s.run.end p text after × (t ≡ in_round s p after)
 
 -- where the round that was begun has no edge left, the first edge of the round after it
-pub record IsEdgeBehind (s : Steps) (net : NetState) (text : List ℕ) (t : Steps) : Type 0 where
+pub record IsEdgeAfter (s : Steps) (net : NetState) (text : List ℕ) (t : Steps) : Type 0 where
   pub silent : IsSilent net
   pub outcome : Outcome
   pub last : Point
@@ -213,7 +213,7 @@ pub record IsEdgeBehind (s : Steps) (net : NetState) (text : List ℕ) (t : Step
 
 abbrev pub IsEdgeStepBy : Steps → Option NetState → List ℕ → Steps → Type 0
 IsEdgeStepBy s None text t = IsFirstStep s s.last text t
-IsEdgeStepBy s (Some net) text t = ((after : NetState) × IsEdge net text after × (t ≡ in_round s s.last after)) ⊎ IsEdgeBehind s net text t
+IsEdgeStepBy s (Some net) text t = ((after : NetState) × IsEdge net text after × (t ≡ in_round s s.last after)) ⊎ IsEdgeAfter s net text t
 
 abbrev pub IsEdgeStep : Steps → List ℕ → Steps → Type 0
 IsEdgeStep s text t = IsEdgeStepBy s s.begun text t

@@ -12,7 +12,7 @@ use cec_asm::TimedEvent;
 use cec_edges::EdgeWire;
 use cec_net::{Net, RoundReport};
 use cec_run::{Totals, Turn, apply_event, first_time, next_turn};
-use cec_step_text::{behind, write_edge};
+use cec_step_text::{with_rest, write_edge};
 use cec_trace::write_ports;
 use cec_wave::Edge;
 use hdmi_blocks::Edid;
@@ -213,7 +213,7 @@ impl Position {
             ++ passed_text course.now.edid course.now.end (point_of course.now.events.items self.old)) result }
     {
         match self.write_start(course, out) {
-            Ok(count) => behind(count, self.write_events(course, out)),
+            Ok(count) => with_rest(count, self.write_events(course, out)),
             Err(fault) => Err(fault),
         }
     }

@@ -11,7 +11,7 @@ use crate::stepper::StepError;
 use cec_asm::{Script, Topology};
 use cec_edges::EdgeWire;
 use cec_net::Net;
-use cec_step_text::{Break, behind, stops, whole};
+use cec_step_text::{Break, with_rest, stops, whole};
 use cec_trace::{write_round, write_state};
 use cec_wire::Outcome;
 use hdmi_blocks::root_of;
@@ -69,7 +69,7 @@ fn write_step<S: Sink>(
         (step_text (run_of course.now) (point_of course.now.events.items before.old) outcome.now (point_of course.now.events.items after.now)) result }
 {
     match before.write_before(course, out) {
-        Ok(count) => behind(count, whole(write_round(out, after.net.devices(), outcome))),
+        Ok(count) => with_rest(count, whole(write_round(out, after.net.devices(), outcome))),
         Err(fault) => Err(fault),
     }
 }

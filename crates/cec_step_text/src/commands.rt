@@ -1,7 +1,7 @@
 //! Texts of steps.
 ghost use Rattle.std.specs.Prelude.{◌≡◌, ◌+◌, ◌<◌, ◌≤◌, IfOk, IfErr, Ok, length};
 ghost use Rattle.std.specs.Option.{option_copied};
-ghost use Rattle.hdmi_core.specs.Words.{words_behind, words_of};
+ghost use Rattle.hdmi_core.specs.Words.{words_after, words_of};
 ghost use Rattle.cec_step_text.specs.Commands.{IsFault, byte_of, command_alone, command_of, commands_of, device_after, opcode_by, show_by, until_by, until_of, until_opcode};
 
 use crate::break_at::Break;
@@ -57,7 +57,7 @@ fn byte_of(word: &[u8]) -> Option<u8>
 
 // A step that so many words say, where none is left after them.
 fn command_alone(count: u8, rest: Option<&[u8]>, command: Command) -> Result<Command, u8>
-    ensures { result ≡ command_alone count (words_behind (option_copied rest.entry)) command }
+    ensures { result ≡ command_alone count (words_after (option_copied rest.entry)) command }
 {
     match rest {
         None => Ok(command),
@@ -69,7 +69,7 @@ fn command_alone(count: u8, rest: Option<&[u8]>, command: Command) -> Result<Com
 }
 
 fn opcode_by(opcode: Option<u8>, rest: Option<&[u8]>) -> Result<Command, u8>
-    ensures { result ≡ opcode_by opcode (words_behind (option_copied rest.entry)) }
+    ensures { result ≡ opcode_by opcode (words_after (option_copied rest.entry)) }
 {
     match opcode {
         None => Err(2),
@@ -79,7 +79,7 @@ fn opcode_by(opcode: Option<u8>, rest: Option<&[u8]>) -> Result<Command, u8>
 
 // The words after `until opcode`.
 fn until_opcode(rest: Option<&[u8]>) -> Result<Command, u8>
-    ensures { result ≡ until_opcode (words_behind (option_copied rest.entry)) }
+    ensures { result ≡ until_opcode (words_after (option_copied rest.entry)) }
 {
     let Some(rest) = rest else {
         return Err(2);
@@ -91,7 +91,7 @@ fn until_opcode(rest: Option<&[u8]>) -> Result<Command, u8>
 // The device that the one word after so many names.
 fn device_after(tree: &Tree<15>, count: u8, rest: Option<&[u8]>) -> Result<usize, u8>
     requires few { count < 255 }
-    ensures { result ≡ device_after tree.now count (words_behind (option_copied rest.entry)) }
+    ensures { result ≡ device_after tree.now count (words_after (option_copied rest.entry)) }
 {
     let Some(rest) = rest else {
         return Err(count);
@@ -111,7 +111,7 @@ fn device_after(tree: &Tree<15>, count: u8, rest: Option<&[u8]>) -> Result<usize
 
 // The words after `until device`.
 fn until_device(tree: &Tree<15>, rest: Option<&[u8]>) -> Result<Command, u8>
-    ensures { result ≡ until_by (device_after tree.now 2 (words_behind (option_copied rest.entry))) }
+    ensures { result ≡ until_by (device_after tree.now 2 (words_after (option_copied rest.entry))) }
 {
     match device_after(tree, 2, rest) {
         Ok(device) => Ok(Command::Until(Break::Device(device))),
@@ -121,7 +121,7 @@ fn until_device(tree: &Tree<15>, rest: Option<&[u8]>) -> Result<Command, u8>
 
 // The words after `until`.
 fn until_of(tree: &Tree<15>, rest: Option<&[u8]>) -> Result<Command, u8>
-    ensures { result ≡ until_of tree.now (words_behind (option_copied rest.entry)) }
+    ensures { result ≡ until_of tree.now (words_after (option_copied rest.entry)) }
 {
     let Some(rest) = rest else {
         return Err(1);
@@ -140,7 +140,7 @@ fn until_of(tree: &Tree<15>, rest: Option<&[u8]>) -> Result<Command, u8>
 
 // The words after `show`.
 fn shown_of(tree: &Tree<15>, rest: Option<&[u8]>) -> Result<Command, u8>
-    ensures { result ≡ show_by (device_after tree.now 1 (words_behind (option_copied rest.entry))) }
+    ensures { result ≡ show_by (device_after tree.now 1 (words_after (option_copied rest.entry))) }
 {
     match device_after(tree, 1, rest) {
         Ok(device) => Ok(Command::Show(device)),

@@ -16,7 +16,7 @@ pub fn whole(line: Result<u128, WriteFault>) -> Result<u128, WriteFault>
 }
 
 /// What is returned of a text, where this much of it was written and this was returned of the rest.
-pub fn behind(written: u128, rest: Result<u128, WriteFault>) -> Result<u128, WriteFault>
+pub fn with_rest(written: u128, rest: Result<u128, WriteFault>) -> Result<u128, WriteFault>
     ensures { (old mid new : Option (List ℕ)) (was between is : Bool) (text more : List ℕ) → WrittenText old mid was between text (Ok written)
         → WrittenText mid new between is more rest → WrittenText old new was is (text ++ more) result }
 {

@@ -8,25 +8,25 @@ use Rattle.cec_sweep.specs.declared.places.WordRole.TheVariants.{Begin, Name, Ve
 abbrev pub is_time_verb : List ℕ → Bool
 is_time_verb word = bytes_eq word (codes "at") || bytes_eq word (codes "pulse") || bytes_eq word (codes "end")
 
-abbrev pub behind_verb : List ℕ → WordRole
-behind_verb word =
+abbrev pub after_verb : List ℕ → WordRole
+after_verb word =
     if is_time_verb word then Time
     else if bytes_eq word (codes "expect") then Expectation
     else Other
 
-abbrev pub behind_window : List ℕ → WordRole
-behind_window word =
+abbrev pub after_window : List ℕ → WordRole
+after_window word =
     if bytes_eq word (codes "from") then From
     else if bytes_eq word (codes "within") || bytes_eq word (codes "state") then Time
     else Other
 
 -- the place after a word
 abbrev pub next_place : WordRole → List ℕ → WordRole
-next_place Begin word = if bytes_eq word (codes "label") then Name else behind_verb word
+next_place Begin word = if bytes_eq word (codes "label") then Name else after_verb word
 next_place Name word = Verb
-next_place Verb word = behind_verb word
-next_place Expectation word = if bytes_eq word (codes "none") || bytes_eq word (codes "once") then Window else behind_window word
-next_place Window word = behind_window word
+next_place Verb word = after_verb word
+next_place Expectation word = if bytes_eq word (codes "none") || bytes_eq word (codes "once") then Window else after_window word
+next_place Window word = after_window word
 next_place From word = To
 next_place To word = if bytes_eq word (codes "to") then Time else Other
 next_place Time word = Other

@@ -1,6 +1,6 @@
 //! Where times stand in the lines of a script.
 ghost use Rattle.std.specs.Prelude.{◌≡◌, ◌||◌, if◌then◌else◌};
-ghost use Rattle.cec_sweep.specs.Places.{behind_verb, behind_window, is_time, is_time_verb, next_place};
+ghost use Rattle.cec_sweep.specs.Places.{after_verb, after_window, is_time, is_time_verb, next_place};
 
 /// What a word of a line is, by the words before it.
 #[derive(Clone, Copy, Debug, PartialEq, Eq)]
@@ -32,8 +32,8 @@ fn is_time_verb(word: &[u8]) -> bool
 }
 
 // What stands after the first word of a line without its label.
-fn behind_verb(word: &[u8]) -> WordRole
-    ensures { result ≡ behind_verb word.now }
+fn after_verb(word: &[u8]) -> WordRole
+    ensures { result ≡ after_verb word.now }
 {
     if is_time_verb(word) {
         WordRole::Time
@@ -45,8 +45,8 @@ fn behind_verb(word: &[u8]) -> WordRole
 }
 
 // What stands after the first word of a window.
-fn behind_window(word: &[u8]) -> WordRole
-    ensures { result ≡ behind_window word.now }
+fn after_window(word: &[u8]) -> WordRole
+    ensures { result ≡ after_window word.now }
 {
     if word == b"from".as_slice() {
         WordRole::From
@@ -57,27 +57,27 @@ fn behind_window(word: &[u8]) -> WordRole
     }
 }
 
-fn behind_expect(word: &[u8]) -> WordRole
+fn after_expect(word: &[u8]) -> WordRole
     ensures { result ≡ next_place WordRole.Expectation word.now }
 {
     if word == b"none".as_slice() || word == b"once".as_slice() {
         WordRole::Window
     } else {
-        behind_window(word)
+        after_window(word)
     }
 }
 
-fn behind_begin(word: &[u8]) -> WordRole
+fn after_begin(word: &[u8]) -> WordRole
     ensures { result ≡ next_place WordRole.Begin word.now }
 {
     if word == b"label".as_slice() {
         WordRole::Name
     } else {
-        behind_verb(word)
+        after_verb(word)
     }
 }
 
-fn behind_from(word: &[u8]) -> WordRole
+fn after_from(word: &[u8]) -> WordRole
     ensures { result ≡ next_place WordRole.To word.now }
 {
     if word == b"to".as_slice() {
@@ -93,13 +93,13 @@ impl WordRole {
         ensures { result ≡ next_place self word.now }
     {
         match self {
-            WordRole::Begin => behind_begin(word),
+            WordRole::Begin => after_begin(word),
             WordRole::Name => WordRole::Verb,
-            WordRole::Verb => behind_verb(word),
-            WordRole::Expectation => behind_expect(word),
-            WordRole::Window => behind_window(word),
+            WordRole::Verb => after_verb(word),
+            WordRole::Expectation => after_expect(word),
+            WordRole::Window => after_window(word),
             WordRole::From => WordRole::To,
-            WordRole::To => behind_from(word),
+            WordRole::To => after_from(word),
             WordRole::Time | WordRole::Other => WordRole::Other,
         }
     }

@@ -1,7 +1,7 @@
 //! The range of a script, and the script at an instant of it.
 ghost use Rattle.std.specs.Prelude.{◌≡◌, ◌++◌, ◌&&◌, Ok, Err, Some, None, IfOk, OnOk};
 ghost use Rattle.std.specs.Option.{option_copied};
-ghost use Rattle.hdmi_core.specs.Words.{words_behind, words_of};
+ghost use Rattle.hdmi_core.specs.Words.{words_after, words_of};
 ghost use Rattle.cec_sweep.specs.Script.{is_range_at, line_at, mark_before, range_of, script_at, with_range, with_word, word_at, words_ranged};
 
 use crate::places::WordRole;
@@ -128,7 +128,7 @@ fn push_word(text: &mut Vec<u8>, at: u64, place: WordRole, word: &[u8]) -> Resul
 
 // What stands after a word.
 fn mark_before(others: Option<&[u8]>) -> &'static [u8]
-    ensures { result.now ≡ mark_before (words_behind (option_copied others.entry)) }
+    ensures { result.now ≡ mark_before (words_after (option_copied others.entry)) }
 {
     match others {
         None => b"\n",

@@ -4,7 +4,7 @@ ghost use Rattle.cec_wave.specs.Bounds.{latest_event};
 ghost use Rattle.cec_sweep.specs.Series.{is_range, positive, series_in, series_to, series_until, step_at, time_in_range};
 
 use cec_wave::LATEST_EVENT;
-use hdmi_core::{before, behind, byte_at, len_before, number_in};
+use hdmi_core::{before, after, byte_at, len_before, number_in};
 use std::marker::Model;
 use thiserror::Error;
 
@@ -109,7 +109,7 @@ fn step_at(text: &[u8], slash: usize) -> Option<u64>
     ensures moves { IfSome result (λ step. 0 < step) }
 {
     if slash < text.len() {
-        positive(number_in(behind(text, slash + 1)))
+        positive(number_in(after(text, slash + 1)))
     } else {
         Some(1)
     }
@@ -154,6 +154,6 @@ pub(crate) fn series_in(word: &[u8]) -> Result<Series, RangeCause>
     let point = len_before(word, b'.');
     series_until(
         time_in_range(number_in(before(word, point))),
-        behind(word, point + 2),
+        after(word, point + 2),
     )
 }

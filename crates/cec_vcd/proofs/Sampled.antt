@@ -16,7 +16,7 @@ use Rattle.cec_signal.specs.declared.track.Track.{Track}
 use Rattle.cec_signal.proofs.Recording.{Records, moved_at, records_capture, records_end, records_level, records_line, records_moved}
 use Rattle.cec_vcd.specs.Scale.{count_times, counted_word, instant_of, micros, of_unit, unit_of, within}
 use Rattle.cec_vcd.specs.Dump.{Passed, State, Step, Stepped, first_state, edges_in, free, in_field, in_section, is_binary, is_end, is_high, is_mark, is_none, is_other_value, no_edge, keyword, lines_passed, lines_on, end_of_definitions, named_by, onto, parts_of, scalar, scale_begun, scale_made, scale_made_by, step_passed, after_time, timed_by, told_by, took, after_value, vector_value, words_passed}
-use Rattle.cec_vcd.specs.Wire.{Change, Part, Wire, DumpsAreSampled, IsSampled, change_by, change_of, changes_in, femtoseconds, first_of, id_after, is_alone, is_by, is_scalar, is_some_word, last_tick, level_of, scale_after, scale_by, section_behind, tick_behind, unit_in, unit_made, wire_by, wire_end, wire_from, wire_in, words_in}
+use Rattle.cec_vcd.specs.Wire.{Change, Part, Wire, DumpsAreSampled, IsSampled, change_by, change_of, changes_in, femtoseconds, first_of, id_after, is_alone, is_by, is_scalar, is_some_word, last_tick, level_of, scale_after, scale_by, section_after, tick_after, unit_in, unit_made, wire_by, wire_end, wire_from, wire_in, words_in}
 use Rattle.cec_vcd.specs.declared.scale.Count.{Count}
 use Rattle.cec_vcd.specs.declared.scale.Count.TheVariants.{One, Ten, Hundred}
 use Rattle.cec_vcd.specs.declared.reader.Field.{Field}
@@ -158,7 +158,7 @@ first word = slice_index word 0
 
 abbrev FreeGoes : Known → List ℕ → Track → ℕ → Type 0
 FreeGoes k word t tick =
-    GoesBy k t (free word (among k section.Free t)) (change_of k.id section.Free word tick) (tick_behind section.Free word tick) (section_behind section.Free word)
+    GoesBy k t (free word (among k section.Free t)) (change_of k.id section.Free word tick) (tick_after section.Free word tick) (section_after section.Free word)
 
 same_byte : (b n : ℕ) → (b == n) ≡ true → b ≡ n
 same_byte b n h = grind (arith, nat_tests)
@@ -201,8 +201,8 @@ IsAmong section.Skipped = Unit {0}
 IsAmong (section.Value v) = Unit {0}
 IsAmong _ = ⊥
 
-among_behind : (x : Section) (word : List ℕ) → IsAmong (section_behind x word)
-among_behind section.Free word = by (first word == 36) (is_mark word) (first word == 35) (is_scalar word) (is_alone word)
+among_after : (x : Section) (word : List ℕ) → IsAmong (section_after x word)
+among_after section.Free word = by (first word == 36) (is_mark word) (first word == 35) (is_scalar word) (is_alone word)
   where
     by : (a b c d e : Bool)
         → IsAmong (if a then (if b then section.Free else section.Skipped) else if c then section.Free else if d then (if e then section.Value (Some (first word == 48)) else section.Free)
@@ -213,19 +213,19 @@ among_behind section.Free word = by (first word == 36) (is_mark word) (first wor
     by false b false true true = tt
     by false b false true false = tt
     by false b false false e = tt
-among_behind section.Skipped word = by (is_end word)
+among_after section.Skipped word = by (is_end word)
   where
     by : (c : Bool) → IsAmong (if c then section.Free else section.Skipped)
     by true = tt
     by false = tt
-among_behind section.Scale word = tt
-among_behind (section.Unit c) word = tt
-among_behind (section.Variable f) word = tt
-among_behind (section.Value v) word = tt
+among_after section.Scale word = tt
+among_after (section.Unit c) word = tt
+among_after (section.Variable f) word = tt
+among_after (section.Value v) word = tt
 
 -- a word that is not empty
 word_goes : (k : Known) (word : List ℕ) (x : Section) (t : Track) (tick : ℕ) → t.at ≡ micros k.scale tick → t.at ≤ 2000000000000 → IsAmong x → is_some_word word ≡ true
-    → GoesBy k t (took word (among k x t)) (change_of k.id x word tick) (tick_behind x word tick) (section_behind x word)
+    → GoesBy k t (took word (among k x t)) (change_of k.id x word tick) (tick_after x word tick) (section_after x word)
 word_goes k word x t tick at early rule some = rw (filled (length word == 0) some) (by x rule)
   where
     filled : (c : Bool) → not c ≡ true → c ≡ false
@@ -236,7 +236,7 @@ word_goes k word x t tick at early rule some = rw (filled (length word == 0) som
     skipped true = quiet k section.Free t tick at early
     skipped false = quiet k section.Skipped t tick at early
 
-    by : (x : Section) → IsAmong x → GoesBy k t (in_section x word (among k x t)) (change_of k.id x word tick) (tick_behind x word tick) (section_behind x word)
+    by : (x : Section) → IsAmong x → GoesBy k t (in_section x word (among k x t)) (change_of k.id x word tick) (tick_after x word tick) (section_after x word)
     by section.Free a = free_goes k word t tick at early
     by section.Skipped a = skipped (is_end word)
     by (section.Value v) a = value_goes k v word section.Free t tick at early
@@ -284,15 +284,15 @@ and_right true b h = h
 and_right false b h = cc
 
 run_more : (k : Known) (t : Track) (step : Step) (p q : Passed) (word : List ℕ) (tick : ℕ) (x : Section) (words : List (List ℕ))
-    → (g : Goes k t step (change_of k.id x word tick) (tick_behind x word tick) (section_behind x word))
-    → Ran k g.track q (tick_behind x word tick) (section_behind x word) words → p ≡ record { edges = option_to_list step.edge ++ q.edges; state = q.state } → Ran k t p tick x (word ∷ words)
+    → (g : Goes k t step (change_of k.id x word tick) (tick_after x word tick) (section_after x word))
+    → Ran k g.track q (tick_after x word tick) (section_after x word) words → p ≡ record { edges = option_to_list step.edge ++ q.edges; state = q.state } → Ran k t p tick x (word ∷ words)
 run_more k t step p q word tick x words g r is =
     subst (λ (p : Passed). Ran k t p tick x (word ∷ words)) (sym is) (record {
       records = rw (
         append_assoc (option_to_list step.edge) q.edges (option_to_list (last_edge q.state.track)),
-        samples_both k.scale (option_to_list (change_of k.id x word tick)) (changes_in k.id (tick_behind x word tick) (section_behind x word) words),
+        samples_both k.scale (option_to_list (change_of k.id x word tick)) (changes_in k.id (tick_after x word tick) (section_after x word) words),
       )
-          (g.more (q.edges ++ option_to_list (last_edge q.state.track)) (samples_of k.scale (changes_in k.id (tick_behind x word tick) (section_behind x word) words)) q.state.track.at r.records);
+          (g.more (q.edges ++ option_to_list (last_edge q.state.track)) (samples_of k.scale (changes_in k.id (tick_after x word tick) (section_after x word) words)) q.state.track.at r.records);
       end = r.end;
       early = r.early;
     })
@@ -305,9 +305,9 @@ run_ran [] k t p tick x at early rule all h =
 run_ran (word ∷ words) k t p tick x at early rule all h =
     let f = run_first (took word (among k x t)) (run words) p h in
     let goes = word_goes k word x t tick at early rule (and_left (is_some_word word) (list_all is_some_word words) all) in
-    let g : Goes k t f.0 (change_of k.id x word tick) (tick_behind x word tick) (section_behind x word) =
-    subst (λ st. GoesBy k t st (change_of k.id x word tick) (tick_behind x word tick) (section_behind x word)) f.2 goes in
-    let ran = run_ran words k g.track f.1 (tick_behind x word tick) (section_behind x word) g.at g.early (among_behind x word) (and_right (is_some_word word) (list_all is_some_word words) all)
+    let g : Goes k t f.0 (change_of k.id x word tick) (tick_after x word tick) (section_after x word) =
+    subst (λ st. GoesBy k t st (change_of k.id x word tick) (tick_after x word tick) (section_after x word)) f.2 goes in
+    let ran = run_ran words k g.track f.1 (tick_after x word tick) (section_after x word) g.at g.early (among_after x word) (and_right (is_some_word word) (list_all is_some_word words) all)
     (subst (λ (s : State). run words s ≡ Some f.1) g.is f.3) in
     run_more k t f.0 p f.1 word tick x words g ran f.4
 

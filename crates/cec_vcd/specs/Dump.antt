@@ -32,9 +32,9 @@ is_space b = (b == 32) || (b == 9) || (b == 13)
 abbrev pub parts_of : List ℕ → List (List ℕ)
 parts_of line = slice_split is_space line
 
-abbrev pub parts_behind : Option (List ℕ) → List (List ℕ)
-parts_behind None = []
-parts_behind (Some rest) = parts_of rest
+abbrev pub parts_after : Option (List ℕ) → List (List ℕ)
+parts_after None = []
+parts_after (Some rest) = parts_of rest
 
 abbrev pub is_end : List ℕ → Bool
 is_end word = bytes_eq word (codes "$end")

@@ -106,19 +106,19 @@ abbrev pub is_alone : List ℕ → Bool
 is_alone word = length (drop 1 word) == 0
 
 -- what the word after a word belongs to
-abbrev pub section_behind : Section → List ℕ → Section
-section_behind section.Free word =
+abbrev pub section_after : Section → List ℕ → Section
+section_after section.Free word =
     if slice_index word 0 == 36 then (if is_mark word then section.Free else section.Skipped)
     else if slice_index word 0 == 35 then section.Free
     else if is_scalar word then (if is_alone word then section.Value (Some (slice_index word 0 == 48)) else section.Free)
     else section.Value (if is_binary (slice_index word 0) then vector_value word else None)
-section_behind section.Skipped word = if is_end word then section.Free else section.Skipped
-section_behind _ word = section.Free
+section_after section.Skipped word = if is_end word then section.Free else section.Skipped
+section_after _ word = section.Free
 
 -- the tick of what stands after a word: a time is `#` and its number
-abbrev pub tick_behind : Section → List ℕ → ℕ → ℕ
-tick_behind section.Free word tick = if slice_index word 0 == 35 then value_of (drop 1 word) else tick
-tick_behind _ word tick = tick
+abbrev pub tick_after : Section → List ℕ → ℕ → ℕ
+tick_after section.Free word tick = if slice_index word 0 == 35 then value_of (drop 1 word) else tick
+tick_after _ word tick = tick
 
 abbrev pub change_by : Option Bool → Bool → ℕ → Option Change
 change_by None own tick = None
@@ -133,12 +133,12 @@ change_of id _ word tick = None
 
 abbrev pub changes_in : List ℕ → ℕ → Section → List (List ℕ) → List Change
 changes_in id tick s [] = []
-changes_in id tick s (word ∷ words) = option_to_list (change_of id s word tick) ++ changes_in id (tick_behind s word tick) (section_behind s word) words
+changes_in id tick s (word ∷ words) = option_to_list (change_of id s word tick) ++ changes_in id (tick_after s word tick) (section_after s word) words
 
 -- the last time
 abbrev pub last_tick : ℕ → Section → List (List ℕ) → ℕ
 last_tick tick s [] = tick
-last_tick tick s (word ∷ words) = last_tick (tick_behind s word tick) (section_behind s word) words
+last_tick tick s (word ∷ words) = last_tick (tick_after s word tick) (section_after s word) words
 
 -- ---- the line
 

@@ -6,7 +6,7 @@ ghost use Rattle.cec_vcd.specs.Dump.{is_high, is_binary, is_other_value, is_mark
 use crate::scale::{Count, Scale, counted_word, instant_of, unit_of};
 use cec_signal::Track;
 use cec_wave::Edge;
-use hdmi_core::{behind, byte_at};
+use hdmi_core::{after, byte_at};
 use thiserror::Error;
 
 /// What is wrong with a line of a dump.
@@ -228,13 +228,13 @@ impl<'a> Reader<'a> {
         if mark == b'#' {
             return match self.scale {
                 None => Err(Cause::Scale),
-                Some(scale) => self.go_to(instant_of(scale, behind(word, 1))),
+                Some(scale) => self.go_to(instant_of(scale, after(word, 1))),
             };
         }
         if mark == b'0' {
-            self.set_scalar(true, behind(word, 1));
+            self.set_scalar(true, after(word, 1));
         } else if is_high(mark) {
-            self.set_scalar(false, behind(word, 1));
+            self.set_scalar(false, after(word, 1));
         } else if is_binary(mark) {
             self.section = Section::Value(vector_value(word));
         } else if is_other_value(mark) {

@@ -30,18 +30,18 @@ same_gaps p q e [] same g = λ u l. sym (same u l) ∙ g u l
 same_gaps p q e (x ∷ rest) same g = (g.0, sym (same x.from g.0) ∙ g.1, λ u l h. sym (same u l) ∙ g.2 u l h, same_gaps p q x.from rest (λ u l. same u (omega (arith, g.0))) g.3)
 
 -- a stretch before makes no fall there
-fall_behind : (s : Stretch) (rest : List Stretch) (from u : ℕ) → IsWaveFrom from (s ∷ rest) → s.from < u → is_fall (line_of (s ∷ rest)) u ≡ is_fall (line_of rest) u
-fall_behind s rest from u w l =
+fall_after : (s : Stretch) (rest : List Stretch) (from u : ℕ) → IsWaveFrom from (s ∷ rest) → s.from < u → is_fall (line_of (s ∷ rest)) u ≡ is_fall (line_of rest) u
+fall_after s rest from u w l =
     let other : (s.from == u) ≡ false = grind (arith, nat_tests) in
     falls_of_wave (s ∷ rest) from u w ∙ ap (λ b. b || list_any (λ (x : Stretch). x.from == u) rest) other ∙ sym (falls_of_wave rest (s.to + 1) u w.2)
 
 pub gaps : (s : Stretch) (rest : List Stretch) (from : ℕ) → IsWaveFrom from (s ∷ rest) → Gaps (line_of (s ∷ rest)) s.from rest
-gaps s [] from w = λ u l. fall_behind s [] from u w l
+gaps s [] from w = λ u l. fall_after s [] from u w l
 gaps s (x ∷ rest) from w = (
   later,
-  fall_behind s (x ∷ rest) from x.from w later ∙ falls_of_wave (x ∷ rest) (s.to + 1) x.from w.2 ∙ here,
-  λ u l h. fall_behind s (x ∷ rest) from u w l ∙ falls_of_wave (x ∷ rest) (s.to + 1) u w.2 ∙ none u h,
-  same_gaps (line_of (x ∷ rest)) (line_of (s ∷ x ∷ rest)) x.from rest (λ u l. sym (fall_behind s (x ∷ rest) from u w (omega (arith, later)))) (gaps x rest (s.to + 1) w.2),
+  fall_after s (x ∷ rest) from x.from w later ∙ falls_of_wave (x ∷ rest) (s.to + 1) x.from w.2 ∙ here,
+  λ u l h. fall_after s (x ∷ rest) from u w l ∙ falls_of_wave (x ∷ rest) (s.to + 1) u w.2 ∙ none u h,
+  same_gaps (line_of (x ∷ rest)) (line_of (s ∷ x ∷ rest)) x.from rest (λ u l. sym (fall_after s (x ∷ rest) from u w (omega (arith, later)))) (gaps x rest (s.to + 1) w.2),
 )
   where
     later : s.from < x.from

@@ -116,11 +116,11 @@ fronts tv..034f map..0c speaking..e8 empty..06 => 23 24 30 32
 /// The text of both blocks with one part changed.
 fn with_change(rt: &(impl Abort + AllocGlobal), change: &str) -> String {
     let (from, to) = change.split_once(" => ").expect(rt, "a change");
-    if let Some((front, behind)) = BASE_TEXT.split_once(from) {
-        return format!(in rt.alloc(); "{front}{to}{behind}{EXTENSION_TEXT}").expect(rt, "a text");
+    if let Some((front, after)) = BASE_TEXT.split_once(from) {
+        return format!(in rt.alloc(); "{front}{to}{after}{EXTENSION_TEXT}").expect(rt, "a text");
     }
-    let (front, behind) = EXTENSION_TEXT.split_once(from).expect(rt, "such a part");
-    format!(in rt.alloc(); "{BASE_TEXT}{front}{to}{behind}").expect(rt, "a text")
+    let (front, after) = EXTENSION_TEXT.split_once(from).expect(rt, "such a part");
+    format!(in rt.alloc(); "{BASE_TEXT}{front}{to}{after}").expect(rt, "a text")
 }
 
 /// Why a text is refused.

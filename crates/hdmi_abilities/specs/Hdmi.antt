@@ -136,8 +136,8 @@ stereo_part p = stereo_meanings (slice_index p 0) (drop (2 + slice_index p 1 / 3
 abbrev pub video_meanings : List ℕ → List (List ℕ)
 video_meanings p = flag_part p ++ (code_part p ++ stereo_part p)
 
-abbrev pub behind_meanings : Bool → List ℕ → List (List ℕ)
-behind_meanings told p = if told && nat_le 2 (length p) then video_meanings p else left_meanings p
+abbrev pub after_meanings : Bool → List ℕ → List (List ℕ)
+after_meanings told p = if told && nat_le 2 (length p) then video_meanings p else left_meanings p
 
 -- ---- all of it
 
@@ -151,7 +151,7 @@ abbrev pub interlaced_latencies : List ℕ → List (List ℕ)
 interlaced_latencies p = latency_meanings (is_set (presence_of p) 64) (codes ", interlaced video latency") (drop (interlaced_place (presence_of p)) p)
 
 abbrev pub video_part : List ℕ → List (List ℕ)
-video_part p = behind_meanings (is_set (presence_of p) 32) (drop (video_place (presence_of p)) p)
+video_part p = after_meanings (is_set (presence_of p) 32) (drop (video_place (presence_of p)) p)
 
 unfoldable pub hdmi_meanings : List ℕ → List (List ℕ)
 hdmi_meanings p = capability_meanings p ++ (plain_latencies p ++ (interlaced_latencies p ++ video_part p))

@@ -2,13 +2,13 @@
 ghost use Rattle.std.specs.Prelude.{◌≡◌, ◌≤◌, ◌<◌, ◌+◌, ◌*◌, ◌++◌, length, drop, map, flat_map};
 ghost use Rattle.arrayvec.specs.ArrayVec.{array_vec_len};
 ghost use Rattle.hdmi_meaning.specs.Notes.{own_line, when, set_words};
-ghost use Rattle.hdmi_abilities.specs.Hdmi.{depth_rows, also_text, depth_text, tmds_text, content_rows, capability_words, capability_meanings, latency_text, named_latency, latency_words, latency_meanings, interlaced_place, video_place, same_code, hdmi_text, image_text, video_words, structure_rows, structure_bits, has_structures, left_meanings, structure_line, structure_meanings, stereo_meanings, code_meanings, flag_part, code_part, stereo_part, video_meanings, behind_meanings, presence_of, plain_latencies, interlaced_latencies, video_part, hdmi_meanings};
+ghost use Rattle.hdmi_abilities.specs.Hdmi.{depth_rows, also_text, depth_text, tmds_text, content_rows, capability_words, capability_meanings, latency_text, named_latency, latency_words, latency_meanings, interlaced_place, video_place, same_code, hdmi_text, image_text, video_words, structure_rows, structure_bits, has_structures, left_meanings, structure_line, structure_meanings, stereo_meanings, code_meanings, flag_part, code_part, stereo_part, video_meanings, after_meanings, presence_of, plain_latencies, interlaced_latencies, video_part, hdmi_meanings};
 
 use arrayvec::ArrayVec;
 use hdmi_edid::append;
 use hdmi_meaning::{
     Bit, NOTE, Note, PAGE, Page, append_between, append_bits, append_code, append_decimal,
-    append_line, append_rest, append_spaced, append_word, append_words, before, behind, bit_rows,
+    append_line, append_rest, append_spaced, append_word, append_words, before, after, bit_rows,
     byte_at, is_set,
 };
 
@@ -288,12 +288,12 @@ fn append_structure_line(page: &mut Page, bytes: &[u8])
     append_words(page, structure_note(bytes).as_slice());
 }
 
-fn append_behind_structures(page: &mut Page, bytes: &[u8])
+fn append_after_structures(page: &mut Page, bytes: &[u8])
     requires few { length bytes.now ≤ 128 }
     requires room { array_vec_len page.old + 271 ≤ PAGE }
     ensures { page.new.items ≡ page.old.items ++ flat_map own_line (left_meanings (drop 2 bytes.now)) }
 {
-    append_left(page, behind(bytes, 2));
+    append_left(page, after(bytes, 2));
 }
 
 fn append_structures(page: &mut Page, bytes: &[u8])
@@ -302,7 +302,7 @@ fn append_structures(page: &mut Page, bytes: &[u8])
     ensures { page.new.items ≡ page.old.items ++ flat_map own_line (structure_meanings bytes.now) }
 {
     append_structure_line(page, bytes);
-    append_behind_structures(page, bytes);
+    append_after_structures(page, bytes);
 }
 
 fn has_structures(flags: u8, bytes: &[u8]) -> bool
@@ -345,7 +345,7 @@ fn append_code_part(page: &mut Page, bytes: &[u8])
     ensures items { page.new.items ≡ page.old.items ++ flat_map own_line (code_part bytes.now) }
     ensures len { array_vec_len page.new ≤ array_vec_len page.old + 856 }
 {
-    append_codes(page, byte_at(bytes, 1) / 32, behind(bytes, 2));
+    append_codes(page, byte_at(bytes, 1) / 32, after(bytes, 2));
 }
 
 fn append_stereo_part(page: &mut Page, bytes: &[u8])
@@ -354,7 +354,7 @@ fn append_stereo_part(page: &mut Page, bytes: &[u8])
     ensures { page.new.items ≡ page.old.items ++ flat_map own_line (stereo_part bytes.now) }
 {
     let count = usize::from(byte_at(bytes, 1) / 32);
-    append_stereo(page, byte_at(bytes, 0), behind(bytes, 2 + count));
+    append_stereo(page, byte_at(bytes, 0), after(bytes, 2 + count));
 }
 
 fn append_videos(page: &mut Page, bytes: &[u8])
@@ -367,10 +367,10 @@ fn append_videos(page: &mut Page, bytes: &[u8])
     append_stereo_part(page, bytes);
 }
 
-fn append_behind(page: &mut Page, told: bool, bytes: &[u8])
+fn append_after(page: &mut Page, told: bool, bytes: &[u8])
     requires few { length bytes.now ≤ 128 }
     requires room { array_vec_len page.old + 1600 ≤ PAGE }
-    ensures { page.new.items ≡ page.old.items ++ flat_map own_line (behind_meanings told bytes.now) }
+    ensures { page.new.items ≡ page.old.items ++ flat_map own_line (after_meanings told bytes.now) }
 {
     if told && 2 <= bytes.len() {
         append_videos(page, bytes);
@@ -385,7 +385,7 @@ fn append_plain_latencies(page: &mut Page, bytes: &[u8])
     ensures len { array_vec_len page.new ≤ array_vec_len page.old + 109 }
 {
     let told = is_set(u32::from(byte_at(bytes, 2)), LATENCIES);
-    append_latencies(page, told, b", video latency", behind(bytes, 3));
+    append_latencies(page, told, b", video latency", after(bytes, 3));
 }
 
 fn append_interlaced_latencies(page: &mut Page, bytes: &[u8])
@@ -400,7 +400,7 @@ fn append_interlaced_latencies(page: &mut Page, bytes: &[u8])
         page,
         told,
         b", interlaced video latency",
-        behind(bytes, place),
+        after(bytes, place),
     );
 }
 
@@ -412,7 +412,7 @@ fn append_video_part(page: &mut Page, bytes: &[u8])
     let presence = byte_at(bytes, 2);
     let place = 3 + 2 * usize::from(presence / 128) + 2 * usize::from(presence / 64 % 2);
     let told = is_set(u32::from(presence), VIDEO);
-    append_behind(page, told, behind(bytes, place));
+    append_after(page, told, after(bytes, place));
 }
 
 /// Appends what an HDMI block means, of the bytes after its physical address: capabilities; latencies, video formats of

@@ -6,7 +6,7 @@ ghost use Rattle.hdmi_abilities.specs.Speakers.{speaker_rows, speaker_bits, spea
 
 use arrayvec::ArrayVec;
 use hdmi_meaning::{
-    Bit, NOTE, Note, PAGE, Page, append_bits, append_rest, append_words, behind, bit_rows, byte_at,
+    Bit, NOTE, Note, PAGE, Page, append_bits, append_rest, append_words, after, bit_rows, byte_at,
 };
 
 const SPEAKERS: &[Bit] = bit_rows! {
@@ -55,7 +55,7 @@ fn speaker_note(payload: &[u8]) -> Note
 {
     let mut words = ArrayVec::new();
     append_speaker_bits(&mut words, speaker_bits(payload));
-    append_rest(&mut words, behind(payload, 3));
+    append_rest(&mut words, after(payload, 3));
     words
 }
 

@@ -97,8 +97,8 @@ pub exts_len : (xs : List AnyExt) → length (flat_map ext_bytes xs) ≡ 128 * l
 exts_len xs = length-flat ext_bytes 128 ext_len xs
 
 -- the blocks after a first one
-behind : (xs ys : List ℕ) (k : ℕ) → length xs ≡ 128 → drop (128 * suc k) (xs ++ ys) ≡ drop (128 * k) ys
-behind xs ys k h =
+after : (xs ys : List ℕ) (k : ℕ) → length xs ≡ 128 → drop (128 * suc k) (xs ++ ys) ≡ drop (128 * k) ys
+after xs ys k h =
     let n : 128 * suc k ≡ 128 + 128 * k = omega arith in
     let m = drop-drop (128 * k) 128 (xs ++ ys) in
     ap (λ i. drop i (xs ++ ys)) n ∙ sym m ∙ ap (drop (128 * k)) (drop_block xs ys h)
@@ -107,7 +107,7 @@ behind xs ys k h =
 nth_sum : (xs : List AnyExt) (k : ℕ) → k < length xs → sum (take 128 (drop (128 * k) (flat_map ext_bytes xs))) % 256 ≡ 0
 nth_sum [] k h = absurd (omega (arith, h))
 nth_sum (x ∷ xs) zero h = ap (λ t. sum t % 256) (take_block (ext_bytes x) (flat_map ext_bytes xs) (ext_len x)) ∙ ext_sum x
-nth_sum (x ∷ xs) (suc k) h = ap (λ t. sum (take 128 t) % 256) (behind (ext_bytes x) (flat_map ext_bytes xs) k (ext_len x)) ∙ nth_sum xs k (omega (arith, h))
+nth_sum (x ∷ xs) (suc k) h = ap (λ t. sum (take 128 t) % 256) (after (ext_bytes x) (flat_map ext_bytes xs) k (ext_len x)) ∙ nth_sum xs k (omega (arith, h))
 
 pub edid_len : (e : Edid) → length (edid_bytes e) ≡ 128 + 128 * length e.extensions.items
 edid_len e = omega (arith, length-append (base_bytes e.base) (flat_map ext_bytes e.extensions.items), base_len e.base, exts_len e.extensions.items)
@@ -116,7 +116,7 @@ block_sum : (e : Edid) (k : ℕ) → 0 < k → 128 * k < length (edid_bytes e) �
 block_sum e zero some there = absurd (omega (arith, some))
 block_sum e (suc k) some there =
     let len = edid_len e in
-    ap (λ t. sum (take 128 t) % 256) (behind (base_bytes e.base) (flat_map ext_bytes e.extensions.items) k (base_len e.base))
+    ap (λ t. sum (take 128 t) % 256) (after (base_bytes e.base) (flat_map ext_bytes e.extensions.items) k (base_len e.base))
     ∙ nth_sum e.extensions.items k (omega (arith, there, len))
 
 pub length_fits : (e : Edid) → HasLength (edid_bytes e)

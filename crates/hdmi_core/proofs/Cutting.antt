@@ -82,15 +82,15 @@ cut_front a b xs ys fault cut =
     )
 
 -- the part after what was written was cut off
-pub cut_behind : (a b c : Option (List ℕ)) (xs ys : List ℕ) (n : ℕ) (inner fault : WriteFault) → n ≡ told_count (length xs) → Appends a b xs
+pub cut_later : (a b c : Option (List ℕ)) (xs ys : List ℕ) (n : ℕ) (inner fault : WriteFault) → n ≡ told_count (length xs) → Appends a b xs
     → CutOff b c ys inner → fault.count ≡ told_count (n + inner.count) → CutOff a c (xs ++ ys) fault
-cut_behind a b c xs ys n inner fault e before cut f =
+cut_later a b c xs ys n inner fault e before cut f =
     subst (λ t. CutOff a c t fault) (append-nil (xs ++ ys)) (cut_again a b c xs ys [] n inner fault e before cut f)
 
 -- the same, after a line whose length was answered
-pub cut_behind_line : (a b c : Option (List ℕ)) (xs ys : List ℕ) (n : ℕ) (inner fault : WriteFault) → n ≡ length xs → Appends a b xs
+pub cut_later_line : (a b c : Option (List ℕ)) (xs ys : List ℕ) (n : ℕ) (inner fault : WriteFault) → n ≡ length xs → Appends a b xs
     → CutOff b c ys inner → fault.count ≡ told_count (n + inner.count) → CutOff a c (xs ++ ys) fault
-cut_behind_line a b c xs ys n inner fault e before cut f = cut_behind a b c xs ys (told_count n) inner fault (ap told_count e) before cut (f ∙ same n inner.count)
+cut_later_line a b c xs ys n inner fault e before cut f = cut_later a b c xs ys (told_count n) inner fault (ap told_count e) before cut (f ∙ same n inner.count)
   where
     same : (n m : ℕ) → told_count (n + m) ≡ told_count (told_count n + m)
     same n m = omega arith

@@ -7,9 +7,9 @@ abbrev pub words_of : List ℕ → List (List ℕ)
 words_of line = slice_split (λ b. b == 32) line
 
 -- the words of the part after a word, where there is one
-abbrev pub words_behind : Option (List ℕ) → List (List ℕ)
-words_behind None = []
-words_behind (Some rest) = words_of rest
+abbrev pub words_after : Option (List ℕ) → List (List ℕ)
+words_after None = []
+words_after (Some rest) = words_of rest
 
 -- the words, where they are so many
 abbrev pub one_of : List (List ℕ) → Option (List ℕ)

@@ -24,7 +24,7 @@ pub fn before(text: &[u8], count: usize) -> &[u8]
 }
 
 /// A text without its first bytes.
-pub fn behind(text: &[u8], count: usize) -> &[u8]
+pub fn after(text: &[u8], count: usize) -> &[u8]
     ensures { result.now ≡ drop count text.now }
 {
     if count < text.len() {

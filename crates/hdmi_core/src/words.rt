@@ -2,13 +2,13 @@
 ghost use Rattle.std.specs.Prelude.{◌≡◌, ◌≤◌, ◌==◌, ◌∷◌, length};
 ghost use Rattle.std.specs.List.{count_by};
 ghost use Rattle.std.specs.Option.{option_map, option_copied};
-ghost use Rattle.hdmi_core.specs.Words.{words_of, words_behind, one_of, two_of, three_of, spaces_unquoted};
+ghost use Rattle.hdmi_core.specs.Words.{words_of, words_after, one_of, two_of, three_of, spaces_unquoted};
 
 use crate::parts::{before, len_before, position_of};
 
 /// The first word of a line, and what stands after the space after it.
 pub fn first_word(line: &[u8]) -> (&[u8], Option<&[u8]>)
-    ensures { words_of line.now ≡ result.0.now ∷ words_behind (option_copied result.1) }
+    ensures { words_of line.now ≡ result.0.now ∷ words_after (option_copied result.1) }
 {
     match position_of(line, b' ') {
         None => (line, None),
@@ -18,7 +18,7 @@ pub fn first_word(line: &[u8]) -> (&[u8], Option<&[u8]>)
 
 /// The word, where just one is left.
 pub fn one_word(rest: Option<&[u8]>) -> Option<&[u8]>
-    ensures { option_copied result ≡ one_of (words_behind (option_copied rest.entry)) }
+    ensures { option_copied result ≡ one_of (words_after (option_copied rest.entry)) }
 {
     match first_word(rest?) {
         (word, None) => Some(word),
@@ -28,7 +28,7 @@ pub fn one_word(rest: Option<&[u8]>) -> Option<&[u8]>
 
 /// The words, where just two are left.
 pub fn two_words(rest: Option<&[u8]>) -> Option<(&[u8], &[u8])>
-    ensures { option_map (λ w. (w.0.now, w.1.now)) result ≡ two_of (words_behind (option_copied rest.entry)) }
+    ensures { option_map (λ w. (w.0.now, w.1.now)) result ≡ two_of (words_after (option_copied rest.entry)) }
 {
     let (first, rest) = first_word(rest?);
     match first_word(rest?) {
@@ -39,7 +39,7 @@ pub fn two_words(rest: Option<&[u8]>) -> Option<(&[u8], &[u8])>
 
 /// The words, where just three are left.
 pub fn three_words(rest: Option<&[u8]>) -> Option<(&[u8], &[u8], &[u8])>
-    ensures { option_map (λ w. (w.0.now, w.1.now, w.2.now)) result ≡ three_of (words_behind (option_copied rest.entry)) }
+    ensures { option_map (λ w. (w.0.now, w.1.now, w.2.now)) result ≡ three_of (words_after (option_copied rest.entry)) }
 {
     let (first, rest) = first_word(rest?);
     let (second, rest) = first_word(rest?);

@@ -65,13 +65,13 @@ one_blocks (x ∷ xs) (y ∷ ys) e =
     let others = one_blocks xs ys parts.1 in cc
 
 -- no list of blocks spells blocks and then bytes that begin with none
-pub none_behind : (xs : List DataBlock) (rest : List ℕ) → 0 < length rest → ((b : DataBlock) (ys : List ℕ) → block_bytes b ++ ys ≡ rest → ⊥)
+pub none_after : (xs : List DataBlock) (rest : List ℕ) → 0 < length rest → ((b : DataBlock) (ys : List ℕ) → block_bytes b ++ ys ≡ rest → ⊥)
     → (bs : List DataBlock) → flat_map block_bytes bs ≡ flat_map block_bytes xs ++ rest → ⊥
-none_behind [] rest some none [] e = omega (arith, ap length e)
-none_behind [] rest some none (b ∷ bs) e = none b (flat_map block_bytes bs) e
-none_behind (x ∷ xs) rest some none [] e = omega (arith, ap length e)
-none_behind (x ∷ xs) rest some none (b ∷ bs) e =
-    none_behind xs rest some none bs (one_front b x (flat_map block_bytes bs) (flat_map block_bytes xs ++ rest) (e ∙ append_assoc (block_bytes x) (flat_map block_bytes xs) rest)).1
+none_after [] rest some none [] e = omega (arith, ap length e)
+none_after [] rest some none (b ∷ bs) e = none b (flat_map block_bytes bs) e
+none_after (x ∷ xs) rest some none [] e = omega (arith, ap length e)
+none_after (x ∷ xs) rest some none (b ∷ bs) e =
+    none_after xs rest some none bs (one_front b x (flat_map block_bytes bs) (flat_map block_bytes xs ++ rest) (e ∙ append_assoc (block_bytes x) (flat_map block_bytes xs) rest)).1
 
 pub same_block : (a b : DataBlock) → a.kind ≡ b.kind → a.payload.items ≡ b.payload.items → a ≡ b
 same_block a b kind items =

@@ -22,22 +22,22 @@ use Rattle.hdmi_cta.specs.declared.raw.Ext.{Ext}
 use Rattle.hdmi_cta.specs.declared.raw.Ext.TheVariants.{Cta, Bare, Raw}
 
 -- two bytes after a front, and the checksum
-set_two : (front : List ℕ) (a b h l : ℕ) (behind : List ℕ) → set (set (front ++ (a ∷ b ∷ behind)) (length front) h) (length front + 1) l ≡ front ++ (h ∷ l ∷ behind)
-set_two front a b h l behind =
-    let first : set (front ++ (a ∷ b ∷ behind)) (length front) h ≡ front ++ (h ∷ b ∷ behind) = set_at front a (b ∷ behind) h (length front) refl in
-    let regroup : (front ++ (h ∷ [])) ++ (b ∷ behind) ≡ front ++ (h ∷ b ∷ behind) = append_assoc front (h ∷ []) (b ∷ behind) in
+set_two : (front : List ℕ) (a b h l : ℕ) (tail : List ℕ) → set (set (front ++ (a ∷ b ∷ tail)) (length front) h) (length front + 1) l ≡ front ++ (h ∷ l ∷ tail)
+set_two front a b h l tail =
+    let first : set (front ++ (a ∷ b ∷ tail)) (length front) h ≡ front ++ (h ∷ b ∷ tail) = set_at front a (b ∷ tail) h (length front) refl in
+    let regroup : (front ++ (h ∷ [])) ++ (b ∷ tail) ≡ front ++ (h ∷ b ∷ tail) = append_assoc front (h ∷ []) (b ∷ tail) in
     let len : length (front ++ (h ∷ [])) ≡ length front + 1 = omega (arith, length-append front (h ∷ [])) in
-    let second : set ((front ++ (h ∷ [])) ++ (b ∷ behind)) (length front + 1) l ≡ (front ++ (h ∷ [])) ++ (l ∷ behind) = set_at (front ++ (h ∷ [])) b behind l (length front + 1) len in
-    ap (λ xs. set xs (length front + 1) l) first ∙ ap (λ xs. set xs (length front + 1) l) (sym regroup) ∙ second ∙ append_assoc front (h ∷ []) (l ∷ behind)
+    let second : set ((front ++ (h ∷ [])) ++ (b ∷ tail)) (length front + 1) l ≡ (front ++ (h ∷ [])) ++ (l ∷ tail) = set_at (front ++ (h ∷ [])) b tail l (length front + 1) len in
+    ap (λ xs. set xs (length front + 1) l) first ∙ ap (λ xs. set xs (length front + 1) l) (sym regroup) ∙ second ∙ append_assoc front (h ∷ []) (l ∷ tail)
 
-pub readdressed_is : (front : List ℕ) (a b : ℕ) (p : Phys) (behind : List ℕ) → length front + 2 + length behind ≡ 127
-    → bytes_with_address (block_with_checksum (front ++ (a ∷ b ∷ behind))) (length front) p ≡ block_with_checksum (front ++ (p.high ∷ p.low ∷ behind))
-readdressed_is front a b p behind len =
-    let check = check_of (front ++ (a ∷ b ∷ behind)) in
-    let regroup : (front ++ (a ∷ b ∷ behind)) ++ (check ∷ []) ≡ front ++ (a ∷ b ∷ (behind ++ (check ∷ []))) = append_assoc front (a ∷ b ∷ behind) (check ∷ []) in
-    let changed = ap (λ xs. set (set xs (length front) p.high) (length front + 1) p.low) regroup ∙ set_two front a b p.high p.low (behind ++ (check ∷ [])) ∙ sym (append_assoc front (p.high ∷ p.low ∷ behind) (check ∷ [])) in
-    let size : length (front ++ (p.high ∷ p.low ∷ behind)) ≡ 127 = omega (arith, length-append front (p.high ∷ p.low ∷ behind)) in
-    ap (λ xs. block_with_checksum (take 127 xs)) changed ∙ ap block_with_checksum (take_at (front ++ (p.high ∷ p.low ∷ behind)) (check ∷ []) 127 size)
+pub readdressed_is : (front : List ℕ) (a b : ℕ) (p : Phys) (tail : List ℕ) → length front + 2 + length tail ≡ 127
+    → bytes_with_address (block_with_checksum (front ++ (a ∷ b ∷ tail))) (length front) p ≡ block_with_checksum (front ++ (p.high ∷ p.low ∷ tail))
+readdressed_is front a b p tail len =
+    let check = check_of (front ++ (a ∷ b ∷ tail)) in
+    let regroup : (front ++ (a ∷ b ∷ tail)) ++ (check ∷ []) ≡ front ++ (a ∷ b ∷ (tail ++ (check ∷ []))) = append_assoc front (a ∷ b ∷ tail) (check ∷ []) in
+    let changed = ap (λ xs. set (set xs (length front) p.high) (length front + 1) p.low) regroup ∙ set_two front a b p.high p.low (tail ++ (check ∷ [])) ∙ sym (append_assoc front (p.high ∷ p.low ∷ tail) (check ∷ [])) in
+    let size : length (front ++ (p.high ∷ p.low ∷ tail)) ≡ 127 = omega (arith, length-append front (p.high ∷ p.low ∷ tail)) in
+    ap (λ xs. block_with_checksum (take 127 xs)) changed ∙ ap block_with_checksum (take_at (front ++ (p.high ∷ p.low ∷ tail)) (check ∷ []) 127 size)
 
 -- two numbers written over a slice's part
 pub put_two : (xs : List ℕ) (i n h l : ℕ) → i + 1 < length xs → n ≡ 2 → put_mid i n xs (h ∷ l ∷ []) ≡ set (set xs i h) (i + 1) l
@@ -49,10 +49,10 @@ put_two xs i n h l room two =
     let size : length (take i xs) ≡ i = length-take-le i xs (omega arith) in
     let done = set_two (take i xs) (get_or xs i 0) (get_or xs (suc i) 0) h l (drop (suc (suc i)) xs) in
     let past : i + n ≡ suc (suc i) = omega arith in
-    let behind : drop n (drop i xs) ≡ drop (suc (suc i)) xs = drop-drop n i xs ∙ ap (λ k. drop k xs) past in
+    let tail : drop n (drop i xs) ≡ drop (suc (suc i)) xs = drop-drop n i xs ∙ ap (λ k. drop k xs) past in
     let here : take i xs ++ (h ∷ l ∷ drop (suc (suc i)) xs) ≡ set (set xs (length (take i xs)) h) (length (take i xs) + 1) l =
     sym done ∙ ap (λ ys. set (set ys (length (take i xs)) h) (length (take i xs) + 1) l) (sym parts) in
-    ap (λ ys. take i xs ++ (h ∷ l ∷ ys)) behind ∙ here ∙ ap (λ k. set (set xs k h) (k + 1) l) size
+    ap (λ ys. take i xs ++ (h ∷ l ∷ ys)) tail ∙ here ∙ ap (λ k. set (set xs k h) (k + 1) l) size
 
 -- what is written for an address's number
 pub buf_is : (number h l : ℕ) (mid buf : List ℕ) → number ≡ h * 256 + l → h < 256 → l < 256 → length mid ≡ 2
@@ -149,7 +149,7 @@ in_cta c p k hi lo =
     let x = get_or b.payload.items 3 0 in
     let y = get_or b.payload.items 4 0 in
     let rest = drop 5 b.payload.items in
-    let behind = rest ++ (flat_map block_bytes k.after ++ more) in
+    let tail = rest ++ (flat_map block_bytes k.after ++ more) in
     let front = flat_map block_bytes k.before in
     let head = kind_number b.kind * 32 + length b.payload.items in
     let d = length (flat_map block_bytes c.blocks.items) + 4 in
@@ -161,22 +161,22 @@ in_cta c p k hi lo =
     let made : CtaBlock = record { flags = c.flags; blocks = record { items = blocks }; timings = c.timings; tail = c.tail; whole = whole; ended = c.ended; bytes_fit = c.bytes_fit } in
     let old_body = ap (λ bs. flat_map block_bytes bs ++ more) parted ∙ cut_bytes k.before k.after b x y rest more (old_payload b id) in
     let new_body = cut_bytes k.before k.after n p.high p.low rest more refl in
-    let old_bytes : cta_bytes c ≡ block_with_checksum (front_of d c.flags front head ++ (x ∷ y ∷ behind)) = ap (λ z. block_with_checksum (2 ∷ 3 ∷ d ∷ c.flags ∷ z)) old_body in
-    let new_bytes : cta_bytes made ≡ block_with_checksum (front_of (length (flat_map block_bytes blocks) + 4) c.flags front (kind_number b.kind * 32 + length (new_payload b p)) ++ (p.high ∷ p.low ∷ behind)) =
+    let old_bytes : cta_bytes c ≡ block_with_checksum (front_of d c.flags front head ++ (x ∷ y ∷ tail)) = ap (λ z. block_with_checksum (2 ∷ 3 ∷ d ∷ c.flags ∷ z)) old_body in
+    let new_bytes : cta_bytes made ≡ block_with_checksum (front_of (length (flat_map block_bytes blocks) + 4) c.flags front (kind_number b.kind * 32 + length (new_payload b p)) ++ (p.high ∷ p.low ∷ tail)) =
     ap (λ z. block_with_checksum (2 ∷ 3 ∷ (length (flat_map block_bytes blocks) + 4) ∷ c.flags ∷ z)) new_body in
-    let same_front : block_with_checksum (front_of (length (flat_map block_bytes blocks) + 4) c.flags front (kind_number b.kind * 32 + length (new_payload b p)) ++ (p.high ∷ p.low ∷ behind))
-    ≡ block_with_checksum (front_of d c.flags front head ++ (p.high ∷ p.low ∷ behind)) =
-    ap (λ t. block_with_checksum (front_of (t + 4) c.flags front (kind_number b.kind * 32 + length (new_payload b p)) ++ (p.high ∷ p.low ∷ behind))) total
-    ∙ ap (λ t. block_with_checksum (front_of d c.flags front (kind_number b.kind * 32 + t) ++ (p.high ∷ p.low ∷ behind))) len in
+    let same_front : block_with_checksum (front_of (length (flat_map block_bytes blocks) + 4) c.flags front (kind_number b.kind * 32 + length (new_payload b p)) ++ (p.high ∷ p.low ∷ tail))
+    ≡ block_with_checksum (front_of d c.flags front head ++ (p.high ∷ p.low ∷ tail)) =
+    ap (λ t. block_with_checksum (front_of (t + 4) c.flags front (kind_number b.kind * 32 + length (new_payload b p)) ++ (p.high ∷ p.low ∷ tail))) total
+    ∙ ap (λ t. block_with_checksum (front_of d c.flags front (kind_number b.kind * 32 + t) ++ (p.high ∷ p.low ∷ tail))) len in
     let size : length (front_of d c.flags front head) ≡ 8 + length front = omega (arith, length-append front (head ∷ 3 ∷ 12 ∷ 0 ∷ [])) in
     let place : address_place c.blocks.items ≡ length (front_of d c.flags front head) = ap (λ bs. 8 + length (flat_map block_bytes bs)) k.front ∙ sym size in
-    let body_len = ap length old_body ∙ length-append (front ++ (head ∷ 3 ∷ 12 ∷ 0 ∷ [])) (x ∷ y ∷ behind) in
-    let fill : length (front_of d c.flags front head) + 2 + length behind ≡ 127 =
+    let body_len = ap length old_body ∙ length-append (front ++ (head ∷ 3 ∷ 12 ∷ 0 ∷ [])) (x ∷ y ∷ tail) in
+    let fill : length (front_of d c.flags front head) + 2 + length tail ≡ 127 =
     omega (arith, all, body_len, length-append (flat_map block_bytes c.blocks.items) more, length-append (flat_map timing_bytes c.timings.items) c.tail.items) in
-    let changed = readdressed_is (front_of d c.flags front head) x y p behind fill in
+    let changed = readdressed_is (front_of d c.flags front head) x y p tail fill in
     let target : bytes_with_address (cta_bytes c) (address_place c.blocks.items) p ≡ cta_bytes made =
     ap (λ z. bytes_with_address z (address_place c.blocks.items) p) old_bytes
-    ∙ ap (λ z. bytes_with_address (block_with_checksum (front_of d c.flags front head ++ (x ∷ y ∷ behind))) z p) place ∙ changed ∙ sym same_front ∙ sym new_bytes in
+    ∙ ap (λ z. bytes_with_address (block_with_checksum (front_of d c.flags front head ++ (x ∷ y ∷ tail))) z p) place ∙ changed ∙ sym same_front ∙ sym new_bytes in
     let found = k.instead n (new_is_hdmi b p short fit k.is_one) in
     record { ext = Cta made; bytes = sym target; address = ap (option_map (λ (v : DataBlock). phys_at v.payload.items)) found }
 

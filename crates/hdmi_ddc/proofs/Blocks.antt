@@ -41,8 +41,8 @@ block_is bytes out block few len seg each =
     ∙ sym (get_or-drop (128 * block) (bytes_with_padding bytes) k 0) ∙ sym (get_or-take 128 (drop (128 * block) (bytes_with_padding bytes)) k 0 within))
 
 -- a segment after one that is not acknowledged is not acknowledged
-pub behind : (bytes : List ℕ) (m n : ℕ) → m ≤ n → has_segment bytes m ≡ false → has_segment bytes n ≡ false
-behind bytes m n le h = grind (arith, tests)
+pub after : (bytes : List ℕ) (m n : ℕ) → m ≤ n → has_segment bytes m ≡ false → has_segment bytes n ≡ false
+after bytes m n le h = grind (arith, tests)
 
 pub one_more : (xs : List ℕ) (block : ℕ) → take (128 * block) xs ++ take 128 (drop (128 * block) xs) ≡ take (128 * (block + 1)) xs
 one_more xs block = let n : 128 * block + 128 ≡ 128 * (block + 1) = omega arith in sym (take-add (128 * block) 128 xs) ∙ ap (λ k. take k xs) n

@@ -6,7 +6,7 @@ ghost use Rattle.hdmi_display.specs.Raws.{tag_name, has_characters, characters, 
 
 use arrayvec::ArrayVec;
 use hdmi_edid::{append, are_zeros};
-use hdmi_meaning::{NOTE, Note, PAGE, Page, append_between, append_line, behind, byte_at};
+use hdmi_meaning::{NOTE, Note, PAGE, Page, append_between, append_line, after, byte_at};
 
 /// The only revision of a CTA block whose parts are told apart.
 const CTA_REVISION: u8 = 3;
@@ -45,7 +45,7 @@ fn append_characters(note: &mut Note, tag: u8, bytes: &[u8])
 {
     if has_characters(tag) {
         append(note, b": ");
-        append(note, behind(bytes, 5));
+        append(note, after(bytes, 5));
     }
 }
 

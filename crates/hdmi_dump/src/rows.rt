@@ -8,7 +8,7 @@ ghost use Rattle.hdmi_dump.specs.Rows.{column_of, digits_start, form_of, has_hea
 
 use crate::digits::{Column, is_blank, pair_count, push_pairs};
 use arrayvec::ArrayVec;
-use hdmi_core::{before, behind, byte_at};
+use hdmi_core::{before, after, byte_at};
 
 /// The form of a dump's rows.
 #[derive(Clone, Copy, Debug, PartialEq, Eq)]
@@ -99,7 +99,7 @@ pub fn row_count(form: Form, line: &[u8]) -> Option<usize>
     let Some(start) = digits_start(form, line) else {
         return None;
     };
-    let Some(count) = pair_count(column_of(form), behind(line, start)) else {
+    let Some(count) = pair_count(column_of(form), after(line, start)) else {
         return None;
     };
     if may_have(form, count) {
@@ -118,7 +118,7 @@ pub fn push_row(form: Form, line: &[u8], bytes: &mut ArrayVec<u8, 512>)
     let Some(start) = digits_start(form, line) else {
         return;
     };
-    push_pairs(column_of(form), behind(line, start), bytes);
+    push_pairs(column_of(form), after(line, start), bytes);
 }
 
 /// Whether a line stands for rows that repeat the one above.

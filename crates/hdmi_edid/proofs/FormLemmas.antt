@@ -11,7 +11,7 @@ use Rattle.hdmi_edid.specs.declared.text.Text.{Text}
 pub tagged_is : (bytes : List ℕ) (tag : ℕ) (rest : List ℕ) → length bytes ≡ 18
     → get_or bytes 0 0 + get_or bytes 1 0 ≡ 0 → get_or bytes 2 0 ≡ 0 → get_or bytes 3 0 ≡ tag → rest ≡ drop 4 bytes
     → tagged_bytes tag rest ≡ bytes
-tagged_is bytes tag rest len zeros second third behind =
+tagged_is bytes tag rest len zeros second third after =
     let p : 0 < length bytes = omega arith in
     let q : 1 < length bytes = omega arith in
     let r : 2 < length bytes = omega arith in

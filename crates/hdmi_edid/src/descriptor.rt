@@ -112,9 +112,9 @@ impl Descriptor {
     {
         match self {
             Descriptor::Timing(timing) => timing.write(),
-            Descriptor::Name(text) => behind_tag(0xfc, text),
-            Descriptor::Text(text) => behind_tag(0xfe, text),
-            Descriptor::SerialText(text) => behind_tag(0xff, text),
+            Descriptor::Name(text) => after_tag(0xfc, text),
+            Descriptor::Text(text) => after_tag(0xfe, text),
+            Descriptor::SerialText(text) => after_tag(0xff, text),
             Descriptor::Range(limits) => {
                 let mut bytes = [0; 18];
                 bytes[3] = 0xfd;
@@ -132,7 +132,7 @@ impl Descriptor {
 }
 
 /// The 18 bytes of a text after a tag.
-fn behind_tag(tag: u8, text: &Text) -> [u8; 18]
+fn after_tag(tag: u8, text: &Text) -> [u8; 18]
     ensures { result ≡ 0 ∷ 0 ∷ 0 ∷ tag ∷ 0 ∷ text_bytes text.now.chars.items }
 {
     let mut bytes = [0; 18];

@@ -29,7 +29,7 @@ may_stand_so d line told h =
     let e = h.0 in
     let a = h.1.1.1.1 in
     let n = next_of e (draft_lines d) h.1.0 h.1.1.0 told h.1.1.1.0 in
-    let good = good_at (draft_lines d) n.here n.behind (subst EachGood n.lines (edid_good e)) in
+    let good = good_at (draft_lines d) n.here n.later (subst EachGood n.lines (edid_good e)) in
     let front : a.other_front ≡ front_text n.here = (same_front a.other_front (front_text n.here) 10 10 (sym a.other_ended ∙ sym n.text ∙ with_feed n.here)).0 in
     let count : word_count a.front ≡ field_count n.here.fields = a.words ∙ ap word_count front ∙ words_are n.here good in
     record {
@@ -37,7 +37,7 @@ may_stand_so d line told h =
       front = a.front;
       ended = a.ended;
       first = a.word ∙ ap first_word front ∙ first_is n.here;
-      begins = stands d n.here (e, (n.behind, n.lines));
+      begins = stands d n.here (e, (n.later, n.lines));
       words = ap (has_words (form_of n.here.word)) count ∙ formed_words (form_of n.here.word) n.here.fields good.0;
     }
 
@@ -80,7 +80,7 @@ none_other k w front l u good fit is count shared false v =
     ap (λ xs. get_or xs 0 []) one
 
 -- and there is none with that word too
-none_like : (d : EdidDraft) (line : List ℕ) (k : ℕ) → (m : MayStand (place_of d) line) → IsFirstUnfit m.word m.front k → AreTold (draft_lines d) → ((e : Edid) (behind : List (List ℕ)) → Next e (draft_lines d) line behind → ⊥)
+none_like : (d : EdidDraft) (line : List ℕ) (k : ℕ) → (m : MayStand (place_of d) line) → IsFirstUnfit m.word m.front k → AreTold (draft_lines d) → ((e : Edid) (later : List (List ℕ)) → Next e (draft_lines d) line later → ⊥)
     → HasLike (k + 1) (map line_text (draft_lines d)) line → ⊥
 none_like d line k m u told none h =
     let e = h.0 in
@@ -88,8 +88,8 @@ none_like d line k m u told none h =
     let more = h.1.1.0 in
     let a = h.1.1.1.1.0 in
     let n = next_of e (draft_lines d) other more told h.1.1.1.0 in
-    let good = good_at (draft_lines d) n.here n.behind (subst EachGood n.lines (edid_good e)) in
-    let fit = fit_at (draft_lines d) n.here n.behind (subst EachFit n.lines (edid_fit e)) in
+    let good = good_at (draft_lines d) n.here n.later (subst EachGood n.lines (edid_good e)) in
+    let fit = fit_at (draft_lines d) n.here n.later (subst EachFit n.lines (edid_fit e)) in
     let mine : a.front ≡ m.front = (same_front a.front m.front 10 10 (sym a.ended ∙ m.ended)).0 in
     let theirs : a.other_front ≡ front_text n.here = (same_front a.other_front (front_text n.here) 10 10 (sym a.other_ended ∙ sym n.text ∙ with_feed n.here)).0 in
     let shared : first_words (k + 1) m.front ≡ first_words (k + 1) (front_text n.here) = ap (first_words (k + 1)) (sym mine) ∙ h.1.1.1.1.1 ∙ ap (first_words (k + 1)) theirs in
@@ -97,11 +97,11 @@ none_like d line k m u told none h =
     let count : word_count m.front ≡ word_count (front_text n.here) = ap word_count (sym mine) ∙ a.words ∙ ap word_count theirs in
     let same = none_other k m.word m.front n.here u good fit word count shared (nat_lt (k + 1) (word_count m.front)) refl in
     let text : line_text n.here ≡ line = with_feed n.here ∙ ap (λ t. t ++ 10 ∷ []) (sym same) ∙ sym m.ended in
-    none e (map line_text n.behind) (record { here = n.here; behind = n.behind; lines = n.lines; text = text; texts = refl; formed = n.formed })
+    none e (map line_text n.later) (record { here = n.here; later = n.later; lines = n.lines; text = text; texts = refl; formed = n.formed })
 
 -- a line at fault
 pub refusal : (d : EdidDraft) (all : List (List ℕ)) (line : List ℕ) (more : List (List ℕ)) (n : ℕ) (x : TextError) → AreTold (draft_lines d) → all ≡ map line_text (draft_lines d) ++ line ∷ more
-    → n ≡ length (draft_lines d) + 1 → ((e : Edid) (behind : List (List ℕ)) → Next e (draft_lines d) line behind → ⊥) → IsFaultAt (place_of d) line n x → IsRefusal all x
+    → n ≡ length (draft_lines d) + 1 → ((e : Edid) (later : List (List ℕ)) → Next e (draft_lines d) line later → ⊥) → IsFaultAt (place_of d) line n x → IsRefusal all x
 refusal d all line more n (Syntax k) told h count none f =
     let bad : IsFirstBad all k = record {
       before = map line_text (draft_lines d);
@@ -109,10 +109,10 @@ refusal d all line more n (Syntax k) told h count none f =
       all = h;
       count = counted (draft_lines d) k (sym f.0 ∙ count);
       some = some_begins d;
-      none = λ e behind j. none e behind (next_of e (draft_lines d) line behind told j);
+      none = λ e later j. none e later (next_of e (draft_lines d) line later told j);
     } in (
       bad,
-      λ other behind e a.
+      λ other later e a.
           let same : other ≡ line = ap (λ t. get_or t 0 []) (sym e) in
           f.1 (may_stand_so d line told (subst (HasAlike (map line_text (draft_lines d))) same a)),
     )
@@ -123,7 +123,7 @@ refusal d all line more n (Field k word) told h count none f =
       all = h;
       count = counted (draft_lines d) k (sym f.0 ∙ count);
       some = some_begins d;
-      none = λ e behind j. none e behind (next_of e (draft_lines d) line behind told j);
+      none = λ e later j. none e later (next_of e (draft_lines d) line later told j);
     } in
     (bad, (line, (more, (refl, record { least = f.1.unfit.least; right = like_it d line word f.1.stands f.1.unfit; wrong = none_like d line word f.1.stands f.1.unfit told none }))))
 refusal d all line more n Memory told h count none f = absurd f

@@ -66,8 +66,8 @@ before_timings o l h f = at (opened_next o l f)
     at (inl x) = h (inl x.1)
     at (inr x) = h (inr x)
 
-pub behind_timings : (o : Opened) (l : Line) → 0 < length o.timings.items → (TimingFits o.left l ⊎ TailFits o.left l → ⊥) → Follows (draft_lines (OfOpened o)) l → ⊥
-behind_timings o l some h f = at (opened_next o l f)
+pub after_timings : (o : Opened) (l : Line) → 0 < length o.timings.items → (TimingFits o.left l ⊎ TailFits o.left l → ⊥) → Follows (draft_lines (OfOpened o)) l → ⊥
+after_timings o l some h f = at (opened_next o l f)
   where
     at : ((o.timings.items ≡ []) × BlockFits o.left l) ⊎ (TimingFits o.left l ⊎ TailFits o.left l) → ⊥
     at (inl x) = let len = ap length x.0 in omega (arith, len, some)

@@ -32,10 +32,10 @@ no_lines_told ls h e more k = record { rest = edid_lines e; lines = ap (λ t. t 
 -- the line that reads so, and what follows it
 pub record Next (e : Edid) (ls : List Line) (line : List ℕ) (more : List (List ℕ)) : Type 0 where
   pub here : Line
-  pub behind : List Line
-  pub lines : edid_lines e ≡ ls ++ here ∷ behind
+  pub later : List Line
+  pub lines : edid_lines e ≡ ls ++ here ∷ later
   pub text : line_text here ≡ line
-  pub texts : map line_text behind ≡ more
+  pub texts : map line_text later ≡ more
   pub formed : Formed here
 
 pub next_of : (e : Edid) (ls : List Line) (line : List ℕ) (more : List (List ℕ)) → AreTold ls → line_texts e ≡ map line_text ls ++ line ∷ more → Next e ls line more
@@ -45,7 +45,7 @@ next_of e ls line more told h = let r = told e (line ∷ more) h in go r.rest r.
     go [] k t = let len = ap length t in absurd (omega (arith, len))
     go (l ∷ rest) k t = record {
       here = l;
-      behind = rest;
+      later = rest;
       lines = k;
       text = ap (λ x. get_or x 0 []) t;
       texts = ap (λ x. drop 1 x) t;
@@ -64,8 +64,8 @@ one_more_told ls new l line told is text only e more h =
     let n = next_of e ls line more told whole in
     let same = some_same l n.here (only n.here n.formed n.text) in
     record {
-      rest = n.behind;
-      lines = n.lines ∙ ap (λ k. ls ++ k ∷ n.behind) (sym same) ∙ sym (append_assoc ls (l ∷ []) n.behind) ∙ ap (λ t. t ++ n.behind) (sym is);
+      rest = n.later;
+      lines = n.lines ∙ ap (λ k. ls ++ k ∷ n.later) (sym same) ∙ sym (append_assoc ls (l ∷ []) n.later) ∙ ap (λ t. t ++ n.later) (sym is);
       texts = n.texts;
     }
 
@@ -92,29 +92,29 @@ counted ls n h = let len = length-map ls line_text in omega (arith, len, h)
 
 -- where no EDID goes on so, a line is bad
 pub bad_by : (d : EdidDraft) (all : List (List ℕ)) (line : List ℕ) (more : List (List ℕ)) (n : ℕ) → AreTold (draft_lines d) → all ≡ map line_text (draft_lines d) ++ line ∷ more
-    → n ≡ length (draft_lines d) + 1 → ((e : Edid) (behind : List (List ℕ)) → Next e (draft_lines d) line behind → ⊥) → IsFirstBad all n
+    → n ≡ length (draft_lines d) + 1 → ((e : Edid) (later : List (List ℕ)) → Next e (draft_lines d) line later → ⊥) → IsFirstBad all n
 bad_by d all line more n told h count none = record {
   before = map line_text (draft_lines d);
   after = line ∷ more;
   all = h;
   count = counted (draft_lines d) n count;
   some = some_begins d;
-  none = λ e behind k. none e behind (next_of e (draft_lines d) line behind told k);
+  none = λ e later k. none e later (next_of e (draft_lines d) line later told k);
 }
 
 -- no line reads so
 pub unread : (ls : List Line) (line : List ℕ) → ((l : Line) → Formed l → line_text l ≡ line → Path (Option Line) None (Some l))
-    → (e : Edid) (behind : List (List ℕ)) → Next e ls line behind → ⊥
-unread ls line none e behind x = clash x.here (none x.here x.formed x.text)
+    → (e : Edid) (later : List (List ℕ)) → Next e ls line later → ⊥
+unread ls line none e later x = clash x.here (none x.here x.formed x.text)
   where
     clash : (l : Line) → Path (Option Line) None (Some l) → ⊥
     clash l h = cc
 
 -- the line that is read may not stand here
 pub misplaced : (ls : List Line) (line : List ℕ) (l : Line) → ((k : Line) → Formed k → line_text k ≡ line → Path (Option Line) (Some l) (Some k)) → (Follows ls l → ⊥)
-    → (e : Edid) (behind : List (List ℕ)) → Next e ls line behind → ⊥
-misplaced ls line l only not e behind x =
-    not (e, (x.behind, x.lines ∙ ap (λ k. ls ++ k ∷ x.behind) (sym (some_same l x.here (only x.here x.formed x.text)))))
+    → (e : Edid) (later : List (List ℕ)) → Next e ls line later → ⊥
+misplaced ls line l only not e later x =
+    not (e, (x.later, x.lines ∙ ap (λ k. ls ++ k ∷ x.later) (sym (some_same l x.here (only x.here x.formed x.text)))))
 
 pub all_told : (e : Edid) (ls : List Line) → AreTold ls → line_texts e ≡ map line_text ls → edid_lines e ≡ ls
 all_told e ls told h = let r = told e [] (h ∙ sym (append-nil (map line_text ls))) in go r.rest r.lines r.texts

@@ -101,13 +101,13 @@ some_line (OfCta c) more e = let len = ap length e in omega (arith, len)
 some_line (OfBare c) more e = let len = ap length e in omega (arith, len)
 some_line (OfRaw c) more e = let len = ap length e in omega (arith, len)
 
-exts_behind : (xs zs : List AnyExt) (ys : List Line) → flat_map ext_lines zs ≡ flat_map ext_lines xs ++ ys
+exts_after : (xs zs : List AnyExt) (ys : List Line) → flat_map ext_lines zs ≡ flat_map ext_lines xs ++ ys
     → (rest : List AnyExt) × ((flat_map ext_lines rest ≡ ys) × (length zs ≡ length xs + length rest))
-exts_behind [] zs ys e = (zs, (e, omega arith))
-exts_behind (x ∷ xs) [] ys e = absurd (some_line x (flat_map ext_lines xs ++ ys) (sym (append_assoc (ext_lines x) (flat_map ext_lines xs) ys) ∙ sym e))
-exts_behind (x ∷ xs) (z ∷ zs) ys e =
+exts_after [] zs ys e = (zs, (e, omega arith))
+exts_after (x ∷ xs) [] ys e = absurd (some_line x (flat_map ext_lines xs ++ ys) (sym (append_assoc (ext_lines x) (flat_map ext_lines xs) ys) ∙ sym e))
+exts_after (x ∷ xs) (z ∷ zs) ys e =
     let p = parted z x (flat_map ext_lines zs) (flat_map ext_lines xs ++ ys) (e ∙ append_assoc (ext_lines x) (flat_map ext_lines xs) ys) in
-    let more = exts_behind xs zs ys p.1 in
+    let more = exts_after xs zs ys p.1 in
     let count = more.1.1 in
     (more.0, (more.1.0, omega (arith, count)))
 
@@ -121,7 +121,7 @@ pub record NextExt (w : Whole) (ys : List Line) : Type 0 where
 pub ext_of : (e : Edid) (w : Whole) (y : Line) (ys : List Line) → edid_lines e ≡ whole_lines w ++ y ∷ ys → NextExt w (y ∷ ys)
 ext_of e w y ys h =
     let split = append_same (base_lines e.base) (base_lines w.base) _ _ (base_count e.base ∙ sym (base_count w.base)) (h ∙ append_assoc (base_lines w.base) (flat_map ext_lines w.extensions.items) (y ∷ ys)) in
-    let b = exts_behind w.extensions.items e.extensions.items (y ∷ ys) split.1 in
+    let b = exts_after w.extensions.items e.extensions.items (y ∷ ys) split.1 in
     at b.0 b.1.0 b.1.1
   where
     at : (rest : List AnyExt) → flat_map ext_lines rest ≡ y ∷ ys → length e.extensions.items ≡ length w.extensions.items + length rest → NextExt w (y ∷ ys)
@@ -143,29 +143,29 @@ whole_next w l h i j f = let x = ext_of f.0 w l f.1.0 f.1.1 in at x.ext x.more x
     at (OfRaw r) more e = j r (first_line _ _ _ _ e)
 
 -- data blocks that were told
-blocks_behind : (bs cs : List DataBlock) (ts : List DetailedTiming) (tail : List ℕ) (more zs : List Line) → body_lines cs ts tail more ≡ map block_line bs ++ zs
+blocks_after : (bs cs : List DataBlock) (ts : List DetailedTiming) (tail : List ℕ) (more zs : List Line) → body_lines cs ts tail more ≡ map block_line bs ++ zs
     → (rest : List DataBlock) × ((body_lines rest ts tail more ≡ zs) × (length (flat_map block_bytes cs) ≡ length (flat_map block_bytes bs) + length (flat_map block_bytes rest)))
-blocks_behind [] cs ts tail more zs e = (cs, (e, omega arith))
-blocks_behind (b ∷ bs) [] [] tail more zs e = absurd (not_tail b tail (sym (first_line _ _ _ _ e)))
-blocks_behind (b ∷ bs) [] (t ∷ ts) tail more zs e = absurd (not_timing b t (sym (first_line _ _ _ _ e)))
-blocks_behind (b ∷ bs) (c ∷ cs) ts tail more zs e =
+blocks_after [] cs ts tail more zs e = (cs, (e, omega arith))
+blocks_after (b ∷ bs) [] [] tail more zs e = absurd (not_tail b tail (sym (first_line _ _ _ _ e)))
+blocks_after (b ∷ bs) [] (t ∷ ts) tail more zs e = absurd (not_timing b t (sym (first_line _ _ _ _ e)))
+blocks_after (b ∷ bs) (c ∷ cs) ts tail more zs e =
     let same = same_size c b (first_line _ _ _ _ e) in
-    let rest = blocks_behind bs cs ts tail more zs (other_lines _ _ _ _ e) in
+    let rest = blocks_after bs cs ts tail more zs (other_lines _ _ _ _ e) in
     let sizes = rest.1.1 in
     (rest.0, (rest.1.0, omega (arith, same, sizes, length-append (block_bytes b) (flat_map block_bytes bs), length-append (block_bytes c) (flat_map block_bytes cs))))
 
 -- timings that were told
-timings_behind : (us ts : List DetailedTiming) (tail : List ℕ) (more zs : List Line) → map timing_line ts ++ (tail_line tail ∷ more) ≡ map timing_line us ++ zs
+timings_after : (us ts : List DetailedTiming) (tail : List ℕ) (more zs : List Line) → map timing_line ts ++ (tail_line tail ∷ more) ≡ map timing_line us ++ zs
     → (rest : List DetailedTiming) × ((map timing_line rest ++ (tail_line tail ∷ more) ≡ zs) × (length ts ≡ length us + length rest))
-timings_behind [] ts tail more zs e = (ts, (e, omega arith))
-timings_behind (u ∷ us) [] tail more zs e = absurd (timing_not_tail u tail (sym (first_line _ _ _ _ e)))
-timings_behind (u ∷ us) (t ∷ ts) tail more zs e =
-    let rest = timings_behind us ts tail more zs (other_lines _ _ _ _ e) in
+timings_after [] ts tail more zs e = (ts, (e, omega arith))
+timings_after (u ∷ us) [] tail more zs e = absurd (timing_not_tail u tail (sym (first_line _ _ _ _ e)))
+timings_after (u ∷ us) (t ∷ ts) tail more zs e =
+    let rest = timings_after us ts tail more zs (other_lines _ _ _ _ e) in
     let sizes = rest.1.1 in
     (rest.0, (rest.1.0, omega (arith, sizes)))
 
 -- what is after the lines of an open block
-pub record Behind (o : Opened) (zs : List Line) : Type 0 where
+pub record AfterOpened (o : Opened) (zs : List Line) : Type 0 where
   pub blocks : List DataBlock
   pub timings : List DetailedTiming
   pub tail : List ℕ
@@ -178,14 +178,14 @@ pub record Behind (o : Opened) (zs : List Line) : Type 0 where
 pub length-timings : (ts : List DetailedTiming) → length (flat_map timing_bytes ts) ≡ 18 * length ts
 length-timings ts = length-flat timing_bytes 18 (λ t. refl) ts
 
-cta_behind : (o : Opened) (c : CtaBlock) (more zs : List Line) → cta_lines c ++ more ≡ opened_lines o ++ zs → Behind o zs
-cta_behind o c more zs e =
+cta_after : (o : Opened) (c : CtaBlock) (more zs : List Line) → cta_lines c ++ more ≡ opened_lines o ++ zs → AfterOpened o zs
+cta_after o c more zs e =
     let body = sym (body_more c.blocks.items c.timings.items c.tail.items more) ∙ other_lines _ _ _ _ e ∙ append_assoc (map block_line o.blocks.items) (map timing_line o.timings.items) zs in
-    let rest = blocks_behind o.blocks.items c.blocks.items c.timings.items c.tail.items more _ body in
+    let rest = blocks_after o.blocks.items c.blocks.items c.timings.items c.tail.items more _ body in
     at rest.0 o.timings.items refl rest.1.0 rest.1.1
   where
     at : (rest : List DataBlock) (us : List DetailedTiming) → o.timings.items ≡ us → body_lines rest c.timings.items c.tail.items more ≡ map timing_line us ++ zs
-        → length (flat_map block_bytes c.blocks.items) ≡ length (flat_map block_bytes o.blocks.items) + length (flat_map block_bytes rest) → Behind o zs
+        → length (flat_map block_bytes c.blocks.items) ≡ length (flat_map block_bytes o.blocks.items) + length (flat_map block_bytes rest) → AfterOpened o zs
     at rest [] none lines size =
         let len = ap length none in
         record {
@@ -200,22 +200,22 @@ cta_behind o c more zs e =
         }
     at (b ∷ bs) (u ∷ us) some lines size = absurd (not_timing b u (first_line _ _ _ _ lines))
     at [] (u ∷ us) some lines size =
-        let behind = timings_behind (u ∷ us) c.timings.items c.tail.items more zs lines in
+        let after = timings_after (u ∷ us) c.timings.items c.tail.items more zs lines in
         let len = ap length some in
-        let count = behind.1.1 in
+        let count = after.1.1 in
         record {
           blocks = [];
-          timings = behind.0;
+          timings = after.0;
           tail = c.tail.items;
           more = more;
-          lines = behind.1.0;
+          lines = after.1.0;
           size = omega (arith, size, c.whole, o.spelled, length-timings c.timings.items, len, count);
           ended = c.ended;
           order = inr refl;
         }
 
-pub opened_behind : (o : Opened) (e : Edid) (zs : List Line) → edid_lines e ≡ (whole_lines o.whole ++ opened_lines o) ++ zs → Behind o zs
-opened_behind o e zs h =
+pub opened_after : (o : Opened) (e : Edid) (zs : List Line) → edid_lines e ≡ (whole_lines o.whole ++ opened_lines o) ++ zs → AfterOpened o zs
+opened_after o e zs h =
     let x = ext_of e o.whole _ _ (h ∙ append_assoc (whole_lines o.whole) (opened_lines o) zs) in at x.ext x.more x.lines
   where
     words : (f g : ℕ) (ls ms : List Line) → bytes_line CtaNone (f ∷ []) ∷ ls ≡ bytes_line Cta (g ∷ []) ∷ ms → ⊥
@@ -224,14 +224,14 @@ opened_behind o e zs h =
     raw_words : (bs : List ℕ) (g : ℕ) (ls ms : List Line) → bytes_line Ext bs ∷ ls ≡ bytes_line Cta (g ∷ []) ∷ ms → ⊥
     raw_words bs g ls ms k = let same = ap (λ l. l.word) (first_line _ _ _ _ k) in cc
 
-    at : (x : AnyExt) (more : List Line) → ext_lines x ++ more ≡ opened_lines o ++ zs → Behind o zs
-    at (OfCta c) more k = cta_behind o c more zs k
+    at : (x : AnyExt) (more : List Line) → ext_lines x ++ more ≡ opened_lines o ++ zs → AfterOpened o zs
+    at (OfCta c) more k = cta_after o c more zs k
     at (OfBare c) more k = absurd (words c.flags o.flags _ _ k)
     at (OfRaw r) more k = absurd (raw_words r.bytes o.flags _ _ k)
 
 -- which line can come next
 pub opened_next : (o : Opened) (l : Line) → Follows (draft_lines (OfOpened o)) l → ((o.timings.items ≡ []) × BlockFits o.left l) ⊎ (TimingFits o.left l ⊎ TailFits o.left l)
-opened_next o l f = let b = opened_behind o f.0 (l ∷ f.1.0) f.1.1 in at b.blocks b.timings b.tail b.more b.lines b.size b.ended b.order
+opened_next o l f = let b = opened_after o f.0 (l ∷ f.1.0) f.1.1 in at b.blocks b.timings b.tail b.more b.lines b.size b.ended b.order
   where
     at : (bs : List DataBlock) (ts : List DetailedTiming) (tail : List ℕ) (more : List Line) → body_lines bs ts tail more ≡ l ∷ f.1.0
         → length (flat_map block_bytes bs) + 18 * length ts + length tail ≡ o.left → IsTrue (is_tail tail) → (o.timings.items ≡ []) ⊎ (bs ≡ [])
@@ -245,7 +245,7 @@ opened_next o l f = let b = opened_behind o f.0 (l ∷ f.1.0) f.1.1 in at b.bloc
 -- an open block is not all
 pub opened_not_all : (o : Opened) (e : Edid) → edid_lines e ≡ draft_lines (OfOpened o) → ⊥
 opened_not_all o e h =
-    let b = opened_behind o e [] (h ∙ sym (append-nil (whole_lines o.whole ++ opened_lines o))) in
+    let b = opened_after o e [] (h ∙ sym (append-nil (whole_lines o.whole ++ opened_lines o))) in
     let len = ap length b.lines in
     omega (arith, len, length-append (map block_line b.blocks) (map timing_line b.timings ++ (tail_line b.tail ∷ b.more)), length-append (map timing_line b.timings) (tail_line b.tail ∷ b.more))
 

@@ -55,22 +55,22 @@ block_at c n i b h k e =
     ∙ get_left (map block_line c.blocks.items) _ i (omega (arith, length-map c.blocks.items block_line, k))
     ∙ get_made block_line c.blocks.items i b k e
 
-behind_blocks : (c : Cta) (n i : ℕ) → n ≡ 1 + (length c.blocks.items + i) → slice_get (cta_lines c) n ≡ slice_get (map timing_line c.timings.items ++ (tail_line c.tail.items ∷ [])) i
-behind_blocks c n i h =
+after_blocks : (c : Cta) (n i : ℕ) → n ≡ 1 + (length c.blocks.items + i) → slice_get (cta_lines c) n ≡ slice_get (map timing_line c.timings.items ++ (tail_line c.tail.items ∷ [])) i
+after_blocks c n i h =
     get_right (_ ∷ []) (map block_line c.blocks.items ++ (map timing_line c.timings.items ++ (tail_line c.tail.items ∷ []))) n (length c.blocks.items + i) h
     ∙ get_right (map block_line c.blocks.items) _ (length c.blocks.items + i) i (omega (arith, length-map c.blocks.items block_line))
 
 pub timing_at : (c : Cta) (n i : ℕ) (t : Timing) → n ≡ 1 + (length c.blocks.items + i) → i < length c.timings.items → t ≡ get_or c.timings.items i t → slice_get (cta_lines c) n ≡ Some (timing_line t)
 timing_at c n i t h k e =
-    behind_blocks c n i h ∙ get_left (map timing_line c.timings.items) _ i (omega (arith, length-map c.timings.items timing_line, k)) ∙ get_made timing_line c.timings.items i t k e
+    after_blocks c n i h ∙ get_left (map timing_line c.timings.items) _ i (omega (arith, length-map c.timings.items timing_line, k)) ∙ get_made timing_line c.timings.items i t k e
 
 pub tail_at : (c : Cta) (n i : ℕ) → n ≡ 1 + (length c.blocks.items + i) → i ≡ length c.timings.items → slice_get (cta_lines c) n ≡ Some (tail_line c.tail.items)
 tail_at c n i h k =
-    behind_blocks c n i h ∙ get_right (map timing_line c.timings.items) (tail_line c.tail.items ∷ []) i 0 (omega (arith, length-map c.timings.items timing_line, k))
+    after_blocks c n i h ∙ get_right (map timing_line c.timings.items) (tail_line c.tail.items ∷ []) i 0 (omega (arith, length-map c.timings.items timing_line, k))
 
 pub none_at : (c : Cta) (n i : ℕ) → n ≡ 1 + (length c.blocks.items + i) → length c.timings.items < i → slice_get (cta_lines c) n ≡ None
 none_at c n i h k =
-    behind_blocks c n i h ∙ get_right (map timing_line c.timings.items) (tail_line c.tail.items ∷ []) i (suc (i - length c.timings.items - 1)) (omega (arith, length-map c.timings.items timing_line, k))
+    after_blocks c n i h ∙ get_right (map timing_line c.timings.items) (tail_line c.tail.items ∷ []) i (suc (i - length c.timings.items - 1)) (omega (arith, length-map c.timings.items timing_line, k))
 
 pub in_base : (b : Base) (xs : List Ext) (n : ℕ) → n < 23 → slice_get (part_lines b xs) n ≡ slice_get (base_lines b) n
 in_base b xs n h = get_left (base_lines b) _ n (omega (arith, base_count b, h))
@@ -82,8 +82,8 @@ in_ext b xs n i h = get_right (base_lines b) _ n i (omega (arith, base_count b, 
 pub in_first : (x : Ext) (xs : List Ext) (n : ℕ) → n < length (ext_lines x) → slice_get (flat_map ext_lines (x ∷ xs)) n ≡ slice_get (ext_lines x) n
 in_first x xs n h = get_left (ext_lines x) (flat_map ext_lines xs) n h
 
-pub behind_first : (x : Ext) (xs : List Ext) (n : ℕ) → length (ext_lines x) ≤ n → slice_get (flat_map ext_lines (x ∷ xs)) n ≡ slice_get (flat_map ext_lines xs) (n - length (ext_lines x))
-behind_first x xs n h = get_right (ext_lines x) (flat_map ext_lines xs) n (n - length (ext_lines x)) (omega (arith, h))
+pub after_first : (x : Ext) (xs : List Ext) (n : ℕ) → length (ext_lines x) ≤ n → slice_get (flat_map ext_lines (x ∷ xs)) n ≡ slice_get (flat_map ext_lines xs) (n - length (ext_lines x))
+after_first x xs n h = get_right (ext_lines x) (flat_map ext_lines xs) n (n - length (ext_lines x)) (omega (arith, h))
 
 pub first_left : (xs : List Ext) (i n : ℕ) (x : Ext) → i < length xs → x ≡ get_or xs i x → n < length (ext_lines x) → slice_get (flat_map ext_lines (drop i xs)) n ≡ slice_get (ext_lines x) n
 first_left xs i n x h e less =
@@ -93,7 +93,7 @@ pub rest_left : (xs : List Ext) (i n : ℕ) (x : Ext) → i < length xs → x �
     → slice_get (flat_map ext_lines (drop i xs)) n ≡ slice_get (flat_map ext_lines (drop (i + 1) xs)) (n - length (ext_lines x))
 rest_left xs i n x h e most =
     let next : suc i ≡ i + 1 = omega arith in
-    ap (λ ys. slice_get (flat_map ext_lines ys) n) (drop-cons xs i x h ∙ ap (λ y. y ∷ drop (suc i) xs) (sym e)) ∙ behind_first x (drop (suc i) xs) n most
+    ap (λ ys. slice_get (flat_map ext_lines ys) n) (drop-cons xs i x h ∙ ap (λ y. y ∷ drop (suc i) xs) (sym e)) ∙ after_first x (drop (suc i) xs) n most
     ∙ ap (λ k. slice_get (flat_map ext_lines (drop k xs)) (n - length (ext_lines x))) next
 
 few_blocks : (bs : List DataBlock) → length bs ≤ length (flat_map block_bytes bs)

@@ -89,8 +89,8 @@ zeros_end (suc zero) = refl
 zeros_end (suc (suc n)) = or_true (nat_lt (length (0 ∷ 0 ∷ replicate n 0)) 18)
 
 -- an open block with zeros after it
-pub zeros_behind : (o : Opened) → (e : Edid) × (edid_lines e ≡ (whole_lines o.whole ++ opened_lines o) ++ tail_line (replicate o.left 0) ∷ [])
-zeros_behind o =
+pub zeros_after : (o : Opened) → (e : Edid) × (edid_lines e ≡ (whole_lines o.whole ++ opened_lines o) ++ tail_line (replicate o.left 0) ∷ [])
+zeros_after o =
     let whole : length (flat_map block_bytes o.blocks.items) + length (flat_map timing_bytes o.timings.items) + length (replicate o.left 0) ≡ 123 =
     omega (arith, o.spelled, length-timings o.timings.items, length-replicate {A = ℕ} o.left 0) in
     let fit = are_bytes-cons o.flags (replicate o.left 0) o.flags_fit (zeros_fit o.left) in
@@ -112,5 +112,5 @@ zeros_alone d =
 pub live : (d : EdidDraft) → Begins (draft_lines d)
 live (Begun d) = (alone d.base, (drop d.number (base_lines d.base), alone_lines d.base ∙ sym (take-append-drop d.number (base_lines d.base))))
 live (OfWhole w) = (edid_of w, ([], edid_of_lines w ∙ sym (append-nil (whole_lines w))))
-live (OfOpened o) = let z = zeros_behind o in (z.0, (tail_line (replicate o.left 0) ∷ [], z.1))
+live (OfOpened o) = let z = zeros_after o in (z.0, (tail_line (replicate o.left 0) ∷ [], z.1))
 live (OfHeaded d) = let z = zeros_alone d in (z.0, (tail_line (replicate 123 0) ∷ [], z.1))

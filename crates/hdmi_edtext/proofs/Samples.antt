@@ -34,7 +34,7 @@ use Rattle.hdmi_lines.specs.declared.line.Keyword.{Keyword}
 use Rattle.hdmi_lines.specs.declared.line.Keyword.TheVariants.{Edid, Maker, Product, Serial, Made, Input, Size, Gamma, Features, Chroma, Established, Standard, Timing, Name, Text, SerialText, Range, Dummy, Raw, Cta, CtaNone, Tag0, Audio, Video, Vendor, Speakers, Tag5, Tag6, Extended, Hdmi, Tail, Ext}
 use Rattle.hdmi_edtext.specs.declared.place.NextLine.TheVariants.{AtExt, AtEnd, InBlocks, InTimings}
 use Rattle.hdmi_edtext.proofs.BaseNexts.{set_line, set_descriptor}
-use Rattle.hdmi_edtext.proofs.Live.{alone, alone_lines, with_ext, with_ext_lines, zeros_behind, zeros_alone}
+use Rattle.hdmi_edtext.proofs.Live.{alone, alone_lines, with_ext, with_ext_lines, zeros_after, zeros_alone}
 
 -- how many words a line with these fields has
 abbrev pub words_of : Fields → ℕ
@@ -207,7 +207,7 @@ two_words ls w m l f is size count = let two : m ≡ 2 = eqb-true _ _ count in r
 cta_next : (w : Whole) → length w.extensions.items < 3 → Follows (whole_lines w) (bytes_line Cta (0 ∷ []))
 cta_next w room =
     let o : Opened = record { whole = w; flags = 0; blocks = record { items = [] }; timings = record { items = [] }; left = 123; room = room; flags_fit = omega arith; spelled = refl; few = omega arith } in
-    let z = zeros_behind o in
+    let z = zeros_after o in
     (z.0, (tail_line (replicate 123 0) ∷ [], z.1 ∙ append_assoc (whole_lines w) (bytes_line Cta (0 ∷ []) ∷ []) (tail_line (replicate 123 0) ∷ [])))
 
 cta_none_next : (w : Whole) → length w.extensions.items < 3 → Follows (whole_lines w) (bytes_line CtaNone (0 ∷ []))
@@ -244,7 +244,7 @@ more_block o b none h =
     let spelled : length (flat_map block_bytes blocks) + 18 * length {A = DetailedTiming} [] + left ≡ 123 = omega (arith, flat, one, o.spelled, h, len) in
     let few : length blocks + left ≤ 123 = omega (arith, length-append o.blocks.items (b ∷ []), o.few, h) in
     let new : Opened = record { whole = o.whole; flags = o.flags; blocks = record { items = blocks }; timings = record { items = [] }; left = left; room = o.room; flags_fit = o.flags_fit; spelled = spelled; few = few } in
-    let z = zeros_behind new in
+    let z = zeros_after new in
     let last = tail_line (replicate left 0) ∷ [] in
     let body : map block_line blocks ++ [] ≡ (map block_line o.blocks.items ++ map timing_line o.timings.items) ++ block_line b ∷ [] =
     append-nil (map block_line blocks) ∙ map-append block_line o.blocks.items (b ∷ []) ∙ ap (λ t. t ++ block_line b ∷ []) (sym (append-nil (map block_line o.blocks.items)))
@@ -268,7 +268,7 @@ more_timing o t h =
     let spelled : length (flat_map block_bytes o.blocks.items) + 18 * length more + left ≡ 123 = omega (arith, len, o.spelled, h) in
     let few : length o.blocks.items + left ≤ 123 = omega (arith, o.few, h) in
     let new : Opened = record { whole = o.whole; flags = o.flags; blocks = o.blocks; timings = record { items = more }; left = left; room = o.room; flags_fit = o.flags_fit; spelled = spelled; few = few } in
-    let z = zeros_behind new in
+    let z = zeros_after new in
     let last = tail_line (replicate left 0) ∷ [] in
     let bs = map block_line o.blocks.items in
     let body : bs ++ map timing_line more ≡ (bs ++ map timing_line o.timings.items) ++ timing_line t ∷ [] =
@@ -278,7 +278,7 @@ more_timing o t h =
     (z.0, (last, z.1 ∙ ap (λ x. x ++ last) lines ∙ append_assoc (whole_lines o.whole ++ opened_lines o) (timing_line t ∷ []) last))
 
 a_tail : (o : Opened) → Follows (draft_lines (OfOpened o)) (tail_line (replicate o.left 0))
-a_tail o = let z = zeros_behind o in (z.0, ([], z.1))
+a_tail o = let z = zeros_after o in (z.0, ([], z.1))
 
 a_timing_line : (o : Opened) (m : ℕ) (w : Keyword) → in_timings o.left w ≡ true → has_words (form_of w) m ≡ true → Sample (draft_lines (OfOpened o)) w m
 a_timing_line o m Timing at count =

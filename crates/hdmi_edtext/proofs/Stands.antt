@@ -74,10 +74,10 @@ base_from b =
     let rest = standards_from b.standard b.descriptors 11 (omega arith) (let eight = b.eight in omega (arith, eight)) in
     (refl, (refl, (refl, (refl, (refl, (refl, (refl, (refl, (refl, (refl, (refl, rest)))))))))))
 
-ext_stands : (x : AnyExt) (behind : List Line) (l : Line) (more : List Line) → ext_lines x ++ behind ≡ l ∷ more → at_ext l.word ≡ true
-ext_stands (OfCta c) behind l more e = ap (λ ls. at_ext (get_or ls 0 l).word) (sym e)
-ext_stands (OfBareExt c) behind l more e = ap (λ ls. at_ext (get_or ls 0 l).word) (sym e)
-ext_stands (OfRawExt c) behind l more e = ap (λ ls. at_ext (get_or ls 0 l).word) (sym e)
+ext_stands : (x : AnyExt) (after : List Line) (l : Line) (more : List Line) → ext_lines x ++ after ≡ l ∷ more → at_ext l.word ≡ true
+ext_stands (OfCta c) after l more e = ap (λ ls. at_ext (get_or ls 0 l).word) (sym e)
+ext_stands (OfBareExt c) after l more e = ap (λ ls. at_ext (get_or ls 0 l).word) (sym e)
+ext_stands (OfRawExt c) after l more e = ap (λ ls. at_ext (get_or ls 0 l).word) (sym e)
 
 block_stands : (b : DataBlock) (left : ℕ) → length (block_bytes b) ≤ left → in_blocks left (block_line b).word ≡ true
 block_stands b left h =

@@ -31,7 +31,7 @@ fn hdmi_of(line: &Line) -> Option<DataBlock>
         return None;
     }
     match &line.fields {
-        Fields::Address(phys, behind) => Some(hdmi_block(*phys, behind.as_slice())),
+        Fields::Address(phys, after) => Some(hdmi_block(*phys, after.as_slice())),
         _ => None,
     }
 }

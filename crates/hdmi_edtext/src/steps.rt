@@ -182,7 +182,7 @@ fn put_tail(opened: Opened, bytes: &[u8]) -> Option<EdidDraft>
 }
 
 /// The draft with a timing or the tail.
-fn put_behind_blocks(opened: Opened, line: &Line) -> Option<EdidDraft>
+fn put_after_blocks(opened: Opened, line: &Line) -> Option<EdidDraft>
     ensures { MatchOption result (TimingFits opened.left line.now ⊎ TailFits opened.left line.now → ⊥) (λ d. draft_lines d ≡ draft_lines (EdidDraft.Opened opened) ++ line.now ∷ []) }
 {
     if let Some(timing) = timing_of(line) {
@@ -201,7 +201,7 @@ fn put_in_blocks(opened: Opened, line: &Line) -> Option<EdidDraft>
 {
     match block_of(line) {
         Some(block) => put_block(opened, block),
-        None => put_behind_blocks(opened, line),
+        None => put_after_blocks(opened, line),
     }
 }
 
@@ -212,7 +212,7 @@ fn put_opened(opened: Opened, line: &Line) -> Option<EdidDraft>
     if opened.timings.is_empty() {
         put_in_blocks(opened, line)
     } else {
-        put_behind_blocks(opened, line)
+        put_after_blocks(opened, line)
     }
 }
 

@@ -8,7 +8,7 @@ use crate::colours::{append_capability, append_colours, append_hdr};
 use crate::forum::append_forum;
 use crate::makers::{append_maker, append_named, audio_name, identifier, video_name};
 use crate::videos::{append_map, append_preferences};
-use hdmi_meaning::{PAGE, Page, append_video, behind, byte_at};
+use hdmi_meaning::{PAGE, Page, append_video, after, byte_at};
 
 /// The extended tags (CTA-861-G, table 56).
 const VIDEO_CAPABILITY: u8 = 0x00;
@@ -47,7 +47,7 @@ fn append_tagged(page: &mut Page, tag: u8, payload: &[u8])
         VIDEO_420 => append_video(page, payload),
         MAP_420 => append_map(page, payload),
         VENDOR_AUDIO => append_named(page, audio_name(identifier(payload)).as_bytes(), payload),
-        SINK_CAPABILITY => append_forum(page, behind(payload, 2)),
+        SINK_CAPABILITY => append_forum(page, after(payload, 2)),
         _ => {}
     }
 }
@@ -59,7 +59,7 @@ pub fn append_extended(page: &mut Page, bytes: &[u8])
     ensures { page.new.items ≡ page.old.items ++ flat_map own_line (extended_meanings bytes.now) }
 {
     if !bytes.is_empty() {
-        append_tagged(page, byte_at(bytes, 0), behind(bytes, 1));
+        append_tagged(page, byte_at(bytes, 0), after(bytes, 1));
     }
 }
 
@@ -70,7 +70,7 @@ pub fn append_vendor(page: &mut Page, bytes: &[u8])
     ensures { page.new.items ≡ page.old.items ++ flat_map own_line (vendor_meanings bytes.now) }
 {
     if identifier(bytes) == HDMI_FORUM {
-        append_forum(page, behind(bytes, 3));
+        append_forum(page, after(bytes, 3));
     } else {
         append_maker(page, bytes);
     }

@@ -8,7 +8,7 @@ use crate::brightness::luminance;
 use arrayvec::ArrayVec;
 use hdmi_edid::append;
 use hdmi_meaning::{
-    Bit, NOTE, Note, PAGE, Page, append_between, append_bits, append_rest, append_words, behind,
+    Bit, NOTE, Note, PAGE, Page, append_between, append_bits, append_rest, append_words, after,
     bit_rows, byte_at,
 };
 
@@ -145,7 +145,7 @@ pub fn append_capability(page: &mut Page, payload: &[u8])
     ensures { page.new.items ≡ page.old.items ++ flat_map own_line (capability_meanings payload.now) }
 {
     let mut words = capability_note(byte_at(payload, 0));
-    append_rest(&mut words, behind(payload, 1));
+    append_rest(&mut words, after(payload, 1));
     append_words(page, words.as_slice());
 }
 
@@ -158,7 +158,7 @@ pub fn append_colours(page: &mut Page, payload: &[u8])
     let mut words: Note = ArrayVec::new();
     append_colour_bits(&mut words, byte_at(payload, 0));
     append_gamut_bits(&mut words, byte_at(payload, 1));
-    append_rest(&mut words, behind(payload, 2));
+    append_rest(&mut words, after(payload, 2));
     append_words(page, words.as_slice());
 }
 
@@ -192,7 +192,7 @@ fn append_contents(note: &mut Note, payload: &[u8])
     append_luminance(note, b", content up to ", byte_at(payload, 2));
     append_luminance(note, b", frames on average up to ", byte_at(payload, 3));
     append_least(note, byte_at(payload, 4));
-    append_rest(note, behind(payload, 5));
+    append_rest(note, after(payload, 5));
 }
 
 fn hdr_note(payload: &[u8]) -> Note

@@ -7,7 +7,7 @@ ghost use Rattle.hdmi_extended.specs.Forum.{clock_words, depth_rows, fixed_words
 use arrayvec::ArrayVec;
 use hdmi_edid::append;
 use hdmi_meaning::{
-    Bit, NOTE, Note, PAGE, Page, append_between, append_bits, append_rest, append_words, behind,
+    Bit, NOTE, Note, PAGE, Page, append_between, append_bits, append_rest, append_words, after,
     bit_rows, byte_at,
 };
 
@@ -181,7 +181,7 @@ fn picture_note(payload: &[u8]) -> Note
     let most = u16::from(rates / 64) * 256 + u16::from(byte_at(payload, 6));
     append_vrr(&mut words, rates % 64, most);
     append_stream_bits(&mut words, byte_at(payload, 7));
-    append_rest(&mut words, behind(payload, 8));
+    append_rest(&mut words, after(payload, 8));
     words
 }
 

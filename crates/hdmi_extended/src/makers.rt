@@ -6,7 +6,7 @@ ghost use Rattle.hdmi_extended.specs.Makers.{audio_name, identifier, maker_meani
 
 use arrayvec::ArrayVec;
 use hdmi_edid::append;
-use hdmi_meaning::{Note, PAGE, Page, append_rest, append_words, behind, byte_at};
+use hdmi_meaning::{Note, PAGE, Page, append_rest, append_words, after, byte_at};
 
 const AMD: u32 = 0x00001a;
 
@@ -95,6 +95,6 @@ pub fn append_named(page: &mut Page, name: &[u8], payload: &[u8])
     }
     let mut words: Note = ArrayVec::new();
     append(&mut words, name);
-    append_rest(&mut words, behind(payload, 3));
+    append_rest(&mut words, after(payload, 3));
     append_words(page, words.as_slice());
 }

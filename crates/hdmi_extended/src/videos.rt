@@ -9,7 +9,7 @@ use arrayvec::ArrayVec;
 use hdmi_edid::append;
 use hdmi_meaning::{
     NOTE, Note, PAGE, Page, append_between, append_code, append_line, append_rest, append_words,
-    before, behind, is_set,
+    before, after, is_set,
 };
 
 /// The bits of a byte, the lowest first.
@@ -136,7 +136,7 @@ fn map_note(payload: &[u8]) -> Note
     }
     append(&mut words, b", also in 4:2:0 the video codes at places");
     append_places(&mut words, 1, mapped(payload));
-    append_rest(&mut words, behind(payload, MAP));
+    append_rest(&mut words, after(payload, MAP));
     words
 }
 

@@ -101,9 +101,9 @@ begins_so : (ms t : List ℕ) → BeginsSpaced t → BeginsSpaced (flat_map numb
 begins_so [] t h = h
 begins_so (m ∷ ms) t h = refl
 
-numbers_behind : (xs ys : List ℕ) → are_numbers (xs ++ ys) ≡ true → are_numbers ys ≡ true
-numbers_behind [] ys h = h
-numbers_behind (x ∷ xs) ys h = numbers_behind xs ys (both (nat_lt x (2 ^ 32)) (are_numbers (xs ++ ys)) h).1
+numbers_after : (xs ys : List ℕ) → are_numbers (xs ++ ys) ≡ true → are_numbers ys ≡ true
+numbers_after [] ys h = h
+numbers_after (x ∷ xs) ys h = numbers_after xs ys (both (nat_lt x (2 ^ 32)) (are_numbers (xs ++ ys)) h).1
 
 pub left_first : (done ns t text : List ℕ) → done ≡ [] → flat_map number_text ns ++ t ≡ text → Left done ns t text
 left_first done ns t text e h = record { ms = ns; split = ap (λ x. x ++ ns) (sym e); spelled = h }
@@ -114,7 +114,7 @@ next_of done ns t rest i count l len less all fit b = go l.ms l.split l.spelled
     go : (ms : List ℕ) → ns ≡ done ++ ms → flat_map number_text ms ++ t ≡ rest → Next done ns t rest
     go [] e f = let n = ap length e in absurd (omega (arith, n, length-append done [], len, less, all))
     go (m ∷ ms) e f =
-        let small = ltb-true _ _ (both (nat_lt m (2 ^ 32)) (are_numbers ms) (numbers_behind done (m ∷ ms) (ap are_numbers (sym e) ∙ fit))).0 in
+        let small = ltb-true _ _ (both (nat_lt m (2 ^ 32)) (are_numbers ms) (numbers_after done (m ∷ ms) (ap are_numbers (sym e) ∙ fit))).0 in
         record {
           m = m;
           ms = ms;
@@ -139,8 +139,8 @@ left_none done ns t rest i count l len past all = go l.ms l.split l.spelled
     go [] e f = (sym (e ∙ append-nil done), sym f)
     go (m ∷ ms) e f = let n = ap length e in absurd (omega (arith, n, length-append done (m ∷ ms), len, past, all))
 
-pub behind_space : (rest x : List ℕ) → 32 ∷ x ≡ rest → x ≡ take (length rest - 1) (drop 1 rest)
-behind_space rest x e = sym (rest_of rest 1 ∙ ap (drop 1) (sym e))
+pub after_space : (rest x : List ℕ) → 32 ∷ x ≡ rest → x ≡ take (length rest - 1) (drop 1 rest)
+after_space rest x e = sym (rest_of rest 1 ∙ ap (drop 1) (sym e))
 
 -- a detailed timing's numbers and flags
 pub begins_flags : (text rest : List ℕ) → rest ≡ 32 ∷ text → 0 < length rest

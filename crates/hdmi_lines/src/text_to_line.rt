@@ -223,11 +223,11 @@ fn candidate(line: &[u8]) -> Option<Line>
     if line.is_empty() {
         return None;
     }
-    let (word, behind) = next_word(&line[..line.len() - 1]);
+    let (word, after) = next_word(&line[..line.len() - 1]);
     let Some(word) = word_of(word) else {
         return None;
     };
-    let Some(fields) = read_fields(word.form(), behind) else {
+    let Some(fields) = read_fields(word.form(), after) else {
         return None;
     };
     Some(Line { word, fields })

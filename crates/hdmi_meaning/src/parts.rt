@@ -20,7 +20,7 @@ pub fn before(bytes: &[u8], count: usize) -> &[u8]
 }
 
 /// What stands after the first bytes.
-pub fn behind(bytes: &[u8], count: usize) -> &[u8]
+pub fn after(bytes: &[u8], count: usize) -> &[u8]
     ensures rest { result.now ≡ drop count bytes.now }
     ensures shorter { length result.now ≤ length bytes.now }
 {

@@ -30,7 +30,7 @@ const VENDOR: &str = "ID is six lower-case hex digits";
 
 const ADDRESS: &str = "PA is a physical address, as 1.0.0.0";
 
-const VOLUME: &str = "VOLUME is `mute` or `sound`, and 0 to 100 behind a space";
+const VOLUME: &str = "VOLUME is `mute` or `sound`, and 0 to 100 after a space";
 
 const LONG_TEXT: &str = "TEXT is 1 to 14 printable characters in double quotes";
 

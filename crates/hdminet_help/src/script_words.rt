@@ -104,8 +104,8 @@ fn add_key(draft: &mut Draft, form: &str, key: &Key) {
 }
 
 /// The forms of the keys that a kind has, with commas between them, after a text.
-pub fn add_keys_of(draft: &mut Draft, kind: Kind, behind: &str) {
-    let mut before = behind;
+pub fn add_keys_of(draft: &mut Draft, kind: Kind, after: &str) {
+    let mut before = after;
     for (form, key) in KEY_FORMS.iter().zip(keys().as_slice()) {
         if has(kind, key) {
             draft.add_all(&[before, "`", form, "`"]);

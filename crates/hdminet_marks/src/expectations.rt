@@ -57,7 +57,7 @@ pub fn forms_of(what: Input) -> &'static [&'static [&'static str]] {
 }
 
 /// The same words of a line with its label before it.
-pub fn behind_label(words: usize, mark: Option<Mark>) -> Option<Mark> {
+pub fn after_label(words: usize, mark: Option<Mark>) -> Option<Mark> {
     let mark = mark?;
     Some(Mark {
         first: mark.first.saturating_add(words),

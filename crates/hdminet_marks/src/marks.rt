@@ -1,6 +1,6 @@
 //! Which words of a line are at fault.
 use crate::edges::in_line;
-use crate::expectations::{behind_label, in_expectation, label_words};
+use crate::expectations::{after_label, in_expectation, label_words};
 use crate::fault::{Fault, Input};
 use crate::place::Place;
 use crate::words::word_at;
@@ -112,7 +112,7 @@ fn in_text(line: &str, word: usize) -> Option<Mark> {
 pub fn marked(what: Input, fault: Fault, place: Place<'_>, line: &str) -> Option<Mark> {
     match fault {
         Fault::Topology { word, .. } => one(usize::from(word)),
-        Fault::Script { cause, word, .. } => behind_label(
+        Fault::Script { cause, word, .. } => after_label(
             label_words(what, line),
             in_script(cause, usize::from(word)),
         ),

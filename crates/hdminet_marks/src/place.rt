@@ -66,10 +66,10 @@ fn find_like<'a>(input: &'a [u8], texts: &[&str]) -> Option<Place<'a>> {
 }
 
 // The line that was meant to part an input, or else the first line that stands after it in other inputs.
-fn find_parting<'a>(input: &'a [u8], parting: &str, behind: &[&str]) -> Option<Place<'a>> {
+fn find_parting<'a>(input: &'a [u8], parting: &str, later: &[&str]) -> Option<Place<'a>> {
     match find_like(input, &[parting]) {
         Some(place) => Some(place),
-        None => find_like(input, behind),
+        None => find_like(input, later),
     }
 }
 

@@ -30,7 +30,7 @@ const FIELDS: &[(&str, &str)] = &[
     ("tag6", BLOCK),
     (
         "hdmi",
-        "PA is a physical address, as 1.0.0.0, and at most 26 bytes stand behind it",
+        "PA is a physical address, as 1.0.0.0, and at most 26 bytes stand after it",
     ),
 ];
 

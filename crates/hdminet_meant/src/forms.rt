@@ -92,7 +92,7 @@ fn add_operands(draft: &mut Draft, line: &str, at: usize) {
         add_shape(draft, code_named(word.as_bytes()));
     }
     if is_spaced_hex(line, at.saturating_add(1)) {
-        draft.add_line("the digits behind `:` stand without spaces");
+        draft.add_line("the digits after `:` stand without spaces");
     }
 }
 

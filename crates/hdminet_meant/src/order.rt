@@ -16,7 +16,7 @@ struct Earlier {
 }
 
 // The word of this number, from 0, after a line's first word, as a number.
-fn number_behind(line: &[u8], word: &str, index: usize) -> Option<u64> {
+fn number_after(line: &[u8], word: &str, index: usize) -> Option<u64> {
     let words = without_label(str::from_utf8(line).ok()?)
         .line
         .strip_prefix(word)?;
@@ -25,9 +25,9 @@ fn number_behind(line: &[u8], word: &str, index: usize) -> Option<u64> {
 
 // The instant that the next line of its kind may not be before: of a pulse its end.
 fn end_of(line: &[u8], word: &str) -> Option<u64> {
-    let instant = number_behind(line, word, 0)?;
+    let instant = number_after(line, word, 0)?;
     let width = if word == PULSE {
-        number_behind(line, word, 1).unwrap_or(0)
+        number_after(line, word, 1).unwrap_or(0)
     } else {
         0
     };
@@ -54,7 +54,7 @@ fn last_before(place: Place<'_>, word: &str) -> Option<Earlier> {
 fn add_earlier_event(draft: &mut Draft, place: Place<'_>) {
     let number = place.number;
     if let (Some(instant), Some(last)) = (
-        number_behind(place.line, EVENT, 0),
+        number_after(place.line, EVENT, 0),
         last_before(place, EVENT),
     ) {
         writeln!(
@@ -69,7 +69,7 @@ fn add_earlier_event(draft: &mut Draft, place: Place<'_>) {
 fn add_earlier_pulse(draft: &mut Draft, place: Place<'_>) {
     let number = place.number;
     if let (Some(instant), Some(last)) = (
-        number_behind(place.line, PULSE, 0),
+        number_after(place.line, PULSE, 0),
         last_before(place, PULSE),
     ) {
         writeln!(
@@ -82,7 +82,7 @@ fn add_earlier_pulse(draft: &mut Draft, place: Place<'_>) {
 
 /// Says which line's time is earlier than which, of a line of a script that is out of order.
 pub fn add_order(draft: &mut Draft, place: Place<'_>) {
-    if number_behind(place.line, PULSE, 0).is_some() {
+    if number_after(place.line, PULSE, 0).is_some() {
         add_earlier_pulse(draft, place);
     } else {
         add_earlier_event(draft, place);

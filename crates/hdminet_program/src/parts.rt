@@ -3,7 +3,7 @@ ghost use Rattle.std.specs.Prelude.{◌≡◌, IfOk, IfSome};
 ghost use Rattle.hdminet_program.specs.Parted.{IsCaptureInput, IsParted, IsRunInput};
 
 use crate::fault::ProgramFault;
-use hdmi_core::{behind, len_before};
+use hdmi_core::{after, len_before};
 
 /// The text before the first line that reads so, and the text after it.
 pub fn parted<'a>(text: &'a [u8], mark: &[u8]) -> Option<(&'a [u8], &'a [u8])>
@@ -14,7 +14,7 @@ pub fn parted<'a>(text: &'a [u8], mark: &[u8]) -> Option<(&'a [u8], &'a [u8])>
         let rest = &text[start..];
         let length = len_before(rest, b'\n');
         if &rest[..length] == mark {
-            return Some((&text[..start], behind(rest, length + 1)));
+            return Some((&text[..start], after(rest, length + 1)));
         }
         if length == rest.len() {
             return None;

@@ -3,7 +3,7 @@ ghost use Rattle.std.specs.Prelude.{◌≡◌, map, string_bytes, Some, None, Ma
 ghost use Rattle.hdminet_words.specs.MonFlags.{form_of, has_names, is_misfit, joined_signal, mon_asked, mon_choice, mon_flags, mon_report, signal_in, with_mon_flag, with_mon_value};
 
 use crate::choice::{Asked, Choice, Form, Objects, Report};
-use hdmi_core::{before, behind, number_in};
+use hdmi_core::{before, after, number_in};
 
 /// A flag of a capture that a value follows.
 #[derive(Clone, Copy, Debug)]
@@ -215,7 +215,7 @@ fn joined_signal(word: &[u8]) -> Option<&[u8]>
     ensures { MatchOption result (joined_signal word.now ≡ None) (λ name. joined_signal word.now ≡ Some name.now) }
 {
     if before(word, 9) == b"--signal=".as_slice() {
-        Some(behind(word, 9))
+        Some(after(word, 9))
     } else {
         None
     }

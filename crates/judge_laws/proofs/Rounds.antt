@@ -20,7 +20,7 @@ use Rattle.cec_audit.proofs.OneLine.{plain_reading}
 use Rattle.cec_audit.proofs.Plain.{plain_codes, plain_decimal, plain_more}
 use Rattle.cec_text.specs.ReadingText.{ending_text, told_text, verdict_text}
 use Rattle.cec_trace.specs.TraceText.{comma_list, loser_text, name_at, round_line}
-use Rattle.cec_judge.specs.Told.{EventLine, RoundLine, behind_complete, round_by, round_in, told_in}
+use Rattle.cec_judge.specs.Told.{EventLine, RoundLine, after_complete, round_by, round_in, told_in}
 use Rattle.judge_laws.specs.ReadBack.{RoundTold, ending_told, round_read, round_text_of}
 use Rattle.judge_laws.proofs.Lines.{Adds, Closed, closed_end, closed_more, closed_word, number_solid, two_words_add}
 use Rattle.judge_laws.proofs.Others.{other_verb}
@@ -57,16 +57,16 @@ listed_plain f (x ∷ xs) h = plain_more (f x) (flat_map (λ t. 44 ∷ t) (map f
 pub told_plain : (r : Reading) → IsPlain (told_text r) × IsPlain (verdict_text r)
 told_plain r =
     let end = told_text r ++ (verdict_text r ++ []) in
-    let behind = rest_plain (ending_text r.ending) end (rest_plain (decimal r.at) (ending_text r.ending ++ end) (rest_plain (codes " ") (decimal r.at ++ (ending_text r.ending ++ end))
+    let after = rest_plain (ending_text r.ending) end (rest_plain (decimal r.at) (ending_text r.ending ++ end) (rest_plain (codes " ") (decimal r.at ++ (ending_text r.ending ++ end))
     (rest_plain (decimal r.begin) (codes " " ++ (decimal r.at ++ (ending_text r.ending ++ end))) (plain_reading r)))) in
-    (front_plain (told_text r) (verdict_text r ++ []) behind, front_plain (verdict_text r) [] (rest_plain (told_text r) (verdict_text r ++ []) behind))
+    (front_plain (told_text r) (verdict_text r ++ []) after, front_plain (verdict_text r) [] (rest_plain (told_text r) (verdict_text r ++ []) after))
 
 -- after the ending
-abbrev pub behind : List State → Outcome → List ℕ
-behind devices o =
+abbrev pub after : List State → Outcome → List ℕ
+after devices o =
     told_text o.reading ++ (verdict_text o.reading ++ (codes " by " ++ (comma_list (map (name_at devices) o.survivors.items) ++ (codes " out " ++ (comma_list (map (loser_text devices) o.losers.items) ++ (codes "\n" ++ []))))))
 
-abbrev pub said_closed : (devices : List State) (o : Outcome) → All (λ d. IsPlain d.name) devices → Closed (behind devices o)
+abbrev pub said_closed : (devices : List State) (o : Outcome) → All (λ d. IsPlain d.name) devices → Closed (after devices o)
 said_closed devices o h =
     closed_more (told_text o.reading) (told_plain o.reading).0 (closed_more (verdict_text o.reading) (told_plain o.reading).1 (closed_more (codes " by ") (plain_codes (codes " by ") refl)
     (closed_more (comma_list (map (name_at devices) o.survivors.items)) (listed_plain (name_at devices) o.survivors.items (λ n. name_plain devices n h)) (closed_more (codes " out ") (plain_codes (codes " out ") refl)
@@ -80,7 +80,7 @@ text_again text = join_with_byte-slice_split 32 text
 told_again : (word text : List ℕ) → told_in (word ∷ words_of text) ≡ (if bytes_eq word (codes "complete") then text else word ++ 32 ∷ text)
 told_again word text = by (words_of text) (omega (arith, length-slice_split (λ b. b == 32) text)) (text_again text)
   where
-    by : (words : List (List ℕ)) → 0 < length words → text_of words ≡ text → behind_complete word words ≡ (if bytes_eq word (codes "complete") then text else word ++ 32 ∷ text)
+    by : (words : List (List ℕ)) → 0 < length words → text_of words ≡ text → after_complete word words ≡ (if bytes_eq word (codes "complete") then text else word ++ 32 ∷ text)
     by [] some e = absurd (omega (arith, some))
     by (w ∷ ws) some e = ap (λ t. if bytes_eq word (codes "complete") then t else word ++ 32 ∷ t) e
 
@@ -122,12 +122,12 @@ spaced : (w z : List ℕ) → (32 ∷ (w ++ 32 ∷ [])) ++ z ≡ 32 ∷ (w ++ 32
 spaced w z = ap (λ l. 32 ∷ l) (append_assoc w (32 ∷ []) z)
 
 pub line_is : (devices : List State) (o : Outcome)
-    → round_line devices o ≡ decimal o.reading.begin ++ 32 ∷ (decimal o.reading.at ++ 32 ∷ (ending_word o.reading.ending ++ 32 ∷ behind devices o))
+    → round_line devices o ≡ decimal o.reading.begin ++ 32 ∷ (decimal o.reading.at ++ 32 ∷ (ending_word o.reading.ending ++ 32 ∷ after devices o))
 line_is devices o =
     let by = codes " by " ++ (comma_list (map (name_at devices) o.survivors.items) ++ (codes " out " ++ (comma_list (map (loser_text devices) o.losers.items) ++ (codes "\n" ++ [])))) in
     five (decimal o.reading.begin) (decimal o.reading.at) (ending_text o.reading.ending) (told_text o.reading) (verdict_text o.reading) by
-    ∙ ap (λ e. decimal o.reading.begin ++ 32 ∷ (decimal o.reading.at ++ (e ++ behind devices o))) (is_ending o.reading.ending).spelled
-    ∙ ap (λ l. decimal o.reading.begin ++ 32 ∷ (decimal o.reading.at ++ l)) (spaced (ending_word o.reading.ending) (behind devices o))
+    ∙ ap (λ e. decimal o.reading.begin ++ 32 ∷ (decimal o.reading.at ++ (e ++ after devices o))) (is_ending o.reading.ending).spelled
+    ∙ ap (λ l. decimal o.reading.begin ++ 32 ∷ (decimal o.reading.at ++ l)) (spaced (ending_word o.reading.ending) (after devices o))
 
 round_words : (begin at : ℕ) (e : Ending) (text : List ℕ) → begin < 2 ^ 64 → at < 2 ^ 64
     → round_in (decimal begin ∷ decimal at ∷ words_of (ending_word e ++ 32 ∷ text)) ≡ Some (record { begin = begin; at = at; told = ending_told e ++ text })
@@ -137,7 +137,7 @@ round_words begin at e text b a =
     ∙ rw (number_again begin b, number_again at a) refl
 
 -- after the times
-abbrev pub round_tail : (devices : List State) (o : Outcome) → All (λ d. IsPlain d.name) devices → Closed (ending_word o.reading.ending ++ 32 ∷ behind devices o)
+abbrev pub round_tail : (devices : List State) (o : Outcome) → All (λ d. IsPlain d.name) devices → Closed (ending_word o.reading.ending ++ 32 ∷ after devices o)
 round_tail devices o plain = closed_word (ending_word o.reading.ending) (is_ending o.reading.ending).plain (said_closed devices o plain)
 
 -- a number is no verb

@@ -82,7 +82,7 @@ fn takes_five_thousand_pulses(rt: HostRuntime) {
 }
 
 #[test]
-fn refuses_the_pulse_behind_those_that_wait(rt: HostRuntime) {
+fn refuses_the_pulse_after_those_that_wait(rt: HostRuntime) {
     let input = with_pulses(&rt, 4_097, false);
     let (said, ended) = said_in(&rt, input.as_slice(), usize::MAX);
     let written = lines_of(&rt, said.as_slice(), Wanted::Written);

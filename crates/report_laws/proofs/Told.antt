@@ -49,21 +49,21 @@ place_told holds line text small =
 
 -- ---- tests: `N - line L: TEXT`
 
-abbrev behind : (number line : ℕ) (text : List ℕ) → List ℕ
-behind number line text = decimal number ++ 32 ∷ (codes "- line " ++ place line text)
+abbrev after : (number line : ℕ) (text : List ℕ) → List ℕ
+after number line text = decimal number ++ 32 ∷ (codes "- line " ++ place line text)
 
-place_behind : (number line : ℕ) (text : List ℕ) → number < 2 ^ 64 → after_word (after_word (after_word (behind number line text))) ≡ place line text
-place_behind number line text small =
+place_after : (number line : ℕ) (text : List ℕ) → number < 2 ^ 64 → after_word (after_word (after_word (after number line text))) ≡ place line text
+place_after number line text small =
     ap (λ (v : List ℕ). after_word (after_word v)) (rest_after 32 (decimal number) (codes "- line " ++ place line text) refl (no_space number small))
 
 abbrev test_by : (number place : List ℕ) → List ℕ
 test_by number place = type_field (codes "test") ++ number ++ place
 
-test_is : (holds : Bool) (number line : ℕ) (text : List ℕ) → number < 2 ^ 64 → line < 2 ^ 64 → test_told holds (behind number line text) ≡ test_fields number line holds (text_fields text)
+test_is : (holds : Bool) (number line : ℕ) (text : List ℕ) → number < 2 ^ 64 → line < 2 ^ 64 → test_told holds (after number line text) ≡ test_fields number line holds (text_fields text)
 test_is holds number line text n l =
-    ap (λ (v : List ℕ). test_by (field (codes "test") Number v) (place_fields holds (after_word (after_word (after_word (behind number line text))))))
+    ap (λ (v : List ℕ). test_by (field (codes "test") Number v) (place_fields holds (after_word (after_word (after_word (after number line text))))))
     (front_before 32 (decimal number) (codes "- line " ++ place line text) refl (no_space number n))
-    ∙ ap (λ (v : List ℕ). test_by (field (codes "test") Number (decimal number)) (place_fields holds v)) (place_behind number line text n)
+    ∙ ap (λ (v : List ℕ). test_by (field (codes "test") Number (decimal number)) (place_fields holds v)) (place_after number line text n)
     ∙ ap (λ (v : List ℕ). test_by v (place_fields holds (place line text))) (number_field (codes "test") number n)
     ∙ ap (λ (v : List ℕ). test_by (count_field (codes "test") number) v) (place_told holds line text l)
 
@@ -71,11 +71,11 @@ test_is holds number line text n l =
 
 -- after the verdict
 rest_is : (number line : ℕ) (front text : List ℕ)
-    → (decimal number ++ (codes " - line " ++ (decimal line ++ (codes ": " ++ (front ++ []))))) ++ text ≡ behind number line (front ++ text)
+    → (decimal number ++ (codes " - line " ++ (decimal line ++ (codes ": " ++ (front ++ []))))) ++ text ≡ after number line (front ++ text)
 rest_is number line front text =
     append_assoc (decimal number) (codes " - line " ++ (decimal line ++ (codes ": " ++ (front ++ [])))) text
     ∙ ap (λ (v : List ℕ). decimal number ++ 32 ∷ (codes "- line " ++ v)) (append_assoc (decimal line) (codes ": " ++ (front ++ [])) text)
-    ∙ ap (λ (v : List ℕ). behind number line (v ++ text)) (append-nil front)
+    ∙ ap (λ (v : List ℕ). after number line (v ++ text)) (append-nil front)
 
 line_told : (holds : Bool) (number line : ℕ) (front text told : List ℕ) → number < 2 ^ 64 → line < 2 ^ 64 → IsTold (test_start number holds line front ++ text) told
     → told ≡ test_fields number line holds (text_fields (front ++ text))

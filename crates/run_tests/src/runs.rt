@@ -525,7 +525,7 @@ const EDGE_FILES: &[Run] = &[
         lines: "38700 1\n39150 end\n",
     },
     Run {
-        what: "the end behind the close of a round",
+        what: "the end after the close of a round",
         place: Extent::EdgesEnd,
         topology: ALONE,
         script: "end 39151\n",

@@ -60,7 +60,7 @@ const STEPS: &[Steps] = &[
             ended\n",
     },
     Steps {
-        what: "what is due behind the last round: the line of the event, and the round that is broken",
+        what: "what is due after the last round: the line of the event, and the round that is broken",
         topology: TWO,
         script: BROKEN,
         steps: "until break\nround\nround\n",

@@ -411,7 +411,7 @@ fn numbered(alloc: Global, number: u32) -> Option<String> {
 }
 
 // 4,096 pulses or 4,000 other lines, and what follows them.
-fn long_script(alloc: Global, are_pulses: bool, behind: &str) -> Option<String> {
+fn long_script(alloc: Global, are_pulses: bool, after: &str) -> Option<String> {
     let mut text = String::new(alloc);
     let count = if are_pulses { 4096 } else { 4000 };
     for number in 0..count {
@@ -422,7 +422,7 @@ fn long_script(alloc: Global, are_pulses: bool, behind: &str) -> Option<String> 
         };
         text.push_str(line?.as_str()).ok()?;
     }
-    text.push_str(behind).ok()?;
+    text.push_str(after).ok()?;
     Some(text)
 }
 
@@ -515,10 +515,10 @@ const ONE_MORE: &[(bool, &str, &str)] = &[
 ];
 
 #[test]
-fn refuses_a_line_behind_a_long_script(rt: HostRuntime) {
-    for (are_pulses, behind, told) in ONE_MORE {
-        let text = long_script(rt.alloc(), *are_pulses, behind);
-        case_holds(&rt, refuses(rt.alloc(), text, told), behind);
+fn refuses_a_line_after_a_long_script(rt: HostRuntime) {
+    for (are_pulses, after, told) in ONE_MORE {
+        let text = long_script(rt.alloc(), *are_pulses, after);
+        case_holds(&rt, refuses(rt.alloc(), text, told), after);
     }
 }
 

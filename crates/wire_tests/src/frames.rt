@@ -6,9 +6,9 @@ use std::process::Abort;
 
 /// Whether the first of two frames goes before the second, and the second before the first, and who wins.
 fn order_of(rt: &(impl Abort + AllocGlobal), first: Frame, second: Frame) -> String {
-    let (before, behind) = (first.precedes(&second), second.precedes(&first));
+    let (before, after) = (first.precedes(&second), second.precedes(&first));
     let winners = winners(&[first, second]);
-    format!(in rt.alloc(); "{before} {behind} {:?}", winners.as_slice()).expect(rt, "a text")
+    format!(in rt.alloc(); "{before} {after} {:?}", winners.as_slice()).expect(rt, "a text")
 }
 
 pub(crate) fn order_text(rt: &(impl Abort + AllocGlobal), words: &str) -> String {

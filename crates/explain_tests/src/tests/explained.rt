@@ -67,8 +67,8 @@ fn two_parts<'a>(rt: &impl Abort, case: &'a str) -> (&'a str, &'a str) {
 /// The answer is the plain one, whose fault ends here, with this line and perhaps more after it; neither has any output.
 fn adds_to(told: &Answer, plain: &Answer, second: &[u8]) -> bool {
     let silent = told.out.is_empty() && plain.out.is_empty();
-    let behind = told.err.strip_prefix(plain.err.as_slice());
-    silent && told.status == plain.status && behind.unwrap_or(b"").starts_with(second)
+    let after = told.err.strip_prefix(plain.err.as_slice());
+    silent && told.status == plain.status && after.unwrap_or(b"").starts_with(second)
 }
 
 /// The program refuses an input with one line, and with `--explain` the same line and this one follow.

@@ -513,7 +513,7 @@ asm --explain
                    ^^^^
   a frame here reads `I>D play MODE`
   MODE is forward, still, ff-min, ff-mid, ff-max, fr-min, fr-mid, fr-max
-  the digits behind `:` stand without spaces
+  the digits after `:` stand without spaces
   the opcode takes another number of words; words stand one space apart
 --
 asm --explain

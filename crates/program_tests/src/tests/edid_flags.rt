@@ -1,5 +1,5 @@
 //! What the flags of `edid` add: other addresses, bytes, the rules that are broken.
-use super::edids::{EXTENSION, behind_base, blocks, bytes_of};
+use super::edids::{EXTENSION, after_base, blocks, bytes_of};
 use super::*;
 
 /// The text of the extension of the display, whose address is 0.0.0.0, with another address.
@@ -7,7 +7,7 @@ fn text_at(rt: &(impl Abort + AllocGlobal), address: &str) -> String {
     let extension = format!(in rt.alloc();
         "cta f1\nvideo 900403\naudio 090707\nspeakers 010000\nhdmi {address} -\ntail -\n"
     );
-    behind_base(rt, extension.expect(rt, "a text").as_str())
+    after_base(rt, extension.expect(rt, "a text").as_str())
 }
 
 /// The flags that put in another address, and the address.

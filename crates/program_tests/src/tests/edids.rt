@@ -63,13 +63,13 @@ fn changed(rt: &(impl Abort + AllocGlobal), change: &str) -> String {
 }
 
 /// The text of the base block, and another text after it.
-pub(super) fn behind_base(rt: &(impl Abort + AllocGlobal), extension: &str) -> String {
+pub(super) fn after_base(rt: &(impl Abort + AllocGlobal), extension: &str) -> String {
     format!(in rt.alloc(); "{BASE_TEXT}{extension}").expect(rt, "a text")
 }
 
 /// The text of both blocks, with another text in place of a part.
 fn changed_text(rt: &(impl Abort + AllocGlobal), from: &str, to: &str) -> String {
-    let text = behind_base(rt, EXTENSION_TEXT);
+    let text = after_base(rt, EXTENSION_TEXT);
     let (front, rest) = text.as_str().split_once(from).expect(rt, "such a part");
     format!(in rt.alloc(); "{front}{to}{rest}").expect(rt, "a text")
 }
@@ -126,7 +126,7 @@ fn goes_both_ways(rt: &(impl Abort + AllocGlobal), digits: &str, text: &str) {
 /// An EDID with this extension has this text of it, both ways.
 fn extends_both_ways(rt: &(impl Abort + AllocGlobal), front: &str, check: &str, text: &str) {
     let digits = blocks(rt, front, check);
-    let text = behind_base(rt, text);
+    let text = after_base(rt, text);
     goes_both_ways(rt, digits.as_str(), text.as_str());
 }
 
@@ -281,6 +281,6 @@ fn fronts_of_an_edid_and_of_its_text(rt: HostRuntime) {
     let digits = blocks(&rt, EXTENSION, "e8");
     takes_and_writes(&rt, "edid", &bytes_of(&rt, digits.as_str()), 1);
     // The text of the base block alone is a text too: that of an EDID without an extension.
-    let text = behind_base(&rt, EXTENSION_TEXT);
+    let text = after_base(&rt, EXTENSION_TEXT);
     takes_and_writes(&rt, "edid --text", text.as_bytes(), 2);
 }

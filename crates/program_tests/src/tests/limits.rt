@@ -37,7 +37,7 @@ impl<'a> Read for Slow<'a> {
 }
 
 /// A comment and a text after it, so many bytes together.
-fn behind_comment(rt: &(impl Abort + AllocGlobal), length: usize, text: &str) -> String {
+fn after_comment(rt: &(impl Abort + AllocGlobal), length: usize, text: &str) -> String {
     let comment = "#".repeat(rt.alloc(), length.saturating_sub(text.len()));
     let mut input = comment.expect(rt, "a comment");
     input.push_str(text).expect(rt, "an input");
@@ -51,7 +51,7 @@ const LONGEST: &[(&str, &str, &str)] = &[("", TELEVISION, TELEVISION_TRACE), ("a
 fn reads_what_is_not_too_long(rt: HostRuntime) {
     for row in LONGEST {
         let (line, text, want) = *row;
-        let input = behind_comment(&rt, LIMIT, text);
+        let input = after_comment(&rt, LIMIT, text);
         gives(&rt, line, "the longest input", input.as_bytes(), want);
     }
 }
@@ -60,7 +60,7 @@ fn reads_what_is_not_too_long(rt: HostRuntime) {
 #[test]
 fn reads_long_captures(rt: HostRuntime) {
     let text = "\n21000 0\n24700 1\n25500 0\n26100 1\n40000 end\n";
-    let input = behind_comment(&rt, 2 * LIMIT, text);
+    let input = after_comment(&rt, 2 * LIMIT, text);
     let input = input.as_bytes();
     gives(
         &rt,
@@ -90,7 +90,7 @@ const COMMANDS: &[&str] = &[
 
 #[test]
 fn refuses_what_is_too_long(rt: HostRuntime) {
-    let input = behind_comment(&rt, LIMIT + 1, TELEVISION);
+    let input = after_comment(&rt, LIMIT + 1, TELEVISION);
     for line in COMMANDS {
         let input = input.as_bytes();
         reads_nothing(&rt, line, input, "hdminet: input too long\n");

@@ -1,12 +1,12 @@
 use Rattle.std.proofs.Common.{◌≡◌, ◌+◌, ◌-◌, ◌≤◌, length}
 use Rattle.std.specs.Option.{option_copied}
-use Rattle.hdmi_core.specs.Words.{words_behind}
+use Rattle.hdmi_core.specs.Words.{words_after}
 use Rattle.cec_asm.proofs.counting.word_count.Given as goal
 
 -- those that are counted and those that are left are all
 abbrev pub invariant-words : goal.invariant-words
 invariant-words l = record {
-  all : l.count + length (words_behind (option_copied l.left)) ≡ length (words_behind (option_copied l.rest));
+  all : l.count + length (words_after (option_copied l.left)) ≡ length (words_after (option_copied l.rest));
   few : l.count ≤ l.most;
 }
 

@@ -1,13 +1,13 @@
 use Rattle.std.proofs.Common.{◌≡◌, ◌+◌, ◌≤◌}
 use Rattle.std.specs.Option.{option_copied}
-use Rattle.cec_csv.specs.Csv.{column_from, fields_behind}
+use Rattle.cec_csv.specs.Csv.{column_from, fields_after}
 use Rattle.cec_csv.proofs.Columns.{left_length}
 use Rattle.cec_csv.proofs.fields.column_in.Given as goal
 
 -- the column is one of what is left
 abbrev pub invariant-fields : goal.invariant-fields
 invariant-fields l = record {
-  so_far : column_from 0 l.signal (fields_behind (option_copied l.initial.left)) ≡ column_from l.column l.signal (fields_behind (option_copied l.left));
+  so_far : column_from 0 l.signal (fields_after (option_copied l.initial.left)) ≡ column_from l.column l.signal (fields_after (option_copied l.left));
   room : l.column + left_length (option_copied l.left) ≤ left_length (option_copied l.initial.left);
 }
 

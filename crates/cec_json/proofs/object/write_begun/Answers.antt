@@ -4,5 +4,5 @@ use Rattle.cec_json.proofs.object.write_begun.Goals as goal
 
 pub returns : goal.returns
 returns g c =
-    writes_as (begun_is c.args.line.now c.behind_ending.result.now c.reading_type.result.now c.has_seats.result c.behind_ending.ensures c.has_seats.ensures c.reading_type.ensures)
+    writes_as (begun_is c.args.line.now c.after_ending.result.now c.reading_type.result.now c.has_seats.result c.after_ending.ensures c.has_seats.ensures c.reading_type.ensures)
     (writes_two c.write_type.ensures c.write_fields.ensures)

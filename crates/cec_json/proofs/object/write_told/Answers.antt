@@ -10,7 +10,7 @@ returns g c = (
   body (form_of c.args.line.now) c.frame_of-frame.result c.args.line.now,
   (
     c.frame_of-frame.result,
-    bytes_are c.args.line.now c.behind_ending.result.now c.told_in.result.now c.before_last.result.now c.frame_of-frame.result c.behind_ending.ensures c.told_in.ensures c.before_last.ensures c.frame_of-frame.ensures,
+    bytes_are c.args.line.now c.after_ending.result.now c.told_in.result.now c.before_last.result.now c.frame_of-frame.result c.after_ending.ensures c.told_in.ensures c.before_last.ensures c.frame_of-frame.ensures,
     refl,
   ),
   writes_as (ap (λ (f : Form). body f c.frame_of-frame.result c.args.line.now) c.form_of.ensures) c.write_body.ensures,

@@ -1,12 +1,12 @@
 use Rattle.std.proofs.Common.{◌≡◌, length}
 use Rattle.std.specs.Option.{option_copied}
-use Rattle.hdmi_core.specs.Words.{words_behind, words_of}
+use Rattle.hdmi_core.specs.Words.{words_after, words_of}
 use Rattle.cec_judge.specs.Judged.{has_words}
 use Rattle.cec_judge.proofs.judge.has_words.Given as goal
 
 -- each word before is among the others
 abbrev pub invariant-words : goal.invariant-words
-invariant-words l = has_words (words_of l.text) (words_behind (option_copied l.other)) ≡ has_words (words_behind (option_copied l.rest)) (words_behind (option_copied l.other))
+invariant-words l = has_words (words_of l.text) (words_after (option_copied l.other)) ≡ has_words (words_after (option_copied l.rest)) (words_after (option_copied l.other))
 
 abbrev pub decreases-words : goal.decreases-words
-decreases-words l = length (words_behind (option_copied l.rest))
+decreases-words l = length (words_after (option_copied l.rest))

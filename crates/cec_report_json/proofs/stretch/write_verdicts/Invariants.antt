@@ -1,6 +1,6 @@
 use Rattle.std.proofs.Common.{[], length}
 use Rattle.std.specs.Option.{option_copied}
-use Rattle.hdmi_core.specs.Words.{words_behind}
+use Rattle.hdmi_core.specs.Words.{words_after}
 use Rattle.cec_report_json.specs.Stretch.{verdicts}
 use Rattle.cec_report_json.proofs.Fronts.{Front}
 use Rattle.cec_report_json.proofs.stretch.write_verdicts.Given as goal
@@ -8,8 +8,8 @@ use Rattle.cec_report_json.proofs.stretch.write_verdicts.Given as goal
 -- the verdicts of the words before are written
 abbrev pub invariant-words : goal.invariant-words
 invariant-words g l =
-    Front (verdicts [] (words_behind (option_copied l.words))) (verdicts l.mark (words_behind (option_copied l.rest)))
+    Front (verdicts [] (words_after (option_copied l.words))) (verdicts l.mark (words_after (option_copied l.rest)))
     (g.S.Sink.contents l.fn.out) (g.S.Sink.contents l.out) (g.S.Sink.is_stuck l.fn.out) (g.S.Sink.is_stuck l.out) l.fn.progress.so_far l.progress.so_far
 
 abbrev pub decreases-words : goal.decreases-words
-decreases-words g l = length (words_behind (option_copied l.rest))
+decreases-words g l = length (words_after (option_copied l.rest))

@@ -1,6 +1,6 @@
 use Rattle.std.proofs.Common.{◌≡◌, ◌+◌, ◌≤◌, length}
 use Rattle.std.specs.Option.{option_copied}
-use Rattle.hdmi_core.specs.Words.{words_behind, words_of}
+use Rattle.hdmi_core.specs.Words.{words_after, words_of}
 use Rattle.cec_sweep.specs.Script.{words_ranged}
 use Rattle.cec_sweep.specs.declared.places.WordRole.TheVariants.{Begin}
 use Rattle.cec_sweep.proofs.script.words_ranged.Given as goal
@@ -8,9 +8,9 @@ use Rattle.cec_sweep.proofs.script.words_ranged.Given as goal
 -- the words before, and then those that are left
 abbrev pub invariant-words : goal.invariant-words
 invariant-words l = record {
-  same : words_ranged l.number l.index l.place l.seen (words_behind (option_copied l.rest)) ≡ words_ranged l.number 0 Begin l.fn.seen (words_of l.line);
-  room : l.index + length (words_behind (option_copied l.rest)) ≤ length l.line + 1;
+  same : words_ranged l.number l.index l.place l.seen (words_after (option_copied l.rest)) ≡ words_ranged l.number 0 Begin l.fn.seen (words_of l.line);
+  room : l.index + length (words_after (option_copied l.rest)) ≤ length l.line + 1;
 }
 
 abbrev pub decreases-words : goal.decreases-words
-decreases-words l = length (words_behind (option_copied l.rest))
+decreases-words l = length (words_after (option_copied l.rest))

@@ -3,7 +3,7 @@ use Rattle.std.specs.Bool.{if◌then◌else◌}
 use Rattle.std.specs.Option.{option_copied}
 use Rattle.std.specs.Result.{is_ok, is_err}
 use Rattle.cec_wave.specs.declared.Edge.{Edge}
-use Rattle.cec_vcd.specs.Dump.{parts_behind, state_of_reader}
+use Rattle.cec_vcd.specs.Dump.{parts_after, state_of_reader}
 use Rattle.cec_vcd.proofs.Passing.{word_more}
 use Rattle.cec_vcd.proofs.reading.read_line.Goals as goal
 
@@ -18,6 +18,6 @@ words-preserved c =
     let items = pushed c.push.result c.words.edges.items c.push.new.self.items (edge ∷ []) c.push.ensures.items (sym c.is_err.ensures.value ∙ c.if-is_err.false) in (
       so_far.0 ++ edge ∷ [],
       items ∙ ap (λ (es : List Edge). es ++ edge ∷ []) so_far.1 ∙ append_assoc c.args.edges.now.items so_far.0 (edge ∷ []),
-      word_more c.args.number c.first_part.result.0.now _ (parts_behind (option_copied c.first_part.result.1)) (state_of_reader c.words.reader) (state_of_reader c.take.new.self) edge so_far.0 _ so_far.2
-          (ap (λ o. parts_behind (option_copied o)) c.in-Some.is ∙ c.first_part.ensures.parts) (rw c.in-Ok-Some.field-0-is at c.in-Ok-Some.ensures),
+      word_more c.args.number c.first_part.result.0.now _ (parts_after (option_copied c.first_part.result.1)) (state_of_reader c.words.reader) (state_of_reader c.take.new.self) edge so_far.0 _ so_far.2
+          (ap (λ o. parts_after (option_copied o)) c.in-Some.is ∙ c.first_part.ensures.parts) (rw c.in-Ok-Some.field-0-is at c.in-Ok-Some.ensures),
     )

@@ -1,6 +1,6 @@
 use Rattle.std.proofs.Common.{◌-◌, ◌++◌, get_or, drop, refl, sym, ap, ◌∙◌, flat_map}
 use Rattle.hdmi_edid.specs.Timing.{timing_bytes}
-use Rattle.hdmi_edid.proofs.Bytes.{are_bytes-cells, are_bytes-cell, are_bytes-drop, are_bytes-take, are_bytes-behind}
+use Rattle.hdmi_edid.proofs.Bytes.{are_bytes-cells, are_bytes-cell, are_bytes-drop, are_bytes-take, are_bytes-after}
 use Rattle.hdmi_edid.specs.Bytes.{are_bytes}
 use Rattle.hdmi_cta.proofs.WholeLemmas.{whole_is, body_is, length_between}
 use Rattle.hdmi_cta.proofs.ext.read_cta.Goals as goal
@@ -25,6 +25,6 @@ returns-clause-bytes_fit c =
     let timings = flat_map timing_bytes c.read_timings-timings.result.0.items in
     let rest = c.read_timings-timings.result.1.now in
     let whole = are_bytes-take (127 - end) (drop end bytes) (are_bytes-drop end bytes (are_bytes-cells bytes c.fits-bytes)) in
-    let behind = are_bytes-behind timings rest (ap are_bytes c.read_timings-timings.ensures.found ∙ whole) in
+    let after = are_bytes-after timings rest (ap are_bytes c.read_timings-timings.ensures.found ∙ whole) in
     let tail = c.append.ensures.items ∙ ap (λ xs. xs ++ rest) c.new-tail.ensures in
-    are_bytes-cell bytes c.append.new.block.items 3 c.fits-bytes (ap are_bytes tail ∙ behind)
+    are_bytes-cell bytes c.append.new.block.items 3 c.fits-bytes (ap are_bytes tail ∙ after)

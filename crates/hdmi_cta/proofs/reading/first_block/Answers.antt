@@ -1,7 +1,7 @@
 use Rattle.std.proofs.Common.{◌≡◌, ◌%◌, [], ◌∷◌, take, arith, ap, sym, ◌∙◌}
 use Rattle.std.proofs.Math.Facts.{Fits-lt-pow}
 use Rattle.std.proofs.lemmas.Grind.{common_steps}
-use Rattle.hdmi_edid.proofs.Bytes.{are_bytes-cells, are_bytes-take, are_bytes-behind}
+use Rattle.hdmi_edid.proofs.Bytes.{are_bytes-cells, are_bytes-take, are_bytes-after}
 use Rattle.hdmi_edid.specs.Bytes.{are_bytes}
 use Rattle.hdmi_cta.proofs.reading.first_block.Goals as goal
 
@@ -12,5 +12,5 @@ invariant_of-result-clause-bytes_fit c =
     let rest = c.in_ok-head.rest.now in
     let whole : bytes ≡ head ∷ rest = grind (arith, common_steps) in
     let items : c.try_extend_from_slice.new.self.items ≡ take (head % 32) rest = grind (arith, common_steps) in
-    let behind = are_bytes-behind (head ∷ []) rest (sym (ap are_bytes whole) ∙ are_bytes-cells bytes (λ i. Fits-lt-pow (c.type_inv.bytes i))) in
-    ap are_bytes items ∙ are_bytes-take (head % 32) rest behind
+    let after = are_bytes-after (head ∷ []) rest (sym (ap are_bytes whole) ∙ are_bytes-cells bytes (λ i. Fits-lt-pow (c.type_inv.bytes i))) in
+    ap are_bytes items ∙ are_bytes-take (head % 32) rest after

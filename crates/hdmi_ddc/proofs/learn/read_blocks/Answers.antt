@@ -2,7 +2,7 @@ use Rattle.std.proofs.Common.{◌≡◌, ℕ, ◌+◌, ◌*◌, ◌/◌, ◌≤�
 use Rattle.std.proofs.lemmas.Result.{err_from_is_err_and}
 use Rattle.hdmi_ddc.specs.Bus.{has_segment}
 use Rattle.hdmi_ddc.specs.Learn.{extension_count, bytes_with_padding}
-use Rattle.hdmi_ddc.proofs.Blocks.{asked_is, behind, one_more, read_len, block_len, when_ok}
+use Rattle.hdmi_ddc.proofs.Blocks.{asked_is, after, one_more, read_len, block_len, when_ok}
 use Rattle.hdmi_ddc.proofs.learn.read_blocks.Goals as goal
 
 pub returns-then-asked-gt3-clause-refused : goal.returns-then-asked-gt3-clause-refused
@@ -23,7 +23,7 @@ returns-in_err-next-clause-refused c =
     let here : has_segment bytes next ≡ false = ap (λ (bs : List ℕ). has_segment bs next) (sym c.loop-block.invariant.same) ∙ refused.0 in
     let last : next ≤ extension_count bytes / 2 = omega (arith, count) in
     let p = err_from_is_err_and c.from_residual-in_err-next.result c.from_residual-in_err-next.ensures.1 in
-    rw (p.1, p.2, refused.1) (inr (omega (arith, count), behind bytes next (extension_count bytes / 2) last here))
+    rw (p.1, p.2, refused.1) (inr (omega (arith, count), after bytes next (extension_count bytes / 2) last here))
 
 pub loop-block-preserved : goal.loop-block-preserved
 loop-block-preserved c =

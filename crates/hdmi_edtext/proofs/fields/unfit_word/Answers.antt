@@ -1,6 +1,6 @@
 use Rattle.std.proofs.Common.{◌≡◌, ◌+◌, ◌<◌, ◌∷◌, [], drop, get_or, ap, subst, arith, sym, ◌∙◌}
 use Rattle.std.specs.Option.{option_copied}
-use Rattle.hdmi_core.specs.Words.{words_of, words_behind}
+use Rattle.hdmi_core.specs.Words.{words_of, words_after}
 use Rattle.hdmi_edtext.specs.Refusal.{word_count}
 use Rattle.hdmi_edtext.specs.Words.{FitsAt}
 use Rattle.hdmi_edtext.proofs.Passing.{next_is, more_pass, never_ends}
@@ -9,15 +9,15 @@ use Rattle.hdmi_edtext.proofs.fields.unfit_word.Goals as goal
 pub returns-in_default : goal.returns-in_default
 returns-in_default c =
     let i = c.words.invariant in
-    let none : [] ≡ drop c.words.index (words_of c.args.front.now) = sym (ap (λ r. words_behind (option_copied r)) c.in_default.is) ∙ i.left in
+    let none : [] ≡ drop c.words.index (words_of c.args.front.now) = sym (ap (λ r. words_after (option_copied r)) c.in_default.is) ∙ i.left in
     record { least = i.least; passed = i.passed; stopped = λ p. never_ends c.args.front.now c.words.index none p.0 }
 
 pub words-preserved : goal.words-preserved
 words-preserved c =
     let i = c.words.invariant in
     let first = c.first_word-in-words.result in
-    let left : first.0.now ∷ words_behind (option_copied first.1) ≡ drop c.words.index (words_of c.args.front.now) = sym c.first_word-in-words.ensures ∙ sym (ap (λ r. words_behind (option_copied r)) c.in-Some.is) ∙ i.left in
-    let next = next_is (words_of c.args.front.now) c.words.index first.0.now (words_behind (option_copied first.1)) left in
+    let left : first.0.now ∷ words_after (option_copied first.1) ≡ drop c.words.index (words_of c.args.front.now) = sym c.first_word-in-words.ensures ∙ sym (ap (λ r. words_after (option_copied r)) c.in-Some.is) ∙ i.left in
+    let next = next_is (words_of c.args.front.now) c.words.index first.0.now (words_after (option_copied first.1)) left in
     let test = c.words-test.true in
     let count = c.requires in
     let less : c.words.index + 1 < word_count c.args.front.now = omega (arith, test, count) in

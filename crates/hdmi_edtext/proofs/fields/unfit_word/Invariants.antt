@@ -1,6 +1,6 @@
 use Rattle.std.proofs.Common.{◌≡◌, ◌-◌, ◌≤◌, drop}
 use Rattle.std.specs.Option.{option_copied}
-use Rattle.hdmi_core.specs.Words.{words_of, words_behind}
+use Rattle.hdmi_core.specs.Words.{words_of, words_after}
 use Rattle.hdmi_edtext.proofs.Passing.{PassesTo}
 use Rattle.hdmi_edtext.proofs.fields.unfit_word.Given as goal
 
@@ -8,7 +8,7 @@ abbrev pub invariant-words : goal.invariant-words
 invariant-words l = record {
   least : 1 ≤ l.index;
   passed : PassesTo l.word l.front l.index;
-  left : words_behind (option_copied l.rest) ≡ drop l.index (words_of l.front);
+  left : words_after (option_copied l.rest) ≡ drop l.index (words_of l.front);
 }
 
 abbrev pub decreases-words : goal.decreases-words

@@ -19,6 +19,6 @@ pub returns-in-None : goal.returns-in-None
 returns-in-None c =
     let o = c.args.opened in
     let l = c.args.line.now in
-    lift c.put_behind_blocks.result (TimingFits o.left l ⊎ TailFits o.left l → ⊥) (BlockFits o.left l ⊎ (TimingFits o.left l ⊎ TailFits o.left l) → ⊥)
+    lift c.put_after_blocks.result (TimingFits o.left l ⊎ TailFits o.left l → ⊥) (BlockFits o.left l ⊎ (TimingFits o.left l ⊎ TailFits o.left l) → ⊥)
     (λ d. draft_lines d ≡ draft_lines (Opened o) ++ l ∷ []) (λ d. draft_lines d ≡ draft_lines (Opened o) ++ l ∷ [])
-    (λ not. no_block_line o.left l c.in-None.ensures not) (λ d e. e) c.put_behind_blocks.ensures
+    (λ not. no_block_line o.left l c.in-None.ensures not) (λ d e. e) c.put_after_blocks.ensures

@@ -14,7 +14,7 @@ returns-clause-items c =
     let least : c.append_least.new.note.items ≡ c.append_luminance-2.new.note.items ++ least_words (slice_index p 4) =
     c.append_least.ensures.items ∙ ap (λ n. c.append_luminance-2.new.note.items ++ least_words n) c.byte_at-3.ensures in
     let left : c.append_rest.new.note.items ≡ c.append_least.new.note.items ++ rest_words (drop 5 p) =
-    c.append_rest.ensures.items ∙ ap (λ l. c.append_least.new.note.items ++ rest_words l) c.behind.ensures.rest in
+    c.append_rest.ensures.items ∙ ap (λ l. c.append_least.new.note.items ++ rest_words l) c.after.ensures.rest in
     four c.args.note.now.items c.append_luminance.new.note.items c.append_luminance-2.new.note.items c.append_least.new.note.items c.append_rest.new.note.items
     (luminance_words (codes ", content up to ") (slice_index p 2)) (luminance_words (codes ", frames on average up to ") (slice_index p 3)) (least_words (slice_index p 4)) (rest_words (drop 5 p))
     most mean least left

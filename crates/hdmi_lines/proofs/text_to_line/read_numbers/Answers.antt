@@ -2,7 +2,7 @@ use Rattle.std.proofs.Common.{◌++◌, length, flat_map, sym, ap, arith}
 use Rattle.std.specs.Fmt.{decimal}
 use Rattle.std.proofs.lemmas.Bool.{eqb-true}
 use Rattle.hdmi_lines.specs.Text.{number_text}
-use Rattle.hdmi_lines.proofs.Words.{next_of, left_first, left_more, left_none, behind_space}
+use Rattle.hdmi_lines.proofs.Words.{next_of, left_first, left_more, left_none, after_space}
 use Rattle.hdmi_lines.proofs.text_to_line.read_numbers.Goals as goal
 
 pub numbers-init : goal.numbers-init
@@ -25,7 +25,7 @@ pub returns-in_default : goal.returns-in_default
 returns-in_default c = λ ns t l f b e.
     let i = c.numbers.invariant in
     let x = next_of c.numbers.numbers.items ns t c.numbers.rest.now c.numbers._i c.args.count (i.left ns t l f b e) i.count c.numbers-test.true l f b in
-    let word = c.next_word.ensures (decimal x.m) (flat_map number_text x.ms ++ t) x.solid x.begins (behind_space c.numbers.rest.now _ x.spelled) in
+    let word = c.next_word.ensures (decimal x.m) (flat_map number_text x.ms ++ t) x.solid x.begins (after_space c.numbers.rest.now _ x.spelled) in
     let none = c.in_default.ensures x.m x.fits (sym word.0) in
     cc
 
@@ -37,7 +37,7 @@ numbers-preserved c =
       count = let n = i.count in omega (arith, len, n);
       left = λ ns t l f b e.
           let x = next_of c.numbers.numbers.items ns t c.numbers.rest.now c.numbers._i c.args.count (i.left ns t l f b e) i.count c.numbers-test.true l f b in
-          let word = c.next_word.ensures (decimal x.m) (flat_map number_text x.ms ++ t) x.solid x.begins (behind_space c.numbers.rest.now _ x.spelled) in
+          let word = c.next_word.ensures (decimal x.m) (flat_map number_text x.ms ++ t) x.solid x.begins (after_space c.numbers.rest.now _ x.spelled) in
           let some = c.in-Some.ensures x.m x.fits (sym word.0) in
           left_more c.numbers.numbers.items c.push.new.self.items ns t c.numbers.rest.now c.next_word.result.1.now c.in-Some.number x (cc) word.1 c.push.ensures.items;
     }

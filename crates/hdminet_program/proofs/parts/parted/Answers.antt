@@ -7,7 +7,7 @@ returns-then-eq c =
     let text = c.args.text.now in
     let found = c.len_before-length in
     let rest = take (length text - c.lines.start) (drop c.lines.start text) in
-    rw c.behind.ensures (parted_at c.args.mark.now text rest c.lines.start found.result (rest_of text c.lines.start) c.lines.invariant.earlier
+    rw c.after.ensures (parted_at c.args.mark.now text rest c.lines.start found.result (rest_of text c.lines.start) c.lines.invariant.earlier
     found.ensures.value found.ensures.within (same_bytes _ _ c.if-eq.ensures))
 
 pub lines-preserved : goal.lines-preserved

@@ -15,7 +15,7 @@ returns-in-Ok g c =
     let lines = subst (λ (devices : List State). WrittenText (g.S.Sink.contents c.args.out.now) (g.S.Sink.contents c.write_last_lines.new.out) (g.S.Sink.is_stuck c.args.out.now) (g.S.Sink.is_stuck c.write_last_lines.new.out)
     (flat_map state_line devices ++ end_line here.horizon) (Ok c.in-Ok.count)) c.devices.ensures c.in-Ok.ensures in
     subst (λ (s : Session). WrittenText (g.S.Sink.contents c.args.out.now) (g.S.Sink.contents c.write_taken.new.out) (g.S.Sink.is_stuck c.args.out.now) (g.S.Sink.is_stuck c.write_taken.new.out)
-    (end_told (Trace s.edid) s.horizon s.place.net ++ taken_line s.horizon) c.behind.result) c.self.view_is
-    (c.behind.ensures (g.S.Sink.contents c.args.out.now) (g.S.Sink.contents c.write_last_lines.new.out) (g.S.Sink.contents c.write_taken.new.out)
+    (end_told (Trace s.edid) s.horizon s.place.net ++ taken_line s.horizon) c.with_rest.result) c.self.view_is
+    (c.with_rest.ensures (g.S.Sink.contents c.args.out.now) (g.S.Sink.contents c.write_last_lines.new.out) (g.S.Sink.contents c.write_taken.new.out)
     (g.S.Sink.is_stuck c.args.out.now) (g.S.Sink.is_stuck c.write_last_lines.new.out) (g.S.Sink.is_stuck c.write_taken.new.out)
     (flat_map state_line here.net.devices ++ end_line here.horizon) (taken_line here.horizon) lines c.write_taken.ensures)

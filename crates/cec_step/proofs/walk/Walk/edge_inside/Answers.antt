@@ -4,7 +4,7 @@ use Rattle.cec_net.specs.State.{NetState}
 use Rattle.cec_step.specs.Ready.{IsReady, begun_in, point_of, run_of}
 use Rattle.cec_step.specs.Steps.{Point, Steps, IsEdgeStep, IsNoEdge, IsRoundStep, in_round}
 use Rattle.cec_step.specs.declared.position.Position.{Position}
-use Rattle.cec_step.proofs.InRound.{IsIn, edge_cut, edge_gives, edge_told, ends, is_in, some_inside, steps, still_in, taken_behind, tells_at}
+use Rattle.cec_step.proofs.InRound.{IsIn, edge_cut, edge_gives, edge_told, ends, is_in, some_inside, steps, still_in, taken_after, tells_at}
 use Rattle.cec_step.proofs.walk.Walk.edge_inside.Goals as goal
 
 pub first_edge-requires : goal.first_edge-requires
@@ -49,7 +49,7 @@ returns-in_default-clause-step g c =
     let ended : point_of s.run.events (record c.deref_mut-in_default-2.result.now { is_first = false }) ≡ record { net = round.new.self; events = drop at.applied s.run.events; is_first = false } =
     ap (λ (p : Position). point_of s.run.events (record p { is_first = false })) c.deref_mut-in_default-2.ensures.value
     ∙ ap (λ (p : Position). record { net = round.new.self; events = drop p.applied s.run.events; is_first = false }) c.deref_mut-in_default.ensures.value in
-    taken_behind s c.first_edge.new.self at.net round.result.outcome (point_of s.run.events (record c.deref_mut-in_default-2.result.now { is_first = false }))
+    taken_after s c.first_edge.new.self at.net round.result.outcome (point_of s.run.events (record c.deref_mut-in_default-2.result.now { is_first = false }))
     (g.S.Sink.contents c.args.out.now) (g.S.Sink.contents c.first_edge.new.out) c.first_edge.result stands.net c.in_default.ensures.edge
     (subst (λ (p : Point). IsRoundStep s.run.end s.last round.result.outcome p) (sym ended) step.0) c.first_edge.ensures.step
 

@@ -5,7 +5,7 @@ use Rattle.hdmi_edtext.specs.Tails.{ends}
 use Rattle.hdmi_edtext.specs.declared.draft.EdidDraft.TheVariants.{Opened}
 use Rattle.hdmi_lines.specs.declared.line.Keyword.TheVariants.{Tail}
 use Rattle.hdmi_edtext.proofs.ExtSteps.{lift, no_room, no_words, no_tail}
-use Rattle.hdmi_edtext.proofs.steps.put_behind_blocks.Goals as goal
+use Rattle.hdmi_edtext.proofs.steps.put_after_blocks.Goals as goal
 
 pub returns-in-Some : goal.returns-in-Some
 returns-in-Some c =
