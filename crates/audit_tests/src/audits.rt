@@ -333,20 +333,20 @@ fn answers(rt: HostRuntime) {
 #[test]
 fn no_answers(rt: HostRuntime) {
     for frame in NO_ANSWERS {
-        let told = after_request(&rt, "408f", frame);
-        assert_eq!(rt; told.as_str(), "  no answer to 4>0 8f of 151150|");
+        let reported = after_request(&rt, "408f", frame);
+        assert_eq!(rt; reported.as_str(), "  no answer to 4>0 8f of 151150|");
     }
     for frame in NO_REQUESTS {
-        let told = after_request(&rt, frame, "10");
-        assert_eq!(rt; told.as_str(), "");
+        let reported = after_request(&rt, frame, "10");
+        assert_eq!(rt; reported.as_str(), "");
     }
 }
 
 #[test]
 fn places(rt: HostRuntime) {
     for (words, want) in PLACES {
-        let told = remarked(&rt, words);
-        assert_eq!(rt; told.as_str(), *want);
+        let reported = remarked(&rt, words);
+        assert_eq!(rt; reported.as_str(), *want);
     }
 }
 

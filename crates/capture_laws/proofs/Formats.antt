@@ -25,12 +25,12 @@ use Rattle.cec_text.specs.ReadingText.{reading_line}
 use Rattle.cec_mon.specs.EdgeFile.{file_of}
 use Rattle.cec_mon.specs.Watch.{readings_text}
 use Rattle.cec_line.specs.declared.format.Format.TheVariants.{Edges, Vcd, Pin, Csv}
-use Rattle.cec_run.specs.declared.run.Telling.TheVariants.{Line}
+use Rattle.cec_run.specs.declared.run.Reporting.TheVariants.{Line}
 use Rattle.cec_run.specs.Run.{start}
-use Rattle.cec_run.specs.OneRun.{rounds_of_line, rounds_told}
+use Rattle.cec_run.specs.OneRun.{rounds_of_line, rounds_reported}
 use Rattle.cec_run.proofs.WholeLine as runs
 use Rattle.cec_run.proofs.OneRun.{runs_close_soon, texts_have_one_run, traces_have_parts}
-use Rattle.capture_laws.specs.Formats.{IsReadAs, LinesAreReadBack, LinesOfRunsHaveTheirReadings, MonitorsTellTracesInAll}
+use Rattle.capture_laws.specs.Formats.{IsReadAs, LinesAreReadBack, LinesOfRunsHaveTheirReadings, MonitorsReportTracesInAll}
 use Rattle.capture_laws.proofs.ReadBack.{EndsBy, edge_files_are_read_back, ends_by, lines_of_parts, lines_of_rounds, same_line}
 
 -- ---- a line that rounds make
@@ -73,11 +73,11 @@ waves_flat [] = refl
 waves_flat (o ∷ os) = ap (λ l. o.wave ++ l) (waves_flat os)
 
 pub lines_of_runs_have_their_readings : LinesOfRunsHaveTheirReadings
-lines_of_runs_have_their_readings format tree pulses events end text totals sparse framed told limit =
-    let k = runs.lines_are_of_the_rounds format tree pulses events end text totals sparse framed told in
-    let last = max end told.run.last.net.close in
-    let soon : told.run.last.net.close ≤ end + 458461 = runs_close_soon (Line format) tree pulses events end told.run.turns told.run.body told.run.last sparse told.run.leads in
-    let os = rounds_told (Line format) end (start (first_net tree pulses) events) text totals told in
+lines_of_runs_have_their_readings format tree pulses events end text totals sparse framed reported limit =
+    let k = runs.lines_are_of_the_rounds format tree pulses events end text totals sparse framed reported in
+    let last = max end reported.run.last.net.close in
+    let soon : reported.run.last.net.close ≤ end + 458461 = runs_close_soon (Line format) tree pulses events end reported.run.turns reported.run.body reported.run.last sparse reported.run.leads in
+    let os = rounds_reported (Line format) end (start (first_net tree pulses) events) text totals reported in
     let waves = map (λ (o : Outcome). o.wave) os in
     let low : last ≤ latest_instant = omega (arith, soon, limit) in
     let wave : IsWave (flat waves) = subst (λ (ss : List Stretch). IsWave ss) (waves_flat os) k.read.wave in
@@ -91,8 +91,8 @@ lines_of_runs_have_their_readings format tree pulses events end text totals spar
       ap (λ line. readings_of line last) (fun_ext (λ u. same_line (flat waves) 0 u wave)) ∙ ap (λ (ss : List Stretch). readings_of (line_of ss) last) (sym (waves_flat os)) ∙ k.read.readings,
     )
 
-pub monitors_tell_traces_in_all : MonitorsTellTracesInAll
-monitors_tell_traces_in_all format topology script x y s t p q =
+pub monitors_report_traces_in_all : MonitorsReportTracesInAll
+monitors_report_traces_in_all format topology script x y s t p q =
     let sound = scripts_are_sound q.plan.tree script q.course q.accepted.course_is in
     let file = lines_of_runs_have_their_readings format q.plan.tree q.course.pulses q.course.events q.course.end y t sound.sparse sound.framed q.line sound.limit in
     let one = texts_have_one_run format topology script x y s t p q in

@@ -19,7 +19,7 @@ use Rattle.cec_net.specs.State.{first_net}
 use Rattle.std.specs.List.{flat_map}
 use Rattle.cec_signal.specs.Edges.{edges_of}
 use Rattle.cec_line.specs.declared.format.Format.TheVariants.{Edges}
-use Rattle.cec_run.specs.declared.run.Telling.TheVariants.{Line}
+use Rattle.cec_run.specs.declared.run.Reporting.TheVariants.{Line}
 use Rattle.cec_asm.proofs.Sound.{scripts_are_sound}
 use Rattle.cec_wire.specs.declared.Outcome.{Outcome}
 use Rattle.cec_wire.specs.Alone.{outcome_listed}
@@ -29,9 +29,9 @@ use Rattle.cec_mon.specs.EdgeFile.{edge_line_of, edges_read, end_read, file_of, 
 use Rattle.cec_signal.specs.Edges.{level_at}
 use Rattle.cec_mon.specs.declared.edge_file.EdgeLine.{EdgeLine}
 use Rattle.cec_mon.specs.declared.edge_file.EdgeLine.TheVariants.{Edge as EdgeLineOf, End}
-use Rattle.capture_laws.specs.Capture.{part_monitored, EdgeFilesAreReadBack, FilesOfRunsHaveTheirReadings, MonitorsTellTraces}
+use Rattle.capture_laws.specs.Capture.{part_monitored, EdgeFilesAreReadBack, FilesOfRunsHaveTheirReadings, MonitorsReportTraces}
 use Rattle.cec_signal.proofs.Texts.{line_before}
-use Rattle.capture_laws.proofs.Texts.{IsWithout, more_without, one_without, timed, timed_line, timed_plain, timed_told}
+use Rattle.capture_laws.proofs.Texts.{IsWithout, more_without, one_without, timed, timed_line, timed_plain, timed_reported}
 
 -- ---- the text
 
@@ -41,7 +41,7 @@ read_timed : (t : ℕ) (mark rest : List ℕ) (number : ℕ) (is_low : Bool) (fr
     → edges_read (lines_of (timed t mark ++ 10 ∷ rest)) number is_low from
     ≡ read_line number is_low from line (λ e. edges_read (lines_of rest) (number + 1) e.low (e.at + 1)) (λ t. end_read (lines_of rest) (number + 1) t)
 read_timed t mark rest number is_low from line low plain is =
-    rw (line_before (timed t mark) rest (timed_plain t mark (omega arith) plain)) (rw (timed_told t mark (omega arith)) (rw is refl))
+    rw (line_before (timed t mark) rest (timed_plain t mark (omega arith) plain)) (rw (timed_reported t mark (omega arith)) (rw is refl))
 
 fall_read : (t : ℕ) (rest : List ℕ) (number from : ℕ) → t ≤ latest_instant → from ≤ t
     → edges_read (lines_of (timed t (codes "0") ++ 10 ∷ rest)) number false from
@@ -164,10 +164,10 @@ edge_files_are_read_back ss end wave over low = record {
 }
 
 pub files_of_runs_have_their_readings : FilesOfRunsHaveTheirReadings
-files_of_runs_have_their_readings tree pulses events end text totals sparse framed told limit =
-    let k = runs.edges_are_the_line tree pulses events end text totals sparse framed told in
-    let last = max end told.run.last.net.close in
-    let soon : told.run.last.net.close ≤ end + 458461 = runs_close_soon (Line Edges) tree pulses events end told.run.turns told.run.body told.run.last sparse told.run.leads in
+files_of_runs_have_their_readings tree pulses events end text totals sparse framed reported limit =
+    let k = runs.edges_are_the_line tree pulses events end text totals sparse framed reported in
+    let last = max end reported.run.last.net.close in
+    let soon : reported.run.last.net.close ≤ end + 458461 = runs_close_soon (Line Edges) tree pulses events end reported.run.turns reported.run.body reported.run.last sparse reported.run.leads in
     let back = edge_files_are_read_back _ last k.read.wave k.read.over (omega (arith, soon, limit)) in (
       record { edges = edges_of _; end = last },
       ap file_of k.whole ∙ back.file,
@@ -185,8 +185,8 @@ lines_of_parts [] = refl
 lines_of_parts (OfEvent at e before ∷ parts) = lines_of_parts parts
 lines_of_parts (OfRound devices o ∷ parts) = ap (λ text. reading_line o.reading ++ text) (lines_of_parts parts)
 
-pub monitors_tell_traces : MonitorsTellTraces
-monitors_tell_traces topology script x y s t p q =
+pub monitors_report_traces : MonitorsReportTraces
+monitors_report_traces topology script x y s t p q =
     let sound = scripts_are_sound q.plan.tree script q.course q.accepted.course_is in
     let file = files_of_runs_have_their_readings q.plan.tree q.course.pulses q.course.events q.course.end y t sound.sparse sound.framed q.line sound.limit in
     let one = texts_have_one_run Edges topology script x y s t p q in

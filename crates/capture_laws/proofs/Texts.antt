@@ -53,5 +53,5 @@ skipped_by [] more some h = absurd (omega arith)
 skipped_by (c ∷ cs) more some h = rw (some_length (length (cs ++ more)), no_byte 35 c h.0 (omega arith)) refl
 
 -- it is not skipped
-pub timed_told : (t : ℕ) (mark : List ℕ) → t < 2 ^ 64 → is_skipped (timed t mark) ≡ false
-timed_told t mark small = skipped_by (decimal t) (32 ∷ mark) (decimal_nonempty t small) (decimal_is_IsNumeral t small).0.1
+pub timed_reported : (t : ℕ) (mark : List ℕ) → t < 2 ^ 64 → is_skipped (timed t mark) ≡ false
+timed_reported t mark small = skipped_by (decimal t) (32 ∷ mark) (decimal_nonempty t small) (decimal_is_IsNumeral t small).0.1

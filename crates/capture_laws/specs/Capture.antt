@@ -13,13 +13,13 @@ use Rattle.cec_asm.specs.Script.{AreFramedEvents}
 use Rattle.cec_asm.specs.declared.script.TimedEvent.{TimedEvent}
 use Rattle.cec_signal.specs.Edges.{edges_of}
 use Rattle.cec_line.specs.declared.format.Format.TheVariants.{Edges}
-use Rattle.cec_run.specs.declared.run.Telling.TheVariants.{Trace, Line}
+use Rattle.cec_run.specs.declared.run.Reporting.TheVariants.{Trace, Line}
 use Rattle.cec_run.specs.declared.run.Totals.{Totals}
 use Rattle.cec_trace.specs.EdgeText.{edge_lines}
 use Rattle.cec_trace.specs.TraceText.{end_line}
-use Rattle.cec_run.specs.Run.{start, start_told, end_told, IsRunText}
+use Rattle.cec_run.specs.Run.{start, start_reported, end_reported, IsRunText}
 use Rattle.cec_run.specs.Emulate.{IsTraceOf, IsEdgeTraceOf}
-use Rattle.cec_run.specs.OneRun.{rounds_told, Part, OfEvent, OfRound, part_text}
+use Rattle.cec_run.specs.OneRun.{rounds_reported, Part, OfEvent, OfRound, part_text}
 use Rattle.cec_signal.specs.Edges.{line_of_edges}
 use Rattle.cec_mon.specs.EdgeFile.{EdgeFile, file_of}
 use Rattle.cec_text.specs.ReadingText.{reading_text}
@@ -39,8 +39,8 @@ EdgeFilesAreReadBack = (ss : List Stretch) (end : ℕ) → IsWave ss → ((u : �
 -- each once.
 abbrev pub FilesOfRunsHaveTheirReadings : Type 0
 FilesOfRunsHaveTheirReadings = (tree : List Node) (pulses : List Stretch) (events : List TimedEvent) (end : ℕ) (text : List ℕ) (totals : Totals)
-    → AreSparse pulses → AreFramedEvents events → (told : IsRunText (Line Edges) end (start (first_net tree pulses) events) text totals) → end ≤ latest_event
-    → (f : EdgeFile) × (file_of text ≡ Ok f) × (file_readings f ≡ map outcome_listed (rounds_told (Line Edges) end (start (first_net tree pulses) events) text totals told))
+    → AreSparse pulses → AreFramedEvents events → (reported : IsRunText (Line Edges) end (start (first_net tree pulses) events) text totals) → end ≤ latest_event
+    → (f : EdgeFile) × (file_of text ≡ Ok f) × (file_readings f ≡ map outcome_listed (rounds_reported (Line Edges) end (start (first_net tree pulses) events) text totals reported))
 
 -- of a part of a trace what a monitor writes: of a round's line the reading, without `by` and `out`, and nothing of an event
 abbrev pub part_monitored : Part → List ℕ
@@ -50,12 +50,12 @@ part_monitored (OfRound devices o) = reading_text o.reading ++ codes "\n"
 -- a trace, part by part, and beside it what a monitor writes of the same parts
 pub record AreBeside (edid : Option Edid) (end : ℕ) (first last : NetState) (trace monitored : List ℕ) : Type 0 where
   pub parts : List Part
-  pub trace_is : trace ≡ start_told (Trace edid) first ++ (flat_map (part_text edid) parts ++ end_told (Trace edid) end last)
+  pub trace_is : trace ≡ start_reported (Trace edid) first ++ (flat_map (part_text edid) parts ++ end_reported (Trace edid) end last)
   pub monitored_is : monitored ≡ flat_map part_monitored parts
 
 -- Of a topology and a script, the edges are an edge file, and what a monitor writes of it is the trace's lines of rounds, in order, each
 -- without `by` and `out`.
-abbrev pub MonitorsTellTraces : Type 0
-MonitorsTellTraces = (topology script x y : List ℕ) (s t : Totals) → (p : IsTraceOf topology script x s) → IsEdgeTraceOf topology script y t
+abbrev pub MonitorsReportTraces : Type 0
+MonitorsReportTraces = (topology script x y : List ℕ) (s t : Totals) → (p : IsTraceOf topology script x s) → IsEdgeTraceOf topology script y t
     → (f : EdgeFile) × (file_of y ≡ Ok f)
     × AreBeside p.edid p.course.end (first_net p.plan.tree p.course.pulses) p.trace.run.last.net x (readings_text (file_readings f))

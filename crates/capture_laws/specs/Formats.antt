@@ -19,11 +19,11 @@ use Rattle.cec_mon.specs.Watch.{as_file, file_readings, readings_text}
 use Rattle.cec_line.specs.Format.{line_text}
 use Rattle.cec_line.specs.declared.format.Format.{Format}
 use Rattle.cec_line.specs.declared.format.Format.TheVariants.{Edges, Vcd, Pin, Csv}
-use Rattle.cec_run.specs.declared.run.Telling.TheVariants.{Line}
+use Rattle.cec_run.specs.declared.run.Reporting.TheVariants.{Line}
 use Rattle.cec_run.specs.declared.run.Totals.{Totals}
 use Rattle.cec_run.specs.Run.{start, IsRunText}
 use Rattle.cec_run.specs.Emulate.{IsTraceOf, IsLineOf}
-use Rattle.cec_run.specs.OneRun.{rounds_told}
+use Rattle.cec_run.specs.OneRun.{rounds_reported}
 use Rattle.capture_laws.specs.Capture.{AreBeside}
 
 -- a text in a format is read as this capture
@@ -49,13 +49,13 @@ pub record IsReadText (format : Format) (text : List ℕ) (c : Captured) : Type 
 -- rounds, in order, each once.
 abbrev pub LinesOfRunsHaveTheirReadings : Type 0
 LinesOfRunsHaveTheirReadings = (format : Format) (tree : List Node) (pulses : List Stretch) (events : List TimedEvent) (end : ℕ) (text : List ℕ) (totals : Totals)
-    → AreSparse pulses → AreFramedEvents events → (told : IsRunText (Line format) end (start (first_net tree pulses) events) text totals) → end ≤ latest_event
+    → AreSparse pulses → AreFramedEvents events → (reported : IsRunText (Line format) end (start (first_net tree pulses) events) text totals) → end ≤ latest_event
     → (c : Captured) × IsReadText format text c
-    × (file_readings (as_file c) ≡ map outcome_listed (rounds_told (Line format) end (start (first_net tree pulses) events) text totals told))
+    × (file_readings (as_file c) ≡ map outcome_listed (rounds_reported (Line format) end (start (first_net tree pulses) events) text totals reported))
 
 -- Of a topology and a script, the line in any format is read as a capture, and what a monitor writes of it is the trace's lines of
 -- rounds, in order, each without `by` and `out`.
-abbrev pub MonitorsTellTracesInAll : Type 0
-MonitorsTellTracesInAll = (format : Format) (topology script x y : List ℕ) (s t : Totals) → (p : IsTraceOf topology script x s) → IsLineOf format topology script y t
+abbrev pub MonitorsReportTracesInAll : Type 0
+MonitorsReportTracesInAll = (format : Format) (topology script x y : List ℕ) (s t : Totals) → (p : IsTraceOf topology script x s) → IsLineOf format topology script y t
     → (c : Captured) × IsReadText format y c
     × AreBeside p.edid p.course.end (first_net p.plan.tree p.course.pulses) p.trace.run.last.net x (readings_text (file_readings (as_file c)))

@@ -1,6 +1,6 @@
 //! Laws of the files of a run's line.
-ghost use Rattle.capture_laws.specs.Capture.{EdgeFilesAreReadBack, FilesOfRunsHaveTheirReadings, MonitorsTellTraces};
-ghost use Rattle.capture_laws.specs.Formats.{LinesAreReadBack, LinesOfRunsHaveTheirReadings, MonitorsTellTracesInAll};
+ghost use Rattle.capture_laws.specs.Capture.{EdgeFilesAreReadBack, FilesOfRunsHaveTheirReadings, MonitorsReportTraces};
+ghost use Rattle.capture_laws.specs.Formats.{LinesAreReadBack, LinesOfRunsHaveTheirReadings, MonitorsReportTracesInAll};
 
 /// The edges of a line that is high from the end on, written as a run writes them, are read as they were, and say that
 /// line.
@@ -15,8 +15,8 @@ pub fn files_of_runs_have_their_readings()
 
 /// What a monitor writes of the edge file of a topology and a script are the readings of the rounds that their trace
 /// reports, in order, each once.
-pub fn monitors_tell_traces()
-    ensures { MonitorsTellTraces }
+pub fn monitors_report_traces()
+    ensures { MonitorsReportTraces }
 {}
 
 /// A line that rounds make and that is high from the end on, written in any format, is read as its edges.
@@ -32,6 +32,6 @@ pub fn lines_of_runs_have_their_readings()
 
 /// What a monitor writes of the line of a topology and a script, written in any format, are the readings of the rounds that
 /// their trace reports, in order, each once.
-pub fn monitors_tell_traces_in_all()
-    ensures { MonitorsTellTracesInAll }
+pub fn monitors_report_traces_in_all()
+    ensures { MonitorsReportTracesInAll }
 {}

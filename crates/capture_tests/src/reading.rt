@@ -66,7 +66,7 @@ fn fault_text(rt: &(impl Abort + AllocGlobal), error: &CaptureError) -> String {
 }
 
 /// What a text is read as.
-fn told(rt: &(impl Abort + AllocGlobal), form: &str, signal: &str, text: &str) -> String {
+fn reported(rt: &(impl Abort + AllocGlobal), form: &str, signal: &str, text: &str) -> String {
     let read = read_capture(
         rt.alloc(),
         form_of(form, text),
@@ -86,13 +86,13 @@ fn told(rt: &(impl Abort + AllocGlobal), form: &str, signal: &str, text: &str) -
 
 /// The lines of a pin file before which events were lost.
 fn lost_text(rt: &(impl Abort + AllocGlobal), text: &str) -> String {
-    let mut told = String::new(rt.alloc());
+    let mut reported = String::new(rt.alloc());
     for line in &lost_lines(rt.alloc(), text.as_bytes()).expect(rt, "memory") {
         let word = format!(in rt.alloc(); "{line} ").expect(rt, "a word");
-        told.push_str(&word).expect(rt, "a text");
+        reported.push_str(&word).expect(rt, "a text");
     }
-    told.push_str(".").expect(rt, "a text");
-    told
+    reported.push_str(".").expect(rt, "a text");
+    reported
 }
 
 /// The readings of an edge file, from idle on.
@@ -101,15 +101,15 @@ fn idle_text(rt: &(impl Abort + AllocGlobal), text: &str) -> String {
     let capture = read.expect(rt, "a capture");
     let mut out = Vec::new(rt.alloc());
     watch_from_idle(&capture, &mut Writes::new(&mut out)).expect(rt, "memory");
-    let told = String::from_utf8(out).expect(rt, "a text");
-    told.replace(rt.alloc(), "\n", "|").expect(rt, "a text")
+    let reported = String::from_utf8(out).expect(rt, "a text");
+    reported.replace(rt.alloc(), "\n", "|").expect(rt, "a text")
 }
 
 fn answer(rt: &(impl Abort + AllocGlobal), form: &str, signal: &str, text: &str) -> String {
     match form {
         "lost" => lost_text(rt, text),
         "idle" => idle_text(rt, text),
-        _ => told(rt, form, signal, text),
+        _ => reported(rt, form, signal, text),
     }
 }
 
@@ -118,8 +118,8 @@ fn check(rt: &(impl Abort + AllocGlobal), row: &str) {
     let (words, text) = asked.split_once(' ').expect(rt, "a text");
     let (form, signal) = words.split_once(':').expect(rt, "a form");
     let text = spelled(rt, text);
-    let told = answer(rt, form, signal, &text);
-    assert!(rt; told.as_str() == want, "{row}: {told}");
+    let reported = answer(rt, form, signal, &text);
+    assert!(rt; reported.as_str() == want, "{row}: {reported}");
 }
 
 #[test]

@@ -134,13 +134,13 @@ fn writes_front(rt: &(impl Abort + AllocGlobal), row: &Row, most: usize, room: u
         most,
         room,
     };
-    let told = call(rt, row.0, &mut Writes::new(&mut held));
+    let reported = call(rt, row.0, &mut Writes::new(&mut held));
     let want = row.1.as_bytes();
     let right = match want.get(..room) {
         Some(front) if room < want.len() => {
-            held.bytes.as_slice() == front && told == Some(room as u128)
+            held.bytes.as_slice() == front && reported == Some(room as u128)
         }
-        _ => held.bytes.as_slice() == want && told.is_none(),
+        _ => held.bytes.as_slice() == want && reported.is_none(),
     };
     assert!(rt; right, "{}, {most} bytes a call, room for {room}", row.0);
 }

@@ -13,30 +13,30 @@ use Rattle.cec_asm.specs.declared.script.TimedEvent.{TimedEvent}
 use Rattle.cec_asm.proofs.Sound.{scripts_are_sound}
 use Rattle.cec_net.specs.State.{first_net}
 use Rattle.hdmi_blocks.specs.Root.{IsRoot}
-use Rattle.cec_run.specs.declared.run.Telling.{Telling}
-use Rattle.cec_run.specs.declared.run.Telling.TheVariants.{Trace}
+use Rattle.cec_run.specs.declared.run.Reporting.{Reporting}
+use Rattle.cec_run.specs.declared.run.Reporting.TheVariants.{Trace}
 use Rattle.cec_run.specs.declared.run.Totals.{Totals}
 use Rattle.cec_run.specs.Run.{Config, start, IsRunText}
 use Rattle.cec_run.specs.Emulate.{IsTraceOf}
 use Rattle.cec_run.proofs.HasRun.{runs_have_texts}
 use Rattle.cec_run.proofs.Accepted.{one_plan}
 use Rattle.causal_laws.specs.Certain.{ComesFrom, AllBefore}
-use Rattle.causal_laws.specs.Causal.{BeginsWith, before_told, Continues, AgreeBefore, RunsAreCausal, TracesAreCausal}
+use Rattle.causal_laws.specs.Causal.{BeginsWith, before_reported, Continues, AgreeBefore, RunsAreCausal, TracesAreCausal}
 use Rattle.causal_laws.proofs.Apart.{front_sparse}
-use Rattle.causal_laws.proofs.Certainty.{told_is_front}
+use Rattle.causal_laws.proofs.Certainty.{reported_is_front}
 use Rattle.causal_laws.proofs.Before.{has_all_before}
 
 -- ---- of runs
 
 pub runs_are_causal : RunsAreCausal
-runs_are_causal telling tree pulses events until sparse framed =
-    let run = (runs_have_texts telling tree pulses events until sparse).2.run in
-    let all = has_all_before telling until run.turns (start (first_net tree pulses) events) run.last run.body run.leads run.stops in (
+runs_are_causal reporting tree pulses events until sparse framed =
+    let run = (runs_have_texts reporting tree pulses events until sparse).2.run in
+    let all = has_all_before reporting until run.turns (start (first_net tree pulses) events) run.last run.body run.leads run.stops in (
       all.0,
       all.1,
       all.2,
-      λ more later end text totals comes told.
-          told_is_front telling tree pulses later events more until end all.2.turns all.1 all.0 text totals (sparse.narrow, sparse.far) framed comes all.2.leads told,
+      λ more later end text totals comes reported.
+          reported_is_front reporting tree pulses later events more until end all.2.turns all.1 all.0 text totals (sparse.narrow, sparse.far) framed comes all.2.leads reported,
     )
 
 -- ---- the first of some events
@@ -54,12 +54,12 @@ same_root (Some bytes) (Some a) None r s = absurd s
 same_root (Some bytes) (Some a) (Some b) r s = ap Some (one_edid a b (r.0 ∙ sym s.0))
 
 -- a run by what its script says first, and what it says then
-by_parts : (telling : Telling) (tree : List Node) (events : List TimedEvent) (pulses : List Stretch) (until : ℕ) (course : Course) (text : List ℕ) (totals : Totals)
-    → (c : Continues until events pulses course) → IsRunText telling course.end (start (first_net tree course.pulses) course.events) text totals
-    → IsRunText telling course.end (start (first_net tree (pulses ++ c.later)) (events ++ c.more)) text totals
-by_parts telling tree events pulses until course text totals c told =
-    subst (λ (es : List TimedEvent). IsRunText telling course.end (start (first_net tree (pulses ++ c.later)) es) text totals) c.events_are
-    (subst (λ (ps : List Stretch). IsRunText telling course.end (start (first_net tree ps) course.events) text totals) c.pulses_are told)
+by_parts : (reporting : Reporting) (tree : List Node) (events : List TimedEvent) (pulses : List Stretch) (until : ℕ) (course : Course) (text : List ℕ) (totals : Totals)
+    → (c : Continues until events pulses course) → IsRunText reporting course.end (start (first_net tree course.pulses) course.events) text totals
+    → IsRunText reporting course.end (start (first_net tree (pulses ++ c.later)) (events ++ c.more)) text totals
+by_parts reporting tree events pulses until course text totals c reported =
+    subst (λ (es : List TimedEvent). IsRunText reporting course.end (start (first_net tree (pulses ++ c.later)) es) text totals) c.events_are
+    (subst (λ (ps : List Stretch). IsRunText reporting course.end (start (first_net tree ps) course.events) text totals) c.pulses_are reported)
 
 -- the other trace, by the first one's topology
 other_run : (topology script y : List ℕ) (t : Totals) (plan : Plan) (edid : Option Edid) (q : IsTraceOf topology script y t) → q.plan ≡ plan → q.edid ≡ edid

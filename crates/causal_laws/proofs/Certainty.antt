@@ -35,15 +35,15 @@ use Rattle.hdmi_topo.specs.Node.{Node}
 use Rattle.hdmi_topo.specs.Path.{is_on_wire}
 use Rattle.cec_asm.specs.Script.{AreFramedEvents}
 use Rattle.cec_asm.specs.declared.script.TimedEvent.{TimedEvent}
-use Rattle.cec_run.specs.declared.run.Telling.{Telling}
-use Rattle.cec_run.specs.declared.run.Telling.TheVariants.{Trace, Line}
+use Rattle.cec_run.specs.declared.run.Reporting.{Reporting}
+use Rattle.cec_run.specs.declared.run.Reporting.TheVariants.{Trace, Line}
 use Rattle.cec_run.specs.declared.run.Totals.{Totals}
 use Rattle.cec_run.specs.declared.run.Turn.{Turn}
 use Rattle.cec_run.specs.declared.run.Turn.TheVariants.{Stop, Apply, Round}
-use Rattle.cec_run.specs.Run.{Config, start, turn_at, turn_of, is_by, round_turn, event_turn, first_time, event_text, event_told, counted_event, start_told, IsEventTurn, IsRoundTurn, IsTurnBy, IsTurn, IsRunText, IsRunTextFrom, Leads}
+use Rattle.cec_run.specs.Run.{Config, start, turn_at, turn_of, is_by, round_turn, event_turn, first_time, event_text, event_reported, counted_event, start_reported, IsEventTurn, IsRoundTurn, IsTurnBy, IsTurn, IsRunText, IsRunTextFrom, Leads}
 use Rattle.cec_run.proofs.Advance.{round_begins, event_keeps}
 use Rattle.cec_run.proofs.Turns.{front_of_text}
-use Rattle.causal_laws.specs.Certain.{AreApart, with_pulses, with_more, ComesFrom, IsOverBy, LeadsBy, TurnsAreCertain, TurnsStayCertain, ToldIsFront}
+use Rattle.causal_laws.specs.Certain.{AreApart, with_pulses, with_more, ComesFrom, IsOverBy, LeadsBy, TurnsAreCertain, TurnsStayCertain, ReportedIsFront}
 use Rattle.causal_laws.proofs.Apart.{apart_filter, far_late, from_begin, near_sparse, onset_near}
 
 -- ---- a pulse that begins after the close is no pulse of the round
@@ -254,10 +254,10 @@ unless_same later None at (Outside device act) s = refl
 applied_same : (later : List Stretch) (at : ℕ) (event : Event) (s : NetState) → net_after at event (with_pulses later s) ≡ with_pulses later (net_after at event s)
 applied_same later at event s = ap (λ f. applied_unless f at event (with_pulses later s)) (fault_same later s event) ∙ unless_same later (event_fault s event) at event s
 
-told_same : (telling : Telling) (later : List Stretch) (at : ℕ) (e : TimedEvent) (s : NetState) → event_told telling at e (with_pulses later s) ≡ event_told telling at e s
-told_same (Trace edid) later at e s =
+reported_same : (reporting : Reporting) (later : List Stretch) (at : ℕ) (e : TimedEvent) (s : NetState) → event_reported reporting at e (with_pulses later s) ≡ event_reported reporting at e s
+reported_same (Trace edid) later at e s =
     ap₂ (λ f n. event_line at e.line f ++ port_lines at edid (is_on_wire s.tree) n) (fault_same later s e.event) (ap (λ (x : NetState). x.tree) (applied_same later at e.event s))
-told_same (Line format) later at e s = refl
+reported_same (Line format) later at e s = refl
 
 -- ---- turns with more to come
 
@@ -275,9 +275,9 @@ after_more s begin until o later l late =
     ap (λ (ps : List Stretch). filter (λ p. nat_lt o.rest p.from) s.pulses ++ ps) (sym (late_kept o.rest until later l late)) ∙ sym (filter-append (λ p. nat_lt o.rest p.from) s.pulses later) in
     ap (λ (ps : List Stretch). let n : NetState = record { tree = s.tree; devices = devices_after s.rest begin o s.devices; pulses = ps; close = close_in o; rest = o.rest; heard = None } in n) same
 
-round_turn_more : (telling : Telling) (begin until : ℕ) (s after : NetState) (later : List Stretch) (t u : Totals) (text : List ℕ) → AreApart s.pulses → AreFramed s → next_start s ≡ Some begin
-    → after.close < until → All (λ p. until ≤ p.from) later → IsRoundTurn telling begin s t text after u → IsRoundTurn telling begin (with_pulses later s) t text (with_pulses later after) u
-round_turn_more telling begin until s after later t u text apart framed begins closed late r = record {
+round_turn_more : (reporting : Reporting) (begin until : ℕ) (s after : NetState) (later : List Stretch) (t u : Totals) (text : List ℕ) → AreApart s.pulses → AreFramed s → next_start s ≡ Some begin
+    → after.close < until → All (λ p. until ≤ p.from) later → IsRoundTurn reporting begin s t text after u → IsRoundTurn reporting begin (with_pulses later s) t text (with_pulses later after) u
+round_turn_more reporting begin until s after later t u text apart framed begins closed late r = record {
   outcome = r.outcome;
   wave = r.wave;
   next = record {
@@ -285,7 +285,7 @@ round_turn_more telling begin until s after later t u text apart framed begins c
         (rests_high s begin r.outcome framed apart begins r.wave r.next.round) soon late r.next.round;
     after_is = ap (with_pulses later) r.next.after_is ∙ after_more s begin until r.outcome later (omega (arith, soon)) late;
   };
-  told = r.told;
+  reported = r.reported;
   totals = r.totals;
 }
   where
@@ -299,8 +299,8 @@ record IsReady (c : Config) : Type 0 where
   events : AreFramedEvents c.events
 
 -- a turn with more to come
-record IsMore (telling : Telling) (until end : ℕ) (events : List TimedEvent) (later : List Stretch) (c d : Config) (text : List ℕ) : Type 0 where
-  turn : IsTurn telling end (with_more events later c) text (with_more events later d)
+record IsMore (reporting : Reporting) (until end : ℕ) (events : List TimedEvent) (later : List Stretch) (c d : Config) (text : List ℕ) : Type 0 where
+  turn : IsTurn reporting end (with_more events later c) text (with_more events later d)
   over : IsOverBy end (turn_at end (with_more events later c)) (with_more events later d)
   ready : IsReady d
 
@@ -312,18 +312,18 @@ no_event until at (Some b) k = step (nat_lt b until) k
     step true l = cc
     step false l = cc
 
-event_more : (telling : Telling) (until end at : ℕ) (xs events : List TimedEvent) (later : List Stretch) (c d : Config) (text : List ℕ) → c.events ≡ xs → IsReady c
-    → turn_of until c.net (first_time xs) ≡ Apply at → ComesFrom until events later end → IsEventTurn telling at xs c text d
+event_more : (reporting : Reporting) (until end at : ℕ) (xs events : List TimedEvent) (later : List Stretch) (c d : Config) (text : List ℕ) → c.events ≡ xs → IsReady c
+    → turn_of until c.net (first_time xs) ≡ Apply at → ComesFrom until events later end → IsEventTurn reporting at xs c text d
     → (turn_of end (with_pulses later c.net) (first_time (xs ++ events)) ≡ Apply at)
-    × IsEventTurn telling at (xs ++ events) (with_more events later c) text (with_more events later d) × IsReady d
-event_more telling until end at [] events later c d text same r h f t = absurd (no_event until at (next_start c.net) h)
-event_more telling until end at (x ∷ xs) events later c d text same r h f t =
+    × IsEventTurn reporting at (xs ++ events) (with_more events later c) text (with_more events later d) × IsReady d
+event_more reporting until end at [] events later c d text same r h f t = absurd (no_event until at (next_start c.net) h)
+event_more reporting until end at (x ∷ xs) events later c d text same r h f t =
     let framed : AreFramedEvents (x ∷ xs) = subst AreFramedEvents same r.events in
     let net : d.net ≡ net_after at x.event c.net = ap (λ (e : Config). e.net) t.1 in
     let kept = event_keeps at x.event c.net d.net net in (
       event_same until end at c.net x.at later h f.over f.begun,
       (
-        t.0 ∙ sym (told_same telling later at x c.net),
+        t.0 ∙ sym (reported_same reporting later at x c.net),
         ap (with_more events later) t.1
             ∙ ap₂ (λ n fault. let e : Config = record { net = n; events = xs ++ events; totals = counted_event fault c.totals } in e)
             (sym (applied_same later at x.event c.net)) (sym (fault_same later c.net x.event)),
@@ -335,22 +335,22 @@ event_more telling until end at (x ∷ xs) events later c d text same r h f t =
       },
     )
 
-turn_more : (telling : Telling) (until end : ℕ) (events : List TimedEvent) (later : List Stretch) (c d : Config) (text : List ℕ) (turn : Turn) → IsReady c → turn_at until c ≡ turn
-    → ComesFrom until events later end → IsTurnBy telling turn c text d → IsOverBy until turn d → IsMore telling until end events later c d text
-turn_more telling until end events later c d text Stop r h f t o = absurd t
-turn_more telling until end events later c d text (Apply at) r h f t o =
-    let m = event_more telling until end at c.events events later c d text refl r h f t in
+turn_more : (reporting : Reporting) (until end : ℕ) (events : List TimedEvent) (later : List Stretch) (c d : Config) (text : List ℕ) (turn : Turn) → IsReady c → turn_at until c ≡ turn
+    → ComesFrom until events later end → IsTurnBy reporting turn c text d → IsOverBy until turn d → IsMore reporting until end events later c d text
+turn_more reporting until end events later c d text Stop r h f t o = absurd t
+turn_more reporting until end events later c d text (Apply at) r h f t o =
+    let m = event_more reporting until end at c.events events later c d text refl r h f t in
     record {
-      turn = subst (λ turn. IsTurnBy telling turn (with_more events later c) text (with_more events later d)) (sym m.0) m.1;
+      turn = subst (λ turn. IsTurnBy reporting turn (with_more events later c) text (with_more events later d)) (sym m.0) m.1;
       over = subst (λ turn. IsOverBy end turn (with_more events later d)) (sym m.0) tt;
       ready = m.2;
     }
-turn_more telling until end events later c d text (Round begin) r h f t o =
+turn_more reporting until end events later c d text (Round begin) r h f t o =
     let same : turn_at end (with_more events later c) ≡ Round begin = round_same until end begin c.net c.events events later h f in
     let starts : next_start c.net ≡ Some begin = (round_begins until c.net (first_time c.events) begin h).0 in
-    let round = round_turn_more telling begin until c.net d.net later c.totals d.totals text r.apart r.framed starts o f.begun t.0 in
+    let round = round_turn_more reporting begin until c.net d.net later c.totals d.totals text r.apart r.framed starts o f.begun t.0 in
     record {
-      turn = subst (λ turn. IsTurnBy telling turn (with_more events later c) text (with_more events later d)) (sym same) (round, ap (λ (xs : List TimedEvent). xs ++ events) t.1);
+      turn = subst (λ turn. IsTurnBy reporting turn (with_more events later c) text (with_more events later d)) (sym same) (round, ap (λ (xs : List TimedEvent). xs ++ events) t.1);
       over = subst (λ turn. IsOverBy end turn (with_more events later d)) (sym same) (omega (arith, o, f.over));
       ready = record {
         apart = subst (λ (n : NetState). AreApart n.pulses) (sym t.0.next.after_is) (apart_filter (λ p. nat_lt t.0.outcome.rest p.from) c.net.pulses r.apart);
@@ -359,38 +359,38 @@ turn_more telling until end events later c d text (Round begin) r h f t o =
       };
     }
 
-turns_certain : (telling : Telling) (until end turns : ℕ) (c d : Config) (text : List ℕ) (events : List TimedEvent) (later : List Stretch)
-    → IsReady c → ComesFrom until events later end → LeadsBy telling until turns c text d → Leads telling end turns (with_more events later c) text (with_more events later d)
-turns_certain telling until end zero c d text events later r f l = (l.0, ap (with_more events later) l.1)
-turns_certain telling until end (suc turns) c d text events later r f (mid, told, rest, turn, over, after, e) =
-    let m = turn_more telling until end events later c mid told (turn_at until c) r refl f turn over in
-    (with_more events later mid, told, rest, m.turn, turns_certain telling until end turns mid d rest events later m.ready f after, e)
+turns_certain : (reporting : Reporting) (until end turns : ℕ) (c d : Config) (text : List ℕ) (events : List TimedEvent) (later : List Stretch)
+    → IsReady c → ComesFrom until events later end → LeadsBy reporting until turns c text d → Leads reporting end turns (with_more events later c) text (with_more events later d)
+turns_certain reporting until end zero c d text events later r f l = (l.0, ap (with_more events later) l.1)
+turns_certain reporting until end (suc turns) c d text events later r f (mid, reported, rest, turn, over, after, e) =
+    let m = turn_more reporting until end events later c mid reported (turn_at until c) r refl f turn over in
+    (with_more events later mid, reported, rest, m.turn, turns_certain reporting until end turns mid d rest events later m.ready f after, e)
 
-stay_certain : (telling : Telling) (until on turns : ℕ) (c d : Config) (text : List ℕ) (events : List TimedEvent) (later : List Stretch)
-    → IsReady c → ComesFrom until events later on → LeadsBy telling until turns c text d → LeadsBy telling on turns (with_more events later c) text (with_more events later d)
-stay_certain telling until on zero c d text events later r f l = (l.0, ap (with_more events later) l.1)
-stay_certain telling until on (suc turns) c d text events later r f (mid, told, rest, turn, over, after, e) =
-    let m = turn_more telling until on events later c mid told (turn_at until c) r refl f turn over in
-    (with_more events later mid, told, rest, m.turn, m.over, stay_certain telling until on turns mid d rest events later m.ready f after, e)
+stay_certain : (reporting : Reporting) (until on turns : ℕ) (c d : Config) (text : List ℕ) (events : List TimedEvent) (later : List Stretch)
+    → IsReady c → ComesFrom until events later on → LeadsBy reporting until turns c text d → LeadsBy reporting on turns (with_more events later c) text (with_more events later d)
+stay_certain reporting until on zero c d text events later r f l = (l.0, ap (with_more events later) l.1)
+stay_certain reporting until on (suc turns) c d text events later r f (mid, reported, rest, turn, over, after, e) =
+    let m = turn_more reporting until on events later c mid reported (turn_at until c) r refl f turn over in
+    (with_more events later mid, reported, rest, m.turn, m.over, stay_certain reporting until on turns mid d rest events later m.ready f after, e)
 
 pub turns_are_certain : TurnsAreCertain
-turns_are_certain telling until end turns c d text events later apart framed known f l =
-    turns_certain telling until end turns c d text events later (record { apart = apart; framed = framed; events = known }) f l
+turns_are_certain reporting until end turns c d text events later apart framed known f l =
+    turns_certain reporting until end turns c d text events later (record { apart = apart; framed = framed; events = known }) f l
 
 pub turns_stay_certain : TurnsStayCertain
-turns_stay_certain telling until on turns c d text events later apart framed known f l =
-    stay_certain telling until on turns c d text events later (record { apart = apart; framed = framed; events = known }) f l
+turns_stay_certain reporting until on turns c d text events later apart framed known f l =
+    stay_certain reporting until on turns c d text events later (record { apart = apart; framed = framed; events = known }) f l
 
 -- ---- the front of the text
 
-started_same : (telling : Telling) (tree : List Node) (pulses later : List Stretch) → start_told telling (first_net tree (pulses ++ later)) ≡ start_told telling (first_net tree pulses)
+started_same : (reporting : Reporting) (tree : List Node) (pulses later : List Stretch) → start_reported reporting (first_net tree (pulses ++ later)) ≡ start_reported reporting (first_net tree pulses)
 started_same (Trace edid) tree pulses later = refl
 started_same (Line format) tree pulses later = refl
 
-pub told_is_front : ToldIsFront
-told_is_front telling tree pulses later known events until end turns d body whole totals apart framed f l w =
-    let leads = turns_are_certain telling until end turns (start (first_net tree pulses) known) d body events later apart (framed-started tree pulses) framed f l in
-    let front = front_of_text telling end turns (start (first_net tree (pulses ++ later)) (known ++ events)) (with_more events later d) body w.rest totals leads w.run in (
+pub reported_is_front : ReportedIsFront
+reported_is_front reporting tree pulses later known events until end turns d body whole totals apart framed f l w =
+    let leads = turns_are_certain reporting until end turns (start (first_net tree pulses) known) d body events later apart (framed-started tree pulses) framed f l in
+    let front = front_of_text reporting end turns (start (first_net tree (pulses ++ later)) (known ++ events)) (with_more events later d) body w.rest totals leads w.run in (
       front.0,
-      w.whole ∙ ap₂ (λ a b. a ++ b) (started_same telling tree pulses later) front.1 ∙ sym (append_assoc (start_told telling (first_net tree pulses)) body front.0),
+      w.whole ∙ ap₂ (λ a b. a ++ b) (started_same reporting tree pulses later) front.1 ∙ sym (append_assoc (start_reported reporting (first_net tree pulses)) body front.0),
     )

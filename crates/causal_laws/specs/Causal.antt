@@ -6,10 +6,10 @@ use Rattle.hdmi_topo.specs.Node.{Node}
 use Rattle.cec_asm.specs.Script.{Course, AreFramedEvents}
 use Rattle.cec_asm.specs.declared.script.TimedEvent.{TimedEvent}
 use Rattle.cec_net.specs.State.{first_net}
-use Rattle.cec_run.specs.declared.run.Telling.{Telling}
-use Rattle.cec_run.specs.declared.run.Telling.TheVariants.{Trace}
+use Rattle.cec_run.specs.declared.run.Reporting.{Reporting}
+use Rattle.cec_run.specs.declared.run.Reporting.TheVariants.{Trace}
 use Rattle.cec_run.specs.declared.run.Totals.{Totals}
-use Rattle.cec_run.specs.Run.{Config, start, start_told, IsRunText}
+use Rattle.cec_run.specs.Run.{Config, start, start_reported, IsRunText}
 use Rattle.cec_run.specs.Emulate.{IsTraceOf}
 use Rattle.causal_laws.specs.Certain.{ComesFrom, AllBefore}
 
@@ -20,17 +20,17 @@ abbrev pub BeginsWith : List ℕ → List ℕ → Type 0
 BeginsWith front text = (more : List ℕ) × (text ≡ front ++ more)
 
 -- what is reported before an instant, the start included
-abbrev pub before_told : Telling → List Node → List Stretch → List ℕ → List ℕ
-before_told telling tree pulses body = start_told telling (first_net tree pulses) ++ body
+abbrev pub before_reported : Reporting → List Node → List Stretch → List ℕ → List ℕ
+before_reported reporting tree pulses body = start_reported reporting (first_net tree pulses) ++ body
 
 -- Every run that begins with these events and pulses, and in which all else comes at an instant or later, begins with one
 -- text: that of all turns that are over before the instant.
 abbrev pub RunsAreCausal : Type 0
-RunsAreCausal = (telling : Telling) (tree : List Node) (pulses : List Stretch) (events : List TimedEvent) (until : ℕ) → AreSparse pulses → AreFramedEvents events
-    → (body : List ℕ) × (last : Config) × AllBefore telling until (start (first_net tree pulses) events) body last
+RunsAreCausal = (reporting : Reporting) (tree : List Node) (pulses : List Stretch) (events : List TimedEvent) (until : ℕ) → AreSparse pulses → AreFramedEvents events
+    → (body : List ℕ) × (last : Config) × AllBefore reporting until (start (first_net tree pulses) events) body last
     × ((more : List TimedEvent) (later : List Stretch) (end : ℕ) (text : List ℕ) (totals : Totals) → ComesFrom until more later end
-    → IsRunText telling end (start (first_net tree (pulses ++ later)) (events ++ more)) text totals
-    → BeginsWith (before_told telling tree pulses body) text)
+    → IsRunText reporting end (start (first_net tree (pulses ++ later)) (events ++ more)) text totals
+    → BeginsWith (before_reported reporting tree pulses body) text)
 
 -- ---- of texts
 
@@ -55,4 +55,4 @@ abbrev pub TracesAreCausal : Type 0
 TracesAreCausal = (topology script other x y : List ℕ) (s t : Totals) (until : ℕ) → (p : IsTraceOf topology script x s) → (q : IsTraceOf topology other y t)
     → (agree : AgreeBefore until p.course q.course)
     → (body : List ℕ) × (last : Config) × AllBefore (Trace p.edid) until (start (first_net p.plan.tree agree.pulses) agree.events) body last
-    × BeginsWith (before_told (Trace p.edid) p.plan.tree agree.pulses body) x × BeginsWith (before_told (Trace p.edid) p.plan.tree agree.pulses body) y
+    × BeginsWith (before_reported (Trace p.edid) p.plan.tree agree.pulses body) x × BeginsWith (before_reported (Trace p.edid) p.plan.tree agree.pulses body) y

@@ -10,11 +10,11 @@ use Rattle.cec_net.specs.Framed.{AreFramed}
 use Rattle.cec_net.specs.Step.{IsNextRound}
 use Rattle.cec_asm.specs.Script.{AreFramedEvents}
 use Rattle.cec_asm.specs.declared.script.TimedEvent.{TimedEvent}
-use Rattle.cec_run.specs.declared.run.Telling.{Telling}
+use Rattle.cec_run.specs.declared.run.Reporting.{Reporting}
 use Rattle.cec_run.specs.declared.run.Totals.{Totals}
 use Rattle.cec_run.specs.declared.run.Turn.{Turn}
 use Rattle.cec_run.specs.declared.run.Turn.TheVariants.{Stop, Apply, Round}
-use Rattle.cec_run.specs.Run.{Config, start, start_told, turn_at, IsTurn, IsRunText, Leads}
+use Rattle.cec_run.specs.Run.{Config, start, start_reported, turn_at, IsTurn, IsRunText, Leads}
 
 -- pulses as a script has them, however many
 abbrev pub AreApart : List Stretch → Type 0
@@ -46,15 +46,15 @@ IsOverBy until (Apply at) after = Unit {0}
 IsOverBy until (Round begin) after = after.net.close < until
 
 -- so many turns one after another, of each of which something holds, and their texts one after another
-abbrev pub LeadsIf : (Turn → Config → Type 0) → Telling → ℕ → ℕ → Config → List ℕ → Config → Type 0
-LeadsIf Holds telling until zero c text d = (text ≡ []) × (d ≡ c)
-LeadsIf Holds telling until (suc turns) c text d =
-    (mid : Config) × (told : List ℕ) × (rest : List ℕ) × IsTurn telling until c told mid × Holds (turn_at until c) mid
-    × LeadsIf Holds telling until turns mid rest d × (text ≡ told ++ rest)
+abbrev pub LeadsIf : (Turn → Config → Type 0) → Reporting → ℕ → ℕ → Config → List ℕ → Config → Type 0
+LeadsIf Holds reporting until zero c text d = (text ≡ []) × (d ≡ c)
+LeadsIf Holds reporting until (suc turns) c text d =
+    (mid : Config) × (reported : List ℕ) × (rest : List ℕ) × IsTurn reporting until c reported mid × Holds (turn_at until c) mid
+    × LeadsIf Holds reporting until turns mid rest d × (text ≡ reported ++ rest)
 
 -- each of them over before this instant
-abbrev pub LeadsBy : Telling → ℕ → ℕ → Config → List ℕ → Config → Type 0
-LeadsBy telling until = LeadsIf (IsOverBy until) telling until
+abbrev pub LeadsBy : Reporting → ℕ → ℕ → Config → List ℕ → Config → Type 0
+LeadsBy reporting until = LeadsIf (IsOverBy until) reporting until
 
 -- ---- all that is certain
 
@@ -68,9 +68,9 @@ abbrev pub IsHeld : ℕ → Config → Type 0
 IsHeld until c = IsHeldBy until c.net (turn_at until c)
 
 -- all turns from one place on that are over before an instant, and what they report
-pub record AllBefore (telling : Telling) (until : ℕ) (c : Config) (text : List ℕ) (d : Config) : Type 0 where
+pub record AllBefore (reporting : Reporting) (until : ℕ) (c : Config) (text : List ℕ) (d : Config) : Type 0 where
   pub turns : ℕ
-  pub leads : LeadsBy telling until turns c text d
+  pub leads : LeadsBy reporting until turns c text d
   pub held : IsHeld until d
 
 -- ---- the laws
@@ -78,24 +78,24 @@ pub record AllBefore (telling : Telling) (until : ℕ) (c : Config) (text : List
 -- The turns that are over before an instant are turns of each run that may still come of what is known, whatever comes for
 -- that instant or later: they report the same, and lead to the same place.
 abbrev pub TurnsAreCertain : Type 0
-TurnsAreCertain = (telling : Telling) (until end turns : ℕ) (c d : Config) (text : List ℕ) (events : List TimedEvent) (later : List Stretch)
+TurnsAreCertain = (reporting : Reporting) (until end turns : ℕ) (c d : Config) (text : List ℕ) (events : List TimedEvent) (later : List Stretch)
     → AreApart c.net.pulses → AreFramed c.net → AreFramedEvents c.events → ComesFrom until events later end
-    → LeadsBy telling until turns c text d → Leads telling end turns (with_more events later c) text (with_more events later d)
+    → LeadsBy reporting until turns c text d → Leads reporting end turns (with_more events later c) text (with_more events later d)
 
 -- So they are over before each later instant too, with whatever has come by then.
 abbrev pub TurnsStayCertain : Type 0
-TurnsStayCertain = (telling : Telling) (until on turns : ℕ) (c d : Config) (text : List ℕ) (events : List TimedEvent) (later : List Stretch)
+TurnsStayCertain = (reporting : Reporting) (until on turns : ℕ) (c d : Config) (text : List ℕ) (events : List TimedEvent) (later : List Stretch)
     → AreApart c.net.pulses → AreFramed c.net → AreFramedEvents c.events → ComesFrom until events later on
-    → LeadsBy telling until turns c text d → LeadsBy telling on turns (with_more events later c) text (with_more events later d)
+    → LeadsBy reporting until turns c text d → LeadsBy reporting on turns (with_more events later c) text (with_more events later d)
 
 -- What is reported of a run by them is the front of what every such run reports in the end.
-abbrev pub ToldIsFront : Type 0
-ToldIsFront = (telling : Telling) (tree : List Node) (pulses later : List Stretch) (known events : List TimedEvent) (until end turns : ℕ) (d : Config)
+abbrev pub ReportedIsFront : Type 0
+ReportedIsFront = (reporting : Reporting) (tree : List Node) (pulses later : List Stretch) (known events : List TimedEvent) (until end turns : ℕ) (d : Config)
     (body whole : List ℕ) (totals : Totals) → AreApart pulses → AreFramedEvents known → ComesFrom until events later end
-    → LeadsBy telling until turns (start (first_net tree pulses) known) body d
-    → IsRunText telling end (start (first_net tree (pulses ++ later)) (known ++ events)) whole totals
-    → (more : List ℕ) × (whole ≡ (start_told telling (first_net tree pulses) ++ body) ++ more)
+    → LeadsBy reporting until turns (start (first_net tree pulses) known) body d
+    → IsRunText reporting end (start (first_net tree (pulses ++ later)) (known ++ events)) whole totals
+    → (more : List ℕ) × (whole ≡ (start_reported reporting (first_net tree pulses) ++ body) ++ more)
 
 -- All turns that are over before an instant tell one text, and lead to one place.
 abbrev pub AllBeforeIsOne : Type 0
-AllBeforeIsOne = (telling : Telling) (until : ℕ) (c d e : Config) (text other : List ℕ) → AllBefore telling until c text d → AllBefore telling until c other e → (text ≡ other) × (d ≡ e)
+AllBeforeIsOne = (reporting : Reporting) (until : ℕ) (c d e : Config) (text other : List ℕ) → AllBefore reporting until c text d → AllBefore reporting until c other e → (text ≡ other) × (d ≡ e)

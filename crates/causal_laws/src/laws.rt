@@ -1,5 +1,5 @@
 //! Laws of what is certain of a run before its script is known to the end.
-ghost use Rattle.causal_laws.specs.Certain.{AllBeforeIsOne, ToldIsFront, TurnsAreCertain, TurnsStayCertain};
+ghost use Rattle.causal_laws.specs.Certain.{AllBeforeIsOne, ReportedIsFront, TurnsAreCertain, TurnsStayCertain};
 ghost use Rattle.causal_laws.specs.Causal.{RunsAreCausal, TracesAreCausal};
 
 /// Turns that are over before an instant are turns of each run that may still come, whatever comes for that instant or
@@ -14,8 +14,8 @@ pub fn turns_stay_certain()
 {}
 
 /// What they report is the front of what each such run reports in the end.
-pub fn told_is_front()
-    ensures { ToldIsFront }
+pub fn reported_is_front()
+    ensures { ReportedIsFront }
 {}
 
 /// All turns that are over before an instant tell one text, and lead to one place.

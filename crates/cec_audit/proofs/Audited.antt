@@ -17,7 +17,7 @@ use Rattle.cec_signal.proofs.Recording.{before_turn}
 use Rattle.cec_mon.specs.declared.monitor.Monitor.{Monitor as Watcher}
 use Rattle.cec_mon.specs.Monitor.{HeardBefore, FollowsEdge, FollowsEnd}
 use Rattle.cec_audit.specs.Progress.{WritesOn}
-use Rattle.cec_audit.specs.Audit.{Tape, after, after_all, audit_text, first_tape, summary_text, line_and_remarks, told_all}
+use Rattle.cec_audit.specs.Audit.{Tape, after, after_all, audit_text, first_tape, summary_text, line_and_remarks, reported_all}
 use Rattle.cec_audit.proofs.Writing.{writes_first}
 
 -- ---- readings, one after another
@@ -26,11 +26,11 @@ pub after_more : (t : Tape) (xs ys : List Listed) → after_all t (xs ++ ys) ≡
 after_more t [] ys = refl
 after_more t (x ∷ xs) ys = after_more (after x t) xs ys
 
-pub told_more : (timing : Bool) (t : Tape) (xs ys : List Listed) → told_all timing t (xs ++ ys) ≡ told_all timing t xs ++ told_all timing (after_all t xs) ys
-told_more timing t [] ys = refl
-told_more timing t (x ∷ xs) ys =
-    ap (λ (l : List ℕ). line_and_remarks timing t x ++ l) (told_more timing (after x t) xs ys)
-    ∙ sym (append_assoc (line_and_remarks timing t x) (told_all timing (after x t) xs) (told_all timing (after_all (after x t) xs) ys))
+pub reported_more : (timing : Bool) (t : Tape) (xs ys : List Listed) → reported_all timing t (xs ++ ys) ≡ reported_all timing t xs ++ reported_all timing (after_all t xs) ys
+reported_more timing t [] ys = refl
+reported_more timing t (x ∷ xs) ys =
+    ap (λ (l : List ℕ). line_and_remarks timing t x ++ l) (reported_more timing (after x t) xs ys)
+    ∙ sym (append_assoc (line_and_remarks timing t x) (reported_all timing (after x t) xs) (reported_all timing (after_all (after x t) xs) ys))
 
 -- no edge comes past the end
 pub edge_early : (edges : List Edge) (end k : ℕ) (none : Edge) → EndBy end edges → k < length edges → (get_or edges k none).at ≤ end
@@ -50,7 +50,7 @@ pub record Audited (c : Captured) (left : List Edge) (m : Watcher) (timing : Boo
   pub reach : from ≤ c.end + 1
   pub heard : HeardBefore m (line_of_edges c.edges) from
   pub kept : tape ≡ after_all (first_tape c.edges) (ended_before (line_of_edges c.edges) from)
-  pub wrote : WrittenText old now was is (told_all timing (first_tape c.edges) (ended_before (line_of_edges c.edges) from)) so_far
+  pub wrote : WrittenText old now was is (reported_all timing (first_tape c.edges) (ended_before (line_of_edges c.edges) from)) so_far
 
 pub audited_first : (c : Captured) (m : Watcher) (timing : Bool) (tape : Tape) (old : Option (List ℕ)) (was : Bool) (so_far : Result ℕ WriteFault) → IsCapture c.edges c.end → ((low : Line) → HeardBefore m low 0)
     → tape ≡ first_tape c.edges → so_far ≡ Ok 0 → Audited c c.edges m timing tape old old was was so_far
@@ -68,20 +68,20 @@ audited_first c m timing tape old was so_far is heard first none = record {
 }
 
 -- what is reported next, and what is written of it
-more_written : (timing : Bool) (t tape : Tape) (xs : List Listed) (told : Option Listed) (old mid out : Option (List ℕ)) (was is now : Bool) (p q : Result ℕ WriteFault) → tape ≡ after_all t xs
-    → WrittenText old mid was is (told_all timing t xs) p → WritesOn mid out is now (told_all timing tape (option_to_list told)) p q → WrittenText old out was now (told_all timing t (xs ++ option_to_list told)) q
-more_written timing t tape xs told old mid out was is now p q kept wrote next =
+more_written : (timing : Bool) (t tape : Tape) (xs : List Listed) (reported : Option Listed) (old mid out : Option (List ℕ)) (was is now : Bool) (p q : Result ℕ WriteFault) → tape ≡ after_all t xs
+    → WrittenText old mid was is (reported_all timing t xs) p → WritesOn mid out is now (reported_all timing tape (option_to_list reported)) p q → WrittenText old out was now (reported_all timing t (xs ++ option_to_list reported)) q
+more_written timing t tape xs reported old mid out was is now p q kept wrote next =
     subst (λ (z : List ℕ). WrittenText old out was now z q)
-    (ap (λ (s : Tape). told_all timing t xs ++ told_all timing s (option_to_list told)) kept ∙ sym (told_more timing t xs (option_to_list told)))
-    (next.on old was (told_all timing t xs) wrote)
+    (ap (λ (s : Tape). reported_all timing t xs ++ reported_all timing s (option_to_list reported)) kept ∙ sym (reported_more timing t xs (option_to_list reported)))
+    (next.on old was (reported_all timing t xs) wrote)
 
-more_kept : (t tape new : Tape) (xs : List Listed) (told : Option Listed) → tape ≡ after_all t xs → new ≡ after_all tape (option_to_list told) → new ≡ after_all t (xs ++ option_to_list told)
-more_kept t tape new xs told kept next = next ∙ ap (λ (s : Tape). after_all s (option_to_list told)) kept ∙ sym (after_more t xs (option_to_list told))
+more_kept : (t tape new : Tape) (xs : List Listed) (reported : Option Listed) → tape ≡ after_all t xs → new ≡ after_all tape (option_to_list reported) → new ≡ after_all t (xs ++ option_to_list reported)
+more_kept t tape new xs reported kept next = next ∙ ap (λ (s : Tape). after_all s (option_to_list reported)) kept ∙ sym (after_more t xs (option_to_list reported))
 
-pub audited_more : (c : Captured) (left rest : List Edge) (m new : Watcher) (e : Edge) (told : Option Listed) (timing : Bool) (tape later : Tape) (old mid out : Option (List ℕ)) (was is now : Bool) (p q : Result ℕ WriteFault)
-    → Audited c left m timing tape old mid was is p → left ≡ e ∷ rest → FollowsEdge m e told new → later ≡ after_all tape (option_to_list told) → WritesOn mid out is now (told_all timing tape (option_to_list told)) p q
+pub audited_more : (c : Captured) (left rest : List Edge) (m new : Watcher) (e : Edge) (reported : Option Listed) (timing : Bool) (tape later : Tape) (old mid out : Option (List ℕ)) (was is now : Bool) (p q : Result ℕ WriteFault)
+    → Audited c left m timing tape old mid was is p → left ≡ e ∷ rest → FollowsEdge m e reported new → later ≡ after_all tape (option_to_list reported) → WritesOn mid out is now (reported_all timing tape (option_to_list reported)) p q
     → Audited c rest new timing later old out was now q
-audited_more c left rest m new e told timing tape later old mid out was is now p q audited cut follows next writes = record {
+audited_more c left rest m new e reported timing tape later old mid out was is now p q audited cut follows next writes = record {
   is_low = e.low;
   from = e.at + 1;
   level = λ u l. past u (omega arith);
@@ -90,9 +90,9 @@ audited_more c left rest m new e told timing tape later old mid out was is now p
   ends = w.ends.1;
   reach = let last = w.ends.0 in omega (arith, last);
   heard = d.0;
-  kept = subst (λ (xs : List Listed). later ≡ after_all (first_tape c.edges) xs) (sym ended) (more_kept (first_tape c.edges) tape later (ended_before low w.from) told w.kept next);
-  wrote = subst (λ (xs : List Listed). WrittenText old out was now (told_all timing (first_tape c.edges) xs) q) (sym ended)
-      (more_written timing (first_tape c.edges) tape (ended_before low w.from) told old mid out was is now p q w.kept w.wrote writes);
+  kept = subst (λ (xs : List Listed). later ≡ after_all (first_tape c.edges) xs) (sym ended) (more_kept (first_tape c.edges) tape later (ended_before low w.from) reported w.kept next);
+  wrote = subst (λ (xs : List Listed). WrittenText old out was now (reported_all timing (first_tape c.edges) xs) q) (sym ended)
+      (more_written timing (first_tape c.edges) tape (ended_before low w.from) reported old mid out was is now p q w.kept w.wrote writes);
 }
   where
     low : Line
@@ -113,32 +113,32 @@ audited_more c left rest m new e told timing tape later old mid out was is now p
     now_is : line_of_edges c.edges e.at ≡ e.low
     now_is = past e.at (omega arith) ∙ before_turn e.low (e.at + 1) rest w.turn.2 e.at (omega arith)
 
-    d : HeardBefore new (line_of_edges c.edges) (e.at + 1) × (ended_by (line_of_edges c.edges) e.at ≡ ended_before (line_of_edges c.edges) w.from ++ option_to_list told)
+    d : HeardBefore new (line_of_edges c.edges) (e.at + 1) × (ended_by (line_of_edges c.edges) e.at ≡ ended_before (line_of_edges c.edges) w.from ++ option_to_list reported)
     d = follows (line_of_edges c.edges) w.from w.heard after_it calm now_is
 
-    ended : ended_before (line_of_edges c.edges) (e.at + 1) ≡ ended_before (line_of_edges c.edges) w.from ++ option_to_list told
+    ended : ended_before (line_of_edges c.edges) (e.at + 1) ≡ ended_before (line_of_edges c.edges) w.from ++ option_to_list reported
     ended = ap (ended_before (line_of_edges c.edges)) (let x : e.at + 1 ≡ suc e.at = omega arith in x) ∙ d.1
 
 -- the end of a capture
-pub audited_end : (c : Captured) (left : List Edge) (m : Watcher) (told : Option Listed) (timing : Bool) (tape later : Tape) (old mid out last : Option (List ℕ)) (was is now at : Bool) (p q r : Result ℕ WriteFault)
-    → Audited c left m timing tape old mid was is p → left ≡ [] → FollowsEnd m c.end told → later ≡ after_all tape (option_to_list told) → WritesOn mid out is now (told_all timing tape (option_to_list told)) p q
+pub audited_end : (c : Captured) (left : List Edge) (m : Watcher) (reported : Option Listed) (timing : Bool) (tape later : Tape) (old mid out last : Option (List ℕ)) (was is now at : Bool) (p q r : Result ℕ WriteFault)
+    → Audited c left m timing tape old mid was is p → left ≡ [] → FollowsEnd m c.end reported → later ≡ after_all tape (option_to_list reported) → WritesOn mid out is now (reported_all timing tape (option_to_list reported)) p q
     → WritesOn out last now at (summary_text c.end later) q r → WrittenText old last was at (audit_text timing c) r
-audited_end c left m told timing tape later old mid out last was is now at p q r audited none follows next writes ends =
-    subst (λ (t : Tape). WrittenText old last was at (told_all timing (first_tape c.edges) (readings_of (line_of_edges c.edges) c.end) ++ summary_text c.end t) r) kept
-    (ends.on old was (told_all timing (first_tape c.edges) (readings_of (line_of_edges c.edges) c.end)) wrote)
+audited_end c left m reported timing tape later old mid out last was is now at p q r audited none follows next writes ends =
+    subst (λ (t : Tape). WrittenText old last was at (reported_all timing (first_tape c.edges) (readings_of (line_of_edges c.edges) c.end) ++ summary_text c.end t) r) kept
+    (ends.on old was (reported_all timing (first_tape c.edges) (readings_of (line_of_edges c.edges) c.end)) wrote)
   where
     w : Audited c [] m timing tape old mid was is p
     w = subst (λ (l : List Edge). Audited c l m timing tape old mid was is p) none audited
 
-    read : readings_of (line_of_edges c.edges) c.end ≡ ended_before (line_of_edges c.edges) w.from ++ option_to_list told
+    read : readings_of (line_of_edges c.edges) c.end ≡ ended_before (line_of_edges c.edges) w.from ++ option_to_list reported
     read = follows (line_of_edges c.edges) w.from w.heard w.reach (λ u k s. w.level u k ∙ sym w.before ∙ sym w.heard.stood.level)
 
     kept : later ≡ after_all (first_tape c.edges) (readings_of (line_of_edges c.edges) c.end)
-    kept = subst (λ (xs : List Listed). later ≡ after_all (first_tape c.edges) xs) (sym read) (more_kept (first_tape c.edges) tape later (ended_before (line_of_edges c.edges) w.from) told w.kept next)
+    kept = subst (λ (xs : List Listed). later ≡ after_all (first_tape c.edges) xs) (sym read) (more_kept (first_tape c.edges) tape later (ended_before (line_of_edges c.edges) w.from) reported w.kept next)
 
-    wrote : WrittenText old out was now (told_all timing (first_tape c.edges) (readings_of (line_of_edges c.edges) c.end)) q
-    wrote = subst (λ (xs : List Listed). WrittenText old out was now (told_all timing (first_tape c.edges) xs) q) (sym read)
-        (more_written timing (first_tape c.edges) tape (ended_before (line_of_edges c.edges) w.from) told old mid out was is now p q w.kept w.wrote writes)
+    wrote : WrittenText old out was now (reported_all timing (first_tape c.edges) (readings_of (line_of_edges c.edges) c.end)) q
+    wrote = subst (λ (xs : List Listed). WrittenText old out was now (reported_all timing (first_tape c.edges) xs) q) (sym read)
+        (more_written timing (first_tape c.edges) tape (ended_before (line_of_edges c.edges) w.from) reported old mid out was is now p q w.kept w.wrote writes)
 
 -- the next edge of a list
 pub next_edge : (edges : List Edge) (k : ℕ) (none : Edge) → k < length edges → drop k edges ≡ get_or edges k none ∷ drop (k + 1) edges

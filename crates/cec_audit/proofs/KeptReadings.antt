@@ -28,7 +28,7 @@ use Rattle.cec_remarks.specs.Places.{moved_from, unknown_source}
 use Rattle.cec_remarks.specs.Requests.{is_late}
 use Rattle.cec_remarks.specs.Series.{series_over}
 use Rattle.cec_timing.specs.Spreads.{no_widths, with_slots}
-use Rattle.cec_audit.specs.Audit.{Tape, after, after_all, audit_text, come_to, drive_of, first_tape, is_folded, lows_of, reading_misfits, remarks_text, summary_text, times_text, line_and_remarks, told_all}
+use Rattle.cec_audit.specs.Audit.{Tape, after, after_all, audit_text, come_to, drive_of, first_tape, is_folded, lows_of, reading_misfits, remarks_text, summary_text, times_text, line_and_remarks, reported_all}
 use Rattle.cec_audit.proofs.Plain.{plain_codes, plain_decimal, plain_hex, plain_more, plain_nibble, plain_phys}
 use Rattle.cec_audit.specs.Kept.{AllRemarks, AreKept, AreRemarks, IsClosed, IsPlain, IsRemark}
 
@@ -212,11 +212,11 @@ summary_remarks end t =
 -- ---- below a reading
 
 folded_remarks : (s : Series) (x : Listed) (lows : List LowOf) → AreRemarks (reading_misfits s x lows)
-folded_remarks s x lows = by (is_folded s x.told.ending)
+folded_remarks s x lows = by (is_folded s x.reported.ending)
   where
-    by : (b : Bool) → AreRemarks (if b then [] else misfits_text x.told.ending x.told.bits 0 lows)
+    by : (b : Bool) → AreRemarks (if b then [] else misfits_text x.reported.ending x.reported.bits 0 lows)
     by true = no_remarks
-    by false = misfits_remarks x.told.ending x.told.bits 0 lows
+    by false = misfits_remarks x.reported.ending x.reported.bits 0 lows
 
 times : (t : Tape) (x : Listed) → AreRemarks (times_text t x)
 times t x =
@@ -224,21 +224,21 @@ times t x =
     (more_remarks
     (more_remarks
     (more_remarks
-    (more_remarks (series_remarks (series_over t.series x.told.ending)) (late_remarks x.begin t.waiting)) (soon_remarks (too_soon t.before x.told.ending x.told.bits (x.begin - t.place.since)))) (folded_remarks t.series x (lows_of x t.place))) (drive_remarks (drive_of x t.place))) (failure_remarks (failure_of t.attempts x.told.bits))
+    (more_remarks (series_remarks (series_over t.series x.reported.ending)) (late_remarks x.begin t.waiting)) (soon_remarks (too_soon t.before x.reported.ending x.reported.bits (x.begin - t.place.since)))) (folded_remarks t.series x (lows_of x t.place))) (drive_remarks (drive_of x t.place))) (failure_remarks (failure_of t.attempts x.reported.bits))
 
 below : (timing : Bool) (t : Tape) (x : Listed) → AreRemarks (remarks_text timing t x)
 below timing t x =
     more_remarks
-    (more_remarks (times t x) (more_remarks (moved_remarks (sender (delivered_frame x)) (moved_from (delivered_frame x) t.places)) (unknown_remarks (unknown_source (delivered_frame x) t.places)))) (timing_remarks timing (with_slots x.told.ending x.told.bits 0 (lows_of x t.place) no_widths))
+    (more_remarks (times t x) (more_remarks (moved_remarks (sender (delivered_frame x)) (moved_from (delivered_frame x) t.places)) (unknown_remarks (unknown_source (delivered_frame x) t.places)))) (timing_remarks timing (with_slots x.reported.ending x.reported.bits 0 (lows_of x t.place) no_widths))
 
-kept_from : (timing : Bool) (t : Tape) (xs : List Listed) (end : List ℕ) → AreRemarks end → AreKept xs (told_all timing t xs ++ end)
+kept_from : (timing : Bool) (t : Tape) (xs : List Listed) (end : List ℕ) → AreRemarks end → AreKept xs (reported_all timing t xs ++ end)
 kept_from timing t [] end h = h
 kept_from timing t (x ∷ xs) end h = (
   remarks_text timing (come_to x t) x,
-  told_all timing (after x t) xs ++ end,
+  reported_all timing (after x t) xs ++ end,
   below timing (come_to x t) x,
   kept_from timing (after x t) xs end h,
-  append_assoc (line_and_remarks timing t x) (told_all timing (after x t) xs) end,
+  append_assoc (line_and_remarks timing t x) (reported_all timing (after x t) xs) end,
 )
 
 pub are_kept : (timing : Bool) (c : Captured) → AreKept (readings_of (line_of_edges c.edges) c.end) (audit_text timing c)

@@ -19,7 +19,7 @@ use Rattle.cec_opcode.specs.declared.operand.Operands.TheVariants.{Raw, Nothing,
 use Rattle.cec_opcode.specs.declared.word_set.WordSet.{WordSet}
 use Rattle.cec_opcode.specs.declared.word_set.WordSet.TheVariants.{Reason, Power, OnOff, DeviceType, StatusRequest, DeckInfo, PlayMode, DeckControl, Display, MenuRequest, MenuState, Version, UserControl}
 use Rattle.cec_text.specs.FrameText.{frame_text, header_text, is_letter, is_text_byte, opcode_text, operand_word, operand_words, operands_text, quoted_text, raw_text, spaced_word, with_both}
-use Rattle.cec_text.specs.ReadingText.{bit_digit, bits_text, ending_text, is_broadcast, is_complete, last_bit, reading_text, told_by, told_frame, told_text, verdict_by, verdict_in, verdict_text}
+use Rattle.cec_text.specs.ReadingText.{bit_digit, bits_text, ending_text, is_broadcast, is_complete, last_bit, reading_text, reported_by, reported_frame, reported_text, verdict_by, verdict_in, verdict_text}
 use Rattle.cec_audit.specs.Kept.{IsPlain}
 use Rattle.cec_audit.proofs.Plain.{plain_codes, plain_decimal, plain_hex, plain_more, plain_nibble, plain_phys}
 
@@ -215,13 +215,13 @@ plain_ending BadStart = plain_codes (codes " bad-start ") refl
 plain_ending Long = plain_codes (codes " long ") refl
 plain_ending Open = plain_codes (codes " open ") refl
 
-plain_told_frame : (o : Option (List ℕ)) → IsPlain (told_frame o)
-plain_told_frame None = tt
-plain_told_frame (Some frame) = plain_frame frame
+plain_reported_frame : (o : Option (List ℕ)) → IsPlain (reported_frame o)
+plain_reported_frame None = tt
+plain_reported_frame (Some frame) = plain_frame frame
 
-plain_told : (whole : Bool) (r : Reading) → IsPlain (told_by whole r)
-plain_told true r = plain_told_frame (frame_in r)
-plain_told false r = plain_bits_text r.bits.items
+plain_reported : (whole : Bool) (r : Reading) → IsPlain (reported_by whole r)
+plain_reported true r = plain_reported_frame (frame_in r)
+plain_reported false r = plain_bits_text r.bits.items
 
 plain_verdict_by : (to_all last : Bool) → IsPlain (verdict_by to_all last)
 plain_verdict_by true true = plain_codes (codes " ok") refl
@@ -235,9 +235,9 @@ plain_verdict false r = tt
 
 pub plain_reading : (r : Reading) → IsPlain (reading_text r)
 plain_reading r =
-    plain_more (decimal r.begin) (codes " " ++ (decimal r.at ++ (ending_text r.ending ++ (told_text r ++ (verdict_text r ++ []))))) (plain_decimal r.begin)
-    (plain_more (codes " ") (decimal r.at ++ (ending_text r.ending ++ (told_text r ++ (verdict_text r ++ [])))) (plain_codes (codes " ") refl)
-    (plain_more (decimal r.at) (ending_text r.ending ++ (told_text r ++ (verdict_text r ++ []))) (plain_decimal r.at)
-    (plain_more (ending_text r.ending) (told_text r ++ (verdict_text r ++ [])) (plain_ending r.ending)
-    (plain_more (told_text r) (verdict_text r ++ []) (plain_told (is_complete r.ending) r)
+    plain_more (decimal r.begin) (codes " " ++ (decimal r.at ++ (ending_text r.ending ++ (reported_text r ++ (verdict_text r ++ []))))) (plain_decimal r.begin)
+    (plain_more (codes " ") (decimal r.at ++ (ending_text r.ending ++ (reported_text r ++ (verdict_text r ++ [])))) (plain_codes (codes " ") refl)
+    (plain_more (decimal r.at) (ending_text r.ending ++ (reported_text r ++ (verdict_text r ++ []))) (plain_decimal r.at)
+    (plain_more (ending_text r.ending) (reported_text r ++ (verdict_text r ++ [])) (plain_ending r.ending)
+    (plain_more (reported_text r) (verdict_text r ++ []) (plain_reported (is_complete r.ending) r)
     (plain_more (verdict_text r) [] (plain_verdict (is_complete r.ending) r) tt)))))

@@ -4,7 +4,7 @@ use Rattle.std.specs.Io.KnownBytes.{Appends}
 use Rattle.hdmi_core.specs.declared.sink.WriteFault.{WriteFault}
 use Rattle.hdmi_core.specs.Written.{WrittenLine}
 use Rattle.hdmi_core.proofs.CutShort.{Appends-trans}
-use Rattle.hdmi_core.specs.Cut.{CutOff, WrittenText, told_count}
+use Rattle.hdmi_core.specs.Cut.{CutOff, WrittenText, reported_count}
 use Rattle.hdmi_core.proofs.Cutting.{cut_after, cut_front}
 use Rattle.cec_audit.specs.Progress.{WritesOn, WritesText, length_after, result_of}
 
@@ -23,33 +23,33 @@ pub writes_cut : (mid : Option (List ℕ)) (was : Bool) (text : List ℕ) (fault
 writes_cut mid was text fault = record { on = λ old first front w. (cut_front old mid front text fault w.0, w.1) }
 
 -- a line is written whole
-pub writes_line : (mid new : Option (List ℕ)) (was is : Bool) (line : List ℕ) (written count total : ℕ) → WrittenLine mid new was is line (Ok count) → total ≡ told_count (written + count)
+pub writes_line : (mid new : Option (List ℕ)) (was is : Bool) (line : List ℕ) (written count total : ℕ) → WrittenLine mid new was is line (Ok count) → total ≡ reported_count (written + count)
     → WritesOn mid new was is line (Ok written) (Ok total)
 writes_line mid new was is line written count total now sum = record {
   on = λ old first front w. (sum ∙ counts front w.0, Appends-trans old mid new front line w.1 now.1, now.2 ∙ w.2);
 }
   where
-    counts : (front : List ℕ) → written ≡ told_count (length front) → told_count (written + count) ≡ told_count (length (front ++ line))
+    counts : (front : List ℕ) → written ≡ reported_count (length front) → reported_count (written + count) ≡ reported_count (length (front ++ line))
     counts front e = let c = now.0 in omega (arith, e, c, length-append front line)
 
 -- a line is cut off
-pub line_cut : (mid new : Option (List ℕ)) (was is : Bool) (line : List ℕ) (written : ℕ) (inner cut : WriteFault) → WrittenLine mid new was is line (Err inner) → cut.count ≡ told_count (written + inner.count)
+pub line_cut : (mid new : Option (List ℕ)) (was is : Bool) (line : List ℕ) (written : ℕ) (inner cut : WriteFault) → WrittenLine mid new was is line (Err inner) → cut.count ≡ reported_count (written + inner.count)
     → WritesOn mid new was is line (Ok written) (Err cut)
 line_cut mid new was is line written inner cut now sum = record {
   on = λ old first front w.
       (cut_again_here old front w.0 w.1, now.2);
 }
   where
-    cut_again_here : (old : Option (List ℕ)) (front : List ℕ) → written ≡ told_count (length front) → Appends old mid front → CutOff old new (front ++ line) cut
+    cut_again_here : (old : Option (List ℕ)) (front : List ℕ) → written ≡ reported_count (length front) → Appends old mid front → CutOff old new (front ++ line) cut
     cut_again_here old front e before = subst (λ (t : List ℕ). CutOff old new t cut) (append-nil (front ++ line)) (cut_after old mid new front line [] written inner.count cut e before now.0 now.1 sum)
 
-pub writes_grown : (mid new : Option (List ℕ)) (was is : Bool) (line : List ℕ) (written : ℕ) (before after told : Result ℕ WriteFault) → before ≡ Ok written → after ≡ length_after written told → WrittenLine mid new was is line told
+pub writes_grown : (mid new : Option (List ℕ)) (was is : Bool) (line : List ℕ) (written : ℕ) (before after reported : Result ℕ WriteFault) → before ≡ Ok written → after ≡ length_after written reported → WrittenLine mid new was is line reported
     → WritesOn mid new was is line before after
-writes_grown mid new was is line written before after told b a now = rw (b, a) (by told now)
+writes_grown mid new was is line written before after reported b a now = rw (b, a) (by reported now)
   where
-    by : (told : Result ℕ WriteFault) → WrittenLine mid new was is line told → WritesOn mid new was is line (Ok written) (length_after written told)
-    by (Ok count) k = writes_line mid new was is line written count (told_count (written + count)) k refl
-    by (Err inner) k = line_cut mid new was is line written inner (record { count = told_count (written + inner.count) }) k refl
+    by : (reported : Result ℕ WriteFault) → WrittenLine mid new was is line reported → WritesOn mid new was is line (Ok written) (length_after written reported)
+    by (Ok count) k = writes_line mid new was is line written count (reported_count (written + count)) k refl
+    by (Err inner) k = line_cut mid new was is line written inner (record { count = reported_count (written + inner.count) }) k refl
 
 -- the whole of a text, and what is reported of it
 pub writes_all : (old new : Option (List ℕ)) (was is : Bool) (text : List ℕ) (after : Result ℕ WriteFault) → WrittenText old new was is text after → WritesText old new was is text (result_of after)

@@ -60,14 +60,14 @@ falls_until Open at = sum_of at 1
 falls_until _ at = at
 
 abbrev pub lows_of : Listed → EdgePosition → List Low
-lows_of x p = lows_before (falls_until x.told.ending x.told.at) p.edges
+lows_of x p = lows_before (falls_until x.reported.ending x.reported.at) p.edges
 
 -- the widths that are out of their windows: of bad starts in a row those of the first one
 abbrev pub is_folded : Series → Ending → Bool
 is_folded s ending = is_bad_start ending && nat_lt 0 s.count
 
 abbrev pub reading_misfits : Series → Listed → List Low → List ℕ
-reading_misfits s x lows = if is_folded s x.told.ending then [] else misfits_text x.told.ending x.told.bits 0 lows
+reading_misfits s x lows = if is_folded s x.reported.ending then [] else misfits_text x.reported.ending x.reported.bits 0 lows
 
 -- the low drive that may follow it
 abbrev pub drive_by : Ending → Option Low → Option ℕ
@@ -75,13 +75,13 @@ drive_by ending None = None
 drive_by ending (Some low) = low_drive ending low
 
 abbrev pub drive_of : Listed → EdgePosition → Option ℕ
-drive_of x p = drive_by x.told.ending (first_low (gone_to x.told.at p.since p.edges).edges)
+drive_of x p = drive_by x.reported.ending (first_low (gone_to x.reported.at p.since p.edges).edges)
 
 -- what there is to remark of what was before it, of its times and its blocks
 abbrev pub times_text : Tape → Listed → List ℕ
 times_text t x =
-    series_text (series_over t.series x.told.ending) ++ late_text x.begin t.waiting ++ soon_text (too_soon t.before x.told.ending x.told.bits (x.begin - t.place.since))
-    ++ reading_misfits t.series x (lows_of x t.place) ++ drive_text (drive_of x t.place) ++ failure_text (failure_of t.attempts x.told.bits)
+    series_text (series_over t.series x.reported.ending) ++ late_text x.begin t.waiting ++ soon_text (too_soon t.before x.reported.ending x.reported.bits (x.begin - t.place.since))
+    ++ reading_misfits t.series x (lows_of x t.place) ++ drive_text (drive_of x t.place) ++ failure_text (failure_of t.attempts x.reported.bits)
 
 -- of what it says
 abbrev pub frame_text : Tape → List ℕ → List ℕ
@@ -90,19 +90,19 @@ frame_text t frame = moved_text (sender frame) (moved_from frame t.places) ++ un
 -- what there is to remark, in order
 abbrev pub remarks_text : Bool → Tape → Listed → List ℕ
 remarks_text timing t x =
-    times_text t x ++ frame_text t (delivered_frame x) ++ timing_text timing (with_slots x.told.ending x.told.bits 0 (lows_of x t.place) no_widths)
+    times_text t x ++ frame_text t (delivered_frame x) ++ timing_text timing (with_slots x.reported.ending x.reported.bits 0 (lows_of x t.place) no_widths)
 
 -- what is kept of it
 abbrev pub tape_after : Listed → Tape → Tape
 tape_after x t = record {
   place = t.place;
-  before = before_of x.told.ending x.told.bits;
-  attempts = after_attempt t.attempts x.told.ending x.told.bits;
-  series = after_start t.series x.told.ending x.begin;
-  waiting = after_frame x.begin x.told.at (delivered_frame x) t.waiting;
+  before = before_of x.reported.ending x.reported.bits;
+  attempts = after_attempt t.attempts x.reported.ending x.reported.bits;
+  series = after_start t.series x.reported.ending x.begin;
+  waiting = after_frame x.begin x.reported.at (delivered_frame x) t.waiting;
   places = with_places (delivered_frame x) t.places;
-  counts = with_reading x.told.ending x.told.bits t.counts;
-  widths = with_slots x.told.ending x.told.bits 0 (lows_of x t.place) t.widths;
+  counts = with_reading x.reported.ending x.reported.bits t.counts;
+  widths = with_slots x.reported.ending x.reported.bits 0 (lows_of x t.place) t.widths;
 }
 
 -- its line, and what there is to remark
@@ -118,9 +118,9 @@ abbrev pub after_all : Tape → List Listed → Tape
 after_all t [] = t
 after_all t (x ∷ xs) = after_all (after x t) xs
 
-abbrev pub told_all : Bool → Tape → List Listed → List ℕ
-told_all timing t [] = []
-told_all timing t (x ∷ xs) = line_and_remarks timing t x ++ told_all timing (after x t) xs
+abbrev pub reported_all : Bool → Tape → List Listed → List ℕ
+reported_all timing t [] = []
+reported_all timing t (x ∷ xs) = line_and_remarks timing t x ++ reported_all timing (after x t) xs
 
 -- what there is to say of all readings up to an end: the requests that were not answered, the frames of each initiator, and
 -- the widths
@@ -130,5 +130,5 @@ summary_text end t = codes "  all readings\n" ++ late_text end t.waiting ++ coun
 -- the whole of a capture: its readings, one after another, and what there is to say of all
 abbrev pub audit_text : Bool → Captured → List ℕ
 audit_text timing c =
-    told_all timing (first_tape c.edges) (readings_of (line_of_edges c.edges) c.end)
+    reported_all timing (first_tape c.edges) (readings_of (line_of_edges c.edges) c.end)
     ++ summary_text c.end (after_all (first_tape c.edges) (readings_of (line_of_edges c.edges) c.end))

@@ -2,7 +2,7 @@
 use Rattle.std.specs.Prelude.{◌≡◌, ℕ, ◌+◌, Bool, true, List, ◌++◌, Option, Result, Ok, Err}
 use Rattle.std.specs.Io.KnownBytes.{Appends}
 use Rattle.hdmi_core.specs.declared.sink.WriteFault.{WriteFault}
-use Rattle.hdmi_core.specs.Cut.{CutOff, WrittenText, told_count}
+use Rattle.hdmi_core.specs.Cut.{CutOff, WrittenText, reported_count}
 
 -- Whatever front of a text was written so far, whole or up to a fault, that front and this text are now.
 pub record WritesOn (mid new : Option (List ℕ)) (was is : Bool) (text : List ℕ) (before after : Result ℕ WriteFault) : Type 0 where
@@ -10,8 +10,8 @@ pub record WritesOn (mid new : Option (List ℕ)) (was is : Bool) (text : List �
 
 -- the length of a text with its next line, or where that line was cut off
 abbrev pub length_after : ℕ → Result ℕ WriteFault → Result ℕ WriteFault
-length_after written (Ok count) = Ok (told_count (written + count))
-length_after written (Err fault) = Err (record { count = told_count (written + fault.count) })
+length_after written (Ok count) = Ok (reported_count (written + count))
+length_after written (Err fault) = Err (record { count = reported_count (written + fault.count) })
 
 abbrev pub result_of : Result ℕ WriteFault → Result (Unit {0}) WriteFault
 result_of (Ok n) = Ok tt

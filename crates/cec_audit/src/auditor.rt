@@ -2,7 +2,7 @@
 ghost use Rattle.std.specs.Prelude.{◌≡◌, ◌+◌, ◌≤◌, length, option_map};
 ghost use Rattle.std.specs.Option.{option_to_list};
 ghost use Rattle.cec_bits.specs.Reports.{listed_as};
-ghost use Rattle.cec_audit.specs.Audit.{after, after_all, come_to, drive_by, drive_of, falls_until, first_tape, frame_text, is_folded, lows_of, tape_after, reading_misfits, remarks_text, summary_text, tape_of, times_text, line_and_remarks, told_all};
+ghost use Rattle.cec_audit.specs.Audit.{after, after_all, come_to, drive_by, drive_of, falls_until, first_tape, frame_text, is_folded, lows_of, tape_after, reading_misfits, remarks_text, summary_text, tape_of, times_text, line_and_remarks, reported_all};
 ghost use Rattle.cec_remarks.specs.Frames.{delivered_frame};
 ghost use Rattle.cec_audit.specs.Lines.{timing_text};
 ghost use Rattle.cec_audit.specs.Progress.{WritesOn};
@@ -219,7 +219,7 @@ impl<'a> Auditor<'a> {
     }
 
     // Writes a reading's line, and what there is to remark.
-    fn tell<S: Sink>(
+    fn report<S: Sink>(
         &mut self,
         reading: &Reading,
         timing: bool,
@@ -248,12 +248,12 @@ impl<'a> Auditor<'a> {
     )
         ensures kept { tape_of self.new ≡ after_all (tape_of self.old) (option_to_list (option_map listed_as reading.now)) }
         ensures written { WritesOn (S.contents out.old) (S.contents out.new) (S.is_stuck out.old) (S.is_stuck out.new)
-            (told_all timing (tape_of self.old) (option_to_list (option_map listed_as reading.now))) progress.old.so_far progress.new.so_far }
+            (reported_all timing (tape_of self.old) (option_to_list (option_map listed_as reading.now))) progress.old.so_far progress.new.so_far }
     {
         let Some(reading) = reading else {
             return;
         };
-        self.tell(reading, timing, progress, out);
+        self.report(reading, timing, progress, out);
     }
 
     /// Writes what there is to say of all readings up to an end.

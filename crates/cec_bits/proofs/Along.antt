@@ -47,21 +47,21 @@ over_sampled e t (s ∷ ss) h o = (omega (arith, o.0), over_sampled e t ss h o.1
 -- the reading from `begin` has these slots, with these bits, and goes on with the slot that falls at e
 pub record Reached (low : Line) (begin left : ℕ) (xs : List Slot) (bits : List Bool) (e : ℕ) : Type 0 where
   pub goes : with_slots xs (read_slots low left bits e) ≡ reading_of low begin
-  pub told : filter_map (λ s. s.bit) xs ≡ bits
+  pub reported : filter_map (λ s. s.bit) xs ≡ bits
   pub over : AreOver e xs
 
 pub reached_start : (low : Line) (begin f : ℕ) → start_of low begin ≡ Ok f → Reached low begin 160 [] [] f
-reached_start low begin f h = record { goes = ap (λ s. read_start low begin s) (sym h); told = refl; over = tt }
+reached_start low begin f h = record { goes = ap (λ s. read_start low begin s) (sym h); reported = refl; over = tt }
 
 slots_assoc : (xs : List Slot) (s : Slot) (r : Read) → with_slots (xs ++ s ∷ []) r ≡ with_slots xs (read_then s r)
 slots_assoc xs s r = ap (λ (ys : List Slot). let q : Read = record { slots = ys; ending = r.ending; at = r.at; until = r.until } in q) (append_assoc xs (s ∷ []) r.slots)
 
-one_told : (o : Option Bool) → cons_option o [] ≡ option_to_list o
-one_told None = refl
-one_told (Some b) = refl
+one_reported : (o : Option Bool) → cons_option o [] ≡ option_to_list o
+one_reported None = refl
+one_reported (Some b) = refl
 
-pub told_more : (xs : List Slot) (bits : List Bool) (s : Slot) → filter_map (λ x. x.bit) xs ≡ bits → filter_map (λ x. x.bit) (xs ++ s ∷ []) ≡ bits ++ option_to_list s.bit
-told_more xs bits s h = filter_map-append (λ (x : Slot). x.bit) xs (s ∷ []) ∙ ap (λ ys. ys ++ cons_option s.bit []) h ∙ ap (λ ys. bits ++ ys) (one_told s.bit)
+pub reported_more : (xs : List Slot) (bits : List Bool) (s : Slot) → filter_map (λ x. x.bit) xs ≡ bits → filter_map (λ x. x.bit) (xs ++ s ∷ []) ≡ bits ++ option_to_list s.bit
+reported_more xs bits s h = filter_map-append (λ (x : Slot). x.bit) xs (s ∷ []) ∙ ap (λ ys. ys ++ cons_option s.bit []) h ∙ ap (λ ys. bits ++ ys) (one_reported s.bit)
 
 pub reach_next : (low : Line) (begin left : ℕ) (xs : List Slot) (bits : List Bool) (e f : ℕ) → Reached low begin (suc left) xs bits e
     → after_slot low e (last_ending bits) ≡ Next f → e + 2050 ≤ f
@@ -71,7 +71,7 @@ reach_next low begin left xs bits e f r h far = record {
   goes = slots_assoc xs slot (read_slots low left (bits ++ option_to_list (bit_sampled_at low e)) f)
       ∙ ap (λ a. with_slots xs (read_then slot (read_on (read_slots low left (bits ++ option_to_list (bit_sampled_at low e))) a))) (sym h)
       ∙ r.goes;
-  told = told_more xs bits slot r.told;
+  reported = reported_more xs bits slot r.reported;
   over = over_more f xs slot (over_later e f xs (omega arith) r.over) far;
 }
   where

@@ -10,11 +10,11 @@ use Rattle.cec_bits.specs.Reading.{first_in, next_rise, Slot, known_at, known_sl
 use Rattle.cec_bits.specs.Phase.{Standing, standing_of, standing_from, stands_from, stands_by, in_reading, at_rest}
 use Rattle.cec_bits.specs.Phase as phase
 use Rattle.cec_bits.specs.Hears.{Hears, hear_in, hears}
-use Rattle.cec_bits.specs.Kept.{running_from, running_of, runs_on, last_fall, kept_in, kept_by, kept_of, kept_before, standing_by, StandingsAreKept, told_in, told_at}
+use Rattle.cec_bits.specs.Kept.{running_from, running_of, runs_on, last_fall, kept_in, kept_by, kept_of, kept_before, standing_by, StandingsAreKept, reported_in, reported_at}
 use Rattle.cec_bits.specs.Sending.{known_bits, has_all, is_whole}
 use Rattle.cec_bits.proofs.Search.{first_in_none, first_in_some, found_first}
 use Rattle.cec_bits.proofs.Ends.{begin_by, slots_heard}
-use Rattle.cec_bits.proofs.Along.{told_more, known_waiting, ends_later, Waits, quiet_sample}
+use Rattle.cec_bits.proofs.Along.{reported_more, known_waiting, ends_later, Waits, quiet_sample}
 use Rattle.cec_bits.proofs.Stood.{ArePast, HasBegun, AtRest, AtStartLow, AtStartHigh, AtSlot, StandsIn, runs_in, Knows, step, stands_at, start_none, start_later, low_later, high_later}
 
 -- ---- the reading that runs
@@ -134,7 +134,7 @@ last_of fall [] s = refl
 last_of fall (x ∷ xs) s = last_of x.fall xs s
 
 place_by : ℕ → ℕ → ReceiverState
-place_by told slots = if told == slots then Sampled else Unsampled
+place_by reported slots = if reported == slots then Sampled else Unsampled
 
 kept_slot : (low : Line) (t begin : ℕ) (xs : List Slot) (s : Slot) → kept_in low t begin (xs ++ s ∷ []) ≡ record {
   place = place_by (length (filter_map (λ (x : Slot). x.bit) (xs ++ s ∷ []))) (length (xs ++ s ∷ []));
@@ -157,12 +157,12 @@ slot_keeps : (low : Line) (t begin fall : ℕ) (before bits : List Bool) (place 
     → KeepsSo low t (record { place = place; begin = begin; fall = fall; bits = bits })
 slot_keeps low t begin fall before bits place s w o is bits_is place_is stands_is = record {
   kept = kept_so low t begin (s.xs ++ one ∷ []) runs ∙ kept_slot low t begin s.xs one
-      ∙ ap (λ (bs : List Bool). let h : Hears = record { place = place_by (length bs) (length (s.xs ++ one ∷ [])); begin = begin; fall = fall; bits = bs } in h) told
+      ∙ ap (λ (bs : List Bool). let h : Hears = record { place = place_by (length bs) (length (s.xs ++ one ∷ [])); begin = begin; fall = fall; bits = bs } in h) reported
       ∙ ap (λ n. let h : Hears = record { place = place_by (length bits) n; begin = begin; fall = fall; bits = bits } in h) count
       ∙ ap (λ p. let h : Hears = record { place = p; begin = begin; fall = fall; bits = bits } in h) place_is;
   stands = standing_so low t begin (s.xs ++ one ∷ []) runs ∙ in_slot low begin t s.xs one
       ∙ ap (λ n. phase.InSlot n (filter_map (λ (x : Slot). x.bit) (s.xs ++ one ∷ []))) count
-      ∙ ap (λ (bs : List Bool). phase.InSlot (length before + 1) bs) told
+      ∙ ap (λ (bs : List Bool). phase.InSlot (length before + 1) bs) reported
       ∙ sym stands_is;
 }
   where
@@ -172,8 +172,8 @@ slot_keeps low t begin fall before bits place s w o is bits_is place_is stands_i
     runs : RunsSo low t begin (s.xs ++ known_slot (t + 1) (record { fall = fall; bit = bit_sampled_at low fall }) ∷ [])
     runs = slot_runs low t begin fall before s w
 
-    told : filter_map (λ (x : Slot). x.bit) (s.xs ++ known_slot (t + 1) (record { fall = fall; bit = bit_sampled_at low fall }) ∷ []) ≡ bits
-    told = told_more s.xs before (known_slot (t + 1) (record { fall = fall; bit = bit_sampled_at low fall })) s.reached.told ∙ ap (λ (x : Option Bool). before ++ option_to_list x) is ∙ bits_is
+    reported : filter_map (λ (x : Slot). x.bit) (s.xs ++ known_slot (t + 1) (record { fall = fall; bit = bit_sampled_at low fall }) ∷ []) ≡ bits
+    reported = reported_more s.xs before (known_slot (t + 1) (record { fall = fall; bit = bit_sampled_at low fall })) s.reached.reported ∙ ap (λ (x : Option Bool). before ++ option_to_list x) is ∙ bits_is
 
     count : length (s.xs ++ known_slot (t + 1) (record { fall = fall; bit = bit_sampled_at low fall }) ∷ []) ≡ length before + 1
     count = length-append s.xs (known_slot (t + 1) (record { fall = fall; bit = bit_sampled_at low fall }) ∷ []) ∙ (let x = s.count in let y : length s.xs + 1 ≡ length before + 1 = omega (arith, x) in y)
@@ -203,10 +203,10 @@ keeps_so low t Unsampled begin fall bits s =
     None (let l = s.early in ap (λ b. if b then bit_sampled_at low fall else None) (let x : nat_lt (fall + 1050) (t + 1) ≡ false = grind (arith, nat_tests) in x)) (append-nil bits)
     (ap (λ b. if b then Sampled else Unsampled) (let x : (length bits == length bits + 1) ≡ false = grind (arith, nat_tests) in x)) refl
 keeps_so low t Sampled begin fall bits s =
-    let more : length bits ≡ length s.before + 1 = ap (λ (bs : List Bool). length bs) s.told ∙ length-append s.before (not (low (fall + 1050)) ∷ []) in
+    let more : length bits ≡ length s.before + 1 = ap (λ (bs : List Bool). length bs) s.reported ∙ length-append s.before (not (low (fall + 1050)) ∷ []) in
     slot_keeps low t begin fall s.before bits Sampled s.slot (record { after = s.slot.after; quiet = s.slot.quiet; early = s.early; plain = λ ending w. let x : None ≡ Some ending = sym s.plain ∙ w in cc })
     (Some (not (low (fall + 1050)))) (let l = s.past in ap (λ b. if b then bit_sampled_at low fall else None) (let x : nat_lt (fall + 1050) (t + 1) ≡ true = grind (arith, nat_tests) in x)
-    ∙ quiet_sample low fall (λ u a b. s.slot.quiet u a (omega (arith, l)))) (sym s.told)
+    ∙ quiet_sample low fall (λ u a b. s.slot.quiet u a (omega (arith, l)))) (sym s.reported)
     (ap (λ b. if b then Sampled else Unsampled) (let x : (length bits == length s.before + 1) ≡ true = grind (arith, nat_tests) in x)) (ap (λ n. phase.InSlot n bits) more)
 
 -- ---- the line's readings and what is heard of it
@@ -238,12 +238,12 @@ runs_so low t Unsampled begin fall bits s =
 runs_so low t Sampled begin fall bits s =
     (slot_runs low t begin fall s.before s.slot (record { after = s.slot.after; quiet = s.slot.quiet; early = s.early; plain = λ ending w. let x : None ≡ Some ending = sym s.plain ∙ w in cc })).runs
 
-pub told_heard : (low : Line) (n : ℕ) → told_at low n ≡ (hear_in n (was_low low n) (low n) (hears low n)).told
+pub reported_heard : (low : Line) (n : ℕ) → reported_at low n ≡ (hear_in n (was_low low n) (low n) (hears low n)).reported
 unfolding hears
-told_heard low zero = refl
-told_heard low (suc t) =
-    ap (told_in low (suc t)) (runs_so low t (hears low (suc t)).place (hears low (suc t)).begin (hears low (suc t)).fall (hears low (suc t)).bits (heard_now low t))
-    ∙ sym (step low (suc t) (hears low (suc t)).place (hears low (suc t)).begin (hears low (suc t)).fall (hears low (suc t)).bits (stands_at low (suc t))).told
+reported_heard low zero = refl
+reported_heard low (suc t) =
+    ap (reported_in low (suc t)) (runs_so low t (hears low (suc t)).place (hears low (suc t)).begin (hears low (suc t)).fall (hears low (suc t)).bits (heard_now low t))
+    ∙ sym (step low (suc t) (hears low (suc t)).place (hears low (suc t)).begin (hears low (suc t)).fall (hears low (suc t)).bits (stands_at low (suc t))).reported
 
 -- ---- what is known of a reading that runs
 
@@ -279,7 +279,7 @@ slot_knows : (low : Line) (n begin fall : ℕ) (before bits : List Bool) → (s 
 slot_knows low n begin fall before bits s w e =
     knows_running low n begin bits (ends_later low begin s.left s.xs before fall n s.reached w)
     (ap (λ (ss : List Slot). filter_map (λ (x : Slot). x.bit) ss) (known_waiting low begin s.left s.xs before fall n s.reached w)
-    ∙ told_more s.xs before (known_slot n (record { fall = fall; bit = bit_sampled_at low fall })) s.reached.told ∙ e)
+    ∙ reported_more s.xs before (known_slot n (record { fall = fall; bit = bit_sampled_at low fall })) s.reached.reported ∙ e)
 
 pub running_knows : (low : Line) (n : ℕ) (place : ReceiverState) (begin fall : ℕ) (bits : List Bool) (b : ℕ) → StandsIn low n place begin fall bits → runs_in place begin ≡ Some b → Knows low n begin bits false false
 unfolding StandsIn
@@ -298,4 +298,4 @@ running_knows low n Unsampled begin fall bits b s e =
 running_knows low n Sampled begin fall bits b s e =
     slot_knows low n begin fall s.before bits s.slot (record { after = s.slot.after; quiet = s.slot.quiet; early = s.early; plain = λ ending w. let x : None ≡ Some ending = sym s.plain ∙ w in cc })
     (ap (λ c. s.before ++ option_to_list (if c then bit_sampled_at low fall else None)) (let l = s.past in let x : nat_lt (fall + 1050) n ≡ true = grind (arith, nat_tests) in x)
-    ∙ ap (λ (o : Option Bool). s.before ++ option_to_list o) (quiet_sample low fall (λ u a c. s.slot.quiet u a (omega (arith, s.past)))) ∙ sym s.told)
+    ∙ ap (λ (o : Option Bool). s.before ++ option_to_list o) (quiet_sample low fall (λ u a c. s.slot.quiet u a (omega (arith, s.past)))) ∙ sym s.reported)

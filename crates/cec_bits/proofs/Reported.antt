@@ -13,21 +13,21 @@ use Rattle.cec_bits.specs.declared.receiver.ReceiverState.{ReceiverState}
 use Rattle.cec_bits.specs.declared.receiver.ReceiverState.TheVariants.{Rest, StartLow, StartHigh, Unsampled, Sampled}
 use Rattle.cec_bits.specs.declared.receiver.Told.{Told}
 use Rattle.cec_bits.specs.declared.receiver.Told.TheVariants.{Nothing, Bit, Last, Ended}
-use Rattle.cec_bits.specs.Reading.{first_in, next_fall, Read, Slot, known_at, known_slot, known_slots, reading_of, read_start, read_slots, read_on, after_slot, after_fall, after_last, last_ending, sample, bit_sampled_at, start_of, bits_of, told_of}
+use Rattle.cec_bits.specs.Reading.{first_in, next_fall, Read, Slot, known_at, known_slot, known_slots, reading_of, read_start, read_slots, read_on, after_slot, after_fall, after_last, last_ending, sample, bit_sampled_at, start_of, bits_of, reported_of}
 use Rattle.cec_bits.specs.Readings.{Listed, reading_from, listed_on, readings_from, readings_of, IsFirstFall}
 use Rattle.cec_bits.specs.Ended.{has_ended, ended_by}
 use Rattle.cec_bits.specs.Hears.{Hears, Heard, hear_in, hears, wake_of}
-use Rattle.cec_bits.specs.Kept.{Sample, sample_in, told_with, told_in, told_at, kept_of, kept_before}
+use Rattle.cec_bits.specs.Kept.{Sample, sample_in, reported_with, reported_in, reported_at, kept_of, kept_before}
 use Rattle.cec_bits.specs.Sending.{known_bits}
-use Rattle.cec_bits.specs.Reports.{ends_with, running_by, ended_of, ended_before, EndingsAreTold, RunningIsKept}
+use Rattle.cec_bits.specs.Reports.{ends_with, running_by, ended_of, ended_before, EndingsAreReported, RunningIsKept}
 use Rattle.cec_bits.proofs.Search.{first_in_none, first_in_some, found_first, found_none}
 use Rattle.cec_bits.proofs.Causes.{not_over}
 use Rattle.cec_bits.proofs.Ends.{at_by, begin_by, ends_after, slots_until}
 use Rattle.cec_bits.proofs.Lists.{none_left}
-use Rattle.cec_bits.proofs.OneByOne.{same_told, keep_all}
+use Rattle.cec_bits.proofs.OneByOne.{same_reported, keep_all}
 use Rattle.cec_bits.proofs.Stood.{ArePast, past_later, past_more, HasBegun, AtRest, StandsIn, runs_in, KnowsEnd, step, stands_at, was_now}
 use Rattle.cec_bits.proofs.Following.{heard_same, calm_to, wakes_now}
-use Rattle.cec_bits.proofs.Keeping.{kept_heard, before_heard, told_heard, running_knows}
+use Rattle.cec_bits.proofs.Keeping.{kept_heard, before_heard, reported_heard, running_knows}
 
 -- ---- all bits of a reading that is over are known
 
@@ -193,7 +193,7 @@ all_past low t es to xs over h =
 same_past : (low : Line) (t from : ℕ) (es : List ℕ) (to : ℕ) → ArePast low (t + 1) from es to → map (reading_from low (t + 1)) es ≡ map (reading_from low t) es
 same_past low t from [] to h = refl
 same_past low t from (e ∷ es) to h =
-    ap (λ (x : Listed). x ∷ map (reading_from low (t + 1)) es) (same_told low t (t + 1) e (omega arith) (omega (arith, h.2)))
+    ap (λ (x : Listed). x ∷ map (reading_from low (t + 1)) es) (same_reported low t (t + 1) e (omega arith) (omega (arith, h.2)))
     ∙ ap (λ (xs : List Listed). reading_from low t e ∷ xs) (same_past low t ((reading_of low e).until + 1) es to h.3)
 
 map_more : (f : ℕ → Listed) (es : List ℕ) (e : ℕ) → map f (es ++ e ∷ []) ≡ map f es ++ f e ∷ []
@@ -239,13 +239,13 @@ running_ended low t begin bits r =
 open_now : (low : Line) (t begin : ℕ) (bits : List Bool) → Runs low (t + 1) begin bits → reading_from low t begin ≡ ends_with begin t Open bits
 open_now low t begin bits r =
     let late = r.late in
-    ap (λ b. let x : Listed = record { begin = begin; told = if b then told_of (reading_of low begin) else record { bits = filter_map (λ s. s.bit) (known_at (t + 1) (reading_of low begin)).slots; ending = Open; at = t } } in x)
+    ap (λ b. let x : Listed = record { begin = begin; reported = if b then reported_of (reading_of low begin) else record { bits = filter_map (λ s. s.bit) (known_at (t + 1) (reading_of low begin)).slots; ending = Open; at = t } } in x)
     (let x : nat_le (reading_of low begin).at t ≡ false = grind (arith, nat_tests) in x)
     ∙ ap (ends_with begin t Open) r.bits_are
 
 ended_now : (low : Line) (t begin : ℕ) (bits : List Bool) → (reading_of low begin).at ≡ t → bits_of (reading_of low begin) ≡ bits → reading_from low t begin ≡ ends_with begin t (reading_of low begin).ending bits
 ended_now low t begin bits at is =
-    ap (λ b. let x : Listed = record { begin = begin; told = if b then told_of (reading_of low begin) else record { bits = filter_map (λ s. s.bit) (known_at (t + 1) (reading_of low begin)).slots; ending = Open; at = t } } in x)
+    ap (λ b. let x : Listed = record { begin = begin; reported = if b then reported_of (reading_of low begin) else record { bits = filter_map (λ s. s.bit) (known_at (t + 1) (reading_of low begin)).slots; ending = Open; at = t } } in x)
     (let x : nat_le (reading_of low begin).at t ≡ true = grind (arith, nat_tests) in x)
     ∙ ap (λ (bs : List Bool). ends_with begin (reading_of low begin).at (reading_of low begin).ending bs) is ∙ ap (λ u. ends_with begin u (reading_of low begin).ending bits) at
 
@@ -315,9 +315,9 @@ ending_next low t begin bits all r at is =
     (ended_now low (t + 1) begin all at (sym (all_bits low begin (t + 1 + 1) (omega (arith, at))) ∙ is))
 
 -- by what was reported
-told_next : (low : Line) (t begin : ℕ) (bits : List Bool) (told : Told) → Runs low (t + 1) begin bits → told ≡ told_in low (t + 1) (Some begin) → KnowsEnd low (t + 1) begin bits told
-    → ended_by low (t + 1) ≡ ended_by low t ++ option_to_list (ended_of told (t + 1) (Some (ends_with begin (t + 1) Open bits)))
-told_next low t begin bits told r is knows = by_time ((reading_of low begin).at == t + 1) refl (sample_in (t + 1) 1 (known_at (t + 1 + 1) (reading_of low begin)).slots) told is knows
+reported_next : (low : Line) (t begin : ℕ) (bits : List Bool) (reported : Told) → Runs low (t + 1) begin bits → reported ≡ reported_in low (t + 1) (Some begin) → KnowsEnd low (t + 1) begin bits reported
+    → ended_by low (t + 1) ≡ ended_by low t ++ option_to_list (ended_of reported (t + 1) (Some (ends_with begin (t + 1) Open bits)))
+reported_next low t begin bits reported r is knows = by_time ((reading_of low begin).at == t + 1) refl (sample_in (t + 1) 1 (known_at (t + 1 + 1) (reading_of low begin)).slots) reported is knows
   where
     none : (x : Told) → ended_of x (t + 1) (Some (ends_with begin (t + 1) Open bits)) ≡ None → (reading_of low begin).at ≢ t + 1
         → ended_by low (t + 1) ≡ ended_by low t ++ option_to_list (ended_of x (t + 1) (Some (ends_with begin (t + 1) Open bits)))
@@ -325,7 +325,7 @@ told_next low t begin bits told r is knows = by_time ((reading_of low begin).at 
         going_next low t begin bits r (elim (cases_lt (t + 1) (reading_of low begin).at) [ inl lt ↦ lt | inr ge ↦ absurd (other (omega (arith, ge, r.late))) ])
         ∙ sym (append-nil (ended_by low t)) ∙ ap (λ (o : Option Listed). ended_by low t ++ option_to_list o) (sym e)
 
-    by_time : (b : Bool) → ((reading_of low begin).at == t + 1) ≡ b → (s : Option Sample) → (x : Told) → x ≡ told_with s b (reading_of low begin).ending → KnowsEnd low (t + 1) begin bits x
+    by_time : (b : Bool) → ((reading_of low begin).at == t + 1) ≡ b → (s : Option Sample) → (x : Told) → x ≡ reported_with s b (reading_of low begin).ending → KnowsEnd low (t + 1) begin bits x
         → ended_by low (t + 1) ≡ ended_by low t ++ option_to_list (ended_of x (t + 1) (Some (ends_with begin (t + 1) Open bits)))
     by_time true h None (Ended ending) e k =
         let same : ending ≡ (reading_of low begin).ending = cc in
@@ -349,54 +349,54 @@ told_next low t begin bits told r is knows = by_time ((reading_of low begin).at 
     by_time false h (Some s) (Ended ending) e k = cc
 
 -- by the place
-place_next : (low : Line) (t : ℕ) (place : ReceiverState) (begin fall : ℕ) (bits : List Bool) (told : Told) → StandsIn low (t + 1) place begin fall bits → told ≡ told_in low (t + 1) (runs_in place begin)
-    → KnowsEnd low (t + 1) begin bits told
-    → ended_by low (t + 1) ≡ ended_by low t ++ option_to_list (ended_of told (t + 1) (running_by (record { place = place; begin = begin; fall = fall; bits = bits }) (t + 1)))
+place_next : (low : Line) (t : ℕ) (place : ReceiverState) (begin fall : ℕ) (bits : List Bool) (reported : Told) → StandsIn low (t + 1) place begin fall bits → reported ≡ reported_in low (t + 1) (runs_in place begin)
+    → KnowsEnd low (t + 1) begin bits reported
+    → ended_by low (t + 1) ≡ ended_by low t ++ option_to_list (ended_of reported (t + 1) (running_by (record { place = place; begin = begin; fall = fall; bits = bits }) (t + 1)))
 unfolding StandsIn
-place_next low t Rest begin fall bits told s e k =
+place_next low t Rest begin fall bits reported s e k =
     rest_next low t begin fall bits s ∙ sym (append-nil (ended_by low t)) ∙ ap (λ (o : Option Listed). ended_by low t ++ option_to_list o) (sym (ap (λ x. ended_of x (t + 1) None) e))
-place_next low t StartLow begin fall bits told s e k = told_next low t begin bits told (runs low (t + 1) StartLow begin fall bits s refl) e k
-place_next low t StartHigh begin fall bits told s e k = told_next low t begin bits told (runs low (t + 1) StartHigh begin fall bits s refl) e k
-place_next low t Unsampled begin fall bits told s e k = told_next low t begin bits told (runs low (t + 1) Unsampled begin fall bits s refl) e k
-place_next low t Sampled begin fall bits told s e k = told_next low t begin bits told (runs low (t + 1) Sampled begin fall bits s refl) e k
+place_next low t StartLow begin fall bits reported s e k = reported_next low t begin bits reported (runs low (t + 1) StartLow begin fall bits s refl) e k
+place_next low t StartHigh begin fall bits reported s e k = reported_next low t begin bits reported (runs low (t + 1) StartHigh begin fall bits s refl) e k
+place_next low t Unsampled begin fall bits reported s e k = reported_next low t begin bits reported (runs low (t + 1) Unsampled begin fall bits s refl) e k
+place_next low t Sampled begin fall bits reported s e k = reported_next low t begin bits reported (runs low (t + 1) Sampled begin fall bits s refl) e k
 
-told_now : (low : Line) (t : ℕ) → ended_by low (t + 1) ≡ ended_by low t
-    ++ option_to_list (ended_of (hear_in (t + 1) (was_low low (t + 1)) (low (t + 1)) (hears low (suc t))).told (t + 1) (running_by (hears low (suc t)) (t + 1)))
-told_now low t =
+reported_now : (low : Line) (t : ℕ) → ended_by low (t + 1) ≡ ended_by low t
+    ++ option_to_list (ended_of (hear_in (t + 1) (was_low low (t + 1)) (low (t + 1)) (hears low (suc t))).reported (t + 1) (running_by (hears low (suc t)) (t + 1)))
+reported_now low t =
     let s = step low (t + 1) (hears low (suc t)).place (hears low (suc t)).begin (hears low (suc t)).fall (hears low (suc t)).bits (heard_now low t) in
     place_next low t (hears low (suc t)).place (hears low (suc t)).begin (hears low (suc t)).fall (hears low (suc t)).bits
-    (hear_in (t + 1) (was_low low (t + 1)) (low (t + 1)) (hears low (suc t))).told (heard_now low t) s.told s.ends
+    (hear_in (t + 1) (was_low low (t + 1)) (low (t + 1)) (hears low (suc t))).reported (heard_now low t) s.reported s.ends
 
 none_first : (low : Line) → ended_by low 0 ≡ []
 none_first low = ended_past low 0 [] 0 refl (λ e f l. omega (arith, ends_after low e, l))
 
-pub endings_are_told : EndingsAreTold
-endings_are_told low zero = none_first low
-endings_are_told low (suc t) =
+pub endings_are_reported : EndingsAreReported
+endings_are_reported low zero = none_first low
+endings_are_reported low (suc t) =
     let same : t + 1 ≡ suc t = omega arith in
     let h : ended_by low (suc t) ≡ ended_by low t
-    ++ option_to_list (ended_of (hear_in (suc t) (was_low low (suc t)) (low (suc t)) (hears low (suc t))).told (suc t) (running_by (hears low (suc t)) (suc t))) =
-    subst (λ m. ended_by low m ≡ ended_by low t ++ option_to_list (ended_of (hear_in m (was_low low m) (low m) (hears low (suc t))).told m (running_by (hears low (suc t)) m))) same (told_now low t) in
-    h ∙ ap (λ x. ended_by low t ++ option_to_list (ended_of x (suc t) (running_by (hears low (suc t)) (suc t)))) (sym (told_heard low (suc t)))
-    ∙ ap (λ x. ended_by low t ++ option_to_list (ended_of (told_at low (suc t)) (suc t) (running_by x (suc t)))) (sym (kept_heard low t))
+    ++ option_to_list (ended_of (hear_in (suc t) (was_low low (suc t)) (low (suc t)) (hears low (suc t))).reported (suc t) (running_by (hears low (suc t)) (suc t))) =
+    subst (λ m. ended_by low m ≡ ended_by low t ++ option_to_list (ended_of (hear_in m (was_low low m) (low m) (hears low (suc t))).reported m (running_by (hears low (suc t)) m))) same (reported_now low t) in
+    h ∙ ap (λ x. ended_by low t ++ option_to_list (ended_of x (suc t) (running_by (hears low (suc t)) (suc t)))) (sym (reported_heard low (suc t)))
+    ∙ ap (λ x. ended_by low t ++ option_to_list (ended_of (reported_at low (suc t)) (suc t) (running_by x (suc t)))) (sym (kept_heard low t))
 
 -- ---- up to the next edge or wake
 
-told_calm : (low : Line) (n v : ℕ) (b : Bool) → n ≤ v → was_low low n ≡ b → ((u : ℕ) → n ≤ u → u < v + 1 → low u ≡ b) → ((w : ℕ) → wake_of (hears low n) ≡ Some w → v < w) → told_at low v ≡ Nothing
-told_calm low n v b l w q k =
+reported_calm : (low : Line) (n v : ℕ) (b : Bool) → n ≤ v → was_low low n ≡ b → ((u : ℕ) → n ≤ u → u < v + 1 → low u ≡ b) → ((w : ℕ) → wake_of (hears low n) ≡ Some w → v < w) → reported_at low v ≡ Nothing
+reported_calm low n v b l w q k =
     let c = calm_to low n v b l w (λ u a d. q u a (omega (arith, d))) (λ x e. let y = k x e in omega (arith, y)) in
-    told_heard low v
-    ∙ ap (λ x. (hear_in v x (low v) (hears low v)).told) c.1 ∙ ap (λ x. (hear_in v b x (hears low v)).told) (q v l (omega arith))
-    ∙ ap (λ (x : Heard). x.told) (heard_same low v b (λ x e. k x (ap wake_of (sym c.0) ∙ e)))
+    reported_heard low v
+    ∙ ap (λ x. (hear_in v x (low v) (hears low v)).reported) c.1 ∙ ap (λ x. (hear_in v b x (hears low v)).reported) (q v l (omega arith))
+    ∙ ap (λ (x : Heard). x.reported) (heard_same low v b (λ x e. k x (ap wake_of (sym c.0) ∙ e)))
 
 ended_calm : (low : Line) (n m : ℕ) (b : Bool) → was_low low n ≡ b → ((u : ℕ) → n ≤ u → u < n + m → low u ≡ b) → ((w : ℕ) → wake_of (hears low n) ≡ Some w → n + m ≤ w)
     → ended_before low (n + m) ≡ ended_before low n
 ended_calm low n zero b w q k = ap (ended_before low) (let x : n + zero ≡ n = omega arith in x)
 ended_calm low n (suc m) b w q k =
     ap (ended_before low) (let x : n + suc m ≡ suc (n + m) = omega arith in x)
-    ∙ endings_are_told low (n + m)
+    ∙ endings_are_reported low (n + m)
     ∙ ap (λ x. ended_before low (n + m) ++ option_to_list (ended_of x (n + m) (running_by (kept_before low (n + m)) (n + m))))
-    (told_calm low n (n + m) b (omega arith) w (λ u a c. q u a (omega (arith, c))) (λ v e. let x = k v e in omega (arith, x)))
+    (reported_calm low n (n + m) b (omega arith) w (λ u a c. q u a (omega (arith, c))) (λ v e. let x = k v e in omega (arith, x)))
     ∙ append-nil (ended_before low (n + m))
     ∙ ended_calm low n m b w (λ u a c. q u a (omega (arith, c))) (λ v e. let x = k v e in omega (arith, x))
 
@@ -431,7 +431,7 @@ wake_after low h n w is e =
 pub record Hearing (low : Line) (h : Hears) (t : ℕ) (was is : Bool) : Type 0 where
   pub kept : kept_before low (t + 1) ≡ (hear_in t was is h).state
   pub level : was_low low (t + 1) ≡ is
-  pub ended : ended_before low (t + 1) ≡ ended_before low t ++ option_to_list (ended_of (hear_in t was is h).told t (running_by h t))
+  pub ended : ended_before low (t + 1) ≡ ended_before low t ++ option_to_list (ended_of (hear_in t was is h).reported t (running_by h t))
 
 pub hearing : (low : Line) (h : Hears) (t : ℕ) (was is : Bool) → h ≡ kept_before low t → was_low low t ≡ was → low t ≡ is → Hearing low h t was is
 unfolding hears
@@ -443,9 +443,9 @@ hearing low h t was is keeps before now =
     record {
       kept = ap (kept_before low) next ∙ kept_heard low t ∙ ap (λ (x : Heard). x.state) made;
       level = was_now low t ∙ now;
-      ended = ap (ended_before low) next ∙ endings_are_told low t
-          ∙ ap (λ x. ended_before low t ++ option_to_list (ended_of x t (running_by (kept_before low t) t))) (told_heard low t ∙ ap (λ (x : Heard). x.told) made)
-          ∙ ap (λ k. ended_before low t ++ option_to_list (ended_of (hear_in t was is h).told t (running_by k t))) (sym keeps);
+      ended = ap (ended_before low) next ∙ endings_are_reported low t
+          ∙ ap (λ x. ended_before low t ++ option_to_list (ended_of x t (running_by (kept_before low t) t))) (reported_heard low t ∙ ap (λ (x : Heard). x.reported) made)
+          ∙ ap (λ k. ended_before low t ++ option_to_list (ended_of (hear_in t was is h).reported t (running_by k t))) (sym keeps);
     }
 
 -- ---- what has ended stays
@@ -454,10 +454,10 @@ ended_on : (low : Line) (t m : ℕ) → (zs : List Listed) × (ended_by low (t +
 ended_on low t zero = ([], ap (ended_by low) (let x : t + zero ≡ t = omega arith in x) ∙ sym (append-nil (ended_by low t)))
 ended_on low t (suc m) =
     let before = ended_on low t m in
-    let told : List Listed = option_to_list (ended_of (told_at low (suc (t + m))) (suc (t + m)) (running_by (kept_before low (suc (t + m))) (suc (t + m)))) in (
-      before.0 ++ told,
-      ap (ended_by low) (let x : t + suc m ≡ suc (t + m) = omega arith in x) ∙ endings_are_told low (suc (t + m)) ∙ ap (λ (xs : List Listed). xs ++ told) before.1
-          ∙ append_assoc (ended_by low t) before.0 told,
+    let reported : List Listed = option_to_list (ended_of (reported_at low (suc (t + m))) (suc (t + m)) (running_by (kept_before low (suc (t + m))) (suc (t + m)))) in (
+      before.0 ++ reported,
+      ap (ended_by low) (let x : t + suc m ≡ suc (t + m) = omega arith in x) ∙ endings_are_reported low (suc (t + m)) ∙ ap (λ (xs : List Listed). xs ++ reported) before.1
+          ∙ append_assoc (ended_by low t) before.0 reported,
     )
 
 -- the readings that have ended by an instant are the first of those of a later one

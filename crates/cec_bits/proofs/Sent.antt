@@ -18,14 +18,14 @@ use Rattle.cec_bits.specs.declared.receiver.Told.TheVariants.{Nothing, Bit, Last
 use Rattle.cec_bits.specs.declared.sender.SenderState.{SenderState}
 use Rattle.cec_bits.specs.declared.sender.SenderState.TheVariants.{Sending, Out, Stopped}
 use Rattle.cec_bits.specs.Reading.{Known, known_at, reading_of, last_ending}
-use Rattle.cec_bits.specs.Hears.{Hears, Heard, told_so, rest, starts, sample_as, hear_at, hear_in, hears}
-use Rattle.cec_bits.specs.Kept.{running_of, told_at}
-use Rattle.cec_bits.specs.Sends.{sent_in, takes_all, is_out_there, after_told}
+use Rattle.cec_bits.specs.Hears.{Hears, Heard, reported_so, rest, starts, sample_as, hear_at, hear_in, hears}
+use Rattle.cec_bits.specs.Kept.{running_of, reported_at}
+use Rattle.cec_bits.specs.Sends.{sent_in, takes_all, is_out_there, after_reported}
 use Rattle.cec_bits.specs.Sending.{bit_read, destination, is_whole, is_out_by, out_by, out_slot, state_by, state_before, may_pull, goes_on, sender_pulls, IsBefore, StopsAt}
 use Rattle.cec_bits.proofs.Causes.{nothing, known_start_low}
 use Rattle.cec_bits.proofs.Ends.{until_by, ends_after}
 use Rattle.cec_bits.proofs.Stood.{StandsIn, runs_in, Knows, KnowsEnd, step, stands_at}
-use Rattle.cec_bits.proofs.Keeping.{running_knows, runs_so, told_heard}
+use Rattle.cec_bits.proofs.Keeping.{running_knows, runs_so, reported_heard}
 
 -- ---- the first slot that tells it to stop, with one more bit
 
@@ -186,15 +186,15 @@ GoesBy begin bits h (Last value ending) = Unit {0}
 GoesBy begin bits h (Ended ending) = Unit {0}
 
 goes_by : (n : ℕ) (place : ReceiverState) (begin fall : ℕ) (bits : List Bool) (falls rises is_low : Bool) (b : ℕ) → runs_in place begin ≡ Some b
-    → GoesBy begin bits (hear_at place n falls rises is_low (record { place = place; begin = begin; fall = fall; bits = bits })).state (hear_at place n falls rises is_low (record { place = place; begin = begin; fall = fall; bits = bits })).told
+    → GoesBy begin bits (hear_at place n falls rises is_low (record { place = place; begin = begin; fall = fall; bits = bits })).state (hear_at place n falls rises is_low (record { place = place; begin = begin; fall = fall; bits = bits })).reported
 goes_by n Rest begin fall bits falls rises is_low b e = cc
 goes_by n StartLow begin fall bits falls rises is_low b e = by_tests (nat_lt (begin + 3900) n) rises (nat_lt n (begin + 3500))
   where
     go : Bool → Bool → Bool → Heard
-    go x y z = if x then told_so (starts n falls) (Ended BadStart)
-        else if y then (if z then told_so rest (Ended BadStart) else told_so (record { place = StartHigh; begin = begin; fall = fall; bits = bits }) Nothing) else told_so (record { place = StartLow; begin = begin; fall = fall; bits = bits }) Nothing
+    go x y z = if x then reported_so (starts n falls) (Ended BadStart)
+        else if y then (if z then reported_so rest (Ended BadStart) else reported_so (record { place = StartHigh; begin = begin; fall = fall; bits = bits }) Nothing) else reported_so (record { place = StartLow; begin = begin; fall = fall; bits = bits }) Nothing
 
-    by_tests : (x y z : Bool) → GoesBy begin bits (go x y z).state (go x y z).told
+    by_tests : (x y z : Bool) → GoesBy begin bits (go x y z).state (go x y z).reported
     by_tests true y z = tt
     by_tests false true true = tt
     by_tests false true false = (refl, refl)
@@ -202,10 +202,10 @@ goes_by n StartLow begin fall bits falls rises is_low b e = by_tests (nat_lt (be
 goes_by n StartHigh begin fall bits falls rises is_low b e = by_tests (nat_lt (begin + 4700) n) falls (nat_lt n (begin + 4300))
   where
     go : Bool → Bool → Bool → Heard
-    go x y z = if x then told_so (starts n falls) (Ended BadStart)
-        else if y then (if z then told_so rest (Ended BadStart) else told_so (record { place = Unsampled; begin = begin; fall = n; bits = bits }) Nothing) else told_so (record { place = StartHigh; begin = begin; fall = fall; bits = bits }) Nothing
+    go x y z = if x then reported_so (starts n falls) (Ended BadStart)
+        else if y then (if z then reported_so rest (Ended BadStart) else reported_so (record { place = Unsampled; begin = begin; fall = n; bits = bits }) Nothing) else reported_so (record { place = StartHigh; begin = begin; fall = fall; bits = bits }) Nothing
 
-    by_tests : (x y z : Bool) → GoesBy begin bits (go x y z).state (go x y z).told
+    by_tests : (x y z : Bool) → GoesBy begin bits (go x y z).state (go x y z).reported
     by_tests true y z = tt
     by_tests false true true = tt
     by_tests false true false = (refl, refl)
@@ -216,10 +216,10 @@ goes_by n Unsampled begin fall bits falls rises is_low b e = by_tests falls (n =
     h = record { place = Unsampled; begin = begin; fall = fall; bits = bits }
 
     go : Bool → Bool → Option Ending → Heard
-    go x y last = if x then told_so rest (Ended Short) else if y then sample_as last (not is_low) (record { place = Unsampled; begin = begin; fall = fall; bits = bits })
-        else told_so (record { place = Unsampled; begin = begin; fall = fall; bits = bits }) Nothing
+    go x y last = if x then reported_so rest (Ended Short) else if y then sample_as last (not is_low) (record { place = Unsampled; begin = begin; fall = fall; bits = bits })
+        else reported_so (record { place = Unsampled; begin = begin; fall = fall; bits = bits }) Nothing
 
-    by_tests : (x y : Bool) (last : Option Ending) → GoesBy begin bits (go x y last).state (go x y last).told
+    by_tests : (x y : Bool) (last : Option Ending) → GoesBy begin bits (go x y last).state (go x y last).reported
     by_tests true y last = tt
     by_tests false true None = (refl, refl, refl)
     by_tests false true (Some ending) = tt
@@ -227,10 +227,10 @@ goes_by n Unsampled begin fall bits falls rises is_low b e = by_tests falls (n =
 goes_by n Sampled begin fall bits falls rises is_low b e = by_tests (nat_lt (fall + 2750) n) falls (nat_lt n (fall + 2050))
   where
     go : Bool → Bool → Bool → Heard
-    go x y z = if x then told_so (starts n falls) (Ended Silent)
-        else if y then (if z then told_so rest (Ended Short) else told_so (record { place = Unsampled; begin = begin; fall = n; bits = bits }) Nothing) else told_so (record { place = Sampled; begin = begin; fall = fall; bits = bits }) Nothing
+    go x y z = if x then reported_so (starts n falls) (Ended Silent)
+        else if y then (if z then reported_so rest (Ended Short) else reported_so (record { place = Unsampled; begin = begin; fall = n; bits = bits }) Nothing) else reported_so (record { place = Sampled; begin = begin; fall = fall; bits = bits }) Nothing
 
-    by_tests : (x y z : Bool) → GoesBy begin bits (go x y z).state (go x y z).told
+    by_tests : (x y z : Bool) → GoesBy begin bits (go x y z).state (go x y z).reported
     by_tests true y z = tt
     by_tests false true true = tt
     by_tests false true false = (refl, refl)
@@ -248,7 +248,7 @@ is_it : {X : Type 0} (a b : X) → Some a ≡ Some b → a ≡ b
 is_it a b e = cc
 
 -- with a bit
-with_bit : (bits sent : List Bool) (v : Bool) (slot : ℕ) → slot ≡ length bits + 1 → state_by (out_by (bits ++ v ∷ []) false sent) false ≡ after_told sent (state_by (out_by bits false sent) false) (Bit slot v)
+with_bit : (bits sent : List Bool) (v : Bool) (slot : ℕ) → slot ≡ length bits + 1 → state_by (out_by (bits ++ v ∷ []) false sent) false ≡ after_reported sent (state_by (out_by bits false sent) false) (Bit slot v)
 unfolding first_or
 with_bit bits sent v slot e = ap (λ o. state_by o false) (out_by_more bits v false sent) ∙ by_out (out_by bits false sent) refl
   where
@@ -257,47 +257,47 @@ with_bit bits sent v slot e = ap (λ o. state_by o false) (out_by_more bits v fa
     by_test false m s = refl
 
     by_out : (o : Option ℕ) → out_by bits false sent ≡ o
-        → state_by (first_or o (if is_out_by (bits ++ v ∷ []) false sent (1 + length bits) then Some (1 + length bits) else None)) false ≡ after_told sent (state_by o false) (Bit slot v)
+        → state_by (first_or o (if is_out_by (bits ++ v ∷ []) false sent (1 + length bits) then Some (1 + length bits) else None)) false ≡ after_reported sent (state_by o false) (Bit slot v)
     by_out (Some m) h = refl
     by_out None h =
         let s : 1 + length bits ≡ slot = omega (arith, e) in
         by_test (is_out_by (bits ++ v ∷ []) false sent (1 + length bits)) slot s
         ∙ ap (λ b. let x : SenderState = if b then Out slot else Sending in x) (out_now bits sent v h ∙ ap (λ m. is_out_there sent m v) s)
 
-with_last : (bits sent : List Bool) (v : Bool) (ending : Ending) → length bits % 10 ≡ 9 → state_by (out_by (bits ++ v ∷ []) true sent) true ≡ after_told sent (state_by (out_by bits false sent) false) (Last v ending)
+with_last : (bits sent : List Bool) (v : Bool) (ending : Ending) → length bits % 10 ≡ 9 → state_by (out_by (bits ++ v ∷ []) true sent) true ≡ after_reported sent (state_by (out_by bits false sent) false) (Last v ending)
 unfolding first_or
 with_last bits sent v ending h =
     ap (λ o. state_by o true) (out_by_more bits v true sent)
     ∙ ap (λ b. state_by (first_or (out_by bits false sent) (if b then Some (1 + length bits) else None)) true) (out_last bits sent v h)
     ∙ by_out (out_by bits false sent)
   where
-    by_out : (o : Option ℕ) → state_by (first_or o None) true ≡ after_told sent (state_by o false) (Last v ending)
+    by_out : (o : Option ℕ) → state_by (first_or o None) true ≡ after_reported sent (state_by o false) (Last v ending)
     by_out (Some m) = refl
     by_out None = refl
 
-with_end : (o : Option ℕ) (sent : List Bool) (ending : Ending) → state_by o true ≡ after_told sent (state_by o false) (Ended ending)
+with_end : (o : Option ℕ) (sent : List Bool) (ending : Ending) → state_by o true ≡ after_reported sent (state_by o false) (Ended ending)
 with_end (Some m) sent ending = refl
 with_end None sent ending = refl
 
-with_none : (o : Option ℕ) (sent : List Bool) → state_by o false ≡ after_told sent (state_by o false) Nothing
+with_none : (o : Option ℕ) (sent : List Bool) → state_by o false ≡ after_reported sent (state_by o false) Nothing
 with_none (Some m) sent = refl
 with_none None sent = refl
 
 -- what n reports of the reading that runs
-tell_state : (low : Line) (n begin : ℕ) (bits : List Bool) (sent : List Bool) (h : Hears) (told : Told) → Knows low n begin bits false false → KnowsEnd low n begin bits told → GoesBy begin bits h told
+report_state : (low : Line) (n begin : ℕ) (bits : List Bool) (sent : List Bool) (h : Hears) (reported : Told) → Knows low n begin bits false false → KnowsEnd low n begin bits reported → GoesBy begin bits h reported
     → ((bs : List Bool) → runs_in h.place h.begin ≡ Some begin → h.bits ≡ bs → Knows low (n + 1) begin bs false false)
-    → state_before low begin sent (n + 1) ≡ after_told sent (state_before low begin sent n) told
-tell_state low n begin bits sent h Nothing k e g later =
-    state_known low (n + 1) begin bits false false sent (later bits g.0 g.1) ∙ with_none (out_by bits false sent) sent ∙ ap (λ s. after_told sent s Nothing) (sym (state_known low n begin bits false false sent k))
-tell_state low n begin bits sent h (Bit slot v) k e g later =
+    → state_before low begin sent (n + 1) ≡ after_reported sent (state_before low begin sent n) reported
+report_state low n begin bits sent h Nothing k e g later =
+    state_known low (n + 1) begin bits false false sent (later bits g.0 g.1) ∙ with_none (out_by bits false sent) sent ∙ ap (λ s. after_reported sent s Nothing) (sym (state_known low n begin bits false false sent k))
+report_state low n begin bits sent h (Bit slot v) k e g later =
     state_known low (n + 1) begin (bits ++ v ∷ []) false false sent (later (bits ++ v ∷ []) g.0 g.1) ∙ with_bit bits sent v slot g.2
-    ∙ ap (λ s. after_told sent s (Bit slot v)) (sym (state_known low n begin bits false false sent k))
-tell_state low n begin bits sent h (Last v ending) k e g later =
+    ∙ ap (λ s. after_reported sent s (Bit slot v)) (sym (state_known low n begin bits false false sent k))
+report_state low n begin bits sent h (Last v ending) k e g later =
     state_known low (n + 1) begin (bits ++ v ∷ []) true true sent e.0 ∙ with_last bits sent v ending e.1
-    ∙ ap (λ s. after_told sent s (Last v ending)) (sym (state_known low n begin bits false false sent k))
-tell_state low n begin bits sent h (Ended ending) k e g later =
+    ∙ ap (λ s. after_reported sent s (Last v ending)) (sym (state_known low n begin bits false false sent k))
+report_state low n begin bits sent h (Ended ending) k e g later =
     state_known low (n + 1) begin bits false true sent e ∙ with_end (out_by bits false sent) sent ending
-    ∙ ap (λ s. after_told sent s (Ended ending)) (sym (state_known low n begin bits false false sent k))
+    ∙ ap (λ s. after_reported sent s (Ended ending)) (sym (state_known low n begin bits false false sent k))
 
 begin_is : (place : ReceiverState) (begin b : ℕ) → runs_in place begin ≡ Some b → begin ≡ b
 begin_is Rest begin b e = cc
@@ -310,52 +310,52 @@ knows_of : (low : Line) (n : ℕ) (h : Hears) (b : ℕ) (bs : List Bool) → Sta
 knows_of low n h b bs s r q =
     subst (λ (x : List Bool). Knows low n b x false false) q (subst (λ x. Knows low n x h.bits false false) (begin_is h.place h.begin b r) (running_knows low n h.place h.begin h.fall h.bits b s r))
 
-tell_at : (low : Line) (n : ℕ) (place : ReceiverState) (begin fall : ℕ) (bits : List Bool) (b : ℕ) (sent : List Bool) → StandsIn low n place begin fall bits → 1 ≤ n → runs_in place begin ≡ Some b
+report_at : (low : Line) (n : ℕ) (place : ReceiverState) (begin fall : ℕ) (bits : List Bool) (b : ℕ) (sent : List Bool) → StandsIn low n place begin fall bits → 1 ≤ n → runs_in place begin ≡ Some b
     → (o : Heard) → hear_in n (was_low low n) (low n) (record { place = place; begin = begin; fall = fall; bits = bits }) ≡ o
-    → state_before low b sent (n + 1) ≡ after_told sent (state_before low b sent n) o.told
-tell_at low n place begin fall bits b sent s l e o is =
+    → state_before low b sent (n + 1) ≡ after_reported sent (state_before low b sent n) o.reported
+report_at low n place begin fall bits b sent s l e o is =
     let same : begin ≡ b = begin_is place begin b e in
     let t = step low n place begin fall bits s in
-    subst (λ x. state_before low x sent (n + 1) ≡ after_told sent (state_before low x sent n) o.told) same
-    (subst (λ (x : Heard). state_before low begin sent (n + 1) ≡ after_told sent (state_before low begin sent n) x.told) is
-    (tell_state low n begin bits sent (hear_in n (was_low low n) (low n) (record { place = place; begin = begin; fall = fall; bits = bits })).state
-    (hear_in n (was_low low n) (low n) (record { place = place; begin = begin; fall = fall; bits = bits })).told
+    subst (λ x. state_before low x sent (n + 1) ≡ after_reported sent (state_before low x sent n) o.reported) same
+    (subst (λ (x : Heard). state_before low begin sent (n + 1) ≡ after_reported sent (state_before low begin sent n) x.reported) is
+    (report_state low n begin bits sent (hear_in n (was_low low n) (low n) (record { place = place; begin = begin; fall = fall; bits = bits })).state
+    (hear_in n (was_low low n) (low n) (record { place = place; begin = begin; fall = fall; bits = bits })).reported
     (running_knows low n place begin fall bits begin s (e ∙ ap (λ (x : ℕ). Some x) (sym same)))
     t.ends (goes_by n place begin fall bits (low n && not (was_low low n)) (not (low n) && was_low low n) (low n) b e)
     (λ bs r q. knows_of low (n + 1) (hear_in n (was_low low n) (low n) (record { place = place; begin = begin; fall = fall; bits = bits })).state begin bs t.stands r q)))
 
-pub tells_state : (low : Line) (n b : ℕ) (sent : List Bool) → 1 ≤ n → running_of low (n - 1) ≡ Some b → state_before low b sent (n + 1) ≡ after_told sent (state_before low b sent n) (told_at low n)
-tells_state low n b sent l r =
+pub reports_state : (low : Line) (n b : ℕ) (sent : List Bool) → 1 ≤ n → running_of low (n - 1) ≡ Some b → state_before low b sent (n + 1) ≡ after_reported sent (state_before low b sent n) (reported_at low n)
+reports_state low n b sent l r =
     let h = hears low n in
     let same : n - 1 + 1 ≡ n = omega arith in
     let runs : running_of low (n - 1) ≡ runs_in h.place h.begin = runs_so low (n - 1) h.place h.begin h.fall h.bits (subst (λ m. StandsIn low m h.place h.begin h.fall h.bits) (sym same) (stands_at low n)) in
-    tell_at low n h.place h.begin h.fall h.bits b sent (stands_at low n) l (sym runs ∙ r) (hear_in n (was_low low n) (low n) h) refl
-    ∙ ap (after_told sent (state_before low b sent n)) (sym (told_heard low n))
+    report_at low n h.place h.begin h.fall h.bits b sent (stands_at low n) l (sym runs ∙ r) (hear_in n (was_low low n) (low n) h) refl
+    ∙ ap (after_reported sent (state_before low b sent n)) (sym (reported_heard low n))
 
 -- ---- a sender that is told nothing, and then something
 
-pub stays_same : (sent : List Bool) (state : SenderState) → after_told sent state Nothing ≡ state
+pub stays_same : (sent : List Bool) (state : SenderState) → after_reported sent state Nothing ≡ state
 stays_same sent Sending = refl
 stays_same sent (Out n) = refl
 stays_same sent Stopped = refl
 
 quiet_state : (low : Line) (b before m : ℕ) (sent : List Bool) → 1 ≤ before → ((u : ℕ) → before ≤ u → u < before + m → running_of low (u - 1) ≡ Some b)
-    → ((u : ℕ) → before ≤ u → u < before + m → told_at low u ≡ Nothing) → state_before low b sent (before + m) ≡ state_before low b sent before
+    → ((u : ℕ) → before ≤ u → u < before + m → reported_at low u ≡ Nothing) → state_before low b sent (before + m) ≡ state_before low b sent before
 quiet_state low b before zero sent l r q = ap (state_before low b sent) (let x : before + zero ≡ before = omega arith in x)
 quiet_state low b before (suc m) sent l r q =
     ap (state_before low b sent) (let x : before + suc m ≡ before + m + 1 = omega arith in x)
-    ∙ tells_state low (before + m) b sent (omega arith) (r (before + m) (omega arith) (omega arith))
-    ∙ ap (after_told sent (state_before low b sent (before + m))) (q (before + m) (omega arith) (omega arith))
+    ∙ reports_state low (before + m) b sent (omega arith) (r (before + m) (omega arith) (omega arith))
+    ∙ ap (after_reported sent (state_before low b sent (before + m))) (q (before + m) (omega arith) (omega arith))
     ∙ stays_same sent (state_before low b sent (before + m))
     ∙ quiet_state low b before m sent l (λ u a c. r u a (omega arith)) (λ u a c. q u a (omega arith))
 
-pub hears_state : (low : Line) (b before t : ℕ) (sent : List Bool) (old new : SenderState) (told : Told) → 1 ≤ before → before ≤ t → ((u : ℕ) → before ≤ u → u ≤ t → running_of low (u - 1) ≡ Some b)
-    → ((u : ℕ) → before ≤ u → u < t → told_at low u ≡ Nothing) → told ≡ told_at low t → old ≡ state_before low b sent before → new ≡ after_told sent old told → new ≡ state_before low b sent (t + 1)
-hears_state low b before t sent old new told one l r q e o n =
+pub hears_state : (low : Line) (b before t : ℕ) (sent : List Bool) (old new : SenderState) (reported : Told) → 1 ≤ before → before ≤ t → ((u : ℕ) → before ≤ u → u ≤ t → running_of low (u - 1) ≡ Some b)
+    → ((u : ℕ) → before ≤ u → u < t → reported_at low u ≡ Nothing) → reported ≡ reported_at low t → old ≡ state_before low b sent before → new ≡ after_reported sent old reported → new ≡ state_before low b sent (t + 1)
+hears_state low b before t sent old new reported one l r q e o n =
     let same : before + (t - before) ≡ t = omega arith in
     let quiet : state_before low b sent t ≡ state_before low b sent before =
     ap (state_before low b sent) (sym same) ∙ quiet_state low b before (t - before) sent one (λ u a c. r u a (omega (arith, c, l))) (λ u a c. q u a (omega (arith, c, l))) in
-    n ∙ ap (λ s. after_told sent s told) (o ∙ sym quiet) ∙ ap (after_told sent (state_before low b sent t)) e ∙ sym (tells_state low t b sent (omega arith) (r t l (omega arith)))
+    n ∙ ap (λ s. after_reported sent s reported) (o ∙ sym quiet) ∙ ap (after_reported sent (state_before low b sent t)) e ∙ sym (reports_state low t b sent (omega arith) (r t l (omega arith)))
 
 -- it stopped before then
 pub stopped_by : (old new : SenderState) (old_last last before t : ℕ) → StopsAt old old_last t new last → IsBefore old old_last before → before ≤ t → IsBefore new last (t + 1)

@@ -15,13 +15,13 @@ use Rattle.cec_bits.specs.declared.receiver.Told.{Told}
 use Rattle.cec_bits.specs.declared.receiver.Told.TheVariants.{Nothing, Bit, Last, Ended}
 use Rattle.cec_bits.specs.Reading.{next_fall, next_rise, Read, Slot, End, known_at, known_slot, reading_of, read_start, after_slot, after_fall, after_last, last_ending, last_heard, bit_sampled_at, start_of, start_rise, start_fall}
 use Rattle.cec_bits.specs.Readings.{IsFirstFall}
-use Rattle.cec_bits.specs.Hears.{Hears, Heard, told_so, rest, starts, hear_start_low, hear_start_high, hear_unsampled, hear_sampled, sample_as, hear_in, hears}
+use Rattle.cec_bits.specs.Hears.{Hears, Heard, reported_so, rest, starts, hear_start_low, hear_start_high, hear_unsampled, hear_sampled, sample_as, hear_in, hears}
 use Rattle.cec_bits.specs.Sending.{known_bits, has_all, is_whole}
-use Rattle.cec_bits.specs.Kept.{Sample, sample_of, sample_in, told_with, told_in}
+use Rattle.cec_bits.specs.Kept.{Sample, sample_of, sample_in, reported_with, reported_in}
 use Rattle.cec_bits.proofs.Search.{first_in_none, first_in_some, found_first}
 use Rattle.cec_bits.proofs.Causes.{start_risen, late_read, IsPlain, last_plain, not_over, nothing}
 use Rattle.cec_bits.proofs.Ends.{slots_until}
-use Rattle.cec_bits.proofs.Along.{AreOver, Reached, reached_start, reach_next, Waits, quiet_sample, next_here, next_none, ends_so, last_full, told_more, known_waiting, known_ending, ends_later}
+use Rattle.cec_bits.proofs.Along.{AreOver, Reached, reached_start, reach_next, Waits, quiet_sample, next_here, next_none, ends_so, last_full, reported_more, known_waiting, known_ending, ends_later}
 
 -- ---- the readings that are over before n
 
@@ -99,7 +99,7 @@ pub record AtUnsampled (low : Line) (n begin fall : ℕ) (bits : List Bool) : Ty
 pub record AtSampled (low : Line) (n begin fall : ℕ) (bits : List Bool) : Type 0 where
   pub before : List Bool
   pub slot : AtSlot low n begin fall before
-  pub told : bits ≡ before ++ not (low (fall + 1050)) ∷ []
+  pub reported : bits ≡ before ++ not (low (fall + 1050)) ∷ []
   pub plain : last_ending before ≡ None
   pub past : fall + 1050 < n
   pub early : n ≤ fall + 2751
@@ -132,8 +132,8 @@ KnowsEnd low n begin bits (Ended ending) = Knows low (n + 1) begin bits false tr
 -- with microsecond n it stands so, and that microsecond told what the reading told
 pub record Steps (low : Line) (n : ℕ) (place : ReceiverState) (begin : ℕ) (bits : List Bool) (o : Heard) : Type 0 where
   pub stands : StandsIn low (n + 1) o.state.place o.state.begin o.state.fall o.state.bits
-  pub told : o.told ≡ told_in low n (runs_in place begin)
-  pub ends : KnowsEnd low n begin bits o.told
+  pub reported : o.reported ≡ reported_in low n (runs_in place begin)
+  pub ends : KnowsEnd low n begin bits o.reported
 
 -- ---- at rest
 
@@ -207,19 +207,19 @@ same_test : (a b : ℕ) → a ≡ b → (a == b) ≡ true
 same_test a b e = grind (arith, nat_tests)
 
 -- a reading that ends with n, in no slot that is sampled then
-ended_told : (low : Line) (n begin : ℕ) (ending : Ending) → (reading_of low begin).at ≡ n → (reading_of low begin).ending ≡ ending → sample_in n 1 (known_at (n + 1) (reading_of low begin)).slots ≡ None
-    → Ended ending ≡ told_in low n (Some begin)
-ended_told low n begin ending at kind none =
-    sym (ap (λ s. told_with s ((reading_of low begin).at == n) (reading_of low begin).ending) none
-    ∙ ap (λ b. told_with None b (reading_of low begin).ending) (let x : ((reading_of low begin).at == n) ≡ true = grind (arith, nat_tests) in x)
-    ∙ ap (λ e. told_with None true e) kind)
+ended_reported : (low : Line) (n begin : ℕ) (ending : Ending) → (reading_of low begin).at ≡ n → (reading_of low begin).ending ≡ ending → sample_in n 1 (known_at (n + 1) (reading_of low begin)).slots ≡ None
+    → Ended ending ≡ reported_in low n (Some begin)
+ended_reported low n begin ending at kind none =
+    sym (ap (λ s. reported_with s ((reading_of low begin).at == n) (reading_of low begin).ending) none
+    ∙ ap (λ b. reported_with None b (reading_of low begin).ending) (let x : ((reading_of low begin).at == n) ≡ true = grind (arith, nat_tests) in x)
+    ∙ ap (λ e. reported_with None true e) kind)
 
 -- a reading that goes on after n
-going_told : (low : Line) (n begin : ℕ) (s : Option Sample) (told : Told) → n < (reading_of low begin).at → sample_in n 1 (known_at (n + 1) (reading_of low begin)).slots ≡ s
-    → told ≡ told_with s false (reading_of low begin).ending → told ≡ told_in low n (Some begin)
-going_told low n begin s told late is told_is =
-    told_is ∙ sym (ap (λ x. told_with x ((reading_of low begin).at == n) (reading_of low begin).ending) is
-    ∙ ap (λ b. told_with s b (reading_of low begin).ending) (let x : ((reading_of low begin).at == n) ≡ false = grind (arith, nat_tests) in x))
+going_reported : (low : Line) (n begin : ℕ) (s : Option Sample) (reported : Told) → n < (reading_of low begin).at → sample_in n 1 (known_at (n + 1) (reading_of low begin)).slots ≡ s
+    → reported ≡ reported_with s false (reading_of low begin).ending → reported ≡ reported_in low n (Some begin)
+going_reported low n begin s reported late is reported_is =
+    reported_is ∙ sym (ap (λ x. reported_with x ((reading_of low begin).at == n) (reading_of low begin).ending) is
+    ∙ ap (λ b. reported_with s b (reading_of low begin).ending) (let x : ((reading_of low begin).at == n) ≡ false = grind (arith, nat_tests) in x))
 
 -- slots that are over are not sampled at n
 sample_past : (e n k : ℕ) (xs ys : List Slot) → AreOver e xs → e ≤ n → sample_in n k (xs ++ ys) ≡ sample_in n (k + length xs) ys
@@ -251,11 +251,11 @@ start_later low begin n (Ok f) h k = let x = h f refl in omega (arith, x, not_ov
 
 -- a bad start that is reported with n
 bad_start : (low : Line) (n begin until : ℕ) → start_of low begin ≡ Err n → min n (begin + 4700) ≡ until
-    → ((reading_of low begin).at ≡ n) × ((reading_of low begin).until ≡ until) × (Ended BadStart ≡ told_in low n (Some begin)) × Knows low (n + 1) begin [] false true
+    → ((reading_of low begin).at ≡ n) × ((reading_of low begin).until ≡ until) × (Ended BadStart ≡ reported_in low n (Some begin)) × Knows low (n + 1) begin [] false true
 bad_start low n begin until h m = (
   ap (λ (r : Read). r.at) reads,
   ap (λ (r : Read). r.until) reads ∙ m,
-  ended_told low n begin BadStart (ap (λ (r : Read). r.at) reads) (ap (λ (r : Read). r.ending) reads) (ap (λ (r : Read). sample_in n 1 (known_at (n + 1) r).slots) reads),
+  ended_reported low n begin BadStart (ap (λ (r : Read). r.at) reads) (ap (λ (r : Read). r.ending) reads) (ap (λ (r : Read). sample_in n 1 (known_at (n + 1) r).slots) reads),
   record {
     bits_are = ap (λ (r : Read). known_bits (known_at (n + 1) r)) reads;
     whole_is = ap (λ (r : Read). is_whole (known_at (n + 1) r).ended) reads ∙ none_whole (nat_lt (min n (begin + 4700)) (n + 1));
@@ -323,9 +323,9 @@ high_later low begin rise n found late q l =
         by_time true = (λ g e. cc, λ at e. let x : f ≡ at = cc in omega (arith, x, past))
         by_time false = (λ g e. let x : f ≡ g = cc in omega (arith, x, past), λ at e. cc)
 
-start_going : (low : Line) (n begin : ℕ) → ((f : ℕ) → start_of low begin ≡ Ok f → n < f) × ((at : ℕ) → start_of low begin ≡ Err at → n < at) → Nothing ≡ told_in low n (Some begin)
+start_going : (low : Line) (n begin : ℕ) → ((f : ℕ) → start_of low begin ≡ Ok f → n < f) × ((at : ℕ) → start_of low begin ≡ Err at → n < at) → Nothing ≡ reported_in low n (Some begin)
 start_going low n begin d =
-    going_told low n begin None Nothing (start_later low begin n (start_of low begin) d.0 d.1) (ap (sample_in n 1) (start_none low begin n (start_of low begin) d.0)) refl
+    going_reported low n begin None Nothing (start_later low begin n (start_of low begin) d.0 d.1) (ap (sample_in n 1) (start_none low begin n (start_of low begin) d.0)) refl
 
 bad_end : (low : Line) (n begin : ℕ) (bits : List Bool) → bits ≡ [] → Knows low (n + 1) begin [] false true → Knows low (n + 1) begin bits false true
 bad_end low n begin bits e k = subst (λ (bs : List Bool). Knows low (n + 1) begin bs false true) (sym e) k
@@ -349,10 +349,10 @@ low_step low n begin fall bits s = by_late (nat_lt (begin + 3900) n) refl
     quiet_to e u l m = elim (cases_lt u n) [ inl lt ↦ s.quiet u l lt | inr ge ↦ let same : u ≡ n = omega arith in rw same e ]
 
     by_soon : n ≤ begin + 3900 → is_rise low n ≡ true → (b : Bool) → nat_lt n (begin + 3500) ≡ b
-        → Steps low n StartLow begin bits (if b then told_so rest (Ended BadStart) else told_so (record { place = StartHigh; begin = begin; fall = fall; bits = bits }) Nothing)
+        → Steps low n StartLow begin bits (if b then reported_so rest (Ended BadStart) else reported_so (record { place = StartHigh; begin = begin; fall = fall; bits = bits }) Nothing)
     by_soon l e true k =
         let d = bad_start low n begin n (ap (start_rise low begin) (risen e l) ∙ ap (λ b. if b then Err n else start_fall begin (next_fall low n (begin + 4700 - n))) k) (omega arith) in
-        record { stands = rests_so low n begin n s.begun d.0 d.1; told = d.2; ends = bad_end low n begin bits s.no_bits d.3 }
+        record { stands = rests_so low n begin n s.begun d.0 d.1; reported = d.2; ends = bad_end low n begin bits s.no_bits d.3 }
     by_soon l e false k =
         let late : begin + 3500 ≤ n = grind (arith, nat_tests) in
         record {
@@ -368,11 +368,11 @@ low_step low n begin fall bits s = by_late (nat_lt (begin + 3900) n) refl
             quiet = λ u a b. absurd (omega arith);
             early = omega arith;
           };
-          told = start_going low n begin (high_later low begin n n (risen e l) late (λ u a b. absurd (omega arith)) (omega arith));
+          reported = start_going low n begin (high_later low begin n n (risen e l) late (λ u a b. absurd (omega arith)) (omega arith));
           ends = tt;
         }
 
-    stay : low n ≡ true → is_rise low n ≡ false → n ≤ begin + 3900 → Steps low n StartLow begin bits (told_so h Nothing)
+    stay : low n ≡ true → is_rise low n ≡ false → n ≤ begin + 3900 → Steps low n StartLow begin bits (reported_so h Nothing)
     stay now e l = record {
       stands = record {
         begun = begun_later low n begin s.begun;
@@ -382,7 +382,7 @@ low_step low n begin fall bits s = by_late (nat_lt (begin + 3900) n) refl
         early = omega arith;
         still = was_now low n ∙ now;
       };
-      told = start_going low n begin (low_later low begin n (quiet_to e) l (next_rise low begin 3900) refl);
+      reported = start_going low n begin (low_later low begin n (quiet_to e) l (next_rise low begin 3900) refl);
       ends = tt;
     }
 
@@ -394,13 +394,13 @@ low_step low n begin fall bits s = by_late (nat_lt (begin + 3900) n) refl
         by_low false k = cc
 
     by_rise : n ≤ begin + 3900 → (r : Bool) → is_rise low n ≡ r
-        → Steps low n StartLow begin bits (if r then (if nat_lt n (begin + 3500) then told_so rest (Ended BadStart) else told_so (record { place = StartHigh; begin = begin; fall = fall; bits = bits }) Nothing) else told_so h Nothing)
+        → Steps low n StartLow begin bits (if r then (if nat_lt n (begin + 3500) then reported_so rest (Ended BadStart) else reported_so (record { place = StartHigh; begin = begin; fall = fall; bits = bits }) Nothing) else reported_so h Nothing)
     by_rise l true e = by_soon l e (nat_lt n (begin + 3500)) refl
     by_rise l false e = stay (low_now e) e l
 
     by_late : (b : Bool) → nat_lt (begin + 3900) n ≡ b
-        → Steps low n StartLow begin bits (if b then told_so (starts n (is_fall low n)) (Ended BadStart)
-        else if is_rise low n then (if nat_lt n (begin + 3500) then told_so rest (Ended BadStart) else told_so (record { place = StartHigh; begin = begin; fall = fall; bits = bits }) Nothing) else told_so h Nothing)
+        → Steps low n StartLow begin bits (if b then reported_so (starts n (is_fall low n)) (Ended BadStart)
+        else if is_rise low n then (if nat_lt n (begin + 3500) then reported_so rest (Ended BadStart) else reported_so (record { place = StartHigh; begin = begin; fall = fall; bits = bits }) Nothing) else reported_so h Nothing)
     by_late true k =
         let l : begin + 3900 < n = grind (arith, nat_tests) in
         let at : begin + 3901 ≡ n = omega (arith, l, s.early) in
@@ -408,7 +408,7 @@ low_step low n begin fall bits s = by_late (nat_lt (begin + 3900) n) refl
         let falls : is_fall low n ≡ false = ap (λ w. low n && not w) s.still ∙ and_no (low n) in
         record {
           stands = subst (λ b. StandsIn low (n + 1) (starts n b).place (starts n b).begin (starts n b).fall (starts n b).bits) (sym falls) (rests_so low n begin n s.begun d.0 d.1);
-          told = d.2;
+          reported = d.2;
           ends = bad_end low n begin bits s.no_bits d.3;
         }
       where
@@ -436,10 +436,10 @@ high_step low n begin fall bits s = by_late (nat_lt (begin + 4700) n) refl
     quiet_to e u l m = elim (cases_lt u n) [ inl lt ↦ s.quiet u l lt | inr ge ↦ let same : u ≡ n = omega arith in rw same e ]
 
     by_soon : n ≤ begin + 4700 → is_fall low n ≡ true → (b : Bool) → nat_lt n (begin + 4300) ≡ b
-        → Steps low n StartHigh begin bits (if b then told_so rest (Ended BadStart) else told_so (record { place = Unsampled; begin = begin; fall = n; bits = bits }) Nothing)
+        → Steps low n StartHigh begin bits (if b then reported_so rest (Ended BadStart) else reported_so (record { place = Unsampled; begin = begin; fall = n; bits = bits }) Nothing)
     by_soon l e true k =
         let d = bad_start low n begin n (start e l ∙ ap (λ b. let r : Result ℕ ℕ = if b then Err n else Ok n in r) k) (omega arith) in
-        record { stands = rests_so low n begin n s.begun d.0 d.1; told = d.2; ends = bad_end low n begin bits s.no_bits d.3 }
+        record { stands = rests_so low n begin n s.begun d.0 d.1; reported = d.2; ends = bad_end low n begin bits s.no_bits d.3 }
     by_soon l e false k =
         let reached : Reached low begin 160 [] bits n = subst (λ (bs : List Bool). Reached low begin 160 [] bs n) (sym s.no_bits) (reached_start low begin n (start e l ∙ ap (λ b. let r : Result ℕ ℕ = if b then Err n else Ok n in r) k)) in
         let none : length bits ≡ 0 = ap (λ (bs : List Bool). length bs) s.no_bits in
@@ -458,13 +458,13 @@ high_step low n begin fall bits s = by_late (nat_lt (begin + 4700) n) refl
             };
             early = omega arith;
           };
-          told = going_told low n begin None Nothing (let x = ends_later low begin 159 [] bits n (n + 1) reached waits in omega (arith, x))
+          reported = going_reported low n begin None Nothing (let x = ends_later low begin 159 [] bits n (n + 1) reached waits in omega (arith, x))
               (ap (sample_in n 1) (known_waiting low begin 159 [] bits n (n + 1) reached waits) ∙ sample_slot low n n [] tt (omega arith)
               ∙ ap (λ b. if b then sample_of 1 (bit_sampled_at low n) else None) (let x : (n + 1050 == n) ≡ false = grind (arith, nat_tests) in x)) refl;
           ends = tt;
         }
 
-    stay : n ≤ begin + 4700 → is_fall low n ≡ false → Steps low n StartHigh begin bits (told_so h Nothing)
+    stay : n ≤ begin + 4700 → is_fall low n ≡ false → Steps low n StartHigh begin bits (reported_so h Nothing)
     stay l e = record {
       stands = record {
         begun = begun_later low n begin s.begun;
@@ -478,41 +478,41 @@ high_step low n begin fall bits s = by_late (nat_lt (begin + 4700) n) refl
         quiet = quiet_to e;
         early = omega arith;
       };
-      told = start_going low n begin (high_later low begin s.rise n s.found s.late (quiet_to e) l);
+      reported = start_going low n begin (high_later low begin s.rise n s.found s.late (quiet_to e) l);
       ends = tt;
     }
 
     by_fall : n ≤ begin + 4700 → (f : Bool) → is_fall low n ≡ f
-        → Steps low n StartHigh begin bits (if f then (if nat_lt n (begin + 4300) then told_so rest (Ended BadStart) else told_so (record { place = Unsampled; begin = begin; fall = n; bits = bits }) Nothing) else told_so h Nothing)
+        → Steps low n StartHigh begin bits (if f then (if nat_lt n (begin + 4300) then reported_so rest (Ended BadStart) else reported_so (record { place = Unsampled; begin = begin; fall = n; bits = bits }) Nothing) else reported_so h Nothing)
     by_fall l true e = by_soon l e (nat_lt n (begin + 4300)) refl
     by_fall l false e = stay l e
 
     by_late : (b : Bool) → nat_lt (begin + 4700) n ≡ b
-        → Steps low n StartHigh begin bits (if b then told_so (starts n (is_fall low n)) (Ended BadStart)
-        else if is_fall low n then (if nat_lt n (begin + 4300) then told_so rest (Ended BadStart) else told_so (record { place = Unsampled; begin = begin; fall = n; bits = bits }) Nothing) else told_so h Nothing)
+        → Steps low n StartHigh begin bits (if b then reported_so (starts n (is_fall low n)) (Ended BadStart)
+        else if is_fall low n then (if nat_lt n (begin + 4300) then reported_so rest (Ended BadStart) else reported_so (record { place = Unsampled; begin = begin; fall = n; bits = bits }) Nothing) else reported_so h Nothing)
     by_late true k =
         let l : begin + 4700 < n = grind (arith, nat_tests) in
         let at : begin + 4701 ≡ n = omega (arith, l, s.early) in
         let d = bad_start low n begin (begin + 4700) (start_risen low begin s.rise s.found s.late
         ∙ ap (start_fall begin) (first_in_none (is_fall low) (s.rise + 1) (begin + 4700 - s.rise) (λ u a b. s.quiet u (omega arith) (omega (arith, at, s.near, a, b)))) ∙ ap (λ m. let r : Result ℕ ℕ = Err m in r) at) (omega (arith, at)) in
-        record { stands = late_rest low n begin s.begun d.0 (omega (arith, d.1, at)); told = d.2; ends = bad_end low n begin bits s.no_bits d.3 }
+        record { stands = late_rest low n begin s.begun d.0 (omega (arith, d.1, at)); reported = d.2; ends = bad_end low n begin bits s.no_bits d.3 }
     by_late false k = by_fall (let l : n ≤ begin + 4700 = grind (arith, nat_tests) in l) (is_fall low n) refl
 
 -- ---- in a slot
 
 -- the reading ends with n in this slot
 slot_ends : (low : Line) (n begin fall : ℕ) (before : List Bool) → (s : AtSlot low n begin fall before) → (ending : Ending) → after_slot low fall (last_ending before) ≡ Ends ending n
-    → (sample : Option Sample) → (if fall + 1050 == n then sample_of (1 + length s.xs) (bit_sampled_at low fall) else None) ≡ sample → (told : Told) → told_with sample true ending ≡ told
-    → ((reading_of low begin).at ≡ n) × ((reading_of low begin).until ≡ last_heard ending n) × (told ≡ told_in low n (Some begin))
+    → (sample : Option Sample) → (if fall + 1050 == n then sample_of (1 + length s.xs) (bit_sampled_at low fall) else None) ≡ sample → (reported : Told) → reported_with sample true ending ≡ reported
+    → ((reading_of low begin).at ≡ n) × ((reading_of low begin).until ≡ last_heard ending n) × (reported ≡ reported_in low n (Some begin))
     × Knows low (n + 1) begin (before ++ option_to_list (if nat_lt (fall + 1050) (n + 1) then bit_sampled_at low fall else None)) (has_all ending) true
-slot_ends low n begin fall before s ending a sample is told kind = (
+slot_ends low n begin fall before s ending a sample is reported kind = (
   at,
   ap (λ (r : Read). r.until) reads,
-  sym (ap (λ x. told_with x ((reading_of low begin).at == n) (reading_of low begin).ending) here
-      ∙ ap (λ b. told_with sample b (reading_of low begin).ending) (same_test (reading_of low begin).at n at)
-      ∙ ap (λ (r : Read). told_with sample true r.ending) reads ∙ kind),
+  sym (ap (λ x. reported_with x ((reading_of low begin).at == n) (reading_of low begin).ending) here
+      ∙ ap (λ b. reported_with sample b (reading_of low begin).ending) (same_test (reading_of low begin).at n at)
+      ∙ ap (λ (r : Read). reported_with sample true r.ending) reads ∙ kind),
   record {
-    bits_are = ap (λ (ss : List Slot). filter_map (λ (x : Slot). x.bit) ss) slots ∙ told_more s.xs before (known_slot (n + 1) (record { fall = fall; bit = bit_sampled_at low fall })) s.reached.told;
+    bits_are = ap (λ (ss : List Slot). filter_map (λ (x : Slot). x.bit) ss) slots ∙ reported_more s.xs before (known_slot (n + 1) (record { fall = fall; bit = bit_sampled_at low fall })) s.reached.reported;
     whole_is = ap (λ (r : Read). is_whole (known_at (n + 1) r).ended) reads
         ∙ ap (λ b. let o : Option End = if b then Some (record { ending = ending; at = n; until = last_heard ending n }) else None in is_whole o) (heard_by_then ending);
     over_is = ap (λ m. nat_lt m (n + 1)) at ∙ (let x : nat_lt n (n + 1) ≡ true = grind (arith, nat_tests) in x);
@@ -545,10 +545,10 @@ slot_ends low n begin fall before s ending a sample is told kind = (
 
 -- the slot goes on after n
 slot_going : (low : Line) (n begin fall left : ℕ) (xs : List Slot) (before : List Bool) → Reached low begin (suc left) xs before fall → fall ≤ n → Waits low fall (n + 1) (last_ending before)
-    → (sample : Option Sample) → (if fall + 1050 == n then sample_of (1 + length xs) (bit_sampled_at low fall) else None) ≡ sample → (told : Told)
-    → ((ending : Ending) → told ≡ told_with sample false ending) → told ≡ told_in low n (Some begin)
-slot_going low n begin fall left xs before r l w sample is told kind =
-    going_told low n begin sample told (let x = ends_later low begin left xs before fall (n + 1) r w in omega (arith, x))
+    → (sample : Option Sample) → (if fall + 1050 == n then sample_of (1 + length xs) (bit_sampled_at low fall) else None) ≡ sample → (reported : Told)
+    → ((ending : Ending) → reported ≡ reported_with sample false ending) → reported ≡ reported_in low n (Some begin)
+slot_going low n begin fall left xs before r l w sample is reported kind =
+    going_reported low n begin sample reported (let x = ends_later low begin left xs before fall (n + 1) r w in omega (arith, x))
     (ap (sample_in n 1) (known_waiting low begin left xs before fall (n + 1) r w) ∙ sample_slot low n fall xs r.over l ∙ is) (kind (reading_of low begin).ending)
 
 not_now : (e n k : ℕ) (o : Option Bool) → (e + 1050 == n) ≡ false → (if e + 1050 == n then sample_of k o else None) ≡ None
@@ -603,11 +603,11 @@ unsampled_step low n begin fall bits s = by_fall (is_fall low n) refl
     slot : AtSlot low n begin fall bits
     slot = s.slot
 
-    breaks : is_fall low n ≡ true → Steps low n Unsampled begin bits (told_so rest (Ended Short))
+    breaks : is_fall low n ≡ true → Steps low n Unsampled begin bits (reported_so rest (Ended Short))
     breaks f =
         let d = slot_ends low n begin fall bits slot Short (early_fall low n fall (last_ending bits) slot.quiet slot.after s.early f) None
         (no_sample (fall + 1050 == n) (1 + length slot.xs) (bit_sampled_at low fall) (ap (sample_at low fall) (next_here low fall n 1050 slot.quiet slot.after s.early f))) (Ended Short) refl in
-        record { stands = rests_so low n begin n slot.begun d.0 d.1; told = d.2; ends = knows_so low n begin _ bits false (unsampled_bits (ap (sample_at low fall) (next_here low fall n 1050 slot.quiet slot.after s.early f)) (nat_lt (fall + 1050) (n + 1))) d.3 }
+        record { stands = rests_so low n begin n slot.begun d.0 d.1; reported = d.2; ends = knows_so low n begin _ bits false (unsampled_bits (ap (sample_at low fall) (next_here low fall n 1050 slot.quiet slot.after s.early f)) (nat_lt (fall + 1050) (n + 1))) d.3 }
       where
         unsampled_bits : bit_sampled_at low fall ≡ None → (b : Bool) → bits ++ option_to_list (if b then bit_sampled_at low fall else None) ≡ bits
         unsampled_bits e true = ap (λ (o : Option Bool). bits ++ option_to_list o) e ∙ append-nil bits
@@ -617,10 +617,10 @@ unsampled_step low n begin fall bits s = by_fall (is_fall low n) refl
         sample_at low e None = Some (not (low (e + 1050)))
         sample_at low e (Some f) = None
 
-    goes : is_fall low n ≡ false → (fall + 1050 == n) ≡ false → n < fall + 1050 → Steps low n Unsampled begin bits (told_so h Nothing)
+    goes : is_fall low n ≡ false → (fall + 1050 == n) ≡ false → n < fall + 1050 → Steps low n Unsampled begin bits (reported_so h Nothing)
     goes f other l = record {
       stands = record { slot = slot_later low n begin fall bits slot f; early = omega arith };
-      told = slot_going low n begin fall slot.left slot.xs bits slot.reached (let x = slot.after in omega (arith, x))
+      reported = slot_going low n begin fall slot.left slot.xs bits slot.reached (let x = slot.after in omega (arith, x))
           (record { after = omega (arith, slot.after); quiet = quiet_more low fall n slot.quiet f; early = omega arith; plain = λ ending w. omega arith })
           None (not_now fall n (1 + length slot.xs) (bit_sampled_at low fall) other) Nothing (λ ending. refl);
       ends = tt;
@@ -640,12 +640,12 @@ unsampled_step low n begin fall bits s = by_fall (is_fall low n) refl
       stands = record {
         before = bits;
         slot = slot_later low n begin fall bits slot f;
-        told = ap (λ m. bits ++ not (low m) ∷ []) (sym e);
+        reported = ap (λ m. bits ++ not (low m) ∷ []) (sym e);
         plain = k;
         past = omega (arith, e);
         early = omega (arith, e);
       };
-      told = slot_going low n begin fall slot.left slot.xs bits slot.reached (omega (arith, e))
+      reported = slot_going low n begin fall slot.left slot.xs bits slot.reached (omega (arith, e))
           (record { after = omega (arith, e); quiet = quiet_more low fall n slot.quiet f; early = omega (arith, e); plain = λ ending w. let x : None ≡ Some ending = sym k ∙ w in cc })
           (Some (record { slot = length bits + 1; value = not (low n) })) (at_now e f) (Bit (length bits + 1) (not (low n))) (λ ending. refl);
       ends = tt;
@@ -654,19 +654,19 @@ unsampled_step low n begin fall bits s = by_fall (is_fall low n) refl
         let d = slot_ends low n begin fall bits slot ending
         (ap (after_slot low fall) k ∙ ap (after_last fall ending) (next_none low fall (n + 1) 1050 (quiet_more low fall n slot.quiet f) (omega (arith, e))) ∙ ap (λ m. let a : After = Ends ending m in a) e)
         (Some (record { slot = length bits + 1; value = not (low n) })) (at_now e f) (Last (not (low n)) ending) refl in
-        record { stands = rests_so low n begin n slot.begun d.0 (d.1 ∙ subst IsPlain k (last_plain bits) n); told = d.2; ends = (subst (λ b. Knows low (n + 1) begin (bits ++ not (low n) ∷ []) b true) (last_has bits ending k).0 (knows_so low n begin _ (bits ++ not (low n) ∷ []) (has_all ending) sampled_bits d.3), (last_has bits ending k).1) }
+        record { stands = rests_so low n begin n slot.begun d.0 (d.1 ∙ subst IsPlain k (last_plain bits) n); reported = d.2; ends = (subst (λ b. Knows low (n + 1) begin (bits ++ not (low n) ∷ []) b true) (last_has bits ending k).0 (knows_so low n begin _ (bits ++ not (low n) ∷ []) (has_all ending) sampled_bits d.3), (last_has bits ending k).1) }
       where
         sampled_bits : bits ++ option_to_list (if nat_lt (fall + 1050) (n + 1) then bit_sampled_at low fall else None) ≡ bits ++ not (low n) ∷ []
         sampled_bits = ap (λ b. bits ++ option_to_list (if b then bit_sampled_at low fall else None)) (let x : nat_lt (fall + 1050) (n + 1) ≡ true = grind (arith, nat_tests) in x)
             ∙ ap (λ (o : Option Bool). bits ++ option_to_list o) (value e f)
 
-    by_time : is_fall low n ≡ false → (b : Bool) → (n == fall + 1050) ≡ b → Steps low n Unsampled begin bits (if b then sample_as (last_ending bits) (not (low n)) h else told_so h Nothing)
+    by_time : is_fall low n ≡ false → (b : Bool) → (n == fall + 1050) ≡ b → Steps low n Unsampled begin bits (if b then sample_as (last_ending bits) (not (low n)) h else reported_so h Nothing)
     by_time f true k = by_last (let x : fall + 1050 ≡ n = grind (arith, nat_tests) in x) f (last_ending bits) refl
     by_time f false k =
         let l = s.early in let x : n < fall + 1050 = grind (arith, nat_tests) in
         goes f (let y : (fall + 1050 == n) ≡ false = grind (arith, nat_tests) in y) x
 
-    by_fall : (b : Bool) → is_fall low n ≡ b → Steps low n Unsampled begin bits (if b then told_so rest (Ended Short) else if n == fall + 1050 then sample_as (last_ending bits) (not (low n)) h else told_so h Nothing)
+    by_fall : (b : Bool) → is_fall low n ≡ b → Steps low n Unsampled begin bits (if b then reported_so rest (Ended Short) else if n == fall + 1050 then sample_as (last_ending bits) (not (low n)) h else reported_so h Nothing)
     by_fall true f = breaks f
     by_fall false f = by_time f (n == fall + 1050) refl
 
@@ -694,16 +694,16 @@ sampled_step low n begin fall bits s = by_late (nat_lt (fall + 2750) n) refl
     bit = quiet_sample low fall (λ u a b. slot.quiet u a (omega (arith, s.past)))
 
     before2 : s.before ++ option_to_list (bit_sampled_at low fall) ≡ bits
-    before2 = ap (λ (o : Option Bool). s.before ++ option_to_list o) bit ∙ sym s.told
+    before2 = ap (λ (o : Option Bool). s.before ++ option_to_list o) bit ∙ sym s.reported
 
     sampled_bits : s.before ++ option_to_list (if nat_lt (fall + 1050) (n + 1) then bit_sampled_at low fall else None) ≡ bits
     sampled_bits = ap (λ b. s.before ++ option_to_list (if b then bit_sampled_at low fall else None)) (let l = s.past in let x : nat_lt (fall + 1050) (n + 1) ≡ true = grind (arith, nat_tests) in x) ∙ before2
 
     more : length bits ≡ length s.before + 1
-    more = ap (λ (bs : List Bool). length bs) s.told ∙ length-append s.before (not (low (fall + 1050)) ∷ [])
+    more = ap (λ (bs : List Bool). length bs) s.reported ∙ length-append s.before (not (low (fall + 1050)) ∷ [])
 
     next_slot : (left : ℕ) → length s.before + left ≡ 159 → Reached low begin (suc left) slot.xs s.before fall → is_fall low n ≡ true → fall + 2050 ≤ n → after_slot low fall (last_ending s.before) ≡ Next n
-        → Steps low n Sampled begin bits (told_so (record { place = Unsampled; begin = begin; fall = n; bits = bits }) Nothing)
+        → Steps low n Sampled begin bits (reported_so (record { place = Unsampled; begin = begin; fall = n; bits = bits }) Nothing)
     next_slot zero m r f far a = absurd (last_full s.before (omega arith) s.plain)
     next_slot (suc left) m r f far a =
         let reached : Reached low begin (suc left) (slot.xs ++ record { fall = fall; bit = bit_sampled_at low fall } ∷ []) bits n = subst (λ (bs : List Bool). Reached low begin (suc left) (slot.xs ++ record { fall = fall; bit = bit_sampled_at low fall } ∷ []) bs n) before2
@@ -722,41 +722,41 @@ sampled_step low n begin fall bits s = by_late (nat_lt (fall + 2750) n) refl
             };
             early = omega arith;
           };
-          told = slot_going low n begin n left (slot.xs ++ record { fall = fall; bit = bit_sampled_at low fall } ∷ []) bits reached (omega arith)
+          reported = slot_going low n begin n left (slot.xs ++ record { fall = fall; bit = bit_sampled_at low fall } ∷ []) bits reached (omega arith)
               (record { after = omega arith; quiet = λ u a b. absurd (omega arith); early = omega arith; plain = λ ending w. omega arith })
               None (not_now n n (1 + length (slot.xs ++ record { fall = fall; bit = bit_sampled_at low fall } ∷ [])) (bit_sampled_at low n) (let x : (n + 1050 == n) ≡ false = grind (arith, nat_tests) in x)) Nothing (λ ending. refl);
           ends = tt;
         }
 
     by_soon : is_fall low n ≡ true → n ≤ fall + 2750 → (b : Bool) → nat_lt n (fall + 2050) ≡ b
-        → Steps low n Sampled begin bits (if b then told_so rest (Ended Short) else told_so (record { place = Unsampled; begin = begin; fall = n; bits = bits }) Nothing)
+        → Steps low n Sampled begin bits (if b then reported_so rest (Ended Short) else reported_so (record { place = Unsampled; begin = begin; fall = n; bits = bits }) Nothing)
     by_soon f l true k =
         let d = slot_ends low n begin fall s.before slot Short (here f l ∙ ap (λ b. let a : After = if b then Ends Short n else Next n in a) k) None (not_now fall n (1 + length slot.xs) (bit_sampled_at low fall) no) (Ended Short) refl in
-        record { stands = rests_so low n begin n slot.begun d.0 d.1; told = d.2; ends = knows_so low n begin _ bits false sampled_bits d.3 }
+        record { stands = rests_so low n begin n slot.begun d.0 d.1; reported = d.2; ends = knows_so low n begin _ bits false sampled_bits d.3 }
     by_soon f l false k =
         next_slot slot.left slot.room slot.reached f (let x : fall + 2050 ≤ n = grind (arith, nat_tests) in x) (here f l ∙ ap (λ b. let a : After = if b then Ends Short n else Next n in a) k)
 
     by_fall : n ≤ fall + 2750 → (b : Bool) → is_fall low n ≡ b
-        → Steps low n Sampled begin bits (if b then (if nat_lt n (fall + 2050) then told_so rest (Ended Short) else told_so (record { place = Unsampled; begin = begin; fall = n; bits = bits }) Nothing) else told_so h Nothing)
+        → Steps low n Sampled begin bits (if b then (if nat_lt n (fall + 2050) then reported_so rest (Ended Short) else reported_so (record { place = Unsampled; begin = begin; fall = n; bits = bits }) Nothing) else reported_so h Nothing)
     by_fall l true f = by_soon f l (nat_lt n (fall + 2050)) refl
     by_fall l false f = record {
-      stands = record { before = s.before; slot = slot_later low n begin fall s.before slot f; told = s.told; plain = s.plain; past = omega (arith, s.past); early = omega arith };
-      told = slot_going low n begin fall slot.left slot.xs s.before slot.reached (let x = slot.after in omega (arith, x))
+      stands = record { before = s.before; slot = slot_later low n begin fall s.before slot f; reported = s.reported; plain = s.plain; past = omega (arith, s.past); early = omega arith };
+      reported = slot_going low n begin fall slot.left slot.xs s.before slot.reached (let x = slot.after in omega (arith, x))
           (record { after = omega (arith, slot.after); quiet = quiet_more low fall n slot.quiet f; early = omega arith; plain = plain_yet })
           None (not_now fall n (1 + length slot.xs) (bit_sampled_at low fall) no) Nothing (λ ending. refl);
       ends = tt;
     }
 
     by_late : (b : Bool) → nat_lt (fall + 2750) n ≡ b
-        → Steps low n Sampled begin bits (if b then told_so (starts n (is_fall low n)) (Ended Silent)
-        else if is_fall low n then (if nat_lt n (fall + 2050) then told_so rest (Ended Short) else told_so (record { place = Unsampled; begin = begin; fall = n; bits = bits }) Nothing) else told_so h Nothing)
+        → Steps low n Sampled begin bits (if b then reported_so (starts n (is_fall low n)) (Ended Silent)
+        else if is_fall low n then (if nat_lt n (fall + 2050) then reported_so rest (Ended Short) else reported_so (record { place = Unsampled; begin = begin; fall = n; bits = bits }) Nothing) else reported_so h Nothing)
     by_late true k =
         let l : fall + 2750 < n = grind (arith, nat_tests) in
         let at : fall + 2751 ≡ n = omega (arith, l, s.early) in
         let d = slot_ends low n begin fall s.before slot Silent
         (ap (after_slot low fall) s.plain ∙ ap (after_fall fall) (next_none low fall n 2750 slot.quiet l) ∙ ap (λ m. let a : After = Ends Silent m in a) at)
         None (not_now fall n (1 + length slot.xs) (bit_sampled_at low fall) no) (Ended Silent) refl in
-        record { stands = late_rest low n begin slot.begun d.0 (omega (arith, d.1, at)); told = d.2; ends = knows_so low n begin _ bits false sampled_bits d.3 }
+        record { stands = late_rest low n begin slot.begun d.0 (omega (arith, d.1, at)); reported = d.2; ends = knows_so low n begin _ bits false sampled_bits d.3 }
     by_late false k = by_fall (let l : n ≤ fall + 2750 = grind (arith, nat_tests) in l) (is_fall low n) refl
 
 -- ---- any step
@@ -764,7 +764,7 @@ sampled_step low n begin fall bits s = by_late (nat_lt (fall + 2750) n) refl
 pub step : (low : Line) (n : ℕ) (place : ReceiverState) (begin fall : ℕ) (bits : List Bool) → StandsIn low n place begin fall bits
     → Steps low n place begin bits (hear_in n (was_low low n) (low n) (record { place = place; begin = begin; fall = fall; bits = bits }))
 unfolding StandsIn
-step low n Rest begin fall bits s = record { stands = starts_so low n s.past s.from (past_later low n 0 s.past s.from s.over) s.by s.quiet; told = refl; ends = tt }
+step low n Rest begin fall bits s = record { stands = starts_so low n s.past s.from (past_later low n 0 s.past s.from s.over) s.by s.quiet; reported = refl; ends = tt }
 step low n StartLow begin fall bits s = low_step low n begin fall bits s
 step low n StartHigh begin fall bits s = high_step low n begin fall bits s
 step low n Unsampled begin fall bits s = unsampled_step low n begin fall bits s

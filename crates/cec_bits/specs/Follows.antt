@@ -6,7 +6,7 @@ use Rattle.cec_bits.specs.declared.receiver.Told.{Told}
 use Rattle.cec_bits.specs.declared.receiver.Told.TheVariants.{Nothing, Ended}
 use Rattle.cec_bits.specs.declared.receiver.Receiver.{Receiver}
 use Rattle.cec_bits.specs.Hears.{heard_by, wake_of, wakes_left}
-use Rattle.cec_bits.specs.Kept.{kept_of, kept_before, told_at}
+use Rattle.cec_bits.specs.Kept.{kept_of, kept_before, reported_at}
 use Rattle.cec_bits.specs.Phase.{Standing, standing_of}
 use Rattle.cec_bits.specs.Phase as phase
 use Rattle.cec_bits.specs.declared.receiver.Standing as code
@@ -32,31 +32,31 @@ pub record GoesOn (r : Receiver) (low : Line) (before t : ℕ) : Type 0 where
 
 -- A tick at t leaves it standing on each such line, and returns what t adds to that line's readings.
 abbrev pub Follows : Receiver → ℕ → Told → Receiver → Type 0
-Follows old t told new = (low : ℕ → Bool) (before : ℕ) → StoodBefore old low before → GoesOn old low before t → StandsOn new low t × (told ≡ told_at low t)
+Follows old t reported new = (low : ℕ → Bool) (before : ℕ) → StoodBefore old low before → GoesOn old low before t → StandsOn new low t × (reported ≡ reported_at low t)
 
 -- Where no edge came at t and a tick returned an ending that belongs to t alone, the line may still fall or rise in t: a
 -- second tick then leaves it standing on the line that does.
 abbrev pub FollowsAgain : Receiver → ℕ → Told → Receiver → Type 0
-FollowsAgain old t told new =
-    (low other : ℕ → Bool) (ending : Ending) → heard_by old ≡ kept_of low t → old.was_low ≡ low t → low t ≡ was_low low t → told_at low t ≡ Ended ending
-    → ((u : ℕ) → u < t → other u ≡ low u) → other t ≡ old.is_low → StandsOn new other t × (told ≡ Nothing)
+FollowsAgain old t reported new =
+    (low other : ℕ → Bool) (ending : Ending) → heard_by old ≡ kept_of low t → old.was_low ≡ low t → low t ≡ was_low low t → reported_at low t ≡ Ended ending
+    → ((u : ℕ) → u < t → other u ≡ low u) → other t ≡ old.is_low → StandsOn new other t × (reported ≡ Nothing)
 
 -- Up to that tick no instant added anything to such a line's readings.
-abbrev pub TellsOnce : Receiver → ℕ → Type 0
-TellsOnce old t = (low : ℕ → Bool) (before : ℕ) → StoodBefore old low before → GoesOn old low before t → (u : ℕ) → before ≤ u → u < t → told_at low u ≡ Nothing
+abbrev pub ReportsOnce : Receiver → ℕ → Type 0
+ReportsOnce old t = (low : ℕ → Bool) (before : ℕ) → StoodBefore old low before → GoesOn old low before t → (u : ℕ) → before ≤ u → u < t → reported_at low u ≡ Nothing
 
 -- A wake without an edge leaves fewer wakes: between two edges there are at most two.
 abbrev pub WakesFewer : Receiver → ℕ → Receiver → Type 0
 WakesFewer old t new = wake_of (heard_by old) ≡ Some t → old.is_low ≡ old.was_low → wakes_left new.place < wakes_left old.place
 
 -- the first instant from t on that adds something to a line's readings
-abbrev pub IsNextTold : Line → ℕ → Option ℕ → Type 0
-IsNextTold low t None = (u : ℕ) → t ≤ u → told_at low u ≡ Nothing
-IsNextTold low t (Some w) = (t ≤ w) × (told_at low w ≢ Nothing) × ((u : ℕ) → t ≤ u → u < w → told_at low u ≡ Nothing)
+abbrev pub IsNextReported : Line → ℕ → Option ℕ → Type 0
+IsNextReported low t None = (u : ℕ) → t ≤ u → reported_at low u ≡ Nothing
+IsNextReported low t (Some w) = (t ≤ w) × (reported_at low w ≢ Nothing) × ((u : ℕ) → t ≤ u → u < w → reported_at low u ≡ Nothing)
 
 -- It wakes at that instant of each line that it stood on before t and that has no edge from then on.
 abbrev pub WakesSo : Receiver → Option ℕ → Type 0
-WakesSo r wake = (low : ℕ → Bool) (t : ℕ) → StoodBefore r low t → ((u : ℕ) → t ≤ u → low u ≡ r.was_low) → IsNextTold low t wake
+WakesSo r wake = (low : ℕ → Bool) (t : ℕ) → StoodBefore r low t → ((u : ℕ) → t ≤ u → low u ≡ r.was_low) → IsNextReported low t wake
 
 -- the standing that the code's value names
 abbrev pub standing_by_code : code.Standing → Standing

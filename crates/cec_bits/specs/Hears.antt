@@ -32,46 +32,46 @@ starts t falls = if falls then record { place = StartLow; begin = t; fall = 0; b
 -- what a microsecond leads to, and adds
 pub record Heard : Type 0 where
   pub state : Hears
-  pub told : Told
+  pub reported : Told
 
-abbrev pub told_so : Hears → Told → Heard
-told_so h told = record { state = h; told = told }
+abbrev pub reported_so : Hears → Told → Heard
+reported_so h reported = record { state = h; reported = reported }
 
 -- the start bit: its rise is due 3,500 to 3,900 after its fall (CEC 5.2.1; window own)
 abbrev pub hear_start_low : ℕ → Bool → Bool → Hears → Heard
 hear_start_low t falls rises h =
-    if nat_lt (h.begin + 3900) t then told_so (starts t falls) (Ended BadStart)
-    else if rises then (if nat_lt t (h.begin + 3500) then told_so rest (Ended BadStart) else told_so (record h { place = StartHigh }) Nothing)
-    else told_so h Nothing
+    if nat_lt (h.begin + 3900) t then reported_so (starts t falls) (Ended BadStart)
+    else if rises then (if nat_lt t (h.begin + 3500) then reported_so rest (Ended BadStart) else reported_so (record h { place = StartHigh }) Nothing)
+    else reported_so h Nothing
 
 -- the first slot's fall is due 4,300 to 4,700 after the start bit's (CEC 5.2.1; window own)
 abbrev pub hear_start_high : ℕ → Bool → Hears → Heard
 hear_start_high t falls h =
-    if nat_lt (h.begin + 4700) t then told_so (starts t falls) (Ended BadStart)
-    else if falls then (if nat_lt t (h.begin + 4300) then told_so rest (Ended BadStart) else told_so (record h { place = Unsampled; fall = t }) Nothing)
-    else told_so h Nothing
+    if nat_lt (h.begin + 4700) t then reported_so (starts t falls) (Ended BadStart)
+    else if falls then (if nat_lt t (h.begin + 4300) then reported_so rest (Ended BadStart) else reported_so (record h { place = Unsampled; fall = t }) Nothing)
+    else reported_so h Nothing
 
 -- the bit is sampled 1,050 after the slot's fall; in a last slot that ends the reading
 abbrev pub sample_as : Option Ending → Bool → Hears → Heard
-sample_as None value h = told_so (record h { place = Sampled; bits = h.bits ++ value ∷ [] }) (Bit (length h.bits + 1) value)
-sample_as (Some ending) value h = told_so rest (Last value ending)
+sample_as None value h = reported_so (record h { place = Sampled; bits = h.bits ++ value ∷ [] }) (Bit (length h.bits + 1) value)
+sample_as (Some ending) value h = reported_so rest (Last value ending)
 
 -- a fall before it, or with it, is too early
 abbrev pub hear_unsampled : ℕ → Bool → Bool → Hears → Heard
 hear_unsampled t falls is_low h =
-    if falls then told_so rest (Ended Short)
+    if falls then reported_so rest (Ended Short)
     else if t == h.fall + 1050 then sample_as (last_ending h.bits) (not is_low) h
-    else told_so h Nothing
+    else reported_so h Nothing
 
 -- the next slot's fall is due 2,050 to 2,750 after this one's
 abbrev pub hear_sampled : ℕ → Bool → Hears → Heard
 hear_sampled t falls h =
-    if nat_lt (h.fall + 2750) t then told_so (starts t falls) (Ended Silent)
-    else if falls then (if nat_lt t (h.fall + 2050) then told_so rest (Ended Short) else told_so (record h { place = Unsampled; fall = t }) Nothing)
-    else told_so h Nothing
+    if nat_lt (h.fall + 2750) t then reported_so (starts t falls) (Ended Silent)
+    else if falls then (if nat_lt t (h.fall + 2050) then reported_so rest (Ended Short) else reported_so (record h { place = Unsampled; fall = t }) Nothing)
+    else reported_so h Nothing
 
 abbrev pub hear_at : ReceiverState → ℕ → Bool → Bool → Bool → Hears → Heard
-hear_at Rest t falls rises is_low h = told_so (starts t falls) Nothing
+hear_at Rest t falls rises is_low h = reported_so (starts t falls) Nothing
 hear_at StartLow t falls rises is_low h = hear_start_low t falls rises h
 hear_at StartHigh t falls rises is_low h = hear_start_high t falls h
 hear_at Unsampled t falls rises is_low h = hear_unsampled t falls is_low h

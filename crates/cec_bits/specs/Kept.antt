@@ -85,17 +85,17 @@ abbrev pub sample_in : ℕ → ℕ → List Slot → Option Sample
 sample_in t n [] = None
 sample_in t n (s ∷ ss) = if s.fall + 1050 == t then sample_of n s.bit else sample_in t (n + 1) ss
 
-abbrev pub told_with : Option Sample → Bool → Ending → Told
-told_with None true ending = Ended ending
-told_with None false ending = Nothing
-told_with (Some s) true ending = Last s.value ending
-told_with (Some s) false ending = Bit s.slot s.value
+abbrev pub reported_with : Option Sample → Bool → Ending → Told
+reported_with None true ending = Ended ending
+reported_with None false ending = Nothing
+reported_with (Some s) true ending = Last s.value ending
+reported_with (Some s) false ending = Bit s.slot s.value
 
-abbrev pub told_in : Line → ℕ → Option ℕ → Told
-told_in low t None = Nothing
-told_in low t (Some e) = told_with (sample_in t 1 (known_at (t + 1) (reading_of low e)).slots) ((reading_of low e).at == t) (reading_of low e).ending
+abbrev pub reported_in : Line → ℕ → Option ℕ → Told
+reported_in low t None = Nothing
+reported_in low t (Some e) = reported_with (sample_in t 1 (known_at (t + 1) (reading_of low e)).slots) ((reading_of low e).at == t) (reading_of low e).ending
 
 -- at 0 nothing has been read
-abbrev pub told_at : Line → ℕ → Told
-told_at low zero = Nothing
-told_at low (suc t) = told_in low (suc t) (running_of low t)
+abbrev pub reported_at : Line → ℕ → Told
+reported_at low zero = Nothing
+reported_at low (suc t) = reported_in low (suc t) (running_of low t)

@@ -12,16 +12,16 @@ use Rattle.cec_bits.specs.declared.receiver.Told.TheVariants.{Nothing, Bit, Last
 use Rattle.cec_bits.specs.Readings.{Listed, readings_of}
 use Rattle.cec_bits.specs.Ended.{ended_by}
 use Rattle.cec_bits.specs.Hears.{Hears}
-use Rattle.cec_bits.specs.Kept.{kept_of, kept_before, told_at}
-use Rattle.cec_bits.specs.Tells.{told_by}
+use Rattle.cec_bits.specs.Kept.{kept_of, kept_before, reported_at}
+use Rattle.cec_bits.specs.Results.{reported_by}
 
 -- a reading as it stands in a line's list
 abbrev pub listed_as : Reading → Listed
-listed_as r = record { begin = r.begin; told = told_by r }
+listed_as r = record { begin = r.begin; reported = reported_by r }
 
 -- a reading from `begin` that ended so at t, or is open then
 abbrev pub ends_with : ℕ → ℕ → Ending → List Bool → Listed
-ends_with begin t ending bits = record { begin = begin; told = record { bits = bits; ending = ending; at = t } }
+ends_with begin t ending bits = record { begin = begin; reported = record { bits = bits; ending = ending; at = t } }
 
 -- the reading that runs, as far as it was heard by t
 abbrev pub running_by : Hears → ℕ → Option Listed
@@ -38,8 +38,8 @@ running_by h t = runs_at h.place
 abbrev pub ended_of : Told → ℕ → Option Listed → Option Listed
 ended_of Nothing t running = None
 ended_of (Bit slot value) t running = None
-ended_of (Last value ending) t running = option_map (λ x. ends_with x.begin t ending (x.told.bits ++ value ∷ [])) running
-ended_of (Ended ending) t running = option_map (λ x. ends_with x.begin t ending x.told.bits) running
+ended_of (Last value ending) t running = option_map (λ x. ends_with x.begin t ending (x.reported.bits ++ value ∷ [])) running
+ended_of (Ended ending) t running = option_map (λ x. ends_with x.begin t ending x.reported.bits) running
 
 -- the readings that have ended before microsecond n
 abbrev pub ended_before : Line → ℕ → List Listed
@@ -47,9 +47,9 @@ ended_before low zero = []
 ended_before low (suc t) = ended_by low t
 
 -- Instant n ends the reading that it reports, and no other.
-abbrev pub EndingsAreTold : Type 0
-EndingsAreTold = (low : ℕ → Bool) (n : ℕ)
-    → ended_by low n ≡ ended_before low n ++ option_to_list (ended_of (told_at low n) n (running_by (kept_before low n) n))
+abbrev pub EndingsAreReported : Type 0
+EndingsAreReported = (low : ℕ → Bool) (n : ℕ)
+    → ended_by low n ≡ ended_before low n ++ option_to_list (ended_of (reported_at low n) n (running_by (kept_before low n) n))
 
 -- A line's readings, cut at t, are those that have ended by t and the one that runs then.
 abbrev pub RunningIsKept : Type 0

@@ -15,7 +15,7 @@ use Rattle.cec_bits.specs.declared.sender.Sender.{Sender}
 use Rattle.cec_bits.specs.declared.sender.SenderState.{SenderState}
 use Rattle.cec_bits.specs.declared.sender.SenderState.TheVariants.{Sending, Out, Stopped}
 use Rattle.cec_bits.specs.Reading.{End, Known, known_at, reading_of}
-use Rattle.cec_bits.specs.Kept.{running_of, told_at}
+use Rattle.cec_bits.specs.Kept.{running_of, reported_at}
 
 -- ---- what is known
 
@@ -108,12 +108,12 @@ pub record SenderStood (s : Sender) (low : Line) (t : ℕ) : Type 0 where
 pub record IsSilent (low : Line) (begin before t : ℕ) : Type 0 where
   pub from : before ≤ t
   pub runs : (u : ℕ) → before ≤ u → u ≤ t → running_of low (u - 1) ≡ Some begin
-  pub silent : (u : ℕ) → before ≤ u → u < t → told_at low u ≡ Nothing
+  pub silent : (u : ℕ) → before ≤ u → u < t → reported_at low u ≡ Nothing
 
 -- What is heard at t leaves it so on each line on which that is heard.
 abbrev pub Hears : Sender → Told → ℕ → Sender → Type 0
-Hears old told t new =
-    (low : ℕ → Bool) (before : ℕ) → SenderStood old low before → IsSilent low old.begin before t → told ≡ told_at low t → SenderStood new low (t + 1)
+Hears old reported t new =
+    (low : ℕ → Bool) (before : ℕ) → SenderStood old low before → IsSilent low old.begin before t → reported ≡ reported_at low t → SenderStood new low (t + 1)
 
 -- It stops at the instant of that slot's sample or of the ending, and stays as it is then.
 abbrev pub StopsAt : SenderState → ℕ → ℕ → SenderState → ℕ → Type 0

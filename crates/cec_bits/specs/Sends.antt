@@ -17,15 +17,15 @@ takes_all sent = sent_in sent 5 && (sent_in sent 6 && (sent_in sent 7 && sent_in
 abbrev pub is_out_there : List Bool → ℕ → Bool → Bool
 is_out_there sent n value = if n % 10 == 0 then not (beq value (takes_all sent)) else not (beq value (sent_in sent n))
 
-abbrev pub by_told : List Bool → Told → SenderState
-by_told sent Nothing = Sending
-by_told sent (Bit n value) = if is_out_there sent n value then Out n else Sending
-by_told sent (Last value ending) = Stopped
-by_told sent (Ended ending) = Stopped
+abbrev pub by_reported : List Bool → Told → SenderState
+by_reported sent Nothing = Sending
+by_reported sent (Bit n value) = if is_out_there sent n value then Out n else Sending
+by_reported sent (Last value ending) = Stopped
+by_reported sent (Ended ending) = Stopped
 
-abbrev pub after_told : List Bool → SenderState → Told → SenderState
-after_told sent Sending told = by_told sent told
-after_told sent state told = state
+abbrev pub after_reported : List Bool → SenderState → Told → SenderState
+after_reported sent Sending reported = by_reported sent reported
+after_reported sent state reported = state
 
 -- how long it is low in a slot of this bit
 abbrev pub low_of : Bool → ℕ

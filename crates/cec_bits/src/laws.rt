@@ -2,7 +2,7 @@
 ghost use Rattle.cec_bits.specs.Causality.{ReadingsAreCausal};
 ghost use Rattle.cec_bits.specs.Ended.{EndOneByOne};
 ghost use Rattle.cec_bits.specs.Kept.{StandingsAreKept};
-ghost use Rattle.cec_bits.specs.Reports.{EndingsAreTold, RunningIsKept};
+ghost use Rattle.cec_bits.specs.Reports.{EndingsAreReported, RunningIsKept};
 ghost use Rattle.cec_bits.specs.Readings.{HasList, ListsAreCausal, OneList, PartsAreRead, ReadingsAreOwn};
 
 /// What is read before an instant depends on the line before that instant alone.
@@ -43,7 +43,7 @@ pub fn readings_end_one_by_one()
 /// A receiver's readings are its line's: each instant ends the reading that it reports, and where the line is cut the
 /// one that is still kept is open.
 pub fn readings_are_reported()
-    ensures endings { EndingsAreTold }
+    ensures endings { EndingsAreReported }
     ensures running { RunningIsKept }
 {}
 

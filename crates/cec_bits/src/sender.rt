@@ -54,7 +54,7 @@ impl Sender {
     ghost use Rattle.cec_wave.specs.Sender.{slot_stretches, sender_stretches};
     ghost use Rattle.cec_frame.specs.Bits.{frame_bits};
     ghost use Rattle.cec_bits.specs.Sending.{SenderStood, Hears, StopsAt, PullsSo, ShowsState, IsNextChange, pull_of, stopped_pull, may_pull};
-    ghost use Rattle.cec_bits.specs.Sends.{low_of, takes_all, is_out_there, after_told};
+    ghost use Rattle.cec_bits.specs.Sends.{low_of, takes_all, is_out_there, after_reported};
 
     /// The same sender again.
     pub fn copy(&self) -> Self
@@ -255,23 +255,23 @@ impl Sender {
     }
 
     /// What the receiver reported at `t` of the reading that this sender began.
-    pub fn heard(&mut self, told: Told, t: u64)
+    pub fn heard(&mut self, reported: Told, t: u64)
         requires early { t ≤ latest_heard }
         ensures keeps { (self.new.frame ≡ self.old.frame) × (self.new.begin ≡ self.old.begin) }
-        ensures hears { Hears self.old told t self.new }
+        ensures hears { Hears self.old reported t self.new }
         ensures stops { StopsAt self.old.state self.old.last t self.new.state self.new.last }
     {
-        self.go_by(told, t);
+        self.go_by(reported, t);
     }
 
-    fn go_by(&mut self, told: Told, t: u64)
+    fn go_by(&mut self, reported: Told, t: u64)
         requires early { t ≤ latest_heard }
         ensures keeps { (self.new.frame ≡ self.old.frame) × (self.new.begin ≡ self.old.begin) }
-        ensures state { self.new.state ≡ after_told (frame_bits self.old.frame) self.old.state told }
+        ensures state { self.new.state ≡ after_reported (frame_bits self.old.frame) self.old.state reported }
         ensures stops { StopsAt self.old.state self.old.last t self.new.state self.new.last }
     {
         if let SenderState::Sending = self.state {
-            match told {
+            match reported {
                 Told::Nothing => {}
                 Told::Bit(slot, value) => {
                     if self.is_out_at(slot, value) {
@@ -285,7 +285,7 @@ impl Sender {
 
     /// How far it has come.
     pub fn state(&self) -> SenderState
-        ensures told { result ≡ self.now.state }
+        ensures reported { result ≡ self.now.state }
         ensures shows { ShowsState self.now result }
     {
         self.state

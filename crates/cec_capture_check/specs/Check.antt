@@ -21,10 +21,10 @@ pub record IsCaptureChecked (text : List ℕ) (capture : Captured) (old new : Op
   pub written : Appends old new (capture_report text capture).text
 
 -- when each refusal comes; of memory nothing is said
-abbrev pub IsCaptureTold : List ℕ → CaptureCheckError → Type 0
-IsCaptureTold text (Expect fault) = first_fault text ≡ Some fault
-IsCaptureTold text (Write count) = first_fault text ≡ None
-IsCaptureTold text Memory = Unit {0}
+abbrev pub IsCaptureReported : List ℕ → CaptureCheckError → Type 0
+IsCaptureReported text (Expect fault) = first_fault text ≡ Some fault
+IsCaptureReported text (Write count) = first_fault text ≡ None
+IsCaptureReported text Memory = Unit {0}
 
 -- what a refusal has written: after a failed write the front of the report, as long as it reports, and else nothing
 abbrev pub IsCaptureCut : List ℕ → Captured → Option (List ℕ) → Option (List ℕ) → CaptureCheckError → Type 0

@@ -1,6 +1,6 @@
 //! From expectations and a capture to their report.
 ghost use Rattle.std.specs.Prelude.{◌≡◌, ◌↔◌, true, false, IfOk, IfErr, IsTrue};
-ghost use Rattle.cec_capture_check.specs.Check.{IsCaptureChecked, IsCaptureCut, IsCaptureTold, capture_report, is_write};
+ghost use Rattle.cec_capture_check.specs.Check.{IsCaptureChecked, IsCaptureCut, IsCaptureReported, capture_report, is_write};
 ghost use Rattle.cec_capture_check.specs.Marks.{capture_trace};
 ghost use Rattle.cec_check.specs.Report.{report_as};
 
@@ -66,7 +66,7 @@ pub fn check_capture<S: Sink>(
     out: &mut S,
 ) -> Result<Tally, CaptureCheckError>
     ensures ok { IfOk result (IsCaptureChecked expectations.now capture.now (S.contents out.old) (S.contents out.new)) }
-    ensures told { IfErr result (IsCaptureTold expectations.now) }
+    ensures reported { IfErr result (IsCaptureReported expectations.now) }
     ensures write { S.is_stuck out.old ≡ false → (IsTrue (is_write result) ↔ IsTrue (S.is_stuck out.new)) }
     ensures cut { IfErr result (IsCaptureCut expectations.now capture.now (S.contents out.old) (S.contents out.new)) }
 {

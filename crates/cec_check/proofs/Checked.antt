@@ -17,7 +17,7 @@ use Rattle.cec_check.specs.Report.{Report, report}
 use Rattle.cec_check.specs.Kept.{kept}
 use Rattle.cec_check.specs.declared.checking.CheckError.TheVariants.{Expect}
 use Rattle.cec_expect.specs.declared.faults.ExpectFault.{ExpectFault}
-use Rattle.cec_check.specs.Check.{AreKept, IsReportOf, IsVerdictTold, TalliesCountVerdicts, tally_of}
+use Rattle.cec_check.specs.Check.{AreKept, IsReportOf, IsVerdictReported, TalliesCountVerdicts, tally_of}
 
 pub reported : (topology script plain held bytes text : List ℕ) (totals : Totals) (states : List (List ℕ)) (r : Report) → plain ≡ plain_script script → held ≡ []
     → IsTraceOf topology plain text totals → Appends (Some held) (Some bytes) text → first_fault topology script ≡ None → AreStates topology plain (lines_of script) states
@@ -112,9 +112,9 @@ pub traced_of : (topology script plain few : List ℕ) → AreKept topology scri
 traced_of topology script plain few run is = (run.trace, run.totals, subst (λ p. IsTraceOf topology p run.trace run.totals) (sym is) run.run)
 
 pub faulty : (topology script named few : List ℕ) (fault : ExpectFault) → AreKept topology script few → named ≡ script → first_fault topology named ≡ Some fault
-    → IsVerdictTold topology script (Expect fault)
+    → IsVerdictReported topology script (Expect fault)
 faulty topology script named few fault run same is = record {
-  told = (run.trace, run.totals, run.run, ap (first_fault topology) (sym same) ∙ is);
+  reported = (run.trace, run.totals, run.run, ap (first_fault topology) (sym same) ∙ is);
   unwritten = refl;
 }
 

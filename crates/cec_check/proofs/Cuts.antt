@@ -382,11 +382,11 @@ end_line_words time small =
     slice_split_at (λ b. b == 32) (codes "end") 32 (decimal time) solid refl
     ∙ ap (λ ws. codes "end" ∷ ws) (slice_split_none (λ b. b == 32) (decimal time) (number_lacks (λ c. c == 32) time small low_digit))
 
-end_line_told : (time : ℕ) → is_skipped (end_line time) ≡ false
-end_line_told time = told (110 ∷ 100 ∷ 32 ∷ decimal time)
+end_line_reported : (time : ℕ) → is_skipped (end_line time) ≡ false
+end_line_reported time = reported (110 ∷ 100 ∷ 32 ∷ decimal time)
   where
-    told : (cs : List ℕ) → is_skipped (101 ∷ cs) ≡ false
-    told cs = rw (some_length (length cs)) refl
+    reported : (cs : List ℕ) → is_skipped (101 ∷ cs) ≡ false
+    reported cs = rw (some_length (length cs)) refl
 
 time_again : (time : ℕ) → time ≤ latest_event → time_of (decimal time) ≡ Some time
 time_again time low =
@@ -415,14 +415,14 @@ end_goes tree time line notes next many word low e =
     let worded : IsWordsRead tree (cut_notes time notes) (length notes.pulses) line (words_of (end_line time)) (Ok (cut_notes time next)) =
     subst (λ ws. IsWordsRead tree (cut_notes time notes) (length notes.pulses) line ws (Ok (cut_notes time next))) (sym (end_line_words time (omega (arith, low)))) read in (
       ap (λ (n : Notes). n.events) given.2,
-      subst (λ b. cond {A = Type 0} b (AreSame (cut_notes time next) (cut_notes time notes)) (IsWordsRead tree (cut_notes time notes) (length notes.pulses) line (words_of (end_line time)) (Ok (cut_notes time next)))) (sym (end_line_told time)) worded,
+      subst (λ b. cond {A = Type 0} b (AreSame (cut_notes time next) (cut_notes time notes)) (IsWordsRead tree (cut_notes time notes) (length notes.pulses) line (words_of (end_line time)) (Ok (cut_notes time next)))) (sym (end_line_reported time)) worded,
     )
 
 -- ---- a line
 
 -- what a line that is not skipped gives by its words
-told_line : (tree : List Node) (n : Notes) (line : ℕ) (text : List ℕ) (read : Result Notes LineFault) → is_skipped text ≡ false → IsWordsRead tree n (length n.pulses) line (words_of text) read → IsLineRead tree n (length n.pulses) line text read
-told_line tree n line text read e h = subst (λ b. cond {A = Type 0} b (read ≡ Ok n) (IsWordsRead tree n (length n.pulses) line (words_of text) read)) (sym e) h
+reported_line : (tree : List Node) (n : Notes) (line : ℕ) (text : List ℕ) (read : Result Notes LineFault) → is_skipped text ≡ false → IsWordsRead tree n (length n.pulses) line (words_of text) read → IsLineRead tree n (length n.pulses) line text read
+reported_line tree n line text read e h = subst (λ b. cond {A = Type 0} b (read ≡ Ok n) (IsWordsRead tree n (length n.pulses) line (words_of text) read)) (sym e) h
 
 in_order : (notes next : Notes) → next.events ≡ notes.events → AreInOrder notes.events → AreInOrder next.events
 in_order notes next e order = subst (λ (es : List TimedEvent). AreInOrder es) (sym e) order
@@ -431,14 +431,14 @@ in_order notes next e order = subst (λ (es : List TimedEvent). AreInOrder es) (
 other_goes : (tree : List Node) (time line : ℕ) (text verb : List ℕ) (words : List (List ℕ)) (notes next : Notes) → time ≤ latest_event → AreInOrder notes.events → is_skipped text ≡ false
     → words_of text ≡ verb ∷ words → bytes_eq verb (codes "at") ≡ false → Ok next ≡ other_words notes (length notes.pulses) verb words
     → Goes tree time line text (if bytes_eq verb (codes "end") then end_line time else text) notes next
-other_goes tree time line text verb words notes next low order told split no_at e =
+other_goes tree time line text verb words notes next low order reported split no_at e =
     pulse (bytes_eq verb (codes "pulse")) refl e
   where
     kept : Ok (cut_notes time next) ≡ other_words (cut_notes time notes) (length notes.pulses) verb words → IsLineRead tree (cut_notes time notes) (length notes.pulses) line text (Ok (cut_notes time next))
     kept r =
         let worded : IsWordsRead tree (cut_notes time notes) (length notes.pulses) line (verb ∷ words) (Ok (cut_notes time next)) =
         subst (λ b. cond {A = Type 0} b (IsEventRead tree (cut_notes time notes) line words (Ok (cut_notes time next))) (Ok (cut_notes time next) ≡ other_words (cut_notes time notes) (length notes.pulses) verb words)) (sym no_at) r in
-        told_line tree (cut_notes time notes) line text (Ok (cut_notes time next)) told (subst (λ ws. IsWordsRead tree (cut_notes time notes) (length notes.pulses) line ws (Ok (cut_notes time next))) (sym split) worded)
+        reported_line tree (cut_notes time notes) line text (Ok (cut_notes time next)) reported (subst (λ ws. IsWordsRead tree (cut_notes time notes) (length notes.pulses) line ws (Ok (cut_notes time next))) (sym split) worded)
 
     no_end : bytes_eq verb (codes "pulse") ≡ true → bytes_eq verb (codes "end") ≡ false
     no_end p = ap (λ v. bytes_eq v (codes "end")) ((bytes_eq-Decides verb (codes "pulse")).0 p)
@@ -465,18 +465,18 @@ cut_words time text words = if is_event words then (if is_before time words then
 
 words_go : (tree : List Node) (time line : ℕ) (text : List ℕ) (words : List (List ℕ)) (notes next : Notes) → time ≤ latest_event → AreInOrder notes.events → is_skipped text ≡ false → words_of text ≡ words
     → IsWordsRead tree notes (length notes.pulses) line words (Ok next) → Goes tree time line text (cut_words time text words) notes next
-words_go tree time line text [] notes next low order told split h = cc
-words_go tree time line text (verb ∷ words) notes next low order told split h = by (bytes_eq verb (codes "at")) refl h
+words_go tree time line text [] notes next low order reported split h = cc
+words_go tree time line text (verb ∷ words) notes next low order reported split h = by (bytes_eq verb (codes "at")) refl h
   where
     up : bytes_eq verb (codes "at") ≡ true → (n : Notes) (read : Result Notes LineFault) → IsEventRead tree n line words read → IsLineRead tree n (length n.pulses) line text read
     up e n read r =
         let worded : IsWordsRead tree n (length n.pulses) line (verb ∷ words) read = subst (λ b. cond {A = Type 0} b (IsEventRead tree n line words read) (read ≡ other_words n (length n.pulses) verb words)) (sym e) r in
-        told_line tree n line text read told (subst (λ ws. IsWordsRead tree n (length n.pulses) line ws read) (sym split) worded)
+        reported_line tree n line text read reported (subst (λ ws. IsWordsRead tree n (length n.pulses) line ws read) (sym split) worded)
 
     by : (b : Bool) → bytes_eq verb (codes "at") ≡ b → cond {A = Type 0} b (IsEventRead tree notes line words (Ok next)) (Ok next ≡ other_words notes (length notes.pulses) verb words)
         → Goes tree time line text (if b then (if is_before time (verb ∷ words) then text else []) else if bytes_eq verb (codes "end") then end_line time else text) notes next
     by true e h = at_goes tree time line text words notes next order h (up e) verb
-    by false e h = other_goes tree time line text verb words notes next low order told split e h
+    by false e h = other_goes tree time line text verb words notes next low order reported split e h
 
 line_goes : (tree : List Node) (time line : ℕ) (text : List ℕ) (notes next : Notes) → time ≤ latest_event → AreInOrder notes.events → IsLineRead tree notes (length notes.pulses) line text (Ok next)
     → Goes tree time line text (cut_line time text) notes next

@@ -32,51 +32,51 @@ or_not true = refl
 or_not false = refl
 
 -- a pattern that stands among others
-had : (texts : List (Bor (List ℕ))) (pattern told : List ℕ) → list_any (λ text. bytes_eq text.now pattern) texts ≡ true → fits pattern told ≡ true
-    → list_any (λ text. fits text.now told) texts ≡ true
-had [] pattern told h k = h
-had (text ∷ texts) pattern told h k = by (bytes_eq text.now pattern) refl h (λ m. had texts pattern told m k)
+had : (texts : List (Bor (List ℕ))) (pattern reported : List ℕ) → list_any (λ text. bytes_eq text.now pattern) texts ≡ true → fits pattern reported ≡ true
+    → list_any (λ text. fits text.now reported) texts ≡ true
+had [] pattern reported h k = h
+had (text ∷ texts) pattern reported h k = by (bytes_eq text.now pattern) refl h (λ m. had texts pattern reported m k)
   where
     by : (b : Bool) → bytes_eq text.now pattern ≡ b → (b || list_any (λ text. bytes_eq text.now pattern) texts) ≡ true
-        → (list_any (λ text. bytes_eq text.now pattern) texts ≡ true → list_any (λ text. fits text.now told) texts ≡ true)
-        → (fits text.now told || list_any (λ text. fits text.now told) texts) ≡ true
+        → (list_any (λ text. bytes_eq text.now pattern) texts ≡ true → list_any (λ text. fits text.now reported) texts ≡ true)
+        → (fits text.now reported || list_any (λ text. fits text.now reported) texts) ≡ true
     by true e m more =
         let same : text.now ≡ pattern = (bytes_eq-Decides text.now pattern).0 e in
-        ap (λ b. b || list_any (λ (text : Bor (List ℕ)). fits text.now told) texts) (ap (λ t. fits t told) same ∙ k)
-    by false e m more = ap (λ b. fits text.now told || b) (more m) ∙ or_so (fits text.now told)
+        ap (λ b. b || list_any (λ (text : Bor (List ℕ)). fits text.now reported) texts) (ap (λ t. fits t reported) same ∙ k)
+    by false e m more = ap (λ b. fits text.now reported || b) (more m) ∙ or_so (fits text.now reported)
 
 -- a line without a pattern
-pub none_added : (line told : List ℕ) (b : Bool) → pattern_of line ≡ None → b ≡ (b || meets told line)
-none_added line told b h = or_not b ∙ ap (λ o. b || meets_pattern told o) (sym h)
+pub none_added : (line reported : List ℕ) (b : Bool) → pattern_of line ≡ None → b ≡ (b || meets reported line)
+none_added line reported b h = or_not b ∙ ap (λ o. b || meets_pattern reported o) (sym h)
 
 -- one that stands there
-pub had_already : (texts : List (Bor (List ℕ))) (line pattern told : List ℕ) → pattern_of line ≡ Some pattern → list_any (λ text. bytes_eq text.now pattern) texts ≡ true
-    → list_any (λ text. fits text.now told) texts ≡ (list_any (λ text. fits text.now told) texts || meets told line)
-had_already texts line pattern told is there = by (fits pattern told) refl ∙ ap (λ o. list_any (λ (text : Bor (List ℕ)). fits text.now told) texts || meets_pattern told o) (sym is)
+pub had_already : (texts : List (Bor (List ℕ))) (line pattern reported : List ℕ) → pattern_of line ≡ Some pattern → list_any (λ text. bytes_eq text.now pattern) texts ≡ true
+    → list_any (λ text. fits text.now reported) texts ≡ (list_any (λ text. fits text.now reported) texts || meets reported line)
+had_already texts line pattern reported is there = by (fits pattern reported) refl ∙ ap (λ o. list_any (λ (text : Bor (List ℕ)). fits text.now reported) texts || meets_pattern reported o) (sym is)
   where
-    by : (b : Bool) → fits pattern told ≡ b → list_any (λ text. fits text.now told) texts ≡ (list_any (λ text. fits text.now told) texts || fits pattern told)
-    by true e = had texts pattern told there e ∙ sym (ap (λ b. list_any (λ (text : Bor (List ℕ)). fits text.now told) texts || b) e ∙ or_so (list_any (λ (text : Bor (List ℕ)). fits text.now told) texts))
-    by false e = or_not (list_any (λ (text : Bor (List ℕ)). fits text.now told) texts) ∙ ap (λ b. list_any (λ (text : Bor (List ℕ)). fits text.now told) texts || b) (sym e)
+    by : (b : Bool) → fits pattern reported ≡ b → list_any (λ text. fits text.now reported) texts ≡ (list_any (λ text. fits text.now reported) texts || fits pattern reported)
+    by true e = had texts pattern reported there e ∙ sym (ap (λ b. list_any (λ (text : Bor (List ℕ)). fits text.now reported) texts || b) e ∙ or_so (list_any (λ (text : Bor (List ℕ)). fits text.now reported) texts))
+    by false e = or_not (list_any (λ (text : Bor (List ℕ)). fits text.now reported) texts) ∙ ap (λ b. list_any (λ (text : Bor (List ℕ)). fits text.now reported) texts || b) (sym e)
 
 -- one that is new
-pub added : (old new : List (Bor (List ℕ))) (text : Bor (List ℕ)) (line pattern told : List ℕ) → pattern_of line ≡ Some pattern → text.now ≡ pattern → new ≡ old ++ text ∷ []
-    → list_any (λ text. fits text.now told) new ≡ (list_any (λ text. fits text.now told) old || meets told line)
-added old new text line pattern told is same made =
-    ap (list_any (λ (text : Bor (List ℕ)). fits text.now told)) made ∙ any_more (λ text. fits text.now told) old text
-    ∙ ap (λ b. list_any (λ (text : Bor (List ℕ)). fits text.now told) old || b) (ap (λ t. fits t told) same ∙ ap (meets_pattern told) (sym is))
+pub added : (old new : List (Bor (List ℕ))) (text : Bor (List ℕ)) (line pattern reported : List ℕ) → pattern_of line ≡ Some pattern → text.now ≡ pattern → new ≡ old ++ text ∷ []
+    → list_any (λ text. fits text.now reported) new ≡ (list_any (λ text. fits text.now reported) old || meets reported line)
+added old new text line pattern reported is same made =
+    ap (list_any (λ (text : Bor (List ℕ)). fits text.now reported)) made ∙ any_more (λ text. fits text.now reported) old text
+    ∙ ap (λ b. list_any (λ (text : Bor (List ℕ)). fits text.now reported) old || b) (ap (λ t. fits t reported) same ∙ ap (meets_pattern reported) (sym is))
 
 or_assoc : (a b c : Bool) → ((a || b) || c) ≡ (a || (b || c))
 or_assoc true b c = refl
 or_assoc false b c = refl
 
 -- a line more
-pub one_more : (a new goal : Bool) (told line : List ℕ) (lines rest : List (List ℕ)) → lines ≡ line ∷ rest → new ≡ (a || meets told line) → (a || list_any (meets told) lines) ≡ goal
-    → (new || list_any (meets told) rest) ≡ goal
-one_more a new goal told line lines rest split made before =
-    ap (λ b. b || list_any (meets told) rest) made ∙ or_assoc a (meets told line) (list_any (meets told) rest) ∙ ap (λ (ls : List (List ℕ)). a || list_any (meets told) ls) (sym split) ∙ before
+pub one_more : (a new goal : Bool) (reported line : List ℕ) (lines rest : List (List ℕ)) → lines ≡ line ∷ rest → new ≡ (a || meets reported line) → (a || list_any (meets reported) lines) ≡ goal
+    → (new || list_any (meets reported) rest) ≡ goal
+one_more a new goal reported line lines rest split made before =
+    ap (λ b. b || list_any (meets reported) rest) made ∙ or_assoc a (meets reported line) (list_any (meets reported) rest) ∙ ap (λ (ls : List (List ℕ)). a || list_any (meets reported) ls) (sym split) ∙ before
 
-pub no_more : (a goal : Bool) (told : List ℕ) (lines : List (List ℕ)) → lines ≡ [] → (a || list_any (meets told) lines) ≡ goal → a ≡ goal
-no_more a goal told lines none before = or_not a ∙ ap (λ (ls : List (List ℕ)). a || list_any (meets told) ls) (sym none) ∙ before
+pub no_more : (a goal : Bool) (reported : List ℕ) (lines : List (List ℕ)) → lines ≡ [] → (a || list_any (meets reported) lines) ≡ goal → a ≡ goal
+no_more a goal reported lines none before = or_not a ∙ ap (λ (ls : List (List ℕ)). a || list_any (meets reported) ls) (sym none) ∙ before
 
 -- ---- lines that are kept
 

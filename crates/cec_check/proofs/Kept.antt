@@ -115,7 +115,7 @@ kept_event script number named (line ∷ lines) = by (is_kept script line) refl 
 
 -- what meets a pattern meets one of these lines
 abbrev Covers : List (List ℕ) → List ℕ → Type 0
-Covers all pattern = (told : List ℕ) → fits pattern told ≡ true → list_any (meets told) all ≡ true
+Covers all pattern = (reported : List ℕ) → fits pattern reported ≡ true → list_any (meets reported) all ≡ true
 
 last_false : (a b c : Bool) → c ≡ false → (a && b && c) ≡ false
 last_false true true c h = h
@@ -124,11 +124,11 @@ last_false false b c h = refl
 
 unseen : (all words : List (List ℕ)) (span : Span) (pattern : List ℕ) → Covers all pattern → (o : Option RoundLine) → is_other_kept all words o ≡ false → end_by span pattern o ≡ None
 unseen all words span pattern covers None h = refl
-unseen all words span pattern covers (Some r) h = by (fits pattern r.told) refl
+unseen all words span pattern covers (Some r) h = by (fits pattern r.reported) refl
   where
-    by : (b : Bool) → fits pattern r.told ≡ b → end_by span pattern (Some r) ≡ None
-    by true e = absurd (false≢true (sym h ∙ covers r.told e))
-    by false e = ap (λ b. if b then Some r.at else None) (last_false (nat_le span.from r.begin) (nat_le r.at span.to) (fits pattern r.told) e)
+    by : (b : Bool) → fits pattern r.reported ≡ b → end_by span pattern (Some r) ≡ None
+    by true e = absurd (false≢true (sym h ∙ covers r.reported e))
+    by false e = ap (λ b. if b then Some r.at else None) (last_false (nat_le span.from r.begin) (nat_le r.at span.to) (fits pattern r.reported) e)
 
 not_seen : (script : List ℕ) (span : Span) (pattern : List ℕ) → Covers (lines_of script) pattern → (line : List ℕ) → is_kept script line ≡ false → end_seen span pattern line ≡ None
 not_seen script span pattern covers line h =
@@ -161,13 +161,13 @@ or_first : (a b : Bool) → a ≡ true → (a || b) ≡ true
 or_first true b h = refl
 or_first false b h = absurd (false≢true h)
 
-covered : (script : List ℕ) (number : ℕ) (lines : List (List ℕ)) → ((told : List ℕ) → list_any (meets told) lines ≡ true → list_any (meets told) (lines_of script) ≡ true)
+covered : (script : List ℕ) (number : ℕ) (lines : List (List ℕ)) → ((reported : List ℕ) → list_any (meets reported) lines ≡ true → list_any (meets reported) (lines_of script) ≡ true)
     → ((other : ℕ) → name_lines number lines other ≡ true → is_named script other ≡ true) → AreCovered script number lines
 covered script number [] h names = tt
 covered script number (line ∷ lines) h names = (
   first (form_in (after_label (words_of line))) refl,
   λ labelled. names number (or_first (names_line number line number) (name_lines (number + 1) lines number) (ap (λ b. b && (number == number)) labelled ∙ itself number)),
-  covered script (number + 1) lines (λ told k. h told (ap (λ b. meets told line || b) k ∙ or_so (meets told line)))
+  covered script (number + 1) lines (λ reported k. h reported (ap (λ b. meets reported line || b) k ∙ or_so (meets reported line)))
       (λ other k. names other (ap (λ b. names_line number line other || b) k ∙ or_so (names_line number line other))),
 )
   where
@@ -175,7 +175,7 @@ covered script number (line ∷ lines) h names = (
     first (Err cause) e = tt
     first (Ok Other) e = tt
     first (Ok (Rounds quantity window pattern)) e =
-        λ told k. h told (ap (λ (g : Result Form LineFault). meets_pattern told (pattern_by g) || list_any (meets told) lines) e ∙ ap (λ b. b || list_any (meets told) lines) k)
+        λ reported k. h reported (ap (λ (g : Result Form LineFault). meets_pattern reported (pattern_by g) || list_any (meets reported) lines) e ∙ ap (λ b. b || list_any (meets reported) lines) k)
     first (Ok (State time device words)) e = tt
     first (Ok (Refused name word)) e = tt
 
@@ -292,7 +292,7 @@ enough : (script few trace : List ℕ) (states : List (List ℕ)) (found : List 
     → list_any (λ f. is_unmet f.judged) found ≡ false → r ≡ report_by script few found → lines_of few ≡ kept script (lines_of trace) → r ≡ report script trace states
 enough script few trace states found r is h made are =
     let all = lines_of script in
-    let c = covered script 1 all (λ told k. k) (λ other k. k) in
+    let c = covered script 1 all (λ reported k. k) (λ other k. k) in
     let js : verdicts_of script few states ≡ verdicts_of script trace states = lines_same script few trace are (λ line. None) 1 all states c in
     let met : list_any (λ f. is_unmet f.judged) (findings_of script few states) ≡ false = ap (list_any (λ (f : Finding). is_unmet f.judged)) (sym is) ∙ h in
     let tests : with_lines few report_start 1 all states (verdicts_of script few states) ≡ with_lines trace report_start 1 all states (verdicts_of script trace states) =

@@ -13,7 +13,7 @@ use Rattle.cec_asm.specs.Topology.{Plan}
 use Rattle.cec_asm.specs.Script.{IsScriptRead}
 use Rattle.cec_asm.proofs.OneReading.{one_script}
 use Rattle.cec_expect.specs.Line.{cut_script}
-use Rattle.cec_run.specs.Emulate.{IsTraceOf, IsTold}
+use Rattle.cec_run.specs.Emulate.{IsTraceOf, IsReported}
 use Rattle.cec_run.specs.declared.emulate.EmulateError.{EmulateError}
 use Rattle.cec_run.specs.declared.emulate.EmulateError.TheVariants.{Topology, Script, Edid, Write, Memory}
 use Rattle.cec_run.specs.declared.run.Totals.{Totals}
@@ -51,16 +51,16 @@ IsWant (Write count) = Unit {0}
 IsWant Memory = Unit {0}
 
 pub not_refused_earlier : (topology plain text : List ℕ) (time : ℕ) (totals : Totals) (error : EmulateError) → time ≤ latest_event → IsTraceOf topology plain text totals
-    → IsTold topology (cut_script time plain) error → IsWant error
-not_refused_earlier topology plain text time totals (Topology line cause word) early run told = (let accepted = run.accepted.plan_is in cc)
-not_refused_earlier topology plain text time totals (Script line cause word) early run told =
-    let same : told.0 ≡ run.plan = one_plan topology run.plan told.0 run.accepted.plan_is told.1 in
-    let refused = subst (λ (p : Plan). IsScriptRead p.tree (cut_script time plain) (Err (record { line = line; cause = cause; word = word }))) same told.2 in
+    → IsReported topology (cut_script time plain) error → IsWant error
+not_refused_earlier topology plain text time totals (Topology line cause word) early run reported = (let accepted = run.accepted.plan_is in cc)
+not_refused_earlier topology plain text time totals (Script line cause word) early run reported =
+    let same : reported.0 ≡ run.plan = one_plan topology run.plan reported.0 run.accepted.plan_is reported.1 in
+    let refused = subst (λ (p : Plan). IsScriptRead p.tree (cut_script time plain) (Err (record { line = line; cause = cause; word = word }))) same reported.2 in
     let read = cuts_are_read run.plan.tree time plain run.course early run.accepted.course_is in
     let clash = one_script run.plan.tree (cut_script time plain) (cut_course time run.course) (Err (record { line = line; cause = cause; word = word })) read refused in
     cc
-not_refused_earlier topology plain text time totals (Edid cause) early run told =
-    let same : told.0 ≡ run.plan = one_plan topology run.plan told.0 run.accepted.plan_is told.2.plan_is in
-    no_root_refused run.plan.edid run.edid told.3 cause run.root (ap (λ (p : Plan). p.edid) (sym same) ∙ told.4) told.5
-not_refused_earlier topology plain text time totals (Write count) early run told = tt
-not_refused_earlier topology plain text time totals Memory early run told = tt
+not_refused_earlier topology plain text time totals (Edid cause) early run reported =
+    let same : reported.0 ≡ run.plan = one_plan topology run.plan reported.0 run.accepted.plan_is reported.2.plan_is in
+    no_root_refused run.plan.edid run.edid reported.3 cause run.root (ap (λ (p : Plan). p.edid) (sym same) ∙ reported.4) reported.5
+not_refused_earlier topology plain text time totals (Write count) early run reported = tt
+not_refused_earlier topology plain text time totals Memory early run reported = tt

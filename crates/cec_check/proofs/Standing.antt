@@ -10,7 +10,7 @@ use Rattle.hdmi_core.specs.Words.{words_of}
 use Rattle.cec_expect.specs.Line.{cut_script}
 use Rattle.cec_run.specs.Emulate.{IsTraceOf}
 use Rattle.cec_run.specs.declared.run.Totals.{Totals}
-use Rattle.cec_judge.specs.Told.{event_in, is_state_of, round_by, round_in, state_among, state_line, told_in}
+use Rattle.cec_judge.specs.Told.{event_in, is_state_of, round_by, round_in, state_among, state_line, reported_in}
 use Rattle.cec_check.specs.Kept.{is_event_kept, is_kept, is_other_kept, kept}
 use Rattle.cec_check.specs.States.{IsStateAt}
 
@@ -31,7 +31,7 @@ state_other lines name (verb ∷ []) h = absurd (false≢true h)
 state_other lines name (verb ∷ device ∷ words) h =
     let is = left_of (bytes_eq verb (codes "state")) (bytes_eq device name) h in
     let none : number_of verb ≡ None = ap number_of ((bytes_eq-Decides verb (codes "state")).0 is) ∙ no_number in
-    ap (λ (o : Option ℕ). is_other_kept lines (verb ∷ device ∷ words) (round_by o (number_of device) (told_in words))) none ∙ is
+    ap (λ (o : Option ℕ). is_other_kept lines (verb ∷ device ∷ words) (round_by o (number_of device) (reported_in words))) none ∙ is
 
 state_needed : (script name line : List ℕ) → is_state_of name (words_of line) ≡ true → is_kept script line ≡ true
 state_needed script name line h =
@@ -55,10 +55,10 @@ state_kept script name (line ∷ lines) = by (is_kept script line) refl (state_k
 pub state_of_run : (topology plain cut lent old new text few read device line none state script : List ℕ) (time : ℕ) (totals : Totals) → cut ≡ cut_script time plain → lent ≡ cut → old ≡ []
     → IsTraceOf topology lent text totals → Appends (Some old) (Some new) text → lines_of few ≡ kept script (lines_of new) → read ≡ few → line ≡ state_line read device → none ≡ []
     → state ≡ none ++ line → IsStateAt topology plain time device state
-state_of_run topology plain cut lent old new text few read device line none state script time totals is same empty trace written are again told nothing made = record {
+state_of_run topology plain cut lent old new text few read device line none state script time totals is same empty trace written are again reported nothing made = record {
   trace = text;
   totals = totals;
   run = subst (λ p. IsTraceOf topology p text totals) (same ∙ is) trace;
-  state_is = made ∙ ap (λ t. t ++ line) nothing ∙ told ∙ ap (λ t. state_line t device) again ∙ ap (state_among device) are ∙ state_kept script device (lines_of new)
+  state_is = made ∙ ap (λ t. t ++ line) nothing ∙ reported ∙ ap (λ t. state_line t device) again ∙ ap (state_among device) are ∙ state_kept script device (lines_of new)
       ∙ ap (λ t. state_line t device) (written ∙ ap (λ h. h ++ text) empty);
 }

@@ -4,7 +4,7 @@ use Rattle.std.specs.Io.KnownBytes.{Appends}
 use Rattle.hdmi_core.specs.Lines.{lines_of}
 use Rattle.cec_expect.specs.Line.{plain_script}
 use Rattle.cec_expect.specs.Faults.{first_fault}
-use Rattle.cec_run.specs.Emulate.{IsTraceOf, IsTold}
+use Rattle.cec_run.specs.Emulate.{IsTraceOf, IsReported}
 use Rattle.cec_run.specs.declared.run.Totals.{Totals}
 use Rattle.cec_check.specs.States.{AreStates}
 use Rattle.cec_check.specs.Kept.{kept}
@@ -41,11 +41,11 @@ IsChecked topology script old new tally =
 
 -- When each refusal comes: those of the run of the plain script, and then the first line whose label or expectation is at fault.
 -- Of memory nothing is said.
-abbrev pub IsCheckTold : List ℕ → List ℕ → CheckError → Type 0
-IsCheckTold topology script (Emulate error) = IsTold topology (plain_script script) error
-IsCheckTold topology script (Expect fault) = (trace : List ℕ) × (totals : Totals) × IsTraceOf topology (plain_script script) trace totals × (first_fault topology script ≡ Some fault)
-IsCheckTold topology script (Write count) = (r : Report) × IsReportOf topology script r
-IsCheckTold topology script Memory = Unit {0}
+abbrev pub IsCheckReported : List ℕ → List ℕ → CheckError → Type 0
+IsCheckReported topology script (Emulate error) = IsReported topology (plain_script script) error
+IsCheckReported topology script (Expect fault) = (trace : List ℕ) × (totals : Totals) × IsTraceOf topology (plain_script script) trace totals × (first_fault topology script ≡ Some fault)
+IsCheckReported topology script (Write count) = (r : Report) × IsReportOf topology script r
+IsCheckReported topology script Memory = Unit {0}
 
 -- what a refusal has written: after a failed write the front of the report, as long as it reports, and else nothing
 abbrev pub IsCheckCut : List ℕ → List ℕ → Option (List ℕ) → Option (List ℕ) → CheckError → Type 0
@@ -72,8 +72,8 @@ abbrev pub AreVerdictsOf : List ℕ → List ℕ → List Bool → Type 0
 AreVerdictsOf topology script verdicts = (r : Report) × IsReportOf topology script r × (verdicts ≡ r.verdicts)
 
 -- when each refusal comes where nothing is written: as with a report
-pub record IsVerdictTold (topology script : List ℕ) (error : CheckError) : Type 0 where
-  pub told : IsCheckTold topology script error
+pub record IsVerdictReported (topology script : List ℕ) (error : CheckError) : Type 0 where
+  pub reported : IsCheckReported topology script error
   pub unwritten : is_write_fault error ≡ false
 
 -- a tally counts the verdicts, and those of them that are false

@@ -25,17 +25,17 @@ abbrev pub pattern_of : List ℕ → Option (List ℕ)
 pattern_of line = pattern_by (form_in (after_label (words_of line)))
 
 abbrev pub meets_pattern : List ℕ → Option (List ℕ) → Bool
-meets_pattern told None = false
-meets_pattern told (Some pattern) = fits pattern told
+meets_pattern reported None = false
+meets_pattern reported (Some pattern) = fits pattern reported
 
 -- what a round's line says meets the pattern of a line of a script
 abbrev pub meets : List ℕ → List ℕ → Bool
-meets told line = meets_pattern told (pattern_of line)
+meets reported line = meets_pattern reported (pattern_of line)
 
 -- a line of a round is needed where it meets the pattern of one of these lines; of other lines those of states
 abbrev pub is_other_kept : List (List ℕ) → List (List ℕ) → Option RoundLine → Bool
 is_other_kept lines words None = has_verb (codes "state") words
-is_other_kept lines words (Some r) = list_any (meets r.told) lines
+is_other_kept lines words (Some r) = list_any (meets r.reported) lines
 
 -- an event of a line with a label, or one that is refused
 abbrev pub is_event_kept : List ℕ → Option EventLine → Bool

@@ -5,7 +5,7 @@ ghost use Rattle.cec_expect.specs.Line.{plain_script};
 ghost use Rattle.cec_expect.specs.Faults.{first_fault};
 ghost use Rattle.cec_judge.specs.Judged.{states_for};
 ghost use Rattle.cec_check.specs.States.{AreStates};
-ghost use Rattle.cec_check.specs.Check.{AreKept, AreVerdictsOf, IsCheckCut, IsCheckTold, IsChecked, IsReportOf, IsVerdictTold, is_write, tally_of};
+ghost use Rattle.cec_check.specs.Check.{AreKept, AreVerdictsOf, IsCheckCut, IsCheckReported, IsChecked, IsReportOf, IsVerdictReported, is_write, tally_of};
 ghost use Rattle.cec_check.specs.Report.{report_as};
 
 use crate::held::Held;
@@ -81,7 +81,7 @@ fn report_by_trace(
     requires accepted { first_fault topology.now script.now ≡ None }
     requires states { AreStates topology.now (plain_script script.now) (lines_of script.now) (states_for (lines_of script.now) (map (λ state. state.items) states.now)) }
     ensures ok { IfOk result (λ draft. IsReportOf topology.now script.now (report_as draft)) }
-    ensures told { IfErr result (IsVerdictTold topology.now script.now) }
+    ensures reported { IfErr result (IsVerdictReported topology.now script.now) }
 {
     let mut trace = Held::new(alloc);
     match emulate(alloc, topology, plain, &mut trace) {
@@ -105,7 +105,7 @@ fn few_of(
 ) -> Result<Vec<u8>, CheckError>
     requires plain { plain.now ≡ plain_script script.now }
     ensures ok { IfOk result (λ few. AreKept topology.now script.now few.items) }
-    ensures told { IfErr result (IsVerdictTold topology.now script.now) }
+    ensures reported { IfErr result (IsVerdictReported topology.now script.now) }
 {
     let Ok(patterns) = Patterns::new(alloc, script) else {
         return Err(CheckError::Memory);
@@ -127,7 +127,7 @@ fn few_of(
 #[tactic(auto, using(crate::proofs::Checked::traced_of, crate::proofs::Checked::faulty, crate::proofs::Checked::faultless, crate::proofs::Checked::states_of_plain, crate::proofs::Checked::reported_few))]
 fn report_of(alloc: Global, topology: &[u8], script: &[u8]) -> Result<ReportDraft, CheckError>
     ensures ok { IfOk result (λ draft. IsReportOf topology.now script.now (report_as draft)) }
-    ensures told { IfErr result (IsVerdictTold topology.now script.now) }
+    ensures reported { IfErr result (IsVerdictReported topology.now script.now) }
 {
     let Ok(plain) = plain_script(alloc, script) else {
         return Err(CheckError::Memory);
@@ -171,7 +171,7 @@ pub fn check<S: Sink>(
     out: &mut S,
 ) -> Result<Tally, CheckError>
     ensures ok { IfOk result (IsChecked topology.now script.now (S.contents out.old) (S.contents out.new)) }
-    ensures told { IfErr result (IsCheckTold topology.now script.now) }
+    ensures reported { IfErr result (IsCheckReported topology.now script.now) }
     ensures write { S.is_stuck out.old ≡ false → (IsTrue (is_write result) ↔ IsTrue (S.is_stuck out.new)) }
     ensures cut { IfErr result (IsCheckCut topology.now script.now (S.contents out.old) (S.contents out.new)) }
 {
@@ -193,7 +193,7 @@ pub fn check<S: Sink>(
 /// Those of [`check`], except that nothing is written.
 pub fn verdicts(alloc: Global, topology: &[u8], script: &[u8]) -> Result<Vec<bool>, CheckError>
     ensures ok { IfOk result (λ verdicts. AreVerdictsOf topology.now script.now verdicts.items) }
-    ensures told { IfErr result (IsVerdictTold topology.now script.now) }
+    ensures reported { IfErr result (IsVerdictReported topology.now script.now) }
 {
     Ok(report_of(alloc, topology, script)?.verdicts)
 }

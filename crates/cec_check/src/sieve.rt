@@ -24,7 +24,7 @@ pub(crate) struct Patterns<'a> {
     named: NamedLines<'a>,
     texts: Vec<&'a [u8]>,
     ghost named_are: { named.script.now ≡ script.now },
-    ghost are: { (told : List ℕ) → list_any (λ text. fits text.now told) texts.items ≡ list_any (meets told) (lines_of script.now) },
+    ghost are: { (reported : List ℕ) → list_any (λ text. fits text.now reported) texts.items ≡ list_any (meets reported) (lines_of script.now) },
 }
 
 fn pattern_of(line: &[u8]) -> Option<&[u8]>
@@ -64,8 +64,8 @@ fn has(texts: &[&[u8]], pattern: &[u8]) -> bool
 // Adds the pattern of a line, where it has one that is new.
 #[tactic(auto, using(crate::proofs::Keeping::none_added, crate::proofs::Keeping::had_already, crate::proofs::Keeping::added))]
 fn add_pattern<'a>(texts: &mut Vec<&'a [u8]>, line: &'a [u8]) -> Result<(), AllocError>
-    ensures { OnOk result ((told : List ℕ) → list_any (λ text. fits text.now told) texts.new.items
-        ≡ (list_any (λ text. fits text.now told) texts.old.items || meets told line.now)) }
+    ensures { OnOk result ((reported : List ℕ) → list_any (λ text. fits text.now reported) texts.new.items
+        ≡ (list_any (λ text. fits text.now reported) texts.old.items || meets reported line.now)) }
 {
     let Some(pattern) = pattern_of(line) else {
         return Ok(());
@@ -78,12 +78,12 @@ fn add_pattern<'a>(texts: &mut Vec<&'a [u8]>, line: &'a [u8]) -> Result<(), Allo
 }
 
 // Whether a pattern is met.
-fn fits_any(texts: &[&[u8]], told: &[u8]) -> bool
-    ensures { result ≡ list_any (λ text. fits text.now told.now) texts.now }
+fn fits_any(texts: &[&[u8]], reported: &[u8]) -> bool
+    ensures { result ≡ list_any (λ text. fits text.now reported.now) texts.now }
 {
     let mut rest = texts;
     'patterns: while let [text, others @ ..] = rest {
-        if fits(text, told) {
+        if fits(text, reported) {
             return true;
         }
         rest = others;
@@ -92,7 +92,7 @@ fn fits_any(texts: &[&[u8]], told: &[u8]) -> bool
 }
 
 // Whether the first word of a line is that of a state.
-fn tells_state(line: &[u8]) -> bool
+fn reports_state(line: &[u8]) -> bool
     ensures { result ≡ has_verb (codes "state") (words_of line.now) }
 {
     let (verb, _rest) = first_word(line);
@@ -136,8 +136,8 @@ impl<'a> Patterns<'a> {
             return true;
         }
         match round_in(line) {
-            None => tells_state(line),
-            Some(round) => fits_any(&self.texts, round.told),
+            None => reports_state(line),
+            Some(round) => fits_any(&self.texts, round.reported),
         }
     }
 }

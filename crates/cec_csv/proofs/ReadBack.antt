@@ -123,16 +123,16 @@ time_ok t low =
 
 -- of a level
 record IsLevel (level : ℕ) (low : Bool) : Type 0 where
-  told : level_by (Some (level ∷ [])) ≡ Some low
+  reported : level_by (Some (level ∷ [])) ≡ Some low
   alone : fields_of (level ∷ []) ≡ (level ∷ []) ∷ []
   plain : (level == 10) ≡ false
   last : (level == 13) ≡ false
 
 fall : IsLevel 48 true
-fall = record { told = refl; alone = refl; plain = refl; last = refl }
+fall = record { reported = refl; alone = refl; plain = refl; last = refl }
 
 rise : IsLevel 49 false
-rise = record { told = refl; alone = refl; plain = refl; last = refl }
+rise = record { reported = refl; alone = refl; plain = refl; last = refl }
 
 row_ok : (t level : ℕ) (low : Bool) → t ≤ 2000000000000 → IsLevel level low → row_of 0 (row_line t level) ≡ Some (record { time = time_at t; low = low })
 row_ok t level low early is =
@@ -140,7 +140,7 @@ row_ok t level low early is =
     ap without_return (row_last t level) ∙ no_return (seconds t ++ 44 ∷ []) level is.last ∙ sym (row_last t level) ∙ row_parts t level in
     let cut : fields_of (seconds t ++ 44 ∷ level ∷ []) ≡ seconds t ∷ (level ∷ []) ∷ [] =
     slice_split_at (λ b. b == 44) (seconds t) 44 (level ∷ []) (seconds_lack 44 t (omega arith) early) refl ∙ ap (λ fs. seconds t ∷ fs) is.alone in
-    ap (λ l. row_in 0 (fields_of l)) whole ∙ ap (row_in 0) cut ∙ ap (λ o. row_by o (level_by (Some (level ∷ [])))) (time_ok t early) ∙ ap (row_by (Some (time_at t))) is.told
+    ap (λ l. row_in 0 (fields_of l)) whole ∙ ap (row_in 0) cut ∙ ap (λ o. row_by o (level_by (Some (level ∷ [])))) (time_ok t early) ∙ ap (row_by (Some (time_at t))) is.reported
 
 row_plain : (t level : ℕ) (low : Bool) → t ≤ 2000000000000 → IsLevel level low → Lacks 10 (row_line t level)
 row_plain t level low early is =
@@ -173,10 +173,10 @@ row_taken t level low again at was is early l =
     ∙ ap (λ o. moved_to from_zero o low (stood again at was is)) (instant_ok t early)
 
 -- a row's line, before what follows
-told_line : (number t level : ℕ) (low : Bool) (more : List ℕ) (again : Bool) (at : ℕ) (was is : Bool) (u : Reader) (edge : Option Edge) → t ≤ 2000000000000 → IsLevel level low
+reported_line : (number t level : ℕ) (low : Bool) (more : List ℕ) (again : Bool) (at : ℕ) (was is : Bool) (u : Reader) (edge : Option Edge) → t ≤ 2000000000000 → IsLevel level low
     → moved_to from_zero (Some t) low (stood again at was is) ≡ Ok (record { reader = u; edge = edge })
     → lines_read number (lines_of (row_line t level ++ 10 ∷ more)) (stood again at was is) ≡ with_edges (option_to_list edge) (lines_read (number + 1) (lines_of more) u)
-told_line number t level low more again at was is u edge early l move =
+reported_line number t level low more again at was is u edge early l move =
     ap (λ lines. lines_read number lines (stood again at was is)) (line_before (row_line t level) more (row_plain t level low early l))
     ∙ ap (λ stepped. read_on (passed_by number stepped) (lines_read (number + 1) (lines_of more))) (row_taken t level low again at was is early l ∙ move)
 
@@ -188,9 +188,9 @@ again_by low is_low = not (differ low is_low)
 move_kept : (t at : ℕ) (again b low : Bool) → at ≤ t → moved_to from_zero (Some t) low (stood again at b b) ≡ Ok (record { reader = stood (again_by low b) t b low; edge = None })
 move_kept t at again b low after = ap (λ m. moved_by from_zero m low (stood again at b b)) (moving.move_kept t at b after)
 
-move_told : (t at : ℕ) (again b low : Bool) → at < t
+move_reported : (t at : ℕ) (again b low : Bool) → at < t
     → moved_to from_zero (Some t) low (stood again at (not b) b) ≡ Ok (record { reader = stood (again_by low b) t b low; edge = Some (record { at = at; low = b }) })
-move_told t at again b low after = ap (λ m. moved_by from_zero m low (stood again at (not b) b)) (moving.move_told t at b after)
+move_reported t at again b low after = ap (λ m. moved_by from_zero m low (stood again at (not b) b)) (moving.move_reported t at b after)
 
 move_same : (t : ℕ) (again was is low : Bool) → moved_to from_zero (Some t) low (stood again t was is) ≡ Ok (record { reader = stood (again_by low is) t was low; edge = None })
 move_same t again was is low = ap (λ m. moved_by from_zero m low (stood again t was is)) (moving.move_same t was is)
@@ -211,10 +211,10 @@ fall_reads : (t at : ℕ) (b : Bool) (more : List ℕ) (edges : List Edge) (end 
     → ((number : ℕ) (again : Bool) → lines_read number (lines_of more) (stood again t false true) ≡ with_end edges end)
     → (number : ℕ) (again : Bool) → lines_read number (lines_of (row_line t 48 ++ 10 ∷ more)) (stood again at b false) ≡ with_end (option_to_list (due at b) ++ edges) end
 fall_reads t at true more edges end after low rest number again =
-    told_line number t 48 true more again at true false (stood (again_by true false) t false true) (Some (record { at = at; low = false })) low fall (move_told t at again false true (omega (arith, after)))
+    reported_line number t 48 true more again at true false (stood (again_by true false) t false true) (Some (record { at = at; low = false })) low fall (move_reported t at again false true (omega (arith, after)))
     ∙ ap (with_edges (record { at = at; low = false } ∷ [])) (rest (number + 1) (again_by true false))
 fall_reads t at false more edges end after low rest number again =
-    told_line number t 48 true more again at false false (stood (again_by true false) t false true) None low fall (move_kept t at again false true after)
+    reported_line number t 48 true more again at false false (stood (again_by true false) t false true) None low fall (move_kept t at again false true after)
     ∙ ap (with_edges []) (rest (number + 1) (again_by true false))
 
 stretch_parts : (s : Stretch) → stretch_text s ≡ row_text s.from 48 ++ row_text s.to 49
@@ -228,7 +228,7 @@ stretch_reads s at b more edges end after wide low rest number again =
     ap (λ text. lines_read number (lines_of text) (stood again at b false)) parts
     ∙ fall_reads s.from at b (row_line s.to 49 ++ 10 ∷ more) (record { at = s.from; low = true } ∷ record { at = s.to; low = false } ∷ edges) end after (omega arith)
     (λ n a.
-    told_line n s.to 49 false more a s.from false true (stood (again_by false true) s.to true false) (Some (record { at = s.from; low = true })) low rise (move_told s.to s.from a true false wide)
+    reported_line n s.to 49 false more a s.from false true (stood (again_by false true) s.to true false) (Some (record { at = s.from; low = true })) low rise (move_reported s.to s.from a true false wide)
     ∙ ap (with_edges (record { at = s.from; low = true } ∷ [])) (rest (n + 1) (again_by false true)))
     number again
 
@@ -236,19 +236,19 @@ stretch_reads s at b more edges end after wide low rest number again =
 end_reads : (end at : ℕ) (b : Bool) → at ≤ end → end ≤ 2000000000000 → Reads (row_text end 49) at b [] end
 end_reads end at false after low number again =
     ap (λ text. lines_read number (lines_of text) (stood again at false false)) (sym (append-nil (row_text end 49)) ∙ cut_line end 49 [])
-    ∙ told_line number end 49 false [] again at false false (stood true end false false) None low rise (move_kept end at again false false after)
+    ∙ reported_line number end 49 false [] again at false false (stood true end false false) None low rise (move_kept end at again false false after)
 end_reads end at true after low number again = by (nat_lt at end) refl
   where
     by : (t : Bool) → nat_lt at end ≡ t → lines_read number (lines_of (row_text end 49)) (stood again at true false) ≡ with_end (record { at = at; low = false } ∷ []) end
     by true h =
         let earlier : at < end = grind (arith, nat_tests) in
         ap (λ text. lines_read number (lines_of text) (stood again at true false)) (sym (append-nil (row_text end 49)) ∙ cut_line end 49 [])
-        ∙ told_line number end 49 false [] again at true false (stood true end false false) (Some (record { at = at; low = false })) low rise (move_told end at again false false earlier)
+        ∙ reported_line number end 49 false [] again at true false (stood true end false false) (Some (record { at = at; low = false })) low rise (move_reported end at again false false earlier)
     by false h =
         let same : at ≡ end = grind (arith, nat_tests) in
         ap (λ text. lines_read number (lines_of text) (stood again at true false)) (sym (append-nil (row_text end 49)) ∙ cut_line end 49 [])
         ∙ ap (λ k. lines_read number (lines_of (row_line end 49 ++ 10 ∷ [])) (stood again k true false)) same
-        ∙ told_line number end 49 false [] again end true false (stood true end true false) None low rise (move_same end again true false false)
+        ∙ reported_line number end 49 false [] again end true false (stood true end true false) None low rise (move_same end again true false false)
         ∙ ap (λ k. with_end (record { at = k; low = false } ∷ []) end) (sym same)
 
 abbrev EndsBy : ℕ → List Stretch → Type 0

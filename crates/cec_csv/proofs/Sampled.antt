@@ -10,7 +10,7 @@ use Rattle.cec_signal.specs.Track.{Moved, differ, last_edge, track_move}
 use Rattle.cec_signal.specs.declared.track.Track.{Track}
 use Rattle.cec_signal.proofs.Recording.{Records, moved_at, records_capture, records_end, records_level, records_line, records_moved}
 use Rattle.cec_csv.specs.Csv.{Step, Stepped, first_reader, column_of, column_read, edges_in, end_of, ends_after, with_row, lines_read, moved_by, moved_to, named_read, or_first, passed_by, read_on, row_of, since, since_by, took_by, with_edges}
-use Rattle.cec_csv.specs.Sampling.{CsvFilesAreSampled, Level, end_by, level_of, level_told, levels_of, rows_by, rows_in, rows_of}
+use Rattle.cec_csv.specs.Sampling.{CsvFilesAreSampled, Level, end_by, level_of, level_reported, levels_of, rows_by, rows_in, rows_of}
 use Rattle.cec_csv.specs.declared.row.Row.{Row}
 use Rattle.cec_csv.specs.declared.row.Time.{Time}
 use Rattle.cec_csv.specs.declared.reader.Reader.{Reader}
@@ -73,7 +73,7 @@ record Goes (old : Reader) (step : Step) (first : Time) (l : Level) : Type 0 whe
 -- a row led on has a level
 record GoesOn (old : Reader) (step : Step) (row : Row) : Type 0 where
   nanos : ℕ
-  told : since (or_first old.first row.time) row.time ≡ Some nanos
+  reported : since (or_first old.first row.time) row.time ≡ Some nanos
   goes : Goes old step (or_first old.first row.time) (record { since = nanos; low = row.low })
 
 abbrev GoesBy : Reader → Stepped → Row → Type 0
@@ -85,12 +85,12 @@ row_goes r row = by (since (or_first r.first row.time) row.time) refl
   where
     moves : (nanos : ℕ) → since (or_first r.first row.time) row.time ≡ Some nanos → nanos ≤ 2000000000000000 → (o : Option Moved) → track_move (rounded nanos) r.track ≡ o
         → GoesBy r (moved_by (or_first r.first row.time) o row.low r) row
-    moves nanos told small None h = tt
-    moves nanos told small (Some m) h =
+    moves nanos reported small None h = tt
+    moves nanos reported small (Some m) h =
         let at = moved_at (rounded nanos) r.track m h in
         record {
           nanos = nanos;
-          told = told;
+          reported = reported;
           goes = record {
             first_is = refl;
             column = refl;
@@ -106,8 +106,8 @@ row_goes r row = by (since (or_first r.first row.time) row.time) refl
 
     late : (nanos : ℕ) → since (or_first r.first row.time) row.time ≡ Some nanos → (c : Bool) → nat_lt 2000000000000000 nanos ≡ c
         → GoesBy r (moved_to (or_first r.first row.time) (if c then None else Some (rounded nanos)) row.low r) row
-    late nanos told true h = tt
-    late nanos told false h = moves nanos told (grind (arith, nat_tests)) (track_move (rounded nanos) r.track) refl
+    late nanos reported true h = tt
+    late nanos reported false h = moves nanos reported (grind (arith, nat_tests)) (track_move (rounded nanos) r.track) refl
 
     by : (o : Option ℕ) → since (or_first r.first row.time) row.time ≡ o → GoesBy r (since_by (or_first r.first row.time) o row.low r) row
     by None h = tt
@@ -126,7 +126,7 @@ run_more : (r : Reader) (step : Step) (e f : Captured) (time : ℕ) (row : Row) 
 run_more r step e f time row rows g ran is =
     let first = or_first r.first row.time in
     let l : Level = record { since = g.nanos; low = row.low } in
-    let levels : levels_of r.first (row ∷ rows) ≡ l ∷ levels_of (Some first) rows = ap (λ o. option_to_list (level_told o row.low) ++ levels_of (Some first) rows) g.told in
+    let levels : levels_of r.first (row ∷ rows) ≡ l ∷ levels_of (Some first) rows = ap (λ o. option_to_list (level_reported o row.low) ++ levels_of (Some first) rows) g.reported in
     subst (λ (e : Captured). Ran r e time (row ∷ rows)) (sym is) (record {
       records = subst (λ (ls : List Level). Records r.track (option_to_list step.edge ++ f.edges) (samples_of ls) f.end) (sym levels)
           (g.goes.more f.edges (samples_of (levels_of (Some first) rows)) f.end

@@ -27,14 +27,14 @@ abbrev pub rows_of : List ℕ → List (List ℕ) → List Row
 rows_of signal [] = []
 rows_of signal (line ∷ lines) = rows_by (column_of signal line) lines
 
-abbrev pub level_told : Option ℕ → Bool → Option Level
-level_told None low = None
-level_told (Some since) low = Some (record { since = since; low = low })
+abbrev pub level_reported : Option ℕ → Bool → Option Level
+level_reported None low = None
+level_reported (Some since) low = Some (record { since = since; low = low })
 
 -- their levels, counted from a time, or from the first of them
 abbrev pub levels_of : Option Time → List Row → List Level
 levels_of first [] = []
-levels_of first (row ∷ rows) = option_to_list (level_told (since (or_first first row.time) row.time) row.low) ++ levels_of (Some (or_first first row.time)) rows
+levels_of first (row ∷ rows) = option_to_list (level_reported (since (or_first first row.time) row.time) row.low) ++ levels_of (Some (or_first first row.time)) rows
 
 -- the last level that is not after the first instant of microsecond u counts
 abbrev pub level_of : Bool → List Level → ℕ → Bool

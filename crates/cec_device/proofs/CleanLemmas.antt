@@ -26,7 +26,7 @@ use Rattle.cec_device.specs.declared.keys.KeyError.{KeyError}
 use Rattle.cec_device.specs.declared.device.SubmitError.{SubmitError}
 use Rattle.cec_device.specs.Say.{say, say_all, after_effect}
 use Rattle.cec_feature.specs.declared.say.Say.{Say}
-use Rattle.cec_feature.specs.declared.say.Say.TheVariants.{Reply, Cast, Tell, Refuse}
+use Rattle.cec_feature.specs.declared.say.Say.TheVariants.{Reply, Cast, Report, Refuse}
 use Rattle.cec_feature.specs.Effect.{Effect}
 use Rattle.cec_device.specs.Effects.{by_decoded, after_frame, is_for}
 use Rattle.cec_feature.specs.Effects.{effect_of, refuses, heard_of}
@@ -150,7 +150,7 @@ clean-say limit h (Reply bytes) d k =
     kept_then (nat_lt h.from 15) (with_queued limit h.at (source d.place h.to) h.from bytes d) d k
     (λ e. clean-queued limit h.at (source d.place h.to) h.from bytes d (below_15 h.from e) k)
 clean-say limit h (Cast bytes) d k = clean-queued limit h.at (source d.place h.to) 15 bytes d (lit< tt) k
-clean-say limit h (Tell to bytes) d k =
+clean-say limit h (Report to bytes) d k =
     kept_then (nat_lt to 15) (with_queued limit h.at (source d.place h.to) to bytes d) d k
     (λ e. clean-queued limit h.at (source d.place h.to) to bytes d (below_15 to e) k)
 clean-say limit h (Refuse reason) d k =
@@ -225,7 +225,7 @@ place_then false x d h = refl
 say-place : (limit : ℕ) (h : Heard) (s : Say) (d : State) → (say limit h s d).place ≡ d.place
 say-place limit h (Reply bytes) d = place_then (nat_lt h.from 15) (with_queued limit h.at (source d.place h.to) h.from bytes d) d (queued-place limit h.at (source d.place h.to) h.from bytes d)
 say-place limit h (Cast bytes) d = queued-place limit h.at (source d.place h.to) 15 bytes d
-say-place limit h (Tell to bytes) d = place_then (nat_lt to 15) (with_queued limit h.at (source d.place h.to) to bytes d) d (queued-place limit h.at (source d.place h.to) to bytes d)
+say-place limit h (Report to bytes) d = place_then (nat_lt to 15) (with_queued limit h.at (source d.place h.to) to bytes d) d (queued-place limit h.at (source d.place h.to) to bytes d)
 say-place limit h (Refuse reason) d =
     place_then (nat_lt h.to 15 && (nat_lt h.from 15 && not (h.opcode == 0))) (with_queued limit h.at (source d.place h.to) h.from (0x00 ∷ h.opcode ∷ reason_byte reason ∷ []) d) d
     (queued-place limit h.at (source d.place h.to) h.from (0x00 ∷ h.opcode ∷ reason_byte reason ∷ []) d)
@@ -265,5 +265,5 @@ keeps_place = record {
   keying = λ limit at key press d. keyed-place limit at key press d (key_fault d key);
   submitting = λ limit at frame d. submitted-place d frame at (submit_fault limit d frame);
   waiting = λ d. refl;
-  telling = λ limit at fate d h. rw h (frame_sent-place d fate);
+  reporting = λ limit at fate d h. rw h (frame_sent-place d fate);
 }

@@ -70,7 +70,7 @@ keeps_clean = record {
   leaving = λ d. refl;
   joining = λ limit number at phys d. both _ _ (holds_listed.joining limit number at phys d)
       (clean-reported limit at (put_on number at phys d) (clean-empty (start_place d.kind phys)));
-  telling = λ limit at fate d k. both _ _ (holds_listed.telling limit at fate d (listed d k)) (clean-sent limit at fate d d.place refl (clear d k));
+  reporting = λ limit at fate d k. both _ _ (holds_listed.reporting limit at fate d (listed d k)) (clean-sent limit at fate d d.place refl (clear d k));
   waiting = λ d k. k;
   submitting = λ limit at frame d own k. both _ _ (holds_listed.submitting limit at frame d (listed d k)) (clean-inside limit (is_outside d.kind) own d frame at (clear d k));
   following = λ limit at frame d k. both _ _ (holds_listed.following limit at frame d (listed d k)) (clean-followed limit at frame d (clear d k));

@@ -234,8 +234,8 @@ holds_listed = record {
   leaving = λ d. refl;
   joining = λ limit number at phys d. at_place (after_joining limit d number phys at) d.kind (start_place d.kind phys) (joined-same limit number at phys d).1
       (place_goes_by_fates.joining limit number at phys d) (start_listed d.kind phys);
-  telling = λ limit at fate d h. at_place (after_sending limit d fate at) d.kind (place_after_fate d.kind d.place fate) (sent-same limit at fate d (polled_at d.place)).1
-      (place_goes_by_fates.telling limit at fate d) (step_listed d.kind d.place fate h);
+  reporting = λ limit at fate d h. at_place (after_sending limit d fate at) d.kind (place_after_fate d.kind d.place fate) (sent-same limit at fate d (polled_at d.place)).1
+      (place_goes_by_fates.reporting limit at fate d) (step_listed d.kind d.place fate h);
   waiting = λ d h. h;
   submitting = λ limit at frame d h. at_place (after_submission limit d frame at) d.kind d.place (submitted-same d frame at (submit_fault limit d frame)).1
       (keeps_place.submitting limit at frame d) h;

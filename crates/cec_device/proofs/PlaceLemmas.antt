@@ -11,20 +11,20 @@ use Rattle.cec_feature.specs.Kinds.{addresses, players, second_addresses}
 use Rattle.cec_device.specs.Place.{class_of_poll, place_after, polled_at, place_after_search, second_after, sent_by, settles, place_after_fate, tries}
 use Rattle.cec_device.proofs.OnceLemmas.{frame_sent-place, reported-place}
 use Rattle.cec_device.proofs.NumberLemmas.{put_on}
-use Rattle.cec_device.specs.PlaceLaw.{place_told, PlaceGoesByFates}
+use Rattle.cec_device.specs.PlaceLaw.{place_reported, PlaceGoesByFates}
 
 -- who has settled stays
-settled : (kind : Kind) (first : ℕ) (second : Option ℕ) (fates : List Fate) → place_told kind (Settled first second) fates ≡ Settled first second
+settled : (kind : Kind) (first : ℕ) (second : Option ℕ) (fates : List Fate) → place_reported kind (Settled first second) fates ≡ Settled first second
 settled kind first second [] = refl
 settled kind first second (fate ∷ fates) = settled kind first second fates
 
 -- what follows where a unit has settled, by the fates that are left
 abbrev Goes : Kind → Option ℕ → (ℕ → List Fate → Place) → Type 0
-Goes kind found then = (a : ℕ) (fates : List Fate) → place_told kind (settles kind found a) fates ≡ then a fates
+Goes kind found then = (a : ℕ) (fates : List Fate) → place_reported kind (settles kind found a) fates ≡ then a fates
 
 -- a unit's search from some addresses on
 abbrev Searches : Kind → Option ℕ → (ℕ → List Fate → Place) → ℕ → List ℕ → Type 0
-Searches kind found then a rest = (fates : List Fate) → place_told kind (Polls found a) fates ≡ place_after_search (λ b. Polls found b) then (a ∷ rest) fates
+Searches kind found then a rest = (fates : List Fate) → place_reported kind (Polls found a) fates ≡ place_after_search (λ b. Polls found b) then (a ∷ rest) fates
 
 -- the last address of a list, and one before the others
 last : (kind : Kind) (found : Option ℕ) (then : ℕ → List Fate → Place) → Goes kind found then → (a : ℕ)
@@ -54,7 +54,7 @@ player_searches first =
     (before Combo (Some first) (λ second _. Settled first (Some second)) (λ a fates. settled Combo first (Some a) fates) 8 11 [] refl
     (last Combo (Some first) (λ second _. Settled first (Some second)) (λ a fates. settled Combo first (Some a) fates) 11 refl))
 
-by_all : (kind : Kind) (fates : List Fate) → place_told kind (tries kind None (addresses kind)) fates ≡ place_after kind fates
+by_all : (kind : Kind) (fates : List Fate) → place_reported kind (tries kind None (addresses kind)) fates ≡ place_after kind fates
 by_all Tv = before Tv None (second_after []) (alone Tv refl) 0 14 [] refl (last Tv None (second_after []) (alone Tv refl) 14 refl)
 by_all Recorder =
     before Recorder None (second_after []) (alone Recorder refl) 1 2 (9 ∷ []) refl
@@ -70,17 +70,17 @@ by_all Combo =
     (before Combo None (second_after players) player_searches 2 9 [] refl (last Combo None (second_after players) player_searches 9 refl))
 
 -- a fate moves a device that polls, by a step
-told-place : (limit at : ℕ) (fate : Fate) (d : State) (place : Place) → d.place ≡ place
+informed-place : (limit at : ℕ) (fate : Fate) (d : State) (place : Place) → d.place ≡ place
     → (sent_by limit d fate at (polled_at place)).place ≡ place_after_fate d.kind place fate
-told-place limit at fate d Off e = frame_sent-place d fate ∙ e
-told-place limit at fate d (Settled first second) e = frame_sent-place d fate ∙ e
-told-place limit at fate d (Polls found a) e =
+informed-place limit at fate d Off e = frame_sent-place d fate ∙ e
+informed-place limit at fate d (Settled first second) e = frame_sent-place d fate ∙ e
+informed-place limit at fate d (Polls found a) e =
     reported-place limit at (record d { place = place_after_fate d.kind d.place fate; poll_ready = at; class = class_of_poll fate })
     ∙ ap (λ (p : Place). place_after_fate d.kind p fate) e
 
 pub place_goes_by_fates : PlaceGoesByFates
 place_goes_by_fates = record {
   joining = λ limit number at phys d. reported-place limit at (put_on number at phys d);
-  telling = λ limit at fate d. told-place limit at fate d d.place refl;
+  reporting = λ limit at fate d. informed-place limit at fate d d.place refl;
   by_all = by_all;
 }

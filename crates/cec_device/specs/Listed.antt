@@ -37,7 +37,7 @@ is_listed d = listed_at d.kind d.place
 pub record HoldsListed : Type 0 where
   pub leaving : (d : State) → is_listed (after_leaving d) ≡ true
   pub joining : (limit number at : ℕ) (phys : Phys) (d : State) → is_listed (after_joining limit d number phys at) ≡ true
-  pub telling : (limit at : ℕ) (fate : Fate) (d : State) → is_listed d ≡ true → is_listed (after_sending limit d fate at) ≡ true
+  pub reporting : (limit at : ℕ) (fate : Fate) (d : State) → is_listed d ≡ true → is_listed (after_sending limit d fate at) ≡ true
   pub waiting : (d : State) → is_listed d ≡ true → is_listed (after_waiting d) ≡ true
   pub submitting : (limit at : ℕ) (frame : List ℕ) (d : State) → is_listed d ≡ true → is_listed (after_submission limit d frame at) ≡ true
   pub following : (limit at : ℕ) (frame : List ℕ) (d : State) → is_listed d ≡ true → is_listed (after_frame limit d frame at) ≡ true

@@ -3,7 +3,7 @@ use Rattle.std.specs.Prelude.{ℕ, ◌==◌, ◌&&◌, not, nat_lt, List, [], �
 use Rattle.cec_opcode.specs.Words.{reason_byte}
 use Rattle.cec_feature.specs.declared.record.Heard.{Heard}
 use Rattle.cec_feature.specs.declared.say.Say.{Say}
-use Rattle.cec_feature.specs.declared.say.Say.TheVariants.{Reply, Cast, Tell, Refuse}
+use Rattle.cec_feature.specs.declared.say.Say.TheVariants.{Reply, Cast, Report, Refuse}
 use Rattle.cec_feature.specs.Effect.{Effect}
 use Rattle.cec_device.specs.State.{State, with_queued, source}
 
@@ -13,7 +13,7 @@ use Rattle.cec_device.specs.State.{State, with_queued, source}
 abbrev pub say : ℕ → Heard → Say → State → State
 say limit h (Reply bytes) d = if nat_lt h.from 15 then with_queued limit h.at (source d.place h.to) h.from bytes d else d
 say limit h (Cast bytes) d = with_queued limit h.at (source d.place h.to) 15 bytes d
-say limit h (Tell to bytes) d = if nat_lt to 15 then with_queued limit h.at (source d.place h.to) to bytes d else d
+say limit h (Report to bytes) d = if nat_lt to 15 then with_queued limit h.at (source d.place h.to) to bytes d else d
 say limit h (Refuse reason) d =
     if nat_lt h.to 15 && (nat_lt h.from 15 && not (h.opcode == 0))
     then with_queued limit h.at (source d.place h.to) h.from (0x00 ∷ h.opcode ∷ reason_byte reason ∷ []) d

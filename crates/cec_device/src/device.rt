@@ -182,7 +182,7 @@ impl<const Q: usize> Device<Q> {
             Say::Cast(blocks) => {
                 self.put(heard.at, from, Addr::new(Addr::BROADCAST), blocks.bytes());
             }
-            Say::Tell(to, blocks) => {
+            Say::Report(to, blocks) => {
                 if to.value() < Addr::BROADCAST {
                     self.put(heard.at, from, *to, blocks.bytes());
                 }

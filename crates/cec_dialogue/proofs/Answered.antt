@@ -13,38 +13,38 @@ use Rattle.cec_session.specs.declared.live.LiveError.TheVariants as live
 use Rattle.cec_session.specs.Command.{command_of}
 use Rattle.cec_session.specs.Session.{Session, IsStep, IsDue}
 use Rattle.cec_session.specs.Taken.{IsLineTaken, IsOfMemory}
-use Rattle.cec_session.specs.Whole.{IsLine, AreLines, kept_line, told_of}
+use Rattle.cec_session.specs.Whole.{IsLine, AreLines, kept_line, reported_of}
 use Rattle.cec_session.proofs.Answering.{due_one}
 use Rattle.cec_dialogue.specs.declared.error.SessionError.{SessionError}
 use Rattle.cec_dialogue.specs.declared.error.SessionError.TheVariants.{Read, TooLong, NoScriptLine, Topology, Edid, Script, Write, Memory}
-use Rattle.cec_dialogue.specs.Dialogue.{Come, HasAnswered, HasGone, HaveAnswers, HasEnded, IsAnswering, IsCutLine, IsCutShort, IsFirstPut, IsLineAnswered, IsScriptLine, first_told, is_write}
+use Rattle.cec_dialogue.specs.Dialogue.{Come, HasAnswered, HasGone, HaveAnswers, HasEnded, IsAnswering, IsCutLine, IsCutShort, IsFirstPut, IsLineAnswered, IsScriptLine, first_reported, is_write}
 use Rattle.cec_dialogue.proofs.Coming.{come_more, come_none}
 use Rattle.cec_dialogue.proofs.Putting.{all_short, appends_keep, cut_short}
 
 -- ---- a line
 
-one_line : (line kept told text : List ℕ) (s t : Session) → IsLine s line kept told text t → AreLines (line ∷ []) s (kept ∷ []) told text t
-one_line line kept told text s t is = (t, kept, [], told, text, [], [], is, (refl, refl, refl, refl), refl, sym (append-nil told), sym (append-nil text))
+one_line : (line kept reported text : List ℕ) (s t : Session) → IsLine s line kept reported text t → AreLines (line ∷ []) s (kept ∷ []) reported text t
+one_line line kept reported text s t is = (t, kept, [], reported, text, [], [], is, (refl, refl, refl, refl), refl, sym (append-nil reported), sym (append-nil text))
 
-pub lines_then : (lines kept : List (List ℕ)) (s t u : Session) (told text line own more rest : List ℕ) → AreLines lines s kept told text t → IsLine t line own more rest u
-    → AreLines (lines ++ line ∷ []) s (kept ++ own ∷ []) (told ++ more) (text ++ rest) u
-lines_then [] kept s t u told text line own more rest (nothing, none, empty, same) is =
-    subst (λ (kept : List (List ℕ)). AreLines (line ∷ []) s (kept ++ own ∷ []) (told ++ more) (text ++ rest) u) (sym nothing)
-    (subst (λ (told : List ℕ). AreLines (line ∷ []) s (own ∷ []) (told ++ more) (text ++ rest) u) (sym none)
+pub lines_then : (lines kept : List (List ℕ)) (s t u : Session) (reported text line own more rest : List ℕ) → AreLines lines s kept reported text t → IsLine t line own more rest u
+    → AreLines (lines ++ line ∷ []) s (kept ++ own ∷ []) (reported ++ more) (text ++ rest) u
+lines_then [] kept s t u reported text line own more rest (nothing, none, empty, same) is =
+    subst (λ (kept : List (List ℕ)). AreLines (line ∷ []) s (kept ++ own ∷ []) (reported ++ more) (text ++ rest) u) (sym nothing)
+    (subst (λ (reported : List ℕ). AreLines (line ∷ []) s (own ∷ []) (reported ++ more) (text ++ rest) u) (sym none)
     (subst (λ (text : List ℕ). AreLines (line ∷ []) s (own ∷ []) more (text ++ rest) u) (sym empty)
     (one_line line own more rest s u (subst (λ (t : Session). IsLine t line own more rest u) same is))))
-lines_then (first ∷ lines) kept s t u told text line own more rest (mid, here, there, told1, text1, told2, text2, is1, after, kept_is, told_is, text_is) is = (
+lines_then (first ∷ lines) kept s t u reported text line own more rest (mid, here, there, reported1, text1, reported2, text2, is1, after, kept_is, reported_is, text_is) is = (
   mid,
   here,
   there ++ own ∷ [],
-  told1,
+  reported1,
   text1,
-  told2 ++ more,
+  reported2 ++ more,
   text2 ++ rest,
   is1,
-  lines_then lines there mid t u told2 text2 line own more rest after is,
+  lines_then lines there mid t u reported2 text2 line own more rest after is,
   ap (λ l. l ++ own ∷ []) kept_is,
-  ap (λ l. l ++ more) told_is ∙ append_assoc told1 told2 more,
+  ap (λ l. l ++ more) reported_is ∙ append_assoc reported1 reported2 more,
   ap (λ l. l ++ rest) text_is ∙ append_assoc text1 text2 rest,
 )
 
@@ -54,17 +54,17 @@ line_answered : (s asked t : Session) (line text : List ℕ) (step : Step) (old 
     → HasAnswered s line old new t
 line_answered s asked t line text step old mid new going asks due put keep = record {
   kept = kept_line (command_of s.tree line) step line;
-  told = told_of step asked text t due;
+  reported = reported_of step asked text t due;
   text = text;
-  is = record { goes_on = going; step = step; asked = asked; asks = asks; due = due; kept_is = refl; told_is = refl };
+  is = record { goes_on = going; step = step; asked = asked; asks = asks; due = due; kept_is = refl; reported_is = refl };
   put = appends_keep old mid new text put keep;
 }
 
 -- it was put whole, and is handed on or not
-pub whole_answered : (s t : Session) (line : List ℕ) (told count : ℕ) (was is : Bool) (old mid new : Option (List ℕ)) (result : Result Unit SessionError) → s.notes.end ≡ None → IsLineTaken s line t old mid was is (Ok told)
+pub whole_answered : (s t : Session) (line : List ℕ) (reported count : ℕ) (was is : Bool) (old mid new : Option (List ℕ)) (result : Result Unit SessionError) → s.notes.end ≡ None → IsLineTaken s line t old mid was is (Ok reported)
     → Keeps mid new → IfErr result (λ error. error ≡ Write count) → IsLineAnswered s line t old new result
-whole_answered s t line told count was is old mid new (Ok done) going (step, asked, asks, (text, due, len, put, flag)) keep error = line_answered s asked t line text step old mid new going asks due put keep
-whole_answered s t line told count was is old mid new (Err fault) going (step, asked, asks, (text, due, len, put, flag)) keep error =
+whole_answered s t line reported count was is old mid new (Ok done) going (step, asked, asks, (text, due, len, put, flag)) keep error = line_answered s asked t line text step old mid new going asks due put keep
+whole_answered s t line reported count was is old mid new (Err fault) going (step, asked, asks, (text, due, len, put, flag)) keep error =
     subst (λ (error : SessionError). IsLineAnswered s line t old new (Err error)) (sym error) (
       step,
       asked,
@@ -83,10 +83,10 @@ cut_answered s t line at count was is old mid new (Err fault) (step, asked, asks
 pub memory_answered : (s t : Session) (line : List ℕ) (was is : Bool) (old new : Option (List ℕ)) → IsLineTaken s line t old new was is (Err live.Memory) → IsLineAnswered s line t old new (Err Memory)
 memory_answered s t line was is old new taken = taken.1
 
-pub whole_from : (s t : Session) (line : List ℕ) (told count : ℕ) (was is : Bool) (old mid new : Option (List ℕ)) (taken : Result ℕ LiveError) (result : Result Unit SessionError) → taken ≡ Ok told → s.notes.end ≡ None
+pub whole_from : (s t : Session) (line : List ℕ) (reported count : ℕ) (was is : Bool) (old mid new : Option (List ℕ)) (taken : Result ℕ LiveError) (result : Result Unit SessionError) → taken ≡ Ok reported → s.notes.end ≡ None
     → IsLineTaken s line t old mid was is taken → Keeps mid new → IfErr result (λ error. error ≡ Write count) → IsLineAnswered s line t old new result
-whole_from s t line told count was is old mid new taken result e going w keep error =
-    whole_answered s t line told count was is old mid new result going (subst (λ (taken : Result ℕ LiveError). IsLineTaken s line t old mid was is taken) e w) keep error
+whole_from s t line reported count was is old mid new taken result e going w keep error =
+    whole_answered s t line reported count was is old mid new result going (subst (λ (taken : Result ℕ LiveError). IsLineTaken s line t old mid was is taken) e w) keep error
 
 pub cut_from : (s t : Session) (line : List ℕ) (at count : ℕ) (was is : Bool) (old mid new : Option (List ℕ)) (taken : Result ℕ LiveError) (inner : LiveError) (result : Result Unit SessionError) → taken ≡ Err inner → inner ≡ live.Write at
     → IsLineTaken s line t old mid was is taken → Keeps mid new → (is ≡ true → IsErr result) → IfErr result (λ error. error ≡ Write count) → IsLineAnswered s line t old new result
@@ -106,21 +106,21 @@ of_memory taken inner e f = subst IsOfMemory (sym e) (subst (λ (inner : LiveErr
 
 -- ---- what stands first
 
-pub first_put : (s : Session) (old mid new : Option (List ℕ)) (was is : Bool) (told count : ℕ) (result : Result Unit SessionError) → WrittenText old mid was is (first_told s) (Ok told) → Keeps mid new
+pub first_put : (s : Session) (old mid new : Option (List ℕ)) (was is : Bool) (reported count : ℕ) (result : Result Unit SessionError) → WrittenText old mid was is (first_reported s) (Ok reported) → Keeps mid new
     → IfErr result (λ error. error ≡ Write count) → IsFirstPut s old new result
-first_put s old mid new was is told count (Ok done) w keep error = appends_keep old mid new (first_told s) w.1 keep
-first_put s old mid new was is told count (Err fault) w keep error =
-    subst (λ (error : SessionError). IsFirstPut s old new (Err error)) (sym error) (all_short (first_told s) old new (appends_keep old mid new (first_told s) w.1 keep))
+first_put s old mid new was is reported count (Ok done) w keep error = appends_keep old mid new (first_reported s) w.1 keep
+first_put s old mid new was is reported count (Err fault) w keep error =
+    subst (λ (error : SessionError). IsFirstPut s old new (Err error)) (sym error) (all_short (first_reported s) old new (appends_keep old mid new (first_reported s) w.1 keep))
 
-pub first_cut : (s : Session) (old mid new : Option (List ℕ)) (was is : Bool) (inner : WriteFault) (count : ℕ) (result : Result Unit SessionError) → WrittenText old mid was is (first_told s) (Err inner) → Keeps mid new → IsErr result
+pub first_cut : (s : Session) (old mid new : Option (List ℕ)) (was is : Bool) (inner : WriteFault) (count : ℕ) (result : Result Unit SessionError) → WrittenText old mid was is (first_reported s) (Err inner) → Keeps mid new → IsErr result
     → IfErr result (λ error. error ≡ Write count) → IsFirstPut s old new result
 first_cut s old mid new was is inner count (Ok done) w keep failed error = absurd (false≢true failed)
 first_cut s old mid new was is inner count (Err fault) w keep failed error =
-    subst (λ (error : SessionError). IsFirstPut s old new (Err error)) (sym error) (cut_short (first_told s) old mid new inner w.0 keep)
+    subst (λ (error : SessionError). IsFirstPut s old new (Err error)) (sym error) (cut_short (first_reported s) old mid new inner w.0 keep)
 
-pub first_is : (s : Session) (old mid new : Option (List ℕ)) (was is : Bool) (written : Result ℕ WriteFault) (count : ℕ) (result : Result Unit SessionError) → WrittenText old mid was is (first_told s) written → Keeps mid new
+pub first_is : (s : Session) (old mid new : Option (List ℕ)) (was is : Bool) (written : Result ℕ WriteFault) (count : ℕ) (result : Result Unit SessionError) → WrittenText old mid was is (first_reported s) written → Keeps mid new
     → (is ≡ true → IsErr result) → IfErr result (λ error. error ≡ Write count) → IsFirstPut s old new result
-first_is s old mid new was is (Ok told) count result w keep failed error = first_put s old mid new was is told count result w keep error
+first_is s old mid new was is (Ok reported) count result w keep failed error = first_put s old mid new was is reported count result w keep error
 first_is s old mid new was is (Err inner) count result w keep failed error = first_cut s old mid new was is inner count result w keep (failed w.1) error
 
 -- ---- all lines so far
@@ -135,7 +135,7 @@ appends_none (Some xs) = sym (append-nil xs)
 
 pub so_far_start : (known put : Option (List ℕ)) (s : Session) → SoFar known known s put put s 0
 so_far_start known put s = record {
-  answers = record { lines = []; kept = []; told = []; text = []; come = come_none known; whole = All-nil IsWhole; few = omega arith; are = (refl, refl, refl, refl); put = appends_none put };
+  answers = record { lines = []; kept = []; reported = []; text = []; come = come_none known; whole = All-nil IsWhole; few = omega arith; are = (refl, refl, refl, refl); put = appends_none put };
   counted = refl;
 }
 
@@ -148,12 +148,12 @@ so_far_more before mid after s t u old put new line count r few l h =
       answers = record {
         lines = a.lines ++ line ∷ [];
         kept = a.kept ++ h.kept ∷ [];
-        told = a.told ++ h.told;
+        reported = a.reported ++ h.reported;
         text = a.text ++ h.text;
         come = come_more before mid after a.lines line a.come l.1;
         whole = All-append IsWhole a.lines (line ∷ []) a.whole (All-cons IsWhole line [] l.0 (All-nil IsWhole));
         few = omega (arith, n, few);
-        are = lines_then a.lines a.kept s t u a.told a.text line h.kept h.told h.text a.are h.is;
+        are = lines_then a.lines a.kept s t u a.reported a.text line h.kept h.reported h.text a.are h.is;
         put = Appends-trans old put new a.text h.text a.put h.put;
       };
       counted = n;

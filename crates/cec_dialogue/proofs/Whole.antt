@@ -5,16 +5,16 @@ use Rattle.hdmi_blocks.specs.declared.edid.Edid.{Edid as EdidValue}
 use Rattle.cec_net.specs.State.{first_net}
 use Rattle.cec_incoming.specs.Incoming.{text_of_lines}
 use Rattle.cec_asm.specs.Topology.{Plan}
-use Rattle.cec_run.specs.declared.run.Telling.TheVariants.{Trace}
+use Rattle.cec_run.specs.declared.run.Reporting.TheVariants.{Trace}
 use Rattle.cec_run.specs.Run.{IsRunText, start}
 use Rattle.cec_run.specs.Emulate.{IsTraceOf}
 use Rattle.cec_session.specs.Session.{Session, first_session}
 use Rattle.cec_session.specs.Whole.{AreLines}
-use Rattle.cec_session.proofs.Wholly.{sessions_tell_traces}
-use Rattle.cec_session.proofs.Kept.{sessions_tell_traces_of}
+use Rattle.cec_session.proofs.Wholly.{sessions_report_traces}
+use Rattle.cec_session.proofs.Kept.{sessions_report_traces_of}
 use Rattle.cec_dialogue.specs.declared.error.SessionError.{SessionError}
 use Rattle.cec_dialogue.specs.declared.error.SessionError.TheVariants.{Read, TooLong, NoScriptLine, Topology, Edid, Script, Write, Memory}
-use Rattle.cec_dialogue.specs.Dialogue.{HasBegun, HasEnded, HasGone, HasRun, HaveAnswers, IsAnswering, IsBegun, IsCut, IsCutShort, IsFirstPut, IsLeft, IsOpened, IsOpening, IsSession, IsTalk, IsTopologyFault, first_told, is_write}
+use Rattle.cec_dialogue.specs.Dialogue.{HasBegun, HasEnded, HasGone, HasRun, HaveAnswers, IsAnswering, IsBegun, IsCut, IsCutShort, IsFirstPut, IsLeft, IsOpened, IsOpening, IsSession, IsTalk, IsTopologyFault, first_reported, is_write}
 
 -- ---- what stands first, and the answers
 
@@ -34,19 +34,19 @@ talked_cut before after s old new Memory first = absurd first
 
 -- ---- the trace
 
-trace_of : (topology : List ℕ) (s : Session) (b : HasBegun topology s) (lines kept : List (List ℕ)) (told text : List ℕ) (t : Session) (end : ℕ) (before after old new : Option (List ℕ)) (a : HaveAnswers before after s old new t)
-    → t.notes.end ≡ Some end → length t.notes.pulses ≤ 4096 → IsTraceOf topology (text_of_lines a.kept) (first_told s ++ a.told) t.place.totals
-trace_of topology s b lines kept told text t end before after old new a ended sparse =
-    let are : AreLines a.lines (first_session b.edid b.plan.tree) a.kept a.told a.text t = subst (λ (s : Session). AreLines a.lines s a.kept a.told a.text t) b.is a.are in
-    subst (λ (s : Session). IsTraceOf topology (text_of_lines a.kept) (first_told s ++ a.told) t.place.totals) (sym b.is)
-    (sessions_tell_traces_of topology b.plan b.edid a.lines a.kept a.told a.text t end b.plan_is b.root a.whole a.few sparse are ended)
+trace_of : (topology : List ℕ) (s : Session) (b : HasBegun topology s) (lines kept : List (List ℕ)) (reported text : List ℕ) (t : Session) (end : ℕ) (before after old new : Option (List ℕ)) (a : HaveAnswers before after s old new t)
+    → t.notes.end ≡ Some end → length t.notes.pulses ≤ 4096 → IsTraceOf topology (text_of_lines a.kept) (first_reported s ++ a.reported) t.place.totals
+trace_of topology s b lines kept reported text t end before after old new a ended sparse =
+    let are : AreLines a.lines (first_session b.edid b.plan.tree) a.kept a.reported a.text t = subst (λ (s : Session). AreLines a.lines s a.kept a.reported a.text t) b.is a.are in
+    subst (λ (s : Session). IsTraceOf topology (text_of_lines a.kept) (first_reported s ++ a.reported) t.place.totals) (sym b.is)
+    (sessions_report_traces_of topology b.plan b.edid a.lines a.kept a.reported a.text t end b.plan_is b.root a.whole a.few sparse are ended)
 
 run_of : (topology : List ℕ) (s : Session) (b : HasBegun topology s) (t : Session) (end : ℕ) (before after old new : Option (List ℕ)) (a : HaveAnswers before after s old new t)
-    → t.notes.end ≡ Some end → IsRunText (Trace b.edid) end (start (first_net b.plan.tree t.notes.pulses) t.notes.events) (first_told s ++ a.told) t.place.totals
+    → t.notes.end ≡ Some end → IsRunText (Trace b.edid) end (start (first_net b.plan.tree t.notes.pulses) t.notes.events) (first_reported s ++ a.reported) t.place.totals
 run_of topology s b t end before after old new a ended =
-    let are : AreLines a.lines (first_session b.edid b.plan.tree) a.kept a.told a.text t = subst (λ (s : Session). AreLines a.lines s a.kept a.told a.text t) b.is a.are in
-    subst (λ (s : Session). IsRunText (Trace b.edid) end (start (first_net b.plan.tree t.notes.pulses) t.notes.events) (first_told s ++ a.told) t.place.totals) (sym b.is)
-    (sessions_tell_traces b.edid b.plan.tree a.lines a.kept a.told a.text t end are ended)
+    let are : AreLines a.lines (first_session b.edid b.plan.tree) a.kept a.reported a.text t = subst (λ (s : Session). AreLines a.lines s a.kept a.reported a.text t) b.is a.are in
+    subst (λ (s : Session). IsRunText (Trace b.edid) end (start (first_net b.plan.tree t.notes.pulses) t.notes.events) (first_reported s ++ a.reported) t.place.totals) (sym b.is)
+    (sessions_report_traces b.edid b.plan.tree a.lines a.kept a.reported a.text t end are ended)
 
 -- ---- the session
 
@@ -65,8 +65,8 @@ answered_is : (before mid after : Option (List ℕ)) (s : Session) (old put new 
 answered_is before mid after s old put new topology (Ok done) run a = record {
   run = run;
   over = a;
-  told = run_of run.topology run.first run.begins a.last a.end run.mid after run.so_far new a.answers a.ended;
-  trace = trace_of run.topology run.first run.begins a.answers.lines a.answers.kept a.answers.told a.answers.text a.last a.end run.mid after run.so_far new a.answers a.ended;
+  reported = run_of run.topology run.first run.begins a.last a.end run.mid after run.so_far new a.answers a.ended;
+  trace = trace_of run.topology run.first run.begins a.answers.lines a.answers.kept a.answers.reported a.answers.text a.last a.end run.mid after run.so_far new a.answers a.ended;
 }
 answered_is before mid after s old put new topology (Err (Script line cause)) run a = (run, a)
 answered_is before mid after s old put new topology (Err (Write count)) run a = inl (run, a)

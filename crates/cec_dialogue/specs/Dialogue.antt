@@ -9,10 +9,10 @@ use Rattle.cec_incoming.specs.Incoming.{IsWhole, Leads, text_of_lines}
 use Rattle.cec_asm.specs.Topology.{topology_of, Plan}
 use Rattle.hdmi_blocks.specs.Root.{IsRoot, IsNoRoot}
 use Rattle.cec_net.specs.State.{first_net}
-use Rattle.cec_run.specs.declared.run.Telling.TheVariants.{Trace}
-use Rattle.cec_run.specs.Run.{IsRunText, start, start_told}
+use Rattle.cec_run.specs.declared.run.Reporting.TheVariants.{Trace}
+use Rattle.cec_run.specs.Run.{IsRunText, start, start_reported}
 use Rattle.cec_run.specs.Emulate.{IsTraceOf}
-use Rattle.causal_laws.specs.Causal.{before_told}
+use Rattle.causal_laws.specs.Causal.{before_reported}
 use Rattle.cec_session.specs.declared.live.Step.{Step}
 use Rattle.cec_session.specs.Session.{Session, first_session, IsStep, IsDue}
 use Rattle.cec_session.specs.Whole.{IsLine, AreLines}
@@ -121,12 +121,12 @@ abbrev pub IsCutLine : Session → List ℕ → Option (List ℕ) → Option (Li
 IsCutLine s line old new = (step : Step) × (asked : Session) × IsStep s line step asked × ((text : List ℕ) (after : Session) → IsDue step asked text after → IsCutShort text old new)
 
 -- what stands before the first answer: the lines of the ports
-abbrev pub first_told : Session → List ℕ
-first_told s = start_told (Trace s.edid) s.place.net
+abbrev pub first_reported : Session → List ℕ
+first_reported s = start_reported (Trace s.edid) s.place.net
 
 abbrev pub IsFirstPut : Session → Option (List ℕ) → Option (List ℕ) → Result Unit SessionError → Type 0
-IsFirstPut s old new (Ok done) = Appends old new (first_told s)
-IsFirstPut s old new (Err (Write count)) = IsCutShort (first_told s) old new
+IsFirstPut s old new (Ok done) = Appends old new (first_reported s)
+IsFirstPut s old new (Err (Write count)) = IsCutShort (first_reported s) old new
 IsFirstPut s old new (Err Read) = ⊥
 IsFirstPut s old new (Err TooLong) = ⊥
 IsFirstPut s old new (Err NoScriptLine) = ⊥
@@ -138,9 +138,9 @@ IsFirstPut s old new (Err Memory) = ⊥
 -- a line is answered
 pub record HasAnswered (s : Session) (line : List ℕ) (old new : Option (List ℕ)) (t : Session) : Type 0 where
   pub kept : List ℕ
-  pub told : List ℕ
+  pub reported : List ℕ
   pub text : List ℕ
-  pub is : IsLine s line kept told text t
+  pub is : IsLine s line kept reported text t
   pub put : Appends old new text
 
 abbrev pub IsLineAnswered : Session → List ℕ → Session → Option (List ℕ) → Option (List ℕ) → Result Unit SessionError → Type 0
@@ -158,12 +158,12 @@ IsLineAnswered s line t old new (Err (Script at cause)) = ⊥
 pub record HaveAnswers (before after : Option (List ℕ)) (s : Session) (old new : Option (List ℕ)) (t : Session) : Type 0 where
   pub lines : List (List ℕ)
   pub kept : List (List ℕ)
-  pub told : List ℕ
+  pub reported : List ℕ
   pub text : List ℕ
   pub come : Come before after lines
   pub whole : All IsWhole lines
   pub few : length lines ≤ 18446744073709551615
-  pub are : AreLines lines s kept told text t
+  pub are : AreLines lines s kept reported text t
   pub put : Appends old new text
 
 -- lines are answered, and the script has ended
@@ -224,8 +224,8 @@ is_write (Err Memory) = false
 -- what stands first is put, and then lines are answered; or it is cut short
 abbrev pub IsTalk : Option (List ℕ) → Option (List ℕ) → Session → Option (List ℕ) → Option (List ℕ) → Result Unit SessionError → Type 0
 IsTalk before after s old new result =
-    ((so_far : Option (List ℕ)) × Appends old so_far (first_told s) × IsAnswering before after s so_far new result)
-    ⊎ ((is_write result ≡ true) × IsCutShort (first_told s) old new)
+    ((so_far : Option (List ℕ)) × Appends old so_far (first_reported s) × IsAnswering before after s so_far new result)
+    ⊎ ((is_write result ≡ true) × IsCutShort (first_reported s) old new)
 
 -- ---- a whole session
 
@@ -237,7 +237,7 @@ pub record HasRun (before after old new : Option (List ℕ)) : Type 0 where
   pub so_far : Option (List ℕ)
   pub opened : IsOpened before mid topology
   pub begins : HasBegun topology first
-  pub put : Appends old so_far (first_told first)
+  pub put : Appends old so_far (first_reported first)
 
 -- A session is done: its lines are answered up to `end`, and what they have reported, without the answers, is the trace of the
 -- topology with what the lines of its script say. Where these have no more pulses than a script may have, it is the trace of the
@@ -245,8 +245,8 @@ pub record HasRun (before after old new : Option (List ℕ)) : Type 0 where
 pub record IsDone (before after old new : Option (List ℕ)) : Type 0 where
   pub run : HasRun before after old new
   pub over : HasEnded run.mid after run.first run.so_far new
-  pub told : IsRunText (Trace run.begins.edid) over.end (start (first_net run.begins.plan.tree over.last.notes.pulses) over.last.notes.events) (first_told run.first ++ over.answers.told) over.last.place.totals
-  pub trace : length over.last.notes.pulses ≤ 4096 → IsTraceOf run.topology (text_of_lines over.answers.kept) (first_told run.first ++ over.answers.told) over.last.place.totals
+  pub reported : IsRunText (Trace run.begins.edid) over.end (start (first_net run.begins.plan.tree over.last.notes.pulses) over.last.notes.events) (first_reported run.first ++ over.answers.reported) over.last.place.totals
+  pub trace : length over.last.notes.pulses ≤ 4096 → IsTraceOf run.topology (text_of_lines over.answers.kept) (first_reported run.first ++ over.answers.reported) over.last.place.totals
 
 -- what is put where a session stops
 abbrev pub IsStopped : Option (List ℕ) → Option (List ℕ) → Option (List ℕ) → Option (List ℕ) → ℕ → ScriptEnd → Type 0
@@ -255,7 +255,7 @@ IsStopped before after old new line cause = (run : HasRun before after old new) 
 abbrev pub IsCut : Option (List ℕ) → Option (List ℕ) → Option (List ℕ) → Option (List ℕ) → Type 0
 IsCut before after old new =
     ((run : HasRun before after old new) × HasCut run.mid after run.first run.so_far new)
-    ⊎ ((topology : List ℕ) × (first : Session) × (mid : Option (List ℕ)) × IsOpened before mid topology × HasBegun topology first × IsCutShort (first_told first) old new)
+    ⊎ ((topology : List ℕ) × (first : Session) × (mid : Option (List ℕ)) × IsOpened before mid topology × HasBegun topology first × IsCutShort (first_reported first) old new)
 
 -- nothing is put, or what is due of the lines so far
 abbrev pub IsLeft : Option (List ℕ) → Option (List ℕ) → Option (List ℕ) → Option (List ℕ) → Type 0

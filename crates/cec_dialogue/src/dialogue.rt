@@ -78,7 +78,7 @@ fn answer_line<S: Sink>(
     ensures handed { AreHanded ⟦<Buffered<S> as Sink>⟧.is_stuck out.old out.new result }
 {
     match live.line(line, out) {
-        Ok(_told) => hand_on(out),
+        Ok(_reported) => hand_on(out),
         Err(error) => match error {
             LiveError::Write(_count) => hand_on(out),
             LiveError::Memory => Err(SessionError::Memory),

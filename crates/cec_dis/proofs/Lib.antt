@@ -1,3 +1,3 @@
 pub mod Reading
 pub mod Spelled
-pub mod Telling
+pub mod Reporting

@@ -52,7 +52,7 @@ parts_read (Prefixed x high low ∷ parts) are =
 
 spelled_read : (text bytes : List ℕ) → Spells text bytes → bytes_from Between text ≡ Ok bytes
 spelled_read text bytes s =
-    ap (bytes_from Between) s.spelled ∙ parts_read s.parts s.are ∙ ap (λ bs. Ok bs) (sym s.told)
+    ap (bytes_from Between) s.spelled ∙ parts_read s.parts s.are ∙ ap (λ bs. Ok bs) (sym s.reported)
 
 -- ---- what is read is spelled
 
@@ -64,17 +64,17 @@ SpelledFrom Prefix cs bytes = (x : ℕ) → is_prefix 48 x ≡ true → Spells (
 SpelledFrom (HighAfterPrefix high) cs bytes = (x : ℕ) → is_prefix 48 x ≡ true → is_digit high ≡ true → Spells (48 ∷ x ∷ high ∷ cs) bytes
 
 nothing : Spells [] []
-nothing = record { parts = []; are = tt; spelled = refl; told = refl }
+nothing = record { parts = []; are = tt; spelled = refl; reported = refl }
 
 with_mark : (c : ℕ) (cs bytes : List ℕ) → is_mark c ≡ true → Spells cs bytes → Spells (c ∷ cs) bytes
-with_mark c cs bytes e s = record { parts = Mark c ∷ s.parts; are = (e, s.are); spelled = ap (λ t. c ∷ t) s.spelled; told = s.told }
+with_mark c cs bytes e s = record { parts = Mark c ∷ s.parts; are = (e, s.are); spelled = ap (λ t. c ∷ t) s.spelled; reported = s.reported }
 
 with_two : (high low : ℕ) (cs bytes : List ℕ) → is_digit high ≡ true → is_digit low ≡ true → Spells cs bytes → Spells (high ∷ low ∷ cs) (byte_of high low ∷ bytes)
 with_two high low cs bytes e f s = record {
   parts = Byte high low ∷ s.parts;
   are = ((e, f), s.are);
   spelled = ap (λ t. high ∷ low ∷ t) s.spelled;
-  told = ap (λ t. byte_of high low ∷ t) s.told;
+  reported = ap (λ t. byte_of high low ∷ t) s.reported;
 }
 
 with_four : (x high low : ℕ) (cs bytes : List ℕ) → is_prefix 48 x ≡ true → is_digit high ≡ true → is_digit low ≡ true → Spells cs bytes
@@ -83,7 +83,7 @@ with_four x high low cs bytes p e f s = record {
   parts = Prefixed x high low ∷ s.parts;
   are = ((p, e, f), s.are);
   spelled = ap (λ t. 48 ∷ x ∷ high ∷ low ∷ t) s.spelled;
-  told = ap (λ t. byte_of high low ∷ t) s.told;
+  reported = ap (λ t. byte_of high low ∷ t) s.reported;
 }
 
 -- a byte before others, which was read
@@ -96,16 +96,16 @@ joined : (byte : ℕ) (rest : Result (List ℕ) DisCause) (bytes : List ℕ) →
 joined byte (Ok others) bytes e = (let same : byte ∷ others ≡ bytes = cc in record { others = others; read = refl; all = sym same })
 joined byte (Err cause) bytes e = cc
 
-with_byte_told : (high low : ℕ) (cs bytes : List ℕ) → is_digit high ≡ true → is_digit low ≡ true
+with_byte_reported : (high low : ℕ) (cs bytes : List ℕ) → is_digit high ≡ true → is_digit low ≡ true
     → Joined (byte_of high low) (bytes_from Between cs) bytes → ((others : List ℕ) → bytes_from Between cs ≡ Ok others → Spells cs others)
     → Spells (high ∷ low ∷ cs) bytes
-with_byte_told high low cs bytes e f j again =
+with_byte_reported high low cs bytes e f j again =
     subst (λ bs. Spells (high ∷ low ∷ cs) bs) (sym j.all) (with_two high low cs j.others e f (again j.others j.read))
 
-with_prefix_told : (x high low : ℕ) (cs bytes : List ℕ) → is_prefix 48 x ≡ true → is_digit high ≡ true → is_digit low ≡ true
+with_prefix_reported : (x high low : ℕ) (cs bytes : List ℕ) → is_prefix 48 x ≡ true → is_digit high ≡ true → is_digit low ≡ true
     → Joined (byte_of high low) (bytes_from Between cs) bytes → ((others : List ℕ) → bytes_from Between cs ≡ Ok others → Spells cs others)
     → Spells (48 ∷ x ∷ high ∷ low ∷ cs) bytes
-with_prefix_told x high low cs bytes p e f j again =
+with_prefix_reported x high low cs bytes p e f j again =
     subst (λ bs. Spells (48 ∷ x ∷ high ∷ low ∷ cs) bs) (sym j.all) (with_four x high low cs j.others p e f (again j.others j.read))
 
 between_by : (m d : Bool) (c : ℕ) (cs bytes : List ℕ) → is_mark c ≡ m → is_digit c ≡ d
@@ -127,7 +127,7 @@ high_by : (d p : Bool) (h c : ℕ) (cs bytes : List ℕ) → is_digit h ≡ true
     → ((others : List ℕ) → bytes_from Between cs ≡ Ok others → Spells cs others)
     → (bytes_from Prefix cs ≡ Ok bytes → (x : ℕ) → is_prefix 48 x ≡ true → Spells (48 ∷ x ∷ cs) bytes)
     → Spells (h ∷ c ∷ cs) bytes
-high_by true p h c cs bytes eh ed ep e two prefix = with_byte_told h c cs bytes eh ed (joined (byte_of h c) (bytes_from Between cs) bytes e) two
+high_by true p h c cs bytes eh ed ep e two prefix = with_byte_reported h c cs bytes eh ed (joined (byte_of h c) (bytes_from Between cs) bytes e) two
 high_by false true h c cs bytes eh ed ep e two prefix =
     subst (λ first. Spells (first ∷ c ∷ cs) bytes) (sym (prefix_zero h c ep)) (prefix e c (prefix_x h c ep))
 high_by false false h c cs bytes eh ed ep e two prefix = cc
@@ -143,7 +143,7 @@ after_by : (d : Bool) (x h c : ℕ) (cs bytes : List ℕ) → is_prefix 48 x ≡
     → with_step (if d then Ok (Between, Some (byte_of h c)) else Err (cause_of_half c)) (λ next. bytes_from next cs) ≡ Ok bytes
     → ((others : List ℕ) → bytes_from Between cs ≡ Ok others → Spells cs others)
     → Spells (48 ∷ x ∷ h ∷ c ∷ cs) bytes
-after_by true x h c cs bytes ex eh ed e two = with_prefix_told x h c cs bytes ex eh ed (joined (byte_of h c) (bytes_from Between cs) bytes e) two
+after_by true x h c cs bytes ex eh ed e two = with_prefix_reported x h c cs bytes ex eh ed (joined (byte_of h c) (bytes_from Between cs) bytes e) two
 after_by false x h c cs bytes ex eh ed e two = cc
 
 read_spelled : (cs : List ℕ) (place : HexState) (bytes : List ℕ) → bytes_from place cs ≡ Ok bytes → SpelledFrom place cs bytes

@@ -14,13 +14,13 @@ use Rattle.cec_dis.specs.declared.lines.DisError.{DisError}
 use Rattle.cec_dis.specs.declared.lines.DisError.TheVariants.{Line, Write}
 use Rattle.std.specs.Io.KnownBytes.{Appends}
 
-abbrev pub told_frame : Result (List ℕ) DisCause → Result (Option (List ℕ)) DisCause
-told_frame (Ok frame) = Ok (Some frame)
-told_frame (Err cause) = Err cause
+abbrev pub reported_frame : Result (List ℕ) DisCause → Result (Option (List ℕ)) DisCause
+reported_frame (Ok frame) = Ok (Some frame)
+reported_frame (Err cause) = Err cause
 
 -- the frame of a line, if it is not skipped
 abbrev pub line_frame : List ℕ → Result (Option (List ℕ)) DisCause
-line_frame line = if is_skipped line then Ok None else told_frame (frame_in line)
+line_frame line = if is_skipped line then Ok None else reported_frame (frame_in line)
 
 abbrev pub remark_text : Option (List ℕ) → List ℕ
 remark_text None = []
@@ -30,14 +30,14 @@ remark_text (Some word) = codes " # " ++ word
 abbrev pub frame_line : List ℕ → List ℕ
 frame_line frame = frame_text frame ++ remark_text (remark frame) ++ codes "\n"
 
-abbrev pub told_line : Result (Option (List ℕ)) DisCause → List ℕ
-told_line (Ok None) = []
-told_line (Ok (Some frame)) = frame_line frame
-told_line (Err cause) = []
+abbrev pub reported_line : Result (Option (List ℕ)) DisCause → List ℕ
+reported_line (Ok None) = []
+reported_line (Ok (Some frame)) = frame_line frame
+reported_line (Err cause) = []
 
 -- what is written of a line
 abbrev pub line_text : List ℕ → List ℕ
-line_text line = told_line (line_frame line)
+line_text line = reported_line (line_frame line)
 
 abbrev pub fault_of : ℕ → Result (Option (List ℕ)) DisCause → Option DisFault → Option DisFault
 fault_of number (Ok frame) next = next

@@ -36,7 +36,7 @@ pub record Spells (text bytes : List ℕ) : Type 0 where
   pub parts : List Part
   pub are : AreParts parts
   pub spelled : text ≡ flat_map part_text parts
-  pub told : bytes ≡ flat_map part_bytes parts
+  pub reported : bytes ≡ flat_map part_bytes parts
 
 -- what is read of a text is what it spells, and nothing else
 abbrev pub SpellingsAreRead : Type 0

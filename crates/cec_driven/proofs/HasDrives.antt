@@ -9,7 +9,7 @@ use Rattle.cec_vcd.specs.Text.{last}
 use Rattle.cec_wires.specs.Wires.{head}
 use Rattle.cec_asm.specs.declared.script.TimedEvent.{TimedEvent}
 use Rattle.cec_line.specs.declared.format.Format.TheVariants.{Vcd}
-use Rattle.cec_run.specs.declared.run.Telling.TheVariants.{Line}
+use Rattle.cec_run.specs.declared.run.Reporting.TheVariants.{Line}
 use Rattle.cec_run.specs.declared.run.Totals.{Totals}
 use Rattle.cec_run.specs.declared.run.Turn.{Turn}
 use Rattle.cec_run.specs.declared.run.Turn.TheVariants.{Stop, Apply, Round}
@@ -24,10 +24,10 @@ driven_by (Round begin) c d line t = (round_drives (seats_of c.net begin) begin 
 
 driven_turns : (end n : ℕ) (c d : Config) (line : List ℕ) → Leads (Line Vcd) end n c line d → (text : List ℕ) × Drives end n c line text d
 driven_turns end zero c d line l = ([], (l.0, refl, l.1))
-driven_turns end (suc n) c d line (mid, told, rest, turn, after, e) =
-    let one = driven_by (turn_at end c) c mid told turn in
+driven_turns end (suc n) c d line (mid, reported, rest, turn, after, e) =
+    let one = driven_by (turn_at end c) c mid reported turn in
     let others = driven_turns end n mid d rest after in
-    (one.0 ++ others.0, (mid, told, rest, one.0, others.0, one.1, others.1, e, refl))
+    (one.0 ++ others.0, (mid, reported, rest, one.0, others.0, one.1, others.1, e, refl))
 
 driven_from : (end : ℕ) (c : Config) (line : List ℕ) (totals : Totals) → IsRunTextFrom (Line Vcd) end c line totals → (text : List ℕ) × IsDrivenFrom end c text totals
 driven_from end c line totals w =

@@ -13,7 +13,7 @@ use Rattle.cec_line.specs.Format.{line_round}
 use Rattle.cec_line.specs.declared.format.Format.TheVariants.{Vcd}
 use Rattle.cec_text.specs.ReadingText.{is_complete}
 use Rattle.cec_vcd.specs.Text.{last}
-use Rattle.cec_run.specs.declared.run.Telling.TheVariants.{Line}
+use Rattle.cec_run.specs.declared.run.Reporting.TheVariants.{Line}
 use Rattle.cec_run.specs.declared.run.Totals.{Totals}
 use Rattle.cec_run.specs.declared.run.Turn.TheVariants.{Stop, Apply, Round}
 use Rattle.cec_tally.specs.Adds.{AddsAll, AddsFront}
@@ -115,7 +115,7 @@ round_turn_is : (end x : ℕ) (net new : NetState) (events : List TimedEvent) (t
     → IsDrivenTurn end (record { net = net; events = events; totals = totals }) (line_round Vcd ran.outcome.wave) text (record { net = new; events = events; totals = counted })
 round_turn_is end x net new events totals counted text h ran =
     subst (λ t. IsDrivenBy t (record { net = net; events = events; totals = totals }) (line_round Vcd ran.outcome.wave) text (record { net = new; events = events; totals = counted })) (sym h)
-    (record { outcome = ran.outcome; wave = ran.wave; next = ran.next; told = refl; totals = ran.totals_are }, refl, ran.drives)
+    (record { outcome = ran.outcome; wave = ran.wave; next = ran.next; reported = refl; totals = ran.totals_are }, refl, ran.drives)
 
 pub after_turn : (end x : ℕ) (net new : NetState) (rest : List TimedEvent) (totals counted : Totals) (text : List ℕ) (c : Config) (old mid out : Option (List ℕ)) (was between is : Bool) (n m k : ℕ)
     → turn_of end net (first_time rest) ≡ Round x → Ran x net new totals counted text
@@ -150,4 +150,4 @@ pub brings : (end : ℕ) (net new : NetState) (totals counted : Totals) (old out
     → (round : RoundDriven net new totals counted old out was is n m result) → round.begin < end → Brought end net new
 brings end net new totals counted old out was is n m result round soon =
     round_brings (Line Vcd) end round.begin net new totals counted (line_round Vcd round.outcome.wave) round.progress soon
-    (record { outcome = round.outcome; wave = round.wave; next = round.next; told = refl; totals = round.totals })
+    (record { outcome = round.outcome; wave = round.wave; next = round.next; reported = refl; totals = round.totals })

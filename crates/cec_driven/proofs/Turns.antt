@@ -5,7 +5,7 @@ use Rattle.cec_wire.proofs.OneOutcome.{one_outcome}
 use Rattle.cec_net.specs.Step.{after_round, seats_of}
 use Rattle.cec_vcd.specs.Text.{last}
 use Rattle.cec_line.specs.declared.format.Format.TheVariants.{Vcd}
-use Rattle.cec_run.specs.declared.run.Telling.TheVariants.{Line}
+use Rattle.cec_run.specs.declared.run.Reporting.TheVariants.{Line}
 use Rattle.cec_run.specs.declared.run.Totals.{Totals}
 use Rattle.cec_run.specs.declared.run.Turn.{Turn}
 use Rattle.cec_run.specs.declared.run.Turn.TheVariants.{Stop, Apply, Round}
@@ -45,10 +45,10 @@ no_turn end c d x p stops r = subst (λ turn. IsDrivenBy turn c x p d) stops r
 leads_on : (end n m : ℕ) (c d e : Config) (x y text whole : List ℕ) → Drives end n c x text d → Drives end m c y whole e → turn_at end e ≡ Stop
     → (more : ℕ) × (line : List ℕ) × (rest : List ℕ) × Drives end more d line rest e × (whole ≡ text ++ rest)
 leads_on end zero m c d e x y text whole l w stops = (m, y, whole, subst (λ s. Drives end m s y whole e) (sym l.2) w, ap (λ t. t ++ whole) (sym l.1))
-leads_on end (suc n) zero c d e x y text whole (mid, told, rest, driven, left, turn, after, a, b) w stops =
-    absurd (no_turn end c mid told driven (ap (turn_at end) (sym w.2) ∙ stops) turn)
-leads_on end (suc n) (suc m) c d e x y text whole (mid, told, rest, driven, left, turn, after, a, b) (mid', told', rest', driven', left', turn', after', a', b') stops =
-    let one = one_turn end c mid mid' told told' driven driven' turn turn' in
+leads_on end (suc n) zero c d e x y text whole (mid, reported, rest, driven, left, turn, after, a, b) w stops =
+    absurd (no_turn end c mid reported driven (ap (turn_at end) (sym w.2) ∙ stops) turn)
+leads_on end (suc n) (suc m) c d e x y text whole (mid, reported, rest, driven, left, turn, after, a, b) (mid', reported', rest', driven', left', turn', after', a', b') stops =
+    let one = one_turn end c mid mid' reported reported' driven driven' turn turn' in
     let there : Drives end m mid rest' left' e = subst (λ s. Drives end m s rest' left' e) (sym one.1) after' in
     let go = leads_on end n m mid d e rest rest' left left' after there stops in
     (go.0, go.1, go.2, go.3, b' ∙ ap₂ (λ s t. s ++ t) (sym one.0) go.4 ∙ sym (append_assoc driven left go.2) ∙ ap (λ t. t ++ go.2) (sym b))
@@ -66,22 +66,22 @@ one_more end zero c mid d x y text driven l turn = (
   ap (λ t. t ++ y) l.0 ∙ sym (append-nil y),
   ap (λ t. t ++ driven) l.1 ∙ sym (append-nil driven),
 )
-one_more end (suc n) c mid d x y text driven (first, told, rest, head, left, turn, after, a, b) last_turn = (
+one_more end (suc n) c mid d x y text driven (first, reported, rest, head, left, turn, after, a, b) last_turn = (
   first,
-  told,
+  reported,
   rest ++ y,
   head,
   left ++ driven,
   turn,
   one_more end n first mid d rest y left driven after last_turn,
-  ap (λ t. t ++ y) a ∙ append_assoc told rest y,
+  ap (λ t. t ++ y) a ∙ append_assoc reported rest y,
   ap (λ t. t ++ driven) b ∙ append_assoc head left driven,
 )
 
 -- nothing comes after the stop
 stays : (end more : ℕ) (d e : Config) (line rest : List ℕ) → turn_at end d ≡ Stop → Drives end more d line rest e → (rest ≡ []) × (e ≡ d)
 stays end zero d e line rest stops l = (l.1, l.2)
-stays end (suc more) d e line rest stops (mid, told, others, driven, left, turn, after, a, b) = absurd (no_turn end d mid told driven stops turn)
+stays end (suc more) d e line rest stops (mid, reported, others, driven, left, turn, after, a, b) = absurd (no_turn end d mid reported driven stops turn)
 
 -- what the turns so far told is the front of the text
 pub front_of_text : (end n : ℕ) (c d : Config) (line body text : List ℕ) (totals : Totals) → Drives end n c line body d → IsDrivenFrom end c text totals

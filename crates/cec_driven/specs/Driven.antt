@@ -16,7 +16,7 @@ use Rattle.cec_vcd.specs.Text.{last}
 use Rattle.cec_tally.specs.Adds.{Adds}
 use Rattle.hdmi_core.specs.declared.sink.WriteFault.{WriteFault}
 use Rattle.cec_line.specs.declared.format.Format.TheVariants.{Vcd}
-use Rattle.cec_run.specs.declared.run.Telling.TheVariants.{Line}
+use Rattle.cec_run.specs.declared.run.Reporting.TheVariants.{Line}
 use Rattle.cec_run.specs.declared.run.Totals.{Totals}
 use Rattle.cec_run.specs.declared.run.Turn.{Turn}
 use Rattle.cec_run.specs.declared.run.Turn.TheVariants.{Stop, Apply, Round}
@@ -47,8 +47,8 @@ IsDrivenTurn end c line text d = IsDrivenBy (turn_at end c) c line text d
 abbrev pub Drives : ℕ → ℕ → Config → List ℕ → List ℕ → Config → Type 0
 Drives end zero c line text d = (line ≡ []) × (text ≡ []) × (d ≡ c)
 Drives end (suc turns) c line text d =
-    (mid : Config) × (told : List ℕ) × (rest : List ℕ) × (driven : List ℕ) × (left : List ℕ)
-    × IsDrivenTurn end c told driven mid × Drives end turns mid rest left d × (line ≡ told ++ rest) × (text ≡ driven ++ left)
+    (mid : Config) × (reported : List ℕ) × (rest : List ℕ) × (driven : List ℕ) × (left : List ℕ)
+    × IsDrivenTurn end c reported driven mid × Drives end turns mid rest left d × (line ≡ reported ++ rest) × (text ≡ driven ++ left)
 
 -- after the head: the drives of the turns up to where the run stops, and the end, which is not before the last close
 pub record IsDrivenFrom (end : ℕ) (c : Config) (text : List ℕ) (totals : Totals) : Type 0 where

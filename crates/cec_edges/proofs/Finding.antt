@@ -17,7 +17,7 @@ use Rattle.cec_edges.specs.Wired.{heard_by, is_silent_in, IsHeard, IsBegun, IsRo
 use Rattle.cec_wire.proofs.Exists.{made_line, made_round}
 use Rattle.cec_wire.proofs.Records.{Records, no_line, or_false}
 use Rattle.cec_wire.proofs.Stands.{StandsAt}
-use Rattle.cec_edges.proofs.Meets.{are_frames, Tells, round_by}
+use Rattle.cec_edges.proofs.Meets.{are_frames, Reports, round_by}
 use Rattle.cec_wire.proofs.Between.{StandsOn, heard_stands, IsSilent, stays_high}
 use Rattle.cec_edges.proofs.Searching.{at_end, silent_so}
 
@@ -47,11 +47,11 @@ wave_line seats begin pulses later low e h t i s sparse line late stands = fun_e
       | inr ge ↦ high u ge ∙ sym (no_line t u h.wave closed.ends ge)
     ]
 
-pub finds_round : (w : EdgeWire) (e : Ended) (o : Outcome) → IsBegun w → is_silent_in w ≡ true → w.place ≡ Over e → o.wave ≡ w.recorder.wave → Tells w.seats.items w.begin w.bits.items e o → IsRoundOf w o
-finds_round w e o i q over same tells later sparse late =
+pub finds_round : (w : EdgeWire) (e : Ended) (o : Outcome) → IsBegun w → is_silent_in w ≡ true → w.place ≡ Over e → o.wave ≡ w.recorder.wave → Reports w.seats.items w.begin w.bits.items e o → IsRoundOf w o
+finds_round w e o i q over same reports later sparse late =
     round_by w.seats.items w.begin (w.pulses.items ++ later) low w.time w.bits.items e w.held o line
     (wave_line w.seats.items w.begin w.pulses.items later low silent.0 (heard_by w) w.time i silent.1 sparse line late stands ∙ ap line_of (sym same))
-    (at_end w.seats.items low w.begin w.time w.bits.items w.held e (subst (λ p. StandsAt w.seats.items low w.begin w.time w.bits.items w.held p) over stands.stands)) tells
+    (at_end w.seats.items low w.begin w.time w.bits.items w.held e (subst (λ p. StandsAt w.seats.items low w.begin w.time w.bits.items w.held p) over stands.stands)) reports
   where
     low : Line
     low = made_line w.seats.items w.begin (w.pulses.items ++ later)

@@ -14,21 +14,21 @@ use Rattle.cec_bits.specs.declared.sender.SenderState.{SenderState}
 use Rattle.cec_bits.specs.declared.sender.SenderState.TheVariants.{Sending, Out, Stopped}
 use Rattle.cec_bits.specs.Reading.{known_at, reading_of, bits_of}
 use Rattle.cec_bits.specs.Hears.{heard_by, rest, wake_of}
-use Rattle.cec_bits.specs.Kept.{kept_before, running_from, running_of, runs_on, told_in, told_at}
+use Rattle.cec_bits.specs.Kept.{kept_before, running_from, running_of, runs_on, reported_in, reported_at}
 use Rattle.cec_bits.specs.Follows.{StoodBefore, StandsOn, GoesOn}
-use Rattle.cec_bits.specs.Sends.{after_told}
+use Rattle.cec_bits.specs.Sends.{after_reported}
 use Rattle.cec_bits.specs.Sending.{is_whole, out_by, state_by, state_before, IsBefore, SenderStood}
 use Rattle.cec_bits.proofs.Search.{first_in_some}
 use Rattle.cec_bits.proofs.Ends.{until_by}
 use Rattle.cec_bits.proofs.Stood.{was_now}
 use Rattle.cec_bits.proofs.Keeping.{none_runs, one_runs}
-use Rattle.cec_bits.proofs.Sent.{tells_state, stays_same}
+use Rattle.cec_bits.proofs.Sent.{reports_state, stays_same}
 use Rattle.cec_bits.proofs.Following.{stood_calm, once_so, wake_late}
 use Rattle.cec_wire.specs.declared.Seat.{Seat}
 use Rattle.cec_edges.specs.declared.listeners.Listeners.{Listeners}
-use Rattle.cec_edges.specs.Listening.{IsReadOnce, IsSenderOf, SendsFor, AreBegun, AreSenders, IsSending, AreSending, AreStanding, KeepsSenders, IsLevel, HeardOne, AllHeard, IsCalm, Ticks, Reaches, ReachesEdge, sooner_wake, tells}
+use Rattle.cec_edges.specs.Listening.{IsReadOnce, IsSenderOf, SendsFor, AreBegun, AreSenders, IsSending, AreSending, AreStanding, KeepsSenders, IsLevel, HeardOne, AllHeard, IsCalm, Ticks, Reaches, ReachesEdge, sooner_wake, reports}
 use Rattle.cec_wire.proofs.Spans.{reading_spans}
-use Rattle.cec_wire.proofs.Polled.{told_bits}
+use Rattle.cec_wire.proofs.Polled.{reported_bits}
 
 -- ---- the one reading
 
@@ -61,13 +61,13 @@ runs_after low begin u r l m =
     ∙ none_runs low u u ((reading_of low begin).until + 1) (λ v a b. r.quiet v (omega (arith, a)))
 
 -- what is reported is told of it
-pub told_of_it : (low : Line) (begin t : ℕ) → IsReadOnce low begin → told_at low t ≢ Nothing → (begin < t) × (running_of low (t - 1) ≡ Some begin)
-told_of_it low begin zero r n = absurd (n refl)
-told_of_it low begin (suc u) r n = elim (cases_lt u begin) [
-  | inl lt ↦ absurd (n (ap (told_in low (suc u)) (runs_before low begin u r lt)))
+pub reported_of_it : (low : Line) (begin t : ℕ) → IsReadOnce low begin → reported_at low t ≢ Nothing → (begin < t) × (running_of low (t - 1) ≡ Some begin)
+reported_of_it low begin zero r n = absurd (n refl)
+reported_of_it low begin (suc u) r n = elim (cases_lt u begin) [
+  | inl lt ↦ absurd (n (ap (reported_in low (suc u)) (runs_before low begin u r lt)))
   | inr ge ↦ (elim (cases_lt u (reading_of low begin).at) [
     | inl lt ↦ (omega arith, ap (running_of low) (let x : suc u - 1 ≡ u = omega arith in x) ∙ runs_in_it low begin u r ge lt)
-    | inr le ↦ absurd (n (ap (told_in low (suc u)) (runs_after low begin u r ge le)))
+    | inr le ↦ absurd (n (ap (reported_in low (suc u)) (runs_after low begin u r ge le)))
   ])
 ]
 
@@ -77,19 +77,19 @@ over_state : (low : Line) (begin n : ℕ) (sent : List Bool) → (reading_of low
     → state_before low begin sent n ≡ state_by (out_by (bits_of (reading_of low begin)) (is_whole (Some (record { ending = (reading_of low begin).ending; at = (reading_of low begin).at; until = (reading_of low begin).until }))) sent) true
 over_state low begin n sent l m =
     ap (λ (bs : List Bool). state_by (out_by bs (is_whole (known_at n (reading_of low begin)).ended) sent) (nat_lt (reading_of low begin).at n))
-    (told_bits n (reading_of low begin).until (reading_of low begin).slots (reading_spans low begin).told l)
+    (reported_bits n (reading_of low begin).until (reading_of low begin).slots (reading_spans low begin).reported l)
     ∙ ap (λ c. state_by (out_by (bits_of (reading_of low begin)) (is_whole (if c then Some (record { ending = (reading_of low begin).ending; at = (reading_of low begin).at; until = (reading_of low begin).until }) else None)) sent) (nat_lt (reading_of low begin).at n))
     (let x : nat_lt (reading_of low begin).until n ≡ true = grind (arith, nat_tests) in x)
     ∙ ap (λ c. state_by (out_by (bits_of (reading_of low begin)) (is_whole (Some (record { ending = (reading_of low begin).ending; at = (reading_of low begin).at; until = (reading_of low begin).until }))) sent) c)
     (let x : nat_lt (reading_of low begin).at n ≡ true = grind (arith, nat_tests) in x)
 
-state_next : (low : Line) (begin n : ℕ) (sent : List Bool) → IsReadOnce low begin → begin < n → told_at low n ≡ Nothing → state_before low begin sent (n + 1) ≡ state_before low begin sent n
+state_next : (low : Line) (begin n : ℕ) (sent : List Bool) → IsReadOnce low begin → begin < n → reported_at low n ≡ Nothing → state_before low begin sent (n + 1) ≡ state_before low begin sent n
 state_next low begin n sent r l q = elim (cases_lt (n - 1) (reading_of low begin).at) [
-  | inl lt ↦ tells_state low n begin sent (omega arith) (runs_in_it low begin (n - 1) r (omega arith) lt) ∙ ap (after_told sent (state_before low begin sent n)) q ∙ stays_same sent (state_before low begin sent n)
+  | inl lt ↦ reports_state low n begin sent (omega arith) (runs_in_it low begin (n - 1) r (omega arith) lt) ∙ ap (after_reported sent (state_before low begin sent n)) q ∙ stays_same sent (state_before low begin sent n)
   | inr ge ↦ (let u = until_by low begin in over_state low begin (n + 1) sent (omega (arith, u, ge, l)) (omega (arith, ge, l)) ∙ sym (over_state low begin n sent (omega (arith, u, ge, l)) (omega (arith, ge, l))))
 ]
 
-state_later : (low : Line) (begin n m : ℕ) (sent : List Bool) → IsReadOnce low begin → begin < n → ((u : ℕ) → n ≤ u → u < n + m → told_at low u ≡ Nothing) → state_before low begin sent (n + m) ≡ state_before low begin sent n
+state_later : (low : Line) (begin n m : ℕ) (sent : List Bool) → IsReadOnce low begin → begin < n → ((u : ℕ) → n ≤ u → u < n + m → reported_at low u ≡ Nothing) → state_before low begin sent (n + m) ≡ state_before low begin sent n
 state_later low begin n zero sent r l q = ap (state_before low begin sent) (let x : n + zero ≡ n = omega arith in x)
 state_later low begin n (suc m) sent r l q =
     ap (state_before low begin sent) (let x : n + suc m ≡ n + m + 1 = omega arith in x)
@@ -101,7 +101,7 @@ past_later Sending last n t l b = tt
 past_later (Out slot) last n t l b = omega (arith, b)
 past_later Stopped last n t l b = omega (arith, b)
 
-stays : (s : Sender) (low : Line) (n t : ℕ) → IsReadOnce low s.begin → SenderStood s low n → n ≤ t → ((u : ℕ) → n ≤ u → u < t → told_at low u ≡ Nothing) → SenderStood s low t
+stays : (s : Sender) (low : Line) (n t : ℕ) → IsReadOnce low s.begin → SenderStood s low n → n ≤ t → ((u : ℕ) → n ≤ u → u < t → reported_at low u ≡ Nothing) → SenderStood s low t
 stays s low n t r h l q =
     let e : n + (t - n) ≡ t = omega arith in
     record {
@@ -110,7 +110,7 @@ stays s low n t r h l q =
       past = past_later s.state s.last n t l h.past;
     }
 
-sends_later : (low : Line) (begin n t : ℕ) (o : Option Sender) → IsReadOnce low begin → begin ≤ n → n ≤ t → ((u : ℕ) → n ≤ u → u < t → told_at low u ≡ Nothing) → IsSending low begin n o → IsSending low begin t o
+sends_later : (low : Line) (begin n t : ℕ) (o : Option Sender) → IsReadOnce low begin → begin ≤ n → n ≤ t → ((u : ℕ) → n ≤ u → u < t → reported_at low u ≡ Nothing) → IsSending low begin n o → IsSending low begin t o
 sends_later low begin n t None r f l q s = tt
 sends_later low begin n t (Some x) r f l q s = (s.0, λ k. s.1 (omega arith), late)
   where
@@ -123,20 +123,20 @@ sends_later low begin n t (Some x) r f l q s = (s.0, λ k. s.1 (omega arith), la
       | inr ge ↦ stays x low (begin + 1) t once (s.1 ge) (omega arith) (λ u a b. q u (omega arith) b)
     ]
 
-all_later : (low : Line) (begin n t : ℕ) (os : List (Option Sender)) → IsReadOnce low begin → begin ≤ n → n ≤ t → ((u : ℕ) → n ≤ u → u < t → told_at low u ≡ Nothing) → AreSending low begin n os → AreSending low begin t os
+all_later : (low : Line) (begin n t : ℕ) (os : List (Option Sender)) → IsReadOnce low begin → begin ≤ n → n ≤ t → ((u : ℕ) → n ≤ u → u < t → reported_at low u ≡ Nothing) → AreSending low begin n os → AreSending low begin t os
 all_later low begin n t [] r f l q s = tt
 all_later low begin n t (o ∷ os) r f l q s = (sends_later low begin n t o r f l q s.0, all_later low begin n t os r f l q s.1)
 
 -- ---- a sender that is told something
 
-hears_told : (low : Line) (begin t : ℕ) (told : Told) (o p : Option Sender) → IsReadOnce low begin → told ≡ told_at low t → told ≢ Nothing → HeardOne told t o p → IsSending low begin t o → IsSending low begin (t + 1) p
-hears_told low begin t told None None r e n h s = tt
-hears_told low begin t told None (Some y) r e n h s = let z : Some y ≡ None = h in cc
-hears_told low begin t told (Some x) None r e n h s = absurd h
-hears_told low begin t told (Some x) (Some y) r e n h s = (h.1 ∙ s.0, λ k. absurd (omega (arith, k, runs.0)), λ k. stood)
+hears_reported : (low : Line) (begin t : ℕ) (reported : Told) (o p : Option Sender) → IsReadOnce low begin → reported ≡ reported_at low t → reported ≢ Nothing → HeardOne reported t o p → IsSending low begin t o → IsSending low begin (t + 1) p
+hears_reported low begin t reported None None r e n h s = tt
+hears_reported low begin t reported None (Some y) r e n h s = let z : Some y ≡ None = h in cc
+hears_reported low begin t reported (Some x) None r e n h s = absurd h
+hears_reported low begin t reported (Some x) (Some y) r e n h s = (h.1 ∙ s.0, λ k. absurd (omega (arith, k, runs.0)), λ k. stood)
   where
     runs : (begin < t) × (running_of low (t - 1) ≡ Some begin)
-    runs = told_of_it low begin t r (λ z. n (e ∙ z))
+    runs = reported_of_it low begin t r (λ z. n (e ∙ z))
 
     stood : SenderStood y low (t + 1)
     stood = h.2 low t (s.2 runs.0) (record {
@@ -145,72 +145,72 @@ hears_told low begin t told (Some x) (Some y) r e n h s = (h.1 ∙ s.0, λ k. ab
       silent = λ u a b. absurd (omega arith);
     }) e
 
-all_told : (low : Line) (begin t : ℕ) (told : Told) (os ps : List (Option Sender)) → IsReadOnce low begin → told ≡ told_at low t → told ≢ Nothing → AllHeard told t os ps → AreSending low begin t os → AreSending low begin (t + 1) ps
-all_told low begin t told [] [] r e n h s = tt
-all_told low begin t told [] (p ∷ ps) r e n h s = absurd h
-all_told low begin t told (o ∷ os) [] r e n h s = absurd h
-all_told low begin t told (o ∷ os) (p ∷ ps) r e n h s = (hears_told low begin t told o p r e n h.0 s.0, all_told low begin t told os ps r e n h.1 s.1)
+all_reported : (low : Line) (begin t : ℕ) (reported : Told) (os ps : List (Option Sender)) → IsReadOnce low begin → reported ≡ reported_at low t → reported ≢ Nothing → AllHeard reported t os ps → AreSending low begin t os → AreSending low begin (t + 1) ps
+all_reported low begin t reported [] [] r e n h s = tt
+all_reported low begin t reported [] (p ∷ ps) r e n h s = absurd h
+all_reported low begin t reported (o ∷ os) [] r e n h s = absurd h
+all_reported low begin t reported (o ∷ os) (p ∷ ps) r e n h s = (hears_reported low begin t reported o p r e n h.0 s.0, all_reported low begin t reported os ps r e n h.1 s.1)
 
-sends_for : (seat : Seat) (begin : ℕ) (told : Told) (t : ℕ) (o p : Option Sender) → HeardOne told t o p → SendsFor seat begin o → SendsFor seat begin p
-sends_for seat begin told t None None h s = s
-sends_for seat begin told t None (Some y) h s = let z : Some y ≡ None = h in cc
-sends_for seat begin told t (Some x) None h s = absurd h
-sends_for seat begin told t (Some x) (Some y) h s = (s.0 ∙ ap (λ (f : List ℕ). Some f) (sym h.0), h.1 ∙ s.1)
+sends_for : (seat : Seat) (begin : ℕ) (reported : Told) (t : ℕ) (o p : Option Sender) → HeardOne reported t o p → SendsFor seat begin o → SendsFor seat begin p
+sends_for seat begin reported t None None h s = s
+sends_for seat begin reported t None (Some y) h s = let z : Some y ≡ None = h in cc
+sends_for seat begin reported t (Some x) None h s = absurd h
+sends_for seat begin reported t (Some x) (Some y) h s = (s.0 ∙ ap (λ (f : List ℕ). Some f) (sym h.0), h.1 ∙ s.1)
 
-pub senders_kept : (seats : List Seat) (begin : ℕ) (told : Told) (t : ℕ) (os ps : List (Option Sender)) → AllHeard told t os ps → AreSenders seats begin os → AreSenders seats begin ps
-senders_kept [] begin told t [] [] h s = tt
-senders_kept [] begin told t [] (p ∷ ps) h s = absurd h
-senders_kept [] begin told t (o ∷ os) ps h s = absurd s
-senders_kept (seat ∷ seats) begin told t [] ps h s = absurd s
-senders_kept (seat ∷ seats) begin told t (o ∷ os) [] h s = absurd h
-senders_kept (seat ∷ seats) begin told t (o ∷ os) (p ∷ ps) h s = (sends_for seat begin told t o p h.0 s.0, senders_kept seats begin told t os ps h.1 s.1)
+pub senders_kept : (seats : List Seat) (begin : ℕ) (reported : Told) (t : ℕ) (os ps : List (Option Sender)) → AllHeard reported t os ps → AreSenders seats begin os → AreSenders seats begin ps
+senders_kept [] begin reported t [] [] h s = tt
+senders_kept [] begin reported t [] (p ∷ ps) h s = absurd h
+senders_kept [] begin reported t (o ∷ os) ps h s = absurd s
+senders_kept (seat ∷ seats) begin reported t [] ps h s = absurd s
+senders_kept (seat ∷ seats) begin reported t (o ∷ os) [] h s = absurd h
+senders_kept (seat ∷ seats) begin reported t (o ∷ os) (p ∷ ps) h s = (sends_for seat begin reported t o p h.0 s.0, senders_kept seats begin reported t os ps h.1 s.1)
 
 -- ---- one after another
 
 -- those before place i have heard it
-pub record HeardBy (told : Told) (t i : ℕ) (olds now : List (Option Sender)) : Type 0 where
+pub record HeardBy (reported : Told) (t i : ℕ) (olds now : List (Option Sender)) : Type 0 where
   pub news : List (Option Sender)
   pub is : now ≡ news ++ drop i olds
-  pub heard : AllHeard told t (take i olds) news
+  pub heard : AllHeard reported t (take i olds) news
 
-pub heard_begins : (told : Told) (t : ℕ) (olds : List (Option Sender)) → HeardBy told t 0 olds olds
-heard_begins told t olds = record { news = []; is = refl; heard = tt }
+pub heard_begins : (reported : Told) (t : ℕ) (olds : List (Option Sender)) → HeardBy reported t 0 olds olds
+heard_begins reported t olds = record { news = []; is = refl; heard = tt }
 
-heard_more : (told : Told) (t i : ℕ) (olds news : List (Option Sender)) (now : List (Option Sender)) (o p : Option Sender) → i < length olds → now ≡ news ++ drop i olds → AllHeard told t (take i olds) news
-    → HeardOne told t (slice_index_or now i o) p → HeardBy told t (suc i) olds (slice_set now i p)
-heard_more told t i [] news now o p l e h g = absurd (omega (arith, l))
-heard_more told t zero (x ∷ olds) [] now o p l e h g = record { news = p ∷ []; is = rw e refl; heard = (subst (λ (ss : List (Option Sender)). HeardOne told t (slice_index_or ss 0 o) p) e g, tt) }
-heard_more told t zero (x ∷ olds) (n ∷ news) now o p l e h g = absurd h
-heard_more told t (suc i) (x ∷ olds) [] now o p l e h g = absurd h
-heard_more told t (suc i) (x ∷ olds) (n ∷ news) now o p l e h g =
-    let m = heard_more told t i olds news (news ++ drop i olds) o p (omega (arith, l)) refl h.1 (subst (λ (ss : List (Option Sender)). HeardOne told t (slice_index_or ss (suc i) o) p) e g) in
+heard_more : (reported : Told) (t i : ℕ) (olds news : List (Option Sender)) (now : List (Option Sender)) (o p : Option Sender) → i < length olds → now ≡ news ++ drop i olds → AllHeard reported t (take i olds) news
+    → HeardOne reported t (slice_index_or now i o) p → HeardBy reported t (suc i) olds (slice_set now i p)
+heard_more reported t i [] news now o p l e h g = absurd (omega (arith, l))
+heard_more reported t zero (x ∷ olds) [] now o p l e h g = record { news = p ∷ []; is = rw e refl; heard = (subst (λ (ss : List (Option Sender)). HeardOne reported t (slice_index_or ss 0 o) p) e g, tt) }
+heard_more reported t zero (x ∷ olds) (n ∷ news) now o p l e h g = absurd h
+heard_more reported t (suc i) (x ∷ olds) [] now o p l e h g = absurd h
+heard_more reported t (suc i) (x ∷ olds) (n ∷ news) now o p l e h g =
+    let m = heard_more reported t i olds news (news ++ drop i olds) o p (omega (arith, l)) refl h.1 (subst (λ (ss : List (Option Sender)). HeardOne reported t (slice_index_or ss (suc i) o) p) e g) in
     record { news = n ∷ m.news; is = rw e (ap (λ (ss : List (Option Sender)). n ∷ ss) m.is); heard = (h.0, m.heard) }
 
-pub heard_next : (told : Told) (t i : ℕ) (olds now : List (Option Sender)) (o p : Option Sender) → i < length olds → HeardBy told t i olds now → HeardOne told t (slice_index_or now i o) p
-    → HeardBy told t (i + 1) olds (slice_set now i p)
-heard_next told t i olds now o p l h g =
-    subst (λ k. HeardBy told t k olds (slice_set now i p)) (let x : suc i ≡ i + 1 = omega arith in x) (heard_more told t i olds h.news now o p l h.is h.heard g)
+pub heard_next : (reported : Told) (t i : ℕ) (olds now : List (Option Sender)) (o p : Option Sender) → i < length olds → HeardBy reported t i olds now → HeardOne reported t (slice_index_or now i o) p
+    → HeardBy reported t (i + 1) olds (slice_set now i p)
+heard_next reported t i olds now o p l h g =
+    subst (λ k. HeardBy reported t k olds (slice_set now i p)) (let x : suc i ≡ i + 1 = omega arith in x) (heard_more reported t i olds h.news now o p l h.is h.heard g)
 
-heard_count : (told : Told) (t : ℕ) (olds news : List (Option Sender)) → AllHeard told t olds news → length news ≡ length olds
-heard_count told t [] [] h = refl
-heard_count told t [] (n ∷ news) h = absurd h
-heard_count told t (o ∷ olds) [] h = absurd h
-heard_count told t (o ∷ olds) (n ∷ news) h = ap suc (heard_count told t olds news h.1)
+heard_count : (reported : Told) (t : ℕ) (olds news : List (Option Sender)) → AllHeard reported t olds news → length news ≡ length olds
+heard_count reported t [] [] h = refl
+heard_count reported t [] (n ∷ news) h = absurd h
+heard_count reported t (o ∷ olds) [] h = absurd h
+heard_count reported t (o ∷ olds) (n ∷ news) h = ap suc (heard_count reported t olds news h.1)
 
 refill_same : (xs ys : List (Option Sender)) → length ys ≡ length xs → refill (length xs) xs ys ≡ ys
 refill_same xs ys h = grind (arith, common_steps)
 
 -- where they are lent as a slice
-pub heard_lent : (told : Told) (t : ℕ) (olds lent news : List (Option Sender)) → lent ≡ olds → AllHeard told t lent news → AllHeard told t olds (refill (length olds) olds news)
-heard_lent told t olds lent news e h =
-    let g : AllHeard told t olds news = subst (λ (ss : List (Option Sender)). AllHeard told t ss news) e h in
-    subst (λ (ss : List (Option Sender)). AllHeard told t olds ss) (sym (refill_same olds news (heard_count told t olds news g))) g
+pub heard_lent : (reported : Told) (t : ℕ) (olds lent news : List (Option Sender)) → lent ≡ olds → AllHeard reported t lent news → AllHeard reported t olds (refill (length olds) olds news)
+heard_lent reported t olds lent news e h =
+    let g : AllHeard reported t olds news = subst (λ (ss : List (Option Sender)). AllHeard reported t ss news) e h in
+    subst (λ (ss : List (Option Sender)). AllHeard reported t olds ss) (sym (refill_same olds news (heard_count reported t olds news g))) g
 
-no_more : (told : Told) (t : ℕ) (olds news rest : List (Option Sender)) → rest ≡ [] → AllHeard told t olds news → AllHeard told t olds (news ++ rest)
-no_more told t [] [] rest e h = rw e tt
-no_more told t [] (n ∷ news) rest e h = absurd h
-no_more told t (o ∷ olds) [] rest e h = absurd h
-no_more told t (o ∷ olds) (n ∷ news) rest e h = (h.0, no_more told t olds news rest e h.1)
+no_more : (reported : Told) (t : ℕ) (olds news rest : List (Option Sender)) → rest ≡ [] → AllHeard reported t olds news → AllHeard reported t olds (news ++ rest)
+no_more reported t [] [] rest e h = rw e tt
+no_more reported t [] (n ∷ news) rest e h = absurd h
+no_more reported t (o ∷ olds) [] rest e h = absurd h
+no_more reported t (o ∷ olds) (n ∷ news) rest e h = (h.0, no_more reported t olds news rest e h.1)
 
 drop_all : (xs : List (Option Sender)) (i : ℕ) → length xs ≤ i → drop i xs ≡ []
 drop_all [] zero l = refl
@@ -224,10 +224,10 @@ take_all [] (suc i) l = refl
 take_all (x ∷ xs) zero l = absurd (omega (arith, l))
 take_all (x ∷ xs) (suc i) l = ap (λ (ys : List (Option Sender)). x ∷ ys) (take_all xs i (omega (arith, l)))
 
-pub heard_ends : (told : Told) (t i : ℕ) (olds now : List (Option Sender)) → length olds ≤ i → HeardBy told t i olds now → AllHeard told t olds now
-heard_ends told t i olds now l h =
-    subst (λ (ss : List (Option Sender)). AllHeard told t olds ss) (sym h.is)
-    (no_more told t olds h.news (drop i olds) (drop_all olds i l) (subst (λ (ss : List (Option Sender)). AllHeard told t ss h.news) (take_all olds i l) h.heard))
+pub heard_ends : (reported : Told) (t i : ℕ) (olds now : List (Option Sender)) → length olds ≤ i → HeardBy reported t i olds now → AllHeard reported t olds now
+heard_ends reported t i olds now l h =
+    subst (λ (ss : List (Option Sender)). AllHeard reported t olds ss) (sym h.is)
+    (no_more reported t olds h.news (drop i olds) (drop_all olds i l) (subst (λ (ss : List (Option Sender)). AllHeard reported t ss h.news) (take_all olds i l) h.heard))
 
 -- ---- as the round begins
 
@@ -290,42 +290,42 @@ stands_later l low begin n t r s m q k =
 
 -- a tick that each sender heard, or that told nothing
 abbrev pub HeardIf : Bool → Told → ℕ → List (Option Sender) → List (Option Sender) → Type 0
-HeardIf true told t olds news = AllHeard told t olds news
-HeardIf false told t olds news = news ≡ olds
+HeardIf true reported t olds news = AllHeard reported t olds news
+HeardIf false reported t olds news = news ≡ olds
 
-pub ticks_so : (old new : Listeners) (told : Told) (t : ℕ) → ((low : ℕ → Bool) (n : ℕ) → StoodBefore old.receiver low n → GoesOn old.receiver low n t → StandsOn new.receiver low t × (told ≡ told_at low t))
-    → ((low : ℕ → Bool) (n : ℕ) → StoodBefore old.receiver low n → GoesOn old.receiver low n t → (u : ℕ) → n ≤ u → u < t → told_at low u ≡ Nothing)
-    → (b : Bool) → tells told ≡ b → HeardIf b told t old.senders.items new.senders.items → Ticks old t new
-ticks_so old new told t follows once b is h low begin n r s f g = record {
+pub ticks_so : (old new : Listeners) (reported : Told) (t : ℕ) → ((low : ℕ → Bool) (n : ℕ) → StoodBefore old.receiver low n → GoesOn old.receiver low n t → StandsOn new.receiver low t × (reported ≡ reported_at low t))
+    → ((low : ℕ → Bool) (n : ℕ) → StoodBefore old.receiver low n → GoesOn old.receiver low n t → (u : ℕ) → n ≤ u → u < t → reported_at low u ≡ Nothing)
+    → (b : Bool) → reports reported ≡ b → HeardIf b reported t old.senders.items new.senders.items → Ticks old t new
+ticks_so old new reported t follows once b is h low begin n r s f g = record {
   from = omega (arith, f);
   receiver = record { keeps = stands.0.keeps ∙ ap (λ m. kept_before low m) (let x : suc t ≡ t + 1 = omega arith in x); level = stands.0.level.0 ∙ sym (was_now low t) };
-  senders = by_told b is h;
+  senders = by_reported b is h;
 }
   where
-    stands : StandsOn new.receiver low t × (told ≡ told_at low t)
+    stands : StandsOn new.receiver low t × (reported ≡ reported_at low t)
     stands = follows low n s.receiver g
 
-    silent : (u : ℕ) → n ≤ u → u < t → told_at low u ≡ Nothing
+    silent : (u : ℕ) → n ≤ u → u < t → reported_at low u ≡ Nothing
     silent = once low n s.receiver g
 
-    told_nothing : (x : Told) → tells x ≡ false → x ≡ Nothing
-    told_nothing Nothing e = refl
-    told_nothing (Bit k v) e = cc
-    told_nothing (Last v ending) e = cc
-    told_nothing (Ended ending) e = cc
+    reported_nothing : (x : Told) → reports x ≡ false → x ≡ Nothing
+    reported_nothing Nothing e = refl
+    reported_nothing (Bit k v) e = cc
+    reported_nothing (Last v ending) e = cc
+    reported_nothing (Ended ending) e = cc
 
-    told_something : (x : Told) → tells x ≡ true → x ≢ Nothing
-    told_something x e z = let y : false ≡ true = sym (ap tells z) ∙ e in cc
+    reported_something : (x : Told) → reports x ≡ true → x ≢ Nothing
+    reported_something x e z = let y : false ≡ true = sym (ap reports z) ∙ e in cc
 
-    by_told : (c : Bool) → tells told ≡ c → HeardIf c told t old.senders.items new.senders.items → AreSending low begin (t + 1) new.senders.items
-    by_told true e k = all_told low begin t told old.senders.items new.senders.items r stands.1 (told_something told e) k (all_later low begin n t old.senders.items r s.from g.from silent s.senders)
-    by_told false e k =
+    by_reported : (c : Bool) → reports reported ≡ c → HeardIf c reported t old.senders.items new.senders.items → AreSending low begin (t + 1) new.senders.items
+    by_reported true e k = all_reported low begin t reported old.senders.items new.senders.items r stands.1 (reported_something reported e) k (all_later low begin n t old.senders.items r s.from g.from silent s.senders)
+    by_reported false e k =
         subst (λ (ss : List (Option Sender)). AreSending low begin (t + 1) ss) (sym k)
         (all_later low begin n (t + 1) old.senders.items r s.from (omega (arith, g.from)) (λ u a c. by_time u a (cases_lt u t) c) s.senders)
       where
-        by_time : (u : ℕ) → n ≤ u → (u < t) ⊎ (t ≤ u) → u < t + 1 → told_at low u ≡ Nothing
+        by_time : (u : ℕ) → n ≤ u → (u < t) ⊎ (t ≤ u) → u < t + 1 → reported_at low u ≡ Nothing
         by_time u a (inl lt) c = silent u a lt
-        by_time u a (inr ge) c = let z : u ≡ t = omega arith in ap (told_at low) z ∙ sym stands.1 ∙ told_nothing told e
+        by_time u a (inr ge) c = let z : u ≡ t = omega arith in ap (reported_at low) z ∙ sym stands.1 ∙ reported_nothing reported e
 
 -- ---- the wakes before an instant
 

@@ -185,17 +185,17 @@ rests_begin seats start n all w s h b e f g k = (
 abbrev pub Goes : List Seat → ℕ → List Stretch → List Stretch → EdgeWire → Option Stretch → Type 0
 Goes seats start all before w next = (left : List Stretch) × Rests seats start all before left w × (next ≡ first left)
 
-next_told : (seats : List Seat) (start n : ℕ) (all : List Stretch) (w : EdgeWire) (next : Option Stretch) → n ≤ length all → next ≡ slice_get all (n + length w.pulses.items) → More seats start all (take n all) w → Goes seats start all (take n all) w next
-next_told seats start n all w next l e m =
+next_reported : (seats : List Seat) (start n : ℕ) (all : List Stretch) (w : EdgeWire) (next : Option Stretch) → n ≤ length all → next ≡ slice_get all (n + length w.pulses.items) → More seats start all (take n all) w → Goes seats start all (take n all) w next
+next_reported seats start n all w next l e m =
     (m.0, m.1, e ∙ rests_first seats start all (take n all) m.0 w (n + length w.pulses.items) m.1 (ap (λ k. k + length w.pulses.items) (sym (length-take-le n all l))))
 
-late_told : (start : ℕ) (o : Option Stretch) → IfSome o (λ p. start ≤ p.from) → IsLate start o
-late_told start None h = tt
-late_told start (Some p) h = h
+late_reported : (start : ℕ) (o : Option Stretch) → IfSome o (λ p. start ≤ p.from) → IsLate start o
+late_reported start None h = tt
+late_reported start (Some p) h = h
 
 pub goes_begin : (seats : List Seat) (start n : ℕ) (all : List Stretch) (w : EdgeWire) (next : Option Stretch) → AreSparse all → n ≤ length all → IfSome (slice_get all n) (λ p. start ≤ p.from) → IsBegun w
     → w.seats.items ≡ seats → w.begin ≡ start → w.time ≡ start → w.pulses.items ≡ [] → next ≡ slice_get all (n + length w.pulses.items) → Goes seats start all (take n all) w next
-goes_begin seats start n all w next s l h b e f g k x = next_told seats start n all w next l x (rests_begin seats start n all w s (late_told start (slice_get all n) h) b e f g k)
+goes_begin seats start n all w next s l h b e f g k x = next_reported seats start n all w next l x (rests_begin seats start n all w s (late_reported start (slice_get all n) h) b e f g k)
 
 pub goes_next : (seats : List Seat) (start : ℕ) (all before : List Stretch) (w : EdgeWire) (next : Option Stretch) → AreSparse all → Goes seats start all before w next → IsNext w.pulses.items w.time next
 goes_next seats start all before w next s g = subst (λ o. IsNext w.pulses.items w.time o) (sym g.2) (rests_next seats start all before g.0 w s g.1)
@@ -206,7 +206,7 @@ goes_on seats start all before old new next s g b same soon l = rests_more seats
 
 pub goes_more : (seats : List Seat) (start n : ℕ) (all : List Stretch) (old new : EdgeWire) (next next2 : Option Stretch) → AreSparse all → n ≤ length all → Goes seats start all (take n all) old next → IsBegun new
     → SameRound old new → new.time ≤ old.time + 23000 → Leaves old next new → next2 ≡ slice_get all (n + length new.pulses.items) → Goes seats start all (take n all) new next2
-goes_more seats start n all old new next next2 s m g b same soon l e = next_told seats start n all new next2 m e (goes_on seats start all (take n all) old new next s g b same soon l)
+goes_more seats start n all old new next next2 s m g b same soon l e = next_reported seats start n all new next2 m e (goes_on seats start all (take n all) old new next s g b same soon l)
 
 pub goes_near : (edge : Option Edge) (old new : EdgeWire) → is_some edge ≡ true → IfSome edge (λ e. new.time ≤ new.begin + 470000) → MatchOption edge (is_silent_in new ≡ true) (λ e. old.time < new.time)
     → (new.time ≤ new.begin + 470000) × (old.time < new.time)

@@ -16,9 +16,9 @@ use Rattle.cec_wire.specs.declared.hearing.Ended.{Ended}
 use Rattle.cec_wire.specs.declared.hearing.Stage.{Stage}
 use Rattle.cec_wire.specs.declared.hearing.Stage.TheVariants.{StartLow, StartHigh, InSlot, Over}
 use Rattle.cec_edges.specs.Standings.{stands_in, still_in}
-use Rattle.cec_wire.proofs.Walk.{over_sampled, told_more}
-use Rattle.cec_wire.proofs.Afterwards.{AreTold, all_told, told_count, risen}
-use Rattle.cec_wire.proofs.Stands.{told_by, StandsAt}
+use Rattle.cec_wire.proofs.Walk.{over_sampled, reported_more}
+use Rattle.cec_wire.proofs.Afterwards.{AreReported, all_reported, reported_count, risen}
+use Rattle.cec_wire.proofs.Stands.{reported_by, StandsAt}
 
 -- ---- the reading that is current
 
@@ -80,15 +80,15 @@ still_so [] l = absurd (omega (arith, l))
 still_so (b ∷ bits) l = refl
 
 -- in the last microsecond of a reading that is told to have ended in the next one
-late_standing : (low : Line) (begin t : ℕ) (ss : List Slot) → (reading_of low begin).slots ≡ ss → (reading_of low begin).until < (reading_of low begin).at → (reading_of low begin).until ≡ t → (reading_of low begin).at ≤ t + 1 → AreTold ss
+late_standing : (low : Line) (begin t : ℕ) (ss : List Slot) → (reading_of low begin).slots ≡ ss → (reading_of low begin).until < (reading_of low begin).at → (reading_of low begin).until ≡ t → (reading_of low begin).at ≤ t + 1 → AreReported ss
     → in_reading low begin t ss ≡ still_in (filter_map (λ (s : Slot). s.bit) ss)
-late_standing low begin t [] h l e near told =
+late_standing low begin t [] h l e near reported =
     let r = risen low begin h l in
     let f = found_first (is_rise low) (begin + 1) 3900 r.0 r.1 in
     ap (λ (x : Option ℕ). if is_some x then phase.StartHigh else phase.StartLow)
     (first_in_some (is_rise low) (begin + 1) (t - begin) r.0 (omega (arith, f.after)) (omega (arith, f.within, f.after, r.2, e, l, near)) f.passes (λ u a b. f.first u a b))
-late_standing low begin t (x ∷ xs) h l e near told =
-    let n = told_count (x ∷ xs) told in
+late_standing low begin t (x ∷ xs) h l e near reported =
+    let n = reported_count (x ∷ xs) reported in
     bits_so (length (x ∷ xs)) (length (filter_map (λ (s : Slot). s.bit) (x ∷ xs))) (filter_map (λ (s : Slot). s.bit) (x ∷ xs)) (filter_map (λ (s : Slot). s.bit) (x ∷ xs)) (sym n) refl
     ∙ sym (still_so (filter_map (λ (s : Slot). s.bit) (x ∷ xs)) (omega (arith, n)))
 
@@ -120,23 +120,23 @@ stands_so seats low begin t bits held (InSlot fall last) h l m s o =
     by_sampled false = refl
 
     bits_are : filter_map (λ x. x.bit) (s.xs ++ one ∷ []) ≡ bits
-    bits_are = told_more s.xs s.before one s.reached.told ∙ by_sampled (nat_lt (fall + 1050) (t + 1)) ∙ sym s.told
+    bits_are = reported_more s.xs s.before one s.reached.reported ∙ by_sampled (nat_lt (fall + 1050) (t + 1)) ∙ sym s.reported
 
     is_sampled : nat_le (fall + 1050) t ≡ true → bit_sampled_at low fall ≡ Some (not (low (fall + 1050)))
     is_sampled e = let x : fall + 1050 ≤ t = grind (arith, nat_tests) in
         ap (λ (y : Option ℕ). elim y as (λ z. Option Bool) [ None ↦ Some (not (low (fall + 1050))) | Some f ↦ None ]) (first_in_none (is_fall low) (fall + 1) 1050 (λ u a b. s.quiet u (omega arith) (omega arith)))
 
-    count : length bits ≡ length s.before + length (told_by low fall (t + 1))
-    count = ap (λ (bs : List Bool). length bs) s.told ∙ length-append s.before (told_by low fall (t + 1))
+    count : length bits ≡ length s.before + length (reported_by low fall (t + 1))
+    count = ap (λ (bs : List Bool). length bs) s.reported ∙ length-append s.before (reported_by low fall (t + 1))
 
     by_time : (b : Bool) → nat_le (fall + 1050) t ≡ b → length s.xs + 1 ≡ (if b then length bits else length bits + 1)
     by_time true e =
         let y : nat_lt (fall + 1050) (t + 1) ≡ true = grind (arith, nat_tests) in
-        let z : length (told_by low fall (t + 1)) ≡ 1 = ap (λ b. length (if b then option_to_list (bit_sampled_at low fall) else [])) y ∙ ap (λ (x : Option Bool). length (option_to_list x)) (is_sampled e) in
+        let z : length (reported_by low fall (t + 1)) ≡ 1 = ap (λ b. length (if b then option_to_list (bit_sampled_at low fall) else [])) y ∙ ap (λ (x : Option Bool). length (option_to_list x)) (is_sampled e) in
         omega (arith, s.count, count, z)
     by_time false e =
         let y : nat_lt (fall + 1050) (t + 1) ≡ false = grind (arith, nat_tests) in
-        let z : length (told_by low fall (t + 1)) ≡ 0 = ap (λ b. length (if b then option_to_list (bit_sampled_at low fall) else [])) y in
+        let z : length (reported_by low fall (t + 1)) ≡ 0 = ap (λ b. length (if b then option_to_list (bit_sampled_at low fall) else [])) y in
         omega (arith, s.count, count, z)
 stands_so seats low begin t bits held (Over e) h l m s o =
     standing_now low begin t h l m ∙ by_end (nat_lt t e.at) refl
@@ -161,5 +161,5 @@ stands_so seats low begin t bits held (Over e) h l m s o =
         ∙ ap (λ b. if b then in_reading low begin t (known_at (t + 1) (reading_of low begin)).slots else standing_from low t t ((reading_of low begin).until + 1)) soon
         ∙ ap (λ (k : Known). in_reading low begin t k.slots) (s.knows (t + 1) s.past)
         ∙ late_standing low begin t s.zs slots_is (omega (arith, at_is, until_is, x, s.past)) (omega (arith, until_is, x, s.past, s.soon)) (omega (arith, at_is, x, s.past, s.soon))
-        (subst AreTold slots_is (all_told low begin (omega (arith, at_is, until_is, x, s.past))))
-        ∙ ap still_in s.told
+        (subst AreReported slots_is (all_reported low begin (omega (arith, at_is, until_is, x, s.past))))
+        ∙ ap still_in s.reported

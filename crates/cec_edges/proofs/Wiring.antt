@@ -11,7 +11,7 @@ use Rattle.cec_wire.specs.declared.Seat.{Seat}
 use Rattle.cec_wire.specs.declared.hearing.Stage.{Stage}
 use Rattle.cec_wire.specs.declared.hearing.Stage.TheVariants.{StartLow, StartHigh, InSlot, Over}
 use Rattle.cec_wire.specs.Round.{IsRoundLine}
-use Rattle.cec_wire.specs.Machine.{AreSentWell, IsEarly, IsReady, samples, next_place, bit_told, held_after, wave_after, low_since}
+use Rattle.cec_wire.specs.Machine.{AreSentWell, IsEarly, IsReady, samples, next_place, bit_reported, held_after, wave_after, low_since}
 use Rattle.cec_wire.specs.Edges.{Heard, first_heard, hear_in, heard_of, pulls, sending_by, next_due, wake_after, sends_low, is_pulling, sooner, IsPull, if_later, first_end, begin_of, IsTimely, EachLine}
 use Rattle.cec_edges.specs.Wired.{IsHeard, IsNext}
 use Rattle.cec_wire.proofs.Exists.{made_line, made_round}
@@ -165,7 +165,7 @@ heard_next seats begin pulses t h b i e = (
 -- ---- what a step leaves
 
 pub heard_made : (seats : List Seat) (begin t : ℕ) (was b : Bool) (h : Heard) (place : Stage) (bits : List Bool) (held : ℕ) (wave : List Stretch) (since : Option ℕ)
-    → place ≡ next_place begin h.bits h.place t (b && not was) (not b && was) → bits ≡ h.bits ++ bit_told h.place t (b && not was) b → held ≡ held_after seats bits place t h.held
+    → place ≡ next_place begin h.bits h.place t (b && not was) (not b && was) → bits ≡ h.bits ++ bit_reported h.place t (b && not was) b → held ≡ held_after seats bits place t h.held
     → wave ≡ wave_after h.wave h.since t b → since ≡ low_since h.since t b → was ≡ is_some h.since
     → record { place = place; bits = bits; held = held; wave = wave; since = since } ≡ hear_in seats begin t (is_some h.since) b h
 heard_made seats begin t was b h place bits held wave since p i e w s y =
@@ -180,10 +180,10 @@ heard_made seats begin t was b h place bits held wave since p i e w s y =
     place2 = next_place begin h.bits h.place t (b && not was) (not b && was)
 
     bits2 : List Bool
-    bits2 = h.bits ++ bit_told h.place t (b && not was) b
+    bits2 = h.bits ++ bit_reported h.place t (b && not was) b
 
     held_is : held ≡ held_after seats bits2 place2 t h.held
-    held_is = e ∙ ap (λ (x : List Bool). held_after seats x place t h.held) i ∙ ap (λ x. held_after seats (h.bits ++ bit_told h.place t (b && not was) b) x t h.held) p
+    held_is = e ∙ ap (λ (x : List Bool). held_after seats x place t h.held) i ∙ ap (λ x. held_after seats (h.bits ++ bit_reported h.place t (b && not was) b) x t h.held) p
 
 pub is_same : (a b : Bool) → beq a b ≡ true → a ≡ b
 is_same true true h = refl

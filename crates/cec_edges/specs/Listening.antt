@@ -73,20 +73,20 @@ IsLevel l = l.receiver.is_low ≡ l.receiver.was_low
 
 -- ---- what they hear
 
-abbrev pub tells : Told → Bool
-tells Nothing = false
-tells _ = true
+abbrev pub reports : Told → Bool
+reports Nothing = false
+reports _ = true
 
 abbrev pub HeardOne : Told → ℕ → Option Sender → Option Sender → Type 0
-HeardOne told t None new = new ≡ None
-HeardOne told t (Some old) None = ⊥
-HeardOne told t (Some old) (Some new) = (new.frame ≡ old.frame) × (new.begin ≡ old.begin) × Hears old told t new
+HeardOne reported t None new = new ≡ None
+HeardOne reported t (Some old) None = ⊥
+HeardOne reported t (Some old) (Some new) = (new.frame ≡ old.frame) × (new.begin ≡ old.begin) × Hears old reported t new
 
 abbrev pub AllHeard : Told → ℕ → List (Option Sender) → List (Option Sender) → Type 0
-AllHeard told t [] [] = Unit {0}
-AllHeard told t (o ∷ olds) (n ∷ news) = HeardOne told t o n × AllHeard told t olds news
-AllHeard told t [] (n ∷ news) = ⊥
-AllHeard told t (o ∷ olds) [] = ⊥
+AllHeard reported t [] [] = Unit {0}
+AllHeard reported t (o ∷ olds) (n ∷ news) = HeardOne reported t o n × AllHeard reported t olds news
+AllHeard reported t [] (n ∷ news) = ⊥
+AllHeard reported t (o ∷ olds) [] = ⊥
 
 -- a wake, if it comes before microsecond t
 abbrev pub sooner_wake : ℕ → Option ℕ → Option ℕ

@@ -3,7 +3,7 @@ ghost use Rattle.std.specs.Prelude.{◌≡◌, ◌+◌, ◌<◌, ◌≤◌, ◌+
 ghost use Rattle.std.specs.List.{list_any};
 ghost use Rattle.cec_wave.specs.Bounds.{latest_begin, latest_heard};
 ghost use Rattle.cec_wire.specs.Edges.{sends_low, sends_on, sending_by, is_pulling, IsPull, IsTimely};
-ghost use Rattle.cec_wire.specs.Machine.{next_place, bit_told, held_after, wave_after, low_since, samples, sends_until, AreSentWell, IsEarly, IsReady};
+ghost use Rattle.cec_wire.specs.Machine.{next_place, bit_reported, held_after, wave_after, low_since, samples, sends_until, AreSentWell, IsEarly, IsReady};
 
 use crate::listeners::{Listeners, sender_at};
 use arrayvec::ArrayVec;
@@ -310,7 +310,7 @@ impl EdgeWire {
         requires room { length self.old.recorder.wave < 192 }
         requires ready { IsReady self.old.recorder.wave self.old.recorder.low_since self.old.time }
         ensures place { self.new.place ≡ next_place self.old.begin self.old.bits.items self.old.place self.old.time (is_low && not was) (not is_low && was) }
-        ensures bits { self.new.bits.items ≡ self.old.bits.items ++ bit_told self.old.place self.old.time (is_low && not was) is_low }
+        ensures bits { self.new.bits.items ≡ self.old.bits.items ++ bit_reported self.old.place self.old.time (is_low && not was) is_low }
         ensures held { self.new.held ≡ held_after self.old.seats.items self.new.bits.items self.new.place self.old.time self.old.held }
         ensures wave { self.new.recorder.wave ≡ wave_after self.old.recorder.wave self.old.recorder.low_since self.old.time is_low }
         ensures since { self.new.recorder.low_since ≡ low_since self.old.recorder.low_since self.old.time is_low }

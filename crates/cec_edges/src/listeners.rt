@@ -4,7 +4,7 @@ ghost use Rattle.std.specs.Prelude.{◌≡◌, ◌<◌, ◌≤◌, ℕ, Bool, le
 ghost use Rattle.cec_wave.specs.Bounds.{latest_heard};
 ghost use Rattle.cec_bits.specs.Follows.{WakesFewer};
 ghost use Rattle.cec_bits.specs.Hears.{heard_by, wake_of};
-ghost use Rattle.cec_edges.specs.Listening.{AllHeard, AreBegun, AreSenders, AreStanding, HeardOne, IsIdle, IsLevel, IsReadOnce, IsSenderOf, KeepsSenders, Reaches, ReachesEdge, Ticks, sooner_wake, tells};
+ghost use Rattle.cec_edges.specs.Listening.{AllHeard, AreBegun, AreSenders, AreStanding, HeardOne, IsIdle, IsLevel, IsReadOnce, IsSenderOf, KeepsSenders, Reaches, ReachesEdge, Ticks, sooner_wake, reports};
 ghost use Rattle.cec_wire.specs.Machine.{AreSentWell, IsSentWell};
 
 use arrayvec::ArrayVec;
@@ -51,32 +51,32 @@ pub fn sender_at(senders: &[Option<Sender>], place: usize) -> Option<&Sender>
 }
 
 // Whether something was heard.
-fn tells(told: Told) -> bool
-    ensures { result ≡ tells told }
+fn reports(reported: Told) -> bool
+    ensures { result ≡ reports reported }
 {
-    match told {
+    match reported {
         Told::Nothing => false,
         Told::Bit(_, _) | Told::Last(_, _) | Told::Ended(_) => true,
     }
 }
 
-fn hear_one(sender: &mut Option<Sender>, told: Told, t: u64)
+fn hear_one(sender: &mut Option<Sender>, reported: Told, t: u64)
     requires early { t ≤ latest_heard }
-    ensures { HeardOne told t sender.old sender.new }
+    ensures { HeardOne reported t sender.old sender.new }
 {
     if let Some(sender) = sender {
-        sender.heard(told, t);
+        sender.heard(reported, t);
     }
 }
 
 // Each sender hears what the receiver reports at microsecond `t`.
-fn hear_all(senders: &mut [Option<Sender>], told: Told, t: u64)
+fn hear_all(senders: &mut [Option<Sender>], reported: Told, t: u64)
     requires early { t ≤ latest_heard }
-    ensures { AllHeard told t senders.old senders.new }
+    ensures { AllHeard reported t senders.old senders.new }
 {
     for place in 0..senders.len() {
         let sender = &mut senders[place];
-        hear_one(sender, told, t);
+        hear_one(sender, reported, t);
     }
 }
 
@@ -135,9 +135,9 @@ impl Listeners {
         ensures senders { KeepsSenders self.old self.new }
         ensures stands { Ticks self.old t self.new }
     {
-        let told = self.receiver.tick(t);
-        if tells(told) {
-            hear_all(&mut self.senders, told, t);
+        let reported = self.receiver.tick(t);
+        if reports(reported) {
+            hear_all(&mut self.senders, reported, t);
         }
     }
 

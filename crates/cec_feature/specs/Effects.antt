@@ -30,7 +30,7 @@ use Rattle.hdmi_core.specs.declared.phys.Phys.{Phys}
 use Rattle.cec_feature.specs.declared.record.Record.{Record}
 use Rattle.cec_feature.specs.declared.record.Heard.{Heard}
 use Rattle.cec_feature.specs.declared.say.Say.{Say}
-use Rattle.cec_feature.specs.declared.say.Say.TheVariants.{Reply, Cast, Tell, Refuse}
+use Rattle.cec_feature.specs.declared.say.Say.TheVariants.{Reply, Cast, Report, Refuse}
 use Rattle.cec_feature.specs.Kinds.{is_tv, is_amp, is_deck, is_switch, type_of, same_phys, is_nowhere}
 use Rattle.cec_feature.specs.Volume.{louder}
 use Rattle.cec_feature.specs.Ways.{port_towards, below}
@@ -52,7 +52,7 @@ hears h r = does (record r { heard = Some (record { from = h.from; opcode = h.op
 -- Deck Status, to who asked for it
 abbrev pub to_sub : Option ℕ → DeckInfo → List Say
 to_sub None deck = []
-to_sub (Some sub) deck = Tell sub (0x1b ∷ deck_info_byte deck ∷ []) ∷ []
+to_sub (Some sub) deck = Report sub (0x1b ∷ deck_info_byte deck ∷ []) ∷ []
 
 -- the same where the deck changes
 abbrev pub notice : Record → DeckInfo → List Say
@@ -112,14 +112,14 @@ deck_control r Eject = if r.power then deck_change r NoMedia else refuses r Wron
 deck_control r (OtherControl other) = refuses r InvalidOperand
 
 -- Device Menu Control (CEC 13.12): Menu Status of a deck that is on
-abbrev pub menu_told : Record → Bool → Effect
-menu_told r menu = if r.power then does (record r { menu = menu }) (Reply (0x8e ∷ (if menu then 0 else 1) ∷ []) ∷ []) else refuses r WrongMode
+abbrev pub menu_reported : Record → Bool → Effect
+menu_reported r menu = if r.power then does (record r { menu = menu }) (Reply (0x8e ∷ (if menu then 0 else 1) ∷ []) ∷ []) else refuses r WrongMode
 
 -- Menu Request (CEC 13.12)
 abbrev pub menu_asked : Record → MenuRequestType → Effect
-menu_asked r Activate = menu_told r true
-menu_asked r Deactivate = menu_told r false
-menu_asked r Query = menu_told r r.menu
+menu_asked r Activate = menu_reported r true
+menu_asked r Deactivate = menu_reported r false
+menu_asked r Query = menu_reported r r.menu
 menu_asked r (OtherMenu other) = refuses r InvalidOperand
 
 -- ---- a television's screen and sound
@@ -191,7 +191,7 @@ sounds kind r after = if is_deck kind then does r [] else volume_report kind aft
 
 -- a deck: its menu, reported where it changed
 abbrev pub menus : Kind → Record → Bool → ℕ → Effect
-menus kind r is_change byte = if is_deck kind && is_change then does (record r { menu = not r.menu }) (Tell 0 (0x8e ∷ byte ∷ []) ∷ []) else does r []
+menus kind r is_change byte = if is_deck kind && is_change then does (record r { menu = not r.menu }) (Report 0 (0x8e ∷ byte ∷ []) ∷ []) else does r []
 
 -- a user control code at a device that is on
 abbrev pub pressed_on : Kind → UserControl → Record → Effect

@@ -12,7 +12,7 @@ use Rattle.cec_feature.specs.declared.keys.Key.TheVariants.{Play, Stop, Eject, L
 use Rattle.cec_feature.specs.declared.keys.VolumeKey.{VolumeKey}
 use Rattle.cec_feature.specs.declared.keys.VolumeKey.TheVariants.{Up, Down, Mute}
 use Rattle.cec_feature.specs.declared.say.Say.{Say}
-use Rattle.cec_feature.specs.declared.say.Say.TheVariants.{Tell, Cast}
+use Rattle.cec_feature.specs.declared.say.Say.TheVariants.{Report, Cast}
 use Rattle.cec_opcode.specs.declared.deck_words.DeckInfo.TheVariants.{Play as Playing, NoMedia, Stop as Stopped}
 use Rattle.cec_feature.specs.Kinds.{is_tv, is_amp, is_deck, is_switch, is_outside}
 use Rattle.cec_feature.specs.Effect.{Effect, does}
@@ -49,8 +49,8 @@ sound_after Down r = record r { volume = r.volume - 1 }
 sound_after Mute r = record r { mute = not r.mute }
 
 -- an amplifier with system audio mode on reports its volume to the television (CEC 13.15)
-abbrev pub volume_told : Kind → Record → Effect
-volume_told kind r = does r (if is_amp kind && r.audio then Tell 0 (0x7a ∷ volume_status r ∷ []) ∷ [] else [])
+abbrev pub volume_reported : Kind → Record → Effect
+volume_reported kind r = does r (if is_amp kind && r.audio then Report 0 (0x7a ∷ volume_status r ∷ []) ∷ [] else [])
 
 -- The address of a port, 0.0.0.0 where there is no path.
 abbrev pub path_bytes : Option Phys → List ℕ
@@ -59,11 +59,11 @@ path_bytes (Some path) = path.high ∷ path.low ∷ []
 
 -- System Audio Control (CEC 13.15): System Audio Mode Request, for the path or without one
 abbrev pub audio_said : Bool → Option Phys → Say
-audio_said on path = Tell 5 (0x70 ∷ (if on then path_bytes path else []))
+audio_said on path = Report 5 (0x70 ∷ (if on then path_bytes path else []))
 
 -- Request ARC Initiation or Termination of a television, Initiate ARC or Terminate ARC of an amplifier
 abbrev pub arc_said : Kind → Bool → Say
-arc_said kind on = if is_tv kind then Tell 5 ((if on then 0xc3 else 0xc4) ∷ []) else Tell 0 ((if on then 0xc0 else 0xc5) ∷ [])
+arc_said kind on = if is_tv kind then Report 5 ((if on then 0xc3 else 0xc4) ∷ []) else Report 0 ((if on then 0xc0 else 0xc5) ∷ [])
 
 -- Routing Control (CEC 13.2): another port is selected, and Routing Change says so with both addresses
 abbrev pub port_selection : Phys → ℕ → Record → Option ℕ → Effect
@@ -76,36 +76,36 @@ port_selection own port r (Some old) = does (record r { selected = Some port }) 
 abbrev pub goes_off : Kind → Phys → Record → Effect
 goes_off kind own r =
     if is_tv kind then does (standby r) (Cast (0x36 ∷ []) ∷ []) else (
-    if is_deck kind && is_active r.active own then does (standby (record r { active = None })) (Tell 0 (0x9d ∷ own.high ∷ own.low ∷ []) ∷ [])
+    if is_deck kind && is_active r.active own then does (standby (record r { active = None })) (Report 0 (0x9d ∷ own.high ∷ own.low ∷ []) ∷ [])
     else does (standby r) [])
 
 -- One Touch Play (CEC 13.1): a new active source, as it says to the television, by Image View On, and to all
 abbrev pub taking_over : Phys → Record → Effect
 taking_over own r = does
-    (record r { power = true; active = Some own; path = Some own }) (Tell 0 (0x04 ∷ []) ∷ Cast (0x82 ∷ own.high ∷ own.low ∷ []) ∷ [])
+    (record r { power = true; active = Some own; path = Some own }) (Report 0 (0x04 ∷ []) ∷ Cast (0x82 ∷ own.high ∷ own.low ∷ []) ∷ [])
 
 -- what a press does
 abbrev pub pressing : Kind → Phys → Record → Key → Effect
 pressing kind own r Play = does
     (record r { power = true; active = Some own; path = Some own; deck = if is_no_media r.deck then r.deck else Playing })
-    (Tell 0 (0x04 ∷ []) ∷ Cast (0x82 ∷ own.high ∷ own.low ∷ []) ∷ (if is_no_media r.deck then [] else notice r Playing))
+    (Report 0 (0x04 ∷ []) ∷ Cast (0x82 ∷ own.high ∷ own.low ∷ []) ∷ (if is_no_media r.deck then [] else notice r Playing))
 pressing kind own r Stop = if is_no_media r.deck then does r [] else deck_change r Stopped
 pressing kind own r Eject = deck_change r NoMedia
 pressing kind own r Load = if is_no_media r.deck then deck_change r Stopped else does r []
-pressing kind own r Menu = does (record r { menu = not r.menu }) (Tell 0 (0x8e ∷ (if r.menu then 1 else 0) ∷ []) ∷ [])
+pressing kind own r Menu = does (record r { menu = not r.menu }) (Report 0 (0x8e ∷ (if r.menu then 1 else 0) ∷ []) ∷ [])
 pressing kind own r Power = if r.power then goes_off kind own r else does (record r { power = true }) []
 pressing kind own r (Watch to) = does (record r { path = Some to }) (Cast (0x86 ∷ to.high ∷ to.low ∷ []) ∷ [])
 pressing kind own r (Port port) = port_selection own port r r.selected
 pressing kind own r (Audio on) = does r (audio_said on r.path ∷ [])
 pressing kind own r (Arc on) = does r (arc_said kind on ∷ [])
 pressing kind own r (Volume key) =
-    if is_tv kind && r.audio then does r (Tell 5 (0x44 ∷ user_control_byte (code_of key) ∷ []) ∷ []) else volume_told kind (sound_after key r)
+    if is_tv kind && r.audio then does r (Report 5 (0x44 ∷ user_control_byte (code_of key) ∷ []) ∷ []) else volume_reported kind (sound_after key r)
 pressing kind own r (Language language) =
     does (record r { language = language }) (Cast (0x32 ∷ language.first ∷ language.second ∷ language.third ∷ []) ∷ [])
-pressing kind own r (Remote to code) = does r (Tell to (0x44 ∷ user_control_byte code ∷ []) ∷ [])
+pressing kind own r (Remote to code) = does r (Report to (0x44 ∷ user_control_byte code ∷ []) ∷ [])
 
 -- what a release does
 abbrev pub releasing : Kind → Record → Key → Effect
-releasing kind r (Volume key) = if is_tv kind && r.audio then does r (Tell 5 (0x45 ∷ []) ∷ []) else does r []
-releasing kind r (Remote to code) = does r (Tell to (0x45 ∷ []) ∷ [])
+releasing kind r (Volume key) = if is_tv kind && r.audio then does r (Report 5 (0x45 ∷ []) ∷ []) else does r []
+releasing kind r (Remote to code) = does r (Report to (0x45 ∷ []) ∷ [])
 releasing kind r _ = does r []

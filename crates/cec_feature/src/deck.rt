@@ -1,7 +1,7 @@
 //! Deck Control (CEC 13.7) and Device Menu Control (CEC 13.12): what a deck and its menu do.
 ghost use Rattle.std.specs.Prelude.{◌≡◌, not};
 ghost use Rattle.cec_feature.specs.Effect.{does, at_most_one};
-ghost use Rattle.cec_feature.specs.Effects.{deck_control, deck_asked, is_no_media, menu_asked, menu_told, mode_deck, notice, plays, deck_change, wound};
+ghost use Rattle.cec_feature.specs.Effects.{deck_control, deck_asked, is_no_media, menu_asked, menu_reported, mode_deck, notice, plays, deck_change, wound};
 
 use crate::messages::menu_status;
 use crate::record::{Heard, Record};
@@ -43,7 +43,7 @@ impl Record {
             return None;
         }
         match self.sub {
-            Some(sub) => Some(Say::Tell(sub, DataBlocks::new(&Message::DeckStatus { deck }))),
+            Some(sub) => Some(Say::Report(sub, DataBlocks::new(&Message::DeckStatus { deck }))),
             None => None,
         }
     }
@@ -116,8 +116,8 @@ impl Record {
     }
 
     // Shows its menu or not, and says so.
-    fn tell_menu(&mut self, menu: bool) -> Says
-        ensures { does self.new result.items ≡ menu_told self.old menu }
+    fn report_menu(&mut self, menu: bool) -> Says
+        ensures { does self.new result.items ≡ menu_reported self.old menu }
     {
         if self.power {
             self.menu = menu;
@@ -132,9 +132,9 @@ impl Record {
         ensures { does self.new result.items ≡ menu_asked self.old request }
     {
         match request {
-            MenuRequestType::Activate => self.tell_menu(true),
-            MenuRequestType::Deactivate => self.tell_menu(false),
-            MenuRequestType::Query => self.tell_menu(self.menu),
+            MenuRequestType::Activate => self.report_menu(true),
+            MenuRequestType::Deactivate => self.report_menu(false),
+            MenuRequestType::Query => self.report_menu(self.menu),
             MenuRequestType::Other(_) => refuse(Reason::InvalidOperand),
         }
     }

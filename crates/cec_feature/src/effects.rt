@@ -12,7 +12,7 @@ use crate::messages::{
     set_system_audio_mode, system_audio_mode_status,
 };
 use crate::record::{Heard, Note, Record, copy_of};
-use crate::say::{Says, cast, refuse, reply, silence, tell};
+use crate::say::{Says, cast, refuse, reply, silence, report};
 use crate::ways::{below, is_nowhere, port_towards};
 use arrayvec::ArrayVec;
 use cec_frame::Addr;
@@ -332,33 +332,33 @@ impl Record {
             }
             UserControl::VolumeUp if !is_deck => {
                 self.volume = self.volume.louder();
-                self.tell_volume(kind)
+                self.report_volume(kind)
             }
             UserControl::VolumeDown if !is_deck => {
                 self.volume = self.volume.softer();
-                self.tell_volume(kind)
+                self.report_volume(kind)
             }
             UserControl::Mute if !is_deck => {
                 self.mute = !self.mute;
-                self.tell_volume(kind)
+                self.report_volume(kind)
             }
             UserControl::Play if is_loaded => self.turn(DeckInfo::Play),
             UserControl::Stop if is_loaded => self.turn(DeckInfo::Stop),
             UserControl::Pause if is_loaded => self.turn(DeckInfo::Still),
             UserControl::RootMenu if is_deck && !self.menu => {
                 self.menu = true;
-                tell(Addr::new(0), &menu_status(true))
+                report(Addr::new(0), &menu_status(true))
             }
             UserControl::Exit if is_deck && self.menu => {
                 self.menu = false;
-                tell(Addr::new(0), &menu_status(false))
+                report(Addr::new(0), &menu_status(false))
             }
             _ => silence(),
         }
     }
 
     // An amplifier with audio on says how loud it is.
-    fn tell_volume(&self, kind: Kind) -> Says
+    fn report_volume(&self, kind: Kind) -> Says
         ensures { does self.now result.items ≡ volume_report kind self.now }
     {
         if kind == Kind::Amp && self.audio {

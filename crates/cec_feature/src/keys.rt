@@ -2,7 +2,7 @@
 ghost use Rattle.std.specs.Prelude.{◌≡◌, ◌≤◌, ◌∷◌, [], length, IsTrue};
 ghost use Rattle.arrayvec.specs.ArrayVec.{array_vec_len};
 ghost use Rattle.cec_opcode.specs.Table.{spelling};
-ghost use Rattle.cec_feature.specs.declared.say.Say.TheVariants.{Tell};
+ghost use Rattle.cec_feature.specs.declared.say.Say.TheVariants.{Report};
 ghost use Rattle.cec_feature.specs.Effect.{does};
 ghost use Rattle.cec_feature.specs.KeyWords.{word_of_key};
 ghost use Rattle.cec_feature.specs.Keys.{arc_said, audio_said, code_of, has_key, port_selection, pressing, releasing, taking_over, sound_after};
@@ -11,7 +11,7 @@ use crate::key_word::KeyWord;
 use crate::kinds::{Identity, is_deck};
 use crate::messages::{active_source, arc_command, arc_request, menu_status, report_audio_status};
 use crate::record::{Port, Record};
-use crate::say::{DataBlocks, Say, Says, both, cast, silence, tell};
+use crate::say::{DataBlocks, Say, Says, both, cast, silence, report};
 use crate::ways::below;
 use cec_frame::Addr;
 use cec_opcode::{DeckInfo, Message, Triple, UserControl};
@@ -111,16 +111,16 @@ pub fn has_key(kind: Kind, ports: Port, key: &Key) -> bool
 // To the television, to the amplifier.
 fn to_television(message: &Message) -> Says
     requires { length (spelling message.now) ≤ 15 }
-    ensures { result.items ≡ Tell 0 (spelling message.now) ∷ [] }
+    ensures { result.items ≡ Report 0 (spelling message.now) ∷ [] }
 {
-    tell(Addr::new(TELEVISION), message)
+    report(Addr::new(TELEVISION), message)
 }
 
 fn to_amplifier(message: &Message) -> Says
     requires { length (spelling message.now) ≤ 15 }
-    ensures { result.items ≡ Tell 5 (spelling message.now) ∷ [] }
+    ensures { result.items ≡ Report 5 (spelling message.now) ∷ [] }
 {
-    tell(Addr::new(AMPLIFIER), message)
+    report(Addr::new(AMPLIFIER), message)
 }
 
 impl Record {
@@ -134,7 +134,7 @@ impl Record {
         self.path = Some(own);
         let view_on = DataBlocks::new(&Message::ImageViewOn);
         let active = DataBlocks::new(&active_source(own));
-        both(Say::Tell(Addr::new(TELEVISION), view_on), Say::Cast(active))
+        both(Say::Report(Addr::new(TELEVISION), view_on), Say::Cast(active))
     }
 
     fn press_play(&mut self, me: Identity) -> Says
@@ -257,7 +257,7 @@ impl Record {
                 self.language = language;
                 cast(&Message::SetMenuLanguage { language })
             }
-            Key::Remote { to, code } => tell(to, &Message::UserControlPressed { code }),
+            Key::Remote { to, code } => report(to, &Message::UserControlPressed { code }),
         }
     }
 
@@ -266,7 +266,7 @@ impl Record {
         ensures { does self.now result.items ≡ releasing kind self.now key.now }
     {
         match key {
-            Key::Remote { to, .. } => tell(*to, &Message::UserControlReleased),
+            Key::Remote { to, .. } => report(*to, &Message::UserControlReleased),
             Key::Volume(_) if kind == Kind::Tv && self.audio => {
                 to_amplifier(&Message::UserControlReleased)
             }

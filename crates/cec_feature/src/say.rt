@@ -3,7 +3,7 @@ ghost use Rattle.std.specs.Prelude.{◌≡◌, ◌≤◌, [], ◌∷◌, length}
 ghost use Rattle.arrayvec.specs.ArrayVec.{array_vec_len};
 ghost use Rattle.cec_opcode.specs.Table.{spelling};
 ghost use Rattle.cec_feature.specs.Effect.{at_most_one};
-ghost use Rattle.cec_feature.specs.declared.say.Say.TheVariants.{Reply, Cast, Tell, Refuse};
+ghost use Rattle.cec_feature.specs.declared.say.Say.TheVariants.{Reply, Cast, Report, Refuse};
 
 use arrayvec::ArrayVec;
 use cec_frame::Addr;
@@ -54,7 +54,7 @@ pub enum Say {
     /// To all.
     Cast(DataBlocks),
     /// To the holder of an address.
-    Tell(Addr, DataBlocks),
+    Report(Addr, DataBlocks),
     /// Feature Abort of the opcode that is followed, to its initiator.
     Refuse(Reason),
 }
@@ -121,11 +121,11 @@ pub(crate) fn cast(message: &Message) -> Says
 }
 
 /// A message to the holder of an address.
-pub(crate) fn tell(to: Addr, message: &Message) -> Says
+pub(crate) fn report(to: Addr, message: &Message) -> Says
     requires { length (spelling message.now) ≤ 15 }
-    ensures { result.items ≡ Tell to (spelling message.now) ∷ [] }
+    ensures { result.items ≡ Report to (spelling message.now) ∷ [] }
 {
-    one(Say::Tell(to, DataBlocks::new(message)))
+    one(Say::Report(to, DataBlocks::new(message)))
 }
 
 /// A refusal.

@@ -7,7 +7,7 @@ use Rattle.hdmi_core.specs.Cut.{WrittenText}
 use Rattle.hdmi_core.specs.Lines.{lines_of}
 use Rattle.cec_json.specs.Columns.{field, fields, field_lead, reading_fields, column_parts}
 use Rattle.cec_json.specs.Object.{AreBytesOf, AreInOrder, reading_start, broken_body, bytes_value, complete_body, complete_fields, frame_fields, frame_in, reading_type, seats, type_field}
-use Rattle.cec_json.specs.Parts.{after_byte, after_word, before_byte, before_last, after_ending, has_seats, told_in, value_of, word}
+use Rattle.cec_json.specs.Parts.{after_byte, after_word, before_byte, before_last, after_ending, has_seats, reported_in, value_of, word}
 use Rattle.cec_json.specs.Progress.{WritesOn}
 use Rattle.cec_json.specs.Values.{code_text, code_texts, report_value, some_report}
 use Rattle.cec_json.specs.declared.columns.Column.{Column}
@@ -23,11 +23,11 @@ coded_more code text i x h e =
     ∙ ap (code_texts code) (sym (take-suc text i 0 h) ∙ ap (λ (n : ℕ). take n text) (sym (add-one i)))
 
 -- a field, and the rest
-pub fields_more : (columns : List Column) (text first told rest : List ℕ) (none : Column) → 1 ≤ length columns → first ≡ word text → told ≡ value_of first → rest ≡ after_word text
-    → field (get_or columns 0 none).name.now (get_or columns 0 none).shape told ++ fields (map column_parts (drop 1 columns)) rest ≡ fields (map column_parts columns) text
+pub fields_more : (columns : List Column) (text first reported rest : List ℕ) (none : Column) → 1 ≤ length columns → first ≡ word text → reported ≡ value_of first → rest ≡ after_word text
+    → field (get_or columns 0 none).name.now (get_or columns 0 none).shape reported ++ fields (map column_parts (drop 1 columns)) rest ≡ fields (map column_parts columns) text
 unfolding fields
-fields_more [] text first told rest none h e f g = absurd (omega arith)
-fields_more (c ∷ cs) text first told rest none h e f g = rw (f, e, g) refl
+fields_more [] text first reported rest none h e f g = absurd (omega arith)
+fields_more (c ∷ cs) text first reported rest none h e f g = rw (f, e, g) refl
 
 pub fields_none : (columns : List Column) (text : List ℕ) → length columns < 1 → [] ≡ fields (map column_parts columns) text
 unfolding fields
@@ -64,22 +64,22 @@ frame_is bytes text initiator tail destination e f g =
 abbrev whole_by : (line middle rest : List ℕ) → List ℕ
 whole_by line middle rest = reading_start line ++ middle ++ seats rest
 
-pub whole_is : (bytes : Option (List ℕ)) (line rest told : List ℕ) → rest ≡ after_ending line → told ≡ told_in rest
-    → reading_start line ++ complete_fields bytes told ++ seats rest ≡ complete_body bytes line
-whole_is bytes line rest told e f =
-    ap (λ (v : List ℕ). whole_by line (complete_fields bytes v) rest) (f ∙ ap told_in e)
-    ∙ ap (λ (v : List ℕ). whole_by line (complete_fields bytes (told_in (after_ending line))) v) e
+pub whole_is : (bytes : Option (List ℕ)) (line rest reported : List ℕ) → rest ≡ after_ending line → reported ≡ reported_in rest
+    → reading_start line ++ complete_fields bytes reported ++ seats rest ≡ complete_body bytes line
+whole_is bytes line rest reported e f =
+    ap (λ (v : List ℕ). whole_by line (complete_fields bytes v) rest) (f ∙ ap reported_in e)
+    ∙ ap (λ (v : List ℕ). whole_by line (complete_fields bytes (reported_in (after_ending line))) v) e
 
-pub broken_is : (line rest told : List ℕ) → rest ≡ after_ending line → told ≡ told_in rest
-    → reading_start line ++ field (codes "bits") Text told ++ seats rest ≡ broken_body line
-broken_is line rest told e f =
-    ap (λ (v : List ℕ). whole_by line (field (codes "bits") Text v) rest) (f ∙ ap told_in e)
-    ∙ ap (λ (v : List ℕ). whole_by line (field (codes "bits") Text (told_in (after_ending line))) v) e
+pub broken_is : (line rest reported : List ℕ) → rest ≡ after_ending line → reported ≡ reported_in rest
+    → reading_start line ++ field (codes "bits") Text reported ++ seats rest ≡ broken_body line
+broken_is line rest reported e f =
+    ap (λ (v : List ℕ). whole_by line (field (codes "bits") Text v) rest) (f ∙ ap reported_in e)
+    ∙ ap (λ (v : List ℕ). whole_by line (field (codes "bits") Text (reported_in (after_ending line))) v) e
 
 -- the frame that was looked for is that of the line
-pub bytes_are : (line rest told text : List ℕ) (bytes : Option (List ℕ)) → rest ≡ after_ending line → told ≡ told_in rest → text ≡ before_last told → AreBytesOf text bytes
+pub bytes_are : (line rest reported text : List ℕ) (bytes : Option (List ℕ)) → rest ≡ after_ending line → reported ≡ reported_in rest → text ≡ before_last reported → AreBytesOf text bytes
     → AreBytesOf (frame_in line) bytes
-bytes_are line rest told text bytes a b c are = subst (λ (t : List ℕ). AreBytesOf t bytes) (c ∙ ap before_last (b ∙ ap told_in a)) are
+bytes_are line rest reported text bytes a b c are = subst (λ (t : List ℕ). AreBytesOf t bytes) (c ∙ ap before_last (b ∙ ap reported_in a)) are
 
 -- ---- line after line
 

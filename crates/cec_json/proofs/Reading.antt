@@ -39,10 +39,10 @@ string_read (b ∷ line) rest =
     ∙ ap (λ (l : List ℕ). b ∷ l) (string_read line rest)
 
 -- the line in an object, with whatever stands after it
-pub line_read : (line told : List ℕ) → line_of (object line told) ≡ line
-line_read line told =
-    ap (string_from Char) (append_assoc (code_texts codings.Char line ++ 34 ∷ []) told (codes "}\n") ∙ append_assoc (code_texts codings.Char line) (34 ∷ []) (told ++ codes "}\n"))
-    ∙ string_read line (told ++ codes "}\n")
+pub line_read : (line reported : List ℕ) → line_of (object line reported) ≡ line
+line_read line reported =
+    ap (string_from Char) (append_assoc (code_texts codings.Char line ++ 34 ∷ []) reported (codes "}\n") ∙ append_assoc (code_texts codings.Char line) (34 ∷ []) (reported ++ codes "}\n"))
+    ∙ string_read line (reported ++ codes "}\n")
 
 pub read_back : LinesAreReadBack
 read_back = λ line text is. ap line_of is.2 ∙ line_read line is.0

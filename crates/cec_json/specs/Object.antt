@@ -5,7 +5,7 @@ use Rattle.std.specs.Str.{bytes_eq}
 use Rattle.hdmi_core.specs.Piece.{hex_text}
 use Rattle.cec_text.specs.FrameLines.{IsTextOf}
 use Rattle.cec_json.specs.Columns.{event_fields, field, fields, instant, field_lead, port_fields, reading_fields, state_fields}
-use Rattle.cec_json.specs.Parts.{after_word, before_last, after_ending, has_seats, last_word, losers_in, told_in, winners_in, word}
+use Rattle.cec_json.specs.Parts.{after_word, before_last, after_ending, has_seats, last_word, losers_in, reported_in, winners_in, word}
 use Rattle.cec_json.specs.Values.{string_text}
 use Rattle.cec_json.specs.declared.object.Form.{Form}
 use Rattle.cec_json.specs.declared.object.Form.TheVariants as forms
@@ -64,7 +64,7 @@ frame_fields bytes text =
     ++ (field_lead (codes "bytes") ++ bytes_value bytes)
 
 abbrev pub complete_fields : Option (List ℕ) → List ℕ → List ℕ
-complete_fields bytes told = frame_fields bytes (before_last told) ++ field (codes "verdict") Text (last_word told)
+complete_fields bytes reported = frame_fields bytes (before_last reported) ++ field (codes "verdict") Text (last_word reported)
 
 abbrev pub state_body : List ℕ → List ℕ
 state_body line = type_field (codes "state") ++ fields state_fields (after_word line)
@@ -79,10 +79,10 @@ abbrev pub end_body : List ℕ → List ℕ
 end_body line = type_field (codes "end") ++ fields instant line
 
 abbrev pub complete_body : Option (List ℕ) → List ℕ → List ℕ
-complete_body bytes line = reading_start line ++ complete_fields bytes (told_in (after_ending line)) ++ seats (after_ending line)
+complete_body bytes line = reading_start line ++ complete_fields bytes (reported_in (after_ending line)) ++ seats (after_ending line)
 
 abbrev pub broken_body : List ℕ → List ℕ
-broken_body line = reading_start line ++ field (codes "bits") Text (told_in (after_ending line)) ++ seats (after_ending line)
+broken_body line = reading_start line ++ field (codes "bits") Text (reported_in (after_ending line)) ++ seats (after_ending line)
 
 abbrev pub body : Form → Option (List ℕ) → List ℕ → List ℕ
 body forms.State bytes line = state_body line
@@ -101,18 +101,18 @@ AreBytesOf text None = (frame : List ℕ) → IsTextOf text frame → ⊥
 AreBytesOf text (Some frame) = IsTextOf text frame
 
 abbrev pub frame_in : List ℕ → List ℕ
-frame_in line = before_last (told_in (after_ending line))
+frame_in line = before_last (reported_in (after_ending line))
 
 -- what the object of a line has after the line
-abbrev pub IsTold : List ℕ → List ℕ → Type 0
-IsTold line told = (bytes : Option (List ℕ)) × AreBytesOf (frame_in line) bytes × (told ≡ body (form_of line) bytes line)
+abbrev pub IsReported : List ℕ → List ℕ → Type 0
+IsReported line reported = (bytes : Option (List ℕ)) × AreBytesOf (frame_in line) bytes × (reported ≡ body (form_of line) bytes line)
 
 -- the line, and what it reports
 abbrev pub object : List ℕ → List ℕ → List ℕ
-object line told = codes "{\"line\":" ++ string_text line ++ told ++ codes "}\n"
+object line reported = codes "{\"line\":" ++ string_text line ++ reported ++ codes "}\n"
 
 abbrev pub IsObject : List ℕ → List ℕ → Type 0
-IsObject line text = (told : List ℕ) × IsTold line told × (text ≡ object line told)
+IsObject line text = (reported : List ℕ) × IsReported line reported × (text ≡ object line reported)
 
 -- a text is one text for each of these lines, in order
 abbrev pub AreInOrder : (List ℕ → List ℕ → Type 0) → List (List ℕ) → List ℕ → Type 0

@@ -54,5 +54,5 @@ winners_in rest = last_word (before_last (before_last rest))
 abbrev pub before_seats : List ℕ → List ℕ
 before_seats rest = before_last (before_last (before_last (before_last rest)))
 
-abbrev pub told_in : List ℕ → List ℕ
-told_in rest = if has_seats rest then before_seats rest else rest
+abbrev pub reported_in : List ℕ → List ℕ
+reported_in rest = if has_seats rest then before_seats rest else rest

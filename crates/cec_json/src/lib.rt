@@ -14,7 +14,7 @@ pub use columns::{write_field, write_lead};
 pub use held::Held;
 pub use laws::{lines_are_read_back, one_line_an_object};
 pub use lines::write_objects;
-pub use object::{write_told, write_type};
+pub use object::{write_reported, write_type};
 pub use parts::{after_byte, after_word, before_byte, word};
 pub use progress::Progress;
 pub use values::{Shape, write_char, write_quoted};

@@ -1,11 +1,11 @@
 //! The object of a line.
 ghost use Rattle.std.specs.Prelude.{◌≡◌, ℕ, List, Option};
-ghost use Rattle.cec_json.specs.Object.{AreBytesOf, IsObject, reading_start, body, broken_body, bytes_value, complete_body, complete_fields, end_body, event_body, form_by, form_of, frame_fields, frame_in, IsTold, hex_value, is_broken, names_fields, port_body, reading_type, seats, state_body, type_field};
+ghost use Rattle.cec_json.specs.Object.{AreBytesOf, IsObject, reading_start, body, broken_body, bytes_value, complete_body, complete_fields, end_body, event_body, form_by, form_of, frame_fields, frame_in, IsReported, hex_value, is_broken, names_fields, port_body, reading_type, seats, state_body, type_field};
 ghost use Rattle.cec_json.specs.Progress.{WritesOn};
 
 use crate::columns::{AT, EVENT, PORT, READING, STATE, write_field, write_fields, write_lead};
 use crate::parts::{
-    after_word, before_last, after_ending, has_seats, last_word, losers_in, told_in, winners_in,
+    after_word, before_last, after_ending, has_seats, last_word, losers_in, reported_in, winners_in,
     word,
 };
 use crate::progress::Progress;
@@ -160,11 +160,11 @@ fn write_frame<S: Sink>(frame: &Option<Frame>, text: &[u8], progress: &mut Progr
 }
 
 // Writes what a complete reading told.
-fn write_complete<S: Sink>(frame: &Option<Frame>, told: &[u8], progress: &mut Progress, out: &mut S)
-    ensures { WritesOn (S.contents out.old) (S.contents out.new) (S.is_stuck out.old) (S.is_stuck out.new) (complete_fields frame.now told.now) progress.old.so_far progress.new.so_far }
+fn write_complete<S: Sink>(frame: &Option<Frame>, reported: &[u8], progress: &mut Progress, out: &mut S)
+    ensures { WritesOn (S.contents out.old) (S.contents out.new) (S.is_stuck out.old) (S.is_stuck out.new) (complete_fields frame.now reported.now) progress.old.so_far progress.new.so_far }
 {
-    write_frame(frame, before_last(told), progress, out);
-    write_field("verdict", Shape::Text, last_word(told), progress, out);
+    write_frame(frame, before_last(reported), progress, out);
+    write_field("verdict", Shape::Text, last_word(reported), progress, out);
 }
 
 fn write_state<S: Sink>(line: &[u8], progress: &mut Progress, out: &mut S)
@@ -203,7 +203,7 @@ fn write_whole<S: Sink>(frame: &Option<Frame>, line: &[u8], progress: &mut Progr
 {
     let rest = after_ending(line);
     write_begun(line, progress, out);
-    write_complete(frame, told_in(rest), progress, out);
+    write_complete(frame, reported_in(rest), progress, out);
     write_seats(rest, progress, out);
 }
 
@@ -213,7 +213,7 @@ fn write_broken<S: Sink>(line: &[u8], progress: &mut Progress, out: &mut S)
 {
     let rest = after_ending(line);
     write_begun(line, progress, out);
-    write_field("bits", Shape::Text, told_in(rest), progress, out);
+    write_field("bits", Shape::Text, reported_in(rest), progress, out);
     write_seats(rest, progress, out);
 }
 
@@ -239,11 +239,11 @@ fn write_body<S: Sink>(
 }
 
 /// Writes what the object of a line has after the line: its type, and what it reports.
-pub fn write_told<S: Sink>(line: &[u8], progress: &mut Progress, out: &mut S)
-    ensures { (told : List ℕ) × IsTold line.now told
-        × WritesOn (S.contents out.old) (S.contents out.new) (S.is_stuck out.old) (S.is_stuck out.new) told progress.old.so_far progress.new.so_far }
+pub fn write_reported<S: Sink>(line: &[u8], progress: &mut Progress, out: &mut S)
+    ensures { (reported : List ℕ) × IsReported line.now reported
+        × WritesOn (S.contents out.old) (S.contents out.new) (S.is_stuck out.old) (S.is_stuck out.new) reported progress.old.so_far progress.new.so_far }
 {
-    let frame = frame_of(before_last(told_in(after_ending(line))));
+    let frame = frame_of(before_last(reported_in(after_ending(line))));
     write_body(form_of(line), &frame, line, progress, out);
 }
 
@@ -254,6 +254,6 @@ pub(crate) fn write_object<S: Sink>(line: &[u8], progress: &mut Progress, out: &
 {
     progress.text(out, b"{\"line\":");
     write_quoted(line, progress, out);
-    write_told(line, progress, out);
+    write_reported(line, progress, out);
     progress.text(out, b"}\n");
 }

@@ -1,6 +1,6 @@
 //! Parts of a line of a trace.
 ghost use Rattle.std.specs.Prelude.{◌≡◌, ◌≤◌, ◌<◌, length};
-ghost use Rattle.cec_json.specs.Parts.{after_byte, after_word, before_byte, before_last, before_seats, after_ending, has_seats, last_space, last_word, losers_in, space_in, told_in, value_of, winners_in, word};
+ghost use Rattle.cec_json.specs.Parts.{after_byte, after_word, before_byte, before_last, before_seats, after_ending, has_seats, last_space, last_word, losers_in, space_in, reported_in, value_of, winners_in, word};
 
 use hdmi_core::{before, after, len_before};
 
@@ -108,8 +108,8 @@ fn before_seats(rest: &[u8]) -> &[u8]
 }
 
 /// What a reading told.
-pub(crate) fn told_in(rest: &[u8]) -> &[u8]
-    ensures { result.now ≡ told_in rest.now }
+pub(crate) fn reported_in(rest: &[u8]) -> &[u8]
+    ensures { result.now ≡ reported_in rest.now }
 {
     if has_seats(rest) {
         before_seats(rest)

@@ -11,7 +11,7 @@ use Rattle.cec_judge.specs.Seen.{end_by, ends_seen}
 use Rattle.cec_judge.specs.Named.{is_named}
 use Rattle.cec_judge.specs.Index.{ends_among, entry, event_of, event_on, or_event}
 use Rattle.cec_judge.specs.declared.seen.Span.{Span}
-use Rattle.cec_judge.specs.declared.told.EventLine.{EventLine as EventRead}
+use Rattle.cec_judge.specs.declared.reported.EventLine.{EventLine as EventRead}
 
 -- ---- rounds
 

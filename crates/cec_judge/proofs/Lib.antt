@@ -1,4 +1,4 @@
-pub mod Telling
+pub mod Reporting
 pub mod Often
 pub mod Naming
 pub mod Indexed

@@ -8,7 +8,7 @@ use Rattle.cec_judge.specs.Told.{round_as}
 use Rattle.cec_judge.specs.Seen.{end_by, or_first}
 use Rattle.cec_judge.specs.Index.{are_in_order, ends_among, leads}
 use Rattle.cec_judge.specs.declared.seen.Span.{Span}
-use Rattle.cec_judge.specs.declared.told.RoundLine.{RoundLine as RoundRead}
+use Rattle.cec_judge.specs.declared.reported.RoundLine.{RoundLine as RoundRead}
 
 left_of : (a b : Bool) → (a && b) ≡ true → a ≡ true
 left_of true b h = refl
@@ -48,7 +48,7 @@ begins r (next ∷ rounds) (suc place) d h k =
     omega (arith, first, more)
 
 early : (span : Span) (pattern : List ℕ) (r : RoundRead) → r.begin < span.from → end_by span pattern (Some (round_as r)) ≡ None
-early span pattern r h = ap (λ b. if b then Some r.at else None) (first_false (nat_le span.from r.begin) (nat_le r.at span.to) (fits pattern r.told.now) (above span.from r.begin h))
+early span pattern r h = ap (λ b. if b then Some r.at else None) (first_false (nat_le span.from r.begin) (nat_le r.at span.to) (fits pattern r.reported.now) (above span.from r.begin h))
 
 left_out : (rounds : List RoundRead) (place : ℕ) (d : RoundRead) (span : Span) (pattern : List ℕ) → are_in_order rounds ≡ true → place < length rounds → (get_or rounds place d).begin < span.from
     → ends_among (map round_as (drop (suc place) rounds)) span pattern ≡ ends_among (map round_as rounds) span pattern
@@ -74,7 +74,7 @@ still_in_order (r ∷ rounds) (suc count) h = still_in_order rounds count (right
 -- ---- rounds that ended after a span
 
 late : (span : Span) (pattern : List ℕ) (r : RoundRead) → span.to < r.at → end_by span pattern (Some (round_as r)) ≡ None
-late span pattern r h = ap (λ b. if b then Some r.at else None) (second_false (nat_le span.from r.begin) (nat_le r.at span.to) (fits pattern r.told.now) (above r.at span.to h))
+late span pattern r h = ap (λ b. if b then Some r.at else None) (second_false (nat_le span.from r.begin) (nat_le r.at span.to) (fits pattern r.reported.now) (above r.at span.to h))
 
 all_late : (r : RoundRead) (others : List RoundRead) (span : Span) (pattern : List ℕ) → are_in_order (r ∷ others) ≡ true → span.to < r.at → ends_among (map round_as (r ∷ others)) span pattern ≡ []
 all_late r [] span pattern h k = ap (λ (o : Option ℕ). cons_option o []) (late span pattern r k)

@@ -5,8 +5,8 @@ use Rattle.std.specs.List.{filter_map}
 use Rattle.cec_judge.specs.Told.{EventLine, RoundLine, event_as}
 use Rattle.cec_judge.specs.Seen.{end_by}
 use Rattle.cec_judge.specs.declared.seen.Span.{Span}
-use Rattle.cec_judge.specs.declared.told.EventLine.{EventLine as EventRead}
-use Rattle.cec_judge.specs.declared.told.RoundLine.{RoundLine as RoundRead}
+use Rattle.cec_judge.specs.declared.reported.EventLine.{EventLine as EventRead}
+use Rattle.cec_judge.specs.declared.reported.RoundLine.{RoundLine as RoundRead}
 
 -- the ends of those of these rounds that are seen, in order
 abbrev pub ends_among : List RoundLine → Span → List ℕ → List ℕ

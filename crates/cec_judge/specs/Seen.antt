@@ -9,7 +9,7 @@ use Rattle.cec_judge.specs.declared.seen.Span.{Span}
 
 -- it began and ended within the span, and what its line says meets the pattern
 abbrev pub is_seen : Span → List ℕ → RoundLine → Bool
-is_seen span pattern r = nat_le span.from r.begin && nat_le r.at span.to && fits pattern r.told
+is_seen span pattern r = nat_le span.from r.begin && nat_le r.at span.to && fits pattern r.reported
 
 abbrev pub end_by : Span → List ℕ → Option RoundLine → Option ℕ
 end_by span pattern None = None

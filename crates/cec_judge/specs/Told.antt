@@ -6,8 +6,8 @@ use Rattle.std.specs.Option.{option_copied}
 use Rattle.hdmi_core.specs.Lines.{lines_of}
 use Rattle.hdmi_core.specs.Number.{number_of}
 use Rattle.hdmi_core.specs.Words.{words_of, words_after, text_of, one_of}
-use Rattle.cec_judge.specs.declared.told.RoundLine.{RoundLine as RoundRead}
-use Rattle.cec_judge.specs.declared.told.EventLine.{EventLine as EventRead}
+use Rattle.cec_judge.specs.declared.reported.RoundLine.{RoundLine as RoundRead}
+use Rattle.cec_judge.specs.declared.reported.EventLine.{EventLine as EventRead}
 
 -- ---- rounds
 
@@ -15,34 +15,34 @@ use Rattle.cec_judge.specs.declared.told.EventLine.{EventLine as EventRead}
 pub record RoundLine : Type 0 where
   pub begin : ℕ
   pub at : ℕ
-  pub told : List ℕ
+  pub reported : List ℕ
 
 -- the words after the times as a text, without the word `complete`
 abbrev pub after_complete : List ℕ → List (List ℕ) → List ℕ
 after_complete ending [] = ending
 after_complete ending (word ∷ words) = if bytes_eq ending (codes "complete") then text_of (word ∷ words) else text_of (ending ∷ word ∷ words)
 
-abbrev pub told_in : List (List ℕ) → List ℕ
-told_in [] = []
-told_in (ending ∷ words) = after_complete ending words
+abbrev pub reported_in : List (List ℕ) → List ℕ
+reported_in [] = []
+reported_in (ending ∷ words) = after_complete ending words
 
 abbrev pub round_by : Option ℕ → Option ℕ → List ℕ → Option RoundLine
-round_by None at told = None
-round_by (Some begin) None told = None
-round_by (Some begin) (Some at) told = Some (record { begin = begin; at = at; told = told })
+round_by None at reported = None
+round_by (Some begin) None reported = None
+round_by (Some begin) (Some at) reported = Some (record { begin = begin; at = at; reported = reported })
 
 -- a line of a round begins with two numbers
 abbrev pub round_in : List (List ℕ) → Option RoundLine
 round_in [] = None
 round_in (begin ∷ []) = None
-round_in (begin ∷ at ∷ words) = round_by (number_of begin) (number_of at) (told_in words)
+round_in (begin ∷ at ∷ words) = round_by (number_of begin) (number_of at) (reported_in words)
 
 -- the rounds of a trace, in order
 abbrev pub rounds_of : List ℕ → List RoundLine
 rounds_of trace = filter_map (λ line. round_in (words_of line)) (lines_of trace)
 
 abbrev pub round_as : RoundRead → RoundLine
-round_as r = record { begin = r.begin; at = r.at; told = r.told.now }
+round_as r = record { begin = r.begin; at = r.at; reported = r.reported.now }
 
 -- ---- events
 

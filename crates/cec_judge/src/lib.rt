@@ -7,11 +7,11 @@ mod judge;
 mod laws;
 mod named;
 mod seen;
-mod told;
+mod reported;
 
 pub use expected::Expected;
 pub use judge::{Finding, Judged, all_judged, is_of_state};
 pub use laws::{larger_spans_hold, never_is_the_contrary, once_is_some};
 pub use named::NamedLines;
 pub use seen::{Span, end_seen};
-pub use told::{EventLine, RoundLine, event_in, refusal_in, round_in, state_line};
+pub use reported::{EventLine, RoundLine, event_in, refusal_in, round_in, state_line};

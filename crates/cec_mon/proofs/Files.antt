@@ -127,19 +127,19 @@ watched_first text f lines m old was h rest number level from heard = record {
 }
 
 -- an edge, and what was reported of it
-record Told (f : EdgeFile) (lines next : EdgeLines) (m new : Watcher) (e : EdgeOf) (told : Option Listed) : Type 0 where
+record Told (f : EdgeFile) (lines next : EdgeLines) (m new : Watcher) (e : EdgeOf) (reported : Option Listed) : Type 0 where
   left : EdgeFile
   file : file_left next ≡ Ok left
   end : left.end ≡ f.end
   level : (u : ℕ) → next.from ≤ u → line_of_edges f.edges u ≡ level_at next.is_low left.edges u
   before : was_low (line_of_edges f.edges) next.from ≡ next.is_low
   heard : HeardBefore new (line_of_edges f.edges) next.from
-  ended : ended_before (line_of_edges f.edges) next.from ≡ ended_before (line_of_edges f.edges) lines.from ++ option_to_list told
+  ended : ended_before (line_of_edges f.edges) next.from ≡ ended_before (line_of_edges f.edges) lines.from ++ option_to_list reported
 
-told_edge : (f : EdgeFile) (lines next : EdgeLines) (m new : Watcher) (e : EdgeOf) (told : Option Listed) (old now : Option (List ℕ)) (was is : Bool) (written : ℕ) → Watched f lines m old now was is written
-    → GoesAfter lines e next → FollowsEdge m e told new → Told f lines next m new e told
+reported_edge : (f : EdgeFile) (lines next : EdgeLines) (m new : Watcher) (e : EdgeOf) (reported : Option Listed) (old now : Option (List ℕ)) (was is : Bool) (written : ℕ) → Watched f lines m old now was is written
+    → GoesAfter lines e next → FollowsEdge m e reported new → Told f lines next m new e reported
 unfolding Late
-told_edge f lines next m new e told old now was is written w g follows = record {
+reported_edge f lines next m new e reported old now was is written w g follows = record {
   left = b.left;
   file = b.is;
   end = ap (λ (x : EdgeFile). x.end) (sym b.same) ∙ w.end;
@@ -170,20 +170,20 @@ told_edge f lines next m new e told old now was is written w g follows = record 
         first : Late next.from b.left
         first = late_read (lines_of next.rest.now) next.number next.is_low next.from b.left b.is
 
-    d : HeardBefore new (line_of_edges f.edges) (e.at + 1) × (ended_by (line_of_edges f.edges) e.at ≡ ended_before (line_of_edges f.edges) lines.from ++ option_to_list told)
+    d : HeardBefore new (line_of_edges f.edges) (e.at + 1) × (ended_by (line_of_edges f.edges) e.at ≡ ended_before (line_of_edges f.edges) lines.from ++ option_to_list reported)
     d = follows (line_of_edges f.edges) lines.from w.heard g.after calm now_is
 
 pub text_more : (xs : List Listed) (o : Option Listed) → readings_text (xs ++ option_to_list o) ≡ readings_text xs ++ reported_text o
 text_more xs o = flat_map-append listed_line xs (option_to_list o)
 
-pub watched_more : (f : EdgeFile) (lines next : EdgeLines) (m new : Watcher) (e : EdgeOf) (told : Option Listed) (old mid out : Option (List ℕ)) (was is now : Bool) (written total : ℕ)
-    → Watched f lines m old mid was is written → GoesAfter lines e next → FollowsEdge m e told new → AddsAll mid out is now written total (reported_text told)
+pub watched_more : (f : EdgeFile) (lines next : EdgeLines) (m new : Watcher) (e : EdgeOf) (reported : Option Listed) (old mid out : Option (List ℕ)) (was is now : Bool) (written total : ℕ)
+    → Watched f lines m old mid was is written → GoesAfter lines e next → FollowsEdge m e reported new → AddsAll mid out is now written total (reported_text reported)
     → Watched f next new old out was now total
-watched_more f lines next m new e told old mid out was is now written total w g follows added =
-    let t = told_edge f lines next m new e told old mid was is written w g follows in
+watched_more f lines next m new e reported old mid out was is now written total w g follows added =
+    let t = reported_edge f lines next m new e reported old mid was is written w g follows in
     let first : List ℕ = readings_text (ended_before (line_of_edges f.edges) lines.from) in
-    let whole : readings_text (ended_before (line_of_edges f.edges) next.from) ≡ first ++ reported_text told =
-    ap readings_text t.ended ∙ text_more (ended_before (line_of_edges f.edges) lines.from) told in
+    let whole : readings_text (ended_before (line_of_edges f.edges) next.from) ≡ first ++ reported_text reported =
+    ap readings_text t.ended ∙ text_more (ended_before (line_of_edges f.edges) lines.from) reported in
     record {
       left = t.left;
       file = t.file;
@@ -191,7 +191,7 @@ watched_more f lines next m new e told old mid out was is now written total w g 
       level = t.level;
       before = t.before;
       heard = t.heard;
-      so_far = subst (AddsAll old out was now 0 total) (sym whole) (both old mid out was is now 0 written total first (reported_text told) w.so_far added);
+      so_far = subst (AddsAll old out was now 0 total) (sym whole) (both old mid out was is now 0 written total first (reported_text reported) w.so_far added);
     }
 
 -- ---- the end of a file
@@ -241,20 +241,20 @@ edge_by f lines next m e old now was is written w g =
     omega (arith, late, same, g.from)
 
 -- the line of an edge's reading was cut off
-pub cut_edge : (f : EdgeFile) (lines next : EdgeLines) (m new : Watcher) (e : EdgeOf) (told : Option Listed) (old mid out : Option (List ℕ)) (was is now : Bool) (written total : ℕ) (fault : WriteFault)
-    → Watched f lines m old mid was is written → GoesAfter lines e next → FollowsEdge m e told new → Adds mid out is now written total (reported_text told) (Err fault) → WritesFile old out was now f (Err fault)
-cut_edge f lines next m new e told old mid out was is now written total fault w g follows cut =
-    let t = told_edge f lines next m new e told old mid was is written w g follows in
+pub cut_edge : (f : EdgeFile) (lines next : EdgeLines) (m new : Watcher) (e : EdgeOf) (reported : Option Listed) (old mid out : Option (List ℕ)) (was is now : Bool) (written total : ℕ) (fault : WriteFault)
+    → Watched f lines m old mid was is written → GoesAfter lines e next → FollowsEdge m e reported new → Adds mid out is now written total (reported_text reported) (Err fault) → WritesFile old out was now f (Err fault)
+cut_edge f lines next m new e reported old mid out was is now written total fault w g follows cut =
+    let t = reported_edge f lines next m new e reported old mid was is written w g follows in
     let rest = ended_first (line_of_edges f.edges) e.at f.end (edge_by f lines next m e old mid was is written w g) in
     let before : List ℕ = readings_text (ended_before (line_of_edges f.edges) lines.from) in
-    let ended : ended_by (line_of_edges f.edges) e.at ≡ ended_before (line_of_edges f.edges) lines.from ++ option_to_list told =
+    let ended : ended_by (line_of_edges f.edges) e.at ≡ ended_before (line_of_edges f.edges) lines.from ++ option_to_list reported =
     sym (ap (ended_before (line_of_edges f.edges)) (g.from ∙ (let x : e.at + 1 ≡ suc e.at = omega arith in x))) ∙ t.ended in
-    let whole : readings_text (file_readings f) ≡ (before ++ reported_text told) ++ readings_text rest.0 =
-    ap readings_text (rest.1 ∙ ap (λ (xs : List Listed). xs ++ rest.0) ended) ∙ flat_map-append listed_line (ended_before (line_of_edges f.edges) lines.from ++ option_to_list told) rest.0
-    ∙ ap (λ (xs : List ℕ). xs ++ readings_text rest.0) (text_more (ended_before (line_of_edges f.edges) lines.from) told) in (
+    let whole : readings_text (file_readings f) ≡ (before ++ reported_text reported) ++ readings_text rest.0 =
+    ap readings_text (rest.1 ∙ ap (λ (xs : List Listed). xs ++ rest.0) ended) ∙ flat_map-append listed_line (ended_before (line_of_edges f.edges) lines.from ++ option_to_list reported) rest.0
+    ∙ ap (λ (xs : List ℕ). xs ++ readings_text rest.0) (text_more (ended_before (line_of_edges f.edges) lines.from) reported) in (
       subst (λ (x : List ℕ). CutOff old out x fault) (sym whole)
-          (from_nothing old out ((before ++ reported_text told) ++ readings_text rest.0) fault
-          (front old out 0 (before ++ reported_text told) (readings_text rest.0) fault (front_after old mid out was is 0 written before (reported_text told) fault w.so_far cut.0))),
+          (from_nothing old out ((before ++ reported_text reported) ++ readings_text rest.0) fault
+          (front old out 0 (before ++ reported_text reported) (readings_text rest.0) fault (front_after old mid out was is 0 written before (reported_text reported) fault w.so_far cut.0))),
       cut.1,
     )
 
@@ -262,29 +262,29 @@ same_file : (a b : EdgeFile) (r : Result EdgeFile EdgeFault) → r ≡ Ok a → 
 same_file a b r h k = cc
 
 -- the last reading, and with it the whole list
-all_read : (f : EdgeFile) (lines : EdgeLines) (m : Watcher) (t : ℕ) (told : Option Listed) (old mid : Option (List ℕ)) (was is : Bool) (written : ℕ) → Watched f lines m old mid was is written
-    → file_left lines ≡ Ok (record { edges = []; end = t }) → lines.from ≤ t + 1 → FollowsEnd m t told
-    → readings_text (file_readings f) ≡ readings_text (ended_before (line_of_edges f.edges) lines.from) ++ reported_text told
-all_read f lines m t told old mid was is written w file l follows =
+all_read : (f : EdgeFile) (lines : EdgeLines) (m : Watcher) (t : ℕ) (reported : Option Listed) (old mid : Option (List ℕ)) (was is : Bool) (written : ℕ) → Watched f lines m old mid was is written
+    → file_left lines ≡ Ok (record { edges = []; end = t }) → lines.from ≤ t + 1 → FollowsEnd m t reported
+    → readings_text (file_readings f) ≡ readings_text (ended_before (line_of_edges f.edges) lines.from) ++ reported_text reported
+all_read f lines m t reported old mid was is written w file l follows =
     let left : w.left ≡ record { edges = []; end = t } = same_file w.left (record { edges = []; end = t }) (file_left lines) w.file file in
     let end : f.end ≡ t = sym w.end ∙ ap (λ (x : EdgeFile). x.end) left in
     let level : (u : ℕ) → lines.from ≤ u → line_of_edges f.edges u ≡ lines.is_low = λ u k. w.level u k ∙ ap (λ (x : EdgeFile). level_at lines.is_low x.edges u) left in
     ap readings_text (ap (readings_of (line_of_edges f.edges)) end
     ∙ follows (line_of_edges f.edges) lines.from w.heard l (λ u k s. level u k ∙ sym w.before ∙ sym w.heard.stood.level))
-    ∙ text_more (ended_before (line_of_edges f.edges) lines.from) told
+    ∙ text_more (ended_before (line_of_edges f.edges) lines.from) reported
 
-pub ended_so : (f : EdgeFile) (lines : EdgeLines) (m : Watcher) (t : ℕ) (told : Option Listed) (old mid out : Option (List ℕ)) (was is now : Bool) (written total : ℕ) (result : Result (Unit {0}) WriteFault)
-    → Watched f lines m old mid was is written → file_left lines ≡ Ok (record { edges = []; end = t }) → lines.from ≤ t + 1 → FollowsEnd m t told → Adds mid out is now written total (reported_text told) result
+pub ended_so : (f : EdgeFile) (lines : EdgeLines) (m : Watcher) (t : ℕ) (reported : Option Listed) (old mid out : Option (List ℕ)) (was is now : Bool) (written total : ℕ) (result : Result (Unit {0}) WriteFault)
+    → Watched f lines m old mid was is written → file_left lines ≡ Ok (record { edges = []; end = t }) → lines.from ≤ t + 1 → FollowsEnd m t reported → Adds mid out is now written total (reported_text reported) result
     → WritesFile old out was now f result
-ended_so f lines m t told old mid out was is now written total (Ok _) w file l follows added =
+ended_so f lines m t reported old mid out was is now written total (Ok _) w file l follows added =
     let before : List ℕ = readings_text (ended_before (line_of_edges f.edges) lines.from) in (
-      subst (Appends old out) (sym (all_read f lines m t told old mid was is written w file l follows)) (Appends-trans old mid out before (reported_text told) w.so_far.1 added.1),
+      subst (Appends old out) (sym (all_read f lines m t reported old mid was is written w file l follows)) (Appends-trans old mid out before (reported_text reported) w.so_far.1 added.1),
       added.2 ∙ w.so_far.2,
     )
-ended_so f lines m t told old mid out was is now written total (Err fault) w file l follows cut =
+ended_so f lines m t reported old mid out was is now written total (Err fault) w file l follows cut =
     let before : List ℕ = readings_text (ended_before (line_of_edges f.edges) lines.from) in (
-      subst (λ (x : List ℕ). CutOff old out x fault) (sym (all_read f lines m t told old mid was is written w file l follows))
-          (from_nothing old out (before ++ reported_text told) fault (front_after old mid out was is 0 written before (reported_text told) fault w.so_far cut.0)),
+      subst (λ (x : List ℕ). CutOff old out x fault) (sym (all_read f lines m t reported old mid was is written w file l follows))
+          (from_nothing old out (before ++ reported_text reported) fault (front_after old mid out was is 0 written before (reported_text reported) fault w.so_far cut.0)),
       cut.1,
     )
 

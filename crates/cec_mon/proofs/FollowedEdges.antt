@@ -68,7 +68,7 @@ abbrev pub was_joined : ℕ → Line → ℕ → Bool
 was_joined t low from = has_joined t (ended_before low from)
 
 abbrev pub told_text : ℕ → Bool → Option Listed → List ℕ
-told_text t is_told told = joined_text t is_told (option_to_list told)
+told_text t is_reported reported = joined_text t is_reported (option_to_list reported)
 
 -- no edge comes past the limit
 pub edge_early : (edges : List Edge) (end k : ℕ) (none : Edge) → EndBy end edges → k < length edges → (get_or edges k none).at ≤ end
@@ -77,7 +77,7 @@ edge_early (e ∷ edges) end zero none h l = h.0
 edge_early (e ∷ edges) end (suc k) none h l = edge_early edges end k none h.1 (omega arith)
 
 -- the edges up to these are followed, and what has ended before the next one is written
-pub record Followed (t : ℕ) (is_told : Bool) (c : Captured) (left : List Edge) (m : Watcher) (old now : Option (List ℕ)) (was is : Bool) (written : ℕ) : Type 0 where
+pub record Followed (t : ℕ) (is_reported : Bool) (c : Captured) (left : List Edge) (m : Watcher) (old now : Option (List ℕ)) (was is : Bool) (written : ℕ) : Type 0 where
   pub is_low : Bool
   pub from : ℕ
   pub level : (u : ℕ) → from ≤ u → line_of_edges c.edges u ≡ level_at is_low left u
@@ -86,7 +86,7 @@ pub record Followed (t : ℕ) (is_told : Bool) (c : Captured) (left : List Edge)
   pub ends : EndBy c.end left
   pub reach : from ≤ c.end + 1
   pub heard : HeardBefore m (line_of_edges c.edges) from
-  pub told : is_told ≡ was_joined t (line_of_edges c.edges) from
+  pub reported : is_reported ≡ was_joined t (line_of_edges c.edges) from
   pub put : AddsAll old now was is 0 written (so_far t (line_of_edges c.edges) from)
 
 pub followed_first : (t : ℕ) (c : Captured) (m : Watcher) (old : Option (List ℕ)) (was : Bool) → IsCapture c.edges c.end → ((low : Line) → HeardBefore m low 0) → Followed t false c c.edges m old old was was 0
@@ -99,21 +99,21 @@ followed_first t c m old was is heard = record {
   ends = is.ends;
   reach = omega arith;
   heard = heard (line_of_edges c.edges);
-  told = refl;
+  reported = refl;
   put = adds_nothing old was 0;
 }
 
 -- an edge, and what was reported of it
-record Told (c : Captured) (rest : List Edge) (new : Watcher) (e : Edge) (from : ℕ) (told : Option Listed) : Type 0 where
+record Told (c : Captured) (rest : List Edge) (new : Watcher) (e : Edge) (from : ℕ) (reported : Option Listed) : Type 0 where
   level : (u : ℕ) → e.at + 1 ≤ u → line_of_edges c.edges u ≡ level_at e.low rest u
   before : was_low (line_of_edges c.edges) (e.at + 1) ≡ e.low
   heard : HeardBefore new (line_of_edges c.edges) (e.at + 1)
-  by : ended_by (line_of_edges c.edges) e.at ≡ ended_before (line_of_edges c.edges) from ++ option_to_list told
-  ended : ended_before (line_of_edges c.edges) (e.at + 1) ≡ ended_before (line_of_edges c.edges) from ++ option_to_list told
+  by : ended_by (line_of_edges c.edges) e.at ≡ ended_before (line_of_edges c.edges) from ++ option_to_list reported
+  ended : ended_before (line_of_edges c.edges) (e.at + 1) ≡ ended_before (line_of_edges c.edges) from ++ option_to_list reported
 
-told_edge : (t : ℕ) (is_told : Bool) (c : Captured) (rest : List Edge) (m new : Watcher) (e : Edge) (told : Option Listed) (old now : Option (List ℕ)) (was is : Bool) (written : ℕ) → (w : Followed t is_told c (e ∷ rest) m old now was is written)
-    → FollowsEdge m e told new → Told c rest new e w.from told
-told_edge t is_told c rest m new e told old now was is written w follows = record {
+reported_edge : (t : ℕ) (is_reported : Bool) (c : Captured) (rest : List Edge) (m new : Watcher) (e : Edge) (reported : Option Listed) (old now : Option (List ℕ)) (was is : Bool) (written : ℕ) → (w : Followed t is_reported c (e ∷ rest) m old now was is written)
+    → FollowsEdge m e reported new → Told c rest new e w.from reported
+reported_edge t is_reported c rest m new e reported old now was is written w follows = record {
   level = λ u l. later u (omega arith);
   before = was_now (line_of_edges c.edges) e.at ∙ now_is;
   heard = d.0;
@@ -133,22 +133,22 @@ told_edge t is_told c rest m new e told old now was is written w follows = recor
     now_is : line_of_edges c.edges e.at ≡ e.low
     now_is = later e.at (omega arith) ∙ before_turn e.low (e.at + 1) rest w.turn.2 e.at (omega arith)
 
-    d : HeardBefore new (line_of_edges c.edges) (e.at + 1) × (ended_by (line_of_edges c.edges) e.at ≡ ended_before (line_of_edges c.edges) w.from ++ option_to_list told)
+    d : HeardBefore new (line_of_edges c.edges) (e.at + 1) × (ended_by (line_of_edges c.edges) e.at ≡ ended_before (line_of_edges c.edges) w.from ++ option_to_list reported)
     d = follows (line_of_edges c.edges) w.from w.heard after calm now_is
 
 -- with the reading that an edge ends
-text_more : (t : ℕ) (is_told : Bool) (low : Line) (from : ℕ) (told : Option Listed) → is_told ≡ was_joined t low from
-    → joined_text t false (ended_before low from ++ option_to_list told) ≡ so_far t low from ++ told_text t is_told told
-text_more t is_told low from told is = joined_more t false (ended_before low from) (option_to_list told) ∙ ap (λ b. so_far t low from ++ told_text t b told) (sym is)
+text_more : (t : ℕ) (is_reported : Bool) (low : Line) (from : ℕ) (reported : Option Listed) → is_reported ≡ was_joined t low from
+    → joined_text t false (ended_before low from ++ option_to_list reported) ≡ so_far t low from ++ told_text t is_reported reported
+text_more t is_reported low from reported is = joined_more t false (ended_before low from) (option_to_list reported) ∙ ap (λ b. so_far t low from ++ told_text t b reported) (sym is)
 
-pub followed_more : (t : ℕ) (is_told is_more : Bool) (c : Captured) (left rest : List Edge) (m new : Watcher) (e : Edge) (told : Option Listed) (old mid out : Option (List ℕ)) (was is now : Bool) (written total : ℕ)
-    → Followed t is_told c left m old mid was is written → left ≡ e ∷ rest → FollowsEdge m e told new → AddsAll mid out is now written total (told_text t is_told told)
-    → is_more ≡ (is_told || has_joined t (option_to_list told)) → Followed t is_more c rest new old out was now total
-followed_more t is_told is_more c left rest m new e told old mid out was is now written total followed cut follows added joins =
-    let w : Followed t is_told c (e ∷ rest) m old mid was is written = subst (λ (l : List Edge). Followed t is_told c l m old mid was is written) cut followed in
-    let d = told_edge t is_told c rest m new e told old mid was is written w follows in
+pub followed_more : (t : ℕ) (is_reported is_more : Bool) (c : Captured) (left rest : List Edge) (m new : Watcher) (e : Edge) (reported : Option Listed) (old mid out : Option (List ℕ)) (was is now : Bool) (written total : ℕ)
+    → Followed t is_reported c left m old mid was is written → left ≡ e ∷ rest → FollowsEdge m e reported new → AddsAll mid out is now written total (told_text t is_reported reported)
+    → is_more ≡ (is_reported || has_joined t (option_to_list reported)) → Followed t is_more c rest new old out was now total
+followed_more t is_reported is_more c left rest m new e reported old mid out was is now written total followed cut follows added joins =
+    let w : Followed t is_reported c (e ∷ rest) m old mid was is written = subst (λ (l : List Edge). Followed t is_reported c l m old mid was is written) cut followed in
+    let d = reported_edge t is_reported c rest m new e reported old mid was is written w follows in
     let low : Line = line_of_edges c.edges in
-    let whole : so_far t low (e.at + 1) ≡ so_far t low w.from ++ told_text t is_told told = ap (joined_text t false) d.ended ∙ text_more t is_told low w.from told w.told in
+    let whole : so_far t low (e.at + 1) ≡ so_far t low w.from ++ told_text t is_reported reported = ap (joined_text t false) d.ended ∙ text_more t is_reported low w.from reported w.reported in
     let last = w.ends.0 in
     record {
       is_low = e.low;
@@ -159,49 +159,49 @@ followed_more t is_told is_more c left rest m new e told old mid out was is now 
       ends = w.ends.1;
       reach = omega (arith, last);
       heard = d.heard;
-      told = joins ∙ ap (λ b. b || has_joined t (option_to_list told)) w.told ∙ sym (ap (has_joined t) d.ended ∙ has_more t (ended_before low w.from) (option_to_list told));
-      put = subst (AddsAll old out was now 0 total) (sym whole) (both old mid out was is now 0 written total (so_far t low w.from) (told_text t is_told told) w.put added);
+      reported = joins ∙ ap (λ b. b || has_joined t (option_to_list reported)) w.reported ∙ sym (ap (has_joined t) d.ended ∙ has_more t (ended_before low w.from) (option_to_list reported));
+      put = subst (AddsAll old out was now 0 total) (sym whole) (both old mid out was is now 0 written total (so_far t low w.from) (told_text t is_reported reported) w.put added);
     }
 
 -- the line of an edge's reading was cut off
-pub cut_edge : (t : ℕ) (is_told : Bool) (c : Captured) (left rest : List Edge) (m new : Watcher) (e : Edge) (told : Option Listed) (old mid out : Option (List ℕ)) (was is now : Bool) (written total : ℕ) (fault : WriteFault)
-    → Followed t is_told c left m old mid was is written → left ≡ e ∷ rest → FollowsEdge m e told new → Adds mid out is now written total (told_text t is_told told) (Err fault)
+pub cut_edge : (t : ℕ) (is_reported : Bool) (c : Captured) (left rest : List Edge) (m new : Watcher) (e : Edge) (reported : Option Listed) (old mid out : Option (List ℕ)) (was is now : Bool) (written total : ℕ) (fault : WriteFault)
+    → Followed t is_reported c left m old mid was is written → left ≡ e ∷ rest → FollowsEdge m e reported new → Adds mid out is now written total (told_text t is_reported reported) (Err fault)
     → WritesJoined old out was now c t (Err fault)
-cut_edge t is_told c left rest m new e told old mid out was is now written total fault followed split follows cut =
-    let w : Followed t is_told c (e ∷ rest) m old mid was is written = subst (λ (l : List Edge). Followed t is_told c l m old mid was is written) split followed in
-    let d = told_edge t is_told c rest m new e told old mid was is written w follows in
+cut_edge t is_reported c left rest m new e reported old mid out was is now written total fault followed split follows cut =
+    let w : Followed t is_reported c (e ∷ rest) m old mid was is written = subst (λ (l : List Edge). Followed t is_reported c l m old mid was is written) split followed in
+    let d = reported_edge t is_reported c rest m new e reported old mid was is written w follows in
     let low : Line = line_of_edges c.edges in
     let more = ended_first low e.at c.end w.ends.0 in
-    let rest_text : List ℕ = joined_text t (has_joined t (ended_before low w.from ++ option_to_list told)) more.0 in
-    let whole : capture_text c t ≡ (so_far t low w.from ++ told_text t is_told told) ++ rest_text =
-    ap (joined_text t false) (more.1 ∙ ap (λ (xs : List Listed). xs ++ more.0) d.by) ∙ joined_more t false (ended_before low w.from ++ option_to_list told) more.0
-    ∙ ap (λ (xs : List ℕ). xs ++ rest_text) (text_more t is_told low w.from told w.told) in (
+    let rest_text : List ℕ = joined_text t (has_joined t (ended_before low w.from ++ option_to_list reported)) more.0 in
+    let whole : capture_text c t ≡ (so_far t low w.from ++ told_text t is_reported reported) ++ rest_text =
+    ap (joined_text t false) (more.1 ∙ ap (λ (xs : List Listed). xs ++ more.0) d.by) ∙ joined_more t false (ended_before low w.from ++ option_to_list reported) more.0
+    ∙ ap (λ (xs : List ℕ). xs ++ rest_text) (text_more t is_reported low w.from reported w.reported) in (
       subst (λ (x : List ℕ). CutOff old out x fault) (sym whole)
-          (from_nothing old out ((so_far t low w.from ++ told_text t is_told told) ++ rest_text) fault
-          (front old out 0 (so_far t low w.from ++ told_text t is_told told) rest_text fault (front_after old mid out was is 0 written (so_far t low w.from) (told_text t is_told told) fault w.put cut.0))),
+          (from_nothing old out ((so_far t low w.from ++ told_text t is_reported reported) ++ rest_text) fault
+          (front old out 0 (so_far t low w.from ++ told_text t is_reported reported) rest_text fault (front_after old mid out was is 0 written (so_far t low w.from) (told_text t is_reported reported) fault w.put cut.0))),
       cut.1,
     )
 
 -- the last reading, and with it the whole list
-all_read : (t : ℕ) (is_told : Bool) (c : Captured) (m : Watcher) (told : Option Listed) (old mid : Option (List ℕ)) (was is : Bool) (written : ℕ) → (w : Followed t is_told c [] m old mid was is written) → FollowsEnd m c.end told
-    → capture_text c t ≡ so_far t (line_of_edges c.edges) w.from ++ told_text t is_told told
-all_read t is_told c m told old mid was is written w follows =
+all_read : (t : ℕ) (is_reported : Bool) (c : Captured) (m : Watcher) (reported : Option Listed) (old mid : Option (List ℕ)) (was is : Bool) (written : ℕ) → (w : Followed t is_reported c [] m old mid was is written) → FollowsEnd m c.end reported
+    → capture_text c t ≡ so_far t (line_of_edges c.edges) w.from ++ told_text t is_reported reported
+all_read t is_reported c m reported old mid was is written w follows =
     ap (joined_text t false) (follows (line_of_edges c.edges) w.from w.heard w.reach (λ u k s. w.level u k ∙ sym w.before ∙ sym w.heard.stood.level))
-    ∙ text_more t is_told (line_of_edges c.edges) w.from told w.told
+    ∙ text_more t is_reported (line_of_edges c.edges) w.from reported w.reported
 
-pub ended_so : (t : ℕ) (is_told : Bool) (c : Captured) (left : List Edge) (m : Watcher) (told : Option Listed) (old mid out : Option (List ℕ)) (was is now : Bool) (written total : ℕ) (result : Result (Unit {0}) WriteFault)
-    → Followed t is_told c left m old mid was is written → left ≡ [] → FollowsEnd m c.end told → Adds mid out is now written total (told_text t is_told told) result → WritesJoined old out was now c t result
-ended_so t is_told c left m told old mid out was is now written total (Ok _) followed over follows added =
-    let w : Followed t is_told c [] m old mid was is written = subst (λ (l : List Edge). Followed t is_told c l m old mid was is written) over followed in (
-      subst (Appends old out) (sym (all_read t is_told c m told old mid was is written w follows))
-          (Appends-trans old mid out (so_far t (line_of_edges c.edges) w.from) (told_text t is_told told) w.put.1 added.1),
+pub ended_so : (t : ℕ) (is_reported : Bool) (c : Captured) (left : List Edge) (m : Watcher) (reported : Option Listed) (old mid out : Option (List ℕ)) (was is now : Bool) (written total : ℕ) (result : Result (Unit {0}) WriteFault)
+    → Followed t is_reported c left m old mid was is written → left ≡ [] → FollowsEnd m c.end reported → Adds mid out is now written total (told_text t is_reported reported) result → WritesJoined old out was now c t result
+ended_so t is_reported c left m reported old mid out was is now written total (Ok _) followed over follows added =
+    let w : Followed t is_reported c [] m old mid was is written = subst (λ (l : List Edge). Followed t is_reported c l m old mid was is written) over followed in (
+      subst (Appends old out) (sym (all_read t is_reported c m reported old mid was is written w follows))
+          (Appends-trans old mid out (so_far t (line_of_edges c.edges) w.from) (told_text t is_reported reported) w.put.1 added.1),
       added.2 ∙ w.put.2,
     )
-ended_so t is_told c left m told old mid out was is now written total (Err fault) followed over follows cut =
-    let w : Followed t is_told c [] m old mid was is written = subst (λ (l : List Edge). Followed t is_told c l m old mid was is written) over followed in
+ended_so t is_reported c left m reported old mid out was is now written total (Err fault) followed over follows cut =
+    let w : Followed t is_reported c [] m old mid was is written = subst (λ (l : List Edge). Followed t is_reported c l m old mid was is written) over followed in
     let before : List ℕ = so_far t (line_of_edges c.edges) w.from in (
-      subst (λ (x : List ℕ). CutOff old out x fault) (sym (all_read t is_told c m told old mid was is written w follows))
-          (from_nothing old out (before ++ told_text t is_told told) fault (front_after old mid out was is 0 written before (told_text t is_told told) fault w.put cut.0)),
+      subst (λ (x : List ℕ). CutOff old out x fault) (sym (all_read t is_reported c m reported old mid was is written w follows))
+          (from_nothing old out (before ++ told_text t is_reported reported) fault (front_after old mid out was is 0 written before (told_text t is_reported reported) fault w.put cut.0)),
       cut.1,
     )
 

@@ -12,7 +12,7 @@ use Rattle.cec_mon.specs.declared.edge_file.EdgeFault.TheVariants as fault
 use Rattle.cec_mon.specs.declared.edge_file.EdgeLine.{EdgeLine}
 use Rattle.cec_mon.specs.declared.edge_file.EdgeLine.TheVariants.{Edge, End}
 use Rattle.cec_mon.specs.EdgeFile.{EdgeFile, edge_line_of, edges_read, end_read, file_of, is_in_turn, line_alone, line_by, edge_line_at, marked_by, read_line, turns, with_edge, with_edges, within, word_out_of_turn}
-use Rattle.cec_mon.specs.Reading.{GivesEdges, fault_told}
+use Rattle.cec_mon.specs.Reading.{GivesEdges, fault_reported}
 use Rattle.cec_mon.proofs.Files.{edge_before, end_none}
 
 -- ---- the end is within the limit
@@ -127,7 +127,7 @@ file_is_capture text f h = let r = lines_are_read (lines_of text) 1 false 0 f h 
 
 -- ---- what is returned
 
-pub gives_fault : (x : EdgeFault) (read : Result EdgeFile EdgeFault) → read ≡ Err x → GivesEdges (Err (fault_told x)) read
+pub gives_fault : (x : EdgeFault) (read : Result EdgeFile EdgeFault) → read ≡ Err x → GivesEdges (Err (fault_reported x)) read
 gives_fault (fault.Line line word) read h = h
 gives_fault (fault.Order line word) read h = h
 

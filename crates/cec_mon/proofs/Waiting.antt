@@ -12,7 +12,7 @@ use Rattle.cec_bits.specs.declared.receiver.Told.TheVariants.{Nothing, Bit, Last
 use Rattle.cec_bits.specs.Reading.{last_ending}
 use Rattle.cec_bits.specs.Readings.{Listed, readings_of}
 use Rattle.cec_bits.specs.Ended.{ended_by}
-use Rattle.cec_bits.specs.Hears.{Hears, Heard, told_so, rest, starts, sample_as, hear_at, hear_in, wake_of}
+use Rattle.cec_bits.specs.Hears.{Hears, Heard, reported_so, rest, starts, sample_as, hear_at, hear_in, wake_of}
 use Rattle.cec_bits.specs.Kept.{kept_before}
 use Rattle.cec_bits.specs.Reports.{running_by, ended_of, ended_before}
 use Rattle.cec_bits.proofs.Following.{hears_by}
@@ -31,8 +31,8 @@ heard_still t false h = refl
 
 -- to rest, with a reading that ends, or to the slot's second half
 data Woke (h : Hears) (b : Bool) (w : ℕ) : Type 0 where
-  Over : (told : Told) → hear_in w b b h ≡ told_so rest told → (x : Listed) → ended_of told w (running_by h w) ≡ Some x → Woke h b w
-  Bitwise : (next : Hears) → (slot : ℕ) → (value : Bool) → hear_in w b b h ≡ told_so next (Bit slot value) → next.place ≡ Sampled → Woke h b w
+  Over : (reported : Told) → hear_in w b b h ≡ reported_so rest reported → (x : Listed) → ended_of reported w (running_by h w) ≡ Some x → Woke h b w
+  Bitwise : (next : Hears) → (slot : ℕ) → (value : Bool) → hear_in w b b h ≡ reported_so next (Bit slot value) → next.place ≡ Sampled → Woke h b w
 
 woke : (b : Bool) (place : ReceiverState) (begin fall : ℕ) (bits : List Bool) (w : ℕ) → wake_of (hears_by place begin fall bits) ≡ Some w → Woke (hears_by place begin fall bits) b w
 woke b Rest begin fall bits w e = cc
@@ -41,19 +41,19 @@ woke b StartLow begin fall bits w e =
     let late : nat_lt (begin + 3900) w ≡ true = grind (arith, nat_tests) in
     Over (Ended BadStart)
     (heard_still w b (hears_by StartLow begin fall bits)
-    ∙ ap (λ c. if c then told_so (starts w false) (Ended BadStart) else told_so (hears_by StartLow begin fall bits) Nothing) late) _ refl
+    ∙ ap (λ c. if c then reported_so (starts w false) (Ended BadStart) else reported_so (hears_by StartLow begin fall bits) Nothing) late) _ refl
 woke b StartHigh begin fall bits w e =
     let is : begin + 4701 ≡ w = cc in
     let late : nat_lt (begin + 4700) w ≡ true = grind (arith, nat_tests) in
     Over (Ended BadStart)
     (heard_still w b (hears_by StartHigh begin fall bits)
-    ∙ ap (λ c. if c then told_so (starts w false) (Ended BadStart) else told_so (hears_by StartHigh begin fall bits) Nothing) late) _ refl
+    ∙ ap (λ c. if c then reported_so (starts w false) (Ended BadStart) else reported_so (hears_by StartHigh begin fall bits) Nothing) late) _ refl
 woke b Unsampled begin fall bits w e =
     let is : fall + 1050 ≡ w = cc in
     let now : (w == fall + 1050) ≡ true = grind (arith, nat_tests) in
     by_last (last_ending bits)
     (heard_still w b (hears_by Unsampled begin fall bits)
-    ∙ ap (λ c. if c then sample_as (last_ending bits) (not b) (hears_by Unsampled begin fall bits) else told_so (hears_by Unsampled begin fall bits) Nothing) now)
+    ∙ ap (λ c. if c then sample_as (last_ending bits) (not b) (hears_by Unsampled begin fall bits) else reported_so (hears_by Unsampled begin fall bits) Nothing) now)
   where
     by_last : (last : Option Ending) → hear_in w b b (hears_by Unsampled begin fall bits) ≡ sample_as last (not b) (hears_by Unsampled begin fall bits) → Woke (hears_by Unsampled begin fall bits) b w
     by_last None h = Bitwise _ _ _ h refl
@@ -63,7 +63,7 @@ woke b Sampled begin fall bits w e =
     let late : nat_lt (fall + 2750) w ≡ true = grind (arith, nat_tests) in
     Over (Ended Silent)
     (heard_still w b (hears_by Sampled begin fall bits)
-    ∙ ap (λ c. if c then told_so (starts w false) (Ended Silent) else told_so (hears_by Sampled begin fall bits) Nothing) late) _ refl
+    ∙ ap (λ c. if c then reported_so (starts w false) (Ended Silent) else reported_so (hears_by Sampled begin fall bits) Nothing) late) _ refl
 
 woke_of : (b : Bool) (h : Hears) (w : ℕ) → wake_of h ≡ Some w → Woke h b w
 woke_of b h w e = woke b h.place h.begin h.fall h.bits w e
@@ -96,9 +96,9 @@ rests : (b : Bool) (h : Hears) (w : ℕ) (m : Microsecond) (x : Listed) → wake
 rests b h w m x e is ended = by_woke (woke_of b h w e)
   where
     by_woke : Woke h b w → m.state ≡ rest
-    by_woke (Over told heard y some) = ap (λ (k : Microsecond). k.state) is ∙ ap (λ (k : Heard). k.state) heard
+    by_woke (Over reported heard y some) = ap (λ (k : Microsecond). k.state) is ∙ ap (λ (k : Heard). k.state) heard
     by_woke (Bitwise next slot value heard place) =
-        let none : m.ended ≡ None = ap (λ (k : Microsecond). k.ended) is ∙ ap (λ (k : Heard). ended_of k.told w (running_by h w)) heard in
+        let none : m.ended ≡ None = ap (λ (k : Microsecond). k.ended) is ∙ ap (λ (k : Heard). ended_of k.reported w (running_by h w)) heard in
         let no : None ≡ Some x = sym none ∙ ended in cc
 
 -- after a second wake none comes before the instant
@@ -106,19 +106,19 @@ done_after : (until : ℕ) (b : Bool) (next : Hears) → next.place ≡ Sampled 
 done_after until b next place w e = by_left (left until b next)
   where
     by_woke : (v : ℕ) → (after_wake until b next) ≡ heard_at v b b next → wake_of next ≡ Some v → Woke next b v → until ≤ w
-    by_woke v is f (Over told heard x some) =
+    by_woke v is f (Over reported heard x some) =
         let at_rest : (after_wake until b next).state ≡ rest = ap (λ (k : Microsecond). k.state) is ∙ ap (λ (k : Heard). k.state) heard in
         let no : None ≡ Some w = sym (ap wake_of at_rest) ∙ e in cc
     by_woke v is f (Bitwise other slot value heard sampled) = absurd (not_bit next.place next.begin next.fall next.bits place heard f)
       where
-        not_bit : (p : ReceiverState) (begin fall : ℕ) (bits : List Bool) → p ≡ Sampled → hear_in v b b (hears_by p begin fall bits) ≡ told_so other (Bit slot value) → wake_of (hears_by p begin fall bits) ≡ Some v → ⊥
+        not_bit : (p : ReceiverState) (begin fall : ℕ) (bits : List Bool) → p ≡ Sampled → hear_in v b b (hears_by p begin fall bits) ≡ reported_so other (Bit slot value) → wake_of (hears_by p begin fall bits) ≡ Some v → ⊥
         not_bit Sampled begin fall bits q k j =
             let is : fall + 2751 ≡ v = cc in
             let late : nat_lt (fall + 2750) v ≡ true = grind (arith, nat_tests) in
-            let over : hear_in v b b (hears_by Sampled begin fall bits) ≡ told_so (starts v false) (Ended Silent) =
+            let over : hear_in v b b (hears_by Sampled begin fall bits) ≡ reported_so (starts v false) (Ended Silent) =
             heard_still v b (hears_by Sampled begin fall bits)
-            ∙ ap (λ c. if c then told_so (starts v false) (Ended Silent) else told_so (hears_by Sampled begin fall bits) Nothing) late in
-            let no : Ended Silent ≡ Bit slot value = sym (ap (λ (x : Heard). x.told) over) ∙ ap (λ (x : Heard). x.told) k in cc
+            ∙ ap (λ c. if c then reported_so (starts v false) (Ended Silent) else reported_so (hears_by Sampled begin fall bits) Nothing) late in
+            let no : Ended Silent ≡ Bit slot value = sym (ap (λ (x : Heard). x.reported) over) ∙ ap (λ (x : Heard). x.reported) k in cc
         not_bit Rest begin fall bits q k j = cc
         not_bit StartLow begin fall bits q k j = cc
         not_bit StartHigh begin fall bits q k j = cc
@@ -132,8 +132,8 @@ again_done : (until : ℕ) (b : Bool) (h : Hears) → (after_wake until b h).end
 again_done until b h none w e = by_left (left until b h)
   where
     by_woke : (v : ℕ) → after_wake until b h ≡ heard_at v b b h → Woke h b v → until ≤ w
-    by_woke v is (Over told heard x some) =
-        let ended : (after_wake until b h).ended ≡ Some x = ap (λ (k : Microsecond). k.ended) is ∙ ap (λ (k : Heard). ended_of k.told v (running_by h v)) heard ∙ some in
+    by_woke v is (Over reported heard x some) =
+        let ended : (after_wake until b h).ended ≡ Some x = ap (λ (k : Microsecond). k.ended) is ∙ ap (λ (k : Heard). ended_of k.reported v (running_by h v)) heard ∙ some in
         let no : None ≡ Some x = sym none ∙ ended in cc
     by_woke v is (Bitwise next slot value heard place) =
         let state : (after_wake until b h).state ≡ next = ap (λ (k : Microsecond). k.state) is ∙ ap (λ (k : Heard). k.state) heard in
@@ -154,7 +154,7 @@ record Came (low : Line) (n until : ℕ) (b : Bool) (m : Microsecond) : Type 0 w
   by : to ≤ until
   kept : m.state ≡ kept_before low to
   level : was_low low to ≡ b
-  told : ended_before low to ≡ ended_before low n ++ option_to_list m.ended
+  reported : ended_before low to ≡ ended_before low n ++ option_to_list m.ended
 
 came : (low : Line) (n until : ℕ) (b : Bool) (h : Hears) → n ≤ until → h ≡ kept_before low n → was_low low n ≡ b → ((u : ℕ) → n ≤ u → u < until → low u ≡ b) → Came low n until b (after_wake until b h)
 came low n until b h l keeps level q = by_left (left until b h)
@@ -166,7 +166,7 @@ came low n until b h l keeps level q = by_left (left until b h)
       by = l;
       kept = ap (λ (k : Microsecond). k.state) is ∙ keeps;
       level = level;
-      told = sym (ap (λ (k : Microsecond). ended_before low n ++ option_to_list k.ended) is ∙ append-nil (ended_before low n));
+      reported = sym (ap (λ (k : Microsecond). ended_before low n ++ option_to_list k.ended) is ∙ append-nil (ended_before low n));
     }
     by_left (Woken w e before is) =
         let after : n ≤ w = wake_after low h n w keeps e in
@@ -179,7 +179,7 @@ came low n until b h l keeps level q = by_left (left until b h)
           by = omega (arith, before);
           kept = ap (λ (x : Microsecond). x.state) is ∙ sym k.kept;
           level = k.level;
-          told = k.ended ∙ ap (λ (xs : List Listed). xs ++ option_to_list (heard_at w b b h).ended) s.ended
+          reported = k.ended ∙ ap (λ (xs : List Listed). xs ++ option_to_list (heard_at w b b h).ended) s.ended
               ∙ sym (ap (λ (x : Microsecond). ended_before low n ++ option_to_list x.ended) is);
         }
       where
@@ -190,7 +190,7 @@ came low n until b h l keeps level q = by_left (left until b h)
 pub record Waits (low : Line) (n until : ℕ) (b : Bool) (m : Microsecond) : Type 0 where
   pub kept : m.state ≡ kept_before low until
   pub level : was_low low until ≡ b
-  pub told : ended_before low until ≡ ended_before low n ++ option_to_list m.ended
+  pub reported : ended_before low until ≡ ended_before low n ++ option_to_list m.ended
   pub rests : (x : Listed) → m.ended ≡ Some x → m.state ≡ rest
 
 rests_after : (until : ℕ) (b : Bool) (h : Hears) (x : Listed) → (after_wake until b h).ended ≡ Some x → (after_wake until b h).state ≡ rest
@@ -217,7 +217,7 @@ waits low n until b h l keeps level q = by_first (after_wake until b h).ended re
         record {
           kept = sym s.kept;
           level = s.level;
-          told = s.ended ∙ c.told ∙ ap (λ (o : Option Listed). ended_before low n ++ option_to_list o) e;
+          reported = s.ended ∙ c.reported ∙ ap (λ (o : Option Listed). ended_before low n ++ option_to_list o) e;
           rests = λ y f. at_rest;
         }
     by_first None e =
@@ -227,9 +227,9 @@ waits low n until b h l keeps level q = by_first (after_wake until b h).ended re
         record {
           kept = sym s.kept;
           level = s.level;
-          told = s.ended ∙ d.told
+          reported = s.ended ∙ d.reported
               ∙ ap (λ (xs : List Listed). xs ++ option_to_list (after_wake until b (after_wake until b h).state).ended)
-              (c.told ∙ ap (λ (o : Option Listed). ended_before low n ++ option_to_list o) e ∙ append-nil (ended_before low n));
+              (c.reported ∙ ap (λ (o : Option Listed). ended_before low n ++ option_to_list o) e ∙ append-nil (ended_before low n));
           rests = λ y f. rests_after until b (after_wake until b h).state y f;
         }
 
@@ -246,7 +246,7 @@ none_at_rest h t was is e = ap (λ k. (heard_at t was is k).ended) e
 pub record Edges (low : Line) (n t : ℕ) (b is : Bool) (m e : Microsecond) : Type 0 where
   pub kept : kept_before low (t + 1) ≡ e.state
   pub level : was_low low (t + 1) ≡ is
-  pub told : ended_by low t ≡ ended_before low n ++ option_to_list (option_or m.ended e.ended)
+  pub reported : ended_by low t ≡ ended_before low n ++ option_to_list (option_or m.ended e.ended)
 
 pub edges : (low : Line) (n t : ℕ) (b is : Bool) (h : Hears) → n ≤ t → h ≡ kept_before low n → was_low low n ≡ b → ((u : ℕ) → n ≤ u → u < t → low u ≡ b) → low t ≡ is
     → Edges low n t b is (after_wakes t b h) (heard_at t b is (after_wakes t b h).state)
@@ -257,8 +257,8 @@ edges low n t b is h l keeps level q now =
     record {
       kept = k.kept;
       level = k.level;
-      told = sym (ap (ended_before low) same) ∙ k.ended
-          ∙ ap (λ (xs : List Listed). xs ++ option_to_list (heard_at t b is (after_wakes t b h).state).ended) w.told
+      reported = sym (ap (ended_before low) same) ∙ k.ended
+          ∙ ap (λ (xs : List Listed). xs ++ option_to_list (heard_at t b is (after_wakes t b h).state).ended) w.reported
           ∙ or_more (ended_before low n) (after_wakes t b h).ended (heard_at t b is (after_wakes t b h).state).ended (λ x e. none_at_rest (after_wakes t b h).state t b is (w.rests x e));
     }
 
@@ -273,7 +273,7 @@ finishes low n t b h l keeps level q =
     let same : t + 1 ≡ suc t = omega arith in
     running_is_kept low t
     ∙ ap (λ k. ended_by low t ++ option_to_list (running_by k t)) (sym (w.kept ∙ ap (kept_before low) same))
-    ∙ ap (λ (xs : List Listed). xs ++ option_to_list (running_by (after_wakes (t + 1) b h).state t)) (sym (ap (ended_before low) same) ∙ w.told)
+    ∙ ap (λ (xs : List Listed). xs ++ option_to_list (running_by (after_wakes (t + 1) b h).state t)) (sym (ap (ended_before low) same) ∙ w.reported)
     ∙ or_more (ended_before low n) (after_wakes (t + 1) b h).ended (running_by (after_wakes (t + 1) b h).state t)
     (λ x e. ap (λ k. running_by k t) (w.rests x e))
 
@@ -283,14 +283,14 @@ map_or : (a b : Option Reading) → option_map listed_as (option_or a b) ≡ opt
 map_or None b = refl
 map_or (Some x) b = refl
 
-pub edge_told : (low : Line) (n t : ℕ) (falls : Bool) (old mid noted new : Watcher) (w e o : Option Reading) → HeardBefore old low n → n ≤ t → IsCalm old low n t → low t ≡ falls
+pub edge_reported : (low : Line) (n t : ℕ) (falls : Bool) (old mid noted new : Watcher) (w e o : Option Reading) → HeardBefore old low n → n ≤ t → IsCalm old low n t → low t ≡ falls
     → (let m : Microsecond = record { state = heard_by mid.receiver; ended = option_map listed_as w } in m) ≡ after_wakes t old.receiver.is_low (heard_by old.receiver)
     → IsStill mid → mid.receiver.is_low ≡ old.receiver.is_low
     → heard_by noted.receiver ≡ heard_by mid.receiver → noted.receiver.was_low ≡ mid.receiver.was_low → noted.receiver.is_low ≡ falls
     → (let m : Microsecond = record { state = heard_by new.receiver; ended = option_map listed_as e } in m) ≡ heard_at t noted.receiver.was_low noted.receiver.is_low (heard_by noted.receiver)
     → new.receiver.was_low ≡ noted.receiver.is_low → new.receiver.is_low ≡ noted.receiver.is_low → o ≡ option_or w e
     → HeardBefore new low (t + 1) × (ended_by low t ≡ ended_before low n ++ option_to_list (option_map listed_as o))
-edge_told low n t falls old mid noted new w e o h l calm now first still same keeps was is second level after or =
+edge_reported low n t falls old mid noted new w e o h l calm now first still same keeps was is second level after or =
     let b : Bool = old.receiver.is_low in
     let k = edges low n t old.receiver.is_low falls (heard_by old.receiver) l h.stood.keeps (sym h.stood.level ∙ h.still) (λ u a c. calm u a c ∙ h.still) now in
     let state : heard_by mid.receiver ≡ (after_wakes t old.receiver.is_low (heard_by old.receiver)).state = ap (λ (m : Microsecond). m.state) first in
@@ -302,16 +302,16 @@ edge_told low n t falls old mid noted new w e o h l calm now first still same ke
         stood = record { keeps = ap (λ (m : Microsecond). m.state) (second ∙ made) ∙ sym k.kept; level = level ∙ is ∙ sym k.level };
         still = level ∙ sym after;
       },
-      k.told ∙ ap (λ (x : Option Listed). ended_before low n ++ option_to_list (option_or x (heard_at t old.receiver.is_low falls (after_wakes t old.receiver.is_low (heard_by old.receiver)).state).ended))
+      k.reported ∙ ap (λ (x : Option Listed). ended_before low n ++ option_to_list (option_or x (heard_at t old.receiver.is_low falls (after_wakes t old.receiver.is_low (heard_by old.receiver)).state).ended))
           (sym (ap (λ (m : Microsecond). m.ended) first))
           ∙ ap (λ (x : Option Listed). ended_before low n ++ option_to_list (option_or (option_map listed_as w) x)) (sym (ap (λ (m : Microsecond). m.ended) (second ∙ made)))
           ∙ ap (λ (x : Option Listed). ended_before low n ++ option_to_list x) (sym (map_or w e))
           ∙ ap (λ (x : Option Reading). ended_before low n ++ option_to_list (option_map listed_as x)) (sym or),
     )
 
-pub end_told : (low : Line) (n t : ℕ) (old mid : Watcher) (w : Option Reading) → HeardBefore old low n → n ≤ t + 1 → IsCalm old low n (t + 1)
+pub end_reported : (low : Line) (n t : ℕ) (old mid : Watcher) (w : Option Reading) → HeardBefore old low n → n ≤ t + 1 → IsCalm old low n (t + 1)
     → (let m : Microsecond = record { state = heard_by mid.receiver; ended = option_map listed_as w } in m) ≡ after_wakes (t + 1) old.receiver.is_low (heard_by old.receiver)
     → readings_of low t ≡ ended_before low n ++ option_to_list (option_or (option_map listed_as w) (running_by (heard_by mid.receiver) t))
-end_told low n t old mid w h l calm first =
+end_reported low n t old mid w h l calm first =
     finishes low n t old.receiver.is_low (heard_by old.receiver) l h.stood.keeps (sym h.stood.level ∙ h.still) (λ u a c. calm u a c ∙ h.still)
     ∙ sym (ap (λ (m : Microsecond). ended_before low n ++ option_to_list (option_or m.ended (running_by m.state t))) first)

@@ -35,10 +35,10 @@ joined_line t = concat (codes "0 " ∷ decimal t ∷ codes " joined -\n" ∷ [])
 
 -- one line stands for the readings that begin before t, in the place of the first of them
 abbrev pub joined_text : ℕ → Bool → List Listed → List ℕ
-joined_text t is_told [] = []
-joined_text t is_told (x ∷ xs) =
-    if nat_lt x.begin t then (if is_told then [] else joined_line t) ++ joined_text t true xs
-    else listed_line x ++ joined_text t is_told xs
+joined_text t is_reported [] = []
+joined_text t is_reported (x ∷ xs) =
+    if nat_lt x.begin t then (if is_reported then [] else joined_line t) ++ joined_text t true xs
+    else listed_line x ++ joined_text t is_reported xs
 
 -- whether there is one of them
 abbrev pub has_joined : ℕ → List Listed → Bool

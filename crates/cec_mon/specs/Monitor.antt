@@ -18,7 +18,7 @@ pub record Microsecond : Type 0 where
   pub ended : Option Listed
 
 abbrev pub heard_at : ℕ → Bool → Bool → Hears → Microsecond
-heard_at t was is_low h = record { state = (hear_in t was is_low h).state; ended = ended_of (hear_in t was is_low h).told t (running_by h t) }
+heard_at t was is_low h = record { state = (hear_in t was is_low h).state; ended = ended_of (hear_in t was is_low h).reported t (running_by h t) }
 
 -- the next wake, where it comes before this instant, on a line without an edge
 abbrev pub woken_at : ℕ → Bool → Hears → Option ℕ → Microsecond
@@ -53,10 +53,10 @@ IsCalm m low n t = (u : ℕ) → n ≤ u → u < t → low u ≡ m.receiver.was_
 
 -- Told an edge, it was told each line that goes on so, and reports the reading that has ended since, if one has.
 abbrev pub FollowsEdge : Watcher → Edge → Option Listed → Watcher → Type 0
-FollowsEdge old edge told new = (low : Line) (n : ℕ) → HeardBefore old low n → n ≤ edge.at → IsCalm old low n edge.at → low edge.at ≡ edge.low
-    → HeardBefore new low (edge.at + 1) × (ended_by low edge.at ≡ ended_before low n ++ option_to_list told)
+FollowsEdge old edge reported new = (low : Line) (n : ℕ) → HeardBefore old low n → n ≤ edge.at → IsCalm old low n edge.at → low edge.at ≡ edge.low
+    → HeardBefore new low (edge.at + 1) × (ended_by low edge.at ≡ ended_before low n ++ option_to_list reported)
 
 -- Told the end of a line, it reports what is left of the line's readings.
 abbrev pub FollowsEnd : Watcher → ℕ → Option Listed → Type 0
-FollowsEnd old t told = (low : Line) (n : ℕ) → HeardBefore old low n → n ≤ t + 1 → IsCalm old low n (t + 1)
-    → readings_of low t ≡ ended_before low n ++ option_to_list told
+FollowsEnd old t reported = (low : Line) (n : ℕ) → HeardBefore old low n → n ≤ t + 1 → IsCalm old low n (t + 1)
+    → readings_of low t ≡ ended_before low n ++ option_to_list reported

@@ -10,9 +10,9 @@ use Rattle.cec_mon.specs.declared.edge_file.EdgeFault.TheVariants as fault
 use Rattle.cec_mon.specs.declared.reading.EdgeError.{EdgeError}
 use Rattle.cec_mon.specs.declared.reading.EdgeError.TheVariants.{Line, Order, Memory}
 
-abbrev pub fault_told : EdgeFault → EdgeError
-fault_told (fault.Line line word) = Line line word
-fault_told (fault.Order line word) = Order line word
+abbrev pub fault_reported : EdgeFault → EdgeError
+fault_reported (fault.Line line word) = Line line word
+fault_reported (fault.Order line word) = Order line word
 
 -- a capture is what is read, and a fault is the one of the text; of memory nothing is said
 abbrev pub GivesFile : Result Captured EdgeError → Result EdgeFile EdgeFault → Type 0

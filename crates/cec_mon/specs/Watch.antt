@@ -17,7 +17,7 @@ use Rattle.cec_mon.specs.declared.watching.WatchError.TheVariants.{Line, Order, 
 
 -- a reading of a line's list, as a reading by itself
 abbrev pub reading_as : Listed → Reading
-reading_as x = record { begin = x.begin; at = x.told.at; ending = x.told.ending; bits = record { items = x.told.bits } }
+reading_as x = record { begin = x.begin; at = x.reported.at; ending = x.reported.ending; bits = record { items = x.reported.bits } }
 
 -- the lines of readings
 abbrev pub listed_line : Listed → List ℕ
@@ -33,9 +33,9 @@ reported_text o = readings_text (option_to_list o)
 abbrev pub file_readings : EdgeFile → List Listed
 file_readings f = readings_of (line_of_edges f.edges) f.end
 
-abbrev pub told_so : EdgeFault → WatchError
-told_so (fault.Line line word) = Line line word
-told_so (fault.Order line word) = Order line word
+abbrev pub reported_so : EdgeFault → WatchError
+reported_so (fault.Line line word) = Line line word
+reported_so (fault.Order line word) = Order line word
 
 -- their lines are written, whole or their front up to a fault
 abbrev pub WritesFile : Option (List ℕ) → Option (List ℕ) → Bool → Bool → EdgeFile → Result (Unit {0}) WriteFault → Type 0

@@ -63,30 +63,30 @@ fn write_joined<S: Sink>(out: &mut S, written: &mut u128, instant: u64) -> Resul
 }
 
 // Whether a reading is joined, or one was before it.
-fn has_joined(reading: &Option<Reading>, joined_at: u64, is_told: bool) -> bool
-    ensures { result ≡ (is_told || has_joined joined_at (option_to_list (option_map listed_as reading.now))) }
+fn has_joined(reading: &Option<Reading>, joined_at: u64, is_reported: bool) -> bool
+    ensures { result ≡ (is_reported || has_joined joined_at (option_to_list (option_map listed_as reading.now))) }
 {
     match reading {
-        None => is_told,
-        Some(reading) => is_told || reading.begin < joined_at,
+        None => is_reported,
+        Some(reading) => is_reported || reading.begin < joined_at,
     }
 }
 
 // Writes the line of a reading, if there is one, or the one that stands for all that are joined.
-fn write_told<S: Sink>(
+fn write_one<S: Sink>(
     out: &mut S,
     written: &mut u128,
     reading: &Option<Reading>,
     joined_at: u64,
-    is_told: bool,
+    is_reported: bool,
 ) -> Result<(), WriteFault>
     ensures { Adds (S.contents out.old) (S.contents out.new) (S.is_stuck out.old) (S.is_stuck out.new) written.old written.new
-        (joined_text joined_at is_told (option_to_list (option_map listed_as reading.now))) result }
+        (joined_text joined_at is_reported (option_to_list (option_map listed_as reading.now))) result }
 {
     if !has_joined(reading, joined_at, false) {
         return write_reported(out, written, reading);
     }
-    if is_told {
+    if is_reported {
         return Ok(());
     }
     write_joined(out, written, joined_at)
@@ -98,15 +98,15 @@ fn write_from<S: Sink>(capture: &Capture, joined_at: u64, out: &mut S) -> Result
 {
     let edges = capture.edges();
     let mut monitor = Monitor::new();
-    let mut is_told = false;
+    let mut is_reported = false;
     let mut written = 0;
     for edge in edges {
         let reading = monitor.edge(*edge);
-        write_told(out, &mut written, &reading, joined_at, is_told)?;
-        is_told = has_joined(&reading, joined_at, is_told);
+        write_one(out, &mut written, &reading, joined_at, is_reported)?;
+        is_reported = has_joined(&reading, joined_at, is_reported);
     }
     let reading = monitor.finish(capture.end());
-    write_told(out, &mut written, &reading, joined_at, is_told)
+    write_one(out, &mut written, &reading, joined_at, is_reported)
 }
 
 /// Writes the readings of a capture, a line each, as `watch` writes those of an edge file.

@@ -9,14 +9,14 @@ use cec_frame::Reading;
 use cec_wave::Edge;
 
 // The reading that ran, where instant `t` told that it ended.
-fn ended_of(told: Told, t: u64, running: Option<Reading>) -> Option<Reading>
+fn ended_of(reported: Told, t: u64, running: Option<Reading>) -> Option<Reading>
     requires room { IfSome running (λ reading. length reading.bits.items < 160) }
-    ensures { option_map listed_as result ≡ ended_of told t (option_map listed_as running) }
+    ensures { option_map listed_as result ≡ ended_of reported t (option_map listed_as running) }
 {
     let Some(reading) = running else {
         return None;
     };
-    match told {
+    match reported {
         Told::Nothing | Told::Bit(..) => None,
         Told::Last(bit, ending) => {
             let mut bits = reading.bits;
@@ -66,8 +66,8 @@ impl Monitor {
         ensures is { self.new.receiver.is_low ≡ self.old.receiver.is_low }
     {
         let running = self.receiver.running(t);
-        let told = self.receiver.tick(t);
-        ended_of(told, t, running)
+        let reported = self.receiver.tick(t);
+        ended_of(reported, t, running)
     }
 
     // The next wake, where it comes before this instant.

@@ -1,7 +1,7 @@
 //! From an edge file to a capture.
 ghost use Rattle.std.specs.Prelude.{◌≡◌};
 ghost use Rattle.cec_mon.specs.EdgeFile.{file_of};
-ghost use Rattle.cec_mon.specs.Reading.{GivesEdges, GivesFile, fault_told};
+ghost use Rattle.cec_mon.specs.Reading.{GivesEdges, GivesFile, fault_reported};
 
 use crate::edge_file::{EdgeFault, EdgeLine, EdgeLines};
 use cec_signal::Capture;
@@ -24,8 +24,8 @@ pub enum EdgeError {
     Memory,
 }
 
-fn told_so(fault: EdgeFault) -> EdgeError
-    ensures { result ≡ fault_told fault }
+fn reported_so(fault: EdgeFault) -> EdgeError
+    ensures { result ≡ fault_reported fault }
 {
     match fault {
         EdgeFault::Line { line, word } => EdgeError::Line { line, word },
@@ -41,7 +41,7 @@ fn edges_of(alloc: Global, text: &[u8]) -> Result<(Vec<Edge>, u64), EdgeError>
     let mut lines = EdgeLines::new(text);
     'edges: loop {
         match lines.next() {
-            Err(fault) => return Err(told_so(fault)),
+            Err(fault) => return Err(reported_so(fault)),
             Ok(line) => match line {
                 EdgeLine::Edge(edge) => {
                     if edges.push(edge).is_err() {

@@ -2,7 +2,7 @@
 ghost use Rattle.std.specs.Prelude.{◌≡◌, ℕ, ◌+◌, ◌<◌, length, MatchResult, option_map, Ok, Err};
 ghost use Rattle.cec_bits.specs.Reports.{listed_as};
 ghost use Rattle.cec_mon.specs.EdgeFile.{EdgeFile, file_of};
-ghost use Rattle.cec_mon.specs.Watch.{Answers, WritesFile, reported_text, told_so};
+ghost use Rattle.cec_mon.specs.Watch.{Answers, WritesFile, reported_text, reported_so};
 ghost use Rattle.cec_tally.specs.Adds.{Adds};
 ghost use Rattle.cec_text.specs.ReadingText.{reading_line};
 
@@ -33,8 +33,8 @@ pub enum WatchError {
     Memory,
 }
 
-fn told_so(fault: EdgeFault) -> WatchError
-    ensures { result ≡ told_so fault }
+fn reported_so(fault: EdgeFault) -> WatchError
+    ensures { result ≡ reported_so fault }
 {
     match fault {
         EdgeFault::Line { line, word } => WatchError::Line { line, word },
@@ -122,7 +122,7 @@ pub fn watch<S: Sink>(_alloc: Global, text: &[u8], out: &mut S) -> Result<(), Wa
     ensures { Answers (S.contents out.old) (S.contents out.new) (S.is_stuck out.old) (S.is_stuck out.new) text.now result }
 {
     if let Err(fault) = check_file(text) {
-        return Err(told_so(fault));
+        return Err(reported_so(fault));
     }
     match write_readings(text, out) {
         Ok(()) => Ok(()),

@@ -18,7 +18,7 @@ use Rattle.cec_device.specs.declared.device.SubmitError.{SubmitError}
 use Rattle.cec_device.specs.State.{State, with_queued, speaks, holds, frame_of, source, one_more}
 use Rattle.cec_device.specs.Say.{say, say_all, after_effect}
 use Rattle.cec_feature.specs.declared.say.Say.{Say}
-use Rattle.cec_feature.specs.declared.say.Say.TheVariants.{Reply, Cast, Tell, Refuse}
+use Rattle.cec_feature.specs.declared.say.Say.TheVariants.{Reply, Cast, Report, Refuse}
 use Rattle.cec_feature.specs.Effect.{Effect}
 use Rattle.cec_device.specs.Effects.{by_decoded, after_frame, is_for}
 use Rattle.cec_feature.specs.Effects.{effect_of, refuses, heard_of}
@@ -78,7 +78,7 @@ ahead-queued b limit at from to bytes d le =
 ahead-say : (b limit : ℕ) (h : Heard) (s : Say) (d : State) → h.at ≤ b → IsAhead b d (say limit h s d)
 ahead-say b limit h (Reply bytes) d le = ahead-then b (nat_lt h.from 15) d (with_queued limit h.at (source d.place h.to) h.from bytes d) (ahead-queued b limit h.at (source d.place h.to) h.from bytes d le)
 ahead-say b limit h (Cast bytes) d le = ahead-queued b limit h.at (source d.place h.to) 15 bytes d le
-ahead-say b limit h (Tell to bytes) d le = ahead-then b (nat_lt to 15) d (with_queued limit h.at (source d.place h.to) to bytes d) (ahead-queued b limit h.at (source d.place h.to) to bytes d le)
+ahead-say b limit h (Report to bytes) d le = ahead-then b (nat_lt to 15) d (with_queued limit h.at (source d.place h.to) to bytes d) (ahead-queued b limit h.at (source d.place h.to) to bytes d le)
 ahead-say b limit h (Refuse reason) d le =
     ahead-then b (nat_lt h.to 15 && (nat_lt h.from 15 && not (h.opcode == 0))) d (with_queued limit h.at (source d.place h.to) h.from (0x00 ∷ h.opcode ∷ reason_byte reason ∷ []) d)
     (ahead-queued b limit h.at (source d.place h.to) h.from (0x00 ∷ h.opcode ∷ reason_byte reason ∷ []) d le)

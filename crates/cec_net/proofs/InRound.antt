@@ -30,7 +30,7 @@ use Rattle.cec_net.specs.State.{NetState, next_start}
 use Rattle.cec_net.specs.Sound.{IsSound}
 use Rattle.std.proofs.lemmas.List.{length-map}
 use Rattle.cec_net.specs.Step.{seat_of, seats_of}
-use Rattle.cec_net.specs.Underway.{OfRound, standing_told, idle, Takes, IsNextOn, IsUnderway}
+use Rattle.cec_net.specs.Underway.{OfRound, standing_reported, idle, Takes, IsNextOn, IsUnderway}
 use Rattle.cec_net.proofs.Lines.{begun, late_start}
 
 -- ---- the pulses
@@ -139,21 +139,21 @@ line_on s w begin low h n line =
     let b : begin ≡ w.begin = same_number begin w.begin (sym n ∙ h.begins) in
     subst (λ x. IsRoundLine x w.begin s.pulses low) (sym h.seats) (subst (λ x. IsRoundLine (seats_of s x) x s.pulses low) b line)
 
-pub edge_told : (s t : NetState) (w : EdgeWire) (edge : Option Edge) → s ≡ t → s.heard ≡ Some w.time → IsNextOn (idle s) w
+pub edge_reported : (s t : NetState) (w : EdgeWire) (edge : Option Edge) → s ≡ t → s.heard ≡ Some w.time → IsNextOn (idle s) w
     → ((low : ℕ → Bool) → IsRoundLine w.seats.items w.begin s.pulses low → IsNextEdge low w.time edge) → OfRound t (λ begin heard low. IsNextEdge low heard edge)
-edge_told s t w edge e told h step =
+edge_reported s t w edge e reported h step =
     subst (λ x. OfRound x (λ begin heard low. IsNextEdge low heard edge)) e
-    (λ begin heard low n k line. subst (λ x. IsNextEdge low x edge) (same_number w.time heard (sym told ∙ k)) (step low (line_on s w begin low h n line)))
+    (λ begin heard low n k line. subst (λ x. IsNextEdge low x edge) (same_number w.time heard (sym reported ∙ k)) (step low (line_on s w begin low h n line)))
 
 stand_at : (s : NetState) (w : EdgeWire) (low : Line) (standing : Standing) → AreSparse s.pulses → IsNextOn (idle s) w → IsRoundLine w.seats.items w.begin s.pulses low
     → (w.time ≡ w.begin → EachOf w (λ l. l w.begin ≡ true → standing ≡ at_rest false))
     → (w.begin < w.time → EachOf w (λ l. l w.begin ≡ true → standing ≡ standing_of l (w.time - 1)))
-    → standing ≡ standing_told low w.begin w.time
+    → standing ≡ standing_reported low w.begin w.time
 stand_at s w low standing sparse h line before after = by_time (nat_lt w.begin w.time) refl
   where
     falls : low w.begin ≡ true
     falls =
-        low_at_begin w.seats.items w.begin s.pulses low sparse (contended w.seats.items w.begin s.pulses low line) (begun_by low w.begin (start_of low w.begin) refl).tells
+        low_at_begin w.seats.items w.begin s.pulses low sparse (contended w.seats.items w.begin s.pulses low line) (begun_by low w.begin (start_of low w.begin) refl).reports
         (subst (λ x. is_begun_by x) (sym h.seats) (begun s w.begin h.begins))
       where
         is_begun_by : List Seat → Type 0
@@ -173,15 +173,15 @@ shows_before w r standing h shows e later low sparse late line first =
 pub shows_after : (w : EdgeWire) (r : Receiver) (standing : Standing) → IsReceiverIn w r → ShowsStanding r standing → w.begin < w.time → EachOf w (λ low. low w.begin ≡ true → standing ≡ standing_of low (w.time - 1))
 shows_after w r standing h shows l later low sparse late line first = shows low (w.time - 1) (h.stands l later low sparse late line first)
 
-pub stand_told : (s t : NetState) (w : EdgeWire) (standing : Standing) → s ≡ t → s.heard ≡ Some w.time → AreSparse s.pulses → IsNextOn (idle s) w
+pub stand_reported : (s t : NetState) (w : EdgeWire) (standing : Standing) → s ≡ t → s.heard ≡ Some w.time → AreSparse s.pulses → IsNextOn (idle s) w
     → (w.time ≡ w.begin → EachOf w (λ low. low w.begin ≡ true → standing ≡ at_rest false))
     → (w.begin < w.time → EachOf w (λ low. low w.begin ≡ true → standing ≡ standing_of low (w.time - 1)))
-    → OfRound t (λ begin heard low. standing ≡ standing_told low begin heard)
-stand_told s t w standing e told sparse h before after =
-    subst (λ x. OfRound x (λ begin heard low. standing ≡ standing_told low begin heard)) e
+    → OfRound t (λ begin heard low. standing ≡ standing_reported low begin heard)
+stand_reported s t w standing e reported sparse h before after =
+    subst (λ x. OfRound x (λ begin heard low. standing ≡ standing_reported low begin heard)) e
     (λ begin heard low n k line.
-    subst (λ x. standing ≡ standing_told low x heard) (same_number w.begin begin (sym h.begins ∙ n))
-    (subst (λ x. standing ≡ standing_told low w.begin x) (same_number w.time heard (sym told ∙ k))
+    subst (λ x. standing ≡ standing_reported low x heard) (same_number w.begin begin (sym h.begins ∙ n))
+    (subst (λ x. standing ≡ standing_reported low w.begin x) (same_number w.time heard (sym reported ∙ k))
     (stand_at s w low standing sparse h (line_on s w begin low h n line) before after)))
 
 pub seat_known : (s : NetState) (w : EdgeWire) (number : ℕ) → IsSound s → IsNextOn s w → number < length s.tree → number < length w.seats.items

@@ -17,8 +17,8 @@ abbrev pub OfRound : NetState → (ℕ → ℕ → (ℕ → Bool) → Type 0) �
 OfRound s P = (begin heard : ℕ) (low : ℕ → Bool) → next_start s ≡ Some begin → s.heard ≡ Some heard → IsRoundLine (seats_of s begin) begin s.pulses low → P begin heard low
 
 -- where each receiver stands by what was reported of the line before an instant; before the first edge the line is high
-abbrev pub standing_told : Line → ℕ → ℕ → Standing
-standing_told low begin heard = if nat_lt begin heard then standing_of low (heard - 1) else at_rest false
+abbrev pub standing_reported : Line → ℕ → ℕ → Standing
+standing_reported low begin heard = if nat_lt begin heard then standing_of low (heard - 1) else at_rest false
 
 -- ---- the wire that reports it
 

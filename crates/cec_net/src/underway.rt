@@ -96,7 +96,7 @@ impl Net<EdgeWire> {
     ghost use Rattle.cec_net.specs.Step.{IsNextRound};
     ghost use Rattle.cec_net.specs.Progress.{IsProgress};
     ghost use Rattle.cec_net.specs.Held.{HeldOnce};
-    ghost use Rattle.cec_net.specs.Underway.{OfRound, standing_told};
+    ghost use Rattle.cec_net.specs.Underway.{OfRound, standing_reported};
 
     /// The same network again, where this one stands.
     pub fn copy(&self) -> Self
@@ -164,7 +164,7 @@ impl Net<EdgeWire> {
     pub fn standing_of(&self, number: usize) -> Standing<'_>
         requires underway { IsSome self.now.heard }
         requires known { number < length self.now.tree }
-        ensures { OfRound self.now (λ begin heard low. standing_by_code result ≡ standing_told low begin heard) }
+        ensures { OfRound self.now (λ begin heard low. standing_by_code result ≡ standing_reported low begin heard) }
     {
         let _pulses = self.pulses.as_slice();
         match &self.begun {

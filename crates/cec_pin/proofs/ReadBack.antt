@@ -105,8 +105,8 @@ event_stood : (t level : ℕ) (low : Bool) (at : ℕ) (was is : Bool) → t ≤ 
     → took (event_line t level) (stood at was is) ≡ moved_to (Some t) (Some low) (stood at was is)
 event_stood t level low at was is early code =
     let digits = (decimal_is_IsNumeral (t / 1000000) (omega arith)).0.1 in
-    let told : is_skipped (event_line t level) ≡ false = skipped_by (decimal (t / 1000000)) _ (decimal_nonempty (t / 1000000) (omega arith)) digits in
-    rw told (ap (λ e. after_event e (stood at was is)) (event_ok t level (Some low) early code) ∙ ap (λ i. moved_to i (Some low) (stood at was is)) (instant_ok t early))
+    let reported : is_skipped (event_line t level) ≡ false = skipped_by (decimal (t / 1000000)) _ (decimal_nonempty (t / 1000000) (omega arith)) digits in
+    rw reported (ap (λ e. after_event e (stood at was is)) (event_ok t level (Some low) early code) ∙ ap (λ i. moved_to i (Some low) (stood at was is)) (instant_ok t early))
 
 event_taken : (t level : ℕ) (low : Bool) (k : Reader) → k ≡ stood k.track.at k.track.was_low k.track.is_low → t ≤ 2000000000000 → ((nanos : ℕ) → event_by (Some nanos) (code_of (level ∷ [])) ≡ Some (record { nanos = nanos; low = Some low }))
     → took (event_line t level) k ≡ moved_to (Some t) (Some low) k
@@ -124,22 +124,22 @@ rise_code nanos = refl
 move_kept : (t at : ℕ) (b low : Bool) → at ≤ t → moved_to (Some t) (Some low) (stood at b b) ≡ Ok (record { reader = stood t b low; edge = None })
 move_kept t at b low after = ap (λ m. moved_by m (Some low) (stood at b b)) (moving.move_kept t at b after)
 
-move_told : (t at : ℕ) (b low : Bool) → at < t → moved_to (Some t) (Some low) (stood at (not b) b) ≡ Ok (record { reader = stood t b low; edge = Some (record { at = at; low = b }) })
-move_told t at b low after = ap (λ m. moved_by m (Some low) (stood at (not b) b)) (moving.move_told t at b after)
+move_reported : (t at : ℕ) (b low : Bool) → at < t → moved_to (Some t) (Some low) (stood at (not b) b) ≡ Ok (record { reader = stood t b low; edge = Some (record { at = at; low = b }) })
+move_reported t at b low after = ap (λ m. moved_by m (Some low) (stood at (not b) b)) (moving.move_reported t at b after)
 
 move_same : (t : ℕ) (was is low : Bool) → moved_to (Some t) (Some low) (stood t was is) ≡ Ok (record { reader = stood t was low; edge = None })
 move_same t was is low = ap (λ m. moved_by m (Some low) (stood t was is)) (moving.move_same t was is)
 
 fall_move : (t at : ℕ) (b : Bool) → cond b (at + 1) at ≤ t → moved_to (Some t) (Some true) (stood at b false) ≡ Ok (record { reader = stood t false true; edge = due at b })
-fall_move t at true after = move_told t at false true (omega (arith, after))
+fall_move t at true after = move_reported t at false true (omega (arith, after))
 fall_move t at false after = move_kept t at false true after
 
 -- an event's line, before what follows
-told_line : (number t level : ℕ) (low : Bool) (more : List ℕ) (k u : Reader) (edge : Option Edge) → k ≡ stood k.track.at k.track.was_low k.track.is_low → t ≤ 2000000000000 → (level == 10) ≡ false
+reported_line : (number t level : ℕ) (low : Bool) (more : List ℕ) (k u : Reader) (edge : Option Edge) → k ≡ stood k.track.at k.track.was_low k.track.is_low → t ≤ 2000000000000 → (level == 10) ≡ false
     → ((nanos : ℕ) → event_by (Some nanos) (code_of (level ∷ [])) ≡ Some (record { nanos = nanos; low = Some low }))
     → moved_to (Some t) (Some low) k ≡ Ok (record { reader = u; edge = edge })
     → lines_read number (lines_of (event_line t level ++ 10 ∷ more)) k ≡ with_edges (option_to_list edge) (lines_read (number + 1) (lines_of more) u)
-told_line number t level low more k u edge zero early other code move =
+reported_line number t level low more k u edge zero early other code move =
     line_in number (event_line t level) more k u edge (line_plain t level early other) (event_taken t level low k zero early code ∙ move)
 
 abbrev with_end : List Edge → ℕ → Result Captured PinFault
@@ -161,9 +161,9 @@ stretch_reads s at b more edges end after wide low rest number =
     let parts : stretch_text s ++ more ≡ event_line s.from 48 ++ 10 ∷ (event_line s.to 49 ++ 10 ∷ more) =
     append_assoc (event_text s.from 48) (event_text s.to 49) more ∙ ap (λ l. event_text s.from 48 ++ l) (cut_line s.to 49 more) ∙ cut_line s.from 48 (event_line s.to 49 ++ 10 ∷ more) in
     ap (λ text. lines_read number (lines_of text) (stood at b false)) parts
-    ∙ told_line number s.from 48 true (event_line s.to 49 ++ 10 ∷ more) (stood at b false) (stood s.from false true) (due at b) refl (omega arith) refl fall_code (fall_move s.from at b after)
+    ∙ reported_line number s.from 48 true (event_line s.to 49 ++ 10 ∷ more) (stood at b false) (stood s.from false true) (due at b) refl (omega arith) refl fall_code (fall_move s.from at b after)
     ∙ ap (with_edges (option_to_list (due at b))) (
-    told_line (number + 1) s.to 49 false more (stood s.from false true) (stood s.to true false) (Some (record { at = s.from; low = true })) refl low refl rise_code (move_told s.to s.from true false wide)
+    reported_line (number + 1) s.to 49 false more (stood s.from false true) (stood s.to true false) (Some (record { at = s.from; low = true })) refl low refl rise_code (move_reported s.to s.from true false wide)
     ∙ ap (with_edges (record { at = s.from; low = true } ∷ [])) (rest (number + 1 + 1)))
 
 -- the level is reported again
@@ -171,7 +171,7 @@ again_reads : (u at : ℕ) (b : Bool) (more : List ℕ) (edges : List Edge) (end
     → ((c : Bool) → (c ≡ true → b ≡ true) → (c ≡ true → at ≡ u) → Reads more u c edges end) → Reads (event_text u 49 ++ more) at b edges end
 again_reads u at false more edges end after low rest number =
     ap (λ text. lines_read number (lines_of text) (stood at false false)) (cut_line u 49 more)
-    ∙ told_line number u 49 false more (stood at false false) (stood u false false) None refl low refl rise_code (move_kept u at false false after)
+    ∙ reported_line number u 49 false more (stood at false false) (stood u false false) None refl low refl rise_code (move_kept u at false false after)
     ∙ ap (with_edges []) (rest false (λ h. absurd (false≢true h)) (λ h. absurd (false≢true h)) (number + 1))
 again_reads u at true more edges end after low rest number = by (nat_lt at u) refl
   where
@@ -179,12 +179,12 @@ again_reads u at true more edges end after low rest number = by (nat_lt at u) re
     by true h =
         let earlier : at < u = grind (arith, nat_tests) in
         ap (λ text. lines_read number (lines_of text) (stood at true false)) (cut_line u 49 more)
-        ∙ told_line number u 49 false more (stood at true false) (stood u false false) (Some (record { at = at; low = false })) refl low refl rise_code (move_told u at false false earlier)
+        ∙ reported_line number u 49 false more (stood at true false) (stood u false false) (Some (record { at = at; low = false })) refl low refl rise_code (move_reported u at false false earlier)
         ∙ ap (with_edges (record { at = at; low = false } ∷ [])) (rest false (λ h. refl) (λ h. absurd (false≢true h)) (number + 1))
     by false h =
         let same : at ≡ u = grind (arith, nat_tests) in
         ap (λ text. lines_read number (lines_of text) (stood at true false)) (cut_line u 49 more)
-        ∙ rw same (told_line number u 49 false more (stood u true false) (stood u true false) None refl low refl rise_code (move_same u true false false)
+        ∙ rw same (reported_line number u 49 false more (stood u true false) (stood u true false) None refl low refl rise_code (move_same u true false false)
         ∙ ap (with_edges []) (rest true (λ h. refl) (λ h. same) (number + 1)))
 
 -- ---- rounds

@@ -10,7 +10,7 @@ use Rattle.cec_signal.specs.Track.{Moved, last_edge, track_move}
 use Rattle.cec_signal.specs.declared.track.Track.{Track}
 use Rattle.cec_signal.proofs.Recording.{Records, moved_at, records_capture, records_end, records_level, records_line, records_moved}
 use Rattle.cec_pin.specs.Pin.{Step, Stepped, first_reader, edges_in, event_of, after_event, track_with_level, lines_read, moved_by, moved_to, start_in_comment, passed_by, read_on, reader_with_start, took, with_edges}
-use Rattle.cec_pin.specs.Sampling.{Level, PinFilesAreSampled, event_in, last_time, level_by, level_of, level_told, levels_in, or_start, start_after, time_by}
+use Rattle.cec_pin.specs.Sampling.{Level, PinFilesAreSampled, event_in, last_time, level_by, level_of, level_reported, levels_in, or_start, start_after, time_by}
 use Rattle.cec_pin.specs.declared.line.Event.{Event}
 use Rattle.cec_pin.specs.declared.reader.Reader.{Reader}
 use Rattle.cec_pin.specs.declared.reading.PinFault.{PinFault}
@@ -50,12 +50,12 @@ abbrev GoesBy : Track → Stepped → ℕ → ℕ → Option Level → Type 0
 GoesBy old (Err c) start time level = Unit {0}
 GoesBy old (Ok step) start time level = Goes old step start time level
 
-event_goes : (r : Reader) (e : Event) → GoesBy r.track (after_event (Some e) r) r.start (e.nanos - r.start) (level_told (e.nanos - r.start) e.low)
+event_goes : (r : Reader) (e : Event) → GoesBy r.track (after_event (Some e) r) r.start (e.nanos - r.start) (level_reported (e.nanos - r.start) e.low)
 event_goes r e = late (nat_lt 2000000000000000 (e.nanos - r.start)) refl
   where
-    told : (low : Option Bool) (m : Moved) → track_move (rounded (e.nanos - r.start)) r.track ≡ Some m → e.nanos - r.start ≤ 2000000000000000
-        → Goes r.track (record { reader = record { start = r.start; track = track_with_level low m.track }; edge = m.edge }) r.start (e.nanos - r.start) (level_told (e.nanos - r.start) low)
-    told None m h small =
+    reported : (low : Option Bool) (m : Moved) → track_move (rounded (e.nanos - r.start)) r.track ≡ Some m → e.nanos - r.start ≤ 2000000000000000
+        → Goes r.track (record { reader = record { start = r.start; track = track_with_level low m.track }; edge = m.edge }) r.start (e.nanos - r.start) (level_reported (e.nanos - r.start) low)
+    reported None m h small =
         let at = moved_at (rounded (e.nanos - r.start)) r.track m h in
         record {
           start_is = refl;
@@ -63,7 +63,7 @@ event_goes r e = late (nat_lt 2000000000000000 (e.nanos - r.start)) refl
           early = omega arith;
           more = λ edges samples end k. records_moved (rounded (e.nanos - r.start)) r.track m edges samples end h k;
         }
-    told (Some low) m h small =
+    reported (Some low) m h small =
         let at = moved_at (rounded (e.nanos - r.start)) r.track m h in
         record {
           start_is = refl;
@@ -75,12 +75,12 @@ event_goes r e = late (nat_lt 2000000000000000 (e.nanos - r.start)) refl
         }
 
     moves : (o : Option Moved) → track_move (rounded (e.nanos - r.start)) r.track ≡ o → e.nanos - r.start ≤ 2000000000000000
-        → GoesBy r.track (moved_by o e.low r) r.start (e.nanos - r.start) (level_told (e.nanos - r.start) e.low)
+        → GoesBy r.track (moved_by o e.low r) r.start (e.nanos - r.start) (level_reported (e.nanos - r.start) e.low)
     moves None h small = tt
-    moves (Some m) h small = told e.low m h small
+    moves (Some m) h small = reported e.low m h small
 
     late : (c : Bool) → nat_lt 2000000000000000 (e.nanos - r.start) ≡ c
-        → GoesBy r.track (moved_to (if c then None else Some (rounded (e.nanos - r.start))) e.low r) r.start (e.nanos - r.start) (level_told (e.nanos - r.start) e.low)
+        → GoesBy r.track (moved_to (if c then None else Some (rounded (e.nanos - r.start))) e.low r) r.start (e.nanos - r.start) (level_reported (e.nanos - r.start) e.low)
     late true h = tt
     late false h = moves (track_move (rounded (e.nanos - r.start)) r.track) refl (grind (arith, nat_tests))
 

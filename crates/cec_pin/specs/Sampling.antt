@@ -23,14 +23,14 @@ start_after line start = if is_skipped line then or_start (start_in_comment line
 abbrev pub event_in : List ℕ → Option Event
 event_in line = if is_skipped line then None else event_of line
 
-abbrev pub level_told : ℕ → Option Bool → Option Level
-level_told since None = None
-level_told since (Some low) = Some (record { since = since; low = low })
+abbrev pub level_reported : ℕ → Option Bool → Option Level
+level_reported since None = None
+level_reported since (Some low) = Some (record { since = since; low = low })
 
 -- an event before the start is at it; events of other pins give no level
 abbrev pub level_by : ℕ → Option Event → Option Level
 level_by start None = None
-level_by start (Some e) = level_told (e.nanos - start) e.low
+level_by start (Some e) = level_reported (e.nanos - start) e.low
 
 abbrev pub levels_in : ℕ → List (List ℕ) → List Level
 levels_in start [] = []

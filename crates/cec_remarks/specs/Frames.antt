@@ -11,7 +11,7 @@ bytes_or_none (Some frame) = frame
 
 -- the frame of a reading, where it was delivered, and else nothing
 abbrev pub delivered_frame : Listed → List ℕ
-delivered_frame x = if is_delivered x.told.ending x.told.bits then bytes_or_none (frame_in (reading_as x)) else []
+delivered_frame x = if is_delivered x.reported.ending x.reported.bits then bytes_or_none (frame_in (reading_as x)) else []
 
 abbrev pub sender : List ℕ → ℕ
 sender frame = slice_index frame 0 / 16

@@ -7,15 +7,15 @@ use Rattle.cec_json.specs.Object.{type_field}
 use Rattle.cec_json.specs.Parts.{after_word, before_byte, word}
 use Rattle.cec_json.specs.Progress.{WritesOn}
 use Rattle.cec_json.specs.declared.values.Shape.TheVariants.{Number}
-use Rattle.cec_report_json.specs.Object.{IsToldAs}
-use Rattle.cec_report_json.specs.Stretch.{range_fields, stretch_told, verdicts_value}
-use Rattle.cec_report_json.specs.TestLine.{place_fields, test_told, text_fields, truth}
-use Rattle.cec_report_json.specs.Window.{after_two, seen_told, window_told}
+use Rattle.cec_report_json.specs.Object.{IsReportedAs}
+use Rattle.cec_report_json.specs.Stretch.{range_fields, stretch_reported, verdicts_value}
+use Rattle.cec_report_json.specs.TestLine.{place_fields, test_reported, text_fields, truth}
+use Rattle.cec_report_json.specs.Window.{after_two, seen_reported, window_reported}
 use Rattle.cec_report_json.specs.declared.object.Form.{Form}
 
-pub told_as : {a b : Option (List ℕ)} {s t : Bool} {p q : Result ℕ WriteFault} → (form known : Form) (line told : List ℕ) → form ≡ known → IsToldAs known line told → WritesOn a b s t told p q
-    → (text : List ℕ) × IsToldAs form line text × WritesOn a b s t text p q
-told_as form known line told e is on = (told, subst (λ (f : Form). IsToldAs f line told) (sym e) is, on)
+pub reported_as : {a b : Option (List ℕ)} {s t : Bool} {p q : Result ℕ WriteFault} → (form known : Form) (line reported : List ℕ) → form ≡ known → IsReportedAs known line reported → WritesOn a b s t reported p q
+    → (text : List ℕ) × IsReportedAs form line text × WritesOn a b s t text p q
+reported_as form known line reported e is on = (reported, subst (λ (f : Form). IsReportedAs f line reported) (sym e) is, on)
 
 -- the text of two that is chosen by a Bool
 pub then_is : (b : Bool) (x y : List ℕ) → b ≡ true → x ≡ (if b then x else y)
@@ -24,30 +24,30 @@ then_is b x y e = ap (λ (v : Bool). if v then x else y) (sym e)
 abbrev place_by : (line holds text : List ℕ) → List ℕ
 place_by line holds text = field (codes "script_line") Number line ++ field_lead (codes "holds") ++ holds ++ text_fields text
 
-pub place_is : (holds : Bool) (place line told text : List ℕ) → line ≡ before_byte 58 place → told ≡ truth holds → text ≡ after_word place
-    → field (codes "script_line") Number line ++ field_lead (codes "holds") ++ told ++ text_fields text ≡ place_fields holds place
-place_is holds place line told text e f g =
-    ap (λ (v : List ℕ). place_by v told text) e ∙ ap (λ (v : List ℕ). place_by (before_byte 58 place) v text) f ∙ ap (λ (v : List ℕ). place_by (before_byte 58 place) (truth holds) v) g
+pub place_is : (holds : Bool) (place line reported text : List ℕ) → line ≡ before_byte 58 place → reported ≡ truth holds → text ≡ after_word place
+    → field (codes "script_line") Number line ++ field_lead (codes "holds") ++ reported ++ text_fields text ≡ place_fields holds place
+place_is holds place line reported text e f g =
+    ap (λ (v : List ℕ). place_by v reported text) e ∙ ap (λ (v : List ℕ). place_by (before_byte 58 place) v text) f ∙ ap (λ (v : List ℕ). place_by (before_byte 58 place) (truth holds) v) g
 
 abbrev test_by : (holds : Bool) (number place : List ℕ) → List ℕ
 test_by holds number place = type_field (codes "test") ++ field (codes "test") Number number ++ place_fields holds place
 
 pub test_is : (holds : Bool) (rest number first second place : List ℕ) → number ≡ word rest → first ≡ after_word rest → second ≡ after_word first → place ≡ after_word second
-    → type_field (codes "test") ++ field (codes "test") Number number ++ place_fields holds place ≡ test_told holds rest
+    → type_field (codes "test") ++ field (codes "test") Number number ++ place_fields holds place ≡ test_reported holds rest
 test_is holds rest number first second place e f g h =
     ap (λ (v : List ℕ). test_by holds v place) e ∙ ap (λ (v : List ℕ). test_by holds (word rest) v) (h ∙ ap after_word (g ∙ ap after_word f))
 
 pub seen_is : (rest seen start from end to : List ℕ) → seen ≡ word rest → start ≡ after_two rest → from ≡ word start → end ≡ after_two start → to ≡ word end
-    → window_told seen from to ≡ seen_told rest
+    → window_reported seen from to ≡ seen_reported rest
 seen_is rest seen start from end to e f g h i =
-    ap (λ (v : List ℕ). window_told v from to) e
-    ∙ ap (λ (v : List ℕ). window_told (word rest) v to) (g ∙ ap word f)
-    ∙ ap (λ (v : List ℕ). window_told (word rest) (word (after_two rest)) v) (i ∙ ap word (h ∙ ap after_two f))
+    ap (λ (v : List ℕ). window_reported v from to) e
+    ∙ ap (λ (v : List ℕ). window_reported (word rest) v to) (g ∙ ap word f)
+    ∙ ap (λ (v : List ℕ). window_reported (word rest) (word (after_two rest)) v) (i ∙ ap word (h ∙ ap after_two f))
 
 abbrev stretch_by : (range : List ℕ) (words : List (List ℕ)) → List ℕ
 stretch_by range words = type_field (codes "stretch") ++ range_fields range ++ field_lead (codes "holds") ++ verdicts_value words
 
 pub stretch_is : (line range first : List ℕ) (words : List (List ℕ)) → words_of line ≡ first ∷ words → range ≡ word line
-    → type_field (codes "stretch") ++ range_fields range ++ field_lead (codes "holds") ++ verdicts_value words ≡ stretch_told line
+    → type_field (codes "stretch") ++ range_fields range ++ field_lead (codes "holds") ++ verdicts_value words ≡ stretch_reported line
 stretch_is line range first words e f =
     ap (λ (v : List ℕ). stretch_by v words) f ∙ ap (λ (v : List (List ℕ)). stretch_by (word line) (drop 1 v)) (sym e)

@@ -2,12 +2,12 @@
 use Rattle.std.specs.Prelude.{◌≡◌, ℕ, true, false, if◌then◌else◌, codes, take, drop, List, ◌++◌}
 use Rattle.std.specs.Str.{bytes_eq}
 use Rattle.cec_json.specs.Columns.{field}
-use Rattle.cec_json.specs.Object.{AreInOrder, IsTold, object, type_field}
+use Rattle.cec_json.specs.Object.{AreInOrder, IsReported, object, type_field}
 use Rattle.cec_json.specs.Parts.{after_word, word}
 use Rattle.cec_json.specs.declared.values.Shape.TheVariants.{Number}
-use Rattle.cec_report_json.specs.TestLine.{test_told}
-use Rattle.cec_report_json.specs.Window.{no_window_told, seen_told}
-use Rattle.cec_report_json.specs.Stretch.{is_stretch, stretch_told}
+use Rattle.cec_report_json.specs.TestLine.{test_reported}
+use Rattle.cec_report_json.specs.Window.{no_window_reported, seen_reported}
+use Rattle.cec_report_json.specs.Stretch.{is_stretch, stretch_reported}
 use Rattle.cec_report_json.specs.declared.object.Form.{Form}
 use Rattle.cec_report_json.specs.declared.object.Form.TheVariants as forms
 use Rattle.cec_report_json.specs.declared.object.Report.{Report}
@@ -43,30 +43,30 @@ form_of reports.Sweep line = sweep_form (word line)
 -- ---- what it reports
 
 -- `TAP version 13`
-abbrev pub version_told : List ℕ → List ℕ
-version_told line = type_field (codes "version") ++ field (codes "version") Number (word (after_word (after_word line)))
+abbrev pub version_reported : List ℕ → List ℕ
+version_reported line = type_field (codes "version") ++ field (codes "version") Number (word (after_word (after_word line)))
 
 -- `1..N`
-abbrev pub plan_told : List ℕ → List ℕ
-plan_told line = type_field (codes "plan") ++ field (codes "tests") Number (drop 3 line)
+abbrev pub plan_reported : List ℕ → List ℕ
+plan_reported line = type_field (codes "plan") ++ field (codes "tests") Number (drop 3 line)
 
 -- what stands after the line; of a line of a trace, what its own object has there
-abbrev pub IsToldAs : Form → List ℕ → List ℕ → Type 0
-IsToldAs forms.Version line told = told ≡ version_told line
-IsToldAs forms.Passed line told = told ≡ test_told true (after_word line)
-IsToldAs forms.Failed line told = told ≡ test_told false (after_word (after_word line))
-IsToldAs forms.Window line told = told ≡ seen_told (after_word (after_word line))
-IsToldAs forms.NoWindow line told = told ≡ no_window_told
-IsToldAs forms.Trace line told = told ≡ type_field (codes "trace")
-IsToldAs forms.Shown line told = IsTold (after_word line) told
-IsToldAs forms.Plan line told = told ≡ plan_told line
-IsToldAs forms.Stretch line told = told ≡ stretch_told line
-IsToldAs forms.Other line told = told ≡ type_field (codes "other")
+abbrev pub IsReportedAs : Form → List ℕ → List ℕ → Type 0
+IsReportedAs forms.Version line reported = reported ≡ version_reported line
+IsReportedAs forms.Passed line reported = reported ≡ test_reported true (after_word line)
+IsReportedAs forms.Failed line reported = reported ≡ test_reported false (after_word (after_word line))
+IsReportedAs forms.Window line reported = reported ≡ seen_reported (after_word (after_word line))
+IsReportedAs forms.NoWindow line reported = reported ≡ no_window_reported
+IsReportedAs forms.Trace line reported = reported ≡ type_field (codes "trace")
+IsReportedAs forms.Shown line reported = IsReported (after_word line) reported
+IsReportedAs forms.Plan line reported = reported ≡ plan_reported line
+IsReportedAs forms.Stretch line reported = reported ≡ stretch_reported line
+IsReportedAs forms.Other line reported = reported ≡ type_field (codes "other")
 
 -- ---- the object of a line
 
 abbrev pub IsReportObject : Report → List ℕ → List ℕ → Type 0
-IsReportObject report line text = (told : List ℕ) × IsToldAs (form_of report line) line told × (text ≡ object line told)
+IsReportObject report line text = (reported : List ℕ) × IsReportedAs (form_of report line) line reported × (text ≡ object line reported)
 
 -- a text is the objects of these lines, in order
 abbrev pub AreReportObjects : Report → List (List ℕ) → List ℕ → Type 0

@@ -31,5 +31,5 @@ verdicts_value words = codes "[" ++ verdicts [] words ++ codes "]"
 abbrev pub range_fields : List ℕ → List ℕ
 range_fields range = field (codes "from") Number (first_instant range) ++ field (codes "to") Number (last_instant range)
 
-abbrev pub stretch_told : List ℕ → List ℕ
-stretch_told line = type_field (codes "stretch") ++ range_fields (word line) ++ field_lead (codes "holds") ++ verdicts_value (drop 1 (words_of line))
+abbrev pub stretch_reported : List ℕ → List ℕ
+stretch_reported line = type_field (codes "stretch") ++ range_fields (word line) ++ field_lead (codes "holds") ++ verdicts_value (drop 1 (words_of line))

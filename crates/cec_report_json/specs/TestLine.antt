@@ -45,5 +45,5 @@ place_fields holds place =
     field (codes "script_line") Number (before_byte 58 place) ++ field_lead (codes "holds") ++ truth holds ++ text_fields (after_word place)
 
 -- `N - line L: TEXT`
-abbrev pub test_told : Bool → List ℕ → List ℕ
-test_told holds rest = type_field (codes "test") ++ field (codes "test") Number (word rest) ++ place_fields holds (after_word (after_word (after_word rest)))
+abbrev pub test_reported : Bool → List ℕ → List ℕ
+test_reported holds rest = type_field (codes "test") ++ field (codes "test") Number (word rest) ++ place_fields holds (after_word (after_word (after_word rest)))

@@ -1,13 +1,13 @@
 //! The object of a line of a report.
 ghost use Rattle.std.specs.Prelude.{◌≡◌, ℕ, List};
 ghost use Rattle.cec_json.specs.Progress.{WritesOn};
-ghost use Rattle.cec_report_json.specs.Object.{IsReportObject, IsToldAs, form_of, plan_told, remark_form, sweep_form, test_form, version_told};
+ghost use Rattle.cec_report_json.specs.Object.{IsReportObject, IsReportedAs, form_of, plan_reported, remark_form, sweep_form, test_form, version_reported};
 
 use crate::stretch::{is_stretch, write_stretch};
 use crate::test_line::write_test;
 use crate::window::{write_no_window, write_seen};
 use cec_json::{
-    Progress, Shape, after_word, word, write_field, write_quoted, write_told, write_type,
+    Progress, Shape, after_word, word, write_field, write_quoted, write_reported, write_type,
 };
 use hdmi_core::{Sink, before, after};
 
@@ -97,7 +97,7 @@ fn form_of(report: Report, line: &[u8]) -> Form
 }
 
 fn write_version<S: Sink>(line: &[u8], progress: &mut Progress, out: &mut S)
-    ensures { WritesOn (S.contents out.old) (S.contents out.new) (S.is_stuck out.old) (S.is_stuck out.new) (version_told line.now) progress.old.so_far progress.new.so_far }
+    ensures { WritesOn (S.contents out.old) (S.contents out.new) (S.is_stuck out.old) (S.is_stuck out.new) (version_reported line.now) progress.old.so_far progress.new.so_far }
 {
     let version = word(after_word(after_word(line)));
     write_type("version", progress, out);
@@ -105,16 +105,16 @@ fn write_version<S: Sink>(line: &[u8], progress: &mut Progress, out: &mut S)
 }
 
 fn write_plan<S: Sink>(line: &[u8], progress: &mut Progress, out: &mut S)
-    ensures { WritesOn (S.contents out.old) (S.contents out.new) (S.is_stuck out.old) (S.is_stuck out.new) (plan_told line.now) progress.old.so_far progress.new.so_far }
+    ensures { WritesOn (S.contents out.old) (S.contents out.new) (S.is_stuck out.old) (S.is_stuck out.new) (plan_reported line.now) progress.old.so_far progress.new.so_far }
 {
     write_type("plan", progress, out);
     write_field("tests", Shape::Number, after(line, 3), progress, out);
 }
 
 // Writes what a line of a form reports.
-fn write_told_as<S: Sink>(form: Form, line: &[u8], progress: &mut Progress, out: &mut S)
-    ensures { (told : List ℕ) × IsToldAs form line.now told
-        × WritesOn (S.contents out.old) (S.contents out.new) (S.is_stuck out.old) (S.is_stuck out.new) told progress.old.so_far progress.new.so_far }
+fn write_reported_as<S: Sink>(form: Form, line: &[u8], progress: &mut Progress, out: &mut S)
+    ensures { (reported : List ℕ) × IsReportedAs form line.now reported
+        × WritesOn (S.contents out.old) (S.contents out.new) (S.is_stuck out.old) (S.is_stuck out.new) reported progress.old.so_far progress.new.so_far }
 {
     match form {
         Form::Version => write_version(line, progress, out),
@@ -123,7 +123,7 @@ fn write_told_as<S: Sink>(form: Form, line: &[u8], progress: &mut Progress, out:
         Form::Window => write_seen(after_word(after_word(line)), progress, out),
         Form::NoWindow => write_no_window(progress, out),
         Form::Trace => write_type("trace", progress, out),
-        Form::Shown => write_told(after_word(line), progress, out),
+        Form::Shown => write_reported(after_word(line), progress, out),
         Form::Plan => write_plan(line, progress, out),
         Form::Stretch => write_stretch(line, progress, out),
         Form::Other => write_type("other", progress, out),
@@ -142,6 +142,6 @@ pub(crate) fn write_report_object<S: Sink>(
 {
     progress.text(out, b"{\"line\":");
     write_quoted(line, progress, out);
-    write_told_as(form_of(report, line), line, progress, out);
+    write_reported_as(form_of(report, line), line, progress, out);
     progress.text(out, b"}\n");
 }

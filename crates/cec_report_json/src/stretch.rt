@@ -4,7 +4,7 @@ ghost use Rattle.std.specs.Option.{option_copied};
 ghost use Rattle.hdmi_core.specs.Number.{is_numeral};
 ghost use Rattle.hdmi_core.specs.Words.{words_after, words_of};
 ghost use Rattle.cec_json.specs.Progress.{WritesOn};
-ghost use Rattle.cec_report_json.specs.Stretch.{first_instant, is_stretch, last_instant, range_fields, stretch_told, verdict_value, verdicts, verdicts_value};
+ghost use Rattle.cec_report_json.specs.Stretch.{first_instant, is_stretch, last_instant, range_fields, stretch_reported, verdict_value, verdicts, verdicts_value};
 
 use cec_json::{
     Progress, Shape, after_byte, before_byte, word, write_field, write_lead, write_type,
@@ -87,7 +87,7 @@ fn write_range<S: Sink>(range: &[u8], progress: &mut Progress, out: &mut S)
 
 /// Writes what the line of a stretch reports.
 pub(crate) fn write_stretch<S: Sink>(line: &[u8], progress: &mut Progress, out: &mut S)
-    ensures { WritesOn (S.contents out.old) (S.contents out.new) (S.is_stuck out.old) (S.is_stuck out.new) (stretch_told line.now) progress.old.so_far progress.new.so_far }
+    ensures { WritesOn (S.contents out.old) (S.contents out.new) (S.is_stuck out.old) (S.is_stuck out.new) (stretch_reported line.now) progress.old.so_far progress.new.so_far }
 {
     let (_, words) = first_word(line);
     write_type("stretch", progress, out);

@@ -3,7 +3,7 @@ ghost use Rattle.std.specs.Prelude.{◌≡◌, length};
 ghost use Rattle.cec_json.specs.Progress.{WritesOn};
 ghost use Rattle.cec_json.specs.Values.{code_texts};
 ghost use Rattle.cec_json.specs.declared.values.Code.TheVariants.{Char};
-ghost use Rattle.cec_report_json.specs.TestLine.{expected_fields, is_escape, place_fields, plain, plain_byte, refused_fields, test_told, text_fields, truth};
+ghost use Rattle.cec_report_json.specs.TestLine.{expected_fields, is_escape, place_fields, plain, plain_byte, refused_fields, test_reported, text_fields, truth};
 
 use cec_json::{
     Progress, Shape, after_word, before_byte, word, write_char, write_field, write_lead, write_type,
@@ -87,7 +87,7 @@ fn write_place<S: Sink>(holds: bool, place: &[u8], progress: &mut Progress, out:
 
 /// Writes what `N - line L: TEXT` indicates a test that holds or not.
 pub(crate) fn write_test<S: Sink>(holds: bool, rest: &[u8], progress: &mut Progress, out: &mut S)
-    ensures { WritesOn (S.contents out.old) (S.contents out.new) (S.is_stuck out.old) (S.is_stuck out.new) (test_told holds rest.now) progress.old.so_far progress.new.so_far }
+    ensures { WritesOn (S.contents out.old) (S.contents out.new) (S.is_stuck out.old) (S.is_stuck out.new) (test_reported holds rest.now) progress.old.so_far progress.new.so_far }
 {
     write_type("test", progress, out);
     write_field("test", Shape::Number, word(rest), progress, out);

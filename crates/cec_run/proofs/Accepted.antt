@@ -15,9 +15,9 @@ use Rattle.cec_run.specs.declared.run.Totals.{Totals}
 use Rattle.hdmi_blocks.specs.declared.edid.Edid.{Edid}
 use Rattle.hdmi_blocks.proofs.OneEdid.{one_edid}
 use Rattle.hdmi_blocks.specs.Root.{IsRoot}
-use Rattle.cec_run.specs.declared.run.Telling.{Telling}
+use Rattle.cec_run.specs.declared.run.Reporting.{Reporting}
 use Rattle.cec_line.specs.declared.format.Format.{Format}
-use Rattle.cec_run.specs.declared.run.Telling.TheVariants.{Trace, Line}
+use Rattle.cec_run.specs.declared.run.Reporting.TheVariants.{Trace, Line}
 use Rattle.cec_run.specs.Run.{start, IsTrace, IsRunText}
 use Rattle.cec_run.specs.Emulate.{IsAccepted, IsTraceOf, IsLineOf, TextsHaveOneTrace, TextsHaveOneLine}
 use Rattle.cec_run.proofs.Turns.{one_trace, one_run_text}
@@ -74,16 +74,16 @@ one_course topology script plan other course otherwise a b =
     sym (same_ok otherwise course (Ok otherwise) (one_script plan.tree script course (Ok otherwise) a.course_is read) refl)
 
 -- a run of texts is that of what they spell
-one_run_of : (topology script text : List ℕ) (totals : Totals) (plan : Plan) (course : Course) (telling : Telling) → topology_of topology ≡ Ok plan → IsScriptRead plan.tree script (Ok course)
+one_run_of : (topology script text : List ℕ) (totals : Totals) (plan : Plan) (course : Course) (reporting : Reporting) → topology_of topology ≡ Ok plan → IsScriptRead plan.tree script (Ok course)
     → (other : Plan) (otherwise : Course) → IsAccepted topology script other otherwise
-    → IsRunText telling otherwise.end (start (first_net other.tree otherwise.pulses) otherwise.events) text totals
-    → IsRunText telling course.end (start (first_net plan.tree course.pulses) course.events) text totals
-one_run_of topology script text totals plan course telling t s other otherwise accepted told =
+    → IsRunText reporting otherwise.end (start (first_net other.tree otherwise.pulses) otherwise.events) text totals
+    → IsRunText reporting course.end (start (first_net plan.tree course.pulses) course.events) text totals
+one_run_of topology script text totals plan course reporting t s other otherwise accepted reported =
     let p : other ≡ plan = one_plan topology plan other t accepted.plan_is in
     let read : IsScriptRead plan.tree script (Ok otherwise) = subst (λ (q : Plan). IsScriptRead q.tree script (Ok otherwise)) p accepted.course_is in
     let k : otherwise ≡ course = same_ok otherwise course (Ok otherwise) (one_script plan.tree script course (Ok otherwise) s read) refl in
-    subst (λ (c : Course). IsRunText telling c.end (start (first_net plan.tree c.pulses) c.events) text totals) k
-    (subst (λ (q : Plan). IsRunText telling otherwise.end (start (first_net q.tree otherwise.pulses) otherwise.events) text totals) p told)
+    subst (λ (c : Course). IsRunText reporting c.end (start (first_net plan.tree c.pulses) c.events) text totals) k
+    (subst (λ (q : Plan). IsRunText reporting otherwise.end (start (first_net q.tree otherwise.pulses) otherwise.events) text totals) p reported)
 
 -- texts spell one topology, one EDID and one script
 pub one_trace_of : (topology script text : List ℕ) (totals : Totals) (plan : Plan) (course : Course) (edid : Option Edid) → topology_of topology ≡ Ok plan → IsScriptRead plan.tree script (Ok course)

@@ -14,7 +14,7 @@ use Rattle.cec_net.specs.Apply.{net_after, applied_unless, event_fault}
 use Rattle.cec_net.specs.Progress.{IsProgress}
 use Rattle.cec_net.proofs.Soundness.{length-with_plug}
 use Rattle.cec_run.specs.declared.run.Totals.{Totals}
-use Rattle.cec_run.specs.declared.run.Telling.{Telling}
+use Rattle.cec_run.specs.declared.run.Reporting.{Reporting}
 use Rattle.cec_run.specs.declared.run.Turn.TheVariants.{Stop, Apply, Round}
 use Rattle.cec_run.specs.Run.{IsRoundTurn, counted_event, counted_round, turn_of, is_by, round_turn, event_turn}
 
@@ -78,9 +78,9 @@ record Rested (s t : NetState) : Type 0 where
   rest : t.rest ≤ t.close
   tree : t.tree ≡ s.tree
 
-pub round_brings : (telling : Telling) (end begin : ℕ) (s t : NetState) (totals counted : Totals) (line : List ℕ) → IsProgress s begin t → begin < end
-    → IsRoundTurn telling begin s totals line t counted → Brought end s t
-round_brings telling end begin s t totals counted line p soon turn =
+pub round_brings : (reporting : Reporting) (end begin : ℕ) (s t : NetState) (totals counted : Totals) (line : List ℕ) → IsProgress s begin t → begin < end
+    → IsRoundTurn reporting begin s totals line t counted → Brought end s t
+round_brings reporting end begin s t totals counted line p soon turn =
     let rested : Rested s t = subst (Rested s) (sym turn.next.after_is) (record { rest = rest_first turn.outcome; tree = refl }) in
     record {
       sooner = omega (arith, p.later, p.low);

@@ -14,7 +14,7 @@ use Rattle.cec_asm.specs.Script.{AreFramedEvents}
 use Rattle.cec_asm.specs.declared.script.TimedEvent.{TimedEvent}
 use Rattle.cec_run.specs.declared.run.Turn.{Turn}
 use Rattle.cec_run.specs.declared.run.Turn.TheVariants.{Stop, Apply, Round}
-use Rattle.cec_run.specs.declared.run.Telling.{Telling}
+use Rattle.cec_run.specs.declared.run.Reporting.{Reporting}
 use Rattle.cec_run.specs.Run.{Config, start, turn_at, first_time, IsEventTurn, IsTurnBy, Leads}
 use Rattle.cec_run.specs.RunLine.{rounds_by, rounds_in, RunsAreRead}
 use Rattle.cec_run.proofs.Advance.{round_begins}
@@ -26,22 +26,22 @@ record IsMoved (s t : NetState) (os : List Outcome) : Type 0 where
   rounds : rounds_of moves ≡ os
 
 -- an event's turn, and then the rest
-by_event : (telling : Telling) (at : ℕ) (events : List TimedEvent) (c d last : Config) (text : List ℕ) (os : List Outcome) → IsEventTurn telling at events c text d → c.events ≡ events
+by_event : (reporting : Reporting) (at : ℕ) (events : List TimedEvent) (c d last : Config) (text : List ℕ) (os : List Outcome) → IsEventTurn reporting at events c text d → c.events ≡ events
     → AreFramedEvents events → (AreFramedEvents d.events → IsMoved d.net last.net os) → IsMoved c.net last.net os
-by_event telling at [] c d last text os t same f k =
+by_event reporting at [] c d last text os t same f k =
     let m : IsMoved d.net last.net os = k (subst AreFramedEvents (sym (ap (λ (x : Config). x.events) t.1 ∙ same)) tt) in
     subst (λ (s : NetState). IsMoved s last.net os) (ap (λ (x : Config). x.net) t.1) m
-by_event telling at (e ∷ events) c d last text os t same f k =
+by_event reporting at (e ∷ events) c d last text os t same f k =
     let m : IsMoved d.net last.net os = k (subst AreFramedEvents (sym (ap (λ (x : Config). x.events) t.1)) f.1) in
     let n : IsMoved (net_after at e.event c.net) last.net os = subst (λ (s : NetState). IsMoved s last.net os) (ap (λ (x : Config). x.net) t.1) m in
     record { moves = Happens at e.event ∷ n.moves; goes = (f.0, n.goes); rounds = n.rounds }
 
 -- some turn, and then the rest
-by_turn : (telling : Telling) (end : ℕ) (turn : Turn) (c d last : Config) (text : List ℕ) (os : List Outcome) → turn_at end c ≡ turn → (t : IsTurnBy telling turn c text d)
-    → AreFramedEvents c.events → (AreFramedEvents d.events → IsMoved d.net last.net os) → IsMoved c.net last.net (rounds_by telling turn c text d t ++ os)
-by_turn telling end Stop c d last text os same t f k = absurd t
-by_turn telling end (Apply at) c d last text os same t f k = by_event telling at c.events c d last text os t refl f k
-by_turn telling end (Round begin) c d last text os same t f k =
+by_turn : (reporting : Reporting) (end : ℕ) (turn : Turn) (c d last : Config) (text : List ℕ) (os : List Outcome) → turn_at end c ≡ turn → (t : IsTurnBy reporting turn c text d)
+    → AreFramedEvents c.events → (AreFramedEvents d.events → IsMoved d.net last.net os) → IsMoved c.net last.net (rounds_by reporting turn c text d t ++ os)
+by_turn reporting end Stop c d last text os same t f k = absurd t
+by_turn reporting end (Apply at) c d last text os same t f k = by_event reporting at c.events c d last text os t refl f k
+by_turn reporting end (Round begin) c d last text os same t f k =
     let m : IsMoved d.net last.net os = k (subst AreFramedEvents (sym t.1) f) in
     let n : IsMoved (after_round c.net begin t.0.outcome) last.net os = subst (λ (s : NetState). IsMoved s last.net os) t.0.next.after_is m in
     record {
@@ -50,15 +50,15 @@ by_turn telling end (Round begin) c d last text os same t f k =
       rounds = ap (λ xs. t.0.outcome ∷ xs) n.rounds;
     }
 
-moved : (telling : Telling) (end turns : ℕ) (c d : Config) (text : List ℕ) (l : Leads telling end turns c text d) → AreFramedEvents c.events
-    → IsMoved c.net d.net (rounds_in telling end turns c text d l)
-moved telling end zero c d text l f = record { moves = []; goes = ap (λ (x : Config). x.net) l.1; rounds = refl }
-moved telling end (suc turns) c d text l f =
-    by_turn telling end (turn_at end c) c l.0 d l.1 (rounds_in telling end turns l.0 l.2 d l.4) refl l.3 f (λ g. moved telling end turns l.0 d l.2 l.4 g)
+moved : (reporting : Reporting) (end turns : ℕ) (c d : Config) (text : List ℕ) (l : Leads reporting end turns c text d) → AreFramedEvents c.events
+    → IsMoved c.net d.net (rounds_in reporting end turns c text d l)
+moved reporting end zero c d text l f = record { moves = []; goes = ap (λ (x : Config). x.net) l.1; rounds = refl }
+moved reporting end (suc turns) c d text l f =
+    by_turn reporting end (turn_at end c) c l.0 d l.1 (rounds_in reporting end turns l.0 l.2 d l.4) refl l.3 f (λ g. moved reporting end turns l.0 d l.2 l.4 g)
 
 pub runs_read : RunsAreRead
-runs_read telling tree pulses events end turns text d sparse framed leads =
-    let m = moved telling end turns (start (first_net tree pulses) events) d text leads framed in
+runs_read reporting tree pulses events end turns text d sparse framed leads =
+    let m = moved reporting end turns (start (first_net tree pulses) events) d text leads framed in
     record {
       wave = subst (λ (os : List Outcome). IsWave (run_wave os)) m.rounds (runs_are_waves (first_net tree pulses) d.net m.moves sparse (framed-started tree pulses) m.goes);
       over = λ u l. subst (λ (os : List Outcome). line_of (run_wave os) u ≡ false) m.rounds (runs_over (first_net tree pulses) d.net m.moves sparse (framed-started tree pulses) m.goes u (omega (arith, l)));

@@ -17,13 +17,13 @@ use Rattle.cec_asm.specs.declared.script.TimedEvent.{TimedEvent}
 use Rattle.cec_asm.specs.Topology.{Plan}
 use Rattle.cec_asm.specs.Script.{Course}
 use Rattle.cec_text.specs.ReadingText.{is_complete}
-use Rattle.cec_run.specs.declared.run.Telling.{Telling}
-use Rattle.cec_run.specs.declared.run.Telling.TheVariants.{Trace, Line}
+use Rattle.cec_run.specs.declared.run.Reporting.{Reporting}
+use Rattle.cec_run.specs.declared.run.Reporting.TheVariants.{Trace, Line}
 use Rattle.cec_run.specs.declared.run.Turn.{Turn}
 use Rattle.cec_run.specs.declared.run.Turn.TheVariants.{Stop, Apply, Round}
-use Rattle.cec_run.specs.Run.{Config, start, turn_at, first_time, counted_round, IsEventTurn, IsTurnBy, Leads, IsRunText, start_told, end_told, event_text}
+use Rattle.cec_run.specs.Run.{Config, start, turn_at, first_time, counted_round, IsEventTurn, IsTurnBy, Leads, IsRunText, start_reported, end_reported, event_text}
 use Rattle.cec_run.specs.RunLine.{rounds_by, rounds_in}
-use Rattle.cec_run.specs.OneRun.{rounds_told, OneRun, rounds_of_trace, TextsHaveOneRun, Part, OfEvent, OfRound, part_text, part_rounds, TracesHaveParts, RunsCloseSoon}
+use Rattle.cec_run.specs.OneRun.{rounds_reported, OneRun, rounds_of_trace, TextsHaveOneRun, Part, OfEvent, OfRound, part_text, part_rounds, TracesHaveParts, RunsCloseSoon}
 use Rattle.cec_run.proofs.Turns.{same_outcome, no_turn}
 use Rattle.cec_run.proofs.Advance.{event_keeps, round_begins}
 use Rattle.cec_run.proofs.Accepted.{one_plan, one_course}
@@ -34,9 +34,9 @@ record IsOneTurn (d e : Config) (os ps : List Outcome) : Type 0 where
   there : d ≡ e
   rounds : os ≡ ps
 
-round_too : (telling other : Telling) (begin : ℕ) (c d e : Config) (line text : List ℕ) (r : IsTurnBy telling (Round begin) c line d) (s : IsTurnBy other (Round begin) c text e)
-    → IsOneTurn d e (rounds_by telling (Round begin) c line d r) (rounds_by other (Round begin) c text e s)
-round_too telling other begin c d e line text r s =
+round_too : (reporting other : Reporting) (begin : ℕ) (c d e : Config) (line text : List ℕ) (r : IsTurnBy reporting (Round begin) c line d) (s : IsTurnBy other (Round begin) c text e)
+    → IsOneTurn d e (rounds_by reporting (Round begin) c line d r) (rounds_by other (Round begin) c text e s)
+round_too reporting other begin c d e line text r s =
     let same : r.0.outcome ≡ s.0.outcome =
     same_outcome r.0.outcome s.0.outcome (one_outcome (seats_of c.net begin) begin c.net.pulses r.0.outcome s.0.outcome r.0.wave s.0.wave r.0.next.round s.0.next.round) in
     let net : d.net ≡ e.net = r.0.next.after_is ∙ ap (after_round c.net begin) same ∙ sym s.0.next.after_is in
@@ -44,15 +44,15 @@ round_too telling other begin c d e line text r s =
     let events : d.events ≡ e.events = r.1 ∙ sym s.1 in
     record { there = λ i. record { net = net i; events = events i; totals = totals i }; rounds = ap (λ (o : Outcome). o ∷ []) same }
 
-event_too : (telling other : Telling) (at : ℕ) (events : List TimedEvent) (c d e : Config) (line text : List ℕ) → IsEventTurn telling at events c line d → IsEventTurn other at events c text e → d ≡ e
-event_too telling other at [] c d e line text r s = r.1 ∙ sym s.1
-event_too telling other at (x ∷ xs) c d e line text r s = r.1 ∙ sym s.1
+event_too : (reporting other : Reporting) (at : ℕ) (events : List TimedEvent) (c d e : Config) (line text : List ℕ) → IsEventTurn reporting at events c line d → IsEventTurn other at events c text e → d ≡ e
+event_too reporting other at [] c d e line text r s = r.1 ∙ sym s.1
+event_too reporting other at (x ∷ xs) c d e line text r s = r.1 ∙ sym s.1
 
-turn_too : (telling other : Telling) (turn : Turn) (c d e : Config) (line text : List ℕ) (r : IsTurnBy telling turn c line d) (s : IsTurnBy other turn c text e)
-    → IsOneTurn d e (rounds_by telling turn c line d r) (rounds_by other turn c text e s)
-turn_too telling other Stop c d e line text r s = absurd r
-turn_too telling other (Apply at) c d e line text r s = record { there = event_too telling other at c.events c d e line text r s; rounds = refl }
-turn_too telling other (Round begin) c d e line text r s = round_too telling other begin c d e line text r s
+turn_too : (reporting other : Reporting) (turn : Turn) (c d e : Config) (line text : List ℕ) (r : IsTurnBy reporting turn c line d) (s : IsTurnBy other turn c text e)
+    → IsOneTurn d e (rounds_by reporting turn c line d r) (rounds_by other turn c text e s)
+turn_too reporting other Stop c d e line text r s = absurd r
+turn_too reporting other (Apply at) c d e line text r s = record { there = event_too reporting other at c.events c d e line text r s; rounds = refl }
+turn_too reporting other (Round begin) c d e line text r s = round_too reporting other begin c d e line text r s
 
 -- ---- all turns
 
@@ -61,22 +61,22 @@ record IsOneWay (n m : ℕ) (d e : Config) (os ps : List Outcome) : Type 0 where
   last : d ≡ e
   rounds : os ≡ ps
 
-one_way : (telling other : Telling) (end n m : ℕ) (c d e : Config) (text whole : List ℕ) (p : Leads telling end n c text d) → turn_at end d ≡ Stop
-    → (q : Leads other end m c whole e) → turn_at end e ≡ Stop → IsOneWay n m d e (rounds_in telling end n c text d p) (rounds_in other end m c whole e q)
-one_way telling other end zero zero c d e text whole p stops q ends = record { turns = refl; last = p.1 ∙ sym q.1; rounds = refl }
-one_way telling other end zero (suc m) c d e text whole p stops q ends = absurd (no_turn other end c q.1 q.0 (ap (turn_at end) (sym p.1) ∙ stops) q.3)
-one_way telling other end (suc n) zero c d e text whole p stops q ends = absurd (no_turn telling end c p.1 p.0 (ap (turn_at end) (sym q.1) ∙ ends) p.3)
-one_way telling other end (suc n) (suc m) c d e text whole p stops q ends =
-    let one = turn_too telling other (turn_at end c) c p.0 q.0 p.1 q.1 p.3 q.3 in
+one_way : (reporting other : Reporting) (end n m : ℕ) (c d e : Config) (text whole : List ℕ) (p : Leads reporting end n c text d) → turn_at end d ≡ Stop
+    → (q : Leads other end m c whole e) → turn_at end e ≡ Stop → IsOneWay n m d e (rounds_in reporting end n c text d p) (rounds_in other end m c whole e q)
+one_way reporting other end zero zero c d e text whole p stops q ends = record { turns = refl; last = p.1 ∙ sym q.1; rounds = refl }
+one_way reporting other end zero (suc m) c d e text whole p stops q ends = absurd (no_turn other end c q.1 q.0 (ap (turn_at end) (sym p.1) ∙ stops) q.3)
+one_way reporting other end (suc n) zero c d e text whole p stops q ends = absurd (no_turn reporting end c p.1 p.0 (ap (turn_at end) (sym q.1) ∙ ends) p.3)
+one_way reporting other end (suc n) (suc m) c d e text whole p stops q ends =
+    let one = turn_too reporting other (turn_at end c) c p.0 q.0 p.1 q.1 p.3 q.3 in
     let on = subst (λ (x : Config). (rest : List ℕ) (last : Config) (l : Leads other end m x rest last) → turn_at end last ≡ Stop
-    → IsOneWay n m d last (rounds_in telling end n p.0 p.2 d p.4) (rounds_in other end m x rest last l)) one.there
-    (λ rest last l s. one_way telling other end n m p.0 d last p.2 rest p.4 stops l s) in
+    → IsOneWay n m d last (rounds_in reporting end n p.0 p.2 d p.4) (rounds_in other end m x rest last l)) one.there
+    (λ rest last l s. one_way reporting other end n m p.0 d last p.2 rest p.4 stops l s) in
     let go = on q.2 e q.4 ends in
     record { turns = ap suc go.turns; last = go.last; rounds = ap₂ (λ (a b : List Outcome). a ++ b) one.rounds go.rounds }
 
 pub one_run : OneRun
-one_run telling other end c x y s t p q =
-    let way = one_way telling other end p.run.turns q.run.turns c p.run.last q.run.last p.run.body q.run.body p.run.leads p.run.stops q.run.leads q.run.stops in
+one_run reporting other end c x y s t p q =
+    let way = one_way reporting other end p.run.turns q.run.turns c p.run.last q.run.last p.run.body q.run.body p.run.leads p.run.stops q.run.leads q.run.stops in
     record {
       totals = p.run.counts ∙ ap (λ (d : Config). d.totals) way.last ∙ sym q.run.counts;
       turns = way.turns;
@@ -88,14 +88,14 @@ pub texts_have_one_run : TextsHaveOneRun
 texts_have_one_run format topology script x y s t p q =
     let plan : p.plan ≡ q.plan = sym (one_plan topology p.plan q.plan p.accepted.plan_is q.accepted.plan_is) in
     let course : p.course ≡ q.course = one_course topology script p.plan q.plan p.course q.course p.accepted q.accepted in
-    let here : (told : IsRunText (Line format) p.course.end (start (first_net p.plan.tree p.course.pulses) p.course.events) y t)
-    → (s ≡ t) × (rounds_of_trace topology script x s p ≡ rounds_told (Line format) p.course.end (start (first_net p.plan.tree p.course.pulses) p.course.events) y t told) = λ told. (
-    let one = one_run (Trace p.edid) (Line format) p.course.end (start (first_net p.plan.tree p.course.pulses) p.course.events) x y s t p.trace told in (one.totals, one.rounds)
+    let here : (reported : IsRunText (Line format) p.course.end (start (first_net p.plan.tree p.course.pulses) p.course.events) y t)
+    → (s ≡ t) × (rounds_of_trace topology script x s p ≡ rounds_reported (Line format) p.course.end (start (first_net p.plan.tree p.course.pulses) p.course.events) y t reported) = λ reported. (
+    let one = one_run (Trace p.edid) (Line format) p.course.end (start (first_net p.plan.tree p.course.pulses) p.course.events) x y s t p.trace reported in (one.totals, one.rounds)
     ) in
-    let there = subst (λ (c : Course). (told : IsRunText (Line format) c.end (start (first_net p.plan.tree c.pulses) c.events) y t)
-    → (s ≡ t) × (rounds_of_trace topology script x s p ≡ rounds_told (Line format) c.end (start (first_net p.plan.tree c.pulses) c.events) y t told)) course here in
-    subst (λ (a : Plan). (told : IsRunText (Line format) q.course.end (start (first_net a.tree q.course.pulses) q.course.events) y t)
-    → (s ≡ t) × (rounds_of_trace topology script x s p ≡ rounds_told (Line format) q.course.end (start (first_net a.tree q.course.pulses) q.course.events) y t told)) plan there q.line
+    let there = subst (λ (c : Course). (reported : IsRunText (Line format) c.end (start (first_net p.plan.tree c.pulses) c.events) y t)
+    → (s ≡ t) × (rounds_of_trace topology script x s p ≡ rounds_reported (Line format) c.end (start (first_net p.plan.tree c.pulses) c.events) y t reported)) course here in
+    subst (λ (a : Plan). (reported : IsRunText (Line format) q.course.end (start (first_net a.tree q.course.pulses) q.course.events) y t)
+    → (s ≡ t) × (rounds_of_trace topology script x s p ≡ rounds_reported (Line format) q.course.end (start (first_net a.tree q.course.pulses) q.course.events) y t reported)) plan there q.line
 
 -- ---- the parts of a trace
 
@@ -114,7 +114,7 @@ made_by edid Stop c d text t = absurd t
 made_by edid (Apply at) c d text t = made_event edid at c.events c d text t
 made_by edid (Round begin) c d text t = record {
   parts = OfRound d.net.devices t.0.outcome ∷ [];
-  whole = t.0.told ∙ sym (append-nil (round_line d.net.devices t.0.outcome));
+  whole = t.0.reported ∙ sym (append-nil (round_line d.net.devices t.0.outcome));
   rounds = refl;
 }
 
@@ -134,7 +134,7 @@ traces_have_parts edid end c text totals p =
     let made = made_in edid end p.run.turns c p.run.last p.run.body p.run.leads in
     record {
       parts = made.parts;
-      whole = p.whole ∙ ap (λ (t : List ℕ). start_told (Trace edid) c.net ++ t) (p.run.whole ∙ ap (λ (t : List ℕ). t ++ end_told (Trace edid) end p.run.last.net) made.whole);
+      whole = p.whole ∙ ap (λ (t : List ℕ). start_reported (Trace edid) c.net ++ t) (p.run.whole ∙ ap (λ (t : List ℕ). t ++ end_reported (Trace edid) end p.run.last.net) made.whole);
       rounds = made.rounds;
     }
 
@@ -144,16 +144,16 @@ record Soon (end : ℕ) (s : NetState) : Type 0 where
   sparse : AreSparse s.pulses
   close : s.close ≤ end + 458461
 
-soon_event : (telling : Telling) (end at : ℕ) (events : List TimedEvent) (c d : Config) (text : List ℕ) → IsEventTurn telling at events c text d → Soon end c.net → Soon end d.net
-soon_event telling end at [] c d text t h = subst (λ (x : Config). Soon end x.net) (sym t.1) h
-soon_event telling end at (e ∷ events) c d text t h =
+soon_event : (reporting : Reporting) (end at : ℕ) (events : List TimedEvent) (c d : Config) (text : List ℕ) → IsEventTurn reporting at events c text d → Soon end c.net → Soon end d.net
+soon_event reporting end at [] c d text t h = subst (λ (x : Config). Soon end x.net) (sym t.1) h
+soon_event reporting end at (e ∷ events) c d text t h =
     let kept = event_keeps at e.event c.net d.net (ap (λ (x : Config). x.net) t.1) in
     record { sparse = subst AreSparse (sym kept.pulses) h.sparse; close = omega (arith, kept.close, h.close) }
 
-soon_turn : (telling : Telling) (end : ℕ) (turn : Turn) (c d : Config) (text : List ℕ) → turn_at end c ≡ turn → IsTurnBy telling turn c text d → Soon end c.net → Soon end d.net
-soon_turn telling end Stop c d text same t h = absurd t
-soon_turn telling end (Apply at) c d text same t h = soon_event telling end at c.events c d text t h
-soon_turn telling end (Round begin) c d text same t h =
+soon_turn : (reporting : Reporting) (end : ℕ) (turn : Turn) (c d : Config) (text : List ℕ) → turn_at end c ≡ turn → IsTurnBy reporting turn c text d → Soon end c.net → Soon end d.net
+soon_turn reporting end Stop c d text same t h = absurd t
+soon_turn reporting end (Apply at) c d text same t h = soon_event reporting end at c.events c d text t h
+soon_turn reporting end (Round begin) c d text same t h =
     let o = t.0.outcome in
     let begins = round_begins end c.net (first_time c.events) begin same in
     let at : o.reading.at ≤ begin + 444861 = omega (arith, t.0.next.round.ends, rounds_are_short.ends (line_of o.wave) begin) in
@@ -161,10 +161,10 @@ soon_turn telling end (Round begin) c d text same t h =
     let close : close_in o ≤ end + 458461 = omega (arith, at, rest, begins.1) in
     subst (Soon end) (sym t.0.next.after_is) (record { sparse = sparse-filter (λ p. nat_lt o.rest p.from) c.net.pulses h.sparse; close = close })
 
-soon_after : (telling : Telling) (end turns : ℕ) (c d : Config) (text : List ℕ) → Leads telling end turns c text d → Soon end c.net → Soon end d.net
-soon_after telling end zero c d text l h = subst (λ (x : Config). Soon end x.net) (sym l.1) h
-soon_after telling end (suc turns) c d text l h = soon_after telling end turns l.0 d l.2 l.4 (soon_turn telling end (turn_at end c) c l.0 l.1 refl l.3 h)
+soon_after : (reporting : Reporting) (end turns : ℕ) (c d : Config) (text : List ℕ) → Leads reporting end turns c text d → Soon end c.net → Soon end d.net
+soon_after reporting end zero c d text l h = subst (λ (x : Config). Soon end x.net) (sym l.1) h
+soon_after reporting end (suc turns) c d text l h = soon_after reporting end turns l.0 d l.2 l.4 (soon_turn reporting end (turn_at end c) c l.0 l.1 refl l.3 h)
 
 pub runs_close_soon : RunsCloseSoon
-runs_close_soon telling tree pulses events end turns text d sparse leads =
-    (soon_after telling end turns (start (first_net tree pulses) events) d text leads (record { sparse = sparse; close = omega arith })).close
+runs_close_soon reporting tree pulses events end turns text d sparse leads =
+    (soon_after reporting end turns (start (first_net tree pulses) events) d text leads (record { sparse = sparse; close = omega arith })).close

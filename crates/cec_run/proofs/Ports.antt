@@ -26,9 +26,9 @@ same_lines at (Some root) f g tree h =
 pub event_ports : (at : ℕ) (edid : Option Edid) (e : TimedEvent) (s t : NetState) (before after : List Node) (was : List Bool) → t ≡ net_after at e.event s → before ≡ s.tree → after ≡ t.tree
     → ((k : ℕ) → k < length before → get_or was k false ≡ is_on_wire before k)
     → port_lines at edid (λ device. get_or was device false) after ≡ port_lines at edid (is_on_wire s.tree) (net_after at e.event s).tree
-event_ports at edid e s t before after was step b a told =
+event_ports at edid e s t before after was step b a reported =
     let kept = event_keeps at e.event s t step in
     let count : length after ≡ length before = ap length a ∙ kept.count ∙ sym (ap length b) in
     let tree : after ≡ (net_after at e.event s).tree = a ∙ ap (λ (x : NetState). x.tree) step in
-    same_lines at edid (λ device. get_or was device false) (is_on_wire s.tree) after (λ k h. told k (omega (arith, h, count)) ∙ ap (λ (x : List Node). is_on_wire x k) b)
+    same_lines at edid (λ device. get_or was device false) (is_on_wire s.tree) after (λ k h. reported k (omega (arith, h, count)) ∙ ap (λ (x : List Node). is_on_wire x k) b)
     ∙ ap (port_lines at edid (is_on_wire s.tree)) tree

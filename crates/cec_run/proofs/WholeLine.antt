@@ -10,7 +10,7 @@ use Rattle.cec_asm.specs.declared.script.TimedEvent.{TimedEvent}
 use Rattle.cec_line.specs.Format.{line_start, line_round, line_end}
 use Rattle.cec_line.specs.declared.format.Format.{Format}
 use Rattle.cec_line.specs.declared.format.Format.TheVariants.{Edges}
-use Rattle.cec_run.specs.declared.run.Telling.TheVariants.{Line}
+use Rattle.cec_run.specs.declared.run.Reporting.TheVariants.{Line}
 use Rattle.cec_run.specs.declared.run.Turn.{Turn}
 use Rattle.cec_run.specs.declared.run.Turn.TheVariants.{Stop, Apply, Round}
 use Rattle.cec_trace.specs.EdgeText.{stretch_lines, edge_lines}
@@ -37,7 +37,7 @@ line_by : (format : Format) (turn : Turn) (c d : Config) (text : List ℕ) (t : 
     → text ≡ flat_map (line_round format) (waves (rounds_by (Line format) turn c text d t))
 line_by format Stop c d text t = absurd t
 line_by format (Apply at) c d text t = no_text format at c.events c d text t
-line_by format (Round begin) c d text t = t.0.told ∙ sym (append-nil (line_round format t.0.outcome.wave))
+line_by format (Round begin) c d text t = t.0.reported ∙ sym (append-nil (line_round format t.0.outcome.wave))
 
 line_in : (format : Format) (end turns : ℕ) (c d : Config) (text : List ℕ) (l : Leads (Line format) end turns c text d)
     → text ≡ flat_map (line_round format) (waves (rounds_in (Line format) end turns c text d l))
@@ -47,10 +47,10 @@ line_in format end (suc turns) c d text l =
     ∙ sym (two_parts (line_round format) (rounds_by (Line format) (turn_at end c) c l.1 l.0 l.3) (rounds_in (Line format) end turns l.0 l.2 d l.4))
 
 pub lines_are_of_the_rounds : LinesAreOfTheRounds
-lines_are_of_the_rounds format tree pulses events end text totals sparse framed told = record {
-  read = runs_read (Line format) tree pulses events end told.run.turns told.run.body told.run.last sparse framed told.run.leads;
-  whole = told.whole ∙ ap (λ b. line_start format ++ b) (told.run.whole ∙ ap (λ b. b ++ line_end format (max end told.run.last.net.close))
-      (line_in format end told.run.turns (start (first_net tree pulses) events) told.run.last told.run.body told.run.leads));
+lines_are_of_the_rounds format tree pulses events end text totals sparse framed reported = record {
+  read = runs_read (Line format) tree pulses events end reported.run.turns reported.run.body reported.run.last sparse framed reported.run.leads;
+  whole = reported.whole ∙ ap (λ b. line_start format ++ b) (reported.run.whole ∙ ap (λ b. b ++ line_end format (max end reported.run.last.net.close))
+      (line_in format end reported.run.turns (start (first_net tree pulses) events) reported.run.last reported.run.body reported.run.leads));
 }
 
 -- the edges of rounds are those of the line that they make
@@ -59,10 +59,10 @@ edges_of_waves [] = refl
 edges_of_waves (o ∷ os) = ap (λ l. edge_lines o.wave ++ l) (edges_of_waves os) ∙ sym (flat_map-append stretch_lines o.wave (run_wave os))
 
 pub edges_are_the_line : EdgesAreTheLine
-edges_are_the_line tree pulses events end text totals sparse framed told =
-    let all = lines_are_of_the_rounds Edges tree pulses events end text totals sparse framed told in
+edges_are_the_line tree pulses events end text totals sparse framed reported =
+    let all = lines_are_of_the_rounds Edges tree pulses events end text totals sparse framed reported in
     record {
       read = all.read;
-      whole = all.whole ∙ ap (λ b. b ++ end_line (max end told.run.last.net.close)) (edges_of_waves
-          (rounds_in (Line Edges) end told.run.turns (start (first_net tree pulses) events) told.run.body told.run.last told.run.leads));
+      whole = all.whole ∙ ap (λ b. b ++ end_line (max end reported.run.last.net.close)) (edges_of_waves
+          (rounds_in (Line Edges) end reported.run.turns (start (first_net tree pulses) events) reported.run.body reported.run.last reported.run.leads));
     }

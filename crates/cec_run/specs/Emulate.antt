@@ -12,13 +12,13 @@ use Rattle.hdmi_blocks.specs.declared.edid.Edid.{Edid as EdidValue}
 use Rattle.cec_run.specs.declared.emulate.EmulateError.{EmulateError}
 use Rattle.cec_run.specs.declared.emulate.EmulateError.TheVariants.{Topology, Script, Edid, Write, Memory}
 use Rattle.cec_run.specs.declared.run.Totals.{Totals}
-use Rattle.hdmi_core.specs.Cut.{told_count}
+use Rattle.hdmi_core.specs.Cut.{reported_count}
 use Rattle.hdmi_blocks.specs.Root.{IsRoot, IsNoRoot}
 use Rattle.hdmi_blocks.specs.declared.root.RootError.{RootError}
 use Rattle.hdmi_blocks.specs.declared.root.RootError.TheVariants as roots
 use Rattle.cec_line.specs.declared.format.Format.{Format}
 use Rattle.cec_line.specs.declared.format.Format.TheVariants.{Edges}
-use Rattle.cec_run.specs.declared.run.Telling.TheVariants.{Line}
+use Rattle.cec_run.specs.declared.run.Reporting.TheVariants.{Line}
 use Rattle.cec_run.specs.Run.{start, IsRunText, IsTrace}
 
 -- the texts spell this topology and this script
@@ -52,29 +52,29 @@ IsEdgeTraceOf topology script text totals = IsLineOf Edges topology script text 
 abbrev pub TextsHaveOneTrace : Type 0
 TextsHaveOneTrace = (topology script x y : List ℕ) (s t : Totals) → IsTraceOf topology script x s → IsTraceOf topology script y t → (x ≡ y) × (s ≡ t)
 
-abbrev pub topology_told : TopologyError → EmulateError
-topology_told (topologies.At line cause word) = Topology line cause word
-topology_told topologies.Memory = Memory
+abbrev pub topology_reported : TopologyError → EmulateError
+topology_reported (topologies.At line cause word) = Topology line cause word
+topology_reported topologies.Memory = Memory
 
-abbrev pub script_told : ScriptError → EmulateError
-script_told (scripts.At line cause word) = Script line cause word
-script_told scripts.Memory = Memory
+abbrev pub script_reported : ScriptError → EmulateError
+script_reported (scripts.At line cause word) = Script line cause word
+script_reported scripts.Memory = Memory
 
-abbrev pub root_told : RootError → EmulateError
-root_told (roots.Cause cause) = Edid cause
-root_told roots.Memory = Memory
+abbrev pub root_reported : RootError → EmulateError
+root_reported (roots.Cause cause) = Edid cause
+root_reported roots.Memory = Memory
 
 -- and one text of their line in each format
 abbrev pub TextsHaveOneLine : Type 0
 TextsHaveOneLine = (format : Format) (topology script x y : List ℕ) (s t : Totals) → IsLineOf format topology script x s → IsLineOf format topology script y t → (x ≡ y) × (s ≡ t)
 
 -- when each refusal comes: the topology's, then the script's, then the EDID; of memory nothing is said
-abbrev pub IsTold : List ℕ → List ℕ → EmulateError → Type 0
-IsTold topology script (Topology line cause word) = topology_of topology ≡ Err (record { line = line; cause = cause; word = word })
-IsTold topology script (Script line cause word) = (plan : Plan) × (topology_of topology ≡ Ok plan) × IsScriptRead plan.tree script (Err (record { line = line; cause = cause; word = word }))
-IsTold topology script (Edid cause) = (plan : Plan) × (course : Course) × IsAccepted topology script plan course × (bytes : List ℕ) × (plan.edid ≡ Some bytes) × IsNoRoot bytes cause
-IsTold topology script (Write count) = (plan : Plan) × (course : Course) × IsAccepted topology script plan course × (edid : Option EdidValue) × IsRoot plan.edid edid
-IsTold topology script Memory = Unit {0}
+abbrev pub IsReported : List ℕ → List ℕ → EmulateError → Type 0
+IsReported topology script (Topology line cause word) = topology_of topology ≡ Err (record { line = line; cause = cause; word = word })
+IsReported topology script (Script line cause word) = (plan : Plan) × (topology_of topology ≡ Ok plan) × IsScriptRead plan.tree script (Err (record { line = line; cause = cause; word = word }))
+IsReported topology script (Edid cause) = (plan : Plan) × (course : Course) × IsAccepted topology script plan course × (bytes : List ℕ) × (plan.edid ≡ Some bytes) × IsNoRoot bytes cause
+IsReported topology script (Write count) = (plan : Plan) × (course : Course) × IsAccepted topology script plan course × (edid : Option EdidValue) × IsRoot plan.edid edid
+IsReported topology script Memory = Unit {0}
 
 abbrev pub is_write : Result Totals EmulateError → Bool
 is_write (Ok totals) = false
@@ -83,8 +83,8 @@ is_write (Err _) = false
 
 -- what a refusal has written: after a failed write the front of the text due, which there is, and else nothing
 abbrev pub IsCutText : (List ℕ → Totals → Type 0) → Option (List ℕ) → Option (List ℕ) → EmulateError → Type 0
-IsCutText IsDue old new (Write told) =
-    (text : List ℕ) × (totals : Totals) × IsDue text totals × (count : ℕ) × (count < length text) × (told ≡ told_count count) × Appends old new (take count text)
+IsCutText IsDue old new (Write reported) =
+    (text : List ℕ) × (totals : Totals) × IsDue text totals × (count : ℕ) × (count < length text) × (reported ≡ reported_count count) × Appends old new (take count text)
 IsCutText IsDue old new (Topology line cause word) = new ≡ old
 IsCutText IsDue old new (Script line cause word) = new ≡ old
 IsCutText IsDue old new (Edid cause) = new ≡ old

@@ -9,7 +9,7 @@ use Rattle.cec_asm.specs.Script.{Course}
 use Rattle.cec_asm.specs.declared.script.TimedEvent.{TimedEvent}
 use Rattle.cec_net.specs.State.{first_net}
 use Rattle.hdmi_blocks.specs.Root.{IsRoot}
-use Rattle.cec_run.specs.declared.run.Telling.{Telling}
+use Rattle.cec_run.specs.declared.run.Reporting.{Reporting}
 use Rattle.cec_run.specs.declared.run.Totals.{Totals}
 use Rattle.cec_run.specs.Run.{start, IsRunText}
 use Rattle.cec_line.specs.declared.format.Format.{Format}
@@ -17,8 +17,8 @@ use Rattle.cec_run.specs.Emulate.{IsAccepted, IsTraceOf, IsLineOf}
 
 -- whatever is told of it: it stops, and each of its rounds has an outcome
 abbrev pub RunsHaveTexts : Type 0
-RunsHaveTexts = (telling : Telling) (tree : List Node) (pulses : List Stretch) (events : List TimedEvent) (end : ℕ) → AreSparse pulses
-    → (text : List ℕ) × (totals : Totals) × IsRunText telling end (start (first_net tree pulses) events) text totals
+RunsHaveTexts = (reporting : Reporting) (tree : List Node) (pulses : List Stretch) (events : List TimedEvent) (end : ℕ) → AreSparse pulses
+    → (text : List ℕ) × (totals : Totals) × IsRunText reporting end (start (first_net tree pulses) events) text totals
 
 -- A topology and a script that are accepted, with an EDID that is none or is read, have a trace, and a text of
 -- their line in each format.

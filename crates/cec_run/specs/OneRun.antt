@@ -11,39 +11,39 @@ use Rattle.cec_device.specs.State.{State}
 use Rattle.hdmi_blocks.specs.declared.edid.Edid.{Edid}
 use Rattle.cec_text.specs.ReadingText.{reading_text}
 use Rattle.cec_trace.specs.TraceText.{comma_list, name_at, loser_text}
-use Rattle.cec_run.specs.declared.run.Telling.{Telling}
+use Rattle.cec_run.specs.declared.run.Reporting.{Reporting}
 use Rattle.cec_line.specs.declared.format.Format.{Format}
-use Rattle.cec_run.specs.declared.run.Telling.TheVariants.{Trace, Line}
+use Rattle.cec_run.specs.declared.run.Reporting.TheVariants.{Trace, Line}
 use Rattle.cec_run.specs.declared.run.Totals.{Totals}
-use Rattle.cec_run.specs.Run.{Config, start, start_told, end_told, event_text, Leads, IsRunText, IsTrace}
+use Rattle.cec_run.specs.Run.{Config, start, start_reported, end_reported, event_text, Leads, IsRunText, IsTrace}
 use Rattle.cec_run.specs.RunLine.{rounds_in}
 use Rattle.cec_run.specs.Emulate.{IsTraceOf, IsLineOf}
 
 -- the rounds that a run's text reports, in order
-abbrev pub rounds_told : (telling : Telling) (end : ℕ) (c : Config) (text : List ℕ) (totals : Totals) → IsRunText telling end c text totals → List Outcome
-rounds_told telling end c text totals told = rounds_in telling end told.run.turns c told.run.body told.run.last told.run.leads
+abbrev pub rounds_reported : (reporting : Reporting) (end : ℕ) (c : Config) (text : List ℕ) (totals : Totals) → IsRunText reporting end c text totals → List Outcome
+rounds_reported reporting end c text totals reported = rounds_in reporting end reported.run.turns c reported.run.body reported.run.last reported.run.leads
 
 -- two texts report as many turns, which end in one state, and the same rounds, in order: the same readings, survivors, losers and lines
-pub record IsOneRun (telling other : Telling) (end : ℕ) (c : Config) (x y : List ℕ) (s t : Totals) (p : IsRunText telling end c x s) (q : IsRunText other end c y t) : Type 0 where
+pub record IsOneRun (reporting other : Reporting) (end : ℕ) (c : Config) (x y : List ℕ) (s t : Totals) (p : IsRunText reporting end c x s) (q : IsRunText other end c y t) : Type 0 where
   pub totals : s ≡ t
   pub turns : p.run.turns ≡ q.run.turns
   pub last : p.run.last ≡ q.run.last
-  pub rounds : rounds_told telling end c x s p ≡ rounds_told other end c y t q
+  pub rounds : rounds_reported reporting end c x s p ≡ rounds_reported other end c y t q
 
 -- whatever is told of it, its trace or its line in some format, it is one run
 abbrev pub OneRun : Type 0
-OneRun = (telling other : Telling) (end : ℕ) (c : Config) (x y : List ℕ) (s t : Totals) → (p : IsRunText telling end c x s) → (q : IsRunText other end c y t)
-    → IsOneRun telling other end c x y s t p q
+OneRun = (reporting other : Reporting) (end : ℕ) (c : Config) (x y : List ℕ) (s t : Totals) → (p : IsRunText reporting end c x s) → (q : IsRunText other end c y t)
+    → IsOneRun reporting other end c x y s t p q
 
 -- ---- of texts
 
 abbrev pub rounds_of_trace : (topology script text : List ℕ) (totals : Totals) → IsTraceOf topology script text totals → List Outcome
 rounds_of_trace topology script text totals w =
-    rounds_told (Trace w.edid) w.course.end (start (first_net w.plan.tree w.course.pulses) w.course.events) text totals w.trace
+    rounds_reported (Trace w.edid) w.course.end (start (first_net w.plan.tree w.course.pulses) w.course.events) text totals w.trace
 
 abbrev pub rounds_of_line : (format : Format) (topology script text : List ℕ) (totals : Totals) → IsLineOf format topology script text totals → List Outcome
 rounds_of_line format topology script text totals w =
-    rounds_told (Line format) w.course.end (start (first_net w.plan.tree w.course.pulses) w.course.events) text totals w.line
+    rounds_reported (Line format) w.course.end (start (first_net w.plan.tree w.course.pulses) w.course.events) text totals w.line
 
 -- The trace and the line, in any format, of a topology and a script have the same counts, and tell the same rounds, in order.
 abbrev pub TextsHaveOneRun : Type 0
@@ -73,16 +73,16 @@ part_rounds (OfRound devices o) = o ∷ []
 -- a trace is made of these parts, one after another, between what the start and what the end reports; and these are its rounds
 pub record IsMadeOf (edid : Option Edid) (end : ℕ) (first last : NetState) (text : List ℕ) (os : List Outcome) : Type 0 where
   pub parts : List Part
-  pub whole : text ≡ start_told (Trace edid) first ++ (flat_map (part_text edid) parts ++ end_told (Trace edid) end last)
+  pub whole : text ≡ start_reported (Trace edid) first ++ (flat_map (part_text edid) parts ++ end_reported (Trace edid) end last)
   pub rounds : os ≡ flat_map part_rounds parts
 
 abbrev pub TracesHaveParts : Type 0
 TracesHaveParts = (edid : Option Edid) (end : ℕ) (c : Config) (text : List ℕ) (totals : Totals) → (p : IsTrace edid end c text totals)
-    → IsMadeOf edid end c.net p.run.last.net text (rounds_told (Trace edid) end c text totals p)
+    → IsMadeOf edid end c.net p.run.last.net text (rounds_reported (Trace edid) end c text totals p)
 
 -- ---- when it is over
 
 -- The last round closes at most 458,461 microseconds after the script's end.
 abbrev pub RunsCloseSoon : Type 0
-RunsCloseSoon = (telling : Telling) (tree : List Node) (pulses : List Stretch) (events : List TimedEvent) (end turns : ℕ) (text : List ℕ) (d : Config)
-    → AreSparse pulses → Leads telling end turns (start (first_net tree pulses) events) text d → d.net.close ≤ end + 458461
+RunsCloseSoon = (reporting : Reporting) (tree : List Node) (pulses : List Stretch) (events : List TimedEvent) (end turns : ℕ) (text : List ℕ) (d : Config)
+    → AreSparse pulses → Leads reporting end turns (start (first_net tree pulses) events) text d → d.net.close ≤ end + 458461

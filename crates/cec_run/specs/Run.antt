@@ -12,8 +12,8 @@ use Rattle.cec_event.specs.declared.event.EventError.{EventError}
 use Rattle.hdmi_core.specs.declared.sink.WriteFault.{WriteFault}
 use Rattle.cec_asm.specs.declared.script.TimedEvent.{TimedEvent}
 use Rattle.cec_run.specs.declared.run.Totals.{Totals}
-use Rattle.cec_run.specs.declared.run.Telling.{Telling}
-use Rattle.cec_run.specs.declared.run.Telling.TheVariants.{Trace, Line}
+use Rattle.cec_run.specs.declared.run.Reporting.{Reporting}
+use Rattle.cec_run.specs.declared.run.Reporting.TheVariants.{Trace, Line}
 use Rattle.cec_run.specs.declared.run.Turn.{Turn}
 use Rattle.cec_run.specs.declared.run.Turn.TheVariants.{Stop, Apply, Round}
 use Rattle.hdmi_blocks.specs.declared.edid.Edid.{Edid}
@@ -69,33 +69,33 @@ turn_at end c = turn_of end c.net (first_time c.events)
 -- ---- what is reported
 
 -- the EDID that ports pass on, where it is given, has an address
-abbrev pub HasAddressTold : Telling → Type 0
-HasAddressTold (Trace edid) = HasAddress edid
-HasAddressTold (Line format) = Unit {0}
+abbrev pub HasAddressReported : Reporting → Type 0
+HasAddressReported (Trace edid) = HasAddress edid
+HasAddressReported (Line format) = Unit {0}
 
 -- at the start: the port lines of the devices that are on the wire, or what stands first in a format
-abbrev pub start_told : Telling → NetState → List ℕ
-start_told (Trace edid) s = port_lines 0 edid (λ device. false) s.tree
-start_told (Line format) s = line_start format
+abbrev pub start_reported : Reporting → NetState → List ℕ
+start_reported (Trace edid) s = port_lines 0 edid (λ device. false) s.tree
+start_reported (Line format) s = line_start format
 
 -- an event's line, and after it the port lines of the devices that come onto the wire by it
 abbrev pub event_text : Option Edid → ℕ → TimedEvent → NetState → List ℕ
 event_text edid at e s = event_line at e.line (event_fault s e.event) ++ port_lines at edid (is_on_wire s.tree) (net_after at e.event s).tree
 
 -- of an event: its text, and nothing of the line
-abbrev pub event_told : Telling → ℕ → TimedEvent → NetState → List ℕ
-event_told (Trace edid) at e s = event_text edid at e s
-event_told (Line format) at e s = []
+abbrev pub event_reported : Reporting → ℕ → TimedEvent → NetState → List ℕ
+event_reported (Trace edid) at e s = event_text edid at e s
+event_reported (Line format) at e s = []
 
 -- of a round, by the devices after it: its line in the trace, or its wave in the format
-abbrev pub round_told : Telling → List State → Outcome → List ℕ
-round_told (Trace edid) devices o = round_line devices o
-round_told (Line format) devices o = line_round format o.wave
+abbrev pub round_reported : Reporting → List State → Outcome → List ℕ
+round_reported (Trace edid) devices o = round_line devices o
+round_reported (Line format) devices o = line_round format o.wave
 
 -- at the end: a state line for each device, and the end; or the end, but not before the last round has closed
-abbrev pub end_told : Telling → ℕ → NetState → List ℕ
-end_told (Trace edid) end s = flat_map state_line s.devices ++ end_line end
-end_told (Line format) end s = line_end format (max end s.close)
+abbrev pub end_reported : Reporting → ℕ → NetState → List ℕ
+end_reported (Trace edid) end s = flat_map state_line s.devices ++ end_line end
+end_reported (Line format) end s = line_end format (max end s.close)
 
 -- ---- one turn, and what it reports
 
@@ -107,55 +107,55 @@ abbrev pub counted_round : Bool → Totals → Totals
 counted_round true t = record t { rounds = t.rounds + 1; complete = t.complete + 1 }
 counted_round false t = record t { rounds = t.rounds + 1 }
 
-abbrev pub IsEventTurn : Telling → ℕ → List TimedEvent → Config → List ℕ → Config → Type 0
-IsEventTurn telling at [] c text d = (text ≡ []) × (d ≡ c)
-IsEventTurn telling at (e ∷ events) c text d =
-    (text ≡ event_told telling at e c.net)
+abbrev pub IsEventTurn : Reporting → ℕ → List TimedEvent → Config → List ℕ → Config → Type 0
+IsEventTurn reporting at [] c text d = (text ≡ []) × (d ≡ c)
+IsEventTurn reporting at (e ∷ events) c text d =
+    (text ≡ event_reported reporting at e c.net)
     × (d ≡ record { net = net_after at e.event c.net; events = events; totals = counted_event (event_fault c.net e.event) c.totals })
 
 -- the round begins then, gives some outcome, and its text says that outcome
-pub record IsRoundTurn (telling : Telling) (begin : ℕ) (before : NetState) (t : Totals) (text : List ℕ) (after : NetState) (u : Totals) : Type 0 where
+pub record IsRoundTurn (reporting : Reporting) (begin : ℕ) (before : NetState) (t : Totals) (text : List ℕ) (after : NetState) (u : Totals) : Type 0 where
   pub outcome : Outcome
   pub wave : IsWave outcome.wave
   pub next : IsNextRound before begin outcome after
-  pub told : text ≡ round_told telling after.devices outcome
+  pub reported : text ≡ round_reported reporting after.devices outcome
   pub totals : u ≡ counted_round (is_complete outcome.reading.ending) t
 
-abbrev pub IsTurnBy : Telling → Turn → Config → List ℕ → Config → Type 0
-IsTurnBy telling Stop c text d = ⊥
-IsTurnBy telling (Apply at) c text d = IsEventTurn telling at c.events c text d
-IsTurnBy telling (Round begin) c text d = IsRoundTurn telling begin c.net c.totals text d.net d.totals × (d.events ≡ c.events)
+abbrev pub IsTurnBy : Reporting → Turn → Config → List ℕ → Config → Type 0
+IsTurnBy reporting Stop c text d = ⊥
+IsTurnBy reporting (Apply at) c text d = IsEventTurn reporting at c.events c text d
+IsTurnBy reporting (Round begin) c text d = IsRoundTurn reporting begin c.net c.totals text d.net d.totals × (d.events ≡ c.events)
 
-abbrev pub IsTurn : Telling → ℕ → Config → List ℕ → Config → Type 0
-IsTurn telling end c text d = IsTurnBy telling (turn_at end c) c text d
+abbrev pub IsTurn : Reporting → ℕ → Config → List ℕ → Config → Type 0
+IsTurn reporting end c text d = IsTurnBy reporting (turn_at end c) c text d
 
 -- ---- the whole run
 
 -- one turn after another, and their texts one after another
-abbrev pub Leads : Telling → ℕ → ℕ → Config → List ℕ → Config → Type 0
-Leads telling end zero c text d = (text ≡ []) × (d ≡ c)
-Leads telling end (suc turns) c text d =
-    (mid : Config) × (told : List ℕ) × (rest : List ℕ) × IsTurn telling end c told mid × Leads telling end turns mid rest d × (text ≡ told ++ rest)
+abbrev pub Leads : Reporting → ℕ → ℕ → Config → List ℕ → Config → Type 0
+Leads reporting end zero c text d = (text ≡ []) × (d ≡ c)
+Leads reporting end (suc turns) c text d =
+    (mid : Config) × (reported : List ℕ) × (rest : List ℕ) × IsTurn reporting end c reported mid × Leads reporting end turns mid rest d × (text ≡ reported ++ rest)
 
 -- what the turns up to where the run stops tell, and what the end reports
-pub record IsRunTextFrom (telling : Telling) (end : ℕ) (c : Config) (text : List ℕ) (totals : Totals) : Type 0 where
+pub record IsRunTextFrom (reporting : Reporting) (end : ℕ) (c : Config) (text : List ℕ) (totals : Totals) : Type 0 where
   pub turns : ℕ
   pub last : Config
   pub body : List ℕ
-  pub leads : Leads telling end turns c body last
+  pub leads : Leads reporting end turns c body last
   pub stops : turn_at end last ≡ Stop
-  pub whole : text ≡ body ++ end_told telling end last.net
+  pub whole : text ≡ body ++ end_reported reporting end last.net
   pub counts : totals ≡ last.totals
 
 -- what the start reports, and then that
-pub record IsRunText (telling : Telling) (end : ℕ) (c : Config) (text : List ℕ) (totals : Totals) : Type 0 where
+pub record IsRunText (reporting : Reporting) (end : ℕ) (c : Config) (text : List ℕ) (totals : Totals) : Type 0 where
   pub rest : List ℕ
-  pub run : IsRunTextFrom telling end c rest totals
-  pub whole : text ≡ start_told telling c.net ++ rest
+  pub run : IsRunTextFrom reporting end c rest totals
+  pub whole : text ≡ start_reported reporting c.net ++ rest
 
 -- a run writes one text
 abbrev pub OneRunText : Type 0
-OneRunText = (telling : Telling) (end : ℕ) (c : Config) (x y : List ℕ) (s t : Totals) → IsRunText telling end c x s → IsRunText telling end c y t → (x ≡ y) × (s ≡ t)
+OneRunText = (reporting : Reporting) (end : ℕ) (c : Config) (x y : List ℕ) (s t : Totals) → IsRunText reporting end c x s → IsRunText reporting end c y t → (x ≡ y) × (s ≡ t)
 
 -- its trace: the port lines of the devices on the wire at the start, the lines of events, ports and rounds, a state line for
 -- each device, and the end
@@ -167,19 +167,19 @@ abbrev pub OneTrace : Type 0
 OneTrace = (edid : Option Edid) (end : ℕ) (c : Config) (x y : List ℕ) (s t : Totals) → IsTrace edid end c x s → IsTrace edid end c y t → (x ≡ y) × (s ≡ t)
 
 -- a round was run from one state to the next, and what it reports was written
-pub record RoundWritten (telling : Telling) (before after : NetState) (t u : Totals) (old new : Option (List ℕ)) (was is : Bool) (result : Result ℕ WriteFault) : Type 0 where
+pub record RoundWritten (reporting : Reporting) (before after : NetState) (t u : Totals) (old new : Option (List ℕ)) (was is : Bool) (result : Result ℕ WriteFault) : Type 0 where
   pub begin : ℕ
   pub text : List ℕ
   pub begins : next_start before ≡ Some begin
-  pub turn : IsRoundTurn telling begin before t text after u
+  pub turn : IsRoundTurn reporting begin before t text after u
   pub progress : IsProgress before begin after
   pub written : WrittenText old new was is text result
 
 -- the same, where it was added to a text of which so many bytes had been written
-pub record RoundAdded (telling : Telling) (before after : NetState) (t u : Totals) (old new : Option (List ℕ)) (was is : Bool) (given taken : ℕ) (result : Result (Unit {0}) WriteFault) : Type 0 where
+pub record RoundAdded (reporting : Reporting) (before after : NetState) (t u : Totals) (old new : Option (List ℕ)) (was is : Bool) (given taken : ℕ) (result : Result (Unit {0}) WriteFault) : Type 0 where
   pub begin : ℕ
   pub text : List ℕ
   pub begins : next_start before ≡ Some begin
-  pub turn : IsRoundTurn telling begin before t text after u
+  pub turn : IsRoundTurn reporting begin before t text after u
   pub progress : IsProgress before begin after
   pub added : Adds old new was is given taken text result

@@ -1,7 +1,7 @@
 //! From the texts of a topology and a script to the edges of their run.
 ghost use Rattle.std.specs.Prelude.{◌≡◌, ℕ, List, ◌↔◌, true, false, IfOk, IfErr, IsTrue};
 ghost use Rattle.std.specs.Io.KnownBytes.{Appends};
-ghost use Rattle.cec_run.specs.Emulate.{IsEdgeTraceOf, IsTold, IsEdgeCut, is_write};
+ghost use Rattle.cec_run.specs.Emulate.{IsEdgeTraceOf, IsReported, IsEdgeCut, is_write};
 
 use crate::emulate::EmulateError;
 use crate::line::emulate_line;
@@ -24,7 +24,7 @@ pub fn emulate_edges<S: Sink>(
     out: &mut S,
 ) -> Result<Totals, EmulateError>
     ensures ok { IfOk result (λ totals. (text : List ℕ) × IsEdgeTraceOf topology.now script.now text totals × Appends (S.contents out.old) (S.contents out.new) text) }
-    ensures told { IfErr result (IsTold topology.now script.now) }
+    ensures reported { IfErr result (IsReported topology.now script.now) }
     ensures write { S.is_stuck out.old ≡ false → (IsTrue (is_write result) ↔ IsTrue (S.is_stuck out.new)) }
     ensures cut { IfErr result (IsEdgeCut topology.now script.now (S.contents out.old) (S.contents out.new)) }
 {

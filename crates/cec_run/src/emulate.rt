@@ -1,10 +1,10 @@
 //! From the texts of a topology and a script to the trace of their run.
 ghost use Rattle.std.specs.Prelude.{◌≡◌, ℕ, List, ◌↔◌, true, false, IfOk, IfErr, IsTrue, option_map};
 ghost use Rattle.std.specs.Io.KnownBytes.{Appends};
-ghost use Rattle.cec_run.specs.declared.run.Telling.TheVariants.{Trace};
-ghost use Rattle.cec_run.specs.Emulate.{IsTraceOf, IsTold, IsCut, is_write};
+ghost use Rattle.cec_run.specs.declared.run.Reporting.TheVariants.{Trace};
+ghost use Rattle.cec_run.specs.Emulate.{IsTraceOf, IsReported, IsCut, is_write};
 
-use crate::run::{Telling, Totals, run, started_net};
+use crate::run::{Reporting, Totals, run, started_net};
 use cec_asm::{
     ScriptCause, ScriptError, TopologyCause, TopologyError, parse_script, parse_topology,
 };
@@ -43,9 +43,9 @@ pub enum EmulateError {
 
 impl From<TopologyError> for EmulateError {
     ghost use Rattle.std.specs.Prelude.{◌≡◌};
-    ghost use Rattle.cec_run.specs.Emulate.{topology_told};
+    ghost use Rattle.cec_run.specs.Emulate.{topology_reported};
 
-    ghost from_gives = { λ t e. e ≡ topology_told t };
+    ghost from_gives = { λ t e. e ≡ topology_reported t };
 
     fn from(error: TopologyError) -> EmulateError {
         match error {
@@ -57,9 +57,9 @@ impl From<TopologyError> for EmulateError {
 
 impl From<ScriptError> for EmulateError {
     ghost use Rattle.std.specs.Prelude.{◌≡◌};
-    ghost use Rattle.cec_run.specs.Emulate.{script_told};
+    ghost use Rattle.cec_run.specs.Emulate.{script_reported};
 
-    ghost from_gives = { λ t e. e ≡ script_told t };
+    ghost from_gives = { λ t e. e ≡ script_reported t };
 
     fn from(error: ScriptError) -> EmulateError {
         match error {
@@ -82,9 +82,9 @@ impl From<EdidCause> for EmulateError {
 
 impl From<RootError> for EmulateError {
     ghost use Rattle.std.specs.Prelude.{◌≡◌};
-    ghost use Rattle.cec_run.specs.Emulate.{root_told};
+    ghost use Rattle.cec_run.specs.Emulate.{root_reported};
 
-    ghost from_gives = { λ r e. e ≡ root_told r };
+    ghost from_gives = { λ r e. e ≡ root_reported r };
 
     fn from(error: RootError) -> EmulateError {
         match error {
@@ -96,14 +96,14 @@ impl From<RootError> for EmulateError {
 
 // That a trace is written with this EDID, on the heap: it is large.
 #[inline(never)]
-fn trace_with(alloc: Global, edid: Option<Box<Edid>>) -> Result<Box<Telling>, AllocError>
-    ensures { IfOk result (λ telling. telling.value ≡ Trace (option_map (λ b. b.value) edid)) }
+fn trace_with(alloc: Global, edid: Option<Box<Edid>>) -> Result<Box<Reporting>, AllocError>
+    ensures { IfOk result (λ reporting. reporting.value ≡ Trace (option_map (λ b. b.value) edid)) }
 {
-    let telling = match edid {
-        None => Box::new(alloc, Telling::Trace(None))?,
-        Some(edid) => Box::new(alloc, Telling::Trace(Some(Box::into_inner(edid))))?,
+    let reporting = match edid {
+        None => Box::new(alloc, Reporting::Trace(None))?,
+        Some(edid) => Box::new(alloc, Reporting::Trace(Some(Box::into_inner(edid))))?,
     };
-    Ok(telling)
+    Ok(reporting)
 }
 
 /// Runs a script on a topology, and writes the trace of the run: the bytes of that trace and nothing else.
@@ -122,20 +122,20 @@ pub fn emulate<S: Sink>(
     out: &mut S,
 ) -> Result<Totals, EmulateError>
     ensures ok { IfOk result (λ totals. (text : List ℕ) × IsTraceOf topology.now script.now text totals × Appends (S.contents out.old) (S.contents out.new) text) }
-    ensures told { IfErr result (IsTold topology.now script.now) }
+    ensures reported { IfErr result (IsReported topology.now script.now) }
     ensures write { S.is_stuck out.old ≡ false → (IsTrue (is_write result) ↔ IsTrue (S.is_stuck out.new)) }
     ensures cut { IfErr result (IsCut topology.now script.now (S.contents out.old) (S.contents out.new)) }
 {
     let topology = parse_topology(alloc, topology)?;
     let script = parse_script(alloc, &topology, script)?;
     let edid = root_on_heap(alloc, &topology.edid)?;
-    let Ok(telling) = trace_with(alloc, edid) else {
+    let Ok(reporting) = trace_with(alloc, edid) else {
         return Err(EmulateError::Memory);
     };
     let Ok(mut net) = started_net(alloc, topology.tree, &script) else {
         return Err(EmulateError::Memory);
     };
-    match run(out, &mut net, &telling, &script.events, script.end) {
+    match run(out, &mut net, &reporting, &script.events, script.end) {
         Ok(totals) => Ok(totals),
         Err(fault) => Err(EmulateError::Write(fault.count)),
     }

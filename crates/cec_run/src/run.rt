@@ -14,7 +14,7 @@ ghost use Rattle.cec_trace.specs.StateText.{state_line};
 ghost use Rattle.cec_text.specs.ReadingText.{is_complete};
 ghost use Rattle.cec_trace.specs.TraceText.{event_line, end_line};
 ghost use Rattle.hdmi_blocks.specs.Root.{HasAddress};
-ghost use Rattle.cec_run.specs.Run.{HasAddressTold, IsRunText, IsRunTextFrom, RoundAdded, counted_event, counted_round, end_told, event_text, event_told, event_turn, first_time, round_told, round_turn, start, start_told, turn_of};
+ghost use Rattle.cec_run.specs.Run.{HasAddressReported, IsRunText, IsRunTextFrom, RoundAdded, counted_event, counted_round, end_reported, event_text, event_reported, event_turn, first_time, round_reported, round_turn, start, start_reported, turn_of};
 
 use cec_asm::{Script, TimedEvent};
 use cec_device::Device;
@@ -44,7 +44,7 @@ pub struct Totals {
 
 /// What a run writes.
 #[derive(Drop)]
-pub enum Telling {
+pub enum Reporting {
     /// Its trace, with the EDID that ports pass on, where it is given.
     Trace(Option<Edid>),
     /// Its line, in a format.
@@ -197,27 +197,27 @@ pub fn apply_event<S: Sink, W>(
 }
 
 // Applies an event, and writes what is reported of it.
-fn apply_told<S: Sink, W>(
+fn apply_reported<S: Sink, W>(
     out: &mut S,
     written: &mut u128,
     net: &mut Net<W>,
-    telling: &Telling,
+    reporting: &Reporting,
     totals: &mut Totals,
     at: u64,
     event: &TimedEvent,
 ) -> Result<(), WriteFault>
-    requires addressed { HasAddressTold telling.now }
+    requires addressed { HasAddressReported reporting.now }
     requires early { at ≤ latest_instant }
     requires known { NamesDevices (length net.old.tree) event.now.event }
     requires room { totals.old.refused < 18446744073709551615 }
     ensures net { net.new ≡ net_after at event.now.event net.old }
     ensures totals { totals.new ≡ counted_event (event_fault net.old event.now.event) totals.old }
     ensures text { Adds (S.contents out.old) (S.contents out.new) (S.is_stuck out.old) (S.is_stuck out.new) written.old written.new
-        (event_told telling.now at event.now net.old) result }
+        (event_reported reporting.now at event.now net.old) result }
 {
-    match telling {
-        Telling::Trace(edid) => add_event(out, written, net, edid, totals, at, event),
-        Telling::Line(_) => {
+    match reporting {
+        Reporting::Trace(edid) => add_event(out, written, net, edid, totals, at, event),
+        Reporting::Line(_) => {
             let _refused = apply_counted(net, totals, at, event);
             Ok(())
         }
@@ -244,19 +244,19 @@ fn counted_round(totals: Totals, ending: Ending) -> Totals
 }
 
 // Writes what is reported of a round.
-fn write_round_told<S: Sink>(
+fn write_round_reported<S: Sink>(
     out: &mut S,
     written: &mut u128,
-    telling: &Telling,
+    reporting: &Reporting,
     devices: &[Device<16>],
     outcome: &Outcome,
 ) -> Result<(), WriteFault>
     ensures { Adds (S.contents out.old) (S.contents out.new) (S.is_stuck out.old) (S.is_stuck out.new) written.old written.new
-        (round_told telling.now devices.now outcome.now) result }
+        (round_reported reporting.now devices.now outcome.now) result }
 {
-    match telling {
-        Telling::Trace(_) => add_part(written, write_round(out, devices, outcome)),
-        Telling::Line(format) => {
+    match reporting {
+        Reporting::Trace(_) => add_part(written, write_round(out, devices, outcome)),
+        Reporting::Line(format) => {
             cec_line::write_round(out, written, *format, outcome.wave.as_slice())
         }
     }
@@ -267,7 +267,7 @@ fn run_round<S: Sink, W: Wire>(
     out: &mut S,
     written: &mut u128,
     net: &mut Net<W>,
-    telling: &Telling,
+    reporting: &Reporting,
     totals: &mut Totals,
     begin: u64,
 ) -> Result<(), WriteFault>
@@ -275,12 +275,12 @@ fn run_round<S: Sink, W: Wire>(
     requires early { net.old.close ≤ latest_instant }
     requires room { totals.old.rounds < 18446744073709551615 }
     requires less { totals.old.complete ≤ totals.old.rounds }
-    ensures { RoundAdded telling.now net.old net.new totals.old totals.new (S.contents out.old) (S.contents out.new) (S.is_stuck out.old) (S.is_stuck out.new) written.old written.new result }
+    ensures { RoundAdded reporting.now net.old net.new totals.old totals.new (S.contents out.old) (S.contents out.new) (S.is_stuck out.old) (S.is_stuck out.new) written.old written.new result }
 {
     let outcome = net.round_at(begin);
     *totals = counted_round(*totals, outcome.reading.ending);
     let _stretches = outcome.wave.as_slice();
-    write_round_told(out, written, telling, net.devices(), &outcome)
+    write_round_reported(out, written, reporting, net.devices(), &outcome)
 }
 
 // Writes the state line of a device.
@@ -329,34 +329,34 @@ fn write_last_lines<S: Sink>(
 }
 
 // Writes what is reported at the start.
-fn write_start_told<S: Sink, W>(
+fn write_start_reported<S: Sink, W>(
     out: &mut S,
     written: &mut u128,
-    telling: &Telling,
+    reporting: &Reporting,
     net: &Net<W>,
 ) -> Result<(), WriteFault>
-    requires { HasAddressTold telling.now }
-    ensures { Adds (S.contents out.old) (S.contents out.new) (S.is_stuck out.old) (S.is_stuck out.new) written.old written.new (start_told telling.now net.now) result }
+    requires { HasAddressReported reporting.now }
+    ensures { Adds (S.contents out.old) (S.contents out.new) (S.is_stuck out.old) (S.is_stuck out.new) written.old written.new (start_reported reporting.now net.now) result }
 {
-    match telling {
-        Telling::Trace(edid) => add_ports(out, written, 0, edid, net.tree(), &[]),
-        Telling::Line(format) => cec_line::write_start(out, written, *format),
+    match reporting {
+        Reporting::Trace(edid) => add_ports(out, written, 0, edid, net.tree(), &[]),
+        Reporting::Line(format) => cec_line::write_start(out, written, *format),
     }
 }
 
 // Writes what is reported at the end.
-fn write_end_told<S: Sink, W>(
+fn write_end_reported<S: Sink, W>(
     out: &mut S,
     written: &mut u128,
-    telling: &Telling,
+    reporting: &Reporting,
     net: &Net<W>,
     end: u64,
 ) -> Result<(), WriteFault>
-    ensures { Adds (S.contents out.old) (S.contents out.new) (S.is_stuck out.old) (S.is_stuck out.new) written.old written.new (end_told telling.now end net.now) result }
+    ensures { Adds (S.contents out.old) (S.contents out.new) (S.is_stuck out.old) (S.is_stuck out.new) written.old written.new (end_reported reporting.now end net.now) result }
 {
-    match telling {
-        Telling::Trace(_) => write_last_lines(out, written, net.devices(), end),
-        Telling::Line(format) => cec_line::write_end(out, written, *format, end.max(net.close())),
+    match reporting {
+        Reporting::Trace(_) => write_last_lines(out, written, net.devices(), end),
+        Reporting::Line(format) => cec_line::write_end(out, written, *format, end.max(net.close())),
     }
 }
 
@@ -365,17 +365,17 @@ fn run_turns<S: Sink, W: Wire>(
     out: &mut S,
     written: &mut u128,
     net: &mut Net<W>,
-    telling: &Telling,
+    reporting: &Reporting,
     events: &[TimedEvent],
     end: u64,
 ) -> Result<Totals, WriteFault>
-    requires addressed { HasAddressTold telling.now }
+    requires addressed { HasAddressReported reporting.now }
     requires early { end ≤ latest_event }
     requires fresh { (net.old.close ≤ latest_event) × (net.old.rest ≤ latest_event) }
     requires schedule { IsSchedule (length net.old.tree) end 0 events.now }
-    ensures ok { IfOk result (λ totals. (text : List ℕ) × IsRunTextFrom telling.now end (start net.old events.now) text totals × Appends (S.contents out.old) (S.contents out.new) text) }
+    ensures ok { IfOk result (λ totals. (text : List ℕ) × IsRunTextFrom reporting.now end (start net.old events.now) text totals × Appends (S.contents out.old) (S.contents out.new) text) }
     ensures same { OnOk result (S.is_stuck out.new ≡ S.is_stuck out.old) }
-    ensures cut { IfErr result (λ fault. (text : List ℕ) (totals : TotalsRecord) → IsRunTextFrom telling.now end (start net.old events.now) text totals
+    ensures cut { IfErr result (λ fault. (text : List ℕ) (totals : TotalsRecord) → IsRunTextFrom reporting.now end (start net.old events.now) text totals
         → AddsFront (S.contents out.old) (S.contents out.new) written.old text fault) }
     ensures stuck { OnErr result (S.is_stuck out.new ≡ true) }
 {
@@ -388,13 +388,13 @@ fn run_turns<S: Sink, W: Wire>(
                 let Some((event, others)) = rest.split_first() else {
                     unreachable!();
                 };
-                apply_told(out, written, net, telling, &mut totals, at, event)?;
+                apply_reported(out, written, net, reporting, &mut totals, at, event)?;
                 rest = others;
             }
-            Turn::Round(begin) => run_round(out, written, net, telling, &mut totals, begin)?,
+            Turn::Round(begin) => run_round(out, written, net, reporting, &mut totals, begin)?,
         }
     }
-    write_end_told(out, written, telling, net, end)?;
+    write_end_reported(out, written, reporting, net, end)?;
     Ok(totals)
 }
 
@@ -425,21 +425,21 @@ pub fn started_net(
 pub fn run<S: Sink, W: Wire>(
     out: &mut S,
     net: &mut Net<W>,
-    telling: &Telling,
+    reporting: &Reporting,
     events: &[TimedEvent],
     end: u64,
 ) -> Result<Totals, WriteFault>
-    requires addressed { HasAddressTold telling.now }
+    requires addressed { HasAddressReported reporting.now }
     requires early { end ≤ latest_event }
     requires fresh { (net.old.close ≤ latest_event) × (net.old.rest ≤ latest_event) }
     requires schedule { IsSchedule (length net.old.tree) end 0 events.now }
-    ensures ok { IfOk result (λ totals. (text : List ℕ) × IsRunText telling.now end (start net.old events.now) text totals × Appends (S.contents out.old) (S.contents out.new) text) }
+    ensures ok { IfOk result (λ totals. (text : List ℕ) × IsRunText reporting.now end (start net.old events.now) text totals × Appends (S.contents out.old) (S.contents out.new) text) }
     ensures same { OnOk result (S.is_stuck out.new ≡ S.is_stuck out.old) }
-    ensures cut { IfErr result (λ fault. (text : List ℕ) (totals : TotalsRecord) → IsRunText telling.now end (start net.old events.now) text totals
+    ensures cut { IfErr result (λ fault. (text : List ℕ) (totals : TotalsRecord) → IsRunText reporting.now end (start net.old events.now) text totals
         → CutOff (S.contents out.old) (S.contents out.new) text fault) }
     ensures stuck { OnErr result (S.is_stuck out.new ≡ true) }
 {
     let mut written = 0;
-    write_start_told(out, &mut written, telling, net)?;
-    run_turns(out, &mut written, net, telling, events, end)
+    write_start_reported(out, &mut written, reporting, net)?;
+    run_turns(out, &mut written, net, reporting, events, end)
 }

@@ -5,8 +5,8 @@ use Rattle.cec_device.specs.State.{State}
 use Rattle.cec_trace.specs.StateText.{state_line}
 use Rattle.hdmi_core.specs.Cut.{CutOff, WrittenText}
 use Rattle.hdmi_core.proofs.Cutting.{cut_front}
-use Rattle.cec_run.specs.declared.run.Telling.TheVariants.{Trace}
-use Rattle.cec_run.specs.Run.{Config, end_told}
+use Rattle.cec_run.specs.declared.run.Reporting.TheVariants.{Trace}
+use Rattle.cec_run.specs.Run.{Config, end_reported}
 use Rattle.cec_session.specs.declared.live.Step.{Step}
 use Rattle.cec_session.specs.declared.live.Step.TheVariants.{Refuse, Idle, Go, Finish, Show}
 use Rattle.cec_session.specs.Turns.{Goes}
@@ -17,18 +17,18 @@ use Rattle.cec_session.proofs.Going.{goes_one}
 -- the text after what is reported, by where the session then stands
 abbrev IsWhole : Bool → (Session → List ℕ) → Session → Session → Option (List ℕ) → Option (List ℕ) → Bool → Bool → Result ℕ WriteFault → Type 0
 IsWhole ended tail s t old new was is (Ok count) =
-    (told : List ℕ) × (place : Config) × Goes s.edid ended s.horizon s.place told place × (t ≡ record s { place = place }) × WrittenText old new was is (told ++ tail t) (Ok count)
+    (reported : List ℕ) × (place : Config) × Goes s.edid ended s.horizon s.place reported place × (t ≡ record s { place = place }) × WrittenText old new was is (reported ++ tail t) (Ok count)
 IsWhole ended tail s t old new was is (Err fault) =
-    ((told : List ℕ) (place : Config) → Goes s.edid ended s.horizon s.place told place → CutOff old new (told ++ tail (record s { place = place })) fault) × (is ≡ true)
+    ((reported : List ℕ) (place : Config) → Goes s.edid ended s.horizon s.place reported place → CutOff old new (reported ++ tail (record s { place = place })) fault) × (is ≡ true)
 
 -- what was reported was written, and the tail after it whole or not
-pub whole_is : (ended : Bool) (tail : Session → List ℕ) (s t : Session) (old new : Option (List ℕ)) (was is : Bool) (told : List ℕ) (place : Config) (result : Result ℕ WriteFault)
-    → Goes s.edid ended s.horizon s.place told place → t ≡ record s { place = place } → WrittenText old new was is (told ++ tail t) result → IsWhole ended tail s t old new was is result
-whole_is ended tail s t old new was is told place (Ok count) goes same w = (told, place, goes, same, w)
-whole_is ended tail s t old new was is told place (Err fault) goes same w = (
+pub whole_is : (ended : Bool) (tail : Session → List ℕ) (s t : Session) (old new : Option (List ℕ)) (was is : Bool) (reported : List ℕ) (place : Config) (result : Result ℕ WriteFault)
+    → Goes s.edid ended s.horizon s.place reported place → t ≡ record s { place = place } → WrittenText old new was is (reported ++ tail t) result → IsWhole ended tail s t old new was is result
+whole_is ended tail s t old new was is reported place (Ok count) goes same w = (reported, place, goes, same, w)
+whole_is ended tail s t old new was is reported place (Err fault) goes same w = (
   λ other there due.
-      let one = goes_one s.edid ended s.horizon s.place place there told other goes due in
-      let text : told ++ tail t ≡ other ++ tail (record s { place = there }) =
+      let one = goes_one s.edid ended s.horizon s.place place there reported other goes due in
+      let text : reported ++ tail t ≡ other ++ tail (record s { place = there }) =
       ap (λ (xs : List ℕ). xs ++ tail t) one.0 ∙ ap (λ (u : Session). other ++ tail u) (same ∙ ap (λ (p : Config). let u : Session = record s { place = p } in u) one.1) in
       subst (λ (xs : List ℕ). CutOff old new xs fault) text w.0,
   w.1,
@@ -36,9 +36,9 @@ whole_is ended tail s t old new was is told place (Err fault) goes same w = (
 
 -- what is reported was cut off
 pub whole_cut : (ended : Bool) (tail : Session → List ℕ) (s t : Session) (old new : Option (List ℕ)) (was is : Bool) (fault : WriteFault)
-    → ((told : List ℕ) (place : Config) → Goes s.edid ended s.horizon s.place told place → CutOff old new told fault) × (is ≡ true) → IsWhole ended tail s t old new was is (Err fault)
+    → ((reported : List ℕ) (place : Config) → Goes s.edid ended s.horizon s.place reported place → CutOff old new reported fault) × (is ≡ true) → IsWhole ended tail s t old new was is (Err fault)
 whole_cut ended tail s t old new was is fault cut = (
-  λ told place goes. cut_front old new told (tail (record s { place = place })) fault (cut.0 told place goes),
+  λ reported place goes. cut_front old new reported (tail (record s { place = place })) fault (cut.0 reported place goes),
   cut.1,
 )
 
@@ -46,24 +46,24 @@ abbrev pub taken_tail : Session → List ℕ
 taken_tail s = taken_line s.horizon
 
 abbrev pub end_tail : Session → List ℕ
-end_tail s = end_told (Trace s.edid) s.horizon s.place.net ++ taken_line s.horizon
+end_tail s = end_reported (Trace s.edid) s.horizon s.place.net ++ taken_line s.horizon
 
 pub go_answered : (s t : Session) (old new : Option (List ℕ)) (was is : Bool) (result : Result ℕ WriteFault) → IsWhole false taken_tail s t old new was is result → IsAnswered Go s t old new was is result
-go_answered s t old new was is (Ok count) (told, place, goes, same, w) =
-    let text : told ++ taken_tail t ≡ told ++ taken_line s.horizon = ap (λ (u : Session). told ++ taken_tail u) same in
+go_answered s t old new was is (Ok count) (reported, place, goes, same, w) =
+    let text : reported ++ taken_tail t ≡ reported ++ taken_line s.horizon = ap (λ (u : Session). reported ++ taken_tail u) same in
     let here = subst (λ (xs : List ℕ). WrittenText old new was is xs (Ok count)) text w in
-    (told ++ taken_line s.horizon, (told, place, goes, refl, same), here.0, here.1, here.2)
+    (reported ++ taken_line s.horizon, (reported, place, goes, refl, same), here.0, here.1, here.2)
 go_answered s t old new was is (Err fault) w = (
   λ text after due. subst (λ (xs : List ℕ). CutOff old new xs fault) (sym due.3) (w.0 due.0 due.1 due.2),
   w.1,
 )
 
 pub finish_answered : (s t : Session) (old new : Option (List ℕ)) (was is : Bool) (result : Result ℕ WriteFault) → IsWhole true end_tail s t old new was is result → IsAnswered Finish s t old new was is result
-finish_answered s t old new was is (Ok count) (told, place, goes, same, w) =
+finish_answered s t old new was is (Ok count) (reported, place, goes, same, w) =
     let tail = end_tail (record s { place = place }) in
-    let text : told ++ end_tail t ≡ told ++ tail = ap (λ (u : Session). told ++ end_tail u) same in
+    let text : reported ++ end_tail t ≡ reported ++ tail = ap (λ (u : Session). reported ++ end_tail u) same in
     let here = subst (λ (xs : List ℕ). WrittenText old new was is xs (Ok count)) text w in
-    (told ++ tail, (told, place, goes, refl, same), here.0, here.1, here.2)
+    (reported ++ tail, (reported, place, goes, refl, same), here.0, here.1, here.2)
 finish_answered s t old new was is (Err fault) w = (
   λ text after due. subst (λ (xs : List ℕ). CutOff old new xs fault) (sym due.3) (w.0 due.0 due.1 due.2),
   w.1,
@@ -96,5 +96,5 @@ due_one Go s t u text other a b =
     a.3 ∙ ap (λ (xs : List ℕ). xs ++ taken_line s.horizon) one.0 ∙ sym b.3
 due_one Finish s t u text other a b =
     let one = goes_one s.edid true s.horizon s.place a.1 b.1 a.0 b.0 a.2 b.2 in
-    let tail : Config → List ℕ = λ p. end_told (Trace s.edid) s.horizon p.net ++ taken_line s.horizon in
+    let tail : Config → List ℕ = λ p. end_reported (Trace s.edid) s.horizon p.net ++ taken_line s.horizon in
     a.3 ∙ ap (λ (xs : List ℕ). xs ++ tail a.1) one.0 ∙ ap (λ (p : Config). b.0 ++ tail p) one.1 ∙ sym b.3

@@ -8,9 +8,9 @@ use Rattle.cec_asm.specs.declared.script.TimedEvent.{TimedEvent}
 use Rattle.cec_event.specs.declared.event.EventError.{EventError}
 use Rattle.cec_net.specs.State.{NetState}
 use Rattle.cec_net.specs.Apply.{net_after, event_fault}
-use Rattle.hdmi_core.specs.Cut.{CutOff, told_count}
-use Rattle.hdmi_core.proofs.Cutting.{told_parts, cut_again}
-use Rattle.cec_run.specs.declared.run.Telling.TheVariants.{Trace}
+use Rattle.hdmi_core.specs.Cut.{CutOff, reported_count}
+use Rattle.hdmi_core.proofs.Cutting.{reported_parts, cut_again}
+use Rattle.cec_run.specs.declared.run.Reporting.TheVariants.{Trace}
 use Rattle.cec_run.specs.declared.run.Totals.{Totals}
 use Rattle.cec_run.specs.declared.run.Turn.TheVariants.{Stop, Apply, Round}
 use Rattle.cec_run.specs.Run.{Config, turn_at, turn_of, first_time, counted_event, event_text, IsTurn, IsRoundTurn, RoundWritten}
@@ -21,19 +21,19 @@ use Rattle.causal_laws.proofs.Before.{NoTurn, all_begin, ends, held_ends, one_mo
 use Rattle.cec_asm.specs.Script.{IsSchedule}
 use Rattle.cec_session.specs.Session.{Session}
 use Rattle.cec_session.specs.Taken.{IsGone}
-use Rattle.cec_session.specs.Turns.{IsTold, IsLast, IsLate, IsSoon, IsRoundTaken, Goes}
+use Rattle.cec_session.specs.Turns.{IsReported, IsLast, IsLate, IsSoon, IsRoundTaken, Goes}
 
 -- ---- no turn is reported after the last
 
-pub no_more : (edid : Option Edid) (ended : Bool) (until : ℕ) (c : Config) → IsLast ended until c → NoTurn (IsTold ended until) (Trace edid) until c
+pub no_more : (edid : Option Edid) (ended : Bool) (until : ℕ) (c : Config) → IsLast ended until c → NoTurn (IsReported ended until) (Trace edid) until c
 no_more edid false until c last = held_ends (Trace edid) until c last
 no_more edid true until c last = λ line d turn over. no_turn (Trace edid) until c line d last turn
 
 -- so what is reported is one text
 pub goes_one : (edid : Option Edid) (ended : Bool) (until : ℕ) (c d e : Config) (text other : List ℕ) → Goes edid ended until c text d → Goes edid ended until c other e → (text ≡ other) × (d ≡ e)
 goes_one edid ended until c d e text other a b =
-    let go = all_begin (IsTold ended until) (Trace edid) until a.turns b.turns c d e text other a.leads b.leads (no_more edid ended until e b.last) in
-    let end = ends (IsTold ended until) (Trace edid) until go.0 d e go.1 (no_more edid ended until d a.last) go.2 in
+    let go = all_begin (IsReported ended until) (Trace edid) until a.turns b.turns c d e text other a.leads b.leads (no_more edid ended until e b.last) in
+    let end = ends (IsReported ended until) (Trace edid) until go.0 d e go.1 (no_more edid ended until d a.last) go.2 in
     (sym (go.3 ∙ ap (λ t. text ++ t) end.0 ∙ append-nil text), sym end.1)
 
 -- ---- so far
@@ -41,92 +41,92 @@ goes_one edid ended until c d e text other a b =
 pub record Told (edid : Option Edid) (ended : Bool) (until : ℕ) (c d : Config) (old new : Option (List ℕ)) (written : ℕ) : Type 0 where
   pub turns : ℕ
   pub text : List ℕ
-  pub leads : LeadsIf (IsTold ended until) (Trace edid) until turns c text d
+  pub leads : LeadsIf (IsReported ended until) (Trace edid) until turns c text d
   pub so_far : Appends old new text
-  pub counted : written ≡ told_count (length text)
+  pub counted : written ≡ reported_count (length text)
 
 -- one turn more, whose text was written
-told_more : (edid : Option Edid) (ended : Bool) (until : ℕ) (c d e : Config) (old mid new : Option (List ℕ)) (n count m : ℕ) (line : List ℕ) → Told edid ended until c d old mid n
-    → IsTurn (Trace edid) until d line e → IsTold ended until (turn_at until d) e
-    → count ≡ told_count (length line) → Appends mid new line → m ≡ told_count (n + count) → Told edid ended until c e old new m
-told_more edid ended until c d e old mid new n count m line r turn over len wrote told = record {
+reported_more : (edid : Option Edid) (ended : Bool) (until : ℕ) (c d e : Config) (old mid new : Option (List ℕ)) (n count m : ℕ) (line : List ℕ) → Told edid ended until c d old mid n
+    → IsTurn (Trace edid) until d line e → IsReported ended until (turn_at until d) e
+    → count ≡ reported_count (length line) → Appends mid new line → m ≡ reported_count (n + count) → Told edid ended until c e old new m
+reported_more edid ended until c d e old mid new n count m line r turn over len wrote reported = record {
   turns = suc r.turns;
   text = r.text ++ line;
-  leads = one_more_if (IsTold ended until) (Trace edid) until r.turns c d e r.text line r.leads turn over;
+  leads = one_more_if (IsReported ended until) (Trace edid) until r.turns c d e r.text line r.leads turn over;
   so_far = Appends-trans old mid new r.text line r.so_far wrote;
-  counted = told ∙ told_parts n count r.text line r.counted len;
+  counted = reported ∙ reported_parts n count r.text line r.counted len;
 }
 
 -- the text of the next turn was cut off
-cut_told : (edid : Option Edid) (ended : Bool) (until : ℕ) (c d e : Config) (old mid new : Option (List ℕ)) (n : ℕ) (inner fault : WriteFault) (line : List ℕ) → Told edid ended until c d old mid n
-    → IsTurn (Trace edid) until d line e → IsTold ended until (turn_at until d) e → CutOff mid new line inner → fault.count ≡ told_count (n + inner.count)
+cut_reported : (edid : Option Edid) (ended : Bool) (until : ℕ) (c d e : Config) (old mid new : Option (List ℕ)) (n : ℕ) (inner fault : WriteFault) (line : List ℕ) → Told edid ended until c d old mid n
+    → IsTurn (Trace edid) until d line e → IsReported ended until (turn_at until d) e → CutOff mid new line inner → fault.count ≡ reported_count (n + inner.count)
     → (text : List ℕ) (last : Config) → Goes edid ended until c text last → CutOff old new text fault
-cut_told edid ended until c d e old mid new n inner fault line r turn over cut told text last goes =
-    let more = one_more_if (IsTold ended until) (Trace edid) until r.turns c d e r.text line r.leads turn over in
-    let go = all_begin (IsTold ended until) (Trace edid) until (suc r.turns) goes.turns c e last (r.text ++ line) text more goes.leads (no_more edid ended until last goes.last) in
-    subst (λ t. CutOff old new t fault) (sym go.3) (cut_again old mid new r.text line go.1 n inner fault r.counted r.so_far cut told)
+cut_reported edid ended until c d e old mid new n inner fault line r turn over cut reported text last goes =
+    let more = one_more_if (IsReported ended until) (Trace edid) until r.turns c d e r.text line r.leads turn over in
+    let go = all_begin (IsReported ended until) (Trace edid) until (suc r.turns) goes.turns c e last (r.text ++ line) text more goes.leads (no_more edid ended until last goes.last) in
+    subst (λ t. CutOff old new t fault) (sym go.3) (cut_again old mid new r.text line go.1 n inner fault r.counted r.so_far cut reported)
 
 -- ---- an event
 
-told_event : (ended : Bool) (until at : ℕ) (e : Config) → IsTold ended until (Apply at) e
-told_event false until at e = tt
-told_event true until at e = tt
+reported_event : (ended : Bool) (until at : ℕ) (e : Config) → IsReported ended until (Apply at) e
+reported_event false until at e = tt
+reported_event true until at e = tt
 
 pub after_event : (edid : Option Edid) (ended : Bool) (until at : ℕ) (net new : NetState) (e : TimedEvent) (rest others : List TimedEvent) (totals counted : Totals) (c : Config) (old mid out : Option (List ℕ)) (n count m : ℕ)
     → rest ≡ e ∷ others → turn_of until net (first_time rest) ≡ Apply at → new ≡ net_after at e.event net → counted ≡ counted_event (event_fault net e.event) totals
     → Told edid ended until c (record { net = net; events = rest; totals = totals }) old mid n
-    → count ≡ told_count (length (event_text edid at e net)) → Appends mid out (event_text edid at e net) → m ≡ told_count (n + count)
+    → count ≡ reported_count (length (event_text edid at e net)) → Appends mid out (event_text edid at e net) → m ≡ reported_count (n + count)
     → Told edid ended until c (record { net = new; events = others; totals = counted }) old out m
-after_event edid ended until at net new e rest others totals counted c old mid out n count m split turn step count_is r len wrote told =
+after_event edid ended until at net new e rest others totals counted c old mid out n count m split turn step count_is r len wrote reported =
     let come : turn_of until net (first_time (e ∷ others)) ≡ Apply at = subst (λ xs. turn_of until net (first_time xs) ≡ Apply at) split turn in
     let here : Told edid ended until c (record { net = net; events = e ∷ others; totals = totals }) old mid n =
     subst (λ xs. Told edid ended until c (record { net = net; events = xs; totals = totals }) old mid n) split r in
     let next : Config = record { net = net_after at e.event net; events = others; totals = counted_event (event_fault net e.event) totals } in
     let there : Told edid ended until c next old out m =
-    told_more edid ended until c _ next old mid out n count m (event_text edid at e net) here (event_turn_is (Trace edid) until at net e others totals come)
-    (subst (λ t. IsTold ended until t next) (sym come) (told_event ended until at next)) len wrote told in
+    reported_more edid ended until c _ next old mid out n count m (event_text edid at e net) here (event_turn_is (Trace edid) until at net e others totals come)
+    (subst (λ t. IsReported ended until t next) (sym come) (reported_event ended until at next)) len wrote reported in
     rw (step, count_is) there
 
 pub cut_event : (edid : Option Edid) (ended : Bool) (until at : ℕ) (net : NetState) (e : TimedEvent) (rest others : List TimedEvent) (totals : Totals) (c : Config) (old mid out : Option (List ℕ)) (n : ℕ) (inner fault : WriteFault)
     → rest ≡ e ∷ others → turn_of until net (first_time rest) ≡ Apply at
     → Told edid ended until c (record { net = net; events = rest; totals = totals }) old mid n
-    → CutOff mid out (event_text edid at e net) inner → fault.count ≡ told_count (n + inner.count)
+    → CutOff mid out (event_text edid at e net) inner → fault.count ≡ reported_count (n + inner.count)
     → (text : List ℕ) (last : Config) → Goes edid ended until c text last → CutOff old out text fault
-cut_event edid ended until at net e rest others totals c old mid out n inner fault split turn r cut told text last goes =
+cut_event edid ended until at net e rest others totals c old mid out n inner fault split turn r cut reported text last goes =
     let come : turn_of until net (first_time (e ∷ others)) ≡ Apply at = subst (λ xs. turn_of until net (first_time xs) ≡ Apply at) split turn in
     let here : Told edid ended until c (record { net = net; events = e ∷ others; totals = totals }) old mid n =
     subst (λ xs. Told edid ended until c (record { net = net; events = xs; totals = totals }) old mid n) split r in
     let next : Config = record { net = net_after at e.event net; events = others; totals = counted_event (event_fault net e.event) totals } in
-    cut_told edid ended until c _ next old mid out n inner fault (event_text edid at e net) here (event_turn_is (Trace edid) until at net e others totals come)
-    (subst (λ t. IsTold ended until t next) (sym come) (told_event ended until at next)) cut told text last goes
+    cut_reported edid ended until c _ next old mid out n inner fault (event_text edid at e net) here (event_turn_is (Trace edid) until at net e others totals come)
+    (subst (λ t. IsReported ended until t next) (sym come) (reported_event ended until at next)) cut reported text last goes
 
 -- ---- a round
 
-told_round : (ended : Bool) (until begin : ℕ) (e : Config) → IsSoon ended until e.net → IsTold ended until (Round begin) e
-told_round false until begin e soon = soon
-told_round true until begin e soon = tt
+reported_round : (ended : Bool) (until begin : ℕ) (e : Config) → IsSoon ended until e.net → IsReported ended until (Round begin) e
+reported_round false until begin e soon = soon
+reported_round true until begin e soon = tt
 
 pub after_round : (edid : Option Edid) (ended : Bool) (until begin x : ℕ) (net new : NetState) (rest : List TimedEvent) (totals counted : Totals) (line : List ℕ) (c : Config) (old mid out : Option (List ℕ)) (n count m : ℕ)
     → turn_of until net (first_time rest) ≡ Round x → begin ≡ x → IsRoundTurn (Trace edid) begin net totals line new counted → IsSoon ended until new
     → Told edid ended until c (record { net = net; events = rest; totals = totals }) old mid n
-    → count ≡ told_count (length line) → Appends mid out line → m ≡ told_count (n + count)
+    → count ≡ reported_count (length line) → Appends mid out line → m ≡ reported_count (n + count)
     → Told edid ended until c (record { net = new; events = rest; totals = counted }) old out m
-after_round edid ended until begin x net new rest totals counted line c old mid out n count m turn same round soon r len wrote told =
+after_round edid ended until begin x net new rest totals counted line c old mid out n count m turn same round soon r len wrote reported =
     let now : IsRoundTurn (Trace edid) x net totals line new counted = subst (λ b. IsRoundTurn (Trace edid) b net totals line new counted) same round in
     let next : Config = record { net = new; events = rest; totals = counted } in
-    told_more edid ended until c _ next old mid out n count m line r (round_turn_is (Trace edid) until x net new rest totals counted line turn now)
-    (subst (λ t. IsTold ended until t next) (sym turn) (told_round ended until x next soon)) len wrote told
+    reported_more edid ended until c _ next old mid out n count m line r (round_turn_is (Trace edid) until x net new rest totals counted line turn now)
+    (subst (λ t. IsReported ended until t next) (sym turn) (reported_round ended until x next soon)) len wrote reported
 
 pub cut_round : (edid : Option Edid) (ended : Bool) (until begin x : ℕ) (net new : NetState) (rest : List TimedEvent) (totals counted : Totals) (line : List ℕ) (c : Config) (old mid out : Option (List ℕ)) (n : ℕ) (inner fault : WriteFault)
     → turn_of until net (first_time rest) ≡ Round x → begin ≡ x → IsRoundTurn (Trace edid) begin net totals line new counted → IsSoon ended until new
     → Told edid ended until c (record { net = net; events = rest; totals = totals }) old mid n
-    → CutOff mid out line inner → fault.count ≡ told_count (n + inner.count)
+    → CutOff mid out line inner → fault.count ≡ reported_count (n + inner.count)
     → (text : List ℕ) (last : Config) → Goes edid ended until c text last → CutOff old out text fault
-cut_round edid ended until begin x net new rest totals counted line c old mid out n inner fault turn same round soon r cut told text last goes =
+cut_round edid ended until begin x net new rest totals counted line c old mid out n inner fault turn same round soon r cut reported text last goes =
     let now : IsRoundTurn (Trace edid) x net totals line new counted = subst (λ b. IsRoundTurn (Trace edid) b net totals line new counted) same round in
     let next : Config = record { net = new; events = rest; totals = counted } in
-    cut_told edid ended until c _ next old mid out n inner fault line r (round_turn_is (Trace edid) until x net new rest totals counted line turn now)
-    (subst (λ t. IsTold ended until t next) (sym turn) (told_round ended until x next soon)) cut told text last goes
+    cut_reported edid ended until c _ next old mid out n inner fault line r (round_turn_is (Trace edid) until x net new rest totals counted line turn now)
+    (subst (λ t. IsReported ended until t next) (sym turn) (reported_round ended until x next soon)) cut reported text last goes
 
 -- ---- the last
 
@@ -169,7 +169,7 @@ none_taken edid ended until begin s t a b old new was is taken e r = subst (λ (
 pub late_goes : (edid : Option Edid) (ended : Bool) (until begin : ℕ) (c : Config) (net after : NetState) (rest left : List TimedEvent) (totals counted : Totals) (old mid new : Option (List ℕ)) (n : ℕ)
     → turn_of until net (first_time rest) ≡ Round begin → (after ≡ net) × (counted ≡ totals) × (new ≡ mid) × IsLate ended until begin net → rest ≡ left
     → Told edid ended until c (record { net = net; events = rest; totals = totals }) old mid n
-    → (text : List ℕ) × Goes edid ended until c text (record { net = after; events = left; totals = counted }) × Appends old new text × (n ≡ told_count (length text))
+    → (text : List ℕ) × Goes edid ended until c text (record { net = after; events = left; totals = counted }) × Appends old new text × (n ≡ reported_count (length text))
 late_goes edid ended until begin c net after rest left totals counted old mid new n turn same split r = (
   r.text,
   subst (λ (d : Config). Goes edid ended until c r.text d)
@@ -212,8 +212,8 @@ same_place net new events left totals e f = ap₂ (λ (n : NetState) (es : List 
 
 -- what the call of it gives, where the session then stands at this place
 pub gone_is : (ended : Bool) (s t : Session) (place : Config) (old new : Option (List ℕ)) (was is : Bool) (result : Result ℕ WriteFault) → t ≡ record s { place = place }
-    → IfOk result (λ written. (text : List ℕ) × Goes s.edid ended s.horizon s.place text place × Appends old new text × (written ≡ told_count (length text)))
+    → IfOk result (λ written. (text : List ℕ) × Goes s.edid ended s.horizon s.place text place × Appends old new text × (written ≡ reported_count (length text)))
     → OnOk result (is ≡ was) → IfErr result (λ fault. (text : List ℕ) (last : Config) → Goes s.edid ended s.horizon s.place text last → CutOff old new text fault)
     → OnErr result (is ≡ true) → IsGone ended s t old new was is result
-gone_is ended s t place old new was is (Ok written) stands told same cut stuck = (told.0, place, told.1, stands, (told.3, told.2, same))
-gone_is ended s t place old new was is (Err fault) stands told same cut stuck = (cut, stuck)
+gone_is ended s t place old new was is (Ok written) stands reported same cut stuck = (reported.0, place, reported.1, stands, (reported.3, reported.2, same))
+gone_is ended s t place old new was is (Err fault) stands reported same cut stuck = (cut, stuck)

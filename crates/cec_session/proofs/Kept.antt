@@ -15,10 +15,10 @@ use Rattle.cec_session.specs.declared.live.Step.{Step}
 use Rattle.cec_session.specs.declared.live.Step.TheVariants.{Refuse, Idle, Show, Go, Finish}
 use Rattle.cec_session.specs.Command.{command_of}
 use Rattle.cec_session.specs.Session.{Session, first_session, with_line_counted, standing, with_standing, standing_with, step_noted, step_by, is_late, after_to, after_wait, IsStepBy, IsDue}
-use Rattle.cec_session.specs.Whole.{kept_line, IsLine, AreLines, SessionsTellTracesOf}
+use Rattle.cec_session.specs.Whole.{kept_line, IsLine, AreLines, SessionsReportTracesOf}
 use Rattle.cec_session.proofs.Extends.{line_extends}
 use Rattle.cec_session.proofs.Noting.{taken}
-use Rattle.cec_session.proofs.Wholly.{sessions_tell_traces}
+use Rattle.cec_session.proofs.Wholly.{sessions_report_traces}
 
 -- ---- what a line leaves
 
@@ -105,8 +105,8 @@ record Onwards (s : Session) (kept : List ℕ) (t : Session) : Type 0 where
   lines : t.lines ≡ s.lines + 1
   read : IsLineRead s.tree s.notes (length s.place.net.pulses) (s.lines + 1) kept (Ok t.notes)
 
-line_reads : (s t : Session) (line kept told text : List ℕ) → IsLine s line kept told text t → s.lines + 1 ≤ 18446744073709551615 → Onwards s kept t
-line_reads s t line kept told text is few =
+line_reads : (s t : Session) (line kept reported text : List ℕ) → IsLine s line kept reported text t → s.lines + 1 ≤ 18446744073709551615 → Onwards s kept t
+line_reads s t line kept reported text is few =
     let r = step_reads (with_line_counted s) (command_of s.tree line) line is.step is.asked is.asks in
     let after = due_stays is.step is.asked t text is.due in
     let count : min (s.lines + 1) 18446744073709551615 ≡ s.lines + 1 = omega arith in
@@ -119,28 +119,28 @@ line_reads s t line kept told text is few =
     }
 
 -- pulses are taken, and none is taken back
-line_adds : (s t : Session) (line kept told text : List ℕ) → IsLine s line kept told text t → s.lines + 1 ≤ 18446744073709551615 → length s.notes.pulses ≤ length t.notes.pulses
-line_adds s t line kept told text is few =
-    let e = line_extends s.tree s.notes (length s.place.net.pulses) (s.lines + 1) kept t.notes (line_reads s t line kept told text is few).read in
+line_adds : (s t : Session) (line kept reported text : List ℕ) → IsLine s line kept reported text t → s.lines + 1 ≤ 18446744073709551615 → length s.notes.pulses ≤ length t.notes.pulses
+line_adds s t line kept reported text is few =
+    let e = line_extends s.tree s.notes (length s.place.net.pulses) (s.lines + 1) kept t.notes (line_reads s t line kept reported text is few).read in
     let long : length t.notes.pulses ≡ length s.notes.pulses + length e.pulses = ap length e.pulses_are ∙ length-append s.notes.pulses e.pulses in
     omega (arith, long)
 
-lines_add : (lines kept : List (List ℕ)) (n : ℕ) (s t : Session) (told text : List ℕ) → AreLines lines s kept told text t → s.lines ≡ n → n + length lines ≤ 18446744073709551615
+lines_add : (lines kept : List (List ℕ)) (n : ℕ) (s t : Session) (reported text : List ℕ) → AreLines lines s kept reported text t → s.lines ≡ n → n + length lines ≤ 18446744073709551615
     → length s.notes.pulses ≤ length t.notes.pulses
-lines_add [] kept n s t told text (nothing, none, empty, same) number few = let long : length t.notes.pulses ≡ length s.notes.pulses = ap (λ (t : Session). length t.notes.pulses) same in omega (arith, long)
-lines_add (line ∷ lines) kept n s t told text (mid, own, others, first, second, more, rest, is, after, kept_is, told_is, text_is) number few =
+lines_add [] kept n s t reported text (nothing, none, empty, same) number few = let long : length t.notes.pulses ≡ length s.notes.pulses = ap (λ (t : Session). length t.notes.pulses) same in omega (arith, long)
+lines_add (line ∷ lines) kept n s t reported text (mid, own, others, first, second, more, rest, is, after, kept_is, reported_is, text_is) number few =
     let low : s.lines + 1 ≤ 18446744073709551615 = omega (arith, number, few) in
     let here = line_adds s mid line own first second is low in
     let r = line_reads s mid line own first second is low in
     let there = lines_add lines others (n + 1) mid t more rest after (r.lines ∙ ap (λ k. k + 1) number) (omega (arith, few)) in
     omega (arith, here, there)
 
-lines_read : (tree : List Node) (lines kept : List (List ℕ)) (n : ℕ) (s t : Session) (told text : List ℕ) (read : Result Course ScriptFault) → AreLines lines s kept told text t → s.tree ≡ tree → s.lines ≡ n
+lines_read : (tree : List Node) (lines kept : List (List ℕ)) (n : ℕ) (s t : Session) (reported text : List ℕ) (read : Result Course ScriptFault) → AreLines lines s kept reported text t → s.tree ≡ tree → s.lines ≡ n
     → n + length lines ≤ 18446744073709551615 → length t.notes.pulses ≤ 4096 → ((m : ℕ) → AreLinesRead tree [] m t.notes read) → AreLinesRead tree kept (n + 1) s.notes read
-lines_read tree [] kept n s t told text read (nothing, none, empty, same) at number few sparse last =
+lines_read tree [] kept n s t reported text read (nothing, none, empty, same) at number few sparse last =
     subst (λ (kept : List (List ℕ)). AreLinesRead tree kept (n + 1) s.notes read) (sym nothing)
     (subst (λ (notes : Notes). AreLinesRead tree [] (n + 1) notes read) (ap (λ (t : Session). t.notes) same) (last (n + 1)))
-lines_read tree (line ∷ lines) kept n s t told text read (mid, own, others, first, second, more, rest, is, after, kept_is, told_is, text_is) at number few sparse last =
+lines_read tree (line ∷ lines) kept n s t reported text read (mid, own, others, first, second, more, rest, is, after, kept_is, reported_is, text_is) at number few sparse last =
     let r = line_reads s mid line own first second is (omega (arith, number, few)) in
     let there = lines_read tree lines others (n + 1) mid t more rest read after (r.tree ∙ at) (r.lines ∙ ap (λ k. k + 1) number) (omega (arith, few)) sparse last in
     let most : length mid.notes.pulses ≤ 4096 = (let more = lines_add lines others (n + 1) mid t more rest after (r.lines ∙ ap (λ k. k + 1) number) (omega (arith, few)) in omega (arith, more, sparse)) in
@@ -163,26 +163,26 @@ line_whole commands.Wait step line whole = All-nil (λ byte. byte ≢ 10)
 line_whole (commands.RunTo time) step line whole = All-nil (λ byte. byte ≢ 10)
 line_whole (commands.Show device) step line whole = All-nil (λ byte. byte ≢ 10)
 
-all_whole : (lines kept : List (List ℕ)) (s t : Session) (told text : List ℕ) → AreLines lines s kept told text t → All IsWhole lines → All IsWhole kept
-all_whole [] kept s t told text (nothing, none, empty, same) whole = subst (λ (kept : List (List ℕ)). All IsWhole kept) (sym nothing) (All-nil IsWhole)
-all_whole (line ∷ lines) kept s t told text (mid, own, others, first, second, more, rest, is, after, kept_is, told_is, text_is) whole =
+all_whole : (lines kept : List (List ℕ)) (s t : Session) (reported text : List ℕ) → AreLines lines s kept reported text t → All IsWhole lines → All IsWhole kept
+all_whole [] kept s t reported text (nothing, none, empty, same) whole = subst (λ (kept : List (List ℕ)). All IsWhole kept) (sym nothing) (All-nil IsWhole)
+all_whole (line ∷ lines) kept s t reported text (mid, own, others, first, second, more, rest, is, after, kept_is, reported_is, text_is) whole =
     let here : IsWhole own = subst IsWhole (sym is.kept_is) (line_whole (command_of s.tree line) is.step line (All-head IsWhole line lines whole)) in
     let there = all_whole lines others mid t more rest after (All-tail IsWhole line lines whole) in
     subst (λ (kept : List (List ℕ)). All IsWhole kept) (sym kept_is) (All-cons IsWhole own others here there)
 
-pub sessions_tell_traces_of : SessionsTellTracesOf
-sessions_tell_traces_of topology plan edid lines kept told text t end plan_is root whole few sparse l over =
+pub sessions_report_traces_of : SessionsReportTracesOf
+sessions_report_traces_of topology plan edid lines kept reported text t end plan_is root whole few sparse l over =
     let course : Course = record { events = t.notes.events; pulses = t.notes.pulses; end = end } in
     let last : (m : ℕ) → Ok course ≡ course_at_end t.notes m t.notes.end = λ m. sym (ap (course_at_end t.notes m) over) in
-    let read = lines_read plan.tree lines kept 0 (first_session edid plan.tree) t told text (Ok course) l refl refl (omega (arith, few)) sparse last in
+    let read = lines_read plan.tree lines kept 0 (first_session edid plan.tree) t reported text (Ok course) l refl refl (omega (arith, few)) sparse last in
     record {
       plan = plan;
       course = course;
       edid = edid;
       accepted = record {
         plan_is = plan_is;
-        course_is = subst (λ (kept : List (List ℕ)). AreLinesRead plan.tree kept 1 no_notes (Ok course)) (sym (lines_again kept (all_whole lines kept (first_session edid plan.tree) t told text l whole))) read;
+        course_is = subst (λ (kept : List (List ℕ)). AreLinesRead plan.tree kept 1 no_notes (Ok course)) (sym (lines_again kept (all_whole lines kept (first_session edid plan.tree) t reported text l whole))) read;
       };
       root = root;
-      trace = sessions_tell_traces edid plan.tree lines kept told text t end l over;
+      trace = sessions_report_traces edid plan.tree lines kept reported text t end l over;
     }

@@ -13,42 +13,42 @@ use Rattle.cec_asm.specs.Script.{Notes, IsLineRead}
 use Rattle.cec_asm.specs.declared.script.TimedEvent.{TimedEvent}
 use Rattle.cec_asm.specs.declared.fault.LineFault.{LineFault}
 use Rattle.cec_asm.proofs.Sound.{AreSound, line-keeps, sound_start}
-use Rattle.cec_run.specs.declared.run.Telling.TheVariants.{Trace}
+use Rattle.cec_run.specs.declared.run.Reporting.TheVariants.{Trace}
 use Rattle.cec_run.specs.declared.run.Turn.{Turn}
-use Rattle.cec_run.specs.Run.{Config, start, start_told, end_told, Leads, IsRunText, IsRunTextFrom}
+use Rattle.cec_run.specs.Run.{Config, start, start_reported, end_reported, Leads, IsRunText, IsRunTextFrom}
 use Rattle.causal_laws.specs.Certain.{ComesFrom, LeadsIf, LeadsBy, with_more}
 use Rattle.causal_laws.proofs.Apart.{faultless_are_apart}
-use Rattle.causal_laws.proofs.Certainty.{turns_stay_certain, told_is_front}
+use Rattle.causal_laws.proofs.Certainty.{turns_stay_certain, reported_is_front}
 use Rattle.causal_laws.proofs.Before.{all_on}
 use Rattle.cec_session.specs.declared.answer.Refusal.TheVariants.{Script, Past}
 use Rattle.cec_session.specs.declared.command.Command.{Command}
 use Rattle.cec_session.specs.declared.command.Command.TheVariants as commands
 use Rattle.cec_session.specs.declared.live.Step.{Step}
 use Rattle.cec_session.specs.declared.live.Step.TheVariants.{Refuse, Idle, Show, Go, Finish}
-use Rattle.cec_session.specs.Turns.{IsTold, Goes}
+use Rattle.cec_session.specs.Turns.{IsReported, Goes}
 use Rattle.cec_session.specs.Command.{command_of}
 use Rattle.cec_session.specs.Session.{Session, Standing, first_session, with_line_counted, standing, with_standing, standing_with, step_noted, step_by, step_to, after_to, step_wait, after_wait, step_show, is_late, is_past, refuses_pulse, ends_before, horizon_by, new_events, new_pulses, IsStepBy, IsDue}
-use Rattle.cec_session.specs.Whole.{told_of, AreLines, SessionsTellFronts, SessionsTellTraces}
+use Rattle.cec_session.specs.Whole.{reported_of, AreLines, SessionsReportFronts, SessionsReportTraces}
 use Rattle.cec_session.proofs.Extends.{line_extends}
 use Rattle.cec_session.proofs.Noting.{taken, drop_all}
 
 -- ---- while a session goes on
 
-record SoFar (edid : Option Edid) (tree : List Node) (s : Session) (told : List ℕ) : Type 0 where
+record SoFar (edid : Option Edid) (tree : List Node) (s : Session) (reported : List ℕ) : Type 0 where
   edid_is : s.edid ≡ edid
   turns : ℕ
-  leads : LeadsBy (Trace edid) s.horizon turns (start (first_net tree s.notes.pulses) s.notes.events) told s.place
+  leads : LeadsBy (Trace edid) s.horizon turns (start (first_net tree s.notes.pulses) s.notes.events) reported s.place
   sound : AreSound (length s.tree) s.notes
 
 so_far_start : (edid : Option Edid) (tree : List Node) → SoFar edid tree (first_session edid tree) []
 so_far_start edid tree = record { edid_is = refl; turns = zero; leads = (refl, refl); sound = sound_start (length tree) }
 
 -- what comes for the horizon or later leaves it
-stay_on : (edid : Option Edid) (tree : List Node) (until on turns count : ℕ) (notes : Notes) (place : Config) (told : List ℕ) (events : List TimedEvent) (later : List Stretch) → AreSound count notes
-    → LeadsBy (Trace edid) until turns (start (first_net tree notes.pulses) notes.events) told place → ComesFrom until events later on
-    → LeadsBy (Trace edid) on turns (start (first_net tree (notes.pulses ++ later)) (notes.events ++ events)) told (with_more events later place)
-stay_on edid tree until on turns count notes place told events later sound l comes =
-    turns_stay_certain (Trace edid) until on turns (start (first_net tree notes.pulses) notes.events) place told events later
+stay_on : (edid : Option Edid) (tree : List Node) (until on turns count : ℕ) (notes : Notes) (place : Config) (reported : List ℕ) (events : List TimedEvent) (later : List Stretch) → AreSound count notes
+    → LeadsBy (Trace edid) until turns (start (first_net tree notes.pulses) notes.events) reported place → ComesFrom until events later on
+    → LeadsBy (Trace edid) on turns (start (first_net tree (notes.pulses ++ later)) (notes.events ++ events)) reported (with_more events later place)
+stay_on edid tree until on turns count notes place reported events later sound l comes =
+    turns_stay_certain (Trace edid) until on turns (start (first_net tree notes.pulses) notes.events) place reported events later
     (faultless_are_apart notes.pulses sound.apart) (framed-started tree notes.pulses) sound.framed comes l
 
 same_place : (place : Config) → with_more [] [] place ≡ place
@@ -56,16 +56,16 @@ same_place place =
     ap₂ (λ (ps : List Stretch) (es : List TimedEvent). let c : Config = record { net = record place.net { pulses = ps }; events = es; totals = place.totals } in c)
     (append-nil place.net.pulses) (append-nil place.events)
 
-raised : (edid : Option Edid) (tree : List Node) (s : Session) (told : List ℕ) (horizon : ℕ) → SoFar edid tree s told → s.horizon ≤ horizon → SoFar edid tree (record s { horizon = horizon }) told
-raised edid tree s told horizon r le =
+raised : (edid : Option Edid) (tree : List Node) (s : Session) (reported : List ℕ) (horizon : ℕ) → SoFar edid tree s reported → s.horizon ≤ horizon → SoFar edid tree (record s { horizon = horizon }) reported
+raised edid tree s reported horizon r le =
     let comes : ComesFrom s.horizon [] [] horizon = record { scheduled = All-nil (λ e. s.horizon ≤ e.at); begun = All-nil (λ p. s.horizon ≤ p.from); over = le } in
-    let l = stay_on edid tree s.horizon horizon r.turns (length s.tree) s.notes s.place told [] [] r.sound r.leads comes in
+    let l = stay_on edid tree s.horizon horizon r.turns (length s.tree) s.notes s.place reported [] [] r.sound r.leads comes in
     record {
       edid_is = r.edid_is;
       turns = r.turns;
-      leads = subst (λ (c : Config). LeadsBy (Trace edid) horizon r.turns (start (first_net tree s.notes.pulses) s.notes.events) told c) (same_place s.place)
-          (subst (λ (es : List TimedEvent). LeadsBy (Trace edid) horizon r.turns (start (first_net tree s.notes.pulses) es) told (with_more [] [] s.place)) (append-nil s.notes.events)
-          (subst (λ (ps : List Stretch). LeadsBy (Trace edid) horizon r.turns (start (first_net tree ps) (s.notes.events ++ [])) told (with_more [] [] s.place)) (append-nil s.notes.pulses) l));
+      leads = subst (λ (c : Config). LeadsBy (Trace edid) horizon r.turns (start (first_net tree s.notes.pulses) s.notes.events) reported c) (same_place s.place)
+          (subst (λ (es : List TimedEvent). LeadsBy (Trace edid) horizon r.turns (start (first_net tree s.notes.pulses) es) reported (with_more [] [] s.place)) (append-nil s.notes.events)
+          (subst (λ (ps : List Stretch). LeadsBy (Trace edid) horizon r.turns (start (first_net tree ps) (s.notes.events ++ [])) reported (with_more [] [] s.place)) (append-nil s.notes.pulses) l));
       sound = r.sound;
     }
 
@@ -106,8 +106,8 @@ EndBy Idle s = s.notes.end ≡ None
 EndBy (Show device) s = s.notes.end ≡ None
 EndBy Go s = s.notes.end ≡ None
 
-record Asked (edid : Option Edid) (tree : List Node) (step : Step) (s : Session) (told : List ℕ) : Type 0 where
-  so_far : SoFar edid tree s told
+record Asked (edid : Option Edid) (tree : List Node) (step : Step) (s : Session) (reported : List ℕ) : Type 0 where
+  so_far : SoFar edid tree s reported
   ended : EndBy step s
 
 same_standing : (s : Session) → with_standing s (standing s) ≡ s
@@ -115,20 +115,20 @@ same_standing s =
     ap (λ (es : List TimedEvent). let t : Session = record s { place = record s.place { events = es } } in t)
     (ap (λ (es : List TimedEvent). s.place.events ++ es) (drop_all s.notes.events) ∙ append-nil s.place.events)
 
-asked_taken : (edid : Option Edid) (tree : List Node) (s : Session) (told line : List ℕ) (new : Notes) → SoFar edid tree s told → IsLineRead s.tree s.notes (length s.place.net.pulses) s.lines line (Ok new)
-    → is_late (standing s) new ≡ false → SoFar edid tree (with_standing s (taken (standing s) new)) told
-asked_taken edid tree s told line new r read late =
+asked_taken : (edid : Option Edid) (tree : List Node) (s : Session) (reported line : List ℕ) (new : Notes) → SoFar edid tree s reported → IsLineRead s.tree s.notes (length s.place.net.pulses) s.lines line (Ok new)
+    → is_late (standing s) new ≡ false → SoFar edid tree (with_standing s (taken (standing s) new)) reported
+asked_taken edid tree s reported line new r read late =
     let e = line_extends s.tree s.notes (length s.place.net.pulses) s.lines line new read in
     let events : s.notes.events ++ new_events s.notes new ≡ new.events = ap (λ (es : List TimedEvent). s.notes.events ++ es) (front_rest new.events s.notes.events e.events e.events_are) ∙ sym e.events_are in
     let pulses : s.notes.pulses ++ new_pulses s.notes new ≡ new.pulses = ap (λ (ps : List Stretch). s.notes.pulses ++ ps) (front_rest new.pulses s.notes.pulses e.pulses e.pulses_are) ∙ sym e.pulses_are in
     let on = horizon_by s.horizon new.end in
     let place = with_more (new_events s.notes new) (new_pulses s.notes new) s.place in
-    let l = stay_on edid tree s.horizon on r.turns (length s.tree) s.notes s.place told (new_events s.notes new) (new_pulses s.notes new) r.sound r.leads (comes (standing s) new late) in
+    let l = stay_on edid tree s.horizon on r.turns (length s.tree) s.notes s.place reported (new_events s.notes new) (new_pulses s.notes new) r.sound r.leads (comes (standing s) new late) in
     record {
       edid_is = r.edid_is;
       turns = r.turns;
-      leads = subst (λ (es : List TimedEvent). LeadsBy (Trace edid) on r.turns (start (first_net tree new.pulses) es) told place) events
-          (subst (λ (ps : List Stretch). LeadsBy (Trace edid) on r.turns (start (first_net tree ps) (s.notes.events ++ new_events s.notes new)) told place) pulses l);
+      leads = subst (λ (es : List TimedEvent). LeadsBy (Trace edid) on r.turns (start (first_net tree new.pulses) es) reported place) events
+          (subst (λ (ps : List Stretch). LeadsBy (Trace edid) on r.turns (start (first_net tree ps) (s.notes.events ++ new_events s.notes new)) reported place) pulses l);
       sound = line-keeps s.tree s.notes (length s.place.net.pulses) s.lines line new r.sound read;
     }
 
@@ -136,112 +136,112 @@ end_taken : (s : Session) (new : Notes) (end : Option ℕ) → new.end ≡ end �
 end_taken s new None e = e
 end_taken s new (Some end) e = e
 
-asked_late : (edid : Option Edid) (tree : List Node) (s : Session) (told line : List ℕ) (new : Notes) (late : Bool) → is_late (standing s) new ≡ late → SoFar edid tree s told → s.notes.end ≡ None
-    → IsLineRead s.tree s.notes (length s.place.net.pulses) s.lines line (Ok new) → Asked edid tree (step_noted (standing s) (Ok new)) (with_standing s (standing_with (standing s) (Ok new))) told
-asked_late edid tree s told line new true e r going read =
-    subst (λ (b : Bool). Asked edid tree (if b then Refuse Past else step_by new.end) (with_standing s (if b then standing s else taken (standing s) new)) told) (sym e)
-    (subst (λ (t : Session). Asked edid tree (Refuse Past) t told) (sym (same_standing s)) (record { so_far = r; ended = going }))
-asked_late edid tree s told line new false e r going read =
-    subst (λ (b : Bool). Asked edid tree (if b then Refuse Past else step_by new.end) (with_standing s (if b then standing s else taken (standing s) new)) told) (sym e)
-    (record { so_far = asked_taken edid tree s told line new r read e; ended = ended new.end refl })
+asked_late : (edid : Option Edid) (tree : List Node) (s : Session) (reported line : List ℕ) (new : Notes) (late : Bool) → is_late (standing s) new ≡ late → SoFar edid tree s reported → s.notes.end ≡ None
+    → IsLineRead s.tree s.notes (length s.place.net.pulses) s.lines line (Ok new) → Asked edid tree (step_noted (standing s) (Ok new)) (with_standing s (standing_with (standing s) (Ok new))) reported
+asked_late edid tree s reported line new true e r going read =
+    subst (λ (b : Bool). Asked edid tree (if b then Refuse Past else step_by new.end) (with_standing s (if b then standing s else taken (standing s) new)) reported) (sym e)
+    (subst (λ (t : Session). Asked edid tree (Refuse Past) t reported) (sym (same_standing s)) (record { so_far = r; ended = going }))
+asked_late edid tree s reported line new false e r going read =
+    subst (λ (b : Bool). Asked edid tree (if b then Refuse Past else step_by new.end) (with_standing s (if b then standing s else taken (standing s) new)) reported) (sym e)
+    (record { so_far = asked_taken edid tree s reported line new r read e; ended = ended new.end refl })
   where
     ended : (end : Option ℕ) → new.end ≡ end → EndBy (step_by new.end) (with_standing s (taken (standing s) new))
     ended None h = subst (λ (end : Option ℕ). EndBy (step_by end) (with_standing s (record { notes = new; horizon = horizon_by s.horizon end; net = record s.place.net { pulses = s.place.net.pulses ++ new_pulses s.notes new } }))) (sym h) h
     ended (Some end) h = subst (λ (end : Option ℕ). EndBy (step_by end) (with_standing s (record { notes = new; horizon = horizon_by s.horizon end; net = record s.place.net { pulses = s.place.net.pulses ++ new_pulses s.notes new } }))) (sym h) h
 
-asked_read : (edid : Option Edid) (tree : List Node) (s : Session) (told line : List ℕ) (read : Result Notes LineFault) → SoFar edid tree s told → s.notes.end ≡ None
-    → IsLineRead s.tree s.notes (length s.place.net.pulses) s.lines line read → Asked edid tree (step_noted (standing s) read) (with_standing s (standing_with (standing s) read)) told
-asked_read edid tree s told line (Err fault) r going read =
-    subst (λ (t : Session). Asked edid tree (Refuse (Script fault.cause)) t told) (sym (same_standing s)) (record { so_far = r; ended = going })
-asked_read edid tree s told line (Ok new) r going read = asked_late edid tree s told line new (is_late (standing s) new) refl r going read
+asked_read : (edid : Option Edid) (tree : List Node) (s : Session) (reported line : List ℕ) (read : Result Notes LineFault) → SoFar edid tree s reported → s.notes.end ≡ None
+    → IsLineRead s.tree s.notes (length s.place.net.pulses) s.lines line read → Asked edid tree (step_noted (standing s) read) (with_standing s (standing_with (standing s) read)) reported
+asked_read edid tree s reported line (Err fault) r going read =
+    subst (λ (t : Session). Asked edid tree (Refuse (Script fault.cause)) t reported) (sym (same_standing s)) (record { so_far = r; ended = going })
+asked_read edid tree s reported line (Ok new) r going read = asked_late edid tree s reported line new (is_late (standing s) new) refl r going read
 
 -- ---- its other lines
 
-asked_to : (edid : Option Edid) (tree : List Node) (s : Session) (told : List ℕ) (time : Option ℕ) → SoFar edid tree s told → s.notes.end ≡ None → Asked edid tree (step_to s time) (after_to s time) told
-asked_to edid tree s told None r going = record { so_far = r; ended = going }
-asked_to edid tree s told (Some time) r going = by_test (nat_lt time s.horizon) refl
+asked_to : (edid : Option Edid) (tree : List Node) (s : Session) (reported : List ℕ) (time : Option ℕ) → SoFar edid tree s reported → s.notes.end ≡ None → Asked edid tree (step_to s time) (after_to s time) reported
+asked_to edid tree s reported None r going = record { so_far = r; ended = going }
+asked_to edid tree s reported (Some time) r going = by_test (nat_lt time s.horizon) refl
   where
-    by_test : (b : Bool) → nat_lt time s.horizon ≡ b → Asked edid tree (step_to s (Some time)) (after_to s (Some time)) told
+    by_test : (b : Bool) → nat_lt time s.horizon ≡ b → Asked edid tree (step_to s (Some time)) (after_to s (Some time)) reported
     by_test true e =
-        subst (λ (b : Bool). Asked edid tree (if b then Refuse Past else Go) (if b then s else record s { horizon = time }) told) (sym e) (record { so_far = r; ended = going })
+        subst (λ (b : Bool). Asked edid tree (if b then Refuse Past else Go) (if b then s else record s { horizon = time }) reported) (sym e) (record { so_far = r; ended = going })
     by_test false e =
-        subst (λ (b : Bool). Asked edid tree (if b then Refuse Past else Go) (if b then s else record s { horizon = time }) told) (sym e)
-        (record { so_far = raised edid tree s told time r (grind (arith, nat_tests)); ended = going })
+        subst (λ (b : Bool). Asked edid tree (if b then Refuse Past else Go) (if b then s else record s { horizon = time }) reported) (sym e)
+        (record { so_far = raised edid tree s reported time r (grind (arith, nat_tests)); ended = going })
 
-asked_wait : (edid : Option Edid) (tree : List Node) (s : Session) (told : List ℕ) (soon : Option ℕ) → SoFar edid tree s told → s.notes.end ≡ None → Asked edid tree (step_wait soon) (after_wait s soon) told
-asked_wait edid tree s told None r going = record { so_far = r; ended = going }
-asked_wait edid tree s told (Some time) r going = record { so_far = raised edid tree s told (max s.horizon time) r (omega arith); ended = going }
+asked_wait : (edid : Option Edid) (tree : List Node) (s : Session) (reported : List ℕ) (soon : Option ℕ) → SoFar edid tree s reported → s.notes.end ≡ None → Asked edid tree (step_wait soon) (after_wait s soon) reported
+asked_wait edid tree s reported None r going = record { so_far = r; ended = going }
+asked_wait edid tree s reported (Some time) r going = record { so_far = raised edid tree s reported (max s.horizon time) r (omega arith); ended = going }
 
-asked_show : (edid : Option Edid) (tree : List Node) (s : Session) (told : List ℕ) (device : Option ℕ) → SoFar edid tree s told → s.notes.end ≡ None → Asked edid tree (step_show device) s told
-asked_show edid tree s told None r going = record { so_far = r; ended = going }
-asked_show edid tree s told (Some device) r going = record { so_far = r; ended = going }
+asked_show : (edid : Option Edid) (tree : List Node) (s : Session) (reported : List ℕ) (device : Option ℕ) → SoFar edid tree s reported → s.notes.end ≡ None → Asked edid tree (step_show device) s reported
+asked_show edid tree s reported None r going = record { so_far = r; ended = going }
+asked_show edid tree s reported (Some device) r going = record { so_far = r; ended = going }
 
-asked_by : (edid : Option Edid) (tree : List Node) (s : Session) (told line : List ℕ) (command : Command) (step : Step) (t : Session) → SoFar edid tree s told → s.notes.end ≡ None
-    → IsStepBy s command line step t → Asked edid tree step t told
-asked_by edid tree s told line commands.Script step t r going (read, is, asks, stands) =
-    subst (λ (step : Step). Asked edid tree step t told) (sym asks)
-    (subst (λ (t : Session). Asked edid tree (step_noted (standing s) read) t told) (sym stands) (asked_read edid tree s told line read r going is))
-asked_by edid tree s told line commands.Wait step t r going (soon, is, asks, stands) =
-    subst (λ (step : Step). Asked edid tree step t told) (sym asks)
-    (subst (λ (t : Session). Asked edid tree (step_wait soon) t told) (sym stands) (asked_wait edid tree s told soon r going))
-asked_by edid tree s told line (commands.RunTo time) step t r going (asks, stands) =
-    subst (λ (step : Step). Asked edid tree step t told) (sym asks)
-    (subst (λ (t : Session). Asked edid tree (step_to s time) t told) (sym stands) (asked_to edid tree s told time r going))
-asked_by edid tree s told line (commands.Show device) step t r going (asks, stands) =
-    subst (λ (step : Step). Asked edid tree step t told) (sym asks)
-    (subst (λ (t : Session). Asked edid tree (step_show device) t told) (sym stands) (asked_show edid tree s told device r going))
+asked_by : (edid : Option Edid) (tree : List Node) (s : Session) (reported line : List ℕ) (command : Command) (step : Step) (t : Session) → SoFar edid tree s reported → s.notes.end ≡ None
+    → IsStepBy s command line step t → Asked edid tree step t reported
+asked_by edid tree s reported line commands.Script step t r going (read, is, asks, stands) =
+    subst (λ (step : Step). Asked edid tree step t reported) (sym asks)
+    (subst (λ (t : Session). Asked edid tree (step_noted (standing s) read) t reported) (sym stands) (asked_read edid tree s reported line read r going is))
+asked_by edid tree s reported line commands.Wait step t r going (soon, is, asks, stands) =
+    subst (λ (step : Step). Asked edid tree step t reported) (sym asks)
+    (subst (λ (t : Session). Asked edid tree (step_wait soon) t reported) (sym stands) (asked_wait edid tree s reported soon r going))
+asked_by edid tree s reported line (commands.RunTo time) step t r going (asks, stands) =
+    subst (λ (step : Step). Asked edid tree step t reported) (sym asks)
+    (subst (λ (t : Session). Asked edid tree (step_to s time) t reported) (sym stands) (asked_to edid tree s reported time r going))
+asked_by edid tree s reported line (commands.Show device) step t r going (asks, stands) =
+    subst (λ (step : Step). Asked edid tree step t reported) (sym asks)
+    (subst (λ (t : Session). Asked edid tree (step_show device) t reported) (sym stands) (asked_show edid tree s reported device r going))
 
-counted : (edid : Option Edid) (tree : List Node) (s : Session) (told : List ℕ) → SoFar edid tree s told → SoFar edid tree (with_line_counted s) told
-counted edid tree s told r = record { edid_is = r.edid_is; turns = r.turns; leads = r.leads; sound = r.sound }
+counted : (edid : Option Edid) (tree : List Node) (s : Session) (reported : List ℕ) → SoFar edid tree s reported → SoFar edid tree (with_line_counted s) reported
+counted edid tree s reported r = record { edid_is = r.edid_is; turns = r.turns; leads = r.leads; sound = r.sound }
 
 -- ---- what is due of a step
 
 -- the whole trace was told
-record Over (edid : Option Edid) (tree : List Node) (s : Session) (told : List ℕ) : Type 0 where
-  run : IsRunTextFrom (Trace edid) s.horizon (start (first_net tree s.notes.pulses) s.notes.events) told s.place.totals
+record Over (edid : Option Edid) (tree : List Node) (s : Session) (reported : List ℕ) : Type 0 where
+  run : IsRunTextFrom (Trace edid) s.horizon (start (first_net tree s.notes.pulses) s.notes.events) reported s.place.totals
   ended : s.notes.end ≡ Some s.horizon
 
 abbrev Reached : Option Edid → List Node → Session → List ℕ → Type 0
-Reached edid tree s told = (SoFar edid tree s told × (s.notes.end ≡ None)) ⊎ Over edid tree s told
+Reached edid tree s reported = (SoFar edid tree s reported × (s.notes.end ≡ None)) ⊎ Over edid tree s reported
 
 -- whatever the turns are
-any_turns : (Holds : Turn → Config → Type 0) (edid : Option Edid) (until n : ℕ) (c d : Config) (text : List ℕ) → LeadsIf Holds (Trace edid) until n c text d → LeadsIf (IsTold true until) (Trace edid) until n c text d
+any_turns : (Holds : Turn → Config → Type 0) (edid : Option Edid) (until n : ℕ) (c d : Config) (text : List ℕ) → LeadsIf Holds (Trace edid) until n c text d → LeadsIf (IsReported true until) (Trace edid) until n c text d
 any_turns Holds edid until zero c d text l = l
 any_turns Holds edid until (suc n) c d text (mid, line, rest, turn, over, after, e) = (mid, line, rest, turn, tt, any_turns Holds edid until n mid d rest after, e)
 
-leads_of : (edid : Option Edid) (until n : ℕ) (c d : Config) (text : List ℕ) → LeadsIf (IsTold true until) (Trace edid) until n c text d → Leads (Trace edid) until n c text d
+leads_of : (edid : Option Edid) (until n : ℕ) (c d : Config) (text : List ℕ) → LeadsIf (IsReported true until) (Trace edid) until n c text d → Leads (Trace edid) until n c text d
 leads_of edid until zero c d text l = l
 leads_of edid until (suc n) c d text (mid, line, rest, turn, over, after, e) = (mid, line, rest, turn, leads_of edid until n mid d rest after, e)
 
-still : (edid : Option Edid) (tree : List Node) (s t : Session) (told : List ℕ) → SoFar edid tree s told → s.notes.end ≡ None → t ≡ s → Reached edid tree t (told ++ [])
-still edid tree s t told r going same =
-    subst (λ (t : Session). Reached edid tree t (told ++ [])) (sym same) (subst (λ (text : List ℕ). Reached edid tree s text) (sym (append-nil told)) (inl (r, going)))
+still : (edid : Option Edid) (tree : List Node) (s t : Session) (reported : List ℕ) → SoFar edid tree s reported → s.notes.end ≡ None → t ≡ s → Reached edid tree t (reported ++ [])
+still edid tree s t reported r going same =
+    subst (λ (t : Session). Reached edid tree t (reported ++ [])) (sym same) (subst (λ (text : List ℕ). Reached edid tree s text) (sym (append-nil reported)) (inl (r, going)))
 
-due_reached : (edid : Option Edid) (tree : List Node) (s t : Session) (told text : List ℕ) (step : Step) → Asked edid tree step s told → (due : IsDue step s text t) → Reached edid tree t (told ++ told_of step s text t due)
-due_reached edid tree s t told text (Refuse refusal) a due = still edid tree s t told a.so_far a.ended due.1
-due_reached edid tree s t told text Idle a due = still edid tree s t told a.so_far a.ended due.1
-due_reached edid tree s t told text (Show device) a due = still edid tree s t told a.so_far a.ended due.3
-due_reached edid tree s t told text Go a (first, place, goes, is, stands) =
+due_reached : (edid : Option Edid) (tree : List Node) (s t : Session) (reported text : List ℕ) (step : Step) → Asked edid tree step s reported → (due : IsDue step s text t) → Reached edid tree t (reported ++ reported_of step s text t due)
+due_reached edid tree s t reported text (Refuse refusal) a due = still edid tree s t reported a.so_far a.ended due.1
+due_reached edid tree s t reported text Idle a due = still edid tree s t reported a.so_far a.ended due.1
+due_reached edid tree s t reported text (Show device) a due = still edid tree s t reported a.so_far a.ended due.3
+due_reached edid tree s t reported text Go a (first, place, goes, is, stands) =
     let r = a.so_far in
     let here : Goes edid false s.horizon s.place first place = subst (λ (e : Option Edid). Goes e false s.horizon s.place first place) r.edid_is goes in
-    let all = all_on (IsTold false s.horizon) (Trace edid) s.horizon r.turns here.turns (start (first_net tree s.notes.pulses) s.notes.events) s.place place told first r.leads here.leads in
-    subst (λ (t : Session). Reached edid tree t (told ++ first)) (sym stands) (inl (record { edid_is = r.edid_is; turns = all.0; leads = all.1; sound = r.sound }, a.ended))
-due_reached edid tree s t told text Finish a (first, place, goes, is, stands) =
+    let all = all_on (IsReported false s.horizon) (Trace edid) s.horizon r.turns here.turns (start (first_net tree s.notes.pulses) s.notes.events) s.place place reported first r.leads here.leads in
+    subst (λ (t : Session). Reached edid tree t (reported ++ first)) (sym stands) (inl (record { edid_is = r.edid_is; turns = all.0; leads = all.1; sound = r.sound }, a.ended))
+due_reached edid tree s t reported text Finish a (first, place, goes, is, stands) =
     let r = a.so_far in
     let here : Goes edid true s.horizon s.place first place = subst (λ (e : Option Edid). Goes e true s.horizon s.place first place) r.edid_is goes in
-    let before = any_turns (IsTold false s.horizon) edid s.horizon r.turns (start (first_net tree s.notes.pulses) s.notes.events) s.place told r.leads in
-    let all = all_on (IsTold true s.horizon) (Trace edid) s.horizon r.turns here.turns (start (first_net tree s.notes.pulses) s.notes.events) s.place place told first before here.leads in
-    let last = end_told (Trace s.edid) s.horizon place.net in
-    let run : IsRunTextFrom (Trace edid) s.horizon (start (first_net tree s.notes.pulses) s.notes.events) (told ++ (first ++ last)) place.totals = record {
+    let before = any_turns (IsReported false s.horizon) edid s.horizon r.turns (start (first_net tree s.notes.pulses) s.notes.events) s.place reported r.leads in
+    let all = all_on (IsReported true s.horizon) (Trace edid) s.horizon r.turns here.turns (start (first_net tree s.notes.pulses) s.notes.events) s.place place reported first before here.leads in
+    let last = end_reported (Trace s.edid) s.horizon place.net in
+    let run : IsRunTextFrom (Trace edid) s.horizon (start (first_net tree s.notes.pulses) s.notes.events) (reported ++ (first ++ last)) place.totals = record {
       turns = all.0;
       last = place;
-      body = told ++ first;
-      leads = leads_of edid s.horizon all.0 (start (first_net tree s.notes.pulses) s.notes.events) place (told ++ first) all.1;
+      body = reported ++ first;
+      leads = leads_of edid s.horizon all.0 (start (first_net tree s.notes.pulses) s.notes.events) place (reported ++ first) all.1;
       stops = here.last;
-      whole = sym (append_assoc told first last);
+      whole = sym (append_assoc reported first last);
       counts = refl;
     } in
-    subst (λ (t : Session). Reached edid tree t (told ++ (first ++ last))) (sym stands) (inr (record { run = run; ended = a.ended }))
+    subst (λ (t : Session). Reached edid tree t (reported ++ (first ++ last))) (sym stands) (inr (record { run = run; ended = a.ended }))
 
 -- ---- all lines
 
@@ -251,39 +251,39 @@ not_both end at e f = cc
 some_same : (end : Option ℕ) (a b : ℕ) → end ≡ Some a → end ≡ Some b → a ≡ b
 some_same end a b e f = cc
 
-all_lines : (edid : Option Edid) (tree : List Node) (lines kept : List (List ℕ)) (s t : Session) (before told text : List ℕ) → Reached edid tree s before → AreLines lines s kept told text t
-    → Reached edid tree t (before ++ told)
-all_lines edid tree [] kept s t before told text r (nothing, none, empty, same) =
-    subst (λ (t : Session). Reached edid tree t (before ++ told)) (sym same)
-    (subst (λ (told : List ℕ). Reached edid tree s (before ++ told)) (sym none) (subst (λ (text : List ℕ). Reached edid tree s text) (sym (append-nil before)) r))
-all_lines edid tree (line ∷ lines) kept s t before told text (inr over) (mid, here, there, first, second, more, rest, is, after, kept_is, told_is, text_is) = absurd (not_both s.notes.end s.horizon is.goes_on over.ended)
-all_lines edid tree (line ∷ lines) kept s t before told text (inl (so_far, going)) (mid, own, others, first, second, more, rest, is, after, kept_is, told_is, text_is) =
+all_lines : (edid : Option Edid) (tree : List Node) (lines kept : List (List ℕ)) (s t : Session) (before reported text : List ℕ) → Reached edid tree s before → AreLines lines s kept reported text t
+    → Reached edid tree t (before ++ reported)
+all_lines edid tree [] kept s t before reported text r (nothing, none, empty, same) =
+    subst (λ (t : Session). Reached edid tree t (before ++ reported)) (sym same)
+    (subst (λ (reported : List ℕ). Reached edid tree s (before ++ reported)) (sym none) (subst (λ (text : List ℕ). Reached edid tree s text) (sym (append-nil before)) r))
+all_lines edid tree (line ∷ lines) kept s t before reported text (inr over) (mid, here, there, first, second, more, rest, is, after, kept_is, reported_is, text_is) = absurd (not_both s.notes.end s.horizon is.goes_on over.ended)
+all_lines edid tree (line ∷ lines) kept s t before reported text (inl (so_far, going)) (mid, own, others, first, second, more, rest, is, after, kept_is, reported_is, text_is) =
     let asked = asked_by edid tree (with_line_counted s) before line (command_of s.tree line) is.step is.asked (counted edid tree s before so_far) going is.asks in
     let here : Reached edid tree mid (before ++ first) =
-    subst (λ (told : List ℕ). Reached edid tree mid (before ++ told)) (sym is.told_is) (due_reached edid tree is.asked mid before second is.step asked is.due) in
+    subst (λ (reported : List ℕ). Reached edid tree mid (before ++ reported)) (sym is.reported_is) (due_reached edid tree is.asked mid before second is.step asked is.due) in
     let there = all_lines edid tree lines others mid t (before ++ first) more rest here after in
-    subst (λ (text : List ℕ). Reached edid tree t text) (append_assoc before first more ∙ ap (λ (text : List ℕ). before ++ text) (sym told_is)) there
+    subst (λ (text : List ℕ). Reached edid tree t text) (append_assoc before first more ∙ ap (λ (text : List ℕ). before ++ text) (sym reported_is)) there
 
-reached : (edid : Option Edid) (tree : List Node) (lines kept : List (List ℕ)) (told text : List ℕ) (t : Session) → AreLines lines (first_session edid tree) kept told text t → Reached edid tree t told
-reached edid tree lines kept told text t l = all_lines edid tree lines kept (first_session edid tree) t [] told text (inl (so_far_start edid tree, refl)) l
+reached : (edid : Option Edid) (tree : List Node) (lines kept : List (List ℕ)) (reported text : List ℕ) (t : Session) → AreLines lines (first_session edid tree) kept reported text t → Reached edid tree t reported
+reached edid tree lines kept reported text t l = all_lines edid tree lines kept (first_session edid tree) t [] reported text (inl (so_far_start edid tree, refl)) l
 
-pub sessions_tell_fronts : SessionsTellFronts
-sessions_tell_fronts edid tree lines kept told text t l going events later end whole totals comes run =
-    by_case (reached edid tree lines kept told text t l)
+pub sessions_report_fronts : SessionsReportFronts
+sessions_report_fronts edid tree lines kept reported text t l going events later end whole totals comes run =
+    by_case (reached edid tree lines kept reported text t l)
   where
-    by_case : Reached edid tree t told → (more : List ℕ) × (whole ≡ (start_told (Trace edid) (first_net tree t.notes.pulses) ++ told) ++ more)
+    by_case : Reached edid tree t reported → (more : List ℕ) × (whole ≡ (start_reported (Trace edid) (first_net tree t.notes.pulses) ++ reported) ++ more)
     by_case (inl (r, none)) =
-        told_is_front (Trace edid) tree t.notes.pulses later t.notes.events events t.horizon end r.turns t.place told whole totals
+        reported_is_front (Trace edid) tree t.notes.pulses later t.notes.events events t.horizon end r.turns t.place reported whole totals
         (faultless_are_apart t.notes.pulses r.sound.apart) r.sound.framed comes r.leads run
     by_case (inr over) = absurd (not_both t.notes.end t.horizon going over.ended)
 
-pub sessions_tell_traces : SessionsTellTraces
-sessions_tell_traces edid tree lines kept told text t end l ended = by_case (reached edid tree lines kept told text t l)
+pub sessions_report_traces : SessionsReportTraces
+sessions_report_traces edid tree lines kept reported text t end l ended = by_case (reached edid tree lines kept reported text t l)
   where
-    by_case : Reached edid tree t told
-        → IsRunText (Trace edid) end (start (first_net tree t.notes.pulses) t.notes.events) (start_told (Trace edid) (first_net tree t.notes.pulses) ++ told) t.place.totals
+    by_case : Reached edid tree t reported
+        → IsRunText (Trace edid) end (start (first_net tree t.notes.pulses) t.notes.events) (start_reported (Trace edid) (first_net tree t.notes.pulses) ++ reported) t.place.totals
     by_case (inl (r, none)) = absurd (not_both t.notes.end end none ended)
     by_case (inr over) =
         subst (λ (end : ℕ). IsRunText (Trace edid) end (start (first_net tree t.notes.pulses) t.notes.events)
-        (start_told (Trace edid) (first_net tree t.notes.pulses) ++ told) t.place.totals) (some_same t.notes.end t.horizon end over.ended ended)
-        (record { rest = told; run = over.run; whole = refl })
+        (start_reported (Trace edid) (first_net tree t.notes.pulses) ++ reported) t.place.totals) (some_same t.notes.end t.horizon end over.ended ended)
+        (record { rest = reported; run = over.run; whole = refl })

@@ -19,10 +19,10 @@ use Rattle.cec_asm.specs.declared.fault.LineFault.{LineFault}
 use Rattle.cec_asm.specs.declared.script.ScriptCause.TheVariants.{Number, Name}
 use Rattle.hdmi_blocks.specs.Root.{HasAddress}
 use Rattle.cec_trace.specs.StateText.{state_line}
-use Rattle.cec_run.specs.declared.run.Telling.TheVariants.{Trace}
+use Rattle.cec_run.specs.declared.run.Reporting.TheVariants.{Trace}
 use Rattle.cec_run.specs.declared.run.Turn.{Turn}
 use Rattle.cec_run.specs.declared.run.Turn.TheVariants.{Stop, Apply, Round}
-use Rattle.cec_run.specs.Run.{Config, start, turn_at, end_told}
+use Rattle.cec_run.specs.Run.{Config, start, turn_at, end_reported}
 use Rattle.causal_laws.specs.Certain.{with_pulses}
 use Rattle.cec_session.specs.declared.command.Command.{Command}
 use Rattle.cec_session.specs.declared.command.Command.TheVariants as commands
@@ -189,10 +189,10 @@ abbrev pub IsDue : Step → Session → List ℕ → Session → Type 0
 IsDue (Refuse refusal) s text t = (text ≡ refused_line s.lines refusal) × (t ≡ s)
 IsDue Idle s text t = (text ≡ idle_line s.horizon) × (t ≡ s)
 IsDue (Show device) s text t = (shown : State) × (slice_get s.place.net.devices device ≡ Some shown) × (text ≡ codes "= " ++ state_line shown) × (t ≡ s)
-IsDue Go s text t = (told : List ℕ) × (place : Config) × Goes s.edid false s.horizon s.place told place × (text ≡ told ++ taken_line s.horizon) × (t ≡ record s { place = place })
+IsDue Go s text t = (reported : List ℕ) × (place : Config) × Goes s.edid false s.horizon s.place reported place × (text ≡ reported ++ taken_line s.horizon) × (t ≡ record s { place = place })
 IsDue Finish s text t =
-    (told : List ℕ) × (place : Config) × Goes s.edid true s.horizon s.place told place
-    × (text ≡ told ++ (end_told (Trace s.edid) s.horizon place.net ++ taken_line s.horizon)) × (t ≡ record s { place = place })
+    (reported : List ℕ) × (place : Config) × Goes s.edid true s.horizon s.place reported place
+    × (text ≡ reported ++ (end_reported (Trace s.edid) s.horizon place.net ++ taken_line s.horizon)) × (t ≡ record s { place = place })
 
 -- ---- what holds of every session
 

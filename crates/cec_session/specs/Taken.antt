@@ -2,7 +2,7 @@
 use Rattle.std.specs.Prelude.{◌≡◌, ℕ, Bool, true, List, length, Option, Result, Ok, Err}
 use Rattle.std.specs.Io.KnownBytes.{Appends}
 use Rattle.hdmi_core.specs.declared.sink.WriteFault.{WriteFault}
-use Rattle.hdmi_core.specs.Cut.{CutOff, WrittenText, told_count}
+use Rattle.hdmi_core.specs.Cut.{CutOff, WrittenText, reported_count}
 use Rattle.cec_run.specs.Run.{Config}
 use Rattle.cec_session.specs.Turns.{Goes}
 use Rattle.cec_session.specs.declared.live.Step.{Step}
@@ -13,27 +13,27 @@ use Rattle.cec_session.specs.Session.{Session, with_line_counted, IsStep, IsDue}
 -- a session went on: all turns that are reported from where it stood were written, and nothing else has changed; or a fault cut
 -- their text off
 abbrev pub IsGone : Bool → Session → Session → Option (List ℕ) → Option (List ℕ) → Bool → Bool → Result ℕ WriteFault → Type 0
-IsGone ended s t old new was is (Ok told) =
-    (text : List ℕ) × (place : Config) × Goes s.edid ended s.horizon s.place text place × (t ≡ record s { place = place }) × WrittenText old new was is text (Ok told)
+IsGone ended s t old new was is (Ok reported) =
+    (text : List ℕ) × (place : Config) × Goes s.edid ended s.horizon s.place text place × (t ≡ record s { place = place }) × WrittenText old new was is text (Ok reported)
 IsGone ended s t old new was is (Err fault) =
     ((text : List ℕ) (place : Config) → Goes s.edid ended s.horizon s.place text place → CutOff old new text fault) × (is ≡ true)
 
 -- what is due was written whole, or a fault cut it off
 abbrev pub IsAnswered : Step → Session → Session → Option (List ℕ) → Option (List ℕ) → Bool → Bool → Result ℕ WriteFault → Type 0
-IsAnswered step s t old new was is (Ok told) = (text : List ℕ) × IsDue step s text t × (told ≡ told_count (length text)) × Appends old new text × (is ≡ was)
+IsAnswered step s t old new was is (Ok reported) = (text : List ℕ) × IsDue step s text t × (reported ≡ reported_count (length text)) × Appends old new text × (is ≡ was)
 IsAnswered step s t old new was is (Err fault) = ((text : List ℕ) (after : Session) → IsDue step s text after → CutOff old new text fault) × (is ≡ true)
 
 -- A line asks for a step, and what is due of that was written. After a failed write the front of the text that is due was
 -- written, as long as the fault says. Where memory ran out the line counts, and nothing else has changed.
 abbrev pub IsLineTaken : Session → List ℕ → Session → Option (List ℕ) → Option (List ℕ) → Bool → Bool → Result ℕ LiveError → Type 0
-IsLineTaken s line t old new was is (Ok told) =
-    (step : Step) × (asked : Session) × IsStep s line step asked × IsAnswered step asked t old new was is (Ok told)
+IsLineTaken s line t old new was is (Ok reported) =
+    (step : Step) × (asked : Session) × IsStep s line step asked × IsAnswered step asked t old new was is (Ok reported)
 IsLineTaken s line t old new was is (Err (Write count)) =
     (step : Step) × (asked : Session) × IsStep s line step asked × IsAnswered step asked t old new was is (Err (record { count = count }))
 IsLineTaken s line t old new was is (Err Memory) = (t ≡ with_line_counted s) × (new ≡ old) × (is ≡ was)
 
 -- memory ran out
 abbrev pub IsOfMemory : Result ℕ LiveError → Type 0
-IsOfMemory (Ok told) = ⊥
+IsOfMemory (Ok reported) = ⊥
 IsOfMemory (Err (Write count)) = ⊥
 IsOfMemory (Err Memory) = Unit {0}

@@ -8,7 +8,7 @@ use Rattle.cec_net.specs.State.{NetState, next_start}
 use Rattle.cec_net.specs.Step.{IsNextRound, after_round}
 use Rattle.hdmi_blocks.specs.declared.edid.Edid.{Edid}
 use Rattle.hdmi_core.specs.declared.sink.WriteFault.{WriteFault}
-use Rattle.cec_run.specs.declared.run.Telling.TheVariants.{Trace}
+use Rattle.cec_run.specs.declared.run.Reporting.TheVariants.{Trace}
 use Rattle.cec_run.specs.declared.run.Totals.{Totals}
 use Rattle.cec_run.specs.declared.run.Turn.{Turn}
 use Rattle.cec_run.specs.declared.run.Turn.TheVariants.{Stop}
@@ -16,9 +16,9 @@ use Rattle.cec_run.specs.Run.{Config, turn_at, RoundWritten}
 use Rattle.causal_laws.specs.Certain.{IsOverBy, LeadsIf, IsHeld}
 
 -- What a turn has to be to be told: while more lines may come, over before the horizon; once the script has ended, each is.
-abbrev pub IsTold : Bool → ℕ → Turn → Config → Type 0
-IsTold false until turn after = IsOverBy until turn after
-IsTold true until turn after = Unit {0}
+abbrev pub IsReported : Bool → ℕ → Turn → Config → Type 0
+IsReported false until turn after = IsOverBy until turn after
+IsReported true until turn after = Unit {0}
 
 -- no further turn is reported
 abbrev pub IsLast : Bool → ℕ → Config → Type 0
@@ -28,7 +28,7 @@ IsLast true until c = turn_at until c ≡ Stop
 -- all turns that are reported from one place on, and their texts one after another
 pub record Goes (edid : Option Edid) (ended : Bool) (until : ℕ) (c : Config) (text : List ℕ) (d : Config) : Type 0 where
   pub turns : ℕ
-  pub leads : LeadsIf (IsTold ended until) (Trace edid) until turns c text d
+  pub leads : LeadsIf (IsReported ended until) (Trace edid) until turns c text d
   pub last : IsLast ended until d
 
 -- ---- a round

@@ -8,12 +8,12 @@ use Rattle.cec_incoming.specs.Incoming.{IsWhole, text_of_lines}
 use Rattle.cec_asm.specs.Topology.{topology_of, Plan}
 use Rattle.cec_asm.specs.declared.script.TimedEvent.{TimedEvent}
 use Rattle.hdmi_blocks.specs.Root.{IsRoot}
-use Rattle.cec_run.specs.declared.run.Telling.TheVariants.{Trace}
+use Rattle.cec_run.specs.declared.run.Reporting.TheVariants.{Trace}
 use Rattle.cec_run.specs.declared.run.Totals.{Totals}
-use Rattle.cec_run.specs.Run.{start, end_told, IsRunText}
+use Rattle.cec_run.specs.Run.{start, end_reported, IsRunText}
 use Rattle.cec_run.specs.Emulate.{IsTraceOf}
 use Rattle.causal_laws.specs.Certain.{ComesFrom}
-use Rattle.causal_laws.specs.Causal.{BeginsWith, before_told}
+use Rattle.causal_laws.specs.Causal.{BeginsWith, before_reported}
 use Rattle.cec_session.specs.declared.command.Command.{Command}
 use Rattle.cec_session.specs.declared.command.Command.TheVariants as commands
 use Rattle.cec_session.specs.declared.live.Step.{Step}
@@ -22,12 +22,12 @@ use Rattle.cec_session.specs.Command.{command_of}
 use Rattle.cec_session.specs.Session.{Session, first_session, IsStep, IsDue}
 
 -- what is due of a step without its answer: lines of the trace
-abbrev pub told_of : (step : Step) (s : Session) (text : List ℕ) (t : Session) → IsDue step s text t → List ℕ
-told_of (Refuse refusal) s text t due = []
-told_of Idle s text t due = []
-told_of (Show device) s text t due = []
-told_of Go s text t due = due.0
-told_of Finish s text t due = due.0 ++ end_told (Trace s.edid) s.horizon due.1.net
+abbrev pub reported_of : (step : Step) (s : Session) (text : List ℕ) (t : Session) → IsDue step s text t → List ℕ
+reported_of (Refuse refusal) s text t due = []
+reported_of Idle s text t due = []
+reported_of (Show device) s text t due = []
+reported_of Go s text t due = due.0
+reported_of Finish s text t due = due.0 ++ end_reported (Trace s.edid) s.horizon due.1.net
 
 -- a line of the script as it was taken, and an empty one where it was refused
 abbrev pub kept_by : Step → List ℕ → List ℕ
@@ -46,43 +46,43 @@ kept_line (commands.Show device) step line = []
 
 -- A line of a session whose script has not ended: what of it is of the script, what was written, and what of that is of the
 -- trace.
-pub record IsLine (s : Session) (line kept told text : List ℕ) (t : Session) : Type 0 where
+pub record IsLine (s : Session) (line kept reported text : List ℕ) (t : Session) : Type 0 where
   pub goes_on : s.notes.end ≡ None
   pub step : Step
   pub asked : Session
   pub asks : IsStep s line step asked
   pub due : IsDue step asked text t
   pub kept_is : kept ≡ kept_line (command_of s.tree line) step line
-  pub told_is : told ≡ told_of step asked text t due
+  pub reported_is : reported ≡ reported_of step asked text t due
 
 -- one line after another
 abbrev pub AreLines : List (List ℕ) → Session → List (List ℕ) → List ℕ → List ℕ → Session → Type 0
-AreLines [] s kept told text t = (kept ≡ []) × (told ≡ []) × (text ≡ []) × (t ≡ s)
-AreLines (line ∷ lines) s kept told text t =
+AreLines [] s kept reported text t = (kept ≡ []) × (reported ≡ []) × (text ≡ []) × (t ≡ s)
+AreLines (line ∷ lines) s kept reported text t =
     (mid : Session) × (here : List ℕ) × (there : List (List ℕ)) × (first : List ℕ) × (second : List ℕ) × (more : List ℕ) × (rest : List ℕ)
-    × IsLine s line here first second mid × AreLines lines mid there more rest t × (kept ≡ here ∷ there) × (told ≡ first ++ more) × (text ≡ second ++ rest)
+    × IsLine s line here first second mid × AreLines lines mid there more rest t × (kept ≡ here ∷ there) × (reported ≡ first ++ more) × (text ≡ second ++ rest)
 
 -- While a session goes on, what its lines have reported, without the answers, is the front of the trace of every run that may still
 -- come of the lines that were taken.
-abbrev pub SessionsTellFronts : Type 0
-SessionsTellFronts = (edid : Option Edid) (tree : List Node) (lines kept : List (List ℕ)) (told text : List ℕ) (t : Session) → AreLines lines (first_session edid tree) kept told text t → t.notes.end ≡ None
+abbrev pub SessionsReportFronts : Type 0
+SessionsReportFronts = (edid : Option Edid) (tree : List Node) (lines kept : List (List ℕ)) (reported text : List ℕ) (t : Session) → AreLines lines (first_session edid tree) kept reported text t → t.notes.end ≡ None
     → (events : List TimedEvent) (later : List Stretch) (end : ℕ) (whole : List ℕ) (totals : Totals) → ComesFrom t.horizon events later end
     → IsRunText (Trace edid) end (start (first_net tree (t.notes.pulses ++ later)) (t.notes.events ++ events)) whole totals
-    → BeginsWith (before_told (Trace edid) tree t.notes.pulses told) whole
+    → BeginsWith (before_reported (Trace edid) tree t.notes.pulses reported) whole
 
 -- And once it has ended it is that trace.
-abbrev pub SessionsTellTraces : Type 0
-SessionsTellTraces = (edid : Option Edid) (tree : List Node) (lines kept : List (List ℕ)) (told text : List ℕ) (t : Session) (end : ℕ) → AreLines lines (first_session edid tree) kept told text t
+abbrev pub SessionsReportTraces : Type 0
+SessionsReportTraces = (edid : Option Edid) (tree : List Node) (lines kept : List (List ℕ)) (reported text : List ℕ) (t : Session) (end : ℕ) → AreLines lines (first_session edid tree) kept reported text t
     → t.notes.end ≡ Some end
-    → IsRunText (Trace edid) end (start (first_net tree t.notes.pulses) t.notes.events) (before_told (Trace edid) tree t.notes.pulses told) t.place.totals
+    → IsRunText (Trace edid) end (start (first_net tree t.notes.pulses) t.notes.events) (before_reported (Trace edid) tree t.notes.pulses reported) t.place.totals
 
 -- ---- the script that was taken
 
 -- So what a session has reported is, without the answers, the trace that the topology and its script have, with the lines that were
 -- refused and the session's own ones emptied: where that script has no more pulses than one may have, for those that a session
 -- has let go count no more.
-abbrev pub SessionsTellTracesOf : Type 0
-SessionsTellTracesOf = (topology : List ℕ) (plan : Plan) (edid : Option Edid) (lines kept : List (List ℕ)) (told text : List ℕ) (t : Session) (end : ℕ)
+abbrev pub SessionsReportTracesOf : Type 0
+SessionsReportTracesOf = (topology : List ℕ) (plan : Plan) (edid : Option Edid) (lines kept : List (List ℕ)) (reported text : List ℕ) (t : Session) (end : ℕ)
     → topology_of topology ≡ Ok plan → IsRoot plan.edid edid → All IsWhole lines → length lines ≤ 18446744073709551615 → length t.notes.pulses ≤ 4096
-    → AreLines lines (first_session edid plan.tree) kept told text t → t.notes.end ≡ Some end
-    → IsTraceOf topology (text_of_lines kept) (before_told (Trace edid) plan.tree [] told) t.place.totals
+    → AreLines lines (first_session edid plan.tree) kept reported text t → t.notes.end ≡ Some end
+    → IsTraceOf topology (text_of_lines kept) (before_reported (Trace edid) plan.tree [] reported) t.place.totals

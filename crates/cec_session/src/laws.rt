@@ -1,19 +1,19 @@
 //! Laws of whole sessions.
-ghost use Rattle.cec_session.specs.Whole.{SessionsTellFronts, SessionsTellTraces, SessionsTellTracesOf};
+ghost use Rattle.cec_session.specs.Whole.{SessionsReportFronts, SessionsReportTraces, SessionsReportTracesOf};
 
 /// While a session goes on, what its lines have reported, without the answers, is the front of the trace of every run that may
 /// still come of the lines that were taken.
-pub fn sessions_tell_fronts()
-    ensures { SessionsTellFronts }
+pub fn sessions_report_fronts()
+    ensures { SessionsReportFronts }
 {}
 
 /// Once it has ended, that is the trace of the lines that were taken.
-pub fn sessions_tell_traces()
-    ensures { SessionsTellTraces }
+pub fn sessions_report_traces()
+    ensures { SessionsReportTraces }
 {}
 
 /// What a session has reported is the trace that its topology has with its script, with the lines that were refused and the
 /// session's own ones emptied.
-pub fn sessions_tell_traces_of()
-    ensures { SessionsTellTracesOf }
+pub fn sessions_report_traces_of()
+    ensures { SessionsReportTracesOf }
 {}

@@ -10,5 +10,5 @@ mod note;
 mod turns;
 
 pub use answer::Refusal;
-pub use laws::{sessions_tell_fronts, sessions_tell_traces, sessions_tell_traces_of};
+pub use laws::{sessions_report_fronts, sessions_report_traces, sessions_report_traces_of};
 pub use live::{Live, LiveError, Step};

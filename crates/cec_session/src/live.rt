@@ -105,8 +105,8 @@ impl Live {
     ghost use Rattle.cec_asm.specs.declared.fault.LineFault.{LineFault as LineFaultValue};
     ghost use Rattle.hdmi_blocks.specs.Root.{HasAddress};
     ghost use Rattle.hdmi_core.specs.Cut.{WrittenText};
-    ghost use Rattle.cec_run.specs.declared.run.Telling.TheVariants.{Trace};
-    ghost use Rattle.cec_run.specs.Run.{end_told, start_told};
+    ghost use Rattle.cec_run.specs.declared.run.Reporting.TheVariants.{Trace};
+    ghost use Rattle.cec_run.specs.Run.{end_reported, start_reported};
     ghost use Rattle.cec_session.specs.declared.live.Step.TheVariants.{Finish, Go, Show};
     ghost use Rattle.cec_session.specs.Note.{IsSettled};
     ghost use Rattle.cec_session.specs.Session.{IsSoonest, IsStep, NamesShown, after_to, after_wait, first_session, with_line_counted, standing, step_to, step_wait, taken_line, with_standing};
@@ -144,7 +144,7 @@ impl Live {
 
     /// Writes what the trace has at its start: the lines of the ports.
     pub fn write_start<S: Sink>(&self, out: &mut S) -> Result<u128, WriteFault>
-        ensures { WrittenText (S.contents out.old) (S.contents out.new) (S.is_stuck out.old) (S.is_stuck out.new) (start_told (Trace self.now.edid) self.now.place.net) result }
+        ensures { WrittenText (S.contents out.old) (S.contents out.new) (S.is_stuck out.old) (S.is_stuck out.new) (start_reported (Trace self.now.edid) self.now.place.net) result }
     {
         write_ports(out, 0, &self.edid, self.net.tree(), &[])
     }
@@ -262,7 +262,7 @@ impl Live {
     // Writes the rest of the trace after its last turn, and answers.
     fn write_end<S: Sink>(&self, out: &mut S) -> Result<u128, WriteFault>
         ensures { WrittenText (S.contents out.old) (S.contents out.new) (S.is_stuck out.old) (S.is_stuck out.new)
-            (end_told (Trace self.now.edid) self.now.horizon self.now.place.net ++ taken_line self.now.horizon) result }
+            (end_reported (Trace self.now.edid) self.now.horizon self.now.place.net ++ taken_line self.now.horizon) result }
     {
         match write_last_lines(out, self.net.devices(), self.horizon) {
             Ok(count) => with_rest(count, write_taken(out, self.horizon)),

@@ -14,7 +14,7 @@ ghost use Rattle.cec_text.specs.ReadingText.{is_complete};
 ghost use Rattle.hdmi_blocks.specs.Root.{HasAddress};
 ghost use Rattle.cec_trace.specs.StateText.{state_line};
 ghost use Rattle.cec_trace.specs.TraceText.{end_line};
-ghost use Rattle.hdmi_core.specs.Cut.{CutOff, WrittenText, told_count};
+ghost use Rattle.hdmi_core.specs.Cut.{CutOff, WrittenText, reported_count};
 ghost use Rattle.cec_run.specs.Run.{Config, counted_round, turn_of};
 ghost use Rattle.cec_session.specs.Session.{IsSoonestBy};
 ghost use Rattle.cec_session.specs.Turns.{Goes, IsLate, IsRoundTaken, IsSoon, IsWithin, Keeps};
@@ -103,7 +103,7 @@ pub(crate) fn go_on<S: Sink>(
     ensures ok { IfOk result (λ written. (text : List ℕ)
         × Goes edid.now ended until (record { net = net.old; events = events.now; totals = totals.old }) text
         (record { net = net.new; events = drop applied.new events.now; totals = totals.new })
-        × Appends (S.contents out.old) (S.contents out.new) text × (written ≡ told_count (length text))) }
+        × Appends (S.contents out.old) (S.contents out.new) text × (written ≡ reported_count (length text))) }
     ensures few { applied.new ≤ length events.now }
     ensures within { IsWithin (record { net = net.new; events = drop applied.new events.now; totals = totals.new }) }
     ensures keeps { Keeps (record { net = net.old; events = events.now; totals = totals.old })

@@ -23,8 +23,8 @@ move_kept t at b after = same b
     same b = rw (late, quiet b) refl
 
 -- it turned at the instant before
-pub move_told : (t at : ℕ) (b : Bool) → at < t → track_move t (track_at at (not b) b) ≡ Some (record { track = track_at t b b; edge = Some (record { at = at; low = b }) })
-move_told t at b after = told b
+pub move_reported : (t at : ℕ) (b : Bool) → at < t → track_move t (track_at at (not b) b) ≡ Some (record { track = track_at t b b; edge = Some (record { at = at; low = b }) })
+move_reported t at b after = reported b
   where
     late : nat_lt t at ≡ false
     late = grind (arith, nat_tests)
@@ -32,9 +32,9 @@ move_told t at b after = told b
     later : nat_lt at t ≡ true
     later = grind (arith, nat_tests)
 
-    told : (b : Bool) → track_move t (track_at at (not b) b) ≡ Some (record { track = track_at t b b; edge = Some (record { at = at; low = b }) })
-    told true = rw (late, later) refl
-    told false = rw (late, later) refl
+    reported : (b : Bool) → track_move t (track_at at (not b) b) ≡ Some (record { track = track_at t b b; edge = Some (record { at = at; low = b }) })
+    reported true = rw (late, later) refl
+    reported false = rw (late, later) refl
 
 -- the same instant
 pub move_same : (t : ℕ) (was is : Bool) → track_move t (track_at t was is) ≡ Some (record { track = track_at t was is; edge = None })

@@ -10,10 +10,10 @@ use Rattle.hdmi_core.specs.declared.sink.WriteFault.{WriteFault}
 use Rattle.hdmi_core.proofs.CutShort.{Appends-trans}
 use Rattle.hdmi_topo.specs.Node.{Node}
 use Rattle.hdmi_topo.specs.Tree.{device_named}
-use Rattle.hdmi_core.specs.Cut.{WrittenText, told_count}
+use Rattle.hdmi_core.specs.Cut.{WrittenText, reported_count}
 use Rattle.hdmi_core.specs.Lines.{lines_of, is_skipped}
 use Rattle.hdmi_core.specs.Words.{words_of}
-use Rattle.hdmi_core.proofs.Cutting.{cut_later, told_parts}
+use Rattle.hdmi_core.proofs.Cutting.{cut_later, reported_parts}
 use Rattle.cec_wire.specs.declared.Outcome.{Outcome}
 use Rattle.cec_net.specs.State.{NetState}
 use Rattle.cec_net.specs.Apply.{net_after}
@@ -65,23 +65,23 @@ edge_count s t (Some net) text (inr later) = ap device_count later.first.2 ∙ r
 
 step_count : (command : Command) (s t : Steps) (text : List ℕ) → IsStep command s text t → device_count t ≡ device_count s
 step_count Edge s t text h = edge_count s t s.begun text h
-step_count Round s t text (o, q, step, told, is) = ap device_count is ∙ round_count s.run.end s.last q o step
+step_count Round s t text (o, q, step, reported, is) = ap device_count is ∙ round_count s.run.end s.last q o step
 step_count (Until at) s t text h =
     ap device_count h.stands ∙ round_count s.run.end h.before h.after h.outcome h.step ∙ skips_count s.run.end at h.rounds s.last h.before h.skips
-step_count (Show device) s t text (shown, found, told, is) = ap device_count is
+step_count (Show device) s t text (shown, found, reported, is) = ap device_count is
 
 due_count : (command : Command) (s t : Steps) (text : List ℕ) → IsDue command s text t → device_count t ≡ device_count s
 due_count command s t text (inl step) = step_count command s t text step
-due_count command s t text (inr (none, told, is)) = ap device_count is
+due_count command s t text (inr (none, reported, is)) = ap device_count is
 
 pub dues_count : (commands : List Command) (s t : Steps) (text : List ℕ) → AreDue commands s text t → device_count t ≡ device_count s
 dues_count [] s t text h = ap device_count h.1
-dues_count (command ∷ commands) s t text (mid, first, rest, due, others, told) =
+dues_count (command ∷ commands) s t text (mid, first, rest, due, others, reported) =
     dues_count commands mid t rest others ∙ due_count command s mid first due
 
 -- in a round that was begun there are as many
 pub inside_count : (end : ℕ) (b : Bool) (p q : Point) → b ≡ true → InsideIf b end p q → length q.net.tree ≡ length p.net.tree
-inside_count end true p q begun i = ap (λ (x : Point). length x.net.tree) i.told ∙ count_passed end p
+inside_count end true p q begun i = ap (λ (x : Point). length x.net.tree) i.reported ∙ count_passed end p
 inside_count end false p q begun i = cc
 
 -- ---- one command more
@@ -98,15 +98,15 @@ due_more : (front : List Command) (command : Command) (s mid t : Steps) (text fi
     → AreDue (front ++ command ∷ []) s (text ++ first) t
 due_more [] command s mid t text first h due =
     (t, first, [], subst (λ x. IsDue command x first t) h.1 due, (refl, refl), ap (λ x. x ++ first) h.0 ∙ sym (append-nil first))
-due_more (c ∷ front) command s mid t text first (next, head, rest, one, others, told) due =
-    (next, head, rest ++ first, one, due_more front command next mid t rest first others due, ap (λ x. x ++ first) told ∙ append_assoc head rest first)
+due_more (c ∷ front) command s mid t text first (next, head, rest, one, others, reported) due =
+    (next, head, rest ++ first, one, due_more front command next mid t rest first others due, ap (λ x. x ++ first) reported ∙ append_assoc head rest first)
 
 -- the commands so far were taken, and their text was written
 pub record Reached (commands : List Command) (n : ℕ) (s t : Steps) (old new : Option (List ℕ)) (written : ℕ) : Type 0 where
   pub text : List ℕ
   pub due : AreDue (take n commands) s text t
   pub so_far : Appends old new text
-  pub counted : written ≡ told_count (length text)
+  pub counted : written ≡ reported_count (length text)
 
 next_due : (commands : List Command) (n : ℕ) (command : Command) (s mid t : Steps) (text first : List ℕ) → n < length commands → get_or commands n command ≡ command
     → AreDue (take n commands) s text mid → IsDue command mid first t → AreDue (take (n + 1) commands) s (text ++ first) t
@@ -116,26 +116,26 @@ next_due commands n command s mid t text first below is h due =
 
 pub reached_more : (commands : List Command) (n : ℕ) (command : Command) (s mid t : Steps) (old between new : Option (List ℕ)) (was is : Bool) (written count m : ℕ) → n < length commands
     → get_or commands n command ≡ command → Reached commands n s mid old between written → (first : List ℕ) → IsDue command mid first t → WrittenText between new was is first (Ok count)
-    → m ≡ told_count (written + count) → Reached commands (n + 1) s t old new m
-reached_more commands n command s mid t old between new was is written count m below same r first due wrote told = record {
+    → m ≡ reported_count (written + count) → Reached commands (n + 1) s t old new m
+reached_more commands n command s mid t old between new was is written count m below same r first due wrote reported = record {
   text = r.text ++ first;
   due = next_due commands n command s mid t r.text first below same r.due due;
   so_far = Appends-trans old between new r.text first r.so_far wrote.1;
-  counted = told ∙ told_parts written count r.text first r.counted wrote.0;
+  counted = reported ∙ reported_parts written count r.text first r.counted wrote.0;
 }
 
 -- the text of the next one was cut off
 pub cut_next : (commands : List Command) (n : ℕ) (command : Command) (s mid t : Steps) (old between new : Option (List ℕ)) (was is : Bool) (written : ℕ) (inner fault : WriteFault) → n < length commands
     → get_or commands n command ≡ command → Reached commands n s mid old between written → (first : List ℕ) → IsDue command mid first t → WrittenText between new was is first (Err inner)
-    → fault.count ≡ told_count (written + inner.count) → AreCut commands s old new fault
-cut_next commands n command s mid t old between new was is written inner fault below same r first due wrote told = record {
+    → fault.count ≡ reported_count (written + inner.count) → AreCut commands s old new fault
+cut_next commands n command s mid t old between new was is written inner fault below same r first due wrote reported = record {
   front = take (n + 1) commands;
   left = drop (n + 1) commands;
   text = r.text ++ first;
   last = t;
   split = sym (take-append-drop (n + 1) commands);
   due = next_due commands n command s mid t r.text first below same r.due due;
-  cut = cut_later old between new r.text first written inner fault r.counted r.so_far wrote.0 told;
+  cut = cut_later old between new r.text first written inner fault r.counted r.so_far wrote.0 reported;
 }
 
 -- ---- the devices that commands name

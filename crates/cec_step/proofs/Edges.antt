@@ -23,7 +23,7 @@ fresh low begin high = by (nat_lt 0 begin) refl
 pub has_edge : (s : NetState) (begin : ℕ) (low : Line) → next_start s ≡ Some begin → AreSparse s.pulses → IsRoundLine (seats_of s begin) begin s.pulses low → IsNextEdge low begin None → ⊥
 has_edge s begin low next sparse line none =
     let up : low begin ≡ true =
-    low_at_begin (seats_of s begin) begin s.pulses low sparse (contended (seats_of s begin) begin s.pulses low line) (begun_by low begin (start_of low begin) refl).tells (begun s begin next) in
+    low_at_begin (seats_of s begin) begin s.pulses low sparse (contended (seats_of s begin) begin s.pulses low line) (begun_by low begin (start_of low begin) refl).reports (begun s begin next) in
     let down : was_low low begin ≡ false = fresh low begin (high_before (seats_of s begin) begin s.pulses low line) in
     clash (low begin) (was_low low begin) up down (none begin (omega arith))
   where

@@ -10,7 +10,7 @@ use Rattle.cec_net.specs.State.{NetState, next_start}
 use Rattle.cec_net.specs.Apply.{net_after}
 use Rattle.cec_net.specs.Step.{IsNextRound}
 use Rattle.cec_net.specs.Progress.{IsProgress}
-use Rattle.cec_net.specs.Underway.{OfRound, standing_told}
+use Rattle.cec_net.specs.Underway.{OfRound, standing_reported}
 use Rattle.cec_asm.specs.declared.script.TimedEvent.{TimedEvent}
 use Rattle.cec_run.specs.declared.run.Turn.{Turn}
 use Rattle.cec_run.specs.declared.run.Turn.TheVariants.{Stop, Apply, Round}
@@ -45,19 +45,19 @@ ready_passed end p r = ready_from end p.net p.events p.is_first r
 
 -- a round has a device still
 pub some_inside : (end : ℕ) (p q : Point) → IsReady end p → IsInside end p q → 0 < length q.net.tree
-some_inside end p q r i = subst (λ n. 0 < n) (sym (ap (λ (x : Point). length x.net.tree) i.told)) (ready_passed end p r).some
+some_inside end p q r i = subst (λ n. 0 < n) (sym (ap (λ (x : Point). length x.net.tree) i.reported)) (ready_passed end p r).some
 
 -- ---- its first edge
 
 pub begun_inside : (end : ℕ) (p q : Point) (e : Edge) → Begins end p e q → IsInside end p q
-begun_inside end p q e b = record { begin = b.begin; heard = e.at + 1; turn = b.turn; told = b.told }
+begun_inside end p q e b = record { begin = b.begin; heard = e.at + 1; turn = b.turn; reported = b.reported }
 
 -- a text reports an edge
-abbrev pub Tells : NetState → Edge → List ℕ → Type 0
-Tells net e text = OfRound net (λ begin heard low. text ≡ edge_line net.devices e (standing_told low begin heard))
+abbrev pub Reports : NetState → Edge → List ℕ → Type 0
+Reports net e text = OfRound net (λ begin heard low. text ≡ edge_line net.devices e (standing_reported low begin heard))
 
-pub tells_at : (p q : Position) (e : Edge) (text : List ℕ) → p ≡ q → Tells p.net e text → Tells q.net e text
-tells_at p q e text same line = subst (λ (x : Position). Tells x.net e text) same line
+pub reports_at : (p q : Position) (e : Edge) (text : List ℕ) → p ≡ q → Reports p.net e text → Reports q.net e text
+reports_at p q e text same line = subst (λ (x : Position). Reports x.net e text) same line
 
 -- a round that was begun from a copy of a position, in the run that a stepper shows
 pub begins_from : (course : RunInput) (run : Run) (copy here next : Position) (e : Edge) → run_of course ≡ run → copy ≡ here
@@ -66,21 +66,21 @@ begins_from course run copy here next e shown same begins =
     subst (λ (r : Run). Begins r.end (point_of r.events here) e (point_of r.events next)) shown
     (subst (λ (p : Position). Begins course.end (point_of course.events.items p) e (point_of course.events.items next)) same begins)
 
-pub first_gives : (end : ℕ) (p q : Point) (e : Edge) (text : List ℕ) → Begins end p e q → Tells q.net e text → IsFirstEdge end p text q.net
+pub first_gives : (end : ℕ) (p q : Point) (e : Edge) (text : List ℕ) → Begins end p e q → Reports q.net e text → IsFirstEdge end p text q.net
 first_gives end p q e text b line =
-    record { begin = b.begin; turn = b.turn; edge = record { edge = e; next = b.first; told = ap (λ (x : Point). x.net) b.told; line = line } }
+    record { begin = b.begin; turn = b.turn; edge = record { edge = e; next = b.first; reported = ap (λ (x : Point). x.net) b.reported; line = line } }
 
 -- ---- what was written of an edge
 
-pub edge_told : (Gives : List ℕ → Steps → Type 0) (Over : Type 0) (s t : Steps) (net : NetState) (e : Edge) (old new : Option (List ℕ)) (was is : Bool) (n : ℕ)
-    → ((text : List ℕ) → Tells net e text → Gives text t) → (text : List ℕ) × Tells net e text × WrittenText old new was is text (Ok n) → IsTaken Gives Over s t old new (Ok n)
-edge_told Gives Over s t net e old new was is n gives (text, line, (counted, wrote, flag)) = (text, gives text line, counted, wrote)
+pub edge_reported : (Gives : List ℕ → Steps → Type 0) (Over : Type 0) (s t : Steps) (net : NetState) (e : Edge) (old new : Option (List ℕ)) (was is : Bool) (n : ℕ)
+    → ((text : List ℕ) → Reports net e text → Gives text t) → (text : List ℕ) × Reports net e text × WrittenText old new was is text (Ok n) → IsTaken Gives Over s t old new (Ok n)
+edge_reported Gives Over s t net e old new was is n gives (text, line, (counted, wrote, flag)) = (text, gives text line, counted, wrote)
 
 pub edge_cut : (Gives : List ℕ → Steps → Type 0) (Over : Type 0) (s t : Steps) (net : NetState) (e : Edge) (old new : Option (List ℕ)) (was is : Bool) (fault : WriteFault) (error : StepError)
-    → error ≡ Write fault.count → ((text : List ℕ) → Tells net e text → Gives text t) → (text : List ℕ) × Tells net e text × WrittenText old new was is text (Err fault)
+    → error ≡ Write fault.count → ((text : List ℕ) → Reports net e text → Gives text t) → (text : List ℕ) × Reports net e text × WrittenText old new was is text (Err fault)
     → IsTaken Gives Over s s old new (Err error)
-edge_cut Gives Over s t net e old new was is fault error same gives (text, line, ((count, short, told, wrote), flag)) =
-    let here : IsTaken Gives Over s s old new (Err (Write fault.count)) = (refl, text, t, gives text line, count, short, told, wrote) in
+edge_cut Gives Over s t net e old new was is fault error same gives (text, line, ((count, short, reported, wrote), flag)) =
+    let here : IsTaken Gives Over s s old new (Err (Write fault.count)) = (refl, text, t, gives text line, count, short, reported, wrote) in
     subst (λ x. IsTaken Gives Over s s old new (Err x)) (sym same) here
 
 -- ---- in a round
@@ -107,10 +107,10 @@ still_in run last q next true some = refl
 still_in run last q next false some = cc
 
 pub edge_gives : (s t : Steps) (net after : NetState) (e : Edge) (h : ℕ) (text : List ℕ) → s.begun ≡ Some net → OfRound net (λ begin heard low. IsNextEdge low heard (Some e))
-    → after ≡ record net { heard = Some h } → e.at + 1 ≡ h → Tells after e text → t ≡ in_round s s.last after → IsEdgeStep s text t
-edge_gives s t net after e h text is next told at line stands =
+    → after ≡ record net { heard = Some h } → e.at + 1 ≡ h → Reports after e text → t ≡ in_round s s.last after → IsEdgeStep s text t
+edge_gives s t net after e h text is next reported at line stands =
     subst (λ x. IsEdgeStepBy s x text t) (sym is)
-    (inl (after, record { edge = e; next = next; told = told ∙ ap (λ (k : ℕ). record net { heard = Some k }) (sym at); line = line }, stands))
+    (inl (after, record { edge = e; next = next; reported = reported ∙ ap (λ (k : ℕ). record net { heard = Some k }) (sym at); line = line }, stands))
 
 -- ---- its end
 
@@ -123,12 +123,12 @@ plain_progress s t h b x = record { apart = x.apart; kept = x.kept; later = x.la
 pub ends : (end : ℕ) (p i : Point) (n t : NetState) (h b : ℕ) (o : Outcome) → IsReady end p → IsInside end p i → n ≡ record i.net { heard = Some h } → IsWave o.wave
     → next_start n ≡ Some b → IsNextRound n b o t → IsProgress n b t
     → IsRoundStep end p o (record { net = t; events = i.events; is_first = false }) × IsReady end (record { net = t; events = i.events; is_first = false })
-ends end p i n t h b o r inside told wave begins next progress =
+ends end p i n t h b o r inside reported wave begins next progress =
     let s = (after_events end p).net in
-    let there : n ≡ record s { heard = Some h } = told ∙ ap (λ (x : Point). record x.net { heard = Some h }) inside.told in
+    let there : n ≡ record s { heard = Some h } = reported ∙ ap (λ (x : Point). record x.net { heard = Some h }) inside.reported in
     let round : IsNextRound s b o t = plain_round s t h b o (subst (λ (m : NetState). IsNextRound m b o t) there next) in
     let later : IsProgress s b t = plain_progress s t h b (subst (λ (m : NetState). IsProgress m b t) there progress) in
-    let events : i.events ≡ (after_events end p).events = ap (λ (x : Point). x.events) inside.told in
+    let events : i.events ≡ (after_events end p).events = ap (λ (x : Point). x.events) inside.reported in
     let first = round_begins end s (first_time (after_events end p).events) inside.begin inside.turn in
     let begin : next_start s ≡ Some b = subst (λ (m : NetState). next_start m ≡ Some b) there begins in
     let same : b ≡ inside.begin = same_begin (sym begin ∙ first.0) in

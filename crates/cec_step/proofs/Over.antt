@@ -12,9 +12,9 @@ use Rattle.cec_step.specs.Steps.{Point, Run, Steps, IsNever, IsNoEdge, IsNoEdgeB
 
 -- a step that found no edge left the stepper where it stood
 pub over_edge : (Gives : List ℕ → Steps → Type 0) (s t : Steps) (old new : Option (List ℕ)) (r : Result ℕ StepError) → IsTaken Gives (IsNoEdge s) s t old new r → OverIf (is_ended r) t
-over_edge Gives s t old new (Ok told) taken = tt
+over_edge Gives s t old new (Ok reported) taken = tt
 over_edge Gives s t old new (Err Ended) (over, same, none) = subst (λ x. IsNoEdge x) (sym same) over
-over_edge Gives s t old new (Err (Write told)) taken = tt
+over_edge Gives s t old new (Err (Write reported)) taken = tt
 
 -- it is asked only after some steps
 pub over_asked : (asked over : Bool) (t : Steps) → OverIf over t → OverIf (asked && over) t

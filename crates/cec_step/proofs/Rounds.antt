@@ -66,20 +66,20 @@ pub begins_at : (end begin : ℕ) (p q : Point) (s t u : NetState) (edge : Optio
     → (x : ℕ) → next_start s ≡ Some x → t ≡ record s { heard = Some x } → OfRound t (λ b heard low. IsNextEdge low heard edge)
     → (heard : ℕ) → u ≡ record t { heard = Some heard } → IfSome edge (λ e. e.at + 1 ≡ heard)
     → q ≡ record (after_events end p) { net = u } → MatchOption edge (IsOver end p) (λ e. Begins end p e q)
-begins_at end begin p q s t u None turn same sparse x next begun edge heard told at is =
+begins_at end begin p q s t u None turn same sparse x next begun edge heard reported at is =
     let line = has_line (seats_of s x) x s.pulses in
     let here : OfRound (record s { heard = Some x }) (λ b heard low. IsNextEdge low heard None) = subst (λ y. OfRound y (λ b heard low. IsNextEdge low heard None)) begun edge in
     absurd (has_edge s x line.0 next sparse line.1 (here x x line.0 next refl line.1))
-begins_at end begin p q s t u (Some e) turn same sparse x next begun edge heard told at is =
+begins_at end begin p q s t u (Some e) turn same sparse x next begun edge heard reported at is =
     let first : (next_start (after_events end p).net ≡ Some begin) × (begin < end) = round_begins end (after_events end p).net (first_time (after_events end p).events) begin turn in
     let one : x ≡ begin = same_number x begin (sym next ∙ ap next_start (sym same) ∙ first.0) in
     let in_round : t ≡ record (after_events end p).net { heard = Some begin } =
     begun ∙ ap (λ (y : ℕ). record s { heard = Some y }) one ∙ ap (λ (y : NetState). record y { heard = Some begin }) (sym same) in
     let last : u ≡ record (after_events end p).net { heard = Some (e.at + 1) } =
-    told ∙ ap (λ (y : NetState). record y { heard = Some heard }) in_round ∙ ap (λ (h : ℕ). record (after_events end p).net { heard = Some h }) (sym at) in
+    reported ∙ ap (λ (y : NetState). record y { heard = Some heard }) in_round ∙ ap (λ (h : ℕ). record (after_events end p).net { heard = Some h }) (sym at) in
     record {
       begin = begin;
       turn = turn;
       first = subst (λ y. OfRound y (λ b heard low. IsNextEdge low heard (Some e))) in_round edge;
-      told = is ∙ ap (λ (y : NetState). record (after_events end p) { net = y }) last;
+      reported = is ∙ ap (λ (y : NetState). record (after_events end p) { net = y }) last;
     }

@@ -7,12 +7,12 @@ use Rattle.cec_net.specs.Apply.{net_after, event_fault}
 use Rattle.cec_event.specs.declared.event.EventError.{EventError}
 use Rattle.cec_text.specs.ReadingText.{is_complete}
 use Rattle.hdmi_blocks.specs.declared.edid.Edid.{Edid}
-use Rattle.cec_run.specs.declared.run.Telling.{Telling}
-use Rattle.cec_run.specs.declared.run.Telling.TheVariants.{Trace}
+use Rattle.cec_run.specs.declared.run.Reporting.{Reporting}
+use Rattle.cec_run.specs.declared.run.Reporting.TheVariants.{Trace}
 use Rattle.cec_run.specs.declared.run.Totals.{Totals}
 use Rattle.cec_run.specs.declared.run.Turn.{Turn}
 use Rattle.cec_run.specs.declared.run.Turn.TheVariants.{Stop, Apply, Round}
-use Rattle.cec_run.specs.Run.{Config, IsRunTextFrom, IsTrace, IsTurn, Leads, counted_event, counted_round, end_told, event_text, start, start_told, turn_of}
+use Rattle.cec_run.specs.Run.{Config, IsRunTextFrom, IsTrace, IsTurn, Leads, counted_event, counted_round, end_reported, event_text, start, start_reported, turn_of}
 use Rattle.cec_trace.specs.TraceText.{round_line}
 use Rattle.cec_run.proofs.Turns.{front_of_text}
 use Rattle.cec_run.proofs.Running.{event_turn_is, round_turn_is}
@@ -20,12 +20,12 @@ use Rattle.cec_step.specs.Steps.{IsOver, IsRoundStep, Point, Run, after_events, 
 use Rattle.cec_step.specs.Trace.{Rounds, RoundsAreTheTrace, first_point, rest_text}
 
 -- turns after others
-leads_then : (telling : Telling) (end n m : ℕ) (c mid d : Config) (text more : List ℕ) → Leads telling end n c text mid → Leads telling end m mid more d
-    → (turns : ℕ) × Leads telling end turns c (text ++ more) d
-leads_then telling end zero m c mid d text more l next =
-    (m, subst (λ t. Leads telling end m c (t ++ more) d) (sym l.0) (subst (λ x. Leads telling end m x more d) l.1 next))
-leads_then telling end (suc n) m c mid d text more (first, head, rest, turn, after, e) next =
-    let later = leads_then telling end n m first mid d rest more after next in
+leads_then : (reporting : Reporting) (end n m : ℕ) (c mid d : Config) (text more : List ℕ) → Leads reporting end n c text mid → Leads reporting end m mid more d
+    → (turns : ℕ) × Leads reporting end turns c (text ++ more) d
+leads_then reporting end zero m c mid d text more l next =
+    (m, subst (λ t. Leads reporting end m c (t ++ more) d) (sym l.0) (subst (λ x. Leads reporting end m x more d) l.1 next))
+leads_then reporting end (suc n) m c mid d text more (first, head, rest, turn, after, e) next =
+    let later = leads_then reporting end n m first mid d rest more after next in
     (suc later.0, (first, head, rest ++ more, turn, later.1, ap (λ t. t ++ more) e ∙ append_assoc head rest more))
 
 -- ---- the events before a round
@@ -43,12 +43,12 @@ same_rounds : (fault : Option EventError) (totals : Totals) → (counted_event f
 same_rounds None totals = refl
 same_rounds (Some fault) totals = refl
 
-passing_by : (edid : Option Edid) (end : ℕ) (s : NetState) (e : TimedEvent) (es : List TimedEvent) (first : Bool) (totals : Totals) (t : Turn) (told : ℕ → List ℕ) (on : ℕ → Point)
+passing_by : (edid : Option Edid) (end : ℕ) (s : NetState) (e : TimedEvent) (es : List TimedEvent) (first : Bool) (totals : Totals) (t : Turn) (reported : ℕ → List ℕ) (on : ℕ → Point)
     → turn_of end s (Some e.at) ≡ t
-    → ((at : ℕ) → Passing edid end (record { net = net_after at e.event s; events = es; totals = counted_event (event_fault s e.event) totals }) (told at) (on at))
-    → Passing edid end (record { net = s; events = e ∷ es; totals = totals }) (text_by t (λ at. event_text edid at e s ++ told at))
+    → ((at : ℕ) → Passing edid end (record { net = net_after at e.event s; events = es; totals = counted_event (event_fault s e.event) totals }) (reported at) (on at))
+    → Passing edid end (record { net = s; events = e ∷ es; totals = totals }) (text_by t (λ at. event_text edid at e s ++ reported at))
     (passed_by t (record { net = s; events = e ∷ es; is_first = first }) on)
-passing_by edid end s e es first totals (Apply at) told on turn h =
+passing_by edid end s e es first totals (Apply at) reported on turn h =
     let r = h at in
     record {
       turns = suc r.turns;
@@ -56,15 +56,15 @@ passing_by edid end s e es first totals (Apply at) told on turn h =
       leads = (
         record { net = net_after at e.event s; events = es; totals = counted_event (event_fault s e.event) totals },
         event_text edid at e s,
-        told at,
+        reported at,
         event_turn_is (Trace edid) end at s e es totals turn,
         r.leads,
         refl,
       );
       counts = r.counts ∙ same_rounds (event_fault s e.event) totals;
     }
-passing_by edid end s e es first totals Stop told on turn h = record { turns = zero; totals = totals; leads = (refl, refl); counts = refl }
-passing_by edid end s e es first totals (Round begin) told on turn h = record { turns = zero; totals = totals; leads = (refl, refl); counts = refl }
+passing_by edid end s e es first totals Stop reported on turn h = record { turns = zero; totals = totals; leads = (refl, refl); counts = refl }
+passing_by edid end s e es first totals (Round begin) reported on turn h = record { turns = zero; totals = totals; leads = (refl, refl); counts = refl }
 
 passing : (edid : Option Edid) (end : ℕ) (s : NetState) (es : List TimedEvent) (first : Bool) (totals : Totals)
     → Passing edid end (record { net = s; events = es; totals = totals }) (passed_text_from edid end s es) (passed_from end s es first)
@@ -98,7 +98,7 @@ turned run p q o totals step =
     let counted = counted_round (is_complete o.reading.ending) before.totals in
     let turn : IsTurn (Trace run.edid) run.end (config here before.totals) line (record { net = q.net; events = here.events; totals = counted }) =
     round_turn_is (Trace run.edid) run.end step.begin here.net q.net here.events before.totals counted line step.turn
-    (record { outcome = o; wave = step.wave; next = step.next; told = refl; totals = refl }) in
+    (record { outcome = o; wave = step.wave; next = step.next; reported = refl; totals = refl }) in
     let there : IsTurn (Trace run.edid) run.end (config here before.totals) line (config q counted) =
     subst (λ es. IsTurn (Trace run.edid) run.end (config here before.totals) line (record { net = q.net; events = es; totals = counted })) (sym step.left) turn in
     let all = leads_then (Trace run.edid) run.end before.turns 1 (config p totals) (config here before.totals) (config q counted) (passed_text run.edid run.end p) line before.leads
@@ -118,16 +118,16 @@ record Led (run : Run) (net : NetState) (rounds : ℕ) (text : List ℕ) (q : Po
   body : List ℕ
   totals : Totals
   leads : Leads (Trace run.edid) run.end turns (start net run.events) body (config q totals)
-  whole : text ++ start_text run.edid q ≡ start_told (Trace run.edid) net ++ body
+  whole : text ++ start_text run.edid q ≡ start_reported (Trace run.edid) net ++ body
   counts : totals.rounds ≡ rounds
 
 none_due : (edid : Option Edid) (net : NetState) (first : Bool) → first ≡ false → start_by first edid net ≡ []
 none_due edid net first h = ap (λ b. start_by b edid net) h
 
 -- parts of a text, put together in another way
-parts : (text begin passed line told body : List ℕ) → text ++ begin ≡ told ++ body → text ++ ((begin ++ passed) ++ line) ≡ told ++ (body ++ (passed ++ line))
-parts text begin passed line told body h =
-    ap (λ t. text ++ t) (append_assoc begin passed line) ∙ sym (append_assoc text begin (passed ++ line)) ∙ ap (λ t. t ++ (passed ++ line)) h ∙ append_assoc told body (passed ++ line)
+parts : (text begin passed line reported body : List ℕ) → text ++ begin ≡ reported ++ body → text ++ ((begin ++ passed) ++ line) ≡ reported ++ (body ++ (passed ++ line))
+parts text begin passed line reported body h =
+    ap (λ t. text ++ t) (append_assoc begin passed line) ∙ sym (append_assoc text begin (passed ++ line)) ∙ ap (λ t. t ++ (passed ++ line)) h ∙ append_assoc reported body (passed ++ line)
 
 led : (run : Run) (net : NetState) (rounds : ℕ) (text : List ℕ) (q : Point) → Rounds run rounds (first_point run net) text q → Led run net rounds text q
 led run net zero text q h = record {
@@ -135,10 +135,10 @@ led run net zero text q h = record {
   body = [];
   totals = (start net run.events).totals;
   leads = (refl, ap (λ (p : Point). config p (start net run.events).totals) h.1);
-  whole = ap₂ (λ t (p : Point). t ++ start_text run.edid p) h.0 h.1 ∙ sym (append-nil (start_told (Trace run.edid) net));
+  whole = ap₂ (λ t (p : Point). t ++ start_text run.edid p) h.0 h.1 ∙ sym (append-nil (start_reported (Trace run.edid) net));
   counts = refl;
 }
-led run net (suc rounds) text q (mid, o, front, before, step, told) =
+led run net (suc rounds) text q (mid, o, front, before, step, reported) =
     let r = led run net rounds front mid before in
     let next = turned run mid q o r.totals step in
     let line = round_line q.net.devices o in
@@ -148,8 +148,8 @@ led run net (suc rounds) text q (mid, o, front, before, step, told) =
       body = r.body ++ turn_text run mid o q;
       totals = next.totals;
       leads = all.1;
-      whole = ap₂ (λ t u. t ++ u) told (none_due run.edid q.net q.is_first step.later) ∙ append-nil (front ++ step_text run mid o q)
-          ∙ parts front (start_text run.edid mid) (passed_text run.edid run.end mid) line (start_told (Trace run.edid) net) r.body r.whole;
+      whole = ap₂ (λ t u. t ++ u) reported (none_due run.edid q.net q.is_first step.later) ∙ append-nil (front ++ step_text run mid o q)
+          ∙ parts front (start_text run.edid mid) (passed_text run.edid run.end mid) line (start_reported (Trace run.edid) net) r.body r.whole;
       counts = next.counts ∙ ap (λ n. n + 1) r.counts ∙ suc_is rounds;
     }
   where
@@ -161,10 +161,10 @@ begins : (run : Run) (net : NetState) (rounds : ℕ) (text : List ℕ) (last : P
 begins run net rounds text last h whole totals trace =
     let r = led run net rounds text last h in
     let begin = start_text run.edid last in
-    let told = start_told (Trace run.edid) net in
+    let reported = start_reported (Trace run.edid) net in
     let front = front_of_text (Trace run.edid) run.end r.turns (start net run.events) (config last r.totals) r.body trace.rest totals r.leads trace.run in (
       begin ++ front.0,
-      trace.whole ∙ ap (λ t. told ++ t) front.1 ∙ sym (append_assoc told r.body front.0) ∙ ap (λ t. t ++ front.0) (sym r.whole) ∙ append_assoc text begin front.0,
+      trace.whole ∙ ap (λ t. reported ++ t) front.1 ∙ sym (append_assoc reported r.body front.0) ∙ ap (λ t. t ++ front.0) (sym r.whole) ∙ append_assoc text begin front.0,
     )
 
 ends : (run : Run) (net : NetState) (rounds : ℕ) (text : List ℕ) (last : Point) → Rounds run rounds (first_point run net) text last → IsOver run.end last
@@ -173,9 +173,9 @@ ends run net rounds text last h over =
     let r = led run net rounds text last h in
     let here = after_events run.end last in
     let before = passing run.edid run.end last.net last.events last.is_first r.totals in
-    let told = start_told (Trace run.edid) net in
+    let reported = start_reported (Trace run.edid) net in
     let events = passed_text run.edid run.end last in
-    let end = end_told (Trace run.edid) run.end here.net in
+    let end = end_reported (Trace run.edid) run.end here.net in
     let all = leads_then (Trace run.edid) run.end r.turns before.turns (start net run.events) (config last r.totals) (config here before.totals) r.body events r.leads before.leads in
     let rest : IsRunTextFrom (Trace run.edid) run.end (start net run.events) ((r.body ++ events) ++ end) before.totals =
     record { turns = all.0; last = config here before.totals; body = r.body ++ events; leads = all.1; stops = over; whole = refl; counts = refl } in (
@@ -183,7 +183,7 @@ ends run net rounds text last h over =
       record {
         rest = (r.body ++ events) ++ end;
         run = rest;
-        whole = parts text (start_text run.edid last) events end told r.body r.whole ∙ ap (λ t. told ++ t) (sym (append_assoc r.body events end));
+        whole = parts text (start_text run.edid last) events end reported r.body r.whole ∙ ap (λ t. reported ++ t) (sym (append_assoc r.body events end));
       },
       before.counts ∙ r.counts,
     )

@@ -11,6 +11,6 @@ OverIf true s = IsNoEdge s
 
 -- there was no such step
 abbrev pub is_ended : Result ℕ StepError → Bool
-is_ended (Ok told) = false
+is_ended (Ok reported) = false
 is_ended (Err Ended) = true
-is_ended (Err (Write told)) = false
+is_ended (Err (Write reported)) = false

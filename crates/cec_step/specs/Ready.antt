@@ -40,7 +40,7 @@ pub record IsInside (end : ℕ) (p q : Point) : Type 0 where
   pub begin : ℕ
   pub heard : ℕ
   pub turn : turn_at end (after_events end p) ≡ Round begin
-  pub told : q ≡ record (after_events end p) { net = record (after_events end p).net { heard = Some heard } }
+  pub reported : q ≡ record (after_events end p) { net = record (after_events end p).net { heard = Some heard } }
 
 abbrev pub InsideIf : Bool → ℕ → Point → Point → Type 0
 InsideIf false end p q = Unit {0}
@@ -72,7 +72,7 @@ pub record Begins (end : ℕ) (p : Point) (edge : Edge) (q : Point) : Type 0 whe
   pub begin : ℕ
   pub turn : turn_at end (after_events end p) ≡ Round begin
   pub first : OfRound (record (after_events end p).net { heard = Some begin }) (λ begin heard low. IsNextEdge low heard (Some edge))
-  pub told : q ≡ record (after_events end p) { net = record (after_events end p).net { heard = Some (edge.at + 1) } }
+  pub reported : q ≡ record (after_events end p) { net = record (after_events end p).net { heard = Some (edge.at + 1) } }
 
 -- the round that a search found: its outcome, and the positions before and after it
 pub record IsFound (s : Steps) (at : Break) (before : Position) (outcome : Outcome) (after : Position) : Type 0 where

@@ -6,7 +6,7 @@ use Rattle.cec_net.specs.State.{first_net}
 use Rattle.hdmi_core.specs.declared.sink.WriteFault.{WriteFault}
 use Rattle.hdmi_blocks.specs.declared.edid.Edid.{Edid as EdidValue}
 use Rattle.hdmi_core.specs.Cut.{CutOff, WrittenText}
-use Rattle.cec_run.specs.Emulate.{IsAccepted, IsTold, is_write as is_run_write}
+use Rattle.cec_run.specs.Emulate.{IsAccepted, IsReported, is_write as is_run_write}
 use Rattle.hdmi_blocks.specs.Root.{IsRoot}
 use Rattle.cec_run.specs.declared.emulate.EmulateError.TheVariants as faults
 use Rattle.cec_step_text.specs.declared.commands.Command.{Command}
@@ -39,7 +39,7 @@ IsDue command s text t = IsStep command s text t ⊎ (IsNoStep command s × (tex
 
 -- what a command has written of its text
 abbrev pub IsCommandTaken : Command → Steps → Steps → Option (List ℕ) → Option (List ℕ) → Bool → Bool → Result ℕ WriteFault → Type 0
-IsCommandTaken command s t old new was is (Ok told) = (text : List ℕ) × IsDue command s text t × WrittenText old new was is text (Ok told)
+IsCommandTaken command s t old new was is (Ok reported) = (text : List ℕ) × IsDue command s text t × WrittenText old new was is text (Ok reported)
 IsCommandTaken command s t old new was is (Err fault) = (text : List ℕ) × (after : Steps) × IsDue command s text after × WrittenText old new was is text (Err fault)
 
 -- a command names a device below the count
@@ -89,7 +89,7 @@ pub record AreStepsOf (topology script steps text : List ℕ) : Type 0 where
 
 -- when each refusal comes: those of the run, and then the first line of the steps at fault, with its word
 abbrev pub AreRefused : List ℕ → List ℕ → List ℕ → StepRunError → Type 0
-AreRefused topology script steps (Run error) = IsTold topology script error
+AreRefused topology script steps (Run error) = IsReported topology script error
 AreRefused topology script steps (StepsLine line word) =
     (plan : Plan) × (course : Course) × IsAccepted topology script plan course × (edid : Option EdidValue) × IsRoot plan.edid edid
     × (commands_of plan.tree steps ≡ Err (record { line = line; word = word }))

@@ -9,11 +9,11 @@ use Rattle.cec_device.specs.State.{State}
 use Rattle.cec_net.specs.State.{NetState}
 use Rattle.cec_net.specs.Apply.{net_after}
 use Rattle.cec_net.specs.Step.{IsNextRound}
-use Rattle.cec_net.specs.Underway.{OfRound, standing_told}
+use Rattle.cec_net.specs.Underway.{OfRound, standing_reported}
 use Rattle.cec_asm.specs.declared.script.TimedEvent.{TimedEvent}
 use Rattle.cec_asm.specs.Script.{Course}
 use Rattle.hdmi_blocks.specs.declared.edid.Edid.{Edid}
-use Rattle.hdmi_core.specs.Cut.{told_count}
+use Rattle.hdmi_core.specs.Cut.{reported_count}
 use Rattle.cec_run.specs.declared.run.Turn.{Turn}
 use Rattle.cec_run.specs.declared.run.Turn.TheVariants.{Stop, Apply, Round}
 use Rattle.cec_run.specs.Run.{turn_of, first_time, event_text}
@@ -61,9 +61,9 @@ abbrev pub after_events : ℕ → Point → Point
 after_events end p = passed_from end p.net p.events p.is_first
 
 abbrev pub text_by : Turn → (ℕ → List ℕ) → List ℕ
-text_by (Apply at) told = told at
-text_by Stop told = []
-text_by (Round begin) told = []
+text_by (Apply at) reported = reported at
+text_by Stop reported = []
+text_by (Round begin) reported = []
 
 -- their lines
 unfoldable pub passed_text_from : Option Edid → ℕ → NetState → List TimedEvent → List ℕ
@@ -126,15 +126,15 @@ device_count s = length s.last.net.tree
 -- (`Over`). A step counts once its text was written; else the stepper stands where it stood, and of the text as much was
 -- written as is told.
 abbrev pub IsTaken : (List ℕ → Steps → Type 0) → Type 0 → Steps → Steps → Option (List ℕ) → Option (List ℕ) → Result ℕ StepError → Type 0
-IsTaken Gives Over s t old new (Ok told) = (text : List ℕ) × Gives text t × (told ≡ told_count (length text)) × Appends old new text
+IsTaken Gives Over s t old new (Ok reported) = (text : List ℕ) × Gives text t × (reported ≡ reported_count (length text)) × Appends old new text
 IsTaken Gives Over s t old new (Err Ended) = Over × (t ≡ s) × (new ≡ old)
-IsTaken Gives Over s t old new (Err (Write told)) =
-    (t ≡ s) × (text : List ℕ) × (after : Steps) × Gives text after × (count : ℕ) × (count < length text) × (told ≡ told_count count) × Appends old new (take count text)
+IsTaken Gives Over s t old new (Err (Write reported)) =
+    (t ≡ s) × (text : List ℕ) × (after : Steps) × Gives text after × (count : ℕ) × (count < length text) × (reported ≡ reported_count count) × Appends old new (take count text)
 
 abbrev pub is_write : Result ℕ StepError → Bool
-is_write (Ok told) = false
+is_write (Ok reported) = false
 is_write (Err Ended) = false
-is_write (Err (Write told)) = true
+is_write (Err (Write reported)) = true
 
 -- a stepper at the start of a run
 abbrev pub begun_at : Option Edid → Course → NetState → Steps
@@ -170,7 +170,7 @@ pub record IsUntil (s : Steps) (at : Break) (text : List ℕ) (t : Steps) : Type
   pub skips : Skips s.run.end at rounds s.last before
   pub step : IsRoundStep s.run.end before outcome after
   pub stop : stops at outcome ≡ true
-  pub told : text ≡ step_text s.run before outcome after
+  pub reported : text ≡ step_text s.run before outcome after
   pub stands : t ≡ after_round s after
 
 -- the run ends before such a round
@@ -184,8 +184,8 @@ IsNever s at = (rounds : ℕ) × (q : Point) × Skips s.run.end at rounds s.last
 pub record IsEdge (net : NetState) (text : List ℕ) (after : NetState) : Type 0 where
   pub edge : Edge
   pub next : OfRound net (λ begin heard low. IsNextEdge low heard (Some edge))
-  pub told : after ≡ record net { heard = Some (edge.at + 1) }
-  pub line : OfRound after (λ begin heard low. text ≡ edge_line after.devices edge (standing_told low begin heard))
+  pub reported : after ≡ record net { heard = Some (edge.at + 1) }
+  pub line : OfRound after (λ begin heard low. text ≡ edge_line after.devices edge (standing_reported low begin heard))
 
 -- the line of a round has no edge left
 abbrev pub IsSilent : NetState → Type 0

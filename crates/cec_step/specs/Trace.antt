@@ -3,8 +3,8 @@ use Rattle.std.specs.Prelude.{◌≡◌, ℕ, zero, suc, true, List, [], ◌++�
 use Rattle.cec_wire.specs.declared.Outcome.{Outcome}
 use Rattle.cec_net.specs.State.{NetState}
 use Rattle.cec_run.specs.declared.run.Totals.{Totals}
-use Rattle.cec_run.specs.declared.run.Telling.TheVariants.{Trace}
-use Rattle.cec_run.specs.Run.{IsTrace, end_told, start}
+use Rattle.cec_run.specs.declared.run.Reporting.TheVariants.{Trace}
+use Rattle.cec_run.specs.Run.{IsTrace, end_reported, start}
 use Rattle.cec_step.specs.Steps.{IsOver, IsRoundStep, Point, Run, after_events, passed_text, start_text, step_text}
 
 -- rounds one after another, and what a stepper writes of them
@@ -18,7 +18,7 @@ first_point run net = record { net = net; events = run.events; is_first = true }
 
 -- what the trace has after the last round: the lines of the events after it, and what the end reports
 abbrev pub rest_text : Run → Point → List ℕ
-rest_text run p = (start_text run.edid p ++ passed_text run.edid run.end p) ++ end_told (Trace run.edid) run.end (after_events run.end p).net
+rest_text run p = (start_text run.edid p ++ passed_text run.edid run.end p) ++ end_reported (Trace run.edid) run.end (after_events run.end p).net
 
 -- However many rounds are taken, the trace begins with what a stepper writes of them. After all of them it has the rest.
 pub record RoundsAreTheTrace : Type 0 where

@@ -1,6 +1,6 @@
 //! Where a run stands, and its next round.
 ghost use Rattle.std.specs.Prelude.{◌≡◌, ℕ, ◌+◌, ◌++◌, ◌<◌, ◌≤◌, List, drop, length, MatchOption, IfSome, IsSome};
-ghost use Rattle.cec_net.specs.Underway.{OfRound, standing_told};
+ghost use Rattle.cec_net.specs.Underway.{OfRound, standing_reported};
 ghost use Rattle.cec_step_text.specs.EdgeText.{edge_line};
 ghost use Rattle.hdmi_core.specs.Cut.{WrittenText};
 ghost use Rattle.cec_run.specs.declared.run.Turn.TheVariants.{Apply, Round, Stop};
@@ -223,7 +223,7 @@ impl Position {
     pub fn write_edge<S: Sink>(&self, out: &mut S, edge: Edge) -> Result<u128, WriteFault>
         requires underway { IsSome self.now.net.heard }
         requires some { 0 < length self.now.net.tree }
-        ensures { (text : List ℕ) × OfRound self.now.net (λ begin heard low. text ≡ edge_line self.now.net.devices edge (standing_told low begin heard))
+        ensures { (text : List ℕ) × OfRound self.now.net (λ begin heard low. text ≡ edge_line self.now.net.devices edge (standing_reported low begin heard))
             × WrittenText (S.contents out.old) (S.contents out.new) (S.is_stuck out.old) (S.is_stuck out.new) text result }
     {
         write_edge(out, self.net.devices(), edge, self.net.standing_of(0))

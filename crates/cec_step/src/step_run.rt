@@ -107,7 +107,7 @@ pub fn step_run<S: Sink>(
     out: &mut S,
 ) -> Result<(), StepRunError>
     ensures ok { OnOk result ((text : List ℕ) × AreStepsOf topology.now script.now steps.now text × Appends (S.contents out.old) (S.contents out.new) text) }
-    ensures told { IfErr result (AreRefused topology.now script.now steps.now) }
+    ensures reported { IfErr result (AreRefused topology.now script.now steps.now) }
     ensures write { S.is_stuck out.old ≡ false → (IsTrue (is_write result) ↔ IsTrue (S.is_stuck out.new)) }
     ensures cut { IfErr result (IsCutBy topology.now script.now steps.now (S.contents out.old) (S.contents out.new)) }
 {

@@ -173,7 +173,7 @@ pub fn parse_commands(
     text: &[u8],
 ) -> Result<Vec<Command>, CommandsError>
     ensures ok { IfOk result (λ commands. commands_of tree.now text.now ≡ Ok commands.items) }
-    ensures told { IfErr result (IsFault tree.now text.now) }
+    ensures reported { IfErr result (IsFault tree.now text.now) }
 {
     let mut commands = Vec::new(alloc);
     let mut rest = text;

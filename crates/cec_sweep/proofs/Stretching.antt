@@ -123,10 +123,10 @@ next_is Found s d vs moves within room found differs is = record {
 by_same : (Found : ℕ → List Bool → Type 0) (s : Series) (d : StretchesDraft) (vs : List Bool) (same : Bool) → 0 < s.step → d.last.last ≤ s.to → s.step ≤ s.to - d.last.last → Found (d.last.last + s.step) vs
     → (same ≡ true → d.last.verdicts ≡ vs) → (d.last.verdicts ≡ vs → same ≡ true) → IsDraft Found s d
     → IsDraft Found s (cond same (longer d (d.last.last + s.step)) (next d (d.last.last + s.step) vs))
-by_same Found s d vs true moves within room found equal told is =
+by_same Found s d vs true moves within room found equal reported is =
     longer_is Found s d moves within room (subst (Found (d.last.last + s.step)) (sym (equal refl)) found) is
-by_same Found s d vs false moves within room found equal told is =
-    next_is Found s d vs moves within room found (λ e. absurd (true≢false (sym (told e)))) is
+by_same Found s d vs false moves within room found equal reported is =
+    next_is Found s d vs moves within room found (λ e. absurd (true≢false (sym (reported e)))) is
 
 pub more_is : (Found : ℕ → List Bool → Type 0) (s : Series) (d : StretchesDraft) (vs : List Bool) → 0 < s.step → d.last.last ≤ s.to → s.step ≤ s.to - d.last.last → Found (d.last.last + s.step) vs
     → IsDraft Found s d → IsDraft Found s (with_instant d (d.last.last + s.step) vs)

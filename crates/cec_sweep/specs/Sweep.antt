@@ -3,7 +3,7 @@
 use Rattle.std.specs.Prelude.{◌≡◌, ℕ, ◌<◌, Bool, true, false, List, ◌∷◌, ◌++◌, length, take, Option, Some, None, Result, Ok, Err}
 use Rattle.std.specs.List.{All}
 use Rattle.std.specs.Io.KnownBytes.{Appends}
-use Rattle.cec_check.specs.Check.{AreVerdictsOf, IsVerdictTold}
+use Rattle.cec_check.specs.Check.{AreVerdictsOf, IsVerdictReported}
 use Rattle.cec_check.specs.declared.checking.CheckError.{CheckError}
 use Rattle.cec_sweep.specs.Script.{range_of, script_at}
 use Rattle.cec_sweep.specs.Series.{Series, instants_of}
@@ -31,18 +31,18 @@ pub record IsFirstRefusal (topology script : List ℕ) (s : Series) (instant : �
   pub after : List ℕ
   pub place : instants_of s ≡ before ++ instant ∷ after
   pub taken : All (λ t. (verdicts : List Bool) × AreVerdictsAt topology script t verdicts) before
-  pub told : IsVerdictTold topology (script_at instant script) error
+  pub reported : IsVerdictReported topology (script_at instant script) error
 
 abbrev pub IsRefusedAt : List ℕ → List ℕ → ℕ → CheckError → Type 0
 IsRefusedAt topology script instant error = (s : Series) × (range_of script ≡ Ok (Some s)) × IsFirstRefusal topology script s instant error
 
 -- when each refusal comes; of memory nothing is said
-abbrev pub IsSweepTold : List ℕ → List ℕ → SweepError → Type 0
-IsSweepTold topology script NoRange = range_of script ≡ Ok None
-IsSweepTold topology script (Range fault) = range_of script ≡ Err fault
-IsSweepTold topology script (At instant error) = IsRefusedAt topology script instant error
-IsSweepTold topology script (Write count) = (stretches : List Stretch) × IsSweepOf topology script stretches
-IsSweepTold topology script Memory = Unit {0}
+abbrev pub IsSweepReported : List ℕ → List ℕ → SweepError → Type 0
+IsSweepReported topology script NoRange = range_of script ≡ Ok None
+IsSweepReported topology script (Range fault) = range_of script ≡ Err fault
+IsSweepReported topology script (At instant error) = IsRefusedAt topology script instant error
+IsSweepReported topology script (Write count) = (stretches : List Stretch) × IsSweepOf topology script stretches
+IsSweepReported topology script Memory = Unit {0}
 
 -- what a refusal has written: after a failed write the front of the lines, as long as it reports, and else nothing
 abbrev pub IsSweepCut : List ℕ → List ℕ → Option (List ℕ) → Option (List ℕ) → SweepError → Type 0
@@ -65,18 +65,18 @@ is_write (Err Memory) = false
 
 -- a refusal at an instant
 abbrev pub IsRefusalAt : List ℕ → List ℕ → ℕ → SweepError → Type 0
-IsRefusalAt topology script t (At instant error) = (instant ≡ t) × IsVerdictTold topology (script_at t script) error
+IsRefusalAt topology script t (At instant error) = (instant ≡ t) × IsVerdictReported topology (script_at t script) error
 IsRefusalAt topology script t Memory = Unit {0}
 IsRefusalAt topology script t NoRange = ⊥
 IsRefusalAt topology script t (Range fault) = ⊥
 IsRefusalAt topology script t (Write count) = ⊥
 
-abbrev pub IsSeriesTold : List ℕ → List ℕ → Series → SweepError → Type 0
-IsSeriesTold topology script s (At instant error) = IsFirstRefusal topology script s instant error
-IsSeriesTold topology script s Memory = Unit {0}
-IsSeriesTold topology script s NoRange = ⊥
-IsSeriesTold topology script s (Range fault) = ⊥
-IsSeriesTold topology script s (Write count) = ⊥
+abbrev pub IsSeriesReported : List ℕ → List ℕ → Series → SweepError → Type 0
+IsSeriesReported topology script s (At instant error) = IsFirstRefusal topology script s instant error
+IsSeriesReported topology script s Memory = Unit {0}
+IsSeriesReported topology script s NoRange = ⊥
+IsSeriesReported topology script s (Range fault) = ⊥
+IsSeriesReported topology script s (Write count) = ⊥
 
 -- the lines of all stretches
 abbrev pub IsSweptDraft : List ℕ → List ℕ → Series → StretchesDraft → Type 0

@@ -3,7 +3,7 @@ ghost use Rattle.std.specs.Prelude.{◌≡◌, ◌↔◌, ℕ, List, true, false
 ghost use Rattle.std.specs.List.{All};
 ghost use Rattle.cec_sweep.specs.Script.{range_of, script_at};
 ghost use Rattle.cec_sweep.specs.Stretches.{draft_as};
-ghost use Rattle.cec_sweep.specs.Sweep.{AreVerdictsAt, IsRefusalAt, IsSweepCut, IsSweepTold, IsSwept, IsSweptDraft, IsSeriesTold, is_write};
+ghost use Rattle.cec_sweep.specs.Sweep.{AreVerdictsAt, IsRefusalAt, IsSweepCut, IsSweepReported, IsSwept, IsSweptDraft, IsSeriesReported, is_write};
 
 use crate::script::{RangeFault, range_of, script_at};
 use crate::series::Series;
@@ -40,7 +40,7 @@ fn verdicts_at(
     instant: u64,
 ) -> Result<Vec<bool>, SweepError>
     ensures ok { IfOk result (λ found. AreVerdictsAt topology.now script.now instant found.items) }
-    ensures told { IfErr result (IsRefusalAt topology.now script.now instant) }
+    ensures reported { IfErr result (IsRefusalAt topology.now script.now instant) }
 {
     let Ok(text) = script_at(alloc, script, instant) else {
         return Err(SweepError::Memory);
@@ -60,7 +60,7 @@ fn swept(
     series: &Series,
 ) -> Result<StretchesDraft, SweepError>
     ensures ok { IfOk result (λ draft. IsSweptDraft topology.now script.now series.now (draft_as draft)) }
-    ensures told { IfErr result (IsSeriesTold topology.now script.now series.now) }
+    ensures reported { IfErr result (IsSeriesReported topology.now script.now series.now) }
 {
     let to = series.to();
     let step = series.step();
@@ -102,7 +102,7 @@ pub fn sweep<S: Sink>(
     out: &mut S,
 ) -> Result<bool, SweepError>
     ensures ok { IfOk result (IsSwept topology.now script.now (S.contents out.old) (S.contents out.new)) }
-    ensures told { IfErr result (IsSweepTold topology.now script.now) }
+    ensures reported { IfErr result (IsSweepReported topology.now script.now) }
     ensures write { S.is_stuck out.old ≡ false → (IsTrue (is_write result) ↔ IsTrue (S.is_stuck out.new)) }
     ensures cut { IfErr result (IsSweepCut topology.now script.now (S.contents out.old) (S.contents out.new)) }
 {

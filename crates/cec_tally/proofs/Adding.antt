@@ -8,7 +8,7 @@ use Rattle.std.proofs.lemmas.List.{take-append-le, take-append-drop}
 use Rattle.std.proofs.Math.Seq.{take-append-add}
 use Rattle.hdmi_core.proofs.CutShort.{Appends-trans}
 use Rattle.hdmi_core.specs.declared.sink.WriteFault.{WriteFault}
-use Rattle.hdmi_core.specs.Cut.{CutOff, WrittenText, told_count}
+use Rattle.hdmi_core.specs.Cut.{CutOff, WrittenText, reported_count}
 use Rattle.cec_tally.specs.Adds.{Adds, AddsAll, AddsFront}
 use Rattle.hdmi_core.proofs.Cutting.{more_parts}
 
@@ -41,7 +41,7 @@ front a b w xs ys fault cut =
     (cut.0, omega (arith, cut.1, length-append xs ys), cut.2, rw same cut.3)
 
 -- nothing is added
-no_bytes : (w : ℕ) → told_count w ≡ told_count (w + 0)
+no_bytes : (w : ℕ) → reported_count w ≡ reported_count (w + 0)
 no_bytes w = omega arith
 
 pub adds_nothing : (a : Option (List ℕ)) (p : Bool) (w : ℕ) → Adds a a p p w w [] (Ok tt)

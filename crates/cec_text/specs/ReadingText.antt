@@ -29,9 +29,9 @@ is_complete Complete = true
 is_complete _ = false
 
 -- the text of the frame of a complete reading
-abbrev pub told_frame : Option (List ℕ) → List ℕ
-told_frame None = []
-told_frame (Some frame) = frame_text frame
+abbrev pub reported_frame : Option (List ℕ) → List ℕ
+reported_frame None = []
+reported_frame (Some frame) = frame_text frame
 
 -- the last acknowledge slot: 0 takes a direct frame, and refuses a broadcast (CEC 6, acknowledgement)
 abbrev pub verdict_by : Bool → Bool → List ℕ
@@ -48,26 +48,26 @@ abbrev pub last_bit : List Bool → Bool
 last_bit bits = slice_index_or bits (length bits - 1) false
 
 -- a complete reading reports its frame, another one its bits
-abbrev pub told_by : Bool → Reading → List ℕ
-told_by true r = told_frame (frame_in r)
-told_by false r = bits_text r.bits.items
+abbrev pub reported_by : Bool → Reading → List ℕ
+reported_by true r = reported_frame (frame_in r)
+reported_by false r = bits_text r.bits.items
 
 abbrev pub verdict_in : Bool → Reading → List ℕ
 verdict_in true r = verdict_by (is_broadcast (frame_in r)) (last_bit r.bits.items)
 verdict_in false r = []
 
-abbrev pub told_text : Reading → List ℕ
-told_text r = told_by (is_complete r.ending) r
+abbrev pub reported_text : Reading → List ℕ
+reported_text r = reported_by (is_complete r.ending) r
 
 abbrev pub verdict_text : Reading → List ℕ
 verdict_text r = verdict_in (is_complete r.ending) r
 
 -- a reading's text, from what it reports and its verdict
 abbrev pub reading_text_of : Reading → List ℕ → List ℕ → List ℕ
-reading_text_of r told verdict = concat (decimal r.begin ∷ codes " " ∷ decimal r.at ∷ ending_text r.ending ∷ told ∷ verdict ∷ [])
+reading_text_of r reported verdict = concat (decimal r.begin ∷ codes " " ∷ decimal r.at ∷ ending_text r.ending ∷ reported ∷ verdict ∷ [])
 
 abbrev pub reading_text : Reading → List ℕ
-reading_text r = reading_text_of r (told_text r) (verdict_text r)
+reading_text r = reading_text_of r (reported_text r) (verdict_text r)
 
 -- the same as a line
 abbrev pub reading_line : Reading → List ℕ

@@ -1,7 +1,7 @@
 //! The text of a reading.
 ghost use Rattle.std.specs.Prelude.{◌≡◌, ℕ, ◌+◌, ◌-◌, ◌<◌, ◌≤◌, ◌++◌, length, map, codes};
 ghost use Rattle.hdmi_core.specs.Written.{WrittenLine};
-ghost use Rattle.cec_text.specs.ReadingText.{bit_digit, bits_text, ending_text, is_broadcast, last_bit, reading_line, reading_text_of, told_frame, told_text, verdict_by, verdict_text};
+ghost use Rattle.cec_text.specs.ReadingText.{bit_digit, bits_text, ending_text, is_broadcast, last_bit, reading_line, reading_text_of, reported_frame, reported_text, verdict_by, verdict_text};
 
 use crate::spelling::frame_text;
 use arrayvec::ArrayVec;
@@ -57,7 +57,7 @@ fn bits_text(bits: &[bool]) -> ArrayVec<u8, 160>
 
 // What a complete reading shows of its frame.
 fn frame_bytes(frame: &Option<Frame>) -> ArrayVec<u8, 160>
-    ensures { result.items ≡ told_frame frame.now }
+    ensures { result.items ≡ reported_frame frame.now }
 {
     let mut text = ArrayVec::new();
     if let Some(frame) = frame {
@@ -85,8 +85,8 @@ fn last_bit(bits: &[bool]) -> bool
 }
 
 /// What a reading told: the text of its frame where it is complete, else its bits, or `-` for none.
-pub fn reading_told(reading: &Reading) -> ArrayVec<u8, 160>
-    ensures { result.items ≡ told_text reading.now }
+pub fn reading_reported(reading: &Reading) -> ArrayVec<u8, 160>
+    ensures { result.items ≡ reported_text reading.now }
 {
     if reading.ending == Ending::Complete {
         frame_bytes(&reading.frame())
@@ -110,12 +110,12 @@ pub fn reading_verdict(reading: &Reading) -> &'static str
 // Writes a reading's line, from what it told and the verdict.
 fn write_reading_of<'a, S: Sink>(
     reading: &'a Reading,
-    told: &'a [u8],
+    reported: &'a [u8],
     verdict: &'a str,
     out: &mut S,
 ) -> Result<u128, WriteFault>
     ensures { WrittenLine (S.contents out.old) (S.contents out.new) (S.is_stuck out.old) (S.is_stuck out.new)
-        (reading_text_of reading.now told.now verdict.now ++ codes "\n") result }
+        (reading_text_of reading.now reported.now verdict.now ++ codes "\n") result }
 {
     write_line(
         out,
@@ -124,7 +124,7 @@ fn write_reading_of<'a, S: Sink>(
             Piece::Text(" "),
             Piece::Decimal(reading.at),
             Piece::Text(ending_word(reading.ending)),
-            Piece::Bytes(told),
+            Piece::Bytes(reported),
             Piece::Text(verdict),
             Piece::Text("\n"),
         ],
@@ -136,6 +136,6 @@ fn write_reading_of<'a, S: Sink>(
 pub fn write_reading<S: Sink>(reading: &Reading, out: &mut S) -> Result<u128, WriteFault>
     ensures { WrittenLine (S.contents out.old) (S.contents out.new) (S.is_stuck out.old) (S.is_stuck out.new) (reading_line reading.now) result }
 {
-    let told = reading_told(reading);
-    write_reading_of(reading, &told, reading_verdict(reading), out)
+    let reported = reading_reported(reading);
+    write_reading_of(reading, &reported, reading_verdict(reading), out)
 }

@@ -4,7 +4,7 @@ use Rattle.std.specs.Fmt.{decimal}
 use Rattle.std.specs.List.{concat, flat_map}
 use Rattle.cec_wire.specs.declared.Loser.{Loser}
 use Rattle.cec_wire.specs.declared.Outcome.{Outcome}
-use Rattle.cec_text.specs.ReadingText.{told_text, verdict_text, reading_text_of}
+use Rattle.cec_text.specs.ReadingText.{reported_text, verdict_text, reading_text_of}
 use Rattle.cec_device.specs.declared.keys.KeyError.{KeyError}
 use Rattle.cec_device.specs.declared.keys.KeyError.TheVariants as key
 use Rattle.cec_device.specs.declared.device.SubmitError.{SubmitError}
@@ -37,12 +37,12 @@ loser_text devices loser = name_at devices loser.seat ++ (64 ∷ decimal loser.s
 
 -- a round's line, by its devices, from what its reading reports and the verdict
 abbrev pub round_line_of : List State → Outcome → List ℕ → List ℕ → List ℕ
-round_line_of devices o told verdict = concat (
-    reading_text_of o.reading told verdict ∷ codes " by " ∷ comma_list (map (name_at devices) o.survivors.items)
+round_line_of devices o reported verdict = concat (
+    reading_text_of o.reading reported verdict ∷ codes " by " ∷ comma_list (map (name_at devices) o.survivors.items)
     ∷ codes " out " ∷ comma_list (map (loser_text devices) o.losers.items) ∷ codes "\n" ∷ [])
 
 abbrev pub round_line : List State → Outcome → List ℕ
-round_line devices o = round_line_of devices o (told_text o.reading) (verdict_text o.reading)
+round_line devices o = round_line_of devices o (reported_text o.reading) (verdict_text o.reading)
 
 -- ---- events
 

@@ -9,7 +9,7 @@ ghost use Rattle.cec_trace.specs.TraceText.{comma_list, loser_text, name_at, rou
 use crate::line::{PARTS, add};
 use arrayvec::ArrayVec;
 use cec_device::Device;
-use cec_text::{ending_word, reading_told, reading_verdict};
+use cec_text::{ending_word, reading_reported, reading_verdict};
 use cec_wire::{Loser, Outcome};
 use hdmi_core::{Piece, Sink, WriteFault, write_line};
 
@@ -83,18 +83,18 @@ fn write_round_of<'a, S: Sink>(
     out: &mut S,
     devices: &'a [Device<16>],
     outcome: &'a Outcome,
-    told: &'a [u8],
+    reported: &'a [u8],
     verdict: &'a str,
 ) -> Result<u128, WriteFault>
     ensures { WrittenLine (S.contents out.old) (S.contents out.new) (S.is_stuck out.old) (S.is_stuck out.new)
-        (round_line_of devices.now outcome.now told.now verdict.now) result }
+        (round_line_of devices.now outcome.now reported.now verdict.now) result }
 {
     let mut line = ArrayVec::new();
     add(&mut line, Piece::Decimal(outcome.reading.begin));
     add(&mut line, Piece::Text(" "));
     add(&mut line, Piece::Decimal(outcome.reading.at));
     add(&mut line, Piece::Text(ending_word(outcome.reading.ending)));
-    add(&mut line, Piece::Bytes(told));
+    add(&mut line, Piece::Bytes(reported));
     add(&mut line, Piece::Text(verdict));
     add(&mut line, Piece::Text(" by "));
     add_names(&mut line, devices, &outcome.survivors);
@@ -113,7 +113,7 @@ pub fn write_round<S: Sink>(
     ensures { WrittenLine (S.contents out.old) (S.contents out.new) (S.is_stuck out.old) (S.is_stuck out.new)
         (round_line devices.now outcome.now) result }
 {
-    let told = reading_told(&outcome.reading);
+    let reported = reading_reported(&outcome.reading);
     let verdict = reading_verdict(&outcome.reading);
-    write_round_of(out, devices, outcome, &told, verdict)
+    write_round_of(out, devices, outcome, &reported, verdict)
 }

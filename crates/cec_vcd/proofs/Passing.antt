@@ -4,7 +4,7 @@ use Rattle.std.specs.Option.{option_to_list}
 use Rattle.cec_wave.specs.declared.Edge.{Edge}
 use Rattle.cec_signal.specs.Edges.{Captured}
 use Rattle.cec_signal.specs.Track.{last_edge}
-use Rattle.cec_vcd.specs.Dump.{Passed, State, onto, took, words_passed, step_passed, lines_on, lines_passed, parts_of, told_by}
+use Rattle.cec_vcd.specs.Dump.{Passed, State, onto, took, words_passed, step_passed, lines_on, lines_passed, parts_of, reported_by}
 use Rattle.cec_vcd.specs.declared.reading.VcdFault.{VcdFault}
 use Rattle.cec_vcd.specs.declared.reader.Cause.{Cause}
 
@@ -41,19 +41,19 @@ abbrev pub before : List Edge → Result Captured VcdFault → Result Captured V
 before edges (Ok e) = Ok (record { edges = edges ++ e.edges; end = e.end })
 before edges (Err fault) = Err fault
 
-told_onto : (edges : List Edge) (r : Result Passed VcdFault) → told_by (onto edges r) ≡ before edges (told_by r)
-told_onto edges (Ok p) = ap (λ es. Ok (record { edges = es; end = p.state.track.at })) (append_assoc edges p.edges (option_to_list (last_edge p.state.track)))
-told_onto edges (Err f) = refl
+reported_onto : (edges : List Edge) (r : Result Passed VcdFault) → reported_by (onto edges r) ≡ before edges (reported_by r)
+reported_onto edges (Ok p) = ap (λ es. Ok (record { edges = es; end = p.state.track.at })) (append_assoc edges p.edges (option_to_list (last_edge p.state.track)))
+reported_onto edges (Err f) = refl
 
-pub line_told : (number : ℕ) (line : List ℕ) (lines : List (List ℕ)) (s t : State) (edges : List Edge) → words_passed number (parts_of line) s ≡ Ok (record { edges = edges; state = t })
-    → told_by (lines_passed number (line ∷ lines) s) ≡ before edges (told_by (lines_passed (number + 1) lines t))
-line_told number line lines s t edges h =
-    ap told_by (line_passed number line lines s t edges h) ∙ told_onto edges (lines_passed (number + 1) lines t)
+pub line_reported : (number : ℕ) (line : List ℕ) (lines : List (List ℕ)) (s t : State) (edges : List Edge) → words_passed number (parts_of line) s ≡ Ok (record { edges = edges; state = t })
+    → reported_by (lines_passed number (line ∷ lines) s) ≡ before edges (reported_by (lines_passed (number + 1) lines t))
+line_reported number line lines s t edges h =
+    ap reported_by (line_passed number line lines s t edges h) ∙ reported_onto edges (lines_passed (number + 1) lines t)
 
 -- a word by which an edge is known, after the words before it
-pub word_more : (number : ℕ) (word : List ℕ) (parts rest : List (List ℕ)) (s t : State) (edge : Edge) (told : List Edge) (all : Result Passed VcdFault)
-    → all ≡ onto told (words_passed number parts s) → parts ≡ word ∷ rest → took word s ≡ Ok (record { state = t; edge = Some edge })
-    → all ≡ onto (told ++ edge ∷ []) (words_passed number rest t)
-word_more number word parts rest s t edge told all so_far cut h =
-    so_far ∙ ap (λ ws. onto told (words_passed number ws s)) cut ∙ ap (onto told) (word_passed number word rest s t (Some edge) h)
-    ∙ onto_more told (edge ∷ []) (words_passed number rest t)
+pub word_more : (number : ℕ) (word : List ℕ) (parts rest : List (List ℕ)) (s t : State) (edge : Edge) (reported : List Edge) (all : Result Passed VcdFault)
+    → all ≡ onto reported (words_passed number parts s) → parts ≡ word ∷ rest → took word s ≡ Ok (record { state = t; edge = Some edge })
+    → all ≡ onto (reported ++ edge ∷ []) (words_passed number rest t)
+word_more number word parts rest s t edge reported all so_far cut h =
+    so_far ∙ ap (λ ws. onto reported (words_passed number ws s)) cut ∙ ap (onto reported) (word_passed number word rest s t (Some edge) h)
+    ∙ onto_more reported (edge ∷ []) (words_passed number rest t)

@@ -11,18 +11,18 @@ use Rattle.cec_wave.specs.Line.{covers, line_of, IsWaveFrom}
 use Rattle.hdmi_core.specs.Lines.{lines_of}
 use Rattle.cec_signal.specs.Edges.{Captured, edges_of}
 use Rattle.cec_signal.specs.Track.{first_track as line_begun}
-use Rattle.cec_signal.proofs.Moving.{due, move_kept, move_told, move_same, track_at}
+use Rattle.cec_signal.proofs.Moving.{due, move_kept, move_reported, move_same, track_at}
 use Rattle.cec_signal.proofs.Numbers.{number_again, some_length}
 use Rattle.cec_signal.proofs.Texts.{Lacks, line_before, shown}
 use Rattle.cec_vcd.specs.Scale.{instant_of}
-use Rattle.cec_vcd.specs.Dump.{State, first_state, no_edge, lines_passed, parts_of, after_time, timed_by, told_by, took, words_passed, onto}
+use Rattle.cec_vcd.specs.Dump.{State, first_state, no_edge, lines_passed, parts_of, after_time, timed_by, reported_by, took, words_passed, onto}
 use Rattle.cec_vcd.specs.Text.{head, changes, last, DumpsAreReadBack}
 use Rattle.cec_vcd.specs.declared.scale.Scale.{Scale as ScaleOf}
 use Rattle.cec_vcd.specs.declared.scale.Unit.TheVariants.{Microsecond}
 use Rattle.cec_vcd.specs.declared.scale.Count.TheVariants.{One}
 use Rattle.cec_vcd.specs.declared.reader.Section.TheVariants as section
 use Rattle.cec_vcd.specs.declared.reading.VcdFault.{VcdFault}
-use Rattle.cec_vcd.proofs.Passing.{before, line_told, word_passed}
+use Rattle.cec_vcd.proofs.Passing.{before, line_reported, word_passed}
 use Rattle.cec_vcd.proofs.Texts.{time_line, value_line, time_plain, value_plain, time_parts, value_parts}
 
 abbrev scale : ScaleOf
@@ -57,9 +57,9 @@ time_kept : (t at : ℕ) (b : Bool) → t ≤ 2000000000000 → at ≤ t → too
 time_kept t at b low after = time_taken t at b b low ∙ ap (λ m. timed_by m (stood at b b)) (move_kept t at b after)
 
 -- the edge before is told
-time_told : (t at : ℕ) (b : Bool) → t ≤ 2000000000000 → at < t
+time_reported : (t at : ℕ) (b : Bool) → t ≤ 2000000000000 → at < t
     → took (time_line t) (stood at (not b) b) ≡ Ok (record { state = stood t b b; edge = Some (record { at = at; low = b }) })
-time_told t at b low after = time_taken t at (not b) b low ∙ ap (λ m. timed_by m (stood at (not b) b)) (move_told t at b after)
+time_reported t at b low after = time_taken t at (not b) b low ∙ ap (λ m. timed_by m (stood at (not b) b)) (move_reported t at b after)
 
 -- at the same instant it is not
 time_same : (t : ℕ) (was is : Bool) → t ≤ 2000000000000 → took (time_line t) (stood t was is) ≡ no_edge (stood t was is)
@@ -75,9 +75,9 @@ rises at was is = refl
 
 -- one word alone on a line
 alone : (number : ℕ) (line : List ℕ) (lines : List (List ℕ)) (s t : State) (edge : Option Edge) → parts_of line ≡ line ∷ [] → took line s ≡ Ok (record { state = t; edge = edge })
-    → told_by (lines_passed number (line ∷ lines) s) ≡ before (option_to_list edge) (told_by (lines_passed (number + 1) lines t))
+    → reported_by (lines_passed number (line ∷ lines) s) ≡ before (option_to_list edge) (reported_by (lines_passed (number + 1) lines t))
 alone number line lines s t edge one h =
-    line_told number line lines s t (option_to_list edge) (ap (λ ws. words_passed number ws s) one ∙ word_passed number line [] s t edge h ∙ only edge)
+    line_reported number line lines s t (option_to_list edge) (ap (λ ws. words_passed number ws s) one ∙ word_passed number line [] s t edge h ∙ only edge)
   where
     only : (edge : Option Edge) → onto (option_to_list edge) (words_passed number [] t) ≡ Ok (record { edges = option_to_list edge; state = t })
     only None = refl
@@ -85,23 +85,23 @@ alone number line lines s t edge one h =
 
 -- the same of the lines of a text
 alone_in : (number : ℕ) (line rest : List ℕ) (s t : State) (edge : Option Edge) → Lacks (λ c. c == 10) line → parts_of line ≡ line ∷ [] → took line s ≡ Ok (record { state = t; edge = edge })
-    → told_by (lines_passed number (lines_of (line ++ 10 ∷ rest)) s) ≡ before (option_to_list edge) (told_by (lines_passed (number + 1) (lines_of rest) t))
+    → reported_by (lines_passed number (lines_of (line ++ 10 ∷ rest)) s) ≡ before (option_to_list edge) (reported_by (lines_passed (number + 1) (lines_of rest) t))
 alone_in number line rest s t edge plain one h =
-    ap (λ lines. told_by (lines_passed number lines s)) (line_before line rest plain) ∙ alone number line (lines_of rest) s t edge one h
+    ap (λ lines. reported_by (lines_passed number lines s)) (line_before line rest plain) ∙ alone number line (lines_of rest) s t edge one h
 
 -- ---- changes
 
 -- the time of a fall; the rise before it, if it is due, is told
 fall_time : (t at : ℕ) (b : Bool) → t ≤ 2000000000000 → cond b (at + 1) at ≤ t
     → took (time_line t) (stood at b false) ≡ Ok (record { state = stood t false false; edge = due at b })
-fall_time t at true low after = time_told t at false low (omega (arith, after))
+fall_time t at true low after = time_reported t at false low (omega (arith, after))
 fall_time t at false low after = time_kept t at false low after
 
 -- a stretch of the dump, before what follows
-stretch_told : (number at from to : ℕ) (b : Bool) (more : List ℕ) → cond b (at + 1) at ≤ from → from < to → to ≤ 2000000000000
-    → told_by (lines_passed number (lines_of (time_line from ++ 10 ∷ (value_line 48 ++ 10 ∷ (time_line to ++ 10 ∷ (value_line 49 ++ 10 ∷ more))))) (stood at b false))
-    ≡ before (option_to_list (due at b)) (before [] (before (record { at = from; low = true } ∷ []) (before [] (told_by (lines_passed (number + 1 + 1 + 1 + 1) (lines_of more) (stood to true false))))))
-stretch_told number at from to b more after wide low =
+stretch_reported : (number at from to : ℕ) (b : Bool) (more : List ℕ) → cond b (at + 1) at ≤ from → from < to → to ≤ 2000000000000
+    → reported_by (lines_passed number (lines_of (time_line from ++ 10 ∷ (value_line 48 ++ 10 ∷ (time_line to ++ 10 ∷ (value_line 49 ++ 10 ∷ more))))) (stood at b false))
+    ≡ before (option_to_list (due at b)) (before [] (before (record { at = from; low = true } ∷ []) (before [] (reported_by (lines_passed (number + 1 + 1 + 1 + 1) (lines_of more) (stood to true false))))))
+stretch_reported number at from to b more after wide low =
     let early : from ≤ 2000000000000 = omega arith in
     alone_in number (time_line from) (value_line 48 ++ 10 ∷ (time_line to ++ 10 ∷ (value_line 49 ++ 10 ∷ more))) (stood at b false) (stood from false false) (due at b)
     (time_plain from (omega arith)) (time_parts from (omega arith)) (fall_time from at b early after)
@@ -110,7 +110,7 @@ stretch_told number at from to b more after wide low =
     (value_plain 48 refl) (value_parts 48 refl) (falls from false false)
     ∙ ap (before []) (
     alone_in (number + 1 + 1) (time_line to) (value_line 49 ++ 10 ∷ more) (stood from false true) (stood to true true) (Some (record { at = from; low = true }))
-    (time_plain to (omega arith)) (time_parts to (omega arith)) (time_told to from true low wide)
+    (time_plain to (omega arith)) (time_parts to (omega arith)) (time_reported to from true low wide)
     ∙ ap (before (record { at = from; low = true } ∷ [])) (
     alone_in (number + 1 + 1 + 1) (value_line 49) more (stood to true true) (stood to true false) None
     (value_plain 49 refl) (value_parts 49 refl) (rises to true true))))
@@ -133,18 +133,18 @@ EndsBy end [] = Unit {0}
 EndsBy end (s ∷ ss) = (s.to ≤ end) × EndsBy end ss
 
 -- the last time
-end_told : (number at end : ℕ) (b : Bool) → at ≤ end → end ≤ 2000000000000
-    → told_by (lines_passed number (lines_of (time_line end ++ 10 ∷ [])) (stood at b false)) ≡ Ok (record { edges = option_to_list (due at b); end = end })
-end_told number at end false after low =
+end_reported : (number at end : ℕ) (b : Bool) → at ≤ end → end ≤ 2000000000000
+    → reported_by (lines_passed number (lines_of (time_line end ++ 10 ∷ [])) (stood at b false)) ≡ Ok (record { edges = option_to_list (due at b); end = end })
+end_reported number at end false after low =
     alone_in number (time_line end) [] (stood at false false) (stood end false false) None (time_plain end (omega arith)) (time_parts end (omega arith)) (time_kept end at false low after)
-end_told number at end true after low = by (nat_lt at end) refl
+end_reported number at end true after low = by (nat_lt at end) refl
   where
     by : (b : Bool) → nat_lt at end ≡ b
-        → told_by (lines_passed number (lines_of (time_line end ++ 10 ∷ [])) (stood at true false)) ≡ Ok (record { edges = record { at = at; low = false } ∷ []; end = end })
+        → reported_by (lines_passed number (lines_of (time_line end ++ 10 ∷ [])) (stood at true false)) ≡ Ok (record { edges = record { at = at; low = false } ∷ []; end = end })
     by true h =
         let earlier : at < end = grind (arith, nat_tests) in
         alone_in number (time_line end) [] (stood at true false) (stood end false false) (Some (record { at = at; low = false })) (time_plain end (omega arith)) (time_parts end (omega arith))
-        (time_told end at false low earlier)
+        (time_reported end at false low earlier)
     by false h =
         let same : at ≡ end = grind (arith, nat_tests) in
         rw same (alone_in number (time_line end) [] (stood end true false) (stood end true false) None (time_plain end (omega arith)) (time_parts end (omega arith)) (time_same end true false low))
@@ -153,22 +153,22 @@ abbrev with_end : List Edge → ℕ → Result Captured VcdFault
 with_end edges end = Ok (record { edges = edges; end = end })
 
 read_back : (ss : List Stretch) (end number at : ℕ) (b : Bool) → IsWaveFrom (cond b (at + 1) at) ss → EndsBy end ss → at ≤ end → end ≤ 2000000000000
-    → told_by (lines_passed number (lines_of (changes ss ++ last end)) (stood at b false)) ≡ Ok (record { edges = option_to_list (due at b) ++ edges_of ss; end = end })
+    → reported_by (lines_passed number (lines_of (changes ss ++ last end)) (stood at b false)) ≡ Ok (record { edges = option_to_list (due at b) ++ edges_of ss; end = end })
 read_back [] end number at b wave by after low =
-    end_told number at end b after low ∙ ap (λ es. with_end es end) (sym (append-nil (option_to_list (due at b))))
+    end_reported number at end b after low ∙ ap (λ es. with_end es end) (sym (append-nil (option_to_list (due at b))))
 read_back (s ∷ ss) end number at b wave by after low =
     let ends = by.0 in
-    ap (λ text. told_by (lines_passed number (lines_of text) (stood at b false))) (stretch_before s ss (last end))
-    ∙ stretch_told number at s.from s.to b (changes ss ++ last end) wave.0 wave.1 (omega (arith, ends))
+    ap (λ text. reported_by (lines_passed number (lines_of text) (stood at b false))) (stretch_before s ss (last end))
+    ∙ stretch_reported number at s.from s.to b (changes ss ++ last end) wave.0 wave.1 (omega (arith, ends))
     ∙ ap (λ r. before (option_to_list (due at b)) (before [] (before (record { at = s.from; low = true } ∷ []) (before [] r))))
     (read_back ss end (number + 1 + 1 + 1 + 1) s.to true wave.2 by.1 ends low)
 
 -- ---- definitions
 
 head_line : (number : ℕ) (line rest : List ℕ) (s t : State) → list_all (λ c. not (c == 10)) line ≡ true → words_passed number (parts_of line) s ≡ Ok (record { edges = []; state = t })
-    → told_by (lines_passed number (lines_of (line ++ 10 ∷ rest)) s) ≡ told_by (lines_passed (number + 1) (lines_of rest) t)
+    → reported_by (lines_passed number (lines_of (line ++ 10 ∷ rest)) s) ≡ reported_by (lines_passed (number + 1) (lines_of rest) t)
 head_line number line rest s t all h =
-    ap (λ lines. told_by (lines_passed number lines s)) (line_before line rest (shown (λ c. c == 10) line all)) ∙ line_told number line (lines_of rest) s t [] h ∙ same (told_by (lines_passed (number + 1) (lines_of rest) t))
+    ap (λ lines. reported_by (lines_passed number lines s)) (line_before line rest (shown (λ c. c == 10) line all)) ∙ line_reported number line (lines_of rest) s t [] h ∙ same (reported_by (lines_passed (number + 1) (lines_of rest) t))
   where
     same : (r : Result Captured VcdFault) → before [] r ≡ r
     same (Ok e) = refl
@@ -227,8 +227,8 @@ head_9 = refl
 head_10 : words_passed 10 (parts_of (codes "$end")) (stood 0 false false) ≡ Ok (record { edges = []; state = stood 0 false false })
 head_10 = refl
 
-head_told : (more : List ℕ) → told_by (lines_passed 1 (lines_of (head ++ more)) (first_state [])) ≡ told_by (lines_passed 11 (lines_of more) (stood 0 false false))
-head_told more =
+head_reported : (more : List ℕ) → reported_by (lines_passed 1 (lines_of (head ++ more)) (first_state [])) ≡ reported_by (lines_passed 11 (lines_of more) (stood 0 false false))
+head_reported more =
     let t10 = codes "$end" ++ 10 ∷ more in
     let t9 = codes "1!" ++ 10 ∷ t10 in
     let t8 = codes "$dumpvars" ++ 10 ∷ t9 in
@@ -276,4 +276,4 @@ ends_by (s ∷ ss) from end wave over = (
 
 pub dumps_are_read_back : DumpsAreReadBack
 dumps_are_read_back ss end wave over low =
-    head_told (changes ss ++ last end) ∙ read_back ss end 11 0 false wave (ends_by ss 0 end wave over) (omega arith) low
+    head_reported (changes ss ++ last end) ∙ read_back ss end 11 0 false wave (ends_by ss 0 end wave over) (omega arith) low

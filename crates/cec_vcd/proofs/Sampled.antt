@@ -15,7 +15,7 @@ use Rattle.cec_signal.specs.Track.{Moved, first_track as line_begun, last_edge, 
 use Rattle.cec_signal.specs.declared.track.Track.{Track}
 use Rattle.cec_signal.proofs.Recording.{Records, moved_at, records_capture, records_end, records_level, records_line, records_moved}
 use Rattle.cec_vcd.specs.Scale.{count_times, counted_word, instant_of, micros, of_unit, unit_of, within}
-use Rattle.cec_vcd.specs.Dump.{Passed, State, Step, Stepped, first_state, edges_in, free, in_field, in_section, is_binary, is_end, is_high, is_mark, is_none, is_other_value, no_edge, keyword, lines_passed, lines_on, end_of_definitions, named_by, onto, parts_of, scalar, scale_begun, scale_made, scale_made_by, step_passed, after_time, timed_by, told_by, took, after_value, vector_value, words_passed}
+use Rattle.cec_vcd.specs.Dump.{Passed, State, Step, Stepped, first_state, edges_in, free, in_field, in_section, is_binary, is_end, is_high, is_mark, is_none, is_other_value, no_edge, keyword, lines_passed, lines_on, end_of_definitions, named_by, onto, parts_of, scalar, scale_begun, scale_made, scale_made_by, step_passed, after_time, timed_by, reported_by, took, after_value, vector_value, words_passed}
 use Rattle.cec_vcd.specs.Wire.{Change, Part, Wire, DumpsAreSampled, IsSampled, change_by, change_of, changes_in, femtoseconds, first_of, id_after, is_alone, is_by, is_scalar, is_some_word, last_tick, level_of, scale_after, scale_by, section_after, tick_after, unit_in, unit_made, wire_by, wire_end, wire_from, wire_in, words_in}
 use Rattle.cec_vcd.specs.declared.scale.Count.{Count}
 use Rattle.cec_vcd.specs.declared.scale.Count.TheVariants.{One, Ten, Hundred}
@@ -99,11 +99,11 @@ quiet k x t tick at early = record { track = t; is = refl; at = at; early = earl
 value_goes : (k : Known) (v : Option Bool) (word : List ℕ) (x : Section) (t : Track) (tick : ℕ) → t.at ≡ micros k.scale tick → t.at ≤ 2000000000000
     → GoesBy k t (no_edge (after_value v word (among k x t))) (change_by v (bytes_eq word k.id) tick) tick x
 value_goes k None word x t tick at early = quiet k x t tick at early
-value_goes k (Some low) word x t tick at early = told (bytes_eq word k.id)
+value_goes k (Some low) word x t tick at early = reported (bytes_eq word k.id)
   where
-    told : (c : Bool) → GoesBy k t (no_edge (if c then among k x (with_level low t) else among k x t)) (if c then Some (record { tick = tick; low = low }) else None) tick x
-    told false = quiet k x t tick at early
-    told true = record {
+    reported : (c : Bool) → GoesBy k t (no_edge (if c then among k x (with_level low t) else among k x t)) (if c then Some (record { tick = tick; low = low }) else None) tick x
+    reported false = quiet k x t tick at early
+    reported true = record {
       track = with_level low t;
       is = refl;
       at = at;
@@ -743,7 +743,7 @@ defined_ran (word ∷ words) name x part noted own candidate scale id p d all ra
         let r = ih l.place l.part_next l.noted l.own l.candidate l.scale_next l.id_next l.defines there (sym (ap (λ (t : Passed). t.state.is_data) same) ∙ over) in
         (r.0, l.same words ∙ r.1, subst (Final r.0) (sym same) r.2)
 
-sampled_by : (name text : List ℕ) (p : Passed) (e : Captured) → lines_passed 1 (lines_of text) (first_state name) ≡ Ok p → told_by (Ok p) ≡ Ok e → (w : Wire) × (wire_in name (words_in text) ≡ Some w) × IsSampled w e
+sampled_by : (name text : List ℕ) (p : Passed) (e : Captured) → lines_passed 1 (lines_of text) (first_state name) ≡ Ok p → reported_by (Ok p) ≡ Ok e → (w : Wire) × (wire_in name (words_in text) ≡ Some w) × IsSampled w e
 sampled_by name text p e h k =
     let is : record { edges = p.edges ++ option_to_list (last_edge p.state.track); end = p.state.track.at } ≡ e = cc in
     let ran = lines_run 1 (lines_of text) (first_state name) p h in
@@ -763,9 +763,9 @@ sampled_by name text p e h k =
 pub dumps_are_sampled : DumpsAreSampled
 dumps_are_sampled name text e h = by (lines_passed 1 (lines_of text) (first_state name)) refl h
   where
-    by : (r : Result Passed VcdFault) → lines_passed 1 (lines_of text) (first_state name) ≡ r → told_by r ≡ Ok e → (w : Wire) × (wire_in name (words_in text) ≡ Some w) × IsSampled w e
-    by (Err f) k told = cc
-    by (Ok p) k told = sampled_by name text p e k told
+    by : (r : Result Passed VcdFault) → lines_passed 1 (lines_of text) (first_state name) ≡ r → reported_by r ≡ Ok e → (w : Wire) × (wire_in name (words_in text) ≡ Some w) × IsSampled w e
+    by (Err f) k reported = cc
+    by (Ok p) k reported = sampled_by name text p e k reported
 
 -- what is read is a capture
 pub read_is_capture : (name text : List ℕ) (e : Captured) → edges_in name text ≡ Ok e → IsCapture e.edges e.end

@@ -242,10 +242,10 @@ lines_passed number [] s = if s.is_data then Ok (record { edges = []; state = s 
 lines_passed number (line ∷ lines) s = lines_on (words_passed number (parts_of line) s) (lines_passed (number + 1) lines)
 
 -- a dump ends with its last time
-abbrev pub told_by : Result Passed VcdFault → Result Captured VcdFault
-told_by (Err fault) = Err fault
-told_by (Ok p) = Ok (record { edges = p.edges ++ option_to_list (last_edge p.state.track); end = p.state.track.at })
+abbrev pub reported_by : Result Passed VcdFault → Result Captured VcdFault
+reported_by (Err fault) = Err fault
+reported_by (Ok p) = Ok (record { edges = p.edges ++ option_to_list (last_edge p.state.track); end = p.state.track.at })
 
 -- what is read of a dump, and its wire of this name
 abbrev pub edges_in : List ℕ → List ℕ → Result Captured VcdFault
-edges_in name text = told_by (lines_passed 1 (lines_of text) (first_state name))
+edges_in name text = reported_by (lines_passed 1 (lines_of text) (first_state name))

@@ -18,8 +18,8 @@ use Rattle.cec_wire.specs.declared.hearing.Stage.{Stage}
 use Rattle.cec_wire.specs.declared.hearing.Stage.TheVariants.{StartLow, StartHigh, InSlot, Over}
 use Rattle.cec_bits.specs.Sending.{known_bits}
 use Rattle.cec_wire.specs.Round.{is_acknowledged, is_broken}
-use Rattle.cec_wire.specs.Machine.{acks_after, over, next_place, after_start_low, after_start_high, after_last_slot, after_other_slot, bit_told, acks_until, held_after, breaks_after, is_short}
-use Rattle.cec_wire.proofs.Walk.{Reached, reach_next, told_more, quiet_sample}
+use Rattle.cec_wire.specs.Machine.{acks_after, over, next_place, after_start_low, after_start_high, after_last_slot, after_other_slot, bit_reported, acks_until, held_after, breaks_after, is_short}
+use Rattle.cec_wire.proofs.Walk.{Reached, reach_next, reported_more, quiet_sample}
 use Rattle.cec_wire.proofs.Inside.{known_here}
 use Rattle.cec_wire.proofs.Law.{reached_start}
 use Rattle.cec_wire.proofs.Holding.{acks_now, breaks_now}
@@ -50,8 +50,8 @@ pub record AtStartHigh (low : Line) (begin t : ℕ) (bits : List Bool) (held : �
   pub early : t ≤ begin + 4700
 
 -- the bit, once it is sampled before t
-abbrev pub told_by : Line → ℕ → ℕ → List Bool
-told_by low fall t = if nat_lt (fall + 1050) t then option_to_list (bit_sampled_at low fall) else []
+abbrev pub reported_by : Line → ℕ → ℕ → List Bool
+reported_by low fall t = if nat_lt (fall + 1050) t then option_to_list (bit_sampled_at low fall) else []
 
 -- in a slot
 pub record AtSlot (seats : List Seat) (low : Line) (begin t : ℕ) (bits : List Bool) (fall : ℕ) (last : Option Ending) (held : ℕ) : Type 0 where
@@ -62,7 +62,7 @@ pub record AtSlot (seats : List Seat) (low : Line) (begin t : ℕ) (bits : List 
   pub room : length before + left ≡ 159
   pub count : length xs ≡ length before
   pub ends : last ≡ last_ending before
-  pub told : bits ≡ before ++ told_by low fall t
+  pub reported : bits ≡ before ++ reported_by low fall t
   pub quiet : (u : ℕ) → fall < u → u < t → is_fall low u ≡ false
   pub after : fall < t
   pub early : t ≤ fall + 2750
@@ -74,7 +74,7 @@ pub record AtSlot (seats : List Seat) (low : Line) (begin t : ℕ) (bits : List 
 pub record AtEnd (seats : List Seat) (low : Line) (begin t : ℕ) (bits : List Bool) (e : Ended) (held : ℕ) : Type 0 where
   pub zs : List Slot
   pub reads : reading_of low begin ≡ record { slots = zs; ending = e.ending; at = e.at; until = e.until }
-  pub told : filter_map (λ (s : Slot). s.bit) zs ≡ bits
+  pub reported : filter_map (λ (s : Slot). s.bit) zs ≡ bits
   pub knows : (u : ℕ) → e.until < u → known_at u (reading_of low begin) ≡ record { slots = zs; ended = Some (end_of e) }
   pub holds : (u : ℕ) → e.until < u → (is_acknowledged seats (known_at u (reading_of low begin)) u || is_broken seats (known_at u (reading_of low begin)) u (known_at u (reading_of low begin)).ended) ≡ nat_lt u held
   pub past : e.until < t
@@ -109,7 +109,7 @@ bad_start : (seats : List Seat) (low : Line) (begin t at until : ℕ) (bits : Li
 bad_start seats low begin t at until bits held none free h m past near = record {
   zs = [];
   reads = reads;
-  told = sym none;
+  reported = sym none;
   knows = knows;
   holds = λ u l. ap (λ (k : Known). is_acknowledged seats k u || is_broken seats k u k.ended) (knows u l) ∙ below_none u held free;
   past = past;
@@ -218,7 +218,7 @@ high_step seats low begin t bits held s = by_fall (is_fall low t) refl
       room = refl;
       count = refl;
       ends = refl;
-      told = none ∙ sym (ap (λ b. if b then option_to_list (bit_sampled_at low t) else []) (let x : nat_lt (t + 1050) (t + 1) ≡ false = grind (arith, nat_tests) in x));
+      reported = none ∙ sym (ap (λ b. if b then option_to_list (bit_sampled_at low t) else []) (let x : nat_lt (t + 1050) (t + 1) ≡ false = grind (arith, nat_tests) in x));
       quiet = λ u a b. absurd (omega arith);
       after = omega arith;
       early = omega arith;
@@ -257,9 +257,9 @@ abbrev bits_next : List Bool → ℕ → ℕ → Bool → Bool → List Bool
 bits_next bits fall t falls is_low = bits ++ (if not falls && (t == fall + 1050) then not is_low ∷ [] else [])
 
 -- with microsecond t the bits are those that the line told by then
-told_step : (low : Line) (fall t : ℕ) (before bits : List Bool) → bits ≡ before ++ told_by low fall t → ((u : ℕ) → fall < u → u < t → is_fall low u ≡ false) → fall < t
-    → bits_next bits fall t (is_fall low t) (low t) ≡ before ++ told_by low fall (t + 1)
-told_step low fall t before bits told quiet after =
+reported_step : (low : Line) (fall t : ℕ) (before bits : List Bool) → bits ≡ before ++ reported_by low fall t → ((u : ℕ) → fall < u → u < t → is_fall low u ≡ false) → fall < t
+    → bits_next bits fall t (is_fall low t) (low t) ≡ before ++ reported_by low fall (t + 1)
+reported_step low fall t before bits reported quiet after =
     elim (cases_lt t (fall + 1050)) [
       | inl lt ↦ other (let x : (t == fall + 1050) ≡ false = grind (arith, nat_tests) in x)
           (let x : nat_lt (fall + 1050) t ≡ false = grind (arith, nat_tests) in let y : nat_lt (fall + 1050) (t + 1) ≡ false = grind (arith, nat_tests) in x ∙ sym y)
@@ -270,12 +270,12 @@ told_step low fall t before bits told quiet after =
       ]
     ]
   where
-    other : (t == fall + 1050) ≡ false → nat_lt (fall + 1050) t ≡ nat_lt (fall + 1050) (t + 1) → bits_next bits fall t (is_fall low t) (low t) ≡ before ++ told_by low fall (t + 1)
+    other : (t == fall + 1050) ≡ false → nat_lt (fall + 1050) t ≡ nat_lt (fall + 1050) (t + 1) → bits_next bits fall t (is_fall low t) (low t) ≡ before ++ reported_by low fall (t + 1)
     other e f =
-        ap (λ b. bits ++ (if b then not (low t) ∷ [] else [])) (ap (λ b. not (is_fall low t) && b) e ∙ and_false (not (is_fall low t))) ∙ append-nil bits ∙ told
+        ap (λ b. bits ++ (if b then not (low t) ∷ [] else [])) (ap (λ b. not (is_fall low t) && b) e ∙ and_false (not (is_fall low t))) ∙ append-nil bits ∙ reported
         ∙ ap (λ b. before ++ (if b then option_to_list (bit_sampled_at low fall) else [])) f
 
-    here : t ≡ fall + 1050 → (f : Bool) → is_fall low t ≡ f → bits_next bits fall t f (low t) ≡ before ++ told_by low fall (t + 1)
+    here : t ≡ fall + 1050 → (f : Bool) → is_fall low t ≡ f → bits_next bits fall t f (low t) ≡ before ++ reported_by low fall (t + 1)
     here e f g = ap (λ bs. bits_next bs fall t f (low t)) so_far ∙ by_fall f g ∙ ap (λ b. before ++ (if b then option_to_list (bit_sampled_at low fall) else [])) (sym past)
       where
         now : (t == fall + 1050) ≡ true
@@ -285,7 +285,7 @@ told_step low fall t before bits told quiet after =
         past = grind (arith, nat_tests)
 
         so_far : bits ≡ before
-        so_far = told ∙ ap (λ b. before ++ (if b then option_to_list (bit_sampled_at low fall) else [])) (let x : nat_lt (fall + 1050) t ≡ false = grind (arith, nat_tests) in x) ∙ append-nil before
+        so_far = reported ∙ ap (λ b. before ++ (if b then option_to_list (bit_sampled_at low fall) else [])) (let x : nat_lt (fall + 1050) t ≡ false = grind (arith, nat_tests) in x) ∙ append-nil before
 
         by_fall : (b : Bool) → is_fall low t ≡ b → bits_next before fall t b (low t) ≡ before ++ option_to_list (bit_sampled_at low fall)
         by_fall true k = ap (λ (o : Option Bool). before ++ option_to_list o) (sym (ap (sample low fall) (first_in_some (is_fall low) (fall + 1) 1050 t (omega arith) (omega arith) k (λ u l m. quiet u (omega arith) m))))
@@ -308,15 +308,15 @@ slot_end : (seats : List Seat) (low : Line) (begin t : ℕ) (bits : List Bool) (
     → (ending : Ending) (at : ℕ) (bits2 : List Bool) → after_slot low fall (last_ending s.before) ≡ Ends ending at → last_heard ending at ≡ t → bits2 ≡ s.before ++ option_to_list (bit_sampled_at low fall)
     → (fall + 1050 < t + 1) ⊎ (bit_sampled_at low fall ≡ None) → (is_short ending ≡ true → at ≡ t) → t ≤ at → at ≤ t + 1
     → AtEnd seats low begin (t + 1) bits2 (record { ending = ending; at = at; until = t }) (if (at == t) && (is_short ending && list_any (breaks_after bits2) seats) then t + 3600 else held)
-slot_end seats low begin t bits fall last held s ending at bits2 a heard told2 settled short ge le = record {
+slot_end seats low begin t bits fall last held s ending at bits2 a heard reported2 settled short ge le = record {
   zs = s.xs ++ slot ∷ [];
   reads = ends_so low begin s.left s.xs s.before fall ending at s.reached a ∙ ap (λ n. let r : Read = record { slots = s.xs ++ slot ∷ []; ending = ending; at = at; until = n } in r) heard;
-  told = told_more s.xs s.before slot s.reached.told ∙ sym told2;
+  reported = reported_more s.xs s.before slot s.reached.reported ∙ sym reported2;
   knows = knows;
   holds = λ u l. ap (λ b. b || is_broken seats (known_at u (reading_of low begin)) u (known_at u (reading_of low begin)).ended)
       (acks_now seats low begin s.left s.xs s.before fall u s.reached s.count (omega (arith, s.after)) slot (Some (record { ending = ending; at = at; until = t })) (knows u l) refl ∙ ap (λ n. nat_lt u n) (sym s.free))
       ∙ breaks_now seats (known_at u (reading_of low begin)) bits2 u t at t held ending (ap (λ (k : Known). k.ended) (knows u l))
-      (ap known_bits (knows u l) ∙ told_more s.xs s.before slot s.reached.told ∙ sym told2) short brief;
+      (ap known_bits (knows u l) ∙ reported_more s.xs s.before slot s.reached.reported ∙ sym reported2) short brief;
   past = omega arith;
   heard = λ w. omega (arith, short w);
   soon = omega arith;
@@ -359,22 +359,22 @@ slot_end seats low begin t bits fall last held s ending at bits2 a heard told2 s
         ∙ ap (λ (x : Slot). let k : Known = record { slots = s.xs ++ x ∷ []; ended = Some (record { ending = ending; at = at; until = t }) } in k) (known_one u l)
 
 -- what a fall in the slot told
-told_fall : (seats : List Seat) (low : Line) (begin t : ℕ) (bits : List Bool) (fall : ℕ) (last : Option Ending) (held : ℕ) → (s : AtSlot seats low begin t bits fall last held) → is_fall low t ≡ true
+reported_fall : (seats : List Seat) (low : Line) (begin t : ℕ) (bits : List Bool) (fall : ℕ) (last : Option Ending) (held : ℕ) → (s : AtSlot seats low begin t bits fall last held) → is_fall low t ≡ true
     → (bits_next bits fall t (is_fall low t) (low t) ≡ s.before ++ option_to_list (bit_sampled_at low fall)) × ((fall + 1050 < t + 1) ⊎ (bit_sampled_at low fall ≡ None))
-told_fall seats low begin t bits fall last held s f =
+reported_fall seats low begin t bits fall last held s f =
     elim (cases_lt (fall + 1050) (t + 1)) [
-      | inl l ↦ (told_step low fall t s.before bits s.told s.quiet s.after ∙ ap (λ b. s.before ++ (if b then option_to_list (bit_sampled_at low fall) else [])) (let x : nat_lt (fall + 1050) (t + 1) ≡ true = grind (arith, nat_tests) in x), inl l)
+      | inl l ↦ (reported_step low fall t s.before bits s.reported s.quiet s.after ∙ ap (λ b. s.before ++ (if b then option_to_list (bit_sampled_at low fall) else [])) (let x : nat_lt (fall + 1050) (t + 1) ≡ true = grind (arith, nat_tests) in x), inl l)
       | inr g ↦ (let none : bit_sampled_at low fall ≡ None = ap (sample low fall) (first_in_some (is_fall low) (fall + 1) 1050 t (omega (arith, s.after)) (omega arith) f (λ u a b. s.quiet u (omega arith) b)) in (
-        told_step low fall t s.before bits s.told s.quiet s.after ∙ ap (λ b. s.before ++ (if b then option_to_list (bit_sampled_at low fall) else [])) (let x : nat_lt (fall + 1050) (t + 1) ≡ false = grind (arith, nat_tests) in x)
+        reported_step low fall t s.before bits s.reported s.quiet s.after ∙ ap (λ b. s.before ++ (if b then option_to_list (bit_sampled_at low fall) else [])) (let x : nat_lt (fall + 1050) (t + 1) ≡ false = grind (arith, nat_tests) in x)
             ∙ ap (λ (o : Option Bool). s.before ++ option_to_list o) (sym none),
         inr none,
       ))
     ]
 
-told_past : (seats : List Seat) (low : Line) (begin t : ℕ) (bits : List Bool) (fall : ℕ) (last : Option Ending) (held : ℕ) → (s : AtSlot seats low begin t bits fall last held) → fall + 1050 < t + 1
+reported_past : (seats : List Seat) (low : Line) (begin t : ℕ) (bits : List Bool) (fall : ℕ) (last : Option Ending) (held : ℕ) → (s : AtSlot seats low begin t bits fall last held) → fall + 1050 < t + 1
     → bits_next bits fall t (is_fall low t) (low t) ≡ s.before ++ option_to_list (bit_sampled_at low fall)
-told_past seats low begin t bits fall last held s l =
-    told_step low fall t s.before bits s.told s.quiet s.after ∙ ap (λ b. s.before ++ (if b then option_to_list (bit_sampled_at low fall) else [])) (let x : nat_lt (fall + 1050) (t + 1) ≡ true = grind (arith, nat_tests) in x)
+reported_past seats low begin t bits fall last held s l =
+    reported_step low fall t s.before bits s.reported s.quiet s.after ∙ ap (λ b. s.before ++ (if b then option_to_list (bit_sampled_at low fall) else [])) (let x : nat_lt (fall + 1050) (t + 1) ≡ true = grind (arith, nat_tests) in x)
 
 quiet_next : (low : Line) (from t : ℕ) → ((u : ℕ) → from < u → u < t → is_fall low u ≡ false) → is_fall low t ≡ false → (u : ℕ) → from < u → u < t + 1 → is_fall low u ≡ false
 quiet_next low from t q e u l m = elim (cases_lt u t) [ inl lt ↦ q u l lt | inr ge ↦ let same : u ≡ t = omega arith in rw same e ]
@@ -435,10 +435,10 @@ slot_next seats low begin t bits fall held s f far = by_left s.left s.room refl 
     slot = record { fall = fall; bit = bit_sampled_at low fall }
 
     bits2 : bits_next bits fall t (is_fall low t) (low t) ≡ s.before ++ option_to_list (bit_sampled_at low fall)
-    bits2 = told_past seats low begin t bits fall None held s (omega arith)
+    bits2 = reported_past seats low begin t bits fall None held s (omega arith)
 
     same : bits ≡ s.before ++ option_to_list (bit_sampled_at low fall)
-    same = s.told ∙ ap (λ b. s.before ++ (if b then option_to_list (bit_sampled_at low fall) else [])) (let x : nat_lt (fall + 1050) t ≡ true = grind (arith, nat_tests) in x)
+    same = s.reported ∙ ap (λ b. s.before ++ (if b then option_to_list (bit_sampled_at low fall) else [])) (let x : nat_lt (fall + 1050) t ≡ true = grind (arith, nat_tests) in x)
 
     after : after_slot low fall (last_ending s.before) ≡ Next t
     after = ap (after_slot low fall) (sym s.ends) ∙ ap (after_fall fall) (next_here low fall t 2750 s.quiet s.after s.early f)
@@ -459,7 +459,7 @@ slot_next seats low begin t bits fall held s f far = by_left s.left s.room refl 
       room = omega (arith, more, n);
       count = length-append s.xs (slot ∷ []) ∙ (let x : length s.xs + 1 ≡ length (s.before ++ option_to_list (bit_sampled_at low fall)) = omega (arith, more, s.count) in x);
       ends = ap last_ending same;
-      told = bits2 ∙ sym (append-nil (s.before ++ option_to_list (bit_sampled_at low fall)))
+      reported = bits2 ∙ sym (append-nil (s.before ++ option_to_list (bit_sampled_at low fall)))
           ∙ sym (ap (λ b. (s.before ++ option_to_list (bit_sampled_at low fall)) ++ (if b then option_to_list (bit_sampled_at low t) else [])) (let x : nat_lt (t + 1050) (t + 1) ≡ false = grind (arith, nat_tests) in x));
       quiet = λ u a b. absurd (omega arith);
       after = omega arith;
@@ -480,7 +480,7 @@ slot_stays seats low begin t bits fall last held s f early waits = record {
   room = s.room;
   count = s.count;
   ends = s.ends;
-  told = told_step low fall t s.before bits s.told s.quiet s.after;
+  reported = reported_step low fall t s.before bits s.reported s.quiet s.after;
   quiet = quiet_next low fall t s.quiet f;
   after = omega (arith, s.after);
   early = early;
@@ -501,7 +501,7 @@ other_step seats low begin t bits fall held s = by_fall (is_fall low t) refl
     soon : is_fall low t ≡ true → (b : Bool) → nat_lt t (fall + 2050) ≡ b
         → StandsAt seats low begin (t + 1) (bits_next bits fall t (is_fall low t) (low t)) (held_after seats (bits_next bits fall t (is_fall low t) (low t)) (if b then over Short t t else InSlot t (last_ending bits)) t held) (if b then over Short t t else InSlot t (last_ending bits))
     soon f true h =
-        let d = told_fall seats low begin t bits fall None held s f in
+        let d = reported_fall seats low begin t bits fall None held s f in
         slot_end seats low begin t bits fall None held s Short t (bits_next bits fall t (is_fall low t) (low t))
         (ap (after_slot low fall) (sym s.ends) ∙ ap (after_fall fall) (next_here low fall t 2750 s.quiet s.after s.early f) ∙ ap (λ b. let a : After = if b then Ends Short t else Next t in a) h)
         refl d.0 d.1 (λ w. refl) (omega arith) (omega arith)
@@ -513,7 +513,7 @@ other_step seats low begin t bits fall held s = by_fall (is_fall low t) refl
         let x : t ≡ fall + 2750 = grind (arith, nat_tests) in
         slot_end seats low begin t bits fall None held s Silent (t + 1) (bits_next bits fall t (is_fall low t) (low t))
         (ap (after_slot low fall) (sym s.ends) ∙ ap (after_fall fall) (next_none low fall (t + 1) 2750 (quiet_next low fall t s.quiet f) (omega arith)) ∙ ap (λ n. let a : After = Ends Silent n in a) (let y : fall + 2751 ≡ t + 1 = omega arith in y))
-        (omega arith) (told_past seats low begin t bits fall None held s (omega arith)) (inl (omega arith)) (λ w. cc) (omega arith) (omega arith)
+        (omega arith) (reported_past seats low begin t bits fall None held s (omega arith)) (inl (omega arith)) (λ w. cc) (omega arith) (omega arith)
     wait f false h = slot_stays seats low begin t bits fall None held s f (let l = s.early in let ne : (t == fall + 2750) ≡ false = h in grind (arith, nat_tests)) (λ w. cc)
 
     by_fall : (b : Bool) → is_fall low t ≡ b
@@ -536,7 +536,7 @@ last_step seats low begin t bits fall ending held s = by_fall (is_fall low t) re
         let x : t ≡ fall + 1050 = grind (arith, nat_tests) in
         slot_end seats low begin t bits fall (Some ending) held s ending t (bits_next bits fall t (is_fall low t) (low t))
         (ap (after_slot low fall) (sym s.ends) ∙ ap (after_last fall ending) (next_none low fall (t + 1) 1050 (quiet_next low fall t s.quiet f) (omega arith)) ∙ ap (λ n. let a : After = Ends ending n in a) (sym x))
-        (last_plain ending t kind) (told_past seats low begin t bits fall (Some ending) held s (omega arith)) (inl (omega arith)) (λ w. absurd (last_long ending kind w)) (omega arith) (omega arith)
+        (last_plain ending t kind) (reported_past seats low begin t bits fall (Some ending) held s (omega arith)) (inl (omega arith)) (λ w. absurd (last_long ending kind w)) (omega arith) (omega arith)
     wait f false h =
         let l : t + 1 ≤ fall + 1050 = (let l2 : t ≤ fall + 1050 = s.waits refl in let ne : (t == fall + 1050) ≡ false = h in grind (arith, nat_tests)) in
         slot_stays seats low begin t bits fall (Some ending) held s f (omega arith) (λ w. l)
@@ -544,7 +544,7 @@ last_step seats low begin t bits fall ending held s = by_fall (is_fall low t) re
     by_fall : (b : Bool) → is_fall low t ≡ b
         → StandsAt seats low begin (t + 1) (bits_next bits fall t (is_fall low t) (low t)) (held_after seats (bits_next bits fall t (is_fall low t) (low t)) (after_last_slot fall ending t b) t held) (after_last_slot fall ending t b)
     by_fall true f =
-        let d = told_fall seats low begin t bits fall (Some ending) held s f in
+        let d = reported_fall seats low begin t bits fall (Some ending) held s f in
         slot_end seats low begin t bits fall (Some ending) held s Short t (bits_next bits fall t (is_fall low t) (low t))
         (ap (after_slot low fall) (sym s.ends) ∙ ap (after_last fall ending) (next_here low fall t 1050 s.quiet s.after (s.waits refl) f))
         refl d.0 d.1 (λ w. refl) (omega arith) (omega arith)
@@ -559,7 +559,7 @@ end_step seats low begin t bits e held s =
     (record {
       zs = s.zs;
       reads = s.reads;
-      told = s.told ∙ sym (append-nil bits);
+      reported = s.reported ∙ sym (append-nil bits);
       knows = s.knows;
       holds = s.holds;
       past = omega (arith, s.past);
@@ -575,8 +575,8 @@ end_step seats low begin t bits e held s =
     stays false h = no_break (e.at == t) (t + 3600) held
 
 pub step : (seats : List Seat) (low : Line) (begin t : ℕ) (bits : List Bool) (held : ℕ) (place : Stage) → StandsAt seats low begin t bits held place → (t ≡ begin → is_rise low t ≡ false)
-    → StandsAt seats low begin (t + 1) (bits ++ bit_told place t (is_fall low t) (low t))
-    (held_after seats (bits ++ bit_told place t (is_fall low t) (low t)) (next_place begin bits place t (is_fall low t) (is_rise low t)) t held) (next_place begin bits place t (is_fall low t) (is_rise low t))
+    → StandsAt seats low begin (t + 1) (bits ++ bit_reported place t (is_fall low t) (low t))
+    (held_after seats (bits ++ bit_reported place t (is_fall low t) (low t)) (next_place begin bits place t (is_fall low t) (is_rise low t)) t held) (next_place begin bits place t (is_fall low t) (is_rise low t))
 unfolding StandsAt
 step seats low begin t bits held StartLow s first = low_step seats low begin t bits held s first
 step seats low begin t bits held StartHigh s first = high_step seats low begin t bits held s

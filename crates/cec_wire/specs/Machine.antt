@@ -58,8 +58,8 @@ samples (InSlot fall last) t falls = not falls && (t == fall + 1050)
 samples _ t falls = false
 
 -- the bit that is sampled at microsecond t
-abbrev pub bit_told : Stage → ℕ → Bool → Bool → List Bool
-bit_told place t falls is_low = if samples place t falls then not is_low ∷ [] else []
+abbrev pub bit_reported : Stage → ℕ → Bool → Bool → List Bool
+bit_reported place t falls is_low = if samples place t falls then not is_low ∷ [] else []
 
 -- ---- who goes on, by the bits that were read
 

@@ -15,7 +15,7 @@ pub fn destination(bits: &[bool]) -> u8
 }
 
 /// A destination was read, and it is 15.
-#[tactic(auto, using(crate::proofs::ToldFates::short_direct))]
+#[tactic(auto, using(crate::proofs::ReportedFates::short_direct))]
 pub fn is_broadcast(bits: &[bool]) -> bool
     ensures { result ≡ (destination bits.now == 15) }
 {

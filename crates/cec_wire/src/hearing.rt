@@ -28,7 +28,7 @@ pub enum Stage {
     Over(Ended),
 }
 
-ghost use Rattle.cec_wire.specs.Machine.{after_start_low, after_start_high, after_last_slot, after_other_slot, next_place, samples, bit_told};
+ghost use Rattle.cec_wire.specs.Machine.{after_start_low, after_start_high, after_last_slot, after_other_slot, next_place, samples, bit_reported};
 
 fn over(ending: Ending, at: u64, until: u64) -> Stage
     ensures { result ≡ Stage.Over (record { ending = ending; at = at; until = until }) }

@@ -6,7 +6,7 @@ ghost use Rattle.cec_wire.specs.Falls.{EachFallBegins, FewFalls, RoundFits, Wave
 ghost use Rattle.cec_wire.specs.Lasting.{RoundsLast};
 ghost use Rattle.cec_wire.specs.OneOutcome.{OneOutcome, RoundsHaveOutcomes};
 ghost use Rattle.cec_wire.specs.Polls.{FreeIsRead, HoldersAreHeard};
-ghost use Rattle.cec_wire.specs.Round.{FatesTold, OneLine};
+ghost use Rattle.cec_wire.specs.Round.{FatesReported, OneLine};
 ghost use Rattle.cec_wire.specs.Winning.{CompleteIsRead};
 
 // ---- the line
@@ -115,8 +115,8 @@ pub fn rounds_have_outcomes()
 {}
 
 /// What an outcome says of each sender and of its close is what becomes of them in the round.
-pub fn fates_told()
-    ensures { FatesTold }
+pub fn fates_reported()
+    ensures { FatesReported }
 {}
 
 /// A poll of an address below 15 that nobody acknowledged was read whole, just as it was sent.

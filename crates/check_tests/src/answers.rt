@@ -4,7 +4,7 @@ use crate::explains::{EXPLAINED, HINTED, explained, hinted};
 use crate::rules::{IN_PORTS, NATIVES, RULES};
 use crate::timings::TIMINGS;
 use crate::ways::{
-    ADDRESSES, FRONTS, PASSED, address_told, fronts_told, passed_checked, passed_told,
+    ADDRESSES, FRONTS, PASSED, address_reported, fronts_reported, passed_checked, passed_reported,
 };
 use hdmi_convert::edid_to_findings;
 use hdmi_core::Writes;
@@ -71,7 +71,7 @@ fn edids_are_passed_on(rt: HostRuntime) {
     for case in PASSED.lines() {
         let (words, want) = parted(&rt, case);
         let want = wanted(&rt, want);
-        holds(&rt, passed_told(&rt, words).as_str() == want.as_str(), case);
+        holds(&rt, passed_reported(&rt, words).as_str() == want.as_str(), case);
     }
 }
 
@@ -79,21 +79,21 @@ fn edids_are_passed_on(rt: HostRuntime) {
 fn what_is_passed_on_is_checked(rt: HostRuntime) {
     for case in IN_PORTS.lines() {
         let (words, want) = parted(&rt, case);
-        let told = passed_checked(&rt, words);
-        let told = if told.is_empty() {
+        let reported = passed_checked(&rt, words);
+        let reported = if reported.is_empty() {
             "none"
         } else {
-            told.as_str()
+            reported.as_str()
         };
-        holds(&rt, told == want, case);
+        holds(&rt, reported == want, case);
     }
 }
 
 #[test]
-fn addresses_are_told(rt: HostRuntime) {
+fn addresses_are_reported(rt: HostRuntime) {
     for case in ADDRESSES.lines() {
         let (words, want) = parted(&rt, case);
-        holds(&rt, address_told(&rt, words).as_str() == want, case);
+        holds(&rt, address_reported(&rt, words).as_str() == want, case);
     }
 }
 
@@ -101,7 +101,7 @@ fn addresses_are_told(rt: HostRuntime) {
 fn fronts_are_written_before_a_fault(rt: HostRuntime) {
     for case in FRONTS.lines() {
         let (words, want) = parted(&rt, case);
-        holds(&rt, fronts_told(&rt, words).as_str() == want, case);
+        holds(&rt, fronts_reported(&rt, words).as_str() == want, case);
     }
 }
 

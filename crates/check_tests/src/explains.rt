@@ -41,11 +41,11 @@ pub(crate) fn explained(rt: &(impl Abort + AllocGlobal), words: &str) -> String 
     let text = explain_findings(rt.alloc(), Origin::Display, &bytes_of(rt, words)).expect(
         rt, "memory",
     );
-    lines_told(rt, text)
+    lines_reported(rt, text)
 }
 
 /// Lines with `/` for each line feed, or `none`.
-fn lines_told(rt: &(impl Abort + AllocGlobal), text: String) -> String {
+fn lines_reported(rt: &(impl Abort + AllocGlobal), text: String) -> String {
     if text.is_empty() {
         return String::from_str(rt.alloc(), "none").expect(rt, "a text");
     }
@@ -80,7 +80,7 @@ fn overrun(bytes: &[u8]) -> u8 {
 pub(crate) fn hinted(rt: &(impl Abort + AllocGlobal), words: &str) -> String {
     let bytes = bytes_of(rt, words);
     let text = explain_no_hdmi(rt.alloc(), &bytes).expect(rt, "memory");
-    let lines = lines_told(rt, text);
+    let lines = lines_reported(rt, text);
     let number = overrun(&bytes);
     format!(in rt.alloc(); "{lines}{number}").expect(rt, "a text")
 }

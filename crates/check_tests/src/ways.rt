@@ -60,7 +60,7 @@ fn audio_of(word: &str) -> AudioFrom {
     }
 }
 
-fn error_told(rt: &(impl Abort + AllocGlobal), error: PassOnError) -> String {
+fn error_reported(rt: &(impl Abort + AllocGlobal), error: PassOnError) -> String {
     format!(in rt.alloc(); "{error}").expect(rt, "a text")
 }
 
@@ -71,7 +71,7 @@ pub(crate) fn written_or_why(
     done: Result<(), PassOnError>,
 ) -> String {
     match done {
-        Err(error) => error_told(rt, error),
+        Err(error) => error_reported(rt, error),
         Ok(()) => str::from_utf8(&text)
             .expect(rt, "a text")
             .replace(rt.alloc(), "\n", ";")
@@ -79,7 +79,7 @@ pub(crate) fn written_or_why(
     }
 }
 
-pub(crate) fn address_told(rt: &(impl Abort + AllocGlobal), words: &str) -> String {
+pub(crate) fn address_reported(rt: &(impl Abort + AllocGlobal), words: &str) -> String {
     let mut text = Vec::new(rt.alloc());
     let done = write_address(&bytes_of(rt, words), &mut Writes::new(&mut text));
     written_or_why(rt, text, done)
@@ -125,10 +125,10 @@ fn hex_line(rt: &(impl Abort + AllocGlobal), bytes: &[u8]) -> String {
 }
 
 /// The bytes of what is passed on in hex, where the other two forms tell the same.
-pub(crate) fn passed_told(rt: &(impl Abort + AllocGlobal), words: &str) -> String {
+pub(crate) fn passed_reported(rt: &(impl Abort + AllocGlobal), words: &str) -> String {
     let (bytes, done) = passed(rt, words, Form::Bytes);
     if let Err(error) = done {
-        return error_told(rt, error);
+        return error_reported(rt, error);
     }
     let line = hex_line(rt, &bytes);
     let (digits, _) = passed(rt, words, Form::Hex);
@@ -148,7 +148,7 @@ pub(crate) fn passed_checked(rt: &(impl Abort + AllocGlobal), words: &str) -> St
     };
     let mut text = Vec::new(rt.alloc());
     match check_passed_on(&bytes_of(rt, edid), passing, &mut Writes::new(&mut text)) {
-        Err(error) => error_told(rt, error),
+        Err(error) => error_reported(rt, error),
         Ok(_) => written_or_why(rt, text, Ok(())),
     }
 }
@@ -202,7 +202,7 @@ fn fronts(rt: &(impl Abort + AllocGlobal), room: usize) -> String {
     )
 }
 
-pub(crate) fn fronts_told(rt: &(impl Abort + AllocGlobal), words: &str) -> String {
+pub(crate) fn fronts_reported(rt: &(impl Abort + AllocGlobal), words: &str) -> String {
     fronts(rt, usize::from_str_radix(words, 10).expect(rt, "a number"))
 }
 

@@ -191,7 +191,7 @@ fn place(alloc: Global, device: &Device<16>) -> Option<String> {
     format!(in alloc; "{number} {:02x}{:02x}", phys.high, phys.low).ok()
 }
 
-fn told(alloc: Global, device: &Device<16>, doing: &str, words: &str) -> Option<String> {
+fn reported(alloc: Global, device: &Device<16>, doing: &str, words: &str) -> Option<String> {
     match doing {
         "front" => front(alloc, device),
         "held" => held(alloc, device),
@@ -206,7 +206,7 @@ fn told(alloc: Global, device: &Device<16>, doing: &str, words: &str) -> Option<
     }
 }
 
-fn told_after(alloc: Global, device: &mut Device<16>, line: &str) -> Option<String> {
+fn reported_after(alloc: Global, device: &mut Device<16>, line: &str) -> Option<String> {
     let (doing, words) = line.split_once(' ').unwrap_or((line, ""));
     if is_done(device, doing, words) {
         return Some(String::new(alloc));
@@ -217,7 +217,7 @@ fn told_after(alloc: Global, device: &mut Device<16>, line: &str) -> Option<Stri
         "release" => key(alloc, device, words, false),
         "hold" => hold(alloc, device, words),
         "drop" => act(alloc, device, Act::Empty),
-        _ => told(alloc, device, doing, words),
+        _ => reported(alloc, device, doing, words),
     }
 }
 
@@ -225,8 +225,8 @@ fn told_after(alloc: Global, device: &mut Device<16>, line: &str) -> Option<Stri
 fn goes(rt: &impl Abort, alloc: Global, device: &mut Device<16>, lines: &str) {
     for line in lines.lines() {
         let (doing, wanted) = line.split_once(" => ").unwrap_or((line, ""));
-        let told = told_after(alloc, device, doing).expect(rt, line);
-        assert!(rt; told.as_str().trim_start() == wanted, "{line}: {told}");
+        let reported = reported_after(alloc, device, doing).expect(rt, line);
+        assert!(rt; reported.as_str().trim_start() == wanted, "{line}: {reported}");
     }
 }
 

@@ -28,14 +28,14 @@ switch | held=44 | press power | power=off held=- | -
 tv+amp+switch | deck=19 | press load | - | no key";
 
 // What is said: nothing, a message to all, or a refusal with its reason.
-fn is_said(says: &Says, told: &str) -> bool {
+fn is_said(says: &Says, reported: &str) -> bool {
     match says.as_slice() {
-        [] => told == "-",
-        [Say::Cast(blocks)] => match told.strip_prefix("cast ") {
+        [] => reported == "-",
+        [Say::Cast(blocks)] => match reported.strip_prefix("cast ") {
             Some(words) => blocks.bytes() == bytes_of(words, 0).as_slice(),
             None => false,
         },
-        [Say::Refuse(reason)] => match told.strip_prefix("refuse ") {
+        [Say::Refuse(reason)] => match reported.strip_prefix("refuse ") {
             Some(word) => bytes_of(word, 0).as_slice() == [reason.byte()].as_slice(),
             None => false,
         },
@@ -44,18 +44,18 @@ fn is_said(says: &Says, told: &str) -> bool {
 }
 
 // That is said where a key is pressed.
-fn presses(record: &mut Record, me: Identity, key: &str, told: &str) -> bool {
+fn presses(record: &mut Record, me: Identity, key: &str, reported: &str) -> bool {
     let Some(key) = key_of(key) else {
         return false;
     };
     if !has_key(me.kind, me.ports, &key) {
-        return told == "no key";
+        return reported == "no key";
     }
-    is_said(&record.press_key(me, key), told)
+    is_said(&record.press_key(me, key), reported)
 }
 
 // That is said where a frame is followed.
-fn obeys(record: &mut Record, me: Identity, bytes: &[u8], told: &str) -> bool {
+fn obeys(record: &mut Record, me: Identity, bytes: &[u8], reported: &str) -> bool {
     let Ok(frame) = Frame::new(bytes) else {
         return false;
     };
@@ -69,19 +69,19 @@ fn obeys(record: &mut Record, me: Identity, bytes: &[u8], told: &str) -> bool {
         first: bytes.get(2).copied().unwrap_or(0),
         at: 0,
     };
-    is_said(&record.obey(me, b"p1", &heard, &message), told)
+    is_said(&record.obey(me, b"p1", &heard, &message), reported)
 }
 
 // That is said by a device of this kind with three ports.
-fn says(record: &mut Record, kind: Kind, doing: &str, told: &str) -> bool {
+fn says(record: &mut Record, kind: Kind, doing: &str, reported: &str) -> bool {
     let me = Identity {
         kind,
         phys: phys_at(kind),
         ports: Port::new(3),
     };
     match doing.strip_prefix("press ") {
-        Some(key) => presses(record, me, key, told),
-        None => obeys(record, me, &bytes_of(doing, own_address(kind)), told),
+        Some(key) => presses(record, me, key, reported),
+        None => obeys(record, me, &bytes_of(doing, own_address(kind)), reported),
     }
 }
 

@@ -6,7 +6,7 @@ use std::io::{self, ErrorKind, Write};
 use std::process::Abort;
 
 /// What is written of a text, or why nothing is.
-fn told(rt: &(impl Abort + AllocGlobal), text: &str) -> String {
+fn reported(rt: &(impl Abort + AllocGlobal), text: &str) -> String {
     let mut out = Vec::new(rt.alloc());
     match dis_lines(text.as_bytes(), &mut Writes::new(&mut out)) {
         Ok(()) => String::from_utf8(out).expect(rt, "a text"),
@@ -19,19 +19,19 @@ fn holds(rt: &impl Abort, holds: bool, case: &str) {
 }
 
 /// Each line by itself has the text after its arrow, or is refused for that cause.
-fn are_told(rt: &(impl Abort + AllocGlobal), lines: &str, ending: &str, front: &str) {
+fn are_reported(rt: &(impl Abort + AllocGlobal), lines: &str, ending: &str, front: &str) {
     for line in lines.lines() {
         let (input, want) = line.split_once(" => ").expect(rt, line);
         let whole = format!(in rt.alloc(); "{front}{want}{ending}").expect(rt, line);
-        holds(rt, told(rt, input) == whole, line);
+        holds(rt, reported(rt, input) == whole, line);
     }
 }
 
 #[test]
 fn spellings_are_read(rt: HostRuntime) {
-    are_told(&rt, SPELLINGS, "\n", "");
-    are_told(&rt, REMARKS, "\n", "");
-    are_told(&rt, USER_CONTROLS, "\n", "");
+    are_reported(&rt, SPELLINGS, "\n", "");
+    are_reported(&rt, REMARKS, "\n", "");
+    are_reported(&rt, USER_CONTROLS, "\n", "");
 }
 
 #[test]
@@ -40,21 +40,21 @@ fn other_lines_are_refused(rt: HostRuntime) {
         let (input, want) = line.split_once(" => ").expect(&rt, line);
         let text = format!(in rt.alloc(); "44\n\n{input} \n44\n").expect(&rt, line);
         let fault = format!(in rt.alloc(); "line 3: {want}").expect(&rt, line);
-        holds(&rt, told(&rt, &text) == fault, line);
+        holds(&rt, reported(&rt, &text) == fault, line);
     }
 }
 
 #[test]
 fn lines_are_counted(rt: HostRuntime) {
     let text = "# a capture\n44\n\n4f 82 10 00\r\n";
-    holds(&rt, told(&rt, text).as_str() == "line 4: digit", text);
+    holds(&rt, reported(&rt, text).as_str() == "line 4: digit", text);
     let text = "# a capture\n44\n\n4f 82 10 00";
     holds(
         &rt,
-        told(&rt, text).as_str() == "4>4\n4>f active-source 1.0.0.0\n",
+        reported(&rt, text).as_str() == "4>4\n4>f active-source 1.0.0.0\n",
         text,
     );
-    holds(&rt, told(&rt, "").as_str() == "", "nothing");
+    holds(&rt, reported(&rt, "").as_str() == "", "nothing");
 }
 
 /// A writer that takes one byte a call, as many as it has room for.

@@ -19,9 +19,9 @@ use Rattle.cec_wire.specs.Contend.{leaves}
 use Rattle.cec_wire.proofs.Early.{destination_more, leaves_more, or_cases, and_left, and_right}
 use Rattle.cec_wire.proofs.Spans.{AreSpaced, MoreBits, bits_more, reading_spans}
 use Rattle.cec_drives.specs.Stretches.{ack_by, ack_in, ack_stretches, acknowledges_in, goes_to, slot_fall, stretch}
-use Rattle.drive_laws.proofs.Sent.{FrontTold, all_bits, bits_at, found_before, front_told, known_after, one_known, spaced_get}
+use Rattle.drive_laws.proofs.Sent.{FrontReported, all_bits, bits_at, found_before, front_reported, known_after, one_known, spaced_get}
 use Rattle.drive_laws.proofs.Slots.{falls_at}
-use Rattle.drive_laws.proofs.Seats.{Tells}
+use Rattle.drive_laws.proofs.Seats.{Reports}
 
 -- ---- at most 160 slots
 
@@ -69,7 +69,7 @@ get_known t (x ∷ ss) from (suc k) s spaced h l =
     rw f (get_known t ss (x.fall + 1051) k s spaced.1 h l)
 
 -- the bits of the slots before it are known
-count_low : (t : ℕ) (ss : List Slot) (from k : ℕ) (s : Slot) → AreSpaced from ss → FrontTold ss → slice_get ss k ≡ Some s → s.fall < t → k ≤ length (bits_at t ss)
+count_low : (t : ℕ) (ss : List Slot) (from k : ℕ) (s : Slot) → AreSpaced from ss → FrontReported ss → slice_get ss k ≡ Some s → s.fall < t → k ≤ length (bits_at t ss)
 count_low t [] from k s spaced front h l = cc
 count_low t (x ∷ ss) from zero s spaced front h l = omega arith
 count_low t (x ∷ []) from (suc k) s spaced front h l = cc
@@ -122,11 +122,11 @@ goes_on_in low begin t k slot (Some f) =
     (λ n l h. tests all sent whole_all k n (omega (arith, slot.low, total)) slot.ten l h
     ∙ ap (λ (b : List Bool). leaves b sent n) slot.all ∙ leaves_more now slot.more sent n l (omega (arith, slot.low))))
 
-acks_same : (low : Line) (begin t k : ℕ) (o : Outcome) (seat : Seat) → Tells low begin o → AckSlot t (reading_of low begin).slots (reading_of low begin).until k
+acks_same : (low : Line) (begin t k : ℕ) (o : Outcome) (seat : Seat) → Reports low begin o → AckSlot t (reading_of low begin).slots (reading_of low begin).until k
     → acknowledges (known_at t (reading_of low begin)) (k + 1) seat ≡ acknowledges_in o seat (out_of (reading_of low begin) seat.sends) (k + 1)
-acks_same low begin t k o seat tells slot =
+acks_same low begin t k o seat reports slot =
     let now = bits_at t (reading_of low begin).slots in
-    let bits : o.reading.bits.items ≡ now ++ slot.more = tells.bits ∙ sym (all_bits low begin) ∙ slot.all in
+    let bits : o.reading.bits.items ≡ now ++ slot.more = reports.bits ∙ sym (all_bits low begin) ∙ slot.all in
     let tenth : (k + 1) % 10 ≡ 0 = (let e = slot.ten in grind (arith, nat_tests)) in
     let read : nat_le 8 (length o.reading.bits.items) ≡ true =
     (let n : length o.reading.bits.items ≡ length now + length slot.more = ap length bits ∙ length-append now slot.more in grind (arith, nat_tests, slot.low)) in
@@ -220,11 +220,11 @@ ack_slot : (low : Line) (begin t k : ℕ) (s : Slot) → slice_get (reading_of l
     → AckSlot t (reading_of low begin).slots (reading_of low begin).until k
 ack_slot low begin t k s h l ten =
     let front = front_known low begin t in
-    record { more = front.0; all = front.1; low = count_low t (reading_of low begin).slots 0 k s (reading_spans low begin).spaced (front_told low begin) h l; ten = ten }
+    record { more = front.0; all = front.1; low = count_low t (reading_of low begin).slots 0 k s (reading_spans low begin).spaced (front_reported low begin) h l; ten = ten }
 
-pub ack_line : (low : Line) (begin t : ℕ) (o : Outcome) → Tells low begin o → (seat : Seat)
+pub ack_line : (low : Line) (begin t : ℕ) (o : Outcome) → Reports low begin o → (seat : Seat)
     → line_of (ack_stretches o seat (out_of (reading_of low begin) seat.sends)) t ≡ is_acknowledged (seat ∷ []) (known_at t (reading_of low begin)) t
-ack_line low begin t o tells seat = both_ways _ _ there back
+ack_line low begin t o reports seat = both_ways _ _ there back
   where
     ss : List Slot
     ss = (reading_of low begin).slots
@@ -270,12 +270,12 @@ ack_line low begin t o tells seat = both_ways _ _ there back
             let begun : nat_le (fall + 1) t ≡ true = and_left (nat_le (fall + 1) t) (nat_lt t (fall + 1500)) cover in
             let within : nat_lt t (fall + 1500) ≡ true = and_right (nat_le (fall + 1) t) (nat_lt t (fall + 1500)) cover in
             let k = 10 * block - 1 in
-            let slot = slot_there k fall (sym (tells.slots (10 * block) (omega arith)) ∙ f) in
+            let slot = slot_there k fall (sym (reports.slots (10 * block) (omega arith)) ∙ f) in
             let number : 10 * block ≡ k + 1 = omega arith in
             let ten : ((k + 1) % 10 == 0) ≡ true = (let m : (k + 1) % 10 ≡ 0 = omega arith in grind (arith, nat_tests)) in
             let past : slot.0.fall < t = (let p : fall + 1 ≤ t = grind (arith, nat_tests) in omega (arith, slot.2)) in
             let acks : acknowledges (known_at t (reading_of low begin)) (k + 1) seat ≡ true =
-            acks_same low begin t k o seat tells (ack_slot low begin t k slot.0 slot.1 past ten) ∙ ap (acknowledges_in o seat out) (sym number) ∙ a in
+            acks_same low begin t k o seat reports (ack_slot low begin t k slot.0 slot.1 past ten) ∙ ap (acknowledges_in o seat out) (sym number) ∙ a in
             let soon : nat_lt t (slot.0.fall + 1500) ≡ true = ap (λ n. nat_lt t (n + 1500)) slot.2 ∙ within in
             any_get test (enumerate_from 1 (known_slots t ss)) k (k + 1, known_slot t slot.0)
             (get_enumerated (known_slots t ss) 1 k (k + 1) (known_slot t slot.0) (get_known t ss 0 k slot.0 (reading_spans low begin).spaced slot.1 past) (omega arith))
@@ -298,9 +298,9 @@ ack_line low begin t o tells seat = both_ways _ _ there back
         let block = (found.0 + 1) / 10 in
         let whole : 10 * block ≡ found.0 + 1 = omega (arith, tenth) in
         let fall : slot_fall o (10 * block) ≡ Some slot.0.fall =
-        tells.slots (10 * block) (omega (arith, whole)) ∙ ap (falls_at ss) (let e : 10 * block - 1 ≡ found.0 = omega (arith, whole) in e) ∙ ap (option_map (λ (s : Slot). s.fall)) slot.1 in
+        reports.slots (10 * block) (omega (arith, whole)) ∙ ap (falls_at ss) (let e : 10 * block - 1 ≡ found.0 = omega (arith, whole) in e) ∙ ap (option_map (λ (s : Slot). s.fall)) slot.1 in
         let acks : acknowledges_in o seat out (10 * block) ≡ true =
-        ap (acknowledges_in o seat out) whole ∙ sym (acks_same low begin t found.0 o seat tells (ack_slot low begin t found.0 slot.0 slot.1 slot.3 ten))
+        ap (acknowledges_in o seat out) whole ∙ sym (acks_same low begin t found.0 o seat reports (ack_slot low begin t found.0 slot.0 slot.1 slot.3 ten))
         ∙ ap (λ n. acknowledges (known_at t (reading_of low begin)) n seat) (sym number) ∙ acks_now in
         let begun : nat_le (slot.0.fall + 1) t ≡ true = (let l = slot.3 in grind (arith, nat_tests)) in
         let ends : nat_lt t (slot.0.fall + 1500) ≡ true = ap (λ n. nat_lt t (n + 1500)) slot.2 ∙ soon in

@@ -19,11 +19,11 @@ use Rattle.cec_wire.specs.Contend.{leaves}
 use Rattle.cec_wire.proofs.Early.{destination_more, leaves_more, or_cases, and_left, and_right}
 use Rattle.cec_wire.proofs.Spans.{AreSpaced, MoreBits, bits_more, reading_spans}
 use Rattle.cec_drives.specs.Stretches.{ack_by, ack_in, ack_stretches, acknowledges_in, break_stretches, breaks_off, cut_after, goes_to, is_short, last_pull, sample_by, sent_stretches, slot_fall, stretch}
-use Rattle.drive_laws.proofs.Sent.{FrontTold, all_bits, bits_at, found_before, front_told, known_after, last_by, one_known, out_slot_of, stops}
+use Rattle.drive_laws.proofs.Sent.{FrontReported, all_bits, bits_at, found_before, front_reported, known_after, last_by, one_known, out_slot_of, stops}
 use Rattle.drive_laws.proofs.Slots.{falls_at}
 
 -- what an outcome reports of its reading
-pub record Tells (low : Line) (begin : ℕ) (o : Outcome) : Type 0 where
+pub record Reports (low : Line) (begin : ℕ) (o : Outcome) : Type 0 where
   pub at : o.reading.at ≡ (reading_of low begin).at
   pub ending : o.reading.ending ≡ (reading_of low begin).ending
   pub bits : o.reading.bits.items ≡ bits_of (reading_of low begin)
@@ -56,27 +56,27 @@ cut_line last t (s ∷ ss) = by (nat_le s.from last) refl (cut_line last t ss)
     by true h rest = ap₂ (λ a b. a || b) (cut_cover last t s h) rest ∙ spread (covers s t) (line_of ss t) (nat_le t last)
     by false h rest = rest ∙ ap (λ a. a || (line_of ss t && nat_le t last)) (sym (late_cover last t s h)) ∙ spread (covers s t) (line_of ss t) (nat_le t last)
 
-last_same : (low : Line) (begin : ℕ) (o : Outcome) (sent : List Bool) → Tells low begin o → (out : Option ℕ) → out_slot (all_known (reading_of low begin)) sent ≡ out
+last_same : (low : Line) (begin : ℕ) (o : Outcome) (sent : List Bool) → Reports low begin o → (out : Option ℕ) → out_slot (all_known (reading_of low begin)) sent ≡ out
     → last_pull o out ≡ last_by (reading_of low begin) out
-last_same low begin o sent tells None e = tells.at
-last_same low begin o sent tells (Some n) e = ap sample_by (tells.slots n (out_slot_of low begin sent n e).0)
+last_same low begin o sent reports None e = reports.at
+last_same low begin o sent reports (Some n) e = ap sample_by (reports.slots n (out_slot_of low begin sent n e).0)
 
-pub sent_line : (low : Line) (begin t : ℕ) (o : Outcome) → Tells low begin o → (sends : Option (List ℕ))
+pub sent_line : (low : Line) (begin t : ℕ) (o : Outcome) → Reports low begin o → (sends : Option (List ℕ))
     → line_of (sent_stretches begin o (out_of (reading_of low begin) sends) sends) t ≡ list_any (sender_pulls begin (known_at t (reading_of low begin)) t) (cons_option sends [])
-sent_line low begin t o tells None = refl
-sent_line low begin t o tells (Some f) =
+sent_line low begin t o reports None = refl
+sent_line low begin t o reports (Some f) =
     let sent = frame_bits f in
     let out = out_slot (all_known (reading_of low begin)) (frame_bits f) in
     cut_line (last_pull o out) t (sender_stretches begin sent)
-    ∙ ap (λ n. line_of (sender_stretches begin sent) t && nat_le t n) (last_same low begin o sent tells out refl)
+    ∙ ap (λ n. line_of (sender_stretches begin sent) t && nat_le t n) (last_same low begin o sent reports out refl)
     ∙ ap (λ b. line_of (sender_stretches begin sent) t && b) (sym (stops low begin t sent))
     ∙ sym (or_false (sender_pulls begin (known_at t (reading_of low begin)) t f))
 
 -- ---- who pulls after a fall too early
 
-pub break_line : (low : Line) (begin t : ℕ) (o : Outcome) → Tells low begin o → (seat : Seat)
+pub break_line : (low : Line) (begin t : ℕ) (o : Outcome) → Reports low begin o → (seat : Seat)
     → line_of (break_stretches o seat (out_of (reading_of low begin) seat.sends)) t ≡ is_broken (seat ∷ []) (known_at t (reading_of low begin)) t (known_at t (reading_of low begin)).ended
-break_line low begin t o tells seat = by_ending (reading_of low begin).ending refl
+break_line low begin t o reports seat = by_ending (reading_of low begin).ending refl
   where
     out : Option ℕ
     out = out_of (reading_of low begin) seat.sends
@@ -88,7 +88,7 @@ break_line low begin t o tells seat = by_ending (reading_of low begin).ending re
     -- an ending that is none
     quiet : (x : Ending) → (reading_of low begin).ending ≡ x → is_short x ≡ false → line_of (break_stretches o seat out) t ≡ false
     quiet x e h =
-        let none : breaks_off o seat out ≡ false = ap (λ (y : Ending). is_short y && (seat.plugged && not (goes_to seat.sends out (length o.reading.bits.items + 1)))) (tells.ending ∙ e)
+        let none : breaks_off o seat out ≡ false = ap (λ (y : Ending). is_short y && (seat.plugged && not (goes_to seat.sends out (length o.reading.bits.items + 1)))) (reports.ending ∙ e)
         ∙ ap (λ b. b && (seat.plugged && not (goes_to seat.sends out (length o.reading.bits.items + 1)))) h in
         rw none refl
 
@@ -128,7 +128,7 @@ break_line low begin t o tells seat = by_ending (reading_of low begin).ending re
         pulls = seat.plugged && not (goes_to seat.sends out (length o.reading.bits.items + 1))
 
         short_first : breaks_off o seat out ≡ pulls
-        short_first = ap (λ (y : Ending). is_short y && (seat.plugged && not (goes_to seat.sends out (length o.reading.bits.items + 1)))) (tells.ending ∙ short)
+        short_first = ap (λ (y : Ending). is_short y && (seat.plugged && not (goes_to seat.sends out (length o.reading.bits.items + 1)))) (reports.ending ∙ short)
 
         line_is : line_of (break_stretches o seat out) t ≡ (pulls && covers (stretch (o.reading.at + 1) (o.reading.at + 3600)) t)
         line_is = ap (λ b. line_of (if b then stretch (o.reading.at + 1) (o.reading.at + 3600) ∷ [] else []) t) short_first ∙ by_pulls pulls
@@ -138,7 +138,7 @@ break_line low begin t o tells seat = by_ending (reading_of low begin).ending re
             by_pulls false = refl
 
         cover_is : covers (stretch (o.reading.at + 1) (o.reading.at + 3600)) t ≡ (nat_le ((reading_of low begin).at + 1) t && nat_lt t ((reading_of low begin).at + 3600))
-        cover_is = ap (λ n. nat_le (n + 1) t && nat_lt t (n + 3600)) tells.at
+        cover_is = ap (λ n. nat_le (n + 1) t && nat_lt t (n + 3600)) reports.at
 
         by_time : (b : Bool) → nat_lt (reading_of low begin).until t ≡ b → line_of (break_stretches o seat out) t ≡ is_broken (seat ∷ []) (known_at t (reading_of low begin)) t
             (if b then Some (record { ending = Short; at = (reading_of low begin).at; until = (reading_of low begin).until }) else None)
@@ -153,7 +153,7 @@ break_line low begin t o tells seat = by_ending (reading_of low begin).ending re
             let past : (reading_of low begin).until < t = grind (arith, nat_tests) in
             let now : nat_le ((reading_of low begin).at + 1) t ≡ true = grind (arith, nat_tests, until_at) in
             let k = known_after t low begin past in
-            let count : length (known_bits (all_known (reading_of low begin))) ≡ length o.reading.bits.items = ap length (all_bits low begin ∙ sym tells.bits) in
+            let count : length (known_bits (all_known (reading_of low begin))) ≡ length o.reading.bits.items = ap length (all_bits low begin ∙ sym reports.bits) in
             let sends : sends_in (known_at t (reading_of low begin)) seat.sends (length (known_bits (known_at t (reading_of low begin))) + 1) ≡ goes_to seat.sends out (length o.reading.bits.items + 1) =
             ap (λ (n : Known). sends_in n seat.sends (length (known_bits n) + 1)) k
             ∙ ap (λ n. sends_in (all_known (reading_of low begin)) seat.sends (n + 1)) count ∙ sym (goes_same seat.sends (length o.reading.bits.items + 1)) in

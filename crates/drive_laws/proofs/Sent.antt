@@ -16,43 +16,43 @@ use Rattle.cec_bits.proofs.Ends.{until_by}
 use Rattle.cec_wire.specs.Round.{all_known, is_not_before}
 use Rattle.cec_wire.specs.Contend.{leaves}
 use Rattle.cec_wire.proofs.Early.{leaves_more}
-use Rattle.cec_wire.proofs.Polled.{told_bits}
-use Rattle.cec_wire.proofs.Spans.{AreSpaced, AreTold, IsTold, MoreBits, bits_more, reading_spans, told_all}
+use Rattle.cec_wire.proofs.Polled.{reported_bits}
+use Rattle.cec_wire.proofs.Spans.{AreSpaced, AreReported, IsReported, MoreBits, bits_more, reading_spans, reported_all}
 use Rattle.cec_wire.proofs.Walk.{next_falls, quiet_sample}
 use Rattle.cec_drives.specs.Stretches.{sample_by}
 
 -- ---- every slot but the last was sampled
 
-abbrev pub FrontTold : List Slot → Type 0
-FrontTold [] = Unit {0}
-FrontTold (s ∷ []) = Unit {0}
-FrontTold (s ∷ x ∷ ss) = ((b : Bool) × (s.bit ≡ Some b)) × FrontTold (x ∷ ss)
+abbrev pub FrontReported : List Slot → Type 0
+FrontReported [] = Unit {0}
+FrontReported (s ∷ []) = Unit {0}
+FrontReported (s ∷ x ∷ ss) = ((b : Bool) × (s.bit ≡ Some b)) × FrontReported (x ∷ ss)
 
 front_on : (low : Line) (e left : ℕ) (bits more : List Bool) (a : After) → after_slot low e (last_ending bits) ≡ a
-    → ((f : ℕ) → FrontTold (read_slots low left more f).slots) → FrontTold (record { fall = e; bit = bit_sampled_at low e } ∷ (read_on (read_slots low left more) a).slots)
+    → ((f : ℕ) → FrontReported (read_slots low left more f).slots) → FrontReported (record { fall = e; bit = bit_sampled_at low e } ∷ (read_on (read_slots low left more) a).slots)
 front_on low e left bits more (Ends ending at) h ih = tt
 front_on low e left bits more (Next f) h ih = step (read_slots low left more f).slots (ih f)
   where
     here : bit_sampled_at low e ≡ Some (not (low (e + 1050)))
     here = let n = next_falls low e bits f h in quiet_sample low e (λ u a b. n.quiet u a (omega (arith, n.far)))
 
-    step : (ss : List Slot) → FrontTold ss → FrontTold (record { fall = e; bit = bit_sampled_at low e } ∷ ss)
+    step : (ss : List Slot) → FrontReported ss → FrontReported (record { fall = e; bit = bit_sampled_at low e } ∷ ss)
     step [] t = tt
     step (x ∷ ss) t = ((not (low (e + 1050)), here), t)
 
-front_slots : (low : Line) (left : ℕ) (bits : List Bool) (e : ℕ) → FrontTold (read_slots low left bits e).slots
+front_slots : (low : Line) (left : ℕ) (bits : List Bool) (e : ℕ) → FrontReported (read_slots low left bits e).slots
 unfolding read_slots
 front_slots low zero bits e = tt
 front_slots low (suc left) bits e =
     front_on low e left bits (bits ++ option_to_list (bit_sampled_at low e)) (after_slot low e (last_ending bits)) refl
     (λ f. front_slots low left (bits ++ option_to_list (bit_sampled_at low e)) f)
 
-front_start : (low : Line) (begin : ℕ) (s : Result ℕ ℕ) → FrontTold (read_start low begin s).slots
+front_start : (low : Line) (begin : ℕ) (s : Result ℕ ℕ) → FrontReported (read_start low begin s).slots
 front_start low begin (Ok f) = front_slots low 160 [] f
 front_start low begin (Err at) = tt
 
-pub front_told : (low : Line) (begin : ℕ) → FrontTold (reading_of low begin).slots
-front_told low begin = front_start low begin (start_of low begin)
+pub front_reported : (low : Line) (begin : ℕ) → FrontReported (reading_of low begin).slots
+front_reported low begin = front_start low begin (start_of low begin)
 
 -- ---- how many bits are known
 
@@ -85,7 +85,7 @@ spaced_get (x ∷ ss) from zero s spaced h = let same : x ≡ s = cc in subst (�
 spaced_get (x ∷ ss) from (suc k) s spaced h = omega (arith, spaced.0, spaced_get ss (x.fall + 1051) k s spaced.1 h)
 
 -- a bit is known once its slot was sampled
-pub count_at : (t : ℕ) (ss : List Slot) (from k : ℕ) (s : Slot) (b : Bool) → AreSpaced from ss → FrontTold ss → slice_get ss k ≡ Some s → s.bit ≡ Some b
+pub count_at : (t : ℕ) (ss : List Slot) (from k : ℕ) (s : Slot) (b : Bool) → AreSpaced from ss → FrontReported ss → slice_get ss k ≡ Some s → s.bit ≡ Some b
     → nat_le (length (bits_at t ss)) k ≡ nat_le t (s.fall + 1050)
 count_at t [] from k s b spaced front h e = cc
 count_at t (x ∷ ss) from zero s b spaced front h e =
@@ -119,7 +119,7 @@ pub record SlotOf (ss : List Slot) (k : ℕ) : Type 0 where
   pub there : slice_get ss k ≡ Some slot
   pub sampled_so : slot.bit ≡ Some bit
 
-pub slot_of : (ss : List Slot) (k : ℕ) → FrontTold ss → k < length (filter_map (λ (s : Slot). s.bit) ss) → SlotOf ss k
+pub slot_of : (ss : List Slot) (k : ℕ) → FrontReported ss → k < length (filter_map (λ (s : Slot). s.bit) ss) → SlotOf ss k
 slot_of [] k front h = absurd (omega (arith, h))
 slot_of (x ∷ []) k front h = by x.bit refl h
   where
@@ -224,7 +224,7 @@ whole_start low begin (Ok f) w = whole_slots low 160 [] f w
 whole_start low begin (Err at) w = cc
 
 -- so before that not all its bits are known
-less_known : (t until : ℕ) (ss : List Slot) (from : ℕ) → AreSpaced from ss → FrontTold ss → EndsSampled ss until → t ≤ until
+less_known : (t until : ℕ) (ss : List Slot) (from : ℕ) → AreSpaced from ss → FrontReported ss → EndsSampled ss until → t ≤ until
     → length (bits_at t ss) < length (filter_map (λ (s : Slot). s.bit) ss)
 less_known t until [] from spaced front e h = absurd e
 less_known t until (s ∷ []) from spaced front e h =
@@ -245,14 +245,14 @@ abbrev pub last_by : Read → Option ℕ → ℕ
 last_by r None = r.at
 last_by r (Some n) = sample_by (option_map (λ (s : Slot). s.fall) (slice_get r.slots (n - 1)))
 
-told_get : (until : ℕ) (ss : List Slot) (k : ℕ) (s : Slot) (b : Bool) → AreTold until ss → slice_get ss k ≡ Some s → s.bit ≡ Some b → s.fall + 1050 ≤ until
-told_get until [] k s b told h e = cc
-told_get until (x ∷ ss) zero s b told h e =
+reported_get : (until : ℕ) (ss : List Slot) (k : ℕ) (s : Slot) (b : Bool) → AreReported until ss → slice_get ss k ≡ Some s → s.bit ≡ Some b → s.fall + 1050 ≤ until
+reported_get until [] k s b reported h e = cc
+reported_get until (x ∷ ss) zero s b reported h e =
     let same : x ≡ s = cc in
     let bit : x.bit ≡ Some b = ap (λ (y : Slot). y.bit) same ∙ e in
     let fall : x.fall ≡ s.fall = ap (λ (y : Slot). y.fall) same in
-    omega (arith, fall, subst (λ (o : Option Bool). IsTold until x.fall o) bit told.1)
-told_get until (x ∷ ss) (suc k) s b told h e = told_get until ss k s b told.2 h e
+    omega (arith, fall, subst (λ (o : Option Bool). IsReported until x.fall o) bit reported.1)
+reported_get until (x ∷ ss) (suc k) s b reported h e = reported_get until ss k s b reported.2 h e
 
 -- what is known after a reading is all
 pub known_after : (t : ℕ) (low : Line) (begin : ℕ) → (reading_of low begin).until < t → known_at t (reading_of low begin) ≡ all_known (reading_of low begin)
@@ -260,12 +260,12 @@ known_after t low begin past =
     let r : Read = reading_of low begin in
     let now : nat_lt (reading_of low begin).until t ≡ true = grind (arith, nat_tests) in
     let then_ : nat_lt (reading_of low begin).until ((reading_of low begin).until + 1) ≡ true = grind (arith, nat_tests) in
-    let slots = told_all ((reading_of low begin).until + 1) t (reading_of low begin).until (reading_of low begin).slots (reading_spans low begin).told (omega arith) (omega arith) in
+    let slots = reported_all ((reading_of low begin).until + 1) t (reading_of low begin).until (reading_of low begin).slots (reading_spans low begin).reported (omega arith) (omega arith) in
     rw (now, then_, slots) refl
 
 -- all bits are known in the end
 pub all_bits : (low : Line) (begin : ℕ) → bits_at ((reading_of low begin).until + 1) (reading_of low begin).slots ≡ bits_of (reading_of low begin)
-all_bits low begin = told_bits ((reading_of low begin).until + 1) (reading_of low begin).until (reading_of low begin).slots (reading_spans low begin).told (omega arith)
+all_bits low begin = reported_bits ((reading_of low begin).until + 1) (reading_of low begin).until (reading_of low begin).slots (reading_spans low begin).reported (omega arith)
 
 is_whole_end : (low : Line) (begin : ℕ) → is_whole (all_known (reading_of low begin)).ended ≡ has_all (reading_of low begin).ending
 is_whole_end low begin =
@@ -277,7 +277,7 @@ out_slot_of low begin sent n h =
     let ss = (reading_of low begin).slots in
     let w = found_within (is_out_by (known_bits (all_known (reading_of low begin))) (is_whole (all_known (reading_of low begin)).ended) sent) 1 (length (known_bits (all_known (reading_of low begin)))) n h in
     let count : length (known_bits (all_known (reading_of low begin))) ≡ length (bits_of (reading_of low begin)) = ap length (all_bits low begin) in
-    (w.0, slot_of ss (n - 1) (front_told low begin) (omega (arith, w.0, w.1, count)))
+    (w.0, slot_of ss (n - 1) (front_reported low begin) (omega (arith, w.0, w.1, count)))
 
 sample_of : (ss : List Slot) (k : ℕ) (s : Slot) → slice_get ss k ≡ Some s → sample_by (option_map (λ (x : Slot). x.fall) (slice_get ss k)) ≡ s.fall + 1050
 sample_of ss k s h = ap (λ (o : Option Slot). sample_by (option_map (λ (x : Slot). x.fall) o)) h
@@ -304,7 +304,7 @@ stops low begin t sent = elim (cases_lt (reading_of low begin).until t) [ inl pa
         by_out None e = refl
         by_out (Some n) e =
             let s = (out_slot_of low begin sent n e).1 in
-            let told = told_get (reading_of low begin).until (reading_of low begin).slots (n - 1) s.slot s.bit (reading_spans low begin).told s.there s.sampled_so in
+            let reported = reported_get (reading_of low begin).until (reading_of low begin).slots (n - 1) s.slot s.bit (reading_spans low begin).reported s.there s.sampled_so in
             let stop : nat_le t (s.slot.fall + 1050) ≡ false = grind (arith, nat_tests) in
             sym (ap (λ m. nat_le t m) (sample_of (reading_of low begin).slots (n - 1) s.slot s.there) ∙ stop)
 
@@ -343,7 +343,7 @@ stops low begin t sent = elim (cases_lt (reading_of low begin).until t) [ inl pa
         not_last n l false w = refl
         not_last n l true w =
             let ends = whole_start low begin (start_of low begin) (sym (is_whole_end low begin) ∙ w) in
-            let less = less_known t (reading_of low begin).until (reading_of low begin).slots 0 (reading_spans low begin).spaced (front_told low begin) ends by_then in
+            let less = less_known t (reading_of low begin).until (reading_of low begin).slots 0 (reading_spans low begin).spaced (front_reported low begin) ends by_then in
             let total : length all ≡ length (bits_of (reading_of low begin)) = ap length (all_bits low begin) in
             let other : (n == length all) ≡ false = grind (arith, nat_tests, less, total) in other
 
@@ -360,5 +360,5 @@ stops low begin t sent = elim (cases_lt (reading_of low begin).until t) [ inl pa
             let s = found.1 in
             let one = found.0 in
             let less : nat_le (length now + 1) n ≡ nat_le (length now) (n - 1) = grind (arith, nat_tests, one) in
-            less ∙ count_at t (reading_of low begin).slots 0 (n - 1) s.slot s.bit (reading_spans low begin).spaced (front_told low begin) s.there s.sampled_so
+            less ∙ count_at t (reading_of low begin).slots 0 (n - 1) s.slot s.bit (reading_spans low begin).spaced (front_reported low begin) s.there s.sampled_so
             ∙ sym (ap (λ m. nat_le t m) (sample_of (reading_of low begin).slots (n - 1) s.slot s.there))

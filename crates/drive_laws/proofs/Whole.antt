@@ -25,7 +25,7 @@ use Rattle.cec_drives.proofs.Driven.{lines_are_driven}
 use Rattle.drive_laws.specs.DriveLaws.{DrivesAreTheLine}
 use Rattle.drive_laws.proofs.Acks.{ack_line, any_append}
 use Rattle.drive_laws.proofs.Pulses.{pulses_line}
-use Rattle.drive_laws.proofs.Seats.{Tells, break_line, sent_line}
+use Rattle.drive_laws.proofs.Seats.{Reports, break_line, sent_line}
 use Rattle.drive_laws.proofs.Slots.{falls_at, slots_fall}
 
 -- ---- the first stretch begins with the round
@@ -48,10 +48,10 @@ first_begin (s ∷ rest) begin w l h = (
 
 -- ---- what an outcome reports
 
-tells_by : (wave : List Stretch) (begin : ℕ) (o : Outcome) (s : Stretch) (rest : List Stretch) → o.wave ≡ wave → wave ≡ s ∷ rest → s.from ≡ begin → IsWave (s ∷ rest)
+reports_by : (wave : List Stretch) (begin : ℕ) (o : Outcome) (s : Stretch) (rest : List Stretch) → o.wave ≡ wave → wave ≡ s ∷ rest → s.from ≡ begin → IsWave (s ∷ rest)
     → o.reading.at ≡ (reading_of (line_of wave) begin).at → (n : ℕ) → 1 ≤ n → slot_fall o n ≡ falls_at (reading_of (line_of wave) begin).slots (n - 1)
-tells_by wave begin o s rest own same first w at zero some = absurd (omega arith)
-tells_by wave begin o s rest own same first w at (suc k) some =
+reports_by wave begin o s rest own same first w at zero some = absurd (omega arith)
+reports_by wave begin o s rest own same first w at (suc k) some =
     let less : suc k - 1 ≡ k = omega arith in
     ap₂ (λ n (ss : List Stretch). fall_by n (slice_get ss (suc k))) at (own ∙ same)
     ∙ subst (λ b. fall_by (reading_of (line_of wave) b).at (slice_get rest k) ≡ falls_at (reading_of (line_of wave) b).slots k) first
@@ -60,12 +60,12 @@ tells_by wave begin o s rest own same first w at (suc k) some =
 
 -- ---- seat by seat
 
-seat_same : (low : Line) (begin t : ℕ) (o : Outcome) → Tells low begin o → (seat : Seat) → line_of (seat_stretches_by begin o seat (out_of (reading_of low begin) seat.sends)) t ≡ seat_line begin low seat t
-seat_same low begin t o tells seat =
+seat_same : (low : Line) (begin t : ℕ) (o : Outcome) → Reports low begin o → (seat : Seat) → line_of (seat_stretches_by begin o seat (out_of (reading_of low begin) seat.sends)) t ≡ seat_line begin low seat t
+seat_same low begin t o reports seat =
     let out = out_of (reading_of low begin) seat.sends in
     any_append (λ s. covers s t) (sent_stretches begin o out seat.sends) (ack_stretches o seat out ++ break_stretches o seat out)
-    ∙ ap₂ (λ a b. a || b) (sent_line low begin t o tells seat.sends)
-    (any_append (λ s. covers s t) (ack_stretches o seat out) (break_stretches o seat out) ∙ ap₂ (λ a b. a || b) (ack_line low begin t o tells seat) (break_line low begin t o tells seat))
+    ∙ ap₂ (λ a b. a || b) (sent_line low begin t o reports seat.sends)
+    (any_append (λ s. covers s t) (ack_stretches o seat out) (break_stretches o seat out) ∙ ap₂ (λ a b. a || b) (ack_line low begin t o reports seat) (break_line low begin t o reports seat))
 
 -- the losers after place n have greater places
 later_losers : (r : Read) (n k : ℕ) (seats : List Seat) → k < n → out_in (losers_from r n seats) k ≡ None
@@ -91,14 +91,14 @@ out_found r n (suc k) m (x ∷ ss) s e h = by_out (out_of r x.sends) (out_found 
     by_out None q = q
     by_out (Some slot) q = let y : (n == m) ≡ false = grind (arith, nat_tests) in ap (λ b. if b then Some slot else out_in (losers_from r (n + 1) ss) m) y ∙ q
 
-seats_same : (low : Line) (begin t : ℕ) (o : Outcome) → Tells low begin o → (n : ℕ) (seats : List Seat)
+seats_same : (low : Line) (begin t : ℕ) (o : Outcome) → Reports low begin o → (n : ℕ) (seats : List Seat)
     → ((k : ℕ) (s : Seat) → slice_get seats k ≡ Some s → out_in o.losers.items (n + k) ≡ out_of (reading_of low begin) s.sends)
     → list_any (λ ss. line_of ss t) (drives_from begin o n seats) ≡ list_any (λ seat. seat_line begin low seat t) seats
-seats_same low begin t o tells n [] outs = refl
-seats_same low begin t o tells n (seat ∷ seats) outs =
+seats_same low begin t o reports n [] outs = refl
+seats_same low begin t o reports n (seat ∷ seats) outs =
     let first : out_in o.losers.items n ≡ out_of (reading_of low begin) seat.sends = ap (out_in o.losers.items) (let e : n ≡ n + 0 = omega arith in e) ∙ outs 0 seat refl in
-    ap₂ (λ a b. a || b) (ap (λ out. line_of (seat_stretches_by begin o seat out) t) first ∙ seat_same low begin t o tells seat)
-    (seats_same low begin t o tells (n + 1) seats (λ k s h. ap (out_in o.losers.items) (let e : n + 1 + k ≡ n + suc k = omega arith in e) ∙ outs (suc k) s h))
+    ap₂ (λ a b. a || b) (ap (λ out. line_of (seat_stretches_by begin o seat out) t) first ∙ seat_same low begin t o reports seat)
+    (seats_same low begin t o reports (n + 1) seats (λ k s h. ap (out_in o.losers.items) (let e : n + 1 + k ≡ n + suc k = omega arith in e) ∙ outs (suc k) s h))
 
 -- ---- the whole line
 
@@ -106,15 +106,15 @@ pub drives_are_the_line : DrivesAreTheLine
 drives_are_the_line seats begin pulses o frames sparse wave round begun t =
     let low : Line = line_of o.wave in
     let b = begun_by (line_of o.wave) begin (start_of (line_of o.wave) begin) refl in
-    let starts : line_of o.wave begin ≡ true = low_at_begin seats begin pulses (line_of o.wave) sparse (contended seats begin pulses (line_of o.wave) round.line) b.tells begun in
+    let starts : line_of o.wave begin ≡ true = low_at_begin seats begin pulses (line_of o.wave) sparse (contended seats begin pulses (line_of o.wave) round.line) b.reports begun in
     let first = first_begin o.wave begin wave starts (high_before seats begin pulses (line_of o.wave) round.line) in
-    let tells : Tells (line_of o.wave) begin o = record {
+    let reports : Reports (line_of o.wave) begin o = record {
       at = round.ends;
       ending = round.ending;
       bits = round.bits;
-      slots = tells_by o.wave begin o first.0 first.1 refl first.2 first.3 (subst IsWave first.2 wave) round.ends;
+      slots = reports_by o.wave begin o first.0 first.1 refl first.2 first.3 (subst IsWave first.2 wave) round.ends;
     } in
-    let own = seats_same (line_of o.wave) begin t o tells 0 seats
+    let own = seats_same (line_of o.wave) begin t o reports 0 seats
     (λ k s h. ap (λ (ls : List Loser). out_in ls (0 + k)) round.losers ∙ out_found (reading_of (line_of o.wave) begin) 0 k (0 + k) seats s refl h) in
     let pulse = pulses_line seats begin pulses o frames sparse wave round t in
     lines_are_driven seats begin pulses (line_of o.wave) frames sparse round.line t

@@ -61,12 +61,12 @@ fn dumped(
     }
 }
 
-fn is_written(rt: &impl Abort, told: Written, text: &str, refusal: &str) {
+fn is_written(rt: &impl Abort, reported: Written, text: &str, refusal: &str) {
     assert!(rt;
-        told.bytes.as_slice() == text.as_bytes(),
+        reported.bytes.as_slice() == text.as_bytes(),
         "another text, with `{refusal}`"
     );
-    assert!(rt; told.refusal.as_str() == refusal, "{}", told.refusal);
+    assert!(rt; reported.refusal.as_str() == refusal, "{}", reported.refusal);
 }
 
 /// The dump of a run, over a writer that takes all bytes, and over one that takes one a call.
@@ -99,14 +99,14 @@ fn refusals_write_nothing(rt: &(impl Abort + AllocGlobal)) {
 /// A writer that fails at a byte has all bytes before it, and the count is reported.
 fn faults_are_counted(rt: &(impl Abort + AllocGlobal)) {
     for room in 0..POLL.len() {
-        let told = dumped(rt, TOPOLOGY, "end 40000\n", usize::MAX, room);
+        let reported = dumped(rt, TOPOLOGY, "end 40000\n", usize::MAX, room);
         let refusal = format!(in rt.alloc(); "write fault after {room} bytes").expect(rt, "a text");
         let front = POLL.as_bytes().get(..room).unwrap_or(b"");
-        assert!(rt; told.bytes.as_slice() == front, "another front at {room}");
+        assert!(rt; reported.bytes.as_slice() == front, "another front at {room}");
         assert!(rt;
-            told.refusal.as_str() == refusal.as_str(),
+            reported.refusal.as_str() == refusal.as_str(),
             "{}",
-            told.refusal
+            reported.refusal
         );
     }
 }

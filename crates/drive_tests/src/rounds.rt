@@ -148,7 +148,7 @@ fn drives_text(
 }
 
 // The drives of a round of some seats that begins at an instant, with a pulse.
-fn told(rt: &(impl Abort + AllocGlobal), row: &str) -> Option<String> {
+fn reported(rt: &(impl Abort + AllocGlobal), row: &str) -> Option<String> {
     let (seats, rest) = row.split_once(" | ")?;
     let (start, pulse) = rest.split_once(" | ")?;
     let seats = seats_of(seats)?;
@@ -170,15 +170,15 @@ const ROUNDS: &str = "\
 0 4:40,04 | 1000000 | 1006600+1200 => - 1000000-1003700,1004500-1006000,1006900-1007500, ";
 
 // Each row comes out as it is wanted.
-fn tell(rt: &(impl Abort + AllocGlobal), rows: &str) {
+fn report(rt: &(impl Abort + AllocGlobal), rows: &str) {
     for row in rows.lines() {
         let (round, wanted) = row.split_once(" => ").expect(rt, "a row");
-        let told = told(rt, round).expect(rt, "a round");
-        assert!(rt; told.as_str() == wanted, "{round}: {told}");
+        let reported = reported(rt, round).expect(rt, "a round");
+        assert!(rt; reported.as_str() == wanted, "{round}: {reported}");
     }
 }
 
 #[test]
 fn rounds_have_drives(rt: HostRuntime) {
-    tell(&rt, ROUNDS);
+    report(&rt, ROUNDS);
 }

@@ -22,11 +22,11 @@ use Rattle.cec_wires.specs.Wires.{head, id_of}
 use Rattle.cec_drives.specs.Stretches.{drives_from}
 use Rattle.cec_line.specs.Format.{line_text}
 use Rattle.cec_line.specs.declared.format.Format.TheVariants.{Vcd}
-use Rattle.cec_run.specs.declared.run.Telling.TheVariants.{Line}
+use Rattle.cec_run.specs.declared.run.Reporting.TheVariants.{Line}
 use Rattle.cec_run.specs.declared.run.Totals.{Totals}
 use Rattle.cec_run.specs.declared.run.Turn.{Turn}
 use Rattle.cec_run.specs.declared.run.Turn.TheVariants.{Stop, Apply, Round}
-use Rattle.cec_run.specs.Run.{Config, IsTurnBy, Leads, end_told, start, start_told, turn_at}
+use Rattle.cec_run.specs.Run.{Config, IsTurnBy, Leads, end_reported, start, start_reported, turn_at}
 use Rattle.cec_run.specs.RunLine as run_line
 use Rattle.cec_run.specs.Emulate.{IsLineOf}
 use Rattle.cec_run.proofs.Accepted.{texts_have_one_line}
@@ -38,14 +38,14 @@ use Rattle.cec_driven.proofs.Counts.{count_started}
 use Rattle.cec_driven.proofs.HasDrives.{runs_have_drives}
 use Rattle.capture_laws.proofs.Formats.{is_capture, lines_are_read_back}
 use Rattle.capture_laws.proofs.ReadBack.{same_line}
-use Rattle.dump_laws.specs.Dumps.{Declared, Span, TellsLine, TellsWires, dump_of, level_at, numbered_names, wire_at}
+use Rattle.dump_laws.specs.Dumps.{Declared, Span, ReportsLine, ReportsWires, dump_of, level_at, numbered_names, wire_at}
 use Rattle.dump_laws.proofs.ReadHead.{dumps_are_read_as_the_line}
-use Rattle.dump_laws.proofs.Whole.{dumps_tell_their_wires}
+use Rattle.dump_laws.proofs.Whole.{dumps_report_their_wires}
 use Rattle.driven_laws.specs.Rounds.{IsRuled, Laid, RoundsAreRuled, RoundsAreTheTraces, drives, rounds_by, rounds_in, rounds_of}
-use Rattle.driven_laws.specs.Dumps.{DumpsAreReadAsLines, DumpsTellDrives, TellsDrives, TextsHaveDrives, names_in}
+use Rattle.driven_laws.specs.Dumps.{DumpsAreReadAsLines, DumpsReportDrives, ReportsDrives, TextsHaveDrives, names_in}
 use Rattle.driven_laws.proofs.Captures.{same_captures}
 use Rattle.driven_laws.proofs.Names.{names_are_words, names_started}
-use Rattle.driven_laws.proofs.Turns.{Stands, Told, all_told, driven_line, span_of}
+use Rattle.driven_laws.proofs.Turns.{Stands, Told, all_reported, driven_line, span_of}
 
 -- ---- a run of accepted texts
 
@@ -63,15 +63,15 @@ stands_started tree pulses sparse = record {
 abbrev end_of : (topology script text : List ℕ) (totals : Totals) → IsDrivesOf topology script text totals → ℕ
 end_of topology script text totals p = max p.course.end p.driven.run.at_end.net.close
 
-told_of : (topology script text : List ℕ) (totals : Totals) → (p : IsDrivesOf topology script text totals)
+reported_of : (topology script text : List ℕ) (totals : Totals) → (p : IsDrivesOf topology script text totals)
     → Told (length p.plan.tree) p.course.end 0 (rounds_of topology script text totals p) p.driven.run.body p.driven.run.at_end
-told_of topology script text totals p =
+reported_of topology script text totals p =
     let sound = scripts_are_sound p.plan.tree script p.course p.accepted.course_is in
-    all_told (length p.plan.tree) p.course.end p.driven.run.turns 0 (start (first_net p.plan.tree p.course.pulses) p.course.events) p.driven.run.at_end p.driven.run.line p.driven.run.body
+    all_reported (length p.plan.tree) p.course.end p.driven.run.turns 0 (start (first_net p.plan.tree p.course.pulses) p.course.events) p.driven.run.at_end p.driven.run.line p.driven.run.body
     p.driven.run.drives (stands_started p.plan.tree p.course.pulses sound.sparse) sound.framed
 
 pub rounds_are_ruled : RoundsAreRuled
-rounds_are_ruled topology script text totals p = (told_of topology script text totals p).ruled
+rounds_are_ruled topology script text totals p = (reported_of topology script text totals p).ruled
 
 -- ---- the run's line
 
@@ -104,7 +104,7 @@ same_rounds end (suc turns) c d line text l =
 
 abbrev line_of_run : (topology script text : List ℕ) (totals : Totals) → IsDrivesOf topology script text totals → List ℕ
 line_of_run topology script text totals p =
-    start_told (Line Vcd) (first_net p.plan.tree p.course.pulses) ++ (p.driven.run.line ++ end_told (Line Vcd) p.course.end p.driven.run.at_end.net)
+    start_reported (Line Vcd) (first_net p.plan.tree p.course.pulses) ++ (p.driven.run.line ++ end_reported (Line Vcd) p.course.end p.driven.run.at_end.net)
 
 -- it is told by the dump of the line alone
 abbrev its_line : (topology script text : List ℕ) (totals : Totals) → (p : IsDrivesOf topology script text totals) → IsLineOf Vcd topology script (line_of_run topology script text totals p) totals
@@ -115,7 +115,7 @@ its_line topology script text totals p = record {
   accepted = p.accepted;
   root = p.root;
   line = record {
-    rest = p.driven.run.line ++ end_told (Line Vcd) p.course.end p.driven.run.at_end.net;
+    rest = p.driven.run.line ++ end_reported (Line Vcd) p.course.end p.driven.run.at_end.net;
     run = record {
       turns = p.driven.run.turns;
       last = p.driven.run.at_end;
@@ -158,7 +158,7 @@ dump_is : (topology script text : List ℕ) (totals : Totals) → (p : IsDrivesO
     → text ≡ dump_of (names_in p.plan.tree) (spans_in topology script text totals p) (end_of topology script text totals p)
 dump_is topology script text totals p =
     p.driven.whole ∙ ap₂ (λ names rest. head names ++ rest) (names_started p.plan.tree p.course.pulses)
-    (p.driven.run.whole ∙ ap (λ body. body ++ last (end_of topology script text totals p)) (told_of topology script text totals p).whole)
+    (p.driven.run.whole ∙ ap (λ body. body ++ last (end_of topology script text totals p)) (reported_of topology script text totals p).whole)
 
 -- ---- whose wires are low
 
@@ -265,32 +265,32 @@ whole_line u [] = refl
 whole_line u (r ∷ rs) =
     ap (λ b. line_of r.outcome.wave u || b) (whole_line u rs) ∙ sym (list_any-append (λ s. covers s u) r.outcome.wave (run_wave (outcomes rs)))
 
-tells : (tree : List Node) (rs : List Laid) (text : List ℕ) → All IsRuled rs → All (λ r. length r.seats ≡ length tree) rs → TellsWires (names_in tree) (map span_of rs) text
-    → TellsDrives (names_in tree) rs text
-tells tree rs text ruled seated told =
+reports : (tree : List Node) (rs : List Laid) (text : List ℕ) → All IsRuled rs → All (λ r. length r.seats ≡ length tree) rs → ReportsWires (names_in tree) (map span_of rs) text
+    → ReportsDrives (names_in tree) rs text
+reports tree rs text ruled seated reported =
     let names = names_in tree ++ codes "pulses" ∷ [] in
-    let line : (u : ℕ) → wire_line told.line u ≡ level_at 0 (map span_of rs) u = λ u. (
-    ap (λ (i : List ℕ). wire_line (record { scale = told.line.scale; id = i; words = told.line.words }) u) told.id ∙ told.levels 0 u) in
+    let line : (u : ℕ) → wire_line reported.line u ≡ level_at 0 (map span_of rs) u = λ u. (
+    ap (λ (i : List ℕ). wire_line (record { scale = reported.line.scale; id = i; words = reported.line.words }) u) reported.id ∙ reported.levels 0 u) in
     record {
-      line = told.line;
-      first = told.first;
+      line = reported.line;
+      first = reported.first;
       driven = λ u. line u ∙ some_level tree u rs ruled seated
-          ∙ sym (by_declared 1 names (λ n. level_at n (map span_of rs) u) (λ i. wire_line (record { scale = told.line.scale; id = i; words = told.line.words }) u) (λ n. told.levels n u))
-          ∙ ap (λ ds. list_any (λ (d : Declared). wire_line (record { scale = told.line.scale; id = d.id; words = told.line.words }) u) (drop 1 ds)) (sym told.declared);
-      declared = told.declared;
+          ∙ sym (by_declared 1 names (λ n. level_at n (map span_of rs) u) (λ i. wire_line (record { scale = reported.line.scale; id = i; words = reported.line.words }) u) (λ n. reported.levels n u))
+          ∙ ap (λ ds. list_any (λ (d : Declared). wire_line (record { scale = reported.line.scale; id = d.id; words = reported.line.words }) u) (drop 1 ds)) (sym reported.declared);
+      declared = reported.declared;
       line_is = λ u. line u ∙ whole_line u rs;
-      drives_are = λ number u. told.levels (number + 1) u ∙ any_map (λ (s : Span). line_of (wire_at (number + 1) s.wires) u) span_of rs
+      drives_are = λ number u. reported.levels (number + 1) u ∙ any_map (λ (s : Span). line_of (wire_at (number + 1) s.wires) u) span_of rs
           ∙ any_same (λ (r : Laid). line_of (wire_at (number + 1) (r.outcome.wave ∷ drives r)) u) (λ r. line_of (wire_at number (drives r)) u) rs
           (λ k x l. ap (λ n. line_of (wire_at n ((get_or rs k x).outcome.wave ∷ drives (get_or rs k x))) u) (let e : number + 1 ≡ suc number = omega arith in e));
     }
 
-pub dumps_tell_drives : DumpsTellDrives
-dumps_tell_drives topology script text totals p =
-    let told = told_of topology script text totals p in
+pub dumps_report_drives : DumpsReportDrives
+dumps_report_drives topology script text totals p =
+    let reported = reported_of topology script text totals p in
     let rs = rounds_of topology script text totals p in
-    subst (TellsDrives (names_in p.plan.tree) rs) (sym (dump_is topology script text totals p))
-    (tells p.plan.tree rs (dump_of (names_in p.plan.tree) (spans_in topology script text totals p) (end_of topology script text totals p)) told.ruled told.seated
-    (dumps_tell_their_wires (names_in p.plan.tree) (spans_in topology script text totals p) (end_of topology script text totals p) (names_are_words topology p.plan p.accepted.plan_is) told.spans
+    subst (ReportsDrives (names_in p.plan.tree) rs) (sym (dump_is topology script text totals p))
+    (reports p.plan.tree rs (dump_of (names_in p.plan.tree) (spans_in topology script text totals p) (end_of topology script text totals p)) reported.ruled reported.seated
+    (dumps_report_their_wires (names_in p.plan.tree) (spans_in topology script text totals p) (end_of topology script text totals p) (names_are_words topology p.plan p.accepted.plan_is) reported.spans
     (soon topology script text totals p)))
 
 pub texts_have_drives : TextsHaveDrives
@@ -340,15 +340,15 @@ has_line topology script text totals p =
 
 pub dumps_are_read_as_lines : DumpsAreReadAsLines
 dumps_are_read_as_lines topology script x y s t p q =
-    let told = told_of topology script x s p in
+    let reported = reported_of topology script x s p in
     let rs = rounds_of topology script x s p in
     let line = has_line topology script x s p in
     let text : y ≡ line_of_run topology script x s p = (texts_have_one_line Vcd topology script y (line_of_run topology script x s p) t s q (its_line topology script x s p)).0 in
     let names = names_are_words topology p.plan p.accepted.plan_is in
     let low = soon topology script x s p in
-    let first = dumps_are_read_as_the_line [] (names_in p.plan.tree) (spans_in topology script x s p) (end_of topology script x s p) (inl refl) names told.spans low in
-    let named = dumps_are_read_as_the_line (codes "CEC") (names_in p.plan.tree) (spans_in topology script x s p) (end_of topology script x s p) (inr refl) names told.spans low in
-    let same : (c : Captured) → TellsLine (spans_in topology script x s p) (end_of topology script x s p) c → c ≡ line.captured = (λ c h.
+    let first = dumps_are_read_as_the_line [] (names_in p.plan.tree) (spans_in topology script x s p) (end_of topology script x s p) (inl refl) names reported.spans low in
+    let named = dumps_are_read_as_the_line (codes "CEC") (names_in p.plan.tree) (spans_in topology script x s p) (end_of topology script x s p) (inr refl) names reported.spans low in
+    let same : (c : Captured) → ReportsLine (spans_in topology script x s p) (end_of topology script x s p) c → c ≡ line.captured = (λ c h.
     same_captures c line.captured h.capture line.capture (λ u. h.line u ∙ whole_line u rs ∙ sym (line.line u)) (h.end_is ∙ sym line.end_is)) in
     let dump = dump_is topology script x s p in (
       line.captured,

@@ -28,7 +28,7 @@ use Rattle.cec_net.proofs.Progress.{led}
 use Rattle.cec_asm.specs.Script.{AreFramedEvents}
 use Rattle.cec_asm.specs.declared.script.TimedEvent.{TimedEvent}
 use Rattle.cec_line.specs.declared.format.Format.TheVariants.{Vcd}
-use Rattle.cec_run.specs.declared.run.Telling.TheVariants.{Line}
+use Rattle.cec_run.specs.declared.run.Reporting.TheVariants.{Line}
 use Rattle.cec_run.specs.declared.run.Turn.{Turn}
 use Rattle.cec_run.specs.declared.run.Turn.TheVariants.{Stop, Apply, Round}
 use Rattle.cec_run.specs.declared.run.Totals.{Totals}
@@ -175,17 +175,17 @@ length-map : {X Y : Type 0} (f : X → Y) (xs : List X) → length (map f xs) �
 length-map f [] = refl
 length-map f (x ∷ xs) = ap suc (length-map f xs)
 
-told_turn : (count end from : ℕ) (turn : Turn) (c mid last : Config) (line driven left text : List ℕ) (rs : List Laid) → turn_at end c ≡ turn → (t : IsDrivenBy turn c line driven mid)
+reported_turn : (count end from : ℕ) (turn : Turn) (c mid last : Config) (line driven left text : List ℕ) (rs : List Laid) → turn_at end c ≡ turn → (t : IsDrivenBy turn c line driven mid)
     → Stands count from c.net → AreFramedEvents c.events → text ≡ driven ++ left
     → ((next : ℕ) → Stands count next mid.net → AreFramedEvents mid.events → Told count end next rs left last)
     → Told count end from (rounds_by turn c line driven mid t ++ rs) text last
 unfolding laid
-told_turn count end from Stop c mid last line driven left text rs same t h f e more = absurd t
-told_turn count end from (Apply at) c mid last line driven left text rs same t h f e more =
+reported_turn count end from Stop c mid last line driven left text rs same t h f e more = absurd t
+reported_turn count end from (Apply at) c mid last line driven left text rs same t h f e more =
     let next = stands_event count from at c.events c mid line t.0 refl h f in
     let rest = more from next.0 next.1 in
     record { ruled = rest.ruled; seated = rest.seated; whole = e ∙ ap (λ d. d ++ left) t.1 ∙ rest.whole; spans = rest.spans }
-told_turn count end from (Round begin) c mid last line driven left text rs same t h f e more =
+reported_turn count end from (Round begin) c mid last line driven left text rs same t h f e more =
     let begins = round_begins end c.net (first_time c.events) begin same in
     let o = t.0.outcome in
     let r : Laid = laid c.net begin o in
@@ -201,13 +201,13 @@ told_turn count end from (Round begin) c mid last line driven left text rs same 
       spans = (from_next from begin c.net h.later h.rested begins.0, within r is, subst (λ n. AreSpans n (max end last.net.close) (map span_of rs)) (sym ends) rest.spans);
     }
 
-pub all_told : (count end turns from : ℕ) (c d : Config) (line text : List ℕ) (l : Drives end turns c line text d) → Stands count from c.net → AreFramedEvents c.events
+pub all_reported : (count end turns from : ℕ) (c d : Config) (line text : List ℕ) (l : Drives end turns c line text d) → Stands count from c.net → AreFramedEvents c.events
     → Told count end from (rounds_in end turns c line text d l) text d
-all_told count end zero from c d line text l h f =
+all_reported count end zero from c d line text l h f =
     let same : d.net ≡ c.net = ap (λ (x : Config). x.net) l.2 in
     let rest : d.net.rest ≡ c.net.rest = ap (λ (s : NetState). s.rest) same in
     let close : d.net.close ≡ c.net.close = ap (λ (s : NetState). s.close) same in
     record { ruled = All-nil IsRuled; seated = All-nil (λ (x : Laid). length x.seats ≡ count); whole = l.1; spans = omega (arith, h.rested, h.closed, rest, close) }
-all_told count end (suc turns) from c d line text l h f =
-    told_turn count end from (turn_at end c) c l.0 d l.1 l.3 l.4 text (rounds_in end turns l.0 l.2 l.4 d l.6) refl l.5 h f l.8
-    (λ next stands framed. all_told count end turns next l.0 d l.2 l.4 l.6 stands framed)
+all_reported count end (suc turns) from c d line text l h f =
+    reported_turn count end from (turn_at end c) c l.0 d l.1 l.3 l.4 text (rounds_in end turns l.0 l.2 l.4 d l.6) refl l.5 h f l.8
+    (λ next stands framed. all_reported count end turns next l.0 d l.2 l.4 l.6 stands framed)

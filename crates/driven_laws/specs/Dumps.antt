@@ -25,7 +25,7 @@ below text = drop 1 (declared_in (words_in text))
 
 -- What a dump reports (IEEE 1364-2005, 18), by its words alone: its first wire is the line, and at every microsecond that is low if
 -- and only if one of the wires below it is.
-pub record TellsDrives (names : List (List ℕ)) (rounds : List Laid) (text : List ℕ) : Type 0 where
+pub record ReportsDrives (names : List (List ℕ)) (rounds : List Laid) (text : List ℕ) : Type 0 where
   pub line : Wire
   pub first : wire_in [] (words_in text) ≡ Some line
   pub driven : (u : ℕ) → wire_line line u ≡ list_any (λ d. wire_line (record line { id = d.id }) u) (below text)
@@ -46,9 +46,9 @@ TextsHaveDrives = (topology script : List ℕ) (plan : Plan) (course : Course) (
     → (text : List ℕ) × (totals : Totals) × IsDrivesOf topology script text totals
 
 -- And each of theirs reports the drives of their run.
-abbrev pub DumpsTellDrives : Type 0
-DumpsTellDrives = (topology script text : List ℕ) (totals : Totals) → (p : IsDrivesOf topology script text totals)
-    → TellsDrives (names_in p.plan.tree) (rounds_of topology script text totals p) text
+abbrev pub DumpsReportDrives : Type 0
+DumpsReportDrives = (topology script text : List ℕ) (totals : Totals) → (p : IsDrivesOf topology script text totals)
+    → ReportsDrives (names_in p.plan.tree) (rounds_of topology script text totals p) text
 
 -- Read by this program, as its first wire or by the line's name, the dump with drives is the same capture as that of the line alone.
 abbrev pub DumpsAreReadAsLines : Type 0

@@ -1,6 +1,6 @@
 //! Laws of the dumps that report who drives the line of a run.
 ghost use Rattle.driven_laws.specs.Rounds.{RoundsAreRuled, RoundsAreTheTraces};
-ghost use Rattle.driven_laws.specs.Dumps.{DumpsAreReadAsLines, DumpsTellDrives, TextsHaveDrives};
+ghost use Rattle.driven_laws.specs.Dumps.{DumpsAreReadAsLines, DumpsReportDrives, TextsHaveDrives};
 
 /// Each round of a run is one of which [`drives_are_the_line`](drive_laws::drives_are_the_line) speaks.
 pub fn rounds_are_ruled()
@@ -19,8 +19,8 @@ pub fn texts_have_drives()
 
 /// The dump of a run and of who drives its line reports at every microsecond a line that is low exactly where one of the wires
 /// below it is low.
-pub fn dumps_tell_drives()
-    ensures { DumpsTellDrives }
+pub fn dumps_report_drives()
+    ensures { DumpsReportDrives }
 {}
 
 /// Read as its first wire or by the line's name, that dump is the same capture as the dump of the line alone.

@@ -16,25 +16,25 @@ use Rattle.dump_laws.proofs.Levels.{change_by, micro, own_change, own_changes, s
 use Rattle.dump_laws.proofs.Words.{change_word, change_words, instant_words, instant_words_by, other_id, own_id, time_words, value_word, value_words, words_instant}
 
 -- what words report of the wire of a number
-abbrev pub told : ℕ → ℕ → List (List ℕ) → List Change
-told k tick words = changes_in (id_of k ∷ []) tick section.Free words
+abbrev pub reported : ℕ → ℕ → List (List ℕ) → List Change
+reported k tick words = changes_in (id_of k ∷ []) tick section.Free words
 
 -- ---- a value
 
-value_told : (k tick number : ℕ) (low own : Bool) (words : List (List ℕ)) → bytes_eq (id_of number ∷ []) (id_of k ∷ []) ≡ own
-    → told k tick (value_word low number ∷ words) ≡ change_by own low tick ++ told k tick words
-value_told k tick number true true words e = rw e refl
-value_told k tick number true false words e = rw e refl
-value_told k tick number false true words e = rw e refl
-value_told k tick number false false words e = rw e refl
+value_reported : (k tick number : ℕ) (low own : Bool) (words : List (List ℕ)) → bytes_eq (id_of number ∷ []) (id_of k ∷ []) ≡ own
+    → reported k tick (value_word low number ∷ words) ≡ change_by own low tick ++ reported k tick words
+value_reported k tick number true true words e = rw e refl
+value_reported k tick number true false words e = rw e refl
+value_reported k tick number false true words e = rw e refl
+value_reported k tick number false false words e = rw e refl
 
-own_value : (k tick number : ℕ) (turn low : Bool) (words : List (List ℕ)) → number ≡ k → told k tick (change_word turn low number ++ words) ≡ change_by turn low tick ++ told k tick words
+own_value : (k tick number : ℕ) (turn low : Bool) (words : List (List ℕ)) → number ≡ k → reported k tick (change_word turn low number ++ words) ≡ change_by turn low tick ++ reported k tick words
 own_value k tick number true low words e =
-    value_told k tick number low true words (ap (λ n. bytes_eq (id_of n ∷ []) (id_of k ∷ [])) e ∙ own_id k)
+    value_reported k tick number low true words (ap (λ n. bytes_eq (id_of n ∷ []) (id_of k ∷ [])) e ∙ own_id k)
 own_value k tick number false low words e = refl
 
-other_value : (k tick number : ℕ) (turn low : Bool) (words : List (List ℕ)) → (number ≡ k → ⊥) → told k tick (change_word turn low number ++ words) ≡ told k tick words
-other_value k tick number true low words h = value_told k tick number low false words (other_id number k h)
+other_value : (k tick number : ℕ) (turn low : Bool) (words : List (List ℕ)) → (number ≡ k → ⊥) → reported k tick (change_word turn low number ++ words) ≡ reported k tick words
+other_value k tick number true low words h = value_reported k tick number low false words (other_id number k h)
 other_value k tick number false low words h = refl
 
 -- ---- the values of an instant
@@ -43,15 +43,15 @@ abbrev first_word : ℕ → ℕ → List Stretch → List (List ℕ)
 first_word t number wire = change_word (turns (line_of wire) t) (line_of wire t) number
 
 more_words : (k tick t number : ℕ) (wire : List Stretch) (wires : List (List Stretch)) (words : List (List ℕ))
-    → told k tick (change_words t number (wire ∷ wires) ++ words) ≡ told k tick (first_word t number wire ++ (change_words t (number + 1) wires ++ words))
-more_words k tick t number wire wires words = ap (told k tick) (append_assoc (first_word t number wire) (change_words t (number + 1) wires) words)
+    → reported k tick (change_words t number (wire ∷ wires) ++ words) ≡ reported k tick (first_word t number wire ++ (change_words t (number + 1) wires ++ words))
+more_words k tick t number wire wires words = ap (reported k tick) (append_assoc (first_word t number wire) (change_words t (number + 1) wires) words)
 
-none_told : (k tick t number : ℕ) (wires : List (List Stretch)) (words : List (List ℕ)) → k < number → told k tick (change_words t number wires ++ words) ≡ told k tick words
-none_told k tick t number [] words l = refl
-none_told k tick t number (wire ∷ wires) words l =
+none_reported : (k tick t number : ℕ) (wires : List (List Stretch)) (words : List (List ℕ)) → k < number → reported k tick (change_words t number wires ++ words) ≡ reported k tick words
+none_reported k tick t number [] words l = refl
+none_reported k tick t number (wire ∷ wires) words l =
     more_words k tick t number wire wires words
     ∙ other_value k tick number (turns (line_of wire) t) (line_of wire t) (change_words t (number + 1) wires ++ words) (λ e. omega (arith, e, l))
-    ∙ none_told k tick t (number + 1) wires words (omega (arith, l))
+    ∙ none_reported k tick t (number + 1) wires words (omega (arith, l))
 
 -- a wire that is not there never turns
 and_no : (b : Bool) → (b && false) ≡ false
@@ -61,18 +61,18 @@ and_no false = refl
 no_wire : (t : ℕ) → turns (line_of []) t ≡ false
 no_wire t = and_no (nat_lt 0 t)
 
-own_told : (k tick t number place : ℕ) (wires : List (List Stretch)) (words : List (List ℕ)) → number + place ≡ k
-    → told k tick (change_words t number wires ++ words) ≡ change_by (turns (line_of (wire_at place wires)) t) (line_of (wire_at place wires) t) tick ++ told k tick words
-own_told k tick t number place [] words e = ap (λ b. change_by b false tick ++ told k tick words) (sym (no_wire t))
-own_told k tick t number zero (wire ∷ wires) words e =
+own_reported : (k tick t number place : ℕ) (wires : List (List Stretch)) (words : List (List ℕ)) → number + place ≡ k
+    → reported k tick (change_words t number wires ++ words) ≡ change_by (turns (line_of (wire_at place wires)) t) (line_of (wire_at place wires) t) tick ++ reported k tick words
+own_reported k tick t number place [] words e = ap (λ b. change_by b false tick ++ reported k tick words) (sym (no_wire t))
+own_reported k tick t number zero (wire ∷ wires) words e =
     let here : number ≡ k = omega (arith, e) in
     more_words k tick t number wire wires words
     ∙ own_value k tick number (turns (line_of wire) t) (line_of wire t) (change_words t (number + 1) wires ++ words) here
-    ∙ ap (λ cs. change_by (turns (line_of wire) t) (line_of wire t) tick ++ cs) (none_told k tick t (number + 1) wires words (omega (arith, here)))
-own_told k tick t number (suc place) (wire ∷ wires) words e =
+    ∙ ap (λ cs. change_by (turns (line_of wire) t) (line_of wire t) tick ++ cs) (none_reported k tick t (number + 1) wires words (omega (arith, here)))
+own_reported k tick t number (suc place) (wire ∷ wires) words e =
     more_words k tick t number wire wires words
     ∙ other_value k tick number (turns (line_of wire) t) (line_of wire t) (change_words t (number + 1) wires ++ words) (λ s. omega (arith, e, s))
-    ∙ own_told k tick t (number + 1) place wires words (omega (arith, e))
+    ∙ own_reported k tick t (number + 1) place wires words (omega (arith, e))
 
 -- ---- an instant
 
@@ -88,30 +88,30 @@ none_turns t (wire ∷ wires) place h = by (turns (line_of wire) t) refl h place
     by false e k (suc place) more = more k place
 
 -- whatever time came before
-abbrev pub Tells : ℕ → List (List ℕ) → List Change → Type 0
-Tells k words cs = (tick : ℕ) → told k tick words ≡ cs
+abbrev pub Reports : ℕ → List (List ℕ) → List Change → Type 0
+Reports k words cs = (tick : ℕ) → reported k tick words ≡ cs
 
-instant_told : (k t : ℕ) (wires : List (List Stretch)) (words : List (List ℕ)) (cs : List Change) → t < 2 ^ 64 → Tells k words cs
-    → Tells k (instant_words wires t ++ words) (own_change (line_of (wire_at k wires)) t ++ cs)
-instant_told k t wires words cs small rest tick = by (list_any (λ wire. turns (line_of wire) t) wires) refl
+instant_reported : (k t : ℕ) (wires : List (List Stretch)) (words : List (List ℕ)) (cs : List Change) → t < 2 ^ 64 → Reports k words cs
+    → Reports k (instant_words wires t ++ words) (own_change (line_of (wire_at k wires)) t ++ cs)
+instant_reported k t wires words cs small rest tick = by (list_any (λ wire. turns (line_of wire) t) wires) refl
   where
-    timed : told k tick (time_line t ∷ (change_words t 0 wires ++ words)) ≡ told k t (change_words t 0 wires ++ words)
-    timed = ap (λ n. told k n (change_words t 0 wires ++ words)) (decimal_value t small)
+    timed : reported k tick (time_line t ∷ (change_words t 0 wires ++ words)) ≡ reported k t (change_words t 0 wires ++ words)
+    timed = ap (λ n. reported k n (change_words t 0 wires ++ words)) (decimal_value t small)
 
-    by : (b : Bool) → list_any (λ wire. turns (line_of wire) t) wires ≡ b → told k tick (instant_words_by b t wires ++ words) ≡ own_change (line_of (wire_at k wires)) t ++ cs
-    by true e = timed ∙ own_told k t t 0 k wires words (omega arith) ∙ ap (λ xs. own_change (line_of (wire_at k wires)) t ++ xs) (rest t)
+    by : (b : Bool) → list_any (λ wire. turns (line_of wire) t) wires ≡ b → reported k tick (instant_words_by b t wires ++ words) ≡ own_change (line_of (wire_at k wires)) t ++ cs
+    by true e = timed ∙ own_reported k t t 0 k wires words (omega arith) ∙ ap (λ xs. own_change (line_of (wire_at k wires)) t ++ xs) (rest t)
     by false e = rest tick ∙ ap (λ b. change_by b (line_of (wire_at k wires) t) t ++ cs) (sym (none_turns t wires k e))
 
 -- ---- all of them
 
-wires_told : (k : ℕ) (wires : List (List Stretch)) (from count : ℕ) (text : List ℕ) (cs : List Change) → from + count ≤ 2 ^ 64 → Tells k (words_in text) cs
-    → Tells k (words_in (wires_text wires from count ++ text)) (own_changes (line_of (wire_at k wires)) from count ++ cs)
-wires_told k wires from zero text cs small rest tick = rest tick
-wires_told k wires from (suc count) text cs small rest tick =
-    ap (λ t. told k tick (words_in t)) (append_assoc (instant_text wires from) (wires_text wires (from + 1) count) text)
-    ∙ ap (told k tick) (words_instant wires from (wires_text wires (from + 1) count ++ text) (omega (arith, small)))
-    ∙ instant_told k from wires (words_in (wires_text wires (from + 1) count ++ text)) (own_changes (line_of (wire_at k wires)) (from + 1) count ++ cs) (omega (arith, small))
-    (wires_told k wires (from + 1) count text cs (omega (arith, small)) rest) tick
+wires_reported : (k : ℕ) (wires : List (List Stretch)) (from count : ℕ) (text : List ℕ) (cs : List Change) → from + count ≤ 2 ^ 64 → Reports k (words_in text) cs
+    → Reports k (words_in (wires_text wires from count ++ text)) (own_changes (line_of (wire_at k wires)) from count ++ cs)
+wires_reported k wires from zero text cs small rest tick = rest tick
+wires_reported k wires from (suc count) text cs small rest tick =
+    ap (λ t. reported k tick (words_in t)) (append_assoc (instant_text wires from) (wires_text wires (from + 1) count) text)
+    ∙ ap (reported k tick) (words_instant wires from (wires_text wires (from + 1) count ++ text) (omega (arith, small)))
+    ∙ instant_reported k from wires (words_in (wires_text wires (from + 1) count ++ text)) (own_changes (line_of (wire_at k wires)) (from + 1) count ++ cs) (omega (arith, small))
+    (wires_reported k wires (from + 1) count text cs (omega (arith, small)) rest) tick
     ∙ sym (append_assoc (own_change (line_of (wire_at k wires)) from) (own_changes (line_of (wire_at k wires)) (from + 1) count) cs)
 
 abbrev pub spans_text : List Span → List ℕ
@@ -122,21 +122,21 @@ pub ends_span : (from end : ℕ) (ss : List Span) → AreSpans from end ss → f
 ends_span from end [] h = h
 ends_span from end (s ∷ ss) h = let a : from ≤ s.from = h.0 in let b = ends_span (s.from + s.count) end ss h.2 in omega (arith, a, b)
 
-spans_told : (k from end : ℕ) (spans : List Span) (text : List ℕ) (cs : List Change) → AreSpans from end spans → end ≤ latest_instant → Tells k (words_in text) cs
-    → Tells k (words_in (spans_text spans ++ text)) (span_changes k spans ++ cs)
-spans_told k from end [] text cs h low rest tick = rest tick
-spans_told k from end (s ∷ ss) text cs h low rest tick =
+spans_reported : (k from end : ℕ) (spans : List Span) (text : List ℕ) (cs : List Change) → AreSpans from end spans → end ≤ latest_instant → Reports k (words_in text) cs
+    → Reports k (words_in (spans_text spans ++ text)) (span_changes k spans ++ cs)
+spans_reported k from end [] text cs h low rest tick = rest tick
+spans_reported k from end (s ∷ ss) text cs h low rest tick =
     let by = ends_span (s.from + s.count) end ss h.2 in
-    ap (λ t. told k tick (words_in t)) (append_assoc (wires_text s.wires s.from s.count) (spans_text ss) text)
-    ∙ wires_told k s.wires s.from s.count (spans_text ss ++ text) (span_changes k ss ++ cs) (omega (arith, by, low)) (spans_told k (s.from + s.count) end ss text cs h.2 low rest) tick
+    ap (λ t. reported k tick (words_in t)) (append_assoc (wires_text s.wires s.from s.count) (spans_text ss) text)
+    ∙ wires_reported k s.wires s.from s.count (spans_text ss ++ text) (span_changes k ss ++ cs) (omega (arith, by, low)) (spans_reported k (s.from + s.count) end ss text cs h.2 low rest) tick
     ∙ sym (append_assoc (own_changes (line_of (wire_at k s.wires)) s.from s.count) (span_changes k ss) cs)
 
 -- after the last time nothing comes
-last_told : (k end : ℕ) → end ≤ latest_instant → Tells k (words_in (last end)) []
-last_told k end low tick = ap (told k tick) (time_words end [] (omega (arith, low)))
+last_reported : (k end : ℕ) → end ≤ latest_instant → Reports k (words_in (last end)) []
+last_reported k end low tick = ap (reported k tick) (time_words end [] (omega (arith, low)))
 
-pub body_told : (k from end : ℕ) (spans : List Span) → AreSpans from end spans → end ≤ latest_instant → Tells k (words_in (spans_text spans ++ last end)) (span_changes k spans)
-body_told k from end spans h low tick = spans_told k from end spans (last end) [] h low (last_told k end low) tick ∙ append-nil (span_changes k spans)
+pub body_reported : (k from end : ℕ) (spans : List Span) → AreSpans from end spans → end ≤ latest_instant → Reports k (words_in (spans_text spans ++ last end)) (span_changes k spans)
+body_reported k from end spans h low tick = spans_reported k from end spans (last end) [] h low (last_reported k end low) tick ∙ append-nil (span_changes k spans)
 
 -- ---- at first each wire is high
 
@@ -148,13 +148,13 @@ level_high b true tick u cs h = by (is_by micro tick u)
     by false = ap (λ x. level_of micro x cs u) h
 level_high b false tick u cs h = ap (λ x. level_of micro x cs u) h
 
-pub highs_told : (k number count tick u : ℕ) (text : List ℕ)
-    → level_of micro false (told k tick (words_in (flat_map high_at_first (range_with_len number count) ++ text))) u ≡ level_of micro false (told k tick (words_in text)) u
-highs_told k number zero tick u text = refl
-highs_told k number (suc count) tick u text =
-    ap (λ t. level_of micro false (told k tick (words_in t)) u) (append_assoc (high_at_first number) (flat_map high_at_first (range_with_len (number + 1) count)) text)
-    ∙ ap (λ ws. level_of micro false (told k tick ws) u) (value_words false number (flat_map high_at_first (range_with_len (number + 1) count) ++ text))
+pub highs_reported : (k number count tick u : ℕ) (text : List ℕ)
+    → level_of micro false (reported k tick (words_in (flat_map high_at_first (range_with_len number count) ++ text))) u ≡ level_of micro false (reported k tick (words_in text)) u
+highs_reported k number zero tick u text = refl
+highs_reported k number (suc count) tick u text =
+    ap (λ t. level_of micro false (reported k tick (words_in t)) u) (append_assoc (high_at_first number) (flat_map high_at_first (range_with_len (number + 1) count)) text)
+    ∙ ap (λ ws. level_of micro false (reported k tick ws) u) (value_words false number (flat_map high_at_first (range_with_len (number + 1) count) ++ text))
     ∙ ap (λ cs. level_of micro false cs u)
-    (value_told k tick number false (bytes_eq (id_of number ∷ []) (id_of k ∷ [])) (words_in (flat_map high_at_first (range_with_len (number + 1) count) ++ text)) refl)
-    ∙ level_high false (bytes_eq (id_of number ∷ []) (id_of k ∷ [])) tick u (told k tick (words_in (flat_map high_at_first (range_with_len (number + 1) count) ++ text))) refl
-    ∙ highs_told k (number + 1) count tick u text
+    (value_reported k tick number false (bytes_eq (id_of number ∷ []) (id_of k ∷ [])) (words_in (flat_map high_at_first (range_with_len (number + 1) count) ++ text)) refl)
+    ∙ level_high false (bytes_eq (id_of number ∷ []) (id_of k ∷ [])) tick u (reported k tick (words_in (flat_map high_at_first (range_with_len (number + 1) count) ++ text))) refl
+    ∙ highs_reported k (number + 1) count tick u text

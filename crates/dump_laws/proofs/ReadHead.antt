@@ -13,18 +13,18 @@ use Rattle.cec_vcd.specs.declared.scale.Scale.{Scale as ScaleOf}
 use Rattle.cec_vcd.specs.declared.reader.Section.TheVariants as section
 use Rattle.cec_vcd.proofs.Sampled.{dumps_are_sampled}
 use Rattle.cec_wires.specs.Wires.{closing, head, high_at_first, id_of, opening, variable, variables}
-use Rattle.dump_laws.specs.Dumps.{AreSpans, DumpsAreReadAsTheLine, Span, TellsLine, dump_of, is_word}
+use Rattle.dump_laws.specs.Dumps.{AreSpans, DumpsAreReadAsTheLine, Span, ReportsLine, dump_of, is_word}
 use Rattle.dump_laws.proofs.Levels.{micro}
 use Rattle.dump_laws.proofs.Changes.{spans_text}
 use Rattle.dump_laws.proofs.Head.{IsName, closing_parted, head_wire, high_text, line_parts, line_plain, name_of, variable_line, variable_text, variable_words}
-use Rattle.dump_laws.proofs.Whole.{dumps_tell_their_wires}
+use Rattle.dump_laws.proofs.Whole.{dumps_report_their_wires}
 use Rattle.dump_laws.proofs.Words.{id_end}
 use Rattle.dump_laws.proofs.Reading.{AllEnd, Reads, highs_read, line_ends, spans_read, stood}
 
 -- a line that is written out, and reports no edge
-told_ends : (end : ℕ) (line rest : List ℕ) (s t : State) → list_all (λ c. not (c == 10)) line ≡ true
+reported_ends : (end : ℕ) (line rest : List ℕ) (s t : State) → list_all (λ c. not (c == 10)) line ≡ true
     → ((number : ℕ) → words_passed number (parts_of line) s ≡ Ok (record { edges = []; state = t })) → AllEnd end rest t → AllEnd end (line ++ 10 ∷ rest) s
-told_ends end line rest s t all h more = line_ends end line rest s t [] (shown (λ c. c == 10) line all) h more
+reported_ends end line rest s t all h more = line_ends end line rest s t [] (shown (λ c. c == 10) line all) h more
 
 -- ---- where a reader of the definitions stands
 
@@ -79,10 +79,10 @@ high_ends end asked candidate count rest more =
     let t3 = codes "$end" ++ 10 ∷ rest in
     let t2 = flat_map high_at_first (range_with_len 0 (count + 2)) ++ t3 in
     let t1 = codes "$dumpvars" ++ 10 ∷ t2 in
-    told_ends end (codes "#0") t1 (stood asked candidate line_begun) (stood asked candidate line_begun) refl (λ number. refl)
-    (told_ends end (codes "$dumpvars") t2 (stood asked candidate line_begun) (stood asked candidate line_begun) refl (λ number. refl)
+    reported_ends end (codes "#0") t1 (stood asked candidate line_begun) (stood asked candidate line_begun) refl (λ number. refl)
+    (reported_ends end (codes "$dumpvars") t2 (stood asked candidate line_begun) (stood asked candidate line_begun) refl (λ number. refl)
     (highs_read asked candidate end 0 0 (count + 2) t3
-    (λ track at early. told_ends end (codes "$end") rest (stood asked candidate track) (stood asked candidate track) refl (λ number. refl) (more track at early))
+    (λ track at early. reported_ends end (codes "$end") rest (stood asked candidate track) (stood asked candidate track) refl (λ number. refl) (more track at early))
     line_begun (omega arith) (omega arith)))
 
 closing_ends : (end : ℕ) (asked candidate : List ℕ) (count : ℕ) (rest : List ℕ) → Reads asked (id_of (count + 1) ∷ []) end 0 rest → AllEnd end (closing count ++ rest) (declared asked candidate)
@@ -92,10 +92,10 @@ closing_ends end asked candidate count rest more =
     let t2 = codes "$upscope $end" ++ 10 ∷ t3 in
     let t1 = variable (count + 1) (codes "pulses") ++ t2 in
     subst (λ (t : List ℕ). AllEnd end t (declared asked candidate)) (sym (closing_parted count rest))
-    (told_ends end (codes "$upscope $end") t1 (declared asked candidate) (declared asked candidate) refl (λ number. refl)
+    (reported_ends end (codes "$upscope $end") t1 (declared asked candidate) (declared asked candidate) refl (λ number. refl)
     (variable_ends end asked candidate (count + 1) (codes "pulses") t2 (name_of (codes "pulses") refl)
-    (told_ends end (codes "$upscope $end") t3 (declared asked own) (declared asked own) refl (λ number. refl)
-    (told_ends end (codes "$enddefinitions $end") (high_text count rest) (declared asked own) (stood asked own line_begun) refl (λ number. refl)
+    (reported_ends end (codes "$upscope $end") t3 (declared asked own) (declared asked own) refl (λ number. refl)
+    (reported_ends end (codes "$enddefinitions $end") (high_text count rest) (declared asked own) (stood asked own line_begun) refl (λ number. refl)
     (high_ends end asked own count rest more)))))
 
 -- ---- the head
@@ -110,11 +110,11 @@ opening_ends end asked rest finds more =
     let t4 = codes "$var wire 1 ! CEC $end" ++ 10 ∷ t5 in
     let t3 = codes "$scope module hdmi $end" ++ 10 ∷ t4 in
     let t2 = codes "$timescale 1 us $end" ++ 10 ∷ t3 in
-    told_ends end (codes "$version hdminet $end") t2 (first_state asked) (first_state asked) refl (λ number. refl)
-    (told_ends end (codes "$timescale 1 us $end") t3 (first_state asked) (opened asked (Some micro)) refl (λ number. refl)
-    (told_ends end (codes "$scope module hdmi $end") t4 (opened asked (Some micro)) (opened asked (Some micro)) refl (λ number. refl)
-    (told_ends end (codes "$var wire 1 ! CEC $end") t5 (opened asked (Some micro)) (declared asked (33 ∷ [])) refl finds
-    (told_ends end (codes "$scope module devices $end") rest (declared asked (33 ∷ [])) (declared asked (33 ∷ [])) refl (λ number. refl) more))))
+    reported_ends end (codes "$version hdminet $end") t2 (first_state asked) (first_state asked) refl (λ number. refl)
+    (reported_ends end (codes "$timescale 1 us $end") t3 (first_state asked) (opened asked (Some micro)) refl (λ number. refl)
+    (reported_ends end (codes "$scope module hdmi $end") t4 (opened asked (Some micro)) (opened asked (Some micro)) refl (λ number. refl)
+    (reported_ends end (codes "$var wire 1 ! CEC $end") t5 (opened asked (Some micro)) (declared asked (33 ∷ [])) refl finds
+    (reported_ends end (codes "$scope module devices $end") rest (declared asked (33 ∷ [])) (declared asked (33 ∷ [])) refl (λ number. refl) more))))
 
 head_ends : (end : ℕ) (asked : List ℕ) (names : List (List ℕ)) (rest : List ℕ) → Finds asked → All (λ name. is_word name ≡ true) names
     → Reads asked (id_of (length names + 1) ∷ []) end 0 rest → AllEnd end (head names ++ rest) (first_state asked)
@@ -130,20 +130,20 @@ same_some : (v w : Wire) → Some v ≡ Some w → v ≡ w
 same_some v w h = cc
 
 read_by : (asked : List ℕ) (names : List (List ℕ)) (spans : List Span) (end : ℕ) → Finds asked → ((length asked == 0) || bytes_eq (codes "CEC") asked) ≡ true
-    → All (λ name. is_word name ≡ true) names → AreSpans 0 end spans → end ≤ latest_instant → (c : Captured) × (edges_in asked (dump_of names spans end) ≡ Ok c) × TellsLine spans end c
+    → All (λ name. is_word name ≡ true) names → AreSpans 0 end spans → end ≤ latest_instant → (c : Captured) × (edges_in asked (dump_of names spans end) ≡ Ok c) × ReportsLine spans end c
 read_by asked names spans end finds named words h low =
     let rest = spans_text spans ++ last end in
     let e = head_ends end asked names rest finds words (spans_read asked (id_of (length names + 1) ∷ []) end 0 spans h low) 1 in
     let c : Captured = record { edges = e.edges; end = end } in
     let s = dumps_are_sampled asked (head names ++ rest) c e.is in
-    let told = dumps_tell_their_wires names spans end words h low in
-    let same : s.0 ≡ told.line = same_some s.0 told.line (sym s.1 ∙ head_wire asked names rest named words ∙ sym (head_wire [] names rest refl words) ∙ told.first) in
-    (c, e.is, record { line = λ u. s.2.line u ∙ ap (λ (w : Wire). wire_line w u) same ∙ ap (λ (i : List ℕ). wire_line (record { scale = told.line.scale; id = i; words = told.line.words }) u) told.id ∙ told.levels 0 u; end_is = refl; capture = s.2.capture })
+    let reported = dumps_report_their_wires names spans end words h low in
+    let same : s.0 ≡ reported.line = same_some s.0 reported.line (sym s.1 ∙ head_wire asked names rest named words ∙ sym (head_wire [] names rest refl words) ∙ reported.first) in
+    (c, e.is, record { line = λ u. s.2.line u ∙ ap (λ (w : Wire). wire_line w u) same ∙ ap (λ (i : List ℕ). wire_line (record { scale = reported.line.scale; id = i; words = reported.line.words }) u) reported.id ∙ reported.levels 0 u; end_is = refl; capture = s.2.capture })
 
 pub dumps_are_read_as_the_line : DumpsAreReadAsTheLine
 dumps_are_read_as_the_line asked names spans end (inl e) words h low =
-    subst (λ (a : List ℕ). (c : Captured) × (edges_in a (dump_of names spans end) ≡ Ok c) × TellsLine spans end c) (sym e)
+    subst (λ (a : List ℕ). (c : Captured) × (edges_in a (dump_of names spans end) ≡ Ok c) × ReportsLine spans end c) (sym e)
     (read_by [] names spans end (λ number. refl) refl words h low)
 dumps_are_read_as_the_line asked names spans end (inr e) words h low =
-    subst (λ (a : List ℕ). (c : Captured) × (edges_in a (dump_of names spans end) ≡ Ok c) × TellsLine spans end c) (sym e)
+    subst (λ (a : List ℕ). (c : Captured) × (edges_in a (dump_of names spans end) ≡ Ok c) × ReportsLine spans end c) (sym e)
     (read_by (codes "CEC") names spans end (λ number. refl) refl words h low)

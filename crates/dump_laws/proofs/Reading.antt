@@ -15,10 +15,10 @@ use Rattle.cec_signal.specs.declared.track.Track.{Track}
 use Rattle.cec_signal.proofs.Numbers.{number_again, some_length}
 use Rattle.cec_signal.proofs.Texts.{Lacks, line_before}
 use Rattle.cec_vcd.specs.Scale.{instant_of}
-use Rattle.cec_vcd.specs.Dump.{State, no_edge, lines_passed, parts_of, after_time, timed_by, told_by, took, words_passed}
+use Rattle.cec_vcd.specs.Dump.{State, no_edge, lines_passed, parts_of, after_time, timed_by, reported_by, took, words_passed}
 use Rattle.cec_vcd.specs.Text.{last}
 use Rattle.cec_vcd.specs.declared.reader.Section.TheVariants as section
-use Rattle.cec_vcd.proofs.Passing.{before, line_told, word_passed}
+use Rattle.cec_vcd.proofs.Passing.{before, line_reported, word_passed}
 use Rattle.cec_vcd.proofs.Texts.{time_line, time_parts, time_plain}
 use Rattle.cec_wires.specs.Wires.{change_text, changes_from, high_at_first, id_of, instant_text, turns, wires_text}
 use Rattle.dump_laws.specs.Dumps.{AreSpans, Span}
@@ -29,7 +29,7 @@ use Rattle.dump_laws.proofs.Changes.{ends_span, spans_text}
 -- what is left is read up to an end
 pub record Ends (end : ℕ) (text : List ℕ) (s : State) (number : ℕ) : Type 0 where
   pub edges : List Edge
-  pub is : told_by (lines_passed number (lines_of text) s) ≡ Ok (record { edges = edges; end = end })
+  pub is : reported_by (lines_passed number (lines_of text) s) ≡ Ok (record { edges = edges; end = end })
 
 abbrev pub AllEnd : ℕ → List ℕ → State → Type 0
 AllEnd end text s = (number : ℕ) → Ends end text s number
@@ -42,7 +42,7 @@ line_ends end line rest s t edges plain h more number =
     let e = more (number + 1) in
     record {
       edges = edges ++ e.edges;
-      is = ap (λ ls. told_by (lines_passed number ls s)) (line_before line rest plain) ∙ line_told number line (lines_of rest) s t edges (h number) ∙ ap (before edges) e.is;
+      is = ap (λ ls. reported_by (lines_passed number ls s)) (line_before line rest plain) ∙ line_reported number line (lines_of rest) s t edges (h number) ∙ ap (before edges) e.is;
     }
 
 -- one word alone

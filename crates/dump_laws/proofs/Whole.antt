@@ -5,37 +5,37 @@ use Rattle.cec_wave.specs.Bounds.{latest_instant}
 use Rattle.cec_vcd.specs.Text.{last}
 use Rattle.cec_vcd.specs.Wire.{level_of, words_in}
 use Rattle.cec_wires.specs.Wires.{high_at_first}
-use Rattle.dump_laws.specs.Dumps.{AreSpans, DumpsTellTheirWires, Span, level_at}
+use Rattle.dump_laws.specs.Dumps.{AreSpans, DumpsReportTheirWires, Span, level_at}
 use Rattle.dump_laws.proofs.Levels.{micro, spans_level}
 use Rattle.dump_laws.proofs.Words.{shown_words}
-use Rattle.dump_laws.proofs.Changes.{body_told, highs_told, spans_text, told}
+use Rattle.dump_laws.proofs.Changes.{body_reported, highs_reported, spans_text, reported}
 use Rattle.dump_laws.proofs.Head.{head_declared, head_wire, high_text}
 
 -- ---- after the definitions
 
-begun_told : (k : ℕ) (rest : List ℕ) → told k 0 (words_in (codes "#0\n$dumpvars\n" ++ rest)) ≡ told k 0 (words_in rest)
-begun_told k rest =
+begun_reported : (k : ℕ) (rest : List ℕ) → reported k 0 (words_in (codes "#0\n$dumpvars\n" ++ rest)) ≡ reported k 0 (words_in rest)
+begun_reported k rest =
     let t1 = codes "$dumpvars" ++ 10 ∷ rest in
-    ap (told k 0) (shown_words (codes "#0") t1 refl) ∙ ap (told k 0) (shown_words (codes "$dumpvars") rest refl)
+    ap (reported k 0) (shown_words (codes "#0") t1 refl) ∙ ap (reported k 0) (shown_words (codes "$dumpvars") rest refl)
 
-ended_told : (k : ℕ) (rest : List ℕ) → told k 0 (words_in (codes "$end\n" ++ rest)) ≡ told k 0 (words_in rest)
-ended_told k rest = ap (told k 0) (shown_words (codes "$end") rest refl)
+ended_reported : (k : ℕ) (rest : List ℕ) → reported k 0 (words_in (codes "$end\n" ++ rest)) ≡ reported k 0 (words_in rest)
+ended_reported k rest = ap (reported k 0) (shown_words (codes "$end") rest refl)
 
-high_level : (k count u : ℕ) (rest : List ℕ) → level_of micro false (told k 0 (words_in (high_text count rest))) u ≡ level_of micro false (told k 0 (words_in rest)) u
+high_level : (k count u : ℕ) (rest : List ℕ) → level_of micro false (reported k 0 (words_in (high_text count rest))) u ≡ level_of micro false (reported k 0 (words_in rest)) u
 high_level k count u rest =
     let marked = codes "$end\n" ++ rest in
-    ap (λ cs. level_of micro false cs u) (begun_told k (flat_map high_at_first (range_with_len 0 (count + 2)) ++ marked))
-    ∙ highs_told k 0 (count + 2) 0 u marked
-    ∙ ap (λ cs. level_of micro false cs u) (ended_told k rest)
+    ap (λ cs. level_of micro false cs u) (begun_reported k (flat_map high_at_first (range_with_len 0 (count + 2)) ++ marked))
+    ∙ highs_reported k 0 (count + 2) 0 u marked
+    ∙ ap (λ cs. level_of micro false cs u) (ended_reported k rest)
 
 -- ---- the law
 
-body_level : (k u end : ℕ) (spans : List Span) → AreSpans 0 end spans → end ≤ latest_instant → level_of micro false (told k 0 (words_in (spans_text spans ++ last end))) u ≡ level_at k spans u
+body_level : (k u end : ℕ) (spans : List Span) → AreSpans 0 end spans → end ≤ latest_instant → level_of micro false (reported k 0 (words_in (spans_text spans ++ last end))) u ≡ level_at k spans u
 body_level k u end spans h low =
-    ap (λ cs. level_of micro false cs u) (body_told k 0 end spans h low 0) ∙ spans_level k u 0 end spans h
+    ap (λ cs. level_of micro false cs u) (body_reported k 0 end spans h low 0) ∙ spans_level k u 0 end spans h
 
-pub dumps_tell_their_wires : DumpsTellTheirWires
-dumps_tell_their_wires names spans end words h low =
+pub dumps_report_their_wires : DumpsReportTheirWires
+dumps_report_their_wires names spans end words h low =
     let rest = spans_text spans ++ last end in
     record {
       line = record { scale = micro; id = codes "!"; words = codes "$end" ∷ words_in (high_text (length names) rest) };

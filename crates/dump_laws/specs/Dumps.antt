@@ -89,19 +89,19 @@ level_at number spans u = list_any (λ s. line_of (wire_at number s.wires) u) sp
 
 -- As the standard has it: the dump declares the line first, then the names and the pulses, and each of these wires has at every
 -- microsecond the level that its spans say.
-pub record TellsWires (names : List (List ℕ)) (spans : List Span) (text : List ℕ) : Type 0 where
+pub record ReportsWires (names : List (List ℕ)) (spans : List Span) (text : List ℕ) : Type 0 where
   pub line : Wire
   pub first : wire_in [] (words_in text) ≡ Some line
   pub id : line.id ≡ id_of 0 ∷ []
   pub declared : declared_in (words_in text) ≡ numbered_names 0 (codes "CEC" ∷ (names ++ codes "pulses" ∷ []))
   pub levels : (number u : ℕ) → wire_line (record line { id = id_of number ∷ [] }) u ≡ level_at number spans u
 
-abbrev pub DumpsTellTheirWires : Type 0
-DumpsTellTheirWires = (names : List (List ℕ)) (spans : List Span) (end : ℕ) → All (λ name. is_word name ≡ true) names → AreSpans 0 end spans → end ≤ latest_instant
-    → TellsWires names spans (dump_of names spans end)
+abbrev pub DumpsReportTheirWires : Type 0
+DumpsReportTheirWires = (names : List (List ℕ)) (spans : List Span) (end : ℕ) → All (λ name. is_word name ≡ true) names → AreSpans 0 end spans → end ≤ latest_instant
+    → ReportsWires names spans (dump_of names spans end)
 
 -- a capture is the line's, up to the dump's end
-pub record TellsLine (spans : List Span) (end : ℕ) (c : Captured) : Type 0 where
+pub record ReportsLine (spans : List Span) (end : ℕ) (c : Captured) : Type 0 where
   pub line : (u : ℕ) → line_of_edges c.edges u ≡ level_at 0 spans u
   pub end_is : c.end ≡ end
   pub capture : IsCapture c.edges c.end
@@ -110,4 +110,4 @@ pub record TellsLine (spans : List Span) (end : ℕ) (c : Captured) : Type 0 whe
 abbrev pub DumpsAreReadAsTheLine : Type 0
 DumpsAreReadAsTheLine = (asked : List ℕ) (names : List (List ℕ)) (spans : List Span) (end : ℕ) → (asked ≡ []) ⊎ (asked ≡ codes "CEC")
     → All (λ name. is_word name ≡ true) names → AreSpans 0 end spans → end ≤ latest_instant
-    → (c : Captured) × (edges_in asked (dump_of names spans end) ≡ Ok c) × TellsLine spans end c
+    → (c : Captured) × (edges_in asked (dump_of names spans end) ≡ Ok c) × ReportsLine spans end c

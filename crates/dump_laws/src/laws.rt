@@ -1,10 +1,10 @@
 //! Laws of dumps of several wires.
-ghost use Rattle.dump_laws.specs.Dumps.{DumpsAreReadAsTheLine, DumpsTellTheirWires};
+ghost use Rattle.dump_laws.specs.Dumps.{DumpsAreReadAsTheLine, DumpsReportTheirWires};
 
 /// A dump of several wires, one span of time after another, declares each of them, and reports its level at every
 /// microsecond.
-pub fn dumps_tell_their_wires()
-    ensures { DumpsTellTheirWires }
+pub fn dumps_report_their_wires()
+    ensures { DumpsReportTheirWires }
 {}
 
 /// What is read of such a dump, asked for the first wire or for the line by its name, is the line, up to the dump's end.

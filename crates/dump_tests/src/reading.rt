@@ -7,7 +7,7 @@ use hdmi_dump::{dump_bytes, looks_like_dump};
 use std::process::Abort;
 
 /// The bytes of the dump in a text in hex, or why there are none.
-fn told(rt: &(impl Abort + AllocGlobal), text: &str) -> String {
+fn reported(rt: &(impl Abort + AllocGlobal), text: &str) -> String {
     match dump_bytes(text.as_bytes()) {
         Ok(bytes) => hex::encode(rt.alloc(), bytes.as_slice()).expect(rt, "memory"),
         Err(error) => format!(in rt.alloc(); "{error}").expect(rt, "memory"),
@@ -15,8 +15,8 @@ fn told(rt: &(impl Abort + AllocGlobal), text: &str) -> String {
 }
 
 fn is_read(rt: &(impl Abort + AllocGlobal), text: &str, want: &str) {
-    let told = told(rt, text);
-    assert_eq!(rt; told.as_str(), want);
+    let reported = reported(rt, text);
+    assert_eq!(rt; reported.as_str(), want);
 }
 
 #[test]

@@ -159,9 +159,9 @@ fn wave_text(alloc: Global, stretches: &[Stretch]) -> String {
 }
 
 /// A case comes out as it is wanted.
-pub(crate) fn is_told(rt: &impl Abort, told: Option<String>, wanted: &str, case: &str) {
-    let told = told.expect(rt, case);
-    assert!(rt; told.as_str() == wanted, "{case}: {told}");
+pub(crate) fn is_reported(rt: &impl Abort, reported: Option<String>, wanted: &str, case: &str) {
+    let reported = reported.expect(rt, case);
+    assert!(rt; reported.as_str() == wanted, "{case}: {reported}");
 }
 
 // ---- rounds
@@ -271,20 +271,20 @@ fn answer(rt: &impl Abort, alloc: Global, question: &str) -> Option<String> {
     }
 }
 
-fn tell(rt: &impl Abort, alloc: Global, rows: &str) {
+fn report(rt: &impl Abort, alloc: Global, rows: &str) {
     for row in rows.lines() {
         let (question, wanted) = row.split_once(" => ").unwrap_or((row, ""));
-        is_told(rt, answer(rt, alloc, question), wanted, question);
+        is_reported(rt, answer(rt, alloc, question), wanted, question);
     }
 }
 
 #[test]
 fn rounds_come_out(rt: HostRuntime) {
-    tell(&rt, rt.alloc(), VIEW);
-    tell(&rt, rt.alloc(), UNACKNOWLEDGED);
-    tell(&rt, rt.alloc(), REFUSED);
-    tell(&rt, rt.alloc(), BAD_STARTS);
-    tell(&rt, rt.alloc(), ARBITRATED);
-    tell(&rt, rt.alloc(), FATES);
-    tell(&rt, rt.alloc(), LINE);
+    report(&rt, rt.alloc(), VIEW);
+    report(&rt, rt.alloc(), UNACKNOWLEDGED);
+    report(&rt, rt.alloc(), REFUSED);
+    report(&rt, rt.alloc(), BAD_STARTS);
+    report(&rt, rt.alloc(), ARBITRATED);
+    report(&rt, rt.alloc(), FATES);
+    report(&rt, rt.alloc(), LINE);
 }

@@ -1,6 +1,6 @@
 //! Where the receivers of a round stand after each of its edges, and how far its senders have come.
 use crate::driven::Driven;
-use crate::rounds::{bits_text, is_told, outcome_text, pulse_of, seats_of};
+use crate::rounds::{bits_text, is_reported, outcome_text, pulse_of, seats_of};
 use arrayvec::ArrayVec;
 use cec_bits::Standing;
 use cec_edges::EdgeWire;
@@ -62,11 +62,11 @@ fn goes(rt: &impl Abort, alloc: Global, wire: &mut Driven, pulse: &str, rows: &s
         let _ = pulses.try_push(pulse);
     }
     for row in rows.lines() {
-        let told = match seat_asked(row) {
+        let reported = match seat_asked(row) {
             None => edge_text(rt, alloc, wire, &pulses),
             Some(seat) => seat_text(rt, alloc, wire, seat),
         };
-        is_told(rt, told, row, row);
+        is_reported(rt, reported, row, row);
     }
 }
 
@@ -276,7 +276,7 @@ fn stands(rt: &impl Abort, alloc: Global, wire: EdgeWire, round: &Round) -> Edge
         return wire.wire;
     }
     let outcome = wire.finish(rt);
-    is_told(
+    is_reported(
         rt,
         outcome_text(alloc, &outcome),
         round.outcome,

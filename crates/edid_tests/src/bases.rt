@@ -55,7 +55,7 @@ fn values_text(rt: &(impl Abort + AllocGlobal), base: &Base) -> String {
 }
 
 /// The values of a base block, which is written to the same bytes again, or why it is refused.
-pub(crate) fn base_told(rt: &(impl Abort + AllocGlobal), words: &str) -> String {
+pub(crate) fn base_reported(rt: &(impl Abort + AllocGlobal), words: &str) -> String {
     let block = block_of(rt, words);
     match read_base(&block) {
         Err(error) => format!(in rt.alloc(); "{error:?}").expect(rt, "a text"),
@@ -71,7 +71,7 @@ fn clock_there_and_back(bytes: &[u8; 18]) -> Option<u32> {
     is_same.then_some(u32::from(timing.clock))
 }
 
-pub(crate) fn timing_told(rt: &(impl Abort + AllocGlobal), digits: &str) -> String {
+pub(crate) fn timing_reported(rt: &(impl Abort + AllocGlobal), digits: &str) -> String {
     let bytes = hex::decode(rt.alloc(), digits).expect(rt, "hex digits");
     let bytes = <[u8; 18]>::try_from(bytes.as_slice()).expect(rt, "a timing");
     format!(in rt.alloc(); "{:?}", clock_there_and_back(&bytes)).expect(rt, "a text")
@@ -84,7 +84,7 @@ fn text_len(bytes: &[u8]) -> Option<usize> {
 }
 
 /// How many letters there are, and how many of them are the text.
-pub(crate) fn letters_told(rt: &(impl Abort + AllocGlobal), letters: &str) -> String {
+pub(crate) fn letters_reported(rt: &(impl Abort + AllocGlobal), letters: &str) -> String {
     let letters = letters.replace(rt.alloc(), ";", "\n").expect(rt, "letters");
     let bytes = letters.as_str().as_bytes();
     format!(in rt.alloc(); "{} {:?}", bytes.len(), text_len(bytes)).expect(rt, "a text")

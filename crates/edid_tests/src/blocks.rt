@@ -48,7 +48,7 @@ fn address_text(rt: &(impl Abort + AllocGlobal), edid: &Edid, bytes: &[u8]) -> S
     format!(in rt.alloc(); "{:?}", edid.address()).expect(rt, "a text")
 }
 
-pub(crate) fn edid_told(rt: &(impl Abort + AllocGlobal), words: &str) -> String {
+pub(crate) fn edid_reported(rt: &(impl Abort + AllocGlobal), words: &str) -> String {
     let bytes = first_bytes_of(rt, words);
     match edid_from_bytes(&bytes) {
         Err(error) => format!(in rt.alloc(); "{error}").expect(rt, "a text"),
@@ -78,7 +78,7 @@ fn count_text(rt: &(impl Abort + AllocGlobal), parts: &[u8], bytes: &[u8]) -> St
     }
 }
 
-pub(crate) fn parts_told(rt: &(impl Abort + AllocGlobal), words: &str) -> String {
+pub(crate) fn parts_reported(rt: &(impl Abort + AllocGlobal), words: &str) -> String {
     let bytes = first_bytes_of(rt, words);
     let mut extensions = ArrayVec::new();
     match read_parts(&bytes, &mut extensions) {
@@ -90,7 +90,7 @@ pub(crate) fn parts_told(rt: &(impl Abort + AllocGlobal), words: &str) -> String
 }
 
 /// What a port with the address 1.0.0.0 passes on; without an HDMI block nothing.
-pub(crate) fn passed_on_told(
+pub(crate) fn passed_on_reported(
     rt: &(impl Abort + AllocGlobal),
     audio: AudioFrom,
     words: &str,

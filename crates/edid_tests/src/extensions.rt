@@ -32,12 +32,12 @@ fn heard(rt: &(impl Abort + AllocGlobal), words: &str) -> Ext {
     with_audio(&ext)
 }
 
-pub(crate) fn heard_told(rt: &(impl Abort + AllocGlobal), words: &str) -> String {
+pub(crate) fn heard_reported(rt: &(impl Abort + AllocGlobal), words: &str) -> String {
     let heard = heard(rt, words);
     hex::encode(rt.alloc(), write_ext(&heard).as_slice()).expect(rt, "hex digits")
 }
 
-pub(crate) fn addressed_told(rt: &(impl Abort + AllocGlobal), words: &str) -> String {
+pub(crate) fn addressed_reported(rt: &(impl Abort + AllocGlobal), words: &str) -> String {
     let address = Phys {
         high: 0x11,
         low: 0x00,
@@ -47,7 +47,7 @@ pub(crate) fn addressed_told(rt: &(impl Abort + AllocGlobal), words: &str) -> St
 }
 
 /// The address that the first HDMI block of an extension reports.
-pub(crate) fn address_told(rt: &(impl Abort + AllocGlobal), words: &str) -> String {
+pub(crate) fn address_reported(rt: &(impl Abort + AllocGlobal), words: &str) -> String {
     let ext = read_ext(&block_of(rt, words)).expect(rt, "an extension");
     format!(in rt.alloc(); "{:?}", hdmi_address(&ext)).expect(rt, "a text")
 }

@@ -42,7 +42,7 @@ fn with_bit_turned(rt: &(impl Abort + AllocGlobal), bytes: &[u8], at: usize, bit
 }
 
 /// The text of an EDID, or why the bytes are none.
-fn told(rt: &(impl Abort + AllocGlobal), bytes: &[u8]) -> Vec<u8> {
+fn reported(rt: &(impl Abort + AllocGlobal), bytes: &[u8]) -> Vec<u8> {
     match edid_from_bytes(bytes) {
         Err(cause) => {
             let line = format!(in rt.alloc(); "{cause}\n").expect(rt, "a line");
@@ -61,13 +61,13 @@ fn hashed(hash: u64, text: &[u8]) -> u64 {
     hash
 }
 
-fn told_with_bit_turned(
+fn reported_with_bit_turned(
     rt: &(impl Abort + AllocGlobal),
     bytes: &[u8],
     at: usize,
     bit: u8,
 ) -> Vec<u8> {
-    told(rt, &with_bit_turned(rt, bytes, at, bit))
+    reported(rt, &with_bit_turned(rt, bytes, at, bit))
 }
 
 /// The hash of the texts of all EDIDs that differ from this one in one bit.
@@ -75,13 +75,13 @@ fn hash_of_neighbours(rt: &(impl Abort + AllocGlobal), bytes: &[u8]) -> u64 {
     let mut hash = 0xcbf2_9ce4_8422_2325u64;
     for at in 0..bytes.len() {
         for bit in [1u8, 2, 4, 8, 16, 32, 64, 128] {
-            hash = hashed(hash, &told_with_bit_turned(rt, bytes, at, bit));
+            hash = hashed(hash, &reported_with_bit_turned(rt, bytes, at, bit));
         }
     }
     hash
 }
 
-pub(crate) fn neighbours_told(rt: &(impl Abort + AllocGlobal), words: &str) -> String {
+pub(crate) fn neighbours_reported(rt: &(impl Abort + AllocGlobal), words: &str) -> String {
     let hash = hash_of_neighbours(rt, &bytes_of(rt, words));
     format!(in rt.alloc(); "{hash:x}").expect(rt, "a text")
 }

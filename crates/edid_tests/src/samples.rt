@@ -102,9 +102,9 @@ fn wanted(rt: &(impl Abort + AllocGlobal), words: &str) -> String {
 }
 
 /// Asserts that what is reported of a case is what its text wants.
-pub(crate) fn comes_out(rt: &(impl Abort + AllocGlobal), told: String, want: &str, case: &str) {
+pub(crate) fn comes_out(rt: &(impl Abort + AllocGlobal), reported: String, want: &str, case: &str) {
     let want = wanted(rt, want);
-    holds(rt, told.as_str() == want.as_str(), case);
+    holds(rt, reported.as_str() == want.as_str(), case);
 }
 
 /// Asserts that a case came out as its text says.

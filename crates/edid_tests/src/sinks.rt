@@ -89,8 +89,8 @@ fn calls_the_writer_once_a_line(rt: HostRuntime) {
 /// What is reported of a line that is written in hundreds of bytes, one call of which fails, and how often the writer is called.
 fn written(line: &[Piece], fails_at: u32) -> (Result<u128, WriteFault>, u32) {
     let mut writer = Counted::new(fails_at, 100);
-    let told = write_line(&mut Writes::new(&mut writer), line);
-    (told, writer.calls)
+    let reported = write_line(&mut Writes::new(&mut writer), line);
+    (reported, writer.calls)
 }
 
 /// How many bytes are put after a line that was not written, and how often the writer is called.
@@ -103,23 +103,23 @@ fn put_after(line: &[Piece], fails_at: u32) -> (usize, u32) {
 }
 
 /// Whether a fault is told, with the bytes before it, and the writer not called again but for what is put then.
-fn tells_fault(line: &[Piece], fails_at: u32) -> bool {
+fn reports_fault(line: &[Piece], fails_at: u32) -> bool {
     let count = u128::from(fails_at.saturating_sub(1)) * 100;
     written(line, fails_at) == (Err(WriteFault { count }), fails_at)
         && put_after(line, fails_at) == (0, fails_at.saturating_add(1))
 }
 
 /// Asserts that each fault at one of the first calls is told.
-fn tells_faults(rt: &impl Abort, line: &[Piece], calls: u32) {
+fn reports_faults(rt: &impl Abort, line: &[Piece], calls: u32) {
     for fails_at in 1..=calls {
-        assert!(rt; tells_fault(line, fails_at), "{fails_at}");
+        assert!(rt; reports_fault(line, fails_at), "{fails_at}");
     }
 }
 
 #[test]
 fn says_how_much_was_written_at_each_fault(rt: HostRuntime) {
-    tells_faults(&rt, &line(&[0; 252]), 6);
+    reports_faults(&rt, &line(&[0; 252]), 6);
     let long = port_line(&[0; 512]);
-    tells_faults(&rt, &long, 11);
+    reports_faults(&rt, &long, 11);
     holds(&rt, written(&long, 12) == (Ok(1_062), 11), "no fault");
 }

@@ -135,14 +135,14 @@ fn refusal_of(rt: &(impl Abort + AllocGlobal), text: &[u8]) -> String {
 }
 
 /// Why the example's text is refused with one part changed.
-pub(crate) fn change_told(rt: &(impl Abort + AllocGlobal), change: &str) -> String {
+pub(crate) fn change_reported(rt: &(impl Abort + AllocGlobal), change: &str) -> String {
     let change = change.replace(rt.alloc(), ";", "\n").expect(rt, "lines");
     let text = with_change(rt, change.as_str());
     refusal_of(rt, text.as_str().as_bytes())
 }
 
 /// The refusals of a line, in words.
-pub(crate) fn refusals_told(rt: &(impl Abort + AllocGlobal), line: &str) -> String {
+pub(crate) fn refusals_reported(rt: &(impl Abort + AllocGlobal), line: &str) -> String {
     let line = usize::from(number(rt, line));
     let (syntax, field) = (TextError::Syntax(line), TextError::Field { line, word: 1 });
     format!(in rt.alloc(); "{syntax}, {field}").expect(rt, "a text")
@@ -188,7 +188,7 @@ fn shortened(rt: &(impl Abort + AllocGlobal), text: &str) -> String {
 }
 
 /// The text of an EDID, which is read to the same bytes again, and which its parts have too.
-pub(crate) fn text_told(rt: &(impl Abort + AllocGlobal), words: &str) -> String {
+pub(crate) fn text_reported(rt: &(impl Abort + AllocGlobal), words: &str) -> String {
     let bytes = bytes_of(rt, words);
     let edid = edid_from_bytes(&bytes).expect(rt, "an EDID");
     let written = text_of(rt, &edid);
@@ -201,27 +201,27 @@ pub(crate) fn text_told(rt: &(impl Abort + AllocGlobal), words: &str) -> String 
 
 /// What comes of the front of a text that has so many whole lines: their count where it is a text, nothing where it is refused at
 /// the next line, and otherwise its length and why it is refused.
-fn front_told(rt: &(impl Abort + AllocGlobal), front: &[u8], lines: usize) -> String {
-    let told = match parse_text(rt.alloc(), front) {
+fn front_reported(rt: &(impl Abort + AllocGlobal), front: &[u8], lines: usize) -> String {
+    let reported = match parse_text(rt.alloc(), front) {
         Ok(_) => format!(in rt.alloc(); " {lines}"),
         Err(TextError::Syntax(line)) if line == lines.saturating_add(1) => return owned(rt, ""),
         Err(error) => format!(in rt.alloc(); " {}: {error}", front.len()),
     };
-    told.expect(rt, "a text")
+    reported.expect(rt, "a text")
 }
 
 /// With how many lines the fronts of an EDID's text are texts.
-pub(crate) fn fronts_told(rt: &(impl Abort + AllocGlobal), words: &str) -> String {
+pub(crate) fn fronts_reported(rt: &(impl Abort + AllocGlobal), words: &str) -> String {
     let text = text_of(rt, &edid_of(rt, words));
-    let mut told = String::new(rt.alloc());
+    let mut reported = String::new(rt.alloc());
     let mut lines = 0;
     for end in 0..=text.len() {
         let (front, rest) = text.split_at(end);
-        let front = front_told(rt, front, lines);
-        told.push_str(front.as_str()).expect(rt, "a text");
+        let front = front_reported(rt, front, lines);
+        reported.push_str(front.as_str()).expect(rt, "a text");
         if rest.first() == Some(&b'\n') {
             lines = usize::saturating_add(lines, 1);
         }
     }
-    owned(rt, told.as_str().trim_start())
+    owned(rt, reported.as_str().trim_start())
 }

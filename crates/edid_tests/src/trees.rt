@@ -151,7 +151,7 @@ fn plug(rt: &(impl Abort + AllocGlobal), tree: &mut Tree<15>, words: &str) -> St
     done(rt, tree.plug(device, parent, port))
 }
 
-fn told(rt: &(impl Abort + AllocGlobal), name: &[u8], kind: Kind, ports: u8) -> String {
+fn reported(rt: &(impl Abort + AllocGlobal), name: &[u8], kind: Kind, ports: u8) -> String {
     let name = str::from_utf8(name).expect(rt, "a name");
     format!(in rt.alloc(); "{name} {kind:?} {ports}").expect(rt, "a text")
 }
@@ -163,7 +163,7 @@ fn ask_device(rt: &(impl Abort + AllocGlobal), tree: &Tree<15>, verb: &str, word
     match verb {
         "address" => format!(in rt.alloc(); "{:?}", tree.address_of(device)).expect(rt, "a text"),
         "wire" => format!(in rt.alloc(); "{}", tree.on_wire(device)).expect(rt, "a text"),
-        "device" => told(rt, tree.name(device), tree.kind(device), tree.ports(device)),
+        "device" => reported(rt, tree.name(device), tree.kind(device), tree.ports(device)),
         _ => owned(rt, "no such verb"),
     }
 }
@@ -208,12 +208,12 @@ fn written(rt: &(impl Abort + AllocGlobal), tree: &Tree<15>, words: &str) -> Str
 }
 
 fn port(rt: &(impl Abort + AllocGlobal), tree: &Tree<15>, words: &str) -> String {
-    let told = match passed_on(rt, tree, words) {
+    let reported = match passed_on(rt, tree, words) {
         Ok(edid) => hex_of(rt, &edid),
         Err(error) => refused(rt, error),
     };
-    assert!(rt; written(rt, tree, words) == told);
-    told
+    assert!(rt; written(rt, tree, words) == reported);
+    reported
 }
 
 /// What a device in a port learns over DDC.

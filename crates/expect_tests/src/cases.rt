@@ -91,13 +91,13 @@ fn report_of(rt: &(impl Abort + AllocGlobal), topology: &str, script: &str) -> (
         &mut Writes::new(&mut out),
     );
     let counts = match done {
-        Ok(tally) => told(rt, tally),
+        Ok(tally) => reported(rt, tally),
         Err(error) => format!(in rt.alloc(); "{error}").expect(rt, "a refusal"),
     };
     (String::from_utf8(out).expect(rt, "a text"), counts)
 }
 
-fn told(rt: &(impl Abort + AllocGlobal), tally: Tally) -> String {
+fn reported(rt: &(impl Abort + AllocGlobal), tally: Tally) -> String {
     let Tally { count, failed } = tally;
     format!(in rt.alloc(); "{failed} of {count}").expect(rt, "a tally")
 }

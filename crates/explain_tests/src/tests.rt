@@ -31,7 +31,7 @@ fn words(rt: &(impl Abort + AllocGlobal), line: &str) -> Vec<String> {
 }
 
 /// Runs the program with the words of this line.
-fn told_of(rt: &(impl Abort + AllocGlobal), line: &str, mut input: &[u8]) -> Answer {
+fn reported_of(rt: &(impl Abort + AllocGlobal), line: &str, mut input: &[u8]) -> Answer {
     let alloc = rt.alloc();
     let mut out = Vec::new(alloc);
     let mut err = Vec::new(alloc);

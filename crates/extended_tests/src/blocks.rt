@@ -5,7 +5,7 @@ use hdmi_meaning::Page;
 use std::process::Abort;
 
 /// The lines below a block, each with `/` after it: a vendor block or an extended block in hex.
-fn told(rt: &(impl Abort + AllocGlobal), block: &str) -> String {
+fn reported(rt: &(impl Abort + AllocGlobal), block: &str) -> String {
     let (word, digits) = block.split_once(' ').expect(rt, "a block");
     let bytes = hex::decode(rt.alloc(), digits).expect(rt, "hex digits");
     let mut page: Page = ArrayVec::new();
@@ -140,23 +140,23 @@ vendor d85dc40100000000000004|  HDMI Forum version 1/  DSC at 16 bits/
 vendor d85dc40100000000000002|  HDMI Forum version 1/  DSC at 12 bits/
 vendor d85dc40100000000000001|  HDMI Forum version 1/  DSC at 10 bits/";
 
-fn are_told(rt: &(impl Abort + AllocGlobal), rows: &str) {
+fn are_reported(rt: &(impl Abort + AllocGlobal), rows: &str) {
     for row in rows.lines() {
         let (block, want) = row.split_once('|').expect(rt, "a row");
-        let lines = told(rt, block);
+        let lines = reported(rt, block);
         assert_eq!(rt; lines.as_str(), want, "{block}");
     }
 }
 
 #[test]
-fn blocks_are_told(rt: HostRuntime) {
-    are_told(&rt, ROWS);
+fn blocks_are_reported(rt: HostRuntime) {
+    are_reported(&rt, ROWS);
 }
 
 #[test]
-fn each_bit_is_told(rt: HostRuntime) {
-    are_told(&rt, EXTENDED_BITS);
-    are_told(&rt, FORUM_BITS);
+fn each_bit_is_reported(rt: HostRuntime) {
+    are_reported(&rt, EXTENDED_BITS);
+    are_reported(&rt, FORUM_BITS);
 }
 
 /// Codes and their luminances, as `edid-decode` prints them, to the whole number.
@@ -172,7 +172,7 @@ const LUMINANCES: &[(u8, u16)] = &[
 ];
 
 #[test]
-fn luminances_are_told(rt: HostRuntime) {
+fn luminances_are_reported(rt: HostRuntime) {
     for (code, want) in LUMINANCES {
         assert_eq!(rt; luminance(*code), *want);
     }

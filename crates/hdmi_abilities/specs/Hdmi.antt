@@ -57,7 +57,7 @@ latency_words name p = named_latency name (slice_index p 0) ++ named_latency (co
 
 -- two bytes are there where a bit reports so and the block is long enough
 abbrev pub latency_meanings : Bool → List ℕ → List ℕ → List (List ℕ)
-latency_meanings told name p = if told && nat_le 2 (length p) then below (latency_words name p) else []
+latency_meanings reported name p = if reported && nat_le 2 (length p) then below (latency_words name p) else []
 
 -- where the latencies of interlaced video are
 abbrev pub interlaced_place : ℕ → ℕ
@@ -137,7 +137,7 @@ abbrev pub video_meanings : List ℕ → List (List ℕ)
 video_meanings p = flag_part p ++ (code_part p ++ stereo_part p)
 
 abbrev pub after_meanings : Bool → List ℕ → List (List ℕ)
-after_meanings told p = if told && nat_le 2 (length p) then video_meanings p else left_meanings p
+after_meanings reported p = if reported && nat_le 2 (length p) then video_meanings p else left_meanings p
 
 -- ---- all of it
 

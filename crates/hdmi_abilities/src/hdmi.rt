@@ -181,13 +181,13 @@ fn latency_note(name: &[u8], bytes: &[u8]) -> Note
     words
 }
 
-fn append_latencies(page: &mut Page, told: bool, name: &[u8], bytes: &[u8])
+fn append_latencies(page: &mut Page, reported: bool, name: &[u8], bytes: &[u8])
     requires short { length name.now ≤ 30 }
     requires room { array_vec_len page.old + 109 ≤ PAGE }
-    ensures items { page.new.items ≡ page.old.items ++ flat_map own_line (latency_meanings told name.now bytes.now) }
+    ensures items { page.new.items ≡ page.old.items ++ flat_map own_line (latency_meanings reported name.now bytes.now) }
     ensures len { array_vec_len page.new ≤ array_vec_len page.old + 109 }
 {
-    if told && 2 <= bytes.len() {
+    if reported && 2 <= bytes.len() {
         append_words(page, latency_note(name, bytes).as_slice());
     }
 }
@@ -367,12 +367,12 @@ fn append_videos(page: &mut Page, bytes: &[u8])
     append_stereo_part(page, bytes);
 }
 
-fn append_after(page: &mut Page, told: bool, bytes: &[u8])
+fn append_after(page: &mut Page, reported: bool, bytes: &[u8])
     requires few { length bytes.now ≤ 128 }
     requires room { array_vec_len page.old + 1600 ≤ PAGE }
-    ensures { page.new.items ≡ page.old.items ++ flat_map own_line (after_meanings told bytes.now) }
+    ensures { page.new.items ≡ page.old.items ++ flat_map own_line (after_meanings reported bytes.now) }
 {
-    if told && 2 <= bytes.len() {
+    if reported && 2 <= bytes.len() {
         append_videos(page, bytes);
     } else {
         append_left(page, bytes);
@@ -384,8 +384,8 @@ fn append_plain_latencies(page: &mut Page, bytes: &[u8])
     ensures items { page.new.items ≡ page.old.items ++ flat_map own_line (plain_latencies bytes.now) }
     ensures len { array_vec_len page.new ≤ array_vec_len page.old + 109 }
 {
-    let told = is_set(u32::from(byte_at(bytes, 2)), LATENCIES);
-    append_latencies(page, told, b", video latency", after(bytes, 3));
+    let reported = is_set(u32::from(byte_at(bytes, 2)), LATENCIES);
+    append_latencies(page, reported, b", video latency", after(bytes, 3));
 }
 
 fn append_interlaced_latencies(page: &mut Page, bytes: &[u8])
@@ -395,10 +395,10 @@ fn append_interlaced_latencies(page: &mut Page, bytes: &[u8])
 {
     let presence = byte_at(bytes, 2);
     let place = 3 + 2 * usize::from(presence / 128);
-    let told = is_set(u32::from(presence), INTERLACED_LATENCIES);
+    let reported = is_set(u32::from(presence), INTERLACED_LATENCIES);
     append_latencies(
         page,
-        told,
+        reported,
         b", interlaced video latency",
         after(bytes, place),
     );
@@ -411,8 +411,8 @@ fn append_video_part(page: &mut Page, bytes: &[u8])
 {
     let presence = byte_at(bytes, 2);
     let place = 3 + 2 * usize::from(presence / 128) + 2 * usize::from(presence / 64 % 2);
-    let told = is_set(u32::from(presence), VIDEO);
-    append_after(page, told, after(bytes, place));
+    let reported = is_set(u32::from(presence), VIDEO);
+    append_after(page, reported, after(bytes, place));
 }
 
 /// Appends what an HDMI block means, of the bytes after its physical address: capabilities; latencies, video formats of

@@ -98,13 +98,13 @@ bytes_there audio address (x ∷ xs) (suc i) n d at h e = by (has_address x) ref
     by true f next = let p = at_first x xs f in absurd (omega (arith, at, p))
     by false f next = let p = at_later x xs f in ap (λ t. ext_bytes x ++ t) (next (omega (arith, at, p)) (omega (arith, h))) ∙ passed_later audio address x xs f
 
-told_there : (xs : List Ext) (i : ℕ) (n : Ext) (address : Phys) → i ≡ position_or_len has_address xs → i < length xs
+reported_there : (xs : List Ext) (i : ℕ) (n : Ext) (address : Phys) → i ≡ position_or_len has_address xs → i < length xs
     → address_of n ≡ Some address → first_address (set xs i n) ≡ Some address
-told_there [] i n address at h e = absurd (omega (arith, h))
-told_there (x ∷ xs) zero n address at h e =
+reported_there [] i n address at h e = absurd (omega (arith, h))
+reported_there (x ∷ xs) zero n address at h e =
     let some : has_address n ≡ true = ap is_some e in
     first_here n xs some ∙ e
-told_there (x ∷ xs) (suc i) n address at h e = by (has_address x) refl (λ k l. told_there xs i n address k l e)
+reported_there (x ∷ xs) (suc i) n address at h e = by (has_address x) refl (λ k l. reported_there xs i n address k l e)
   where
     by : (v : Bool) → has_address x ≡ v → (i ≡ position_or_len has_address xs → i < length xs → first_address (set xs i n) ≡ Some address)
         → first_address (x ∷ set xs i n) ≡ Some address
@@ -116,4 +116,4 @@ pub passed_there : (audio : AudioFrom) (address : Phys) (xs : List Ext) (i : ℕ
 passed_there audio address xs i x n at e f = bytes_there audio address xs i n x at.place at.known (f ∙ ap (passed_bytes audio address) e)
 
 pub address_passed : (xs : List Ext) (i : ℕ) (n : Ext) (address : Phys) → IsFirst xs i → address_of n ≡ Some address → first_address (set xs i n) ≡ Some address
-address_passed xs i n address at e = told_there xs i n address at.place at.known e
+address_passed xs i n address at e = reported_there xs i n address at.place at.known e

@@ -34,10 +34,10 @@ is_text_cut _ = false
 
 -- ---- from a text to an EDID
 
-abbrev pub text_told : TextError → TextToHexError
-text_told (texts.Syntax line) = hex.Syntax line
-text_told (texts.Field line word) = hex.Field line word
-text_told texts.Memory = hex.Memory
+abbrev pub text_reported : TextError → TextToHexError
+text_reported (texts.Syntax line) = hex.Syntax line
+text_reported (texts.Field line word) = hex.Field line word
+text_reported texts.Memory = hex.Memory
 
 -- the text is no EDID's, for its first line at fault
 abbrev pub IsNoText : List ℕ → TextError → Type 0

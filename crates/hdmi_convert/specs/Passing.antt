@@ -36,7 +36,7 @@ place_address (Port port) own = address_in own port
 
 -- an EDID with these bytes and an address is passed on as this one
 pub record IsPassedOnAs (passing : Passing) (e passed : EdidValue) (own : Phys) : Type 0 where
-  pub told : edid_address e ≡ Some own
+  pub reported : edid_address e ≡ Some own
   pub bytes : edid_bytes passed ≡ passed_on_bytes passing.audio (place_address passing.place own) e
   pub address : edid_address passed ≡ Some (place_address passing.place own)
 

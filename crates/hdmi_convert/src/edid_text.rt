@@ -52,9 +52,9 @@ impl From<EdidError> for EdidToTextError {
 
 impl From<TextError> for TextToHexError {
     ghost use Rattle.std.specs.Prelude.{◌≡◌};
-    ghost use Rattle.hdmi_convert.specs.EdidText.{text_told};
+    ghost use Rattle.hdmi_convert.specs.EdidText.{text_reported};
 
-    ghost from_gives = { λ t e. e ≡ text_told t };
+    ghost from_gives = { λ t e. e ≡ text_reported t };
 
     fn from(error: TextError) -> TextToHexError {
         match error {

@@ -114,11 +114,11 @@ cut_bytes before after b x y rest more e =
     let back = flat_map block_bytes after in
     let head = kind_number b.kind * 32 + length b.payload.items in
     let parted = ap (λ z. z ++ more) (flat_map-append block_bytes before (b ∷ after)) in
-    let told = ap (λ i. (front ++ (head ∷ (i ++ back))) ++ more) e in
+    let reported = ap (λ i. (front ++ (head ∷ (i ++ back))) ++ more) e in
     let moved = append_assoc front (head ∷ 3 ∷ 12 ∷ 0 ∷ x ∷ y ∷ (rest ++ back)) more in
     let inner = ap (λ z. front ++ (head ∷ 3 ∷ 12 ∷ 0 ∷ x ∷ y ∷ z)) (append_assoc rest back more) in
     let outer = append_assoc front (head ∷ 3 ∷ 12 ∷ 0 ∷ []) (x ∷ y ∷ (rest ++ (back ++ more))) in
-    parted ∙ told ∙ moved ∙ inner ∙ sym outer
+    parted ∙ reported ∙ moved ∙ inner ∙ sym outer
 
 -- another block of the same length leaves the length of all
 same_total : (before after : List DataBlock) (a b : DataBlock) → length a.payload.items ≡ length b.payload.items

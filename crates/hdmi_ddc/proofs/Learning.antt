@@ -9,18 +9,18 @@ use borrow.Author.Tests.{tests}
 use Rattle.hdmi_blocks.specs.declared.edid.Edid.{Edid as EdidValue}
 use Rattle.hdmi_blocks.proofs.OneEdid.{one_edid, length_fits, count_fits, not_refused}
 use Rattle.hdmi_ddc.specs.Bus.{has_segment}
-use Rattle.hdmi_ddc.specs.Learn.{extension_count, blocks_read, CanBeRead, IsUnread, IsUntold, IsLearnt}
+use Rattle.hdmi_ddc.specs.Learn.{extension_count, blocks_read, CanBeRead, IsUnread, IsUnreported, IsLearnt}
 use Rattle.hdmi_ddc.specs.declared.error.DdcError.{DdcError}
 use Rattle.hdmi_ddc.specs.declared.error.DdcError.TheVariants.{NoAck, Edid, NoHdmiBlock, Length}
 use Rattle.hdmi_ddc.proofs.Lengths.{edid_length, first_segment}
 
-abbrev Tells : List ℕ → Phys → Type 0
-Tells blocks address = (e : EdidValue) × (edid_bytes e ≡ blocks) × (edid_address e ≡ Some address)
+abbrev Reports : List ℕ → Phys → Type 0
+Reports blocks address = (e : EdidValue) × (edid_bytes e ≡ blocks) × (edid_address e ≡ Some address)
 
 pub learnt : (bytes blocks : List ℕ) → CanBeRead bytes → blocks ≡ blocks_read bytes → (r : Result Phys DdcError)
-    → IfOk r (Tells blocks) → IfErr r (IsUntold blocks) → IsLearnt bytes r
-learnt bytes blocks can e (Ok address) told refused = (can, (told.0, told.1 ∙ e, told.2))
-learnt bytes blocks can e (Err error) told refused = inr (can, subst (λ (b : List ℕ). IsUntold b error) e refused)
+    → IfOk r (Reports blocks) → IfErr r (IsUnreported blocks) → IsLearnt bytes r
+learnt bytes blocks can e (Ok address) reported refused = (can, (reported.0, reported.1 ∙ e, reported.2))
+learnt bytes blocks can e (Err error) reported refused = inr (can, subst (λ (b : List ℕ). IsUnreported b error) e refused)
 
 -- the bytes of an EDID are read whole
 pub record IsWhole (bytes : List ℕ) : Type 0 where
@@ -37,9 +37,9 @@ whole e =
     let most = blocks.most in
     let count : get_or bytes 126 0 * 128 + 128 ≡ length bytes = count_fits e in
     let there : 126 < length bytes = omega arith in
-    let told : extension_count bytes ≡ get_or bytes 126 0 = get_or_append_left bytes (replicate 512 0xff) 0 126 there in
-    let size : length bytes ≡ 128 * (extension_count bytes + 1) = omega (arith, told, count) in
-    record { few = omega (arith, told, count, len, most); len = size; all = take_at bytes (replicate 512 0xff) (128 * (extension_count bytes + 1)) size }
+    let reported : extension_count bytes ≡ get_or bytes 126 0 = get_or_append_left bytes (replicate 512 0xff) 0 126 there in
+    let size : length bytes ≡ 128 * (extension_count bytes + 1) = omega (arith, reported, count) in
+    record { few = omega (arith, reported, count, len, most); len = size; all = take_at bytes (replicate 512 0xff) (128 * (extension_count bytes + 1)) size }
 
 acknowledged : (e : EdidValue) → has_segment (edid_bytes e) (extension_count (edid_bytes e) / 2) ≡ true
 acknowledged e =
@@ -54,14 +54,14 @@ not_unread e (Edid cause) h = let few = (whole e).few in let many = h.1 in omega
 not_unread e NoHdmiBlock h = h
 not_unread e Length h = h
 
-not_untold : (e : EdidValue) (address : Phys) (x : DdcError) → edid_address e ≡ Some address → IsUntold (edid_bytes e) x → ⊥
-not_untold e address NoAck a h = h
-not_untold e address (Edid cause) a h = not_refused e cause h
-not_untold e address NoHdmiBlock a h = let same = ap edid_address (one_edid h.0 e h.1) in let none = h.2 in cc
-not_untold e address Length a h = h
+not_unreported : (e : EdidValue) (address : Phys) (x : DdcError) → edid_address e ≡ Some address → IsUnreported (edid_bytes e) x → ⊥
+not_unreported e address NoAck a h = h
+not_unreported e address (Edid cause) a h = not_refused e cause h
+not_unreported e address NoHdmiBlock a h = let same = ap edid_address (one_edid h.0 e h.1) in let none = h.2 in cc
+not_unreported e address Length a h = h
 
-pub told : (r : Result Phys DdcError) (e : EdidValue) (address : Phys) → IsLearnt (edid_bytes e) r → edid_address e ≡ Some address → r ≡ Ok address
-told (Ok found) e address h a =
+pub reported : (r : Result Phys DdcError) (e : EdidValue) (address : Phys) → IsLearnt (edid_bytes e) r → edid_address e ≡ Some address → r ≡ Ok address
+reported (Ok found) e address h a =
     let same = ap edid_address (one_edid h.1.0 e (h.1.1 ∙ (whole e).all)) in
     let there = h.1.2 in
     let equal : Some found ≡ Some address = sym there ∙ same ∙ a in
@@ -69,5 +69,5 @@ told (Ok found) e address h a =
   where
     some_same : (x y : Phys) → Some x ≡ Some y → x ≡ y
     some_same x y e = cc
-told (Err x) e address (inl h) a = absurd (not_unread e x h)
-told (Err x) e address (inr h) a = absurd (not_untold e address x a (subst (λ (b : List ℕ). IsUntold b x) (whole e).all h.1))
+reported (Err x) e address (inl h) a = absurd (not_unread e x h)
+reported (Err x) e address (inr h) a = absurd (not_unreported e address x a (subst (λ (b : List ℕ). IsUnreported b x) (whole e).all h.1))

@@ -34,13 +34,13 @@ IsUnread bytes NoHdmiBlock = ⊥
 IsUnread bytes Length = ⊥
 
 -- blocks are no EDID, or one without an address
-abbrev pub IsUntold : List ℕ → DdcError → Type 0
-IsUntold blocks NoAck = ⊥
-IsUntold blocks (Edid cause) = IsRefused blocks cause
-IsUntold blocks NoHdmiBlock = (e : EdidValue) × (edid_bytes e ≡ blocks) × (edid_address e ≡ None)
-IsUntold blocks Length = ⊥
+abbrev pub IsUnreported : List ℕ → DdcError → Type 0
+IsUnreported blocks NoAck = ⊥
+IsUnreported blocks (Edid cause) = IsRefused blocks cause
+IsUnreported blocks NoHdmiBlock = (e : EdidValue) × (edid_bytes e ≡ blocks) × (edid_address e ≡ None)
+IsUnreported blocks Length = ⊥
 
 -- the address in the EDID that is read, or the first reason why there is none
 abbrev pub IsLearnt : List ℕ → Result Phys DdcError → Type 0
 IsLearnt bytes (Ok address) = CanBeRead bytes × ((e : EdidValue) × (edid_bytes e ≡ blocks_read bytes) × (edid_address e ≡ Some address))
-IsLearnt bytes (Err error) = IsUnread bytes error ⊎ (CanBeRead bytes × IsUntold (blocks_read bytes) error)
+IsLearnt bytes (Err error) = IsUnread bytes error ⊎ (CanBeRead bytes × IsUnreported (blocks_read bytes) error)

@@ -12,7 +12,7 @@ use Rattle.hdmi_ddc.specs.Learn.{IsLearnt}
 use Rattle.hdmi_ddc.specs.declared.error.DdcError.{DdcError}
 
 -- whatever is learnt of the EDID that a port passes on is the address of the device that is plugged in there
-abbrev pub PortsTellPlaces : Type 0
-PortsTellPlaces = (tree : List Node) (root passed : Edid) (device : ℕ) (plug : Plug) (address : Phys) (result : Result Phys DdcError)
+abbrev pub PortsReportPlaces : Type 0
+PortsReportPlaces = (tree : List Node) (root passed : Edid) (device : ℕ) (plug : Plug) (address : Phys) (result : Result Phys DdcError)
     → is_root tree device ≡ false → plug_of tree device ≡ Some plug → address_of tree device ≡ Some address
     → IsPassedOn root tree plug.parent plug.port passed → IsLearnt (edid_bytes passed) result → result ≡ Ok address

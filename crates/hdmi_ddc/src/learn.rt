@@ -6,7 +6,7 @@ ghost use Rattle.hdmi_blocks.specs.Address.{edid_address};
 ghost use Rattle.hdmi_blocks.specs.Bytes.{edid_bytes};
 ghost use Rattle.hdmi_blocks.specs.declared.edid.Edid.{Edid as EdidValue};
 ghost use Rattle.hdmi_ddc.specs.Bus.{first_bus, has_segment};
-ghost use Rattle.hdmi_ddc.specs.Learn.{CanBeRead, IsLearnt, IsUnread, IsUntold, blocks_read, bytes_with_padding};
+ghost use Rattle.hdmi_ddc.specs.Learn.{CanBeRead, IsLearnt, IsUnread, IsUnreported, blocks_read, bytes_with_padding};
 
 use crate::ddc::Ddc;
 use crate::error::DdcError;
@@ -50,8 +50,8 @@ fn read_blocks(ddc: &mut Ddc) -> Result<ArrayVec<u8, 512>, DdcError>
 
 /// The address in the EDID that some blocks are.
 fn address_in(blocks: &[u8]) -> Result<Phys, DdcError>
-    ensures told { IfOk result (λ address. (e : EdidValue) × (edid_bytes e ≡ blocks.now) × (edid_address e ≡ Some address)) }
-    ensures refused { IfErr result (λ e. IsUntold blocks.now e) }
+    ensures reported { IfOk result (λ address. (e : EdidValue) × (edid_bytes e ≡ blocks.now) × (edid_address e ≡ Some address)) }
+    ensures refused { IfErr result (λ e. IsUnreported blocks.now e) }
 {
     match edid_from_bytes(blocks) {
         Err(cause) => Err(DdcError::Edid(cause)),
@@ -78,7 +78,7 @@ fn read_address(ddc: &mut Ddc) -> Result<Phys, DdcError>
 pub fn learn_address(ddc: &mut Ddc) -> Result<Phys, DdcError>
     ensures after { ddc.new ≡ first_bus ddc.old.bytes }
     ensures learnt { IsLearnt ddc.old.bytes result }
-    ensures told { (e : EdidValue) (address : PhysValue) → ddc.old.bytes ≡ edid_bytes e → edid_address e ≡ Some address → result ≡ Ok address }
+    ensures reported { (e : EdidValue) (address : PhysValue) → ddc.old.bytes ≡ edid_bytes e → edid_address e ≡ Some address → result ≡ Ok address }
 {
     let answer = read_address(ddc);
     ddc.stop();

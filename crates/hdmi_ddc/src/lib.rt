@@ -8,5 +8,5 @@ mod learn;
 
 pub use ddc::Ddc;
 pub use error::DdcError;
-pub use laws::ports_tell_places;
+pub use laws::ports_report_places;
 pub use learn::learn_address;

@@ -15,7 +15,7 @@ use Rattle.hdmi_lines.specs.declared.line.Line.{Line}
 use Rattle.hdmi_lines.specs.declared.line.Keyword.{Keyword}
 use Rattle.hdmi_edtext.specs.declared.parse.TextError.{TextError}
 use Rattle.hdmi_edtext.specs.declared.parse.TextError.TheVariants.{Syntax, Field, Memory}
-use Rattle.hdmi_edtext.proofs.FirstBad.{AreTold, Next, next_of, some_begins, counted, all_told}
+use Rattle.hdmi_edtext.proofs.FirstBad.{AreReported, Next, next_of, some_begins, counted, all_reported}
 use Rattle.hdmi_edtext.proofs.Fits.{EachFit, Fit, edid_fit, fit_at, fits_in}
 use Rattle.hdmi_edtext.proofs.Good.{EachGood, Good, edid_good, good_at}
 use Rattle.hdmi_edtext.proofs.Likes.{likes}
@@ -24,11 +24,11 @@ use Rattle.hdmi_lines.proofs.OneWord.{one_word}
 use Rattle.hdmi_edtext.proofs.Stands.{stands}
 use Rattle.hdmi_edtext.proofs.WordTexts.{front_text, first_is, words_are, with_feed, same_front, formed_words}
 
-may_stand_so : (d : EdidDraft) (line : List ℕ) → AreTold (draft_lines d) → HasAlike (map line_text (draft_lines d)) line → MayStand (place_of d) line
-may_stand_so d line told h =
+may_stand_so : (d : EdidDraft) (line : List ℕ) → AreReported (draft_lines d) → HasAlike (map line_text (draft_lines d)) line → MayStand (place_of d) line
+may_stand_so d line reported h =
     let e = h.0 in
     let a = h.1.1.1.1 in
-    let n = next_of e (draft_lines d) h.1.0 h.1.1.0 told h.1.1.1.0 in
+    let n = next_of e (draft_lines d) h.1.0 h.1.1.0 reported h.1.1.1.0 in
     let good = good_at (draft_lines d) n.here n.later (subst EachGood n.lines (edid_good e)) in
     let front : a.other_front ≡ front_text n.here = (same_front a.other_front (front_text n.here) 10 10 (sym a.other_ended ∙ sym n.text ∙ with_feed n.here)).0 in
     let count : word_count a.front ≡ field_count n.here.fields = a.words ∙ ap word_count front ∙ words_are n.here good in
@@ -80,14 +80,14 @@ none_other k w front l u good fit is count shared false v =
     ap (λ xs. get_or xs 0 []) one
 
 -- and there is none with that word too
-none_like : (d : EdidDraft) (line : List ℕ) (k : ℕ) → (m : MayStand (place_of d) line) → IsFirstUnfit m.word m.front k → AreTold (draft_lines d) → ((e : Edid) (later : List (List ℕ)) → Next e (draft_lines d) line later → ⊥)
+none_like : (d : EdidDraft) (line : List ℕ) (k : ℕ) → (m : MayStand (place_of d) line) → IsFirstUnfit m.word m.front k → AreReported (draft_lines d) → ((e : Edid) (later : List (List ℕ)) → Next e (draft_lines d) line later → ⊥)
     → HasLike (k + 1) (map line_text (draft_lines d)) line → ⊥
-none_like d line k m u told none h =
+none_like d line k m u reported none h =
     let e = h.0 in
     let other = h.1.0 in
     let more = h.1.1.0 in
     let a = h.1.1.1.1.0 in
-    let n = next_of e (draft_lines d) other more told h.1.1.1.0 in
+    let n = next_of e (draft_lines d) other more reported h.1.1.1.0 in
     let good = good_at (draft_lines d) n.here n.later (subst EachGood n.lines (edid_good e)) in
     let fit = fit_at (draft_lines d) n.here n.later (subst EachFit n.lines (edid_fit e)) in
     let mine : a.front ≡ m.front = (same_front a.front m.front 10 10 (sym a.ended ∙ m.ended)).0 in
@@ -100,44 +100,44 @@ none_like d line k m u told none h =
     none e (map line_text n.later) (record { here = n.here; later = n.later; lines = n.lines; text = text; texts = refl; formed = n.formed })
 
 -- a line at fault
-pub refusal : (d : EdidDraft) (all : List (List ℕ)) (line : List ℕ) (more : List (List ℕ)) (n : ℕ) (x : TextError) → AreTold (draft_lines d) → all ≡ map line_text (draft_lines d) ++ line ∷ more
+pub refusal : (d : EdidDraft) (all : List (List ℕ)) (line : List ℕ) (more : List (List ℕ)) (n : ℕ) (x : TextError) → AreReported (draft_lines d) → all ≡ map line_text (draft_lines d) ++ line ∷ more
     → n ≡ length (draft_lines d) + 1 → ((e : Edid) (later : List (List ℕ)) → Next e (draft_lines d) line later → ⊥) → IsFaultAt (place_of d) line n x → IsRefusal all x
-refusal d all line more n (Syntax k) told h count none f =
+refusal d all line more n (Syntax k) reported h count none f =
     let bad : IsFirstBad all k = record {
       before = map line_text (draft_lines d);
       after = line ∷ more;
       all = h;
       count = counted (draft_lines d) k (sym f.0 ∙ count);
       some = some_begins d;
-      none = λ e later j. none e later (next_of e (draft_lines d) line later told j);
+      none = λ e later j. none e later (next_of e (draft_lines d) line later reported j);
     } in (
       bad,
       λ other later e a.
           let same : other ≡ line = ap (λ t. get_or t 0 []) (sym e) in
-          f.1 (may_stand_so d line told (subst (HasAlike (map line_text (draft_lines d))) same a)),
+          f.1 (may_stand_so d line reported (subst (HasAlike (map line_text (draft_lines d))) same a)),
     )
-refusal d all line more n (Field k word) told h count none f =
+refusal d all line more n (Field k word) reported h count none f =
     let bad : IsFirstBad all k = record {
       before = map line_text (draft_lines d);
       after = line ∷ more;
       all = h;
       count = counted (draft_lines d) k (sym f.0 ∙ count);
       some = some_begins d;
-      none = λ e later j. none e later (next_of e (draft_lines d) line later told j);
+      none = λ e later j. none e later (next_of e (draft_lines d) line later reported j);
     } in
-    (bad, (line, (more, (refl, record { least = f.1.unfit.least; right = like_it d line word f.1.stands f.1.unfit; wrong = none_like d line word f.1.stands f.1.unfit told none }))))
-refusal d all line more n Memory told h count none f = absurd f
+    (bad, (line, (more, (refl, record { least = f.1.unfit.least; right = like_it d line word f.1.stands f.1.unfit; wrong = none_like d line word f.1.stands f.1.unfit reported none }))))
+refusal d all line more n Memory reported h count none f = absurd f
 
 -- the end of a text that is too short
-pub refusal_at_end : (d : EdidDraft) (all : List (List ℕ)) (n : ℕ) → AreTold (draft_lines d) → all ≡ map line_text (draft_lines d) ++ []
+pub refusal_at_end : (d : EdidDraft) (all : List (List ℕ)) (n : ℕ) → AreReported (draft_lines d) → all ≡ map line_text (draft_lines d) ++ []
     → n ≡ length (draft_lines d) + 1 → ((e : Edid) → edid_lines e ≡ draft_lines d → ⊥) → IsRefusal all (Syntax n)
-refusal_at_end d all n told h count none =
+refusal_at_end d all n reported h count none =
     let bad : IsFirstBad all n = record {
       before = map line_text (draft_lines d);
       after = [];
       all = h;
       count = counted (draft_lines d) n count;
       some = some_begins d;
-      none = λ e k. none e (all_told e (draft_lines d) told k);
+      none = λ e k. none e (all_reported e (draft_lines d) reported k);
     } in
     (bad, λ line more e a. let len = ap length e in omega (arith, len))

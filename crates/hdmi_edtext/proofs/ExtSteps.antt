@@ -104,9 +104,9 @@ tail_fits left flags bytes tail h k e = are_bytes-cons flags tail h (ap are_byte
 same_tail : (left : ℕ) (bytes tail : List ℕ) → fills left bytes ≡ true → tail ≡ padded_bytes left bytes → tail_line tail ≡ bytes_line Tail bytes
 same_tail left bytes tail h e = ap (bytes_line Tail) (ap bytes_without_zeros e ∙ (fills_is left bytes h).same)
 
-pub tail_told : (o : Opened) (bytes tail : List ℕ) → ends o.left bytes ≡ true → tail ≡ padded_bytes o.left bytes
+pub tail_reported : (o : Opened) (bytes tail : List ℕ) → ends o.left bytes ≡ true → tail ≡ padded_bytes o.left bytes
     → whole_lines o.whole ++ (bytes_line Cta (o.flags ∷ []) ∷ (map block_line o.blocks.items ++ (map timing_line o.timings.items ++ (tail_line tail ∷ [])))) ≡ draft_lines (OfOpened o) ++ bytes_line Tail bytes ∷ []
-tail_told o bytes tail h e =
+tail_reported o bytes tail h e =
     let line = same_tail o.left bytes tail (both _ _ h).0 e in
     let bs = map block_line o.blocks.items in
     let ts = map timing_line o.timings.items in
@@ -117,9 +117,9 @@ tail_told o bytes tail h e =
 pub bare_whole : (bytes tail : List ℕ) → fills 123 bytes ≡ true → tail ≡ padded_bytes 123 bytes → length tail ≡ 123
 bare_whole bytes tail h e = ap length e ∙ length-padded 123 bytes (fills_is 123 bytes h).fits
 
-pub bare_told : (w : Whole) (flags other : ℕ) (bytes tail : List ℕ) → other ≡ flags → fills 123 bytes ≡ true → tail ≡ padded_bytes 123 bytes
+pub bare_reported : (w : Whole) (flags other : ℕ) (bytes tail : List ℕ) → other ≡ flags → fills 123 bytes ≡ true → tail ≡ padded_bytes 123 bytes
     → whole_lines w ++ (bytes_line CtaNone (other ∷ []) ∷ tail_line tail ∷ []) ≡ (whole_lines w ++ (bytes_line CtaNone (flags ∷ []) ∷ [])) ++ bytes_line Tail bytes ∷ []
-bare_told w flags other bytes tail f h e =
+bare_reported w flags other bytes tail f h e =
     ap (λ x. whole_lines w ++ (bytes_line CtaNone (x ∷ []) ∷ tail_line tail ∷ [])) f
     ∙ ap (λ l. whole_lines w ++ (bytes_line CtaNone (flags ∷ []) ∷ l ∷ [])) (same_tail 123 bytes tail h e)
     ∙ sym (append_assoc (whole_lines w) (bytes_line CtaNone (flags ∷ []) ∷ []) (bytes_line Tail bytes ∷ []))

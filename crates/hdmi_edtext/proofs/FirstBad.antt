@@ -23,11 +23,11 @@ pub record Rest (e : Edid) (ls : List Line) (more : List (List ℕ)) : Type 0 wh
   pub texts : map line_text rest ≡ more
 
 -- only these lines have these texts
-abbrev pub AreTold : List Line → Type 0
-AreTold ls = (e : Edid) (more : List (List ℕ)) → line_texts e ≡ map line_text ls ++ more → Rest e ls more
+abbrev pub AreReported : List Line → Type 0
+AreReported ls = (e : Edid) (more : List (List ℕ)) → line_texts e ≡ map line_text ls ++ more → Rest e ls more
 
-pub no_lines_told : (ls : List Line) → ls ≡ [] → AreTold ls
-no_lines_told ls h e more k = record { rest = edid_lines e; lines = ap (λ t. t ++ edid_lines e) (sym h); texts = k ∙ ap (λ t. map line_text t ++ more) h }
+pub no_lines_reported : (ls : List Line) → ls ≡ [] → AreReported ls
+no_lines_reported ls h e more k = record { rest = edid_lines e; lines = ap (λ t. t ++ edid_lines e) (sym h); texts = k ∙ ap (λ t. map line_text t ++ more) h }
 
 -- the line that reads so, and what follows it
 pub record Next (e : Edid) (ls : List Line) (line : List ℕ) (more : List (List ℕ)) : Type 0 where
@@ -38,8 +38,8 @@ pub record Next (e : Edid) (ls : List Line) (line : List ℕ) (more : List (List
   pub texts : map line_text later ≡ more
   pub formed : Formed here
 
-pub next_of : (e : Edid) (ls : List Line) (line : List ℕ) (more : List (List ℕ)) → AreTold ls → line_texts e ≡ map line_text ls ++ line ∷ more → Next e ls line more
-next_of e ls line more told h = let r = told e (line ∷ more) h in go r.rest r.lines r.texts
+pub next_of : (e : Edid) (ls : List Line) (line : List ℕ) (more : List (List ℕ)) → AreReported ls → line_texts e ≡ map line_text ls ++ line ∷ more → Next e ls line more
+next_of e ls line more reported h = let r = reported e (line ∷ more) h in go r.rest r.lines r.texts
   where
     go : (rest : List Line) → edid_lines e ≡ ls ++ rest → map line_text rest ≡ line ∷ more → Next e ls line more
     go [] k t = let len = ap length t in absurd (omega (arith, len))
@@ -56,12 +56,12 @@ some_same : (a b : Line) → Path (Option Line) (Some a) (Some b) → a ≡ b
 some_same a b e = cc
 
 -- one line more is told
-pub one_more_told : (ls new : List Line) (l : Line) (line : List ℕ) → AreTold ls → new ≡ ls ++ l ∷ [] → line_text l ≡ line
-    → ((k : Line) → Formed k → line_text k ≡ line → Path (Option Line) (Some l) (Some k)) → AreTold new
-one_more_told ls new l line told is text only e more h =
+pub one_more_reported : (ls new : List Line) (l : Line) (line : List ℕ) → AreReported ls → new ≡ ls ++ l ∷ [] → line_text l ≡ line
+    → ((k : Line) → Formed k → line_text k ≡ line → Path (Option Line) (Some l) (Some k)) → AreReported new
+one_more_reported ls new l line reported is text only e more h =
     let whole = h ∙ ap (λ t. map line_text t ++ more) is ∙ ap (λ t. t ++ more) (map-append line_text ls (l ∷ [])) ∙ append_assoc (map line_text ls) (line_text l ∷ []) more
     ∙ ap (λ t. map line_text ls ++ t ∷ more) text in
-    let n = next_of e ls line more told whole in
+    let n = next_of e ls line more reported whole in
     let same = some_same l n.here (only n.here n.formed n.text) in
     record {
       rest = n.later;
@@ -78,8 +78,8 @@ lines_so ls new l line all more h is text =
 pub count_so : (ls new : List Line) (l : Line) (n : ℕ) → n ≡ length ls + 1 → new ≡ ls ++ l ∷ [] → n + 1 ≡ length new + 1
 count_so ls new l n h is = let len = length-append ls (l ∷ []) in let same = ap length is in omega (arith, len, same, h)
 
-pub few_told : (d : EdidDraft) → length (draft_lines d) ≤ 398
-few_told d =
+pub few_reported : (d : EdidDraft) → length (draft_lines d) ≤ 398
+few_reported d =
     let l = live d in
     let same = ap length l.1.1 in
     omega (arith, same, few_parts l.0.base l.0.extensions.items l.0.few, length-append (draft_lines d) l.1.0)
@@ -91,15 +91,15 @@ pub counted : (ls : List Line) (n : ℕ) → n ≡ length ls + 1 → n ≡ lengt
 counted ls n h = let len = length-map ls line_text in omega (arith, len, h)
 
 -- where no EDID goes on so, a line is bad
-pub bad_by : (d : EdidDraft) (all : List (List ℕ)) (line : List ℕ) (more : List (List ℕ)) (n : ℕ) → AreTold (draft_lines d) → all ≡ map line_text (draft_lines d) ++ line ∷ more
+pub bad_by : (d : EdidDraft) (all : List (List ℕ)) (line : List ℕ) (more : List (List ℕ)) (n : ℕ) → AreReported (draft_lines d) → all ≡ map line_text (draft_lines d) ++ line ∷ more
     → n ≡ length (draft_lines d) + 1 → ((e : Edid) (later : List (List ℕ)) → Next e (draft_lines d) line later → ⊥) → IsFirstBad all n
-bad_by d all line more n told h count none = record {
+bad_by d all line more n reported h count none = record {
   before = map line_text (draft_lines d);
   after = line ∷ more;
   all = h;
   count = counted (draft_lines d) n count;
   some = some_begins d;
-  none = λ e later k. none e later (next_of e (draft_lines d) line later told k);
+  none = λ e later k. none e later (next_of e (draft_lines d) line later reported k);
 }
 
 -- no line reads so
@@ -116,23 +116,23 @@ pub misplaced : (ls : List Line) (line : List ℕ) (l : Line) → ((k : Line) �
 misplaced ls line l only not e later x =
     not (e, (x.later, x.lines ∙ ap (λ k. ls ++ k ∷ x.later) (sym (some_same l x.here (only x.here x.formed x.text)))))
 
-pub all_told : (e : Edid) (ls : List Line) → AreTold ls → line_texts e ≡ map line_text ls → edid_lines e ≡ ls
-all_told e ls told h = let r = told e [] (h ∙ sym (append-nil (map line_text ls))) in go r.rest r.lines r.texts
+pub all_reported : (e : Edid) (ls : List Line) → AreReported ls → line_texts e ≡ map line_text ls → edid_lines e ≡ ls
+all_reported e ls reported h = let r = reported e [] (h ∙ sym (append-nil (map line_text ls))) in go r.rest r.lines r.texts
   where
     go : (rest : List Line) → edid_lines e ≡ ls ++ rest → map line_text rest ≡ [] → edid_lines e ≡ ls
     go [] k t = k ∙ append-nil ls
     go (l ∷ rest) k t = let len = ap length t in absurd (omega (arith, len))
 
 -- the text ends too early
-pub unfinished : (d : EdidDraft) (all : List (List ℕ)) (n : ℕ) → AreTold (draft_lines d) → all ≡ map line_text (draft_lines d) ++ []
+pub unfinished : (d : EdidDraft) (all : List (List ℕ)) (n : ℕ) → AreReported (draft_lines d) → all ≡ map line_text (draft_lines d) ++ []
     → n ≡ length (draft_lines d) + 1 → ((e : Edid) → edid_lines e ≡ draft_lines d → ⊥) → IsFirstBad all n
-unfinished d all n told h count none = record {
+unfinished d all n reported h count none = record {
   before = map line_text (draft_lines d);
   after = [];
   all = h;
   count = counted (draft_lines d) n count;
   some = some_begins d;
-  none = λ e k. none e (all_told e (draft_lines d) told k);
+  none = λ e k. none e (all_reported e (draft_lines d) reported k);
 }
 
 -- an accepted text has no bad line
@@ -151,6 +151,6 @@ pub found_text : (a : Edid) (ls : List Line) (text : List ℕ) → edid_lines a 
 found_text a ls text h k =
     ap (flat_map line_text) h ∙ sym (joined_lines ls) ∙ ap (flat_map (λ x. x)) (sym (k ∙ append-nil (map line_text ls))) ∙ joined text
 
-pub only_one : (a : Edid) (ls : List Line) (text : List ℕ) → AreTold ls → edid_lines a ≡ ls → lines_with_feeds text ≡ map line_text ls ++ [] → (e : Edid) → text ≡ edid_text e → a ≡ e
-only_one a ls text told h k e is =
-    one_lines a e (h ∙ sym (all_told e ls told (cut_again e text is ∙ k ∙ append-nil (map line_text ls))))
+pub only_one : (a : Edid) (ls : List Line) (text : List ℕ) → AreReported ls → edid_lines a ≡ ls → lines_with_feeds text ≡ map line_text ls ++ [] → (e : Edid) → text ≡ edid_text e → a ≡ e
+only_one a ls text reported h k e is =
+    one_lines a e (h ∙ sym (all_reported e ls reported (cut_again e text is ∙ k ∙ append-nil (map line_text ls))))

@@ -63,14 +63,14 @@ like_of ls w front k l ys f is size less first a h =
 record Pick (w : Keyword) (words : List (List ℕ)) (k i : ℕ) : Type 0 where
   n : ℕ
   fits : number_fits w i n ≡ true
-  told : i < k → get_or words i [] ≡ decimal n
+  reported : i < k → get_or words i [] ≡ decimal n
 
 pick : (w : Keyword) (words : List (List ℕ)) (k i d : ℕ) → (i < k → NumberAt w i (get_or words i [])) → number_fits w i d ≡ true → Pick w words k i
 pick w words k i d f ok = cases (nat_lt i k) refl
   where
     cases : (v : Bool) → nat_lt i k ≡ v → Pick w words k i
-    cases true e = let x = f (ltb-true _ _ e) in record { n = x.0; fits = x.1.1; told = λ h. sym x.1.0 }
-    cases false e = record { n = d; fits = ok; told = λ h. absurd (clash (sym e ∙ is_less i k h)) }
+    cases true e = let x = f (ltb-true _ _ e) in record { n = x.0; fits = x.1.1; reported = λ h. sym x.1.0 }
+    cases false e = record { n = d; fits = ok; reported = λ h. absurd (clash (sym e ∙ is_less i k h)) }
 
 small_byte : (n : ℕ) → nat_le n 255 ≡ true → n < 256
 small_byte n h = let less = leb-true _ _ h in omega (arith, less)
@@ -92,7 +92,7 @@ made_like b n k front at count first f less =
     let follows : Follows (take n (base_lines b)) l = other_base a b n l (subst (λ m. take (m + 1) (base_lines a) ≡ take m (base_lines b) ++ l ∷ []) (sym at) refl) in
     let good = follows_good (take n (base_lines b)) l follows in
     like_of (take n (base_lines b)) Made front k l (word_text Made ∷ decimal p.n ∷ decimal b.year ∷ []) follows refl (sym count) less
-    (ap (take k) (numbers_front Made (p.n ∷ b.year ∷ []) good.0.1)) ((λ h. first), (p.told, ((λ h. absurd (omega (arith, h, less, count))), tt))) (omega (arith, less, count))
+    (ap (take k) (numbers_front Made (p.n ∷ b.year ∷ []) good.0.1)) ((λ h. first), (p.reported, ((λ h. absurd (omega (arith, h, less, count))), tt))) (omega (arith, less, count))
 
 size_like : (b : Base) (n k : ℕ) (front : List ℕ) → n ≡ 6 → word_count front ≡ 3 → get_or (words_of front) 0 [] ≡ word_text Size → Told Size front k → k < word_count front → Like (take n (base_lines b)) Size front k
 size_like b n k front at count first f less =
@@ -108,7 +108,7 @@ size_like b n k front at count first f less =
     let follows : Follows (take n (base_lines b)) l = other_base a b n l (subst (λ m. take (m + 1) (base_lines a) ≡ take m (base_lines b) ++ l ∷ []) (sym at) refl) in
     let good = follows_good (take n (base_lines b)) l follows in
     like_of (take n (base_lines b)) Size front k l (word_text Size ∷ decimal p.n ∷ decimal b.height ∷ []) follows refl (sym count) less
-    (ap (take k) (numbers_front Size (p.n ∷ b.height ∷ []) good.0.1)) ((λ h. first), (p.told, ((λ h. absurd (omega (arith, h, less, count))), tt))) (omega (arith, less, count))
+    (ap (take k) (numbers_front Size (p.n ∷ b.height ∷ []) good.0.1)) ((λ h. first), (p.reported, ((λ h. absurd (omega (arith, h, less, count))), tt))) (omega (arith, less, count))
 
 ten_bits : (n : ℕ) → nat_le n 1023 ≡ true → n < 1024
 ten_bits n h = let less = leb-true _ _ h in omega (arith, less)
@@ -135,7 +135,7 @@ chroma_like b n k front at count first f less =
     let good = follows_good (take n (base_lines b)) l follows in
     like_of (take n (base_lines b)) Chroma front k l (word_text Chroma ∷ map decimal (chroma_numbers c)) follows refl (sym count) less
     (ap (take k) (numbers_front Chroma (chroma_numbers c) good.0.1))
-    ((λ h. first), (p1.told, (p2.told, (p3.told, (p4.told, (p5.told, (p6.told, (p7.told, ((λ h. absurd (omega (arith, h, less, count))), tt))))))))) (omega (arith, less, count))
+    ((λ h. first), (p1.reported, (p2.reported, (p3.reported, (p4.reported, (p5.reported, (p6.reported, (p7.reported, ((λ h. absurd (omega (arith, h, less, count))), tt))))))))) (omega (arith, less, count))
 
 never : (v : Bool) → not (v && false) ≡ true
 never true = refl
@@ -165,7 +165,7 @@ standard_like b n k front least most count first f less =
     let good = follows_good (take n (base_lines b)) l follows in
     like_of (take n (base_lines b)) Standard front k l (word_text Standard ∷ map decimal (standard_numbers s)) follows refl (sym count) less
     (ap (take k) (numbers_front Standard (standard_numbers s) good.0.1))
-    ((λ h. first), (p1.told, (p2.told, ((λ h. absurd (omega (arith, h, less, count))), tt)))) (omega (arith, less, count))
+    ((λ h. first), (p1.reported, (p2.reported, ((λ h. absurd (omega (arith, h, less, count))), tt)))) (omega (arith, less, count))
 
 up_to : (least n most : ℕ) → (nat_le least n && nat_le n most) ≡ true → n ≤ most
 up_to least n most h = leb-true _ _ (both (nat_le least n) (nat_le n most) h).1
@@ -241,10 +241,10 @@ timed front k f =
       agrees = λ first. (
         (λ h. first),
         (
-          p1.told,
+          p1.reported,
           (
-            p2.told,
-            (p3.told, (p4.told, (p5.told, (p6.told, (p7.told, (p8.told, (p9.told, (p10.told, (p11.told, (p12.told, (p13.told, tt))))))))))),
+            p2.reported,
+            (p3.reported, (p4.reported, (p5.reported, (p6.reported, (p7.reported, (p8.reported, (p9.reported, (p10.reported, (p11.reported, (p12.reported, (p13.reported, tt))))))))))),
           ),
         ),
       );

@@ -34,23 +34,23 @@ same_list : (fields : List ℕ → Fields) (w : Keyword) → ((xs : List ℕ) �
 same_list fields w back a b e = sym (back a) ∙ ap (λ l. list_in l.fields) e ∙ back b
 
 -- a value by its list is told by the line that has the list
-told : {A : Type 0} (f : A → List ℕ) (fields : List ℕ → Fields) (w : Keyword) → ((xs : List ℕ) → list_in (fields xs) ≡ xs) → (xs : List ℕ) (l : Line) (r : Option A)
+reported : {A : Type 0} (f : A → List ℕ) (fields : List ℕ → Fields) (w : Keyword) → ((xs : List ℕ) → list_in (fields xs) ≡ xs) → (xs : List ℕ) (l : Line) (r : Option A)
     → line_with w (fields xs) ≡ l → MatchOption r ((a : A) → f a ≡ xs → ⊥) (λ a. f a ≡ xs)
     → MatchOption r ((a : A) → line_with w (fields (f a)) ≡ l → ⊥) (λ a. line_with w (fields (f a)) ≡ l)
-told f fields w back xs l None is h = λ a e. h a (same_list fields w back (f a) xs (e ∙ sym is))
-told f fields w back xs l (Some a) is h = ap (λ ys. line_with w (fields ys)) h ∙ is
+reported f fields w back xs l None is h = λ a e. h a (same_list fields w back (f a) xs (e ∙ sym is))
+reported f fields w back xs l (Some a) is h = ap (λ ys. line_with w (fields ys)) h ∙ is
 
-pub told_letters : {A : Type 0} (f : A → List ℕ) (w : Keyword) (xs : List ℕ) (l : Line) (r : Option A) → letters_line w xs ≡ l
+pub reported_letters : {A : Type 0} (f : A → List ℕ) (w : Keyword) (xs : List ℕ) (l : Line) (r : Option A) → letters_line w xs ≡ l
     → MatchOption r ((a : A) → f a ≡ xs → ⊥) (λ a. f a ≡ xs) → MatchOption r ((a : A) → letters_line w (f a) ≡ l → ⊥) (λ a. letters_line w (f a) ≡ l)
-told_letters f w xs l r is h = told f (λ ys. Letters (record { items = ys })) w (λ ys. refl) xs l r is h
+reported_letters f w xs l r is h = reported f (λ ys. Letters (record { items = ys })) w (λ ys. refl) xs l r is h
 
-pub told_numbers : {A : Type 0} (f : A → List ℕ) (w : Keyword) (xs : List ℕ) (l : Line) (r : Option A) → numbers_line w xs ≡ l
+pub reported_numbers : {A : Type 0} (f : A → List ℕ) (w : Keyword) (xs : List ℕ) (l : Line) (r : Option A) → numbers_line w xs ≡ l
     → MatchOption r ((a : A) → f a ≡ xs → ⊥) (λ a. f a ≡ xs) → MatchOption r ((a : A) → numbers_line w (f a) ≡ l → ⊥) (λ a. numbers_line w (f a) ≡ l)
-told_numbers f w xs l r is h = told f (λ ys. Numbers (record { items = ys })) w (λ ys. refl) xs l r is h
+reported_numbers f w xs l r is h = reported f (λ ys. Numbers (record { items = ys })) w (λ ys. refl) xs l r is h
 
-pub told_quoted : {A : Type 0} (f : A → List ℕ) (w : Keyword) (xs : List ℕ) (l : Line) (r : Option A) → quoted_line w xs ≡ l
+pub reported_quoted : {A : Type 0} (f : A → List ℕ) (w : Keyword) (xs : List ℕ) (l : Line) (r : Option A) → quoted_line w xs ≡ l
     → MatchOption r ((a : A) → f a ≡ xs → ⊥) (λ a. f a ≡ xs) → MatchOption r ((a : A) → quoted_line w (f a) ≡ l → ⊥) (λ a. quoted_line w (f a) ≡ l)
-told_quoted f w xs l r is h = told f (λ ys. Quoted (record { items = ys })) w (λ ys. refl) xs l r is h
+reported_quoted f w xs l r is h = reported f (λ ys. Quoted (record { items = ys })) w (λ ys. refl) xs l r is h
 
 same_parts : (l : Line) (w : Keyword) (f : Fields) → l.word ≡ w → l.fields ≡ f → record { word = w; fields = f } ≡ l
 same_parts l w f e g = ap (λ x. record { word = x; fields = f }) (sym e) ∙ ap (λ y. record { word = l.word; fields = y }) (sym g)

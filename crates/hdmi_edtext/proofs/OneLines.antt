@@ -62,25 +62,25 @@ same_bytes : (w v : Keyword) (a b : List ℕ) → bytes_line w a ≡ bytes_line 
 same_bytes w v a b e = ap (λ l. bytes_in l.fields) e
 
 -- the bytes that a line's fields tell
-abbrev revision_told : Fields → List ℕ
-revision_told f = 1 ∷ (slice_index (letters_in f) 2 - 48) ∷ []
+abbrev revision_reported : Fields → List ℕ
+revision_reported f = 1 ∷ (slice_index (letters_in f) 2 - 48) ∷ []
 
-abbrev maker_told : Fields → List ℕ
-maker_told f = let xs = letters_in f in to_be_bytes w16 ((slice_index xs 0 - 64) * 1024 + (slice_index xs 1 - 64) * 32 + (slice_index xs 2 - 64))
+abbrev maker_reported : Fields → List ℕ
+maker_reported f = let xs = letters_in f in to_be_bytes w16 ((slice_index xs 0 - 64) * 1024 + (slice_index xs 1 - 64) * 32 + (slice_index xs 2 - 64))
 
-abbrev chroma_told : Fields → List ℕ
-chroma_told f =
+abbrev chroma_reported : Fields → List ℕ
+chroma_reported f =
     let n = numbers_in f in
     low_pairs (slice_index n 0) (slice_index n 1) (slice_index n 2) (slice_index n 3) ∷ low_pairs (slice_index n 4) (slice_index n 5) (slice_index n 6) (slice_index n 7) ∷
     (slice_index n 0 / 4) ∷ (slice_index n 1 / 4) ∷ (slice_index n 2 / 4) ∷ (slice_index n 3 / 4) ∷
     (slice_index n 4 / 4) ∷ (slice_index n 5 / 4) ∷ (slice_index n 6 / 4) ∷ (slice_index n 7 / 4) ∷ []
 
-abbrev standard_told : Fields → List ℕ
-standard_told (Numbers n) = (slice_index n.items 0 / 8 - 31) ∷ (slice_index n.items 1 * 64 + (slice_index n.items 2 - 60)) ∷ []
-standard_told fields = 1 ∷ 1 ∷ []
+abbrev standard_reported : Fields → List ℕ
+standard_reported (Numbers n) = (slice_index n.items 0 / 8 - 31) ∷ (slice_index n.items 1 * 64 + (slice_index n.items 2 - 60)) ∷ []
+standard_reported fields = 1 ∷ 1 ∷ []
 
-abbrev timing_told : List ℕ → ℕ → List ℕ
-timing_told n flags =
+abbrev timing_reported : List ℕ → ℕ → List ℕ
+timing_reported n flags =
     low (slice_index n 0) ∷ high (slice_index n 0) ∷
     low (slice_index n 1) ∷ low (slice_index n 2) ∷ nibbles (slice_index n 1) (slice_index n 2) ∷
     low (slice_index n 3) ∷ low (slice_index n 4) ∷ nibbles (slice_index n 3) (slice_index n 4) ∷
@@ -95,15 +95,15 @@ tag_of Name = 0xfc
 tag_of Text = 0xfe
 tag_of word = 0xff
 
-abbrev hex_told : Keyword → List ℕ → List ℕ
-hex_told Range bytes = tagged_bytes 0xfd bytes
-hex_told word bytes = bytes
+abbrev hex_reported : Keyword → List ℕ → List ℕ
+hex_reported Range bytes = tagged_bytes 0xfd bytes
+hex_reported word bytes = bytes
 
-abbrev descriptor_told : Keyword → Fields → List ℕ
-descriptor_told word (Timed n flags) = timing_told n.items flags
-descriptor_told word (Quoted chars) = tagged_bytes (tag_of word) (0 ∷ text_bytes chars.items)
-descriptor_told word (Bytes bytes) = hex_told word bytes.items
-descriptor_told word fields = tagged_bytes 0x10 (replicate 14 0)
+abbrev descriptor_reported : Keyword → Fields → List ℕ
+descriptor_reported word (Timed n flags) = timing_reported n.items flags
+descriptor_reported word (Quoted chars) = tagged_bytes (tag_of word) (0 ∷ text_bytes chars.items)
+descriptor_reported word (Bytes bytes) = hex_reported word bytes.items
+descriptor_reported word fields = tagged_bytes 0x10 (replicate 14 0)
 
 abbrev number_of : Keyword → ℕ
 number_of Tag0 = 0
@@ -115,20 +115,20 @@ number_of Tag5 = 5
 number_of Tag6 = 6
 number_of word = 7
 
-abbrev block_told : Keyword → Fields → List ℕ
-block_told word (Bytes bytes) = (number_of word * 32 + length bytes.items) ∷ bytes.items
-block_told word (Address p bytes) = (96 + (5 + length bytes.items)) ∷ 3 ∷ 12 ∷ 0 ∷ p.high ∷ p.low ∷ bytes.items
-block_told word fields = []
+abbrev block_reported : Keyword → Fields → List ℕ
+block_reported word (Bytes bytes) = (number_of word * 32 + length bytes.items) ∷ bytes.items
+block_reported word (Address p bytes) = (96 + (5 + length bytes.items)) ∷ 3 ∷ 12 ∷ 0 ∷ p.high ∷ p.low ∷ bytes.items
+block_reported word fields = []
 
 revision_is : (r : Revision) → revision_bytes r ≡ 1 ∷ (slice_index (revision_letters r) 2 - 48) ∷ []
 revision_is Three = refl
 revision_is Four = refl
 
-standard_is : (s : Option StandardTiming) → standard_bytes s ≡ standard_told (standard_line s).fields
+standard_is : (s : Option StandardTiming) → standard_bytes s ≡ standard_reported (standard_line s).fields
 standard_is None = refl
 standard_is (Some s) = refl
 
-descriptor_is : (d : Descriptor) → descriptor_bytes d ≡ descriptor_told (descriptor_line d).word (descriptor_line d).fields
+descriptor_is : (d : Descriptor) → descriptor_bytes d ≡ descriptor_reported (descriptor_line d).word (descriptor_line d).fields
 descriptor_is (OfTiming t) = refl
 descriptor_is (OfName t) = refl
 descriptor_is (OfText t) = refl
@@ -154,14 +154,14 @@ hdmi_is p h = at p (long_hdmi p h) (both _ _ h)
     at (a ∷ b ∷ c ∷ []) k f = absurd (omega arith)
     at (a ∷ b ∷ c ∷ d ∷ []) k f = absurd (omega arith)
 
-block_is : (b : DataBlock) → block_bytes b ≡ block_told (block_line b).word (block_line b).fields
+block_is : (b : DataBlock) → block_bytes b ≡ block_reported (block_line b).word (block_line b).fields
 block_is b = at b.kind b.payload.items
   where
-    vendor : (v : Bool) (p : List ℕ) → has_identifier p ≡ v → (96 + length p) ∷ p ≡ block_told (cond v (address_line p) (bytes_line Vendor p)).word (cond v (address_line p) (bytes_line Vendor p)).fields
+    vendor : (v : Bool) (p : List ℕ) → has_identifier p ≡ v → (96 + length p) ∷ p ≡ block_reported (cond v (address_line p) (bytes_line Vendor p)).word (cond v (address_line p) (bytes_line Vendor p)).fields
     vendor true p e = let same = hdmi_is p e in let len = ap length same in ap (λ n. n ∷ p) (omega (arith, len)) ∙ ap (λ t. (96 + (5 + length (drop 5 p))) ∷ t) (sym same)
     vendor false p e = refl
 
-    at : (k : BlockKind) (p : List ℕ) → (kind_number k * 32 + length p) ∷ p ≡ block_told (payload_line k p).word (payload_line k p).fields
+    at : (k : BlockKind) (p : List ℕ) → (kind_number k * 32 + length p) ∷ p ≡ block_reported (payload_line k p).word (payload_line k p).fields
     at OfTag0 p = refl
     at OfAudio p = refl
     at OfVideo p = refl
@@ -172,13 +172,13 @@ block_is b = at b.kind b.payload.items
     at OfExtended p = refl
 
 -- what is reported by a list's lines
-told : {X : Type 0} (f : X → Line) (g : X → List ℕ) (t : Keyword → Fields → List ℕ) → ((x : X) → g x ≡ t (f x).word (f x).fields) → (xs ys : List X) → map f xs ≡ map f ys → flat_map g xs ≡ flat_map g ys
-told f g t is [] [] e = refl
-told f g t is [] (y ∷ ys) e = let len = ap length e in absurd (omega (arith, len))
-told f g t is (x ∷ xs) [] e = let len = ap length e in absurd (omega (arith, len))
-told f g t is (x ∷ xs) (y ∷ ys) e =
+reported : {X : Type 0} (f : X → Line) (g : X → List ℕ) (t : Keyword → Fields → List ℕ) → ((x : X) → g x ≡ t (f x).word (f x).fields) → (xs ys : List X) → map f xs ≡ map f ys → flat_map g xs ≡ flat_map g ys
+reported f g t is [] [] e = refl
+reported f g t is [] (y ∷ ys) e = let len = ap length e in absurd (omega (arith, len))
+reported f g t is (x ∷ xs) [] e = let len = ap length e in absurd (omega (arith, len))
+reported f g t is (x ∷ xs) (y ∷ ys) e =
     let first : f x ≡ f y = ap (λ ls. get_or ls 0 (f x)) e in
-    let rest = told f g t is xs ys (ap (λ ls. drop 1 ls) e) in
+    let rest = reported f g t is xs ys (ap (λ ls. drop 1 ls) e) in
     ap (λ h. h ++ flat_map g xs) (is x ∙ ap (λ l. t l.word l.fields) first ∙ sym (is y)) ∙ ap (λ r. g y ++ r) rest
 
 one_more : {X : Type 0} (x y : X) (xs ys : List X) → x ≡ y → xs ≡ ys → x ∷ xs ≡ y ∷ ys
@@ -198,8 +198,8 @@ product_same a b e =
     = λ n k. field (λ f. slice_index (numbers_in f) k) d n (head_lines a) (head_lines b) e in
     let byte : (n : ℕ) → slice_index (bytes_in (get_or (head_lines a) n d).fields) 0 ≡ slice_index (bytes_in (get_or (head_lines b) n d).fields) 0
     = λ n. field (λ f. slice_index (bytes_in f) 0) d n (head_lines a) (head_lines b) e in
-    let maker : maker_bytes a.maker ≡ maker_bytes b.maker = field maker_told d 1 (head_lines a) (head_lines b) e in
-    let revision : revision_bytes a.revision ≡ revision_bytes b.revision = revision_is a.revision ∙ field revision_told d 0 (head_lines a) (head_lines b) e ∙ sym (revision_is b.revision) in
+    let maker : maker_bytes a.maker ≡ maker_bytes b.maker = field maker_reported d 1 (head_lines a) (head_lines b) e in
+    let revision : revision_bytes a.revision ≡ revision_bytes b.revision = revision_is a.revision ∙ field revision_reported d 0 (head_lines a) (head_lines b) e ∙ sym (revision_is b.revision) in
     let product : a.product ≡ b.product = one 2 0 in
     let serial : a.serial ≡ b.serial = one 3 0 in
     let week : a.week ≡ b.week = one 4 0 in
@@ -217,10 +217,10 @@ display_same : (a b : Base) → head_lines a ≡ head_lines b → map standard_l
     → a.extensions ≡ b.extensions → display_bytes a ≡ display_bytes b
 display_same a b e f g h =
     let d = standard_line None in
-    let chroma : chroma_bytes a.chroma ≡ chroma_bytes b.chroma = field chroma_told d 9 (head_lines a) (head_lines b) e in
+    let chroma : chroma_bytes a.chroma ≡ chroma_bytes b.chroma = field chroma_reported d 9 (head_lines a) (head_lines b) e in
     let established : a.established ≡ b.established = field bytes_in d 10 (head_lines a) (head_lines b) e in
-    let standard = told standard_line standard_bytes (λ w f. standard_told f) standard_is a.standard b.standard f in
-    let descriptors = told descriptor_line descriptor_bytes descriptor_told descriptor_is a.descriptors b.descriptors g in
+    let standard = reported standard_line standard_bytes (λ w f. standard_reported f) standard_is a.standard b.standard f in
+    let descriptors = reported descriptor_line descriptor_bytes descriptor_reported descriptor_is a.descriptors b.descriptors g in
     two_parts _ _ _ _ chroma (two_parts _ _ _ _ established (two_parts _ _ _ _ standard (two_parts _ _ _ _ descriptors (ap (λ n. n ∷ []) h))))
 
 same_base : (a b : Base) → base_lines a ≡ base_lines b → a.extensions ≡ b.extensions → base_bytes a ≡ base_bytes b
@@ -241,7 +241,7 @@ same_blocks (c ∷ cs) [] ts (u ∷ us) x y e = absurd (not_timing c u (ap (λ l
 same_blocks (c ∷ cs) (b ∷ bs) ts us x y e =
     let first : block_line c ≡ block_line b = ap (λ ls. get_or ls 0 (tail_line x)) e in
     let rest = same_blocks cs bs ts us x y (ap (λ ls. drop 1 ls) e) in
-    (two_parts _ _ _ _ (block_is c ∙ ap (λ l. block_told l.word l.fields) first ∙ sym (block_is b)) rest.0, rest.1)
+    (two_parts _ _ _ _ (block_is c ∙ ap (λ l. block_reported l.word l.fields) first ∙ sym (block_is b)) rest.0, rest.1)
 
 same_timings : (ts us : List DetailedTiming) (x y : List ℕ) → body_lines [] ts x [] ≡ body_lines [] us y [] → (flat_map timing_bytes ts ≡ flat_map timing_bytes us) × (tail_line x ≡ tail_line y)
 same_timings [] [] x y e = (refl, ap (λ ls. get_or ls 0 (tail_line x)) e)
@@ -250,7 +250,7 @@ same_timings (t ∷ ts) [] x y e = absurd (timing_not_tail t y (ap (λ ls. get_o
 same_timings (t ∷ ts) (u ∷ us) x y e =
     let first : timing_line t ≡ timing_line u = ap (λ ls. get_or ls 0 (tail_line x)) e in
     let rest = same_timings ts us x y (ap (λ ls. drop 1 ls) e) in
-    (two_parts _ _ _ _ (ap (λ l. descriptor_told l.word l.fields) first) rest.0, rest.1)
+    (two_parts _ _ _ _ (ap (λ l. descriptor_reported l.word l.fields) first) rest.0, rest.1)
 
 same_tails : (x y : List ℕ) → length x ≡ length y → tail_line x ≡ tail_line y → x ≡ y
 same_tails x y h e = sym (padded_trimmed x) ∙ ap (λ n. padded_bytes n (bytes_without_zeros x)) h ∙ ap (padded_bytes (length y)) (same_bytes _ _ _ _ e) ∙ padded_trimmed y

@@ -34,7 +34,7 @@ fn explanation(
     let rule = asked(finding);
     match values(alloc, finding, base, extensions)? {
         None => format!(in alloc; "{line}  {rule}\n"),
-        Some(told) => format!(in alloc; "{line}  {rule}\n  here: {told}\n"),
+        Some(reported) => format!(in alloc; "{line}  {rule}\n  here: {reported}\n"),
     }
 }
 

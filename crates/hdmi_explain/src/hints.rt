@@ -55,7 +55,7 @@ pub fn first_overrun(extensions: &[Ext]) -> Option<u8>
 }
 
 /// Why no HDMI block is found in an extension that has none.
-fn told_of(ext: &Ext) -> &'static str {
+fn reported_of(ext: &Ext) -> &'static str {
     match ext {
         Ext::Cta(_) => "a CTA-861 block, no data block of which is an HDMI block",
         Ext::Bare(_) => "a CTA-861 block without data blocks",
@@ -92,8 +92,8 @@ pub fn explain_no_hdmi(alloc: Global, bytes: &[u8]) -> Result<String, AllocError
     }
     let mut number = 1_u8;
     for ext in extensions.as_slice() {
-        let told = told_of(ext);
-        let line = format!(in alloc; "extension {number} is {told}\n")?;
+        let reported = reported_of(ext);
+        let line = format!(in alloc; "extension {number} is {reported}\n")?;
         text.push_str(line.as_str())?;
         number = number.saturating_add(1);
     }

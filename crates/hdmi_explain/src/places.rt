@@ -21,7 +21,7 @@ fn blocks_of(ext: &Ext) -> &[DataBlock] {
 }
 
 /// The first descriptor that is all zeros, from 1.
-pub fn empty_told(alloc: Global, base: &Base) -> Result<Option<String>, AllocError> {
+pub fn empty_reported(alloc: Global, base: &Base) -> Result<Option<String>, AllocError> {
     let mut number = 0_u8;
     for descriptor in &base.descriptors {
         number = number.saturating_add(1);
@@ -41,7 +41,7 @@ fn is_ill_unused(standard: Option<StandardTiming>) -> bool {
 }
 
 /// The first standard timing that stands for none in another form than 01 01, from 1, and its bytes.
-pub fn unused_told(alloc: Global, base: &Base) -> Result<Option<String>, AllocError> {
+pub fn unused_reported(alloc: Global, base: &Base) -> Result<Option<String>, AllocError> {
     let mut number = 0_u8;
     for standard in &base.standard {
         number = number.saturating_add(1);
@@ -56,7 +56,7 @@ pub fn unused_told(alloc: Global, base: &Base) -> Result<Option<String>, AllocEr
 }
 
 /// The first extension with something else than dummy descriptors and zeros after its timings, from 1.
-pub fn padding_told(alloc: Global, extensions: &[Ext]) -> Result<Option<String>, AllocError> {
+pub fn padding_reported(alloc: Global, extensions: &[Ext]) -> Result<Option<String>, AllocError> {
     let mut number = 0_u8;
     for one in extensions.chunks(1) {
         number = number.saturating_add(1);
@@ -68,7 +68,7 @@ pub fn padding_told(alloc: Global, extensions: &[Ext]) -> Result<Option<String>,
 }
 
 /// The length of the first speaker block that is too short or too long, or that there is none.
-pub fn speakers_told(alloc: Global, extensions: &[Ext]) -> Result<Option<String>, AllocError> {
+pub fn speakers_reported(alloc: Global, extensions: &[Ext]) -> Result<Option<String>, AllocError> {
     for ext in extensions {
         for block in blocks_of(ext) {
             let count = block.payload.len();
@@ -91,7 +91,7 @@ fn fixed_range(block: &DataBlock) -> Option<u8> {
     }
 }
 
-pub fn capability_told(alloc: Global, extensions: &[Ext]) -> Result<Option<String>, AllocError> {
+pub fn capability_reported(alloc: Global, extensions: &[Ext]) -> Result<Option<String>, AllocError> {
     for ext in extensions {
         for block in blocks_of(ext) {
             if let Some(byte) = fixed_range(block) {
@@ -115,7 +115,7 @@ fn fast_clock(block: &DataBlock) -> Option<u16> {
     }
 }
 
-pub fn tmds_told(alloc: Global, extensions: &[Ext]) -> Result<Option<String>, AllocError> {
+pub fn tmds_reported(alloc: Global, extensions: &[Ext]) -> Result<Option<String>, AllocError> {
     for ext in extensions {
         for block in blocks_of(ext) {
             if let Some(clock) = fast_clock(block) {

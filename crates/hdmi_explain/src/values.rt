@@ -2,7 +2,7 @@
 ghost use Rattle.std.specs.Prelude.{◌≤◌, length};
 
 use crate::places::{
-    capability_told, empty_told, padding_told, speakers_told, tmds_told, unused_told,
+    capability_reported, empty_reported, padding_reported, speakers_reported, tmds_reported, unused_reported,
 };
 use hdmi_check::{Finding, Rule, TimingRule};
 use hdmi_core::Phys;
@@ -27,7 +27,7 @@ fn address_of(extensions: &[Ext]) -> Option<Phys> {
     None
 }
 
-fn address_told(alloc: Global, extensions: &[Ext]) -> Result<Option<String>, AllocError> {
+fn address_reported(alloc: Global, extensions: &[Ext]) -> Result<Option<String>, AllocError> {
     match address_of(extensions) {
         None => Ok(None),
         Some(phys) => {
@@ -38,7 +38,7 @@ fn address_told(alloc: Global, extensions: &[Ext]) -> Result<Option<String>, All
 }
 
 /// The flags of each CTA block with data blocks.
-fn flags_told(alloc: Global, extensions: &[Ext]) -> Result<Option<String>, AllocError> {
+fn flags_reported(alloc: Global, extensions: &[Ext]) -> Result<Option<String>, AllocError> {
     let mut text = String::from_str(alloc, "flags")?;
     for ext in extensions {
         if let Ext::Cta(cta) = ext {
@@ -51,7 +51,7 @@ fn flags_told(alloc: Global, extensions: &[Ext]) -> Result<Option<String>, Alloc
 }
 
 /// The greatest count of native timings, and how many timings there are.
-fn counts_told(alloc: Global, base: &Base, extensions: &[Ext]) -> Result<Option<String>, AllocError>
+fn counts_reported(alloc: Global, base: &Base, extensions: &[Ext]) -> Result<Option<String>, AllocError>
     requires { length extensions.now ≤ 3 }
 {
     let mut native = 0;
@@ -73,7 +73,7 @@ fn other_than(picture: Picture, others: &[Picture]) -> Option<Picture> {
 }
 
 /// Two pictures of two sizes.
-fn sizes_told(alloc: Global, base: &Base, extensions: &[Ext]) -> Result<Option<String>, AllocError>
+fn sizes_reported(alloc: Global, base: &Base, extensions: &[Ext]) -> Result<Option<String>, AllocError>
     requires { length extensions.now ≤ 3 }
 {
     let timings = timings_of(base, extensions);
@@ -96,7 +96,7 @@ fn count_of(codes: &[u8], code: u8) -> usize {
 }
 
 /// The first code that stands more than once.
-fn repeated_told(alloc: Global, extensions: &[Ext]) -> Result<Option<String>, AllocError>
+fn repeated_reported(alloc: Global, extensions: &[Ext]) -> Result<Option<String>, AllocError>
     requires { length extensions.now ≤ 3 }
 {
     let codes = video_codes(extensions);
@@ -109,7 +109,7 @@ fn repeated_told(alloc: Global, extensions: &[Ext]) -> Result<Option<String>, Al
 }
 
 /// The first range limits whose greatest rate is below the least.
-fn limits_told(alloc: Global, base: &Base) -> Result<Option<String>, AllocError> {
+fn limits_reported(alloc: Global, base: &Base) -> Result<Option<String>, AllocError> {
     for descriptor in &base.descriptors {
         if let Descriptor::Range(limits) = descriptor {
             let fields = field_span(base.revision, limits);
@@ -125,7 +125,7 @@ fn limits_told(alloc: Global, base: &Base) -> Result<Option<String>, AllocError>
 }
 
 /// The values that break a rule for an EDID, where they are few.
-fn told_of_edid(
+fn reported_of_edid(
     alloc: Global,
     rule: Rule,
     base: &Base,
@@ -138,7 +138,7 @@ fn told_of_edid(
             let features = base.features;
             Ok(Some(format!(in alloc; "features {features:02x}")?))
         }
-        Rule::LimitsOrder => limits_told(alloc, base),
+        Rule::LimitsOrder => limits_reported(alloc, base),
         Rule::Week => {
             let week = base.week;
             Ok(Some(format!(in alloc; "week {week}")?))
@@ -151,17 +151,17 @@ fn told_of_edid(
             let count = base.extensions;
             Ok(Some(format!(in alloc; "{count} extensions")?))
         }
-        Rule::VideoCodeOnce => repeated_told(alloc, extensions),
-        Rule::NativeCount => counts_told(alloc, base, extensions),
-        Rule::NativeSize => sizes_told(alloc, base, extensions),
-        Rule::Underscan | Rule::BasicAudio => flags_told(alloc, extensions),
-        Rule::NoEmptyDescriptor => empty_told(alloc, base),
-        Rule::UnusedStandard => unused_told(alloc, base),
-        Rule::Speakers => speakers_told(alloc, extensions),
-        Rule::Padding => padding_told(alloc, extensions),
-        Rule::RgbRange => capability_told(alloc, extensions),
-        Rule::TmdsClock => tmds_told(alloc, extensions),
-        Rule::Address => address_told(alloc, extensions),
+        Rule::VideoCodeOnce => repeated_reported(alloc, extensions),
+        Rule::NativeCount => counts_reported(alloc, base, extensions),
+        Rule::NativeSize => sizes_reported(alloc, base, extensions),
+        Rule::Underscan | Rule::BasicAudio => flags_reported(alloc, extensions),
+        Rule::NoEmptyDescriptor => empty_reported(alloc, base),
+        Rule::UnusedStandard => unused_reported(alloc, base),
+        Rule::Speakers => speakers_reported(alloc, extensions),
+        Rule::Padding => padding_reported(alloc, extensions),
+        Rule::RgbRange => capability_reported(alloc, extensions),
+        Rule::TmdsClock => tmds_reported(alloc, extensions),
+        Rule::Address => address_reported(alloc, extensions),
         Rule::OneHdmi => {
             let count = hdmi_count(extensions);
             Ok(Some(format!(in alloc; "{count} HDMI blocks")?))
@@ -171,13 +171,13 @@ fn told_of_edid(
 }
 
 /// The clock in MHz to two places.
-fn clock_told(alloc: Global, timing: &Timing) -> Result<String, AllocError> {
+fn clock_reported(alloc: Global, timing: &Timing) -> Result<String, AllocError> {
     let (whole, part) = (timing.clock / UNITS_A_MHZ, timing.clock % UNITS_A_MHZ);
     format!(in alloc; "clock {whole}.{part:02} MHz")
 }
 
 /// The first field that is 0 and that a picture needs.
-fn zero_told(alloc: Global, timing: &Timing) -> Result<String, AllocError> {
+fn zero_reported(alloc: Global, timing: &Timing) -> Result<String, AllocError> {
     let name = if timing.horizontal_active == 0 {
         "horizontal picture"
     } else if timing.horizontal_blanking == 0 {
@@ -199,7 +199,7 @@ fn zero_told(alloc: Global, timing: &Timing) -> Result<String, AllocError> {
 }
 
 /// What is taken from the blanking, and the blanking.
-fn blanking_told(
+fn blanking_reported(
     alloc: Global,
     blanking: u16,
     offset: u16,
@@ -211,7 +211,7 @@ fn blanking_told(
     )
 }
 
-fn size_told(alloc: Global, base: &Base, timing: &Timing) -> Result<String, AllocError> {
+fn size_reported(alloc: Global, base: &Base, timing: &Timing) -> Result<String, AllocError> {
     let (width, height) = (timing.width, timing.height);
     let (across, up) = (base.width, base.height);
     format!(in alloc; "image {width} x {height} mm, display {across} x {up} cm")
@@ -226,7 +226,7 @@ fn parts_of(count: u64, per: u64) -> (u64, u64) {
     (thousandths / 1000, thousandths % 1000)
 }
 
-fn rates_told(alloc: Global, timing: &Timing) -> Result<String, AllocError> {
+fn rates_reported(alloc: Global, timing: &Timing) -> Result<String, AllocError> {
     let pixels = u64::from(timing.horizontal_active) + u64::from(timing.horizontal_blanking);
     let lines = u64::from(timing.vertical_active) + u64::from(timing.vertical_blanking);
     let half_lines = if timing.flags < INTERLACED {
@@ -241,32 +241,32 @@ fn rates_told(alloc: Global, timing: &Timing) -> Result<String, AllocError> {
 }
 
 /// The values by which a timing breaks a rule.
-fn told_of_timing(
+fn reported_of_timing(
     alloc: Global,
     rule: TimingRule,
     base: &Base,
     timing: &Timing,
 ) -> Result<Option<String>, AllocError> {
     match rule {
-        TimingRule::Clock => Ok(Some(clock_told(alloc, timing)?)),
-        TimingRule::Fields => Ok(Some(zero_told(alloc, timing)?)),
-        TimingRule::HorizontalBackPorch => Ok(Some(blanking_told(
+        TimingRule::Clock => Ok(Some(clock_reported(alloc, timing)?)),
+        TimingRule::Fields => Ok(Some(zero_reported(alloc, timing)?)),
+        TimingRule::HorizontalBackPorch => Ok(Some(blanking_reported(
             alloc,
             timing.horizontal_blanking,
             timing.horizontal_sync_offset,
             timing.horizontal_sync_width,
             timing.horizontal_border,
         )?)),
-        TimingRule::VerticalBackPorch => Ok(Some(blanking_told(
+        TimingRule::VerticalBackPorch => Ok(Some(blanking_reported(
             alloc,
             timing.vertical_blanking,
             u16::from(timing.vertical_sync_offset),
             u16::from(timing.vertical_sync_width),
             timing.vertical_border,
         )?)),
-        TimingRule::SizeThere | TimingRule::SizeFits => Ok(Some(size_told(alloc, base, timing)?)),
+        TimingRule::SizeThere | TimingRule::SizeFits => Ok(Some(size_reported(alloc, base, timing)?)),
         TimingRule::WithinLimits | TimingRule::NearLimits => {
-            Ok(Some(rates_told(alloc, timing)?))
+            Ok(Some(rates_reported(alloc, timing)?))
         }
     }
 }
@@ -281,12 +281,12 @@ pub fn values(
     requires { length extensions.now ≤ 3 }
 {
     match finding {
-        Finding::Edid(rule) => told_of_edid(alloc, rule, base, extensions),
+        Finding::Edid(rule) => reported_of_edid(alloc, rule, base, extensions),
         Finding::Timing(number, rule) => {
             let timings = timings_of(base, extensions);
             match timings.get(usize::from(number.saturating_sub(1))) {
                 None => Ok(None),
-                Some(timing) => told_of_timing(alloc, rule, base, timing),
+                Some(timing) => reported_of_timing(alloc, rule, base, timing),
             }
         }
     }

@@ -4,7 +4,7 @@
 
 use hdmi_core::Writes;
 use hdminet_program::ProgramFault;
-use hdminet_program::program::{program, tell};
+use hdminet_program::program::{program, write_fault};
 use std::env;
 use std::process::ExitCode;
 
@@ -21,7 +21,7 @@ fn main(rt: HostRuntime) -> ExitCode {
             let out = Writes::new(rt.stdout());
             program(rt.alloc(), words, &mut input, out, &mut err).status
         }
-        Err(fault) => tell(&fault, &mut err),
+        Err(fault) => write_fault(&fault, &mut err),
     };
     ExitCode::from(status)
 }

@@ -1,6 +1,6 @@
 -- What is answered of a script with expectations (this profile's own).
 use Rattle.std.specs.Prelude.{◌≡◌, ℕ, List, [], Some}
-use Rattle.cec_check.specs.Check.{IsCheckTold, IsChecked}
+use Rattle.cec_check.specs.Check.{IsCheckReported, IsChecked}
 use Rattle.cec_check.specs.declared.checking.CheckError.{CheckError}
 use Rattle.cec_check.specs.declared.checking.CheckError.TheVariants.{Emulate, Expect, Write, Memory as NoMemory}
 use Rattle.cec_check.specs.declared.checking.Tally.{Tally}
@@ -39,4 +39,4 @@ IsReportPut topology script old new counts answer =
 -- there is no report, for the first cause, and nothing is put or counted
 abbrev pub IsCheckRefused : List ℕ → List ℕ → List ℕ → List ℕ → Counts → Counts → Answer → Type 0
 IsCheckRefused topology script old new before after answer =
-    (cause : CheckError) × IsCheckTold topology script cause × (answer ≡ check_answer cause) × (new ≡ old) × (after ≡ before)
+    (cause : CheckError) × IsCheckReported topology script cause × (answer ≡ check_answer cause) × (new ≡ old) × (after ≡ before)

@@ -4,7 +4,7 @@ use Rattle.cec_asm.specs.declared.script.ScriptCause.{ScriptCause}
 use Rattle.cec_asm.specs.declared.script.ScriptCause.TheVariants as scripts
 use Rattle.cec_asm.specs.declared.topology.TopologyCause.{TopologyCause}
 use Rattle.cec_asm.specs.declared.topology.TopologyCause.TheVariants as topologies
-use Rattle.cec_run.specs.Emulate.{IsEdgeTraceOf, IsTold, IsTraceOf}
+use Rattle.cec_run.specs.Emulate.{IsEdgeTraceOf, IsReported, IsTraceOf}
 use Rattle.cec_run.specs.declared.emulate.EmulateError.{EmulateError}
 use Rattle.cec_run.specs.declared.emulate.EmulateError.TheVariants as runs
 use Rattle.cec_run.specs.declared.run.Totals.{Totals}
@@ -62,4 +62,4 @@ IsEdgesPut topology script old new answer = (text : List ℕ) × (totals : Total
 
 -- there is no run, for the first cause, and nothing is put
 abbrev pub IsRunRefused : List ℕ → List ℕ → List ℕ → List ℕ → Answer → Type 0
-IsRunRefused topology script old new answer = (cause : EmulateError) × IsTold topology script cause × (answer ≡ run_answer cause) × (new ≡ old)
+IsRunRefused topology script old new answer = (cause : EmulateError) × IsReported topology script cause × (answer ≡ run_answer cause) × (new ≡ old)

@@ -21,11 +21,11 @@ abbrev pub AreReadingsPut : List ℕ → List ℕ → List ℕ → Answer → Ty
 AreReadingsPut text old new answer = (f : EdgeFile) × (file_of text ≡ Ok f) × IsPut (readings_text (file_readings f)) old new answer
 
 -- when each refusal comes
-abbrev pub IsWatchTold : List ℕ → WatchError → Type 0
-IsWatchTold text (Line line word) = file_of text ≡ Err (fault.Line line word)
-IsWatchTold text (Order line word) = file_of text ≡ Err (fault.Order line word)
-IsWatchTold text (Write count) = (f : EdgeFile) × (file_of text ≡ Ok f)
-IsWatchTold text NoMemory = ⊥
+abbrev pub IsWatchReported : List ℕ → WatchError → Type 0
+IsWatchReported text (Line line word) = file_of text ≡ Err (fault.Line line word)
+IsWatchReported text (Order line word) = file_of text ≡ Err (fault.Order line word)
+IsWatchReported text (Write count) = (f : EdgeFile) × (file_of text ≡ Ok f)
+IsWatchReported text NoMemory = ⊥
 
 abbrev pub IsWatchRefused : List ℕ → List ℕ → List ℕ → Answer → Type 0
-IsWatchRefused text old new answer = (cause : WatchError) × IsWatchTold text cause × (answer ≡ watch_answer cause) × (new ≡ old)
+IsWatchRefused text old new answer = (cause : WatchError) × IsWatchReported text cause × (answer ≡ watch_answer cause) × (new ≡ old)

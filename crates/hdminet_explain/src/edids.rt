@@ -21,8 +21,8 @@ pub fn add_length(draft: &mut Draft, length: usize) {
 // Why the EDID of some bytes has no HDMI block.
 fn add_lack_of(draft: &mut Draft, bytes: &[u8]) {
     match explain_no_hdmi(draft.alloc(), bytes) {
-        Ok(told) => {
-            for line in told.as_str().lines() {
+        Ok(reported) => {
+            for line in reported.as_str().lines() {
                 draft.add_line(line);
             }
         }

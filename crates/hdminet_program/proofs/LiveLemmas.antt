@@ -10,7 +10,7 @@ use Rattle.hdmi_core.proofs.CutShort.{Appends-trans}
 use Rattle.hdmi_core.specs.Lines.{lines_of}
 use Rattle.cec_incoming.specs.Incoming.{IsWhole, text_of_lines}
 use Rattle.cec_incoming.proofs.Coming.{lines_again}
-use Rattle.cec_dialogue.specs.Dialogue.{IsDone, first_told}
+use Rattle.cec_dialogue.specs.Dialogue.{IsDone, first_reported}
 use Rattle.hdminet_words.specs.declared.choice.Choice.TheVariants.{Live}
 use Rattle.hdminet_program.specs.Live.{IsLiveDone, Lives}
 use Rattle.hdminet_program.specs.Done.{IsServed}
@@ -18,13 +18,13 @@ use Rattle.hdminet_program.specs.Done.{IsServed}
 -- ---- the text
 
 -- over a sink that holds nothing
-alone : (known rest old new : Option (List ℕ)) (d : IsDone known rest old new) → IsDone known rest (Some []) (Some (first_told d.run.first ++ d.over.answers.text))
+alone : (known rest old new : Option (List ℕ)) (d : IsDone known rest old new) → IsDone known rest (Some []) (Some (first_reported d.run.first ++ d.over.answers.text))
 alone known rest old new d = record {
   run = record {
     topology = d.run.topology;
     first = d.run.first;
     mid = d.run.mid;
-    so_far = Some (first_told d.run.first);
+    so_far = Some (first_reported d.run.first);
     opened = d.run.opened;
     begins = d.run.begins;
     put = refl;
@@ -35,7 +35,7 @@ alone known rest old new d = record {
     answers = record {
       lines = d.over.answers.lines;
       kept = d.over.answers.kept;
-      told = d.over.answers.told;
+      explained_fault = d.over.answers.explained_fault;
       text = d.over.answers.text;
       come = d.over.answers.come;
       whole = d.over.answers.whole;
@@ -45,7 +45,7 @@ alone known rest old new d = record {
     };
     ended = d.over.ended;
   };
-  told = d.told;
+  explained_fault = d.explained_fault;
   trace = d.trace;
 }
 
@@ -66,7 +66,7 @@ come_known before lines a b =
     ∙ ap (λ l. (before ++ codes "script" ∷ []) ++ l) (sym (lines_again lines b))
 
 -- the lines that were read make an input
-spelled : (rest old new : Option (List ℕ)) (d : IsDone None rest old new) → (input : List ℕ) × IsLiveDone input (first_told d.run.first ++ d.over.answers.text)
+spelled : (rest old new : Option (List ℕ)) (d : IsDone None rest old new) → (input : List ℕ) × IsLiveDone input (first_reported d.run.first ++ d.over.answers.text)
 spelled rest old new d = (
   text_of_lines ((d.run.opened.lines ++ codes "script" ∷ []) ++ d.over.answers.lines),
   (
@@ -76,7 +76,7 @@ spelled rest old new d = (
         topology = d.run.topology;
         first = d.run.first;
         mid = Some (text_of_lines d.over.answers.lines);
-        so_far = Some (first_told d.run.first);
+        so_far = Some (first_reported d.run.first);
         opened = record {
           lines = d.run.opened.lines;
           spelled = d.run.opened.spelled;
@@ -93,7 +93,7 @@ spelled rest old new d = (
         answers = record {
           lines = d.over.answers.lines;
           kept = d.over.answers.kept;
-          told = d.over.answers.told;
+          explained_fault = d.over.answers.explained_fault;
           text = d.over.answers.text;
           come = lines_again d.over.answers.lines d.over.answers.whole ∙ sym (append-nil d.over.answers.lines);
           whole = d.over.answers.whole;
@@ -103,7 +103,7 @@ spelled rest old new d = (
         };
         ended = d.over.ended;
       };
-      told = d.told;
+      explained_fault = d.explained_fault;
       trace = d.trace;
     },
   ),
@@ -117,18 +117,18 @@ lived None old new name (rest, d) =
       input = of.0;
       all = tt;
       written = (
-        first_told d.run.first ++ d.over.answers.text,
+        first_reported d.run.first ++ d.over.answers.text,
         of.1,
-        Appends-trans old d.run.so_far new (first_told d.run.first) d.over.answers.text d.run.put d.over.answers.put,
+        Appends-trans old d.run.so_far new (first_reported d.run.first) d.over.answers.text d.run.put d.over.answers.put,
       );
     }
 lived (Some all) old new name (rest, d) = record {
   input = all;
   all = refl;
   written = (
-    first_told d.run.first ++ d.over.answers.text,
+    first_reported d.run.first ++ d.over.answers.text,
     (rest, alone (Some all) rest old new d),
-    Appends-trans old d.run.so_far new (first_told d.run.first) d.over.answers.text d.run.put d.over.answers.put,
+    Appends-trans old d.run.so_far new (first_reported d.run.first) d.over.answers.text d.run.put d.over.answers.put,
   );
 }
 
@@ -158,10 +158,10 @@ after_more known rest old mid new k d = record {
     so_far = d.run.so_far;
     opened = d.run.opened;
     begins = d.run.begins;
-    put = keeps_appends old mid d.run.so_far (first_told d.run.first) k d.run.put;
+    put = keeps_appends old mid d.run.so_far (first_reported d.run.first) k d.run.put;
   };
   over = d.over;
-  told = d.told;
+  explained_fault = d.explained_fault;
   trace = d.trace;
 }
 

@@ -29,7 +29,7 @@ use Rattle.hdminet_words.specs.declared.choice.TestView.{TestView}
 use Rattle.hdminet_words.specs.declared.choice.TestView.TheVariants.{Report}
 use Rattle.hdminet_program.specs.CaptureTests.{IsCaptureTest}
 use Rattle.hdminet_program.specs.Captures.{IsHeard, form_of, name_of, report_of}
-use Rattle.hdminet_program.specs.Edids.{IsShown, IsTold}
+use Rattle.hdminet_program.specs.Edids.{IsShown, IsRead}
 use Rattle.hdminet_program.specs.Live.{IsLiveDone}
 use Rattle.hdminet_program.specs.Parted.{IsParted, IsRunInput}
 use Rattle.hdminet_program.specs.Tests.{IsTestOf}
@@ -119,7 +119,7 @@ IsDone Asm name input text = (frames : List (List ℕ)) × AreTextsOf (lines_of_
 IsDone Dis name input text = (first_fault 1 (lines_of input) ≡ None) × (text ≡ flat_map line_text (lines_of input))
 IsDone (Mon form glitch report) name input text = IsHeard (form_of form input) name glitch (report_of report (form_of form input)) input text
 IsDone (Json objects) name input text = (lines : List ℕ) × AreLines objects name input lines × AreObjectsOf objects lines text
-IsDone (Edid source view) name input text = (bytes : List ℕ) × IsTold source input bytes × IsShown view bytes text
+IsDone (Edid source view) name input text = (bytes : List ℕ) × IsRead source input bytes × IsShown view bytes text
 
 -- a choice is done for an input: its text is written, and nothing else
 abbrev pub Writes : Choice → List ℕ → List ℕ → Option (List ℕ) → Option (List ℕ) → Type 0

@@ -74,10 +74,10 @@ ShowsRules passing bytes old new =
     × Appends old new text
 
 -- the bytes of the EDID that an input gives
-abbrev pub IsTold : Source → List ℕ → List ℕ → Type 0
-IsTold sources.Bytes input bytes = bytes ≡ input
-IsTold sources.Dump input bytes = edid_in_dump input ≡ Ok bytes
-IsTold sources.Text input bytes = (e : Edid) × (edid_text e ≡ input) × (bytes ≡ edid_bytes e)
+abbrev pub IsRead : Source → List ℕ → List ℕ → Type 0
+IsRead sources.Bytes input bytes = bytes ≡ input
+IsRead sources.Dump input bytes = edid_in_dump input ≡ Ok bytes
+IsRead sources.Text input bytes = (e : Edid) × (edid_text e ≡ input) × (bytes ≡ edid_bytes e)
 
 -- a view is written, and nothing else
 abbrev pub Shows : View → List ℕ → Option (List ℕ) → Option (List ℕ) → Type 0
@@ -85,4 +85,4 @@ Shows view bytes old new = (text : List ℕ) × IsShown view bytes text × Appen
 
 -- of the EDID that an input gives
 abbrev pub Made : Source → View → List ℕ → Option (List ℕ) → Option (List ℕ) → Type 0
-Made source view input old new = (bytes : List ℕ) × IsTold source input bytes × Shows view bytes old new
+Made source view input old new = (bytes : List ℕ) × IsRead source input bytes × Shows view bytes old new

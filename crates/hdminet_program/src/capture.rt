@@ -134,7 +134,7 @@ fn write_lost<E: Sink>(line: u64, err: &mut E) {
 
 /// Names the lines of pin events before which others were lost: what is read across them is not to be trusted. Where memory
 /// runs out none is named.
-pub fn tell_lost<E: Sink>(alloc: Global, form: Option<Form>, input: &[u8], err: &mut E) {
+pub fn name_lost<E: Sink>(alloc: Global, form: Option<Form>, input: &[u8], err: &mut E) {
     if form_of(form, input) != CaptureForm::Pin {
         return;
     }

@@ -8,7 +8,7 @@ ghost use Rattle.hdminet_program.specs.Captures.{name_of};
 ghost use Rattle.hdminet_program.specs.Live.{Lives};
 ghost use Rattle.hdminet_words.specs.MonFlags.{signal_in};
 
-use crate::capture::{monitor, tell_lost};
+use crate::capture::{monitor, name_lost};
 use crate::capture_test::write_capture_test;
 use crate::edid::{edid, explain_lack, explain_rules};
 use crate::expectations::write_test;
@@ -339,7 +339,7 @@ fn handed_on<W: Sink>(
 }
 
 /// Writes the line of a fault, and returns its exit status.
-pub fn tell<E: Sink>(fault: &ProgramFault, err: &mut E) -> u8
+pub fn write_fault<E: Sink>(fault: &ProgramFault, err: &mut E) -> u8
     ensures { 0 < result }
 {
     let mut text = ArrayString::<256>::new();
@@ -415,10 +415,10 @@ fn explanation_of(
     fault: &ProgramFault,
     input: &[u8],
 ) -> Result<String, AllocError> {
-    let Some(told) = explained(fault) else {
+    let Some(explained_fault) = explained(fault) else {
         return Ok(String::new(alloc));
     };
-    let mut text = explain(alloc, input_of(choice), told, input)?;
+    let mut text = explain(alloc, input_of(choice), explained_fault, input)?;
     text.push_str(lack_of(alloc, choice, fault, input)?.as_str())?;
     Ok(text)
 }
@@ -448,14 +448,14 @@ fn add_help<E: Sink>(text: Result<String, AllocError>, err: &mut E) {
 }
 
 // Names the lines of a capture before which events were lost.
-fn tell_lost_of<E: Sink>(alloc: Global, choice: Choice, input: &[u8], err: &mut E) {
+fn name_lost_of<E: Sink>(alloc: Global, choice: Choice, input: &[u8], err: &mut E) {
     match choice {
         Choice::Mon { form, .. } | Choice::Json(Objects::Capture { form, .. }) => {
-            tell_lost(alloc, form, input, err);
+            name_lost(alloc, form, input, err);
         }
         Choice::CheckCapture { form, .. } | Choice::Json(Objects::CaptureTest { form, .. }) => {
             if let Ok((_, taken)) = capture_parts(input) {
-                tell_lost(alloc, form, taken, err);
+                name_lost(alloc, form, taken, err);
             }
         }
         _ => {}
@@ -463,7 +463,7 @@ fn tell_lost_of<E: Sink>(alloc: Global, choice: Choice, input: &[u8], err: &mut 
 }
 
 // Names them where a test of the capture failed.
-fn tell_lost_by<E: Sink>(
+fn name_lost_by<E: Sink>(
     alloc: Global,
     choice: Choice,
     fault: &ProgramFault,
@@ -471,7 +471,7 @@ fn tell_lost_by<E: Sink>(
     err: &mut E,
 ) {
     if let ProgramFault::TestsFailed(_) = fault {
-        tell_lost_of(alloc, choice, input, err);
+        name_lost_of(alloc, choice, input, err);
     }
 }
 
@@ -485,8 +485,8 @@ fn report<E: Sink>(
 ) -> u8
     ensures { 0 < result }
 {
-    let status = tell(fault, err);
-    tell_lost_by(alloc, asked.choice, fault, input, err);
+    let status = write_fault(fault, err);
+    name_lost_by(alloc, asked.choice, fault, input, err);
     if asked.explains {
         add_help(explanation(alloc, asked.choice, fault, input), err);
     }
@@ -496,7 +496,7 @@ fn report<E: Sink>(
 // Writes what there is to say besides of what was done: events that a capture lost, and with `--explain` the counts of a run
 // and what the rules ask that an EDID breaks.
 fn remark<E: Sink>(alloc: Global, asked: Asked, totals: Option<Totals>, input: &[u8], err: &mut E) {
-    tell_lost_of(alloc, asked.choice, input, err);
+    name_lost_of(alloc, asked.choice, input, err);
     if !asked.explains {
         return;
     }
@@ -513,7 +513,7 @@ fn show<W: Sink, E: Sink>(help: &str, out: &mut Buffered<W>, err: &mut E) -> u8
     let _ = put_all(out, help.as_bytes());
     match out.flush() {
         Ok(()) => 0,
-        Err(fault) => tell(&ProgramFault::Write(fault), err),
+        Err(fault) => write_fault(&ProgramFault::Write(fault), err),
     }
 }
 
@@ -527,7 +527,7 @@ fn refuse<W: Sink, E: Sink>(refused: &Refused, out: &mut Buffered<W>, err: &mut 
             let _ = put_all(err, text.as_bytes());
             2
         }
-        Refused::Memory => tell(&ProgramFault::Memory(AllocError), err),
+        Refused::Memory => write_fault(&ProgramFault::Memory(AllocError), err),
     }
 }
 
@@ -627,7 +627,7 @@ fn serve_named<R: Read, W: Sink, E: Sink>(
 {
     match name_of(alloc, words) {
         Ok(name) => serve(alloc, asked, &name, input, out, err),
-        Err(AllocError) => tell(&ProgramFault::Memory(AllocError), err),
+        Err(AllocError) => write_fault(&ProgramFault::Memory(AllocError), err),
     }
 }
 

@@ -8,7 +8,7 @@ use Rattle.hdminet_room.specs.Codes.{number_of}
 -- The text stands at the front of the room, which else is as it was; where it does not fit, the room is as it was. The
 -- answer has its length.
 pub record IsPut (text old new : List ℕ) (answer : Answer) : Type 0 where
-  pub told : (answer.length ≡ length text) × (answer.line ≡ 0)
+  pub reported : (answer.length ≡ length text) × (answer.line ≡ 0)
   pub fits : length text ≤ length old → (answer.code ≡ number_of Done) × (new ≡ text ++ drop (length text) old)
   pub too_long : length old < length text → (answer.code ≡ number_of Room) × (new ≡ old)
 

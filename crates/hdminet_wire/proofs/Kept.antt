@@ -8,7 +8,7 @@ use Rattle.cec_bits.specs.declared.sender.Sender.{Sender}
 use Rattle.cec_bits.specs.declared.sender.parts.SenderParts.{SenderParts}
 use Rattle.parts_laws.proofs.Same.{same_receiver, same_sender}
 use Rattle.hdminet_wire.specs.Receiver.{HasHeard}
-use Rattle.hdminet_wire.specs.Sender.{IsTold}
+use Rattle.hdminet_wire.specs.Sender.{IsReported}
 use Rattle.hdminet_wire.specs.declared.heard.Heard.{Heard}
 use Rattle.hdminet_wire.specs.declared.readings.ReadingParts.{ReadingParts}
 
@@ -16,10 +16,10 @@ pub heard_as : (was r : Receiver) (old : ReceiverParts) (t : ℕ) (is_low : Bool
     → ArePartsOf was old → ArePartsOf r old → HasHeard was t is_low heard new a b → HasHeard r t is_low heard new a b
 heard_as was r old t is_low heard new a b p q h = subst (λ x. HasHeard x t is_low heard new a b) (same_receiver was r old p q) h
 
-one_told : (a b : Told) → Some a ≡ Some b → a ≡ b
-one_told a b e = cc
+one_reported : (a b : Told) → Some a ≡ Some b → a ≡ b
+one_reported a b e = cc
 
-pub told_as : (was s : Sender) (old : SenderParts) (heard told : Told) (t : ℕ) (new : SenderParts)
-    → ArePartsOfSender was old → ArePartsOfSender s old → Some heard ≡ Some told → IsTold was heard t new → IsTold s told t new
-told_as was s old heard told t new p q e h =
-    subst (λ x. IsTold x told t new) (same_sender was s old p q) (subst (λ x. IsTold was x t new) (one_told heard told e) h)
+pub reported_as : (was s : Sender) (old : SenderParts) (heard reported : Told) (t : ℕ) (new : SenderParts)
+    → ArePartsOfSender was old → ArePartsOfSender s old → Some heard ≡ Some reported → IsReported was heard t new → IsReported s reported t new
+reported_as was s old heard reported t new p q e h =
+    subst (λ x. IsReported x reported t new) (same_sender was s old p q) (subst (λ x. IsReported was x t new) (one_reported heard reported e) h)

@@ -31,7 +31,7 @@ fate_stopped Open r = fate_code Absent
 fate_stopped _ r = known_fate (fate_by r.ending r.bits.items None)
 
 -- of a sender that stands so, by the reading that it began: as in a round (`fate_by`)
-abbrev pub fate_told : SenderState → Reading → SentFate
-fate_told Sending r = fate_code Absent
-fate_told (Out slot) r = known_fate (fate_by r.ending r.bits.items (Some slot))
-fate_told Stopped r = fate_stopped r.ending r
+abbrev pub fate_reported : SenderState → Reading → SentFate
+fate_reported Sending r = fate_code Absent
+fate_reported (Out slot) r = known_fate (fate_by r.ending r.bits.items (Some slot))
+fate_reported Stopped r = fate_stopped r.ending r

@@ -38,8 +38,8 @@ heard_of (Bit slot value) = record { code = 0; kind = 1; ending = 0; bit = value
 heard_of (Last value ending) = record { code = 0; kind = 2; ending = ending_number ending; bit = value; slot = 0 }
 heard_of (Ended ending) = record { code = 0; kind = 3; ending = ending_number ending; bit = false; slot = 0 }
 
-abbrev pub told_in : Heard → Option Told
-told_in h =
+abbrev pub reported_in : Heard → Option Told
+reported_in h =
     if h.kind == 0 then Some Nothing
     else if h.kind == 1 then Some (Bit h.slot h.bit)
     else if h.kind == 2 then option_map (λ e. Last h.bit e) (ending_in h.ending)

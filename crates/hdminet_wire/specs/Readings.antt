@@ -12,10 +12,10 @@ use Rattle.hdminet_wire.specs.declared.readings.ReadingParts.{ReadingParts}
 
 pub record AreReadingParts (reading : Listed) (parts : ReadingParts) : Type 0 where
   pub begin : parts.begin ≡ reading.begin
-  pub at : parts.at ≡ reading.told.at
-  pub ending : parts.ending ≡ ending_number reading.told.ending
-  pub count : parts.count ≡ length reading.told.bits
-  pub bits : take parts.count parts.bits ≡ reading.told.bits
+  pub at : parts.at ≡ reading.reported.at
+  pub ending : parts.ending ≡ ending_number reading.reported.ending
+  pub count : parts.count ≡ length reading.reported.bits
+  pub bits : take parts.count parts.bits ≡ reading.reported.bits
 
 -- a reading is put in place of what was there, if there is one
 abbrev pub IsReadingPut : Option Listed → ReadingParts → ReadingParts → Type 0

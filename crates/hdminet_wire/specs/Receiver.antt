@@ -29,14 +29,14 @@ IsStart parts = (receiver : Receiver) × ArePartsOf receiver parts × (heard_by 
 pub record HasHeard (was : Receiver) (t : ℕ) (is_low : Bool) (heard : Heard) (new : ReceiverParts) (old_reading new_reading : ReadingParts) : Type 0 where
   pub noted : Receiver
   pub next : Receiver
-  pub told : Told
+  pub reported : Told
   pub keeps : heard_by noted ≡ heard_by was
   pub stood : noted.was_low ≡ was.was_low
   pub level : noted.is_low ≡ is_low
-  pub follows : Follows noted t told next
+  pub follows : Follows noted t reported next
   pub after : ArePartsOf next new
-  pub tells : heard ≡ heard_of told
-  pub reads : IsReadingPut (ended_of told t (running_by (heard_by was) t)) old_reading new_reading
+  pub reports : heard ≡ heard_of reported
+  pub reads : IsReadingPut (ended_of reported t (running_by (heard_by was) t)) old_reading new_reading
 
 -- the reading that runs is put in its place, if one does
 abbrev pub IsRunning : Option Listed → ℕ → ReadingParts → ReadingParts → Type 0

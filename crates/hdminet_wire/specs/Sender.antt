@@ -30,15 +30,15 @@ pub record HasBegun (frame : List ℕ) (t : ℕ) (new : SenderParts) : Type 0 wh
   pub stands : (low : Line) → SenderStood sender low (t + 1)
 
 -- it goes by what t told
-pub record IsTold (was : Sender) (told : Told) (t : ℕ) (new : SenderParts) : Type 0 where
+pub record IsReported (was : Sender) (reported : Told) (t : ℕ) (new : SenderParts) : Type 0 where
   pub next : Sender
   pub parts : ArePartsOfSender next new
   pub keeps : (next.frame ≡ was.frame) × (next.begin ≡ was.begin)
-  pub hears : Hears was told t next
+  pub hears : Hears was reported t next
   pub stops : StopsAt was.state was.last t next.state next.last
 
-abbrev pub pull_told : Bool → Pull
-pull_told pulls = record { code = number_of Done; is_low = pulls }
+abbrev pub pull_reported : Bool → Pull
+pull_reported pulls = record { code = number_of Done; is_low = pulls }
 
 abbrev pub pull_code : Code → Pull
 pull_code code = record { code = number_of code; is_low = false }

@@ -5,7 +5,7 @@ ghost use Rattle.cec_bits.specs.declared.sender.Sender.{Sender as SenderValue};
 ghost use Rattle.cec_frame.specs.declared.Reading.{Reading as ReadingValue};
 ghost use Rattle.cec_wire.specs.Round.{fate_by};
 ghost use Rattle.hdminet_room.specs.declared.code.Code.TheVariants.{State};
-ghost use Rattle.hdminet_wire.specs.Fate.{fate_code, fate_number, fate_told, fate_stopped, known_fate};
+ghost use Rattle.hdminet_wire.specs.Fate.{fate_code, fate_number, fate_reported, fate_stopped, known_fate};
 ghost use Rattle.hdminet_wire.specs.Readings.{reading_in};
 ghost use Rattle.hdminet_wire.specs.Sender.{IsNoSender};
 
@@ -84,8 +84,8 @@ fn fate_stopped(reading: Reading) -> SentFate
     }
 }
 
-fn fate_told(state: SenderState, reading: Reading) -> SentFate
-    ensures { result ≡ fate_told state reading }
+fn fate_reported(state: SenderState, reading: Reading) -> SentFate
+    ensures { result ≡ fate_reported state reading }
 {
     match state {
         SenderState::Sending => fate_refused(Code::Absent),
@@ -100,7 +100,7 @@ fn fate_told(state: SenderState, reading: Reading) -> SentFate
 /// reading has not ended.
 #[unsafe(no_mangle)]
 pub extern "C" fn hdminet_sender_fate(sender: &SenderParts, reading: &ReadingParts) -> SentFate
-    ensures told { (s : SenderValue) → (r : ReadingValue) → ArePartsOfSender s sender.now → reading_in reading.now ≡ Some r → result ≡ fate_told s.state r }
+    ensures reported { (s : SenderValue) → (r : ReadingValue) → ArePartsOfSender s sender.now → reading_in reading.now ≡ Some r → result ≡ fate_reported s.state r }
     ensures spoilt { IsNoSender sender.now → result ≡ fate_code State }
     ensures nothing { (s : SenderValue) → ArePartsOfSender s sender.now → reading_in reading.now ≡ None → result ≡ fate_code State }
 {
@@ -110,5 +110,5 @@ pub extern "C" fn hdminet_sender_fate(sender: &SenderParts, reading: &ReadingPar
     let Some(reading) = reading_in(reading) else {
         return fate_refused(Code::State);
     };
-    fate_told(sender.state(), reading)
+    fate_reported(sender.state(), reading)
 }

@@ -1,7 +1,7 @@
 //! What a receiver hears at an instant, in plain numbers.
 ghost use Rattle.std.specs.Prelude.{◌≡◌, Some};
-ghost use Rattle.cec_bits.specs.declared.receiver.Told.{Told as ToldValue};
-ghost use Rattle.hdminet_wire.specs.Heard.{ending_in, ending_number, heard_code, heard_of, instant_of, instant_refused, told_in};
+ghost use Rattle.cec_bits.specs.declared.receiver.Told.{Told as ReportedValue};
+ghost use Rattle.hdminet_wire.specs.Heard.{ending_in, ending_number, heard_code, heard_of, instant_of, instant_refused, reported_in};
 
 use cec_bits::Told;
 use cec_frame::Ending;
@@ -63,10 +63,10 @@ pub(crate) fn ending_in(number: u8) -> Option<Ending>
 }
 
 /// What was reported, in plain numbers.
-pub(crate) fn heard_of(told: Told) -> Heard
-    ensures { result ≡ heard_of told }
+pub(crate) fn heard_of(reported: Told) -> Heard
+    ensures { result ≡ heard_of reported }
 {
-    match told {
+    match reported {
         Told::Nothing => Heard {
             code: 0,
             kind: 0,
@@ -99,8 +99,8 @@ pub(crate) fn heard_of(told: Told) -> Heard
 }
 
 /// What was reported, from plain numbers.
-pub(crate) fn told_in(heard: Heard) -> Option<Told>
-    ensures { result ≡ told_in heard }
+pub(crate) fn reported_in(heard: Heard) -> Option<Told>
+    ensures { result ≡ reported_in heard }
 {
     match heard.kind {
         0 => Some(Told::Nothing),
@@ -157,6 +157,6 @@ pub(crate) fn instant_refused(code: Code) -> Instant
 }
 
 /// What a receiver told is told to a sender as it was.
-pub fn what_was_told_is_told()
-    ensures { (told : ToldValue) → told_in (heard_of told) ≡ Some told }
+pub fn what_was_reported_is_reported()
+    ensures { (reported : ReportedValue) → reported_in (heard_of reported) ≡ Some reported }
 {}

@@ -54,14 +54,14 @@ pub(crate) fn put_reading(reading: Option<Reading>, place: &mut ReadingParts)
 }
 
 /// The reading that ran, where instant `t` told that it ended.
-pub(crate) fn ended_of(told: Told, t: u64, running: Option<Reading>) -> Option<Reading>
+pub(crate) fn ended_of(reported: Told, t: u64, running: Option<Reading>) -> Option<Reading>
     requires room { IfSome running (λ reading. length reading.bits.items < 160) }
-    ensures { option_map listed_as result ≡ ended_of told t (option_map listed_as running) }
+    ensures { option_map listed_as result ≡ ended_of reported t (option_map listed_as running) }
 {
     let Some(reading) = running else {
         return None;
     };
-    match told {
+    match reported {
         Told::Nothing | Told::Bit(..) => None,
         Told::Last(bit, ending) => {
             let mut bits = reading.bits;

@@ -66,10 +66,10 @@ pub extern "C" fn hdminet_receiver_hear(
     }
     let mut next = noted(was, t, is_low);
     let running = next.running(t);
-    let told = next.tick(t);
-    put_reading(ended_of(told, t, running), reading);
+    let reported = next.tick(t);
+    put_reading(ended_of(reported, t, running), reading);
     *receiver = next.parts();
-    heard_of(told)
+    heard_of(reported)
 }
 
 /// The instant at which the receiver is to hear the line again, where no edge comes first, in microseconds.

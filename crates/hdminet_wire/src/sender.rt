@@ -3,14 +3,14 @@ ghost use Rattle.std.specs.Prelude.{◌≡◌, ◌≤◌, ◌<◌, Some, None, l
 ghost use Rattle.cec_wave.specs.Bounds.{latest_heard};
 ghost use Rattle.cec_bits.specs.Parts.{ArePartsOfSender};
 ghost use Rattle.cec_bits.specs.Sending.{pull_of};
-ghost use Rattle.cec_bits.specs.declared.receiver.Told.{Told as ToldValue};
+ghost use Rattle.cec_bits.specs.declared.receiver.Told.{Told as ReportedValue};
 ghost use Rattle.cec_bits.specs.declared.sender.Sender.{Sender as SenderValue};
 ghost use Rattle.hdminet_room.specs.Codes.{number_of};
 ghost use Rattle.hdminet_room.specs.declared.code.Code.TheVariants.{Done, FrameEmpty, FrameTooLong, Heard as NothingHeard, Late, State};
-ghost use Rattle.hdminet_wire.specs.Heard.{instant_refused, told_in};
-ghost use Rattle.hdminet_wire.specs.Sender.{HasBegun, IsChange, IsLeft, IsNoSender, IsTold, pull_code, pull_told};
+ghost use Rattle.hdminet_wire.specs.Heard.{instant_refused, reported_in};
+ghost use Rattle.hdminet_wire.specs.Sender.{HasBegun, IsChange, IsLeft, IsNoSender, IsReported, pull_code, pull_reported};
 
-use crate::heard::{Heard, Instant, instant_of, instant_refused, told_in};
+use crate::heard::{Heard, Instant, instant_of, instant_refused, reported_in};
 use cec_bits::{Sender, SenderParts};
 use cec_frame::Frame;
 use cec_wave::LATEST_HEARD;
@@ -54,24 +54,24 @@ pub extern "C" fn hdminet_sender_begin(sender: &mut SenderParts, bytes: &[u8], t
 /// 3,000,000,000,000 microseconds: the sender stays as it was.
 #[unsafe(no_mangle)]
 pub extern "C" fn hdminet_sender_heard(sender: &mut SenderParts, heard: &Heard, t: u64) -> u32
-    ensures hears { (s : SenderValue) → (told : ToldValue) → ArePartsOfSender s sender.old → told_in heard.now ≡ Some told → t ≤ latest_heard
-        → (result ≡ number_of Done) × IsTold s told t sender.new }
+    ensures hears { (s : SenderValue) → (reported : ReportedValue) → ArePartsOfSender s sender.old → reported_in heard.now ≡ Some reported → t ≤ latest_heard
+        → (result ≡ number_of Done) × IsReported s reported t sender.new }
     ensures spoilt { IsNoSender sender.old → IsLeft State result sender.old sender.new }
-    ensures nothing { (s : SenderValue) → ArePartsOfSender s sender.old → told_in heard.now ≡ None → IsLeft NothingHeard result sender.old sender.new }
-    ensures late { (s : SenderValue) → (told : ToldValue) → ArePartsOfSender s sender.old → told_in heard.now ≡ Some told → latest_heard < t
+    ensures nothing { (s : SenderValue) → ArePartsOfSender s sender.old → reported_in heard.now ≡ None → IsLeft NothingHeard result sender.old sender.new }
+    ensures late { (s : SenderValue) → (reported : ReportedValue) → ArePartsOfSender s sender.old → reported_in heard.now ≡ Some reported → latest_heard < t
         → IsLeft Late result sender.old sender.new }
 {
     let Some(was) = Sender::of_parts(sender) else {
         return Code::State.number();
     };
-    let Some(told) = told_in(*heard) else {
+    let Some(reported) = reported_in(*heard) else {
         return Code::Heard.number();
     };
     if t > LATEST_HEARD {
         return Code::Late.number();
     }
     let mut next = was;
-    next.heard(told, t);
+    next.heard(reported, t);
     *sender = next.parts();
     Code::Done.number()
 }
@@ -90,7 +90,7 @@ fn pull_refused(code: Code) -> Pull
 /// Refused where the state is no sender's, and then where `t` is after 3,000,000,000,000.
 #[unsafe(no_mangle)]
 pub extern "C" fn hdminet_sender_pulls(sender: &SenderParts, t: u64) -> Pull
-    ensures pulls { (s : SenderValue) → ArePartsOfSender s sender.now → t ≤ latest_heard → result ≡ pull_told (pull_of s t) }
+    ensures pulls { (s : SenderValue) → ArePartsOfSender s sender.now → t ≤ latest_heard → result ≡ pull_reported (pull_of s t) }
     ensures spoilt { IsNoSender sender.now → result ≡ pull_code State }
     ensures late { (s : SenderValue) → ArePartsOfSender s sender.now → latest_heard < t → result ≡ pull_code Late }
 {

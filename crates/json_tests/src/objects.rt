@@ -17,7 +17,7 @@ pub(crate) fn holds(rt: &impl Abort, holds: bool, case: &str) {
 }
 
 /// Each line has what stands after its arrow.
-fn are_told(rt: &(impl Abort + AllocGlobal), rows: &str) {
+fn are_reported(rt: &(impl Abort + AllocGlobal), rows: &str) {
     for row in rows.lines() {
         let (line, fields) = row.split_once(" => ").expect(rt, row);
         let text = format!(in rt.alloc(); "{line}\n").expect(rt, row);
@@ -29,17 +29,17 @@ fn are_told(rt: &(impl Abort + AllocGlobal), rows: &str) {
 
 #[test]
 fn rounds_readings_and_events(rt: HostRuntime) {
-    are_told(&rt, READINGS);
+    are_reported(&rt, READINGS);
 }
 
 #[test]
 fn states(rt: HostRuntime) {
-    are_told(&rt, STATES);
+    are_reported(&rt, STATES);
 }
 
 #[test]
 fn other_lines(rt: HostRuntime) {
-    are_told(&rt, OTHERS);
+    are_reported(&rt, OTHERS);
 }
 
 #[test]

@@ -13,7 +13,7 @@ fn objects(rt: &(impl Abort + AllocGlobal), report: Report, text: &str) -> Strin
 }
 
 /// Each line has what stands after its arrow.
-fn are_told(rt: &(impl Abort + AllocGlobal), report: Report, rows: &str) {
+fn are_reported(rt: &(impl Abort + AllocGlobal), report: Report, rows: &str) {
     for row in rows.lines() {
         let (line, fields) = row.split_once(" => ").expect(rt, row);
         let text = format!(in rt.alloc(); "{line}\n").expect(rt, row);
@@ -25,12 +25,12 @@ fn are_told(rt: &(impl Abort + AllocGlobal), report: Report, rows: &str) {
 
 #[test]
 fn tests_windows_and_rounds(rt: HostRuntime) {
-    are_told(&rt, Report::Expectations, TESTS);
+    are_reported(&rt, Report::Expectations, TESTS);
 }
 
 #[test]
 fn stretches(rt: HostRuntime) {
-    are_told(&rt, Report::Sweep, STRETCHES);
+    are_reported(&rt, Report::Sweep, STRETCHES);
 }
 
 #[test]
@@ -44,8 +44,8 @@ fn escapes_of_tests(rt: HostRuntime) {
 
 #[test]
 fn a_report_line_an_object(rt: HostRuntime) {
-    let told = objects(&rt, Report::Expectations, REPORT);
-    holds(&rt, told.as_str() == OBJECTS, "a report");
+    let reported = objects(&rt, Report::Expectations, REPORT);
+    holds(&rt, reported.as_str() == OBJECTS, "a report");
     let none = objects(&rt, Report::Sweep, "");
     holds(&rt, none.as_str() == "", "nothing");
 }

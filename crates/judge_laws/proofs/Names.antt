@@ -16,7 +16,7 @@ use Rattle.cec_frame.specs.declared.Fate.TheVariants.{Delivered, Unacked, Lost, 
 use Rattle.cec_feature.specs.declared.record.Heard.{Heard}
 use Rattle.cec_feature.specs.declared.keys.Key.{Key}
 use Rattle.cec_feature.specs.declared.say.Say.{Say}
-use Rattle.cec_feature.specs.declared.say.Say.TheVariants.{Reply, Cast, Tell, Refuse}
+use Rattle.cec_feature.specs.declared.say.Say.TheVariants.{Reply, Cast, Report, Refuse}
 use Rattle.cec_feature.specs.Effect.{Effect}
 use Rattle.cec_feature.specs.Effects.{effect_of, heard_of, refuses}
 use Rattle.cec_feature.specs.Keys.{pressing, releasing}
@@ -47,7 +47,7 @@ use Rattle.driven_laws.proofs.Names.{name-queued, name-reported_by, names-each, 
 name-say : (limit : ℕ) (h : Heard) (s : Say) (d : State) → (say limit h s d).name ≡ d.name
 name-say limit h (Reply bytes) d = two (nat_lt h.from 15) (with_queued limit h.at (source d.place h.to) h.from bytes d) d d.name (name-queued limit h.at (source d.place h.to) h.from bytes d) refl
 name-say limit h (Cast bytes) d = name-queued limit h.at (source d.place h.to) 15 bytes d
-name-say limit h (Tell to bytes) d = two (nat_lt to 15) (with_queued limit h.at (source d.place h.to) to bytes d) d d.name (name-queued limit h.at (source d.place h.to) to bytes d) refl
+name-say limit h (Report to bytes) d = two (nat_lt to 15) (with_queued limit h.at (source d.place h.to) to bytes d) d d.name (name-queued limit h.at (source d.place h.to) to bytes d) refl
 name-say limit h (Refuse reason) d =
     two (nat_lt h.to 15 && (nat_lt h.from 15 && not (h.opcode == 0))) (with_queued limit h.at (source d.place h.to) h.from (0x00 ∷ h.opcode ∷ reason_byte reason ∷ []) d) d d.name
     (name-queued limit h.at (source d.place h.to) h.from (0x00 ∷ h.opcode ∷ reason_byte reason ∷ []) d) refl
@@ -103,10 +103,10 @@ name-sent_by limit at fate d (Some a) =
     let e : State = record d { place = place_after_fate d.kind d.place fate; poll_ready = at; class = class_of_poll fate } in
     name-reported_by limit at (addresses_held e.place) e
 
-name-told : (own others : Bool) (fate : Fate) (at : ℕ) (d : State) → (after_fate own others fate at d).name ≡ d.name
-name-told true others fate at d = name-sent_by 16 at fate d (polled_at d.place)
-name-told false true fate at d = refl
-name-told false false fate at d = refl
+name-informed : (own others : Bool) (fate : Fate) (at : ℕ) (d : State) → (after_fate own others fate at d).name ≡ d.name
+name-informed true others fate at d = name-sent_by 16 at fate d (polled_at d.place)
+name-informed false true fate at d = refl
+name-informed false false fate at d = refl
 
 name-unless : (sends : Bool) (frame : Option (List ℕ)) (at : ℕ) (d : State) → (followed_unless sends frame at d).name ≡ d.name
 name-unless sends None at d = refl
@@ -116,7 +116,7 @@ name-unless false (Some frame) at d = name-followed 16 at frame d
 name-after : (own others : Bool) (o : Outcome) (number : ℕ) (d : State) → (device_after own others o number d).name ≡ d.name
 name-after own others o number d =
     two (is_on_wire d) (after_fate own others (fate_in o number) (close_in o) (followed_in o number d)) d d.name
-    (name-told own others (fate_in o number) (close_in o) (followed_in o number d) ∙ name-unless (is_among o.survivors.items number) (frame_in o.reading) (close_in o) d) refl
+    (name-informed own others (fate_in o number) (close_in o) (followed_in o number d) ∙ name-unless (is_among o.survivors.items number) (frame_in o.reading) (close_in o) d) refl
 
 -- ---- all devices
 

@@ -33,7 +33,7 @@ use Rattle.hdmi_core.specs.Kind.{kind_word}
 use Rattle.cec_trace.specs.StateText.{address_text, held_text, language_bytes, note_text, outside_line, phys_on, power_text, state_line, state_line_of, unit_text}
 use Rattle.cec_feature.specs.Kinds.{is_outside}
 use Rattle.cec_trace.specs.TraceText.{end_line, error_word, event_line}
-use Rattle.cec_judge.specs.Told.{EventLine, RoundLine, event_by, event_in, round_by, round_in, told_in}
+use Rattle.cec_judge.specs.Told.{EventLine, RoundLine, event_by, event_in, round_by, round_in, reported_in}
 use Rattle.judge_laws.specs.ReadBack.{fault_words}
 use Rattle.judge_laws.proofs.Lines.{Adds, Closed, adds_none, adds_nothing, adds_two, closed_end, closed_last, closed_more, first_word, number_solid, one_word_adds, two_words_add}
 
@@ -41,12 +41,12 @@ use Rattle.judge_laws.proofs.Lines.{Adds, Closed, adds_none, adds_nothing, adds_
 
 no_begin : (word : List ℕ) (words : List (List ℕ)) → number_of word ≡ None → round_in (word ∷ words) ≡ None
 no_begin word [] h = refl
-no_begin word (at ∷ words) h = ap (λ o. round_by o (number_of at) (told_in words)) h
+no_begin word (at ∷ words) h = ap (λ o. round_by o (number_of at) (reported_in words)) h
 
 no_end : (at word : List ℕ) (words : List (List ℕ)) → number_of word ≡ None → round_in (at ∷ word ∷ words) ≡ None
-no_end at word words h = ap (λ o. round_by (number_of at) o (told_in words)) h ∙ by (number_of at)
+no_end at word words h = ap (λ o. round_by (number_of at) o (reported_in words)) h ∙ by (number_of at)
   where
-    by : (o : Option ℕ) → round_by o None (told_in words) ≡ None
+    by : (o : Option ℕ) → round_by o None (reported_in words) ≡ None
     by None = refl
     by (Some n) = refl
 
@@ -170,16 +170,16 @@ lit : (xs : List ℕ) {ys : List ℕ} → list_all (λ c. not (c == 10)) xs ≡ 
 lit xs h k = closed_more xs (plain_codes xs h) k
 
 -- the line of a device by its parts: the verb, the name, and the rest
-pub record LineTold (name line : List ℕ) : Type 0 where
+pub record LineReported (name line : List ℕ) : Type 0 where
   pub body : List ℕ
   pub plain : IsPlain body
   pub whole : line ≡ codes "state" ++ 32 ∷ ((name ++ 32 ∷ body) ++ 10 ∷ [])
 
-abbrev pub StateTold : State → Type 0
-StateTold d = LineTold d.name (state_line d)
+abbrev pub StateReported : State → Type 0
+StateReported d = LineReported d.name (state_line d)
 
-inside_told : (d : State) → LineTold d.name (state_line_of d (address_text d.kind (addresses_held d.place)) (language_bytes d.record_of.language) (dash_or note_text d.record_of.heard))
-inside_told d =
+inside_reported : (d : State) → LineReported d.name (state_line_of d (address_text d.kind (addresses_held d.place)) (language_bytes d.record_of.language) (dash_or note_text d.record_of.heard))
+inside_reported d =
     let tail =
     closed_more (kind_word d.kind) (plain_kind d.kind) (lit (codes " ") refl
     (closed_more (address_text d.kind (addresses_held d.place)) (plain_address d.kind (addresses_held d.place)) (lit (codes " ") refl
@@ -203,8 +203,8 @@ inside_told d =
     (closed_more (decimal d.dropped) (plain_decimal d.dropped) closed_last)))))))))))))))))))))))))))))))))))))) in
     record { body = tail.body; plain = tail.plain; whole = ap (λ t. codes "state" ++ 32 ∷ (d.name ++ 32 ∷ t)) tail.same ∙ ap (λ t. codes "state" ++ 32 ∷ t) (sym (append_assoc d.name (32 ∷ tail.body) (10 ∷ []))) }
 
-outside_told : (d : State) → LineTold d.name (outside_line d (held_text (addresses_held d.place)))
-outside_told d =
+outside_reported : (d : State) → LineReported d.name (outside_line d (held_text (addresses_held d.place)))
+outside_reported d =
     let tail =
     closed_more (kind_word d.kind) (plain_kind d.kind) (lit (codes " ") refl
     (closed_more (held_text (addresses_held d.place)) (plain_held (addresses_held d.place)) (lit (codes " ") refl
@@ -214,20 +214,20 @@ outside_told d =
     (closed_more (decimal d.dropped) (plain_decimal d.dropped) closed_last)))))))) in
     record { body = tail.body; plain = tail.plain; whole = ap (λ t. codes "state" ++ 32 ∷ (d.name ++ 32 ∷ t)) tail.same ∙ ap (λ t. codes "state" ++ 32 ∷ t) (sym (append_assoc d.name (32 ∷ tail.body) (10 ∷ []))) }
 
-pub state_told : (d : State) → StateTold d
-state_told d = either (is_outside d.kind)
+pub state_reported : (d : State) → StateReported d
+state_reported d = either (is_outside d.kind)
   where
-    either : (b : Bool) → LineTold d.name (if b then outside_line d (held_text (addresses_held d.place))
+    either : (b : Bool) → LineReported d.name (if b then outside_line d (held_text (addresses_held d.place))
         else state_line_of d (address_text d.kind (addresses_held d.place)) (language_bytes d.record_of.language) (dash_or note_text d.record_of.heard))
-    either true = outside_told d
-    either false = inside_told d
+    either true = outside_reported d
+    either false = inside_reported d
 
 pub state_adds : (d : State) → IsPlain d.name → Adds (state_line d) [] []
 state_adds d plain =
-    let told = state_told d in
-    let tail : Closed ((d.name ++ 32 ∷ told.body) ++ 10 ∷ []) =
-    record { body = d.name ++ 32 ∷ told.body; same = refl; plain = plain_more d.name (32 ∷ told.body) plain ((λ e. absurd (omega (arith, e))), told.plain) } in
-    subst (λ t. Adds t [] []) (sym told.whole)
+    let reported = state_reported d in
+    let tail : Closed ((d.name ++ 32 ∷ reported.body) ++ 10 ∷ []) =
+    record { body = d.name ++ 32 ∷ reported.body; same = refl; plain = plain_more d.name (32 ∷ reported.body) plain ((λ e. absurd (omega (arith, e))), reported.plain) } in
+    subst (λ t. Adds t [] []) (sym reported.whole)
     (silent (one_word_adds (codes "state") (shown (λ b. b == 32) (codes "state") refl) (plain_codes (codes "state") refl) tail) (no_begin (codes "state") (words_of tail.body) refl)
     (no_event (codes "state") (words_of tail.body) refl))
 
@@ -261,13 +261,13 @@ event_words : (at line : ℕ) (outcome : List (List ℕ)) → at < 2 ^ 64 → li
     → event_in (decimal at ∷ codes "event" ∷ decimal line ∷ outcome) ≡ Some (record { at = at; line = line; outcome = outcome })
 event_words at line outcome a l = rw (number_again at a, number_again line l) refl
 
-told_by : {text : List ℕ} {r : Option RoundLine} {e : Option EventLine} {event : EventLine} → Adds text (option_to_list r) (option_to_list e) → r ≡ None → e ≡ Some event → Adds text [] (event ∷ [])
-told_by {text} {r} {e} {event} a h k = subst (λ x. Adds text (option_to_list x) (event ∷ [])) h (subst (λ x. Adds text (option_to_list r) (option_to_list x)) k a)
+line_reported_by : {text : List ℕ} {r : Option RoundLine} {e : Option EventLine} {event : EventLine} → Adds text (option_to_list r) (option_to_list e) → r ≡ None → e ≡ Some event → Adds text [] (event ∷ [])
+line_reported_by {text} {r} {e} {event} a h k = subst (λ x. Adds text (option_to_list x) (event ∷ [])) h (subst (λ x. Adds text (option_to_list r) (option_to_list x)) k a)
 
 event_line_adds : (at line : ℕ) {tail : List ℕ} (outcome : List (List ℕ)) → at < 2 ^ 64 → line < 2 ^ 64 → (k : Closed tail) → words_of k.body ≡ decimal line ∷ outcome
     → Adds (decimal at ++ 32 ∷ (codes "event" ++ 32 ∷ tail)) [] (record { at = at; line = line; outcome = outcome } ∷ [])
 event_line_adds at line outcome a l k words =
-    told_by (two_words_add (decimal at) (codes "event") (number_solid at a) (plain_decimal at) (shown (λ b. b == 32) (codes "event") refl) (plain_codes (codes "event") refl) k)
+    line_reported_by (two_words_add (decimal at) (codes "event") (number_solid at a) (plain_decimal at) (shown (λ b. b == 32) (codes "event") refl) (plain_codes (codes "event") refl) k)
     (no_end (decimal at) (codes "event") (words_of k.body) refl)
     (ap (λ ws. event_in (decimal at ∷ codes "event" ∷ ws)) words ∙ event_words at line outcome a l)
 

@@ -18,10 +18,10 @@ use Rattle.cec_device.specs.State.{State}
 use Rattle.cec_audit.specs.Kept.{IsPlain}
 use Rattle.cec_audit.proofs.OneLine.{plain_reading}
 use Rattle.cec_audit.proofs.Plain.{plain_codes, plain_decimal, plain_more}
-use Rattle.cec_text.specs.ReadingText.{ending_text, told_text, verdict_text}
+use Rattle.cec_text.specs.ReadingText.{ending_text, reported_text, verdict_text}
 use Rattle.cec_trace.specs.TraceText.{comma_list, loser_text, name_at, round_line}
-use Rattle.cec_judge.specs.Told.{EventLine, RoundLine, after_complete, round_by, round_in, told_in}
-use Rattle.judge_laws.specs.ReadBack.{RoundTold, ending_told, round_read, round_text_of}
+use Rattle.cec_judge.specs.Told.{EventLine, RoundLine, after_complete, round_by, round_in, reported_in}
+use Rattle.judge_laws.specs.ReadBack.{RoundReported, ending_reported, round_read, round_text_of}
 use Rattle.judge_laws.proofs.Lines.{Adds, Closed, closed_end, closed_more, closed_word, number_solid, two_words_add}
 use Rattle.judge_laws.proofs.Others.{other_verb}
 
@@ -54,21 +54,21 @@ listed_plain f [] h = plain_codes (codes "-") refl
 listed_plain f (x ∷ xs) h = plain_more (f x) (flat_map (λ t. 44 ∷ t) (map f xs)) (h x) (commas_plain f xs h)
 
 -- what a reading reports
-pub told_plain : (r : Reading) → IsPlain (told_text r) × IsPlain (verdict_text r)
-told_plain r =
-    let end = told_text r ++ (verdict_text r ++ []) in
+pub reported_plain : (r : Reading) → IsPlain (reported_text r) × IsPlain (verdict_text r)
+reported_plain r =
+    let end = reported_text r ++ (verdict_text r ++ []) in
     let after = rest_plain (ending_text r.ending) end (rest_plain (decimal r.at) (ending_text r.ending ++ end) (rest_plain (codes " ") (decimal r.at ++ (ending_text r.ending ++ end))
     (rest_plain (decimal r.begin) (codes " " ++ (decimal r.at ++ (ending_text r.ending ++ end))) (plain_reading r)))) in
-    (front_plain (told_text r) (verdict_text r ++ []) after, front_plain (verdict_text r) [] (rest_plain (told_text r) (verdict_text r ++ []) after))
+    (front_plain (reported_text r) (verdict_text r ++ []) after, front_plain (verdict_text r) [] (rest_plain (reported_text r) (verdict_text r ++ []) after))
 
 -- after the ending
 abbrev pub after : List State → Outcome → List ℕ
 after devices o =
-    told_text o.reading ++ (verdict_text o.reading ++ (codes " by " ++ (comma_list (map (name_at devices) o.survivors.items) ++ (codes " out " ++ (comma_list (map (loser_text devices) o.losers.items) ++ (codes "\n" ++ []))))))
+    reported_text o.reading ++ (verdict_text o.reading ++ (codes " by " ++ (comma_list (map (name_at devices) o.survivors.items) ++ (codes " out " ++ (comma_list (map (loser_text devices) o.losers.items) ++ (codes "\n" ++ []))))))
 
 abbrev pub said_closed : (devices : List State) (o : Outcome) → All (λ d. IsPlain d.name) devices → Closed (after devices o)
 said_closed devices o h =
-    closed_more (told_text o.reading) (told_plain o.reading).0 (closed_more (verdict_text o.reading) (told_plain o.reading).1 (closed_more (codes " by ") (plain_codes (codes " by ") refl)
+    closed_more (reported_text o.reading) (reported_plain o.reading).0 (closed_more (verdict_text o.reading) (reported_plain o.reading).1 (closed_more (codes " by ") (plain_codes (codes " by ") refl)
     (closed_more (comma_list (map (name_at devices) o.survivors.items)) (listed_plain (name_at devices) o.survivors.items (λ n. name_plain devices n h)) (closed_more (codes " out ") (plain_codes (codes " out ") refl)
     (closed_end (comma_list (map (loser_text devices) o.losers.items)) (listed_plain (loser_text devices) o.losers.items (λ x. loser_plain devices x h)))))))
 
@@ -77,8 +77,8 @@ said_closed devices o h =
 text_again : (text : List ℕ) → text_of (words_of text) ≡ text
 text_again text = join_with_byte-slice_split 32 text
 
-told_again : (word text : List ℕ) → told_in (word ∷ words_of text) ≡ (if bytes_eq word (codes "complete") then text else word ++ 32 ∷ text)
-told_again word text = by (words_of text) (omega (arith, length-slice_split (λ b. b == 32) text)) (text_again text)
+reported_again : (word text : List ℕ) → reported_in (word ∷ words_of text) ≡ (if bytes_eq word (codes "complete") then text else word ++ 32 ∷ text)
+reported_again word text = by (words_of text) (omega (arith, length-slice_split (λ b. b == 32) text)) (text_again text)
   where
     by : (words : List (List ℕ)) → 0 < length words → text_of words ≡ text → after_complete word words ≡ (if bytes_eq word (codes "complete") then text else word ++ 32 ∷ text)
     by [] some e = absurd (omega (arith, some))
@@ -97,16 +97,16 @@ pub record IsEnding (e : Ending) (word : List ℕ) : Type 0 where
   spelled : ending_text e ≡ 32 ∷ (word ++ 32 ∷ [])
   plain : IsPlain word
   words : (text : List ℕ) → words_of (word ++ 32 ∷ text) ≡ word ∷ words_of text
-  told : (text : List ℕ) → (if bytes_eq word (codes "complete") then text else word ++ 32 ∷ text) ≡ ending_told e ++ text
+  reported : (text : List ℕ) → (if bytes_eq word (codes "complete") then text else word ++ 32 ∷ text) ≡ ending_reported e ++ text
 
 pub is_ending : (e : Ending) → IsEnding e (ending_word e)
 unfolding ending_word
-is_ending Complete = record { spelled = refl; plain = plain_codes (codes "complete") refl; words = λ text. refl; told = λ text. refl }
-is_ending Short = record { spelled = refl; plain = plain_codes (codes "short") refl; words = λ text. refl; told = λ text. refl }
-is_ending Silent = record { spelled = refl; plain = plain_codes (codes "silent") refl; words = λ text. refl; told = λ text. refl }
-is_ending BadStart = record { spelled = refl; plain = plain_codes (codes "bad-start") refl; words = λ text. refl; told = λ text. refl }
-is_ending Long = record { spelled = refl; plain = plain_codes (codes "long") refl; words = λ text. refl; told = λ text. refl }
-is_ending Open = record { spelled = refl; plain = plain_codes (codes "open") refl; words = λ text. refl; told = λ text. refl }
+is_ending Complete = record { spelled = refl; plain = plain_codes (codes "complete") refl; words = λ text. refl; reported = λ text. refl }
+is_ending Short = record { spelled = refl; plain = plain_codes (codes "short") refl; words = λ text. refl; reported = λ text. refl }
+is_ending Silent = record { spelled = refl; plain = plain_codes (codes "silent") refl; words = λ text. refl; reported = λ text. refl }
+is_ending BadStart = record { spelled = refl; plain = plain_codes (codes "bad-start") refl; words = λ text. refl; reported = λ text. refl }
+is_ending Long = record { spelled = refl; plain = plain_codes (codes "long") refl; words = λ text. refl; reported = λ text. refl }
+is_ending Open = record { spelled = refl; plain = plain_codes (codes "open") refl; words = λ text. refl; reported = λ text. refl }
 
 -- ---- the line
 
@@ -125,15 +125,15 @@ pub line_is : (devices : List State) (o : Outcome)
     → round_line devices o ≡ decimal o.reading.begin ++ 32 ∷ (decimal o.reading.at ++ 32 ∷ (ending_word o.reading.ending ++ 32 ∷ after devices o))
 line_is devices o =
     let by = codes " by " ++ (comma_list (map (name_at devices) o.survivors.items) ++ (codes " out " ++ (comma_list (map (loser_text devices) o.losers.items) ++ (codes "\n" ++ [])))) in
-    five (decimal o.reading.begin) (decimal o.reading.at) (ending_text o.reading.ending) (told_text o.reading) (verdict_text o.reading) by
+    five (decimal o.reading.begin) (decimal o.reading.at) (ending_text o.reading.ending) (reported_text o.reading) (verdict_text o.reading) by
     ∙ ap (λ e. decimal o.reading.begin ++ 32 ∷ (decimal o.reading.at ++ (e ++ after devices o))) (is_ending o.reading.ending).spelled
     ∙ ap (λ l. decimal o.reading.begin ++ 32 ∷ (decimal o.reading.at ++ l)) (spaced (ending_word o.reading.ending) (after devices o))
 
 round_words : (begin at : ℕ) (e : Ending) (text : List ℕ) → begin < 2 ^ 64 → at < 2 ^ 64
-    → round_in (decimal begin ∷ decimal at ∷ words_of (ending_word e ++ 32 ∷ text)) ≡ Some (record { begin = begin; at = at; told = ending_told e ++ text })
+    → round_in (decimal begin ∷ decimal at ∷ words_of (ending_word e ++ 32 ∷ text)) ≡ Some (record { begin = begin; at = at; reported = ending_reported e ++ text })
 round_words begin at e text b a =
     ap (λ ws. round_in (decimal begin ∷ decimal at ∷ ws)) ((is_ending e).words text)
-    ∙ ap (λ t. round_by (number_of (decimal begin)) (number_of (decimal at)) t) (told_again (ending_word e) text ∙ (is_ending e).told text)
+    ∙ ap (λ t. round_by (number_of (decimal begin)) (number_of (decimal at)) t) (reported_again (ending_word e) text ∙ (is_ending e).reported text)
     ∙ rw (number_again begin b, number_again at a) refl
 
 -- after the times
@@ -150,16 +150,16 @@ no_verb at small = by (bytes_eq (decimal at) (codes "event")) refl
         let none : number_of (codes "event") ≡ None = refl in
         let same : Some at ≡ None = sym (number_again at small) ∙ ap number_of ((bytes_eq-Decides (decimal at) (codes "event")).0 e) ∙ none in cc
 
-told_so : {text : List ℕ} {r : Option RoundLine} {e : Option EventLine} {round : RoundLine} → Adds text (option_to_list r) (option_to_list e) → r ≡ Some round → e ≡ None → Adds text (round ∷ []) []
-told_so {text} {r} {e} {round} a h k = subst (λ x. Adds text (option_to_list x) []) h (subst (λ x. Adds text (option_to_list r) (option_to_list x)) k a)
+reported_so : {text : List ℕ} {r : Option RoundLine} {e : Option EventLine} {round : RoundLine} → Adds text (option_to_list r) (option_to_list e) → r ≡ Some round → e ≡ None → Adds text (round ∷ []) []
+reported_so {text} {r} {e} {round} a h k = subst (λ x. Adds text (option_to_list x) []) h (subst (λ x. Adds text (option_to_list r) (option_to_list x)) k a)
 
-pub round_adds : (r : RoundTold) → All (λ d. IsPlain d.name) r.devices → r.outcome.reading.begin < 2 ^ 64 → r.outcome.reading.at < 2 ^ 64
+pub round_adds : (r : RoundReported) → All (λ d. IsPlain d.name) r.devices → r.outcome.reading.begin < 2 ^ 64 → r.outcome.reading.at < 2 ^ 64
     → Adds (round_line r.devices r.outcome) (round_read r ∷ []) []
 round_adds r plain b a =
     let o = r.outcome in
     let word = ending_word o.reading.ending in
     let tail = round_tail r.devices o plain in
     subst (λ t. Adds t (round_read r ∷ []) []) (sym (line_is r.devices o))
-    (told_so (two_words_add (decimal o.reading.begin) (decimal o.reading.at) (number_solid o.reading.begin b) (plain_decimal o.reading.begin) (number_solid o.reading.at a) (plain_decimal o.reading.at) tail)
+    (reported_so (two_words_add (decimal o.reading.begin) (decimal o.reading.at) (number_solid o.reading.begin b) (plain_decimal o.reading.begin) (number_solid o.reading.at a) (plain_decimal o.reading.at) tail)
     (round_words o.reading.begin o.reading.at o.reading.ending (round_text_of r.devices o) b a)
     (other_verb (decimal o.reading.begin) (decimal o.reading.at) (words_of (word ++ 32 ∷ round_text_of r.devices o)) (no_verb o.reading.at a)))

@@ -22,11 +22,11 @@ use Rattle.cec_asm.specs.declared.script.TimedEvent.{TimedEvent}
 use Rattle.cec_asm.proofs.Sound.{scripts_are_sound}
 use Rattle.cec_audit.specs.Kept.{IsPlain}
 use Rattle.cec_trace.specs.TraceText.{round_line}
-use Rattle.cec_run.specs.declared.run.Telling.TheVariants.{Trace}
+use Rattle.cec_run.specs.declared.run.Reporting.TheVariants.{Trace}
 use Rattle.cec_run.specs.declared.run.Totals.{Totals}
 use Rattle.cec_run.specs.declared.run.Turn.{Turn}
 use Rattle.cec_run.specs.declared.run.Turn.TheVariants.{Stop, Apply, Round}
-use Rattle.cec_run.specs.Run.{Config, IsEventTurn, IsTurnBy, Leads, event_turn, first_time, is_by, round_turn, start, start_told, turn_at, turn_of}
+use Rattle.cec_run.specs.Run.{Config, IsEventTurn, IsTurnBy, Leads, event_turn, first_time, is_by, round_turn, start, start_reported, turn_at, turn_of}
 use Rattle.cec_run.specs.RunLine as run_line
 use Rattle.cec_run.specs.Emulate.{IsTraceOf}
 use Rattle.cec_run.proofs.Advance.{round_begins}
@@ -38,7 +38,7 @@ use Rattle.dump_laws.specs.Dumps.{is_word}
 use Rattle.dump_laws.proofs.Head.{name_of}
 use Rattle.driven_laws.specs.Dumps.{names_in}
 use Rattle.driven_laws.proofs.Names.{names_are_words, names_started}
-use Rattle.judge_laws.specs.ReadBack.{EventTold, LinesTellRounds, RoundTold, TracesAreReadBack, event_read, events_by, events_in, events_told, first_event, round_read, rounds_by, rounds_in, rounds_told}
+use Rattle.judge_laws.specs.ReadBack.{EventReported, LinesReportRounds, RoundReported, TracesAreReadBack, event_read, events_by, events_in, events_reported, first_event, round_read, rounds_by, rounds_in, rounds_reported}
 use Rattle.judge_laws.proofs.Lines.{Adds, adds_none, adds_two}
 use Rattle.judge_laws.proofs.Names.{names_applied, names_round, tree_applied}
 use Rattle.judge_laws.proofs.Others.{end_adds, event_adds, ports_add, states_add}
@@ -103,49 +103,49 @@ applies_before end at s (Some time) h = by_test (is_by (max s.close time) (next_
 -- ---- one turn
 
 -- the line of a round is read as that round
-TellsItself : RoundTold → Type 0
-TellsItself r = Adds (round_line r.devices r.outcome) (round_read r ∷ []) []
+ReportsItself : RoundReported → Type 0
+ReportsItself r = Adds (round_line r.devices r.outcome) (round_read r ∷ []) []
 
 -- what it reports, and where it leads
-record Turned (names : List (List ℕ)) (told : List ℕ) (c d : Config) (rs : List RoundTold) (es : List EventTold) : Type 0 where
-  adds : Adds told (map round_read rs) (map event_read es)
-  each : All TellsItself rs
+record Turned (names : List (List ℕ)) (reported : List ℕ) (c d : Config) (rs : List RoundReported) (es : List EventReported) : Type 0 where
+  adds : Adds reported (map round_read rs) (map event_read es)
+  each : All ReportsItself rs
   stands : Stands names d
   order : c.events ≡ map (λ e. e.event) es ++ d.events
 
-event_turned : (names : List (List ℕ)) (edid : Option Edid) (at : ℕ) (events : List TimedEvent) (c d : Config) (told : List ℕ) → IsEventTurn (Trace edid) at events c told d → c.events ≡ events
-    → at < 2 ^ 64 → ArePlain names → Stands names c → Turned names told c d [] (first_event at events c.net)
-event_turned names edid at [] c d told t same small plain h = record {
+event_turned : (names : List (List ℕ)) (edid : Option Edid) (at : ℕ) (events : List TimedEvent) (c d : Config) (reported : List ℕ) → IsEventTurn (Trace edid) at events c reported d → c.events ≡ events
+    → at < 2 ^ 64 → ArePlain names → Stands names c → Turned names reported c d [] (first_event at events c.net)
+event_turned names edid at [] c d reported t same small plain h = record {
   adds = subst (λ x. Adds x [] []) (sym t.0) adds_none;
-  each = All-nil TellsItself;
+  each = All-nil ReportsItself;
   stands = subst (Stands names) (sym t.1) h;
   order = ap (λ (x : Config). x.events) (sym t.1);
 }
-event_turned names edid at (e ∷ events) c d told t same small plain h =
+event_turned names edid at (e ∷ events) c d reported t same small plain h =
     let lines : All (λ x. x.line < 2 ^ 64) (e ∷ events) = subst (λ (es : List TimedEvent). All (λ x. x.line < 2 ^ 64) es) same h.lines in
     let tree : names_in (net_after at e.event c.net).tree ≡ names = tree_applied at e.event c.net ∙ h.tree in
     record {
       adds = subst (λ x. Adds x [] (event_read (record { at = at; event = e; fault = event_fault c.net e.event }) ∷ [])) (sym t.0)
           (adds_two (event_adds at e.line (event_fault c.net e.event) small (lines 0 e (omega arith)))
           (ports_add at edid (is_on_wire c.net.tree) (net_after at e.event c.net).tree small (node_names names (net_after at e.event c.net).tree tree plain)));
-      each = All-nil TellsItself;
+      each = All-nil ReportsItself;
       stands = subst (Stands names) (sym t.1) (record { devices = names_applied at e.event c.net ∙ h.devices; tree = tree; lines = λ k x l. lines (suc k) x (omega arith) });
       order = same ∙ ap (λ (x : Config). e ∷ x.events) (sym t.1);
     }
 
-round_turned : (names : List (List ℕ)) (edid : Option Edid) (end begin : ℕ) (c d : Config) (told : List ℕ) → (t : IsTurnBy (Trace edid) (Round begin) c told d) → begin < end → end ≤ latest_event
-    → ArePlain names → Stands names c → Turned names told c d (record { devices = d.net.devices; outcome = t.0.outcome } ∷ []) []
-unfolding TellsItself
-round_turned names edid end begin c d told t soon limit plain h =
+round_turned : (names : List (List ℕ)) (edid : Option Edid) (end begin : ℕ) (c d : Config) (reported : List ℕ) → (t : IsTurnBy (Trace edid) (Round begin) c reported d) → begin < end → end ≤ latest_event
+    → ArePlain names → Stands names c → Turned names reported c d (record { devices = d.net.devices; outcome = t.0.outcome } ∷ []) []
+unfolding ReportsItself
+round_turned names edid end begin c d reported t soon limit plain h =
     let o = t.0.outcome in
     let starts : o.reading.begin ≡ begin = t.0.next.round.starts in
     let at : o.reading.at ≤ begin + 444861 = omega (arith, t.0.next.round.ends, rounds_are_short.ends (line_of o.wave) begin) in
     let devices : names_of d.net.devices ≡ names = ap (λ (s : NetState). names_of s.devices) t.0.next.after_is ∙ names_round c.net begin o ∙ h.devices in
-    let r : RoundTold = record { devices = d.net.devices; outcome = o } in
-    let own : TellsItself r = round_adds r (device_names names d.net.devices devices plain) (omega (arith, starts, soon, limit)) (omega (arith, at, soon, limit)) in
+    let r : RoundReported = record { devices = d.net.devices; outcome = o } in
+    let own : ReportsItself r = round_adds r (device_names names d.net.devices devices plain) (omega (arith, starts, soon, limit)) (omega (arith, at, soon, limit)) in
     record {
-      adds = subst (λ x. Adds x (round_read r ∷ []) []) (sym t.0.told) own;
-      each = All-cons TellsItself r [] own (All-nil TellsItself);
+      adds = subst (λ x. Adds x (round_read r ∷ []) []) (sym t.0.reported) own;
+      each = All-cons ReportsItself r [] own (All-nil ReportsItself);
       stands = record {
         devices = devices;
         tree = ap (λ (s : NetState). names_in s.tree) t.0.next.after_is ∙ h.tree;
@@ -154,14 +154,14 @@ round_turned names edid end begin c d told t soon limit plain h =
       order = sym t.1;
     }
 
-turned : (names : List (List ℕ)) (edid : Option Edid) (end : ℕ) (turn : Turn) (c d : Config) (told : List ℕ) → turn_at end c ≡ turn → (t : IsTurnBy (Trace edid) turn c told d) → end ≤ latest_event
-    → ArePlain names → Stands names c → Turned names told c d (rounds_by edid turn c told d t) (events_by turn c)
-turned names edid end Stop c d told same t limit plain h = absurd t
-turned names edid end (Apply at) c d told same t limit plain h =
+turned : (names : List (List ℕ)) (edid : Option Edid) (end : ℕ) (turn : Turn) (c d : Config) (reported : List ℕ) → turn_at end c ≡ turn → (t : IsTurnBy (Trace edid) turn c reported d) → end ≤ latest_event
+    → ArePlain names → Stands names c → Turned names reported c d (rounds_by edid turn c reported d t) (events_by turn c)
+turned names edid end Stop c d reported same t limit plain h = absurd t
+turned names edid end (Apply at) c d reported same t limit plain h =
     let soon = applies_before end at c.net (first_time c.events) same in
-    event_turned names edid at c.events c d told t refl (omega (arith, soon, limit)) plain h
-turned names edid end (Round begin) c d told same t limit plain h =
-    round_turned names edid end begin c d told t (round_begins end c.net (first_time c.events) begin same).1 limit plain h
+    event_turned names edid at c.events c d reported t refl (omega (arith, soon, limit)) plain h
+turned names edid end (Round begin) c d reported same t limit plain h =
+    round_turned names edid end begin c d reported t (round_begins end c.net (first_time c.events) begin same).1 limit plain h
 
 -- ---- all turns
 
@@ -169,7 +169,7 @@ all_turned : (names : List (List ℕ)) (edid : Option Edid) (end turns : ℕ) (c
     → Turned names text c d (rounds_in edid end turns c text d l) (events_in edid end turns c text d l)
 all_turned names edid end zero c d text l limit plain h = record {
   adds = subst (λ x. Adds x [] []) (sym l.0) adds_none;
-  each = All-nil TellsItself;
+  each = All-nil ReportsItself;
   stands = subst (Stands names) (sym l.1) h;
   order = ap (λ (x : Config). x.events) (sym l.1);
 }
@@ -184,10 +184,10 @@ all_turned names edid end (suc turns) c d text l limit plain h =
       adds = subst (λ x. Adds x (map round_read (rs ++ qs)) (map event_read (es ++ fs))) (sym l.5)
           (subst (λ x. Adds (l.1 ++ l.2) x (map event_read (es ++ fs))) (sym (map-append round_read rs qs))
           (subst (λ x. Adds (l.1 ++ l.2) (map round_read rs ++ map round_read qs) x) (sym (map-append event_read es fs)) (adds_two one.adds more.adds)));
-      each = All-append TellsItself rs qs one.each more.each;
+      each = All-append ReportsItself rs qs one.each more.each;
       stands = more.stands;
-      order = one.order ∙ ap (λ x. map (λ (e : EventTold). e.event) es ++ x) more.order ∙ sym (append_assoc (map (λ (e : EventTold). e.event) es) (map (λ (e : EventTold). e.event) fs) d.events)
-          ∙ ap (λ x. x ++ d.events) (sym (map-append (λ (e : EventTold). e.event) es fs));
+      order = one.order ∙ ap (λ x. map (λ (e : EventReported). e.event) es ++ x) more.order ∙ sym (append_assoc (map (λ (e : EventReported). e.event) es) (map (λ (e : EventReported). e.event) fs) d.events)
+          ∙ ap (λ x. x ++ d.events) (sym (map-append (λ (e : EventReported). e.event) es fs));
     }
 
 -- ---- these are the rounds of the run
@@ -202,7 +202,7 @@ same_rounds : (edid : Option Edid) (end turns : ℕ) (c d : Config) (text : List
     → map (λ r. r.outcome) (rounds_in edid end turns c text d l) ≡ run_line.rounds_in (Trace edid) end turns c text d l
 same_rounds edid end zero c d text l = refl
 same_rounds edid end (suc turns) c d text l =
-    map-append (λ (r : RoundTold). r.outcome) (rounds_by edid (turn_at end c) c l.1 l.0 l.3) (rounds_in edid end turns l.0 l.2 d l.4)
+    map-append (λ (r : RoundReported). r.outcome) (rounds_by edid (turn_at end c) c l.1 l.0 l.3) (rounds_in edid end turns l.0 l.2 d l.4)
     ∙ ap₂ (λ (a b : List Outcome). a ++ b) (same_by edid (turn_at end c) c l.0 l.1 l.3) (same_rounds edid end turns l.0 d l.2 l.4)
 
 -- ---- the law
@@ -229,21 +229,21 @@ of_mapped : {X Y Z : Type 0} (f : X → Y) (h : Y → Option Z) (xs : List X) �
 of_mapped f h [] = refl
 of_mapped f h (x ∷ xs) = ap (cons_option (h (f x))) (of_mapped f h xs)
 
-seen_so : (text pattern : List ℕ) (span : Span) (rs : List RoundTold) → rounds_of text ≡ map round_read rs
+seen_so : (text pattern : List ℕ) (span : Span) (rs : List RoundReported) → rounds_of text ≡ map round_read rs
     → ends_seen text span pattern ≡ filter_map (λ r. end_by span pattern (Some (round_read r))) rs
 seen_so text pattern span rs e =
     after_none (λ line. round_in (words_of line)) (end_by span pattern) refl (lines_of text) ∙ ap (filter_map (λ r. end_by span pattern (Some r))) e
     ∙ of_mapped round_read (λ r. end_by span pattern (Some r)) rs
 
-abbrev run_told : (topology script text : List ℕ) (totals : Totals) → (p : IsTraceOf topology script text totals) → Type 0
-run_told topology script text totals p =
-    Turned (names_in p.plan.tree) p.trace.run.body (start (first_net p.plan.tree p.course.pulses) p.course.events) p.trace.run.last (rounds_told topology script text totals p) (events_told topology script text totals p)
+abbrev run_reported : (topology script text : List ℕ) (totals : Totals) → (p : IsTraceOf topology script text totals) → Type 0
+run_reported topology script text totals p =
+    Turned (names_in p.plan.tree) p.trace.run.body (start (first_net p.plan.tree p.course.pulses) p.course.events) p.trace.run.last (rounds_reported topology script text totals p) (events_reported topology script text totals p)
 
 -- the names of a topology have no line feed
 pub plain_of : (topology script text : List ℕ) (totals : Totals) → (p : IsTraceOf topology script text totals) → ArePlain (names_in p.plan.tree)
 plain_of topology script text totals p = words_plain (names_in p.plan.tree) (names_are_words topology p.plan p.accepted.plan_is)
 
-run_of : (topology script text : List ℕ) (totals : Totals) → (p : IsTraceOf topology script text totals) → length script < 2 ^ 63 → run_told topology script text totals p
+run_of : (topology script text : List ℕ) (totals : Totals) → (p : IsTraceOf topology script text totals) → length script < 2 ^ 63 → run_reported topology script text totals p
 run_of topology script text totals p small =
     let sound = scripts_are_sound p.plan.tree script p.course p.accepted.course_is in
     all_turned (names_in p.plan.tree) p.edid p.course.end p.trace.run.turns (start (first_net p.plan.tree p.course.pulses) p.course.events) p.trace.run.last p.trace.run.body p.trace.run.leads sound.limit
@@ -259,37 +259,37 @@ traces_are_read_back topology script text totals p small =
     let c = start (first_net p.plan.tree p.course.pulses) p.course.events in
     let last = p.trace.run.last in
     let run = run_of topology script text totals p small in
-    let rs = map round_read (rounds_told topology script text totals p) in
-    let es = map event_read (events_told topology script text totals p) in
+    let rs = map round_read (rounds_reported topology script text totals p) in
+    let es = map event_read (events_reported topology script text totals p) in
     let first = ports_add 0 p.edid (λ device. false) p.plan.tree (omega arith) (node_names names p.plan.tree refl plain) in
     let states = states_add last.net.devices (device_names names last.net.devices run.stands.devices plain) in
     let ends = end_adds p.course.end (omega (arith, limit)) in
     let all : Adds text (rs ++ []) (es ++ []) = subst (λ t. Adds t (rs ++ []) (es ++ []))
-    (sym (p.trace.whole ∙ ap (λ t. start_told (Trace p.edid) c.net ++ t) p.trace.run.whole)) (adds_two first (adds_two run.adds (adds_two states ends))) in
+    (sym (p.trace.whole ∙ ap (λ t. start_reported (Trace p.edid) c.net ++ t) p.trace.run.whole)) (adds_two first (adds_two run.adds (adds_two states ends))) in
     let read = whole_text text rs es all in
     record {
       rounds = read.0;
       outcomes = same_rounds p.edid p.course.end p.trace.run.turns c last p.trace.run.body p.trace.run.leads;
       events = read.1;
-      seen = λ span pattern. seen_so text pattern span (rounds_told topology script text totals p) read.0;
+      seen = λ span pattern. seen_so text pattern span (rounds_reported topology script text totals p) read.0;
       in_order = run.order;
     }
 
 -- ---- a line is that of one round
 
-itself : (rs : List RoundTold) (i : ℕ) (r : RoundTold) → All TellsItself rs → slice_get rs i ≡ Some r → rounds_of (round_line r.devices r.outcome) ≡ round_read r ∷ []
-unfolding TellsItself
+itself : (rs : List RoundReported) (i : ℕ) (r : RoundReported) → All ReportsItself rs → slice_get rs i ≡ Some r → rounds_of (round_line r.devices r.outcome) ≡ round_read r ∷ []
+unfolding ReportsItself
 itself rs i r h e =
-    let tells : TellsItself r = subst TellsItself (get_or_from_slice_get rs i r r e) (h i r (slice_get_within rs i r e)) in
-    ap rounds_of (sym (append-nil (round_line r.devices r.outcome))) ∙ tells.rounds []
+    let reports : ReportsItself r = subst ReportsItself (get_or_from_slice_get rs i r r e) (h i r (slice_get_within rs i r e)) in
+    ap rounds_of (sym (append-nil (round_line r.devices r.outcome))) ∙ reports.rounds []
 
 first_of : RoundLine → List RoundLine → RoundLine
 first_of none [] = none
 first_of none (r ∷ rs) = r
 
-pub lines_tell_rounds : LinesTellRounds
+pub lines_report_rounds : LinesReportRounds
 unfolding first_of
-lines_tell_rounds topology script x other course y s t p q small few i j a b is this same =
-    let one = itself (rounds_told topology script x s p) i a (run_of topology script x s p small).each is in
-    let two = itself (rounds_told other course y t q) j b (run_of other course y t q few).each this in
+lines_report_rounds topology script x other course y s t p q small few i j a b is this same =
+    let one = itself (rounds_reported topology script x s p) i a (run_of topology script x s p small).each is in
+    let two = itself (rounds_reported other course y t q) j b (run_of other course y t q few).each this in
     ap (first_of (round_read a)) (sym one ∙ ap rounds_of same ∙ two)

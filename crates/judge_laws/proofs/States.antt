@@ -29,10 +29,10 @@ use Rattle.cec_trace.specs.PortText.{lines_of_new, lines_of_ports, name_in, port
 use Rattle.cec_trace.specs.StateText.{state_line}
 use Rattle.cec_trace.specs.TraceText.{end_line, event_line, round_line}
 use Rattle.cec_vcd.specs.Dump.{is_space}
-use Rattle.cec_run.specs.declared.run.Telling.TheVariants.{Trace}
+use Rattle.cec_run.specs.declared.run.Reporting.TheVariants.{Trace}
 use Rattle.cec_run.specs.declared.run.Turn.{Turn}
 use Rattle.cec_run.specs.declared.run.Turn.TheVariants.{Stop, Apply, Round}
-use Rattle.cec_run.specs.Run.{Config, IsEventTurn, IsTurnBy, Leads, end_told, first_time, start, start_told, turn_at}
+use Rattle.cec_run.specs.Run.{Config, IsEventTurn, IsTurnBy, Leads, end_reported, first_time, start, start_reported, turn_at}
 use Rattle.cec_run.proofs.Advance.{round_begins}
 use Rattle.cec_driven.specs.Driven.{names_of}
 use Rattle.cec_judge.specs.Told.{is_state_of, state_among, state_line as line_read}
@@ -43,7 +43,7 @@ use Rattle.driven_laws.proofs.Names.{names_are_words, names_started}
 use Rattle.judge_laws.specs.States.{IsStateLine, StateLinesAreRead, device_of}
 use Rattle.judge_laws.proofs.Lines.{Closed, closed_end, closed_word, first_word, lacks_feed, number_solid}
 use Rattle.judge_laws.proofs.Names.{names_applied, names_round, tree_applied}
-use Rattle.judge_laws.proofs.Others.{StateTold, event_tail, name_plain, port_tail, refusal_tail, state_told}
+use Rattle.judge_laws.proofs.Others.{StateReported, event_tail, name_plain, port_tail, refusal_tail, state_reported}
 use Rattle.judge_laws.proofs.Rounds.{round_tail, line_is}
 use Rattle.judge_laws.proofs.Run.{applies_before, device_names, node_names, plain_of, unmapped}
 
@@ -121,19 +121,19 @@ end_stateless end small = number_stateless end small (closed_end (codes "end") (
 
 -- ---- turns
 
-record Passed (names : List (List ℕ)) (told : List ℕ) (d : Config) : Type 0 where
-  stateless : Stateless told
+record Passed (names : List (List ℕ)) (reported : List ℕ) (d : Config) : Type 0 where
+  stateless : Stateless reported
   devices : names_of d.net.devices ≡ names
   tree : names_in d.net.tree ≡ names
 
-event_passed : (names : List (List ℕ)) (edid : Option Edid) (at : ℕ) (events : List TimedEvent) (c d : Config) (told : List ℕ) → IsEventTurn (Trace edid) at events c told d
-    → at < 2 ^ 64 → All IsPlain names → names_of c.net.devices ≡ names → names_in c.net.tree ≡ names → Passed names told d
-event_passed names edid at [] c d told t small plain devices tree = record {
+event_passed : (names : List (List ℕ)) (edid : Option Edid) (at : ℕ) (events : List TimedEvent) (c d : Config) (reported : List ℕ) → IsEventTurn (Trace edid) at events c reported d
+    → at < 2 ^ 64 → All IsPlain names → names_of c.net.devices ≡ names → names_in c.net.tree ≡ names → Passed names reported d
+event_passed names edid at [] c d reported t small plain devices tree = record {
   stateless = subst Stateless (sym t.0) stateless_none;
   devices = ap (λ (x : Config). names_of x.net.devices) t.1 ∙ devices;
   tree = ap (λ (x : Config). names_in x.net.tree) t.1 ∙ tree;
 }
-event_passed names edid at (e ∷ events) c d told t small plain devices tree =
+event_passed names edid at (e ∷ events) c d reported t small plain devices tree =
     let after : names_in (net_after at e.event c.net).tree ≡ names = tree_applied at e.event c.net ∙ tree in
     record {
       stateless = subst Stateless (sym t.0) (stateless_two (event_line at e.line (event_fault c.net e.event)) (port_lines at edid (is_on_wire c.net.tree) (net_after at e.event c.net).tree)
@@ -143,19 +143,19 @@ event_passed names edid at (e ∷ events) c d told t small plain devices tree =
       tree = ap (λ (x : Config). names_in x.net.tree) t.1 ∙ after;
     }
 
-turn_passed : (names : List (List ℕ)) (edid : Option Edid) (end : ℕ) (turn : Turn) (c d : Config) (told : List ℕ) → turn_at end c ≡ turn → IsTurnBy (Trace edid) turn c told d → end ≤ latest_event
-    → All IsPlain names → names_of c.net.devices ≡ names → names_in c.net.tree ≡ names → Passed names told d
-turn_passed names edid end Stop c d told same t limit plain devices tree = absurd t
-turn_passed names edid end (Apply at) c d told same t limit plain devices tree =
+turn_passed : (names : List (List ℕ)) (edid : Option Edid) (end : ℕ) (turn : Turn) (c d : Config) (reported : List ℕ) → turn_at end c ≡ turn → IsTurnBy (Trace edid) turn c reported d → end ≤ latest_event
+    → All IsPlain names → names_of c.net.devices ≡ names → names_in c.net.tree ≡ names → Passed names reported d
+turn_passed names edid end Stop c d reported same t limit plain devices tree = absurd t
+turn_passed names edid end (Apply at) c d reported same t limit plain devices tree =
     let soon = applies_before end at c.net (first_time c.events) same in
-    event_passed names edid at c.events c d told t (omega (arith, soon, limit)) plain devices tree
-turn_passed names edid end (Round begin) c d told same t limit plain devices tree =
+    event_passed names edid at c.events c d reported t (omega (arith, soon, limit)) plain devices tree
+turn_passed names edid end (Round begin) c d reported same t limit plain devices tree =
     let o = t.0.outcome in
     let starts : o.reading.begin ≡ begin = t.0.next.round.starts in
     let soon = (round_begins end c.net (first_time c.events) begin same).1 in
     let after : names_of d.net.devices ≡ names = ap (λ (s : NetState). names_of s.devices) t.0.next.after_is ∙ names_round c.net begin o ∙ devices in
     record {
-      stateless = subst Stateless (sym t.0.told) (round_stateless d.net.devices o (device_names names d.net.devices after plain) (omega (arith, starts, soon, limit)));
+      stateless = subst Stateless (sym t.0.reported) (round_stateless d.net.devices o (device_names names d.net.devices after plain) (omega (arith, starts, soon, limit)));
       devices = after;
       tree = ap (λ (s : NetState). names_in s.tree) t.0.next.after_is ∙ tree;
     }
@@ -185,32 +185,32 @@ chosen true line d later others h k = h
 chosen false line d later others h k = k
 
 -- the line of a device, and what follows its verb
-abbrev line_told : (d : State) → StateTold d → List ℕ
-line_told d t = codes "state" ++ 32 ∷ (d.name ++ 32 ∷ t.body)
+abbrev line_reported : (d : State) → StateReported d → List ℕ
+line_reported d t = codes "state" ++ 32 ∷ (d.name ++ 32 ∷ t.body)
 
-abbrev name_tail : (d : State) (t : StateTold d) → IsPlain d.name → Closed ((d.name ++ 32 ∷ t.body) ++ 10 ∷ [])
+abbrev name_tail : (d : State) (t : StateReported d) → IsPlain d.name → Closed ((d.name ++ 32 ∷ t.body) ++ 10 ∷ [])
 name_tail d t plain = record { body = d.name ++ 32 ∷ t.body; same = refl; plain = plain_more d.name (32 ∷ t.body) plain ((λ e. absurd (omega (arith, e))), t.plain) }
 
-is_its : (name : List ℕ) (d : State) (t : StateTold d) → Lacks (λ b. b == 32) d.name → is_state_of name (words_of (line_told d t)) ≡ bytes_eq d.name name
+is_its : (name : List ℕ) (d : State) (t : StateReported d) → Lacks (λ b. b == 32) d.name → is_state_of name (words_of (line_reported d t)) ≡ bytes_eq d.name name
 is_its name d t solid =
     ap (is_state_of name) (first_word (codes "state") (d.name ++ 32 ∷ t.body) (shown (λ b. b == 32) (codes "state") refl)
     ∙ ap (λ ws. codes "state" ∷ ws) (first_word d.name t.body solid))
 
-first_read : (name rest : List ℕ) (d : State) (t : StateTold d) → IsSolid d.name
-    → line_read (state_line d ++ rest) name ≡ (if bytes_eq d.name name then line_told d t else line_read rest name)
+first_read : (name rest : List ℕ) (d : State) (t : StateReported d) → IsSolid d.name
+    → line_read (state_line d ++ rest) name ≡ (if bytes_eq d.name name then line_reported d t else line_read rest name)
 first_read name rest d t own =
     ap (λ x. line_read (x ++ rest) name) t.whole
     ∙ ap (state_among name) (one_line (codes "state") (plain_codes (codes "state") refl) (name_tail d t own.plain) rest)
-    ∙ ap (λ b. if b then line_told d t else line_read rest name) (is_its name d t own.solid)
+    ∙ ap (λ b. if b then line_reported d t else line_read rest name) (is_its name d t own.solid)
 
 states_read : (name rest : List ℕ) (devices : List State) → All (λ d. IsSolid d.name) devices → line_read rest name ≡ [] → IsStateLine (device_of name devices) (line_read (flat_map state_line devices ++ rest) name)
 states_read name rest [] solid none = none
 states_read name rest (d ∷ devices) solid none =
-    let t = state_told d in
+    let t = state_reported d in
     let more = flat_map state_line devices ++ rest in
     subst (IsStateLine (device_of name (d ∷ devices)))
     (sym (ap (λ x. line_read x name) (append_assoc (state_line d) (flat_map state_line devices) rest) ∙ first_read name more d t (solid 0 d (omega arith))))
-    (chosen (bytes_eq d.name name) (line_told d t) d (line_read more name) (device_of name devices) (sym t.whole) (states_read name rest devices (λ k x l. solid (suc k) x (omega arith)) none))
+    (chosen (bytes_eq d.name name) (line_reported d t) d (line_read more name) (device_of name devices) (sym t.whole) (states_read name rest devices (λ k x l. solid (suc k) x (omega arith)) none))
 
 -- ---- the law
 
@@ -242,9 +242,9 @@ state_lines_are_read topology script text totals p name =
     let first = ports_stateless 0 p.edid (λ device. false) p.plan.tree (omega arith) (node_names names p.plan.tree refl plain) in
     let ending = end_stateless p.course.end (omega (arith, limit)) in
     let none : line_read (end_line p.course.end) name ≡ [] = ap (λ t. line_read t name) (sym (append-nil (end_line p.course.end))) ∙ ending.same name [] in
-    let whole : line_read text name ≡ line_read (end_told (Trace p.edid) p.course.end last.net) name =
-    ap (λ t. line_read t name) (p.trace.whole ∙ ap (λ t. start_told (Trace p.edid) c.net ++ t) p.trace.run.whole)
-    ∙ first.same name (p.trace.run.body ++ end_told (Trace p.edid) p.course.end last.net) ∙ run.stateless.same name (end_told (Trace p.edid) p.course.end last.net) in
+    let whole : line_read text name ≡ line_read (end_reported (Trace p.edid) p.course.end last.net) name =
+    ap (λ t. line_read t name) (p.trace.whole ∙ ap (λ t. start_reported (Trace p.edid) c.net ++ t) p.trace.run.whole)
+    ∙ first.same name (p.trace.run.body ++ end_reported (Trace p.edid) p.course.end last.net) ∙ run.stateless.same name (end_reported (Trace p.edid) p.course.end last.net) in
     subst (IsStateLine (device_of name last.net.devices)) (sym whole)
     (states_read name (end_line p.course.end) last.net.devices
     (unmapped IsSolid (λ (d : State). d.name) last.net.devices (subst (All IsSolid) (sym run.devices) (solid_names names plain words))) none)

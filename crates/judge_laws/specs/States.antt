@@ -6,12 +6,12 @@ use Rattle.cec_wave.specs.Bounds.{latest_event}
 use Rattle.cec_device.specs.State.{State}
 use Rattle.cec_net.specs.State.{first_net}
 use Rattle.cec_trace.specs.StateText.{state_line}
-use Rattle.cec_run.specs.declared.run.Telling.TheVariants.{Trace}
+use Rattle.cec_run.specs.declared.run.Reporting.TheVariants.{Trace}
 use Rattle.cec_run.specs.declared.run.Totals.{Totals}
 use Rattle.cec_run.specs.Run.{Config, start}
 use Rattle.cec_run.specs.Emulate.{IsTraceOf}
 use Rattle.causal_laws.specs.Certain.{AllBefore}
-use Rattle.causal_laws.specs.Causal.{BeginsWith, before_told}
+use Rattle.causal_laws.specs.Causal.{BeginsWith, before_reported}
 use Rattle.cec_expect.specs.Line.{cut_script}
 use Rattle.cec_judge.specs.Told.{state_line as line_read}
 use Rattle.cec_check.specs.Cuts.{cut_course, is_early}
@@ -52,4 +52,4 @@ abbrev pub CutTracesAgree : Type 0
 CutTracesAgree = (topology script x y : List ℕ) (s t : Totals) (time : ℕ) → time ≤ latest_event → (p : IsTraceOf topology script x s) → time ≤ p.course.end
     → IsTraceOf topology (cut_script time script) y t
     → (body : List ℕ) × (last : Config) × AllBefore (Trace p.edid) time (start (first_net p.plan.tree p.course.pulses) (filter (is_early time) p.course.events)) body last
-    × BeginsWith (before_told (Trace p.edid) p.plan.tree p.course.pulses body) x × BeginsWith (before_told (Trace p.edid) p.plan.tree p.course.pulses body) y
+    × BeginsWith (before_reported (Trace p.edid) p.plan.tree p.course.pulses body) x × BeginsWith (before_reported (Trace p.edid) p.plan.tree p.course.pulses body) y

@@ -1,5 +1,5 @@
 //! Laws of what is read of a trace.
-ghost use Rattle.judge_laws.specs.ReadBack.{LinesTellRounds, TracesAreReadBack};
+ghost use Rattle.judge_laws.specs.ReadBack.{LinesReportRounds, TracesAreReadBack};
 ghost use Rattle.judge_laws.specs.States.{CutTracesAgree, StateLinesAreRead, StatesAreOfRuns};
 
 /// The rounds and the events that are read of a trace are those of its run, in order, each once.
@@ -8,8 +8,8 @@ pub fn traces_are_read_back()
 {}
 
 /// Two rounds whose lines in a trace are the same text are read as the same round.
-pub fn lines_tell_rounds()
-    ensures { LinesTellRounds }
+pub fn lines_report_rounds()
+    ensures { LinesReportRounds }
 {}
 
 /// The line of a device's state that is read of a trace says that device's state at the end of the run.

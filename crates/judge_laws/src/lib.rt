@@ -4,6 +4,6 @@
 mod laws;
 
 pub use laws::{
-    cut_traces_agree, lines_tell_rounds, state_lines_are_read, states_are_of_runs,
+    cut_traces_agree, lines_report_rounds, state_lines_are_read, states_are_of_runs,
     traces_are_read_back,
 };

@@ -87,7 +87,7 @@ fn is_cut(rt: &(impl Abort + AllocGlobal), room: &str, start: u64) {
         send(rt, &mut sent, &mut script, line.as_bytes(), true);
     }
     let (said, ended) = said_in(rt, sent.as_slice(), usize::MAX);
-    let told = lines_of(rt, said.as_slice(), Wanted::Trace);
+    let reported = lines_of(rt, said.as_slice(), Wanted::Trace);
     let mut trace = Vec::new(rt.alloc());
     let ran = emulate(
         rt.alloc(),
@@ -96,13 +96,13 @@ fn is_cut(rt: &(impl Abort + AllocGlobal), room: &str, start: u64) {
         &mut Writes::new(&mut trace),
     );
     assert!(rt;
-        ended.is_ok() && ran.is_ok() && told.as_slice() == trace.as_slice(),
+        ended.is_ok() && ran.is_ok() && reported.as_slice() == trace.as_slice(),
         "{start}: {room}"
     );
 }
 
 #[test]
-fn tells_the_trace_of_the_lines_taken(rt: HostRuntime) {
+fn reports_the_trace_of_the_lines_taken(rt: HostRuntime) {
     for room in ROOMS {
         for start in 0..10u64 {
             is_cut(&rt, room, start);

@@ -101,8 +101,8 @@ fn is_said(rt: &(impl Abort + AllocGlobal), dialogue: &str, end: &str) {
     }
     let (said, ended) = said_in(rt, input.as_slice(), usize::MAX);
     assert!(rt; said.as_slice() == dialogue.as_bytes(), "{dialogue}");
-    let told = end_of(rt, &ended);
-    assert!(rt; told.as_str() == end, "{told}");
+    let reported = end_of(rt, &ended);
+    assert!(rt; reported.as_str() == end, "{reported}");
 }
 
 #[test]

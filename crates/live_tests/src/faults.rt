@@ -65,10 +65,10 @@ const FAULTS: &[FaultRow] = &[
 /// A session over this input writes so much, and ends so.
 fn ends_so(rt: &(impl Abort + AllocGlobal), input: &[u8], said: &str, end: &str) {
     let (all, ended) = said_in(rt, input, usize::MAX);
-    let told = lines_of(rt, all.as_slice(), Wanted::Answers);
+    let reported = lines_of(rt, all.as_slice(), Wanted::Answers);
     let fault = end_of(rt, &ended);
     assert!(rt;
-        told.as_slice() == said.as_bytes() && fault.as_str() == end,
+        reported.as_slice() == said.as_bytes() && fault.as_str() == end,
         "{said}{fault}"
     );
 }

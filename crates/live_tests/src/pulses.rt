@@ -43,10 +43,10 @@ fn with_pulses(rt: &(impl Abort + AllocGlobal), count: u64, goes_on: bool) -> Ve
 }
 
 /// What was reported of rounds.
-fn rounds_of(told: &str) -> &str {
-    match told.find("state ") {
-        Some(at) => told.get(..at).unwrap_or(""),
-        None => told,
+fn rounds_of(reported: &str) -> &str {
+    match reported.find("state ") {
+        Some(at) => reported.get(..at).unwrap_or(""),
+        None => reported,
     }
 }
 
@@ -63,8 +63,8 @@ fn takes_five_thousand_pulses(rt: HostRuntime) {
     let last = onset(4_999);
     let last = format!(in rt.alloc(); "\n{last} ").expect(&rt, "a time");
     assert!(&rt; written.contains(last.as_str()), "the last round");
-    let told = lines_of(&rt, said.as_slice(), Wanted::Trace);
-    let told = str::from_utf8(told.as_slice()).unwrap_or("");
+    let reported = lines_of(&rt, said.as_slice(), Wanted::Trace);
+    let reported = str::from_utf8(reported.as_slice()).unwrap_or("");
     let input = with_pulses(&rt, 4_096, false);
     let script = input.get(ROOM.len()..).unwrap_or(b"");
     let mut trace = Vec::new(rt.alloc());
@@ -76,7 +76,7 @@ fn takes_five_thousand_pulses(rt: HostRuntime) {
     );
     let trace = str::from_utf8(trace.as_slice()).unwrap_or("");
     assert!(&rt;
-        ran.is_ok() && told.starts_with(rounds_of(trace)),
+        ran.is_ok() && reported.starts_with(rounds_of(trace)),
         "the trace"
     );
 }

@@ -94,7 +94,7 @@ fn make_narrow(rt: &impl AllocGlobal, most: usize, room: usize) -> Narrow {
 }
 
 /// What is written of the EDID, and why no more was.
-fn told(
+fn reported(
     rt: &(impl Abort + AllocGlobal),
     digits: &str,
     writer: &mut Narrow,
@@ -108,7 +108,7 @@ fn told(
 fn whole_text(rt: HostRuntime) {
     for most in [1, 7, 10_000] {
         let mut writer = make_narrow(&rt, most, 10_000);
-        assert!(rt; told(&rt, EDID, &mut writer).is_ok(), "an edid");
+        assert!(rt; reported(&rt, EDID, &mut writer).is_ok(), "an edid");
         assert!(rt; writer.bytes.as_slice() == MEANING.as_bytes(), "the text");
     }
 }
@@ -118,7 +118,7 @@ fn fronts(rt: HostRuntime) {
     for part in 0..12 {
         let room = part * 100;
         let mut writer = make_narrow(&rt, 64, room);
-        let outcome = told(&rt, EDID, &mut writer);
+        let outcome = reported(&rt, EDID, &mut writer);
         assert!(rt;
             outcome == Err(EdidToTextError::Write(room as u128)),
             "a fault"
@@ -133,7 +133,7 @@ fn fronts(rt: HostRuntime) {
 #[test]
 fn no_edid(rt: HostRuntime) {
     let mut writer = make_narrow(&rt, 64, 10_000);
-    let outcome = told(&rt, "00ff", &mut writer);
+    let outcome = reported(&rt, "00ff", &mut writer);
     assert!(rt; matches!(outcome, Err(EdidToTextError::Edid(_))), "refused");
     assert!(rt; writer.bytes.is_empty(), "nothing written");
 }

@@ -84,7 +84,7 @@ fn words(rt: &(impl Abort + AllocGlobal), line: &str) -> Vec<String> {
 }
 
 /// Runs the program with the words of this line, into a writer with this room, if it is bounded.
-fn told_of<R: Read + Drop>(
+fn reported_of<R: Read + Drop>(
     rt: &(impl Abort + AllocGlobal),
     line: &str,
     mut input: R,
@@ -112,15 +112,15 @@ fn told_of<R: Read + Drop>(
 }
 
 /// The program ended with this status, and wrote this to standard output and this to standard error.
-fn ends(rt: &impl Abort, told: Answer, status: u8, out: &[u8], err: &[u8], line: &str, name: &str) {
-    let right = told.status == status && told.out.as_slice() == out && told.err.as_slice() == err;
+fn ends(rt: &impl Abort, reported: Answer, status: u8, out: &[u8], err: &[u8], line: &str, name: &str) {
+    let right = reported.status == status && reported.out.as_slice() == out && reported.err.as_slice() == err;
     expect(rt, right, line, name);
 }
 
 /// The program writes this, and nothing else.
 fn gives(rt: &(impl Abort + AllocGlobal), line: &str, name: &str, input: &[u8], want: &str) {
-    let told = told_of(rt, line, input, None);
-    ends(rt, told, 0, want.as_bytes(), b"", line, name);
+    let reported = reported_of(rt, line, input, None);
+    ends(rt, reported, 0, want.as_bytes(), b"", line, name);
 }
 
 /// The program writes what each of these cases wants, and nothing else.
@@ -133,31 +133,31 @@ fn gives_each(rt: &(impl Abort + AllocGlobal), cases: &[Case<'_>]) {
 /// The program refuses this input with this fault, and writes nothing to standard output.
 fn refuses(rt: &(impl Abort + AllocGlobal), line: &str, name: &str, input: &[u8], cause: &str) {
     let fault = format!(in rt.alloc(); "hdminet: {cause}\n").expect(rt, "a fault");
-    let told = told_of(rt, line, input, None);
-    ends(rt, told, 1, b"", fault.as_bytes(), line, name);
+    let reported = reported_of(rt, line, input, None);
+    ends(rt, reported, 1, b"", fault.as_bytes(), line, name);
 }
 
 /// What the program writes to standard output, and nothing else.
 fn written(rt: &(impl Abort + AllocGlobal), line: &str, input: &[u8]) -> String {
-    let told = told_of(rt, line, input, None);
-    expect(rt, told.status == 0 && told.err.is_empty(), line, "taken");
-    String::from_utf8(told.out).expect(rt, "a text")
+    let reported = reported_of(rt, line, input, None);
+    expect(rt, reported.status == 0 && reported.err.is_empty(), line, "taken");
+    String::from_utf8(reported.out).expect(rt, "a text")
 }
 
 /// The program writes the front of a text where a writer fails.
 fn writes_front(rt: &(impl Abort + AllocGlobal), line: &str, input: &[u8], front: &[u8]) {
     let fault = format!(in rt.alloc(); "hdminet: write fault after {} bytes\n", front.len());
     let fault = fault.expect(rt, "a fault");
-    let told = told_of(rt, line, input, Some(front.len()));
-    ends(rt, told, 3, front, fault.as_bytes(), line, fault.as_str());
+    let reported = reported_of(rt, line, input, Some(front.len()));
+    ends(rt, reported, 3, front, fault.as_bytes(), line, fault.as_str());
 }
 
 /// Writes byte by byte, into a writer with room for all and into one that fails after each count of bytes in turn.
 fn is_cut(rt: &(impl Abort + AllocGlobal), line: &str, input: &[u8]) {
     let whole = written(rt, line, input);
     let whole = whole.as_bytes();
-    let told = told_of(rt, line, input, Some(whole.len()));
-    ends(rt, told, 0, whole, b"", line, "byte by byte");
+    let reported = reported_of(rt, line, input, Some(whole.len()));
+    ends(rt, reported, 0, whole, b"", line, "byte by byte");
     expect(rt, !whole.is_empty(), line, "something written");
     for room in 0..whole.len() {
         writes_front(rt, line, input, &whole[..room]);
@@ -166,9 +166,9 @@ fn is_cut(rt: &(impl Abort + AllocGlobal), line: &str, input: &[u8]) {
 
 /// The program takes an input and reports no fault, or refuses it, says why and writes nothing. Returns which.
 fn is_taken(rt: &(impl Abort + AllocGlobal), line: &str, input: &[u8]) -> bool {
-    let told = told_of(rt, line, input, None);
-    let taken = told.status == 0 && told.err.is_empty();
-    let refused = told.status == 1 && told.out.is_empty() && told.err.starts_with(b"hdminet: ");
+    let reported = reported_of(rt, line, input, None);
+    let taken = reported.status == 0 && reported.err.is_empty();
+    let refused = reported.status == 1 && reported.out.is_empty() && reported.err.starts_with(b"hdminet: ");
     expect(rt, taken || refused, line, "taken or refused");
     taken
 }

@@ -8,8 +8,8 @@ use Rattle.cec_json.specs.Object.{type_field}
 use Rattle.cec_json.specs.Parts.{after_word}
 use Rattle.cec_json.specs.Values.{string_text}
 use Rattle.cec_json.specs.declared.values.Shape.TheVariants.{Number}
-use Rattle.cec_report_json.specs.TestLine.{expected_fields, place_fields, plain, plain_from, test_told, text_fields, truth}
-use Rattle.report_laws.specs.Tests.{BeginsAsOne, ExpectationsAreTold, IsTold, RefusalsAreTold, count_field, test_fields}
+use Rattle.cec_report_json.specs.TestLine.{expected_fields, place_fields, plain, plain_from, test_reported, text_fields, truth}
+use Rattle.report_laws.specs.Tests.{BeginsAsOne, ExpectationsAreReported, IsReported, RefusalsAreReported, count_field, test_fields}
 use Rattle.report_laws.proofs.Parted.{front_before, no_colon, no_space, one_more, rest_after}
 
 -- ---- the text is that of the script
@@ -41,8 +41,8 @@ place_text line text small =
 abbrev placed : (holds : Bool) (line text : List ℕ) → List ℕ
 placed holds line text = line ++ field_lead (codes "holds") ++ truth holds ++ text_fields text
 
-place_told : (holds : Bool) (line : ℕ) (text : List ℕ) → line < 2 ^ 64 → place_fields holds (place line text) ≡ placed holds (count_field (codes "script_line") line) text
-place_told holds line text small =
+place_reported : (holds : Bool) (line : ℕ) (text : List ℕ) → line < 2 ^ 64 → place_fields holds (place line text) ≡ placed holds (count_field (codes "script_line") line) text
+place_reported holds line text small =
     ap (λ (v : List ℕ). placed holds (field (codes "script_line") Number v) (after_word (place line text))) (front_before 58 (decimal line) (32 ∷ text) refl (no_colon line small))
     ∙ ap (λ (v : List ℕ). placed holds (field (codes "script_line") Number (decimal line)) v) (place_text line text small)
     ∙ ap (λ (v : List ℕ). placed holds v text) (number_field (codes "script_line") line small)
@@ -59,13 +59,13 @@ place_after number line text small =
 abbrev test_by : (number place : List ℕ) → List ℕ
 test_by number place = type_field (codes "test") ++ number ++ place
 
-test_is : (holds : Bool) (number line : ℕ) (text : List ℕ) → number < 2 ^ 64 → line < 2 ^ 64 → test_told holds (after number line text) ≡ test_fields number line holds (text_fields text)
+test_is : (holds : Bool) (number line : ℕ) (text : List ℕ) → number < 2 ^ 64 → line < 2 ^ 64 → test_reported holds (after number line text) ≡ test_fields number line holds (text_fields text)
 test_is holds number line text n l =
     ap (λ (v : List ℕ). test_by (field (codes "test") Number v) (place_fields holds (after_word (after_word (after_word (after number line text))))))
     (front_before 32 (decimal number) (codes "- line " ++ place line text) refl (no_space number n))
     ∙ ap (λ (v : List ℕ). test_by (field (codes "test") Number (decimal number)) (place_fields holds v)) (place_after number line text n)
     ∙ ap (λ (v : List ℕ). test_by v (place_fields holds (place line text))) (number_field (codes "test") number n)
-    ∙ ap (λ (v : List ℕ). test_by (count_field (codes "test") number) v) (place_told holds line text l)
+    ∙ ap (λ (v : List ℕ). test_by (count_field (codes "test") number) v) (place_reported holds line text l)
 
 -- ---- lines of a report
 
@@ -77,10 +77,10 @@ rest_is number line front text =
     ∙ ap (λ (v : List ℕ). decimal number ++ 32 ∷ (codes "- line " ++ v)) (append_assoc (decimal line) (codes ": " ++ (front ++ [])) text)
     ∙ ap (λ (v : List ℕ). after number line (v ++ text)) (append-nil front)
 
-line_told : (holds : Bool) (number line : ℕ) (front text told : List ℕ) → number < 2 ^ 64 → line < 2 ^ 64 → IsTold (test_start number holds line front ++ text) told
-    → told ≡ test_fields number line holds (text_fields (front ++ text))
-line_told true number line front text told n l is = is ∙ ap (test_told true) (rest_is number line front text) ∙ test_is true number line (front ++ text) n l
-line_told false number line front text told n l is = is ∙ ap (test_told false) (rest_is number line front text) ∙ test_is false number line (front ++ text) n l
+line_reported : (holds : Bool) (number line : ℕ) (front text reported : List ℕ) → number < 2 ^ 64 → line < 2 ^ 64 → IsReported (test_start number holds line front ++ text) reported
+    → reported ≡ test_fields number line holds (text_fields (front ++ text))
+line_reported true number line front text reported n l is = is ∙ ap (test_reported true) (rest_is number line front text) ∙ test_is true number line (front ++ text) n l
+line_reported false number line front text reported n l is = is ∙ ap (test_reported false) (rest_is number line front text) ∙ test_is false number line (front ++ text) n l
 
 -- ---- laws
 
@@ -88,10 +88,10 @@ asked_by : (text : List ℕ) → BeginsAsOne text → text_fields (escaped_text 
 asked_by text (rest, inl e) = ap (λ (v : List ℕ). text_fields (escaped_text v)) e ∙ ap (λ (v : List ℕ). expected_fields (escaped_text v)) (sym e)
 asked_by text (rest, inr e) = ap (λ (v : List ℕ). text_fields (escaped_text v)) e ∙ ap (λ (v : List ℕ). expected_fields (escaped_text v)) (sym e)
 
-pub expectations : ExpectationsAreTold
-expectations = λ number line holds text told n l begins is.
-    line_told holds number line [] (escaped_text text) told n l is
+pub expectations : ExpectationsAreReported
+expectations = λ number line holds text reported n l begins is.
+    line_reported holds number line [] (escaped_text text) reported n l is
     ∙ ap (test_fields number line holds) (asked_by text begins ∙ ap (λ (v : List ℕ). field_lead (codes "expectation") ++ string_text v ++ codes ",\"refused\":null") (plain_again text))
 
-pub refusals : RefusalsAreTold
-refusals = λ number line word told n l is. line_told false number line (codes "refused ") (escaped_text word) told n l is
+pub refusals : RefusalsAreReported
+refusals = λ number line word reported n l is. line_reported false number line (codes "refused ") (escaped_text word) reported n l is

@@ -6,13 +6,13 @@ use Rattle.cec_json.specs.Columns.{field, field_lead}
 use Rattle.cec_json.specs.Object.{type_field}
 use Rattle.cec_json.specs.Values.{string_text}
 use Rattle.cec_json.specs.declared.values.Shape.TheVariants.{Text}
-use Rattle.cec_report_json.specs.Object.{IsToldAs, form_of}
+use Rattle.cec_report_json.specs.Object.{IsReportedAs, form_of}
 use Rattle.cec_report_json.specs.TestLine.{truth}
 use Rattle.cec_report_json.specs.declared.object.Report.TheVariants.{Expectations}
 
 -- what the object of a line of a report has after the line
-abbrev pub IsTold : List ℕ → List ℕ → Type 0
-IsTold line told = IsToldAs (form_of Expectations line) line told
+abbrev pub IsReported : List ℕ → List ℕ → Type 0
+IsReported line reported = IsReportedAs (form_of Expectations line) line reported
 
 -- a field whose value is a number
 abbrev pub count_field : List ℕ → ℕ → List ℕ
@@ -28,13 +28,13 @@ abbrev pub BeginsAsOne : List ℕ → Type 0
 BeginsAsOne text = (rest : List ℕ) × ((text ≡ codes "expect " ++ rest) ⊎ (text ≡ codes "label " ++ rest))
 
 -- of an expectation, with the text that the line of the script has
-abbrev pub ExpectationsAreTold : Type 0
-ExpectationsAreTold = (number line : ℕ) (holds : Bool) (text told : List ℕ) → number < 2 ^ 64 → line < 2 ^ 64 → BeginsAsOne text
-    → IsTold (test_start number holds line [] ++ escaped_text text) told
-    → told ≡ test_fields number line holds (field_lead (codes "expectation") ++ string_text text ++ codes ",\"refused\":null")
+abbrev pub ExpectationsAreReported : Type 0
+ExpectationsAreReported = (number line : ℕ) (holds : Bool) (text reported : List ℕ) → number < 2 ^ 64 → line < 2 ^ 64 → BeginsAsOne text
+    → IsReported (test_start number holds line [] ++ escaped_text text) reported
+    → reported ≡ test_fields number line holds (field_lead (codes "expectation") ++ string_text text ++ codes ",\"refused\":null")
 
 -- of a refused event that no line expects
-abbrev pub RefusalsAreTold : Type 0
-RefusalsAreTold = (number line : ℕ) (word told : List ℕ) → number < 2 ^ 64 → line < 2 ^ 64
-    → IsTold (test_start number false line (codes "refused ") ++ escaped_text word) told
-    → told ≡ test_fields number line false (codes ",\"expectation\":null" ++ field (codes "refused") Text (escaped_text word))
+abbrev pub RefusalsAreReported : Type 0
+RefusalsAreReported = (number line : ℕ) (word reported : List ℕ) → number < 2 ^ 64 → line < 2 ^ 64
+    → IsReported (test_start number false line (codes "refused ") ++ escaped_text word) reported
+    → reported ≡ test_fields number line false (codes ",\"expectation\":null" ++ field (codes "refused") Text (escaped_text word))

@@ -3,4 +3,4 @@
 
 mod laws;
 
-pub use laws::{expectations_are_told, refusals_are_told};
+pub use laws::{expectations_are_reported, refusals_are_reported};

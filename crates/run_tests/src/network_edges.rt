@@ -39,7 +39,7 @@ fn all_stand(net: &Net<EdgeWire>, standing: Standing<'_>) -> bool
 type Told = (u64, bool, Standing<'static>);
 
 // These are the next edges.
-fn tells(rt: &impl Abort, net: &mut Net<EdgeWire>, edges: &[Told])
+fn reports(rt: &impl Abort, net: &mut Net<EdgeWire>, edges: &[Told])
     requires { IsSome net.old.heard }
     ensures { IsSome net.new.heard }
 {
@@ -147,7 +147,7 @@ fn has_losers(report: &RoundReport, wanted: &[(usize, usize)]) -> bool {
 // Takes the edges of a round and ends it. A copy stays where it was made.
 fn ends(rt: &impl Abort, net: &mut Net<EdgeWire>, round: &Round) -> bool {
     begins(rt, net);
-    tells(rt, net, round.edges);
+    reports(rt, net, round.edges);
     let is_over = net.next_edge().is_none();
     let copy = net.copy();
     let report = net.finish_round();

@@ -583,27 +583,27 @@ fn stand(run: &Run, text: &str) -> bool {
     }
 }
 
-fn is_told(alloc: Global, run: &Run) -> bool {
+fn is_reported(alloc: Global, run: &Run) -> bool {
     match written(alloc, run) {
         Some(text) => stand(run, text.as_str()),
         None => false,
     }
 }
 
-fn tell(rt: &impl Abort, alloc: Global, runs: &[Run]) {
+fn compare(rt: &impl Abort, alloc: Global, runs: &[Run]) {
     for run in runs {
-        assert!(rt; is_told(alloc, run), "{}", run.what);
+        assert!(rt; is_reported(alloc, run), "{}", run.what);
     }
 }
 
 #[test]
-fn runs_are_told(rt: HostRuntime) {
-    tell(&rt, rt.alloc(), SENDS);
-    tell(&rt, rt.alloc(), STATES);
-    tell(&rt, rt.alloc(), BEGINNINGS);
-    tell(&rt, rt.alloc(), QUEUES_AND_BOXES);
-    tell(&rt, rt.alloc(), RECORDS);
-    tell(&rt, rt.alloc(), EDGE_FILES);
+fn runs_are_reported(rt: HostRuntime) {
+    compare(&rt, rt.alloc(), SENDS);
+    compare(&rt, rt.alloc(), STATES);
+    compare(&rt, rt.alloc(), BEGINNINGS);
+    compare(&rt, rt.alloc(), QUEUES_AND_BOXES);
+    compare(&rt, rt.alloc(), RECORDS);
+    compare(&rt, rt.alloc(), EDGE_FILES);
 }
 
 // 4,096 pulses of 400, each 25,000 after the end of the one before.

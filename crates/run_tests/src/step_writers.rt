@@ -110,8 +110,8 @@ fn holds_front(out: &Stingy, text: &str) -> bool {
 /// `until` into a writer that fails there: the front of its text was written.
 fn is_cut(alloc: Global, stepper: &mut Stepper, room: usize) -> bool {
     let mut out = with_room(alloc, room);
-    let told = until_poll(stepper, &mut out);
-    told == Err(StepError::Write(room as u128)) && holds_front(&out, POLL)
+    let reported = until_poll(stepper, &mut out);
+    reported == Err(StepError::Write(room as u128)) && holds_front(&out, POLL)
 }
 
 /// `until` and the next round, into a writer that does not fail.

@@ -154,18 +154,18 @@ fn writes_front(rt: &(impl Abort + AllocGlobal), row: &Row<'_>, most: usize, roo
         most,
         room,
     };
-    let told = call(rt, row, &mut Writes::new(&mut held));
+    let reported = call(rt, row, &mut Writes::new(&mut held));
     let want = row.want.as_bytes();
     let right = match want.get(..room) {
         Some(front) if room < want.len() => {
             let fault = format!(in rt.alloc(); "write fault after {room} bytes");
-            held.bytes.as_slice() == front && told == fault.expect(rt, "a fault")
+            held.bytes.as_slice() == front && reported == fault.expect(rt, "a fault")
         }
-        _ => held.bytes.as_slice() == want && told.is_empty(),
+        _ => held.bytes.as_slice() == want && reported.is_empty(),
     };
     assert!(rt;
         right,
-        "{}, {most} bytes a call, room for {room}: {told}",
+        "{}, {most} bytes a call, room for {room}: {reported}",
         row.call
     );
 }

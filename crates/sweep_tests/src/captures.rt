@@ -39,7 +39,7 @@ fn captured(rt: &(impl Abort + AllocGlobal), frames: &str) -> Capture {
     read_edges(rt.alloc(), text.as_bytes()).expect(rt, "a capture")
 }
 
-fn told(rt: &(impl Abort + AllocGlobal), done: Result<Tally, CaptureCheckError>) -> String {
+fn reported(rt: &(impl Abort + AllocGlobal), done: Result<Tally, CaptureCheckError>) -> String {
     match done {
         Ok(Tally { count, failed }) => {
             format!(in rt.alloc(); "{failed} of {count}").expect(rt, "a tally")
@@ -65,7 +65,7 @@ fn report_of(
         capture,
         &mut Writes::new(&mut out),
     );
-    (String::from_utf8(out).expect(rt, "a text"), told(rt, done))
+    (String::from_utf8(out).expect(rt, "a text"), reported(rt, done))
 }
 
 #[test]
@@ -84,9 +84,9 @@ fn nothing_is_expected(rt: HostRuntime) {
 
 fn fault_of(rt: &(impl Abort + AllocGlobal), row: &str) -> String {
     let text = row.replace(rt.alloc(), "|", "\n").expect(rt, row);
-    let (report, told) = report_of(rt, &text, &captured(rt, FRAMES));
+    let (report, reported) = report_of(rt, &text, &captured(rt, FRAMES));
     match report.as_str() {
-        "" => told,
+        "" => reported,
         _ => String::from_str(rt.alloc(), "none").expect(rt, row),
     }
 }

@@ -166,24 +166,24 @@ fn read(alloc: Global, text: &str) -> Result<Script, ScriptError> {
     }
 }
 
-fn is_told(alloc: Global, error: &ScriptError, told: &str) -> bool {
+fn is_reported(alloc: Global, error: &ScriptError, reported: &str) -> bool {
     match format!(in alloc; "{error}") {
-        Ok(text) => text.as_str() == told,
+        Ok(text) => text.as_str() == reported,
         Err(_) => false,
     }
 }
 
-fn is_refused(alloc: Global, text: &str, told: &str) -> bool {
+fn is_refused(alloc: Global, text: &str, reported: &str) -> bool {
     match read(alloc, text) {
         Ok(_) => false,
-        Err(error) => is_told(alloc, &error, told),
+        Err(error) => is_reported(alloc, &error, reported),
     }
 }
 
 // The case is a script, and after an arrow what it is refused with.
 fn is_refused_so(alloc: Global, case: &str) -> bool {
     match case.rsplit_once(" => ") {
-        Some((text, told)) => is_refused(alloc, text, told),
+        Some((text, reported)) => is_refused(alloc, text, reported),
         None => false,
     }
 }
@@ -377,8 +377,8 @@ remote e power-off => remote: 0e 6c
 remote e power-on => remote: 0e 6d";
 
 // The event of a line is that key, pressed at the television.
-fn is_key(alloc: Global, words: &str, told: &str) -> bool {
-    let (word, bytes) = told.split_once(": ").unwrap_or((told, ""));
+fn is_key(alloc: Global, words: &str, reported: &str) -> bool {
+    let (word, bytes) = reported.split_once(": ").unwrap_or((reported, ""));
     match event(alloc, "press tv ", words) {
         Some(Event::Key { key, .. }) => key_word(&key) == word && has_bytes(&key, &bytes_of(bytes)),
         _ => false,
@@ -388,8 +388,8 @@ fn is_key(alloc: Global, words: &str, told: &str) -> bool {
 #[test]
 fn reads_each_key(rt: HostRuntime) {
     for line in KEYS.lines() {
-        let (words, told) = line.split_once(" => ").unwrap_or((line, "no row"));
-        case_holds(&rt, is_key(rt.alloc(), words, told), line);
+        let (words, reported) = line.split_once(" => ").unwrap_or((line, "no row"));
+        case_holds(&rt, is_key(rt.alloc(), words, reported), line);
     }
 }
 
@@ -448,9 +448,9 @@ fn script_of(alloc: Global, text: Option<String>) -> Option<Script> {
 }
 
 // Whether a text is refused so, unless there was no memory for it.
-fn refuses(alloc: Global, text: Option<String>, told: &str) -> bool {
+fn refuses(alloc: Global, text: Option<String>, reported: &str) -> bool {
     match text {
-        Some(text) => is_refused(alloc, text.as_str(), told),
+        Some(text) => is_refused(alloc, text.as_str(), reported),
         None => false,
     }
 }
@@ -516,9 +516,9 @@ const ONE_MORE: &[(bool, &str, &str)] = &[
 
 #[test]
 fn refuses_a_line_after_a_long_script(rt: HostRuntime) {
-    for (are_pulses, after, told) in ONE_MORE {
+    for (are_pulses, after, reported) in ONE_MORE {
         let text = long_script(rt.alloc(), *are_pulses, after);
-        case_holds(&rt, refuses(rt.alloc(), text, told), after);
+        case_holds(&rt, refuses(rt.alloc(), text, reported), after);
     }
 }
 

@@ -37,8 +37,8 @@ impl Write for Stingy {
 }
 
 /// A writer with room for the whole text is told of no fault, one with less is told how many bytes were written.
-fn is_right(told: Result<(), WriteFault>, room: usize) -> bool {
-    match told {
+fn is_right(reported: Result<(), WriteFault>, room: usize) -> bool {
+    match reported {
         Ok(()) => room == PLAY_TEXT.len(),
         Err(fault) => room < PLAY_TEXT.len() && fault.count == room as u128,
     }
@@ -53,8 +53,8 @@ fn is_cut_at(room: usize) -> bool {
         held: ArrayVec::new(),
         room,
     };
-    let told = write_frame(&frame, &mut Writes::new(&mut out));
-    is_right(told, room) && PLAY_TEXT.get(..room) == Some(out.held.as_slice())
+    let reported = write_frame(&frame, &mut Writes::new(&mut out));
+    is_right(reported, room) && PLAY_TEXT.get(..room) == Some(out.held.as_slice())
 }
 
 #[test]

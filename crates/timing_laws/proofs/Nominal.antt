@@ -240,14 +240,14 @@ ends_closed low e bits ending at h = by_last (last_ending bits) refl h
 abbrev IsEndOf : ℕ → List Bool → Read → Type 0
 IsEndOf e bits r = (e + 2400 * length bits < r.at + 2400) × (0 < length bits) × (r.ending ≢ Open)
 
-abbrev told_slots : Read → List Bool
-told_slots r = filter_map (λ (s : Slot). s.bit) r.slots
+abbrev reported_slots : Read → List Bool
+reported_slots r = filter_map (λ (s : Slot). s.bit) r.slots
 
 abbrev EndsLater : Line → ℕ → List Bool → ℕ → Option Bool → After → Type 0
-EndsLater low left bits e bit a = IsEndOf e (cons_option bit (told_slots (read_on (read_slots low left bits) a))) (read_on (read_slots low left bits) a)
+EndsLater low left bits e bit a = IsEndOf e (cons_option bit (reported_slots (read_on (read_slots low left bits) a))) (read_on (read_slots low left bits) a)
 
 slots_end : (seats : List Seat) (begin : ℕ) (low : Line) → Calm seats begin low → (left : ℕ) (xs : List Slot) (bits : List Bool) (e : ℕ) → OnSlot low begin left xs bits e → length bits + left ≡ 160 → 0 < left
-    → IsEndOf e (told_slots (read_slots low left bits e)) (read_slots low left bits e)
+    → IsEndOf e (reported_slots (read_slots low left bits e)) (read_slots low left bits e)
 unfolding read_slots
 slots_end seats begin low c zero xs bits e s all some = absurd (omega arith)
 slots_end seats begin low c (suc left) xs bits e s all some =
@@ -256,7 +256,7 @@ slots_end seats begin low c (suc left) xs bits e s all some =
   where
     More : Type 0
     More = (f : ℕ) → length (bits ++ option_to_list (bit_sampled_at low e)) + left ≡ 160 → 0 < left → OnSlot low begin left (xs ++ record { fall = e; bit = bit_sampled_at low e } ∷ []) (bits ++ option_to_list (bit_sampled_at low e)) f
-        → IsEndOf f (told_slots (read_slots low left (bits ++ option_to_list (bit_sampled_at low e)) f)) (read_slots low left (bits ++ option_to_list (bit_sampled_at low e)) f)
+        → IsEndOf f (reported_slots (read_slots low left (bits ++ option_to_list (bit_sampled_at low e)) f)) (read_slots low left (bits ++ option_to_list (bit_sampled_at low e)) f)
 
     by_after : (bit : Bool) → SlotLow low e bit → (a : After) → after_slot low e (last_ending bits) ≡ a → More → EndsLater low left (bits ++ option_to_list (bit_sampled_at low e)) e (Some bit) a
     by_after bit d (Next f) h ih =
@@ -434,7 +434,7 @@ sent_first seats begin low c h =
     let l : Least (frames_of seats) = least_of (frames_of seats) f.0 f.1 in
     let begun : is_begun seats begin [] ≡ true = rw h refl in
     let b = begun_by low begin (start_of low begin) refl in
-    record { calm = c; frame = l.frame; among = l.one; least = is_least (frames_of seats) l; first = low_at_begin seats begin [] low no_pulses (contended seats begin [] low c.line) b.tells begun }
+    record { calm = c; frame = l.frame; among = l.one; least = is_least (frames_of seats) l; first = low_at_begin seats begin [] low no_pulses (contended seats begin [] low c.line) b.reports begun }
 
 pub rounds_are_nominal : RoundsAreNominal
 rounds_are_nominal seats begin o frames wave r h =
@@ -447,10 +447,10 @@ pub ends_later : (seats : List Seat) (begin : ℕ) (o : Outcome) → AreFrames s
     → (begin + 2100 + 2400 * length o.reading.bits.items < o.reading.at) × (0 < length o.reading.bits.items) × (o.reading.ending ≢ Open)
 ends_later seats begin o frames r h =
     let there = d.0 in
-    let bits : o.reading.bits.items ≡ told_slots (read_slots low 160 [] (begin + 4500)) = r.bits ∙ ap (λ (q : Result ℕ ℕ). bits_of (read_start low begin q)) (starts seats begin low s) in
+    let bits : o.reading.bits.items ≡ reported_slots (read_slots low 160 [] (begin + 4500)) = r.bits ∙ ap (λ (q : Result ℕ ℕ). bits_of (read_start low begin q)) (starts seats begin low s) in
     let at : o.reading.at ≡ (read_slots low 160 [] (begin + 4500)).at = r.ends ∙ ap (λ (q : Result ℕ ℕ). (read_start low begin q).at) (starts seats begin low s) in
     let ending : o.reading.ending ≡ (read_slots low 160 [] (begin + 4500)).ending = r.ending ∙ ap (λ (q : Result ℕ ℕ). (read_start low begin q).ending) (starts seats begin low s) in
-    let count : length o.reading.bits.items ≡ length (told_slots (read_slots low 160 [] (begin + 4500))) = ap length bits in
+    let count : length o.reading.bits.items ≡ length (reported_slots (read_slots low 160 [] (begin + 4500))) = ap length bits in
     let some = d.1 in
     (omega (arith, there, count, at), omega (arith, some, count), subst (λ (x : Ending). x ≢ Open) (sym ending) d.2)
   where
@@ -460,5 +460,5 @@ ends_later seats begin o frames r h =
     s : Sent seats begin low
     s = sent_first seats begin low (record { line = r.line; frames = frames }) h
 
-    d : IsEndOf (begin + 4500) (told_slots (read_slots low 160 [] (begin + 4500))) (read_slots low 160 [] (begin + 4500))
+    d : IsEndOf (begin + 4500) (reported_slots (read_slots low 160 [] (begin + 4500))) (read_slots low 160 [] (begin + 4500))
     d = slots_end seats begin low s.calm 160 [] [] (begin + 4500) (record { reached = reached_start low begin (begin + 4500) (starts seats begin low s); time = omega arith; count = refl; fall = slot_falls seats begin low s }) refl (omega arith)

@@ -23,8 +23,8 @@ use Rattle.cec_wire.specs.Contend.{AreFrames, Stays}
 use Rattle.cec_wire.specs.Machine.{acks_until}
 use Rattle.cec_wire.proofs.Differ.{In, in_any, or_right}
 use Rattle.cec_wire.proofs.Lays.{slot_or_none, after_start}
-use Rattle.cec_wire.proofs.Early.{or_cases, and_left, and_right, leaves_more, no_acks, sender_low, Tells}
-use Rattle.cec_wire.proofs.Walk.{over_sampled, quiet_sample, Reached, known_unsampled, told_more}
+use Rattle.cec_wire.proofs.Early.{or_cases, and_left, and_right, leaves_more, no_acks, sender_low, Reports}
+use Rattle.cec_wire.proofs.Walk.{over_sampled, quiet_sample, Reached, known_unsampled, reported_more}
 use Rattle.cec_wire.proofs.Inside.{stays_by, known_here}
 use Rattle.cec_wire.proofs.Law.{in_filter}
 use Rattle.cec_wire.proofs.Holding.{acks_now, done_by}
@@ -130,18 +130,18 @@ puller seats begin t k h =
 -- who makes it low: a winner, an acknowledger, or one who breaks the message
 pub who_makes : (seats : List Seat) (begin : ℕ) (low : Line) → Calm seats begin low → (t : ℕ) (k : Known) → known_at t (reading_of low begin) ≡ k → low t ≡ true
     → Puller seats begin t k ⊎ ((is_acknowledged seats k t ≡ true) ⊎ (is_broken seats k t k.ended ≡ true))
-who_makes seats begin low c t k tells h =
+who_makes seats begin low c t k reports h =
     elim (or_cases (list_any (sender_pulls begin k t) (winning_frames seats)) (is_acknowledged seats k t || is_broken seats k t k.ended) made) [
       | inl a ↦ inl (puller seats begin t k a)
       | inr b ↦ elim (or_cases (is_acknowledged seats k t) (is_broken seats k t k.ended) b) [ inl a ↦ inr (inl a) | inr d ↦ inr (inr d) ]
     ]
   where
     made : (list_any (sender_pulls begin k t) (winning_frames seats) || (is_acknowledged seats k t || is_broken seats k t k.ended)) ≡ true
-    made = ap (λ (m : Known). is_pulled seats begin [] (was_low low t) m t) (sym tells) ∙ sym (c.line t) ∙ h
+    made = ap (λ (m : Known). is_pulled seats begin [] (was_low low t) m t) (sym reports) ∙ sym (c.line t) ∙ h
 
 pub acked_low : (seats : List Seat) (begin : ℕ) (low : Line) → Calm seats begin low → (t : ℕ) (k : Known) → known_at t (reading_of low begin) ≡ k → is_acknowledged seats k t ≡ true → low t ≡ true
-acked_low seats begin low c t k tells h =
-    c.line t ∙ ap (λ (m : Known). is_pulled seats begin [] (was_low low t) m t) tells
+acked_low seats begin low c t k reports h =
+    c.line t ∙ ap (λ (m : Known). is_pulled seats begin [] (was_low low t) m t) reports
     ∙ or_right (list_any (sender_pulls begin k t) (winning_frames seats)) (is_acknowledged seats k t || is_broken seats k t k.ended) (rw h refl)
 
 -- ---- a slot
@@ -191,7 +191,7 @@ starter seats begin low c left xs bits e s = by (who_makes seats begin low c e k
           frame = p.frame;
           among = p.among;
           least = p.least;
-          stays = subst (λ (ys : List Bool). Stays ys (frame_bits p.frame)) s.reached.told (stays_by k (frame_bits p.frame) refl p.goes);
+          stays = subst (λ (ys : List Bool). Stays ys (frame_bits p.frame)) s.reached.reported (stays_by k (frame_bits p.frame) refl p.goes);
           room = is_less (length bits) (length (frame_bits p.frame)) (and_left (nat_lt (length bits) (length (frame_bits p.frame))) _ test);
         }
     by (inr (inl a)) = absurd (false≢true (sym (no_acks seats k e xs 1 (done_by e e xs (omega arith) s.reached.over)) ∙ a))
@@ -212,7 +212,7 @@ NotShort (Some end) = end.ending ≢ Short
 pub record KnownIn (low : Line) (begin : ℕ) (xs : List Slot) (e t : ℕ) : Type 0 where
   pub slot : Slot
   pub ended : Option End
-  pub tells : known_at t (reading_of low begin) ≡ record { slots = xs ++ slot ∷ []; ended = ended }
+  pub reports : known_at t (reading_of low begin) ≡ record { slots = xs ++ slot ∷ []; ended = ended }
   pub falls : slot.fall ≡ e
   pub whole : NotShort ended
 
@@ -246,7 +246,7 @@ pub slot_known : (seats : List Seat) (begin : ℕ) (low : Line) → Calm seats b
     → (t : ℕ) → e < t → t < e + 2400 → KnownIn low begin xs e t
 slot_known seats begin low c left xs bits e s t l h = elim (cases_lt (e + 1050) t) [
   | inl late ↦ by_last late (last_ending bits) refl
-  | inr soon ↦ record { slot = record { fall = e; bit = None }; ended = None; tells = known_unsampled low begin left xs bits e t s.reached (λ u a b. quiet u a (omega arith)) l soon; falls = refl; whole = tt }
+  | inr soon ↦ record { slot = record { fall = e; bit = None }; ended = None; reports = known_unsampled low begin left xs bits e t s.reached (λ u a b. quiet u a (omega arith)) l soon; falls = refl; whole = tt }
 ]
   where
     quiet : (u : ℕ) → e < u → u < e + 2400 → is_fall low u ≡ false
@@ -263,7 +263,7 @@ slot_known seats begin low c left xs bits e s t l h = elim (cases_lt (e + 1050) 
     by_last late None none = record {
       slot = slot;
       ended = None;
-      tells = known_in_slot low begin t e left xs bits s.reached.goes (over_sampled e t xs (omega arith) s.reached.over) l (λ u a b. quiet u a (omega arith)) (omega arith) (no_some (last_ending bits) t (e + 1050) none);
+      reports = known_in_slot low begin t e left xs bits s.reached.goes (over_sampled e t xs (omega arith) s.reached.over) l (λ u a b. quiet u a (omega arith)) (omega arith) (no_some (last_ending bits) t (e + 1050) none);
       falls = refl;
       whole = tt;
     }
@@ -273,7 +273,7 @@ slot_known seats begin low c left xs bits e s t l h = elim (cases_lt (e + 1050) 
         record {
           slot = slot;
           ended = if nat_lt (last_heard x (e + 1050)) t then Some (record { ending = x; at = e + 1050; until = last_heard x (e + 1050) }) else None;
-          tells = known_here low begin left xs bits e t s.reached l (Ends x (e + 1050)) after;
+          reports = known_here low begin left xs bits e t s.reached l (Ends x (e + 1050)) after;
           falls = refl;
           whole = not_short (nat_lt (last_heard x (e + 1050)) t) x (e + 1050) (last_heard x (e + 1050)) (last_not_short bits x some);
         }
@@ -316,7 +316,7 @@ acks_hold e t false h l = let x : e + 600 < 0 = grind (arith, nat_tests) in absu
 pub acks_in : (seats : List Seat) (begin : ℕ) (low : Line) (left : ℕ) (xs : List Slot) (bits : List Bool) (e : ℕ) → OnSlot low begin (suc left) xs bits e
     → (t : ℕ) → e < t → (k : KnownIn low begin xs e t) → is_acknowledged seats (record { slots = xs ++ k.slot ∷ []; ended = k.ended }) t ≡ nat_lt t (acks_until seats bits e)
 acks_in seats begin low left xs bits e s t l k =
-    ap (λ (m : Known). is_acknowledged seats m t) (sym k.tells) ∙ acks_now seats low begin left xs bits e t s.reached s.count l k.slot k.ended k.tells k.falls
+    ap (λ (m : Known). is_acknowledged seats m t) (sym k.reports) ∙ acks_now seats low begin left xs bits e t s.reached s.count l k.slot k.ended k.reports k.falls
 
 -- at 1,500 nobody pulls
 pub high_at : (seats : List Seat) (begin : ℕ) (low : Line) → Calm seats begin low → (left : ℕ) (xs : List Slot) (bits : List Bool) (e : ℕ) → OnSlot low begin (suc left) xs bits e → low (e + 1500) ≡ false
@@ -335,11 +335,11 @@ high_at seats begin low c left xs bits e s = by (low (e + 1500)) refl
 
     by : (b : Bool) → low (e + 1500) ≡ b → low (e + 1500) ≡ false
     by false h = h
-    by true h = absurd (nobody (who_makes seats begin low c (e + 1500) m k.tells h))
+    by true h = absurd (nobody (who_makes seats begin low c (e + 1500) m k.reports h))
 
 -- what is reported with a slot that is not sampled
-pub told_unsampled : (low : Line) (begin left : ℕ) (xs : List Slot) (bits : List Bool) (e : ℕ) → Reached low begin left xs bits e → filter_map (λ (x : Slot). x.bit) (xs ++ record { fall = e; bit = None } ∷ []) ≡ bits
-told_unsampled low begin left xs bits e r = told_more xs bits (record { fall = e; bit = None }) r.told ∙ append-nil bits
+pub reported_unsampled : (low : Line) (begin left : ℕ) (xs : List Slot) (bits : List Bool) (e : ℕ) → Reached low begin left xs bits e → filter_map (λ (x : Slot). x.bit) (xs ++ record { fall = e; bit = None } ∷ []) ≡ bits
+reported_unsampled low begin left xs bits e r = reported_more xs bits (record { fall = e; bit = None }) r.reported ∙ append-nil bits
 
 -- until its sample a sender that stays pulls
 pub sender_in : (seats : List Seat) (begin : ℕ) (low : Line) → Calm seats begin low → (left : ℕ) (xs : List Slot) (bits : List Bool) (e : ℕ) → OnSlot low begin (suc left) xs bits e
@@ -348,7 +348,7 @@ pub sender_in : (seats : List Seat) (begin : ℕ) (low : Line) → Calm seats be
 sender_in seats begin low c left xs bits e s frame among least stays t l h pulls =
     sender_low seats begin [] low t (xs ++ record { fall = e; bit = None } ∷ []) (contended seats begin [] low c.line)
     (known_unsampled low begin left xs bits e t s.reached (λ u a b. quiet_slot seats begin low c (suc left) xs bits e s u a (omega arith)) l h) frame among least
-    (subst (λ (ys : List Bool). Stays ys (frame_bits frame)) (sym (told_unsampled low begin (suc left) xs bits e s.reached)) stays) pulls
+    (subst (λ (ys : List Bool). Stays ys (frame_bits frame)) (sym (reported_unsampled low begin (suc left) xs bits e s.reached)) stays) pulls
 
 -- the first 600
 pub soon_held : (seats : List Seat) (begin : ℕ) (low : Line) → Calm seats begin low → (left : ℕ) (xs : List Slot) (bits : List Bool) (e : ℕ) → OnSlot low begin (suc left) xs bits e
@@ -411,7 +411,7 @@ zero_held seats begin low c left xs bits e s p = held
     not_last = ap (λ (b : Bool). if b then (if slice_index_or bits (length bits - 1) false then Some Complete else if length bits == 159 then Some Long else None) else None) nine_not
 
     stays : Stays bits sent
-    stays = subst (λ (ys : List Bool). Stays ys sent) (told_unsampled low begin (suc left) xs bits e s.reached) (stays_by (record { slots = xs ++ record { fall = e; bit = None } ∷ []; ended = None }) sent refl p.goes)
+    stays = subst (λ (ys : List Bool). Stays ys sent) (reported_unsampled low begin (suc left) xs bits e s.reached) (stays_by (record { slots = xs ++ record { fall = e; bit = None } ∷ []; ended = None }) sent refl p.goes)
 
     pulls : (t : ℕ) → e ≤ t → t < e + 1500 → line_of (sender_stretches begin sent) t ≡ true
     pulls t l h =
@@ -437,7 +437,7 @@ zero_held seats begin low c left xs bits e s p = held
       | inr before ↦ leaves_more bits (false ∷ []) sent n l before ∙ stays n l before
     ]
 
-    after : (t : ℕ) → e + 1050 < t → t < e + 1500 → Tells low begin t (xs ++ record { fall = e; bit = Some false } ∷ [])
+    after : (t : ℕ) → e + 1050 < t → t < e + 1500 → Reports low begin t (xs ++ record { fall = e; bit = Some false } ∷ [])
     after t l h =
         known_in_slot low begin t e left xs bits s.reached.goes (over_sampled e t xs (omega arith) s.reached.over) (omega arith) (λ u a b. quiet_slot seats begin low c (suc left) xs bits e s u a (omega arith)) (omega arith) (no_some (last_ending bits) t (e + 1050) not_last)
         ∙ ap (λ (b : Bool). let k : Known = record { slots = xs ++ record { fall = e; bit = if b then bit_sampled_at low e else None } ∷ []; ended = None } in k) (let y : nat_lt (e + 1050) t ≡ true = grind (arith, nat_tests) in y)
@@ -446,7 +446,7 @@ zero_held seats begin low c left xs bits e s p = held
     held : (t : ℕ) → e + 600 ≤ t → t < e + 1500 → low t ≡ true
     held t l h = elim (cases_lt (e + 1050) t) [
       | inl late ↦ sender_low seats begin [] low t (xs ++ record { fall = e; bit = Some false } ∷ []) (contended seats begin [] low c.line) (after t late h) p.frame p.among p.least
-          (subst (λ (ys : List Bool). Stays ys sent) (sym (told_more xs bits (record { fall = e; bit = Some false }) s.reached.told)) stays_on) (pulls t (omega arith) h)
+          (subst (λ (ys : List Bool). Stays ys sent) (sym (reported_more xs bits (record { fall = e; bit = Some false }) s.reached.reported)) stays_on) (pulls t (omega arith) h)
       | inr early ↦ soon t (omega arith) early
     ]
 
@@ -455,7 +455,7 @@ pub acks_held : (seats : List Seat) (begin : ℕ) (low : Line) → Calm seats be
     → (k : KnownIn low begin xs e (e + 600)) → is_acknowledged seats (record { slots = xs ++ k.slot ∷ []; ended = k.ended }) (e + 600) ≡ true → (t : ℕ) → e + 600 ≤ t → t < e + 1500 → low t ≡ true
 acks_held seats begin low c left xs bits e s k a t l h =
     let m = slot_known seats begin low c left xs bits e s t (omega arith) (omega arith) in
-    acked_low seats begin low c t (record { slots = xs ++ m.slot ∷ []; ended = m.ended }) m.tells
+    acked_low seats begin low c t (record { slots = xs ++ m.slot ∷ []; ended = m.ended }) m.reports
     (acks_in seats begin low left xs bits e s t (omega arith) m ∙ acks_hold e t _ (sym (acks_in seats begin low left xs bits e s (e + 600) (omega arith) k) ∙ a) h)
 
 pub slot_low : (seats : List Seat) (begin : ℕ) (low : Line) → Calm seats begin low → (left : ℕ) (xs : List Slot) (bits : List Bool) (e : ℕ) → OnSlot low begin (suc left) xs bits e → (bit : Bool) × SlotLow low e bit
@@ -465,7 +465,7 @@ slot_low seats begin low c left xs bits e s = by (low (e + 600)) refl
     quiet = quiet_slot seats begin low c (suc left) xs bits e s
 
     here : KnownIn low begin xs e (e + 600)
-    here = record { slot = record { fall = e; bit = None }; ended = None; tells = known_unsampled low begin left xs bits e (e + 600) s.reached (λ u a b. quiet u a (omega arith)) (omega arith) (omega arith); falls = refl; whole = tt }
+    here = record { slot = record { fall = e; bit = None }; ended = None; reports = known_unsampled low begin left xs bits e (e + 600) s.reached (λ u a b. quiet u a (omega arith)) (omega arith) (omega arith); falls = refl; whole = tt }
 
     k : Known
     k = record { slots = xs ++ record { fall = e; bit = None } ∷ []; ended = None }
@@ -479,7 +479,7 @@ slot_low seats begin low c left xs bits e s = by (low (e + 600)) refl
     high h t l m = high_to low (e + 600) t h l (λ u a b. quiet u (omega arith) (omega arith))
 
     by : (b : Bool) → low (e + 600) ≡ b → (bit : Bool) × SlotLow low e bit
-    by true h = (false, made (who_makes seats begin low c (e + 600) k here.tells h))
+    by true h = (false, made (who_makes seats begin low c (e + 600) k here.reports h))
     by false h = (
       true,
       record {

@@ -18,14 +18,14 @@ use Rattle.cec_net.specs.Line.{Move, Happens, Goes, Moves, rounds_of, run_wave}
 use Rattle.cec_net.proofs.Framed.{framed-started}
 use Rattle.cec_asm.specs.Script.{AreFramedEvents}
 use Rattle.cec_asm.specs.declared.script.TimedEvent.{TimedEvent}
-use Rattle.cec_run.specs.declared.run.Telling.{Telling}
-use Rattle.cec_run.specs.declared.run.Telling.TheVariants.{Line}
+use Rattle.cec_run.specs.declared.run.Reporting.{Reporting}
+use Rattle.cec_run.specs.declared.run.Reporting.TheVariants.{Line}
 use Rattle.cec_run.specs.declared.run.Totals.{Totals}
 use Rattle.cec_run.specs.declared.run.Turn.{Turn}
 use Rattle.cec_run.specs.declared.run.Turn.TheVariants.{Stop, Apply, Round}
 use Rattle.cec_run.specs.Run.{Config, start, turn_at, first_time, IsEventTurn, IsRunText, IsTurnBy, Leads}
 use Rattle.cec_run.specs.RunLine.{rounds_by, rounds_in, IsLineText}
-use Rattle.cec_run.specs.OneRun.{rounds_told}
+use Rattle.cec_run.specs.OneRun.{rounds_reported}
 use Rattle.cec_run.proofs.Advance.{round_begins}
 use Rattle.cec_run.proofs.OneRun.{runs_close_soon}
 use Rattle.cec_run.proofs.WholeLine.{lines_are_of_the_rounds}
@@ -42,21 +42,21 @@ record IsMoved (s t : NetState) (os : List Outcome) : Type 0 where
   goes : Moves s moves t
   rounds : rounds_of moves ≡ os
 
-by_event : (telling : Telling) (at : ℕ) (events : List TimedEvent) (c d last : Config) (text : List ℕ) (os : List Outcome) → IsEventTurn telling at events c text d → c.events ≡ events
+by_event : (reporting : Reporting) (at : ℕ) (events : List TimedEvent) (c d last : Config) (text : List ℕ) (os : List Outcome) → IsEventTurn reporting at events c text d → c.events ≡ events
     → AreFramedEvents events → (AreFramedEvents d.events → IsMoved d.net last.net os) → IsMoved c.net last.net os
-by_event telling at [] c d last text os t same f k =
+by_event reporting at [] c d last text os t same f k =
     let m : IsMoved d.net last.net os = k (subst AreFramedEvents (sym (ap (λ (x : Config). x.events) t.1 ∙ same)) tt) in
     subst (λ (s : NetState). IsMoved s last.net os) (ap (λ (x : Config). x.net) t.1) m
-by_event telling at (e ∷ events) c d last text os t same f k =
+by_event reporting at (e ∷ events) c d last text os t same f k =
     let m : IsMoved d.net last.net os = k (subst AreFramedEvents (sym (ap (λ (x : Config). x.events) t.1)) f.1) in
     let n : IsMoved (net_after at e.event c.net) last.net os = subst (λ (s : NetState). IsMoved s last.net os) (ap (λ (x : Config). x.net) t.1) m in
     record { moves = Happens at e.event ∷ n.moves; goes = (f.0, n.goes); rounds = n.rounds }
 
-by_turn : (telling : Telling) (end : ℕ) (turn : Turn) (c d last : Config) (text : List ℕ) (os : List Outcome) → turn_at end c ≡ turn → (t : IsTurnBy telling turn c text d)
-    → AreFramedEvents c.events → (AreFramedEvents d.events → IsMoved d.net last.net os) → IsMoved c.net last.net (rounds_by telling turn c text d t ++ os)
-by_turn telling end Stop c d last text os same t f k = absurd t
-by_turn telling end (Apply at) c d last text os same t f k = by_event telling at c.events c d last text os t refl f k
-by_turn telling end (Round begin) c d last text os same t f k =
+by_turn : (reporting : Reporting) (end : ℕ) (turn : Turn) (c d last : Config) (text : List ℕ) (os : List Outcome) → turn_at end c ≡ turn → (t : IsTurnBy reporting turn c text d)
+    → AreFramedEvents c.events → (AreFramedEvents d.events → IsMoved d.net last.net os) → IsMoved c.net last.net (rounds_by reporting turn c text d t ++ os)
+by_turn reporting end Stop c d last text os same t f k = absurd t
+by_turn reporting end (Apply at) c d last text os same t f k = by_event reporting at c.events c d last text os t refl f k
+by_turn reporting end (Round begin) c d last text os same t f k =
     let m : IsMoved d.net last.net os = k (subst AreFramedEvents (sym t.1) f) in
     let n : IsMoved (after_round c.net begin t.0.outcome) last.net os = subst (λ (s : NetState). IsMoved s last.net os) t.0.next.after_is m in
     record {
@@ -65,11 +65,11 @@ by_turn telling end (Round begin) c d last text os same t f k =
       rounds = ap (λ xs. t.0.outcome ∷ xs) n.rounds;
     }
 
-moved : (telling : Telling) (end turns : ℕ) (c d : Config) (text : List ℕ) (l : Leads telling end turns c text d) → AreFramedEvents c.events
-    → IsMoved c.net d.net (rounds_in telling end turns c text d l)
-moved telling end zero c d text l f = record { moves = []; goes = ap (λ (x : Config). x.net) l.1; rounds = refl }
-moved telling end (suc turns) c d text l f =
-    by_turn telling end (turn_at end c) c l.0 d l.1 (rounds_in telling end turns l.0 l.2 d l.4) refl l.3 f (λ g. moved telling end turns l.0 d l.2 l.4 g)
+moved : (reporting : Reporting) (end turns : ℕ) (c d : Config) (text : List ℕ) (l : Leads reporting end turns c text d) → AreFramedEvents c.events
+    → IsMoved c.net d.net (rounds_in reporting end turns c text d l)
+moved reporting end zero c d text l f = record { moves = []; goes = ap (λ (x : Config). x.net) l.1; rounds = refl }
+moved reporting end (suc turns) c d text l f =
+    by_turn reporting end (turn_at end c) c l.0 d l.1 (rounds_in reporting end turns l.0 l.2 d l.4) refl l.3 f (λ g. moved reporting end turns l.0 d l.2 l.4 g)
 
 -- the waves of rounds make the run's line
 waves_flat : (os : List Outcome) → run_wave os ≡ flat_map (λ ss. ss) (map (λ o. o.wave) os)
@@ -77,29 +77,29 @@ waves_flat [] = refl
 waves_flat (o ∷ os) = ap (λ l. o.wave ++ l) (waves_flat os)
 
 -- its rounds are of nominal times
-told_timed : (telling : Telling) (tree : List Node) (events : List TimedEvent) (end : ℕ) (text : List ℕ) (totals : Totals) → AreFramedEvents events
-    → (told : IsRunText telling end (start (first_net tree []) events) text totals) → AreTimed (rounds_told telling end (start (first_net tree []) events) text totals told)
-told_timed telling tree events end text totals framed told =
-    let m = moved telling end told.run.turns (start (first_net tree []) events) told.run.last told.run.body told.run.leads framed in
-    subst AreTimed m.rounds (runs_are_timed (first_net tree []) told.run.last.net m.moves (framed-started tree []) refl m.goes)
+reported_timed : (reporting : Reporting) (tree : List Node) (events : List TimedEvent) (end : ℕ) (text : List ℕ) (totals : Totals) → AreFramedEvents events
+    → (reported : IsRunText reporting end (start (first_net tree []) events) text totals) → AreTimed (rounds_reported reporting end (start (first_net tree []) events) text totals reported)
+reported_timed reporting tree events end text totals framed reported =
+    let m = moved reporting end reported.run.turns (start (first_net tree []) events) reported.run.last reported.run.body reported.run.leads framed in
+    subst AreTimed m.rounds (runs_are_timed (first_net tree []) reported.run.last.net m.moves (framed-started tree []) refl m.goes)
 
 pub runs_keep_their_times : RunsKeepTheirTimes
-runs_keep_their_times format tree events end text totals framed told limit = (c, record { read = read; capture = is_capture (flat_map (λ ss. ss) waves) last wave over low }, in_time)
+runs_keep_their_times format tree events end text totals framed reported limit = (c, record { read = read; capture = is_capture (flat_map (λ ss. ss) waves) last wave over low }, in_time)
   where
     os : List Outcome
-    os = rounds_told (Line format) end (start (first_net tree []) events) text totals told
+    os = rounds_reported (Line format) end (start (first_net tree []) events) text totals reported
 
     waves : List (List Stretch)
     waves = map (λ (o : Outcome). o.wave) os
 
     last : ℕ
-    last = max end told.run.last.net.close
+    last = max end reported.run.last.net.close
 
     k : IsLineText format os last text
-    k = lines_are_of_the_rounds format tree [] events end text totals no_pulses framed told
+    k = lines_are_of_the_rounds format tree [] events end text totals no_pulses framed reported
 
     low : last ≤ latest_instant
-    low = let soon : told.run.last.net.close ≤ end + 458461 = runs_close_soon (Line format) tree [] events end told.run.turns told.run.body told.run.last no_pulses told.run.leads in omega (arith, soon, limit)
+    low = let soon : reported.run.last.net.close ≤ end + 458461 = runs_close_soon (Line format) tree [] events end reported.run.turns reported.run.body reported.run.last no_pulses reported.run.leads in omega (arith, soon, limit)
 
     wave : IsWave (flat_map (λ ss. ss) waves)
     wave = subst (λ (ss : List Stretch). IsWave ss) (waves_flat os) k.read.wave
@@ -119,4 +119,4 @@ runs_keep_their_times format tree events end text totals framed told limit = (c,
     in_time : KeepsTimes c
     in_time =
         subst (λ (xs : List Listed). AreInTime (first_tape c.edges) xs) (sym readings)
-        (subst (λ (ss : List Stretch). AreInTime (first_tape (edges_of ss)) (map outcome_listed os)) (waves_flat os) (first_in_time os (told_timed (Line format) tree events end text totals framed told)))
+        (subst (λ (ss : List Stretch). AreInTime (first_tape (edges_of ss)) (map outcome_listed os)) (waves_flat os) (first_in_time os (reported_timed (Line format) tree events end text totals framed reported)))

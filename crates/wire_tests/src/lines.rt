@@ -5,7 +5,7 @@ ghost use Rattle.cec_wave.specs.Line.{IsWave};
 use crate::frames::{order_text, part_text, received_text};
 use crate::receivers::{last_text, standing_text};
 use crate::senders::{pull_text, state_text};
-use crate::words::{bits_of, bits_text, is_told, number, stretches_of};
+use crate::words::{bits_of, bits_text, is_reported, number, stretches_of};
 use cec_bits::read_line;
 use cec_frame::Reading;
 use cec_wave::{Pulses, Stretch, Wave, lay};
@@ -189,7 +189,7 @@ fn read_text(rt: &(impl Abort + AllocGlobal), words: &str) -> String {
 }
 
 /// What is reported of what is asked.
-fn told(rt: &(impl Abort + AllocGlobal), asked: &str) -> String {
+fn reported(rt: &(impl Abort + AllocGlobal), asked: &str) -> String {
     let (verb, words) = asked.split_once(' ').unwrap_or((asked, ""));
     match verb {
         "lay" => laid_text(rt, words),
@@ -210,7 +210,7 @@ fn told(rt: &(impl Abort + AllocGlobal), asked: &str) -> String {
 fn comes_out(rt: &(impl Abort + AllocGlobal), case: &str) {
     if !case.starts_with('#') {
         let (asked, want) = case.split_once(" => ").expect(rt, "an answer");
-        is_told(rt, told(rt, asked), want, asked);
+        is_reported(rt, reported(rt, asked), want, asked);
     }
 }
 

@@ -12,7 +12,7 @@ fn fault_text(alloc: Global, error: WatchError) -> Option<String> {
 }
 
 // What is written of a file, or the fault of one of which nothing is written.
-fn told(alloc: Global, file: &[u8]) -> Option<String> {
+fn reported(alloc: Global, file: &[u8]) -> Option<String> {
     let mut out = Vec::new(alloc);
     match watch(alloc, file, &mut Writes::new(&mut out)) {
         Ok(()) => String::from_utf8(out).ok(),
@@ -194,7 +194,7 @@ fn is_front_read(alloc: Global, end: usize) -> bool {
 
 /// The file has these readings, or this fault.
 pub(crate) fn is_read(alloc: Global, file: &[u8], wanted: &[u8]) -> bool {
-    match told(alloc, file) {
+    match reported(alloc, file) {
         Some(text) => text.as_bytes() == wanted,
         None => false,
     }

@@ -15,7 +15,7 @@ struct Listener {
     low: bool,
     count: u32,
     at: u64,
-    told: Told,
+    reported: Told,
 }
 
 impl Listener {
@@ -25,7 +25,7 @@ impl Listener {
             low: false,
             count: 0,
             at: 0,
-            told: Told::Nothing,
+            reported: Told::Nothing,
         }
     }
 
@@ -33,10 +33,10 @@ impl Listener {
         if t <= END {
             match self.receiver.tick(t) {
                 Told::Nothing => {}
-                told => {
+                reported => {
                     self.count = self.count.saturating_add(1);
                     self.at = t;
-                    self.told = told;
+                    self.reported = reported;
                 }
             }
         }
@@ -99,7 +99,7 @@ fn listener_of(rt: &impl Abort, words: &str) -> Listener {
 pub(crate) fn last_text(rt: &(impl Abort + AllocGlobal), words: &str) -> String {
     let mut listener = listener_of(rt, words);
     listener.wait(END);
-    format!(in rt.alloc(); "{} {:?}", listener.at, listener.told).expect(rt, "a text")
+    format!(in rt.alloc(); "{} {:?}", listener.at, listener.reported).expect(rt, "a text")
 }
 
 /// Where it stands before it wakes again, when that is, and how often something was told.

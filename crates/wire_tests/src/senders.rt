@@ -5,7 +5,7 @@ use cec_frame::{Ending, Frame};
 use std::process::Abort;
 
 /// The bit of a slot, or an early end.
-fn told_of(rt: &impl Abort, word: &str) -> Told {
+fn reported_of(rt: &impl Abort, word: &str) -> Told {
     match word.split_once(':') {
         Some((slot, bit)) => Told::Bit(slot.parse().expect(rt, "a slot"), bit == "1"),
         None => Told::Ended(Ending::Short),
@@ -14,8 +14,8 @@ fn told_of(rt: &impl Abort, word: &str) -> Told {
 
 /// It hears what a receiver reports at an instant.
 fn hear(rt: &impl Abort, sender: &mut Sender, word: &str) {
-    let (told, at) = word.split_once('@').expect(rt, "an instant");
-    sender.heard(told_of(rt, told), u64::from(number(rt, at)));
+    let (reported, at) = word.split_once('@').expect(rt, "an instant");
+    sender.heard(reported_of(rt, reported), u64::from(number(rt, at)));
 }
 
 /// A sender of a poll that began at 12,000 and has heard this.

@@ -5,8 +5,8 @@ use cec_wave::Stretch;
 use std::process::Abort;
 
 /// Asserts that this is told of a case.
-pub(crate) fn is_told(rt: &impl Abort, told: String, want: &str, case: &str) {
-    assert!(rt; told.as_str() == want, "{case}: {told}");
+pub(crate) fn is_reported(rt: &impl Abort, reported: String, want: &str, case: &str) {
+    assert!(rt; reported.as_str() == want, "{case}: {reported}");
 }
 
 pub(crate) fn number(rt: &impl Abort, word: &str) -> u32 {

@@ -65,19 +65,19 @@ fn two_parts<'a>(rt: &impl Abort, case: &'a str) -> (&'a str, &'a str) {
 }
 
 /// The answer is the plain one, whose fault ends here, with this line and perhaps more after it; neither has any output.
-fn adds_to(told: &Answer, plain: &Answer, second: &[u8]) -> bool {
-    let silent = told.out.is_empty() && plain.out.is_empty();
-    let after = told.err.strip_prefix(plain.err.as_slice());
-    silent && told.status == plain.status && after.unwrap_or(b"").starts_with(second)
+fn adds_to(reported: &Answer, plain: &Answer, second: &[u8]) -> bool {
+    let silent = reported.out.is_empty() && plain.out.is_empty();
+    let after = reported.err.strip_prefix(plain.err.as_slice());
+    silent && reported.status == plain.status && after.unwrap_or(b"").starts_with(second)
 }
 
 /// The program refuses an input with one line, and with `--explain` the same line and this one follow.
 fn is_explained(rt: &(impl Abort + AllocGlobal), line: &str, input: &[u8], second: &str) {
     let explained = format!(in rt.alloc(); "{line} --explain").expect(rt, "a command line");
     let second_line = format!(in rt.alloc(); "{second}\n").expect(rt, "a line");
-    let told = told_of(rt, explained.as_str(), input);
-    let plain = told_of(rt, line, input);
-    let right = adds_to(&told, &plain, second_line.as_bytes());
+    let reported = reported_of(rt, explained.as_str(), input);
+    let plain = reported_of(rt, line, input);
+    let right = adds_to(&reported, &plain, second_line.as_bytes());
     expect(rt, right, line, second);
 }
 
@@ -93,9 +93,9 @@ fn faults_are_followed_by_their_explanation(rt: HostRuntime) {
 
 #[test]
 fn a_file_name_is_explained(rt: HostRuntime) {
-    let told = told_of(&rt, "run tv.net --explain", b"");
-    let refused = told.status == 2 && told.out.is_empty();
-    let said = String::from_utf8(told.err).expect(&rt, "a text");
+    let reported = reported_of(&rt, "run tv.net --explain", b"");
+    let refused = reported.status == 2 && reported.out.is_empty();
+    let said = String::from_utf8(reported.err).expect(&rt, "a text");
     let said = said.as_str();
     let explained = said.contains("tv.net") && said.ends_with("as `hdminet run < FILE`\n");
     expect(&rt, refused && explained, "run", said);
@@ -115,9 +115,9 @@ run --bogus => For more information, try '--help'.
 fn files_and_help_are_explained_without_a_flag(rt: HostRuntime) {
     for case in MEANT.lines() {
         let (line, last) = two_parts(&rt, case);
-        let told = told_of(&rt, line, b"");
-        let refused = told.status == 2 && told.out.is_empty();
-        let said = String::from_utf8(told.err).expect(&rt, "a text");
+        let reported = reported_of(&rt, line, b"");
+        let refused = reported.status == 2 && reported.out.is_empty();
+        let said = String::from_utf8(reported.err).expect(&rt, "a text");
         let right = said.as_str().lines().last() == Some(last);
         expect(&rt, refused && right, line, last);
     }

@@ -578,25 +578,25 @@ mon --explain
 ";
 
 /// The program refuses the input of a case with its fault, and explains it so.
-fn is_told(rt: &(impl Abort + AllocGlobal), case: &str) {
+fn is_reported(rt: &(impl Abort + AllocGlobal), case: &str) {
     let (line, rest) = case.split_once('\n').unwrap_or((case, ""));
     let (input, want) = rest.split_once("=> ").unwrap_or((rest, ""));
-    let told = told_of(rt, line, input.as_bytes());
-    let said = told.err.strip_prefix(b"hdminet: ").unwrap_or(b"");
-    let right = told.status == 1 && told.out.is_empty() && said == want.as_bytes();
+    let reported = reported_of(rt, line, input.as_bytes());
+    let said = reported.err.strip_prefix(b"hdminet: ").unwrap_or(b"");
+    let right = reported.status == 1 && reported.out.is_empty() && said == want.as_bytes();
     expect(rt, right, line, case);
 }
 
-pub(super) fn are_told(rt: &(impl Abort + AllocGlobal), cases: &str) {
+pub(super) fn are_reported(rt: &(impl Abort + AllocGlobal), cases: &str) {
     for case in cases.split("--\n") {
-        is_told(rt, case);
+        is_reported(rt, case);
     }
 }
 
 #[test]
 fn faults_are_explained(rt: HostRuntime) {
-    are_told(&rt, NETWORKS);
-    are_told(&rt, STEPS);
-    are_told(&rt, TESTS);
-    are_told(&rt, FRAMES);
+    are_reported(&rt, NETWORKS);
+    are_reported(&rt, STEPS);
+    are_reported(&rt, TESTS);
+    are_reported(&rt, FRAMES);
 }

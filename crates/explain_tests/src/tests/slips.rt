@@ -1,5 +1,5 @@
 //! What `--explain` says of what is often written otherwise.
-use super::explanations::are_told;
+use super::explanations::are_reported;
 use super::*;
 
 // The tables are those of the other explanations.
@@ -693,10 +693,10 @@ makers SAM=> text: syntax 2
 
 #[test]
 fn slips_are_explained(rt: HostRuntime) {
-    are_told(&rt, KEYS);
-    are_told(&rt, TOPOLOGIES);
-    are_told(&rt, LINES);
-    are_told(&rt, CAPTURES);
-    are_told(&rt, EDIDS);
-    are_told(&rt, EDID_TEXTS);
+    are_reported(&rt, KEYS);
+    are_reported(&rt, TOPOLOGIES);
+    are_reported(&rt, LINES);
+    are_reported(&rt, CAPTURES);
+    are_reported(&rt, EDIDS);
+    are_reported(&rt, EDID_TEXTS);
 }

@@ -61,9 +61,9 @@ const LOST: &[u8] = b"# cec-ctl --store-pin
 
 #[test]
 fn names_the_events_that_were_lost(rt: HostRuntime) {
-    let told = told_of(&rt, "mon", LOST, None);
+    let reported = reported_of(&rt, "mon", LOST, None);
     let err = b"hdminet: events were lost before line 4\n";
-    ends(&rt, told, 0, READINGS.as_bytes(), err, "mon", "lost events");
+    ends(&rt, reported, 0, READINGS.as_bytes(), err, "mon", "lost events");
 }
 
 /// What an audit says below the reading: the time after it and its widths.
@@ -91,7 +91,7 @@ mon --audit => 1000 0; => line 2: line
 ";
 
 #[test]
-fn tells_the_line_of_a_capture_at_fault(rt: HostRuntime) {
+fn reports_the_line_of_a_capture_at_fault(rt: HostRuntime) {
     for case in REFUSED.lines() {
         let (line, text, cause) = three_parts(&rt, case);
         let input = with_lines(&rt, text);

@@ -1,6 +1,6 @@
 use super::*;
 use hdminet_program::ProgramFault;
-use hdminet_program::program::tell;
+use hdminet_program::program::write_fault;
 use std::alloc::AllocError;
 use std::process::Abort;
 
@@ -171,8 +171,8 @@ step tv.steps
 
 /// The program refuses these words.
 fn refuses_line(rt: &(impl Abort + AllocGlobal), line: &str) {
-    let told = told_of(rt, line, b"".as_slice(), None);
-    let refused = told.status == 2 && told.out.is_empty() && !told.err.is_empty();
+    let reported = reported_of(rt, line, b"".as_slice(), None);
+    let refused = reported.status == 2 && reported.out.is_empty() && !reported.err.is_empty();
     expect(rt, refused, line, "refused");
 }
 
@@ -184,15 +184,15 @@ fn refuses_other_command_lines(rt: HostRuntime) {
 }
 
 #[test]
-fn tells_that_help_was_not_written(rt: HostRuntime) {
+fn reports_that_help_was_not_written(rt: HostRuntime) {
     writes_front(&rt, "--help", b"", b"Emulates ");
 }
 
 /// The program reports a fault so, and ends with this status.
-fn tells(rt: &(impl Abort + AllocGlobal), fault: ProgramFault, text: &str, status: u8) {
+fn reports(rt: &(impl Abort + AllocGlobal), fault: ProgramFault, text: &str, status: u8) {
     let mut err = Vec::new(rt.alloc());
-    let told = tell(&fault, &mut Writes::new(&mut err)) == status;
-    expect(rt, told && err.as_slice() == text.as_bytes(), "", text);
+    let reported = write_fault(&fault, &mut Writes::new(&mut err)) == status;
+    expect(rt, reported && err.as_slice() == text.as_bytes(), "", text);
 }
 
 /// The program was not handed its words, for this reason.
@@ -201,10 +201,10 @@ fn of_words(reason: ErrorKind) -> ProgramFault {
 }
 
 #[test]
-fn tells_why_it_has_no_words_or_no_memory(rt: HostRuntime) {
+fn reports_why_it_has_no_words_or_no_memory(rt: HostRuntime) {
     let no_memory = "hdminet: no memory\n";
-    tells(&rt, ProgramFault::Memory(AllocError), no_memory, 4);
-    tells(&rt, of_words(ErrorKind::OutOfMemory), no_memory, 4);
+    reports(&rt, ProgramFault::Memory(AllocError), no_memory, 4);
+    reports(&rt, of_words(ErrorKind::OutOfMemory), no_memory, 4);
     let not_text = "hdminet: an argument is not UTF-8\n";
-    tells(&rt, of_words(ErrorKind::InvalidData), not_text, 2);
+    reports(&rt, of_words(ErrorKind::InvalidData), not_text, 2);
 }

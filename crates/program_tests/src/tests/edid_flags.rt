@@ -45,10 +45,10 @@ fn writes_other_forms(rt: HostRuntime) {
     let flags = "edid --text --address 1.2.0.0";
     gives(&rt, flags, "hex", own.as_str().as_bytes(), line.as_str());
     gives(&rt, "edid --only-address", "alone", &bytes, "1.2.0.0\n");
-    let told = told_of(&rt, "edid --raw", bytes.as_slice(), None);
-    ends(&rt, told, 0, &bytes, b"", "edid --raw", "bytes");
-    let told = told_of(&rt, "edid --raw --text", text.as_str().as_bytes(), None);
-    ends(&rt, told, 0, &bytes, b"", "edid --raw --text", "bytes");
+    let reported = reported_of(&rt, "edid --raw", bytes.as_slice(), None);
+    ends(&rt, reported, 0, &bytes, b"", "edid --raw", "bytes");
+    let reported = reported_of(&rt, "edid --raw --text", text.as_str().as_bytes(), None);
+    ends(&rt, reported, 0, &bytes, b"", "edid --raw --text", "bytes");
     gives(
         &rt,
         "edid --text --only-address",
@@ -100,10 +100,10 @@ fn reads_hex_dumps(rt: HostRuntime) {
         plain,
         "1.2.0.0\n",
     );
-    let told = told_of(&rt, "edid --hex --raw", plain, None);
+    let reported = reported_of(&rt, "edid --hex --raw", plain, None);
     ends(
         &rt,
-        told,
+        reported,
         0,
         &bytes_of(&rt, digits.as_str()),
         b"",
@@ -153,11 +153,11 @@ fn display(rt: &(impl Abort + AllocGlobal), words: &str) -> Vec<u8> {
 }
 
 #[test]
-fn tells_the_rules_that_are_broken(rt: HostRuntime) {
+fn reports_the_rules_that_are_broken(rt: HostRuntime) {
     for case in CHECKED.lines() {
         let (words, status, lines) = three_parts(&rt, case);
         let lines = with_lines(&rt, lines);
-        let told = told_of(&rt, "edid --check", display(&rt, words).as_slice(), None);
+        let reported = reported_of(&rt, "edid --check", display(&rt, words).as_slice(), None);
         let fails = status == "5";
         let (status, err) = if fails {
             (5, "hdminet: edid: a rule fails\n")
@@ -166,7 +166,7 @@ fn tells_the_rules_that_are_broken(rt: HostRuntime) {
         };
         ends(
             &rt,
-            told,
+            reported,
             status,
             lines.as_str().as_bytes(),
             err.as_bytes(),
@@ -189,9 +189,9 @@ fn explains_the_rules_that_are_broken(rt: HostRuntime) {
         let (words, status, lines) = three_parts(&rt, case);
         let lines = with_lines(&rt, lines);
         let bytes = display(&rt, words);
-        let told = told_of(&rt, "edid --check --explain", bytes.as_slice(), None);
-        let status_is_right = told.status == if status == "5" { 5 } else { 0 };
-        let right = status_is_right && told.err.as_slice() == lines.as_bytes();
+        let reported = reported_of(&rt, "edid --check --explain", bytes.as_slice(), None);
+        let status_is_right = reported.status == if status == "5" { 5 } else { 0 };
+        let right = status_is_right && reported.err.as_slice() == lines.as_bytes();
         expect(&rt, right, "edid --check --explain", words);
     }
 }
@@ -201,7 +201,7 @@ fn explains_the_rules_that_are_broken(rt: HostRuntime) {
 fn checks_what_is_passed_on(rt: HostRuntime) {
     let bytes = display(&rt, "0e d4 f1 b1");
     gives(&rt, "edid --check --port 2", "a port", &bytes, "");
-    let told = told_of(
+    let reported = reported_of(
         &rt,
         "edid --address 0.0.0.0 --check",
         bytes.as_slice(),
@@ -210,7 +210,7 @@ fn checks_what_is_passed_on(rt: HostRuntime) {
     let err = b"hdminet: edid: a rule fails\n";
     ends(
         &rt,
-        told,
+        reported,
         5,
         b"fail address\n",
         err,
@@ -253,10 +253,10 @@ fn refuses_what_is_no_edid(rt: HostRuntime) {
 #[test]
 fn explains_why_there_is_no_address(rt: HostRuntime) {
     let bare = bytes_of(&rt, blocks(&rt, "020300f1", "0a").as_str());
-    let told = told_of(&rt, "edid --only-address --explain", bare.as_slice(), None);
-    let right = told.status == 1
-        && told.out.is_empty()
-        && told.err.starts_with(b"hdminet: edid: no-hdmi-block\n")
-        && told.err.ends_with(b"\n  extension 1 is a CTA-861 block without data blocks\n");
+    let reported = reported_of(&rt, "edid --only-address --explain", bare.as_slice(), None);
+    let right = reported.status == 1
+        && reported.out.is_empty()
+        && reported.err.starts_with(b"hdminet: edid: no-hdmi-block\n")
+        && reported.err.ends_with(b"\n  extension 1 is a CTA-861 block without data blocks\n");
     expect(&rt, right, "edid --only-address --explain", "bare");
 }

@@ -92,7 +92,7 @@ pub(super) fn gives_of_hex(
 
 /// The program finds this in the EDID of these digits, and ends with status 5 where a rule fails.
 pub(super) fn finds_of_hex(rt: &(impl Abort + AllocGlobal), name: &str, digits: &str, want: &str) {
-    let told = told_of(rt, "edid --check", bytes_of(rt, digits).as_slice(), None);
+    let reported = reported_of(rt, "edid --check", bytes_of(rt, digits).as_slice(), None);
     let fails = want.lines().any(|line| line.starts_with("fail"));
     let (status, err) = if fails {
         (5, "hdminet: edid: a rule fails\n")
@@ -102,7 +102,7 @@ pub(super) fn finds_of_hex(rt: &(impl Abort + AllocGlobal), name: &str, digits: 
     let bytes = want.as_bytes();
     ends(
         rt,
-        told,
+        reported,
         status,
         bytes,
         err.as_bytes(),
@@ -229,7 +229,7 @@ fn refuses_the_front_of_an_edid(rt: HostRuntime) {
 }
 
 #[test]
-fn tells_why_bytes_are_no_edid(rt: HostRuntime) {
+fn reports_why_bytes_are_no_edid(rt: HostRuntime) {
     for case in CHANGED.lines() {
         let (change, cause) = two_parts(&rt, case);
         is_no_edid(&rt, changed(&rt, change).as_str(), cause);

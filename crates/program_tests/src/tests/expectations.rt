@@ -11,8 +11,8 @@ pub(super) fn fails_tests(rt: &(impl Abort + AllocGlobal), line: &str, input: &[
         }
     }
     let fault = format!(in rt.alloc(); "hdminet: failed tests {failed}\n").expect(rt, "a fault");
-    let told = told_of(rt, line, input, None);
-    ends(rt, told, 1, want.as_bytes(), fault.as_bytes(), line, want);
+    let reported = reported_of(rt, line, input, None);
+    ends(rt, reported, 1, want.as_bytes(), fault.as_bytes(), line, want);
 }
 
 /// A script over a television, and the fault of its first line that is no expectation or label.
@@ -114,17 +114,17 @@ const FAILS_COUNTED: &[u8] = b"hdminet: failed tests 3
 ";
 
 #[test]
-fn a_failure_is_written_and_told(rt: HostRuntime) {
+fn a_failure_is_written_and_reported(rt: HostRuntime) {
     let input = over_television(&rt, FAILS);
     let input = input.as_str().as_bytes();
     fails_tests(&rt, "check", input, FAILS_REPORT);
     let report = FAILS_REPORT.as_bytes();
-    let told = told_of(&rt, "--explain check", input, None);
-    ends(&rt, told, 1, report, FAILS_COUNTED, "check", "explained");
-    let told = told_of(&rt, "check", input, Some(report.len()));
+    let reported = reported_of(&rt, "--explain check", input, None);
+    ends(&rt, reported, 1, report, FAILS_COUNTED, "check", "explained");
+    let reported = reported_of(&rt, "check", input, Some(report.len()));
     ends(
         &rt,
-        told,
+        reported,
         1,
         report,
         b"hdminet: failed tests 3\n",

@@ -17,14 +17,14 @@ run --explain --strict => run => hdminet: refused events 1;  rounds 2, complete 
 ";
 
 #[test]
-fn a_strict_run_writes_all_and_tells_of_events_refused(rt: HostRuntime) {
+fn a_strict_run_writes_all_and_reports_of_events_refused(rt: HostRuntime) {
     for case in STRICT.lines() {
         let (strict, plain, fault) = three_parts(&rt, case);
         let out = written(&rt, plain, REFUSED_KEY);
         let fault = with_lines(&rt, fault);
-        let told = told_of(&rt, strict, REFUSED_KEY, None);
+        let reported = reported_of(&rt, strict, REFUSED_KEY, None);
         let (out, fault) = (out.as_bytes(), fault.as_bytes());
-        ends(&rt, told, 1, out, fault, strict, "an event refused");
+        ends(&rt, reported, 1, out, fault, strict, "an event refused");
     }
 }
 
@@ -36,7 +36,7 @@ const NO_FRAMES: &str = "\
 ";
 
 #[test]
-fn tells_which_line_has_no_frame(rt: HostRuntime) {
+fn reports_which_line_has_no_frame(rt: HostRuntime) {
     for case in NO_FRAMES.lines() {
         let (text, cause) = two_parts(&rt, case);
         let text = with_lines(&rt, text);
@@ -74,7 +74,7 @@ const POLL: &[u8] = b"4>4\n";
 
 #[test]
 fn a_write_fault_is_explained_and_what_is_done_is_the_same(rt: HostRuntime) {
-    let told = told_of(&rt, "asm --explain", POLL, Some(1));
-    ends(&rt, told, 3, b"4", WRITE_FAULT, "asm", "a write fault");
+    let reported = reported_of(&rt, "asm --explain", POLL, Some(1));
+    ends(&rt, reported, 3, b"4", WRITE_FAULT, "asm", "a write fault");
     gives(&rt, "--explain asm", "what is done", POLL, "44\n");
 }

@@ -73,8 +73,8 @@ fn reads_long_captures(rt: HostRuntime) {
 
 /// The program reads nothing of an input, for this reason.
 fn reads_nothing<R: Read + Drop>(rt: &(impl Abort + AllocGlobal), line: &str, input: R, why: &str) {
-    let told = told_of(rt, line, input, None);
-    ends(rt, told, 3, b"", why.as_bytes(), line, why);
+    let reported = reported_of(rt, line, input, None);
+    ends(rt, reported, 3, b"", why.as_bytes(), line, why);
 }
 
 /// Each command that reads.
@@ -98,7 +98,7 @@ fn refuses_what_is_too_long(rt: HostRuntime) {
 }
 
 #[test]
-fn tells_a_read_fault(rt: HostRuntime) {
+fn reports_a_read_fault(rt: HostRuntime) {
     let broken = Slow {
         rest: b"",
         fault: Some(ErrorKind::Interrupted),
@@ -117,6 +117,6 @@ fn reads_byte_by_byte(rt: HostRuntime) {
         rest: b"4>4\n4>f active-source 1.0.0.0",
         fault: None,
     };
-    let told = told_of(&rt, "asm", slow, None);
-    ends(&rt, told, 0, b"44\n4f821000\n", b"", "asm", "byte by byte");
+    let reported = reported_of(&rt, "asm", slow, None);
+    ends(&rt, reported, 0, b"44\n4f821000\n", b"", "asm", "byte by byte");
 }

@@ -47,9 +47,9 @@ pub(super) fn is_traced(rt: &(impl Abort + AllocGlobal), run: &Traced<'_>) {
     let input = format!(in rt.alloc(); "{}script\n{}", run.topology, run.script);
     let input = input.expect(rt, "an input");
     let counted = format!(in rt.alloc(); "  {}\n", run.counted).expect(rt, "a line");
-    let told = told_of(rt, line, input.as_bytes(), None);
+    let reported = reported_of(rt, line, input.as_bytes(), None);
     let (trace, counted) = (run.trace.as_bytes(), counted.as_bytes());
-    ends(rt, told, 0, trace, counted, line, run.name);
+    ends(rt, reported, 0, trace, counted, line, run.name);
 }
 
 /// A television and a player in its first port.

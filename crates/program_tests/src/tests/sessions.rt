@@ -13,7 +13,7 @@ end 178651
 end 5
 ";
 
-const TOLD: &str = "\
+const REPORTED: &str = "\
 12000 39150 complete 0>0 nack by tv out -
 = 50000
 ! 2 word
@@ -40,13 +40,13 @@ fn stops(rt: &(impl Abort + AllocGlobal), row: &str) {
     let input = with_lines(rt, input);
     let out = with_lines(rt, out);
     let fault = format!(in rt.alloc(); "hdminet: {fault}\n").expect(rt, "a fault");
-    let told = told_of(rt, "live", input.as_bytes(), None);
-    ends(rt, told, 1, out.as_bytes(), fault.as_bytes(), "live", row);
+    let reported = reported_of(rt, "live", input.as_bytes(), None);
+    ends(rt, reported, 1, out.as_bytes(), fault.as_bytes(), "live", row);
 }
 
 #[test]
 fn a_session_is_answered(rt: HostRuntime) {
-    gives(&rt, "live", "a session", SESSION.as_bytes(), TOLD);
+    gives(&rt, "live", "a session", SESSION.as_bytes(), REPORTED);
 }
 
 #[test]
@@ -64,7 +64,7 @@ fn a_session_into_a_writer_that_fails(rt: HostRuntime) {
 /// With `--explain` a session's fault is followed by what would be right, and no line is shown, since none is kept.
 #[test]
 fn a_session_is_explained(rt: HostRuntime) {
-    let told = told_of(
+    let reported = reported_of(
         &rt,
         "live --explain",
         b"device tv tv 1\nscript\n".as_slice(),
@@ -74,7 +74,7 @@ fn a_session_is_explained(rt: HostRuntime) {
         b"hdminet: script line 1: end\n  the last line is `end T`, with T after that of each line `at`; after it only empty lines and comments come\n";
     ends(
         &rt,
-        told,
+        reported,
         1,
         b"",
         fault,

@@ -10,9 +10,9 @@ pub(super) fn fails_in_range(
     input: &[u8],
     want: &str,
 ) {
-    let told = told_of(rt, line, input, None);
+    let reported = reported_of(rt, line, input, None);
     let fault = b"hdminet: failed tests in the range\n";
-    ends(rt, told, 1, want.as_bytes(), fault, line, want);
+    ends(rt, reported, 1, want.as_bytes(), fault, line, want);
 }
 
 /// Scripts over a television whose range is refused, or which are at an instant of it.
@@ -60,16 +60,16 @@ fn a_range_is_swept(rt: HostRuntime) {
     let out = POLLED_STRETCHES.as_bytes();
     let fault = b"hdminet: failed tests in the range\n";
     fails_in_range(&rt, "check", input, POLLED_STRETCHES);
-    let told = told_of(&rt, "check", input, Some(out.len()));
-    ends(&rt, told, 1, out, fault, "check", "byte by byte");
+    let reported = reported_of(&rt, "check", input, Some(out.len()));
+    ends(&rt, reported, 1, out, fault, "check", "byte by byte");
     for room in [0, 12, 23] {
         writes_front(&rt, "check", input, &out[..room]);
     }
-    let told = told_of(&rt, "check --explain", input, None);
+    let reported = reported_of(&rt, "check --explain", input, None);
     let explained = b"hdminet: failed tests in the range
   with an instant of a stretch in the place of the range the report of that run is written
 ";
-    ends(&rt, told, 1, out, explained, "check", "explained");
+    ends(&rt, reported, 1, out, explained, "check", "explained");
     let held = over_television(&rt, HELD);
     let held = held.as_str().as_bytes();
     gives(&rt, "check", "all hold", held, "39150..39152 ok\n");
@@ -133,8 +133,8 @@ fn a_capture_is_tested(rt: HostRuntime) {
     let input = input.as_str().as_bytes();
     fails_tests(&rt, "check --capture", input, UNREAD_REPORT);
     let report = UNREAD_REPORT.as_bytes();
-    let told = told_of(&rt, "check --capture --explain", input, None);
-    ends(&rt, told, 1, report, UNREAD_COUNTED, "check", "explained");
+    let reported = reported_of(&rt, "check --capture --explain", input, None);
+    ends(&rt, reported, 1, report, UNREAD_COUNTED, "check", "explained");
     for room in [0, 14, 70] {
         writes_front(&rt, "check --capture", input, &report[..room]);
     }
@@ -153,9 +153,9 @@ ok 1 - line 1: expect once from 0 to 99000 silent
 #[test]
 fn names_the_events_that_a_tested_capture_lost(rt: HostRuntime) {
     let input = with_lines(&rt, LOST);
-    let told = told_of(&rt, "check --capture", input.as_str().as_bytes(), None);
+    let reported = reported_of(&rt, "check --capture", input.as_str().as_bytes(), None);
     let err = b"hdminet: events were lost before line 4\n";
-    ends(&rt, told, 0, LOST_REPORT, err, "check", "lost events");
+    ends(&rt, reported, 0, LOST_REPORT, err, "check", "lost events");
 }
 
 /// Expectations and captures that are refused.
@@ -233,7 +233,7 @@ fn reports_are_objects(rt: HostRuntime) {
         STRETCH_OBJECTS,
     );
     let input = with_lines(&rt, UNREAD);
-    let told = told_of(
+    let reported = reported_of(
         &rt,
         "check --json --capture",
         input.as_str().as_bytes(),
@@ -241,5 +241,5 @@ fn reports_are_objects(rt: HostRuntime) {
     );
     let fault = b"hdminet: failed tests 1\n";
     let objects = UNREAD_OBJECTS.as_bytes();
-    ends(&rt, told, 1, objects, fault, "check", "objects");
+    ends(&rt, reported, 1, objects, fault, "check", "objects");
 }

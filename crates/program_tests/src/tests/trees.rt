@@ -405,7 +405,7 @@ fn refuses_block(rt: &(impl Abort + AllocGlobal), case: &str) {
 }
 
 #[test]
-fn tells_why_an_edid_is_refused(rt: HostRuntime) {
+fn reports_why_an_edid_is_refused(rt: HostRuntime) {
     for case in BASES.lines() {
         refuses_block(&rt, case);
     }

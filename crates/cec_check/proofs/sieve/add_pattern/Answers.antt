@@ -9,8 +9,8 @@ pub returns-then-has : goal.returns-then-has
 returns-then-has c =
     let there : list_any (λ (text : Bor (List ℕ)). bytes_eq text.now c.in-Some.pattern.now) c.args.texts.now.items ≡ true =
     ap (list_any (λ (text : Bor (List ℕ)). bytes_eq text.now c.in-Some.pattern.now)) (sym c.as_slice.ensures.value) ∙ sym c.has.ensures ∙ c.if-has.true in
-    λ told. had_already c.args.texts.now.items c.args.line.now c.in-Some.pattern.now told (sym c.in-Some.ensures) there
+    λ reported. had_already c.args.texts.now.items c.args.line.now c.in-Some.pattern.now reported (sym c.in-Some.ensures) there
 
 pub returns : goal.returns
 returns c =
-    λ told. added c.args.texts.now.items c.push.new.self.items c.in-Some.pattern c.args.line.now c.in-Some.pattern.now told (sym c.in-Some.ensures) refl c.in_ok-push.ensures.items
+    λ reported. added c.args.texts.now.items c.push.new.self.items c.in-Some.pattern c.args.line.now c.in-Some.pattern.now reported (sym c.in-Some.ensures) refl c.in_ok-push.ensures.items

@@ -5,7 +5,7 @@ use Rattle.cec_check.proofs.sieve.fits_any.Given as goal
 
 -- none before is met
 abbrev pub invariant-patterns : goal.invariant-patterns
-invariant-patterns l = list_any (λ text. fits text.now l.told) l.texts ≡ list_any (λ text. fits text.now l.told) l.rest
+invariant-patterns l = list_any (λ text. fits text.now l.reported) l.texts ≡ list_any (λ text. fits text.now l.reported) l.rest
 
 abbrev pub decreases-patterns : goal.decreases-patterns
 decreases-patterns l = length l.rest

@@ -1,16 +1,16 @@
 use Rattle.std.proofs.Common.{ℕ, List, subst, ◌∙◌}
-use Rattle.cec_run.specs.Emulate.{IsTold}
+use Rattle.cec_run.specs.Emulate.{IsReported}
 use Rattle.cec_check.proofs.Refusals.{IsWant, not_refused_earlier}
 use Rattle.cec_check.proofs.states.state_at.Goals as goal
 
 pub unreachable-requires-in-Script : goal.unreachable-requires-in-Script
 unreachable-requires-in-Script c =
     let traced = c.requires.traced in
-    let told = subst (λ (s : List ℕ). IsTold c.args.topology.now s c.in-Err.error) (c.deref.ensures.value ∙ c.in_ok-cut.ensures) c.in-Err.ensures.told in
-    subst IsWant c.in-Script.is (not_refused_earlier c.args.topology.now c.args.plain.now traced.0 c.args.time traced.1 c.in-Err.error c.requires.early traced.2 told)
+    let reported = subst (λ (s : List ℕ). IsReported c.args.topology.now s c.in-Err.error) (c.deref.ensures.value ∙ c.in_ok-cut.ensures) c.in-Err.ensures.reported in
+    subst IsWant c.in-Script.is (not_refused_earlier c.args.topology.now c.args.plain.now traced.0 c.args.time traced.1 c.in-Err.error c.requires.early traced.2 reported)
 
 pub unreachable-requires-in-Edid : goal.unreachable-requires-in-Edid
 unreachable-requires-in-Edid c =
     let traced = c.requires.traced in
-    let told = subst (λ (s : List ℕ). IsTold c.args.topology.now s c.in-Err.error) (c.deref.ensures.value ∙ c.in_ok-cut.ensures) c.in-Err.ensures.told in
-    subst IsWant c.in-Edid.is (not_refused_earlier c.args.topology.now c.args.plain.now traced.0 c.args.time traced.1 c.in-Err.error c.requires.early traced.2 told)
+    let reported = subst (λ (s : List ℕ). IsReported c.args.topology.now s c.in-Err.error) (c.deref.ensures.value ∙ c.in_ok-cut.ensures) c.in-Err.ensures.reported in
+    subst IsWant c.in-Edid.is (not_refused_earlier c.args.topology.now c.args.plain.now traced.0 c.args.time traced.1 c.in-Err.error c.requires.early traced.2 reported)

@@ -1,7 +1,7 @@
 use Rattle.hdmi_core.specs.Lines.{lines_of}
 use Rattle.cec_tally.proofs.Adding.{hands_on}
 use Rattle.cec_dis.specs.Lines.{WritesLines}
-use Rattle.cec_dis.proofs.Telling.{put_more, put_short}
+use Rattle.cec_dis.proofs.Reporting.{put_more, put_short}
 use Rattle.cec_dis.proofs.lines.write_lines.Goals as goal
 
 pub returns-in_err-write_one : goal.returns-in_err-write_one

@@ -1,6 +1,6 @@
 use Rattle.std.proofs.Common.{length}
 use Rattle.hdmi_core.specs.Lines.{lines_of}
-use Rattle.cec_dis.proofs.Telling.{Put}
+use Rattle.cec_dis.proofs.Reporting.{Put}
 use Rattle.cec_dis.proofs.lines.write_lines.Given as goal
 
 abbrev pub invariant-lines : goal.invariant-lines

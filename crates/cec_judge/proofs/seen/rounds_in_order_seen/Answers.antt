@@ -2,7 +2,7 @@ use Rattle.std.proofs.Common.{◌≡◌, List, length, map, ap, ◌∙◌, sym, 
 use Rattle.cec_judge.specs.Told.{round_as}
 use Rattle.cec_judge.specs.Seen.{first_of}
 use Rattle.cec_judge.specs.Index.{are_in_order, ends_among}
-use Rattle.cec_judge.specs.declared.told.RoundLine.{RoundLine as RoundRead}
+use Rattle.cec_judge.specs.declared.reported.RoundLine.{RoundLine as RoundRead}
 use Rattle.cec_judge.proofs.Ordered.{still_in_order}
 use Rattle.cec_judge.proofs.seen.rounds_in_order_seen.Goals as goal
 

@@ -21,4 +21,4 @@ returns-in-End c =
 
 pub returns-in-Err : goal.returns-in-Err
 returns-in-Err c =
-    rw c.told_so.ensures (gives_fault c.in-Err.fault (file_of c.args.text.now) (c.edges.invariant.file ∙ ap (with_edges c.edges.edges.items) c.in-Err.ensures ∙ edges_fault c.edges.edges.items c.in-Err.fault))
+    rw c.reported_so.ensures (gives_fault c.in-Err.fault (file_of c.args.text.now) (c.edges.invariant.file ∙ ap (with_edges c.edges.edges.items) c.in-Err.ensures ∙ edges_fault c.edges.edges.items c.in-Err.fault))

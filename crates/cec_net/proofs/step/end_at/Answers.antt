@@ -5,7 +5,7 @@ use Rattle.cec_device.specs.Place.{front_of}
 use Rattle.cec_net.proofs.Ahead.{front-followed_unless}
 use Rattle.cec_net.proofs.step.end_at.Goals as goal
 
-pub tell-requires : goal.tell-requires
-tell-requires c own =
+pub inform-requires : goal.inform-requires
+inform-requires c own =
     let Has : State → Type 0 = λ d. IsSome (front_of d) in
     subst Has (sym c.follow.ensures) (front-followed_unless c.is_among-sends.result c.args.frame.now c.close-close.result c.args.device.now (c.requires.contends own))

@@ -8,7 +8,7 @@ use Rattle.cec_run.proofs.run.run_turns.Given as goal
 -- what was written is told by the turns so far; the rest keeps the counts and times small
 abbrev pub invariant-turns : goal.invariant-turns
 invariant-turns g l = record {
-  reached : Reached l.telling l.end (start l.fn.net l.events) (record { net = l.net; events = l.rest; totals = l.totals })
+  reached : Reached l.reporting l.end (start l.fn.net l.events) (record { net = l.net; events = l.rest; totals = l.totals })
       (g.S.Sink.contents l.fn.out) (g.S.Sink.contents l.out) (g.S.Sink.is_stuck l.fn.out) (g.S.Sink.is_stuck l.out) l.fn.written l.written;
   flag : g.S.Sink.is_stuck l.out ≡ g.S.Sink.is_stuck l.fn.out;
   schedule : (from : ℕ) × IsSchedule (length l.net.tree) l.end from l.rest;

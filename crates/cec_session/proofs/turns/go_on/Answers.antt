@@ -1,5 +1,5 @@
 use Rattle.std.proofs.Common.{rules, arith, ◌≡◌, ◌∷◌, ◌∙◌, ap, sym, length, drop}
-use Rattle.cec_run.specs.declared.run.Telling.TheVariants.{Trace}
+use Rattle.cec_run.specs.declared.run.Reporting.TheVariants.{Trace}
 use Rattle.cec_run.specs.declared.run.Turn.TheVariants.{Apply, Round}
 use Rattle.cec_run.specs.Run.{turn_of, first_time}
 use Rattle.cec_run.proofs.Advance.{event_keeps, next_schedule, round_begins, round_brings, same_begin, smaller, rounds_kept, complete_kept, counts_brought}
@@ -13,7 +13,7 @@ returns-in-Err-clause-cut g c =
     let cut = c.in-Err.ensures.text in
     cut_event c.args.edid.now c.args.ended c.args.until c.in-Apply.at c.turns.net c.in-Some.event.now c.turns.rest.now c.in-Some.others.now c.turns.totals
     (record { net = c.args.net.now; events = c.args.events.now; totals = c.args.totals.now }) _ _ _
-    c.turns.written c.in-Err.fault c.cut_at.result split turn c.turns.invariant.told cut.0 c.cut_at.ensures
+    c.turns.written c.in-Err.fault c.cut_at.result split turn c.turns.invariant.reported cut.0 c.cut_at.ensures
 
 pub returns-in-Err-clause-few : goal.returns-in-Err-clause-few
 returns-in-Err-clause-few g c =
@@ -50,9 +50,9 @@ turns-preserved-in-Ok g c =
     let left = drop_next c.turns.applied c.args.events.now c.turns.rest.now c.in-Some.event.now c.in-Some.others.now c.turns.invariant.rest split in
     let less = left.1 in
     record {
-      told = after_event c.args.edid.now c.args.ended c.args.until c.in-Apply.at c.turns.net c.apply.new.self c.in-Some.event.now c.turns.rest.now c.in-Some.others.now c.turns.totals c.apply.new.totals
+      reported = after_event c.args.edid.now c.args.ended c.args.until c.in-Apply.at c.turns.net c.apply.new.self c.in-Some.event.now c.turns.rest.now c.in-Some.others.now c.turns.totals c.apply.new.totals
           (record { net = c.args.net.now; events = c.args.events.now; totals = c.args.totals.now }) _ _ _ c.turns.written c.in-Ok.count c.counted-written.result split turn c.apply.ensures.net c.apply.ensures.totals
-          c.turns.invariant.told line.0 line.1 c.counted-written.ensures;
+          c.turns.invariant.reported line.0 line.1 c.counted-written.ensures;
       flag = line.2 ∙ c.turns.invariant.flag;
       rest = left.0;
       few = omega (arith, less);
@@ -87,9 +87,9 @@ turns-preserved g c =
     let line = w.written in
     let counts = counts_brought c.turns.totals c.take_round.new.totals _ w.turn.totals in
     record {
-      told = after_round c.args.edid.now c.args.ended c.args.until w.begin c.in-Round.begin c.turns.net c.take_round.new.net c.turns.rest.now c.turns.totals c.take_round.new.totals w.text
+      reported = after_round c.args.edid.now c.args.ended c.args.until w.begin c.in-Round.begin c.turns.net c.take_round.new.net c.turns.rest.now c.turns.totals c.take_round.new.totals w.text
           (record { net = c.args.net.now; events = c.args.events.now; totals = c.args.totals.now }) _ _ _ c.turns.written c.in-Some-taken.count c.counted-written-in-Some-taken.result
-          turn same w.turn taken.1 c.turns.invariant.told line.0 line.1 c.counted-written-in-Some-taken.ensures;
+          turn same w.turn taken.1 c.turns.invariant.reported line.0 line.1 c.counted-written-in-Some-taken.ensures;
       flag = line.2 ∙ c.turns.invariant.flag;
       rest = c.turns.invariant.rest;
       few = c.turns.invariant.few;
@@ -111,7 +111,7 @@ returns-in-Err-take_round-clause-cut g c =
     let same : w.begin ≡ c.in-Round.begin = same_begin (sym w.begins ∙ begins.0) in
     cut_round c.args.edid.now c.args.ended c.args.until w.begin c.in-Round.begin c.turns.net c.take_round.new.net c.turns.rest.now c.turns.totals c.take_round.new.totals w.text
     (record { net = c.args.net.now; events = c.args.events.now; totals = c.args.totals.now }) _ _ _ c.turns.written c.in-Err-take_round.fault c.cut_at-in-Err-take_round.result
-    turn same w.turn taken.1 c.turns.invariant.told w.written.0 c.cut_at-in-Err-take_round.ensures
+    turn same w.turn taken.1 c.turns.invariant.reported w.written.0 c.cut_at-in-Err-take_round.ensures
 
 pub returns-in-Err-take_round-clause-stuck : goal.returns-in-Err-take_round-clause-stuck
 returns-in-Err-take_round-clause-stuck g c = (c.in-Err-take_round.ensures c.args.edid.now).0.written.1
@@ -153,7 +153,7 @@ returns-in-None-clause-ok g c =
     (g.S.Sink.is_stuck c.turns.out) (g.S.Sink.is_stuck c.take_round.new.out) c.in-Ok-take_round.taken c.in-None.is (c.in-Ok-take_round.ensures c.args.edid.now) in
     let turn : turn_of c.args.until c.turns.net (first_time c.turns.rest.now) ≡ Round c.in-Round.begin = rw (← c.first_time.ensures) (sym c.in-Round.ensures) in
     late_goes c.args.edid.now c.args.ended c.args.until c.in-Round.begin (record { net = c.args.net.now; events = c.args.events.now; totals = c.args.totals.now }) c.turns.net c.take_round.new.net c.turns.rest.now
-    (drop c.turns.applied c.args.events.now) c.turns.totals c.take_round.new.totals _ _ _ c.turns.written turn (none.0, none.1, none.2, none.4) c.turns.invariant.rest c.turns.invariant.told
+    (drop c.turns.applied c.args.events.now) c.turns.totals c.take_round.new.totals _ _ _ c.turns.written turn (none.0, none.1, none.2, none.4) c.turns.invariant.rest c.turns.invariant.reported
 
 pub returns-in-None-clause-within : goal.returns-in-None-clause-within
 returns-in-None-clause-within g c =

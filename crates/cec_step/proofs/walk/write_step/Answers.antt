@@ -10,10 +10,10 @@ pub returns-in-Ok : goal.returns-in-Ok
 returns-in-Ok g c =
     let outcome = c.args.outcome.now in
     let line = round_line c.args.after.now.net.devices outcome in
-    let told = subst (λ (devices : List State). WrittenLine (g.S.Sink.contents c.write_before.new.out) (g.S.Sink.contents c.write_round.new.out) (g.S.Sink.is_stuck c.write_before.new.out) (g.S.Sink.is_stuck c.write_round.new.out)
+    let reported = subst (λ (devices : List State). WrittenLine (g.S.Sink.contents c.write_before.new.out) (g.S.Sink.contents c.write_round.new.out) (g.S.Sink.is_stuck c.write_before.new.out) (g.S.Sink.is_stuck c.write_round.new.out)
     (round_line devices outcome) c.write_round.result) c.devices.ensures c.write_round.ensures in
     c.with_rest.ensures (g.S.Sink.contents c.args.out.now) (g.S.Sink.contents c.write_before.new.out) (g.S.Sink.contents c.write_round.new.out)
     (g.S.Sink.is_stuck c.args.out.now) (g.S.Sink.is_stuck c.write_before.new.out) (g.S.Sink.is_stuck c.write_round.new.out)
     (start_text c.args.course.now.edid (point_of c.args.course.now.events.items c.args.before.now) ++ passed_text c.args.course.now.edid c.args.course.now.end (point_of c.args.course.now.events.items c.args.before.now))
     line c.in-Ok.ensures
-    (c.whole.ensures (g.S.Sink.contents c.write_before.new.out) (g.S.Sink.contents c.write_round.new.out) (g.S.Sink.is_stuck c.write_before.new.out) (g.S.Sink.is_stuck c.write_round.new.out) line told)
+    (c.whole.ensures (g.S.Sink.contents c.write_before.new.out) (g.S.Sink.contents c.write_round.new.out) (g.S.Sink.is_stuck c.write_before.new.out) (g.S.Sink.is_stuck c.write_round.new.out) line reported)

@@ -5,9 +5,9 @@ use Rattle.cec_sweep.proofs.Refused.{refused_first, refused_later}
 use Rattle.cec_sweep.proofs.Stretching.{draft_begun, draft_ended, draft_more, last_is}
 use Rattle.cec_sweep.proofs.sweeping.swept.Goals as goal
 
-pub returns-in-Err-clause-told : goal.returns-in-Err-clause-told
-returns-in-Err-clause-told c =
-    refused_first c.args.topology.now c.args.script.now c.args.series.now c.from-at.result c.in-Err.error c.from-at.ensures.from c.in-Err.ensures.told
+pub returns-in-Err-clause-reported : goal.returns-in-Err-clause-reported
+returns-in-Err-clause-reported c =
+    refused_first c.args.topology.now c.args.script.now c.args.series.now c.from-at.result c.in-Err.error c.from-at.ensures.from c.in-Err.ensures.reported
 
 pub instants-init : goal.instants-init
 instants-init c =
@@ -18,10 +18,10 @@ instants-init c =
       is = draft_begun F c.args.series.now (draft_as c.new-draft.result) c.from-at.result c.in-Ok.first.items c.from-at.ensures.from c.new-draft.ensures c.from-at.ensures.series.moves c.in-Ok.ensures.ok;
     }
 
-pub returns-in-Err-verdicts_at-clause-told : goal.returns-in-Err-verdicts_at-clause-told
-returns-in-Err-verdicts_at-clause-told c =
+pub returns-in-Err-verdicts_at-clause-reported : goal.returns-in-Err-verdicts_at-clause-reported
+returns-in-Err-verdicts_at-clause-reported c =
     refused_later c.args.topology.now c.args.script.now c.args.series.now (draft_as c.instants.draft) c.instants.at c.step-step.result c.to-to.result c.in-Err-verdicts_at.error
-    c.step-step.ensures.step c.to-to.ensures.to c.instants.invariant.last c.step-step.ensures.series.moves c.instants.invariant.within c.instants-test.true c.in-Err-verdicts_at.ensures.told c.instants.invariant.is
+    c.step-step.ensures.step c.to-to.ensures.to c.instants.invariant.last c.step-step.ensures.series.moves c.instants.invariant.within c.instants-test.true c.in-Err-verdicts_at.ensures.reported c.instants.invariant.is
 
 pub instants-preserved : goal.instants-preserved
 instants-preserved c =

@@ -6,7 +6,7 @@ use Rattle.cec_trace.proofs.round_text.write_round_of.Goals as goal
 
 pub returns : goal.returns
 returns g c =
-    let total : flat_map piece_text c.add-9.new.line.items ≡ round_line_of c.args.devices.now c.args.outcome.now c.args.told.now c.args.verdict.now =
+    let total : flat_map piece_text c.add-9.new.line.items ≡ round_line_of c.args.devices.now c.args.outcome.now c.args.reported.now c.args.verdict.now =
     rw (
       c.add-9.ensures.text,
       c.add_losers.ensures.text,

@@ -14,7 +14,7 @@ returns-in-Ok-passed_on-clause-passed c = (
   c.in-Ok.ensures.found,
   c.in-Some.own,
   record {
-    told = sym c.address.ensures ∙ c.in-Some.is;
+    reported = sym c.address.ensures ∙ c.in-Some.is;
     bytes = c.in-Ok-passed_on.ensures.bytes ∙ ap (λ a. passed_on_bytes c.args.passing.audio a c.in-Ok.edid) c.place_address.ensures;
     address = c.in-Ok-passed_on.ensures.addressed ∙ ap Some c.place_address.ensures;
   },

@@ -4,7 +4,7 @@ use Rattle.hdmi_edtext.specs.Drafts.{draft_lines}
 use Rattle.hdmi_edtext.specs.Refusal.{IsFaultAt}
 use Rattle.hdmi_lines.specs.Text.{line_text}
 use Rattle.hdmi_edtext.proofs.Alike.{refusal, refusal_at_end}
-use Rattle.hdmi_edtext.proofs.FirstBad.{no_lines_told, bad_by, unread, misplaced, unfinished, lines_so, count_so, one_more_told, few_told, no_bad, cut_again, found_text, only_one}
+use Rattle.hdmi_edtext.proofs.FirstBad.{no_lines_reported, bad_by, unread, misplaced, unfinished, lines_so, count_so, one_more_reported, few_reported, no_bad, cut_again, found_text, only_one}
 use Rattle.hdmi_edtext.proofs.parse.parse_text.Goals as goal
 
 pub loop-line-init : goal.loop-line-init
@@ -15,7 +15,7 @@ loop-line-init c =
       lines = ap (λ ls. map line_text ls ++ lines_with_feeds c.args.text.now) (sym none);
       count = omega (arith, len);
       few = omega arith;
-      told = no_lines_told (draft_lines c.new-draft.result) none;
+      reported = no_lines_reported (draft_lines c.new-draft.result) none;
     }
 
 pub returns-in_default-read_line-clause-only : goal.returns-in_default-read_line-clause-only
@@ -27,7 +27,7 @@ returns-in_default-read_line-clause-only c =
     let more = lines_with_feeds c.in-Some.more.now in
     let lines = i.lines ∙ ap (λ x. map line_text (draft_lines d) ++ x) c.in-Some.ensures.lines in
     let none = unread (draft_lines d) c.in-Some.line.now c.in_default-read_line.ensures.only in
-    λ e h. absurd (no_bad all c.loop-line.number (bad_by d all line more c.loop-line.number i.told lines i.count none) e (cut_again e c.args.text.now h))
+    λ e h. absurd (no_bad all c.loop-line.number (bad_by d all line more c.loop-line.number i.reported lines i.count none) e (cut_again e c.args.text.now h))
 
 pub returns-in_default-read_line-clause-refused : goal.returns-in_default-read_line-clause-refused
 returns-in_default-read_line-clause-refused c =
@@ -39,7 +39,7 @@ returns-in_default-read_line-clause-refused c =
     let lines = i.lines ∙ ap (λ x. map line_text (draft_lines d) ++ x) c.in-Some.ensures.lines in
     let none = unread (draft_lines d) c.in-Some.line.now c.in_default-read_line.ensures.only in
     let at = subst (λ p. IsFaultAt p line c.loop-line.number c.fault.result) c.place-place.ensures c.fault.ensures in
-    refusal d all line more c.loop-line.number c.fault.result i.told lines i.count none at
+    refusal d all line more c.loop-line.number c.fault.result i.reported lines i.count none at
 
 pub returns-in_default-put-clause-only : goal.returns-in_default-put-clause-only
 returns-in_default-put-clause-only c =
@@ -50,7 +50,7 @@ returns-in_default-put-clause-only c =
     let more = lines_with_feeds c.in-Some.more.now in
     let lines = i.lines ∙ ap (λ x. map line_text (draft_lines d) ++ x) c.in-Some.ensures.lines in
     let none = misplaced (draft_lines d) c.in-Some.line.now c.in-Some-read_line.read c.in-Some-read_line.ensures.only c.in_default-put.ensures in
-    λ e h. absurd (no_bad all c.loop-line.number (bad_by d all line more c.loop-line.number i.told lines i.count none) e (cut_again e c.args.text.now h))
+    λ e h. absurd (no_bad all c.loop-line.number (bad_by d all line more c.loop-line.number i.reported lines i.count none) e (cut_again e c.args.text.now h))
 
 pub returns-in_default-put-clause-refused : goal.returns-in_default-put-clause-refused
 returns-in_default-put-clause-refused c =
@@ -62,7 +62,7 @@ returns-in_default-put-clause-refused c =
     let lines = i.lines ∙ ap (λ x. map line_text (draft_lines d) ++ x) c.in-Some.ensures.lines in
     let none = misplaced (draft_lines d) c.in-Some.line.now c.in-Some-read_line.read c.in-Some-read_line.ensures.only c.in_default-put.ensures in
     let at = subst (λ p. IsFaultAt p line c.loop-line.number c.fault-in_default-put.result) c.place-place.ensures c.fault-in_default-put.ensures in
-    refusal d all line more c.loop-line.number c.fault-in_default-put.result i.told lines i.count none at
+    refusal d all line more c.loop-line.number c.fault-in_default-put.result i.reported lines i.count none at
 
 pub loop-line-preserved : goal.loop-line-preserved
 loop-line-preserved c =
@@ -73,12 +73,12 @@ loop-line-preserved c =
     let read = c.in-Some-read_line.read in
     let lines = i.lines ∙ ap (λ x. map line_text (draft_lines d) ++ x) c.in-Some.ensures.lines in
     let count = count_so (draft_lines d) (draft_lines next) read c.loop-line.number i.count c.in-Some-put.ensures in
-    let few = few_told next in
+    let few = few_reported next in
     record {
       lines = lines_so (draft_lines d) (draft_lines next) read line (lines_with_feeds c.args.text.now) (lines_with_feeds c.in-Some.more.now) lines c.in-Some-put.ensures c.in-Some-read_line.ensures.found;
       count = count;
       few = omega (arith, count, few);
-      told = one_more_told (draft_lines d) (draft_lines next) read line i.told c.in-Some-put.ensures c.in-Some-read_line.ensures.found c.in-Some-read_line.ensures.only;
+      reported = one_more_reported (draft_lines d) (draft_lines next) read line i.reported c.in-Some-put.ensures c.in-Some-read_line.ensures.found c.in-Some-read_line.ensures.only;
     }
 
 pub returns-in-Some-finish-clause-found : goal.returns-in-Some-finish-clause-found
@@ -91,14 +91,14 @@ pub returns-in-Some-finish-clause-only : goal.returns-in-Some-finish-clause-only
 returns-in-Some-finish-clause-only c =
     let d = c.loop-line.draft in
     let lines = c.loop-line.invariant.lines ∙ ap (λ x. map line_text (draft_lines d) ++ x) c.in_default.ensures.lines in
-    λ e h. ap (λ x. Ok x) (only_one c.in-Some-finish.edid (draft_lines d) c.args.text.now c.loop-line.invariant.told c.in-Some-finish.ensures lines e h)
+    λ e h. ap (λ x. Ok x) (only_one c.in-Some-finish.edid (draft_lines d) c.args.text.now c.loop-line.invariant.reported c.in-Some-finish.ensures lines e h)
 
 pub returns-in-None-clause-only : goal.returns-in-None-clause-only
 returns-in-None-clause-only c =
     let i = c.loop-line.invariant in
     let d = c.loop-line.draft in
     let lines = i.lines ∙ ap (λ x. map line_text (draft_lines d) ++ x) c.in_default.ensures.lines in
-    let bad = unfinished d (lines_with_feeds c.args.text.now) c.loop-line.number i.told lines i.count c.in-None.ensures in
+    let bad = unfinished d (lines_with_feeds c.args.text.now) c.loop-line.number i.reported lines i.count c.in-None.ensures in
     λ e h. absurd (no_bad (lines_with_feeds c.args.text.now) c.loop-line.number bad e (cut_again e c.args.text.now h))
 
 pub returns-in-None-clause-refused : goal.returns-in-None-clause-refused
@@ -106,4 +106,4 @@ returns-in-None-clause-refused c =
     let i = c.loop-line.invariant in
     let d = c.loop-line.draft in
     let lines = i.lines ∙ ap (λ x. map line_text (draft_lines d) ++ x) c.in_default.ensures.lines in
-    refusal_at_end d (lines_with_feeds c.args.text.now) c.loop-line.number i.told lines i.count c.in-None.ensures
+    refusal_at_end d (lines_with_feeds c.args.text.now) c.loop-line.number i.reported lines i.count c.in-None.ensures

@@ -2,7 +2,7 @@ use Rattle.std.proofs.Common.{◌++◌, ◌∷◌, [], ap, ◌∙◌}
 use Rattle.hdmi_edtext.specs.Drafts.{draft_lines}
 use Rattle.hdmi_edtext.specs.declared.draft.EdidDraft.TheVariants.{Bare}
 use Rattle.hdmi_edtext.specs.Lines.{bytes_without_zeros}
-use Rattle.hdmi_edtext.proofs.ExtSteps.{no_bare, bare_told}
+use Rattle.hdmi_edtext.proofs.ExtSteps.{no_bare, bare_reported}
 use Rattle.hdmi_edtext.proofs.Fronts.{bare_next}
 use Rattle.hdmi_edtext.proofs.steps.put_bare.Goals as goal
 
@@ -20,6 +20,6 @@ pub returns : goal.returns
 returns c =
     let h = c.args.headed in
     let b = c.in-Some-bare_of.bare in
-    let told = c.in-Some-bare_of.ensures in
-    c.with_extension.ensures ∙ bare_told h.whole h.flags b.flags c.in-Some.bytes.now b.tail told.0 told.1 told.2
+    let reported = c.in-Some-bare_of.ensures in
+    c.with_extension.ensures ∙ bare_reported h.whole h.flags b.flags c.in-Some.bytes.now b.tail reported.0 reported.1 reported.2
     ∙ ap (λ l. draft_lines (Bare h) ++ l ∷ []) c.in-Some.ensures

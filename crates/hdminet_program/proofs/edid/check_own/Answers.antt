@@ -10,6 +10,6 @@ use Rattle.hdminet_program.proofs.edid.check_own.Goals as goal
 
 pub returns : goal.returns
 returns g c =
-    let told = c.in_ok-fails.ensures.answers in
+    let explained_fault = c.in_ok-fails.ensures.answers in
     on_ok c.unless_failed.result (c.in_ok-fails.fails ≡ false) (Shows (Findings Own) c.args.bytes.now (g.W.Sink.contents c.args.out.now) (g.W.Sink.contents c.edid_to_findings.new.out))
-    (λ no. (findings_text (faults_of origins.Display told.0), (told.0, told.1, refl, sym told.4 ∙ no), told.2)) c.unless_failed.ensures
+    (λ no. (findings_text (faults_of origins.Display explained_fault.0), (explained_fault.0, explained_fault.1, refl, sym explained_fault.4 ∙ no), explained_fault.2)) c.unless_failed.ensures

@@ -12,7 +12,7 @@ returns-clause-hears c = λ low before s q e.
     let k = c.go_by.ensures.keeps in
     record {
       after = omega (arith, s.after, q.from, k.1);
-      state = hears_state low old.begin before t (frame_bits old.frame) old.state new.state c.args.told (omega (arith, s.after)) q.from q.runs q.silent e s.state c.go_by.ensures.state
+      state = hears_state low old.begin before t (frame_bits old.frame) old.state new.state c.args.reported (omega (arith, s.after)) q.from q.runs q.silent e s.state c.go_by.ensures.state
           ∙ ap (λ b. state_before low b (frame_bits old.frame) (t + 1)) (sym k.1) ∙ ap (λ f. state_before low new.begin (frame_bits f) (t + 1)) (sym k.0);
       past = stopped_by old.state new.state old.last new.last before t c.go_by.ensures.stops s.past q.from;
     }

@@ -7,7 +7,7 @@ use Rattle.cec_check.proofs.sieve.Patterns.new.Given as goal
 
 -- the patterns of the lines before, and of those that are left
 abbrev pub invariant-lines : goal.invariant-lines
-invariant-lines l = (told : List ℕ) → (list_any (λ text. fits text.now told) l.texts.items || list_any (meets told) (lines_of l.rest)) ≡ list_any (meets told) (lines_of l.script)
+invariant-lines l = (reported : List ℕ) → (list_any (λ text. fits text.now reported) l.texts.items || list_any (meets reported) (lines_of l.rest)) ≡ list_any (meets reported) (lines_of l.script)
 
 abbrev pub decreases-lines : goal.decreases-lines
 decreases-lines l = length l.rest

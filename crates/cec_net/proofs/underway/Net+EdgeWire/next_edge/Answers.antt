@@ -5,7 +5,7 @@ use Rattle.cec_edges.specs.declared.edge_wire.EdgeWire.{EdgeWire}
 use Rattle.cec_wire.specs.Round.{IsRoundLine}
 use Rattle.cec_net.specs.State.{NetState}
 use Rattle.cec_net.specs.Underway.{Takes}
-use Rattle.cec_net.proofs.InRound.{edge_told, next_on, some_wire}
+use Rattle.cec_net.proofs.InRound.{edge_reported, next_on, some_wire}
 use Rattle.cec_net.proofs.underway.Net+EdgeWire.next_edge.Goals as goal
 
 pub next_edge_of-edge-requires-clause-takes : goal.next_edge_of-edge-requires-clause-takes
@@ -25,7 +25,7 @@ pub returns-clause-edge : goal.returns-clause-edge
 returns-clause-edge c =
     let s : NetState = (record { tree = c.self.inside.tree; devices = c.self.inside.devices.items; pulses = c.self.inside.pulses; close = c.self.inside.close; rest = c.self.inside.rest; heard = option_map (λ (w : EdgeWire). w.time) c.self.inside.begun }) in
     let w = c.in-Some.wire in
-    edge_told s c.args.self.now w c.next_edge_of-edge.result c.self.view_is (ap (λ (o : Option EdgeWire). option_map (λ (x : EdgeWire). x.time) o) (sym c.in-Some.ensures.value))
+    edge_reported s c.args.self.now w c.next_edge_of-edge.result c.self.view_is (ap (λ (o : Option EdgeWire). option_map (λ (x : EdgeWire). x.time) o) (sym c.in-Some.ensures.value))
     (c.self.invariant.1 w (sym c.in-Some.ensures.value))
     (λ low line. c.next_edge_of-edge.ensures.edge low (subst (λ (ps : List Stretch). IsRoundLine w.seats.items w.begin ps low) (sym c.as_slice.ensures.pulses) line))
 

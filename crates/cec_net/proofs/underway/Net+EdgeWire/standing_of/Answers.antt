@@ -5,7 +5,7 @@ use Rattle.cec_edges.specs.declared.edge_wire.EdgeWire.{EdgeWire}
 use Rattle.cec_wave.specs.Pulses.{AreSparse}
 use Rattle.cec_bits.specs.Follows.{standing_by_code}
 use Rattle.cec_net.specs.State.{NetState}
-use Rattle.cec_net.proofs.InRound.{seat_known, shows_before, shows_after, stand_told}
+use Rattle.cec_net.proofs.InRound.{seat_known, shows_before, shows_after, stand_reported}
 use Rattle.cec_net.proofs.underway.Net+EdgeWire.standing_of.Goals as goal
 
 pub receiver_of-requires-clause-listens : goal.receiver_of-requires-clause-listens
@@ -22,5 +22,5 @@ returns c =
     let s : NetState = (record { tree = c.self.inside.tree; devices = c.self.inside.devices.items; pulses = c.self.inside.pulses; close = c.self.inside.close; rest = c.self.inside.rest; heard = option_map (λ (w : EdgeWire). w.time) c.self.inside.begun }) in
     let w = c.in-Some.wire in
     let Sparse : List Stretch → Type 0 = AreSparse in
-    stand_told s c.args.self.now w (standing_by_code c.standing.result) c.self.view_is (ap (λ (o : Option EdgeWire). option_map (λ (x : EdgeWire). x.time) o) c.in-Some.is) (subst Sparse c.as_slice-pulses.ensures.pulses c.as_slice-pulses.ensures.sparse)
+    stand_reported s c.args.self.now w (standing_by_code c.standing.result) c.self.view_is (ap (λ (o : Option EdgeWire). option_map (λ (x : EdgeWire). x.time) o) c.in-Some.is) (subst Sparse c.as_slice-pulses.ensures.pulses c.as_slice-pulses.ensures.sparse)
     (c.self.invariant.1 w c.in-Some.is) (shows_before w c.receiver_of.result.now (standing_by_code c.standing.result) c.receiver_of.ensures.stands c.standing.ensures) (shows_after w c.receiver_of.result.now (standing_by_code c.standing.result) c.receiver_of.ensures.stands c.standing.ensures)

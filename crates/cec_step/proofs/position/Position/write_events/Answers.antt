@@ -1,10 +1,10 @@
 use Rattle.std.proofs.Common.{◌≡◌, ◌∙◌, ◌++◌, ℕ, List, length, drop, ap, sym, subst, append_assoc, append-nil}
 use Rattle.cec_step.specs.Ready.{first_text, point_of}
 use Rattle.cec_step.specs.Steps.{passed_text}
-use Rattle.hdmi_core.specs.Cut.{CutOff, told_count}
+use Rattle.hdmi_core.specs.Cut.{CutOff, reported_count}
 use Rattle.std.specs.Io.KnownBytes.{Appends}
 use Rattle.hdmi_core.proofs.CutShort.{Appends-trans}
-use Rattle.hdmi_core.proofs.Cutting.{cut_again, told_parts}
+use Rattle.hdmi_core.proofs.Cutting.{cut_again, reported_parts}
 use Rattle.cec_step.proofs.Passing.{passed_round_text, passed_stop_text}
 use Rattle.cec_step.proofs.Rounds.{text_more}
 use Rattle.cec_step.proofs.position.Position.write_events.Goals as goal
@@ -22,7 +22,7 @@ events-preserved g c =
         inv.text.0 ++ first,
         inv.text.1 ∙ ap (λ (t : List ℕ). inv.text.0 ++ t) more ∙ sym (append_assoc inv.text.0 first after),
         Appends-trans _ _ _ inv.text.0 first inv.text.2 e.text.1,
-        c.counted-written.ensures ∙ told_parts c.events.written c.in-Ok.count inv.text.0 first inv.text.3 e.text.0,
+        c.counted-written.ensures ∙ reported_parts c.events.written c.in-Ok.count inv.text.0 first inv.text.3 e.text.0,
       );
       flag = e.text.2 ∙ inv.flag;
       ready = e.ready;
@@ -48,7 +48,7 @@ returns-in-Round g c =
     let inv = c.events.invariant in
     let none = passed_round_text c.args.course.now.edid c.args.course.now.end c.in-Round.field-0 c.events.self.net (drop c.events.self.applied c.args.course.now.events.items) (sym c.in-Round.ensures) in
     let same = sym (inv.text.1 ∙ ap (λ (t : List ℕ). inv.text.0 ++ t) none ∙ append-nil inv.text.0) in (
-      subst (λ (t : List ℕ). c.events.written ≡ told_count (length t)) same inv.text.3,
+      subst (λ (t : List ℕ). c.events.written ≡ reported_count (length t)) same inv.text.3,
       subst (λ (t : List ℕ). Appends (g.S.Sink.contents c.args.out.now) (g.S.Sink.contents c.events.out) t) same inv.text.2,
       inv.flag,
     )
@@ -58,7 +58,7 @@ returns-in-Stop g c =
     let inv = c.events.invariant in
     let none = passed_stop_text c.args.course.now.edid c.args.course.now.end c.events.self.net (drop c.events.self.applied c.args.course.now.events.items) (sym c.in-Stop.ensures) in
     let same = sym (inv.text.1 ∙ ap (λ (t : List ℕ). inv.text.0 ++ t) none ∙ append-nil inv.text.0) in (
-      subst (λ (t : List ℕ). c.events.written ≡ told_count (length t)) same inv.text.3,
+      subst (λ (t : List ℕ). c.events.written ≡ reported_count (length t)) same inv.text.3,
       subst (λ (t : List ℕ). Appends (g.S.Sink.contents c.args.out.now) (g.S.Sink.contents c.events.out) t) same inv.text.2,
       inv.flag,
     )

@@ -4,7 +4,7 @@ use Rattle.cec_net.specs.State.{NetState}
 use Rattle.cec_step.specs.Ready.{IsReady, begun_in, point_of, run_of}
 use Rattle.cec_step.specs.Steps.{Point, Steps, IsEdgeStep, IsNoEdge, IsRoundStep, in_round}
 use Rattle.cec_step.specs.declared.position.Position.{Position}
-use Rattle.cec_step.proofs.InRound.{IsIn, edge_cut, edge_gives, edge_told, ends, is_in, some_inside, steps, still_in, taken_after, tells_at}
+use Rattle.cec_step.proofs.InRound.{IsIn, edge_cut, edge_gives, edge_reported, ends, is_in, some_inside, steps, still_in, taken_after, reports_at}
 use Rattle.cec_step.proofs.walk.Walk.edge_inside.Goals as goal
 
 pub first_edge-requires : goal.first_edge-requires
@@ -21,8 +21,8 @@ first_edge-requires g c =
     let round = c.finish_round-report in
     let before = c.deref_mut-in_default.result.now in
     let wave : IsWave round.result.outcome.wave = subst IsWave c.as_slice-stretches.ensures.stretches c.as_slice-stretches.ensures.wave in
-    let told : before.net ≡ record at.net { heard = Some state.0 } = ap (λ (p : Position). p.net) c.deref_mut-in_default.ensures.value ∙ state.1 in
-    let step = ends s.run.end s.last (point_of s.run.events at) before.net round.new.self state.0 round.result.begin round.result.outcome stands.ready stands.round told wave
+    let reported : before.net ≡ record at.net { heard = Some state.0 } = ap (λ (p : Position). p.net) c.deref_mut-in_default.ensures.value ∙ state.1 in
+    let step = ends s.run.end s.last (point_of s.run.events at) before.net round.new.self state.0 round.result.begin round.result.outcome stands.ready stands.round reported wave
     round.ensures.begins round.ensures.step round.ensures.progress in
     let ended : point_of s.run.events (record c.deref_mut-in_default-2.result.now { is_first = false }) ≡ record { net = round.new.self; events = drop at.applied s.run.events; is_first = false } =
     ap (λ (p : Position). point_of s.run.events (record p { is_first = false })) c.deref_mut-in_default-2.ensures.value
@@ -43,8 +43,8 @@ returns-in_default-clause-step g c =
     let round = c.finish_round-report in
     let before = c.deref_mut-in_default.result.now in
     let wave : IsWave round.result.outcome.wave = subst IsWave c.as_slice-stretches.ensures.stretches c.as_slice-stretches.ensures.wave in
-    let told : before.net ≡ record at.net { heard = Some state.0 } = ap (λ (p : Position). p.net) c.deref_mut-in_default.ensures.value ∙ state.1 in
-    let step = ends s.run.end s.last (point_of s.run.events at) before.net round.new.self state.0 round.result.begin round.result.outcome stands.ready stands.round told wave
+    let reported : before.net ≡ record at.net { heard = Some state.0 } = ap (λ (p : Position). p.net) c.deref_mut-in_default.ensures.value ∙ state.1 in
+    let step = ends s.run.end s.last (point_of s.run.events at) before.net round.new.self state.0 round.result.begin round.result.outcome stands.ready stands.round reported wave
     round.ensures.begins round.ensures.step round.ensures.progress in
     let ended : point_of s.run.events (record c.deref_mut-in_default-2.result.now { is_first = false }) ≡ record { net = round.new.self; events = drop at.applied s.run.events; is_first = false } =
     ap (λ (p : Position). point_of s.run.events (record p { is_first = false })) c.deref_mut-in_default-2.ensures.value
@@ -82,7 +82,7 @@ returns-in-Err-clause-step g c =
     edge_cut (IsEdgeStep s) (IsNoEdge s) s (in_round s s.last after) c.deref-2.result.now.net c.in-Some.edge
     (g.S.Sink.contents c.args.out.now) (g.S.Sink.contents c.write_edge.new.out) (g.S.Sink.is_stuck c.args.out.now) (g.S.Sink.is_stuck c.write_edge.new.out) c.in-Err.fault c.step_error.result
     c.step_error.ensures (λ text line. edge_gives s (in_round s s.last after) at.net after c.in-Some.edge state.0 text stands.net c.in-Some.ensures.edge state.1 state.2
-    (tells_at c.deref-2.result.now next c.in-Some.edge text c.deref-2.ensures line) refl) c.in-Err.ensures
+    (reports_at c.deref-2.result.now next c.in-Some.edge text c.deref-2.ensures line) refl) c.in-Err.ensures
 
 pub returns-in-Ok-clause-step : goal.returns-in-Ok-clause-step
 returns-in-Ok-clause-step g c =
@@ -102,6 +102,6 @@ returns-in-Ok-clause-step g c =
     let moved : t ≡ in_round s s.last after =
     ap (λ (p : Position). steps (run_of here.course) (point_of es here.last.value) (begun_in here.is_begun (point_of es p))) swapped
     ∙ still_in (run_of here.course) (point_of es here.last.value) (point_of es here.inside.value) (point_of es next) here.is_begun some ∙ ap (λ (x : Steps). in_round x x.last after) viewed in
-    edge_told (IsEdgeStep s) (IsNoEdge s) s t c.deref-2.result.now.net c.in-Some.edge
+    edge_reported (IsEdgeStep s) (IsNoEdge s) s t c.deref-2.result.now.net c.in-Some.edge
     (g.S.Sink.contents c.args.out.now) (g.S.Sink.contents c.write_edge.new.out) (g.S.Sink.is_stuck c.args.out.now) (g.S.Sink.is_stuck c.write_edge.new.out) c.in-Ok.count
-    (λ text line. edge_gives s t at.net after c.in-Some.edge state.0 text stands.net c.in-Some.ensures.edge state.1 state.2 (tells_at c.deref-2.result.now next c.in-Some.edge text c.deref-2.ensures line) moved) c.in-Ok.ensures
+    (λ text line. edge_gives s t at.net after c.in-Some.edge state.0 text stands.net c.in-Some.ensures.edge state.1 state.2 (reports_at c.deref-2.result.now next c.in-Some.edge text c.deref-2.ensures line) moved) c.in-Ok.ensures

@@ -2,7 +2,7 @@ use Rattle.std.proofs.Common.{rules, ◌≡◌, ◌∙◌, ◌<◌, length, Some
 use Rattle.cec_step.specs.Ready.{point_of, run_of}
 use Rattle.cec_step.specs.Steps.{IsFirstStep, IsOver}
 use Rattle.cec_step.specs.declared.position.Position.{Position}
-use Rattle.cec_step.proofs.InRound.{begins_from, begun_inside, edge_cut, edge_told, first_gives, some_inside, tells_at}
+use Rattle.cec_step.proofs.InRound.{begins_from, begun_inside, edge_cut, edge_reported, first_gives, some_inside, reports_at}
 use Rattle.cec_step.proofs.walk.Walk.first_edge.Goals as goal
 
 pub write_edge-requires-clause-some : goal.write_edge-requires-clause-some
@@ -32,7 +32,7 @@ returns-in-Err-clause-step g c =
     let q = point_of run.events inside in
     edge_cut (IsFirstStep c.args.self.now p) (IsOver run.end p) c.args.self.now (record c.args.self.now { last = p; begun = Some q.net }) c.deref-2.result.now.net e
     (g.S.Sink.contents c.args.out.now) (g.S.Sink.contents c.write_edge.new.out) (g.S.Sink.is_stuck c.args.out.now) (g.S.Sink.is_stuck c.write_edge.new.out) c.in-Err.fault c.step_error.result
-    c.step_error.ensures (λ text line. (q.net, first_gives run.end p q e text begins (tells_at c.deref-2.result.now inside e text c.deref-2.ensures line), refl)) c.in-Err.ensures
+    c.step_error.ensures (λ text line. (q.net, first_gives run.end p q e text begins (reports_at c.deref-2.result.now inside e text c.deref-2.ensures line), refl)) c.in-Err.ensures
 
 pub returns-in-Ok-clause-step : goal.returns-in-Ok-clause-step
 returns-in-Ok-clause-step g c =
@@ -46,6 +46,6 @@ returns-in-Ok-clause-step g c =
     let begins = begins_from course run c.deref_mut-2.result.now last inside e viewed copied c.in-Some.ensures in
     let p = point_of run.events last in
     let q = point_of run.events inside in
-    edge_told (IsFirstStep c.args.self.now p) (IsOver run.end p) c.args.self.now c.stand_in.new.self c.deref-2.result.now.net e
+    edge_reported (IsFirstStep c.args.self.now p) (IsOver run.end p) c.args.self.now c.stand_in.new.self c.deref-2.result.now.net e
     (g.S.Sink.contents c.args.out.now) (g.S.Sink.contents c.write_edge.new.out) (g.S.Sink.is_stuck c.args.out.now) (g.S.Sink.is_stuck c.write_edge.new.out) c.in-Ok.count
-    (λ text line. (q.net, first_gives run.end p q e text begins (tells_at c.deref-2.result.now inside e text c.deref-2.ensures line), c.stand_in.ensures)) c.in-Ok.ensures
+    (λ text line. (q.net, first_gives run.end p q e text begins (reports_at c.deref-2.result.now inside e text c.deref-2.ensures line), c.stand_in.ensures)) c.in-Ok.ensures

@@ -1,5 +1,0 @@
-use Rattle.judge_laws.proofs.Run as lemmas
-use Rattle.judge_laws.proofs.laws.lines_tell_rounds.Goals as goal
-
-pub returns : goal.returns
-returns c = lemmas.lines_tell_rounds
