@@ -4,6 +4,6 @@
 mod laws;
 
 pub use laws::{
-    all_before_is_one, runs_are_causal, reported_is_front, traces_are_causal, turns_are_certain,
+    all_before_is_one, reported_is_front, runs_are_causal, traces_are_causal, turns_are_certain,
     turns_stay_certain,
 };

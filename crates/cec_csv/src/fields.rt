@@ -3,7 +3,7 @@ ghost use Rattle.std.specs.Prelude.{◌≡◌, ◌∷◌, ◌+◌, ◌-◌, ◌<
 ghost use Rattle.std.specs.Option.{option_copied};
 ghost use Rattle.cec_csv.specs.Csv.{column_from, field_at, fields_after, fields_of, is_named, field_without_space, without_return};
 
-use hdmi_core::{before, after, byte_at};
+use hdmi_core::{after, before, byte_at};
 
 // Where the first comma stands.
 fn comma_in(line: &[u8]) -> Option<usize>

@@ -5,7 +5,7 @@ ghost use Rattle.cec_csv.specs.Csv.{instant_of, level_of, nanos_of, row_of, sign
 use crate::fields::{field_at, field_without_space, first_field, without_return};
 use cec_signal::decimals_in;
 use cec_wave::LATEST_INSTANT;
-use hdmi_core::{before, after, byte_at, len_before, number_in};
+use hdmi_core::{after, before, byte_at, len_before, number_in};
 
 /// The most whole seconds of a time.
 const MOST_SECONDS: u64 = 9_999_999_999;

@@ -12,7 +12,7 @@ use crate::messages::{
     set_system_audio_mode, system_audio_mode_status,
 };
 use crate::record::{Heard, Note, Record, copy_of};
-use crate::say::{Says, cast, refuse, reply, silence, report};
+use crate::say::{Says, cast, refuse, reply, report, silence};
 use crate::ways::{below, is_nowhere, port_towards};
 use arrayvec::ArrayVec;
 use cec_frame::Addr;

@@ -11,7 +11,7 @@ use crate::key_word::KeyWord;
 use crate::kinds::{Identity, is_deck};
 use crate::messages::{active_source, arc_command, arc_request, menu_status, report_audio_status};
 use crate::record::{Port, Record};
-use crate::say::{DataBlocks, Say, Says, both, cast, silence, report};
+use crate::say::{DataBlocks, Say, Says, both, cast, report, silence};
 use crate::ways::below;
 use cec_frame::Addr;
 use cec_opcode::{DeckInfo, Message, Triple, UserControl};
@@ -134,7 +134,10 @@ impl Record {
         self.path = Some(own);
         let view_on = DataBlocks::new(&Message::ImageViewOn);
         let active = DataBlocks::new(&active_source(own));
-        both(Say::Report(Addr::new(TELEVISION), view_on), Say::Cast(active))
+        both(
+            Say::Report(Addr::new(TELEVISION), view_on),
+            Say::Cast(active),
+        )
     }
 
     fn press_play(&mut self, me: Identity) -> Says

@@ -3,7 +3,7 @@ ghost use Rattle.std.specs.Prelude.{◌≡◌, ◌+◌, ◌≤◌, [], ◌++◌,
 ghost use Rattle.cec_incoming.specs.Incoming.{IsFilled, IsNext, IsPiece, IsWhole, bytes_left, to_come};
 
 use arrayvec::ArrayVec;
-use hdmi_core::{before, after, len_before};
+use hdmi_core::{after, before, len_before};
 use std::io::Read;
 use thiserror::Error;
 

@@ -5,14 +5,14 @@ ghost use Rattle.cec_json.specs.Progress.{WritesOn};
 
 use crate::columns::{AT, EVENT, PORT, READING, STATE, write_field, write_fields, write_lead};
 use crate::parts::{
-    after_word, before_last, after_ending, has_seats, last_word, losers_in, reported_in, winners_in,
-    word,
+    after_ending, after_word, before_last, has_seats, last_word, losers_in, reported_in,
+    winners_in, word,
 };
 use crate::progress::Progress;
 use crate::values::{Shape, write_quoted};
 use cec_frame::Frame;
 use cec_text::{assemble, frames_are_whole};
-use hdmi_core::{Piece, Sink, before, after};
+use hdmi_core::{Piece, Sink, after, before};
 
 /// Which line of a trace, or of readings, it is.
 #[derive(Clone, Copy, Debug)]
@@ -160,7 +160,12 @@ fn write_frame<S: Sink>(frame: &Option<Frame>, text: &[u8], progress: &mut Progr
 }
 
 // Writes what a complete reading told.
-fn write_complete<S: Sink>(frame: &Option<Frame>, reported: &[u8], progress: &mut Progress, out: &mut S)
+fn write_complete<S: Sink>(
+    frame: &Option<Frame>,
+    reported: &[u8],
+    progress: &mut Progress,
+    out: &mut S,
+)
     ensures { WritesOn (S.contents out.old) (S.contents out.new) (S.is_stuck out.old) (S.is_stuck out.new) (complete_fields frame.now reported.now) progress.old.so_far progress.new.so_far }
 {
     write_frame(frame, before_last(reported), progress, out);

@@ -2,7 +2,7 @@
 ghost use Rattle.std.specs.Prelude.{◌≡◌, ◌≤◌, ◌<◌, length};
 ghost use Rattle.cec_json.specs.Parts.{after_byte, after_word, before_byte, before_last, before_seats, after_ending, has_seats, last_space, last_word, losers_in, space_in, reported_in, value_of, winners_in, word};
 
-use hdmi_core::{before, after, len_before};
+use hdmi_core::{after, before, len_before};
 
 /// What stands before the first byte of this value, or all where there is none.
 pub fn before_byte(byte: u8, text: &[u8]) -> &[u8]

@@ -8,8 +8,8 @@ ghost use Rattle.cec_judge.specs.Named.{is_named};
 ghost use Rattle.cec_judge.specs.Index.{are_in_order, entry, event_of, event_on, or_event};
 
 use crate::named::NamedLines;
-use crate::seen::{Seen, Span, are_in_order, rounds_seen};
 use crate::reported::{EventLine, RoundLine, event_at, event_in, round_in};
+use crate::seen::{Seen, Span, are_in_order, rounds_seen};
 use hdmi_core::first_line;
 use std::alloc::{AllocError, Global};
 use std::collections::HashMap;

@@ -9,8 +9,8 @@ ghost use Rattle.cec_judge.specs.Judged.{failure, finding_as, findings_of, first
 
 use crate::index::Index;
 use crate::named::is_labelled;
-use crate::seen::Span;
 use crate::reported::{refusal_in, state_words};
+use crate::seen::Span;
 use cec_expect::{Form, Labels, Quantity, Window, form_in, unlabelled};
 use hdmi_core::{first_line, first_word};
 use std::alloc::{AllocError, Global};

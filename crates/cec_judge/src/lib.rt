@@ -6,12 +6,12 @@ mod index;
 mod judge;
 mod laws;
 mod named;
-mod seen;
 mod reported;
+mod seen;
 
 pub use expected::Expected;
 pub use judge::{Finding, Judged, all_judged, is_of_state};
 pub use laws::{larger_spans_hold, never_is_the_contrary, once_is_some};
 pub use named::NamedLines;
-pub use seen::{Span, end_seen};
 pub use reported::{EventLine, RoundLine, event_in, refusal_in, round_in, state_line};
+pub use seen::{Span, end_seen};

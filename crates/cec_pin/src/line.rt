@@ -4,7 +4,7 @@ ghost use Rattle.cec_pin.specs.Pin.{code_of, event_cut, event_of, fraction_of, i
 
 use cec_signal::decimals_in;
 use cec_wave::LATEST_INSTANT;
-use hdmi_core::{before, after, byte_at, len_before, number_in};
+use hdmi_core::{after, before, byte_at, len_before, number_in};
 
 /// What a line says.
 #[derive(Clone, Copy, Debug, PartialEq, Eq)]

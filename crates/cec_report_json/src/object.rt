@@ -9,7 +9,7 @@ use crate::window::{write_no_window, write_seen};
 use cec_json::{
     Progress, Shape, after_word, word, write_field, write_quoted, write_reported, write_type,
 };
-use hdmi_core::{Sink, before, after};
+use hdmi_core::{Sink, after, before};
 
 /// Which report the lines are of.
 #[derive(Clone, Copy, Debug)]

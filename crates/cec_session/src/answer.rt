@@ -8,7 +8,7 @@ ghost use Rattle.cec_session.specs.Session.{idle_line, refusal_cause, refused_li
 
 use cec_asm::{AssembleError, ScriptCause};
 use cec_device::Device;
-use cec_step_text::{with_rest, whole};
+use cec_step_text::{whole, with_rest};
 use cec_trace::write_state;
 use hdmi_core::{Piece, Sink, WriteFault, write_line, write_pieces};
 

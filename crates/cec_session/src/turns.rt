@@ -24,7 +24,7 @@ use cec_asm::TimedEvent;
 use cec_device::Device;
 use cec_frame::Ending;
 use cec_run::{Totals, Turn, first_time};
-use cec_step_text::{with_rest, whole};
+use cec_step_text::{whole, with_rest};
 use cec_trace::{write_end, write_round, write_state};
 use cec_wave::LATEST_EVENT;
 use hdmi_blocks::Edid;

@@ -11,7 +11,7 @@ use crate::stepper::StepError;
 use cec_asm::{Script, Topology};
 use cec_edges::EdgeWire;
 use cec_net::Net;
-use cec_step_text::{Break, with_rest, stops, whole};
+use cec_step_text::{Break, stops, whole, with_rest};
 use cec_trace::{write_round, write_state};
 use cec_wire::Outcome;
 use hdmi_blocks::root_of;

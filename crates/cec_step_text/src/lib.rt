@@ -9,4 +9,4 @@ mod parts;
 pub use break_at::{Break, stops};
 pub use commands::{Command, CommandsError, parse_commands};
 pub use edge_text::write_edge;
-pub use parts::{with_rest, whole};
+pub use parts::{whole, with_rest};

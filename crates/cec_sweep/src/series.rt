@@ -4,7 +4,7 @@ ghost use Rattle.cec_wave.specs.Bounds.{latest_event};
 ghost use Rattle.cec_sweep.specs.Series.{is_range, positive, series_in, series_to, series_until, step_at, time_in_range};
 
 use cec_wave::LATEST_EVENT;
-use hdmi_core::{before, after, byte_at, len_before, number_in};
+use hdmi_core::{after, before, byte_at, len_before, number_in};
 use std::marker::Model;
 use thiserror::Error;
 

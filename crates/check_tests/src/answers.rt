@@ -71,7 +71,11 @@ fn edids_are_passed_on(rt: HostRuntime) {
     for case in PASSED.lines() {
         let (words, want) = parted(&rt, case);
         let want = wanted(&rt, want);
-        holds(&rt, passed_reported(&rt, words).as_str() == want.as_str(), case);
+        holds(
+            &rt,
+            passed_reported(&rt, words).as_str() == want.as_str(),
+            case,
+        );
     }
 }
 

@@ -226,7 +226,10 @@ fn goes(rt: &impl Abort, alloc: Global, device: &mut Device<16>, lines: &str) {
     for line in lines.lines() {
         let (doing, wanted) = line.split_once(" => ").unwrap_or((line, ""));
         let reported = reported_after(alloc, device, doing).expect(rt, line);
-        assert!(rt; reported.as_str().trim_start() == wanted, "{line}: {reported}");
+        assert!(rt;
+            reported.as_str().trim_start() == wanted,
+            "{line}: {reported}"
+        );
     }
 }
 

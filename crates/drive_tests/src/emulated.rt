@@ -66,7 +66,11 @@ fn is_written(rt: &impl Abort, reported: Written, text: &str, refusal: &str) {
         reported.bytes.as_slice() == text.as_bytes(),
         "another text, with `{refusal}`"
     );
-    assert!(rt; reported.refusal.as_str() == refusal, "{}", reported.refusal);
+    assert!(rt;
+        reported.refusal.as_str() == refusal,
+        "{}",
+        reported.refusal
+    );
 }
 
 /// The dump of a run, over a writer that takes all bytes, and over one that takes one a call.
@@ -102,7 +106,10 @@ fn faults_are_counted(rt: &(impl Abort + AllocGlobal)) {
         let reported = dumped(rt, TOPOLOGY, "end 40000\n", usize::MAX, room);
         let refusal = format!(in rt.alloc(); "write fault after {room} bytes").expect(rt, "a text");
         let front = POLL.as_bytes().get(..room).unwrap_or(b"");
-        assert!(rt; reported.bytes.as_slice() == front, "another front at {room}");
+        assert!(rt;
+            reported.bytes.as_slice() == front,
+            "another front at {room}"
+        );
         assert!(rt;
             reported.refusal.as_str() == refusal.as_str(),
             "{}",

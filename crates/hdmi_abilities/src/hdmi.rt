@@ -7,9 +7,9 @@ ghost use Rattle.hdmi_abilities.specs.Hdmi.{depth_rows, also_text, depth_text, t
 use arrayvec::ArrayVec;
 use hdmi_edid::append;
 use hdmi_meaning::{
-    Bit, NOTE, Note, PAGE, Page, append_between, append_bits, append_code, append_decimal,
-    append_line, append_rest, append_spaced, append_word, append_words, before, after, bit_rows,
-    byte_at, is_set,
+    Bit, NOTE, Note, PAGE, Page, after, append_between, append_bits, append_code, append_decimal,
+    append_line, append_rest, append_spaced, append_word, append_words, before, bit_rows, byte_at,
+    is_set,
 };
 
 /// A unit of the TMDS clock, in MHz.

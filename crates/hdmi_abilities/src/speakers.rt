@@ -6,7 +6,7 @@ ghost use Rattle.hdmi_abilities.specs.Speakers.{speaker_rows, speaker_bits, spea
 
 use arrayvec::ArrayVec;
 use hdmi_meaning::{
-    Bit, NOTE, Note, PAGE, Page, append_bits, append_rest, append_words, after, bit_rows, byte_at,
+    Bit, NOTE, Note, PAGE, Page, after, append_bits, append_rest, append_words, bit_rows, byte_at,
 };
 
 const SPEAKERS: &[Bit] = bit_rows! {

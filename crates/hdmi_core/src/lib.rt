@@ -21,7 +21,7 @@ pub use kind::Kind;
 pub use laws::kinds_are_named_by_their_words;
 pub use lines::{first_line, is_skipped};
 pub use number::{number_in, small_number};
-pub use parts::{before, after, byte_at, joined, len_before};
+pub use parts::{after, before, byte_at, joined, len_before};
 pub use phys::{Phys, digit_value, is_hex_digit};
 pub use piece::{Piece, hex_digit, write_line, write_pieces};
 pub use sink::{Sink, WriteFault, Writes, put_all};

@@ -6,7 +6,7 @@ ghost use Rattle.hdmi_display.specs.Raws.{tag_name, has_characters, characters, 
 
 use arrayvec::ArrayVec;
 use hdmi_edid::{append, are_zeros};
-use hdmi_meaning::{NOTE, Note, PAGE, Page, append_between, append_line, after, byte_at};
+use hdmi_meaning::{NOTE, Note, PAGE, Page, after, append_between, append_line, byte_at};
 
 /// The only revision of a CTA block whose parts are told apart.
 const CTA_REVISION: u8 = 3;

@@ -8,7 +8,7 @@ ghost use Rattle.hdmi_dump.specs.Rows.{column_of, digits_start, form_of, has_hea
 
 use crate::digits::{Column, is_blank, pair_count, push_pairs};
 use arrayvec::ArrayVec;
-use hdmi_core::{before, after, byte_at};
+use hdmi_core::{after, before, byte_at};
 
 /// The form of a dump's rows.
 #[derive(Clone, Copy, Debug, PartialEq, Eq)]

@@ -91,7 +91,10 @@ fn fixed_range(block: &DataBlock) -> Option<u8> {
     }
 }
 
-pub fn capability_reported(alloc: Global, extensions: &[Ext]) -> Result<Option<String>, AllocError> {
+pub fn capability_reported(
+    alloc: Global,
+    extensions: &[Ext],
+) -> Result<Option<String>, AllocError> {
     for ext in extensions {
         for block in blocks_of(ext) {
             if let Some(byte) = fixed_range(block) {

@@ -2,7 +2,8 @@
 ghost use Rattle.std.specs.Prelude.{◌≤◌, length};
 
 use crate::places::{
-    capability_reported, empty_reported, padding_reported, speakers_reported, tmds_reported, unused_reported,
+    capability_reported, empty_reported, padding_reported, speakers_reported, tmds_reported,
+    unused_reported,
 };
 use hdmi_check::{Finding, Rule, TimingRule};
 use hdmi_core::Phys;
@@ -51,7 +52,11 @@ fn flags_reported(alloc: Global, extensions: &[Ext]) -> Result<Option<String>, A
 }
 
 /// The greatest count of native timings, and how many timings there are.
-fn counts_reported(alloc: Global, base: &Base, extensions: &[Ext]) -> Result<Option<String>, AllocError>
+fn counts_reported(
+    alloc: Global,
+    base: &Base,
+    extensions: &[Ext],
+) -> Result<Option<String>, AllocError>
     requires { length extensions.now ≤ 3 }
 {
     let mut native = 0;
@@ -73,7 +78,11 @@ fn other_than(picture: Picture, others: &[Picture]) -> Option<Picture> {
 }
 
 /// Two pictures of two sizes.
-fn sizes_reported(alloc: Global, base: &Base, extensions: &[Ext]) -> Result<Option<String>, AllocError>
+fn sizes_reported(
+    alloc: Global,
+    base: &Base,
+    extensions: &[Ext],
+) -> Result<Option<String>, AllocError>
     requires { length extensions.now ≤ 3 }
 {
     let timings = timings_of(base, extensions);
@@ -264,7 +273,9 @@ fn reported_of_timing(
             u16::from(timing.vertical_sync_width),
             timing.vertical_border,
         )?)),
-        TimingRule::SizeThere | TimingRule::SizeFits => Ok(Some(size_reported(alloc, base, timing)?)),
+        TimingRule::SizeThere | TimingRule::SizeFits => Ok(Some(size_reported(
+            alloc, base, timing,
+        )?)),
         TimingRule::WithinLimits | TimingRule::NearLimits => {
             Ok(Some(rates_reported(alloc, timing)?))
         }

@@ -8,7 +8,7 @@ use crate::colours::{append_capability, append_colours, append_hdr};
 use crate::forum::append_forum;
 use crate::makers::{append_maker, append_named, audio_name, identifier, video_name};
 use crate::videos::{append_map, append_preferences};
-use hdmi_meaning::{PAGE, Page, append_video, after, byte_at};
+use hdmi_meaning::{PAGE, Page, after, append_video, byte_at};
 
 /// The extended tags (CTA-861-G, table 56).
 const VIDEO_CAPABILITY: u8 = 0x00;

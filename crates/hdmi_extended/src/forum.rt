@@ -7,7 +7,7 @@ ghost use Rattle.hdmi_extended.specs.Forum.{clock_words, depth_rows, fixed_words
 use arrayvec::ArrayVec;
 use hdmi_edid::append;
 use hdmi_meaning::{
-    Bit, NOTE, Note, PAGE, Page, append_between, append_bits, append_rest, append_words, after,
+    Bit, NOTE, Note, PAGE, Page, after, append_between, append_bits, append_rest, append_words,
     bit_rows, byte_at,
 };
 

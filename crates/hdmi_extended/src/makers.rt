@@ -6,7 +6,7 @@ ghost use Rattle.hdmi_extended.specs.Makers.{audio_name, identifier, maker_meani
 
 use arrayvec::ArrayVec;
 use hdmi_edid::append;
-use hdmi_meaning::{Note, PAGE, Page, append_rest, append_words, after, byte_at};
+use hdmi_meaning::{Note, PAGE, Page, after, append_rest, append_words, byte_at};
 
 const AMD: u32 = 0x00001a;
 

@@ -8,8 +8,8 @@ ghost use Rattle.hdmi_extended.specs.Videos.{is_reserved, map_meanings, map_word
 use arrayvec::ArrayVec;
 use hdmi_edid::append;
 use hdmi_meaning::{
-    NOTE, Note, PAGE, Page, append_between, append_code, append_line, append_rest, append_words,
-    before, after, is_set,
+    NOTE, Note, PAGE, Page, after, append_between, append_code, append_line, append_rest,
+    append_words, before, is_set,
 };
 
 /// The bits of a byte, the lowest first.

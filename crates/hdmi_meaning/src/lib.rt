@@ -33,7 +33,7 @@ pub use notes::{
     append_hex, append_hundredths, append_line, append_named_hex, append_rest, append_thousandths,
     append_word, append_words,
 };
-pub use parts::{before, after, byte_at};
+pub use parts::{after, before, byte_at};
 pub use rates::nearest;
 pub use timings::append_timing;
 pub use videos::{append_code, append_video};

@@ -3,7 +3,7 @@ ghost use Rattle.std.specs.Prelude.{◌≡◌, map, string_bytes, Some, None, Ma
 ghost use Rattle.hdminet_words.specs.MonFlags.{form_of, has_names, is_misfit, joined_signal, mon_asked, mon_choice, mon_flags, mon_report, signal_in, with_mon_flag, with_mon_value};
 
 use crate::choice::{Asked, Choice, Form, Objects, Report};
-use hdmi_core::{before, after, number_in};
+use hdmi_core::{after, before, number_in};
 
 /// A flag of a capture that a value follows.
 #[derive(Clone, Copy, Debug)]

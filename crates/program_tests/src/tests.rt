@@ -112,8 +112,18 @@ fn reported_of<R: Read + Drop>(
 }
 
 /// The program ended with this status, and wrote this to standard output and this to standard error.
-fn ends(rt: &impl Abort, reported: Answer, status: u8, out: &[u8], err: &[u8], line: &str, name: &str) {
-    let right = reported.status == status && reported.out.as_slice() == out && reported.err.as_slice() == err;
+fn ends(
+    rt: &impl Abort,
+    reported: Answer,
+    status: u8,
+    out: &[u8],
+    err: &[u8],
+    line: &str,
+    name: &str,
+) {
+    let right = reported.status == status
+        && reported.out.as_slice() == out
+        && reported.err.as_slice() == err;
     expect(rt, right, line, name);
 }
 
@@ -140,7 +150,12 @@ fn refuses(rt: &(impl Abort + AllocGlobal), line: &str, name: &str, input: &[u8]
 /// What the program writes to standard output, and nothing else.
 fn written(rt: &(impl Abort + AllocGlobal), line: &str, input: &[u8]) -> String {
     let reported = reported_of(rt, line, input, None);
-    expect(rt, reported.status == 0 && reported.err.is_empty(), line, "taken");
+    expect(
+        rt,
+        reported.status == 0 && reported.err.is_empty(),
+        line,
+        "taken",
+    );
     String::from_utf8(reported.out).expect(rt, "a text")
 }
 
@@ -149,7 +164,15 @@ fn writes_front(rt: &(impl Abort + AllocGlobal), line: &str, input: &[u8], front
     let fault = format!(in rt.alloc(); "hdminet: write fault after {} bytes\n", front.len());
     let fault = fault.expect(rt, "a fault");
     let reported = reported_of(rt, line, input, Some(front.len()));
-    ends(rt, reported, 3, front, fault.as_bytes(), line, fault.as_str());
+    ends(
+        rt,
+        reported,
+        3,
+        front,
+        fault.as_bytes(),
+        line,
+        fault.as_str(),
+    );
 }
 
 /// Writes byte by byte, into a writer with room for all and into one that fails after each count of bytes in turn.
@@ -168,7 +191,9 @@ fn is_cut(rt: &(impl Abort + AllocGlobal), line: &str, input: &[u8]) {
 fn is_taken(rt: &(impl Abort + AllocGlobal), line: &str, input: &[u8]) -> bool {
     let reported = reported_of(rt, line, input, None);
     let taken = reported.status == 0 && reported.err.is_empty();
-    let refused = reported.status == 1 && reported.out.is_empty() && reported.err.starts_with(b"hdminet: ");
+    let refused = reported.status == 1
+        && reported.out.is_empty()
+        && reported.err.starts_with(b"hdminet: ");
     expect(rt, taken || refused, line, "taken or refused");
     taken
 }

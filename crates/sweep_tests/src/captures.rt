@@ -65,7 +65,10 @@ fn report_of(
         capture,
         &mut Writes::new(&mut out),
     );
-    (String::from_utf8(out).expect(rt, "a text"), reported(rt, done))
+    (
+        String::from_utf8(out).expect(rt, "a text"),
+        reported(rt, done),
+    )
 }
 
 #[test]

@@ -63,7 +63,15 @@ const LOST: &[u8] = b"# cec-ctl --store-pin
 fn names_the_events_that_were_lost(rt: HostRuntime) {
     let reported = reported_of(&rt, "mon", LOST, None);
     let err = b"hdminet: events were lost before line 4\n";
-    ends(&rt, reported, 0, READINGS.as_bytes(), err, "mon", "lost events");
+    ends(
+        &rt,
+        reported,
+        0,
+        READINGS.as_bytes(),
+        err,
+        "mon",
+        "lost events",
+    );
 }
 
 /// What an audit says below the reading: the time after it and its widths.

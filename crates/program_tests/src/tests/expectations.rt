@@ -12,7 +12,15 @@ pub(super) fn fails_tests(rt: &(impl Abort + AllocGlobal), line: &str, input: &[
     }
     let fault = format!(in rt.alloc(); "hdminet: failed tests {failed}\n").expect(rt, "a fault");
     let reported = reported_of(rt, line, input, None);
-    ends(rt, reported, 1, want.as_bytes(), fault.as_bytes(), line, want);
+    ends(
+        rt,
+        reported,
+        1,
+        want.as_bytes(),
+        fault.as_bytes(),
+        line,
+        want,
+    );
 }
 
 /// A script over a television, and the fault of its first line that is no expectation or label.
@@ -120,7 +128,15 @@ fn a_failure_is_written_and_reported(rt: HostRuntime) {
     fails_tests(&rt, "check", input, FAILS_REPORT);
     let report = FAILS_REPORT.as_bytes();
     let reported = reported_of(&rt, "--explain check", input, None);
-    ends(&rt, reported, 1, report, FAILS_COUNTED, "check", "explained");
+    ends(
+        &rt,
+        reported,
+        1,
+        report,
+        FAILS_COUNTED,
+        "check",
+        "explained",
+    );
     let reported = reported_of(&rt, "check", input, Some(report.len()));
     ends(
         &rt,

@@ -118,5 +118,13 @@ fn reads_byte_by_byte(rt: HostRuntime) {
         fault: None,
     };
     let reported = reported_of(&rt, "asm", slow, None);
-    ends(&rt, reported, 0, b"44\n4f821000\n", b"", "asm", "byte by byte");
+    ends(
+        &rt,
+        reported,
+        0,
+        b"44\n4f821000\n",
+        b"",
+        "asm",
+        "byte by byte",
+    );
 }

@@ -41,7 +41,15 @@ fn stops(rt: &(impl Abort + AllocGlobal), row: &str) {
     let out = with_lines(rt, out);
     let fault = format!(in rt.alloc(); "hdminet: {fault}\n").expect(rt, "a fault");
     let reported = reported_of(rt, "live", input.as_bytes(), None);
-    ends(rt, reported, 1, out.as_bytes(), fault.as_bytes(), "live", row);
+    ends(
+        rt,
+        reported,
+        1,
+        out.as_bytes(),
+        fault.as_bytes(),
+        "live",
+        row,
+    );
 }
 
 #[test]

@@ -134,7 +134,15 @@ fn a_capture_is_tested(rt: HostRuntime) {
     fails_tests(&rt, "check --capture", input, UNREAD_REPORT);
     let report = UNREAD_REPORT.as_bytes();
     let reported = reported_of(&rt, "check --capture --explain", input, None);
-    ends(&rt, reported, 1, report, UNREAD_COUNTED, "check", "explained");
+    ends(
+        &rt,
+        reported,
+        1,
+        report,
+        UNREAD_COUNTED,
+        "check",
+        "explained",
+    );
     for room in [0, 14, 70] {
         writes_front(&rt, "check --capture", input, &report[..room]);
     }
