@@ -101,7 +101,7 @@ fn add_word(
 // A line as it is shown, with its mark, what is odd about it, and what it would have to look like. Returns whether what would be
 // right in place of any such fault is of no use then.
 fn add_marked(draft: &mut Draft, what: Input, place: Place<'_>, fault: Fault, line: &str) -> bool {
-    let mark = marked(what, fault, place, line);
+    let mark = marked(what, fault, line);
     add_shown(draft, place, line, mark);
     add_hints(draft, of_line(place.line, line).as_slice());
     let is_said = add_right_forms(draft, what, place, fault, line);

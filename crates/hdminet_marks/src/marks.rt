@@ -1,8 +1,7 @@
 //! Which words of a line are at fault.
 use crate::edges::in_line;
-use crate::expectations::{after_label, in_expectation, label_words};
+use crate::expectations::{after_label, label_words};
 use crate::fault::{Fault, Input};
-use crate::place::Place;
 use crate::words::word_at;
 use cec_asm::ScriptCause;
 use cec_expect::ExpectCause;
@@ -109,19 +108,20 @@ fn in_text(line: &str, word: usize) -> Option<Mark> {
 }
 
 /// The words at fault of a fault's line, as it is shown.
-pub fn marked(what: Input, fault: Fault, place: Place<'_>, line: &str) -> Option<Mark> {
+pub fn marked(what: Input, fault: Fault, line: &str) -> Option<Mark> {
     match fault {
         Fault::Topology { word, .. } => one(usize::from(word)),
         Fault::Script { cause, word, .. } => after_label(
             label_words(what, line),
             in_script(cause, usize::from(word)),
         ),
-        Fault::Expectation { cause, .. } => in_expectation(what, cause, place, line),
-        Fault::Range { .. } => in_range(line),
+        Fault::Expectation { cause, word, .. } => in_expectation(cause, word),
+        Fault::Range { word, .. } => one(word),
         Fault::Steps { word, .. } => one(usize::from(word)),
         Fault::Frame { cause, .. } => in_frame(cause),
         Fault::Capture { cause, word, .. } => in_capture(cause, word, line),
-        Fault::Edid(_) | Fault::NoHdmiBlock | Fault::TextField { .. } => from(1),
+        Fault::Edid(_) | Fault::NoHdmiBlock => from(1),
+        Fault::TextField { word, .. } => in_text(line, word),
         Fault::TextSyntax { .. } => one(0),
         Fault::Hex { .. }
         | Fault::NoPort

@@ -14,8 +14,8 @@ returns-clause-found c =
     let spelled = c.in_ok-read_blocks.ensures.found in
     let rest = c.read_timings-timings.ensures.found in
     let tail = c.append.ensures.items ∙ ap (λ xs. xs ++ c.read_timings-timings.result.1.now) c.new-tail.ensures in
-    let len = length_between bytes (get_or bytes 2 0) _ c.reported-bytes least most spelled in
-    whole_is bytes 2 3 _ _ _ c.reported-bytes (sym c.if-bytes-ne2.false) (sym c.if-bytes-ne3.false) len refl
+    let len = length_between bytes (get_or bytes 2 0) _ c.told-bytes least most spelled in
+    whole_is bytes 2 3 _ _ _ c.told-bytes (sym c.if-bytes-ne2.false) (sym c.if-bytes-ne3.false) len refl
     (body_is bytes (get_or bytes 2 0) _ (timings ++ c.append.new.block.items) least most spelled (ap (λ xs. timings ++ xs) tail ∙ rest)) (c.fits-bytes 127) c.requires.summed
 
 pub returns-clause-bytes_fit : goal.returns-clause-bytes_fit

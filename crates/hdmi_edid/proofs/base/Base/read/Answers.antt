@@ -21,7 +21,7 @@ returns-clause-read c =
     (fits 12) (fits 13) (fits 14) (fits 15) c.from_le_bytes-2.ensures in
     block_is bytes (maker_bytes c.in_ok-revision.maker) (to_le_bytes w16 c.from_le_bytes.result) (to_le_bytes w32 c.from_le_bytes-2.result)
     (revision_bytes c.in_ok-revision.revision) (chroma_bytes c.read.result) c.part-2.result (flat_map standard_bytes c.read_all.result)
-    (flat_map descriptor_bytes c.read_descriptors.result) _ _ _ _ _ _ _ _ c.reported-bytes (header_is bytes (accepted_header bytes ok.0))
+    (flat_map descriptor_bytes c.read_descriptors.result) _ _ _ _ _ _ _ _ c.told-bytes (header_is bytes (accepted_header bytes ok.0))
     ok.1 product serial refl year ok.2 refl refl refl refl refl
     (c.read.ensures ∙ c.part.ensures) c.part-2.ensures (c.read_all.ensures ∙ c.part-3.ensures) (c.read_descriptors.ensures ∙ c.part-4.ensures) refl (fits 127) (accepted_sum bytes ok.0)
 
