@@ -7,17 +7,17 @@ use Rattle.hdminet_wire.proofs.receiver.hdminet_receiver_hear.Goals as goal
 
 pub returns-clause-hears : goal.returns-clause-hears
 returns-clause-hears c = λ r parts early.
-    let reported = c.tick-informed.result in
+    let reported = c.tick-reported.result in
     let reads = subst (λ o. IsReadingPut o c.args.reading.now c.put_reading.new.place)
     (c.ended_of.ensures ∙ ap (ended_of reported c.args.t) (c.running-running.ensures.kept ∙ ap (λ h. running_by h c.args.t) c.noted-next.ensures.keeps)) c.put_reading.ensures in
     let heard : HasHeard c.in-Some.was c.args.t c.args.is_low c.heard_of.result c.parts.result c.args.reading.now c.put_reading.new.place = record {
       noted = c.noted-next.result;
-      next = c.tick-informed.new.self;
+      next = c.tick-reported.new.self;
       reported = reported;
       keeps = c.noted-next.ensures.keeps;
       stood = c.noted-next.ensures.stood;
       level = c.noted-next.ensures.level;
-      follows = c.tick-informed.ensures.follows;
+      follows = c.tick-reported.ensures.follows;
       after = c.parts.ensures;
       reports = c.heard_of.ensures;
       reads = reads;
